@@ -1,0 +1,7 @@
+pub mod LongVarint
+pub mod Agrees
+pub mod Varints
+pub mod Values
+pub mod Fields
+pub mod Calls
+pub mod Digits

@@ -1,0 +1,119 @@
+-- Fields: a tag, and a value of the tag's wire type.
+-- Source: the Protocol Buffers encoding guide, "Message Structure" and the table of wire types below it.
+use Rattle.std.specs.Prelude.{◌≡◌, ℕ, ◌+◌, ◌*◌, ◌<◌, ◌≤◌, ◌^◌, List, [], ◌∷◌, ◌++◌, length}
+use Rattle.std.specs.List.{flat_map}
+use Rattle.std.specs.Int.{w32, w64, from_le_bytes, to_le_bytes}
+use Rattle.ttrpc_wire.specs.declared.field.WireType.{WireType}
+use Rattle.ttrpc_wire.specs.declared.field.WireType.TheVariants as wire
+use Rattle.ttrpc_wire.specs.Varint.{IsVarint, varint}
+
+-- the number that stands for a wire type in a tag; 3, 4, 6 and 7 stand for none
+abbrev pub code_of : WireType → ℕ
+code_of wire.Varint = 0
+code_of wire.Fixed64 = 1
+code_of wire.LengthDelimited = 2
+code_of wire.Fixed32 = 5
+
+-- a value, without where it lies in memory
+pub data Value : Type 0 where
+  Varint : (n : ℕ) → Value
+  Fixed64 : (n : ℕ) → Value
+  LengthDelimited : (bytes : List ℕ) → Value
+  Fixed32 : (n : ℕ) → Value
+
+abbrev pub wire_type_of : Value → WireType
+wire_type_of (Varint n) = wire.Varint
+wire_type_of (Fixed64 n) = wire.Fixed64
+wire_type_of (LengthDelimited bytes) = wire.LengthDelimited
+wire_type_of (Fixed32 n) = wire.Fixed32
+
+pub record Field : Type 0 where
+  pub number : ℕ
+  pub value : Value
+
+-- ---- the grammar
+
+-- A tag: a varint below 2 ^ 32, of the field's number, which isn't 0, and a wire type.
+pub record IsTag (bytes : List ℕ) (number : ℕ) (type : WireType) : Type 0 where
+  pub spells : IsVarint bytes (number * 8 + code_of type)
+  pub low : 1 ≤ number
+  pub high : number < 2 ^ 29
+
+-- the number of eight or four bytes, the lowest first
+unfoldable pub fixed64_of : List ℕ → ℕ
+fixed64_of bytes = from_le_bytes w64 bytes
+
+unfoldable pub fixed32_of : List ℕ → ℕ
+fixed32_of bytes = from_le_bytes w32 bytes
+
+pub record IsFixed64 (bytes : List ℕ) (n : ℕ) : Type 0 where
+  pub size : length bytes ≡ 8
+  pub value : n ≡ fixed64_of bytes
+
+pub record IsFixed32 (bytes : List ℕ) (n : ℕ) : Type 0 where
+  pub size : length bytes ≡ 4
+  pub value : n ≡ fixed32_of bytes
+
+-- a varint, and as many bytes as it says
+pub record IsLengthDelimited (bytes delimited : List ℕ) : Type 0 where
+  pub len : List ℕ
+  pub whole : bytes ≡ len ++ delimited
+  pub counts : IsVarint len (length delimited)
+
+abbrev pub IsValue : List ℕ → Value → Type 0
+IsValue bytes (Varint n) = IsVarint bytes n
+IsValue bytes (Fixed64 n) = IsFixed64 bytes n
+IsValue bytes (LengthDelimited delimited) = IsLengthDelimited bytes delimited
+IsValue bytes (Fixed32 n) = IsFixed32 bytes n
+
+-- a value of this wire type
+pub record IsValueOf (type : WireType) (bytes : List ℕ) (value : Value) : Type 0 where
+  pub is : IsValue bytes value
+  pub typed : wire_type_of value ≡ type
+
+pub record IsField (bytes : List ℕ) (f : Field) : Type 0 where
+  pub tag : List ℕ
+  pub rest : List ℕ
+  pub whole : bytes ≡ tag ++ rest
+  pub tagged : IsTag tag f.number (wire_type_of f.value)
+  pub value : IsValue rest f.value
+
+-- The bytes are these fields, in order.
+abbrev pub IsFields : List ℕ → List Field → Type 0
+IsFields bytes [] = bytes ≡ []
+IsFields bytes (f ∷ fs) = (front : List ℕ) × (rest : List ℕ) × (bytes ≡ front ++ rest) × IsField front f × IsFields rest fs
+
+-- ---- the written form
+
+unfoldable pub fixed64 : ℕ → List ℕ
+fixed64 n = to_le_bytes w64 n
+
+unfoldable pub fixed32 : ℕ → List ℕ
+fixed32 n = to_le_bytes w32 n
+
+abbrev pub tag_bytes : ℕ → WireType → List ℕ
+tag_bytes number type = varint (number * 8 + code_of type)
+
+abbrev pub value_bytes : Value → List ℕ
+value_bytes (Varint n) = varint n
+value_bytes (Fixed64 n) = fixed64 n
+value_bytes (LengthDelimited bytes) = varint (length bytes) ++ bytes
+value_bytes (Fixed32 n) = fixed32 n
+
+abbrev pub field_bytes : Field → List ℕ
+field_bytes f = tag_bytes f.number (wire_type_of f.value) ++ value_bytes f.value
+
+abbrev pub fields_bytes : List Field → List ℕ
+fields_bytes fs = flat_map field_bytes fs
+
+-- what has a written form
+abbrev pub ValueFits : Value → Type 0
+ValueFits (Varint n) = n < 2 ^ 64
+ValueFits (Fixed64 n) = n < 2 ^ 64
+ValueFits (LengthDelimited bytes) = length bytes < 2 ^ 64
+ValueFits (Fixed32 n) = n < 2 ^ 32
+
+pub record Fits (f : Field) : Type 0 where
+  pub low : 1 ≤ f.number
+  pub high : f.number < 2 ^ 29
+  pub value : ValueFits f.value

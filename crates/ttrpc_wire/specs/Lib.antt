@@ -1,0 +1,6 @@
+pub mod Varint
+pub mod Number
+pub mod Field
+pub mod Front
+pub mod Seen
+pub mod Reading

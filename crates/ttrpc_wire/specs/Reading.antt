@@ -1,0 +1,81 @@
+-- Reading as functions: what is at the front, and the bytes after it. That they are the grammar is the
+-- contract of `reading_is_exact`.
+use Rattle.std.specs.Prelude.{◌≡◌, ◌≢◌, ℕ, zero, suc, ◌+◌, ◌*◌, ◌-◌, ◌/◌, ◌%◌, List, [], ◌∷◌, length, take, drop, Option, Some, None, Result, Ok, Err, nat_lt, ◌==◌, if◌then◌else◌}
+use Rattle.std.specs.Option.{option_map}
+use Rattle.ttrpc_wire.specs.declared.error.CodecError.{CodecError}
+use Rattle.ttrpc_wire.specs.declared.error.CodecError.TheVariants.{NoMemory}
+use Rattle.ttrpc_wire.specs.declared.field.WireType.{WireType}
+use Rattle.ttrpc_wire.specs.declared.field.WireType.TheVariants as wire
+use Rattle.ttrpc_wire.specs.Field.{Value, Varint, Fixed64, LengthDelimited, Fixed32, Field, fixed64_of, fixed32_of}
+
+-- What a function that takes no memory returned, seen by view, is what reading gives.
+abbrev pub Reads : {X Y : Type 0} → (X → Y) → Result X CodecError → Option Y → Type 0
+Reads view (Ok x) read = read ≡ Some (view x)
+Reads view (Err e) read = (read ≡ None) × (e ≢ NoMemory)
+
+infixl 10 ◌>>=◌
+abbrev pub ◌>>=◌ : {A B : Type 0} → Option A → (A → Option B) → Option B
+None >>= f = None
+(Some x) >>= f = f x
+
+-- with a lower digit in front
+abbrev pub with_digit : ℕ → ℕ × List ℕ → ℕ × List ℕ
+with_digit b x = (b - 128 + 128 * x.0, x.1)
+
+unfoldable pub varint_upto : ℕ → List ℕ → Option (ℕ × List ℕ)
+varint_upto k [] = None
+varint_upto zero (b ∷ bytes) = None
+varint_upto (suc zero) (b ∷ bytes) = if nat_lt b 2 then Some (b, bytes) else None
+varint_upto (suc (suc k)) (b ∷ bytes) = if nat_lt b 128 then Some (b, bytes) else option_map (with_digit b) (varint_upto (suc k) bytes)
+
+unfoldable pub varint_at : List ℕ → Option (ℕ × List ℕ)
+varint_at bytes = varint_upto 10 bytes
+
+-- so many bytes
+unfoldable pub bytes_at : ℕ → List ℕ → Option (List ℕ × List ℕ)
+bytes_at n bytes = if nat_lt (length bytes) n then None else Some (take n bytes, drop n bytes)
+
+unfoldable pub wire_type_at : ℕ → Option WireType
+wire_type_at code =
+    if code == 0 then Some wire.Varint
+    else if code == 1 then Some wire.Fixed64
+    else if code == 2 then Some wire.LengthDelimited
+    else if code == 5 then Some wire.Fixed32
+    else None
+
+abbrev pub split_tag : ℕ × List ℕ → Option ((ℕ × WireType) × List ℕ)
+split_tag tag =
+    if nat_lt tag.0 8 then None
+    else if nat_lt tag.0 4294967296 then option_map (λ type. ((tag.0 / 8, type), tag.1)) (wire_type_at (tag.0 % 8))
+    else None
+
+unfoldable pub tag_at : List ℕ → Option ((ℕ × WireType) × List ℕ)
+tag_at bytes = varint_at bytes >>= split_tag
+
+abbrev pub fixed64_at : List ℕ → Option (ℕ × List ℕ)
+fixed64_at bytes = option_map (λ x. (fixed64_of x.0, x.1)) (bytes_at 8 bytes)
+
+abbrev pub fixed32_at : List ℕ → Option (ℕ × List ℕ)
+fixed32_at bytes = option_map (λ x. (fixed32_of x.0, x.1)) (bytes_at 4 bytes)
+
+abbrev pub length_delimited_at : List ℕ → Option (List ℕ × List ℕ)
+length_delimited_at bytes = varint_at bytes >>= λ n. bytes_at n.0 n.1
+
+unfoldable pub value_at : WireType → List ℕ → Option (Value × List ℕ)
+value_at wire.Varint bytes = option_map (λ x. (Varint x.0, x.1)) (varint_at bytes)
+value_at wire.Fixed64 bytes = option_map (λ x. (Fixed64 x.0, x.1)) (fixed64_at bytes)
+value_at wire.LengthDelimited bytes = option_map (λ x. (LengthDelimited x.0, x.1)) (length_delimited_at bytes)
+value_at wire.Fixed32 bytes = option_map (λ x. (Fixed32 x.0, x.1)) (fixed32_at bytes)
+
+unfoldable pub field_at : List ℕ → Option (Field × List ℕ)
+field_at bytes = tag_at bytes >>= λ t. option_map (λ x. (record { number = t.0.0; value = x.0 }, x.1)) (value_at t.0.1 t.1)
+
+-- all of the bytes, as at most k fields
+unfoldable pub fields_upto : ℕ → List ℕ → Option (List Field)
+fields_upto k [] = Some []
+fields_upto zero (b ∷ bytes) = None
+fields_upto (suc k) (b ∷ bytes) = field_at (b ∷ bytes) >>= λ x. option_map (λ fs. x.0 ∷ fs) (fields_upto k x.1)
+
+-- the fields that the bytes are, if they are fields
+unfoldable pub fields_of : List ℕ → Option (List Field)
+fields_of bytes = fields_upto (length bytes) bytes

@@ -1,0 +1,32 @@
+//! The Protocol Buffers wire format: the fields of a message read from a slice and written onto a vector,
+//! and the small types that values are made of.
+#![tactic(auto)]
+
+mod blob;
+mod clones;
+mod error;
+mod field;
+mod laws;
+mod number;
+mod reader;
+mod sequence;
+mod text;
+mod varint;
+mod writer;
+
+pub use blob::Blob;
+pub use clones::TryClone;
+pub use error::CodecError;
+pub use field::{Field, FieldNumber, Tag, Value, WireType};
+pub use laws::{
+    no_varint_begins_another, one_field_at_the_front, one_list_of_fields, reading_is_exact,
+    signed_numbers_read_back, varint_is_shortest, written_reads_back,
+};
+pub use number::{int32_to_varint, int64_to_varint, varint_to_int32, varint_to_int64};
+pub use reader::Reader;
+pub use sequence::Sequence;
+pub use text::Text;
+pub use writer::{field_len, put_field, put_tag, put_varint, tag_len, varint_len};
+
+#[cfg(test)]
+mod tests;
