@@ -5,3 +5,4 @@ pub mod Values
 pub mod Fields
 pub mod Calls
 pub mod Digits
+pub mod Folds

@@ -4,3 +4,4 @@ pub mod Field
 pub mod Front
 pub mod Seen
 pub mod Reading
+pub mod Fold

@@ -50,6 +50,7 @@ impl Blob {
         bytes
     }
 
+    /// The bytes.
     pub fn as_slice(&self) -> &[u8]
         ensures { result.now ≡ self.now }
     {

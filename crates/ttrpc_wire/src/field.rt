@@ -65,6 +65,7 @@ impl Value<'_> {
     ghost use Rattle.ttrpc_wire.specs.Field.{wire_type_of};
     ghost use Rattle.ttrpc_wire.specs.Seen.{seen_value};
 
+    /// The wire type that stands in the tag of such a value.
     pub fn wire_type(&self) -> WireType
         ensures { result ≡ wire_type_of (seen_value self.now) }
     {

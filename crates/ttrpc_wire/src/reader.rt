@@ -147,6 +147,7 @@ impl<'a> Reader<'a> {
         self.rest
     }
 
+    /// Whether all bytes have been taken.
     pub fn is_empty(&self) -> bool
         ensures { IsTrue result ↔ (self.now ≡ []) }
     {

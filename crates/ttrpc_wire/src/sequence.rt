@@ -41,6 +41,7 @@ impl<T> Sequence<T> {
         items
     }
 
+    /// The items.
     pub fn as_slice(&self) -> &[T]
         ensures { result.now ≡ self.now }
     {

@@ -1,0 +1,5 @@
+pub mod Parts
+pub mod Means
+pub mod Lists
+pub mod Five
+pub mod Headers

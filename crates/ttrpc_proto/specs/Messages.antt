@@ -1,0 +1,134 @@
+-- The five messages: the one of no fields, what one more field means, and the fields that are written, by
+-- rising number.
+-- Source: the messages of ttrpc's envelope (PROTOCOL.md of ttrpc).
+use Rattle.std.specs.Prelude.{◌≡◌, ℕ, zero, suc, List, [], ◌++◌, Option, Some, None, ℤ, pos, negsuc, FitsSigned, Bool, true, false, if◌then◌else◌}
+use Rattle.std.specs.List.{AllByRecursion}
+use Rattle.std.specs.Option.{option_map}
+use Rattle.std.specs.Int.{w32, w64}
+use Rattle.std.specs.Str.{IsUtf8}
+use Rattle.ttrpc_wire.specs.Field.{Field}
+use Rattle.ttrpc_wire.specs.Number.{number_of, int64_of, int32_of}
+use Rattle.ttrpc_wire.specs.Reading.{◌>>=◌}
+use Rattle.ttrpc_proto.specs.declared.any.Any.{Any}
+use Rattle.ttrpc_proto.specs.declared.key_value.KeyValue.{KeyValue}
+use Rattle.ttrpc_proto.specs.declared.status.Status.{Status}
+use Rattle.ttrpc_proto.specs.declared.request.Request.{Request}
+use Rattle.ttrpc_proto.specs.declared.response.Response.{Response}
+use Rattle.ttrpc_proto.specs.Members.{delimited_in, number_in, last_text, last_bytes, last_number, one_more, joined, delimited_fields, number_fields, part_fields, optional_fields}
+
+-- ---- a key and its value: 1 key, 2 value
+
+abbrev pub empty_key_value : KeyValue
+empty_key_value = record { key = []; value = [] }
+
+abbrev pub key_value_step : KeyValue → Field → Option KeyValue
+key_value_step m f =
+    delimited_in 1 last_text m.key f >>= λ key.
+    delimited_in 2 last_text m.value f >>= λ value.
+    Some (record { key = key; value = value })
+
+abbrev pub key_value_fields : KeyValue → List Field
+key_value_fields m = delimited_fields 1 m.key ++ delimited_fields 2 m.value
+
+pub record IsKeyValue (m : KeyValue) : Type 0 where
+  pub key : IsUtf8 m.key
+  pub value : IsUtf8 m.value
+
+-- ---- any message under its type's name: 1 type_url, 2 value
+
+abbrev pub empty_any : Any
+empty_any = record { type_url = []; value = [] }
+
+abbrev pub any_step : Any → Field → Option Any
+any_step m f =
+    delimited_in 1 last_text m.type_url f >>= λ type_url.
+    delimited_in 2 last_bytes m.value f >>= λ value.
+    Some (record { type_url = type_url; value = value })
+
+abbrev pub any_fields : Any → List Field
+any_fields m = delimited_fields 1 m.type_url ++ delimited_fields 2 m.value
+
+pub record IsAny (m : Any) : Type 0 where
+  pub type_url : IsUtf8 m.type_url
+
+-- ---- how a call ended: 1 code, 2 message, 3 details
+
+abbrev pub empty_status : Status
+empty_status = record { code = pos 0; message = []; details = [] }
+
+abbrev pub status_step : Status → Field → Option Status
+status_step m f =
+    number_in 1 (last_number int32_of) m.code f >>= λ code.
+    delimited_in 2 last_text m.message f >>= λ message.
+    delimited_in 3 (one_more any_step empty_any) m.details f >>= λ details.
+    Some (record { code = code; message = message; details = details })
+
+abbrev pub status_fields : Status → List Field
+status_fields m = number_fields 1 (number_of m.code) ++ (delimited_fields 2 m.message ++ part_fields 3 any_fields m.details)
+
+pub record IsStatus (m : Status) : Type 0 where
+  pub code : FitsSigned w32 m.code
+  pub message : IsUtf8 m.message
+  pub details : AllByRecursion IsAny m.details
+
+-- ---- a request: 1 service, 2 method, 3 payload, 4 timeout_nano, 5 metadata
+
+abbrev pub empty_request : Request
+empty_request = record { service = []; method = []; payload = []; timeout_nano = pos 0; metadata = [] }
+
+abbrev pub request_step : Request → Field → Option Request
+request_step m f =
+    delimited_in 1 last_text m.service f >>= λ service.
+    delimited_in 2 last_text m.method f >>= λ method.
+    delimited_in 3 last_bytes m.payload f >>= λ payload.
+    number_in 4 (last_number int64_of) m.timeout_nano f >>= λ timeout_nano.
+    delimited_in 5 (one_more key_value_step empty_key_value) m.metadata f >>= λ metadata.
+    Some (record { service = service; method = method; payload = payload; timeout_nano = timeout_nano; metadata = metadata })
+
+abbrev pub request_head : Request → List Field
+request_head m = delimited_fields 1 m.service ++ (delimited_fields 2 m.method ++ delimited_fields 3 m.payload)
+
+abbrev pub request_tail : Request → List Field
+request_tail m = number_fields 4 (number_of m.timeout_nano) ++ part_fields 5 key_value_fields m.metadata
+
+abbrev pub request_fields : Request → List Field
+request_fields m = request_head m ++ request_tail m
+
+pub record IsRequest (m : Request) : Type 0 where
+  pub service : IsUtf8 m.service
+  pub method : IsUtf8 m.method
+  pub timeout_nano : FitsSigned w64 m.timeout_nano
+  pub metadata : AllByRecursion IsKeyValue m.metadata
+
+-- ---- a response: 1 status, which may be absent, 2 payload
+
+abbrev pub empty_response : Response
+empty_response = record { status = None; payload = [] }
+
+abbrev pub response_step : Response → Field → Option Response
+response_step m f =
+    delimited_in 1 (joined status_step empty_status) m.status f >>= λ status.
+    delimited_in 2 last_bytes m.payload f >>= λ payload.
+    Some (record { status = status; payload = payload })
+
+abbrev pub response_fields : Response → List Field
+response_fields m = optional_fields 1 status_fields m.status ++ delimited_fields 2 m.payload
+
+-- a status that is absent, or is one
+abbrev pub IsOptional : {M : Type 0} → (M → Type 0) → Option M → Type 0
+IsOptional Is None = Unit {0}
+IsOptional Is (Some m) = Is m
+
+pub record IsResponse (m : Response) : Type 0 where
+  pub status : IsOptional IsStatus m.status
+
+-- the code of a call that ended well
+abbrev pub is_ok_code : ℤ → Bool
+is_ok_code (pos zero) = true
+is_ok_code (pos (suc n)) = false
+is_ok_code (negsuc n) = false
+
+-- the status, where it is there and its code isn't 0
+abbrev pub non_ok_of : Option Status → Option Status
+non_ok_of None = None
+non_ok_of (Some status) = if is_ok_code status.code then None else Some status

@@ -1,0 +1,93 @@
+use crate::any::Any;
+use crate::members::{
+    delimited_len, known_all, number_len, parts_len, put_delimited, put_number, put_parts,
+    text_from,
+};
+use crate::message::{WireMessage, decode};
+use std::alloc::{AllocError, Global};
+use ttrpc_wire::{
+    CodecError, Field, FieldNumber, Sequence, Text, TryClone, Value, int32_to_varint,
+    varint_to_int32,
+};
+
+/// How a call ended.
+#[derive(Debug, Drop, PartialEq, Eq)]
+pub struct Status {
+    pub code: i32,
+    pub message: Text,
+    pub details: Sequence<Any>,
+}
+
+const CODE: FieldNumber = FieldNumber { value: 1 };
+
+const MESSAGE: FieldNumber = FieldNumber { value: 2 };
+
+const DETAILS: FieldNumber = FieldNumber { value: 3 };
+
+impl TryClone for Status {
+    fn try_clone(&self) -> Result<Status, AllocError> {
+        Ok(Status {
+            code: self.code,
+            message: self.message.try_clone()?,
+            details: self.details.try_clone()?,
+        })
+    }
+}
+
+impl WireMessage for Status {
+    ghost use Rattle.ttrpc_proto.specs.Messages.{IsStatus, empty_status, status_step, status_fields};
+    ghost use Rattle.ttrpc_proto.specs.Laws.{status_again, status_fits};
+
+    ghost is_value = { IsStatus };
+
+    ghost empty = { empty_status };
+
+    ghost step = { status_step };
+
+    ghost fields = { status_fields };
+
+    fn new(alloc: Global) -> Status {
+        Status {
+            code: 0,
+            message: Text::new(alloc),
+            details: Sequence::new(alloc),
+        }
+    }
+
+    fn put(&mut self, alloc: Global, field: Field<'_>) -> Result<(), CodecError> {
+        match (field.number.value, field.value) {
+            (1, Value::Varint(n)) => self.code = varint_to_int32(n),
+            (2, Value::LengthDelimited(bytes)) => self.message = text_from(alloc, bytes)?,
+            (3, Value::LengthDelimited(bytes)) => {
+                let any: Any = decode(alloc, bytes)?;
+                self.details.push(any)?;
+            }
+            _ => {}
+        }
+        Ok(())
+    }
+
+    #[tactic(auto, using(crate::specs::Written::fields_len))]
+    fn length(&self) -> u64 {
+        number_len(CODE, int32_to_varint(self.code))
+            .saturating_add(delimited_len(MESSAGE, self.message.as_bytes()))
+            .saturating_add(parts_len(DETAILS, self.details.as_slice()))
+    }
+
+    #[tactic(auto, using(crate::specs::Written::fields_then, crate::specs::Written::fields_len))]
+    fn write(&self, out: &mut Vec<u8>) -> Result<(), CodecError> {
+        put_number(out, CODE, int32_to_varint(self.code))?;
+        put_delimited(out, MESSAGE, self.message.as_bytes())?;
+        put_parts(out, DETAILS, self.details.as_slice())
+    }
+
+    fn known(&self) {
+        let _code = self.code;
+        let _ = self.message.as_bytes();
+        known_all(self.details.as_slice());
+    }
+
+    ghost again = { status_again };
+
+    ghost fits = { status_fits };
+}
