@@ -1,5 +1,5 @@
 -- The five messages: their step is that of their members, so they mean what their members mean.
-use Rattle.std.proofs.Common.{◌≡◌, ℕ, List, [], ◌∷◌, ◌++◌, Option, Some, None, ℤ, refl, sym, ap, ◌∙◌, map}
+use Rattle.std.proofs.Common.{◌≡◌, ℕ, List, [], ◌++◌, Option, Some, None, ℤ, refl, ap, ◌∙◌, map}
 use Rattle.std.specs.Option.{option_map}
 use Rattle.ttrpc_wire.specs.Field.{Field}
 use Rattle.ttrpc_wire.specs.Number.{int64_of, int32_of}
@@ -13,8 +13,8 @@ use Rattle.ttrpc_proto.specs.declared.response.Response.{Response}
 use Rattle.ttrpc_proto.specs.declared.status.Status.{Status}
 use Rattle.ttrpc_proto.specs.Members.{delimited_in, number_in, last_text, last_bytes, last_number, one_more, joined, both}
 use Rattle.ttrpc_proto.specs.Messages.{empty_key_value, key_value_step, empty_any, any_step, empty_status, status_step, empty_request, request_step, empty_response, response_step}
-use Rattle.ttrpc_proto.specs.Meaning.{delimited_values, number_values, last_or, IsLastText, AreEach, Means, AreJoined, OfKeyValue, OfAny, OfStatus, OfRequest, OfResponse}
-use Rattle.ttrpc_proto.proofs.Means.{Both, both_apart, both_together, Seen, seen_apart, seen_together, AreTexts, text_means, text_again, bytes_mean, bytes_fold, number_means, number_fold}
+use Rattle.ttrpc_proto.specs.Meaning.{delimited_values, number_values, last_or, IsLastText, Means, OfKeyValue, OfAny, OfStatus, OfRequest, OfResponse}
+use Rattle.ttrpc_proto.proofs.Means.{both_apart, both_together, Seen, seen_apart, seen_together, AreTexts, text_means, text_again, bytes_mean, bytes_fold, number_means, number_fold}
 use Rattle.ttrpc_proto.proofs.Lists.{Reads, reads_mean, mean_reads, AreEach-map, list_means, list_fold, list_more, IsEven, joined_means, joined_fold, AreJoined-map}
 
 -- ---- a chain of members, as pairs

@@ -1,14 +1,14 @@
 -- Members that are messages: a list of them, and one whose values are joined.
-use Rattle.std.proofs.Common.{◌≡◌, ℕ, List, [], ◌∷◌, ◌++◌, Option, Some, None, refl, sym, ap, subst, ◌∙◌, append_assoc}
+use Rattle.std.proofs.Common.{◌≡◌, ℕ, List, [], ◌∷◌, ◌++◌, Option, Some, None, sym, ap, subst, ◌∙◌, append_assoc}
 use Rattle.std.specs.List.{AllByRecursion, flat_map}
 use Rattle.std.specs.Option.{option_map}
 use Rattle.std.proofs.lemmas.Option.{same_Some}
 use Rattle.std.proofs.lemmas.List.{append-nil}
 use Rattle.std.proofs.lemmas.List.Concat.{flat_map-cons}
-use Rattle.ttrpc_wire.specs.Field.{Field, IsFields}
+use Rattle.ttrpc_wire.specs.Field.{Field}
 use Rattle.ttrpc_wire.specs.Reading.{◌>>=◌, fields_of}
 use Rattle.ttrpc_wire.specs.Fold.{folded, read_from}
-use Rattle.ttrpc_wire.proofs.Agrees.{bound, mapped, none_some}
+use Rattle.ttrpc_wire.proofs.Agrees.{bound, mapped}
 use Rattle.ttrpc_wire.proofs.Fields.{fields_from, are_fields}
 use Rattle.ttrpc_wire.proofs.Folds.{reads_append}
 use Rattle.ttrpc_proto.specs.Members.{delimited_in, one_more, joined}

@@ -1,20 +1,17 @@
 -- A fold of fields is a fold of each member's values, and each kind of member means what it should.
-use Rattle.std.proofs.Common.{◌≡◌, ℕ, List, [], ◌∷◌, ◌++◌, Bool, true, false, cond, nat_eq, Option, Some, None, refl, sym, ap, subst, ◌∙◌, ◌↔◌, map}
-use Rattle.std.specs.List.{AllByRecursion, flat_map}
+use Rattle.std.proofs.Common.{◌≡◌, ℕ, List, [], ◌∷◌, ◌++◌, Bool, true, false, cond, nat_eq, Option, Some, None, refl, sym, ap, ◌∙◌, map}
+use Rattle.std.specs.List.{AllByRecursion}
 use Rattle.std.specs.Option.{option_map}
 use Rattle.std.specs.Str.{is_utf8, IsUtf8}
 use Rattle.std.proofs.lemmas.Option.{same_Some, cond_some}
 use Rattle.std.proofs.lemmas.Str.{is_utf8-from_IsUtf8, IsUtf8-from_is_utf8}
-use Rattle.std.proofs.lemmas.List.{append-nil}
-use Rattle.std.proofs.Common.{append_assoc}
-use Rattle.ttrpc_wire.specs.Field.{Value, Varint, Fixed64, LengthDelimited, Fixed32, Field, IsFields}
-use Rattle.ttrpc_wire.specs.Reading.{◌>>=◌, fields_of}
-use Rattle.ttrpc_wire.specs.Fold.{folded, read_from}
-use Rattle.ttrpc_wire.proofs.Agrees.{bound, mapped, some_or_none, none_some}
-use Rattle.ttrpc_wire.proofs.Fields.{fields_from, are_fields}
-use Rattle.ttrpc_wire.proofs.Folds.{none_of, bind_none, bind_same, reads_append, folded-append}
-use Rattle.ttrpc_proto.specs.Members.{delimited, number, delimited_in, number_in, text_of, last_text, last_bytes, last_number, one_more, joined, both}
-use Rattle.ttrpc_proto.specs.Meaning.{delimited_value, number_value, delimited_values, number_values, last_or, IsLastText, AreEach, Means, AreJoined}
+use Rattle.ttrpc_wire.specs.Field.{Value, Varint, Fixed64, LengthDelimited, Fixed32, Field}
+use Rattle.ttrpc_wire.specs.Reading.{◌>>=◌}
+use Rattle.ttrpc_wire.specs.Fold.{folded}
+use Rattle.ttrpc_wire.proofs.Agrees.{bound, mapped}
+use Rattle.ttrpc_wire.proofs.Folds.{bind_none, bind_same}
+use Rattle.ttrpc_proto.specs.Members.{delimited, number, delimited_in, number_in, text_of, last_text, last_bytes, last_number, both}
+use Rattle.ttrpc_proto.specs.Meaning.{delimited_value, number_value, delimited_values, number_values, last_or}
 
 -- ---- a message of two parts
 

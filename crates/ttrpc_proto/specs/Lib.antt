@@ -7,3 +7,6 @@ pub mod Written
 pub mod Messages
 pub mod Laws
 pub mod Meaning
+pub mod Frames
+pub mod Decoder
+pub mod Queue

@@ -1,9 +1,8 @@
 -- The five messages: the one of no fields, what one more field means, and the fields that are written, by
 -- rising number.
 -- Source: the messages of ttrpc's envelope (PROTOCOL.md of ttrpc).
-use Rattle.std.specs.Prelude.{◌≡◌, ℕ, zero, suc, List, [], ◌++◌, Option, Some, None, ℤ, pos, negsuc, FitsSigned, Bool, true, false, if◌then◌else◌}
+use Rattle.std.specs.Prelude.{zero, suc, List, [], ◌++◌, Option, Some, None, ℤ, pos, negsuc, FitsSigned, Bool, true, false, if◌then◌else◌}
 use Rattle.std.specs.List.{AllByRecursion}
-use Rattle.std.specs.Option.{option_map}
 use Rattle.std.specs.Int.{w32, w64}
 use Rattle.std.specs.Str.{IsUtf8}
 use Rattle.ttrpc_wire.specs.Field.{Field}

@@ -1,7 +1,7 @@
 -- Laws of the written forms of members: their lengths, that they fit, and that they read back. The laws of the
 -- messages' impls stand on these.
-use Rattle.std.specs.Prelude.{◌≡◌, ℕ, suc, zero, ◌+◌, ◌*◌, ◌%◌, ◌<◌, ◌≤◌, ◌^◌, List, [], ◌∷◌, ◌++◌, length, Option, Some, None, refl, ℤ, pos, negsuc, FitsSigned}
-use Rattle.std.specs.List.{AllByRecursion, flat_map}
+use Rattle.std.specs.Prelude.{◌≡◌, ℕ, suc, zero, ◌+◌, ◌%◌, ◌<◌, ◌≤◌, ◌^◌, List, [], ◌∷◌, ◌++◌, length, Option, Some, None, refl, ℤ, pos, negsuc, FitsSigned}
+use Rattle.std.specs.List.{AllByRecursion}
 use Rattle.std.specs.Int.{cast_signed, cast_unsigned, w32, w64}
 use Rattle.std.proofs.Common.{sym, ap, ◌∙◌, arith, length-append, append_assoc}
 use Rattle.std.proofs.lemmas.List.{append-nil}
@@ -10,7 +10,7 @@ use Rattle.std.proofs.lemmas.Grind.{flat_map-append}
 use Rattle.std.proofs.lemmas.Int.{ints, to_z-of_z}
 use Rattle.ttrpc_wire.specs.declared.field.WireType.TheVariants as wire
 use Rattle.ttrpc_wire.specs.Varint.{varint}
-use Rattle.ttrpc_wire.specs.Field.{Field, Varint, LengthDelimited, Fits, tag_bytes, field_bytes, fields_bytes}
+use Rattle.ttrpc_wire.specs.Field.{Field, Varint, Fits, tag_bytes, field_bytes, fields_bytes}
 use Rattle.ttrpc_wire.specs.Number.{number_of, int64_of, int32_of}
 use Rattle.ttrpc_wire.specs.Reading.{◌>>=◌}
 use Rattle.ttrpc_wire.specs.Fold.{folded, read_from}

@@ -1,4 +1,4 @@
-use Rattle.std.proofs.Common.{◌≡◌, ◌++◌, ◌<◌, ◌≤◌, ◌^◌, length, ap, sym, ◌∙◌, arith, inl, inr}
+use Rattle.std.proofs.Common.{◌<◌, ◌^◌, length, ap, sym, ◌∙◌, arith, inr}
 use Rattle.std.proofs.lemmas.Result.{err_from_is_err_and}
 use Rattle.ttrpc_wire.specs.Field.{fields_bytes}
 use Rattle.ttrpc_wire.specs.Fold.{read_from}

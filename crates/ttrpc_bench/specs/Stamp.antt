@@ -1,0 +1,15 @@
+-- What halves with stamps do. Each half is its next stamp.
+use Rattle.std.specs.Prelude.{◌≡◌, ◌≢◌, ◌+◌, ◌%◌, ℕ, List, [], ◌∷◌, ◌++◌}
+use Rattle.ttrpc_secure.specs.Halves.{Moves, Refusals}
+
+-- Sealing appends the stamp, and the next stamp is one more, modulo 256.
+abbrev pub AppendsStamp : Moves ℕ
+AppendsStamp stamp plain aad sealed next = (sealed ≡ plain ++ stamp ∷ []) × (next ≡ (stamp + 1) % 256)
+
+-- Opening is that backwards.
+abbrev pub TakesStampOff : Moves ℕ
+TakesStampOff stamp sealed aad plain next = AppendsStamp stamp plain aad sealed next
+
+-- The data don't end in the stamp.
+abbrev pub HasWrongStamp : Refusals ℕ
+HasWrongStamp stamp sealed aad = (plain : List ℕ) → sealed ≢ plain ++ stamp ∷ []

@@ -1,0 +1,9 @@
+//! A pair of halves with no cipher, for programs that try out and measure a connection.
+#![tactic(auto)]
+
+mod stamp;
+
+pub use stamp::{StampIn, StampOut, stamps};
+
+#[cfg(test)]
+mod tests;

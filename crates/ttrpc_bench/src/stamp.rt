@@ -1,0 +1,143 @@
+//! Halves that count: sealing appends a stamp, the number of frames sealed before, modulo 256.
+ghost use Rattle.std.specs.Prelude.{◌≡◌, ◌≢◌, ℕ, codes, IfOk, IfErr, OnErr};
+ghost use Rattle.ttrpc_secure.specs.Halves.{IsPaired};
+ghost use Rattle.ttrpc_bench.specs.Stamp.{TakesStampOff, HasWrongStamp};
+
+use std::alloc::Global;
+use std::marker::Model;
+use ttrpc_secure::{InboundTransform, OutboundTransform, TransformError};
+use ttrpc_wire::Text;
+
+/// The half that stamps, which contracts see as its next stamp.
+#[derive(Debug, Default, Drop)]
+pub struct StampOut {
+    count: u8,
+}
+
+impl Model for StampOut {
+    ghost Value = { ℕ };
+
+    ghost view = { λ half. half.count };
+}
+
+impl StampOut {
+    /// A half that has sealed nothing.
+    pub fn new() -> StampOut
+        ensures { result ≡ 0 }
+    {
+        StampOut { count: 0 }
+    }
+}
+
+impl OutboundTransform for StampOut {
+    ghost use Rattle.std.specs.Prelude.{true, refl};
+    ghost use Rattle.std.proofs.Common.{arith, length-append};
+    ghost use Rattle.ttrpc_secure.specs.Halves.{RefusesNothing};
+    ghost use Rattle.ttrpc_bench.specs.Stamp.{AppendsStamp};
+
+    const SEALS: bool = true;
+
+    ghost SEALS = { true };
+
+    ghost overhead = { λ _. 1 };
+
+    ghost seals = { AppendsStamp };
+
+    ghost refuses = { RefusesNothing };
+
+    fn transform_outbound(
+        &mut self,
+        alloc: Global,
+        data: &[u8],
+        _aad: &[u8],
+    ) -> Result<Vec<u8>, TransformError> {
+        let mut sealed = Vec::with_capacity(alloc, data.len().saturating_add(1))?;
+        sealed.extend_from_slice(data)?;
+        sealed.push(self.count)?;
+        self.count = self.count.wrapping_add(1);
+        Ok(sealed)
+    }
+
+    fn max_overhead(&self) -> usize {
+        1
+    }
+
+    ghost lawful = { record {
+      longer = λ s t plain aad sealed h. Prim.rw (h.0, length-append) (Prim.omega arith);
+      fixed = λ s t plain aad sealed h. refl;
+      small = λ s. Prim.omega arith;
+      still = λ e s t plain aad sealed h. Prim.cc;
+    } };
+}
+
+/// The half that takes stamps off, which contracts see as the stamp that comes next.
+#[derive(Debug, Default, Drop)]
+pub struct StampIn {
+    count: u8,
+}
+
+impl Model for StampIn {
+    ghost Value = { ℕ };
+
+    ghost view = { λ half. half.count };
+}
+
+impl StampIn {
+    /// A half that has opened nothing.
+    pub fn new() -> StampIn
+        ensures { result ≡ 0 }
+    {
+        StampIn { count: 0 }
+    }
+}
+
+impl InboundTransform for StampIn {
+    ghost opens = { TakesStampOff };
+
+    ghost refuses = { HasWrongStamp };
+
+    fn transform_inbound(
+        &mut self,
+        alloc: Global,
+        data: &[u8],
+        aad: &[u8],
+    ) -> Result<Vec<u8>, TransformError>
+        ensures ok { IfOk result (λ opened.
+            TakesStampOff self.old «data».now aad.now opened.items self.new) }
+        ensures refused { IfErr result (λ e. e ≢ TransformError.NoMemory
+            → HasWrongStamp self.old «data».now aad.now) }
+        ensures text { IfErr result (λ e. e ≢ TransformError.NoMemory
+            → e ≡ TransformError.Refused (codes "bad stamp")) }
+        ensures err { OnErr result (self.new ≡ self.old) }
+    {
+        let _ = aad;
+        match data {
+            [opened @ .., stamp] if *stamp == self.count => {
+                let opened = Vec::from_slice(alloc, opened)?;
+                self.count = self.count.wrapping_add(1);
+                Ok(opened)
+            }
+            _ => Err(bad_stamp(alloc)),
+        }
+    }
+}
+
+/// A half that has sealed nothing and one that has opened nothing. They are paired.
+pub fn stamps() -> (StampOut, StampIn)
+    ensures fresh { (result.0 ≡ 0) × (result.1 ≡ 0) }
+    ensures paired { IsPaired ⟦<StampOut as OutboundTransform>⟧.seals
+        ⟦<StampIn as InboundTransform>⟧.opens ⟦<StampIn as InboundTransform>⟧.refuses
+        result.0 result.1 }
+{
+    (StampOut::new(), StampIn::new())
+}
+
+// The refusal, or `NoMemory` where memory for its text was refused.
+fn bad_stamp(alloc: Global) -> TransformError
+    ensures { result ≢ TransformError.NoMemory → result ≡ TransformError.Refused (codes "bad stamp") }
+{
+    match Text::from_str(alloc, "bad stamp") {
+        Ok(text) => TransformError::Refused(text),
+        Err(_) => TransformError::NoMemory,
+    }
+}

@@ -1,0 +1,41 @@
+-- What the two halves of a transform do, as relations on any types of states, and what it means that two halves are
+-- paired.
+use Rattle.std.specs.Prelude.{◌≡◌, ◌+◌, ◌≤◌, ℕ, zero, suc, List, length, Bool, false}
+use Rattle.ttrpc_proto.specs.declared.header.TheConstants.{MESSAGE_LENGTH_MAX}
+
+-- What a half does at a call: its state before, the data that it is given, the associated bytes, what it gives, and its
+-- state after.
+abbrev pub Moves : Type 0 → Type 1
+Moves S = S → List ℕ → List ℕ → List ℕ → S → Type 0
+
+-- What a half may refuse: its state, the data and the associated bytes.
+abbrev pub Refusals : Type 0 → Type 1
+Refusals S = S → List ℕ → List ℕ → Type 0
+
+-- Of a half that takes whatever it is given.
+abbrev pub RefusesNothing : {S : Type 0} → Refusals S
+RefusesNothing s given aad = ⊥
+
+-- The laws of a half that seals.
+pub record IsLawful {S : Type 0} (seals_always : Bool) (overhead : S → ℕ) (seals : Moves S) : Type 0 where
+  -- What is sealed is at most this much longer,
+  pub longer : (s t : S) (plain aad sealed : List ℕ) → seals s plain aad sealed t → length sealed ≤ length plain + overhead s
+  -- which stays the same,
+  pub fixed : (s t : S) (plain aad sealed : List ℕ) → seals s plain aad sealed t → overhead t ≡ overhead s
+  -- and is no more than a whole message.
+  pub small : (s : S) → overhead s ≤ MESSAGE_LENGTH_MAX
+  -- A half that says that it doesn't seal stays as it is.
+  pub still : seals_always ≡ false → (s t : S) (plain aad sealed : List ℕ) → seals s plain aad sealed t → t ≡ s
+
+-- For the next n calls: whatever s seals, t doesn't refuse, and opens to the same data under the same associated bytes,
+-- and the states after are paired for the n - 1 calls that follow.
+abbrev pub PairedFor : {S T : Type 0} → Moves S → Moves T → Refusals T → ℕ → S → T → Type 0
+PairedFor seals opens refuses zero s t = Unit {0}
+PairedFor seals opens refuses (suc n) s t =
+    (plain aad sealed : List ℕ) (s_after : _) → seals s plain aad sealed s_after
+    → (refuses t sealed aad → ⊥)
+    × ((opened : List ℕ) (t_after : _) → opens t sealed aad opened t_after → (opened ≡ plain) × PairedFor seals opens refuses n s_after t_after)
+
+-- For any number of calls.
+abbrev pub IsPaired : {S T : Type 0} → Moves S → Moves T → Refusals T → S → T → Type 0
+IsPaired seals opens refuses s t = (n : ℕ) → PairedFor seals opens refuses n s t

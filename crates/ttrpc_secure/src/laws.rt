@@ -1,0 +1,20 @@
+//! What it comes to that two halves are paired.
+ghost use Rattle.std.specs.Prelude.{◌≡◌, ℕ, List};
+ghost use Rattle.ttrpc_secure.specs.Halves.{IsPaired};
+
+use crate::transform::{InboundTransform, OutboundTransform};
+
+/// Where two halves are paired, what the one seals isn't refused by the other and opens to what was sealed, and the
+/// halves are paired again.
+pub fn paired_halves_agree<O: OutboundTransform, I: InboundTransform>()
+    ensures not_refused { (s : O) (t : I) (plain aad sealed : List ℕ) (s_after : O)
+        → IsPaired O.seals I.opens I.refuses s t → O.seals s plain aad sealed s_after
+        → I.refuses t sealed aad → ⊥ }
+    ensures same { (s : O) (t : I) (plain aad sealed opened : List ℕ) (s_after : O) (t_after : I)
+        → IsPaired O.seals I.opens I.refuses s t → O.seals s plain aad sealed s_after
+        → I.opens t sealed aad opened t_after → opened ≡ plain }
+    ensures paired_again { (s : O) (t : I) (plain aad sealed opened : List ℕ) (s_after : O) (t_after : I)
+        → IsPaired O.seals I.opens I.refuses s t → O.seals s plain aad sealed s_after
+        → I.opens t sealed aad opened t_after
+        → IsPaired O.seals I.opens I.refuses s_after t_after }
+{}
