@@ -6,4 +6,6 @@ mod stamp;
 pub use stamp::{StampIn, StampOut, stamps};
 
 #[cfg(test)]
+mod server_tests;
+#[cfg(test)]
 mod tests;

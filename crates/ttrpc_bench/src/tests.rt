@@ -3,7 +3,8 @@ use super::*;
 use std::alloc::Global;
 use std::process::Abort;
 use std::test::Fail;
-use ttrpc_proto::{GenMessage, MessageHeader, Outgoing, Queued};
+use ttrpc_frame::{Outgoing, Queued};
+use ttrpc_proto::{GenMessage, MessageHeader};
 use ttrpc_secure::{InboundTransform, OutboundTransform, SendError, TransformError, send};
 use ttrpc_wire::Blob;
 

@@ -3,8 +3,3 @@ pub mod Means
 pub mod Lists
 pub mod Five
 pub mod Headers
-pub mod Frames
-pub mod Decoding
-pub mod Pieces
-pub mod Queues
-pub mod Departures

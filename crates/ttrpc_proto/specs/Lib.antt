@@ -7,6 +7,3 @@ pub mod Written
 pub mod Messages
 pub mod Laws
 pub mod Meaning
-pub mod Frames
-pub mod Decoder
-pub mod Queue

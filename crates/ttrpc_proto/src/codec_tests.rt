@@ -1,8 +1,11 @@
 //! The envelope's messages as bytes, and what those bytes mean.
+ghost use Rattle.std.specs.Prelude.{◌≡◌, string_bytes, IfOk, Some};
+ghost use Rattle.ttrpc_proto.specs.Messages.{non_ok_of};
+
 use crate::{
     Any, Codec, KeyValue, Request, RequestInit, Response, ResponseInit, Status, WireMessage,
 };
-use std::alloc::Global;
+use std::alloc::{AllocError, Global};
 use std::process::Abort;
 use std::test::Fail;
 use ttrpc_wire::{
@@ -268,6 +271,113 @@ fn requests_and_responses_are_made(rt: HostRuntime) -> Result<(), Fail> {
     response.set_status(status.try_clone()?);
     assert!(rt; response.non_ok()? == Some(status));
     Ok(())
+}
+
+/// Through the bound alone: what is made of these parts.
+fn asked<R: RequestInit>(
+    alloc: Global,
+    names: (String, String),
+    timeout_nano: i64,
+    metadata: Vec<KeyValue>,
+    payload: Vec<u8>,
+) -> R
+    ensures { result ≡ R.with_payload
+        (R.made (string_bytes names.0) (string_bytes names.1) timeout_nano metadata.items) payload.items }
+{
+    let mut request = R::init_request(alloc, names.0, names.1, timeout_nano, metadata);
+    request.set_payload(payload);
+    request
+}
+
+/// At its own type the same is known member by member.
+fn asked_request(
+    alloc: Global,
+    names: (String, String),
+    timeout_nano: i64,
+    metadata: Vec<KeyValue>,
+    payload: Vec<u8>,
+) -> Request
+    ensures { result ≡ record {
+      service = string_bytes names.0;
+      method = string_bytes names.1;
+      payload = payload.items;
+      timeout_nano = timeout_nano;
+      metadata = metadata.items;
+    } }
+{
+    asked(alloc, names, timeout_nano, metadata, payload)
+}
+
+/// Through the bound alone: what is made of a first status, then given a payload and a second status.
+fn answered<R: ResponseInit>(alloc: Global, first: Status, second: Status, payload: Vec<u8>) -> R
+    ensures { result ≡ R.with_status (R.with_payload (R.made first) payload.items) second }
+{
+    let mut response = R::init_status(alloc, first);
+    response.set_payload(payload);
+    response.set_status(second);
+    response
+}
+
+/// Through the bound alone: why the call failed, if it did.
+fn refused<R: ResponseInit>(response: &R) -> Result<Option<Status>, AllocError>
+    ensures { IfOk result (λ status. status ≡ R.refusal response.now) }
+{
+    response.non_ok()
+}
+
+/// At its own type the same is known member by member.
+fn answered_response(
+    alloc: Global,
+    first: Status,
+    second: Status,
+    payload: Vec<u8>,
+) -> Result<(Response, Option<Status>), AllocError>
+    ensures made { IfOk result (λ r. r.0 ≡ record { status = Some second; payload = payload.items }) }
+    ensures refused { IfOk result (λ r. r.1 ≡ non_ok_of (Some second)) }
+{
+    let response: Response = answered(alloc, first, second, payload);
+    let status = refused(&response)?;
+    Ok((response, status))
+}
+
+#[test]
+fn both_are_made_through_their_bounds(rt: HostRuntime) -> Result<(), Fail> {
+    let alloc = rt.alloc();
+    let service = String::from_str(alloc, "grpc.TestServices")?;
+    let method = String::from_str(alloc, "Test")?;
+    let mut metadata = Vec::new(alloc);
+    metadata.push(KeyValue {
+        key: text(alloc, "test_key1")?,
+        value: text(alloc, "test_value1")?,
+    })?;
+    let payload = [1, 2, 3, 4, 5, 6, 7, 8, 9].to_vec(alloc)?;
+    let request = asked_request(alloc, (service, method), 20000000, metadata, payload);
+    travels(&rt, alloc, &request, REQUEST)?;
+    let mut status = Status::new(alloc);
+    status.code = 3;
+    status.message = text(alloc, "x")?;
+    let payload = [0x2a].to_vec(alloc)?;
+    let (response, refusal) = answered_response(
+        alloc,
+        Status::new(alloc),
+        status.try_clone()?,
+        payload,
+    )?;
+    assert!(rt; refusal == Some(status));
+    travels(
+        &rt,
+        alloc,
+        &response,
+        b"\x0a\x05\x08\x03\x12\x01x\x12\x01\x2a",
+    )?;
+    let (response, refusal) = answered_response(
+        alloc,
+        Status::new(alloc),
+        Status::new(alloc),
+        Vec::new(alloc),
+    )?;
+    assert!(rt; refusal.is_none());
+    travels(&rt, alloc, &response, b"\x0a\x00")
 }
 
 // ---- a plain reading of the definitions, beside the decoder

@@ -8,7 +8,7 @@ use crate::status::Status;
 use std::alloc::{AllocError, AllocFailed, Global};
 use std::fmt;
 use std::io::ErrorKind;
-use ttrpc_wire::{Blob, Sequence, Text};
+use ttrpc_wire::{Blob, Sequence, Text, TryClone};
 
 /// Why a call failed.
 #[derive(Debug, Drop, PartialEq)]
@@ -77,6 +77,22 @@ impl fmt::Display for Error {
 }
 
 impl std::error::Error for Error {}
+
+impl TryClone for Error {
+    fn try_clone(&self) -> std::result::Result<Error, AllocError> {
+        Ok(match self {
+            Error::Socket(text) => Error::Socket(text.try_clone()?),
+            Error::RpcStatus(status) => Error::RpcStatus(status.try_clone()?),
+            Error::Nix(kind) => Error::Nix(*kind),
+            Error::LocalClosed => Error::LocalClosed,
+            Error::RemoteClosed => Error::RemoteClosed,
+            Error::Eof => Error::Eof,
+            Error::Others(text) => Error::Others(text.try_clone()?),
+            Error::NoMemory => Error::NoMemory,
+            Error::NoRoom => Error::NoRoom,
+        })
+    }
+}
 
 impl Error {
     /// The response that tells the other side of the error. Its message is empty where memory for the error's text

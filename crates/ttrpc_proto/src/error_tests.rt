@@ -7,7 +7,7 @@ use std::alloc::Global;
 use std::io::ErrorKind;
 use std::process::Abort;
 use std::test::Fail;
-use ttrpc_wire::{Blob, Sequence, Text};
+use ttrpc_wire::{Blob, Sequence, Text, TryClone};
 
 type Tested = std::result::Result<(), Fail>;
 
@@ -240,6 +240,26 @@ fn failed_sockets_are_told_apart(rt: HostRuntime) -> Tested {
     let cut = sock_error_msg(9, String::from_str(alloc, "short")?);
     assert_eq!(rt; cut, Error::RpcStatus(status(alloc, 3, "short")?));
     Ok(())
+}
+
+fn is_cloned(rt: &impl Abort, error: Error) -> Tested {
+    let copy = error.try_clone()?;
+    assert_eq!(rt; copy, error);
+    Ok(())
+}
+
+#[test]
+fn errors_are_cloned(rt: HostRuntime) -> Tested {
+    let alloc = rt.alloc();
+    is_cloned(&rt, Error::Socket(text(alloc, "broken")?))?;
+    is_cloned(&rt, Error::RpcStatus(status(alloc, 5, "no such task")?))?;
+    is_cloned(&rt, Error::Nix(ErrorKind::TimedOut))?;
+    is_cloned(&rt, Error::LocalClosed)?;
+    is_cloned(&rt, Error::RemoteClosed)?;
+    is_cloned(&rt, Error::Eof)?;
+    is_cloned(&rt, Error::Others(text(alloc, "späť")?))?;
+    is_cloned(&rt, Error::NoMemory)?;
+    is_cloned(&rt, Error::NoRoom)
 }
 
 fn answers(rt: &impl Abort, alloc: Global, error: Error, code: i32, message: &str) -> Tested {

@@ -52,7 +52,8 @@ pub fn check_oversize(alloc: Global, length: usize, return_rpc_error: bool) -> R
     }
 }
 
-fn oversize_message(alloc: Global, length: usize) -> std::result::Result<String, AllocError>
+/// What is said of a message of this length, which is longer than a message may be.
+pub fn oversize_message(alloc: Global, length: usize) -> std::result::Result<String, AllocError>
     ensures { IfOk result (λ text. string_bytes text ≡ oversize_text length) }
 {
     format!(in alloc; "message length {length} exceed maximum message size of 4194304")

@@ -5,14 +5,12 @@ mod any;
 mod code;
 mod codec;
 mod error;
-mod frame;
 mod gen_message;
 mod header;
 mod key_value;
 mod laws;
 mod members;
 mod message;
-mod outgoing;
 mod request;
 mod request_init;
 mod response;
@@ -23,8 +21,7 @@ pub use any::Any;
 pub use code::Code;
 pub use codec::Codec;
 pub use error::{Error, Result, get_rpc_status, get_status, others_of, sock_error_msg};
-pub use frame::{FrameDecoder, Incoming, bytes_are_frames, pieces_are_joined};
-pub use gen_message::{GenMessage, GenMessageError, check_oversize};
+pub use gen_message::{GenMessage, GenMessageError, check_oversize, oversize_message};
 pub use header::{
     DEFAULT_PAGE_SIZE, FLAG_NO_DATA, FLAG_REMOTE_CLOSED, FLAG_REMOTE_OPEN, MESSAGE_HEADER_LENGTH,
     MESSAGE_LENGTH_MAX, MESSAGE_TYPE_DATA, MESSAGE_TYPE_REQUEST, MESSAGE_TYPE_RESPONSE,
@@ -40,7 +37,6 @@ pub use members::{
     put_parts, text_from,
 };
 pub use message::{WireMessage, decode, encode, merge, read_into, size};
-pub use outgoing::{Outgoing, Queued, departing_frames_are_written};
 pub use request::Request;
 pub use request_init::RequestInit;
 pub use response::Response;
@@ -51,7 +47,3 @@ pub use status::Status;
 mod codec_tests;
 #[cfg(test)]
 mod error_tests;
-#[cfg(test)]
-mod frame_tests;
-#[cfg(test)]
-mod outgoing_tests;

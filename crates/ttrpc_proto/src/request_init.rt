@@ -1,5 +1,6 @@
 //! How the macros make a request.
-ghost use Rattle.std.specs.Prelude.{◌≡◌, string_bytes};
+ghost use Rattle.std.specs.Prelude.{◌≡◌, ℕ, ℤ, List, string_bytes};
+ghost use Rattle.ttrpc_proto.specs.declared.key_value.KeyValue.{KeyValue as APair};
 
 use crate::key_value::KeyValue;
 use crate::request::Request;
@@ -8,35 +9,46 @@ use ttrpc_wire::{Blob, Sequence, Text};
 
 /// What a request is made from.
 pub trait RequestInit: Sized {
-    /// A request with no payload. Takes no memory.
+    // What is made of a service, a method, a timeout and metadata.
+    ghost made: { List ℕ → List ℕ → ℤ → List APair → Self };
+
+    // The same with another payload.
+    ghost with_payload: { Self → List ℕ → Self };
+
+    /// A request with no payload. The timeout is in nanoseconds, 0 for no limit. Takes no memory.
     fn init_request(
         alloc: Global,
         service: String,
         method: String,
         timeout_nano: i64,
         metadata: Vec<KeyValue>,
-    ) -> Self;
+    ) -> Self
+        ensures { result ≡ made (string_bytes service) (string_bytes method) timeout_nano metadata.items };
 
-    fn set_payload(&mut self, payload: Vec<u8>);
+    /// Puts the payload in, in place of the one before. Takes no memory.
+    fn set_payload(&mut self, payload: Vec<u8>)
+        ensures { self.new ≡ with_payload self.old payload.items };
 }
 
 impl RequestInit for Request {
     ghost use Rattle.ttrpc_proto.specs.Messages.{empty_request};
 
+    ghost made = { λ service method timeout_nano metadata. record empty_request {
+      service = service;
+      method = method;
+      timeout_nano = timeout_nano;
+      metadata = metadata;
+    } };
+
+    ghost with_payload = { λ request payload. record request { payload = payload } };
+
     fn init_request(
         alloc: Global,
         service: String,
         method: String,
         timeout_nano: i64,
         metadata: Vec<KeyValue>,
-    ) -> Request
-        ensures { result ≡ record empty_request {
-          service = string_bytes service;
-          method = string_bytes method;
-          timeout_nano = timeout_nano;
-          metadata = metadata.items;
-        } }
-    {
+    ) -> Request {
         Request {
             service: Text::from_string(service),
             method: Text::from_string(method),
@@ -46,9 +58,7 @@ impl RequestInit for Request {
         }
     }
 
-    fn set_payload(&mut self, payload: Vec<u8>)
-        ensures { self.new ≡ record self.old { payload = payload.items } }
-    {
+    fn set_payload(&mut self, payload: Vec<u8>) {
         self.payload = Blob::from_vec(payload);
     }
 }

@@ -1,5 +1,6 @@
 //! How the macros make a response.
-ghost use Rattle.std.specs.Prelude.{◌≡◌, IfOk, Some};
+ghost use Rattle.std.specs.Prelude.{◌≡◌, ℕ, List, Option, IfOk, Some};
+ghost use Rattle.ttrpc_proto.specs.declared.status.Status.{Status as AStatus};
 
 use crate::response::Response;
 use crate::status::Status;
@@ -8,44 +9,62 @@ use ttrpc_wire::{Blob, TryClone};
 
 /// What a response is made from.
 pub trait ResponseInit: Sized {
+    // What is made of a status.
+    ghost made: { AStatus → Self };
+
+    // The same with another payload.
+    ghost with_payload: { Self → List ℕ → Self };
+
+    // The same with another status.
+    ghost with_status: { Self → AStatus → Self };
+
+    // The status, where it is there and its code isn't 0.
+    ghost refusal: { Self → Option AStatus };
+
     /// A response with this status and no payload. Takes no memory.
-    fn init_status(alloc: Global, status: Status) -> Self;
+    fn init_status(alloc: Global, status: Status) -> Self
+        ensures { result ≡ made status };
 
-    fn set_payload(&mut self, payload: Vec<u8>);
+    /// Puts the payload in, in place of the one before. Takes no memory.
+    fn set_payload(&mut self, payload: Vec<u8>)
+        ensures { self.new ≡ with_payload self.old payload.items };
 
-    fn set_status(&mut self, status: Status);
+    /// Puts the status in, in place of the one before. Takes no memory.
+    fn set_status(&mut self, status: Status)
+        ensures { self.new ≡ with_status self.old status };
 
     /// A copy of the status, where its code isn't 0.
-    fn non_ok(&self) -> Result<Option<Status>, AllocError>;
+    fn non_ok(&self) -> Result<Option<Status>, AllocError>
+        ensures { IfOk result (λ status. status ≡ refusal self.now) };
 }
 
 impl ResponseInit for Response {
     ghost use Rattle.ttrpc_proto.specs.Messages.{empty_response, non_ok_of};
 
-    fn init_status(alloc: Global, status: Status) -> Response
-        ensures { result ≡ record empty_response { status = Some status } }
-    {
+    ghost made = { λ status. record empty_response { status = Some status } };
+
+    ghost with_payload = { λ response payload. record response { payload = payload } };
+
+    ghost with_status = { λ response status. record response { status = Some status } };
+
+    ghost refusal = { λ response. non_ok_of response.status };
+
+    fn init_status(alloc: Global, status: Status) -> Response {
         Response {
             status: Some(status),
             payload: Blob::new(alloc),
         }
     }
 
-    fn set_payload(&mut self, payload: Vec<u8>)
-        ensures { self.new ≡ record self.old { payload = payload.items } }
-    {
+    fn set_payload(&mut self, payload: Vec<u8>) {
         self.payload = Blob::from_vec(payload);
     }
 
-    fn set_status(&mut self, status: Status)
-        ensures { self.new ≡ record self.old { status = Some status } }
-    {
+    fn set_status(&mut self, status: Status) {
         self.status = Some(status);
     }
 
-    fn non_ok(&self) -> Result<Option<Status>, AllocError>
-        ensures { IfOk result (λ status. status ≡ non_ok_of self.now.status) }
-    {
+    fn non_ok(&self) -> Result<Option<Status>, AllocError> {
         match &self.status {
             Some(status) if status.code != 0 => Ok(Some(status.try_clone()?)),
             _ => Ok(None),

@@ -3,9 +3,9 @@
 use Rattle.std.specs.Prelude.{◌≡◌, ◌≤◌, ◌∷◌, ◌++◌, [], ℕ, List, length}
 use Rattle.ttrpc_proto.specs.declared.header.MessageHeader.{MessageHeader}
 use Rattle.ttrpc_proto.specs.declared.header.TheConstants.{MESSAGE_LENGTH_MAX}
-use Rattle.ttrpc_proto.specs.declared.outgoing.Queued.{Queued}
+use Rattle.ttrpc_frame.specs.declared.outgoing.Queued.{Queued}
 use Rattle.ttrpc_proto.specs.Header.{digits_of}
-use Rattle.ttrpc_proto.specs.Queue.{Queue, with_frame, with_payload}
+use Rattle.ttrpc_frame.specs.Queue.{Queue, with_frame, with_payload}
 use Rattle.ttrpc_secure.specs.Halves.{Moves}
 
 -- The bytes of a header that a payload is bound to: the stream's id, the type and the flags.

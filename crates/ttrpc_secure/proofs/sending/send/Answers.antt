@@ -1,6 +1,6 @@
 use Rattle.std.proofs.Common.{rules, arith, ◌≡◌, ◌∙◌, ap}
-use Rattle.ttrpc_proto.specs.Queue.{with_frame, with_payload, filled}
-use Rattle.ttrpc_proto.proofs.Queues.{placed_filled}
+use Rattle.ttrpc_frame.specs.Queue.{with_frame, with_payload, filled}
+use Rattle.ttrpc_frame.proofs.Queues.{placed_filled}
 use Rattle.ttrpc_secure.proofs.sending.send.Goals as goal
 
 pub returns-in-Ok-clause-ok : goal.returns-in-Ok-clause-ok

@@ -1,0 +1,61 @@
+-- The server's table under sync rules: which row a frame has, by what it is and by the services.
+use Rattle.std.specs.Prelude.{ℕ, List, Option, Some, None, if◌then◌else◌, nat_eq, nat_lt, length}
+use Rattle.ttrpc_wire.specs.Fold.{read_from}
+use Rattle.ttrpc_proto.specs.declared.code.Code.{Code}
+use Rattle.ttrpc_proto.specs.declared.code.Code.TheVariants.{UNKNOWN, INVALID_ARGUMENT}
+use Rattle.ttrpc_frame.specs.declared.frame.Incoming.{Incoming}
+use Rattle.ttrpc_frame.specs.declared.frame.Incoming.TheVariants.{Frame, Oversize}
+use Rattle.ttrpc_proto.specs.declared.header.MessageHeader.{MessageHeader}
+use Rattle.ttrpc_proto.specs.declared.request.Request.{Request}
+use Rattle.ttrpc_proto.specs.declared.response.Response.{Response}
+use Rattle.ttrpc_proto.specs.GenMessage.{oversize_text}
+use Rattle.ttrpc_proto.specs.Messages.{empty_request, request_step}
+use Rattle.ttrpc_core.specs.declared.registry.ServiceNames.{ServiceNames}
+use Rattle.ttrpc_core.specs.Registry.{has_method}
+use Rattle.ttrpc_core.specs.Responses.{status_response, path_text, unopened_text}
+use Rattle.ttrpc_core.specs.Server.{Core}
+
+-- what the inbound half made of a frame
+pub data Opening : Type 0 where
+  -- the frame was too long, and the half wasn't asked
+  Unasked : Opening
+  Opened : (plain : List ℕ) → Opening
+  Refused : (why : List ℕ) → Opening
+
+-- what a frame does
+pub data Row : Type 0 where
+  -- nothing
+  Skipped : Row
+  -- this response is queued
+  Tells : (response : Response) → Row
+  -- a response is queued whose text is left open
+  TellsOf : (code : Code) → Row
+  -- a job is made
+  Known : (request : Request) → Row
+
+abbrev pub header_of_frame : Incoming → MessageHeader
+header_of_frame (Frame m) = m.header
+header_of_frame (Oversize h) = h
+
+abbrev pub request_row : List ServiceNames → Option Request → Row
+request_row services None = TellsOf INVALID_ARGUMENT
+request_row services (Some r) =
+    if has_method services r.service r.method then Known r else
+    Tells (status_response INVALID_ARGUMENT (path_text r.service r.method))
+
+-- the rows of a frame that isn't too long, from top to bottom
+abbrev pub opened_row : List ServiceNames → MessageHeader → Opening → Row
+opened_row services h Unasked = Skipped
+opened_row services h (Refused why) = Tells (status_response UNKNOWN (unopened_text why))
+opened_row services h (Opened plain) =
+    if nat_lt 4194304 (length plain) then Tells (status_response INVALID_ARGUMENT (oversize_text (length plain))) else
+    if nat_eq h.type_ 1 then request_row services (read_from request_step empty_request plain) else
+    Skipped
+
+abbrev pub sync_row : List ServiceNames → Incoming → Opening → Row
+sync_row services (Oversize h) opening = Tells (status_response INVALID_ARGUMENT (oversize_text h.length))
+sync_row services (Frame m) opening = opened_row services m.header opening
+
+-- The row of a frame in the state of a core. Sync rules are the only ones so far.
+abbrev pub row_of : {O I : Type 0} → Core O I → Incoming → Opening → Row
+row_of core f opening = sync_row core.services f opening

@@ -1,0 +1,5 @@
+pub mod Frames
+pub mod Decoding
+pub mod Pieces
+pub mod Queues
+pub mod Departures

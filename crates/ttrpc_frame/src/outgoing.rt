@@ -1,0 +1,256 @@
+//! The frames still to be written, in order.
+ghost use Rattle.std.specs.Prelude.{◌≡◌, ◌-◌, ◌≤◌, ◌↔◌, ◌++◌, [], List, IsTrue, IsPermutation, length, take, drop, min, OnOk, OnErr, IfErr};
+ghost use Rattle.std.specs.List.{AllByRecursion};
+ghost use Rattle.ttrpc_frame.specs.declared.outgoing.Queued.{Queued as AFrame};
+ghost use Rattle.ttrpc_frame.specs.Queue.{Happening, Allowed, IsMerge, after_all, all_bytes_left, departing, placed, thrown, unsent, written_all};
+ghost use Rattle.ttrpc_frame.specs.Queue.{Queue, IsQueue, StandsAt, written, first_open, open_part, empty_queue, with_frame, with_lent, after_report, last_may_change, filled, withdrawn, is_request_of, has_begun, without};
+
+use std::alloc::Global;
+use std::collections::VecDeque;
+use std::marker::Model;
+use ttrpc_proto::{Error, GenMessage, MESSAGE_HEADER_LENGTH, Result};
+use ttrpc_wire::Blob;
+
+/// How many lengths the four bytes of a header can say.
+const LENGTHS: usize = 1 << 32;
+
+/// A frame to be written.
+#[derive(Debug, Drop, PartialEq, Eq)]
+pub struct Queued {
+    /// What is to be sent.
+    pub message: GenMessage,
+    /// Under which number its sender asks whether it was sent.
+    pub ticket: Option<u64>,
+    /// Whether it is a unary request, which may be thrown away before it begins.
+    pub is_unary_request: bool,
+    /// The call or job that it is of.
+    pub owner: u64,
+}
+
+impl Queued {
+    fn is_request_of(&self, owner: u64) -> bool
+        ensures { result ≡ is_request_of owner self.now }
+    {
+        self.is_unary_request && self.owner == owner
+    }
+}
+
+/// The frames still to be written, in order. Their bytes are lent piece by piece, and leave as they are reported.
+#[derive(Debug, Drop)]
+pub struct Outgoing {
+    frames: VecDeque<Queued>,
+    reported: usize,
+    lent: usize,
+    begun: bool,
+}
+
+impl Model for Outgoing {
+    ghost use Rattle.ttrpc_frame.specs.Queue.{Queue, IsQueue};
+
+    ghost Value = { Queue };
+
+    ghost view = { λ a. record {
+      frames = a.frames.items;
+      reported = a.reported;
+      lent = a.lent;
+      begun = a.begun;
+    } };
+
+    ghost invariant = { λ a. IsQueue (record {
+      frames = a.frames.items;
+      reported = a.reported;
+      lent = a.lent;
+      begun = a.begun;
+    }) };
+}
+
+impl Outgoing {
+    /// No frames. Takes no memory.
+    pub fn new(alloc: Global) -> Outgoing
+        ensures { result ≡ empty_queue }
+    {
+        Outgoing {
+            frames: VecDeque::new(alloc),
+            reported: 0,
+            lent: 0,
+            begun: false,
+        }
+    }
+
+    /// Whether there are no frames.
+    pub fn is_empty(&self) -> bool
+        ensures { IsTrue result ↔ (self.now.frames ≡ []) }
+    {
+        self.frames.is_empty()
+    }
+
+    /// Queues a frame behind the others. An `Err` changes nothing.
+    pub fn place(&mut self, frame: Queued) -> Result<()>
+        ensures ok { OnOk result (self.new ≡ with_frame self.old frame) }
+        ensures err { OnErr result (self.new ≡ self.old) }
+        ensures only_memory { IfErr result (λ e. e ≡ Error.NoMemory) }
+
+        // What `placed_filled` and `placed_withdrawn` ask of a caller that fills or withdraws the frame.
+        ensures was { IsQueue self.old }
+        ensures valid { IsQueue self.new }
+    {
+        self.frames.push_back(frame)?;
+        Ok(())
+    }
+
+    /// Gives the last frame this payload, and its header this length modulo 2^32, unless the frame has begun or there
+    /// is none. Takes no memory.
+    pub fn fill(&mut self, payload: Blob)
+        ensures filled { self.new ≡ filled self.old payload }
+        ensures was { IsQueue self.old }
+        ensures valid { IsQueue self.new }
+    {
+        if self.last_may_change()
+            && let Some(frame) = self.frames.back_mut()
+        {
+            frame.message.header.length = (payload.as_slice().len() % LENGTHS) as u32;
+            frame.message.payload = payload;
+        }
+    }
+
+    /// Takes the last frame back, unless it has begun or there is none. Takes no memory.
+    pub fn withdraw(&mut self)
+        ensures withdrawn { self.new ≡ withdrawn self.old }
+        ensures was { IsQueue self.old }
+        ensures valid { IsQueue self.new }
+    {
+        if self.last_may_change() {
+            let _ = self.frames.pop_back();
+        }
+    }
+
+    // Whether there is a last frame that hasn't begun.
+    fn last_may_change(&self) -> bool
+        ensures { result ≡ last_may_change self.now }
+    {
+        usize::from(self.begun) < self.frames.len()
+    }
+
+    /// Copies a front of what is left of the first frame, as much as fits, and says how many bytes. Takes no memory.
+    pub fn lend(&mut self, buffer: &mut [u8]) -> usize
+        ensures count { result ≡ min (length buffer.old) (length (open_part self.old)) }
+        ensures copied { take result buffer.new ≡ take result (open_part self.old) }
+        ensures rest { drop result buffer.new ≡ drop result buffer.old }
+        ensures lent { self.new ≡ with_lent self.old result }
+        ensures valid { IsQueue self.new }
+    {
+        let count = match self.frames.front() {
+            None => 0,
+            Some(frame) => copy_written(&frame.message, self.reported, buffer),
+        };
+        self.lent = count;
+        self.begun = self.begun || count > 0;
+        count
+    }
+
+    /// How many bytes the last `lend` since the last report gave.
+    pub fn lent(&self) -> usize
+        ensures { result ≡ self.now.lent }
+    {
+        self.lent
+    }
+
+    /// Reports this many of the lent bytes as written. Takes no memory.
+    pub fn wrote(&mut self, n: usize)
+        requires { n ≤ self.old.lent }
+        ensures written { self.new ≡ after_report self.old n }
+        ensures valid { IsQueue self.new }
+    {
+        let length = first_length(&self.frames);
+        self.lent = 0;
+        self.reported += n;
+        if self.reported >= length {
+            let _ = self.frames.pop_front();
+            self.reported = 0;
+            self.begun = false;
+        }
+    }
+
+    /// Whether the first frame is a unary request of this owner and has begun.
+    pub fn has_begun(&self, owner: u64) -> bool
+        ensures { result ≡ has_begun self.now owner }
+    {
+        self.begun
+            && self
+                .frames
+                .front()
+                .is_some_and(|frame| frame.is_request_of(owner))
+    }
+
+    /// Throws away the first unary request of this owner that hasn't begun, if there is one. Takes no memory.
+    pub fn throw_away(&mut self, owner: u64)
+        ensures without { self.new ≡ without self.old owner }
+        ensures valid { IsQueue self.new }
+    {
+        if let Some(index) = request_place(&self.frames, usize::from(self.begun), owner) {
+            let _ = self.frames.remove(index);
+        }
+    }
+}
+
+/// Over any history in which no more is lent than there is and no more is reported than was lent, the bytes that left
+/// and those still to be written are the written forms of the frames that depart, in order: no byte is left out, comes
+/// twice, or stands between those of another frame. The frames that were queued are, in order, those that depart and
+/// those that were thrown away, and only unary requests were.
+pub fn departing_frames_are_written()
+    ensures written { (q : Queue) (hs : List Happening) → IsQueue q → Allowed q hs
+        → all_bytes_left q hs ++ unsent (after_all q hs)
+        ≡ drop q.reported (written_all (departing q hs)) }
+    ensures in_order { (q : Queue) (hs : List Happening)
+        → (away : List AFrame) × IsMerge (departing q hs) away (q.frames ++ placed hs)
+        × IsPermutation away (thrown q hs) }
+    ensures only_requests { (q : Queue) (hs : List Happening)
+        → AllByRecursion (λ f. IsTrue f.is_unary_request) (thrown q hs) }
+{}
+
+// Copies what stands in a frame's bytes from a place on, as much as fits, and says how many bytes.
+fn copy_written(message: &GenMessage, start: usize, buffer: &mut [u8]) -> usize
+    requires { start ≤ length (written message.now) }
+    ensures count { result ≡ min (length buffer.old) (length (written message.now) - start) }
+    ensures copied { take result buffer.new ≡ take result (drop start (written message.now)) }
+    ensures rest { drop result buffer.new ≡ drop result buffer.old }
+{
+    let header = message.header.to_bytes();
+    let payload = message.payload.as_slice();
+    let in_header = start.min(MESSAGE_HEADER_LENGTH);
+    let from_header = copy_front(&header[in_header..], buffer);
+    let from_payload = copy_front(&payload[start - in_header..], &mut buffer[from_header..]);
+    from_header + from_payload
+}
+
+// Copies a front, as much as fits, and says how many bytes.
+fn copy_front(from: &[u8], to: &mut [u8]) -> usize
+    ensures count { result ≡ min (length to.old) (length from.now) }
+    ensures copied { to.new ≡ take result from.now ++ drop result to.old }
+{
+    let count = from.len().min(to.len());
+    to[..count].copy_from_slice(&from[..count]);
+    count
+}
+
+// Where the first unary request of this owner stands behind the first frames, which have begun.
+fn request_place(frames: &VecDeque<Queued>, begun: usize, owner: u64) -> Option<usize>
+    ensures { StandsAt owner begun frames.now.items result }
+{
+    for i in begun..frames.len() {
+        if frames[i].is_request_of(owner) {
+            return Some(i);
+        }
+    }
+    None
+}
+
+// How many bytes the first frame has, or 0 where there is none.
+fn first_length(frames: &VecDeque<Queued>) -> usize
+    ensures { result ≡ length (first_open frames.now.items 0) }
+{
+    match frames.front() {
+        None => 0,
+        Some(frame) => MESSAGE_HEADER_LENGTH + frame.message.payload.as_slice().len(),
+    }
+}
