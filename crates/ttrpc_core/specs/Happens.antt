@@ -67,13 +67,14 @@ safe_limit h s = MESSAGE_LENGTH_MAX - h.overhead s
 abbrev pub fitted : ℕ → Response → Response
 fitted limit r = if nat_lt limit (response_size r) then status_response INVALID_ARGUMENT (limit_text (response_size r) limit) else r
 
--- a frame that carries a response under a stream's id; which job's it is, is in no contract
+-- a frame that carries a response under a stream's id
 pub record IsResponseFrame (k : ℕ) (f : Queued) : Type 0 where
   pub stream_id : f.message.header.stream_id ≡ k
   pub type_ : f.message.header.type_ ≡ MESSAGE_TYPE_RESPONSE
   pub flags : f.message.header.flags ≡ 0
   pub ticket : f.ticket ≡ None
   pub is_unary_request : f.is_unary_request ≡ Bool.false
+  pub owner : f.owner ≡ 0
 
 -- the response, as it is fitted to the half's limit, is sealed and queued under a stream's id
 pub record Responds {O I : Type 0} (h : Halves O I) (old : Core O I) (k : ℕ) (r : Response) (new : Core O I) : Type 0 where

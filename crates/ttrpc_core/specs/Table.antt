@@ -6,6 +6,7 @@ use Rattle.ttrpc_proto.specs.declared.code.Code.TheVariants.{UNKNOWN, INVALID_AR
 use Rattle.ttrpc_frame.specs.declared.frame.Incoming.{Incoming}
 use Rattle.ttrpc_frame.specs.declared.frame.Incoming.TheVariants.{Frame, Oversize}
 use Rattle.ttrpc_proto.specs.declared.header.MessageHeader.{MessageHeader}
+use Rattle.ttrpc_proto.specs.declared.header.TheConstants.{MESSAGE_LENGTH_MAX, MESSAGE_TYPE_REQUEST}
 use Rattle.ttrpc_proto.specs.declared.request.Request.{Request}
 use Rattle.ttrpc_proto.specs.declared.response.Response.{Response}
 use Rattle.ttrpc_proto.specs.GenMessage.{oversize_text}
@@ -48,8 +49,8 @@ abbrev pub opened_row : List ServiceNames → MessageHeader → Opening → Row
 opened_row services h Unasked = Skipped
 opened_row services h (Refused why) = Tells (status_response UNKNOWN (unopened_text why))
 opened_row services h (Opened plain) =
-    if nat_lt 4194304 (length plain) then Tells (status_response INVALID_ARGUMENT (oversize_text (length plain))) else
-    if nat_eq h.type_ 1 then request_row services (read_from request_step empty_request plain) else
+    if nat_lt MESSAGE_LENGTH_MAX (length plain) then Tells (status_response INVALID_ARGUMENT (oversize_text (length plain))) else
+    if nat_eq h.type_ MESSAGE_TYPE_REQUEST then request_row services (read_from request_step empty_request plain) else
     Skipped
 
 abbrev pub sync_row : List ServiceNames → Incoming → Opening → Row

@@ -17,8 +17,9 @@ ghost use Rattle.ttrpc_core.specs.Turns.{Turn, Runs, joined};
 
 use ttrpc_secure::{InboundTransform, OutboundTransform};
 
-/// Each stream id stands by itself. A frame changes the jobs of its own id alone, and adds at most the one that its
-/// row makes, and queues at most one answer, under that id; a job that is handed out or answered changes in its own id alone, as if there were no other.
+/// Each stream id stands by itself. A frame changes the jobs of its own id alone, adds at most the one that its row
+/// makes, and queues at most one answer, under that id. A job that is handed out or answered changes in its own id
+/// alone, as if there were no other.
 pub fn streams_stand_by_themselves<O: OutboundTransform, I: InboundTransform>()
     ensures frame_elsewhere { (old new : Core O I) (f : AnIncoming) (k : ℕ) → Acts (halves_of O.overhead O.seals O.refuses I.opens I.refuses) old f new
         → k ≢ (header_of_frame f).stream_id → jobs_at new.jobs k ≡ jobs_at old.jobs k }

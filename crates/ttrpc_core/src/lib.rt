@@ -1,4 +1,4 @@
-//! What the two cores have in common: why a connection failed, and the answers and errors that a core makes by itself.
+//! The core of a server, with no socket, clock or thread: bytes and calls in, jobs and bytes out.
 #![tactic(auto)]
 
 mod failure;

@@ -3,7 +3,6 @@ ghost use Rattle.std.specs.Prelude.{◌≡◌, IfOk};
 ghost use Rattle.ttrpc_core.specs.Happens.{fitted, IsResponseFrame};
 ghost use Rattle.ttrpc_core.specs.Inside.{IsOf, TellsUnsent};
 
-use crate::job::JobId;
 use crate::responses::{limit_response, unsafe_payload_error, unsealed_error};
 use std::alloc::{AllocError, Global};
 use ttrpc_frame::Queued;
@@ -68,8 +67,8 @@ pub fn fit(alloc: Global, limit: usize, response: Response) -> Result<Response, 
     limit_response(alloc, size, limit)
 }
 
-/// The frame that carries a response of this job, without its payload.
-pub fn response_frame(alloc: Global, stream_id: u32, owner: JobId) -> Queued
+/// The frame that carries a response, without its payload. It is nobody's, since responses aren't thrown away.
+pub fn response_frame(alloc: Global, stream_id: u32) -> Queued
     ensures { IsResponseFrame stream_id result }
 {
     Queued {
@@ -79,6 +78,6 @@ pub fn response_frame(alloc: Global, stream_id: u32, owner: JobId) -> Queued
         },
         ticket: None,
         is_unary_request: false,
-        owner,
+        owner: 0,
     }
 }

@@ -395,7 +395,7 @@ impl<O: OutboundTransform + Drop, I: InboundTransform + Drop> ServerCore<O, I> {
         ensures err { IfErr result (λ failure. (self.new ≡ self.old) × (failure ≡ Failure.NoMemory)) }
         ensures same { SameFlow self.old self.new }
     {
-        match self.respond(alloc, stream_id, response, 0) {
+        match self.respond(alloc, stream_id, response) {
             Ok(()) => Ok(()),
             Err(Unsent::NoMemory) => Err(Failure::NoMemory),
             Err(_) => Ok(()),
@@ -403,13 +403,7 @@ impl<O: OutboundTransform + Drop, I: InboundTransform + Drop> ServerCore<O, I> {
     }
 
     /// Queues a response, or one that says that it is above the limit. An `Err` changes nothing.
-    fn respond(
-        &mut self,
-        alloc: Global,
-        stream_id: u32,
-        response: Response,
-        owner: JobId,
-    ) -> Result<(), Unsent>
+    fn respond(&mut self, alloc: Global, stream_id: u32, response: Response) -> Result<(), Unsent>
         ensures ok { OnOk result (Responds
             (halves_of O.overhead O.seals O.refuses I.opens I.refuses)
             self.old.core stream_id response self.new.core) }
@@ -427,7 +421,7 @@ impl<O: OutboundTransform + Drop, I: InboundTransform + Drop> ServerCore<O, I> {
         let Ok(bytes) = response.encode(alloc) else {
             return Err(Unsent::NoMemory);
         };
-        let frame = response_frame(alloc, stream_id, owner);
+        let frame = response_frame(alloc, stream_id);
         match send(
             alloc,
             &mut self.outbound,
@@ -462,8 +456,7 @@ impl<O: OutboundTransform + Drop, I: InboundTransform + Drop> ServerCore<O, I> {
         ensures err { OnErr result (self.new ≡ self.old) }
     {
         let stream_id = self.jobs[place].header.stream_id;
-        let owner = self.jobs[place].id;
-        match self.respond(alloc, stream_id, response, owner) {
+        match self.respond(alloc, stream_id, response) {
             Ok(()) => {
                 let _ = self.jobs.remove(place);
                 Ok(())

@@ -22,3 +22,18 @@ returns-clause-err g c =
           (λ t e ne. rw c.as_slice.ensures.value at (c.send.ensures.refused t (c.in-Err.is ∙ ap (λ (x : SendError). Err x) e) ne))
           c.unsent_of.ensures,
     )
+
+pub returns-in-Ok-send-clause-ok : goal.returns-in-Ok-send-clause-ok
+returns-in-Ok-send-clause-ok g c =
+    let h = halves_of g.O.OutboundTransform.overhead g.O.OutboundTransform.seals g.O.OutboundTransform.refuses g.I.InboundTransform.opens g.I.InboundTransform.refuses in
+    let s = c.self.inside.outbound in
+    let limit : c.limit-limit.result ≡ safe_limit h s = rw (← c.self.view_is) at c.limit-limit.ensures in
+    let small : c.size-size.result ≤ safe_limit h s = rw (← limit) (search rules) in
+    let fit : c.in_ok-response.response ≡ fitted (safe_limit h s) c.args.response = rw (← limit) c.in_ok-response.ensures in
+    rw (← c.self.view_is)
+    (record {
+      frame = c.response_frame-frame.result;
+      is_frame = c.response_frame-frame.ensures;
+      fits = rw (← fit, ← c.size-size.ensures) small;
+      sends = rw (c.as_slice.ensures.value, c.in-Ok.ensures.ok, fit) at c.in-Ok-send.ensures.ok;
+    })
