@@ -26,7 +26,7 @@ fed_one_way held a b before p is js h one two =
     let same = one_list (before ++ p) is js x.0 y.0 x.1 x.2.1 y.1 y.2.1 in
     (same.0, x.2.0 ∙ ap held_of same.1 ∙ sym y.2.0)
 
-abbrev Feedable : Held → List ℕ → Type 0
+abbrev pub Feedable : Held → List ℕ → Type 0
 Feedable held p = (is : List Incoming) × (new : Held) × Fed held p is new
 
 -- with all of the rest held
@@ -50,7 +50,7 @@ fed_counted ten n p size over less = elim (cases_lt (n + length p) ((header_of t
       (Oversize (header_of ten) ∷ more.0, more.1, subst (λ q. Fed (record { bytes = ten; counted = n }) q (Oversize (header_of ten) ∷ more.0) more.1) (take-append-drop k p) f)
 ]
 
-fed_some : (held : Held) (before p : List ℕ) → Holds held before → Feedable held p
+pub fed_some : (held : Held) (before p : List ℕ) → Holds held before → Feedable held p
 fed_some held before p h = elim (cases_lt (length before) 10) [
   | inl short ↦
       let s : nat_lt (length before) 10 ≡ true = lt-ltb _ _ short in

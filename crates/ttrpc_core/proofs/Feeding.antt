@@ -15,7 +15,7 @@ use Rattle.ttrpc_secure.specs.Sends.{associated}
 use Rattle.ttrpc_core.specs.Responses.{status_response, unopened_text}
 use Rattle.ttrpc_core.specs.Server.{Core, Server}
 use Rattle.ttrpc_core.specs.Table.{Row, Skipped, Tells, TellsOf, Known, Unasked, Opened, Refused, opened_row}
-use Rattle.ttrpc_core.specs.Happens.{Halves, Acts, ActsAll, Breaks, Does, Feeds, IsWhy, Quiet, Refers}
+use Rattle.ttrpc_core.specs.Happens.{Halves, Acts, ActsAll, Breaks, Does, Feeds, IsWhy, Quiet, Refers, FeedsFront}
 use Rattle.ttrpc_core.specs.Inside.{FailsOn, StopsAt, TakesFront}
 use Rattle.ttrpc_core.specs.Failure.{IsTold}
 
@@ -122,7 +122,7 @@ pub at_first : {O I : Type 0} (h : Halves O I) (old : Server O I) (piece : List 
 at_first h old piece = record { frames = []; front = []; piece_is = refl; fed = nothing_taken old.held; acts = refl }
 
 pub one_more : {O I : Type 0} (h : Halves O I) (old now : Server O I) (piece rest : List ℕ) (n : ℕ) (new : Server O I)
-    → SoFar h old piece rest now → TakesFront h now (take n rest) new → SoFar h old piece (drop n rest) new
+    → SoFar h old piece rest now → FeedsFront h now (take n rest) new → SoFar h old piece (drop n rest) new
 one_more h old now piece rest n new p t = record {
   frames = p.frames ++ given t.frame;
   front = p.front ++ take n rest;
@@ -131,19 +131,19 @@ one_more h old now piece rest n new p t = record {
   acts = acts_twice h p.frames (given t.frame) old.core now.core new.core p.acts t.acts;
 }
 
-pub breaks : {O I : Type 0} (h : Halves O I) (old now : Server O I) (piece rest : List ℕ) (error told : Error) (mid new : Server O I) → old.core.failure ≡ None
-    → SoFar h old piece rest now → StopsAt h now rest error mid → new ≡ record mid { core = record mid.core { failure = Some error } } → IsTold error told
+pub breaks : {O I : Type 0} (h : Halves O I) (old : Server O I) (piece : List ℕ) (error told : Error) (mid new : Server O I) → old.core.failure ≡ None
+    → StopsAt h old piece error mid → new ≡ record mid { core = record mid.core { failure = Some error } } → IsTold error told
     → Breaks h old piece told new
-breaks h old now piece rest error told mid new alive p s is told_is = subst (λ (x : Server _ _). Breaks h old piece told x) (sym is) (record {
+breaks h old piece error told mid new alive s is told_is = subst (λ (x : Server _ _). Breaks h old piece told x) (sym is) (record {
   alive = alive;
-  frames = p.frames;
+  frames = [];
   last = s.frame;
-  taken = p.front ++ s.front;
+  taken = s.front;
   rest = s.back;
-  piece_is = p.piece_is ∙ ap (λ xs. p.front ++ xs) s.piece_is ∙ sym (append_assoc p.front s.front s.back);
-  fed = fed_twice old.held now.held mid.held p.front s.front p.frames (given s.frame) p.fed s.fed;
-  mid = now.core;
-  acts = p.acts;
+  piece_is = s.piece_is;
+  fed = s.fed;
+  mid = old.core;
+  acts = refl;
   error = error;
   why = s.why;
   fails = record {
@@ -152,6 +152,25 @@ breaks h old now piece rest error told mid new alive p s is told_is = subst (λ 
   };
   is_told = told_is;
 })
+
+pub breaks_later : {O I : Type 0} (h : Halves O I) (old now : Server O I) (piece rest : List ℕ) (told : Error) (new : Server O I) → old.core.failure ≡ None
+    → SoFar h old piece rest now → Breaks h now rest told new → Breaks h old piece told new
+breaks_later h old now piece rest told new alive p b = record {
+  alive = alive;
+  frames = p.frames ++ b.frames;
+  last = b.last;
+  taken = p.front ++ b.taken;
+  rest = b.rest;
+  piece_is = p.piece_is ∙ ap (λ xs. p.front ++ xs) b.piece_is ∙ sym (append_assoc p.front b.taken b.rest);
+  fed = subst (λ fs. Fed old.held (p.front ++ b.taken) fs new.held) (sym (append_assoc p.frames b.frames (given b.last)))
+      (fed_twice old.held now.held new.held p.front b.taken p.frames (b.frames ++ given b.last) p.fed b.fed);
+  mid = b.mid;
+  acts = acts_twice h p.frames b.frames old.core now.core b.mid p.acts b.acts;
+  error = b.error;
+  why = b.why;
+  fails = b.fails;
+  is_told = b.is_told;
+}
 
 -- a server whose inbound half alone moved
 pub moved_quiet : {O I : Type 0} (old : Server O I) (i : I) (new : Server O I) → new ≡ record old { core = record old.core { inbound = i } } → Quiet old.core new.core

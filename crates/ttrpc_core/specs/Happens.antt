@@ -164,6 +164,14 @@ pub record Feeds {O I : Type 0} (h : Halves O I) (old : Server O I) (piece : Lis
   pub fed : Fed old.held piece frames new.held
   pub acts : ActsAll h old.core frames new.core
 
+-- a front of a piece was taken, and at most one frame was whole with it, which acted
+pub record FeedsFront {O I : Type 0} (h : Halves O I) (old : Server O I) (front : List ℕ) (new : Server O I) : Type 0 where
+  pub alive : old.core.failure ≡ None
+  pub failure : new.core.failure ≡ None
+  pub frame : Option Incoming
+  pub fed : Fed old.held front (given frame) new.held
+  pub acts : ActsAll h old.core (given frame) new.core
+
 -- the row makes a job, and no job can get an id
 pub record IsUsedUp {O I : Type 0} (row : Row) (old : Core O I) (error : Error) : Type 0 where
   pub request : Request

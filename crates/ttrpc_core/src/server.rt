@@ -1,5 +1,5 @@
 //! The core of a server: frames in, jobs and responses out.
-ghost use Rattle.std.specs.Prelude.{◌≡◌, ◌≢◌, ◌-◌, ◌<◌, ◌≤◌, ℕ, length, take, drop, min, is_some, if◌then◌else◌, IfOk, IfErr, OnOk, OnErr, IfSome, IfNone, Ok, Err, Some, None};
+ghost use Rattle.std.specs.Prelude.{◌≡◌, ◌≢◌, ◌-◌, ◌<◌, ◌≤◌, ◌↔◌, ℕ, true, length, take, drop, min, is_some, if◌then◌else◌, IfOk, IfErr, OnOk, OnErr, IfSome, IfNone, Ok, Err, Some, None};
 ghost use Rattle.ttrpc_proto.specs.declared.error.Error.{Error as AnError};
 ghost use Rattle.ttrpc_proto.specs.declared.response.Response.{Response as AResponse};
 ghost use Rattle.ttrpc_proto.specs.GenMessage.{oversize_text};
@@ -10,7 +10,7 @@ ghost use Rattle.ttrpc_core.specs.Failure.{IsTold, error_of};
 ghost use Rattle.ttrpc_core.specs.Responses.{status_response, unopened_text};
 ghost use Rattle.ttrpc_core.specs.Server.{new_server, with_queue, with_failure};
 ghost use Rattle.ttrpc_core.specs.Table.{Known, Opened, opened_row, request_row};
-ghost use Rattle.ttrpc_core.specs.Happens.{halves_of, safe_limit, Acts, Answers, Breaks, Does, Drops, Feeds, Hands, IsFailed, IsTakenAt, IsUnsent, IsWhy, kept, Makes, NoneWaits, Quiet, Refers, RefusesAnswer, Responds};
+ghost use Rattle.ttrpc_core.specs.Happens.{halves_of, safe_limit, Acts, Answers, Breaks, Does, Drops, Feeds, FeedsFront, Hands, IsFailed, IsTakenAt, IsUnsent, IsWhy, kept, Makes, NoneWaits, Quiet, Refers, RefusesAnswer, Responds};
 ghost use Rattle.ttrpc_core.specs.Inside.{FailsOn, IsUnsentFor, OnlySends, SameFlow, StopsAt, TakesFront};
 
 use crate::failure::Failure;
@@ -91,7 +91,7 @@ impl<O: OutboundTransform + Drop, I: InboundTransform + Drop> ServerCore<O, I> {
     /// Takes a piece whole, and says how many bytes that are. Each frame that is whole with it acts, in order. The
     /// connection fails where memory for a frame is refused or job ids are used up; then and from then on the answer is
     /// that failure. Under sync rules the moment `now`, in nanoseconds, plays no part.
-    pub fn feed(&mut self, alloc: Global, piece: &[u8], _now: u64) -> Result<usize, Error>
+    pub fn feed(&mut self, alloc: Global, piece: &[u8], now: u64) -> Result<usize, Error>
         ensures ok { IfOk result (λ n. (n ≡ length piece.now) × Feeds
             (halves_of O.overhead O.seals O.refuses I.opens I.refuses)
             self.old piece.now self.new) }
@@ -106,16 +106,43 @@ impl<O: OutboundTransform + Drop, I: InboundTransform + Drop> ServerCore<O, I> {
         }
         let mut rest = piece;
         while !rest.is_empty() {
-            match self.take_front(alloc, rest) {
-                Ok(n) => rest = behind(rest, n),
-                Err(failure) => {
-                    let error = failure.error(alloc);
-                    self.failure = Some(failure);
-                    return Err(error);
-                }
-            }
+            let n = self.feed_front(alloc, rest, now)?;
+            rest = behind(rest, n);
         }
         Ok(piece.len())
+    }
+
+    /// Takes a front of the piece, and says how many bytes: at least one of a piece that isn't empty, and none behind the
+    /// first frame that is whole with it. That frame acts. Otherwise as `feed`.
+    pub fn feed_front(&mut self, alloc: Global, piece: &[u8], _now: u64) -> Result<usize, Error>
+        ensures count { IfOk result (λ n. (n ≤ length piece.now) × (0 < length piece.now → 0 < n)) }
+        ensures ok { IfOk result (λ n. FeedsFront
+            (halves_of O.overhead O.seals O.refuses I.opens I.refuses)
+            self.old (take n piece.now) self.new) }
+        ensures fails { self.old.core.failure ≡ None → IfErr result (λ e. Breaks
+            (halves_of O.overhead O.seals O.refuses I.opens I.refuses)
+            self.old piece.now e self.new) }
+        ensures failed { (e : AnError) → self.old.core.failure ≡ Some e
+            → (self.new ≡ self.old) × IfErr result (IsTold e) }
+    {
+        if let Some(failure) = &self.failure {
+            return Err(failure.error(alloc));
+        }
+        match self.take_front(alloc, piece) {
+            Ok(n) => Ok(n),
+            Err(failure) => {
+                let error = failure.error(alloc);
+                self.failure = Some(failure);
+                Err(error)
+            }
+        }
+    }
+
+    /// Whether nothing of a frame has come that isn't whole. Takes no memory.
+    pub fn at_boundary(&self) -> bool
+        ensures { (result ≡ true) ↔ (self.now.held ≡ nothing) }
+    {
+        self.decoder.at_boundary()
     }
 
     /// Hands out the waiting job of least id, and none where none waits or the connection has failed. Takes no
@@ -237,8 +264,7 @@ impl<O: OutboundTransform + Drop, I: InboundTransform + Drop> ServerCore<O, I> {
     /// to fail, nothing but the decoder and the inbound half has changed.
     fn take_front(&mut self, alloc: Global, piece: &[u8]) -> Result<usize, Failure>
         requires alive { self.old.core.failure ≡ None }
-        requires some { 0 < length piece.now }
-        ensures count { IfOk result (λ n. (0 < n) × (n ≤ length piece.now)) }
+        ensures count { IfOk result (λ n. (n ≤ length piece.now) × (0 < length piece.now → 0 < n)) }
         ensures ok { IfOk result (λ n. TakesFront
             (halves_of O.overhead O.seals O.refuses I.opens I.refuses)
             self.old (take n piece.now) self.new) }

@@ -360,6 +360,111 @@ fn an_end_of_input_is_told_by_where_it_is(rt: HostRuntime) -> Tested {
     Ok(())
 }
 
+/// What stands behind the first bytes of a piece, or nothing where it has no more.
+fn behind(piece: &[u8], n: usize) -> &[u8] {
+    &piece[n.min(piece.len())..]
+}
+
+/// Takes fronts of a piece until one ends a frame, and says how many bytes that are.
+fn frame_taken(alloc: Global, core: &mut Core, piece: &[u8]) -> Result<usize, Fail> {
+    let mut taken: usize = 0;
+    for _ in 0..piece.len() {
+        let count = core.feed_front(alloc, behind(piece, taken), 0)?;
+        taken = taken.saturating_add(count);
+        if core.at_boundary() {
+            break;
+        }
+    }
+    Ok(taken)
+}
+
+/// The second request is no job before the first is answered, so the answers lie in the order of frames.
+#[test]
+fn fronts_of_two_requests_end_behind_their_frames(rt: HostRuntime) -> Tested {
+    let alloc = rt.alloc();
+    let mut core = echo_core(alloc)?;
+    assert_eq!(rt; frame_taken(alloc, &mut core, TWICE)?, 30);
+    echoes_one(&rt, alloc, &mut core)?;
+    assert_eq!(rt; frame_taken(alloc, &mut core, behind(TWICE, 30))?, 30);
+    echoes_one(&rt, alloc, &mut core)?;
+    let mut written = Vec::new(alloc);
+    drain(&mut core, &mut written)?;
+    assert_eq!(rt; written.as_slice(), TWICE_ECHOED);
+    Ok(())
+}
+
+/// One job waits, and is answered with its own payload.
+fn echoes_one(rt: &impl Abort, alloc: Global, core: &mut Core) -> Tested {
+    assert!(rt; echo_one(alloc, core)?);
+    assert!(rt; !echo_one(alloc, core)?);
+    Ok(())
+}
+
+#[test]
+fn fronts_of_a_piece_that_ends_inside_a_frame_are_all_of_it(rt: HostRuntime) -> Tested {
+    let alloc = rt.alloc();
+    for cut in 1..ASKED.len() {
+        let mut core = echo_core(alloc)?;
+        assert_eq!(rt; frame_taken(alloc, &mut core, &ASKED[..cut])?, cut);
+        assert!(rt; !core.at_boundary());
+        assert!(rt; core.take_job().is_none());
+        assert_eq!(rt;
+            frame_taken(alloc, &mut core, behind(ASKED, cut))?,
+            ASKED.len() - cut
+        );
+        echoes_one(&rt, alloc, &mut core)?;
+    }
+    Ok(())
+}
+
+#[test]
+fn a_front_of_an_empty_piece_has_no_bytes(rt: HostRuntime) -> Tested {
+    let alloc = rt.alloc();
+    let mut core = echo_core(alloc)?;
+    assert_eq!(rt; core.feed_front(alloc, &[], 0)?, 0);
+    assert!(rt; core.at_boundary());
+    assert!(rt; core.take_job().is_none());
+    Ok(())
+}
+
+#[test]
+fn a_boundary_is_where_no_frame_has_begun(rt: HostRuntime) -> Tested {
+    let alloc = rt.alloc();
+    let mut core = echo_core(alloc)?;
+    assert!(rt; core.at_boundary());
+    for cut in 1..ASKED.len() {
+        core.feed(alloc, &ASKED[..cut], 0)?;
+        assert!(rt; !core.at_boundary());
+        core.feed(alloc, behind(ASKED, cut), 0)?;
+        assert!(rt; core.at_boundary());
+    }
+    Ok(())
+}
+
+/// How a core that has failed answers a front of this piece.
+fn refused_front(alloc: Global, core: &mut Core, piece: &[u8]) -> Result<Error, Fail> {
+    match core.feed_front(alloc, piece, 0) {
+        Ok(_) => Err("it was fed".into()),
+        Err(error) => Ok(error),
+    }
+}
+
+/// Neither the front that begins a frame nor the one that ends one is taken, and the failure stays.
+#[test]
+fn a_core_that_has_failed_takes_no_front(rt: HostRuntime) -> Tested {
+    let alloc = rt.alloc();
+    for (held, at_boundary) in [(0, true), (7, false)] {
+        let mut core = echo_core(alloc)?;
+        core.feed(alloc, &ASKED[..held], 0)?;
+        core.fail(Error::Socket(Text::from_str(alloc, "first")?));
+        let error = refused_front(alloc, &mut core, behind(ASKED, 7))?;
+        tells_socket(&rt, alloc, error, "first")?;
+        assert_eq!(rt; core.at_boundary(), at_boundary);
+        has_failed(&rt, alloc, &mut core, "first")?;
+    }
+    Ok(())
+}
+
 /// A core with one job, number 1, that was taken.
 fn with_job(alloc: Global) -> Result<Core, Fail> {
     let mut core = echo_core(alloc)?;

@@ -1,17 +1,52 @@
-//! `ttrpc-demo`, the program of the project. None of its words is built yet, so any call of it is answered by
-//! how it will be called, as one with wrong words will be.
+//! `ttrpc-demo`, the program of the project: a server and a client to try by hand. By now it has `answer`, which reads
+//! frames from standard input and writes their answers to standard output.
 #![tactic(auto)]
 
-use std::io;
+mod engine;
+#[cfg(test)]
+mod fakes;
+#[cfg(test)]
+mod tests;
+#[cfg(test)]
+mod vectors;
+mod words;
+
+use crate::words::{Outcome, run, tell};
+use std::env;
+use std::io::{BufWriter, ErrorKind};
 use std::process::ExitCode;
+use std::rt::Env;
+use ttrpc_proto::Error;
 
-const USAGE: &str =
-    "usage: ttrpc-demo answer | serve ADDR | call ADDR SERVICE METHOD HEX TIMEOUT | loop HEX";
+/// The words behind the program's name. Words that aren't UTF-8 are wrong ones.
+fn given_words<R: Env + AllocGlobal>(rt: &R) -> Result<Vec<String>, Outcome> {
+    let all = match env::args(rt) {
+        Ok(all) => all,
+        Err(error) if error.kind() == ErrorKind::InvalidData => return Err(Outcome::WrongWords),
+        Err(_) => return Err(Outcome::Failed(Error::NoMemory)),
+    };
+    let mut words = Vec::new(rt.alloc());
+    for word in all.skip(1) {
+        if words.push(word).is_err() {
+            return Err(Outcome::Failed(Error::NoMemory));
+        }
+    }
+    Ok(words)
+}
 
-/// The status of a call with wrong words.
-const WRONG_WORDS: u8 = 2;
-
-fn main(rt: HostRuntime) -> io::Result<ExitCode> {
-    rt.eprintln(USAGE)?;
-    Ok(ExitCode::from(WRONG_WORDS))
+fn main(rt: HostRuntime) -> ExitCode {
+    let words = match given_words(&rt) {
+        Ok(words) => words,
+        Err(outcome) => return ExitCode::from(tell(&outcome, &mut rt.stderr())),
+    };
+    let Ok(mut output) = BufWriter::new(rt.alloc(), rt.stdout()) else {
+        return ExitCode::from(tell(&Outcome::Failed(Error::NoMemory), &mut rt.stderr()));
+    };
+    ExitCode::from(run(
+        rt.alloc(),
+        words.as_slice(),
+        &mut rt.stdin(),
+        &mut output,
+        &mut rt.stderr(),
+    ))
 }

@@ -1,7 +1,5 @@
-use Rattle.std.proofs.Common.{rules, ◌≡◌, ap, refl, Some, None}
-use Rattle.ttrpc_core.specs.Failure.{error_of}
-use Rattle.ttrpc_core.specs.Server.{Server}
-use Rattle.ttrpc_core.proofs.Feeding.{at_first, breaks, one_more, whole}
+use Rattle.std.proofs.Common.{rules, ◌≡◌, refl, Err, None, []}
+use Rattle.ttrpc_core.proofs.Feeding.{at_first, breaks_later, one_more, whole}
 use Rattle.ttrpc_core.proofs.server.ServerCore.feed.Goals as goal
 
 pub loop-rest-init : goal.loop-rest-init
@@ -12,13 +10,14 @@ loop-rest-init g c =
 pub loop-rest-preserved : goal.loop-rest-preserved
 loop-rest-preserved g c = record {
   alive = c.loop-rest.invariant.alive;
-  still = c.take_front.ensures.alive;
-  so_far = rw c.behind-rest.ensures (one_more _ _ _ _ _ c.in-Ok.n _ c.loop-rest.invariant.so_far c.in-Ok.ensures.ok);
+  still = c.in_ok-n.ensures.ok.failure;
+  so_far = rw c.behind-rest.ensures (one_more _ _ _ _ _ c.in_ok-n.n _ c.loop-rest.invariant.so_far c.in_ok-n.ensures.ok);
 }
 
-pub returns-in-Err-clause-fails : goal.returns-in-Err-clause-fails
-returns-in-Err-clause-fails g c = λ alive. breaks _ _ _ _ _ _ _ _ _ alive c.loop-rest.invariant.so_far c.in-Err.ensures.err
-    (ap (λ (x : Server _ _). record x { core = record x.core { failure = Some (error_of c.in-Err.failure) } }) c.self-in-loop-rest.view_is) c.error-error.ensures
+pub returns-in_err-n-clause-fails : goal.returns-in_err-n-clause-fails
+returns-in_err-n-clause-fails g c =
+    let e : c.from_residual.result ≡ Err c.in_err-n.field-0.0 = search rules in
+    λ alive. rw e (breaks_later _ _ _ _ _ _ _ alive c.loop-rest.invariant.so_far (c.in_err-n.ensures.fails c.loop-rest.invariant.still))
 
 pub returns-clause-ok : goal.returns-clause-ok
 returns-clause-ok g c = (refl, whole _ _ _ _ _ c.loop-rest.invariant.alive c.loop-rest.invariant.so_far (search rules))

@@ -1,0 +1,4 @@
+pub mod Echo
+pub mod Answered
+pub mod Serving
+pub mod Words

@@ -1,0 +1,242 @@
+//! The program over words, readers and writers. All bytes are written by hand.
+use crate::engine::answer;
+use crate::fakes::{Sink, Source};
+use crate::vectors::*;
+use crate::words::run;
+use std::alloc::Global;
+use std::io::{ErrorKind, Read};
+use std::process::Abort;
+use std::test::Fail;
+use ttrpc_proto::Error;
+
+type Tested = Result<(), Fail>;
+
+/// What a run of the program left.
+#[derive(Drop)]
+struct Ran {
+    status: u8,
+    output: Vec<u8>,
+    errors: Vec<u8>,
+}
+
+/// Runs the program. A run that ends for want of memory is an error.
+fn run_words<R: Read>(alloc: Global, words: &[&str], input: &mut R) -> Result<Ran, Fail> {
+    let mut given = Vec::new(alloc);
+    for word in words {
+        given.push(String::from_str(alloc, word)?)?;
+    }
+    let mut output = Vec::new(alloc);
+    let mut errors = Vec::new(alloc);
+    let status = run(alloc, given.as_slice(), input, &mut output, &mut errors);
+    if errors.as_slice() == NO_MEMORY_TEXT && status == 1 {
+        return Err(Fail::from(Error::NoMemory));
+    }
+    Ok(Ran {
+        status,
+        output,
+        errors,
+    })
+}
+
+/// `answer` ends well, and answers so, if it reads pieces and if it reads bytes.
+fn answers(rt: &impl Abort, alloc: Global, bytes: &[u8], expected: &[u8]) -> Tested {
+    for step in [4096, 1] {
+        let ran = run_words(alloc, &["answer"], &mut Source::new(bytes, step))?;
+        assert_eq!(rt; ran.status, 0);
+        assert_eq!(rt; ran.output.as_slice(), expected);
+        assert!(rt; ran.errors.is_empty());
+    }
+    Ok(())
+}
+
+#[test]
+fn nothing_is_answered_by_nothing(rt: HostRuntime) -> Tested {
+    answers(&rt, rt.alloc(), b"", b"")
+}
+
+#[test]
+fn one_byte_is_echoed(rt: HostRuntime) -> Tested {
+    answers(&rt, rt.alloc(), ASKED, ECHOED)
+}
+
+#[test]
+fn an_empty_payload_is_echoed(rt: HostRuntime) -> Tested {
+    answers(&rt, rt.alloc(), EMPTY, EMPTY_ECHOED)
+}
+
+#[test]
+fn an_unknown_method_is_named(rt: HostRuntime) -> Tested {
+    answers(&rt, rt.alloc(), NO_METHOD, NO_METHOD_ANSWER)
+}
+
+#[test]
+fn an_unknown_service_is_named(rt: HostRuntime) -> Tested {
+    answers(&rt, rt.alloc(), NO_SERVICE, NO_SERVICE_ANSWER)
+}
+
+#[test]
+fn answers_come_in_the_order_of_frames(rt: HostRuntime) -> Tested {
+    answers(&rt, rt.alloc(), MIXED, MIXED_ANSWERS)
+}
+
+#[test]
+fn a_frame_that_is_too_long_is_answered_behind_it(rt: HostRuntime) -> Tested {
+    let alloc = rt.alloc();
+    let mut frame = Vec::new(alloc);
+    frame.extend_from_slice(OVERSIZED)?;
+    frame.resize(10 + 4194305, 0)?;
+    let ran = run_words(alloc, &["answer"], &mut Source::new(frame.as_slice(), 4096))?;
+    assert_eq!(rt; ran.status, 0);
+    assert_eq!(rt; ran.output.as_slice(), OVERSIZED_ANSWER);
+    Ok(())
+}
+
+#[test]
+fn input_that_ends_inside_a_frame_is_a_failure(rt: HostRuntime) -> Tested {
+    let ran = run_words(rt.alloc(), &["answer"], &mut Source::new(CUT, 4096))?;
+    assert_eq!(rt; ran.status, 1);
+    assert!(rt; ran.output.is_empty());
+    assert_eq!(rt; ran.errors.as_slice(), INSIDE_TEXT);
+    Ok(())
+}
+
+/// With these words the program tells how it is called, and neither reads nor writes.
+fn is_told_the_usage(rt: &impl Abort, alloc: Global, words: &[&str]) -> Tested {
+    let mut input = ASKED;
+    let ran = run_words(alloc, words, &mut input)?;
+    assert_eq!(rt; ran.status, 2);
+    assert!(rt; ran.output.is_empty());
+    assert_eq!(rt; ran.errors.as_slice(), USAGE_TEXT);
+    assert_eq!(rt; input, ASKED);
+    Ok(())
+}
+
+#[test]
+fn wrong_words_are_told_the_usage(rt: HostRuntime) -> Tested {
+    let alloc = rt.alloc();
+    is_told_the_usage(&rt, alloc, &[])?;
+    is_told_the_usage(&rt, alloc, &["answers"])?;
+    is_told_the_usage(&rt, alloc, &["Answer"])?;
+    is_told_the_usage(&rt, alloc, &[""])?;
+    is_told_the_usage(&rt, alloc, &["answer", ""])?;
+    is_told_the_usage(&rt, alloc, &["answer", "answer"])
+}
+
+#[test]
+fn words_that_are_not_built_yet_are_told_the_usage(rt: HostRuntime) -> Tested {
+    let alloc = rt.alloc();
+    is_told_the_usage(&rt, alloc, &["serve", "127.0.0.1:0"])?;
+    is_told_the_usage(
+        &rt,
+        alloc,
+        &["call", "127.0.0.1:1", "demo.Echo", "Echo", "2a", "0"],
+    )?;
+    is_told_the_usage(&rt, alloc, &["loop", "2a"])
+}
+
+/// The first `count` bytes.
+fn front(bytes: &[u8], count: usize) -> &[u8] {
+    &bytes[..count.min(bytes.len())]
+}
+
+/// How many bytes answer the frames that are whole with the first `count` bytes of `MIXED`.
+fn answered_with(count: usize) -> usize {
+    if count >= 87 {
+        65
+    } else if count >= 57 {
+        50
+    } else if count >= 30 {
+        15
+    } else {
+        0
+    }
+}
+
+/// After `count` bytes the reader fails: what they ask for is answered.
+fn reading_fails_at(rt: &impl Abort, alloc: Global, count: usize, step: usize) -> Tested {
+    let mut output = Vec::new(alloc);
+    let mut input = Source::failing(front(MIXED, count), step, ErrorKind::ConnectionReset);
+    match answer(alloc, &mut input, &mut output) {
+        Err(Error::Nix(kind)) => assert!(rt; kind == ErrorKind::ConnectionReset),
+        Err(error) => return Err(Fail::from(error)),
+        Ok(()) => return Err(Fail::new("the failure wasn't named")),
+    }
+    assert_eq!(rt;
+        output.as_slice(),
+        front(MIXED_ANSWERS, answered_with(count))
+    );
+    Ok(())
+}
+
+#[test]
+fn what_came_before_a_failing_read_is_answered(rt: HostRuntime) -> Tested {
+    for count in 0..88 {
+        for step in [4096, 1] {
+            reading_fails_at(&rt, rt.alloc(), count, step)?;
+        }
+    }
+    Ok(())
+}
+
+/// After `count` bytes the writer fails, or takes no more: those went out.
+fn writing_fails_at(
+    rt: &impl Abort,
+    alloc: Global,
+    count: usize,
+    step: usize,
+    behind: Option<ErrorKind>,
+) -> Tested {
+    let mut output = Sink::failing(Vec::new(alloc), step, count, behind);
+    match answer(alloc, &mut Source::new(MIXED, 4096), &mut output) {
+        Err(Error::Nix(kind)) => assert!(rt; kind == behind.unwrap_or(ErrorKind::WriteZero)),
+        Err(error) => return Err(Fail::from(error)),
+        Ok(()) => return Err(Fail::new("the failure wasn't named")),
+    }
+    assert_eq!(rt; output.taken.as_slice(), front(MIXED_ANSWERS, count));
+    Ok(())
+}
+
+#[test]
+fn a_beginning_is_written_where_writing_fails(rt: HostRuntime) -> Tested {
+    for count in 0..65 {
+        for step in [4096, 1] {
+            writing_fails_at(&rt, rt.alloc(), count, step, Some(ErrorKind::BrokenPipe))?;
+            writing_fails_at(&rt, rt.alloc(), count, step, None)?;
+        }
+    }
+    Ok(())
+}
+
+#[test]
+fn a_failing_reader_ends_the_program_with_its_kind(rt: HostRuntime) -> Tested {
+    let mut input = Source::failing(ASKED, 4096, ErrorKind::ConnectionReset);
+    let ran = run_words(rt.alloc(), &["answer"], &mut input)?;
+    assert_eq!(rt; ran.status, 1);
+    assert_eq!(rt; ran.output.as_slice(), ECHOED);
+    assert!(rt;
+        ran.errors
+            .as_slice()
+            .starts_with(b"ttrpc-demo: Nix error: ")
+    );
+    assert!(rt; ran.errors.as_slice().ends_with(b"\n"));
+    Ok(())
+}
+
+#[test]
+fn a_writer_may_take_one_byte_a_call(rt: HostRuntime) -> Tested {
+    let alloc = rt.alloc();
+    let mut output = Sink::new(Vec::new(alloc), 1);
+    answer(alloc, &mut Source::new(MIXED, 1), &mut output)?;
+    assert_eq!(rt; output.taken.as_slice(), MIXED_ANSWERS);
+    assert_eq!(rt; output.flushed, 65);
+    Ok(())
+}
+
+#[test]
+fn interruptions_lose_nothing(rt: HostRuntime) -> Tested {
+    let alloc = rt.alloc();
+    let mut output = Sink::interrupted(Vec::new(alloc), 7);
+    answer(alloc, &mut Source::interrupted(MIXED, 11), &mut output)?;
+    assert_eq!(rt; output.taken.as_slice(), MIXED_ANSWERS);
+    Ok(())
+}
