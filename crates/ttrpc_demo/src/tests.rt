@@ -11,6 +11,9 @@ use ttrpc_proto::Error;
 
 type Tested = Result<(), Fail>;
 
+/// More than any of the runs writes, so that no writer wants memory.
+const ROOM: usize = 256;
+
 /// What a run of the program left.
 #[derive(Drop)]
 struct Ran {
@@ -25,8 +28,8 @@ fn run_words<R: Read>(alloc: Global, words: &[&str], input: &mut R) -> Result<Ra
     for word in words {
         given.push(String::from_str(alloc, word)?)?;
     }
-    let mut output = Vec::new(alloc);
-    let mut errors = Vec::new(alloc);
+    let mut output = Vec::with_capacity(alloc, ROOM)?;
+    let mut errors = Vec::with_capacity(alloc, ROOM)?;
     let status = run(alloc, given.as_slice(), input, &mut output, &mut errors);
     if errors.as_slice() == NO_MEMORY_TEXT && status == 1 {
         return Err(Fail::from(Error::NoMemory));
@@ -154,7 +157,7 @@ fn answered_with(count: usize) -> usize {
 
 /// After `count` bytes the reader fails: what they ask for is answered.
 fn reading_fails_at(rt: &impl Abort, alloc: Global, count: usize, step: usize) -> Tested {
-    let mut output = Vec::new(alloc);
+    let mut output = Vec::with_capacity(alloc, ROOM)?;
     let mut input = Source::failing(front(MIXED, count), step, ErrorKind::ConnectionReset);
     match answer(alloc, &mut input, &mut output) {
         Err(Error::Nix(kind)) => assert!(rt; kind == ErrorKind::ConnectionReset),
@@ -186,7 +189,7 @@ fn writing_fails_at(
     step: usize,
     behind: Option<ErrorKind>,
 ) -> Tested {
-    let mut output = Sink::failing(Vec::new(alloc), step, count, behind);
+    let mut output = Sink::failing(Vec::with_capacity(alloc, ROOM)?, step, count, behind);
     match answer(alloc, &mut Source::new(MIXED, 4096), &mut output) {
         Err(Error::Nix(kind)) => assert!(rt; kind == behind.unwrap_or(ErrorKind::WriteZero)),
         Err(error) => return Err(Fail::from(error)),
@@ -225,7 +228,7 @@ fn a_failing_reader_ends_the_program_with_its_kind(rt: HostRuntime) -> Tested {
 #[test]
 fn a_writer_may_take_one_byte_a_call(rt: HostRuntime) -> Tested {
     let alloc = rt.alloc();
-    let mut output = Sink::new(Vec::new(alloc), 1);
+    let mut output = Sink::new(Vec::with_capacity(alloc, ROOM)?, 1);
     answer(alloc, &mut Source::new(MIXED, 1), &mut output)?;
     assert_eq!(rt; output.taken.as_slice(), MIXED_ANSWERS);
     assert_eq!(rt; output.flushed, 65);
@@ -235,7 +238,7 @@ fn a_writer_may_take_one_byte_a_call(rt: HostRuntime) -> Tested {
 #[test]
 fn interruptions_lose_nothing(rt: HostRuntime) -> Tested {
     let alloc = rt.alloc();
-    let mut output = Sink::interrupted(Vec::new(alloc), 7);
+    let mut output = Sink::interrupted(Vec::with_capacity(alloc, ROOM)?, 7);
     answer(alloc, &mut Source::interrupted(MIXED, 11), &mut output)?;
     assert_eq!(rt; output.taken.as_slice(), MIXED_ANSWERS);
     Ok(())
