@@ -1,0 +1,27 @@
+-- What is kept of calls, as a list by rising id.
+use Rattle.std.proofs.Common.{◌≡◌, ℕ, List, [], ◌∷◌, refl, sym, Some, None}
+use Rattle.std.specs.Map.{lookup, remove_entry}
+use Rattle.std.specs.BTreeMap.{is_at, insert_entry}
+use Rattle.std.specs.Ordering.{nat_cmp}
+use Rattle.std.specs.Cmp.{nat_cmp_is}
+use Rattle.std.specs.declared.cmp.Ordering.{Ordering}
+use Rattle.std.specs.declared.cmp.Ordering.TheVariants.{Less, Equal, Greater}
+
+-- an entry that was put in under a new key and taken out again leaves the entries as they were
+undo_at : {K X : Type 0} (R : K → K → Ordering) (k : K) (v : X) (e : K × X) (es : List (K × X)) → R k k ≡ Equal → (remove_entry (is_at (R k)) (insert_entry R es k v) ≡ es)
+    → (o : Ordering) → R k e.0 ≡ o → lookup (is_at (R k)) (e ∷ es) ≡ None → remove_entry (is_at (R k)) (insert_entry R (e ∷ es) k v) ≡ e ∷ es
+undo_at R k v e es self ih Less q h = rw (q, self) refl
+undo_at R k v e es self ih Equal q h = let bad : Some e.1 ≡ None = rw q at h in cc
+undo_at R k v e es self ih Greater q h = rw (q, q, ih) refl
+
+rest_none : {K X : Type 0} (R : K → K → Ordering) (k : K) (e : K × X) (es : List (K × X)) → (o : Ordering) → R k e.0 ≡ o → lookup (is_at (R k)) (e ∷ es) ≡ None → lookup (is_at (R k)) es ≡ None
+rest_none R k e es Less q h = rw q at h
+rest_none R k e es Equal q h = let bad : Some e.1 ≡ None = rw q at h in cc
+rest_none R k e es Greater q h = rw q at h
+
+pub undone : {K X : Type 0} (R : K → K → Ordering) (k : K) (v : X) (es : List (K × X)) → R k k ≡ Equal → lookup (is_at (R k)) es ≡ None → remove_entry (is_at (R k)) (insert_entry R es k v) ≡ es
+undone R k v [] self h = rw self refl
+undone R k v (e ∷ es) self h = undo_at R k v e es self (undone R k v es self (rest_none R k e es (R k e.0) refl h)) (R k e.0) refl h
+
+pub same_place : (k : ℕ) → nat_cmp k k ≡ Equal
+same_place k = sym (nat_cmp_is k k Equal refl)

@@ -1,0 +1,4 @@
+pub mod Entries
+pub mod Feeding
+pub mod Dropping
+pub mod Ticking

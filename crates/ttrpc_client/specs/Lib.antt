@@ -1,0 +1,4 @@
+pub mod Client
+pub mod Table
+pub mod Happens
+pub mod Inside

@@ -1,0 +1,44 @@
+//! What a client keeps of a call.
+ghost use Rattle.std.specs.Prelude.{◌≡◌};
+ghost use Rattle.ttrpc_client.specs.Client.{deadline_of};
+ghost use Rattle.ttrpc_client.specs.Happens.{is_due};
+
+use ttrpc_proto::{Error, Response};
+use ttrpc_wire::int64_to_varint;
+
+/// The number of a call, which is the id of its stream: odd, and rising from call to call.
+pub type CallId = u32;
+
+/// What is kept of a call until its outcome is taken.
+#[derive(Debug, Drop)]
+pub enum Call {
+    /// It waits for its response, until this moment if there is one.
+    Waiting(Option<u128>),
+    /// Its deadline has passed.
+    Expired,
+    /// A frame ended it with this outcome.
+    Ended(Result<Response, Error>),
+}
+
+impl Call {
+    /// Whether it waits and its deadline has passed at this moment.
+    pub fn is_due(&self, now: u64) -> bool
+        ensures { result ≡ is_due now self.now }
+    {
+        match self {
+            Call::Waiting(Some(deadline)) => *deadline <= u128::from(now),
+            _ => false,
+        }
+    }
+}
+
+/// The moment by which a call that is made now must have ended: none where its timeout, in nanoseconds, is 0. A negative
+/// one is read as the `u64` of the same bits.
+pub fn deadline_of(now: u64, timeout_nano: i64) -> Option<u128>
+    ensures { result ≡ deadline_of now timeout_nano }
+{
+    if timeout_nano == 0 {
+        return None;
+    }
+    Some(u128::from(now) + u128::from(int64_to_varint(timeout_nano)))
+}
