@@ -16,10 +16,6 @@ use Rattle.ttrpc_client.specs.Table.{Lands, landing_of, opened_landing, oversize
 use Rattle.ttrpc_client.specs.Happens.{Acts, ActsAll, Breaks, Feeds, Quiet, SameBesides}
 use Rattle.ttrpc_client.specs.Inside.{StopsAt, TakesFront}
 
-pub acts_alive : {O I : Type 0} (h : Halves O I) (fs : List Incoming) (old new : Core O I) → ActsAll h old fs new → old.failure ≡ None → new.failure ≡ None
-acts_alive h [] old new acts alive = ap (λ (c : Core _ _). c.failure) acts ∙ alive
-acts_alive h (f ∷ fs) old new acts alive = acts_alive h fs acts.0 new acts.2 acts.1.failure
-
 acts_twice : {O I : Type 0} (h : Halves O I) (fs gs : List Incoming) (old mid new : Core O I) → ActsAll h old fs mid → ActsAll h mid gs new → ActsAll h old (fs ++ gs) new
 acts_twice h [] gs old mid new one two = subst (λ c. ActsAll h c gs new) one two
 acts_twice h (f ∷ fs) gs old mid new one two = (one.0, one.1, acts_twice h fs gs one.0 mid new one.2 two)
@@ -94,9 +90,6 @@ one_more h old now piece rest n new p t = record {
   fed = fed_twice old.held now.held new.held p.front (take n rest) p.frames (given t.frame) p.fed t.fed;
   acts = acts_twice h p.frames (given t.frame) old.core now.core new.core p.acts t.acts;
 }
-
-pub front_alive : {O I : Type 0} (h : Halves O I) (now : Client O I) (front : List ℕ) (new : Client O I) → now.core.failure ≡ None → TakesFront h now front new → new.core.failure ≡ None
-front_alive h now front new alive t = acts_alive h (given t.frame) now.core new.core t.acts alive
 
 -- and the connection failed for want of memory
 pub breaks : {O I : Type 0} (h : Halves O I) (old now : Client O I) (piece rest : List ℕ) (mid new : Client O I) → old.core.failure ≡ None

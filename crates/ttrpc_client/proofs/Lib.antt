@@ -1,3 +1,4 @@
+pub mod Failing
 pub mod Entries
 pub mod Feeding
 pub mod Dropping

@@ -109,9 +109,7 @@ impl<O: OutboundTransform + Drop, I: InboundTransform + Drop> ClientCore<O, I> {
             self.old.core request.now) }
         ensures err { OnErr result (self.new ≡ self.old) }
     {
-        if let Some(failure) = &self.failure {
-            return Err(failure.error(alloc));
-        }
+        self.lives(alloc)?;
         let size = request.size() as usize;
         if size > MESSAGE_LENGTH_MAX {
             return Err(told(long_error(alloc, size)));
@@ -138,6 +136,17 @@ impl<O: OutboundTransform + Drop, I: InboundTransform + Drop> ClientCore<O, I> {
                 alloc, &why,
             )),
             Err(_) => Err(Error::NoMemory),
+        }
+    }
+
+    /// The failure is an `Err`, where the connection has failed.
+    fn lives(&self, alloc: Global) -> Result<(), Error>
+        ensures ok { OnOk result (self.now.core.failure ≡ None) }
+        ensures err { IfErr result (IsFailed self.now.core) }
+    {
+        match &self.failure {
+            None => Ok(()),
+            Some(failure) => Err(failure.error(alloc)),
         }
     }
 
@@ -244,11 +253,13 @@ impl<O: OutboundTransform + Drop, I: InboundTransform + Drop> ClientCore<O, I> {
         has_begun
     }
 
-    /// The connection fails so.
+    /// The connection fails so, if it hasn't failed.
     fn break_off(&mut self, failure: Failure)
-        ensures { self.new ≡ with_failure self.old (Some (error_of failure)) }
+        ensures { self.new ≡ with_failure self.old (kept self.old.core.failure (error_of failure)) }
     {
-        self.failure = Some(failure);
+        if self.failure.is_none() {
+            self.failure = Some(failure);
+        }
     }
 
     /// Whether requests may be thrown away before they begin.
@@ -270,9 +281,7 @@ impl<O: OutboundTransform + Drop, I: InboundTransform + Drop> ClientCore<O, I> {
         ensures failed { (e : AnError) → self.old.core.failure ≡ Some e
             → (self.new ≡ self.old) × IfErr result (IsTold e) }
     {
-        if let Some(failure) = &self.failure {
-            return Err(failure.error(alloc));
-        }
+        self.lives(alloc)?;
         let mut rest = piece;
         while !rest.is_empty() {
             let Ok(n) = self.take_front(alloc, rest) else {
@@ -295,6 +304,7 @@ impl<O: OutboundTransform + Drop, I: InboundTransform + Drop> ClientCore<O, I> {
         ensures err { OnErr result (StopsAt
             (halves_of O.overhead O.seals O.refuses I.opens I.refuses)
             self.old piece.now self.new) }
+        ensures alive { self.new.core.failure ≡ None }
     {
         let Ok((n, incoming)) = self.decoder.feed(alloc, piece) else {
             return Err(AllocError);
@@ -313,6 +323,7 @@ impl<O: OutboundTransform + Drop, I: InboundTransform + Drop> ClientCore<O, I> {
             self.old.core incoming self.new.core) }
         ensures held { self.new.held ≡ self.old.held }
         ensures err { OnErr result (Quiet self.old.core self.new.core) }
+        ensures alive { self.new.core.failure ≡ None }
     {
         match incoming {
             Incoming::Oversize(header) => self.land_oversize(alloc, &header),
@@ -328,6 +339,7 @@ impl<O: OutboundTransform + Drop, I: InboundTransform + Drop> ClientCore<O, I> {
             self.old.core (Incoming.Frame message.now) self.new.core) }
         ensures held { self.new.held ≡ self.old.held }
         ensures err { OnErr result (Quiet self.old.core self.new.core) }
+        ensures alive { self.new.core.failure ≡ None }
     {
         let header = message.header;
         let associated = associated_bytes(&header);
@@ -437,22 +449,19 @@ impl<O: OutboundTransform + Drop, I: InboundTransform + Drop> ClientCore<O, I> {
         ensures inside { self.old.held ≢ nothing → self.new ≡ with_failure self.old
             (kept self.old.core.failure (error_of Failure.DisconnectedInside)) }
     {
-        if self.failure.is_none() {
-            self.failure = Some(if self.decoder.at_boundary() {
-                Failure::Disconnected
-            } else {
-                Failure::DisconnectedInside
-            });
-        }
+        let at_boundary = self.decoder.at_boundary();
+        self.break_off(if at_boundary {
+            Failure::Disconnected
+        } else {
+            Failure::DisconnectedInside
+        });
     }
 
     /// Fails the connection, if it hasn't failed: each call that waits has that as its outcome. Takes no memory.
     pub fn fail(&mut self, error: Error)
         ensures { self.new ≡ with_failure self.old (kept self.old.core.failure error) }
     {
-        if self.failure.is_none() {
-            self.failure = Some(Failure::Told(error));
-        }
+        self.break_off(Failure::Told(error));
     }
 
     /// The failure, or `NoMemory` where memory for its text was refused.

@@ -13,3 +13,8 @@ pub use errors::{
     above_limit_error, malformed_error, oversize_error, unopened_error, unreadable_error,
 };
 pub use kind::ClientKind;
+
+#[cfg(test)]
+mod client_tests;
+#[cfg(test)]
+mod vectors;

@@ -1,6 +1,7 @@
 use Rattle.std.proofs.Common.{rules, ◌≡◌, ◌∙◌, ap, sym, Some, None, true, is_some}
 use Rattle.ttrpc_client.specs.Client.{Client, with_failure}
 use Rattle.ttrpc_client.specs.Happens.{cancelled_error}
+use Rattle.ttrpc_client.proofs.Failing.{fails_first}
 use Rattle.ttrpc_client.proofs.Dropping.{Forgotten, forgets_late, forgets_in_time, forgets_failed, forgets_idle}
 use Rattle.ttrpc_client.proofs.client.ClientCore.drop_call.Goals as goal
 use Rattle.ttrpc_client.proofs.client.ClientCore.drop_call.Goals.{else-waited-via-then-waited+then-is_none+else-take_back, else-waited-via-then-waited+else-is_none, else-waited-via-else-waited}
@@ -10,8 +11,9 @@ returns-then-take_back g c =
     let mid = c.forget-waited.new.self in
     let f : Forgotten c.args.self.now c.args.id mid = record { own = c.forget-waited.ensures.own; others = c.forget-waited.ensures.others; same = c.forget-waited.ensures.same } in
     let alive : mid.core.failure ≡ None = search rules in
+    let still : c.take_back.new.self.core.failure ≡ None = ap (λ (x : Client _ _). x.core.failure) c.take_back.ensures.queue ∙ alive in
     forgets_late g.O.OutboundTransform.SEALS c.args.self.now c.args.id mid _ f alive (sym c.if-waited.ensures.waited) (sym c.if-take_back.ensures.late)
-    (c.break_off.ensures ∙ ap (λ (x : Client _ _). with_failure x (Some cancelled_error)) c.take_back.ensures.queue)
+    (fails_first c.take_back.new.self cancelled_error _ still c.break_off.ensures ∙ ap (λ (x : Client _ _). with_failure x (Some cancelled_error)) c.take_back.ensures.queue)
 
 pub returns-else-waited : goal.returns-else-waited
 returns-else-waited g c =

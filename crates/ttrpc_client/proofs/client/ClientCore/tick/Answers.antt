@@ -1,5 +1,6 @@
-use Rattle.std.proofs.Common.{rules, ◌≡◌, Some, None, drop, slice_get}
-use Rattle.ttrpc_client.specs.Happens.{due_ids}
+use Rattle.std.proofs.Common.{rules, ◌≡◌, ◌∙◌, Some, None, drop, slice_get}
+use Rattle.ttrpc_client.specs.Happens.{deadline_error, due_ids}
+use Rattle.ttrpc_client.proofs.Failing.{fails_first}
 use Rattle.ttrpc_client.proofs.Ticking.{Expires, fewer, first_is, kept_due, one_more, ticks_in_time, ticks_late}
 use Rattle.ttrpc_client.proofs.client.ClientCore.tick.Goals as goal
 
@@ -30,7 +31,8 @@ loop-id-preserved g c =
 pub returns-then-late-clause-alive : goal.returns-then-late-clause-alive
 returns-then-late-clause-alive g c =
     let none : slice_get (due_ids c.args.now c.loop-id.self.core.calls) 0 ≡ None = search rules in
-    λ alive. ticks_late _ _ _ _ _ _ c.loop-id.invariant none c.if-late.true c.break_off.ensures
+    λ alive. ticks_late _ _ _ _ _ _ c.loop-id.invariant none c.if-late.true
+    (fails_first c.loop-id.self deadline_error _ (c.loop-id.invariant.same.failure ∙ c.loop-id.invariant.alive) c.break_off.ensures)
 
 pub returns-else-late-clause-alive : goal.returns-else-late-clause-alive
 returns-else-late-clause-alive g c =
