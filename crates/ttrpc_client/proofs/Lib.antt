@@ -3,3 +3,7 @@ pub mod Entries
 pub mod Feeding
 pub mod Dropping
 pub mod Ticking
+pub mod Rising
+pub mod Turning
+pub mod Leaving
+pub mod Once

@@ -6,6 +6,7 @@ mod client;
 mod errors;
 mod kind;
 mod landing;
+mod laws;
 
 pub use call::{Call, CallId};
 pub use client::ClientCore;
@@ -13,6 +14,7 @@ pub use errors::{
     above_limit_error, malformed_error, oversize_error, unopened_error, unreadable_error,
 };
 pub use kind::ClientKind;
+pub use laws::{an_outcome_is_given_once, call_ids_rise, what_leaves_was_queued};
 
 #[cfg(test)]
 mod client_tests;

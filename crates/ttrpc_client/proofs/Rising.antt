@@ -1,0 +1,52 @@
+-- Ids that rise by two.
+use Rattle.std.proofs.Common.{arith, ◌≡◌, ◌≢◌, ℕ, ◌+◌, ◌<◌, ◌≤◌, ◌%◌, nat_eq, List, [], ◌∷◌, ◌++◌, false, sym, subst}
+use Rattle.std.specs.List.{AllByRecursion, IsDistinct}
+use Rattle.ttrpc_client.specs.Turns.{RiseByTwo}
+
+pub rise_both : (xs ys : List ℕ) (first mid next : ℕ) → RiseByTwo first xs mid → RiseByTwo mid ys next → RiseByTwo first (xs ++ ys) next
+rise_both [] ys first mid next one two = subst (λ n. RiseByTwo n ys next) one two
+rise_both (x ∷ xs) ys first mid next one two = (one.0, one.1, rise_both xs ys (first + 2) mid next one.2 two)
+
+pub rise_up : (first : ℕ) (ids : List ℕ) (next : ℕ) → RiseByTwo first ids next → first ≤ next
+rise_up first [] next rises = omega (arith, rises)
+rise_up first (id ∷ ids) next rises = let up = rise_up (first + 2) ids next rises.2 in omega (arith, up)
+
+pub rise_odd : (first : ℕ) (ids : List ℕ) (next : ℕ) → RiseByTwo first ids next → first % 2 ≡ 1 → next % 2 ≡ 1
+rise_odd first [] next rises odd = subst (λ n. n % 2 ≡ 1) (sym rises) odd
+rise_odd first (id ∷ ids) next rises odd = rise_odd (first + 2) ids next rises.2 (omega (arith, odd))
+
+-- ---- ids that are not among others
+
+abbrev pub Apart : ℕ → List ℕ → Type 0
+Apart k ids = AllByRecursion (λ id. k ≢ id) ids
+
+pub apart_before : (k : ℕ) (xs ys : List ℕ) → Apart k (xs ++ ys) → Apart k xs
+apart_before k [] ys apart = tt
+apart_before k (x ∷ xs) ys apart = (apart.0, apart_before k xs ys apart.1)
+
+pub apart_behind : (k : ℕ) (xs ys : List ℕ) → Apart k (xs ++ ys) → Apart k ys
+apart_behind k [] ys apart = apart
+apart_behind k (x ∷ xs) ys apart = apart_behind k xs ys apart.1
+
+pub never_below : (k first : ℕ) (ids : List ℕ) (next : ℕ) → k < first → RiseByTwo first ids next → Apart k ids
+never_below k first [] next less rises = tt
+never_below k first (id ∷ ids) next less rises =
+    (let apart : k ≢ id = omega (arith, less, rises.0) in apart, never_below k (first + 2) ids next (omega (arith, less)) rises.2)
+
+pub never_above : (k first : ℕ) (ids : List ℕ) (next : ℕ) → next ≤ k → RiseByTwo first ids next → Apart k ids
+never_above k first [] next le rises = tt
+never_above k first (id ∷ ids) next le rises =
+    let up = rise_up (first + 2) ids next rises.2 in
+    (let apart : k ≢ id = omega (arith, le, up, rises.0) in apart, never_above k (first + 2) ids next le rises.2)
+
+-- ---- no two are equal
+
+differ : (k : ℕ) (ids : List ℕ) → Apart k ids → AllByRecursion (λ id. nat_eq k id ≡ false) ids
+differ k [] apart = tt
+differ k (id ∷ ids) apart = (search (arith, apart.0), differ k ids apart.1)
+
+pub rise_apart : (first : ℕ) (ids : List ℕ) (next : ℕ) → RiseByTwo first ids next → IsDistinct nat_eq ids
+unfolding IsDistinct
+rise_apart first [] next rises = tt
+rise_apart first (id ∷ ids) next rises =
+    (differ id ids (never_below id (first + 2) ids next (omega (arith, rises.0)) rises.2), rise_apart (first + 2) ids next rises.2)
