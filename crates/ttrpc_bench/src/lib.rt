@@ -6,6 +6,10 @@ mod stamp;
 pub use stamp::{StampIn, StampOut, stamps};
 
 #[cfg(test)]
+mod client_tests;
+#[cfg(test)]
+mod odd_halves;
+#[cfg(test)]
 mod server_tests;
 #[cfg(test)]
 mod tests;

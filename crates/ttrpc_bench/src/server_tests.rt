@@ -1,13 +1,12 @@
 //! The server core over halves that stamp, that refuse, and that open to more than a message may have.
-ghost use Rattle.std.specs.Prelude.{◌≡◌, ◌≢◌, IfOk, IfErr, OnErr};
-
+use crate::odd_halves::{Sealed, Swelling};
 use crate::stamp::{StampIn, StampOut, stamps};
 use std::alloc::Global;
 use std::process::Abort;
 use std::test::Fail;
 use ttrpc_core::{Job, Registry, Rules, ServerCore, ServiceNames};
 use ttrpc_proto::{Error, Response, Status, WireMessage};
-use ttrpc_secure::{InboundTransform, OutboundTransform, Plain, TransformError};
+use ttrpc_secure::{InboundTransform, OutboundTransform, Plain};
 use ttrpc_wire::{Blob, Sequence, Text};
 
 type Tested = Result<(), Fail>;
@@ -141,9 +140,22 @@ fn answers_with_stamps(rt: &impl Abort, alloc: Global, bytes: &[u8], expected: &
     for step in [bytes.len(), 1] {
         let (outbound, inbound) = stamps();
         let mut core = over(alloc, outbound, inbound)?;
-        let written = served(alloc, &mut core, bytes, step)?;
-        assert_eq!(rt; written.as_slice(), expected);
+        serves(rt, alloc, &mut core, bytes, step, expected)?;
     }
+    Ok(())
+}
+
+/// The core answers so.
+fn serves<O: OutboundTransform + Drop, I: InboundTransform + Drop>(
+    rt: &impl Abort,
+    alloc: Global,
+    core: &mut ServerCore<O, I>,
+    bytes: &[u8],
+    step: usize,
+    expected: &[u8],
+) -> Tested {
+    let written = served(alloc, core, bytes, step)?;
+    assert_eq!(rt; written.as_slice(), expected);
     Ok(())
 }
 
@@ -169,11 +181,19 @@ fn an_answer_above_the_safe_limit_is_replaced(rt: HostRuntime) -> Tested {
     let alloc = rt.alloc();
     let (outbound, inbound) = stamps();
     let mut core = over(alloc, outbound, inbound)?;
+    replaces_the_answer(&rt, alloc, &mut core)
+}
+
+fn replaces_the_answer(
+    rt: &impl Abort,
+    alloc: Global,
+    core: &mut ServerCore<StampOut, StampIn>,
+) -> Tested {
     core.feed(alloc, STAMPED, 0)?;
-    take_one(&mut core)?;
+    take_one(core)?;
     let payload = Blob::from_vec(vec![in alloc; 7; 4194297]?);
     core.answer(alloc, 1, Ok(ok_response(alloc, payload)))?;
-    let written = drained(alloc, &mut core)?;
+    let written = drained(alloc, core)?;
     assert_eq!(rt; written.as_slice(), REPLACED);
     Ok(())
 }
@@ -187,89 +207,28 @@ fn take_one<O: OutboundTransform + Drop, I: InboundTransform + Drop>(
     }
 }
 
-/// A half that opens whatever it is given to one byte more than a message may have.
-#[derive(Debug, Drop)]
-struct Swelling {}
-
-impl InboundTransform for Swelling {
-    ghost use Rattle.ttrpc_bench.specs.Others.{OpensToAny, RefusesAny};
-
-    ghost opens = { OpensToAny };
-
-    ghost refuses = { RefusesAny };
-
-    fn transform_inbound(
-        &mut self,
-        alloc: Global,
-        _data: &[u8],
-        _aad: &[u8],
-    ) -> Result<Vec<u8>, TransformError> {
-        Ok(vec![in alloc; 7; 4194305]?)
-    }
-}
-
 #[test]
 fn a_payload_that_opens_too_long_is_answered(rt: HostRuntime) -> Tested {
     let alloc = rt.alloc();
     for step in [ASKED.len(), 1] {
         let mut core = over(alloc, Plain {}, Swelling {})?;
-        let written = served(alloc, &mut core, ASKED, step)?;
-        assert_eq!(rt; written.as_slice(), TOO_LONG_ANSWER);
+        serves(&rt, alloc, &mut core, ASKED, step, TOO_LONG_ANSWER)?;
     }
     Ok(())
-}
-
-/// A half that seals nothing, and whose overhead leaves room for this many bytes.
-#[derive(Debug, Drop)]
-struct Sealed {
-    room: usize,
-}
-
-impl OutboundTransform for Sealed {
-    ghost use Rattle.std.specs.Prelude.{false, refl, min, ◌-◌};
-    ghost use Rattle.std.proofs.Common.{arith};
-    ghost use Rattle.ttrpc_bench.specs.Others.{SealsNothing, RefusesAny};
-    ghost use Rattle.ttrpc_bench.specs.declared.server_tests.Sealed.{Sealed as ASealed};
-
-    const SEALS: bool = false;
-
-    ghost SEALS = { false };
-
-    ghost overhead = { λ (s : ASealed). 4194304 - s.room };
-
-    ghost seals = { SealsNothing };
-
-    ghost refuses = { RefusesAny };
-
-    fn transform_outbound(
-        &mut self,
-        alloc: Global,
-        _data: &[u8],
-        _aad: &[u8],
-    ) -> Result<Vec<u8>, TransformError> {
-        Err(TransformError::Refused(Text::from_str(alloc, "sealed up")?))
-    }
-
-    fn max_overhead(&self) -> usize {
-        4194304_usize.saturating_sub(self.room)
-    }
-
-    ghost lawful = { record {
-      longer = λ s t plain aad sealed h. absurd h;
-      fixed = λ s t plain aad sealed h. absurd h;
-      small = λ s. Prim.omega arith;
-      still = λ e s t plain aad sealed h. absurd h;
-    } };
 }
 
 /// How a core over a half that seals nothing refuses to answer its first job.
 fn refused_answer(alloc: Global, room: usize) -> Result<Error, Fail> {
     let mut core = over(alloc, Sealed { room }, Plain {})?;
+    refused_twice(alloc, &mut core)
+}
+
+fn refused_twice(alloc: Global, core: &mut ServerCore<Sealed, Plain>) -> Result<Error, Fail> {
     core.feed(alloc, ASKED, 0)?;
-    take_one(&mut core)?;
-    let first = answered(alloc, &mut core)?;
+    take_one(core)?;
+    let first = answered(alloc, core)?;
     // The job is still there.
-    let again = answered(alloc, &mut core)?;
+    let again = answered(alloc, core)?;
     if first == again {
         Ok(first)
     } else {
@@ -302,9 +261,12 @@ fn an_answer_that_is_not_sealed_is_refused(rt: HostRuntime) -> Tested {
 fn an_own_answer_that_is_not_sealed_is_left_out(rt: HostRuntime) -> Tested {
     let alloc = rt.alloc();
     let mut core = over(alloc, Sealed { room: 4194304 }, Plain {})?;
-    let written = served(alloc, &mut core, UNKNOWN, UNKNOWN.len())?;
-    assert!(rt; written.is_empty());
+    leaves_out(&rt, alloc, &mut core)
+}
+
+fn leaves_out(rt: &impl Abort, alloc: Global, core: &mut ServerCore<Sealed, Plain>) -> Tested {
+    serves(rt, alloc, core, UNKNOWN, UNKNOWN.len(), &[])?;
     assert!(rt; core.failure(alloc).is_none());
     core.feed(alloc, ASKED, 0)?;
-    take_one(&mut core)
+    take_one(core)
 }

@@ -1,0 +1,70 @@
+//! Halves that refuse, and that open to more than a message may have.
+ghost use Rattle.std.specs.Prelude.{◌≡◌, ◌≢◌, IfOk, IfErr, OnErr};
+
+use std::alloc::Global;
+use ttrpc_secure::{InboundTransform, OutboundTransform, TransformError};
+use ttrpc_wire::Text;
+
+/// A half that opens whatever it is given to one byte more than a message may have.
+#[derive(Debug, Drop)]
+pub struct Swelling {}
+
+impl InboundTransform for Swelling {
+    ghost use Rattle.ttrpc_bench.specs.Others.{OpensToAny, RefusesAny};
+
+    ghost opens = { OpensToAny };
+
+    ghost refuses = { RefusesAny };
+
+    fn transform_inbound(
+        &mut self,
+        alloc: Global,
+        _data: &[u8],
+        _aad: &[u8],
+    ) -> Result<Vec<u8>, TransformError> {
+        Ok(vec![in alloc; 7; 4194305]?)
+    }
+}
+
+/// A half that seals nothing, and whose overhead leaves room for this many bytes.
+#[derive(Debug, Drop)]
+pub struct Sealed {
+    pub room: usize,
+}
+
+impl OutboundTransform for Sealed {
+    ghost use Rattle.std.specs.Prelude.{false, refl, min, ◌-◌};
+    ghost use Rattle.std.proofs.Common.{arith};
+    ghost use Rattle.ttrpc_bench.specs.Others.{SealsNothing, RefusesAny};
+    ghost use Rattle.ttrpc_bench.specs.declared.odd_halves.Sealed.{Sealed as ASealed};
+
+    const SEALS: bool = false;
+
+    ghost SEALS = { false };
+
+    ghost overhead = { λ (s : ASealed). 4194304 - s.room };
+
+    ghost seals = { SealsNothing };
+
+    ghost refuses = { RefusesAny };
+
+    fn transform_outbound(
+        &mut self,
+        alloc: Global,
+        _data: &[u8],
+        _aad: &[u8],
+    ) -> Result<Vec<u8>, TransformError> {
+        Err(TransformError::Refused(Text::from_str(alloc, "sealed up")?))
+    }
+
+    fn max_overhead(&self) -> usize {
+        4194304_usize.saturating_sub(self.room)
+    }
+
+    ghost lawful = { record {
+      longer = λ s t plain aad sealed h. absurd h;
+      fixed = λ s t plain aad sealed h. absurd h;
+      small = λ s. Prim.omega arith;
+      still = λ e s t plain aad sealed h. absurd h;
+    } };
+}
