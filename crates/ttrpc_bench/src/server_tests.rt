@@ -7,14 +7,12 @@ use std::test::Fail;
 use ttrpc_core::{Job, Registry, Rules, ServerCore, ServiceNames};
 use ttrpc_proto::{Error, Response, Status, WireMessage};
 use ttrpc_secure::{InboundTransform, OutboundTransform, Plain};
+use ttrpc_vectors::server::{ASKED, NO_SERVICE};
 use ttrpc_wire::{Blob, Sequence, Text};
 
 type Tested = Result<(), Fail>;
 
-/// A request of stream 1 to the method `Echo` of `demo.Echo`, with the payload 2a and no stamp.
-const ASKED: &[u8] = b"\0\0\0\x14\0\0\0\x01\x01\0\x0a\x09demo.Echo\x12\x04Echo\x1a\x01\x2a";
-
-/// A request to `Echo` with the payload 2a, and what answers it.
+/// A request to the method `Echo` of `demo.Echo` with the payload 2a, and what answers it.
 const STAMPED: &[u8] = b"\0\0\0\x15\0\0\0\x01\x01\0\x0a\x09demo.Echo\x12\x04Echo\x1a\x01\x2a\0";
 
 const STAMPED_ECHOED: &[u8] = b"\0\0\0\x06\0\0\0\x01\x02\0\x0a\0\x12\x01\x2a\0";
@@ -38,8 +36,6 @@ const REPLACED: &[u8] =
 /// What answers a payload that opened to 4194305 bytes.
 const TOO_LONG_ANSWER: &[u8] =
     b"\0\0\0\x43\0\0\0\x01\x02\0\x0a\x41\x08\x03\x12\x3dmessage length 4194305 exceed maximum message size of 4194304";
-/// A service that isn't there, with no stamp.
-const UNKNOWN: &[u8] = b"\0\0\0\x06\0\0\0\x02\x01\0\x0a\x01x\x12\x01y";
 
 fn texts(alloc: Global, names: &[&str]) -> Result<Sequence<Text>, Fail> {
     let mut texts = Vec::new(alloc);
@@ -265,7 +261,7 @@ fn an_own_answer_that_is_not_sealed_is_left_out(rt: HostRuntime) -> Tested {
 }
 
 fn leaves_out(rt: &impl Abort, alloc: Global, core: &mut ServerCore<Sealed, Plain>) -> Tested {
-    serves(rt, alloc, core, UNKNOWN, UNKNOWN.len(), &[])?;
+    serves(rt, alloc, core, NO_SERVICE, NO_SERVICE.len(), &[])?;
     assert!(rt; core.failure(alloc).is_none());
     core.feed(alloc, ASKED, 0)?;
     take_one(core)

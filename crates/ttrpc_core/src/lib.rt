@@ -27,7 +27,3 @@ pub use server::ServerCore;
 mod failure_tests;
 #[cfg(test)]
 mod responses_tests;
-#[cfg(test)]
-mod server_tests;
-#[cfg(test)]
-mod vectors;

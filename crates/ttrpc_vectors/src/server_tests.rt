@@ -1,9 +1,12 @@
 //! Each row of the server's table under sync rules, and each refusal, over plain halves. All bytes are written by hand.
-use crate::vectors::*;
-use crate::{Job, Registry, Rules, ServerCore, ServiceNames};
+//!
+//! A test makes a core and lends it to a function that does what may fail: where a function owns a core, its proof drops
+//! the core at each place where it may fail.
+use crate::server::*;
 use std::alloc::Global;
 use std::process::Abort;
 use std::test::Fail;
+use ttrpc_core::{Job, Registry, Rules, ServerCore, ServiceNames};
 use ttrpc_proto::{Codec, Error, Response, Status, WireMessage};
 use ttrpc_secure::Plain;
 use ttrpc_wire::{Blob, Sequence, Text};
@@ -20,8 +23,8 @@ fn texts(alloc: Global, names: &[&str]) -> Result<Sequence<Text>, Fail> {
     Ok(Sequence::from_vec(texts))
 }
 
-/// A core whose one service is `demo.Echo`, with the method `Echo` and the stream `Chat`.
-fn echo_core(alloc: Global) -> Result<Core, Fail> {
+/// One service, `demo.Echo`, with the method `Echo` and the stream `Chat`.
+fn registry(alloc: Global) -> Result<Registry, Fail> {
     let service = ServiceNames {
         name: Text::from_str(alloc, "demo.Echo")?,
         methods: texts(alloc, &["Echo"])?,
@@ -29,9 +32,14 @@ fn echo_core(alloc: Global) -> Result<Core, Fail> {
     };
     let mut services = Vec::new(alloc);
     services.push(service)?;
-    let registry = Registry {
+    Ok(Registry {
         services: Sequence::from_vec(services),
-    };
+    })
+}
+
+/// A core of that service.
+fn echo_core(alloc: Global) -> Result<Core, Fail> {
+    let registry = registry(alloc)?;
     Ok(ServerCore::new(alloc, Rules::Sync, registry, Plain {}, Plain {}))
 }
 
@@ -95,12 +103,36 @@ fn served(alloc: Global, core: &mut Core, bytes: &[u8], step: usize) -> Result<V
     Ok(written)
 }
 
+/// The core writes this where it is fed these bytes, `step` at a time, and each job is echoed.
+fn writes(
+    rt: &impl Abort,
+    alloc: Global,
+    core: &mut Core,
+    bytes: &[u8],
+    step: usize,
+    expected: &[u8],
+) -> Tested {
+    let written = served(alloc, core, bytes, step)?;
+    assert_eq!(rt; written.as_slice(), expected);
+    Ok(())
+}
+
+/// The same of a new core.
+fn answers_by(
+    rt: &impl Abort,
+    alloc: Global,
+    bytes: &[u8],
+    step: usize,
+    expected: &[u8],
+) -> Tested {
+    let mut core = echo_core(alloc)?;
+    writes(rt, alloc, &mut core, bytes, step, expected)
+}
+
 /// A new core answers so, whole and one byte at a time.
 fn answers(rt: &impl Abort, alloc: Global, bytes: &[u8], expected: &[u8]) -> Tested {
     for step in [bytes.len(), 1] {
-        let mut core = echo_core(alloc)?;
-        let written = served(alloc, &mut core, bytes, step)?;
-        assert_eq!(rt; written.as_slice(), expected);
+        answers_by(rt, alloc, bytes, step, expected)?;
     }
     Ok(())
 }
@@ -158,17 +190,31 @@ fn response_in(alloc: Global, written: &[u8]) -> Result<Response, Fail> {
     Ok(Response::decode(alloc, payload)?)
 }
 
+/// The status of the response in the one frame that was written under stream 1.
+fn status_in(alloc: Global, written: &[u8]) -> Result<Status, Fail> {
+    let response = response_in(alloc, written)?;
+    Ok(response.status.ok_or("no status")?)
+}
+
 /// How the text begins is stated, what follows isn't.
+fn cannot_read(rt: &impl Abort, alloc: Global, core: &mut Core, step: usize) -> Tested {
+    let written = served(alloc, core, UNREADABLE, step)?;
+    let status = status_in(alloc, written.as_slice())?;
+    assert_eq!(rt; status.code, 3);
+    assert!(rt; status.message.as_str().starts_with("Unpack request error "));
+    Ok(())
+}
+
+/// The same of a new core.
+fn cannot_read_by(rt: &impl Abort, alloc: Global, step: usize) -> Tested {
+    let mut core = echo_core(alloc)?;
+    cannot_read(rt, alloc, &mut core, step)
+}
+
 #[test]
 fn unreadable_requests_are_answered(rt: HostRuntime) -> Tested {
-    let alloc = rt.alloc();
     for step in [13, 1] {
-        let mut core = echo_core(alloc)?;
-        let written = served(alloc, &mut core, UNREADABLE, step)?;
-        let response = response_in(alloc, written.as_slice())?;
-        let status = response.status.ok_or("no status")?;
-        assert_eq!(rt; status.code, 3);
-        assert!(rt; status.message.as_str().starts_with("Unpack request error "));
+        cannot_read_by(&rt, rt.alloc(), step)?;
     }
     Ok(())
 }
@@ -182,37 +228,65 @@ fn fed(alloc: Global, core: &mut Core, bytes: &[u8], step: usize) -> Tested {
 }
 
 /// A frame that is too long, and a request behind it.
+fn is_oversized(
+    rt: &impl Abort,
+    alloc: Global,
+    core: &mut Core,
+    body: &[u8],
+    step: usize,
+) -> Tested {
+    fed(alloc, core, OVERSIZED, step)?;
+    fed(alloc, core, body, step)?;
+    writes(rt, alloc, core, ASKED, step, OVERSIZED_ANSWER)
+}
+
+/// The same of a new core.
+fn is_oversized_by(rt: &impl Abort, alloc: Global, body: &[u8], step: usize) -> Tested {
+    let mut core = echo_core(alloc)?;
+    is_oversized(rt, alloc, &mut core, body, step)
+}
+
 #[test]
 fn oversized_frames_are_answered(rt: HostRuntime) -> Tested {
     let alloc = rt.alloc();
     let body = vec![in alloc; 7; 4194305]?;
     for step in [4194305, 1] {
-        let mut core = echo_core(alloc)?;
-        fed(alloc, &mut core, OVERSIZED, step)?;
-        fed(alloc, &mut core, body.as_slice(), step)?;
-        let written = served(alloc, &mut core, ASKED, step)?;
-        assert_eq!(rt; written.as_slice(), OVERSIZED_ANSWER);
+        is_oversized_by(&rt, alloc, body.as_slice(), step)?;
     }
     Ok(())
 }
 
-/// The calls of a core that is fed a request: its job waits, is handed out once, and is answered once.
+/// The calls of a core that is fed a request: its job waits, and is handed out once.
+fn hands_out_once(rt: &impl Abort, alloc: Global, core: &mut Core) -> Tested {
+    assert!(rt; core.take_job().is_none());
+    assert_eq!(rt; core.feed(alloc, ASKED, 0)?, 30);
+    is_unknown(rt, alloc, core, 1)?;
+    take_echo_job(rt, core)?;
+    assert!(rt; core.take_job().is_none());
+    Ok(())
+}
+
+/// The job that was handed out is answered once.
+fn answers_once(rt: &impl Abort, alloc: Global, core: &mut Core) -> Tested {
+    is_unknown(rt, alloc, core, 2)?;
+    let payload = Blob::from_slice(alloc, &[0x2a])?;
+    core.answer(alloc, 1, Ok(ok_response(alloc, payload)))?;
+    is_unknown(rt, alloc, core, 1)?;
+    assert!(rt; core.failure(alloc).is_none());
+    lends_the_echo(rt, core);
+    Ok(())
+}
+
+fn hands_out_and_answers_once(rt: &impl Abort, alloc: Global, core: &mut Core) -> Tested {
+    hands_out_once(rt, alloc, core)?;
+    answers_once(rt, alloc, core)
+}
+
 #[test]
 fn a_job_is_handed_out_and_answered_once(rt: HostRuntime) -> Tested {
     let alloc = rt.alloc();
     let mut core = echo_core(alloc)?;
-    assert!(rt; core.take_job().is_none());
-    assert_eq!(rt; core.feed(alloc, ASKED, 0)?, 30);
-    is_unknown(&rt, alloc, &mut core, 1)?;
-    take_echo_job(&rt, &mut core)?;
-    assert!(rt; core.take_job().is_none());
-    is_unknown(&rt, alloc, &mut core, 2)?;
-    let payload = Blob::from_slice(alloc, &[0x2a])?;
-    core.answer(alloc, 1, Ok(ok_response(alloc, payload)))?;
-    is_unknown(&rt, alloc, &mut core, 1)?;
-    assert!(rt; core.failure(alloc).is_none());
-    lends_the_echo(&rt, &mut core);
-    Ok(())
+    hands_out_and_answers_once(&rt, alloc, &mut core)
 }
 
 fn take_echo_job(rt: &impl Abort, core: &mut Core) -> Tested {
@@ -311,51 +385,63 @@ fn taken(core: &mut Core) -> Result<u64, Fail> {
 }
 
 /// Of two requests one is answered and the other's handler fails: the answer stays in the queue and isn't lent.
+fn handler_fails(rt: &impl Abort, alloc: Global, core: &mut Core) -> Tested {
+    core.feed(alloc, ASKED, 0)?;
+    core.feed(alloc, ASKED, 0)?;
+    let first = taken(core)?;
+    let second = taken(core)?;
+    core.answer(alloc, first, Ok(ok_response(alloc, Blob::new(alloc))))?;
+    core.answer(alloc, second, Err(Error::Eof))?;
+    has_failed(rt, alloc, core, "connection closed after a handler error")
+}
+
 #[test]
 fn a_handler_error_closes_the_connection(rt: HostRuntime) -> Tested {
     let alloc = rt.alloc();
     let mut core = echo_core(alloc)?;
-    core.feed(alloc, ASKED, 0)?;
-    core.feed(alloc, ASKED, 0)?;
-    let first = taken(&mut core)?;
-    let second = taken(&mut core)?;
-    core.answer(alloc, first, Ok(ok_response(alloc, Blob::new(alloc))))?;
-    core.answer(alloc, second, Err(Error::Eof))?;
-    has_failed(
-        &rt,
-        alloc,
-        &mut core,
-        "connection closed after a handler error",
-    )
+    handler_fails(&rt, alloc, &mut core)
+}
+
+fn fails_three_times(rt: &impl Abort, alloc: Global, core: &mut Core) -> Tested {
+    core.fail(Error::Socket(Text::from_str(alloc, "first")?));
+    core.fail(Error::Socket(Text::from_str(alloc, "second")?));
+    core.end_of_input();
+    has_failed(rt, alloc, core, "first")
 }
 
 #[test]
 fn the_first_failure_is_kept(rt: HostRuntime) -> Tested {
     let alloc = rt.alloc();
     let mut core = echo_core(alloc)?;
-    core.fail(Error::Socket(Text::from_str(alloc, "first")?));
-    core.fail(Error::Socket(Text::from_str(alloc, "second")?));
+    fails_three_times(&rt, alloc, &mut core)
+}
+
+/// The input ends behind these bytes, which is told by this text.
+fn ends_behind(
+    rt: &impl Abort,
+    alloc: Global,
+    core: &mut Core,
+    bytes: &[u8],
+    text: &str,
+) -> Tested {
+    core.feed(alloc, bytes, 0)?;
     core.end_of_input();
-    has_failed(&rt, alloc, &mut core, "first")
+    has_failed(rt, alloc, core, text)
+}
+
+/// The same of a new core.
+fn all_input_is(rt: &impl Abort, alloc: Global, bytes: &[u8], text: &str) -> Tested {
+    let mut core = echo_core(alloc)?;
+    ends_behind(rt, alloc, &mut core, bytes, text)
 }
 
 #[test]
 fn an_end_of_input_is_told_by_where_it_is(rt: HostRuntime) -> Tested {
     let alloc = rt.alloc();
-    let mut between = echo_core(alloc)?;
-    between.feed(alloc, ASKED, 0)?;
-    between.end_of_input();
-    has_failed(&rt, alloc, &mut between, "socket disconnected")?;
+    all_input_is(&rt, alloc, ASKED, "socket disconnected")?;
     for cut in 1..ASKED.len() {
-        let mut inside = echo_core(alloc)?;
-        inside.feed(alloc, &ASKED[..cut], 0)?;
-        inside.end_of_input();
-        has_failed(
-            &rt,
-            alloc,
-            &mut inside,
-            "socket disconnected inside a frame",
-        )?;
+        let text = "socket disconnected inside a frame";
+        all_input_is(&rt, alloc, &ASKED[..cut], text)?;
     }
     Ok(())
 }
@@ -378,19 +464,28 @@ fn frame_taken(alloc: Global, core: &mut Core, piece: &[u8]) -> Result<usize, Fa
     Ok(taken)
 }
 
+/// All that the core has to write is this.
+fn drains(rt: &impl Abort, alloc: Global, core: &mut Core, expected: &[u8]) -> Tested {
+    let mut written = Vec::new(alloc);
+    drain(core, &mut written)?;
+    assert_eq!(rt; written.as_slice(), expected);
+    Ok(())
+}
+
 /// The second request is no job before the first is answered, so the answers lie in the order of frames.
+fn takes_two_fronts(rt: &impl Abort, alloc: Global, core: &mut Core) -> Tested {
+    assert_eq!(rt; frame_taken(alloc, core, TWICE)?, 30);
+    echoes_one(rt, alloc, core)?;
+    assert_eq!(rt; frame_taken(alloc, core, behind(TWICE, 30))?, 30);
+    echoes_one(rt, alloc, core)?;
+    drains(rt, alloc, core, TWICE_ECHOED)
+}
+
 #[test]
 fn fronts_of_two_requests_end_behind_their_frames(rt: HostRuntime) -> Tested {
     let alloc = rt.alloc();
     let mut core = echo_core(alloc)?;
-    assert_eq!(rt; frame_taken(alloc, &mut core, TWICE)?, 30);
-    echoes_one(&rt, alloc, &mut core)?;
-    assert_eq!(rt; frame_taken(alloc, &mut core, behind(TWICE, 30))?, 30);
-    echoes_one(&rt, alloc, &mut core)?;
-    let mut written = Vec::new(alloc);
-    drain(&mut core, &mut written)?;
-    assert_eq!(rt; written.as_slice(), TWICE_ECHOED);
-    Ok(())
+    takes_two_fronts(&rt, alloc, &mut core)
 }
 
 /// One job waits, and is answered with its own payload.
@@ -400,27 +495,36 @@ fn echoes_one(rt: &impl Abort, alloc: Global, core: &mut Core) -> Tested {
     Ok(())
 }
 
+/// A request comes in two pieces, and is a job once the second is taken.
+fn takes_front_and_rest(
+    rt: &impl Abort,
+    alloc: Global,
+    core: &mut Core,
+    front: &[u8],
+    rest: &[u8],
+) -> Tested {
+    assert_eq!(rt; frame_taken(alloc, core, front)?, front.len());
+    assert!(rt; !core.at_boundary());
+    assert!(rt; core.take_job().is_none());
+    assert_eq!(rt; frame_taken(alloc, core, rest)?, rest.len());
+    echoes_one(rt, alloc, core)
+}
+
+/// The same of a new core.
+fn is_taken_in_two(rt: &impl Abort, alloc: Global, front: &[u8], rest: &[u8]) -> Tested {
+    let mut core = echo_core(alloc)?;
+    takes_front_and_rest(rt, alloc, &mut core, front, rest)
+}
+
 #[test]
 fn fronts_of_a_piece_that_ends_inside_a_frame_are_all_of_it(rt: HostRuntime) -> Tested {
-    let alloc = rt.alloc();
     for cut in 1..ASKED.len() {
-        let mut core = echo_core(alloc)?;
-        assert_eq!(rt; frame_taken(alloc, &mut core, &ASKED[..cut])?, cut);
-        assert!(rt; !core.at_boundary());
-        assert!(rt; core.take_job().is_none());
-        assert_eq!(rt;
-            frame_taken(alloc, &mut core, behind(ASKED, cut))?,
-            ASKED.len() - cut
-        );
-        echoes_one(&rt, alloc, &mut core)?;
+        is_taken_in_two(&rt, rt.alloc(), &ASKED[..cut], &ASKED[cut..])?;
     }
     Ok(())
 }
 
-#[test]
-fn a_front_of_an_empty_piece_has_no_bytes(rt: HostRuntime) -> Tested {
-    let alloc = rt.alloc();
-    let mut core = echo_core(alloc)?;
+fn takes_nothing(rt: &impl Abort, alloc: Global, core: &mut Core) -> Tested {
     assert_eq!(rt; core.feed_front(alloc, &[], 0)?, 0);
     assert!(rt; core.at_boundary());
     assert!(rt; core.take_job().is_none());
@@ -428,9 +532,13 @@ fn a_front_of_an_empty_piece_has_no_bytes(rt: HostRuntime) -> Tested {
 }
 
 #[test]
-fn a_boundary_is_where_no_frame_has_begun(rt: HostRuntime) -> Tested {
+fn a_front_of_an_empty_piece_has_no_bytes(rt: HostRuntime) -> Tested {
     let alloc = rt.alloc();
     let mut core = echo_core(alloc)?;
+    takes_nothing(&rt, alloc, &mut core)
+}
+
+fn tells_boundaries(rt: &impl Abort, alloc: Global, core: &mut Core) -> Tested {
     assert!(rt; core.at_boundary());
     for cut in 1..ASKED.len() {
         core.feed(alloc, &ASKED[..cut], 0)?;
@@ -441,6 +549,13 @@ fn a_boundary_is_where_no_frame_has_begun(rt: HostRuntime) -> Tested {
     Ok(())
 }
 
+#[test]
+fn a_boundary_is_where_no_frame_has_begun(rt: HostRuntime) -> Tested {
+    let alloc = rt.alloc();
+    let mut core = echo_core(alloc)?;
+    tells_boundaries(&rt, alloc, &mut core)
+}
+
 /// How a core that has failed answers a front of this piece.
 fn refused_front(alloc: Global, core: &mut Core, piece: &[u8]) -> Result<Error, Fail> {
     match core.feed_front(alloc, piece, 0) {
@@ -449,52 +564,71 @@ fn refused_front(alloc: Global, core: &mut Core, piece: &[u8]) -> Result<Error, 
     }
 }
 
-/// Neither the front that begins a frame nor the one that ends one is taken, and the failure stays.
+/// The core is fed these bytes and fails: then neither the front that begins a frame nor the one that ends one is taken,
+/// and the failure stays.
+fn takes_no_front(
+    rt: &impl Abort,
+    alloc: Global,
+    core: &mut Core,
+    held: &[u8],
+    at_boundary: bool,
+) -> Tested {
+    core.feed(alloc, held, 0)?;
+    core.fail(Error::Socket(Text::from_str(alloc, "first")?));
+    let error = refused_front(alloc, core, behind(ASKED, 7))?;
+    tells_socket(rt, alloc, error, "first")?;
+    assert_eq!(rt; core.at_boundary(), at_boundary);
+    has_failed(rt, alloc, core, "first")
+}
+
+/// The same of a new core.
+fn takes_no_front_behind(rt: &impl Abort, alloc: Global, held: &[u8], at_boundary: bool) -> Tested {
+    let mut core = echo_core(alloc)?;
+    takes_no_front(rt, alloc, &mut core, held, at_boundary)
+}
+
 #[test]
 fn a_core_that_has_failed_takes_no_front(rt: HostRuntime) -> Tested {
-    let alloc = rt.alloc();
     for (held, at_boundary) in [(0, true), (7, false)] {
-        let mut core = echo_core(alloc)?;
-        core.feed(alloc, &ASKED[..held], 0)?;
-        core.fail(Error::Socket(Text::from_str(alloc, "first")?));
-        let error = refused_front(alloc, &mut core, behind(ASKED, 7))?;
-        tells_socket(&rt, alloc, error, "first")?;
-        assert_eq!(rt; core.at_boundary(), at_boundary);
-        has_failed(&rt, alloc, &mut core, "first")?;
+        takes_no_front_behind(&rt, rt.alloc(), &ASKED[..held], at_boundary)?;
     }
     Ok(())
 }
 
-/// A core with one job, number 1, that was taken.
-fn with_job(alloc: Global) -> Result<Core, Fail> {
-    let mut core = echo_core(alloc)?;
+/// The core is fed a request, and its job, number 1, is taken and answered with a payload of so many bytes.
+fn answers_with(alloc: Global, core: &mut Core, length: usize) -> Tested {
     core.feed(alloc, ASKED, 0)?;
-    taken(&mut core)?;
-    Ok(core)
+    taken(core)?;
+    let payload = Blob::from_vec(vec![in alloc; 7; length]?);
+    core.answer(alloc, 1, Ok(ok_response(alloc, payload)))?;
+    Ok(())
 }
 
 /// With six bytes of status and field around it, a payload of 4194297 bytes is the greatest.
-#[test]
-fn answers_of_the_greatest_length_are_sent(rt: HostRuntime) -> Tested {
-    let alloc = rt.alloc();
-    let mut core = with_job(alloc)?;
-    let payload = Blob::from_vec(vec![in alloc; 7; 4194297]?);
-    core.answer(alloc, 1, Ok(ok_response(alloc, payload)))?;
+fn sends_the_greatest(rt: &impl Abort, alloc: Global, core: &mut Core) -> Tested {
+    answers_with(alloc, core, 4194297)?;
     let mut buffer = [0; 16];
     assert_eq!(rt; core.lend(&mut buffer), 16);
     assert_eq!(rt; buffer.as_slice(), GREATEST);
     Ok(())
 }
 
+#[test]
+fn answers_of_the_greatest_length_are_sent(rt: HostRuntime) -> Tested {
+    let alloc = rt.alloc();
+    let mut core = echo_core(alloc)?;
+    sends_the_greatest(&rt, alloc, &mut core)
+}
+
 /// One byte more is too many.
+fn replaces_the_answer(rt: &impl Abort, alloc: Global, core: &mut Core) -> Tested {
+    answers_with(alloc, core, 4194298)?;
+    drains(rt, alloc, core, REPLACED)
+}
+
 #[test]
 fn answers_above_the_limit_are_replaced(rt: HostRuntime) -> Tested {
     let alloc = rt.alloc();
-    let mut core = with_job(alloc)?;
-    let payload = Blob::from_vec(vec![in alloc; 7; 4194298]?);
-    core.answer(alloc, 1, Ok(ok_response(alloc, payload)))?;
-    let mut written = Vec::new(alloc);
-    drain(&mut core, &mut written)?;
-    assert_eq!(rt; written.as_slice(), REPLACED);
-    Ok(())
+    let mut core = echo_core(alloc)?;
+    replaces_the_answer(&rt, alloc, &mut core)
 }
