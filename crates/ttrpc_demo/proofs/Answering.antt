@@ -216,6 +216,7 @@ pub ends_inside : (before now next held holds : Option (List ℕ)) (core : Serve
 ends_inside before now next held holds core e s read end inside (inl told) = inr (record {
   rest = (rest_of s).0;
   inside = λ none. inside ((rest_of s).2.0 ∙ ap held_of none);
+  no_frame = (rest_of s).2.1;
   all = answered before now next held holds core s read end;
   told = told;
 })

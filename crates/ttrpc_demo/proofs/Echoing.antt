@@ -23,7 +23,7 @@ use Rattle.ttrpc_demo.specs.Serving.{plain_halves, IsReady, Echoes, Serves}
 use Rattle.ttrpc_demo.proofs.Limits.{fitted_fits}
 
 -- with plain halves a frame is opened as it is
-opened_plainly : (s t : Plain) (f : Incoming) (o : Opening) → Opens plain_halves s f o t → o ≡ plainly f
+pub opened_plainly : (s t : Plain) (f : Incoming) (o : Opening) → Opens plain_halves s f o t → o ≡ plainly f
 opened_plainly s t (Oversize h) o opens = opens.0
 opened_plainly s t (Frame m) Unasked opens = absurd opens
 opened_plainly s t (Frame m) (Opened plain) opens = ap (λ p. Opened p) opens.0

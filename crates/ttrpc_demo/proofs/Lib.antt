@@ -4,4 +4,5 @@ pub mod Echoing
 pub mod Writing
 pub mod Stopping
 pub mod Answering
+pub mod OneCall
 pub mod OneWord

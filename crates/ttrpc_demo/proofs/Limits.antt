@@ -41,7 +41,7 @@ delimited_short : (k : ℕ) (bytes : List ℕ) → length (field_bytes (delimite
 delimited_short k bytes =
     omega (arith, length-delimited_field k bytes, varint_short (k * 8 + code_of wire.LengthDelimited), varint_short (length bytes))
 
-one_field : (f : Field) → length (fields_bytes (f ∷ [])) ≡ length (field_bytes f)
+pub one_field : (f : Field) → length (fields_bytes (f ∷ [])) ≡ length (field_bytes f)
 one_field f = omega (arith, length-append (field_bytes f) [])
 
 delimited_fields_short : (k : ℕ) (bytes : List ℕ) → length (fields_bytes (delimited_fields k bytes)) ≤ 20 + length bytes

@@ -1,19 +1,19 @@
 -- What is unsent leaves as the writer takes it.
-use Rattle.std.proofs.Common.{◌≡◌, ◌≤◌, ℕ, List, [], ◌∷◌, ◌++◌, length, take, drop, Option, Some, None, is_some, if◌then◌else◌, refl, sym, ap, ◌∙◌, append_assoc, arith, length-drop}
+use Rattle.std.proofs.Common.{◌≡◌, ◌≤◌, ◌+◌, ℕ, Bool, true, false, nat_lt, List, [], ◌∷◌, ◌++◌, length, take, drop, Option, Some, None, is_some, if◌then◌else◌, refl, sym, ap, ◌∙◌, append_assoc, arith, length-drop}
 use Rattle.std.proofs.lemmas.List.{append-nil}
 use Rattle.std.specs.Io.KnownBytes.{Appends}
 use Rattle.ttrpc_proto.specs.declared.error.Error.{Error}
 use Rattle.ttrpc_frame.specs.declared.outgoing.Queued.{Queued}
-use Rattle.ttrpc_frame.specs.Queue.{Queue, IsQueue, IsWithin, first_open, open_part, unsent, with_lent, after_report, written, written_all}
+use Rattle.ttrpc_frame.specs.Queue.{Queue, IsQueue, IsWithin, first_open, open_part, unsent, with_lent, report_first, report_finishes, after_report, written, written_all}
+use Rattle.ttrpc_frame.specs.Queue as queue
+use Rattle.ttrpc_frame.proofs.Departures.{bytes_are_written}
 use Rattle.ttrpc_frame.proofs.Queues.{with_lent_is_queue, after_report_is_queue}
 use Rattle.ttrpc_secure.specs.declared.plain.Plain.{Plain}
 use Rattle.ttrpc_core.specs.Server.{Server, with_queue}
-use Rattle.ttrpc_core.specs.Turns.{Lent, Reported}
-use Rattle.ttrpc_core.proofs.Leaving.{run_leaves}
-use Rattle.ttrpc_demo.specs.Serving.{plain_halves, IsReady, WritesOut}
+use Rattle.ttrpc_demo.specs.Serving.{IsReady, WritesOut}
 use Rattle.ttrpc_demo.proofs.Known.{keeps_same, keeps_appends_nothing, appends_twice}
 
-by_failure : {X : Type 0} (f : Option Error) (x y : X) → f ≡ None → (if is_some f then x else y) ≡ y
+pub by_failure : {X : Type 0} (f : Option Error) (x y : X) → f ≡ None → (if is_some f then x else y) ≡ y
 by_failure None x y alive = refl
 by_failure (Some e) x y alive = absurd cc
 
@@ -25,15 +25,22 @@ lent_alive s t n alive is = is ∙ by_failure s.core.failure s (with_queue s (wi
 abbrev pub lent_and_reported : Server Plain Plain → ℕ → ℕ → Server Plain Plain
 lent_and_reported s n k = with_queue s (after_report (with_lent s.core.queue n) k)
 
-lent_leaves : (s : Server Plain Plain) (n k : ℕ) → IsQueue s.core.queue → n ≤ length (open_part s.core.queue) → k ≤ n
-    → unsent s.core.queue ≡ take k (open_part s.core.queue) ++ unsent (lent_and_reported s n k).core.queue
-lent_leaves s n k valid within less =
-    let left = take k (open_part s.core.queue) ++ [] in
-    let mid = with_queue s (with_lent s.core.queue n) in
-    let run = run_leaves plain_halves (Lent n ∷ Reported k ∷ []) s (lent_and_reported s n k) [] left valid
-    (mid, [], [], left, (within, refl), refl, refl, refl, (lent_and_reported s n k, [], [], [], (less, refl), refl, refl, refl, (refl, refl, refl))) in
-    ap (λ fs. drop s.core.queue.reported (written_all fs)) (sym (append-nil s.core.queue.frames)) ∙ sym run
-    ∙ ap (λ xs. xs ++ unsent (lent_and_reported s n k).core.queue) (append-nil (take k (open_part s.core.queue)))
+finishes_or_keeps : (fs : List Queued) (n : ℕ) (begun : Bool) → report_finishes fs n ++ (report_first fs n begun).frames ≡ fs
+finishes_or_keeps [] n begun = refl
+finishes_or_keeps (f ∷ fs) n begun = by (nat_lt n (length (written f.message))) refl
+  where
+    by : (b : Bool) → nat_lt n (length (written f.message)) ≡ b → report_finishes (f ∷ fs) n ++ (report_first (f ∷ fs) n begun).frames ≡ f ∷ fs
+    by true e = rw e refl
+    by false e = rw e refl
+
+-- n bytes were lent, and k of them were reported
+pub lent_leaves : (q : Queue) (n k : ℕ) → IsQueue q → n ≤ length (open_part q) → k ≤ n → unsent q ≡ take k (open_part q) ++ unsent (after_report (with_lent q n) k)
+lent_leaves q n k valid within less =
+    let rest = unsent (after_report (with_lent q n) k) in
+    let written = bytes_are_written (queue.Lent n ∷ queue.Reported k ∷ []) q valid (within, (less, tt)) in
+    ap (λ fs. drop q.reported (written_all fs)) (sym (finishes_or_keeps q.frames (q.reported + k) (with_lent q n).begun))
+    ∙ sym written
+    ∙ ap (λ xs. xs ++ rest) (append-nil (take k (open_part q)))
 
 pub writes_nothing : (s : Server Plain Plain) (holds : Option (List ℕ)) → WritesOut s holds s holds
 writes_nothing s holds = record { bytes = []; sent = refl; wrote = keeps_appends_nothing holds holds (keeps_same holds); held = refl; last_job = refl }
@@ -43,7 +50,7 @@ pub writes_more : (a b : Server Plain Plain) (n k : ℕ) (x y z : Option (List �
     → WritesOut a x (lent_and_reported b n k) z
 writes_more a b n k x y z bytes ready one within less are wrote = record {
   bytes = one.bytes ++ bytes;
-  sent = one.sent ∙ ap (λ xs. one.bytes ++ xs) (lent_leaves b n k ready.queue within less ∙ ap (λ xs. xs ++ unsent (lent_and_reported b n k).core.queue) (sym are))
+  sent = one.sent ∙ ap (λ xs. one.bytes ++ xs) (lent_leaves b.core.queue n k ready.queue within less ∙ ap (λ xs. xs ++ unsent (lent_and_reported b n k).core.queue) (sym are))
       ∙ sym (append_assoc one.bytes bytes (unsent (lent_and_reported b n k).core.queue));
   wrote = appends_twice x y z one.bytes bytes one.wrote wrote;
   held = one.held;

@@ -4,7 +4,7 @@ use Rattle.std.specs.Io.KnownBytes.{Appends, Consumes, IsAtEnd}
 use Rattle.ttrpc_proto.specs.declared.error.Error.{Error}
 use Rattle.ttrpc_proto.specs.declared.error.Error.TheVariants.{Socket, Others, Nix, NoMemory}
 use Rattle.ttrpc_frame.specs.declared.frame.Incoming.{Incoming}
-use Rattle.ttrpc_frame.specs.Frames.{Frames}
+use Rattle.ttrpc_frame.specs.Frames.{Frames, IsRest}
 use Rattle.ttrpc_demo.specs.Echo.{AreAnswers}
 
 -- All was read, up to the end, which came behind this rest of a frame, and exactly the answers to the frames were
@@ -52,6 +52,7 @@ pub record StopsEarly (before after held holds : Option (List ℕ)) (e : Error) 
 pub record EndsInside (before after held holds : Option (List ℕ)) (e : Error) : Type 0 where
   pub rest : List ℕ
   pub inside : rest ≢ []
+  pub no_frame : IsRest rest
   pub all : AnsweredAll before after held holds rest
   pub told : e ≡ Socket (codes "socket disconnected inside a frame")
 

@@ -192,7 +192,7 @@ fn write_piece<W: Write>(writer: &mut W, piece: &[u8]) -> Result<usize, Error>
 }
 
 /// Sees to it that what was written goes out, where the writer holds it back.
-fn flush<W: Write>(writer: &mut W) -> Result<(), Error>
+pub fn flush<W: Write>(writer: &mut W) -> Result<(), Error>
     ensures bytes { Keeps (W.contents writer.old) (W.contents writer.new) }
     ensures err { IfErr result IsOfSystem }
 {

@@ -2,6 +2,7 @@
 //! frames from standard input and writes their answers to standard output.
 #![tactic(auto)]
 
+mod calling;
 mod engine;
 #[cfg(test)]
 mod fakes;

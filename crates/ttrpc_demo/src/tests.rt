@@ -133,8 +133,121 @@ fn words_that_are_not_built_yet_are_told_the_usage(rt: HostRuntime) -> Tested {
         &rt,
         alloc,
         &["call", "127.0.0.1:1", "demo.Echo", "Echo", "2a", "0"],
-    )?;
-    is_told_the_usage(&rt, alloc, &["loop", "2a"])
+    )
+}
+
+/// `loop` with these digits ends with this status and has this line on the output. It reads nothing.
+fn loops(rt: &impl Abort, alloc: Global, digits: &str, status: u8, line: &[u8]) -> Tested {
+    let mut input = ASKED;
+    let ran = run_words(alloc, &["loop", digits], &mut input)?;
+    if ran.output.as_slice() == NO_MEMORY_LINE && ran.status == 1 {
+        return Err(Fail::from(Error::NoMemory));
+    }
+    assert_eq!(rt; ran.status, status);
+    assert_eq!(rt; ran.output.as_slice(), line);
+    assert!(rt; ran.errors.is_empty());
+    assert_eq!(rt; input, ASKED);
+    Ok(())
+}
+
+#[test]
+fn a_call_in_memory_is_echoed(rt: HostRuntime) -> Tested {
+    let alloc = rt.alloc();
+    loops(&rt, alloc, "2A", 0, LOOPED)?;
+    loops(&rt, alloc, "2a", 0, LOOPED)?;
+    loops(&rt, alloc, "", 0, LOOPED_EMPTY)?;
+    loops(&rt, alloc, "00fFAb09", 0, LOOPED_FOUR)
+}
+
+#[test]
+fn digits_that_are_no_bytes_are_told_the_usage(rt: HostRuntime) -> Tested {
+    let alloc = rt.alloc();
+    for digits in ["2", "2a3", "2g", "g2", " 2a", "0x2a", "2a ", "\u{ff12}a"] {
+        is_told_the_usage(&rt, alloc, &["loop", digits])?;
+    }
+    is_told_the_usage(&rt, alloc, &["loop"])?;
+    is_told_the_usage(&rt, alloc, &["loop", "2a", "2a"])?;
+    is_told_the_usage(&rt, alloc, &["Loop", "2a"])
+}
+
+/// So many bytes 77 in digits.
+fn sevens(alloc: Global, count: usize) -> Result<String, Fail> {
+    let digits = vec![in alloc; b'7'; count.saturating_mul(2)]?;
+    String::from_utf8(digits).map_err(|_| Fail::from("not UTF-8"))
+}
+
+/// With 22 bytes of the request around it, a payload of 4194282 bytes is the greatest.
+#[test]
+fn the_greatest_payload_is_echoed(rt: HostRuntime) -> Tested {
+    let alloc = rt.alloc();
+    let digits = sevens(alloc, 4194282)?;
+    let given = loop_words(alloc, digits)?;
+    let mut output = Vec::with_capacity(alloc, 8388568)?;
+    let mut errors = Vec::with_capacity(alloc, ROOM)?;
+    let mut input = ASKED;
+    let status = run(
+        alloc,
+        given.as_slice(),
+        &mut input,
+        &mut output,
+        &mut errors,
+    );
+    if status == 1 && (output.as_slice() == NO_MEMORY_LINE || errors.as_slice() == NO_MEMORY_TEXT) {
+        return Err(Fail::from(Error::NoMemory));
+    }
+    assert_eq!(rt; status, 0);
+    assert_eq!(rt; output.len(), 8388568);
+    assert_eq!(rt; front(output.as_slice(), 5), LOOPED_SEVENS);
+    Ok(())
+}
+
+fn loop_words(alloc: Global, digits: String) -> Result<Vec<String>, Fail> {
+    let mut words = Vec::with_capacity(alloc, 2)?;
+    words.push(String::from_str(alloc, "loop")?)?;
+    words.push(digits)?;
+    Ok(words)
+}
+
+#[test]
+fn a_payload_above_the_greatest_is_refused(rt: HostRuntime) -> Tested {
+    let alloc = rt.alloc();
+    let digits = sevens(alloc, 4194283)?;
+    loops(&rt, alloc, digits.as_str(), 1, LOOPED_TOO_LONG)
+}
+
+/// A front of the line is written where the writer fails, and the program ends with status 1.
+fn telling_fails_at(rt: &impl Abort, alloc: Global, count: usize) -> Tested {
+    let given = loop_words(alloc, String::from_str(alloc, "2a")?)?;
+    let mut errors = Vec::with_capacity(alloc, ROOM)?;
+    let mut output = Sink::failing(
+        Vec::with_capacity(alloc, ROOM)?,
+        1,
+        count,
+        Some(ErrorKind::BrokenPipe),
+    );
+    let mut input = ASKED;
+    let status = run(
+        alloc,
+        given.as_slice(),
+        &mut input,
+        &mut output,
+        &mut errors,
+    );
+    if errors.as_slice() == NO_MEMORY_TEXT {
+        return Err(Fail::from(Error::NoMemory));
+    }
+    assert_eq!(rt; status, 1);
+    assert_eq!(rt; output.taken.as_slice(), front(LOOPED, count));
+    assert!(rt; errors.as_slice().starts_with(b"ttrpc-demo: Nix error: "));
+    Ok(())
+}
+
+#[test]
+fn a_failing_writer_ends_a_call_in_memory(rt: HostRuntime) -> Tested {
+    for count in 0..6 {
+        telling_fails_at(&rt, rt.alloc(), count)?;
+    }
+    Ok(())
 }
 
 /// The first `count` bytes.

@@ -27,3 +27,17 @@ pub const NO_MEMORY_TEXT: &[u8] = b"ttrpc-demo: out of memory\n";
 
 pub const USAGE_TEXT: &[u8] =
     b"usage: ttrpc-demo answer | serve ADDR | call ADDR SERVICE METHOD HEX TIMEOUT | loop HEX\n";
+
+/// What `loop` tells of the byte 2a, of no bytes, and of four.
+pub const LOOPED: &[u8] = b"ok 2a\n";
+
+pub const LOOPED_EMPTY: &[u8] = b"ok\n";
+
+pub const LOOPED_FOUR: &[u8] = b"ok 00ffab09\n";
+/// The front of what it tells of bytes 77.
+pub const LOOPED_SEVENS: &[u8] = b"ok 77";
+/// What it tells of a payload that is too long, and where memory was refused.
+pub const LOOPED_TOO_LONG: &[u8] =
+    b"error: ttrpc err: message length 4194305 exceed maximum message size of 4194304\n";
+
+pub const NO_MEMORY_LINE: &[u8] = b"error: out of memory\n";
