@@ -1,0 +1,13 @@
+use Rattle.std.proofs.Common.{◌≡◌}
+use Rattle.ttrpc_sync.specs.declared.ports.Word.TheVariants.{Open}
+use Rattle.ttrpc_sync.specs.Loops.{HandedAll}
+use Rattle.ttrpc_sync.proofs.loops.read_loop.Given as goal
+
+-- The port took all that the reader gave.
+abbrev pub invariant-loop : goal.invariant-loop
+invariant-loop g l = record {
+  next : (goal.iterator-loop g).can_next l.iterator';
+  finite : (goal.iterator-loop g).is_finite l.iterator';
+  word : g.P.ReadPort.word l.port ≡ Open;
+  handed : HandedAll (g.R.Read.remaining l.fn.reader) (g.R.Read.remaining l.reader) (g.P.ReadPort.taken l.fn.port) (g.P.ReadPort.taken l.port);
+}

@@ -1,0 +1,290 @@
+//! Ports in memory, and a reader and a writer that move few bytes a call, and that can be interrupted, fail, or take
+//! no more.
+ghost use Rattle.std.specs.Prelude.{◌≡◌, ◌+◌, ◌≤◌, length, take, drop, Some};
+ghost use Rattle.ttrpc_sync.specs.declared.ports.Word.{Word as AWord};
+
+use crate::ports::{ReadPort, Word, WritePort};
+use std::cmp::min;
+use std::io::{self, ErrorKind, Read, Write};
+
+/// Reads these bytes, `step` a call. Behind them the input ends, or fails with an error of this kind.
+#[derive(Drop)]
+pub struct Source<'a> {
+    pub rest: &'a [u8],
+    step: usize,
+    behind: Option<ErrorKind>,
+    interrupts: bool,
+    interrupted: bool,
+}
+
+impl Source<'_> {
+    pub fn new(bytes: &[u8], step: usize) -> Source<'_> {
+        Source {
+            rest: bytes,
+            step,
+            behind: None,
+            interrupts: false,
+            interrupted: false,
+        }
+    }
+
+    /// One that fails behind its bytes.
+    pub fn failing(bytes: &[u8], step: usize, kind: ErrorKind) -> Source<'_> {
+        Source {
+            rest: bytes,
+            step,
+            behind: Some(kind),
+            interrupts: false,
+            interrupted: false,
+        }
+    }
+
+    /// One that is interrupted before each call that gives bytes.
+    pub fn interrupted(bytes: &[u8], step: usize) -> Source<'_> {
+        Source {
+            rest: bytes,
+            step,
+            behind: None,
+            interrupts: true,
+            interrupted: false,
+        }
+    }
+}
+
+impl Read for Source<'_> {
+    fn read(&mut self, buffer: &mut [u8]) -> io::Result<usize> {
+        if self.interrupts && !self.interrupted {
+            self.interrupted = true;
+            return Err(io::Error::from(ErrorKind::Interrupted));
+        }
+        self.interrupted = false;
+        if let (true, Some(kind)) = (self.rest.is_empty(), self.behind) {
+            return Err(io::Error::from(kind));
+        }
+        let count = min(self.step, min(self.rest.len(), buffer.len()));
+        buffer[..count].copy_from_slice(&self.rest[..count]);
+        self.rest = &self.rest[count..];
+        Ok(count)
+    }
+}
+
+/// Takes bytes, `step` a call. Once it has taken `room`, it fails with an error of this kind, or takes no more.
+#[derive(Drop)]
+pub struct Sink {
+    pub taken: Vec<u8>,
+    step: usize,
+    room: usize,
+    behind: Option<ErrorKind>,
+    interrupts: bool,
+    interrupted: bool,
+    pub flushes: u32,
+}
+
+impl Sink {
+    pub fn new(taken: Vec<u8>, step: usize) -> Sink {
+        Sink {
+            taken,
+            step,
+            room: usize::MAX,
+            behind: None,
+            interrupts: false,
+            interrupted: false,
+            flushes: 0,
+        }
+    }
+
+    /// One that fails, or takes no more, once it has taken `room` bytes.
+    pub fn failing(taken: Vec<u8>, step: usize, room: usize, behind: Option<ErrorKind>) -> Sink {
+        Sink {
+            taken,
+            step,
+            room,
+            behind,
+            interrupts: false,
+            interrupted: false,
+            flushes: 0,
+        }
+    }
+
+    /// One that is interrupted before each call that takes bytes.
+    pub fn interrupted(taken: Vec<u8>, step: usize) -> Sink {
+        Sink {
+            taken,
+            step,
+            room: usize::MAX,
+            behind: None,
+            interrupts: true,
+            interrupted: false,
+            flushes: 0,
+        }
+    }
+}
+
+impl Write for Sink {
+    fn write(&mut self, bytes: &[u8]) -> io::Result<usize> {
+        if self.interrupts && !self.interrupted {
+            self.interrupted = true;
+            return Err(io::Error::from(ErrorKind::Interrupted));
+        }
+        self.interrupted = false;
+        let count = min(self.step, min(self.room, bytes.len()));
+        if let (0, Some(kind)) = (count, self.behind) {
+            return Err(io::Error::from(kind));
+        }
+        self.taken.extend_from_slice(&bytes[..count])?;
+        self.room -= count;
+        Ok(count)
+    }
+
+    fn flush(&mut self) -> io::Result<()> {
+        self.flushes = self.flushes.saturating_add(1);
+        Ok(())
+    }
+}
+
+/// Takes at most `step` bytes of a piece, and wants no more once it has taken `room`, or where it finds no memory.
+/// One that rests takes nothing at each second offer.
+#[derive(Drop)]
+pub struct Taker {
+    pub taken: Vec<u8>,
+    pub word: Word,
+    pub broken: Option<ErrorKind>,
+    step: usize,
+    room: usize,
+    rests: bool,
+    rested: bool,
+}
+
+impl Taker {
+    pub fn new(taken: Vec<u8>, step: usize, room: usize) -> Taker
+        ensures { result.word ≡ AWord.Open }
+    {
+        Taker {
+            taken,
+            word: Word::Open,
+            broken: None,
+            step,
+            room,
+            rests: false,
+            rested: false,
+        }
+    }
+
+    pub fn resting(taken: Vec<u8>, step: usize) -> Taker
+        ensures { result.word ≡ AWord.Open }
+    {
+        Taker {
+            taken,
+            word: Word::Open,
+            broken: None,
+            step,
+            room: usize::MAX,
+            rests: true,
+            rested: false,
+        }
+    }
+}
+
+impl ReadPort for Taker {
+    ghost taken = { λ p. Some p.taken.items };
+
+    ghost word = { λ p. p.word };
+
+    fn take(&mut self, piece: &[u8]) -> Option<usize> {
+        if self.rests && !self.rested {
+            self.rested = true;
+            return Some(0);
+        }
+        self.rested = false;
+        let count = min(self.step, min(self.room, piece.len()));
+        if self.room == 0 || self.taken.extend_from_slice(&piece[..count]).is_err() {
+            self.word = Word::Stopped;
+            return None;
+        }
+        self.room -= count;
+        Some(count)
+    }
+
+    fn ended(&mut self) {
+        self.word = Word::Ended;
+    }
+
+    fn broke(&mut self, error: io::Error) {
+        self.broken = Some(error.kind());
+        self.word = Word::Broke;
+    }
+}
+
+/// Lends these bytes, at most `step` at once. They come `batch` at a time, each time that it is asked for more. It
+/// wants to end where it is asked and all have come.
+#[derive(Drop)]
+pub struct Lender<'a> {
+    bytes: &'a [u8],
+    step: usize,
+    batch: usize,
+    come: usize,
+    lent: usize,
+    pub at: usize,
+    pub asked: u32,
+    pub word: Word,
+    pub broken: Option<ErrorKind>,
+    ghost lent_has_come: { at + lent ≤ come },
+    ghost come_is_there: { come ≤ length bytes.now },
+}
+
+impl Lender<'_> {
+    pub fn new(bytes: &[u8], step: usize, batch: usize) -> Lender<'_>
+        ensures word { result.word ≡ AWord.Open }
+        ensures at { result.at ≡ 0 }
+    {
+        Lender {
+            bytes,
+            step,
+            batch,
+            come: 0,
+            lent: 0,
+            at: 0,
+            asked: 0,
+            word: Word::Open,
+            broken: None,
+        }
+    }
+}
+
+impl WritePort for Lender<'_> {
+    ghost told = { λ p. Some (record {
+      reported = take p.at p.bytes.now;
+      waiting = drop p.at p.bytes.now;
+    }) };
+
+    ghost lent = { λ p. p.lent };
+
+    ghost word = { λ p. p.word };
+
+    fn lend(&mut self, buffer: &mut [u8]) -> usize {
+        let count = min(self.step, min(self.come - self.at, buffer.len()));
+        buffer[..count].copy_from_slice(&self.bytes[self.at..self.at + count]);
+        self.lent = count;
+        count
+    }
+
+    fn wrote(&mut self, count: usize) {
+        self.lent -= count;
+        self.at += count;
+    }
+
+    fn broke(&mut self, error: io::Error) {
+        self.broken = Some(error.kind());
+        self.word = Word::Broke;
+    }
+
+    fn more(&mut self) -> bool {
+        self.asked = self.asked.saturating_add(1);
+        if self.come == self.bytes.len() {
+            self.word = Word::Stopped;
+            return false;
+        }
+        self.come += min(self.batch, self.bytes.len() - self.come);
+        true
+    }
+}

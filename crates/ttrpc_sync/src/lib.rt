@@ -1,0 +1,15 @@
+//! The loops between a stream of bytes and a port: one hands on what a reader gives, the other writes what is lent and
+//! reports what the writer took. They add nothing, lose nothing, and end only for a reason that they told or were told.
+//! What stands behind a port, as a core under a lock, is the port's own matter.
+#![tactic(auto)]
+
+mod loops;
+mod ports;
+
+pub use loops::{read_loop, write_loop};
+pub use ports::{ReadPort, Word, WritePort};
+
+#[cfg(test)]
+mod fakes;
+#[cfg(test)]
+mod tests;

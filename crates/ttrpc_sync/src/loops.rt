@@ -1,0 +1,101 @@
+//! The two loops, over any reader, any writer and any port.
+ghost use Rattle.std.specs.Prelude.{◌≡◌, ◌≢◌, ◌⊎◌, ℕ, take, MatchBool};
+ghost use Rattle.std.specs.Io.KnownBytes.{Appends, IsAtEnd};
+ghost use Rattle.ttrpc_sync.specs.declared.ports.Word.{Word};
+ghost use Rattle.ttrpc_sync.specs.Loops.{Handed, HandedAll, Written, reported};
+
+use crate::ports::{ReadPort, WritePort};
+use std::io::{ErrorKind, Read, Write};
+use std::sync::Wait;
+use ttrpc_proto::DEFAULT_PAGE_SIZE;
+
+#[tactic(auto, using(crate::proofs::Handing::handed_nothing, crate::proofs::Handing::handed_no_more, crate::proofs::Handing::handed_more, crate::proofs::Handing::handed_all))]
+/// Reads pieces and hands each to the port, until it has reported an end or a break of the reader, or the port wants no
+/// more. A rest that the port doesn't take is offered again, and an interrupted read is tried again.
+pub fn read_loop<X: Wait, R: Read, P: ReadPort>(rt: &X, reader: &mut R, port: &mut P)
+    requires { P.word port.old ≡ Word.Open }
+    ensures handed { Handed (R.remaining reader.old) (R.remaining reader.new) (P.taken port.old) (P.taken port.new) }
+    ensures all { P.word port.new ≢ Word.Stopped
+        → HandedAll (R.remaining reader.old) (R.remaining reader.new) (P.taken port.old) (P.taken port.new) }
+    ensures end { P.word port.new ≡ Word.Ended → IsAtEnd (R.remaining reader.new) }
+    ensures over { P.word port.new ≢ Word.Open }
+{
+    let mut buffer = [0u8; DEFAULT_PAGE_SIZE];
+    for _ in rt.forever() {
+        match reader.read(&mut buffer) {
+            Ok(0) => {
+                port.ended();
+                return;
+            }
+            Ok(n) => {
+                if !offer(rt, port, &buffer[..n]) {
+                    return;
+                }
+            }
+            Err(error) => {
+                if error.kind() != ErrorKind::Interrupted {
+                    port.broke(error);
+                    return;
+                }
+            }
+        }
+    }
+    unreachable!()
+}
+
+#[tactic(auto, using(crate::proofs::Handing::taken_in_part, crate::proofs::Handing::taken_further, crate::proofs::Handing::taken_fits))]
+/// Offers the piece, and each rest that is left of it, until the port has taken all. False: it wants no more.
+fn offer<X: Wait, P: ReadPort>(rt: &X, port: &mut P, piece: &[u8]) -> bool
+    requires { P.word port.old ≡ Word.Open }
+    ensures { MatchBool result
+        (Appends (P.taken port.old) (P.taken port.new) piece.now × (P.word port.new ≡ Word.Open))
+        (((n : ℕ) × Appends (P.taken port.old) (P.taken port.new) (take n piece.now)) × (P.word port.new ≡ Word.Stopped)) }
+{
+    let mut at = 0;
+    for _ in rt.forever() {
+        if at == piece.len() {
+            return true;
+        }
+        match port.take(&piece[at..]) {
+            Some(n) => at += n,
+            None => return false,
+        }
+    }
+    unreachable!()
+}
+
+#[tactic(auto, using(crate::proofs::Writing::written_nothing, crate::proofs::Writing::written_no_more))]
+/// Writes what the port lends, and reports what the writer took, until it has reported a break, or the port wants to
+/// end. A writer that takes nothing has broken. An interrupted write is tried again, with what is lent then. The port
+/// is asked for more where it lends nothing.
+pub fn write_loop<X: Wait, W: Write, P: WritePort>(rt: &X, writer: &mut W, port: &mut P)
+    requires { P.word port.old ≡ Word.Open }
+    ensures written { Written (W.contents writer.old) (W.contents writer.new)
+        (reported (P.told port.old)) (reported (P.told port.new)) }
+    ensures over { (P.word port.new ≡ Word.Broke) ⊎ (P.word port.new ≡ Word.Stopped) }
+{
+    let mut buffer = [0u8; DEFAULT_PAGE_SIZE];
+    for _ in rt.forever() {
+        let lent = port.lend(&mut buffer);
+        if lent == 0 {
+            if !port.more() {
+                return;
+            }
+        } else {
+            match writer.write(&buffer[..lent]) {
+                Ok(0) => {
+                    port.broke(ErrorKind::WriteZero.into());
+                    return;
+                }
+                Ok(n) => port.wrote(n),
+                Err(error) => {
+                    if error.kind() != ErrorKind::Interrupted {
+                        port.broke(error);
+                        return;
+                    }
+                }
+            }
+        }
+    }
+    unreachable!()
+}
