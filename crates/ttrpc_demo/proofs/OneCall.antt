@@ -1,6 +1,5 @@
 -- A request that is the only frame is answered by the only response, which ends its call.
-use Rattle.std.proofs.Common.{rules, ◌≡◌, ◌+◌, ◌*◌, ◌<◌, ◌≤◌, ◌%◌, ◌^◌, ◌++◌, ℕ, List, [], ◌∷◌, length, codes, drop, take, is_some, if◌then◌else◌, Option, Some, None, true, false, nat_lt, Result, Ok, Err, pos, refl, sym, ap, ◌∙◌, subst, arith, append_assoc, inl, inr, min}
-use Rattle.std.specs.List.{AllByRecursion}
+use Rattle.std.proofs.Common.{rules, ◌≡◌, ◌+◌, ◌*◌, ◌<◌, ◌≤◌, ◌%◌, ◌^◌, ◌++◌, ℕ, List, [], ◌∷◌, length, codes, take, is_some, if◌then◌else◌, Option, Some, None, true, false, nat_lt, Result, Ok, Err, refl, sym, ap, ◌∙◌, subst, arith, append_assoc, inl, inr}
 use Rattle.std.proofs.lemmas.Str.{IsUtf8-from_ascii, IsUtf8-nil}
 use Rattle.std.proofs.lemmas.Bool.{le-ltb, lt-ltb}
 use Rattle.std.proofs.lemmas.List.{append-nil, length-append, length-take-le}
@@ -16,7 +15,7 @@ use Rattle.ttrpc_proto.specs.declared.header.MessageHeader.{MessageHeader}
 use Rattle.ttrpc_proto.specs.declared.header.TheConstants.{MESSAGE_LENGTH_MAX, MESSAGE_TYPE_REQUEST, MESSAGE_TYPE_RESPONSE}
 use Rattle.ttrpc_proto.specs.declared.request.Request.{Request}
 use Rattle.ttrpc_proto.specs.declared.response.Response.{Response}
-use Rattle.ttrpc_proto.specs.Header.{Fits, header_bytes, header_of}
+use Rattle.ttrpc_proto.specs.Header.{Fits, header_bytes}
 use Rattle.ttrpc_proto.proofs.Headers as headers
 use Rattle.ttrpc_proto.specs.Members.{delimited_field, delimited_fields}
 use Rattle.ttrpc_proto.specs.Written.{length-delimited_field, length-fields_bytes-append}
@@ -25,7 +24,7 @@ use Rattle.ttrpc_proto.specs.Messages.{IsRequest, IsResponse, empty_request, emp
 use Rattle.ttrpc_frame.specs.declared.frame.Incoming.{Incoming}
 use Rattle.ttrpc_frame.specs.declared.frame.Incoming.TheVariants.{Frame, Oversize}
 use Rattle.ttrpc_frame.specs.declared.outgoing.Queued.{Queued}
-use Rattle.ttrpc_frame.specs.Frames.{Frames, Held, Holds, IsFrame, IsRest, nothing}
+use Rattle.ttrpc_frame.specs.Frames.{Frames, Held, Holds, IsFrame, IsRest}
 use Rattle.ttrpc_frame.specs.Queue.{Queue, IsQueue, after_report, empty_queue, open_part, unsent, with_frame, with_lent, with_payload, written}
 use Rattle.ttrpc_frame.proofs.Frames.{nothing_held}
 use Rattle.ttrpc_frame.proofs.Queues.{after_report_is_queue, with_frame_is_queue, with_lent_is_queue, written_is}
@@ -36,8 +35,8 @@ use Rattle.ttrpc_secure.specs.declared.plain.Plain.{Plain}
 use Rattle.ttrpc_client.specs.declared.call.Call.{Call}
 use Rattle.ttrpc_client.specs.declared.call.Call.TheVariants.{Waiting, Ended}
 use Rattle.ttrpc_client.specs.Client.{Client, Core, call_at, with_queue}
-use Rattle.ttrpc_client.specs.Table.{Landing, Lands, LandsOn, IsLanding, Gives, landing_of}
-use Rattle.ttrpc_client.specs.Happens.{Acts, ActsAll, Feeds, GivesOutcome, IsRequestFrame, RefusesRequest, Requests, request_bytes, request_size}
+use Rattle.ttrpc_client.specs.Table.{Landing, LandsOn, Gives, landing_of}
+use Rattle.ttrpc_client.specs.Happens.{Acts, ActsAll, Feeds, GivesOutcome, IsRequestFrame, RefusesRequest, Requests, request_bytes}
 use Rattle.ttrpc_demo.specs.Answered.{AnsweredAll, Fails}
 use Rattle.ttrpc_demo.specs.Calling.{AwaitsAnswer, CallsEcho, FitsLimit, IsUnused, LendsAll, answered_bytes, asked_bytes, echo_request}
 use Rattle.ttrpc_demo.specs.Echo.{AreAnswers, IsAnswer, Says, echo_of, echo_services, framed, plainly, said_bytes}

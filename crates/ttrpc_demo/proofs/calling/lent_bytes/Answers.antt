@@ -1,4 +1,4 @@
-use Rattle.std.proofs.Common.{◌≡◌, ◌≤◌, ◌++◌, ◌∙◌, ap, length, min, take, arith, subst, sym}
+use Rattle.std.proofs.Common.{◌≡◌, ◌≤◌, ◌∙◌, ap, length, take, arith}
 use Rattle.ttrpc_frame.specs.Queue.{after_report, open_part, with_lent}
 use Rattle.ttrpc_secure.specs.declared.plain.Plain.{Plain}
 use Rattle.ttrpc_client.specs.Client.{Client, with_queue}

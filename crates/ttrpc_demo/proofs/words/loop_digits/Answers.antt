@@ -1,4 +1,4 @@
-use Rattle.std.proofs.Common.{rules, ◌≡◌, ◌↔◌, ◌∷◌, [], true, ap, ◌∙◌, sym, map, string_bytes, codes}
+use Rattle.std.proofs.Common.{rules, ◌≡◌, ◌↔◌, ◌∷◌, [], true, ap, ◌∙◌, sym, string_bytes, codes}
 use Rattle.ttrpc_demo.proofs.OneWord.{two_words}
 use Rattle.ttrpc_demo.proofs.words.loop_digits.Goals as goal
 
