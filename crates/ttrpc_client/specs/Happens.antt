@@ -17,7 +17,7 @@ use Rattle.ttrpc_secure.specs.Sends.{Sends, associated}
 use Rattle.ttrpc_core.specs.Failure.{IsTold}
 use Rattle.ttrpc_core.specs.Responses.{unsafe_payload_text, unsealed_text}
 use Rattle.ttrpc_core.specs.Table.{Opening, header_of_frame}
-use Rattle.ttrpc_core.specs.Happens.{Halves, Opens}
+use Rattle.ttrpc_core.specs.Happens.{Halves, Opens, safe_limit}
 use Rattle.ttrpc_client.specs.declared.call.Call.{Call}
 use Rattle.ttrpc_client.specs.declared.call.Call.TheVariants.{Waiting, Expired, Ended}
 use Rattle.ttrpc_client.specs.declared.kind.ClientKind.{ClientKind}
@@ -33,10 +33,6 @@ request_bytes r = fields_bytes (request_fields r)
 -- how long a request is, as far as 32 bits can say it
 abbrev pub request_size : Request → ℕ
 request_size r = min (length (request_bytes r)) (2 ^ 32 - 1)
-
--- the greatest payload that fits with the half's overhead
-abbrev pub safe_limit : {O I : Type 0} → Halves O I → O → ℕ
-safe_limit h s = MESSAGE_LENGTH_MAX - h.overhead s
 
 -- the greatest id
 abbrev pub last_id : ℕ
