@@ -1,2 +1,4 @@
+pub mod Answering
+pub mod Counting
 pub mod Handing
 pub mod Writing

@@ -1,65 +1,74 @@
-//! Ports in memory, and a reader and a writer that move few bytes a call, and that can be interrupted, fail, or take
-//! no more.
+//! Ports in memory, and a reader and a writer that move few bytes a call, that can be interrupted, fail, or take no
+//! more, and that tell what their last call answered.
 ghost use Rattle.std.specs.Prelude.{◌≡◌, ◌+◌, ◌≤◌, length, take, drop, Some};
-ghost use Rattle.ttrpc_sync.specs.declared.ports.Word.{Word as AWord};
+ghost use Rattle.std.specs.Io.{ReadsAtMost, WritesAtMost};
+ghost use Rattle.ttrpc_sync.specs.Loops.{IsOneMore, answered_kind};
 
 use crate::ports::{ReadPort, Word, WritePort};
+use crate::streams::{Sink, Source};
 use std::cmp::min;
-use std::io::{self, ErrorKind, Read, Write};
+use std::io::{self, ErrorKind};
 
-/// Reads these bytes, `step` a call. Behind them the input ends, or fails with an error of this kind.
+/// What stands for the last call before the first one: neither an end nor a break.
+const NO_CALL: Result<usize, ErrorKind> = Err(ErrorKind::Interrupted);
+
+/// Gives these bytes, `step` a call. Behind them the input ends, or fails with an error of this kind.
 #[derive(Drop)]
-pub struct Source<'a> {
+pub struct Giver<'a> {
     pub rest: &'a [u8],
     step: usize,
     behind: Option<ErrorKind>,
     interrupts: bool,
     interrupted: bool,
+    pub last: Result<usize, ErrorKind>,
 }
 
-impl Source<'_> {
-    pub fn new(bytes: &[u8], step: usize) -> Source<'_> {
-        Source {
+impl Giver<'_> {
+    pub fn new(bytes: &[u8], step: usize) -> Giver<'_> {
+        Giver {
             rest: bytes,
             step,
             behind: None,
             interrupts: false,
             interrupted: false,
+            last: NO_CALL,
         }
     }
 
     /// One that fails behind its bytes.
-    pub fn failing(bytes: &[u8], step: usize, kind: ErrorKind) -> Source<'_> {
-        Source {
+    pub fn failing(bytes: &[u8], step: usize, kind: ErrorKind) -> Giver<'_> {
+        Giver {
             rest: bytes,
             step,
             behind: Some(kind),
             interrupts: false,
             interrupted: false,
+            last: NO_CALL,
         }
     }
 
     /// One that is interrupted before each call that gives bytes.
-    pub fn interrupted(bytes: &[u8], step: usize) -> Source<'_> {
-        Source {
+    pub fn interrupted(bytes: &[u8], step: usize) -> Giver<'_> {
+        Giver {
             rest: bytes,
             step,
             behind: None,
             interrupts: true,
             interrupted: false,
+            last: NO_CALL,
         }
     }
-}
 
-impl Read for Source<'_> {
-    fn read(&mut self, buffer: &mut [u8]) -> io::Result<usize> {
+    fn give(&mut self, buffer: &mut [u8]) -> Result<usize, ErrorKind>
+        ensures { ReadsAtMost result buffer.new }
+    {
         if self.interrupts && !self.interrupted {
             self.interrupted = true;
-            return Err(io::Error::from(ErrorKind::Interrupted));
+            return Err(ErrorKind::Interrupted);
         }
         self.interrupted = false;
         if let (true, Some(kind)) = (self.rest.is_empty(), self.behind) {
-            return Err(io::Error::from(kind));
+            return Err(kind);
         }
         let count = min(self.step, min(self.rest.len(), buffer.len()));
         buffer[..count].copy_from_slice(&self.rest[..count]);
@@ -68,78 +77,105 @@ impl Read for Source<'_> {
     }
 }
 
+impl Source for Giver<'_> {
+    ghost last = { λ g. Some (answered_kind g.last) };
+
+    fn read(&mut self, buffer: &mut [u8]) -> io::Result<usize> {
+        self.last = self.give(buffer);
+        Ok(self.last?)
+    }
+}
+
 /// Takes bytes, `step` a call. Once it has taken `room`, it fails with an error of this kind, or takes no more.
 #[derive(Drop)]
-pub struct Sink {
+pub struct Receiver {
     pub taken: Vec<u8>,
     step: usize,
     room: usize,
     behind: Option<ErrorKind>,
     interrupts: bool,
     interrupted: bool,
-    pub flushes: u32,
+    pub last: Result<usize, ErrorKind>,
 }
 
-impl Sink {
-    pub fn new(taken: Vec<u8>, step: usize) -> Sink {
-        Sink {
+impl Receiver {
+    pub fn new(taken: Vec<u8>, step: usize) -> Receiver {
+        Receiver {
             taken,
             step,
             room: usize::MAX,
             behind: None,
             interrupts: false,
             interrupted: false,
-            flushes: 0,
+            last: NO_CALL,
         }
     }
 
     /// One that fails, or takes no more, once it has taken `room` bytes.
-    pub fn failing(taken: Vec<u8>, step: usize, room: usize, behind: Option<ErrorKind>) -> Sink {
-        Sink {
+    pub fn failing(
+        taken: Vec<u8>,
+        step: usize,
+        room: usize,
+        behind: Option<ErrorKind>,
+    ) -> Receiver {
+        Receiver {
             taken,
             step,
             room,
             behind,
             interrupts: false,
             interrupted: false,
-            flushes: 0,
+            last: NO_CALL,
         }
     }
 
     /// One that is interrupted before each call that takes bytes.
-    pub fn interrupted(taken: Vec<u8>, step: usize) -> Sink {
-        Sink {
+    pub fn interrupted(taken: Vec<u8>, step: usize) -> Receiver {
+        Receiver {
             taken,
             step,
             room: usize::MAX,
             behind: None,
             interrupts: true,
             interrupted: false,
-            flushes: 0,
+            last: NO_CALL,
         }
     }
-}
 
-impl Write for Sink {
-    fn write(&mut self, bytes: &[u8]) -> io::Result<usize> {
+    fn receive(&mut self, bytes: &[u8]) -> Result<usize, ErrorKind>
+        ensures { WritesAtMost result bytes.now }
+    {
         if self.interrupts && !self.interrupted {
             self.interrupted = true;
-            return Err(io::Error::from(ErrorKind::Interrupted));
+            return Err(ErrorKind::Interrupted);
         }
         self.interrupted = false;
         let count = min(self.step, min(self.room, bytes.len()));
         if let (0, Some(kind)) = (count, self.behind) {
-            return Err(io::Error::from(kind));
+            return Err(kind);
         }
-        self.taken.extend_from_slice(&bytes[..count])?;
+        if self.taken.extend_from_slice(&bytes[..count]).is_err() {
+            return Err(ErrorKind::OutOfMemory);
+        }
         self.room -= count;
         Ok(count)
     }
+}
 
-    fn flush(&mut self) -> io::Result<()> {
-        self.flushes = self.flushes.saturating_add(1);
-        Ok(())
+impl Sink for Receiver {
+    ghost last = { λ r. Some (answered_kind r.last) };
+
+    fn write(&mut self, bytes: &[u8]) -> io::Result<usize> {
+        self.last = self.receive(bytes);
+        Ok(self.last?)
     }
+}
+
+/// The count with one loop more, where it can be told.
+fn one_more(count: Option<u32>) -> Option<u32>
+    ensures { IsOneMore count result }
+{
+    count?.checked_add(1)
 }
 
 /// Takes at most `step` bytes of a piece, and wants no more once it has taken `room`, or where it finds no memory.
@@ -148,7 +184,7 @@ impl Write for Sink {
 pub struct Taker {
     pub taken: Vec<u8>,
     pub word: Word,
-    pub broken: Option<ErrorKind>,
+    pub begun: Option<u32>,
     step: usize,
     room: usize,
     rests: bool,
@@ -156,13 +192,11 @@ pub struct Taker {
 }
 
 impl Taker {
-    pub fn new(taken: Vec<u8>, step: usize, room: usize) -> Taker
-        ensures { result.word ≡ AWord.Open }
-    {
+    pub fn new(taken: Vec<u8>, step: usize, room: usize) -> Taker {
         Taker {
             taken,
             word: Word::Open,
-            broken: None,
+            begun: Some(0),
             step,
             room,
             rests: false,
@@ -170,13 +204,11 @@ impl Taker {
         }
     }
 
-    pub fn resting(taken: Vec<u8>, step: usize) -> Taker
-        ensures { result.word ≡ AWord.Open }
-    {
+    pub fn resting(taken: Vec<u8>, step: usize) -> Taker {
         Taker {
             taken,
             word: Word::Open,
-            broken: None,
+            begun: Some(0),
             step,
             room: usize::MAX,
             rests: true,
@@ -189,6 +221,13 @@ impl ReadPort for Taker {
     ghost taken = { λ p. Some p.taken.items };
 
     ghost word = { λ p. p.word };
+
+    ghost begun = { λ p. p.begun };
+
+    fn begin(&mut self) {
+        self.word = Word::Open;
+        self.begun = one_more(self.begun);
+    }
 
     fn take(&mut self, piece: &[u8]) -> Option<usize> {
         if self.rests && !self.rested {
@@ -210,8 +249,7 @@ impl ReadPort for Taker {
     }
 
     fn broke(&mut self, error: io::Error) {
-        self.broken = Some(error.kind());
-        self.word = Word::Broke;
+        self.word = Word::Broke(error.kind());
     }
 }
 
@@ -227,15 +265,14 @@ pub struct Lender<'a> {
     pub at: usize,
     pub asked: u32,
     pub word: Word,
-    pub broken: Option<ErrorKind>,
+    pub begun: Option<u32>,
     ghost lent_has_come: { at + lent ≤ come },
     ghost come_is_there: { come ≤ length bytes.now },
 }
 
 impl Lender<'_> {
     pub fn new(bytes: &[u8], step: usize, batch: usize) -> Lender<'_>
-        ensures word { result.word ≡ AWord.Open }
-        ensures at { result.at ≡ 0 }
+        ensures { result.at ≡ 0 }
     {
         Lender {
             bytes,
@@ -246,7 +283,7 @@ impl Lender<'_> {
             at: 0,
             asked: 0,
             word: Word::Open,
-            broken: None,
+            begun: Some(0),
         }
     }
 }
@@ -261,6 +298,13 @@ impl WritePort for Lender<'_> {
 
     ghost word = { λ p. p.word };
 
+    ghost begun = { λ p. p.begun };
+
+    fn begin(&mut self) {
+        self.word = Word::Open;
+        self.begun = one_more(self.begun);
+    }
+
     fn lend(&mut self, buffer: &mut [u8]) -> usize {
         let count = min(self.step, min(self.come - self.at, buffer.len()));
         buffer[..count].copy_from_slice(&self.bytes[self.at..self.at + count]);
@@ -274,8 +318,7 @@ impl WritePort for Lender<'_> {
     }
 
     fn broke(&mut self, error: io::Error) {
-        self.broken = Some(error.kind());
-        self.word = Word::Broke;
+        self.word = Word::Broke(error.kind());
     }
 
     fn more(&mut self) -> bool {

@@ -5,9 +5,11 @@
 
 mod loops;
 mod ports;
+mod streams;
 
 pub use loops::{read_loop, write_loop};
 pub use ports::{ReadPort, Word, WritePort};
+pub use streams::{Sink, Source};
 
 #[cfg(test)]
 mod fakes;

@@ -1,26 +1,30 @@
 //! The two loops, over any reader, any writer and any port.
-ghost use Rattle.std.specs.Prelude.{◌≡◌, ◌≢◌, ◌⊎◌, ℕ, take, MatchBool};
+ghost use Rattle.std.specs.Prelude.{◌≡◌, ◌≢◌, ◌⊎◌, ℕ, take, IfSome, MatchBool};
 ghost use Rattle.std.specs.Io.KnownBytes.{Appends, IsAtEnd};
+ghost use Rattle.std.specs.declared.io.ErrorKind.{ErrorKind};
 ghost use Rattle.ttrpc_sync.specs.declared.ports.Word.{Word};
-ghost use Rattle.ttrpc_sync.specs.Loops.{Handed, HandedAll, Written, reported};
+ghost use Rattle.ttrpc_sync.specs.Loops.{EndsReading, EndsWriting, Handed, HandedAll, IsOneMore, IsSameCount, Written, reported};
 
 use crate::ports::{ReadPort, WritePort};
-use std::io::{ErrorKind, Read, Write};
+use crate::streams::{Sink, Source};
+use std::io::ErrorKind;
 use std::sync::Wait;
 use ttrpc_proto::DEFAULT_PAGE_SIZE;
 
-#[tactic(auto, using(crate::proofs::Handing::handed_nothing, crate::proofs::Handing::handed_no_more, crate::proofs::Handing::handed_more, crate::proofs::Handing::handed_all))]
+#[tactic(auto, using(crate::proofs::Handing::handed_nothing, crate::proofs::Handing::handed_no_more, crate::proofs::Handing::handed_more, crate::proofs::Handing::handed_all, crate::proofs::Counting::one_more_still))]
 /// Reads pieces and hands each to the port, until it has reported an end or a break of the reader, or the port wants no
 /// more. A rest that the port doesn't take is offered again, and an interrupted read is tried again.
-pub fn read_loop<X: Wait, R: Read, P: ReadPort>(rt: &X, reader: &mut R, port: &mut P)
-    requires { P.word port.old ≡ Word.Open }
+pub fn read_loop<X: Wait, R: Source, P: ReadPort>(rt: &X, reader: &mut R, port: &mut P)
     ensures handed { Handed (R.remaining reader.old) (R.remaining reader.new) (P.taken port.old) (P.taken port.new) }
     ensures all { P.word port.new ≢ Word.Stopped
         → HandedAll (R.remaining reader.old) (R.remaining reader.new) (P.taken port.old) (P.taken port.new) }
     ensures end { P.word port.new ≡ Word.Ended → IsAtEnd (R.remaining reader.new) }
+    ensures last { IfSome (R.last reader.new) (λ a. EndsReading a (P.word port.new)) }
+    ensures once { IsOneMore (P.begun port.old) (P.begun port.new) }
     ensures over { P.word port.new ≢ Word.Open }
 {
     let mut buffer = [0u8; DEFAULT_PAGE_SIZE];
+    port.begin();
     for _ in rt.forever() {
         match reader.read(&mut buffer) {
             Ok(0) => {
@@ -43,11 +47,12 @@ pub fn read_loop<X: Wait, R: Read, P: ReadPort>(rt: &X, reader: &mut R, port: &m
     unreachable!()
 }
 
-#[tactic(auto, using(crate::proofs::Handing::taken_in_part, crate::proofs::Handing::taken_further, crate::proofs::Handing::taken_fits))]
+#[tactic(auto, using(crate::proofs::Handing::taken_in_part, crate::proofs::Handing::taken_further, crate::proofs::Handing::taken_fits, crate::proofs::Counting::same_count, crate::proofs::Counting::same_count_again))]
 /// Offers the piece, and each rest that is left of it, until the port has taken all. False: it wants no more.
 fn offer<X: Wait, P: ReadPort>(rt: &X, port: &mut P, piece: &[u8]) -> bool
     requires { P.word port.old ≡ Word.Open }
-    ensures { MatchBool result
+    ensures begun { IsSameCount (P.begun port.old) (P.begun port.new) }
+    ensures taken { MatchBool result
         (Appends (P.taken port.old) (P.taken port.new) piece.now × (P.word port.new ≡ Word.Open))
         (((n : ℕ) × Appends (P.taken port.old) (P.taken port.new) (take n piece.now)) × (P.word port.new ≡ Word.Stopped)) }
 {
@@ -64,17 +69,19 @@ fn offer<X: Wait, P: ReadPort>(rt: &X, port: &mut P, piece: &[u8]) -> bool
     unreachable!()
 }
 
-#[tactic(auto, using(crate::proofs::Writing::written_nothing, crate::proofs::Writing::written_no_more))]
+#[tactic(auto, using(crate::proofs::Writing::written_nothing, crate::proofs::Writing::written_no_more, crate::proofs::Counting::one_more_still))]
 /// Writes what the port lends, and reports what the writer took, until it has reported a break, or the port wants to
 /// end. A writer that takes nothing has broken. An interrupted write is tried again, with what is lent then. The port
 /// is asked for more where it lends nothing.
-pub fn write_loop<X: Wait, W: Write, P: WritePort>(rt: &X, writer: &mut W, port: &mut P)
-    requires { P.word port.old ≡ Word.Open }
+pub fn write_loop<X: Wait, W: Sink, P: WritePort>(rt: &X, writer: &mut W, port: &mut P)
     ensures written { Written (W.contents writer.old) (W.contents writer.new)
         (reported (P.told port.old)) (reported (P.told port.new)) }
-    ensures over { (P.word port.new ≡ Word.Broke) ⊎ (P.word port.new ≡ Word.Stopped) }
+    ensures last { IfSome (W.last writer.new) (λ a. EndsWriting a (P.word port.new)) }
+    ensures once { IsOneMore (P.begun port.old) (P.begun port.new) }
+    ensures over { (P.word port.new ≡ Word.Stopped) ⊎ ((k : ErrorKind) × (P.word port.new ≡ Word.Broke k)) }
 {
     let mut buffer = [0u8; DEFAULT_PAGE_SIZE];
+    port.begin();
     for _ in rt.forever() {
         let lent = port.lend(&mut buffer);
         if lent == 0 {

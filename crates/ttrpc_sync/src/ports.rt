@@ -2,9 +2,8 @@
 ghost use Rattle.std.specs.Prelude.{◌≡◌, ◌≢◌, ◌<◌, ◌≤◌, ℕ, List, Option, None, length, take, IfSome, IfNone, MatchBool};
 ghost use Rattle.std.specs.Io.KnownBytes.{Appends, Keeps};
 ghost use Rattle.std.specs.IoError.{error_kind};
-ghost use Rattle.ttrpc_sync.specs.Loops.{Told, reported, waiting};
 
-use std::io;
+use std::io::{self, ErrorKind};
 
 /// What was told last between a port and its loop.
 #[derive(Clone, Copy, Debug, PartialEq, Eq)]
@@ -13,8 +12,8 @@ pub enum Word {
     Open,
     /// The loop reported the end.
     Ended,
-    /// The loop reported a break.
-    Broke,
+    /// The loop reported a break of this kind.
+    Broke(ErrorKind),
     /// The port wants no more.
     Stopped,
 }
@@ -23,12 +22,22 @@ pub enum Word {
 pub trait ReadPort {
     ghost use Rattle.std.specs.declared.io.ErrorKind.{ErrorKind};
     ghost use Rattle.ttrpc_sync.specs.declared.ports.Word.{Word};
+    ghost use Rattle.ttrpc_sync.specs.Loops.{IsSameCount, IsOneMore};
 
     // All bytes that it took, where it tells.
     ghost taken: { Self → Option (List ℕ) } = { λ _. None };
 
     // What was told last.
     ghost word: { Self → Word };
+
+    // How many loops have begun, where it counts them.
+    ghost begun: { Self → Option ℕ } = { λ _. None };
+
+    /// A loop begins: nothing has been told yet.
+    fn begin(&mut self)
+        ensures taken { Keeps (taken self.old) (taken self.new) }
+        ensures word { word self.new ≡ Word.Open }
+        ensures begun { IsOneMore (begun self.old) (begun self.new) };
 
     /// Takes a beginning of the piece, and says how many bytes. `None`: it wants no more, and took none of these.
     fn take(&mut self, piece: &[u8]) -> Option<usize>
@@ -37,26 +46,30 @@ pub trait ReadPort {
         ensures bound { IfSome result (λ n. n ≤ length piece.now) }
         ensures taken { IfSome result (λ n. Appends (taken self.old) (taken self.new) (take n piece.now)) }
         ensures word { IfSome result (λ _. word self.new ≡ Word.Open) }
-        ensures stopped { IfNone result (Keeps (taken self.old) (taken self.new) × (word self.new ≡ Word.Stopped)) };
+        ensures stopped { IfNone result (Keeps (taken self.old) (taken self.new) × (word self.new ≡ Word.Stopped)) }
+        ensures begun { IsSameCount (begun self.old) (begun self.new) };
 
     /// The reader is at its end.
     fn ended(&mut self)
         requires { word self.old ≡ Word.Open }
         ensures taken { Keeps (taken self.old) (taken self.new) }
-        ensures word { word self.new ≡ Word.Ended };
+        ensures word { word self.new ≡ Word.Ended }
+        ensures begun { IsSameCount (begun self.old) (begun self.new) };
 
     /// The reader failed with this error, which is no interruption.
     fn broke(&mut self, error: io::Error)
         requires word { word self.old ≡ Word.Open }
         requires kind { error_kind error ≢ ErrorKind.Interrupted }
         ensures taken { Keeps (taken self.old) (taken self.new) }
-        ensures word { word self.new ≡ Word.Broke };
+        ensures word { word self.new ≡ Word.Broke (error_kind error) }
+        ensures begun { IsSameCount (begun self.old) (begun self.new) };
 }
 
 /// Where the bytes come from that are to be written.
 pub trait WritePort {
     ghost use Rattle.std.specs.declared.io.ErrorKind.{ErrorKind};
     ghost use Rattle.ttrpc_sync.specs.declared.ports.Word.{Word};
+    ghost use Rattle.ttrpc_sync.specs.Loops.{IsSameCount, IsOneMore, Told, reported, waiting};
 
     // All bytes that were reported, and those that wait, where it tells.
     ghost told: { Self → Option Told } = { λ _. None };
@@ -67,6 +80,15 @@ pub trait WritePort {
     // What was told last.
     ghost word: { Self → Word };
 
+    // How many loops have begun, where it counts them.
+    ghost begun: { Self → Option ℕ } = { λ _. None };
+
+    /// A loop begins: nothing has been told yet.
+    fn begin(&mut self)
+        ensures reported { Keeps (reported (told self.old)) (reported (told self.new)) }
+        ensures word { word self.new ≡ Word.Open }
+        ensures begun { IsOneMore (begun self.old) (begun self.new) };
+
     /// Copies a beginning of the bytes that wait to the front of the buffer, and says how many. They are lent from now
     /// on, and they wait until they are reported.
     fn lend(&mut self, buffer: &mut [u8]) -> usize
@@ -76,7 +98,8 @@ pub trait WritePort {
         ensures lent { lent self.new ≡ result }
         ensures bytes { IfSome (told self.new) (λ t. take result buffer.new ≡ take result t.waiting) }
         ensures reported { Keeps (reported (told self.old)) (reported (told self.new)) }
-        ensures word { word self.new ≡ Word.Open };
+        ensures word { word self.new ≡ Word.Open }
+        ensures begun { IsSameCount (begun self.old) (begun self.new) };
 
     /// The writer took this many of the bytes that are lent.
     fn wrote(&mut self, count: usize)
@@ -85,19 +108,22 @@ pub trait WritePort {
         requires lent { count ≤ lent self.old }
         ensures reported { Appends (reported (told self.old)) (reported (told self.new))
             (take count (waiting (told self.old))) }
-        ensures word { word self.new ≡ Word.Open };
+        ensures word { word self.new ≡ Word.Open }
+        ensures begun { IsSameCount (begun self.old) (begun self.new) };
 
     /// The writer failed with this error, which is no interruption, or it took nothing.
     fn broke(&mut self, error: io::Error)
         requires word { word self.old ≡ Word.Open }
         requires kind { error_kind error ≢ ErrorKind.Interrupted }
         ensures reported { Keeps (reported (told self.old)) (reported (told self.new)) }
-        ensures word { word self.new ≡ Word.Broke };
+        ensures word { word self.new ≡ Word.Broke (error_kind error) }
+        ensures begun { IsSameCount (begun self.old) (begun self.new) };
 
     /// Waits until there may be bytes. False: the port wants to end.
     fn more(&mut self) -> bool
         requires word { word self.old ≡ Word.Open }
         requires nothing { lent self.old ≡ 0 }
         ensures reported { Keeps (reported (told self.old)) (reported (told self.new)) }
-        ensures word { MatchBool result (word self.new ≡ Word.Open) (word self.new ≡ Word.Stopped) };
+        ensures word { MatchBool result (word self.new ≡ Word.Open) (word self.new ≡ Word.Stopped) }
+        ensures begun { IsSameCount (begun self.old) (begun self.new) };
 }

@@ -1,6 +1,7 @@
 use Rattle.std.proofs.Common.{◌≡◌, ◌≤◌, length, take}
 use Rattle.std.specs.Io.KnownBytes.{Appends}
 use Rattle.ttrpc_sync.specs.declared.ports.Word.TheVariants.{Open}
+use Rattle.ttrpc_sync.specs.Loops.{IsSameCount}
 use Rattle.ttrpc_sync.proofs.loops.offer.Given as goal
 
 -- The port took the piece up to here.
@@ -9,6 +10,7 @@ invariant-loop g l = record {
   next : (goal.iterator-loop g).can_next l.iterator';
   finite : (goal.iterator-loop g).is_finite l.iterator';
   word : g.P.ReadPort.word l.port ≡ Open;
+  begun : IsSameCount (g.P.ReadPort.begun l.fn.port) (g.P.ReadPort.begun l.port);
   inside : l.at ≤ length l.fn.piece;
   taken : Appends (g.P.ReadPort.taken l.fn.port) (g.P.ReadPort.taken l.port) (take l.at l.fn.piece);
 }
