@@ -1,5 +1,5 @@
 //! The core of a server: frames in, jobs and responses out.
-ghost use Rattle.std.specs.Prelude.{◌≡◌, ◌≢◌, ◌-◌, ◌<◌, ◌≤◌, ◌↔◌, ℕ, true, length, take, drop, min, is_some, if◌then◌else◌, IfOk, IfErr, OnOk, OnErr, IfSome, IfNone, Ok, Err, Some, None};
+ghost use Rattle.std.specs.Prelude.{◌≡◌, ◌≢◌, ◌-◌, ◌<◌, ◌≤◌, ◌↔◌, ℕ, MatchBool, true, length, take, drop, min, is_some, if◌then◌else◌, IfOk, IfErr, OnOk, OnErr, IfSome, IfNone, Ok, Err, Some, None};
 ghost use Rattle.ttrpc_proto.specs.declared.error.Error.{Error as AnError};
 ghost use Rattle.ttrpc_proto.specs.declared.response.Response.{Response as AResponse};
 ghost use Rattle.ttrpc_proto.specs.GenMessage.{oversize_text};
@@ -10,7 +10,7 @@ ghost use Rattle.ttrpc_core.specs.Failure.{IsTold, error_of};
 ghost use Rattle.ttrpc_core.specs.Responses.{status_response, unopened_text};
 ghost use Rattle.ttrpc_core.specs.Server.{new_server, with_queue, with_failure};
 ghost use Rattle.ttrpc_core.specs.Table.{Known, Opened, opened_row, request_row};
-ghost use Rattle.ttrpc_core.specs.Happens.{halves_of, safe_limit, Acts, Answers, Breaks, Does, Drops, Feeds, FeedsFront, Hands, IsFailed, IsTakenAt, IsUnsent, IsWhy, kept, Makes, NoneWaits, Quiet, Refers, RefusesAnswer, Responds};
+ghost use Rattle.ttrpc_core.specs.Happens.{halves_of, safe_limit, Acts, Answers, Breaks, Does, Drops, Feeds, FeedsFront, Hands, IsFailed, IsTakenAt, IsUnknown, IsUnsent, IsWhy, kept, Makes, NoneWaits, Quiet, Refers, RefusesAnswer, Responds};
 ghost use Rattle.ttrpc_core.specs.Inside.{FailsOn, IsUnsentFor, OnlySends, SameFlow, StopsAt, TakesFront};
 
 use crate::failure::Failure;
@@ -190,6 +190,18 @@ impl<O: OutboundTransform + Drop, I: InboundTransform + Drop> ServerCore<O, I> {
                 self.failure = Some(Failure::HandlerError);
                 Ok(())
             }
+        }
+    }
+
+    /// Whether the job of this number was taken and not answered yet. Takes no memory.
+    pub fn awaits_answer(&self, id: JobId) -> bool
+        ensures { MatchBool result
+            ((place : ℕ) × IsTakenAt self.now.core.jobs place id)
+            (IsUnknown self.now.core.jobs id) }
+    {
+        match taken_at(self.jobs.as_slice(), id) {
+            Some(_) => true,
+            None => false,
         }
     }
 

@@ -289,6 +289,27 @@ fn a_job_is_handed_out_and_answered_once(rt: HostRuntime) -> Tested {
     hands_out_and_answers_once(&rt, alloc, &mut core)
 }
 
+/// Job 1 awaits its answer from when it is taken until it is answered, and no other does.
+fn awaits_one_answer(rt: &impl Abort, alloc: Global, core: &mut Core) -> Tested {
+    assert!(rt; !core.awaits_answer(1));
+    core.feed(alloc, ASKED, 0)?;
+    assert!(rt; !core.awaits_answer(1));
+    take_echo_job(rt, core)?;
+    assert!(rt; core.awaits_answer(1));
+    assert!(rt; !core.awaits_answer(2));
+    let payload = Blob::from_slice(alloc, &[0x2a])?;
+    core.answer(alloc, 1, Ok(ok_response(alloc, payload)))?;
+    assert!(rt; !core.awaits_answer(1));
+    Ok(())
+}
+
+#[test]
+fn a_job_that_was_taken_awaits_its_answer(rt: HostRuntime) -> Tested {
+    let alloc = rt.alloc();
+    let mut core = echo_core(alloc)?;
+    awaits_one_answer(&rt, alloc, &mut core)
+}
+
 fn take_echo_job(rt: &impl Abort, core: &mut Core) -> Tested {
     match core.take_job() {
         None => Err("no job".into()),

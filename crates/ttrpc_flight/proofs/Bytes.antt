@@ -1,0 +1,337 @@
+-- The bytes in flight: what is queued, what leaves, what is thrown away or cut off, and what comes in. No seals.
+use Rattle.std.proofs.Common.{◌≡◌, ◌+◌, ◌-◌, ◌<◌, ◌≤◌, inl, inr, ℕ, Bool, true, false, cond, List, [], ◌∷◌, ◌++◌, length, map, take, drop, arith, refl, sym, ap, subst, ◌∙◌, append_assoc, length-append, length-drop}
+use Rattle.std.proofs.Math.Seq.{take-append-add}
+use Rattle.std.proofs.lemmas.Bool.{cases_lt}
+use Rattle.std.proofs.lemmas.List.{append-nil, take-append-drop, take-append-le, take-take, take_all, drop-take, drop_at, length-take-le, map-append, map_push, take-map, drop-map}
+use Rattle.std.proofs.lemmas.List.Concat.{flat_map-append}
+use Rattle.ttrpc_proto.specs.declared.header.MessageHeader.{MessageHeader}
+use Rattle.ttrpc_proto.specs.Header.{header_bytes, header_of}
+use Rattle.ttrpc_proto.proofs.Headers as headers
+use Rattle.ttrpc_frame.specs.declared.frame.Incoming.{Incoming}
+use Rattle.ttrpc_frame.specs.declared.outgoing.Queued.{Queued}
+use Rattle.ttrpc_frame.specs.Frames.{IsFrame, Frames, IsRest, Held, nothing, Holds, Fed}
+use Rattle.ttrpc_frame.specs.Queue.{Queue, IsWithin, written, written_all, first_open, open_part, empty_queue, with_frame, with_lent, after_report, begun_count, is_request_of, frames_without, others_without, without}
+use Rattle.ttrpc_frame.proofs.Frames.{exact, header_front, nothing_held}
+use Rattle.ttrpc_frame.proofs.Pieces.{one_list, is_frames}
+use Rattle.ttrpc_frame.proofs.Queues.{length-written, written_is, fresh_is_queue, with_frame_is_queue, with_lent_is_queue, after_report_is_queue, without_is_queue, report_of_a_part, report_of_all}
+use Rattle.ttrpc_flight.specs.Flight.{Flying, AreInFlight, IsSound, AreSound, arrived, carried, frames_of, flying_without, others_flying_without}
+use Rattle.ttrpc_flight.proofs.Losing.{all_behind, all_in_front, all_joined, all_thrown}
+
+-- ---- nothing is in flight
+
+pub none_in_flight : AreInFlight nothing [] false empty_queue [] []
+none_in_flight = record {
+  valid = fresh_is_queue [] 0 0 (refl, refl);
+  same = refl;
+  sound = tt;
+  before = [];
+  holds = nothing_held;
+  lost = [];
+  bytes = refl;
+  uncut = λ e. refl;
+}
+
+-- ---- a frame is queued
+
+-- as many bytes as were reported of a first frame, whatever stands behind it
+begun_part : (f : Queued) (fs : List Queued) (n : ℕ) → n ≤ length (written f.message) → take n (written_all (f ∷ fs)) ≡ take n (written f.message)
+begun_part f fs n le = take-append-le n (written f.message) (written_all fs) le
+
+begun_more : (fs : List Queued) (f : Queued) (n : ℕ) → IsWithin fs n → take n (written_all (fs ++ f ∷ [])) ≡ take n (written_all fs)
+begun_more [] f n none = ap (λ k. take k (written_all (f ∷ []))) none ∙ sym (ap (λ k. take k (written_all [])) none)
+begun_more (g ∷ fs) f n within = begun_part g (fs ++ f ∷ []) n (omega (arith, within)) ∙ sym (begun_part g fs n (omega (arith, within)))
+
+pub placed_in_flight : (held : Held) (pipe : List ℕ) (cut : Bool) (q : Queue) (transit queued : List Flying) (x : Flying) → IsSound x.frame → AreInFlight held pipe cut q transit queued
+    → AreInFlight held pipe cut (with_frame q x.frame) transit (queued ++ x ∷ [])
+placed_in_flight held pipe cut q transit queued x sound f = record {
+  valid = with_frame_is_queue q x.frame f.valid;
+  same = map_push Flying.frame queued x ∙ ap (λ fs. fs ++ x.frame ∷ []) f.same;
+  sound = subst AreSound (append_assoc transit queued (x ∷ [])) (all_joined (λ (y : Flying). IsSound y.frame) (transit ++ queued) (x ∷ []) f.sound (sound, tt));
+  before = f.before;
+  holds = f.holds;
+  lost = f.lost;
+  bytes = f.bytes ∙ ap (λ bs. written_all (frames_of transit) ++ bs) (sym (begun_more q.frames x.frame q.reported f.valid.within));
+  uncut = f.uncut;
+}
+
+-- ---- bytes leave, into the pipe or behind a cut
+
+-- what is lost and what isn't, with more bytes behind those that were there
+record Leaving (before pipe : List ℕ) (cut : Bool) (more all : List ℕ) : Type 0 where
+  lost : List ℕ
+  bytes : before ++ (cond cut pipe (pipe ++ more) ++ lost) ≡ all
+  uncut : cut ≡ false → lost ≡ []
+
+bytes_leave : (before pipe lost more : List ℕ) (cut : Bool) → (cut ≡ false → lost ≡ []) → Leaving before pipe cut more ((before ++ (pipe ++ lost)) ++ more)
+bytes_leave before pipe lost more true uncut = record {
+  lost = lost ++ more;
+  bytes = ap (λ bs. before ++ bs) (sym (append_assoc pipe lost more)) ∙ sym (append_assoc before (pipe ++ lost) more);
+  uncut = λ e. absurd (cc);
+}
+bytes_leave before pipe lost more false uncut = record {
+  lost = [];
+  bytes =
+      ap (λ bs. before ++ bs) (append-nil (pipe ++ more)) ∙ sym (append_assoc before pipe more)
+      ∙ ap (λ bs. (before ++ bs) ++ more) (sym (ap (λ bs. pipe ++ bs) (uncut refl) ∙ append-nil pipe));
+  uncut = λ e. refl;
+}
+
+two_parts : (xs : List ℕ) (m n : ℕ) → take m xs ++ take n (drop m xs) ≡ take (m + n) xs
+two_parts xs m n =
+    ap (λ ys. ys ++ take n (drop m xs)) (sym (take-take m (m + n) xs (omega arith)))
+    ∙ ap (λ ys. take m (take (m + n) xs) ++ ys) (sym (drop-take m n xs))
+    ∙ take-append-drop m (take (m + n) xs)
+
+-- a part of the first frame is reported by then
+part_leaves : (fs : List Queued) (m n : ℕ) → m + n < length (first_open fs 0) → take m (written_all fs) ++ take n (first_open fs m) ≡ take (m + n) (written_all fs)
+part_leaves [] m n lt = absurd (omega (arith, lt))
+part_leaves (f ∷ fs) m n lt =
+    ap (λ bs. bs ++ take n (drop m (written f.message))) (begun_part f fs m (omega (arith, lt)))
+    ∙ two_parts (written f.message) m n
+    ∙ sym (begun_part f fs (m + n) (omega (arith, lt)))
+
+-- all of it is, or there is none
+all_leaves : (fs : List Queued) (m n : ℕ) → IsWithin fs m → length (first_open fs 0) ≤ m + n → take m (written_all fs) ++ take n (first_open fs m) ≡ written_all (take 1 fs)
+all_leaves [] m n none le = ap (λ bs. bs ++ take n []) (take_all m [] (omega arith)) ∙ take_all n [] (omega arith)
+all_leaves (f ∷ fs) m n within le =
+    let w = written f.message in
+    ap (λ bs. bs ++ take n (drop m w)) (begun_part f fs m (omega (arith, within)))
+    ∙ ap (λ bs. take m w ++ bs) (take_all n (drop m w) (omega (arith, length-drop m w, le)))
+    ∙ take-append-drop m w
+    ∙ sym (append-nil w)
+
+carried_part : (held : Held) (pipe : List ℕ) (cut : Bool) (q : Queue) (transit queued : List Flying) (n : ℕ) → n ≤ length (open_part q) → q.reported + n < length (first_open q.frames 0) → AreInFlight held pipe cut q transit queued
+    → AreInFlight held (carried cut pipe n q) cut (after_report (with_lent q n) n) transit queued
+carried_part held pipe cut q transit queued n le lt f =
+    let p : Queue = after_report (with_lent q n) n in
+    let is : p ≡ record { frames = q.frames; reported = q.reported + n; lent = 0; begun = (with_lent q n).begun } = report_of_a_part (with_lent q n) n lt in
+    let go = bytes_leave f.before pipe f.lost (take n (open_part q)) cut f.uncut in
+    record {
+      valid = after_report_is_queue (with_lent q n) n (with_lent_is_queue q n f.valid le) (omega arith);
+      same = f.same ∙ sym (ap Queue.frames is);
+      sound = f.sound;
+      before = f.before;
+      holds = f.holds;
+      lost = go.lost;
+      bytes =
+          go.bytes ∙ ap (λ bs. bs ++ take n (open_part q)) f.bytes
+          ∙ append_assoc (written_all (frames_of transit)) (take q.reported (written_all q.frames)) (take n (open_part q))
+          ∙ ap (λ bs. written_all (frames_of transit) ++ bs) (part_leaves q.frames q.reported n lt ∙ sym (ap (λ (r : Queue). take r.reported (written_all r.frames)) is));
+      uncut = go.uncut;
+    }
+
+one_more_written : (transit queued : List Flying) → written_all (frames_of (transit ++ take 1 queued)) ≡ written_all (frames_of transit) ++ written_all (take 1 (frames_of queued))
+one_more_written transit queued =
+    ap written_all (map-append Flying.frame transit (take 1 queued)) ∙ flat_map-append (λ (f : Queued). written f.message) (frames_of transit) (frames_of (take 1 queued))
+    ∙ ap (λ fs. written_all (frames_of transit) ++ written_all fs) (sym (take-map Flying.frame 1 queued))
+
+carried_all : (held : Held) (pipe : List ℕ) (cut : Bool) (q : Queue) (transit queued : List Flying) (n : ℕ) → n ≤ length (open_part q) → length (first_open q.frames 0) ≤ q.reported + n → AreInFlight held pipe cut q transit queued
+    → AreInFlight held (carried cut pipe n q) cut (after_report (with_lent q n) n) (transit ++ take 1 queued) (drop 1 queued)
+carried_all held pipe cut q transit queued n le whole f =
+    let p : Queue = after_report (with_lent q n) n in
+    let is : p ≡ record { frames = drop 1 q.frames; reported = 0; lent = 0; begun = false } = report_of_all (with_lent q n) n whole in
+    let go = bytes_leave f.before pipe f.lost (take n (open_part q)) cut f.uncut in
+    record {
+      valid = after_report_is_queue (with_lent q n) n (with_lent_is_queue q n f.valid le) (omega arith);
+      same = sym (drop-map Flying.frame 1 queued) ∙ ap (drop 1) f.same ∙ sym (ap Queue.frames is);
+      sound = subst AreSound (sym (append_assoc transit (take 1 queued) (drop 1 queued) ∙ ap (λ xs. transit ++ xs) (take-append-drop 1 queued))) f.sound;
+      before = f.before;
+      holds = f.holds;
+      lost = go.lost;
+      bytes =
+          go.bytes ∙ ap (λ bs. bs ++ take n (open_part q)) f.bytes
+          ∙ append_assoc (written_all (frames_of transit)) (take q.reported (written_all q.frames)) (take n (open_part q))
+          ∙ ap (λ bs. written_all (frames_of transit) ++ bs) (all_leaves q.frames q.reported n f.valid.within whole ∙ ap (λ fs. written_all (take 1 fs)) (sym f.same))
+          ∙ sym (one_more_written transit queued)
+          ∙ sym (append-nil (written_all (frames_of (transit ++ take 1 queued))))
+          ∙ ap (λ bs. written_all (frames_of (transit ++ take 1 queued)) ++ bs) (sym (ap (λ (r : Queue). take r.reported (written_all r.frames)) is));
+      uncut = go.uncut;
+    }
+
+pub carried_in_flight : (held : Held) (pipe : List ℕ) (cut : Bool) (q : Queue) (transit queued : List Flying) (n : ℕ) → n ≤ length (open_part q) → AreInFlight held pipe cut q transit queued
+    → (t : List Flying) × (r : List Flying) × (t ++ r ≡ transit ++ queued) × AreInFlight held (carried cut pipe n q) cut (after_report (with_lent q n) n) t r
+carried_in_flight held pipe cut q transit queued n le f = elim (cases_lt (q.reported + n) (length (first_open q.frames 0))) [
+  | inl part ↦ (transit, queued, refl, carried_part held pipe cut q transit queued n le part f)
+  | inr whole ↦ (
+    transit ++ take 1 queued,
+    drop 1 queued,
+    append_assoc transit (take 1 queued) (drop 1 queued) ∙ ap (λ xs. transit ++ xs) (take-append-drop 1 queued),
+    carried_all held pipe cut q transit queued n le whole f,
+  )
+]
+
+-- ---- a request is thrown away
+
+frames_first_gone : (b : Bool) (x : Flying) (xs left : List Flying) → frames_of (cond b xs (x ∷ left)) ≡ cond b (frames_of xs) (x.frame ∷ frames_of left)
+frames_first_gone true x xs left = refl
+frames_first_gone false x xs left = refl
+
+frames_flying_without : (owner : ℕ) (xs : List Flying) → frames_of (flying_without owner xs) ≡ frames_without owner (frames_of xs)
+frames_flying_without owner [] = refl
+frames_flying_without owner (x ∷ xs) =
+    frames_first_gone (is_request_of owner x.frame) x xs (flying_without owner xs)
+    ∙ ap (λ fs. cond (is_request_of owner x.frame) (frames_of xs) (x.frame ∷ fs)) (frames_flying_without owner xs)
+
+frames_others : (owner n : ℕ) (xs : List Flying) → frames_of (others_flying_without owner n xs) ≡ others_without owner n (frames_of xs)
+frames_others owner n xs =
+    map-append Flying.frame (take n xs) (flying_without owner (drop n xs))
+    ∙ ap (λ fs. fs ++ frames_of (flying_without owner (drop n xs))) (sym (take-map Flying.frame n xs))
+    ∙ ap (λ fs. take n (frames_of xs) ++ fs) (frames_flying_without owner (drop n xs) ∙ ap (frames_without owner) (sym (drop-map Flying.frame n xs)))
+
+-- Of the first frame a byte was reported only where it has begun, and then it stays.
+begun_stays : (b : Bool) (owner : ℕ) (fs : List Queued) (m : ℕ) → IsWithin fs m → (b ≡ false → m ≡ 0) → take m (written_all (others_without owner (cond b 1 0) fs)) ≡ take m (written_all fs)
+begun_stays false owner fs m within fresh =
+    ap (λ k. take k (written_all (frames_without owner fs))) (fresh refl) ∙ sym (ap (λ k. take k (written_all fs)) (fresh refl))
+begun_stays true owner [] m within fresh = refl
+begun_stays true owner (f ∷ fs) m within fresh = begun_part f (frames_without owner fs) m (omega (arith, within)) ∙ sym (begun_part f fs m (omega (arith, within)))
+
+pub thrown_in_flight : (held : Held) (pipe : List ℕ) (cut : Bool) (q : Queue) (transit queued : List Flying) (owner : ℕ) → AreInFlight held pipe cut q transit queued
+    → AreInFlight held pipe cut (without q owner) transit (others_flying_without owner (begun_count q) queued)
+thrown_in_flight held pipe cut q transit queued owner f = record {
+  valid = without_is_queue q owner f.valid;
+  same = frames_others owner (begun_count q) queued ∙ ap (others_without owner (begun_count q)) f.same;
+  sound = all_thrown (λ (x : Flying). IsSound x.frame) owner (begun_count q) transit queued f.sound;
+  before = f.before;
+  holds = f.holds;
+  lost = f.lost;
+  bytes = f.bytes ∙ ap (λ bs. written_all (frames_of transit) ++ bs) (sym (begun_stays q.begun owner q.frames q.reported f.valid.within (λ e. (f.valid.fresh e).0)));
+  uncut = f.uncut;
+}
+
+-- ---- a pipe is cut
+
+pub cut_in_flight : (held : Held) (pipe : List ℕ) (cut : Bool) (q : Queue) (transit queued : List Flying) (keep : ℕ) → AreInFlight held pipe cut q transit queued
+    → AreInFlight held (take keep pipe) true q transit queued
+cut_in_flight held pipe cut q transit queued keep f = record {
+  valid = f.valid;
+  same = f.same;
+  sound = f.sound;
+  before = f.before;
+  holds = f.holds;
+  lost = drop keep pipe ++ f.lost;
+  bytes = ap (λ bs. f.before ++ bs) (sym (append_assoc (take keep pipe) (drop keep pipe) f.lost) ∙ ap (λ bs. bs ++ f.lost) (take-append-drop keep pipe)) ∙ f.bytes;
+  uncut = λ e. absurd (cc);
+}
+
+-- ---- bytes come in
+
+-- a written form is a frame
+written_is_frame : (x : Flying) → IsSound x.frame → IsFrame (arrived x) (written x.frame.message)
+written_is_frame x sound = (
+  record {
+    ten = header_bytes x.frame.message.header;
+    size = refl;
+    header = headers.reads_back x.frame.message.header sound.fits;
+    stated = sym sound.stated;
+    all = written_is x.frame.message;
+  },
+  omega (arith, sound.stated, sound.short),
+)
+
+first_same : (i j : Incoming) (is js : List Incoming) → i ∷ is ≡ j ∷ js → i ≡ j
+first_same i j is js e = cc
+
+-- a frame at the front of a written form is the frame in flight, and what stands behind is the same
+first_arrives : (i : Incoming) (x : Flying) (front back more : List ℕ) → IsSound x.frame → IsFrame i front → front ++ back ≡ written x.frame.message ++ more → (i ≡ arrived x) × (back ≡ more)
+first_arrives i x front back more sound is_frame e =
+    let w = written x.frame.message in
+    let bs = is_frames back in
+    let cs = is_frames more in
+    let one = one_list (w ++ more) (i ∷ bs.0) (arrived x ∷ cs.0) bs.1 cs.1 (front, back, sym e, is_frame, bs.2) bs.3 (w, more, refl, written_is_frame x sound, cs.2) cs.3 in
+    let same : i ≡ arrived x = first_same i (arrived x) bs.0 cs.0 one.0 in
+    let whole = subst (λ j. IsFrame j front) same is_frame in
+    let size : length w ≡ length front = omega (arith, length-written x.frame.message, ap length whole.0.all, length-append whole.0.ten x.frame.message.payload, whole.0.size) in
+    (same, sym (drop_at front back (length front) refl) ∙ ap (drop (length front)) e ∙ drop_at w more (length front) size)
+
+-- the reported part of the first queued frame holds no whole frame
+front_is_rest : (x : Flying) (n : ℕ) → IsSound x.frame → n < length (written x.frame.message) → IsRest (take n (written x.frame.message))
+front_is_rest x n sound lt long =
+    let h = x.frame.message.header in
+    let payload = x.frame.message.payload in
+    let size : length (take n (written x.frame.message)) ≡ n = length-take-le n (written x.frame.message) (omega (arith, lt)) in
+    let split : n ≡ length (header_bytes h) + (n - 10) = omega (arith, long, size) in
+    let shown : take n (written x.frame.message) ≡ header_bytes h ++ take (n - 10) payload =
+    ap (take n) (written_is x.frame.message) ∙ ap (λ k. take k (header_bytes h ++ payload)) split ∙ take-append-add (header_bytes h) payload (n - 10) in
+    let stated : (header_of (take n (written x.frame.message))).length ≡ h.length =
+    ap (λ bs. (header_of bs).length) shown ∙ ap MessageHeader.length (header_front (header_bytes h) (take (n - 10) payload) refl ∙ headers.reads_back h sound.fits) in
+    omega (arith, size, stated, lt, length-written x.frame.message, sound.stated)
+
+begun_is_rest : (queued : List Flying) (n : ℕ) → AreSound queued → IsWithin (frames_of queued) n → IsRest (take n (written_all (frames_of queued)))
+begun_is_rest [] n sound none = subst IsRest (sym (take_all n [] (omega arith))) (λ long. absurd (omega (arith, long)))
+begun_is_rest (x ∷ xs) n sound within = subst IsRest (sym (begun_part x.frame (frames_of xs) n (omega (arith, within)))) (front_is_rest x n sound.0 within)
+
+no_frame : (i : Incoming) (front back begun : List ℕ) → IsRest begun → IsFrame i front → front ++ back ≡ begun → ⊥
+no_frame i front back begun rest is_frame e =
+    let bs = is_frames back in
+    let one = one_list begun [] (i ∷ bs.0) begun bs.1 refl rest (front, back, sym e, is_frame, bs.2) bs.3 in
+    cc
+
+-- the frames are a front of those in transit, and the bytes behind them are those of the others
+abbrev TakesFront : List Incoming → List Flying → List ℕ → List ℕ → Type 0
+TakesFront incoming transit left begun = (front : List Flying) × (rest : List Flying) × (transit ≡ front ++ rest) × (incoming ≡ map arrived front) × (left ≡ written_all (frames_of rest) ++ begun)
+
+come_in : (incoming : List Incoming) (transit : List Flying) (bytes left more begun : List ℕ) → AreSound transit → IsRest begun → Frames bytes incoming left → bytes ++ more ≡ written_all (frames_of transit) ++ begun
+    → TakesFront incoming transit (left ++ more) begun
+come_in [] transit bytes left more begun sound rest are e = ([], transit, refl, refl, ap (λ bs. bs ++ more) (sym are) ∙ e)
+come_in (i ∷ is) [] bytes left more begun sound rest are e =
+    absurd (no_frame i are.0 (are.1 ++ more) begun rest are.3 (sym (append_assoc are.0 are.1 more) ∙ ap (λ bs. bs ++ more) (sym are.2) ∙ e))
+come_in (i ∷ is) (x ∷ xs) bytes left more begun sound rest are e =
+    let others = written_all (frames_of xs) in
+    let joined : are.0 ++ (are.1 ++ more) ≡ written x.frame.message ++ (others ++ begun) =
+    sym (append_assoc are.0 are.1 more) ∙ ap (λ bs. bs ++ more) (sym are.2) ∙ e ∙ append_assoc (written x.frame.message) others begun in
+    let first = first_arrives i x are.0 (are.1 ++ more) (others ++ begun) sound.0 are.3 joined in
+    let later = come_in is xs are.1 left more begun sound.1 rest are.4 first.1 in (
+      x ∷ later.0,
+      later.1,
+      ap (λ ys. x ∷ ys) later.2,
+      ap (λ j. j ∷ is) first.0 ∙ ap (λ js. arrived x ∷ js) later.3,
+      later.4,
+    )
+
+pub fed_in_flight : (held : Held) (pipe : List ℕ) (cut : Bool) (q : Queue) (transit queued : List Flying) (taken later : List ℕ) (incoming : List Incoming) (new : Held) → pipe ≡ taken ++ later → Fed held taken incoming new → AreInFlight held pipe cut q transit queued
+    → (front : List Flying) × (rest : List Flying) × (transit ≡ front ++ rest) × (incoming ≡ map arrived front) × AreInFlight new later cut q rest queued
+fed_in_flight held pipe cut q transit queued taken later incoming new split fed f =
+    let after = fed f.before f.holds in
+    let begun = take q.reported (written_all q.frames) in
+    let joined : (f.before ++ taken) ++ (later ++ f.lost) ≡ written_all (frames_of transit) ++ begun =
+    append_assoc f.before taken (later ++ f.lost)
+    ∙ ap (λ bs. f.before ++ bs) (sym (append_assoc taken later f.lost) ∙ ap (λ bs. bs ++ f.lost) (sym split))
+    ∙ f.bytes in
+    let sound_queued : AreSound queued = all_behind (λ (x : Flying). IsSound x.frame) transit queued f.sound in
+    let rest : IsRest begun = subst (λ fs. IsRest (take q.reported (written_all fs))) f.same (begun_is_rest queued q.reported sound_queued (subst (λ fs. IsWithin fs q.reported) (sym f.same) f.valid.within)) in
+    let sound_transit : AreSound transit = all_in_front (λ (x : Flying). IsSound x.frame) transit queued f.sound in
+    let come = come_in incoming transit (f.before ++ taken) after.0 (later ++ f.lost) begun sound_transit rest after.1 joined in (
+      come.0,
+      come.1,
+      come.2,
+      come.3,
+      record {
+        valid = f.valid;
+        same = f.same;
+        sound = all_joined (λ (x : Flying). IsSound x.frame) come.1 queued (all_behind (λ (x : Flying). IsSound x.frame) come.0 come.1 (subst AreSound come.2 sound_transit)) sound_queued;
+        before = after.0;
+        holds = after.2;
+        lost = f.lost;
+        bytes = come.4;
+        uncut = f.uncut;
+      },
+    )
+
+-- ---- nothing more is to come
+
+no_frames : (xs : List Flying) → frames_of xs ≡ [] → xs ≡ []
+no_frames [] e = refl
+no_frames (x ∷ xs) e = absurd (cc)
+
+none_written : (xs : List Flying) → written_all (frames_of xs) ≡ [] → xs ≡ []
+none_written [] e = refl
+none_written (x ∷ xs) e = absurd (omega (arith, ap length e, length-append (written x.frame.message) (written_all (frames_of xs)), length-written x.frame.message))
+
+pub all_has_come : (held : Held) (pipe : List ℕ) (cut : Bool) (q : Queue) (transit queued : List Flying) → pipe ≡ [] → cut ≡ false → held ≡ nothing → q.frames ≡ [] → AreInFlight held pipe cut q transit queued
+    → (transit ≡ []) × (queued ≡ [])
+all_has_come held pipe cut q transit queued empty whole boundary none f =
+    let nothing_before : f.before ≡ [] = exact [] f.before (subst (λ h. Holds h f.before) boundary f.holds) in
+    let begun : take q.reported (written_all q.frames) ≡ [] = ap (λ fs. take q.reported (written_all fs)) none ∙ take_all q.reported [] (omega arith) in
+    let nothing_left : f.before ++ (pipe ++ f.lost) ≡ [] = ap (λ bs. bs ++ (pipe ++ f.lost)) nothing_before ∙ ap (λ bs. bs ++ f.lost) empty ∙ f.uncut whole in
+    let w = written_all (frames_of transit) in
+    (none_written transit (sym (append-nil w) ∙ ap (λ bs. w ++ bs) (sym begun) ∙ sym f.bytes ∙ nothing_left), no_frames queued (f.same ∙ none))

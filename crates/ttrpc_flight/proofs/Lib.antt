@@ -1,0 +1,4 @@
+pub mod Losing
+pub mod Parcels
+pub mod Bytes
+pub mod Seals

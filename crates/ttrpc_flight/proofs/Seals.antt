@@ -1,0 +1,58 @@
+-- The seals in flight: a chain from a state that is paired with the half that will open them. No bytes of a stream, no
+-- queue.
+use Rattle.std.proofs.Common.{◌≡◌, inl, inr, ℕ, suc, List, [], ◌∷◌, ◌++◌, refl, sym, ap, subst}
+use Rattle.ttrpc_secure.specs.Halves.{Moves, Refusals, IsPaired}
+use Rattle.ttrpc_secure.specs.Sends.{associated}
+use Rattle.ttrpc_core.specs.Happens.{Halves, Opens}
+use Rattle.ttrpc_core.specs.Table.{Opening, Unasked, Opened, Refused}
+use Rattle.ttrpc_flight.specs.Flight.{Flying, AreLinked, Chain, arrived, others_flying_without}
+use Rattle.ttrpc_flight.proofs.Losing.{LosesOne, loses_behind, throw_takes_one}
+
+pub none_linked : {O I : Type 0} (seals : Moves O) (opens : Moves I) (refuses : Refusals I) (s : O) (t : I) → IsPaired seals opens refuses s t → AreLinked seals opens refuses [] s t
+none_linked seals opens refuses s t paired = record { start = s; paired = paired; chain = refl }
+
+-- ---- one more is sealed
+
+chain_more : {O : Type 0} (seals : Moves O) (s : O) (xs : List Flying) (t : O) (x : Flying) (u : O) → Chain seals s xs t → seals t x.plain (associated x.frame.message.header) x.frame.message.payload u → Chain seals s (xs ++ x ∷ []) u
+chain_more seals s [] t x u c sealed = (u, subst (λ r. seals r x.plain (associated x.frame.message.header) x.frame.message.payload u) c sealed, refl)
+chain_more seals s (y ∷ xs) t x u c sealed = (c.0, c.1, chain_more seals c.0 xs t x u c.2 sealed)
+
+pub more_linked : {O I : Type 0} (seals : Moves O) (opens : Moves I) (refuses : Refusals I) (xs : List Flying) (out : O) (in_ : I) (x : Flying) (u : O) → AreLinked seals opens refuses xs out in_
+    → seals out x.plain (associated x.frame.message.header) x.frame.message.payload u → AreLinked seals opens refuses (xs ++ x ∷ []) u in_
+more_linked seals opens refuses xs out in_ x u l sealed = record { start = l.start; paired = l.paired; chain = chain_more seals l.start xs out x u l.chain sealed }
+
+-- ---- the first is opened
+
+pub first_opened : {O A I : Type 0} (seals : Moves O) (h : Halves A I) (x : Flying) (xs : List Flying) (out : O) (in_ : I) (opening : Opening) (later : I) → AreLinked seals h.opens h.refuses_opening (x ∷ xs) out in_
+    → Opens h in_ (arrived x) opening later → (opening ≡ Opened x.plain) × AreLinked seals h.opens h.refuses_opening xs out later
+first_opened seals h x xs out in_ Unasked later l opens = absurd opens
+first_opened seals h x xs out in_ (Refused why) later l opens = absurd ((l.paired 1 x.plain (associated x.frame.message.header) x.frame.message.payload l.chain.0 l.chain.1).0 opens.0)
+first_opened seals h x xs out in_ (Opened plain) later l opens = (
+  ap Opened ((l.paired 1 x.plain (associated x.frame.message.header) x.frame.message.payload l.chain.0 l.chain.1).1 plain later opens).0,
+  record {
+    start = l.chain.0;
+    paired = λ n. ((l.paired (suc n) x.plain (associated x.frame.message.header) x.frame.message.payload l.chain.0 l.chain.1).1 plain later opens).1;
+    chain = l.chain.2;
+  },
+)
+
+-- ---- one is thrown away that didn't change the half
+
+module _ {O : Type 0} (seals : Moves O) (still : (s t : O) (plain aad sealed : List ℕ) → seals s plain aad sealed t → t ≡ s) where
+  chain_without : (s : O) (front : List Flying) (x : Flying) (back : List Flying) (t : O) → Chain seals s (front ++ x ∷ back) t → Chain seals s (front ++ back) t
+  chain_without s [] x back t c = subst (λ r. Chain seals r back t) (still s c.0 x.plain (associated x.frame.message.header) x.frame.message.payload c.1) c.2
+  chain_without s (y ∷ front) x back t c = (c.0, c.1, chain_without c.0 front x back t c.2)
+
+  chain_left : (s : O) (owner : ℕ) (all left : List Flying) (t : O) → LosesOne owner all left → Chain seals s all t → Chain seals s left t
+  chain_left s owner all left t h c = subst (λ xs. Chain seals s xs t) (sym h.is) (chain_without s h.front h.gone h.back t (subst (λ xs. Chain seals s xs t) h.was c))
+
+  pub thrown_linked : {I : Type 0} (opens : Moves I) (refuses : Refusals I) (transit queued : List Flying) (out : O) (in_ : I) (owner n : ℕ) → AreLinked seals opens refuses (transit ++ queued) out in_
+      → AreLinked seals opens refuses (transit ++ others_flying_without owner n queued) out in_
+  thrown_linked opens refuses transit queued out in_ owner n l = record {
+    start = l.start;
+    paired = l.paired;
+    chain = elim (throw_takes_one owner n queued) [
+      | inl same ↦ subst (λ xs. Chain seals l.start (transit ++ xs) out) (sym same) l.chain
+      | inr one ↦ chain_left l.start owner (transit ++ queued) (transit ++ others_flying_without owner n queued) out (loses_behind owner transit queued (others_flying_without owner n queued) one) l.chain
+    ];
+  }

@@ -1,0 +1,89 @@
+-- Frames in flight from one core to another: as bytes in a pipe, as seals that are still to be opened, and as what there
+-- is of one stream.
+use Rattle.std.specs.Prelude.{◌≡◌, ◌≤◌, ℕ, Bool, false, true, if◌then◌else◌, nat_eq, List, [], ◌∷◌, ◌++◌, length, map, take, drop}
+use Rattle.std.specs.List.{AllByRecursion, filter}
+use Rattle.ttrpc_proto.specs.declared.header.TheConstants.{MESSAGE_LENGTH_MAX}
+use Rattle.ttrpc_proto.specs.Header.{Fits}
+use Rattle.ttrpc_frame.specs.declared.frame.Incoming.{Incoming}
+use Rattle.ttrpc_frame.specs.declared.frame.Incoming.TheVariants.{Frame}
+use Rattle.ttrpc_frame.specs.declared.outgoing.Queued.{Queued}
+use Rattle.ttrpc_frame.specs.Frames.{Held, Holds}
+use Rattle.ttrpc_frame.specs.Queue.{Queue, IsQueue, is_request_of, open_part, written_all}
+use Rattle.ttrpc_secure.specs.Halves.{Moves, Refusals, IsPaired}
+use Rattle.ttrpc_secure.specs.Sends.{associated}
+
+-- A frame in flight: as it was queued, sealed, and the data that were sealed. It is in flight from when it is queued
+-- until the other core has it whole, or it is thrown away.
+pub record Flying : Type 0 where
+  pub frame : Queued
+  pub plain : List ℕ
+
+abbrev pub frames_of : List Flying → List Queued
+frames_of flights = map Flying.frame flights
+
+-- what comes in as it
+abbrev pub arrived : Flying → Incoming
+arrived x = Frame x.frame.message
+
+-- ---- the bytes
+
+-- a frame that reads back from its written form
+pub record IsSound (f : Queued) : Type 0 where
+  pub fits : Fits f.message.header
+  pub stated : f.message.header.length ≡ length f.message.payload
+  pub short : length f.message.payload ≤ MESSAGE_LENGTH_MAX
+
+abbrev pub AreSound : List Flying → Type 0
+AreSound flights = AllByRecursion (λ (x : Flying). IsSound x.frame) flights
+
+-- what is in a pipe after n more bytes of the first frame left; a pipe that was cut loses them
+abbrev pub carried : Bool → List ℕ → ℕ → Queue → List ℕ
+carried cut pipe n q = if cut then pipe else pipe ++ take n (open_part q)
+
+-- THE BYTES IN FLIGHT. What one core holds, what is in the pipe to it and what was lost behind a cut are the written
+-- forms of the frames in transit, which were reported whole and aren't yet taken by that core, and as many bytes of the
+-- other core's first queued frame as were reported.
+pub record AreInFlight (held : Held) (pipe : List ℕ) (cut : Bool) (q : Queue) (transit queued : List Flying) : Type 0 where
+  pub valid : IsQueue q
+  pub same : frames_of queued ≡ q.frames
+  pub sound : AreSound (transit ++ queued)
+  pub before : List ℕ
+  pub holds : Holds held before
+  pub lost : List ℕ
+  pub bytes : before ++ (pipe ++ lost) ≡ written_all (frames_of transit) ++ take q.reported (written_all q.frames)
+  pub uncut : cut ≡ false → lost ≡ []
+
+-- ---- what is thrown away
+
+-- the flights without the first unary request of this owner, if there is one
+abbrev pub flying_without : ℕ → List Flying → List Flying
+flying_without owner [] = []
+flying_without owner (x ∷ xs) = if is_request_of owner x.frame then xs else x ∷ flying_without owner xs
+
+-- the flights without the first unary request of this owner behind the first n
+abbrev pub others_flying_without : ℕ → ℕ → List Flying → List Flying
+others_flying_without owner n flights = take n flights ++ flying_without owner (drop n flights)
+
+-- ---- the seals
+
+-- From s on the flights were sealed, one after the other, up to t.
+abbrev pub Chain : {O : Type 0} → Moves O → O → List Flying → O → Type 0
+Chain seals s [] t = t ≡ s
+Chain seals s (x ∷ xs) t = (mid : _) × seals s x.plain (associated x.frame.message.header) x.frame.message.payload mid × Chain seals mid xs t
+
+-- THE SEALS IN FLIGHT. The outbound half has come to where it is by sealing the flights, from a state on that is paired
+-- with the other core's inbound half.
+pub record AreLinked {O I : Type 0} (seals : Moves O) (opens : Moves I) (refuses : Refusals I) (flights : List Flying) (out : O) (in_ : I) : Type 0 where
+  pub start : O
+  pub paired : IsPaired seals opens refuses start in_
+  pub chain : Chain seals start flights out
+
+-- ---- one stream
+
+-- the flights of one stream id
+abbrev pub parcels : ℕ → List Flying → List Flying
+parcels k flights = filter (λ (x : Flying). nat_eq x.frame.message.header.stream_id k) flights
+
+-- a unary request that its own stream id owns
+abbrev pub IsOwnRequest : Flying → Type 0
+IsOwnRequest x = (x.frame.is_unary_request ≡ true) × (x.frame.owner ≡ x.frame.message.header.stream_id)

@@ -1,0 +1,77 @@
+//! Laws over the definitions: what becomes of the frames in flight from one core to another at each thing that may
+//! happen to the queue of the one, to the pipe, and to what the other holds.
+ghost use Rattle.std.specs.Prelude.{◌≡◌, ◌≢◌, ◌⊎◌, ◌≤◌, ◌++◌, ◌∷◌, [], ℕ, Bool, false, true, List, length, map, take};
+ghost use Rattle.std.specs.List.{AllByRecursion};
+ghost use Rattle.ttrpc_frame.specs.declared.frame.Incoming.{Incoming as AnIncoming};
+ghost use Rattle.ttrpc_frame.specs.Frames.{Held, Fed, nothing};
+ghost use Rattle.ttrpc_frame.specs.Queue.{Queue, after_report, begun_count, empty_queue, open_part, with_frame, with_lent, without};
+ghost use Rattle.ttrpc_secure.specs.Halves.{IsPaired};
+ghost use Rattle.ttrpc_secure.specs.Sends.{associated};
+ghost use Rattle.ttrpc_core.specs.Happens.{halves_of, Opens};
+ghost use Rattle.ttrpc_core.specs.Table.{Opening, Opened};
+ghost use Rattle.ttrpc_flight.specs.Flight.{Flying, AreInFlight, AreLinked, IsOwnRequest, IsSound, arrived, carried, others_flying_without, parcels};
+
+use ttrpc_secure::{InboundTransform, OutboundTransform};
+
+/// Frames that read back come in as they were queued, in order, each once and whole. A frame that is queued is behind the
+/// others in flight; bytes that leave, into a pipe or behind its cut, change no frame and no order; of a request that is
+/// thrown away no byte was reported; and the frames that a core takes are the first of those in transit, whatever the
+/// pieces. Where nothing was cut off, and no byte is held or in the pipe and no frame queued, nothing is in flight.
+pub fn frames_arrive_as_they_were_queued()
+    ensures none { AreInFlight nothing [] false empty_queue [] [] }
+    ensures placed { (held : Held) (pipe : List ℕ) (cut : Bool) (q : Queue) (transit queued : List Flying) (x : Flying)
+        → IsSound x.frame → AreInFlight held pipe cut q transit queued
+        → AreInFlight held pipe cut (with_frame q x.frame) transit (queued ++ x ∷ []) }
+    ensures carried { (held : Held) (pipe : List ℕ) (cut : Bool) (q : Queue) (transit queued : List Flying) (n : ℕ)
+        → n ≤ length (open_part q) → AreInFlight held pipe cut q transit queued
+        → (t : List Flying) × (r : List Flying) × (t ++ r ≡ transit ++ queued)
+        × AreInFlight held (carried cut pipe n q) cut (after_report (with_lent q n) n) t r }
+    ensures thrown { (held : Held) (pipe : List ℕ) (cut : Bool) (q : Queue) (transit queued : List Flying) (owner : ℕ)
+        → AreInFlight held pipe cut q transit queued
+        → AreInFlight held pipe cut (without q owner) transit (others_flying_without owner (begun_count q) queued) }
+    ensures cut { (held : Held) (pipe : List ℕ) (cut : Bool) (q : Queue) (transit queued : List Flying) (keep : ℕ)
+        → AreInFlight held pipe cut q transit queued → AreInFlight held (take keep pipe) true q transit queued }
+    ensures fed { (held new : Held) (pipe taken later : List ℕ) (cut : Bool) (q : Queue) (transit queued : List Flying)
+        (incoming : List AnIncoming) → pipe ≡ taken ++ later → Fed held taken incoming new
+        → AreInFlight held pipe cut q transit queued
+        → (front : List Flying) × (rest : List Flying) × (transit ≡ front ++ rest)
+        × (incoming ≡ map arrived front) × AreInFlight new later cut q rest queued }
+    ensures all_has_come { (held : Held) (pipe : List ℕ) (cut : Bool) (q : Queue) (transit queued : List Flying)
+        → pipe ≡ [] → cut ≡ false → held ≡ nothing → q.frames ≡ []
+        → AreInFlight held pipe cut q transit queued → (transit ≡ []) × (queued ≡ []) }
+{}
+
+/// What is sealed in the order in which it is queued, and opened in the order in which it comes in, opens to what was
+/// sealed, as long as the two halves were paired. A frame may be thrown away unopened where sealing doesn't change the
+/// half. `A` is the outbound half of the core that opens, and has no part in it.
+pub fn seals_open_as_they_were_made<
+    O: OutboundTransform,
+    I: InboundTransform,
+    A: OutboundTransform,
+>()
+    ensures none { (s : O) (t : I) → IsPaired O.seals I.opens I.refuses s t
+        → AreLinked O.seals I.opens I.refuses [] s t }
+    ensures more { (flights : List Flying) (x : Flying) (out later : O) (in_ : I)
+        → AreLinked O.seals I.opens I.refuses flights out in_
+        → O.seals out x.plain (associated x.frame.message.header) x.frame.message.payload later
+        → AreLinked O.seals I.opens I.refuses (flights ++ x ∷ []) later in_ }
+    ensures opened { (x : Flying) (flights : List Flying) (out : O) (in_ later : I) (opening : Opening)
+        → AreLinked O.seals I.opens I.refuses (x ∷ flights) out in_
+        → Opens (halves_of A.overhead A.seals A.refuses I.opens I.refuses) in_ (arrived x) opening later
+        → (opening ≡ Opened x.plain) × AreLinked O.seals I.opens I.refuses flights out later }
+    ensures thrown { (transit queued : List Flying) (out : O) (in_ : I) (owner n : ℕ) → O.SEALS ≡ false
+        → AreLinked O.seals I.opens I.refuses (transit ++ queued) out in_
+        → AreLinked O.seals I.opens I.refuses (transit ++ others_flying_without owner n queued) out in_ }
+{}
+
+/// A throw takes at most one flight. Where each flight is a request that its own stream id owns, the flights of another
+/// stream stay, and those that are left are such requests; and of a stream with one flight it stays or is gone.
+pub fn a_throw_takes_one_request()
+    ensures elsewhere { (k owner n : ℕ) (queued : List Flying) → k ≢ owner → AllByRecursion IsOwnRequest queued
+        → parcels k (others_flying_without owner n queued) ≡ parcels k queued }
+    ensures one { (k owner n : ℕ) (transit queued : List Flying) → length (parcels k (transit ++ queued)) ≤ 1
+        → (parcels k (transit ++ others_flying_without owner n queued) ≡ parcels k (transit ++ queued))
+        ⊎ (parcels k (transit ++ others_flying_without owner n queued) ≡ []) }
+    ensures own { (owner n : ℕ) (transit queued : List Flying) → AllByRecursion IsOwnRequest (transit ++ queued)
+        → AllByRecursion IsOwnRequest (transit ++ others_flying_without owner n queued) }
+{}

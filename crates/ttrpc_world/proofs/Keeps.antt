@@ -1,0 +1,216 @@
+-- What holds of a client, a server and their pipes after any run, and that each event of the client keeps it.
+use Rattle.std.proofs.Common.{◌≡◌, ℕ, ◌≤◌, List, [], ◌∷◌, ◌++◌, Bool, true, false, if◌then◌else◌, is_some, Option, Some, None, Result, refl, sym, ap, ◌∙◌, subst, inl, inr, arith, append_assoc}
+use Rattle.std.proofs.lemmas.Bool.{cases_eq}
+use Rattle.std.specs.List.{AllByRecursion}
+use Rattle.ttrpc_proto.specs.declared.error.Error.{Error}
+use Rattle.ttrpc_proto.specs.declared.request.Request.{Request}
+use Rattle.ttrpc_proto.specs.declared.response.Response.{Response}
+use Rattle.ttrpc_frame.specs.Frames.{Held}
+use Rattle.ttrpc_frame.specs.Queue.{Queue, without}
+use Rattle.ttrpc_core.specs.Happens.{Halves}
+use Rattle.ttrpc_core.specs.Server.{Core, Server}
+use Rattle.ttrpc_core.specs.Server as server
+use Rattle.ttrpc_client.specs.declared.kind.ClientKind.{ClientKind}
+use Rattle.ttrpc_client.specs.declared.kind.ClientKind.TheVariants.{Sync, Async}
+use Rattle.ttrpc_client.specs.Client.{Client, deadline_of, throws}
+use Rattle.ttrpc_client.specs.Client as client
+use Rattle.ttrpc_client.specs.Happens.{Forgets, Ticks, due_ids, takes_back, without_all}
+use Rattle.ttrpc_client.specs.Turns.{Passes}
+use Rattle.ttrpc_flight.specs.Flight.{Flying, AreInFlight, AreLinked, IsOwnRequest, parcels}
+use Rattle.ttrpc_flight.proofs.Bytes.{placed_in_flight}
+use Rattle.ttrpc_flight.proofs.Losing.{all_joined}
+use Rattle.ttrpc_flight.proofs.Parcels.{parcels-push_other, parcels-push_own}
+use Rattle.ttrpc_flight.proofs.Seals.{more_linked}
+use Rattle.ttrpc_world.specs.declared.events.Event.{Event}
+use Rattle.ttrpc_world.specs.declared.events.Event.TheVariants.{Call as CallEvent, Outcome, DropCall, Tick}
+use Rattle.ttrpc_world.specs.declared.events.Reply.{Reply}
+use Rattle.ttrpc_world.specs.declared.events.Reply.TheVariants.{Named, Outcome as Given, Done}
+use Rattle.ttrpc_world.specs.declared.events.Entry.{Entry}
+use Rattle.ttrpc_world.specs.Pipes.{Pipe}
+use Rattle.ttrpc_world.specs.Net.{Net, with_client}
+use Rattle.ttrpc_world.specs.Steps.{Asks, Calls, Forgot, Ticked}
+use Rattle.ttrpc_world.specs.Story.{Called, act_of, acts}
+use Rattle.ttrpc_world.proofs.Stages.{Story}
+use Rattle.ttrpc_world.proofs.Turns.{asks_here, calls_here, drops_here, elsewhere, expires_here, one_up, thrown_here}
+use Rattle.ttrpc_world.proofs.Payloads.{sends_request}
+use Rattle.ttrpc_world.proofs.Delivers.{AreKnown, Stories}
+use Rattle.ttrpc_world.proofs.Traces.{asked, heard, stories_silent, unasked, unheard, with_entry}
+use Rattle.ttrpc_world.proofs.Throws.{AreSingle, InFlight, Thrown, throw_all, throw_one}
+
+-- THE INVARIANT. In flight are these frames each way, in order: as bytes, as seals, and each as a part of one call. A side
+-- that failed takes no more, so nothing need be said of what is still in flight to it.
+pub record Keeps {CO CI SO SI : Type 0} (c : Halves CO CI) (s : Halves SO SI) (stream_of : ℕ → ℕ) (trace : List Entry) (w : Net CO CI SO SI) : Type 0 where
+  pub up : List Flying
+  pub down : List Flying
+  pub stories : Stories stream_of trace up down w.client.core.next w.server.core.jobs (client.call_at w.client.core)
+  pub known : AreKnown stream_of w.server.core.jobs
+  pub own : AllByRecursion IsOwnRequest up
+  pub up_bytes : w.server.core.failure ≡ None → InFlight w.server.held w.up w.client.core.queue up
+  pub down_bytes : w.client.core.failure ≡ None → InFlight w.client.held w.down w.server.core.queue down
+  pub up_linked : w.server.core.failure ≡ None → AreLinked c.seals s.opens s.refuses_opening up w.client.core.outbound w.server.core.inbound
+  pub down_linked : w.client.core.failure ≡ None → AreLinked s.seals c.opens c.refuses_opening down w.server.core.outbound w.client.core.inbound
+
+-- one more flight is queued
+pub placed : (held : Held) (p : Pipe) (q : Queue) (flights : List Flying) (x : Flying) (r : Queue) → InFlight held p q flights → ((transit queued : List Flying) → AreInFlight held p.bytes p.cut q transit queued → AreInFlight held p.bytes p.cut r transit (queued ++ x ∷ []))
+    → InFlight held p r (flights ++ x ∷ [])
+placed held p q flights x r b go = record {
+  transit = b.transit;
+  queued = b.queued ++ x ∷ [];
+  all = sym (append_assoc b.transit b.queued (x ∷ [])) ∙ ap (λ xs. xs ++ x ∷ []) b.all;
+  bytes = go b.transit b.queued b.bytes;
+}
+
+if_true : (t b : Bool) → (if t then b else false) ≡ true → (t ≡ true) × (b ≡ true)
+if_true true b e = (refl, e)
+if_true false b e = cc
+
+alive_if : {X : Type 0} (failure : Option X) (b : Bool) → (if is_some failure then false else b) ≡ true → (failure ≡ None) × (b ≡ true)
+alive_if None b e = (refl, e)
+alive_if (Some x) b e = cc
+
+-- requests are thrown away only where they aren't sealed
+throws_unsealed : (kind : ClientKind) (seals : Bool) → throws kind seals ≡ true → seals ≡ false
+throws_unsealed Sync seals e = cc
+throws_unsealed Async false e = refl
+throws_unsealed Async true e = cc
+
+chosen_none : {X : Type 0} (b : Bool) (x y : Option X) → (b ≡ true → y ≡ None) → (if b then x else y) ≡ None → y ≡ None
+chosen_none true x y lives e = lives refl
+chosen_none false x y lives e = e
+
+module _ {CO CI SO SI : Type 0} (c : Halves CO CI) (s : Halves SO SI) (seals : Bool) (still : seals ≡ false → (from to : CO) (plain aad sealed : List ℕ) → c.seals from plain aad sealed to → to ≡ from)
+    (stream_of : ℕ → ℕ) (trace : List Entry) where
+  -- nothing happened
+  pub keeps_still : (w : Net CO CI SO SI) (event : Event) (reply : Reply) → ((k : ℕ) → act_of stream_of k event reply ≡ []) → Keeps c s stream_of trace w → Keeps c s stream_of (with_entry trace event reply) w
+  keeps_still w event reply q i = record {
+    up = i.up;
+    down = i.down;
+    stories = stories_silent stream_of trace event reply i.up i.down w.client.core.next w.server.core.jobs (client.call_at w.client.core) q i.stories;
+    known = i.known;
+    own = i.own;
+    up_bytes = i.up_bytes;
+    down_bytes = i.down_bytes;
+    up_linked = i.up_linked;
+    down_linked = i.down_linked;
+  }
+
+  -- A call is accepted.
+  pub keeps_call : (w : Net CO CI SO SI) (request : Request) (id : ℕ) (v : Net CO CI SO SI) → Keeps c s stream_of trace w → Calls c s seals w request id v → Keeps c s stream_of (with_entry trace (CallEvent request) (Named id)) (with_client w v.client)
+  keeps_call w request id v i p =
+      let r = sends_request c w.client request w.moment id v.client p.known p.does in
+      let deadline = deadline_of w.moment request.timeout_nano in
+      record {
+        up = i.up ++ r.x ∷ [];
+        down = i.down;
+        stories = λ k. elim (cases_eq id k) [
+          | inl e ↦
+              subst (λ (n : ℕ). Story (v.client.core.next ≤ n) n (acts stream_of n (with_entry trace (CallEvent request) (Named id))) (parcels n (i.up ++ r.x ∷ [])) (server.jobs_at w.server.core.jobs n) (parcels n i.down) (client.call_at v.client.core n)) e
+              (calls_here (w.client.core.next ≤ id) (v.client.core.next ≤ id) id _ _ _ _ _ _ _ _ request r.x deadline (i.stories id) (omega (arith, p.does.id_is)) (λ y. absurd (let no : ⊥ = omega (arith, y, p.does.next) in no)) r.is_sent
+              (heard stream_of id id trace (CallEvent request) (Named id) (Called request) refl refl) (parcels-push_own id r.x i.up r.is_sent.stream) p.does.own)
+          | inr e ↦ elsewhere (w.client.core.next ≤ k) (v.client.core.next ≤ k) k _ _ _ _ _ _ _ _ _ _ (i.stories k) (λ y. omega (arith, y, p.does.next, p.does.id_is))
+              (unheard stream_of k id trace (CallEvent request) (Named id) (Called request) refl e) (parcels-push_other k r.x i.up (λ same. e (sym r.is_sent.stream ∙ same))) refl refl (p.does.others k (λ same. e (sym same)))
+        ];
+        known = i.known;
+        own = all_joined IsOwnRequest i.up (r.x ∷ []) i.own (r.own, tt);
+        up_bytes = λ alive. placed w.server.held w.up w.client.core.queue i.up r.x v.client.core.queue (i.up_bytes alive)
+            (λ transit queued a. subst (λ (q : Queue). AreInFlight w.server.held w.up.bytes w.up.cut q transit (queued ++ r.x ∷ [])) (sym r.queue) (placed_in_flight w.server.held w.up.bytes w.up.cut w.client.core.queue transit queued r.x r.sound a));
+        down_bytes = λ alive. subst (λ (h : Held). InFlight h w.down w.server.core.queue i.down) (sym p.does.held) (i.down_bytes p.does.alive);
+        up_linked = λ alive. more_linked c.seals s.opens s.refuses_opening i.up w.client.core.outbound w.server.core.inbound r.x v.client.core.outbound (i.up_linked alive) r.seal;
+        down_linked = λ alive. subst (λ (t : CI). AreLinked s.seals c.opens c.refuses_opening i.down w.server.core.outbound t) (sym p.does.inbound) (i.down_linked p.does.alive);
+      }
+
+  abbrev Left : Net CO CI SO SI → Queue → List Flying → Type 0
+  Left w q flights = Thrown c.seals s.opens s.refuses_opening w.server.core.failure w.server.held w.up q w.client.core.outbound w.server.core.inbound flights
+
+  -- the stories of what is left
+  left_stories : (w : Net CO CI SO SI) (q : Queue) (i : Keeps c s stream_of trace w) → (t : Left w q i.up) → Stories stream_of trace t.left i.down w.client.core.next w.server.core.jobs (client.call_at w.client.core)
+  left_stories w q i t = λ k. thrown_here (w.client.core.next ≤ k) k (acts stream_of k trace) (parcels k i.up) (parcels k t.left) (server.jobs_at w.server.core.jobs k) (parcels k i.down) (client.call_at w.client.core k) (i.stories k) (t.parts k)
+
+  -- what is kept of calls changes, requests may be thrown away, and the connection may fail
+  client_changes : (w : Net CO CI SO SI) (event : Event) (reply : Reply) (x : Client CO CI) → (i : Keeps c s stream_of trace w) → x.held ≡ w.client.held → x.core.outbound ≡ w.client.core.outbound → x.core.inbound ≡ w.client.core.inbound
+      → (x.core.failure ≡ None → w.client.core.failure ≡ None) → (t : Left w x.core.queue i.up)
+      → (Stories stream_of trace t.left i.down w.client.core.next w.server.core.jobs (client.call_at w.client.core) → Stories stream_of (with_entry trace event reply) t.left i.down x.core.next w.server.core.jobs (client.call_at x.core))
+      → Keeps c s stream_of (with_entry trace event reply) (with_client w x)
+  client_changes w event reply x i held outbound inbound lives t stories = record {
+    up = t.left;
+    down = i.down;
+    stories = stories (left_stories w x.core.queue i t);
+    known = i.known;
+    own = t.own;
+    up_bytes = t.bytes;
+    down_bytes = λ alive. subst (λ (h : Held). InFlight h w.down w.server.core.queue i.down) (sym held) (i.down_bytes (lives alive));
+    up_linked = λ alive. subst (λ (o : CO). AreLinked c.seals s.opens s.refuses_opening t.left o w.server.core.inbound) (sym outbound) (t.linked alive);
+    down_linked = λ alive. subst (λ (o : CI). AreLinked s.seals c.opens c.refuses_opening i.down w.server.core.outbound o) (sym inbound) (i.down_linked (lives alive));
+  }
+
+  -- nothing is thrown away
+  same_queue : (w : Net CO CI SO SI) (q : Queue) → (i : Keeps c s stream_of trace w) → q ≡ w.client.core.queue → Left w q i.up
+  same_queue w q i same = record {
+    left = i.up;
+    parts = λ k. inl refl;
+    own = i.own;
+    bytes = λ alive. subst (λ (r : Queue). InFlight w.server.held w.up r i.up) (sym same) (i.up_bytes alive);
+    linked = i.up_linked;
+  }
+
+  single : (w : Net CO CI SO SI) → (i : Keeps c s stream_of trace w) → AreSingle i.up
+  single w i = λ k. one_up (w.client.core.next ≤ k) k (acts stream_of k trace) (parcels k i.up) (server.jobs_at w.server.core.jobs k) (parcels k i.down) (client.call_at w.client.core k) (i.stories k)
+
+  -- An outcome is asked for.
+  pub keeps_ask : (w : Net CO CI SO SI) (id : ℕ) (given : Option (Result Response Error)) (v : Net CO CI SO SI) → Keeps c s stream_of trace w → Asks c s seals w id given v → Keeps c s stream_of (with_entry trace (Outcome id) (Given given)) (with_client w v.client)
+  unfolding same_queue
+  keeps_ask w id given v i p =
+      client_changes w (Outcome id) (Given given) v.client i p.does.same.held p.does.same.outbound p.does.same.inbound (λ alive. sym p.does.same.failure ∙ alive) (same_queue w v.client.core.queue i p.does.same.queue)
+      (λ stories k. elim (cases_eq id k) [
+        | inl e ↦
+            subst (λ (n : ℕ). Story (v.client.core.next ≤ n) n (acts stream_of n (with_entry trace (Outcome id) (Given given))) (parcels n i.up) (server.jobs_at w.server.core.jobs n) (parcels n i.down) (client.call_at v.client.core n)) e
+            (asks_here (w.client.core.next ≤ id) (v.client.core.next ≤ id) id _ _ _ _ _ w.client.core.failure _ _ given (stories id) (λ y. omega (arith, y, p.does.same.next)) p.does.gives p.does.own (asked stream_of id id trace given refl))
+        | inr e ↦ elsewhere (w.client.core.next ≤ k) (v.client.core.next ≤ k) k _ _ _ _ _ _ _ _ _ _ (stories k) (λ y. omega (arith, y, p.does.same.next)) (unasked stream_of k id trace given e) refl refl refl (p.does.others k (λ same. e (sym same)))
+      ])
+
+  -- A call is forgotten.
+  drop_throws : (w : Net CO CI SO SI) (id : ℕ) (b : Bool) → (i : Keeps c s stream_of trace w) → takes_back seals w.client.core id ≡ b → Left w (if b then without w.client.core.queue id else w.client.core.queue) i.up
+  drop_throws w id true i e =
+      let unsealed = throws_unsealed w.client.core.kind seals (if_true (throws w.client.core.kind seals) _ (alive_if w.client.core.failure _ e).1).0 in
+      throw_one c.seals s.opens s.refuses_opening (still unsealed) w.server.core.failure w.server.held w.up w.client.core.outbound w.server.core.inbound id w.client.core.queue i.up (single w i) i.own i.up_bytes i.up_linked
+  drop_throws w id false i e = same_queue w w.client.core.queue i refl
+
+  drop_lives : (w : Net CO CI SO SI) (id : ℕ) (x : Client CO CI) → Forgets seals w.client id x → x.core.failure ≡ None → w.client.core.failure ≡ None
+  drop_lives w id x f alive = chosen_none (takes_back seals w.client.core id) _ w.client.core.failure (λ e. (alive_if w.client.core.failure _ e).0) (sym f.failure ∙ alive)
+
+  pub keeps_drop : (w : Net CO CI SO SI) (id : ℕ) (v : Net CO CI SO SI) → Keeps c s stream_of trace w → Forgot c s seals w id v → Keeps c s stream_of (with_entry trace (DropCall id) Done) (with_client w v.client)
+  keeps_drop w id v i p =
+      let left = subst (λ (q : Queue). Left w q i.up) (sym p.does.queue) (drop_throws w id (takes_back seals w.client.core id) i refl) in
+      client_changes w (DropCall id) Done v.client i p.does.held p.does.outbound p.does.inbound (drop_lives w id v.client p.does) left
+      (λ stories. stories_silent stream_of trace (DropCall id) Done left.left i.down v.client.core.next w.server.core.jobs (client.call_at v.client.core) (λ k. refl)
+      (λ k. elim (cases_eq id k) [
+        | inl e ↦
+            subst (λ (n : ℕ). Story (v.client.core.next ≤ n) n (acts stream_of n trace) (parcels n left.left) (server.jobs_at w.server.core.jobs n) (parcels n i.down) (client.call_at v.client.core n)) e
+            (drops_here (w.client.core.next ≤ id) (v.client.core.next ≤ id) id _ _ _ _ _ _ (stories id) (λ y. omega (arith, y, p.does.next)) p.does.own)
+        | inr e ↦ elsewhere (w.client.core.next ≤ k) (v.client.core.next ≤ k) k _ _ _ _ _ _ _ _ _ _ (stories k) (λ y. omega (arith, y, p.does.next)) refl refl refl refl (p.does.others k (λ same. e (sym same)))
+      ]))
+
+  -- A moment comes.
+  tick_throws : (w : Net CO CI SO SI) (now : ℕ) (b : Bool) → (i : Keeps c s stream_of trace w) → throws w.client.core.kind seals ≡ b → Left w (if b then without_all w.client.core.queue (due_ids now w.client.core.calls) else w.client.core.queue) i.up
+  tick_throws w now true i e =
+      throw_all c.seals s.opens s.refuses_opening (still (throws_unsealed w.client.core.kind seals e)) w.server.core.failure w.server.held w.up w.client.core.outbound w.server.core.inbound (due_ids now w.client.core.calls) w.client.core.queue i.up (single w i) i.own i.up_bytes i.up_linked
+  tick_throws w now false i e = same_queue w w.client.core.queue i refl
+
+  tick_lives : (w : Net CO CI SO SI) (now : ℕ) (x : Client CO CI) → Keeps c s stream_of trace w → w.client.core.failure ≡ None → Ticks seals w.client now x → Keeps c s stream_of (with_entry trace (Tick now) Done) (with_client w x)
+  tick_lives w now x i lives p =
+      let left = subst (λ (q : Queue). Left w q i.up) (sym p.queue) (tick_throws w now (throws w.client.core.kind seals) i refl) in
+      client_changes w (Tick now) Done x i p.held p.outbound p.inbound (λ alive. lives) left
+      (λ stories. stories_silent stream_of trace (Tick now) Done left.left i.down x.core.next w.server.core.jobs (client.call_at x.core) (λ k. refl)
+      (λ k. expires_here (w.client.core.next ≤ k) (x.core.next ≤ k) k _ _ _ _ now _ _ (stories k) (λ y. omega (arith, y, p.next)) (p.calls k)))
+
+  passes : (w : Net CO CI SO SI) (now : ℕ) (x : Client CO CI) (failure : Option Error) → w.client.core.failure ≡ failure → Keeps c s stream_of trace w → Passes seals failure w.client now x → Keeps c s stream_of (with_entry trace (Tick now) Done) (with_client w x)
+  passes w now x None e i p = tick_lives w now x i e p
+  passes w now x (Some error) e i p =
+      subst (λ (y : Client CO CI). Keeps c s stream_of (with_entry trace (Tick now) Done) (with_client w y)) (sym p) (keeps_still w (Tick now) Done (λ k. refl) i)
+
+  -- the moment plays no part
+  at_moment : (t : List Entry) (w : Net CO CI SO SI) (now : ℕ) → Keeps c s stream_of t w → Keeps c s stream_of t (record w { moment = now })
+  at_moment t w now i = record { up = i.up; down = i.down; stories = i.stories; known = i.known; own = i.own; up_bytes = i.up_bytes; down_bytes = i.down_bytes; up_linked = i.up_linked; down_linked = i.down_linked }
+
+  pub keeps_tick : (w : Net CO CI SO SI) (now : ℕ) (v : Net CO CI SO SI) → Keeps c s stream_of trace w → Ticked c s seals w now v → Keeps c s stream_of (with_entry trace (Tick now) Done) (record (with_client w v.client) { moment = now })
+  keeps_tick w now v i p = at_moment (with_entry trace (Tick now) Done) (with_client w v.client) now (passes w now v.client w.client.core.failure refl i p.does)

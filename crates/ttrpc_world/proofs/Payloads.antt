@@ -1,0 +1,194 @@
+-- What is sent reads back, what a core makes of it then, and the flights that it is sent as.
+use Rattle.std.proofs.Common.{rules, ◌≡◌, ℕ, zero, suc, ◌≤◌, ◌<◌, ◌^◌, List, [], ◌∷◌, ◌++◌, length, codes, nat_lt, if◌then◌else◌, Bool, true, false, Some, refl, sym, ◌∙◌, arith}
+use Rattle.std.specs.Fmt.{decimal}
+use Rattle.std.proofs.lemmas.Bool.{le-ltb, ltb-true}
+use Rattle.std.proofs.lemmas.Fmt.{IsAscii-decimal}
+use Rattle.std.proofs.lemmas.Str.{IsUtf8-append, IsUtf8-from_ascii}
+use Rattle.std.specs.Str.{IsAscii, IsUtf8}
+use Rattle.ttrpc_wire.specs.Fold.{read_from}
+use Rattle.ttrpc_wire.proofs.Folds.{reads_back}
+use Rattle.ttrpc_proto.specs.declared.code.Code.TheVariants.{INVALID_ARGUMENT}
+use Rattle.ttrpc_proto.specs.declared.header.MessageHeader.{MessageHeader}
+use Rattle.ttrpc_proto.specs.declared.header.TheConstants.{MESSAGE_LENGTH_MAX, MESSAGE_TYPE_REQUEST, MESSAGE_TYPE_RESPONSE}
+use Rattle.ttrpc_proto.specs.declared.request.Request.{Request}
+use Rattle.ttrpc_proto.specs.declared.response.Response.{Response}
+use Rattle.ttrpc_proto.specs.Laws.{request_again, request_fits, response_again, response_fits}
+use Rattle.ttrpc_proto.specs.Messages.{IsRequest, IsResponse, empty_request, empty_response, request_fields, request_step, response_fields, response_step}
+use Rattle.ttrpc_frame.specs.declared.outgoing.Queued.{Queued}
+use Rattle.ttrpc_frame.specs.Queue.{with_frame, with_payload}
+use Rattle.ttrpc_secure.specs.Sends.{associated}
+use Rattle.ttrpc_core.specs.declared.registry.ServiceNames.{ServiceNames}
+use Rattle.ttrpc_core.specs.Happens.{Halves, Responds, fitted, response_bytes, response_size, safe_limit}
+use Rattle.ttrpc_core.specs.Responses.{limit_text, path_text, status_response}
+use Rattle.ttrpc_core.specs.Server.{Core}
+use Rattle.ttrpc_core.specs.Table.{Opened, opened_row, request_row}
+use Rattle.ttrpc_client.specs.Client.{Client}
+use Rattle.ttrpc_client.specs.Table.{Gives, by_status, opened_landing}
+use Rattle.ttrpc_client.specs.Happens.{Requests, last_id, request_bytes}
+use Rattle.ttrpc_flight.specs.Flight.{Flying, IsOwnRequest, IsSound}
+use Rattle.ttrpc_world.specs.Story.{Act, HasOkStatus}
+use Rattle.ttrpc_world.proofs.Stages.{IsAnswerOf, IsDone, IsSent, IsToldOf}
+
+-- ---- reading
+
+request_reads : (r : Request) → IsRequest r → length (request_bytes r) ≤ MESSAGE_LENGTH_MAX → read_from request_step empty_request (request_bytes r) ≡ Some r
+request_reads r is short =
+    let fits : length (request_bytes r) < 2 ^ 32 = omega (arith, short) in
+    reads_back request_step empty_request r (request_fields r) (request_fits r is fits) (request_again r is fits)
+
+response_reads : (r : Response) → IsResponse r → length (response_bytes r) ≤ MESSAGE_LENGTH_MAX → read_from response_step empty_response (response_bytes r) ≡ Some r
+response_reads r is short =
+    let fits : length (response_bytes r) < 2 ^ 32 = omega (arith, short) in
+    reads_back response_step empty_response r (response_fields r) (response_fits r is fits) (response_again r is fits)
+
+-- The server makes of a request that is opened as it was sent what its services say.
+pub request_row_is : (services : List ServiceNames) (h : MessageHeader) (r : Request) → IsRequest r → length (request_bytes r) ≤ MESSAGE_LENGTH_MAX → h.type_ ≡ MESSAGE_TYPE_REQUEST
+    → opened_row services h (Opened (request_bytes r)) ≡ request_row services (Some r)
+request_row_is services h r is short type_ =
+    let within : nat_lt MESSAGE_LENGTH_MAX (length (request_bytes r)) ≡ false = le-ltb _ _ short in
+    rw (within, type_, request_reads r is short) refl
+
+-- The client makes of a response its outcome.
+pub response_landing_is : (h : MessageHeader) (r : Response) → IsResponse r → length (response_bytes r) ≤ MESSAGE_LENGTH_MAX → h.type_ ≡ MESSAGE_TYPE_RESPONSE
+    → opened_landing h (Opened (response_bytes r)) ≡ Gives (by_status r.status r)
+response_landing_is h r is short type_ =
+    let within : nat_lt MESSAGE_LENGTH_MAX (length (response_bytes r)) ≡ false = le-ltb _ _ short in
+    rw (within, type_, response_reads r is short) refl
+
+-- ---- responses that the core makes itself
+
+refusal_is_response : (text : List ℕ) → IsUtf8 text → IsResponse (status_response INVALID_ARGUMENT text)
+refusal_is_response text is = record { status = record { code = search rules; message = is; details = tt } }
+
+not_ok : (text : List ℕ) → HasOkStatus (status_response INVALID_ARGUMENT text).status → ⊥
+not_ok text h = cc
+
+-- such a response is no outcome that is Ok
+refusal_answers : (done : List Act) (text : List ℕ) → IsAnswerOf done (status_response INVALID_ARGUMENT text)
+refusal_answers done text = λ ok. absurd (not_ok text ok)
+
+-- whether all bytes are below 128
+abbrev is_plain : List ℕ → Bool
+is_plain [] = true
+is_plain (b ∷ bs) = if nat_lt b 128 then is_plain bs else false
+
+first_is_plain : (x b : Bool) → (if x then b else false) ≡ true → (x ≡ true) × (b ≡ true)
+first_is_plain true b e = (refl, e)
+first_is_plain false b e = cc
+
+plain_is_ascii : (bs : List ℕ) → is_plain bs ≡ true → IsAscii bs
+plain_is_ascii [] is i = omega arith
+plain_is_ascii (b ∷ bs) is zero = ltb-true b 128 (first_is_plain (nat_lt b 128) (is_plain bs) is).0
+plain_is_ascii (b ∷ bs) is (suc i) = plain_is_ascii bs (first_is_plain (nat_lt b 128) (is_plain bs) is).1 i
+
+plain_text : (bs : List ℕ) → is_plain bs ≡ true → IsUtf8 bs
+plain_text bs is = IsUtf8-from_ascii bs (plain_is_ascii bs is)
+
+path_is_utf8 : (r : Request) → IsRequest r → IsUtf8 (path_text r.service r.method)
+path_is_utf8 r is =
+    let slash : IsUtf8 (codes "/") = plain_text (codes "/") refl in
+    IsUtf8-append (codes "/" ++ r.service ++ codes "/" ++ r.method) (codes " does not exist")
+    (IsUtf8-append (codes "/" ++ r.service ++ codes "/") r.method (IsUtf8-append (codes "/" ++ r.service) (codes "/") (IsUtf8-append (codes "/") r.service slash is.service) slash) is.method)
+    (plain_text (codes " does not exist") refl)
+
+number_is_utf8 : (n : ℕ) → n < 2 ^ 64 → IsUtf8 (decimal n)
+number_is_utf8 n small = IsUtf8-from_ascii (decimal n) (IsAscii-decimal n small)
+
+limit_is_utf8 : (n limit : ℕ) → n < 2 ^ 64 → limit < 2 ^ 64 → IsUtf8 (limit_text n limit)
+limit_is_utf8 n limit small low =
+    IsUtf8-append (codes "response payload " ++ decimal n ++ codes " bytes exceeds safe limit " ++ decimal limit) (codes " bytes (after transform overhead)")
+    (IsUtf8-append (codes "response payload " ++ decimal n ++ codes " bytes exceeds safe limit ") (decimal limit)
+    (IsUtf8-append (codes "response payload " ++ decimal n) (codes " bytes exceeds safe limit ")
+    (IsUtf8-append (codes "response payload ") (decimal n) (plain_text (codes "response payload ") refl) (number_is_utf8 n small))
+    (plain_text (codes " bytes exceeds safe limit ") refl))
+    (number_is_utf8 limit low))
+    (plain_text (codes " bytes (after transform overhead)") refl)
+
+-- what the core says of a path that no handler has
+pub record IsRefusal (r : Response) : Type 0 where
+  pub is : IsResponse r
+  pub never_ok : HasOkStatus r.status → ⊥
+
+pub path_refusal : (r : Request) → IsRequest r → IsRefusal (status_response INVALID_ARGUMENT (path_text r.service r.method))
+path_refusal r is = record { is = refusal_is_response (path_text r.service r.method) (path_is_utf8 r is); never_ok = not_ok (path_text r.service r.method) }
+
+fitted_at : (b : Bool) (limit : ℕ) (r : Response) → nat_lt limit (response_size r) ≡ b → limit ≤ MESSAGE_LENGTH_MAX → IsResponse r → (done : List Act) → IsAnswerOf done r
+    → IsResponse (fitted limit r) × IsAnswerOf done (fitted limit r)
+fitted_at true limit r e low is done answer = rw e (refusal_is_response (limit_text (response_size r) limit) (limit_is_utf8 (response_size r) limit (omega arith) (omega (arith, low))), refusal_answers done (limit_text (response_size r) limit))
+fitted_at false limit r e low is done answer = rw e (is, answer)
+
+-- What a response is sent as is a response, and an outcome that is Ok only if the response was.
+fitted_is : (limit : ℕ) (r : Response) → limit ≤ MESSAGE_LENGTH_MAX → IsResponse r → (done : List Act) → IsAnswerOf done r → IsResponse (fitted limit r) × IsAnswerOf done (fitted limit r)
+fitted_is limit r low is done answer = fitted_at (nat_lt limit (response_size r)) limit r refl low is done answer
+
+-- ---- flights
+
+sealed_is_sound : (f : Queued) (sealed : List ℕ) → length sealed ≤ MESSAGE_LENGTH_MAX → f.message.header.stream_id ≤ last_id → f.message.header.type_ < 2 ^ 8 → f.message.header.flags < 2 ^ 8 → IsSound (with_payload f sealed)
+sealed_is_sound f sealed short stream type_ flags = record {
+  fits = record { length = omega (arith, short); stream_id = omega (arith, stream); type_ = type_; flags = flags };
+  stated = omega (arith, short);
+  short = short;
+}
+
+-- A request is a flight.
+pub record SendsRequest {O I : Type 0} (h : Halves O I) (old : Client O I) (request : Request) (id : ℕ) (new : Client O I) : Type 0 where
+  pub x : Flying
+  pub queue : new.core.queue ≡ with_frame old.core.queue x.frame
+  pub seal : h.seals old.core.outbound x.plain (associated x.frame.message.header) x.frame.message.payload new.core.outbound
+  pub sound : IsSound x.frame
+  pub own : IsOwnRequest x
+  pub is_sent : IsSent id request x
+
+pub sends_request : {O I : Type 0} (h : Halves O I) (old : Client O I) (request : Request) (now id : ℕ) (new : Client O I) → IsRequest request → Requests h old request now id new → SendsRequest h old request id new
+sends_request h old request now id new is p =
+    let f = p.frame in
+    let g = p.is_frame in
+    let sealed = p.sends.sealed in
+    record {
+      x = record { frame = with_payload f sealed; plain = request_bytes request };
+      queue = p.sends.queue;
+      seal = p.sends.seal;
+      sound = sealed_is_sound f sealed p.sends.fits (omega (arith, g.stream_id, p.in_range)) (omega (arith, g.type_)) (omega (arith, g.flags));
+      own = (g.is_unary_request, g.owner ∙ sym g.stream_id);
+      is_sent = record {
+        known = is;
+        plain = refl;
+        short = omega (arith, p.fits);
+        stream = g.stream_id;
+        type_ = g.type_;
+        within = p.in_range;
+      };
+    }
+
+-- A response is a flight.
+pub record SendsResponse {O I : Type 0} (h : Halves O I) (old : Core O I) (k : ℕ) (done : List Act) (new : Core O I) : Type 0 where
+  pub r : Response
+  pub y : Flying
+  pub queue : new.queue ≡ with_frame old.queue y.frame
+  pub seal : h.seals old.outbound y.plain (associated y.frame.message.header) y.frame.message.payload new.outbound
+  pub sound : IsSound y.frame
+  pub is_told : IsToldOf k done r y
+
+pub sends_response : {O I : Type 0} (h : Halves O I) (old : Core O I) (k : ℕ) (r : Response) (new : Core O I) (done : List Act) → k ≤ last_id → IsDone done → IsResponse r → IsAnswerOf done r → Responds h old k r new → SendsResponse h old k done new
+sends_response h old k r new done within is_done is answer p =
+    let f = p.frame in
+    let g = p.is_frame in
+    let sealed = p.sends.sealed in
+    let limit = safe_limit h old.outbound in
+    let s = fitted_is limit r (omega arith) is done answer in
+    record {
+      r = fitted limit r;
+      y = record { frame = with_payload f sealed; plain = response_bytes (fitted limit r) };
+      queue = p.sends.queue;
+      seal = p.sends.seal;
+      sound = sealed_is_sound f sealed p.sends.fits (omega (arith, g.stream_id, within)) (omega (arith, g.type_)) (omega (arith, g.flags));
+      is_told = record {
+        is_done = is_done;
+        known = s.0;
+        plain = refl;
+        short = omega (arith, p.fits);
+        stream = g.stream_id;
+        type_ = g.type_;
+        answer = s.1;
+      };
+    }

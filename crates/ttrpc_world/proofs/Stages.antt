@@ -1,0 +1,260 @@
+-- The story of one id: how far its call has come, what that says of all that is at that id, and that it is the headline.
+use Rattle.std.proofs.Common.{◌≡◌, ℕ, ◌≤◌, List, [], ◌∷◌, ◌++◌, length, Option, Some, None, Ok, Err, refl, sym, ap, ◌∙◌, subst, ◌⊎◌, inl, inr, arith}
+use Rattle.ttrpc_proto.specs.declared.error.Error.{Error}
+use Rattle.ttrpc_proto.specs.declared.header.TheConstants.{MESSAGE_LENGTH_MAX, MESSAGE_TYPE_REQUEST, MESSAGE_TYPE_RESPONSE}
+use Rattle.ttrpc_proto.specs.declared.request.Request.{Request}
+use Rattle.ttrpc_proto.specs.declared.response.Response.{Response}
+use Rattle.ttrpc_proto.specs.Messages.{IsRequest, IsResponse}
+use Rattle.ttrpc_core.specs.declared.job.ActiveJob.{ActiveJob}
+use Rattle.ttrpc_core.specs.Happens.{response_bytes}
+use Rattle.ttrpc_client.specs.declared.call.Call.{Call}
+use Rattle.ttrpc_client.specs.declared.call.Call.TheVariants.{Waiting, Expired, Ended}
+use Rattle.ttrpc_client.specs.Happens.{last_id, request_bytes}
+use Rattle.ttrpc_flight.specs.Flight.{Flying}
+use Rattle.ttrpc_world.specs.Story.{Act, Called, Ran, Answered, Gave, HasOkStatus, IsExactlyOnce, calls, outcomes, runs, work}
+
+pub data Stage : Type 0 where
+  -- no call has this id yet
+  Unborn : Stage
+  -- its request is in flight
+  Sent : (request : Request) → (x : Flying) → Stage
+  -- its job waits
+  Made : (request : Request) → (j : ActiveJob) → Stage
+  -- its job was handed out
+  Running : (request : Request) → (j : ActiveJob) → Stage
+  -- a response is in flight to it
+  Told : (done : List Act) → (r : Response) → (x : Flying) → Stage
+  -- nothing of it is anywhere but at the client
+  Over : (done : List Act) → Stage
+
+abbrev pub whole_work : Request → ℕ → Response → List Act
+whole_work request job r = Called request ∷ Ran job request ∷ Answered (Ok r) ∷ []
+
+-- the acts of a call, up to here, but for its outcome
+abbrev pub works_of : Stage → List Act
+works_of Unborn = []
+works_of (Sent request x) = Called request ∷ []
+works_of (Made request j) = Called request ∷ []
+works_of (Running request j) = Called request ∷ Ran j.id request ∷ []
+works_of (Told done r x) = done
+works_of (Over done) = done
+
+-- what there is of it in flight to the server, at the server, and in flight to the client
+abbrev pub ups_of : Stage → List Flying
+ups_of Unborn = []
+ups_of (Sent request x) = x ∷ []
+ups_of (Made request j) = []
+ups_of (Running request j) = []
+ups_of (Told done r x) = []
+ups_of (Over done) = []
+
+abbrev pub jobs_of : Stage → List ActiveJob
+jobs_of Unborn = []
+jobs_of (Sent request x) = []
+jobs_of (Made request j) = j ∷ []
+jobs_of (Running request j) = j ∷ []
+jobs_of (Told done r x) = []
+jobs_of (Over done) = []
+
+abbrev pub downs_of : Stage → List Flying
+downs_of Unborn = []
+downs_of (Sent request x) = []
+downs_of (Made request j) = []
+downs_of (Running request j) = []
+downs_of (Told done r x) = x ∷ []
+downs_of (Over done) = []
+
+-- a request in flight
+pub record IsSent (k : ℕ) (request : Request) (x : Flying) : Type 0 where
+  pub known : IsRequest request
+  pub plain : x.plain ≡ request_bytes request
+  pub short : length (request_bytes request) ≤ MESSAGE_LENGTH_MAX
+  pub stream : x.frame.message.header.stream_id ≡ k
+  pub type_ : x.frame.message.header.type_ ≡ MESSAGE_TYPE_REQUEST
+  pub within : k ≤ last_id
+
+pub record IsJob (k : ℕ) (asked : Option Request) (j : ActiveJob) : Type 0 where
+  pub request : j.request ≡ asked
+  pub stream : j.header.stream_id ≡ k
+  pub within : k ≤ last_id
+
+-- one call, and at most one run
+pub record IsDone (done : List Act) : Type 0 where
+  pub one_call : length (calls done) ≡ 1
+  pub one_run : length (runs done) ≤ 1
+
+-- if it is an outcome that is Ok, it is the answer of the one run
+abbrev pub IsAnswerOf : List Act → Response → Type 0
+IsAnswerOf done r = HasOkStatus r.status → (request : Request) × (job : ℕ) × (done ≡ whole_work request job r)
+
+-- a response in flight
+pub record IsToldOf (k : ℕ) (done : List Act) (r : Response) (x : Flying) : Type 0 where
+  pub is_done : IsDone done
+  pub known : IsResponse r
+  pub plain : x.plain ≡ response_bytes r
+  pub short : length (response_bytes r) ≤ MESSAGE_LENGTH_MAX
+  pub stream : x.frame.message.header.stream_id ≡ k
+  pub type_ : x.frame.message.header.type_ ≡ MESSAGE_TYPE_RESPONSE
+  pub answer : IsAnswerOf done r
+
+abbrev pub IsStage : ℕ → Stage → Type 0
+IsStage k Unborn = Unit {0}
+IsStage k (Sent request x) = IsSent k request x
+IsStage k (Made request j) = IsJob k (Some request) j
+IsStage k (Running request j) = IsJob k None j
+IsStage k (Told done r x) = IsToldOf k done r x
+IsStage k (Over done) = IsDone done
+
+abbrev pub IsBorn : Stage → Type 0
+IsBorn Unborn = ⊥
+IsBorn (Sent request x) = Unit {0}
+IsBorn (Made request j) = Unit {0}
+IsBorn (Running request j) = Unit {0}
+IsBorn (Told done r x) = Unit {0}
+IsBorn (Over done) = Unit {0}
+
+-- the response came, and is the answer of the one run
+abbrev pub HasLanded : Stage → Response → Type 0
+HasLanded Unborn r = ⊥
+HasLanded (Sent request x) r = ⊥
+HasLanded (Made request j) r = ⊥
+HasLanded (Running request j) r = ⊥
+HasLanded (Told done told x) r = ⊥
+HasLanded (Over done) r = HasOkStatus r.status × ((request : Request) × (job : ℕ) × (done ≡ whole_work request job r))
+
+abbrev pub IsWhole : List Act → Response → Type 0
+IsWhole a r = HasOkStatus r.status × ((request : Request) × (job : ℕ) × (a ≡ Called request ∷ Ran job request ∷ Answered (Ok r) ∷ Gave (Ok r) ∷ []))
+
+-- what was given of it: nothing, an error, or the answer of the one run
+abbrev pub Given : Stage → List Act → Type 0
+Given p a = (outcomes a ≡ []) ⊎ (((e : Error) × (outcomes a ≡ Err e ∷ []) × IsBorn p) ⊎ ((r : Response) × HasLanded p r × IsWhole a r))
+
+-- what the client keeps of the call, and what it gave
+abbrev pub Ends : Stage → List Act → Option Call → Type 0
+Ends p a None = Given p a
+Ends p a (Some (Waiting deadline)) = (outcomes a ≡ []) × IsBorn p
+Ends p a (Some Expired) = (outcomes a ≡ []) × IsBorn p
+Ends p a (Some (Ended (Ok r))) = (outcomes a ≡ []) × HasLanded p r
+Ends p a (Some (Ended (Err e))) = (outcomes a ≡ []) × IsBorn p
+
+pub record Story (Young : Type 0) (k : ℕ) (a : List Act) (u : List Flying) (j : List ActiveJob) (d : List Flying) (e : Option Call) : Type 0 where
+  pub stage : Stage
+  pub is_stage : IsStage k stage
+  pub young : Young → stage ≡ Unborn
+  pub works_is : work a ≡ works_of stage
+  pub ups_is : u ≡ ups_of stage
+  pub jobs_is : j ≡ jobs_of stage
+  pub downs_is : d ≡ downs_of stage
+  pub ends : Ends stage a e
+
+-- ---- lists of acts
+
+pub work_append : (a b : List Act) → work (a ++ b) ≡ work a ++ work b
+work_append [] b = refl
+work_append (Called request ∷ a) b = ap (λ xs. Called request ∷ xs) (work_append a b)
+work_append (Ran job request ∷ a) b = ap (λ xs. Ran job request ∷ xs) (work_append a b)
+work_append (Answered result ∷ a) b = ap (λ xs. Answered result ∷ xs) (work_append a b)
+work_append (Gave outcome ∷ a) b = work_append a b
+
+pub outcomes_append : (a b : List Act) → outcomes (a ++ b) ≡ outcomes a ++ outcomes b
+outcomes_append [] b = refl
+outcomes_append (Called request ∷ a) b = outcomes_append a b
+outcomes_append (Ran job request ∷ a) b = outcomes_append a b
+outcomes_append (Answered result ∷ a) b = outcomes_append a b
+outcomes_append (Gave outcome ∷ a) b = ap (λ xs. outcome ∷ xs) (outcomes_append a b)
+
+calls_work : (a : List Act) → calls a ≡ calls (work a)
+calls_work [] = refl
+calls_work (Called request ∷ a) = ap (λ xs. request ∷ xs) (calls_work a)
+calls_work (Ran job request ∷ a) = calls_work a
+calls_work (Answered result ∷ a) = calls_work a
+calls_work (Gave outcome ∷ a) = calls_work a
+
+runs_work : (a : List Act) → runs a ≡ runs (work a)
+runs_work [] = refl
+runs_work (Called request ∷ a) = runs_work a
+runs_work (Ran job request ∷ a) = ap (λ xs. job ∷ xs) (runs_work a)
+runs_work (Answered result ∷ a) = runs_work a
+runs_work (Gave outcome ∷ a) = runs_work a
+
+pub all_work : (a : List Act) → outcomes a ≡ [] → a ≡ work a
+all_work [] h = refl
+all_work (Called request ∷ a) h = ap (λ xs. Called request ∷ xs) (all_work a h)
+all_work (Ran job request ∷ a) h = ap (λ xs. Ran job request ∷ xs) (all_work a h)
+all_work (Answered result ∷ a) h = ap (λ xs. Answered result ∷ xs) (all_work a h)
+all_work (Gave outcome ∷ a) h = cc
+
+-- ---- the story as the headline
+
+one_call_of : (k : ℕ) (p : Stage) → IsStage k p → length (calls (works_of p)) ≤ 1
+one_call_of k Unborn h = omega arith
+one_call_of k (Sent request x) h = omega arith
+one_call_of k (Made request j) h = omega arith
+one_call_of k (Running request j) h = omega arith
+one_call_of k (Told done r x) h = omega (arith, h.is_done.one_call)
+one_call_of k (Over done) h = omega (arith, h.one_call)
+
+one_run_of : (k : ℕ) (p : Stage) → IsStage k p → length (runs (works_of p)) ≤ 1
+one_run_of k Unborn h = omega arith
+one_run_of k (Sent request x) h = omega arith
+one_run_of k (Made request j) h = omega arith
+one_run_of k (Running request j) h = omega arith
+one_run_of k (Told done r x) h = h.is_done.one_run
+one_run_of k (Over done) h = h.one_run
+
+not_none : (done : List Act) → IsDone done → calls done ≡ [] → ⊥
+not_none done h e = absurd (let no : ⊥ = omega (arith, h.one_call, ap (λ (xs : List Request). length xs) e) in no)
+
+called_if_born : (k : ℕ) (p : Stage) → IsStage k p → IsBorn p → calls (works_of p) ≡ [] → ⊥
+called_if_born k Unborn h b e = b
+called_if_born k (Sent request x) h b e = cc
+called_if_born k (Made request j) h b e = cc
+called_if_born k (Running request j) h b e = cc
+called_if_born k (Told done r x) h b e = not_none done h.is_done e
+called_if_born k (Over done) h b e = not_none done h e
+
+pub landed_is_born : (p : Stage) (r : Response) → HasLanded p r → IsBorn p
+landed_is_born Unborn r h = h
+landed_is_born (Sent request x) r h = tt
+landed_is_born (Made request j) r h = tt
+landed_is_born (Running request j) r h = tt
+landed_is_born (Told done told x) r h = tt
+landed_is_born (Over done) r h = tt
+
+given_of : (p : Stage) (a : List Act) (e : Option Call) → Ends p a e → Given p a
+given_of p a None h = h
+given_of p a (Some (Waiting deadline)) h = inl h.0
+given_of p a (Some Expired) h = inl h.0
+given_of p a (Some (Ended (Ok r))) h = inl h.0
+given_of p a (Some (Ended (Err e))) h = inl h.0
+
+one_given : (p : Stage) (a : List Act) → Given p a → length (outcomes a) ≤ 1
+one_given p a (inl h) = rw h (omega arith)
+one_given p a (inr (inl h)) = rw h.1 (omega arith)
+one_given p a (inr (inr h)) = let e = h.2.1.2 in rw e (omega arith)
+
+none_given : (k : ℕ) (p : Stage) (a : List Act) → IsStage k p → Given p a → calls (works_of p) ≡ [] → outcomes a ≡ []
+none_given k p a s (inl h) c = h
+none_given k p a s (inr (inl h)) c = absurd (called_if_born k p s h.2 c)
+none_given k p a s (inr (inr h)) c = absurd (called_if_born k p s (landed_is_born p h.0 h.1) c)
+
+whole_given : (p : Stage) (a : List Act) (r : Response) → Given p a → outcomes a ≡ Ok r ∷ [] → IsWhole a r
+whole_given p a r (inl h) g = cc
+whole_given p a r (inr (inl h)) g = let bad : Err h.0 ∷ [] ≡ Ok r ∷ [] = sym h.1 ∙ g in cc
+whole_given p a r (inr (inr h)) g =
+    let same : Ok h.0 ∷ [] ≡ Ok r ∷ [] = sym (ap outcomes h.2.1.2) ∙ g in
+    let e : h.0 ≡ r = cc in
+    subst (λ (x : Response). IsWhole a x) e h.2
+
+pub exactly_once : (Young : Type 0) (k : ℕ) (a : List Act) (u : List Flying) (j : List ActiveJob) (d : List Flying) (e : Option Call) → Story Young k a u j d e → IsExactlyOnce a
+exactly_once Young k a u j d e s =
+    let called : calls a ≡ calls (works_of s.stage) = calls_work a ∙ ap calls s.works_is in
+    let ran : runs a ≡ runs (works_of s.stage) = runs_work a ∙ ap runs s.works_is in
+    let given = given_of s.stage a e s.ends in
+    record {
+      one_call = rw called (one_call_of k s.stage s.is_stage);
+      one_run = rw ran (one_run_of k s.stage s.is_stage);
+      one_outcome = one_given s.stage a given;
+      no_call = λ c. none_given k s.stage a s.is_stage given (sym called ∙ c);
+      whole = λ r g. whole_given s.stage a r given g;
+    }

@@ -1,0 +1,358 @@
+-- Each job has one stream, and no two jobs the same: ids of jobs are used once, and so are streams.
+use Rattle.std.proofs.Common.{◌≡◌, ℕ, ◌+◌, ◌≤◌, List, [], ◌∷◌, ◌++◌, length, Bool, true, false, Some, None, Result, Ok, Err, nat_eq, if◌then◌else◌, refl, sym, ap, ◌∙◌, subst, ◌⊎◌, inl, inr, arith, append_assoc}
+use Rattle.std.proofs.lemmas.Bool.{cond-false, cond-true, eq-eqb, eqb-true, ne_eqb}
+use Rattle.std.proofs.lemmas.List.{append-nil, length-append}
+use Rattle.std.specs.List.{AllByRecursion}
+use Rattle.ttrpc_proto.specs.declared.error.Error.{Error}
+use Rattle.ttrpc_frame.specs.declared.frame.Incoming.{Incoming}
+use Rattle.ttrpc_core.specs.declared.job.ActiveJob.{ActiveJob}
+use Rattle.ttrpc_core.specs.declared.job.Job.{Job}
+use Rattle.ttrpc_core.specs.Happens.{ActsAll, Does, EndsOne, Halves}
+use Rattle.ttrpc_core.specs.Server.{Core, Server}
+use Rattle.ttrpc_core.specs.Table.{Row, Skipped, Tells, TellsOf, Known, header_of_frame, row_of}
+use Rattle.ttrpc_proto.specs.declared.header.MessageHeader.{MessageHeader}
+use Rattle.ttrpc_world.specs.declared.events.Side.TheVariants as side
+use Rattle.ttrpc_world.specs.declared.events.Event.{Event}
+use Rattle.ttrpc_world.specs.declared.events.Event.TheVariants.{Call, Open, Outcome, Recv, Send, Close, DropCall, DropReceiver, DropSender, Take, Answer, Respond, Finish, EndStream, Drain, Tick, Carry, Deliver, Cut, Fail}
+use Rattle.ttrpc_world.specs.declared.events.Reply.{Reply}
+use Rattle.ttrpc_world.specs.declared.events.Reply.TheVariants.{Named, Outcome as Given, Handed, Done, Count, Refused, NoMemory, NoStep}
+use Rattle.ttrpc_world.specs.declared.events.Entry.{Entry}
+use Rattle.ttrpc_world.specs.Pipes.{is_over}
+use Rattle.ttrpc_world.specs.Net.{Net, IsFresh}
+use Rattle.ttrpc_world.specs.Steps.{AnswersBy, Runs, ServerHears, Steps, cut_to, taken_from}
+use Rattle.ttrpc_world.specs.Story.{Act, Called, Ran, Answered, Gave, IsOneToOne, IsRightAt, IsStreamOf, act_of, acts, only_if, runs}
+use Rattle.ttrpc_world.proofs.Traces.{with_entry}
+use Rattle.ttrpc_world.proofs.Moves.{server_stops}
+
+-- ---- a stream for each job that was made
+
+-- the streams of jobs are right, and no job is above the last one
+abbrev AreBelow : (ℕ → ℕ) → ℕ → List ActiveJob → Type 0
+AreBelow f n jobs = AllByRecursion (λ (j : ActiveJob). (f j.id ≡ j.header.stream_id) × (j.id ≤ n)) jobs
+
+abbrev IsBelow : (ℕ → ℕ) → ℕ → Event → Reply → Type 0
+IsBelow f n Take (Handed (Some job)) = (f job.id ≡ job.header.stream_id) × (job.id ≤ n)
+IsBelow f n event reply = Unit {0}
+
+abbrev WasBelow : (ℕ → ℕ) → ℕ → List Entry → Type 0
+WasBelow f n trace = AllByRecursion (λ (e : Entry). IsBelow f n e.event e.reply) trace
+
+record Placed (trace : List Entry) (n : ℕ) (jobs : List ActiveJob) : Type 0 where
+  f : ℕ → ℕ
+  below : AreBelow f n jobs
+  past : WasBelow f n trace
+
+-- one more job
+abbrev moved : (ℕ → ℕ) → ℕ → ℕ → ℕ → ℕ
+moved f n s j = if nat_eq j (n + 1) then s else f j
+
+moved_below : (f : ℕ → ℕ) (n s j : ℕ) → j ≤ n → moved f n s j ≡ f j
+moved_below f n s j h = cond-false (nat_eq j (n + 1)) _ _ (ne_eqb j (n + 1) (λ e. absurd (let no : ⊥ = omega (arith, h, e) in no)))
+
+moved_at : (f : ℕ → ℕ) (n s j : ℕ) → j ≡ n + 1 → moved f n s j ≡ s
+moved_at f n s j h = cond-true (nat_eq j (n + 1)) _ _ (eq-eqb j (n + 1) h)
+
+jobs_make : (f : ℕ → ℕ) (n : ℕ) (job : ActiveJob) (js : List ActiveJob) → job.id ≡ n + 1 → AreBelow f n js → AreBelow (moved f n job.header.stream_id) (n + 1) (js ++ job ∷ [])
+jobs_make f n job [] id h = ((moved_at f n job.header.stream_id job.id id, omega (arith, id)), tt)
+jobs_make f n job (j ∷ js) id h = ((moved_below f n job.header.stream_id j.id h.0.1 ∙ h.0.0, omega (arith, h.0.1)), jobs_make f n job js id h.1)
+
+entry_make : (f : ℕ → ℕ) (n s : ℕ) (event : Event) (reply : Reply) → IsBelow f n event reply → IsBelow (moved f n s) (n + 1) event reply
+entry_make f n s Take (Handed (Some job)) h = (moved_below f n s job.id h.1 ∙ h.0, omega (arith, h.1))
+entry_make f n s event reply h = tt
+
+past_make : (f : ℕ → ℕ) (n s : ℕ) (trace : List Entry) → WasBelow f n trace → WasBelow (moved f n s) (n + 1) trace
+past_make f n s [] h = tt
+past_make f n s (e ∷ trace) h = (entry_make f n s e.event e.reply h.0, past_make f n s trace h.1)
+
+same_placed : (trace : List Entry) (n m : ℕ) (js ks : List ActiveJob) → m ≡ n → ks ≡ js → Placed trace n js → Placed trace m ks
+same_placed trace n m js ks hn hj p = record {
+  f = p.f;
+  below = subst (λ (x : ℕ). AreBelow p.f x ks) (sym hn) (subst (λ (x : List ActiveJob). AreBelow p.f n x) (sym hj) p.below);
+  past = subst (λ (x : ℕ). WasBelow p.f x trace) (sym hn) p.past;
+}
+
+does_placed : {O I : Type 0} (h : Halves O I) (trace : List Entry) (r : Row) (old : Core O I) (header : MessageHeader) (new : Core O I) → Does h r old header new → Placed trace old.last_job old.jobs → Placed trace new.last_job new.jobs
+does_placed h trace Skipped old header new d p = same_placed trace _ _ _ _ d.last_job d.jobs p
+does_placed h trace (Tells response) old header new d p = same_placed trace _ _ _ _ d.same.last_job d.same.jobs p
+does_placed h trace (TellsOf code) old header new d p = same_placed trace _ _ _ _ d.2.same.last_job d.2.same.jobs p
+does_placed h trace (Known request) old header new d p = same_placed trace _ _ _ _ d.last_job d.jobs (record {
+  f = moved p.f old.last_job d.job.header.stream_id;
+  below = jobs_make p.f old.last_job d.job old.jobs d.id p.below;
+  past = past_make p.f old.last_job d.job.header.stream_id trace p.past;
+})
+
+acts_placed : {O I : Type 0} (h : Halves O I) (trace : List Entry) (fs : List Incoming) (old new : Core O I) → ActsAll h old fs new → Placed trace old.last_job old.jobs → Placed trace new.last_job new.jobs
+acts_placed h trace [] old new a p = same_placed trace _ _ _ _ (ap Core.last_job a) (ap Core.jobs a) p
+acts_placed h trace (f ∷ fs) old new a p = acts_placed h trace fs a.0 new a.2 (does_placed h trace (row_of old f a.1.opening) old (header_of_frame f) a.0 a.1.does p)
+
+past_more : (f : ℕ → ℕ) (n : ℕ) (trace : List Entry) (event : Event) (reply : Reply) → WasBelow f n trace → IsBelow f n event reply → WasBelow f n (with_entry trace event reply)
+past_more f n [] event reply h r = (r, tt)
+past_more f n (e ∷ trace) event reply h r = (h.0, past_more f n trace event reply h.1 r)
+
+entry_placed : (trace : List Entry) (n : ℕ) (js : List ActiveJob) (event : Event) (reply : Reply) → (p : Placed trace n js) → IsBelow p.f n event reply → Placed (with_entry trace event reply) n js
+entry_placed trace n js event reply p r = record { f = p.f; below = p.below; past = past_more p.f n trace event reply p.past r }
+
+below_here : (f : ℕ → ℕ) (n : ℕ) (front back : List ActiveJob) (j : ActiveJob) → AreBelow f n (front ++ j ∷ back) → (f j.id ≡ j.header.stream_id) × (j.id ≤ n)
+below_here f n [] back j h = h.0
+below_here f n (i ∷ front) back j h = below_here f n front back j h.1
+
+below_taken : (f : ℕ → ℕ) (n : ℕ) (front back : List ActiveJob) (j : ActiveJob) → AreBelow f n (front ++ j ∷ back) → AreBelow f n (front ++ record j { request = None } ∷ back)
+below_taken f n [] back j h = (h.0, h.1)
+below_taken f n (i ∷ front) back j h = (h.0, below_taken f n front back j h.1)
+
+below_less : (f : ℕ → ℕ) (n : ℕ) (front back : List ActiveJob) (j : ActiveJob) → AreBelow f n (front ++ j ∷ back) → AreBelow f n (front ++ back)
+below_less f n [] back j h = h.1
+below_less f n (i ∷ front) back j h = (h.0, below_less f n front back j h.1)
+
+ended_placed : (trace : List Entry) (n : ℕ) (old new : List ActiveJob) (id : ℕ) (job : ActiveJob) → EndsOne old id job new → Placed trace n old → Placed trace n new
+ended_placed trace n old new id job t p = record {
+  f = p.f;
+  below = subst (λ (js : List ActiveJob). AreBelow p.f n js) (sym t.jobs) (below_less p.f n t.front t.back job (subst (λ (js : List ActiveJob). AreBelow p.f n js) t.was p.below));
+  past = p.past;
+}
+
+module _ {CO CI SO SI : Type 0} (c : Halves CO CI) (s : Halves SO SI) (seals : Bool) where
+  -- the jobs of a server
+  abbrev At : List Entry → Server SO SI → Type 0
+  At trace x = Placed trace x.core.last_job x.core.jobs
+
+  -- the jobs stay
+  stays : (trace : List Entry) (x y : Server SO SI) → y ≡ x → At trace x → At trace y
+  stays trace x y e p = subst (λ (z : Server SO SI). Placed trace z.core.last_job z.core.jobs) (sym e) p
+
+  -- an entry that hands nothing out, at which the server stays
+  still : (trace : List Entry) (w v : Net CO CI SO SI) (event : Event) (reply : Reply) → v.server ≡ w.server → ((f : ℕ → ℕ) (n : ℕ) → IsBelow f n event reply) → At trace w.server → At (with_entry trace event reply) v.server
+  still trace w v event reply e r p = stays (with_entry trace event reply) w.server v.server e (entry_placed trace w.server.core.last_job w.server.core.jobs event reply p (r p.f w.server.core.last_job))
+
+  hears : (trace : List Entry) (over : Bool) (x y : Server SO SI) → ServerHears over x y → At trace x → At trace y
+  hears trace true x y h p = let stops = server_stops x y h in same_placed trace _ _ _ _ (ap (λ (z : Server SO SI). z.core.last_job) stops.is) (ap (λ (z : Server SO SI). z.core.jobs) stops.is) p
+  hears trace false x y h p = stays trace x y h p
+
+  answered : (trace : List Entry) (x y : Server SO SI) (id : ℕ) (result : Result _ Error) → AnswersBy c s seals x id result y → At trace x → At trace y
+  answered trace x y id (Ok response) a p = same_placed trace _ _ _ _ a.1.same.last_job refl (ended_placed trace x.core.last_job x.core.jobs y.core.jobs id a.1.job a.1.ends p)
+  answered trace x y id (Err error) a p = same_placed trace _ _ _ _ a.same.last_job refl (ended_placed trace x.core.last_job x.core.jobs y.core.jobs id a.job a.ends p)
+
+  handed : (trace : List Entry) (w v : Net CO CI SO SI) (job : Job) → Steps c s seals w Take (Handed (Some job)) v → At trace w.server → At (with_entry trace Take (Handed (Some job))) v.server
+  handed trace w v job q p =
+      let t = q.does.hands in
+      let n : ℕ = w.server.core.last_job in
+      let below = subst (λ (js : List ActiveJob). AreBelow p.f n js) t.was p.below in
+      let here = below_here p.f n t.front t.back t.job below in
+      same_placed (with_entry trace Take (Handed (Some job))) n v.server.core.last_job _ v.server.core.jobs q.does.same.last_job t.jobs (record {
+        f = p.f;
+        below = below_taken p.f n t.front t.back t.job below;
+        past = past_more p.f n trace Take (Handed (Some job)) p.past (ap p.f t.id ∙ here.0 ∙ sym (ap (λ (h : MessageHeader). h.stream_id) t.header), omega (arith, here.1, t.id));
+      })
+
+  places : (trace : List Entry) (w : Net CO CI SO SI) (event : Event) (reply : Reply) (v : Net CO CI SO SI) → At trace w.server → Steps c s seals w event reply v → At (with_entry trace event reply) v.server
+  places trace w (Call request) (Named id) v p q = still trace w v (Call request) (Named id) (ap Net.server q.only) (λ f n. tt) p
+  places trace w (Call request) (Refused told) v p q = still trace w v (Call request) (Refused told) (ap Net.server q.1) (λ f n. tt) p
+  places trace w (Outcome id) (Given outcome) v p q = still trace w v (Outcome id) (Given outcome) (ap Net.server q.only) (λ f n. tt) p
+  places trace w (DropCall id) Done v p q = still trace w v (DropCall id) Done (ap Net.server q.only) (λ f n. tt) p
+  places trace w Take (Handed (Some job)) v p q = handed trace w v job q p
+  places trace w Take (Handed None) v p q = still trace w v Take (Handed None) (ap Net.server q.same) (λ f n. tt) p
+  places trace w (Answer id result) Done v p q = entry_placed trace _ _ (Answer id result) Done (answered trace w.server v.server id result q.does p) tt
+  places trace w (Answer id result) (Refused told) v p q = still trace w v (Answer id result) (Refused told) (ap Net.server q.1) (λ f n. tt) p
+  places trace w (Answer id result) NoMemory v p q = still trace w v (Answer id result) NoMemory (ap Net.server q) (λ f n. tt) p
+  places trace w (Answer id result) NoStep v p q = still trace w v (Answer id result) NoStep (ap Net.server q.1) (λ f n. tt) p
+  places trace w (Tick now) Done v p q = still trace w v (Tick now) Done (ap Net.server q.only) (λ f n. tt) p
+  places trace w (Tick now) NoStep v p q = still trace w v (Tick now) NoStep (ap Net.server q.1) (λ f n. tt) p
+  places trace w (Carry side.Client n) (Count k) v p q = still trace w v (Carry side.Client n) (Count k) (ap Net.server q.only) (λ f m. tt) p
+  places trace w (Carry side.Client n) NoMemory v p q = still trace w v (Carry side.Client n) NoMemory (ap Net.server q) (λ f m. tt) p
+  places trace w (Carry side.Server n) (Count k) v p q =
+      same_placed (with_entry trace (Carry side.Server n) (Count k)) _ _ _ _ (ap (λ (x : Net CO CI SO SI). x.server.core.last_job) q.only) (ap (λ (x : Net CO CI SO SI). x.server.core.jobs) q.only) (entry_placed trace _ _ (Carry side.Server n) (Count k) p tt)
+  places trace w (Carry side.Server n) NoMemory v p q = still trace w v (Carry side.Server n) NoMemory (ap Net.server q) (λ f m. tt) p
+  places trace w (Deliver side.Server n) (Count k) v p q =
+      entry_placed trace _ _ (Deliver side.Server n) (Count k) (hears trace (is_over (taken_from w.up k)) q.mid v.server q.hears (acts_placed s trace q.does.frames w.server.core q.mid.core q.does.acts p)) tt
+  places trace w (Deliver side.Server n) (Refused told) v p (inl q) =
+      entry_placed trace _ _ (Deliver side.Server n) (Refused told) (same_placed trace _ _ _ _ q.does.fails.quiet.last_job q.does.fails.quiet.jobs (acts_placed s trace q.does.frames w.server.core q.does.mid q.does.acts p)) tt
+  places trace w (Deliver side.Server n) (Refused told) v p (inr q) = still trace w v (Deliver side.Server n) (Refused told) (ap Net.server q.1) (λ f m. tt) p
+  places trace w (Deliver side.Client n) (Count k) v p q = still trace w v (Deliver side.Client n) (Count k) (ap Net.server q.only) (λ f m. tt) p
+  places trace w (Deliver side.Client n) (Refused told) v p (inl q) = still trace w v (Deliver side.Client n) (Refused told) (ap Net.server q.only) (λ f m. tt) p
+  places trace w (Deliver side.Client n) (Refused told) v p (inr q) = still trace w v (Deliver side.Client n) (Refused told) (ap Net.server q.1) (λ f m. tt) p
+  places trace w (Cut side.Server keep) Done v p q = entry_placed trace _ _ (Cut side.Server keep) Done (hears trace (is_over (cut_to w.up keep)) w.server v.server q.hears p) tt
+  places trace w (Cut side.Client keep) Done v p q = still trace w v (Cut side.Client keep) Done (ap Net.server q.only) (λ f m. tt) p
+  places trace w (Fail side.Client) Done v p q = still trace w v (Fail side.Client) Done (ap Net.server q) (λ f m. tt) p
+  places trace w (Fail side.Server) Done v p q =
+      same_placed (with_entry trace (Fail side.Server) Done) _ _ _ _ (ap (λ (x : Net CO CI SO SI). x.server.core.last_job) q) (ap (λ (x : Net CO CI SO SI). x.server.core.jobs) q) (entry_placed trace _ _ (Fail side.Server) Done p tt)
+  places trace w (Fail at) NoMemory v p q = still trace w v (Fail at) NoMemory (ap Net.server q) (λ f m. tt) p
+  places trace w (Open request up down) NoStep v p q = still trace w v (Open request up down) NoStep (ap Net.server q) (λ f m. tt) p
+  places trace w (Recv at id) NoStep v p q = still trace w v (Recv at id) NoStep (ap Net.server q) (λ f m. tt) p
+  places trace w (Send at id bytes) NoStep v p q = still trace w v (Send at id bytes) NoStep (ap Net.server q) (λ f m. tt) p
+  places trace w (Close id) NoStep v p q = still trace w v (Close id) NoStep (ap Net.server q) (λ f m. tt) p
+  places trace w (DropReceiver at id) NoStep v p q = still trace w v (DropReceiver at id) NoStep (ap Net.server q) (λ f m. tt) p
+  places trace w (DropSender id) NoStep v p q = still trace w v (DropSender id) NoStep (ap Net.server q) (λ f m. tt) p
+  places trace w (Respond id response) NoStep v p q = still trace w v (Respond id response) NoStep (ap Net.server q) (λ f m. tt) p
+  places trace w (Finish id) NoStep v p q = still trace w v (Finish id) NoStep (ap Net.server q) (λ f m. tt) p
+  places trace w (EndStream id result) NoStep v p q = still trace w v (EndStream id result) NoStep (ap Net.server q) (λ f m. tt) p
+  places trace w Drain NoStep v p q = still trace w v Drain NoStep (ap Net.server q) (λ f m. tt) p
+  places trace w event reply v p q = absurd q
+
+  places_all : (before rest : List Entry) (w v : Net CO CI SO SI) → At before w.server → Runs c s seals w rest v → At (before ++ rest) v.server
+  places_all before [] w v i p = subst (λ (t : List Entry). Placed t v.server.core.last_job v.server.core.jobs) (sym (append-nil before)) (stays before w.server v.server (ap Net.server p) i)
+  places_all before (e ∷ rest) w v i p =
+      subst (λ (t : List Entry). Placed t v.server.core.last_job v.server.core.jobs) (append_assoc before (e ∷ []) rest) (places_all (before ++ e ∷ []) rest p.0 v (places before w e.event e.reply p.0 i p.1) p.2)
+
+right_of : (f : ℕ → ℕ) (n : ℕ) (event : Event) (reply : Reply) → IsBelow f n event reply → IsRightAt f event reply
+right_of f n Take (Handed (Some job)) h = h.0
+right_of f n event reply h = tt
+
+past_right : (f : ℕ → ℕ) (n : ℕ) (trace : List Entry) → WasBelow f n trace → IsStreamOf f trace
+past_right f n [] h = tt
+past_right f n (e ∷ trace) h = (right_of f n e.event e.reply h.0, past_right f n trace h.1)
+
+pub some_streams : {CO CI SO SI : Type 0} (c : Halves CO CI) (s : Halves SO SI) (seals : Bool) (w : Net CO CI SO SI) (trace : List Entry) (v : Net CO CI SO SI) → IsFresh c s w → Runs c s seals w trace v → (stream_of : ℕ → ℕ) × IsStreamOf stream_of trace
+some_streams c s seals w trace v fresh r =
+    let start : Placed [] w.server.core.last_job w.server.core.jobs = record {
+      f = λ j. 0;
+      below = subst (λ (x : Server _ _). AreBelow (λ j. 0) x.core.last_job x.core.jobs) (sym fresh.server) tt;
+      past = tt;
+    } in
+    let p = places_all c s seals [] trace w v start r in
+    (p.f, past_right p.f v.server.core.last_job trace p.past)
+
+-- ---- no two jobs the same
+
+-- whether the entry hands out this job
+abbrev hands_out : ℕ → Event → Reply → Bool
+hands_out j Take (Handed (Some job)) = nat_eq job.id j
+hands_out j event reply = false
+
+abbrev was_handed_out : ℕ → List Entry → Bool
+was_handed_out j [] = false
+was_handed_out j (e ∷ trace) = if hands_out j e.event e.reply then true else was_handed_out j trace
+
+-- more than each stream that a trace hands a job out for
+abbrev stream_named : Event → Reply → ℕ
+stream_named Take (Handed (Some job)) = job.header.stream_id + 1
+stream_named event reply = 0
+
+abbrev above_all : List Entry → ℕ
+above_all [] = 0
+above_all (e ∷ trace) = stream_named e.event e.reply + above_all trace
+
+-- the stream of a job that was handed out, and for any other job a number of its own above all streams
+abbrev spread : (ℕ → ℕ) → List Entry → ℕ → ℕ
+spread f trace j = if was_handed_out j trace then f j else above_all trace + j
+
+-- an entry that hands out a job
+record HandsOut (j : ℕ) (event : Event) (reply : Reply) : Type 0 where
+  job : Job
+  event_is : event ≡ Take
+  reply_is : reply ≡ Handed (Some job)
+  id : job.id ≡ j
+
+hands_out_is : (j : ℕ) (event : Event) (reply : Reply) → hands_out j event reply ≡ true → HandsOut j event reply
+hands_out_is j Take (Handed (Some job)) e = record { job = job; event_is = refl; reply_is = refl; id = eqb-true job.id j e }
+hands_out_is j event reply e = absurd (let no : ⊥ = cc in no)
+
+either : (a b : Bool) → (if a then true else b) ≡ true → (a ≡ true) ⊎ ((a ≡ false) × (b ≡ true))
+either true b e = inl refl
+either false b e = inr (refl, e)
+
+later : (a b : Bool) → b ≡ true → (if a then true else b) ≡ true
+later true b e = refl
+later false b e = e
+
+-- its stream is right, and below all others' numbers
+named_below : (f : ℕ → ℕ) (j : ℕ) (event : Event) (reply : Reply) → IsRightAt f event reply → HandsOut j event reply → f j + 1 ≤ stream_named event reply
+named_below f j event reply right h =
+    subst (λ (e : Event). f j + 1 ≤ stream_named e reply) (sym h.event_is)
+    (subst (λ (r : Reply). f j + 1 ≤ stream_named Take r) (sym h.reply_is)
+    (let at : f h.job.id ≡ h.job.header.stream_id = subst (λ (r : Reply). IsRightAt f Take r) h.reply_is (subst (λ (e : Event). IsRightAt f e reply) h.event_is right) in
+    omega (arith, at, ap f h.id)))
+
+stream_below : (f : ℕ → ℕ) (j : ℕ) (trace : List Entry) → IsStreamOf f trace → was_handed_out j trace ≡ true → f j + 1 ≤ above_all trace
+stream_below f j [] right e = cc
+stream_below f j (x ∷ trace) right e = elim (either (hands_out j x.event x.reply) (was_handed_out j trace) e) [
+  | inl here ↦ omega (arith, named_below f j x.event x.reply right.0 (hands_out_is j x.event x.reply here))
+  | inr there ↦ omega (arith, stream_below f j trace right.1 there.1)
+]
+
+-- it is one of the runs of its stream
+record IsAmong (j : ℕ) (xs : List ℕ) : Type 0 where
+  front : List ℕ
+  back : List ℕ
+  is : xs ≡ front ++ j ∷ back
+
+runs_append : (a b : List Act) → runs (a ++ b) ≡ runs a ++ runs b
+runs_append [] b = refl
+runs_append (Called request ∷ a) b = runs_append a b
+runs_append (Ran job request ∷ a) b = ap (λ xs. job ∷ xs) (runs_append a b)
+runs_append (Answered result ∷ a) b = runs_append a b
+runs_append (Gave outcome ∷ a) b = runs_append a b
+
+among_now : (f : ℕ → ℕ) (j k : ℕ) (event : Event) (reply : Reply) → IsRightAt f event reply → HandsOut j event reply → f j ≡ k → runs (act_of f k event reply) ≡ j ∷ []
+among_now f j k event reply right h at =
+    let stream : h.job.header.stream_id ≡ k = sym (subst (λ (r : Reply). IsRightAt f Take r) h.reply_is (subst (λ (e : Event). IsRightAt f e reply) h.event_is right)) ∙ ap f h.id ∙ at in
+    ap (λ (e : Event). runs (act_of f k e reply)) h.event_is ∙ ap (λ (r : Reply). runs (act_of f k Take r)) h.reply_is
+    ∙ ap (λ (b : Bool). runs (only_if b (Ran h.job.id h.job.request))) (eq-eqb h.job.header.stream_id k stream) ∙ ap (λ (n : ℕ). n ∷ []) h.id
+
+among : (f : ℕ → ℕ) (j k : ℕ) (trace : List Entry) → IsStreamOf f trace → was_handed_out j trace ≡ true → f j ≡ k → IsAmong j (runs (acts f k trace))
+among f j k [] right e at = cc
+among f j k (x ∷ trace) right e at = elim (either (hands_out j x.event x.reply) (was_handed_out j trace) e) [
+  | inl here ↦ record {
+    front = [];
+    back = runs (acts f k trace);
+    is = runs_append (act_of f k x.event x.reply) (acts f k trace) ∙ ap (λ xs. xs ++ runs (acts f k trace)) (among_now f j k x.event x.reply right.0 (hands_out_is j x.event x.reply here) at);
+  }
+  | inr there ↦ let a = among f j k trace right.1 there.1 at in record {
+    front = runs (act_of f k x.event x.reply) ++ a.front;
+    back = a.back;
+    is = runs_append (act_of f k x.event x.reply) (acts f k trace) ∙ ap (λ xs. runs (act_of f k x.event x.reply) ++ xs) a.is ∙ sym (append_assoc (runs (act_of f k x.event x.reply)) a.front (j ∷ a.back));
+  }
+]
+
+-- a list of at most one item has no two
+alone : (front back : List ℕ) (i : ℕ) → length (front ++ i ∷ back) ≤ 1 → front ++ i ∷ back ≡ i ∷ []
+alone [] [] i h = refl
+alone [] (b ∷ back) i h = absurd (let no : ⊥ = omega (arith, h) in no)
+alone (z ∷ front) back i h = absurd (let no : ⊥ = omega (arith, h, length-append front (i ∷ back)) in no)
+
+only_among : (xs : List ℕ) (i : ℕ) → length xs ≤ 1 → IsAmong i xs → xs ≡ i ∷ []
+only_among xs i short a = a.is ∙ alone a.front a.back i (subst (λ (ys : List ℕ). length ys ≤ 1) a.is short)
+
+same_item : (xs : List ℕ) (i j : ℕ) → length xs ≤ 1 → IsAmong i xs → IsAmong j xs → i ≡ j
+same_item xs i j short a b = let e : i ∷ [] ≡ j ∷ [] = sym (only_among xs i short a) ∙ only_among xs j short b in cc
+
+spread_handed : (f : ℕ → ℕ) (trace : List Entry) (j : ℕ) → was_handed_out j trace ≡ true → spread f trace j ≡ f j
+spread_handed f trace j e = cond-true (was_handed_out j trace) _ _ e
+
+spread_other : (f : ℕ → ℕ) (trace : List Entry) (j : ℕ) → was_handed_out j trace ≡ false → spread f trace j ≡ above_all trace + j
+spread_other f trace j e = cond-false (was_handed_out j trace) _ _ e
+
+true_or_false : (b : Bool) → (b ≡ true) ⊎ (b ≡ false)
+true_or_false true = inl refl
+true_or_false false = inr refl
+
+two_jobs : (f : ℕ → ℕ) (trace : List Entry) (i j : ℕ) → IsStreamOf f trace → ((k : ℕ) → length (runs (acts f k trace)) ≤ 1) → spread f trace i ≡ spread f trace j
+    → (was_handed_out i trace ≡ true) ⊎ (was_handed_out i trace ≡ false) → (was_handed_out j trace ≡ true) ⊎ (was_handed_out j trace ≡ false) → i ≡ j
+two_jobs f trace i j right short same (inl a) (inl b) =
+    let e : f i ≡ f j = sym (spread_handed f trace i a) ∙ same ∙ spread_handed f trace j b in
+    same_item (runs (acts f (f j) trace)) i j (short (f j)) (among f i (f j) trace right a e) (among f j (f j) trace right b refl)
+two_jobs f trace i j right short same (inl a) (inr b) =
+    absurd (let no : ⊥ = omega (arith, stream_below f i trace right a, sym (spread_handed f trace i a) ∙ same ∙ spread_other f trace j b) in no)
+two_jobs f trace i j right short same (inr a) (inl b) =
+    absurd (let no : ⊥ = omega (arith, stream_below f j trace right b, sym (spread_other f trace i a) ∙ same ∙ spread_handed f trace j b) in no)
+two_jobs f trace i j right short same (inr a) (inr b) =
+    let e : above_all trace + i ≡ above_all trace + j = sym (spread_other f trace i a) ∙ same ∙ spread_other f trace j b in
+    omega (arith, e)
+
+-- it is right, too
+right_here : (f g : ℕ → ℕ) (event : Event) (reply : Reply) → IsRightAt f event reply → ((j : ℕ) → hands_out j event reply ≡ true → g j ≡ f j) → IsRightAt g event reply
+right_here f g Take (Handed (Some job)) right same = same job.id (eq-eqb job.id job.id refl) ∙ right
+right_here f g event reply right same = tt
+
+right_in : (f g : ℕ → ℕ) (part : List Entry) → ((j : ℕ) → was_handed_out j part ≡ true → g j ≡ f j) → IsStreamOf f part → IsStreamOf g part
+right_in f g [] same right = tt
+right_in f g (e ∷ part) same right = (
+  right_here f g e.event e.reply right.0 (λ j here. same j (ap (λ b. if b then true else was_handed_out j part) here)),
+  right_in f g part (λ j there. same j (later (hands_out j e.event e.reply) (was_handed_out j part) there)) right.1,
+)
+
+pub one_to_one : (trace : List Entry) (f : ℕ → ℕ) → IsStreamOf f trace → ((k : ℕ) → length (runs (acts f k trace)) ≤ 1) → (g : ℕ → ℕ) × IsStreamOf g trace × IsOneToOne g
+one_to_one trace f right short = (
+  spread f trace,
+  right_in f (spread f trace) trace (λ j e. spread_handed f trace j e) right,
+  λ i j same. two_jobs f trace i j right short same (true_or_false (was_handed_out i trace)) (true_or_false (was_handed_out j trace)),
+)

@@ -1,0 +1,96 @@
+-- Requests are thrown away: what stays in flight to the server.
+use Rattle.std.proofs.Common.{◌≡◌, ℕ, ◌≤◌, List, [], ◌∷◌, ◌++◌, length, Option, Some, None, refl, sym, ◌∙◌, subst, ◌⊎◌, inl, inr, arith}
+use Rattle.std.specs.List.{AllByRecursion}
+use Rattle.ttrpc_proto.specs.declared.error.Error.{Error}
+use Rattle.ttrpc_frame.specs.Frames.{Held}
+use Rattle.ttrpc_frame.specs.Queue.{Queue, begun_count, without}
+use Rattle.ttrpc_secure.specs.Halves.{Moves, Refusals}
+use Rattle.ttrpc_client.specs.Happens.{without_all}
+use Rattle.ttrpc_flight.specs.Flight.{Flying, AreInFlight, AreLinked, IsOwnRequest, others_flying_without, parcels}
+use Rattle.ttrpc_flight.proofs.Bytes.{thrown_in_flight}
+use Rattle.ttrpc_flight.proofs.Losing.{all_thrown}
+use Rattle.ttrpc_flight.proofs.Parcels.{parcels_thrown}
+use Rattle.ttrpc_flight.proofs.Seals.{thrown_linked}
+use Rattle.ttrpc_world.specs.Pipes.{Pipe}
+
+-- these flights are in transit, and behind them queued
+pub record InFlight (held : Held) (p : Pipe) (q : Queue) (flights : List Flying) : Type 0 where
+  pub transit : List Flying
+  pub queued : List Flying
+  pub all : transit ++ queued ≡ flights
+  pub bytes : AreInFlight held p.bytes p.cut q transit queued
+
+-- the two cases of a side
+pub lives_or_failed : (failure : Option Error) → (failure ≡ None) ⊎ ((e : Error) × (failure ≡ Some e))
+lives_or_failed None = inl refl
+lives_or_failed (Some e) = inr (e, refl)
+
+pub not_both : {X : Type 0} (failure : Option X) (x : X) → failure ≡ Some x → failure ≡ None → ⊥
+not_both failure x a b = let bad : Some x ≡ None = sym a ∙ b in cc
+
+-- What is left of the flights is in flight over the queue that is left; of each id they are the same, or none.
+pub record Thrown {O I : Type 0} (seals : Moves O) (opens : Moves I) (refuses : Refusals I) (failure : Option Error) (held : Held) (p : Pipe) (q : Queue) (out : O) (in_ : I) (flights : List Flying) : Type 0 where
+  pub left : List Flying
+  pub parts : (k : ℕ) → (parcels k left ≡ parcels k flights) ⊎ (parcels k left ≡ [])
+  pub own : AllByRecursion IsOwnRequest left
+  pub bytes : failure ≡ None → InFlight held p q left
+  pub linked : failure ≡ None → AreLinked seals opens refuses left out in_
+
+-- at most one flight has an id
+abbrev pub AreSingle : List Flying → Type 0
+AreSingle flights = (k : ℕ) → length (parcels k flights) ≤ 1
+
+single_left : (flights left : List Flying) → AreSingle flights → ((k : ℕ) → (parcels k left ≡ parcels k flights) ⊎ (parcels k left ≡ [])) → AreSingle left
+single_left flights left single parts = λ k. elim (parts k) [
+  | inl same ↦ subst (λ (xs : List Flying). length xs ≤ 1) (sym same) (single k)
+  | inr none ↦ subst (λ (xs : List Flying). length xs ≤ 1) (sym none) (omega arith)
+]
+
+parts_twice : (a b c : List Flying) (k : ℕ) → (parcels k b ≡ parcels k a) ⊎ (parcels k b ≡ []) → (parcels k c ≡ parcels k b) ⊎ (parcels k c ≡ []) → (parcels k c ≡ parcels k a) ⊎ (parcels k c ≡ [])
+parts_twice a b c k (inl x) (inl y) = inl (y ∙ x)
+parts_twice a b c k (inr x) (inl y) = inr (y ∙ x)
+parts_twice a b c k x (inr y) = inr y
+
+module _ {O I : Type 0} (seals : Moves O) (opens : Moves I) (refuses : Refusals I) (still : (s t : O) (plain aad sealed : List ℕ) → seals s plain aad sealed t → t ≡ s)
+    (failure : Option Error) (held : Held) (p : Pipe) (out : O) (in_ : I) where
+  -- nothing is thrown away
+  nothing_thrown : (q : Queue) (flights : List Flying) → AllByRecursion IsOwnRequest flights → (failure ≡ None → InFlight held p q flights) → (failure ≡ None → AreLinked seals opens refuses flights out in_)
+      → Thrown seals opens refuses failure held p q out in_ flights
+  nothing_thrown q flights own bytes linked = record { left = flights; parts = λ k. inl refl; own = own; bytes = bytes; linked = linked }
+
+  -- a failed side takes no more
+  failed_thrown : (e : Error) → failure ≡ Some e → (q : Queue) (flights : List Flying) → AllByRecursion IsOwnRequest flights → Thrown seals opens refuses failure held p q out in_ flights
+  failed_thrown e dead q flights own = nothing_thrown q flights own (λ alive. absurd (not_both failure e dead alive)) (λ alive. absurd (not_both failure e dead alive))
+
+  lives_thrown : (owner : ℕ) (q : Queue) (flights : List Flying) → AreSingle flights → AllByRecursion IsOwnRequest flights → InFlight held p q flights → AreLinked seals opens refuses flights out in_
+      → Thrown seals opens refuses failure held p (without q owner) out in_ flights
+  lives_thrown owner q flights single own b l =
+      let n : ℕ = begun_count q in
+      let rest : List Flying = others_flying_without owner n b.queued in
+      let all_own = subst (λ (xs : List Flying). AllByRecursion IsOwnRequest xs) (sym b.all) own in
+      record {
+        left = b.transit ++ rest;
+        parts = λ k.
+            subst (λ (xs : List Flying). (parcels k (b.transit ++ rest) ≡ parcels k xs) ⊎ (parcels k (b.transit ++ rest) ≡ [])) b.all
+            (parcels_thrown k owner n b.transit b.queued (subst (λ (xs : List Flying). length (parcels k xs) ≤ 1) (sym b.all) (single k)));
+        own = all_thrown IsOwnRequest owner n b.transit b.queued all_own;
+        bytes = λ alive. record { transit = b.transit; queued = rest; all = refl; bytes = thrown_in_flight held p.bytes p.cut q b.transit b.queued owner b.bytes };
+        linked = λ alive. thrown_linked seals still opens refuses b.transit b.queued out in_ owner n (subst (λ (xs : List Flying). AreLinked seals opens refuses xs out in_) (sym b.all) l);
+      }
+
+  pub throw_one : (owner : ℕ) (q : Queue) (flights : List Flying) → AreSingle flights → AllByRecursion IsOwnRequest flights
+      → (failure ≡ None → InFlight held p q flights) → (failure ≡ None → AreLinked seals opens refuses flights out in_)
+      → Thrown seals opens refuses failure held p (without q owner) out in_ flights
+  throw_one owner q flights single own bytes linked = elim (lives_or_failed failure) [
+    | inl alive ↦ lives_thrown owner q flights single own (bytes alive) (linked alive)
+    | inr dead ↦ failed_thrown dead.0 dead.1 (without q owner) flights own
+  ]
+
+  pub throw_all : (owners : List ℕ) (q : Queue) (flights : List Flying) → AreSingle flights → AllByRecursion IsOwnRequest flights
+      → (failure ≡ None → InFlight held p q flights) → (failure ≡ None → AreLinked seals opens refuses flights out in_)
+      → Thrown seals opens refuses failure held p (without_all q owners) out in_ flights
+  throw_all [] q flights single own bytes linked = nothing_thrown q flights own bytes linked
+  throw_all (owner ∷ owners) q flights single own bytes linked =
+      let first = throw_one owner q flights single own bytes linked in
+      let later = throw_all owners (without q owner) first.left (single_left flights first.left single first.parts) first.own first.bytes first.linked in
+      record { left = later.left; parts = λ k. parts_twice flights first.left later.left k (first.parts k) (later.parts k); own = later.own; bytes = later.bytes; linked = later.linked }

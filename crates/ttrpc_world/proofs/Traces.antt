@@ -1,0 +1,55 @@
+-- A trace with one more entry, and what it says of one id.
+use Rattle.std.proofs.Common.{◌≡◌, ◌≢◌, ℕ, ◌≤◌, List, [], ◌∷◌, ◌++◌, Option, Some, None, Result, nat_eq, refl, sym, ap, ◌∙◌, append_assoc}
+use Rattle.std.proofs.lemmas.Bool.{eq-eqb, ne_eqb}
+use Rattle.std.proofs.lemmas.List.{append-nil}
+use Rattle.ttrpc_proto.specs.declared.error.Error.{Error}
+use Rattle.ttrpc_proto.specs.declared.response.Response.{Response}
+use Rattle.ttrpc_core.specs.declared.job.ActiveJob.{ActiveJob}
+use Rattle.ttrpc_client.specs.declared.call.Call.{Call}
+use Rattle.ttrpc_flight.specs.Flight.{Flying}
+use Rattle.ttrpc_world.specs.declared.events.Event.{Event}
+use Rattle.ttrpc_world.specs.declared.events.Event.TheVariants.{Outcome}
+use Rattle.ttrpc_world.specs.declared.events.Reply.{Reply}
+use Rattle.ttrpc_world.specs.declared.events.Reply.TheVariants.{Outcome as Given}
+use Rattle.ttrpc_world.specs.declared.events.Entry.{Entry}
+use Rattle.ttrpc_world.specs.Story.{Act, Gave, act_of, acts, only_if}
+use Rattle.ttrpc_world.proofs.Turns.{elsewhere, gave_of}
+use Rattle.ttrpc_world.proofs.Delivers.{Stories}
+
+-- the trace after one more entry
+abbrev pub with_entry : List Entry → Event → Reply → List Entry
+with_entry trace event reply = trace ++ record { event = event; reply = reply } ∷ []
+
+pub acts_then : (stream_of : ℕ → ℕ) (k : ℕ) (trace : List Entry) (event : Event) (reply : Reply) → acts stream_of k (with_entry trace event reply) ≡ acts stream_of k trace ++ act_of stream_of k event reply
+acts_then stream_of k [] event reply = append-nil (act_of stream_of k event reply)
+acts_then stream_of k (e ∷ trace) event reply =
+    ap (λ xs. act_of stream_of k e.event e.reply ++ xs) (acts_then stream_of k trace event reply) ∙ sym (append_assoc (act_of stream_of k e.event e.reply) (acts stream_of k trace) (act_of stream_of k event reply))
+
+-- an entry that is no act of this id
+pub silent : (stream_of : ℕ → ℕ) (k : ℕ) (trace : List Entry) (event : Event) (reply : Reply) → act_of stream_of k event reply ≡ [] → acts stream_of k (with_entry trace event reply) ≡ acts stream_of k trace
+silent stream_of k trace event reply h = acts_then stream_of k trace event reply ∙ ap (λ xs. acts stream_of k trace ++ xs) h ∙ append-nil (acts stream_of k trace)
+
+-- an entry that is one act of this id
+pub heard : (stream_of : ℕ → ℕ) (k at : ℕ) (trace : List Entry) (event : Event) (reply : Reply) (act : Act) → act_of stream_of k event reply ≡ only_if (nat_eq at k) act → at ≡ k
+    → acts stream_of k (with_entry trace event reply) ≡ acts stream_of k trace ++ act ∷ []
+heard stream_of k at trace event reply act h e = acts_then stream_of k trace event reply ∙ ap (λ xs. acts stream_of k trace ++ xs) (h ∙ ap (λ b. only_if b act) (eq-eqb at k e))
+
+-- and one of another
+pub unheard : (stream_of : ℕ → ℕ) (k at : ℕ) (trace : List Entry) (event : Event) (reply : Reply) (act : Act) → act_of stream_of k event reply ≡ only_if (nat_eq at k) act → at ≢ k
+    → acts stream_of k (with_entry trace event reply) ≡ acts stream_of k trace
+unheard stream_of k at trace event reply act h e = silent stream_of k trace event reply (h ∙ ap (λ b. only_if b act) (ne_eqb at k e))
+
+-- an outcome was asked for
+pub asked : (stream_of : ℕ → ℕ) (k id : ℕ) (trace : List Entry) (given : Option (Result Response Error)) → id ≡ k → acts stream_of k (with_entry trace (Outcome id) (Given given)) ≡ acts stream_of k trace ++ gave_of given
+asked stream_of k id trace None e = acts_then stream_of k trace (Outcome id) (Given None)
+asked stream_of k id trace (Some o) e = heard stream_of k id trace (Outcome id) (Given (Some o)) (Gave o) refl e
+
+pub unasked : (stream_of : ℕ → ℕ) (k id : ℕ) (trace : List Entry) (given : Option (Result Response Error)) → id ≢ k → acts stream_of k (with_entry trace (Outcome id) (Given given)) ≡ acts stream_of k trace
+unasked stream_of k id trace None e = silent stream_of k trace (Outcome id) (Given None) refl
+unasked stream_of k id trace (Some o) e = unheard stream_of k id trace (Outcome id) (Given (Some o)) (Gave o) refl e
+
+-- an entry that is no act of any id leaves the stories
+pub stories_silent : (stream_of : ℕ → ℕ) (trace : List Entry) (event : Event) (reply : Reply) (up down : List Flying) (next : ℕ) (jobs : List ActiveJob) (kept : ℕ → Option Call)
+    → ((k : ℕ) → act_of stream_of k event reply ≡ []) → Stories stream_of trace up down next jobs kept → Stories stream_of (with_entry trace event reply) up down next jobs kept
+stories_silent stream_of trace event reply up down next jobs kept q c = λ k.
+    elsewhere (next ≤ k) (next ≤ k) k _ _ _ _ _ _ _ _ _ _ (c k) (λ y. y) (silent stream_of k trace event reply (q k)) refl refl refl refl

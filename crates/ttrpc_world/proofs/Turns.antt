@@ -1,0 +1,513 @@
+-- What each event does to the story of an id.
+use Rattle.std.proofs.Common.{◌≡◌, ℕ, ◌≤◌, List, [], ◌∷◌, ◌++◌, length, Bool, true, false, if◌then◌else◌, Option, Some, None, Result, Ok, Err, refl, sym, ap, ◌∙◌, subst, ◌⊎◌, inl, inr, arith, ℤ, pos, negsuc, zero, suc}
+use Rattle.std.proofs.lemmas.List.{append-nil}
+use Rattle.ttrpc_proto.specs.declared.error.Error.{Error}
+use Rattle.ttrpc_proto.specs.declared.request.Request.{Request}
+use Rattle.ttrpc_proto.specs.declared.error.Error.TheVariants.{RpcStatus}
+use Rattle.ttrpc_proto.specs.declared.response.Response.{Response}
+use Rattle.ttrpc_proto.specs.declared.status.Status.{Status}
+use Rattle.ttrpc_proto.specs.Messages.{is_ok_code}
+use Rattle.ttrpc_core.specs.declared.job.ActiveJob.{ActiveJob}
+use Rattle.ttrpc_client.specs.declared.call.Call.{Call}
+use Rattle.ttrpc_client.specs.declared.call.Call.TheVariants.{Waiting, Expired, Ended}
+use Rattle.ttrpc_client.specs.Table.{Gives, LandsOn, by_code, by_status}
+use Rattle.ttrpc_client.specs.Happens.{GivesOutcome, TellsOutcome, expired_at, expired_error, is_due, left_of}
+use Rattle.ttrpc_flight.specs.Flight.{Flying}
+use Rattle.ttrpc_world.specs.Story.{Act, Called, Ran, Answered, Gave, HasOkStatus, outcomes, work}
+use Rattle.ttrpc_world.proofs.Stages.{Stage, Unborn, Sent, Made, Running, Told, Over, Ends, Given, HasLanded, IsAnswerOf, IsBorn, IsDone, IsJob, IsSent, IsStage, IsToldOf, IsWhole, Story, all_work, downs_of, jobs_of, outcomes_append, ups_of, whole_work, work_append, works_of}
+
+-- ---- lists of at most one item
+
+no_cons : {X : Type 0} (x : X) (xs : List X) → x ∷ xs ≡ [] → ⊥
+no_cons x xs h = cc
+
+never_empty : {X : Type 0} (front back : List X) (x : X) → front ++ x ∷ back ≡ [] → ⊥
+never_empty [] back x h = cc
+never_empty (z ∷ front) back x h = cc
+
+-- a list of one item, cut around an item
+only_one : {X : Type 0} (front back : List X) (x y : X) → front ++ x ∷ back ≡ y ∷ [] → (front ≡ []) × (x ≡ y) × (back ≡ [])
+only_one [] back x y h = (refl, cc, cc)
+only_one (z ∷ []) back x y h = let bad : x ∷ back ≡ [] = cc in cc
+only_one (z ∷ w ∷ front) back x y h = let bad : w ∷ (front ++ x ∷ back) ≡ [] = cc in cc
+
+-- ---- what was given stays
+
+-- a call goes on, and gives nothing
+ends_move : (p q : Stage) (a b : List Act) (e : Option Call) → outcomes b ≡ outcomes a → (IsBorn p → IsBorn q)
+    → ((r : Response) → HasLanded p r → HasLanded q r × (IsWhole a r → IsWhole b r)) → Ends p a e → Ends q b e
+ends_move p q a b None g born landed (inl h) = inl (g ∙ h)
+ends_move p q a b None g born landed (inr (inl h)) = inr (inl (h.0, g ∙ h.1, born h.2))
+ends_move p q a b None g born landed (inr (inr h)) = let l = landed h.0 h.1 in inr (inr (h.0, l.0, l.1 h.2))
+ends_move p q a b (Some (Waiting deadline)) g born landed h = (g ∙ h.0, born h.1)
+ends_move p q a b (Some Expired) g born landed h = (g ∙ h.0, born h.1)
+ends_move p q a b (Some (Ended (Ok r))) g born landed h = (g ∙ h.0, (landed r h.1).0)
+ends_move p q a b (Some (Ended (Err x))) g born landed h = (g ∙ h.0, born h.1)
+
+unborn_gave : (a : List Act) (e : Option Call) → Ends Unborn a e → outcomes a ≡ []
+unborn_gave a None (inl h) = h
+unborn_gave a None (inr (inl h)) = absurd h.2
+unborn_gave a None (inr (inr h)) = absurd h.1
+unborn_gave a (Some (Waiting deadline)) h = h.0
+unborn_gave a (Some Expired) h = h.0
+unborn_gave a (Some (Ended (Ok r))) h = h.0
+unborn_gave a (Some (Ended (Err x))) h = h.0
+
+-- ---- the turns
+
+-- Nothing changes at an id that an event isn't about.
+pub elsewhere : (Y Y2 : Type 0) (k : ℕ) (a a2 : List Act) (u u2 : List Flying) (j j2 : List ActiveJob) (d d2 : List Flying) (e e2 : Option Call)
+    → Story Y k a u j d e → (Y2 → Y) → a2 ≡ a → u2 ≡ u → j2 ≡ j → d2 ≡ d → e2 ≡ e → Story Y2 k a2 u2 j2 d2 e2
+elsewhere Y Y2 k a a2 u u2 j j2 d d2 e e2 s y ha hu hj hd he = record {
+  stage = s.stage;
+  is_stage = s.is_stage;
+  young = λ z. s.young (y z);
+  works_is = ap work ha ∙ s.works_is;
+  ups_is = hu ∙ s.ups_is;
+  jobs_is = hj ∙ s.jobs_is;
+  downs_is = hd ∙ s.downs_is;
+  ends = subst (λ (x : List Act). Ends s.stage x e2) (sym ha) (subst (λ (x : Option Call). Ends s.stage a x) (sym he) s.ends);
+}
+
+-- A call is accepted.
+pub calls_here : (Y Y2 : Type 0) (k : ℕ) (a a2 : List Act) (u u2 : List Flying) (j : List ActiveJob) (d : List Flying) (e e2 : Option Call) (request : Request) (x : Flying) (deadline : Option ℕ)
+    → Story Y k a u j d e → Y → (Y2 → ⊥) → IsSent k request x → a2 ≡ a ++ Called request ∷ [] → u2 ≡ u ++ x ∷ [] → e2 ≡ Some (Waiting deadline) → Story Y2 k a2 u2 j d e2
+calls_here Y Y2 k a a2 u u2 j d e e2 request x deadline s y y2 sent ha hu he =
+    let q = s.young y in
+    let quiet : outcomes a ≡ [] = unborn_gave a e (subst (λ (x : Stage). Ends x a e) q s.ends) in
+    record {
+      stage = Sent request x;
+      is_stage = sent;
+      young = λ z. absurd (y2 z);
+      works_is = ap work ha ∙ work_append a (Called request ∷ []) ∙ ap (λ xs. xs ++ Called request ∷ []) (s.works_is ∙ ap works_of q);
+      ups_is = hu ∙ ap (λ xs. xs ++ x ∷ []) (s.ups_is ∙ ap ups_of q);
+      jobs_is = s.jobs_is ∙ ap jobs_of q;
+      downs_is = s.downs_is ∙ ap downs_of q;
+      ends = subst (λ (x2 : Option Call). Ends (Sent request x) a2 x2) (sym he) (ap outcomes ha ∙ outcomes_append a (Called request ∷ []) ∙ append-nil (outcomes a) ∙ quiet, tt);
+    }
+
+sent_only : (p : Stage) (x : Flying) (u : List Flying) → x ∷ u ≡ ups_of p → (request : Request) × (p ≡ Sent request x) × (u ≡ [])
+sent_only Unborn x u h = absurd (no_cons x u h)
+sent_only (Sent request z) x u h = (request, (let same : x ≡ z = cc in ap (λ (w : Flying). Sent request w) (sym same)), cc)
+sent_only (Made request job) x u h = absurd (no_cons x u h)
+sent_only (Running request job) x u h = absurd (no_cons x u h)
+sent_only (Told done r y) x u h = absurd (no_cons x u h)
+sent_only (Over done) x u h = absurd (no_cons x u h)
+
+-- What a frame on its way to the server says of its call.
+pub record Arriving (k : ℕ) (x : Flying) : Type 0 where
+  pub request : Request
+  pub is_sent : IsSent k request x
+
+pub arriving : (Y : Type 0) (k : ℕ) (a : List Act) (x : Flying) (u : List Flying) (j : List ActiveJob) (d : List Flying) (e : Option Call) → Story Y k a (x ∷ u) j d e → Arriving k x
+arriving Y k a x u j d e s =
+    let o = sent_only s.stage x u s.ups_is in
+    record { request = o.0; is_sent = subst (λ (p : Stage). IsStage k p) o.1 s.is_stage }
+
+-- the request that a frame carries is one
+sent_request : (k : ℕ) (r q : Request) (x : Flying) → Sent r x ≡ Sent q x → r ≡ q
+sent_request k r q x h = cc
+
+-- The request is a job.
+pub arrives_here : (Y : Type 0) (k : ℕ) (a : List Act) (x : Flying) (u : List Flying) (j j2 : List ActiveJob) (d : List Flying) (e : Option Call) (job : ActiveJob)
+    → (s : Story Y k a (x ∷ u) j d e) → IsJob k (Some (arriving Y k a x u j d e s).request) job → j2 ≡ j ++ job ∷ [] → Story Y k a u j2 d e
+unfolding sent_only arriving
+arrives_here Y k a x u j j2 d e job s is hj =
+    let o = sent_only s.stage x u s.ups_is in
+    let q = o.1 in
+    record {
+      stage = Made o.0 job;
+      is_stage = is;
+      young = λ z. let bad : Sent o.0 x ≡ Unborn = sym q ∙ s.young z in cc;
+      works_is = s.works_is ∙ ap works_of q;
+      ups_is = o.2;
+      jobs_is = hj ∙ ap (λ (xs : List ActiveJob). xs ++ job ∷ []) (s.jobs_is ∙ ap jobs_of q);
+      downs_is = s.downs_is ∙ ap downs_of q;
+      ends = ends_move (Sent o.0 x) (Made o.0 job) a a e refl (λ b. tt) (λ r l. absurd l) (subst (λ (p : Stage). Ends p a e) q s.ends);
+    }
+
+-- The server answers the request itself.
+pub refers_here : (Y : Type 0) (k : ℕ) (a : List Act) (x : Flying) (u : List Flying) (j : List ActiveJob) (d d2 : List Flying) (e : Option Call) (r : Response) (y : Flying)
+    → (s : Story Y k a (x ∷ u) j d e) → IsToldOf k (Called (arriving Y k a x u j d e s).request ∷ []) r y → d2 ≡ d ++ y ∷ [] → Story Y k a u j d2 e
+unfolding sent_only arriving
+refers_here Y k a x u j d d2 e r y s is hd =
+    let o = sent_only s.stage x u s.ups_is in
+    let q = o.1 in
+    let done : List Act = Called o.0 ∷ [] in
+    record {
+      stage = Told done r y;
+      is_stage = is;
+      young = λ z. let bad : Sent o.0 x ≡ Unborn = sym q ∙ s.young z in cc;
+      works_is = s.works_is ∙ ap works_of q;
+      ups_is = o.2;
+      jobs_is = s.jobs_is ∙ ap jobs_of q;
+      downs_is = hd ∙ ap (λ (xs : List Flying). xs ++ y ∷ []) (s.downs_is ∙ ap downs_of q);
+      ends = ends_move (Sent o.0 x) (Told done r y) a a e refl (λ b. tt) (λ r2 l. absurd l) (subst (λ (p : Stage). Ends p a e) q s.ends);
+    }
+
+pub called_alone : (request : Request) → IsDone (Called request ∷ [])
+called_alone request = record { one_call = refl; one_run = omega arith }
+
+-- It has no answer at all, since none can be sent.
+pub leaves_out_here : (Y : Type 0) (k : ℕ) (a : List Act) (x : Flying) (u : List Flying) (j : List ActiveJob) (d : List Flying) (e : Option Call)
+    → Story Y k a (x ∷ u) j d e → Story Y k a u j d e
+leaves_out_here Y k a x u j d e s =
+    let o = sent_only s.stage x u s.ups_is in
+    let q = o.1 in
+    record {
+      stage = Over (Called o.0 ∷ []);
+      is_stage = called_alone o.0;
+      young = λ z. let bad : Sent o.0 x ≡ Unborn = sym q ∙ s.young z in cc;
+      works_is = s.works_is ∙ ap works_of q;
+      ups_is = o.2;
+      jobs_is = s.jobs_is ∙ ap jobs_of q;
+      downs_is = s.downs_is ∙ ap downs_of q;
+      ends = ends_move (Sent o.0 x) (Over (Called o.0 ∷ [])) a a e refl (λ b. tt) (λ r l. absurd l) (subst (λ (p : Stage). Ends p a e) q s.ends);
+    }
+
+made_only : (k : ℕ) (p : Stage) (front back : List ActiveJob) (job : ActiveJob) (request : Request) → IsStage k p → job.request ≡ Some request → front ++ job ∷ back ≡ jobs_of p
+    → (p ≡ Made request job) × (front ≡ []) × (back ≡ [])
+made_only k Unborn front back job request s asked h = absurd (never_empty front back job h)
+made_only k (Sent r x) front back job request s asked h = absurd (never_empty front back job h)
+made_only k (Made r j) front back job request s asked h =
+    let o = only_one front back job j h in
+    let same_job : j ≡ job = sym o.1 in
+    let same_some : Some r ≡ Some request = sym s.request ∙ ap ActiveJob.request same_job ∙ asked in
+    let same_request : r ≡ request = cc in
+    (ap (λ (x : Request). Made x j) same_request ∙ ap (λ (x : ActiveJob). Made request x) same_job, o.0, o.2)
+made_only k (Running r j) front back job request s asked h =
+    let o = only_one front back job j h in
+    let bad : Some request ≡ None = sym asked ∙ ap ActiveJob.request o.1 ∙ s.request in
+    absurd (let no : ⊥ = cc in no)
+made_only k (Told done r x) front back job request s asked h = absurd (never_empty front back job h)
+made_only k (Over done) front back job request s asked h = absurd (never_empty front back job h)
+
+-- The job is handed out.
+pub takes_here : (Y : Type 0) (k : ℕ) (a a2 : List Act) (u : List Flying) (j j2 : List ActiveJob) (d : List Flying) (e : Option Call) (front back : List ActiveJob) (job taken : ActiveJob) (request : Request)
+    → Story Y k a u j d e → j ≡ front ++ job ∷ back → j2 ≡ front ++ taken ∷ back → job.request ≡ Some request → taken ≡ record job { request = None }
+    → a2 ≡ a ++ Ran job.id request ∷ [] → Story Y k a2 u j2 d e
+takes_here Y k a a2 u j j2 d e front back job taken request s was is asked now ha =
+    let o = made_only k s.stage front back job request s.is_stage asked (sym was ∙ s.jobs_is) in
+    let q = o.0 in
+    let made : IsJob k (Some request) job = subst (λ (p : Stage). IsStage k p) q s.is_stage in
+    let act : List Act = Ran job.id request ∷ [] in
+    record {
+      stage = Running request taken;
+      is_stage = record { request = ap ActiveJob.request now; stream = ap (λ (x : ActiveJob). x.header.stream_id) now ∙ made.stream; within = made.within };
+      young = λ z. let bad : Made request job ≡ Unborn = sym q ∙ s.young z in cc;
+      works_is = ap work ha ∙ work_append a act ∙ ap (λ xs. xs ++ act) (s.works_is ∙ ap works_of q) ∙ ap (λ (n : ℕ). Called request ∷ Ran n request ∷ []) (sym (ap ActiveJob.id now));
+      ups_is = s.ups_is ∙ ap ups_of q;
+      jobs_is = is ∙ ap (λ (xs : List ActiveJob). xs ++ taken ∷ back) o.1 ∙ ap (λ (xs : List ActiveJob). taken ∷ xs) o.2;
+      downs_is = s.downs_is ∙ ap downs_of q;
+      ends = ends_move (Made request job) (Running request taken) a a2 e (ap outcomes ha ∙ outcomes_append a act ∙ append-nil (outcomes a)) (λ b. tt) (λ r l. absurd l) (subst (λ (p : Stage). Ends p a e) q s.ends);
+    }
+
+running_only : (k : ℕ) (p : Stage) (front back : List ActiveJob) (job : ActiveJob) → IsStage k p → job.request ≡ None → front ++ job ∷ back ≡ jobs_of p
+    → (request : Request) × (p ≡ Running request job) × (front ≡ []) × (back ≡ [])
+running_only k Unborn front back job s asked h = absurd (never_empty front back job h)
+running_only k (Sent r x) front back job s asked h = absurd (never_empty front back job h)
+running_only k (Made r j) front back job s asked h =
+    let o = only_one front back job j h in
+    let bad : None ≡ Some r = sym asked ∙ ap ActiveJob.request o.1 ∙ s.request in
+    absurd (let no : ⊥ = cc in no)
+running_only k (Running r j) front back job s asked h =
+    let o = only_one front back job j h in
+    (r, ap (λ (x : ActiveJob). Running r x) (sym o.1), o.0, o.2)
+running_only k (Told done r x) front back job s asked h = absurd (never_empty front back job h)
+running_only k (Over done) front back job s asked h = absurd (never_empty front back job h)
+
+-- What a job that runs says of its call.
+pub record IsRunning (k : ℕ) (job : ActiveJob) : Type 0 where
+  pub request : Request
+  pub is_job : IsJob k None job
+
+pub is_running : (Y : Type 0) (k : ℕ) (a : List Act) (u : List Flying) (j : List ActiveJob) (d : List Flying) (e : Option Call) (front back : List ActiveJob) (job : ActiveJob)
+    → Story Y k a u j d e → j ≡ front ++ job ∷ back → job.request ≡ None → IsRunning k job
+is_running Y k a u j d e front back job s was asked =
+    let o = running_only k s.stage front back job s.is_stage asked (sym was ∙ s.jobs_is) in
+    record { request = o.0; is_job = subst (λ (p : Stage). IsStage k p) o.1 s.is_stage }
+
+-- The job is answered by a response, which is sent as `r`.
+pub answers_here : (Y : Type 0) (k : ℕ) (a a2 : List Act) (u : List Flying) (j j2 : List ActiveJob) (d d2 : List Flying) (e : Option Call) (front back : List ActiveJob) (job : ActiveJob) (response r : Response) (y : Flying)
+    → (s : Story Y k a u j d e) → (was : j ≡ front ++ job ∷ back) → j2 ≡ front ++ back → (asked : job.request ≡ None)
+    → IsToldOf k (whole_work (is_running Y k a u j d e front back job s was asked).request job.id response) r y
+    → a2 ≡ a ++ Answered (Ok response) ∷ [] → d2 ≡ d ++ y ∷ [] → Story Y k a2 u j2 d2 e
+unfolding running_only is_running
+answers_here Y k a a2 u j j2 d d2 e front back job response r y s was is asked told ha hd =
+    let o = running_only k s.stage front back job s.is_stage asked (sym was ∙ s.jobs_is) in
+    let q = o.1 in
+    let act : List Act = Answered (Ok response) ∷ [] in
+    let done : List Act = whole_work o.0 job.id response in
+    record {
+      stage = Told done r y;
+      is_stage = told;
+      young = λ z. let bad : Running o.0 job ≡ Unborn = sym q ∙ s.young z in cc;
+      works_is = ap work ha ∙ work_append a act ∙ ap (λ xs. xs ++ act) (s.works_is ∙ ap works_of q);
+      ups_is = s.ups_is ∙ ap ups_of q;
+      jobs_is = is ∙ ap (λ (xs : List ActiveJob). xs ++ back) o.2 ∙ o.3;
+      downs_is = hd ∙ ap (λ (xs : List Flying). xs ++ y ∷ []) (s.downs_is ∙ ap downs_of q);
+      ends = ends_move (Running o.0 job) (Told done r y) a a2 e (ap outcomes ha ∙ outcomes_append a act ∙ append-nil (outcomes a)) (λ b. tt) (λ r2 l. absurd l) (subst (λ (p : Stage). Ends p a e) q s.ends);
+    }
+
+failed_work : (request : Request) (job : ℕ) (error : Error) → IsDone (Called request ∷ Ran job request ∷ Answered (Err error) ∷ [])
+failed_work request job error = record { one_call = refl; one_run = omega arith }
+
+-- The job is answered by an error, and nothing is sent.
+pub fails_here : (Y : Type 0) (k : ℕ) (a a2 : List Act) (u : List Flying) (j j2 : List ActiveJob) (d : List Flying) (e : Option Call) (front back : List ActiveJob) (job : ActiveJob) (error : Error)
+    → Story Y k a u j d e → j ≡ front ++ job ∷ back → j2 ≡ front ++ back → job.request ≡ None → a2 ≡ a ++ Answered (Err error) ∷ [] → Story Y k a2 u j2 d e
+fails_here Y k a a2 u j j2 d e front back job error s was is asked ha =
+    let o = running_only k s.stage front back job s.is_stage asked (sym was ∙ s.jobs_is) in
+    let q = o.1 in
+    let act : List Act = Answered (Err error) ∷ [] in
+    let done : List Act = Called o.0 ∷ Ran job.id o.0 ∷ Answered (Err error) ∷ [] in
+    record {
+      stage = Over done;
+      is_stage = failed_work o.0 job.id error;
+      young = λ z. let bad : Running o.0 job ≡ Unborn = sym q ∙ s.young z in cc;
+      works_is = ap work ha ∙ work_append a act ∙ ap (λ xs. xs ++ act) (s.works_is ∙ ap works_of q);
+      ups_is = s.ups_is ∙ ap ups_of q;
+      jobs_is = is ∙ ap (λ (xs : List ActiveJob). xs ++ back) o.2 ∙ o.3;
+      downs_is = s.downs_is ∙ ap downs_of q;
+      ends = ends_move (Running o.0 job) (Over done) a a2 e (ap outcomes ha ∙ outcomes_append a act ∙ append-nil (outcomes a)) (λ b. tt) (λ r l. absurd l) (subst (λ (p : Stage). Ends p a e) q s.ends);
+    }
+
+told_only : (p : Stage) (x : Flying) (d : List Flying) → x ∷ d ≡ downs_of p → (done : List Act) × (r : Response) × (p ≡ Told done r x) × (d ≡ [])
+told_only Unborn x d h = absurd (no_cons x d h)
+told_only (Sent request y) x d h = absurd (no_cons x d h)
+told_only (Made request job) x d h = absurd (no_cons x d h)
+told_only (Running request job) x d h = absurd (no_cons x d h)
+told_only (Told done r y) x d h = (done, r, (let same : x ≡ y = cc in ap (λ (w : Flying). Told done r w) (sym same)), cc)
+told_only (Over done) x d h = absurd (no_cons x d h)
+
+-- What a frame on its way to the client says of its call.
+pub record Returning (k : ℕ) (x : Flying) : Type 0 where
+  pub done : List Act
+  pub r : Response
+  pub is_told : IsToldOf k done r x
+
+pub returning : (Y : Type 0) (k : ℕ) (a : List Act) (u : List Flying) (j : List ActiveJob) (x : Flying) (d : List Flying) (e : Option Call) → Story Y k a u j (x ∷ d) e → Returning k x
+returning Y k a u j x d e s =
+    let o = told_only s.stage x d s.downs_is in
+    record { done = o.0; r = o.1; is_told = subst (λ (p : Stage). IsStage k p) o.2 s.is_stage }
+
+ends_by : (done : List Act) (r : Response) (x : Flying) (a : List Act) (outcome : Result Response Error) → IsAnswerOf done r → outcomes a ≡ [] → ((HasOkStatus r.status × (outcome ≡ Ok r)) ⊎ ((e : Error) × (outcome ≡ Err e)))
+    → Ends (Over done) a (Some (Ended outcome))
+ends_by done r x a outcome answer none (inl h) =
+    subst (λ (o : Result Response Error). Ends (Over done) a (Some (Ended o))) (sym h.1) (none, (h.0, answer h.0))
+ends_by done r x a outcome answer none (inr h) = subst (λ (o : Result Response Error). Ends (Over done) a (Some (Ended o))) (sym h.1) (none, tt)
+
+-- the response is an outcome that is Ok, or none that is
+code_cases : (code : ℤ) (s : Status) (r : Response) → ((is_ok_code code ≡ true) × (by_code code s r ≡ Ok r)) ⊎ ((e : Error) × (by_code code s r ≡ Err e))
+code_cases (pos zero) s r = inl (refl, refl)
+code_cases (pos (suc n)) s r = inr (RpcStatus s, refl)
+code_cases (negsuc n) s r = inr (RpcStatus s, refl)
+
+status_cases : (status : Option Status) (r : Response) → (HasOkStatus status × (by_status status r ≡ Ok r)) ⊎ ((e : Error) × (by_status status r ≡ Err e))
+status_cases None r = inl (tt, refl)
+status_cases (Some s) r = code_cases s.code s r
+
+by_code_cases : (r : Response) → (HasOkStatus r.status × (by_status r.status r ≡ Ok r)) ⊎ ((e : Error) × (by_status r.status r ≡ Err e))
+by_code_cases r = status_cases r.status r
+
+ends_land : (done : List Act) (r : Response) (x : Flying) (a : List Act) (e e2 : Option Call) → IsAnswerOf done r → LandsOn (Gives (by_status r.status r)) e e2 → Ends (Told done r x) a e → Ends (Over done) a e2
+ends_land done r x a None e2 answer l (inl h) = subst (λ (z : Option Call). Ends (Over done) a z) (sym l) (inl h)
+ends_land done r x a None e2 answer l (inr (inl h)) = subst (λ (z : Option Call). Ends (Over done) a z) (sym l) (inr (inl (h.0, h.1, tt)))
+ends_land done r x a None e2 answer l (inr (inr h)) = absurd h.1
+ends_land done r x a (Some Expired) e2 answer l h = subst (λ (z : Option Call). Ends (Over done) a z) (sym l) (h.0, tt)
+ends_land done r x a (Some (Ended (Ok o))) e2 answer l h = absurd h.1
+ends_land done r x a (Some (Ended (Err o))) e2 answer l h = subst (λ (z : Option Call). Ends (Over done) a z) (sym l) (h.0, tt)
+ends_land done r x a (Some (Waiting deadline)) e2 answer l h =
+    let given : (o : Result Response Error) × (o ≡ by_status r.status r) × (e2 ≡ Some (Ended o)) = l in
+    subst (λ (z : Option Call). Ends (Over done) a z) (sym (given.2 ∙ ap (λ (o : Result Response Error). Some (Ended o)) given.1))
+    (ends_by done r x a (by_status r.status r) answer h.0 (by_code_cases r))
+
+-- The response arrives. A call that was forgotten stays so.
+pub lands_here : (Y Y2 : Type 0) (k : ℕ) (a : List Act) (u : List Flying) (j : List ActiveJob) (x : Flying) (d : List Flying) (e e2 : Option Call)
+    → (s : Story Y k a u j (x ∷ d) e) → (Y2 → Y) → LandsOn (Gives (by_status (returning Y k a u j x d e s).r.status (returning Y k a u j x d e s).r)) e e2 → Story Y2 k a u j d e2
+unfolding told_only returning
+lands_here Y Y2 k a u j x d e e2 s y l =
+    let o = told_only s.stage x d s.downs_is in
+    let q = o.2 in
+    let told : IsToldOf k o.0 o.1 x = subst (λ (p : Stage). IsStage k p) q s.is_stage in
+    record {
+      stage = Over o.0;
+      is_stage = told.is_done;
+      young = λ z. let bad : Told o.0 o.1 x ≡ Unborn = sym q ∙ s.young (y z) in cc;
+      works_is = s.works_is ∙ ap works_of q;
+      ups_is = s.ups_is ∙ ap ups_of q;
+      jobs_is = s.jobs_is ∙ ap jobs_of q;
+      downs_is = o.3;
+      ends = ends_land o.0 o.1 x a e e2 told.answer l (subst (λ (p : Stage). Ends p a e) q s.ends);
+    }
+
+-- ---- outcomes
+
+whole_of : (p : Stage) (a : List Act) (r : Response) → work a ≡ works_of p → outcomes a ≡ [] → HasLanded p r → IsWhole (a ++ Gave (Ok r) ∷ []) r
+whole_of Unborn a r w g h = absurd h
+whole_of (Sent request x) a r w g h = absurd h
+whole_of (Made request j) a r w g h = absurd h
+whole_of (Running request j) a r w g h = absurd h
+whole_of (Told done told x) a r w g h = absurd h
+whole_of (Over done) a r w g h =
+    (h.0, (h.1.0, h.1.1, ap (λ (xs : List Act). xs ++ Gave (Ok r) ∷ []) (all_work a g ∙ w ∙ h.1.2)))
+
+-- what is kept ends, and is what was given
+ends_ask : (p : Stage) (a : List Act) (o : Result Response Error) → work a ≡ works_of p → Ends p a (Some (Ended o)) → Given p (a ++ Gave o ∷ [])
+ends_ask p a (Ok r) w h = inr (inr (r, h.1, whole_of p a r w h.0 h.1))
+ends_ask p a (Err x) w h = inr (inl (x, outcomes_append a (Gave (Err x) ∷ []) ∙ ap (λ xs. xs ++ Err x ∷ []) h.0, h.1))
+
+-- an error was given
+ends_told : (p : Stage) (a : List Act) (x : Error) → outcomes a ≡ [] → IsBorn p → Given p (a ++ Gave (Err x) ∷ [])
+ends_told p a x none born = inr (inl (x, outcomes_append a (Gave (Err x) ∷ []) ∙ ap (λ xs. xs ++ Err x ∷ []) none, born))
+
+-- the outcome in the trace
+abbrev pub gave_of : Option (Result Response Error) → List Act
+gave_of None = []
+gave_of (Some outcome) = Gave outcome ∷ []
+
+work_gave : (a : List Act) (given : Option (Result Response Error)) → work (a ++ gave_of given) ≡ work a
+work_gave a None = ap work (append-nil a)
+work_gave a (Some outcome) = work_append a (Gave outcome ∷ []) ∙ append-nil (work a)
+
+-- what was told is given, and nothing is kept
+ends_tells : (p : Stage) (a : List Act) (error : Error) (given : Option (Result Response Error)) → outcomes a ≡ [] → IsBorn p → TellsOutcome error given → Ends p (a ++ gave_of given) None
+ends_tells p a error given none born t =
+    subst (λ (g : Option (Result Response Error)). Given p (a ++ gave_of g)) (sym t.2) (ends_told p a t.0 none born)
+
+-- nothing is given, and nothing changes
+ends_nothing : (p : Stage) (a : List Act) (e : Option Call) (given : Option (Result Response Error)) → given ≡ None → Ends p a e → Ends p (a ++ gave_of given) e
+ends_nothing p a e given none h =
+    subst (λ (g : Option (Result Response Error)). Ends p (a ++ gave_of g) e) (sym none) (subst (λ (b : List Act). Ends p b e) (sym (append-nil a)) h)
+
+ends_given : (p : Stage) (a : List Act) (o : Result Response Error) (given : Option (Result Response Error)) → work a ≡ works_of p → given ≡ Some o → Ends p a (Some (Ended o)) → Ends p (a ++ gave_of given) None
+ends_given p a o given w is h = subst (λ (g : Option (Result Response Error)). Given p (a ++ gave_of g)) (sym is) (ends_ask p a o w h)
+
+ends_asked : (p : Stage) (a : List Act) (failure : Option Error) (e : Option Call) (given : Option (Result Response Error)) → work a ≡ works_of p → GivesOutcome failure e given → Ends p a e → Ends p (a ++ gave_of given) (left_of failure e)
+ends_asked p a failure None given w g h = ends_nothing p a None given g h
+ends_asked p a None (Some (Waiting deadline)) given w g h = ends_nothing p a (Some (Waiting deadline)) given g h
+ends_asked p a (Some error) (Some (Waiting deadline)) given w g h = ends_tells p a error given h.0 h.1 g
+ends_asked p a failure (Some Expired) given w g h = ends_tells p a expired_error given h.0 h.1 g
+ends_asked p a failure (Some (Ended o)) given w g h = ends_given p a o given w g h
+
+-- The outcome is asked for.
+pub asks_here : (Y Y2 : Type 0) (k : ℕ) (a a2 : List Act) (u : List Flying) (j : List ActiveJob) (d : List Flying) (failure : Option Error) (e e2 : Option Call) (given : Option (Result Response Error))
+    → Story Y k a u j d e → (Y2 → Y) → GivesOutcome failure e given → e2 ≡ left_of failure e → a2 ≡ a ++ gave_of given → Story Y2 k a2 u j d e2
+asks_here Y Y2 k a a2 u j d failure e e2 given s y g he ha = record {
+  stage = s.stage;
+  is_stage = s.is_stage;
+  young = λ z. s.young (y z);
+  works_is = ap work ha ∙ work_gave a given ∙ s.works_is;
+  ups_is = s.ups_is;
+  jobs_is = s.jobs_is;
+  downs_is = s.downs_is;
+  ends = subst (λ (x : List Act). Ends s.stage x e2) (sym ha) (subst (λ (x : Option Call). Ends s.stage (a ++ gave_of given) x) (sym he) (ends_asked s.stage a failure e given s.works_is g s.ends));
+}
+
+-- ---- calls that expire or are dropped
+
+ends_dropped : (p : Stage) (a : List Act) (e : Option Call) → Ends p a e → Ends p a None
+ends_dropped p a None h = h
+ends_dropped p a (Some (Waiting deadline)) h = inl h.0
+ends_dropped p a (Some Expired) h = inl h.0
+ends_dropped p a (Some (Ended (Ok r))) h = inl h.0
+ends_dropped p a (Some (Ended (Err x))) h = inl h.0
+
+-- a call that has ended isn't due
+abbrev is_due_only : Bool → Call → Type 0
+is_due_only due (Waiting deadline) = Unit {0}
+is_due_only due Expired = Unit {0}
+is_due_only false (Ended o) = Unit {0}
+is_due_only true (Ended o) = ⊥
+
+waiting_only_due : (due : Bool) (deadline : Option ℕ) → is_due_only due (Waiting deadline)
+waiting_only_due due deadline = tt
+
+ends_due : (p : Stage) (a : List Act) (due : Bool) (c : Call) → is_due_only due c → Ends p a (Some c) → Ends p a (Some (if due then Expired else c))
+ends_due p a false c only h = h
+ends_due p a true (Waiting deadline) only h = h
+ends_due p a true Expired only h = h
+ends_due p a true (Ended o) only h = absurd only
+
+ends_expired : (p : Stage) (a : List Act) (now : ℕ) (e : Option Call) → Ends p a e → Ends p a (expired_at now e)
+ends_expired p a now None h = h
+ends_expired p a now (Some (Waiting (Some deadline))) h = ends_due p a (is_due now (Waiting (Some deadline))) (Waiting (Some deadline)) (waiting_only_due (is_due now (Waiting (Some deadline))) (Some deadline)) h
+ends_expired p a now (Some (Waiting None)) h = h
+ends_expired p a now (Some Expired) h = h
+ends_expired p a now (Some (Ended o)) h = h
+
+-- what is kept of it changes, and nothing else
+keeps_here : (Y Y2 : Type 0) (k : ℕ) (a : List Act) (u : List Flying) (j : List ActiveJob) (d : List Flying) (e e2 : Option Call)
+    → (s : Story Y k a u j d e) → (Y2 → Y) → Ends s.stage a e2 → Story Y2 k a u j d e2
+keeps_here Y Y2 k a u j d e e2 s y ends = record {
+  stage = s.stage;
+  is_stage = s.is_stage;
+  young = λ z. s.young (y z);
+  works_is = s.works_is;
+  ups_is = s.ups_is;
+  jobs_is = s.jobs_is;
+  downs_is = s.downs_is;
+  ends = ends;
+}
+
+-- The call is forgotten.
+pub drops_here : (Y Y2 : Type 0) (k : ℕ) (a : List Act) (u : List Flying) (j : List ActiveJob) (d : List Flying) (e e2 : Option Call) → Story Y k a u j d e → (Y2 → Y) → e2 ≡ None → Story Y2 k a u j d e2
+drops_here Y Y2 k a u j d e e2 s y he = keeps_here Y Y2 k a u j d e e2 s y (subst (λ (x : Option Call). Ends s.stage a x) (sym he) (ends_dropped s.stage a e s.ends))
+
+-- The call expires, if it is due.
+pub expires_here : (Y Y2 : Type 0) (k : ℕ) (a : List Act) (u : List Flying) (j : List ActiveJob) (d : List Flying) (now : ℕ) (e e2 : Option Call) → Story Y k a u j d e → (Y2 → Y) → e2 ≡ expired_at now e → Story Y2 k a u j d e2
+expires_here Y Y2 k a u j d now e e2 s y he = keeps_here Y Y2 k a u j d e e2 s y (subst (λ (x : Option Call). Ends s.stage a x) (sym he) (ends_expired s.stage a now e s.ends))
+
+-- the stage of a call whose request was thrown away
+abbrev thrown : Stage → Stage
+thrown Unborn = Unborn
+thrown (Sent request x) = Over (Called request ∷ [])
+thrown (Made request j) = Made request j
+thrown (Running request j) = Running request j
+thrown (Told done r x) = Told done r x
+thrown (Over done) = Over done
+
+record Thrown (k : ℕ) (p : Stage) : Type 0 where
+  is_stage : IsStage k (thrown p)
+  unborn : p ≡ Unborn → thrown p ≡ Unborn
+  works : works_of (thrown p) ≡ works_of p
+  ups : ups_of (thrown p) ≡ []
+  jobs : jobs_of (thrown p) ≡ jobs_of p
+  downs : downs_of (thrown p) ≡ downs_of p
+  born : IsBorn p → IsBorn (thrown p)
+  landed : (r : Response) → HasLanded p r → HasLanded (thrown p) r
+
+is_thrown : (k : ℕ) (p : Stage) → IsStage k p → Thrown k p
+is_thrown k Unborn h = record { is_stage = h; unborn = λ e. e; works = refl; ups = refl; jobs = refl; downs = refl; born = λ b. b; landed = λ r l. l }
+is_thrown k (Sent request x) h = record { is_stage = called_alone request; unborn = λ e. cc; works = refl; ups = refl; jobs = refl; downs = refl; born = λ b. tt; landed = λ r l. absurd l }
+is_thrown k (Made request j) h = record { is_stage = h; unborn = λ e. e; works = refl; ups = refl; jobs = refl; downs = refl; born = λ b. b; landed = λ r l. l }
+is_thrown k (Running request j) h = record { is_stage = h; unborn = λ e. e; works = refl; ups = refl; jobs = refl; downs = refl; born = λ b. b; landed = λ r l. l }
+is_thrown k (Told done r x) h = record { is_stage = h; unborn = λ e. e; works = refl; ups = refl; jobs = refl; downs = refl; born = λ b. b; landed = λ r2 l. l }
+is_thrown k (Over done) h = record { is_stage = h; unborn = λ e. e; works = refl; ups = refl; jobs = refl; downs = refl; born = λ b. b; landed = λ r l. l }
+
+-- Its request is thrown away, if it is still in flight.
+pub thrown_here : (Y : Type 0) (k : ℕ) (a : List Act) (u u2 : List Flying) (j : List ActiveJob) (d : List Flying) (e : Option Call) → Story Y k a u j d e → (u2 ≡ u) ⊎ (u2 ≡ []) → Story Y k a u2 j d e
+thrown_here Y k a u u2 j d e s (inl h) = elsewhere Y Y k a a u u2 j j d d e e s (λ y. y) refl h refl refl refl
+thrown_here Y k a u u2 j d e s (inr h) =
+    let t = is_thrown k s.stage s.is_stage in
+    record {
+      stage = thrown s.stage;
+      is_stage = t.is_stage;
+      young = λ z. t.unborn (s.young z);
+      works_is = s.works_is ∙ sym t.works;
+      ups_is = h ∙ sym t.ups;
+      jobs_is = s.jobs_is ∙ sym t.jobs;
+      downs_is = s.downs_is ∙ sym t.downs;
+      ends = ends_move s.stage (thrown s.stage) a a e refl t.born (λ r l. (t.landed r l, λ w. w)) s.ends;
+    }
+
+one_up_of : (p : Stage) → length (ups_of p) ≤ 1
+one_up_of Unborn = omega arith
+one_up_of (Sent request x) = omega arith
+one_up_of (Made request j) = omega arith
+one_up_of (Running request j) = omega arith
+one_up_of (Told done r x) = omega arith
+one_up_of (Over done) = omega arith
+
+-- at most one request of it is in flight
+pub one_up : (Y : Type 0) (k : ℕ) (a : List Act) (u : List Flying) (j : List ActiveJob) (d : List Flying) (e : Option Call) → Story Y k a u j d e → length u ≤ 1
+one_up Y k a u j d e s = rw s.ups_is (one_up_of s.stage)

@@ -1,0 +1,19 @@
+-- The bytes in flight to one side.
+use Rattle.std.specs.Prelude.{ℕ, List, [], ◌∷◌, Bool, true, false}
+
+pub record Pipe : Type 0 where
+  pub bytes : List ℕ
+  -- what is written from now on is lost
+  pub cut : Bool
+
+abbrev pub empty_pipe : Pipe
+empty_pipe = record { bytes = []; cut = false }
+
+-- it was cut, and nothing is left to deliver
+abbrev pub is_over_of : Bool → List ℕ → Bool
+is_over_of false bytes = false
+is_over_of true [] = true
+is_over_of true (b ∷ bytes) = false
+
+abbrev pub is_over : Pipe → Bool
+is_over p = is_over_of p.cut p.bytes

@@ -1,0 +1,101 @@
+-- What a trace says of one call.
+use Rattle.std.specs.Prelude.{◌≡◌, ◌≤◌, ℕ, List, [], ◌∷◌, length, nat_eq, if◌then◌else◌, Bool, true, Option, Some, None, Result, Ok}
+use Rattle.std.specs.List.{AllByRecursion, flat_map}
+use Rattle.ttrpc_proto.specs.declared.error.Error.{Error}
+use Rattle.ttrpc_proto.specs.declared.request.Request.{Request}
+use Rattle.ttrpc_proto.specs.declared.response.Response.{Response}
+use Rattle.ttrpc_proto.specs.declared.status.Status.{Status}
+use Rattle.ttrpc_proto.specs.Messages.{is_ok_code}
+use Rattle.ttrpc_world.specs.declared.events.Event.{Event}
+use Rattle.ttrpc_world.specs.declared.events.Event.TheVariants.{Call, Outcome, Take, Answer}
+use Rattle.ttrpc_world.specs.declared.events.Reply.{Reply}
+use Rattle.ttrpc_world.specs.declared.events.Reply.TheVariants.{Named, Outcome as Given, Handed, Done}
+use Rattle.ttrpc_world.specs.declared.events.Entry.{Entry}
+
+-- what happened to a call
+pub data Act : Type 0 where
+  -- it was accepted
+  Called : (request : Request) → Act
+  -- a job of it was handed out
+  Ran : (job : ℕ) → (request : Request) → Act
+  -- such a job was answered
+  Answered : (result : Result Response Error) → Act
+  -- its outcome was given
+  Gave : (outcome : Result Response Error) → Act
+
+abbrev pub only_if : Bool → Act → List Act
+only_if b act = if b then act ∷ [] else []
+
+-- What an event with its reply is to the call of id k; `stream_of job` is the stream id of a job.
+abbrev pub act_of : (stream_of : ℕ → ℕ) → ℕ → Event → Reply → List Act
+act_of stream_of k (Call request) (Named id) = only_if (nat_eq id k) (Called request)
+act_of stream_of k (Outcome id) (Given (Some outcome)) = only_if (nat_eq id k) (Gave outcome)
+act_of stream_of k Take (Handed (Some job)) = only_if (nat_eq job.header.stream_id k) (Ran job.id job.request)
+act_of stream_of k (Answer job result) Done = only_if (nat_eq (stream_of job) k) (Answered result)
+act_of stream_of k event reply = []
+
+-- THE STORY OF ONE ID: all that a trace says of it, in order.
+abbrev pub acts : (stream_of : ℕ → ℕ) → ℕ → List Entry → List Act
+acts stream_of k trace = flat_map (λ (e : Entry). act_of stream_of k e.event e.reply) trace
+
+-- `stream_of` is right for each job that was handed out
+abbrev pub IsRightAt : (ℕ → ℕ) → Event → Reply → Type 0
+IsRightAt stream_of Take (Handed (Some job)) = stream_of job.id ≡ job.header.stream_id
+IsRightAt stream_of event reply = Unit {0}
+
+abbrev pub IsStreamOf : (ℕ → ℕ) → List Entry → Type 0
+IsStreamOf stream_of trace = AllByRecursion (λ (e : Entry). IsRightAt stream_of e.event e.reply) trace
+
+-- no two jobs have the same
+abbrev pub IsOneToOne : (ℕ → ℕ) → Type 0
+IsOneToOne f = (i j : ℕ) → f i ≡ f j → i ≡ j
+
+-- ---- parts of a story
+
+-- the outcomes, in order
+abbrev pub outcomes : List Act → List (Result Response Error)
+outcomes [] = []
+outcomes (Called request ∷ xs) = outcomes xs
+outcomes (Ran job request ∷ xs) = outcomes xs
+outcomes (Answered result ∷ xs) = outcomes xs
+outcomes (Gave outcome ∷ xs) = outcome ∷ outcomes xs
+
+-- all but the outcomes
+abbrev pub work : List Act → List Act
+work [] = []
+work (Called request ∷ xs) = Called request ∷ work xs
+work (Ran job request ∷ xs) = Ran job request ∷ work xs
+work (Answered result ∷ xs) = Answered result ∷ work xs
+work (Gave outcome ∷ xs) = work xs
+
+-- the requests with which a call was accepted under this id
+abbrev pub calls : List Act → List Request
+calls [] = []
+calls (Called request ∷ xs) = request ∷ calls xs
+calls (Ran job request ∷ xs) = calls xs
+calls (Answered result ∷ xs) = calls xs
+calls (Gave outcome ∷ xs) = calls xs
+
+-- the jobs that were handed out for it
+abbrev pub runs : List Act → List ℕ
+runs [] = []
+runs (Called request ∷ xs) = runs xs
+runs (Ran job request ∷ xs) = job ∷ runs xs
+runs (Answered result ∷ xs) = runs xs
+runs (Gave outcome ∷ xs) = runs xs
+
+-- a response of a call that ended well: it has no status of another code than OK
+abbrev pub HasOkStatus : Option Status → Type 0
+HasOkStatus None = Unit {0}
+HasOkStatus (Some status) = is_ok_code status.code ≡ true
+
+-- THE HEADLINE, for one id: it names at most one call, which is run at most once, and has at most one outcome, and none
+-- without a call. If the outcome is `Ok(r)`, then these and no others happened, in this order: the call; one run, for
+-- exactly its request; one answer, which is `Ok(r)`; the outcome.
+pub record IsExactlyOnce (xs : List Act) : Type 0 where
+  pub one_call : length (calls xs) ≤ 1
+  pub one_run : length (runs xs) ≤ 1
+  pub one_outcome : length (outcomes xs) ≤ 1
+  pub no_call : calls xs ≡ [] → outcomes xs ≡ []
+  pub whole : (r : Response) → outcomes xs ≡ Ok r ∷ []
+      → HasOkStatus r.status × ((request : Request) × (job : ℕ) × (xs ≡ Called request ∷ Ran job request ∷ Answered (Ok r) ∷ Gave (Ok r) ∷ []))

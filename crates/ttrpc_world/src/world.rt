@@ -1,0 +1,391 @@
+//! The world: a client, a server and two pipes, and one event after the other.
+ghost use Rattle.std.specs.Prelude.{◌≡◌, ◌≢◌, ◌≤◌, ◌++◌, ◌∷◌, [], ℕ, List, length, take, min, codes, map, is_some, if◌then◌else◌, IfOk, OnOk, OnErr, Result, Ok, Err, IfErr};
+ghost use Rattle.std.specs.Vec.{vec_capacity};
+ghost use Rattle.ttrpc_proto.specs.declared.error.Error.{Error as AnError};
+ghost use Rattle.ttrpc_proto.specs.declared.response.Response.{Response as AResponse};
+ghost use Rattle.ttrpc_proto.specs.Messages.{IsResponse};
+ghost use Rattle.ttrpc_core.specs.Happens.{halves_of};
+ghost use Rattle.ttrpc_world.specs.declared.events.Entry.{Entry as AnEntry};
+ghost use Rattle.ttrpc_world.specs.declared.events.Event.{Event as AnEvent};
+ghost use Rattle.ttrpc_world.specs.declared.events.Side.{Side as ASide};
+ghost use Rattle.ttrpc_world.specs.Pipes.{empty_pipe, is_over};
+ghost use Rattle.ttrpc_world.specs.Net.{Net, IsFresh, with_client, with_server};
+ghost use Rattle.ttrpc_world.specs.Steps.{ClientHears, Runs, ServerHears, Steps, failed_by_hand};
+ghost use Rattle.ttrpc_world.specs.Story.{IsExactlyOnce, IsOneToOne, IsStreamOf, acts};
+
+use crate::events::{Entry, Event, Reply, Side, Trace};
+use crate::pipe::Pipe;
+use std::alloc::{AllocError, Global};
+use std::marker::Model;
+use ttrpc_client::{CallId, ClientCore};
+use ttrpc_core::{JobId, ServerCore};
+use ttrpc_proto::{Error, Request, Response, WireMessage};
+use ttrpc_secure::{InboundTransform, OutboundTransform};
+use ttrpc_wire::{Text, TryClone};
+
+/// A client and a server, each over its two halves, and the bytes in flight between them.
+#[derive(Drop)]
+pub struct World<CO, CI, SO, SI> {
+    client: ClientCore<CO, CI>,
+    server: ServerCore<SO, SI>,
+    up: Pipe,
+    down: Pipe,
+    moment: u64,
+}
+
+impl<CO, CI, SO, SI> Model for World<CO, CI, SO, SI> {
+    ghost use Rattle.ttrpc_world.specs.Net.{Net};
+
+    ghost Value = { Net CO CI SO SI };
+
+    ghost view = { λ a. record {
+      client = a.client;
+      server = a.server;
+      up = a.up;
+      down = a.down;
+      moment = a.moment;
+    } };
+}
+
+impl<
+    CO: OutboundTransform + Drop,
+    CI: InboundTransform + Drop,
+    SO: OutboundTransform + Drop,
+    SI: InboundTransform + Drop,
+> World<CO, CI, SO, SI> {
+    /// A world of these two cores, with nothing in flight, at moment 0. Takes no memory.
+    pub fn new(alloc: Global, client: ClientCore<CO, CI>, server: ServerCore<SO, SI>) -> Self
+        ensures { result ≡ record { client = client; server = server; up = empty_pipe; down = empty_pipe; moment = 0 } }
+    {
+        World {
+            client,
+            server,
+            up: Pipe::new(alloc),
+            down: Pipe::new(alloc),
+            moment: 0,
+        }
+    }
+
+    /// Lets these events happen, in order, and gives each with its reply. Its error is `NoMemory`, where room for the
+    /// trace is refused, before any event.
+    pub fn run(self, alloc: Global, events: Vec<Event>) -> Result<Trace, Error>
+        requires { IsFresh
+            (halves_of CO.overhead CO.seals CO.refuses CI.opens CI.refuses)
+            (halves_of SO.overhead SO.seals SO.refuses SI.opens SI.refuses) self }
+        // One entry an event, in order.
+        ensures events { IfOk result (λ trace. map AnEntry.event trace.items ≡ events.items) }
+        // Each reply is one that the cores' tables allow.
+        ensures steps { IfOk result (λ trace. (last : Net _ _ _ _) × Runs
+            (halves_of CO.overhead CO.seals CO.refuses CI.opens CI.refuses)
+            (halves_of SO.overhead SO.seals SO.refuses SI.opens SI.refuses) CO.SEALS
+            self trace.items last) }
+        // Each job has one stream, and no two jobs the same.
+        ensures streams { IfOk result (λ trace. (stream_of : ℕ → ℕ)
+            × IsStreamOf stream_of trace.items × IsOneToOne stream_of) }
+        // Each call has at most one outcome, and an `Ok` is the answer of its one run.
+        ensures exactly_once { IfOk result (λ trace. (stream_of : ℕ → ℕ) → IsStreamOf stream_of trace.items
+            → (id : ℕ) → IsExactlyOnce (acts stream_of id trace.items)) }
+        ensures refused { IfErr result (λ error. error ≡ AnError.NoMemory) }
+    {
+        let mut trace = Vec::with_capacity(alloc, events.len())?;
+        let mut world = self;
+        world.run_all(alloc, events, &mut trace);
+        Ok(trace)
+    }
+
+    /// Lets these events happen, and keeps each with its reply. There is room for them.
+    fn run_all(&mut self, alloc: Global, events: Vec<Event>, trace: &mut Trace)
+        requires room { length events.items ≤ vec_capacity trace.old }
+        requires empty { trace.old.items ≡ [] }
+        ensures events { map AnEntry.event trace.new.items ≡ events.items }
+        ensures steps { Runs
+            (halves_of CO.overhead CO.seals CO.refuses CI.opens CI.refuses)
+            (halves_of SO.overhead SO.seals SO.refuses SI.opens SI.refuses) CO.SEALS
+            self.old trace.new.items self.new }
+    {
+        for event in events {
+            let reply = self.step(alloc, &event);
+            trace.push_reserved(Entry { event, reply });
+        }
+    }
+
+    /// One event happens.
+    fn step(&mut self, alloc: Global, event: &Event) -> Reply
+        ensures { Steps
+            (halves_of CO.overhead CO.seals CO.refuses CI.opens CI.refuses)
+            (halves_of SO.overhead SO.seals SO.refuses SI.opens SI.refuses) CO.SEALS
+            self.old event.now result self.new }
+    {
+        match event {
+            Event::Call(request) => self.call(alloc, request),
+            Event::Outcome(id) => self.outcome(alloc, *id),
+            Event::DropCall(id) => self.drop_call(*id),
+            Event::Take => self.take(),
+            Event::Answer(id, result) => self.answer(alloc, *id, result),
+            Event::Tick(now) => self.tick(*now),
+            Event::Carry(Side::Client, n) => self.carry_up(alloc, *n),
+            Event::Carry(Side::Server, n) => self.carry_down(alloc, *n),
+            Event::Deliver(Side::Server, n) => self.deliver_up(alloc, *n),
+            Event::Deliver(Side::Client, n) => self.deliver_down(alloc, *n),
+            Event::Cut(Side::Server, keep) => self.cut_up(*keep),
+            Event::Cut(Side::Client, keep) => self.cut_down(*keep),
+            Event::Fail(Side::Client) => self.fail_client(alloc),
+            Event::Fail(Side::Server) => self.fail_server(alloc),
+            _ => Reply::NoStep,
+        }
+    }
+
+    fn call(&mut self, alloc: Global, request: &Request) -> Reply
+        ensures { Steps
+            (halves_of CO.overhead CO.seals CO.refuses CI.opens CI.refuses)
+            (halves_of SO.overhead SO.seals SO.refuses SI.opens SI.refuses) CO.SEALS
+            self.old (AnEvent.Call request.now) result self.new }
+    {
+        request.known();
+        match self.client.request(alloc, request, self.moment) {
+            Ok(id) => Reply::Named(id),
+            Err(error) => Reply::Refused(error),
+        }
+    }
+
+    fn outcome(&mut self, alloc: Global, id: CallId) -> Reply
+        ensures { Steps
+            (halves_of CO.overhead CO.seals CO.refuses CI.opens CI.refuses)
+            (halves_of SO.overhead SO.seals SO.refuses SI.opens SI.refuses) CO.SEALS
+            self.old (AnEvent.Outcome id) result self.new }
+    {
+        Reply::Outcome(self.client.take_outcome(alloc, id))
+    }
+
+    fn drop_call(&mut self, id: CallId) -> Reply
+        ensures { Steps
+            (halves_of CO.overhead CO.seals CO.refuses CI.opens CI.refuses)
+            (halves_of SO.overhead SO.seals SO.refuses SI.opens SI.refuses) CO.SEALS
+            self.old (AnEvent.DropCall id) result self.new }
+    {
+        self.client.drop_call(id);
+        Reply::Done
+    }
+
+    fn take(&mut self) -> Reply
+        ensures { Steps
+            (halves_of CO.overhead CO.seals CO.refuses CI.opens CI.refuses)
+            (halves_of SO.overhead SO.seals SO.refuses SI.opens SI.refuses) CO.SEALS
+            self.old AnEvent.Take result self.new }
+    {
+        Reply::Handed(self.server.take_job())
+    }
+
+    fn answer(&mut self, alloc: Global, id: JobId, given: &Result<Response, Error>) -> Reply
+        ensures { Steps
+            (halves_of CO.overhead CO.seals CO.refuses CI.opens CI.refuses)
+            (halves_of SO.overhead SO.seals SO.refuses SI.opens SI.refuses) CO.SEALS
+            self.old (AnEvent.Answer id given.now) result self.new }
+    {
+        if let Some(error) = self.server.failure(alloc) {
+            return Reply::Refused(error);
+        }
+        if !self.server.awaits_answer(id) {
+            return Reply::NoStep;
+        }
+        let Ok(copy) = copied(given) else {
+            return Reply::NoMemory;
+        };
+        note_known(given);
+        match self.server.answer(alloc, id, copy) {
+            Ok(()) => Reply::Done,
+            Err(error) => Reply::Refused(error),
+        }
+    }
+
+    fn tick(&mut self, now: u64) -> Reply
+        ensures { Steps
+            (halves_of CO.overhead CO.seals CO.refuses CI.opens CI.refuses)
+            (halves_of SO.overhead SO.seals SO.refuses SI.opens SI.refuses) CO.SEALS
+            self.old (AnEvent.Tick now) result self.new }
+    {
+        if now < self.moment {
+            return Reply::NoStep;
+        }
+        self.client.tick(now);
+        self.moment = now;
+        Reply::Done
+    }
+
+    fn carry_up(&mut self, alloc: Global, n: usize) -> Reply
+        ensures { Steps
+            (halves_of CO.overhead CO.seals CO.refuses CI.opens CI.refuses)
+            (halves_of SO.overhead SO.seals SO.refuses SI.opens SI.refuses) CO.SEALS
+            self.old (AnEvent.Carry ASide.Client n) result self.new }
+    {
+        let Ok(mut buffer) = vec![in alloc; 0u8; n] else {
+            return Reply::NoMemory;
+        };
+        let at = self.up.as_slice().len();
+        if self.up.put(buffer.as_slice()).is_err() {
+            return Reply::NoMemory;
+        }
+        let count = self.client.lend(buffer.as_mut_slice());
+        self.up.replace_from(at, front(buffer.as_slice(), count));
+        self.client.wrote(count);
+        Reply::Count(count)
+    }
+
+    fn carry_down(&mut self, alloc: Global, n: usize) -> Reply
+        ensures { Steps
+            (halves_of CO.overhead CO.seals CO.refuses CI.opens CI.refuses)
+            (halves_of SO.overhead SO.seals SO.refuses SI.opens SI.refuses) CO.SEALS
+            self.old (AnEvent.Carry ASide.Server n) result self.new }
+    {
+        let Ok(mut buffer) = vec![in alloc; 0u8; n] else {
+            return Reply::NoMemory;
+        };
+        let at = self.down.as_slice().len();
+        if self.down.put(buffer.as_slice()).is_err() {
+            return Reply::NoMemory;
+        }
+        let count = self.server.lend(buffer.as_mut_slice());
+        self.down.replace_from(at, front(buffer.as_slice(), count));
+        self.server.wrote(count);
+        Reply::Count(count)
+    }
+
+    fn deliver_up(&mut self, alloc: Global, n: usize) -> Reply
+        ensures { Steps
+            (halves_of CO.overhead CO.seals CO.refuses CI.opens CI.refuses)
+            (halves_of SO.overhead SO.seals SO.refuses SI.opens SI.refuses) CO.SEALS
+            self.old (AnEvent.Deliver ASide.Server n) result self.new }
+    {
+        let count = n.min(self.up.as_slice().len());
+        match self
+            .server
+            .feed(alloc, front(self.up.as_slice(), count), self.moment)
+        {
+            Ok(taken) => {
+                self.up.drop_front(taken);
+                self.end_up();
+                Reply::Count(taken)
+            }
+            Err(error) => Reply::Refused(error),
+        }
+    }
+
+    fn deliver_down(&mut self, alloc: Global, n: usize) -> Reply
+        ensures { Steps
+            (halves_of CO.overhead CO.seals CO.refuses CI.opens CI.refuses)
+            (halves_of SO.overhead SO.seals SO.refuses SI.opens SI.refuses) CO.SEALS
+            self.old (AnEvent.Deliver ASide.Client n) result self.new }
+    {
+        let count = n.min(self.down.as_slice().len());
+        match self.client.feed(alloc, front(self.down.as_slice(), count)) {
+            Ok(taken) => {
+                self.down.drop_front(taken);
+                self.end_down();
+                Reply::Count(taken)
+            }
+            Err(error) => Reply::Refused(error),
+        }
+    }
+
+    fn cut_up(&mut self, keep: usize) -> Reply
+        ensures { Steps
+            (halves_of CO.overhead CO.seals CO.refuses CI.opens CI.refuses)
+            (halves_of SO.overhead SO.seals SO.refuses SI.opens SI.refuses) CO.SEALS
+            self.old (AnEvent.Cut ASide.Server keep) result self.new }
+    {
+        self.up.cut(keep);
+        self.end_up();
+        Reply::Done
+    }
+
+    fn cut_down(&mut self, keep: usize) -> Reply
+        ensures { Steps
+            (halves_of CO.overhead CO.seals CO.refuses CI.opens CI.refuses)
+            (halves_of SO.overhead SO.seals SO.refuses SI.opens SI.refuses) CO.SEALS
+            self.old (AnEvent.Cut ASide.Client keep) result self.new }
+    {
+        self.down.cut(keep);
+        self.end_down();
+        Reply::Done
+    }
+
+    /// The server's input ends, where its pipe is over.
+    fn end_up(&mut self)
+        ensures hears { ServerHears (is_over self.old.up) self.old.server self.new.server }
+        ensures only { self.new ≡ with_server self.old self.new.server }
+    {
+        if self.up.is_over() {
+            self.server.end_of_input();
+        }
+    }
+
+    /// The client's input ends, where its pipe is over.
+    fn end_down(&mut self)
+        ensures hears { ClientHears (is_over self.old.down) self.old.client self.new.client }
+        ensures only { self.new ≡ with_client self.old self.new.client }
+    {
+        if self.down.is_over() {
+            self.client.end_of_input();
+        }
+    }
+
+    fn fail_client(&mut self, alloc: Global) -> Reply
+        ensures { Steps
+            (halves_of CO.overhead CO.seals CO.refuses CI.opens CI.refuses)
+            (halves_of SO.overhead SO.seals SO.refuses SI.opens SI.refuses) CO.SEALS
+            self.old (AnEvent.Fail ASide.Client) result self.new }
+    {
+        let Ok(error) = failed_by_hand(alloc) else {
+            return Reply::NoMemory;
+        };
+        self.client.fail(error);
+        Reply::Done
+    }
+
+    fn fail_server(&mut self, alloc: Global) -> Reply
+        ensures { Steps
+            (halves_of CO.overhead CO.seals CO.refuses CI.opens CI.refuses)
+            (halves_of SO.overhead SO.seals SO.refuses SI.opens SI.refuses) CO.SEALS
+            self.old (AnEvent.Fail ASide.Server) result self.new }
+    {
+        let Ok(error) = failed_by_hand(alloc) else {
+            return Reply::NoMemory;
+        };
+        self.server.fail(error);
+        Reply::Done
+    }
+}
+
+/// The error of a connection that is failed by an event.
+fn failed_by_hand(alloc: Global) -> Result<Error, AllocError>
+    ensures { IfOk result (λ e. e ≡ failed_by_hand) }
+{
+    Ok(Error::Socket(Text::from_string(String::from_str(alloc, "failed")?)))
+}
+
+/// A copy of what a handler gave.
+fn copied(given: &Result<Response, Error>) -> Result<Result<Response, Error>, AllocError>
+    ensures { IfOk result (λ copy. copy ≡ given.now) }
+{
+    Ok(match given {
+        Ok(response) => Ok(response.try_clone()?),
+        Err(error) => Err(error.try_clone()?),
+    })
+}
+
+/// What a proof knows of the response that a handler gave. Does nothing.
+fn note_known(given: &Result<Response, Error>)
+    ensures { (r : AResponse) → given.now ≡ Ok r → IsResponse r }
+{
+    if let Ok(response) = given {
+        response.known();
+    }
+}
+
+/// The first bytes of a piece.
+fn front(bytes: &[u8], n: usize) -> &[u8]
+    requires { n ≤ length bytes.now }
+    ensures { result.now ≡ take n bytes.now }
+{
+    &bytes[..n]
+}
