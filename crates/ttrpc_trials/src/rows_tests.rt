@@ -1,7 +1,8 @@
 //! Scripts with their replies, over plain halves and over halves that stamp.
 use crate::plainly::{Finding, read_headline};
 use crate::script::{
-    Act, Said, events_of, first_fault, over_plain, over_stamps, put, request_of, response_of,
+    Act, Said, events_of, first_fault, had_memory, over_plain, over_stamps, put, request_of,
+    response_of,
 };
 use std::alloc::Global;
 use std::process::Abort;
@@ -191,22 +192,22 @@ const FAILED: &[(Act, Said)] = &[
     (Act::DeliverDown(1), Said::Socket("failed")),
 ];
 
-/// Each reply is the one of the script, and the headline holds of the trace.
-fn is_told(rt: &impl Abort, trace: &Trace, script: &[(Act, Said)]) {
-    assert_eq!(rt; first_fault(trace.as_slice(), script), None);
+/// The headline holds of the trace, and each reply is the one of the script.
+fn is_told(rt: &impl Abort, trace: &Trace, script: &[(Act, Said)]) -> Tested {
     assert!(rt; matches!(read_headline(trace.as_slice()), Finding::Whole(_)));
+    had_memory(trace.as_slice())?;
+    assert_eq!(rt; first_fault(trace.as_slice(), script), None);
+    Ok(())
 }
 
 fn plain(rt: &impl Abort, alloc: Global, kind: ClientKind, script: &[(Act, Said)]) -> Tested {
     let trace = over_plain(alloc, kind, events_of(alloc, script)?)?;
-    is_told(rt, &trace, script);
-    Ok(())
+    is_told(rt, &trace, script)
 }
 
 fn stamped(rt: &impl Abort, alloc: Global, kind: ClientKind, script: &[(Act, Said)]) -> Tested {
     let trace = over_stamps(alloc, kind, events_of(alloc, script)?)?;
-    is_told(rt, &trace, script);
-    Ok(())
+    is_told(rt, &trace, script)
 }
 
 #[test]
@@ -312,13 +313,20 @@ fn byte_by_byte(alloc: Global) -> Result<Vec<Event>, Fail> {
     Ok(events)
 }
 
+/// One call was answered.
+fn ends_well(rt: &impl Abort, trace: &Trace) -> Tested {
+    had_memory(trace.as_slice())?;
+    assert_eq!(rt; read_headline(trace.as_slice()), Finding::Whole(1));
+    Ok(())
+}
+
 #[test]
 fn a_call_is_answered_byte_by_byte(rt: HostRuntime) -> Tested {
     for kind in KINDS {
         let plain = over_plain(rt.alloc(), kind, byte_by_byte(rt.alloc())?)?;
-        assert_eq!(rt; read_headline(plain.as_slice()), Finding::Whole(1));
+        ends_well(&rt, &plain)?;
         let stamped = over_stamps(rt.alloc(), kind, byte_by_byte(rt.alloc())?)?;
-        assert_eq!(rt; read_headline(stamped.as_slice()), Finding::Whole(1));
+        ends_well(&rt, &stamped)?;
     }
     Ok(())
 }

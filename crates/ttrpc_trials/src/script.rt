@@ -154,6 +154,26 @@ fn is_said(reply: &Reply, said: Said) -> bool {
     }
 }
 
+/// Whether the reply tells that memory was refused.
+fn is_want_of_memory(reply: &Reply) -> bool {
+    match reply {
+        Reply::NoMemory => true,
+        Reply::Refused(error) => *error == Error::NoMemory,
+        Reply::Outcome(Some(Err(error))) => *error == Error::NoMemory,
+        _ => false,
+    }
+}
+
+/// Ends a test with that error, where a reply tells that memory was refused: what follows is then another story.
+pub fn had_memory(trace: &[Entry]) -> Result<(), Fail> {
+    for entry in trace {
+        if is_want_of_memory(&entry.reply) {
+            return Err(Error::NoMemory.into());
+        }
+    }
+    Ok(())
+}
+
 /// The place of the first reply that isn't the one that the script says; none, if all are.
 pub fn first_fault(trace: &[Entry], script: &[(Act, Said)]) -> Option<usize> {
     if trace.len() != script.len() {
