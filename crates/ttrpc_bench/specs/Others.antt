@@ -1,4 +1,5 @@
 -- What the halves do that stand for any others in tests.
+-- Source: this project's.
 use Rattle.ttrpc_secure.specs.Halves.{Moves, Refusals}
 
 -- Whatever is given opens to anything.

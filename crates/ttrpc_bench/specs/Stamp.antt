@@ -1,4 +1,5 @@
 -- What halves with stamps do. Each half is its next stamp.
+-- Source: this project's.
 use Rattle.std.specs.Prelude.{◌≡◌, ◌≢◌, ◌+◌, ◌%◌, ℕ, List, [], ◌∷◌, ◌++◌}
 use Rattle.ttrpc_secure.specs.Halves.{Moves, Refusals}
 

@@ -5,9 +5,11 @@ use std::alloc::Global;
 use std::process::Abort;
 use std::test::Fail;
 use ttrpc_client::{CallId, ClientCore, ClientKind};
-use ttrpc_proto::{Error, Request, WireMessage};
+use ttrpc_codec::WireMessage;
+use ttrpc_error::Error;
+use ttrpc_proto::Request;
 use ttrpc_secure::{InboundTransform, OutboundTransform, Plain};
-use ttrpc_wire::{Blob, Text};
+use ttrpc_values::{Blob, Text};
 
 type Tested = Result<(), Fail>;
 

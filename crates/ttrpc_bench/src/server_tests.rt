@@ -4,11 +4,13 @@ use crate::stamp::{StampIn, StampOut, stamps};
 use std::alloc::Global;
 use std::process::Abort;
 use std::test::Fail;
+use ttrpc_codec::WireMessage;
 use ttrpc_core::{Job, Registry, Rules, ServerCore, ServiceNames};
-use ttrpc_proto::{Error, Response, Status, WireMessage};
+use ttrpc_error::Error;
+use ttrpc_proto::{Response, Status};
 use ttrpc_secure::{InboundTransform, OutboundTransform, Plain};
-use ttrpc_vectors::server::{ASKED, NO_SERVICE};
-use ttrpc_wire::{Blob, Sequence, Text};
+use ttrpc_test_cores::server::{ASKED, NO_SERVICE};
+use ttrpc_values::{Blob, Sequence, Text};
 
 type Tested = Result<(), Fail>;
 

@@ -3,10 +3,10 @@ use super::*;
 use std::alloc::Global;
 use std::process::Abort;
 use std::test::Fail;
-use ttrpc_frame::{Outgoing, Queued};
-use ttrpc_proto::{GenMessage, MessageHeader};
+use ttrpc_frame::{GenMessage, Outgoing, Queued};
+use ttrpc_header::MessageHeader;
 use ttrpc_secure::{InboundTransform, OutboundTransform, SendError, TransformError, send};
-use ttrpc_wire::Blob;
+use ttrpc_values::Blob;
 
 type Tested = Result<(), Fail>;
 

@@ -1,6 +1,6 @@
 -- A call is dropped: it is forgotten, and then its request is taken back.
 use Rattle.std.proofs.Common.{◌≡◌, ℕ, refl, sym, ◌∙◌, subst, Option, Some, None, Bool, true, false, if◌then◌else◌, is_some}
-use Rattle.ttrpc_proto.specs.declared.error.Error.{Error}
+use Rattle.ttrpc_error.specs.declared.error.Error.{Error}
 use Rattle.ttrpc_frame.specs.Queue.{Queue, has_begun, without}
 use Rattle.ttrpc_client.specs.Client.{Client, OthersStay, call_at, throws, with_failure, with_queue}
 use Rattle.ttrpc_client.specs.Happens.{Forgets, SameBesides, cancelled_error, takes_back, waits}

@@ -1,6 +1,6 @@
 -- A connection fails for the first time.
 use Rattle.std.proofs.Common.{◌≡◌, ap, ◌∙◌, Option, Some, None}
-use Rattle.ttrpc_proto.specs.declared.error.Error.{Error}
+use Rattle.ttrpc_error.specs.declared.error.Error.{Error}
 use Rattle.ttrpc_core.specs.Happens.{kept}
 use Rattle.ttrpc_client.specs.Client.{Client, with_failure}
 

@@ -1,12 +1,12 @@
 -- A piece is fed in turns: each takes a front of what is left, and at most one frame acts.
 use Rattle.std.proofs.Common.{◌≡◌, ℕ, List, [], ◌∷◌, ◌++◌, take, drop, ap, refl, sym, ◌∙◌, subst, append_assoc, Option, Some, None}
 use Rattle.std.proofs.lemmas.List.{take-append-drop, append-nil}
-use Rattle.ttrpc_proto.specs.declared.error.Error.TheVariants.{NoMemory}
+use Rattle.ttrpc_error.specs.declared.error.Error.TheVariants.{NoMemory}
 use Rattle.ttrpc_frame.specs.declared.frame.Incoming.{Incoming}
 use Rattle.ttrpc_frame.specs.Frames.{Held, Fed, given}
 use Rattle.ttrpc_frame.specs.declared.frame.Incoming.TheVariants.{Frame, Oversize}
-use Rattle.ttrpc_proto.specs.declared.gen_message.GenMessage.{GenMessage}
-use Rattle.ttrpc_proto.specs.declared.header.MessageHeader.{MessageHeader}
+use Rattle.ttrpc_frame.specs.declared.gen_message.GenMessage.{GenMessage}
+use Rattle.ttrpc_header.specs.declared.header.MessageHeader.{MessageHeader}
 use Rattle.ttrpc_secure.specs.Sends.{associated}
 use Rattle.ttrpc_core.specs.Table.{Opening, Opened, Refused, Unasked, header_of_frame}
 use Rattle.ttrpc_core.specs.Happens.{Halves, Opens}

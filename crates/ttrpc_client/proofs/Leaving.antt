@@ -1,6 +1,6 @@
 -- What the queue goes through by calls is a history that is allowed, and leads to the queue after them.
 use Rattle.std.proofs.Common.{◌≡◌, inl, inr, ℕ, List, [], ◌∷◌, ◌++◌, map, drop, is_some, if◌then◌else◌, Option, Some, None, Bool, true, false, refl, sym, ap, subst, ◌∙◌, append_assoc}
-use Rattle.ttrpc_proto.specs.declared.error.Error.{Error}
+use Rattle.ttrpc_error.specs.declared.error.Error.{Error}
 use Rattle.ttrpc_frame.specs.declared.frame.Incoming.{Incoming}
 use Rattle.ttrpc_frame.specs.declared.outgoing.Queued.{Queued}
 use Rattle.ttrpc_frame.specs.Queue.{Queue, IsQueue, Happening, Placed, Thrown, Allowed, after, after_all, all_bytes_left, departing, thrown, thrown_by, unsent, with_frame, with_payload, without, written_all}

@@ -1,11 +1,11 @@
 -- What a client core is.
--- Source: PROTOCOL.md of ttrpc, on requests, responses and stream ids.
+-- Source: PROTOCOL.md of ttrpc, "Request", "Response" and "Streaming".
 use Rattle.std.specs.Prelude.{◌≡◌, ◌≢◌, ◌≤◌, ◌%◌, ℕ, ◌+◌, List, [], Option, None, Some, Bool, false, ℤ, pos, negsuc, zero, suc}
 use Rattle.std.specs.Map.{lookup}
 use Rattle.std.specs.BTreeMap.{is_at}
 use Rattle.std.specs.Ordering.{nat_cmp}
 use Rattle.ttrpc_wire.specs.Number.{number_of}
-use Rattle.ttrpc_proto.specs.declared.error.Error.{Error}
+use Rattle.ttrpc_error.specs.declared.error.Error.{Error}
 use Rattle.ttrpc_frame.specs.Frames.{Held, nothing}
 use Rattle.ttrpc_frame.specs.Queue.{Queue, empty_queue}
 use Rattle.ttrpc_client.specs.declared.call.Call.{Call}

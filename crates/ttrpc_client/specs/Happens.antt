@@ -1,13 +1,13 @@
 -- What each call of a client core does.
--- Source: PROTOCOL.md of ttrpc, on requests, responses and stream ids.
+-- Source: PROTOCOL.md of ttrpc, "Request", "Response" and "Streaming".
 use Rattle.std.specs.Prelude.{◌≡◌, ◌⊎◌, ℕ, ◌+◌, ◌-◌, ◌<◌, ◌≤◌, ◌^◌, List, [], ◌∷◌, ◌++◌, length, codes, map, filter, min, Option, Some, None, Bool, true, false, nat_le, if◌then◌else◌, Result, Err, is_some}
 use Rattle.ttrpc_wire.specs.Field.{fields_bytes}
-use Rattle.ttrpc_proto.specs.declared.error.Error.{Error}
-use Rattle.ttrpc_proto.specs.declared.error.Error.TheVariants.{Others, Socket, NoMemory}
-use Rattle.ttrpc_proto.specs.declared.header.TheConstants.{MESSAGE_LENGTH_MAX, MESSAGE_TYPE_REQUEST}
+use Rattle.ttrpc_error.specs.declared.error.Error.{Error}
+use Rattle.ttrpc_error.specs.declared.error.Error.TheVariants.{Others, Socket, NoMemory}
+use Rattle.ttrpc_header.specs.declared.header.TheConstants.{MESSAGE_LENGTH_MAX, MESSAGE_TYPE_REQUEST}
 use Rattle.ttrpc_proto.specs.declared.request.Request.{Request}
 use Rattle.ttrpc_proto.specs.declared.response.Response.{Response}
-use Rattle.ttrpc_proto.specs.GenMessage.{oversize_text}
+use Rattle.ttrpc_error.specs.Oversize.{oversize_text}
 use Rattle.ttrpc_proto.specs.Messages.{request_fields}
 use Rattle.ttrpc_frame.specs.declared.frame.Incoming.{Incoming}
 use Rattle.ttrpc_frame.specs.declared.outgoing.Queued.{Queued}

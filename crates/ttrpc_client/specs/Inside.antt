@@ -1,4 +1,5 @@
 -- What the parts of a call do, which its users need not read.
+-- Source: this project's.
 use Rattle.std.specs.Prelude.{◌≡◌, ℕ, ◌+◌, ◌++◌, List, Option, Some, Bool, false, if◌then◌else◌}
 use Rattle.ttrpc_frame.specs.declared.frame.Incoming.{Incoming}
 use Rattle.ttrpc_frame.specs.declared.outgoing.Queued.{Queued}

@@ -1,17 +1,17 @@
 -- The client's table for unary calls: what a frame gives the call of its id.
--- Source: PROTOCOL.md of ttrpc, on responses and on data.
+-- Source: PROTOCOL.md of ttrpc, "Response" and "Data".
 use Rattle.std.specs.Prelude.{◌≡◌, ℕ, List, ◌++◌, length, codes, Option, Some, None, Result, Ok, Err, nat_eq, nat_lt, if◌then◌else◌, ℤ, pos, negsuc, zero, suc}
 use Rattle.std.specs.Fmt.{decimal}
 use Rattle.ttrpc_wire.specs.Fold.{read_from}
-use Rattle.ttrpc_proto.specs.declared.code.Code.TheVariants.{INVALID_ARGUMENT}
-use Rattle.ttrpc_proto.specs.declared.error.Error.{Error}
-use Rattle.ttrpc_proto.specs.declared.error.Error.TheVariants.{Others, RpcStatus}
-use Rattle.ttrpc_proto.specs.declared.header.MessageHeader.{MessageHeader}
-use Rattle.ttrpc_proto.specs.declared.header.TheConstants.{MESSAGE_LENGTH_MAX, MESSAGE_TYPE_RESPONSE}
+use Rattle.ttrpc_values.specs.declared.code.Code.TheVariants.{INVALID_ARGUMENT}
+use Rattle.ttrpc_error.specs.declared.error.Error.{Error}
+use Rattle.ttrpc_error.specs.declared.error.Error.TheVariants.{Others, RpcStatus}
+use Rattle.ttrpc_header.specs.declared.header.MessageHeader.{MessageHeader}
+use Rattle.ttrpc_header.specs.declared.header.TheConstants.{MESSAGE_LENGTH_MAX, MESSAGE_TYPE_RESPONSE}
 use Rattle.ttrpc_proto.specs.declared.response.Response.{Response}
 use Rattle.ttrpc_proto.specs.declared.status.Status.{Status}
-use Rattle.ttrpc_proto.specs.ErrorText.{status_of}
-use Rattle.ttrpc_proto.specs.GenMessage.{oversize_text}
+use Rattle.ttrpc_error.specs.ErrorText.{status_of}
+use Rattle.ttrpc_error.specs.Oversize.{oversize_text}
 use Rattle.ttrpc_proto.specs.Messages.{empty_response, response_step}
 use Rattle.ttrpc_frame.specs.declared.frame.Incoming.{Incoming}
 use Rattle.ttrpc_frame.specs.declared.frame.Incoming.TheVariants.{Frame, Oversize}

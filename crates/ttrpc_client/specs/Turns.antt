@@ -1,7 +1,8 @@
 -- Calls of a client core one after the other, over a connection that may fail, and what its queue goes through by them.
+-- Source: this project's.
 use Rattle.std.specs.Prelude.{◌≡◌, ◌≤◌, ◌⊎◌, ℕ, ◌+◌, List, [], ◌∷◌, ◌++◌, length, map, nat_eq, Option, Some, None, is_some, Bool, if◌then◌else◌, Result}
 use Rattle.std.specs.List.{flat_map}
-use Rattle.ttrpc_proto.specs.declared.error.Error.{Error}
+use Rattle.ttrpc_error.specs.declared.error.Error.{Error}
 use Rattle.ttrpc_proto.specs.declared.request.Request.{Request}
 use Rattle.ttrpc_proto.specs.declared.response.Response.{Response}
 use Rattle.ttrpc_frame.specs.declared.outgoing.Queued.{Queued}

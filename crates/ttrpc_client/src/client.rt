@@ -4,7 +4,7 @@ ghost use Rattle.std.specs.BTreeMap.{insert_entry};
 ghost use Rattle.std.specs.Map.{keys_of};
 ghost use Rattle.std.specs.List.Sorted.{IsStrictlySortedBy};
 ghost use Rattle.std.specs.Ordering.{nat_cmp};
-ghost use Rattle.ttrpc_proto.specs.declared.error.Error.{Error as AnError};
+ghost use Rattle.ttrpc_error.specs.declared.error.Error.{Error as AnError};
 ghost use Rattle.ttrpc_frame.specs.Frames.{nothing};
 ghost use Rattle.ttrpc_frame.specs.Queue.{open_part, with_lent, after_report, has_begun, without};
 ghost use Rattle.ttrpc_core.specs.Failure.{IsTold, error_of};
@@ -27,12 +27,15 @@ use std::alloc::{AllocError, Global};
 use std::collections::BTreeMap;
 use std::marker::Model;
 use ttrpc_core::{Failure, unsealed_error};
-use ttrpc_frame::{FrameDecoder, Incoming, Outgoing, Queued};
-use ttrpc_proto::{Codec, Error, GenMessage, MESSAGE_LENGTH_MAX, MessageHeader, Request};
+use ttrpc_frame::{FrameDecoder, Incoming, Outgoing, Queued, GenMessage};
+use ttrpc_codec::Codec;
+use ttrpc_error::Error;
+use ttrpc_header::{MESSAGE_LENGTH_MAX, MessageHeader};
+use ttrpc_proto::Request;
 use ttrpc_secure::{
     InboundTransform, OutboundTransform, SendError, TransformError, associated_bytes, send,
 };
-use ttrpc_wire::{Blob, Text};
+use ttrpc_values::{Blob, Text};
 
 /// How far ids go.
 const LAST_ID: u64 = 4294967295;

@@ -1,7 +1,7 @@
 //! The errors that a client core tells by itself.
 ghost use Rattle.std.specs.Prelude.{◌≡◌, ◌++◌, ℕ, List, codes, string_bytes, IfOk, MatchResult};
-ghost use Rattle.ttrpc_proto.specs.ErrorText.{status_of};
-ghost use Rattle.ttrpc_proto.specs.GenMessage.{oversize_text};
+ghost use Rattle.ttrpc_error.specs.ErrorText.{status_of};
+ghost use Rattle.ttrpc_error.specs.Oversize.{oversize_text};
 ghost use Rattle.ttrpc_core.specs.Failure.{IsTold};
 ghost use Rattle.ttrpc_core.specs.Responses.{unsafe_payload_text};
 ghost use Rattle.ttrpc_client.specs.Table.{malformed_text, unopened_text};
@@ -9,8 +9,9 @@ ghost use Rattle.ttrpc_client.specs.Happens.{advice, expired_error};
 
 use crate::kind::ClientKind;
 use std::alloc::{AllocError, Global};
-use ttrpc_proto::{Code, Error, MessageHeader, get_rpc_status, oversize_message};
-use ttrpc_wire::{CodecError, Text};
+use ttrpc_values::{Code, CodecError, Text};
+use ttrpc_error::{Error, get_rpc_status, oversize_message};
+use ttrpc_header::MessageHeader;
 
 /// The outcome of a call whose frame is longer than a message may be.
 pub fn oversize_error(alloc: Global, length: usize) -> Result<Error, AllocError>

@@ -5,10 +5,11 @@ ghost use Rattle.ttrpc_client.specs.Table.{by_status, IsLanding, opened_landing}
 
 use crate::errors::{long_error, malformed_error, unreadable_error};
 use std::alloc::{AllocError, Global};
-use ttrpc_proto::{
-    Codec, Error, MESSAGE_LENGTH_MAX, MESSAGE_TYPE_RESPONSE, MessageHeader, Response,
-};
-use ttrpc_wire::CodecError;
+use ttrpc_codec::Codec;
+use ttrpc_error::Error;
+use ttrpc_header::{MESSAGE_LENGTH_MAX, MESSAGE_TYPE_RESPONSE, MessageHeader};
+use ttrpc_proto::Response;
+use ttrpc_values::CodecError;
 
 /// The outcome of a call.
 pub type Outcome = Result<Response, Error>;

@@ -2,8 +2,8 @@
 use Rattle.std.proofs.Common.{◌≡◌, inl, inr, ℕ, ◌+◌, ◌-◌, ◌<◌, ◌≤◌, true, false, nat_lt, List, [], ◌∷◌, ◌++◌, length, take, drop, Some, None, arith, refl, sym, ap, subst, ◌∙◌, append_assoc, le-ltb, lt-ltb}
 use Rattle.std.proofs.lemmas.Bool.{cases_lt}
 use Rattle.std.proofs.lemmas.List.{append_cancel_left, take-append-drop, length-take-le}
-use Rattle.ttrpc_proto.specs.declared.header.MessageHeader.{MessageHeader}
-use Rattle.ttrpc_proto.specs.Header.{header_of}
+use Rattle.ttrpc_header.specs.declared.header.MessageHeader.{MessageHeader}
+use Rattle.ttrpc_header.specs.Header.{header_of}
 use Rattle.ttrpc_frame.specs.declared.frame.Incoming.{Incoming}
 use Rattle.ttrpc_frame.specs.declared.frame.Incoming.TheVariants.{Oversize}
 use Rattle.ttrpc_frame.specs.declared.outgoing.Queued.{Queued}

@@ -1,12 +1,12 @@
 -- A piece is fed in turns: each takes a front of what is left, and at most one frame acts.
 use Rattle.std.proofs.Common.{◌≡◌, inl, inr, ℕ, List, [], ◌∷◌, ◌++◌, take, drop, ap, refl, sym, ◌∙◌, subst, append_assoc, Option, Some, None}
 use Rattle.std.proofs.lemmas.List.{take-append-drop, append-nil}
-use Rattle.ttrpc_proto.specs.declared.code.Code.TheVariants.{UNKNOWN, INVALID_ARGUMENT}
-use Rattle.ttrpc_proto.specs.declared.error.Error.{Error}
-use Rattle.ttrpc_proto.specs.declared.error.Error.TheVariants.{NoMemory}
-use Rattle.ttrpc_proto.specs.declared.gen_message.GenMessage.{GenMessage}
-use Rattle.ttrpc_proto.specs.declared.header.MessageHeader.{MessageHeader}
-use Rattle.ttrpc_proto.specs.GenMessage.{oversize_text}
+use Rattle.ttrpc_values.specs.declared.code.Code.TheVariants.{UNKNOWN, INVALID_ARGUMENT}
+use Rattle.ttrpc_error.specs.declared.error.Error.{Error}
+use Rattle.ttrpc_error.specs.declared.error.Error.TheVariants.{NoMemory}
+use Rattle.ttrpc_frame.specs.declared.gen_message.GenMessage.{GenMessage}
+use Rattle.ttrpc_header.specs.declared.header.MessageHeader.{MessageHeader}
+use Rattle.ttrpc_error.specs.Oversize.{oversize_text}
 use Rattle.ttrpc_frame.specs.declared.frame.Incoming.{Incoming}
 use Rattle.ttrpc_frame.specs.declared.frame.Incoming.TheVariants.{Frame, Oversize}
 use Rattle.ttrpc_frame.specs.Frames.{Frames, Held, Fed, given}

@@ -1,7 +1,8 @@
 -- Which error tells why a connection failed.
+-- Source: this project's.
 use Rattle.std.specs.Prelude.{◌≡◌, ◌⊎◌, codes}
-use Rattle.ttrpc_proto.specs.declared.error.Error.{Error}
-use Rattle.ttrpc_proto.specs.declared.error.Error.TheVariants.{Socket, Others, NoMemory}
+use Rattle.ttrpc_error.specs.declared.error.Error.{Error}
+use Rattle.ttrpc_error.specs.declared.error.Error.TheVariants.{Socket, Others, NoMemory}
 use Rattle.ttrpc_core.specs.declared.failure.Failure.{Failure}
 use Rattle.ttrpc_core.specs.declared.failure.Failure.TheVariants.{Told, Disconnected, DisconnectedInside, HandlerError, JobIdsUsedUp, DeadlineDuringWrite, CancelledDuringWrite, NoMemory as MemoryRefused}
 

@@ -1,7 +1,8 @@
 -- What the parts of a call do, which its users need not read.
+-- Source: this project's.
 use Rattle.std.specs.Prelude.{◌≡◌, ◌⊎◌, ℕ, ◌++◌, List, take, slice_get, Option, Some}
-use Rattle.ttrpc_proto.specs.declared.error.Error.{Error}
-use Rattle.ttrpc_proto.specs.declared.error.Error.TheVariants.{Others, NoMemory as MemoryRefused}
+use Rattle.ttrpc_error.specs.declared.error.Error.{Error}
+use Rattle.ttrpc_error.specs.declared.error.Error.TheVariants.{Others, NoMemory as MemoryRefused}
 use Rattle.ttrpc_proto.specs.declared.response.Response.{Response}
 use Rattle.ttrpc_proto.specs.declared.request.Request.{Request}
 use Rattle.ttrpc_frame.specs.declared.frame.Incoming.{Incoming}

@@ -1,4 +1,5 @@
 -- Which methods a server has.
+-- Source: this project's.
 use Rattle.std.specs.Prelude.{ℕ, List, Bool, ◌&&◌, nat_eq}
 use Rattle.std.specs.List.{list_any}
 use Rattle.std.specs.Cmp.Lexicographic.{pointwise}

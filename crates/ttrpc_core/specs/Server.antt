@@ -1,7 +1,7 @@
 -- What a server core is.
--- Source: PROTOCOL.md of ttrpc, on requests and responses.
+-- Source: PROTOCOL.md of ttrpc, "Request" and "Response".
 use Rattle.std.specs.Prelude.{◌<◌, ◌≤◌, ℕ, List, [], ◌∷◌, Option, None, filter, nat_eq}
-use Rattle.ttrpc_proto.specs.declared.error.Error.{Error}
+use Rattle.ttrpc_error.specs.declared.error.Error.{Error}
 use Rattle.ttrpc_frame.specs.Frames.{Held, nothing}
 use Rattle.ttrpc_frame.specs.Queue.{Queue, empty_queue}
 use Rattle.ttrpc_core.specs.declared.registry.ServiceNames.{ServiceNames}

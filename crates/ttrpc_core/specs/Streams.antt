@@ -1,8 +1,8 @@
 -- What a frame does to one stream id by itself.
--- Source: PROTOCOL.md of ttrpc, on stream ids.
+-- Source: PROTOCOL.md of ttrpc, "Streaming".
 use Rattle.std.specs.Prelude.{◌≡◌, ◌≤◌, ℕ, ◌+◌, List, [], ◌∷◌, ◌++◌, length, Some}
 use Rattle.std.specs.List.{AllByRecursion}
-use Rattle.ttrpc_proto.specs.declared.header.MessageHeader.{MessageHeader}
+use Rattle.ttrpc_header.specs.declared.header.MessageHeader.{MessageHeader}
 use Rattle.ttrpc_frame.specs.declared.outgoing.Queued.{Queued}
 use Rattle.ttrpc_core.specs.declared.job.ActiveJob.{ActiveJob}
 use Rattle.ttrpc_core.specs.Table.{Row, Skipped, Tells, TellsOf, Known}

@@ -1,15 +1,16 @@
 -- The server's table under sync rules: which row a frame has, by what it is and by the services.
+-- Source: PROTOCOL.md of ttrpc, "Message Frame", "Request" and "RPC".
 use Rattle.std.specs.Prelude.{ℕ, List, Option, Some, None, if◌then◌else◌, nat_eq, nat_lt, length}
 use Rattle.ttrpc_wire.specs.Fold.{read_from}
-use Rattle.ttrpc_proto.specs.declared.code.Code.{Code}
-use Rattle.ttrpc_proto.specs.declared.code.Code.TheVariants.{UNKNOWN, INVALID_ARGUMENT}
+use Rattle.ttrpc_values.specs.declared.code.Code.{Code}
+use Rattle.ttrpc_values.specs.declared.code.Code.TheVariants.{UNKNOWN, INVALID_ARGUMENT}
 use Rattle.ttrpc_frame.specs.declared.frame.Incoming.{Incoming}
 use Rattle.ttrpc_frame.specs.declared.frame.Incoming.TheVariants.{Frame, Oversize}
-use Rattle.ttrpc_proto.specs.declared.header.MessageHeader.{MessageHeader}
-use Rattle.ttrpc_proto.specs.declared.header.TheConstants.{MESSAGE_LENGTH_MAX, MESSAGE_TYPE_REQUEST}
+use Rattle.ttrpc_header.specs.declared.header.MessageHeader.{MessageHeader}
+use Rattle.ttrpc_header.specs.declared.header.TheConstants.{MESSAGE_LENGTH_MAX, MESSAGE_TYPE_REQUEST}
 use Rattle.ttrpc_proto.specs.declared.request.Request.{Request}
 use Rattle.ttrpc_proto.specs.declared.response.Response.{Response}
-use Rattle.ttrpc_proto.specs.GenMessage.{oversize_text}
+use Rattle.ttrpc_error.specs.Oversize.{oversize_text}
 use Rattle.ttrpc_proto.specs.Messages.{empty_request, request_step}
 use Rattle.ttrpc_core.specs.declared.registry.ServiceNames.{ServiceNames}
 use Rattle.ttrpc_core.specs.Registry.{has_method}

@@ -3,8 +3,8 @@ ghost use Rattle.std.specs.Prelude.{◌≡◌, IfOk};
 ghost use Rattle.ttrpc_core.specs.Failure.{error_of, IsTold};
 
 use std::alloc::{AllocError, Global};
-use ttrpc_proto::Error;
-use ttrpc_wire::{Text, TryClone};
+use ttrpc_error::Error;
+use ttrpc_values::{Text, TryClone};
 
 /// Why a connection failed, kept so that failing takes no memory: an error's text is made for each call that is told.
 #[derive(Debug, Drop, PartialEq)]

@@ -4,8 +4,8 @@ use std::alloc::Global;
 use std::io::ErrorKind;
 use std::process::Abort;
 use std::test::Fail;
-use ttrpc_proto::Error;
-use ttrpc_wire::Text;
+use ttrpc_error::Error;
+use ttrpc_values::Text;
 
 type Tested = Result<(), Fail>;
 

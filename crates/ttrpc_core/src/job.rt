@@ -3,7 +3,8 @@ ghost use Rattle.std.specs.Prelude.{◌≡◌, IfSome, IfNone};
 ghost use Rattle.ttrpc_core.specs.Happens.{HandsOne, IsTakenAt, IsUnknown, NoneWaits};
 ghost use Rattle.ttrpc_core.specs.Inside.{WaitsAt};
 
-use ttrpc_proto::{MessageHeader, Request};
+use ttrpc_header::MessageHeader;
+use ttrpc_proto::Request;
 
 /// The number of a job, from 1 on in the order in which jobs are made.
 pub type JobId = u64;

@@ -2,7 +2,7 @@
 ghost use Rattle.std.specs.Prelude.{◌≡◌};
 ghost use Rattle.ttrpc_core.specs.Registry.{has_text, has_method};
 
-use ttrpc_wire::{Sequence, Text};
+use ttrpc_values::{Sequence, Text};
 
 /// A service, and the names of its methods and of its streams.
 #[derive(Debug, Drop, PartialEq, Eq)]

@@ -5,10 +5,13 @@ ghost use Rattle.ttrpc_core.specs.Inside.{IsOf, TellsUnsent};
 
 use crate::responses::{limit_response, unsafe_payload_error, unsealed_error};
 use std::alloc::{AllocError, Global};
-use ttrpc_frame::Queued;
-use ttrpc_proto::{Codec, Error, GenMessage, MessageHeader, Response};
+use ttrpc_frame::{Queued, GenMessage};
+use ttrpc_codec::Codec;
+use ttrpc_error::Error;
+use ttrpc_header::MessageHeader;
+use ttrpc_proto::Response;
 use ttrpc_secure::{SendError, TransformError};
-use ttrpc_wire::{Blob, Text};
+use ttrpc_values::{Blob, Text};
 
 /// Why a response wasn't queued.
 #[derive(Debug, Drop)]

@@ -1,12 +1,13 @@
 //! The answers that a core gives by itself, and the errors by which it refuses an answer.
 ghost use Rattle.std.specs.Prelude.{◌≡◌, codes, string_bytes, IfOk, MatchResult};
-ghost use Rattle.ttrpc_proto.specs.GenMessage.{oversize_text};
+ghost use Rattle.ttrpc_error.specs.Oversize.{oversize_text};
 ghost use Rattle.ttrpc_core.specs.Failure.{IsTold};
 ghost use Rattle.ttrpc_core.specs.Responses.{status_response, IsStatusResponse, path_text, unopened_text, limit_text, unsafe_payload_text, unsealed_text};
 
 use std::alloc::{AllocError, Global};
-use ttrpc_proto::{Code, Error, Response, ResponseInit, get_status, oversize_message};
-use ttrpc_wire::{CodecError, Text};
+use ttrpc_values::{Code, CodecError, Text};
+use ttrpc_error::{Error, get_status, oversize_message};
+use ttrpc_proto::{Response, ResponseInit};
 
 /// The answer to a message that is longer than a message may be.
 pub fn oversize_response(alloc: Global, length: usize) -> Result<Response, AllocError>

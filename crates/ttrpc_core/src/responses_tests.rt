@@ -4,8 +4,9 @@ use crate::failure_tests::is_told;
 use std::alloc::Global;
 use std::process::Abort;
 use std::test::Fail;
-use ttrpc_proto::{Error, Response, Status};
-use ttrpc_wire::{Blob, CodecError, Sequence, Text};
+use ttrpc_error::Error;
+use ttrpc_proto::{Response, Status};
+use ttrpc_values::{Blob, CodecError, Sequence, Text};
 
 type Tested = Result<(), Fail>;
 

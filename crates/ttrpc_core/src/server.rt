@@ -1,9 +1,9 @@
 //! The core of a server: frames in, jobs and responses out.
 ghost use Rattle.std.specs.Prelude.{◌≡◌, ◌≢◌, ◌-◌, ◌<◌, ◌≤◌, ◌↔◌, ℕ, MatchBool, true, length, take, drop, min, is_some, if◌then◌else◌, IfOk, IfErr, OnOk, OnErr, IfSome, IfNone, Ok, Err, Some, None};
-ghost use Rattle.ttrpc_proto.specs.declared.error.Error.{Error as AnError};
+ghost use Rattle.ttrpc_error.specs.declared.error.Error.{Error as AnError};
 ghost use Rattle.ttrpc_proto.specs.declared.response.Response.{Response as AResponse};
-ghost use Rattle.ttrpc_proto.specs.GenMessage.{oversize_text};
-ghost use Rattle.ttrpc_proto.specs.declared.code.Code.TheVariants.{INVALID_ARGUMENT, UNKNOWN};
+ghost use Rattle.ttrpc_error.specs.Oversize.{oversize_text};
+ghost use Rattle.ttrpc_values.specs.declared.code.Code.TheVariants.{INVALID_ARGUMENT, UNKNOWN};
 ghost use Rattle.ttrpc_frame.specs.Frames.{nothing};
 ghost use Rattle.ttrpc_frame.specs.Queue.{open_part, with_lent, after_report};
 ghost use Rattle.ttrpc_core.specs.Failure.{IsTold, error_of};
@@ -23,13 +23,13 @@ use crate::responses::{
 use crate::rules::Rules;
 use std::alloc::Global;
 use std::marker::Model;
-use ttrpc_frame::{FrameDecoder, Incoming, Outgoing};
-use ttrpc_proto::{
-    Codec, Error, GenMessage, MESSAGE_LENGTH_MAX, MESSAGE_TYPE_REQUEST, MessageHeader, Request,
-    Response,
-};
+use ttrpc_frame::{FrameDecoder, Incoming, Outgoing, GenMessage};
+use ttrpc_codec::Codec;
+use ttrpc_error::Error;
+use ttrpc_header::{MESSAGE_LENGTH_MAX, MESSAGE_TYPE_REQUEST, MessageHeader};
+use ttrpc_proto::{Request, Response};
 use ttrpc_secure::{InboundTransform, OutboundTransform, TransformError, associated_bytes, send};
-use ttrpc_wire::{CodecError, Text};
+use ttrpc_values::{CodecError, Text};
 
 /// What a frame's acting comes to: an `Err` says why the connection is to fail.
 type Acted = Result<(), Failure>;

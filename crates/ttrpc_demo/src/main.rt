@@ -1,23 +1,13 @@
 //! `ttrpc-demo`, the program of the project: a server and a client to try by hand. By now it has `answer`, which reads
-//! frames from standard input and writes their answers to standard output.
+//! frames from standard input and writes their answers to standard output, and `loop`, which makes one call in memory.
 #![tactic(auto)]
 
-mod calling;
-mod engine;
-#[cfg(test)]
-mod fakes;
-#[cfg(test)]
-mod tests;
-#[cfg(test)]
-mod vectors;
-mod words;
-
-use crate::words::{Outcome, run, tell};
 use std::env;
 use std::io::{BufWriter, ErrorKind};
 use std::process::ExitCode;
 use std::rt::Env;
-use ttrpc_proto::Error;
+use ttrpc_echo::{Outcome, run, tell};
+use ttrpc_error::Error;
 
 /// The words behind the program's name. Words that aren't UTF-8 are wrong ones.
 fn given_words<R: Env + AllocGlobal>(rt: &R) -> Result<Vec<String>, Outcome> {

@@ -1,9 +1,10 @@
 -- Frames in flight from one core to another: as bytes in a pipe, as seals that are still to be opened, and as what there
 -- is of one stream.
+-- Source: this project's.
 use Rattle.std.specs.Prelude.{◌≡◌, ◌≤◌, ℕ, Bool, false, true, if◌then◌else◌, nat_eq, List, [], ◌∷◌, ◌++◌, length, map, take, drop}
 use Rattle.std.specs.List.{AllByRecursion, filter}
-use Rattle.ttrpc_proto.specs.declared.header.TheConstants.{MESSAGE_LENGTH_MAX}
-use Rattle.ttrpc_proto.specs.Header.{Fits}
+use Rattle.ttrpc_header.specs.declared.header.TheConstants.{MESSAGE_LENGTH_MAX}
+use Rattle.ttrpc_header.specs.Header.{FitsHeader}
 use Rattle.ttrpc_frame.specs.declared.frame.Incoming.{Incoming}
 use Rattle.ttrpc_frame.specs.declared.frame.Incoming.TheVariants.{Frame}
 use Rattle.ttrpc_frame.specs.declared.outgoing.Queued.{Queued}
@@ -29,7 +30,7 @@ arrived x = Frame x.frame.message
 
 -- a frame that reads back from its written form
 pub record IsSound (f : Queued) : Type 0 where
-  pub fits : Fits f.message.header
+  pub fits : FitsHeader f.message.header
   pub stated : f.message.header.length ≡ length f.message.payload
   pub short : length f.message.payload ≤ MESSAGE_LENGTH_MAX
 

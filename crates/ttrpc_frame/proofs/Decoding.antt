@@ -2,9 +2,9 @@
 use Rattle.std.proofs.Common.{◌≡◌, ℕ, ◌+◌, ◌-◌, ◌<◌, ◌≤◌, List, [], ◌∷◌, ◌++◌, length, take, min, refl, sym, ap, subst, ◌∙◌, arith, length-append, inl, inr}
 use Rattle.std.proofs.lemmas.Bool.{cases_lt}
 use Rattle.std.proofs.lemmas.List.{append-nil, take_all, length-take, length-take-le}
-use Rattle.ttrpc_proto.specs.declared.header.MessageHeader.{MessageHeader}
+use Rattle.ttrpc_header.specs.declared.header.MessageHeader.{MessageHeader}
 use Rattle.ttrpc_frame.specs.declared.frame.Incoming.TheVariants.{Frame, Oversize}
-use Rattle.ttrpc_proto.specs.Header.{header_of}
+use Rattle.ttrpc_header.specs.Header.{header_of}
 use Rattle.ttrpc_frame.specs.Frames.{Held, nothing, Fed}
 use Rattle.ttrpc_frame.specs.Decoder.{IsDecoder}
 use Rattle.ttrpc_frame.proofs.Frames.{header_front, head_goes_on, head_is_frame, body_goes_on, body_is_frame, count_goes_on, count_is_frame}

@@ -7,10 +7,7 @@ use Rattle.std.proofs.lemmas.List.{take_all, take-append-drop, take-append-le, d
 use Rattle.std.proofs.lemmas.List.Sorted.{IsPermutation-refl, IsPermutation-cons, IsPermutation-trans, IsPermutation-middle}
 use Rattle.ttrpc_frame.specs.declared.outgoing.Queued.{Queued}
 use Rattle.ttrpc_frame.specs.Queue.{Queue, IsQueue, written, written_all, first_open, unsent, with_frame, with_lent, report_first, after_report, begun_count, is_request_of, request_of, frames_without, without, Happening, Placed, Lent, Reported, Thrown, after, after_all, all_bytes_left, report_finishes, departing, thrown_by, thrown, placed, MayHappen, Allowed, IsMerge}
-use Rattle.ttrpc_frame.proofs.Queues.{with_frame_is_queue, with_lent_is_queue, after_report_is_queue, without_is_queue, report_fits}
-
-abbrev queue_of : Bool → List Queued → ℕ → ℕ → Queue
-queue_of b fs r l = record { frames = fs; reported = r; lent = l; begun = b }
+use Rattle.ttrpc_frame.proofs.Queues.{queue_of, with_frame_is_queue, with_lent_is_queue, after_report_is_queue, without_is_queue, report_fits}
 
 pub after_is_queue : (q : Queue) (h : Happening) → IsQueue q → MayHappen q h → IsQueue (after q h)
 after_is_queue q (Placed f) valid may = with_frame_is_queue q f valid

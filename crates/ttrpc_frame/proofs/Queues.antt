@@ -7,10 +7,10 @@ use Rattle.std.proofs.lemmas.Bool.Decides.{nat_tests}
 use Rattle.std.proofs.lemmas.List.{take_at, take_all, take_rest, append-nil, drop_at, take-append-le, drop-append-le, drop_all, drop-drop, drop_more, take_more}
 use Rattle.std.specs.List.{remove}
 use Rattle.std.specs.Int.{from_bool}
-use Rattle.ttrpc_proto.specs.declared.gen_message.GenMessage.{GenMessage}
+use Rattle.ttrpc_frame.specs.declared.gen_message.GenMessage.{GenMessage}
 use Rattle.ttrpc_frame.specs.declared.outgoing.Queued.{Queued}
 use Rattle.ttrpc_frame.specs.Queue.{written, Queue, IsQueue, IsWithin, first_open, open_part, with_frame, with_lent, report_first, after_report, begun_count, last_may_change, with_payload, last_filled, filled, withdrawn, without, is_request_of, frames_without, others_without}
-use Rattle.ttrpc_proto.specs.Header.{header_bytes}
+use Rattle.ttrpc_header.specs.Header.{header_bytes}
 
 pub length-written : (m : GenMessage) → length (written m) ≡ 10 + length m.payload
 unfolding written
@@ -224,7 +224,7 @@ begun_number q n e = e ∙ number q.begun
     number true = refl
     number false = refl
 
-abbrev queue_of : Bool → List Queued → ℕ → ℕ → Queue
+abbrev pub queue_of : Bool → List Queued → ℕ → ℕ → Queue
 queue_of b fs r l = record { frames = fs; reported = r; lent = l; begun = b }
 
 filled_queue : (b : Bool) (fs : List Queued) (r l : ℕ) (payload : List ℕ) → IsQueue (queue_of b fs r l) → IsQueue (filled (queue_of b fs r l) payload)

@@ -1,10 +1,10 @@
 -- The frames still to be written, in order, how far the first of them is, and what becomes of them over time.
--- Source: PROTOCOL.md of ttrpc, on the message frame.
+-- Source: PROTOCOL.md of ttrpc, "Message Frame".
 use Rattle.std.specs.Prelude.{◌≡◌, ◌≤◌, ◌<◌, ◌+◌, ◌-◌, ◌%◌, ◌^◌, ◌==◌, ◌&&◌, ◌||◌, ◌⊎◌, ℕ, Bool, false, if◌then◌else◌, nat_lt, List, [], ◌∷◌, ◌++◌, length, take, drop, remove, Option, None, Some}
 use Rattle.std.specs.List.{flat_map}
-use Rattle.ttrpc_proto.specs.declared.gen_message.GenMessage.{GenMessage}
+use Rattle.ttrpc_frame.specs.declared.gen_message.GenMessage.{GenMessage}
 use Rattle.ttrpc_frame.specs.declared.outgoing.Queued.{Queued}
-use Rattle.ttrpc_proto.specs.Header.{header_bytes}
+use Rattle.ttrpc_header.specs.Header.{header_bytes}
 
 -- a frame's bytes: the header as it stands, and the payload
 unfoldable pub written : GenMessage → List ℕ

@@ -2,12 +2,9 @@
 #![tactic(auto)]
 
 mod frame;
+mod gen_message;
 mod outgoing;
 
 pub use frame::{FrameDecoder, Incoming, bytes_are_frames, pieces_are_joined};
+pub use gen_message::{GenMessage, GenMessageError};
 pub use outgoing::{Outgoing, Queued, departing_frames_are_written};
-
-#[cfg(test)]
-mod frame_tests;
-#[cfg(test)]
-mod outgoing_tests;

@@ -5,11 +5,13 @@ ghost use Rattle.ttrpc_frame.specs.declared.outgoing.Queued.{Queued as AFrame};
 ghost use Rattle.ttrpc_frame.specs.Queue.{Happening, Allowed, IsMerge, after_all, all_bytes_left, departing, placed, thrown, unsent, written_all};
 ghost use Rattle.ttrpc_frame.specs.Queue.{Queue, IsQueue, StandsAt, written, first_open, open_part, empty_queue, with_frame, with_lent, after_report, last_may_change, filled, withdrawn, is_request_of, has_begun, without};
 
+use crate::gen_message::GenMessage;
 use std::alloc::Global;
 use std::collections::VecDeque;
 use std::marker::Model;
-use ttrpc_proto::{Error, GenMessage, MESSAGE_HEADER_LENGTH, Result};
-use ttrpc_wire::Blob;
+use ttrpc_error::{Error, Result};
+use ttrpc_header::MESSAGE_HEADER_LENGTH;
+use ttrpc_values::Blob;
 
 /// How many lengths the four bytes of a header can say.
 const LENGTHS: usize = 1 << 32;

@@ -11,11 +11,11 @@ use Rattle.ttrpc_proto.specs.declared.key_value.KeyValue.{KeyValue}
 use Rattle.ttrpc_proto.specs.declared.request.Request.{Request}
 use Rattle.ttrpc_proto.specs.declared.response.Response.{Response}
 use Rattle.ttrpc_proto.specs.declared.status.Status.{Status}
-use Rattle.ttrpc_proto.specs.Members.{delimited_in, number_in, last_text, last_bytes, last_number, one_more, joined, both}
+use Rattle.ttrpc_codec.specs.Members.{delimited_in, number_in, last_text, last_bytes, last_number, one_more, joined, both}
 use Rattle.ttrpc_proto.specs.Messages.{empty_key_value, key_value_step, empty_any, any_step, empty_status, status_step, empty_request, request_step, empty_response, response_step}
 use Rattle.ttrpc_proto.specs.Meaning.{delimited_values, number_values, last_or, IsLastText, Means, OfKeyValue, OfAny, OfStatus, OfRequest, OfResponse}
-use Rattle.ttrpc_proto.proofs.Means.{both_apart, both_together, Seen, seen_apart, seen_together, AreTexts, text_means, text_again, bytes_mean, bytes_fold, number_means, number_fold}
-use Rattle.ttrpc_proto.proofs.Lists.{Reads, reads_mean, mean_reads, AreEach-map, list_means, list_fold, list_more, IsEven, joined_means, joined_fold, AreJoined-map}
+use Rattle.ttrpc_proto.proofs.Means.{both_apart, both_together, StepsByParts, seen_apart, seen_together, AreTexts, text_means, text_again, bytes_mean, bytes_fold, number_means, number_fold}
+use Rattle.ttrpc_proto.proofs.Lists.{ReadsTo, reads_mean, mean_reads, AreEach-map, list_means, list_fold, list_more, IsEven, joined_means, joined_fold, AreJoined-map}
 
 -- ---- a chain of members, as pairs
 
@@ -55,7 +55,7 @@ key_value_parts m = (m.key, m.value)
 abbrev key_value_made : List ℕ × List ℕ → KeyValue
 key_value_made p = record { key = p.0; value = p.1 }
 
-key_value_seen : Seen key_value_step key_value_parts key_value_made (both (delimited_in 1 last_text) (delimited_in 2 last_text))
+key_value_seen : StepsByParts key_value_step key_value_parts key_value_made (both (delimited_in 1 last_text) (delimited_in 2 last_text))
 key_value_seen = record {
   steps = λ m f. chain_2 key_value_made (delimited_in 1 last_text m.key f) (delimited_in 2 last_text m.value f);
   made = λ m. refl;
@@ -80,7 +80,7 @@ any_parts m = (m.type_url, m.value)
 abbrev any_made : List ℕ × List ℕ → Any
 any_made p = record { type_url = p.0; value = p.1 }
 
-any_seen : Seen any_step any_parts any_made (both (delimited_in 1 last_text) (delimited_in 2 last_bytes))
+any_seen : StepsByParts any_step any_parts any_made (both (delimited_in 1 last_text) (delimited_in 2 last_bytes))
 any_seen = record {
   steps = λ m f. chain_2 any_made (delimited_in 1 last_text m.type_url f) (delimited_in 2 last_bytes m.value f);
   made = λ m. refl;
@@ -114,7 +114,7 @@ status_parts m = (m.code, (m.message, m.details))
 abbrev status_made : ℤ × (List ℕ × List Any) → Status
 status_made p = record { code = p.0; message = p.1.0; details = p.1.1 }
 
-status_seen : Seen status_step status_parts status_made (both code_in (both message_in details_in))
+status_seen : StepsByParts status_step status_parts status_made (both code_in (both message_in details_in))
 status_seen = record {
   steps = λ m f. chain_3 status_made (code_in m.code f) (message_in m.message f) (details_in m.details f);
   made = λ m. refl;
@@ -128,7 +128,7 @@ status_apart fs m e =
     record {
       code = number_means 1 int32_of _ m.code fs b.first;
       message = texts _ _ (text_means 2 [] m.message fs c.first);
-      details = AreEach-map (Reads any_step empty_any) (Means OfAny) (reads_mean any_step empty_any OfAny any_apart) (delimited_values 3 fs) m.details (list_means 3 any_step empty_any m.details fs c.second);
+      details = AreEach-map (ReadsTo any_step empty_any) (Means OfAny) (reads_mean any_step empty_any OfAny any_apart) (delimited_values 3 fs) m.details (list_means 3 any_step empty_any m.details fs c.second);
     }
 
 pub status_together : (fs : List Field) (m : Status) → OfStatus fs m → folded status_step empty_status fs ≡ Some m
@@ -138,7 +138,7 @@ status_together fs m h =
       first = number_fold 1 int32_of _ m.code fs h.code;
       second = both_together message_in details_in _ m.message _ m.details fs (record {
         first = text_again 2 [] m.message fs (back_to_texts _ _ h.message);
-        second = list_fold 3 any_step empty_any [] m.details fs (AreEach-map (Means OfAny) (Reads any_step empty_any) (mean_reads any_step empty_any OfAny any_together) (delimited_values 3 fs) m.details h.details);
+        second = list_fold 3 any_step empty_any [] m.details fs (AreEach-map (Means OfAny) (ReadsTo any_step empty_any) (mean_reads any_step empty_any OfAny any_together) (delimited_values 3 fs) m.details h.details);
       });
     }))
 
@@ -196,7 +196,7 @@ request_made p = record { service = p.0; method = p.1.0; payload = p.1.1.0; time
 abbrev request_both : List ℕ × (List ℕ × (List ℕ × (ℤ × List KeyValue))) → Field → Option (List ℕ × (List ℕ × (List ℕ × (ℤ × List KeyValue))))
 request_both = both service_in (both method_in (both content_in (both timeout_in metadata_in)))
 
-request_seen : Seen request_step request_parts request_made request_both
+request_seen : StepsByParts request_step request_parts request_made request_both
 request_seen = record {
   steps = λ m f. chain_5 request_made (service_in m.service f) (method_in m.method f) (content_in m.payload f) (timeout_in m.timeout_nano f) (metadata_in m.metadata f);
   made = λ m. refl;
@@ -214,7 +214,7 @@ request_apart fs m e =
       method = texts _ _ (text_means 2 [] m.method fs b.first);
       payload = bytes_mean 3 [] m.payload fs c.first;
       timeout_nano = number_means 4 int64_of _ m.timeout_nano fs d.first;
-      metadata = AreEach-map (Reads key_value_step empty_key_value) (Means OfKeyValue) (reads_mean key_value_step empty_key_value OfKeyValue key_value_apart) (delimited_values 5 fs) m.metadata (list_means 5 key_value_step empty_key_value m.metadata fs d.second);
+      metadata = AreEach-map (ReadsTo key_value_step empty_key_value) (Means OfKeyValue) (reads_mean key_value_step empty_key_value OfKeyValue key_value_apart) (delimited_values 5 fs) m.metadata (list_means 5 key_value_step empty_key_value m.metadata fs d.second);
     }
 
 pub request_together : (fs : List Field) (m : Request) → OfRequest fs m → folded request_step empty_request fs ≡ Some m
@@ -228,7 +228,7 @@ request_together fs m h =
           first = bytes_fold 3 [] m.payload fs h.payload;
           second = both_together timeout_in metadata_in _ m.timeout_nano _ m.metadata fs (record {
             first = number_fold 4 int64_of _ m.timeout_nano fs h.timeout_nano;
-            second = list_fold 5 key_value_step empty_key_value [] m.metadata fs (AreEach-map (Means OfKeyValue) (Reads key_value_step empty_key_value) (mean_reads key_value_step empty_key_value OfKeyValue key_value_together) (delimited_values 5 fs) m.metadata h.metadata);
+            second = list_fold 5 key_value_step empty_key_value [] m.metadata fs (AreEach-map (Means OfKeyValue) (ReadsTo key_value_step empty_key_value) (mean_reads key_value_step empty_key_value OfKeyValue key_value_together) (delimited_values 5 fs) m.metadata h.metadata);
           });
         });
       });
@@ -245,7 +245,7 @@ response_parts m = (m.status, m.payload)
 abbrev response_made : Option Status × List ℕ → Response
 response_made p = record { status = p.0; payload = p.1 }
 
-response_seen : Seen response_step response_parts response_made (both joined_in (delimited_in 2 last_bytes))
+response_seen : StepsByParts response_step response_parts response_made (both joined_in (delimited_in 2 last_bytes))
 response_seen = record {
   steps = λ m f. chain_2 response_made (joined_in m.status f) (delimited_in 2 last_bytes m.payload f);
   made = λ m. refl;
@@ -256,7 +256,7 @@ pub response_apart : (fs : List Field) (m : Response) → folded response_step e
 response_apart fs m e =
     let b = both_apart joined_in (delimited_in 2 last_bytes) _ m.status _ m.payload fs (seen_apart response_step response_parts response_made _ response_seen fs empty_response m e) in
     record {
-      status = AreJoined-map (Reads status_step empty_status) (Means OfStatus) (reads_mean status_step empty_status OfStatus status_apart) (delimited_values 1 fs) m.status (joined_means 1 status_step empty_status status_even m.status fs b.first);
+      status = AreJoined-map (ReadsTo status_step empty_status) (Means OfStatus) (reads_mean status_step empty_status OfStatus status_apart) (delimited_values 1 fs) m.status (joined_means 1 status_step empty_status status_even m.status fs b.first);
       payload = bytes_mean 2 [] m.payload fs b.second;
     }
 
@@ -264,6 +264,6 @@ pub response_together : (fs : List Field) (m : Response) → OfResponse fs m →
 response_together fs m h =
     seen_together response_step response_parts response_made _ response_seen fs empty_response m
     (both_together joined_in (delimited_in 2 last_bytes) _ m.status _ m.payload fs (record {
-      first = joined_fold 1 status_step empty_status status_even m.status fs (AreJoined-map (Means OfStatus) (Reads status_step empty_status) (mean_reads status_step empty_status OfStatus status_together) (delimited_values 1 fs) m.status h.status);
+      first = joined_fold 1 status_step empty_status status_even m.status fs (AreJoined-map (Means OfStatus) (ReadsTo status_step empty_status) (mean_reads status_step empty_status OfStatus status_together) (delimited_values 1 fs) m.status h.status);
       second = bytes_fold 2 [] m.payload fs h.payload;
     }))

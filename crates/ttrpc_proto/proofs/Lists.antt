@@ -11,22 +11,22 @@ use Rattle.ttrpc_wire.specs.Fold.{folded, read_from}
 use Rattle.ttrpc_wire.proofs.Agrees.{bound, mapped}
 use Rattle.ttrpc_wire.proofs.Fields.{fields_from, are_fields}
 use Rattle.ttrpc_wire.proofs.Folds.{reads_append}
-use Rattle.ttrpc_proto.specs.Members.{delimited_in, one_more, joined}
+use Rattle.ttrpc_codec.specs.Members.{delimited_in, one_more, joined}
 use Rattle.ttrpc_proto.specs.Meaning.{delimited_values, AreEach, Means, AreJoined}
 use Rattle.ttrpc_proto.proofs.Means.{read_all, folded-delimited_in}
 
 -- ---- fields of a message, and bytes of one
 
-abbrev pub Reads : {M : Type 0} → (M → Field → Option M) → M → List ℕ → M → Type 0
-Reads step empty bytes m = read_from step empty bytes ≡ Some m
+abbrev pub ReadsTo : {M : Type 0} → (M → Field → Option M) → M → List ℕ → M → Type 0
+ReadsTo step empty bytes m = read_from step empty bytes ≡ Some m
 
-pub reads_mean : {M : Type 0} (step : M → Field → Option M) (empty : M) (Of : List Field → M → Type 0) → ((fs : List Field) (m : M) → folded step empty fs ≡ Some m → Of fs m) → (bytes : List ℕ) (m : M) → Reads step empty bytes m → Means Of bytes m
+pub reads_mean : {M : Type 0} (step : M → Field → Option M) (empty : M) (Of : List Field → M → Type 0) → ((fs : List Field) (m : M) → folded step empty fs ≡ Some m → Of fs m) → (bytes : List ℕ) (m : M) → ReadsTo step empty bytes m → Means Of bytes m
 unfolding read_from
 reads_mean step empty Of apart bytes m e =
     let s = bound (fields_of bytes) (folded step empty) m e in
     (s.0, are_fields bytes s.0 s.1, apart s.0 m s.2)
 
-pub mean_reads : {M : Type 0} (step : M → Field → Option M) (empty : M) (Of : List Field → M → Type 0) → ((fs : List Field) (m : M) → Of fs m → folded step empty fs ≡ Some m) → (bytes : List ℕ) (m : M) → Means Of bytes m → Reads step empty bytes m
+pub mean_reads : {M : Type 0} (step : M → Field → Option M) (empty : M) (Of : List Field → M → Type 0) → ((fs : List Field) (m : M) → Of fs m → folded step empty fs ≡ Some m) → (bytes : List ℕ) (m : M) → Means Of bytes m → ReadsTo step empty bytes m
 unfolding read_from
 mean_reads step empty Of together bytes m h = ap (λ o. o >>= folded step empty) (fields_from bytes h.0 h.1) ∙ together h.0 m h.2
 
@@ -41,7 +41,7 @@ AreEach-map P Q f (b ∷ bs) (m ∷ ms) h = (f b m h.0, AreEach-map P Q f bs ms 
 record Grown {M : Type 0} (step : M → Field → Option M) (empty : M) (old xs : List M) (bs : List (List ℕ)) : Type 0 where
   more : List M
   whole : xs ≡ old ++ more
-  each : AreEach (Reads step empty) bs more
+  each : AreEach (ReadsTo step empty) bs more
 
 list_read : {M : Type 0} (step : M → Field → Option M) (empty : M) (old xs : List M) (bs : List (List ℕ)) → read_all (one_more step empty) old bs ≡ Some xs → Grown step empty old xs bs
 list_read step empty old xs [] e = record { more = []; whole = sym (same_Some old xs e) ∙ sym (append-nil old); each = tt }
@@ -55,7 +55,7 @@ list_read step empty old xs (b ∷ bs) e =
       each = (m.1, r.each);
     }
 
-list_again : {M : Type 0} (step : M → Field → Option M) (empty : M) (old ys : List M) (bs : List (List ℕ)) → AreEach (Reads step empty) bs ys → read_all (one_more step empty) old bs ≡ Some (old ++ ys)
+list_again : {M : Type 0} (step : M → Field → Option M) (empty : M) (old ys : List M) (bs : List (List ℕ)) → AreEach (ReadsTo step empty) bs ys → read_all (one_more step empty) old bs ≡ Some (old ++ ys)
 list_again step empty old [] [] h = ap (λ w. Some w) (sym (append-nil old))
 list_again step empty old (y ∷ ys) [] h = absurd h
 list_again step empty old [] (b ∷ bs) h = absurd h
@@ -63,16 +63,16 @@ list_again step empty old (y ∷ ys) (b ∷ bs) h =
     ap (λ o. option_map (λ m. old ++ m ∷ []) o >>= λ z. read_all (one_more step empty) z bs) h.0
     ∙ list_again step empty (old ++ y ∷ []) ys bs h.1 ∙ ap (λ w. Some w) (append_assoc old (y ∷ []) ys)
 
-pub list_means : {M : Type 0} (k : ℕ) (step : M → Field → Option M) (empty : M) (xs : List M) (fs : List Field) → folded (delimited_in k (one_more step empty)) [] fs ≡ Some xs → AreEach (Reads step empty) (delimited_values k fs) xs
+pub list_means : {M : Type 0} (k : ℕ) (step : M → Field → Option M) (empty : M) (xs : List M) (fs : List Field) → folded (delimited_in k (one_more step empty)) [] fs ≡ Some xs → AreEach (ReadsTo step empty) (delimited_values k fs) xs
 list_means k step empty xs fs e =
     let r = list_read step empty [] xs (delimited_values k fs) (sym (folded-delimited_in k (one_more step empty) [] fs) ∙ e) in
-    subst (AreEach (Reads step empty) (delimited_values k fs)) (sym r.whole) r.each
+    subst (AreEach (ReadsTo step empty) (delimited_values k fs)) (sym r.whole) r.each
 
-pub list_fold : {M : Type 0} (k : ℕ) (step : M → Field → Option M) (empty : M) (old xs : List M) (fs : List Field) → AreEach (Reads step empty) (delimited_values k fs) xs → folded (delimited_in k (one_more step empty)) old fs ≡ Some (old ++ xs)
+pub list_fold : {M : Type 0} (k : ℕ) (step : M → Field → Option M) (empty : M) (old xs : List M) (fs : List Field) → AreEach (ReadsTo step empty) (delimited_values k fs) xs → folded (delimited_in k (one_more step empty)) old fs ≡ Some (old ++ xs)
 list_fold k step empty old xs fs h = folded-delimited_in k (one_more step empty) old fs ∙ list_again step empty old xs (delimited_values k fs) h
 
 -- from a list that isn't empty: which messages come doesn't depend on it
-pub list_more : {M : Type 0} (k : ℕ) (step : M → Field → Option M) (empty : M) (old xs : List M) (fs : List Field) → folded (delimited_in k (one_more step empty)) old fs ≡ Some xs → (ys : List M) × AreEach (Reads step empty) (delimited_values k fs) ys
+pub list_more : {M : Type 0} (k : ℕ) (step : M → Field → Option M) (empty : M) (old xs : List M) (fs : List Field) → folded (delimited_in k (one_more step empty)) old fs ≡ Some xs → (ys : List M) × AreEach (ReadsTo step empty) (delimited_values k fs) ys
 list_more k step empty old xs fs e =
     let r = list_read step empty old xs (delimited_values k fs) (sym (folded-delimited_in k (one_more step empty) old fs) ∙ e) in
     (r.more, r.each)
@@ -81,26 +81,26 @@ list_more k step empty old xs fs e =
 
 -- whether bytes are refused doesn't depend on the message so far
 pub record IsEven {M : Type 0} (step : M → Field → Option M) : Type 0 where
-  pub evenly : (m n x : M) (bytes : List ℕ) → Reads step m bytes x → (y : M) × Reads step n bytes y
+  pub evenly : (m n x : M) (bytes : List ℕ) → ReadsTo step m bytes x → (y : M) × ReadsTo step n bytes y
 
 abbrev pub all_of : List (List ℕ) → List ℕ
 all_of bs = flat_map (λ x. x) bs
 
 abbrev pub ByItself : {M : Type 0} → (M → Field → Option M) → M → List ℕ → Type 0
-ByItself {M = M} step empty b = (n : M) × Reads step empty b n
+ByItself {M = M} step empty b = (n : M) × ReadsTo step empty b n
 
 record Joined {M : Type 0} (step : M → Field → Option M) (empty : M) (front : List ℕ) (o : Option M) (bs : List (List ℕ)) : Type 0 where
   what : M
   is : o ≡ Some what
-  reads : Reads step empty (front ++ all_of bs) what
+  reads : ReadsTo step empty (front ++ all_of bs) what
   each : AllByRecursion (ByItself step empty) bs
 
-joined_read : {M : Type 0} (step : M → Field → Option M) (empty : M) → IsEven step → (front : List ℕ) (n : M) (o : Option M) (bs : List (List ℕ)) → Reads step empty front n → read_all (joined step empty) (Some n) bs ≡ Some o → Joined step empty front o bs
+joined_read : {M : Type 0} (step : M → Field → Option M) (empty : M) → IsEven step → (front : List ℕ) (n : M) (o : Option M) (bs : List (List ℕ)) → ReadsTo step empty front n → read_all (joined step empty) (Some n) bs ≡ Some o → Joined step empty front o bs
 joined_read step empty h front n o [] e r = record { what = n; is = sym (same_Some (Some n) o r); reads = ap (read_from step empty) (append-nil front) ∙ e; each = tt }
 joined_read step empty h front n o (b ∷ bs) e r =
     let s = bound (joined step empty (Some n) b) (λ y. read_all (joined step empty) y bs) o r in
     let m = mapped (λ m. Some m) (read_from step n b) s.0 s.1 in
-    let both : Reads step empty (front ++ b) m.0 = reads_append step empty n front b e ∙ m.1 in
+    let both : ReadsTo step empty (front ++ b) m.0 = reads_append step empty n front b e ∙ m.1 in
     let later = joined_read step empty h (front ++ b) m.0 o bs both (ap (λ y. read_all (joined step empty) y bs) m.2 ∙ s.2) in
     record {
       what = later.what;
@@ -109,34 +109,34 @@ joined_read step empty h front n o (b ∷ bs) e r =
       each = (h.evenly n empty m.0 b m.1, later.each);
     }
 
-joined_again : {M : Type 0} (step : M → Field → Option M) (empty : M) → IsEven step → (front : List ℕ) (n m : M) (bs : List (List ℕ)) → Reads step empty front n → Reads step empty (front ++ all_of bs) m → AllByRecursion (ByItself step empty) bs → read_all (joined step empty) (Some n) bs ≡ Some (Some m)
+joined_again : {M : Type 0} (step : M → Field → Option M) (empty : M) → IsEven step → (front : List ℕ) (n m : M) (bs : List (List ℕ)) → ReadsTo step empty front n → ReadsTo step empty (front ++ all_of bs) m → AllByRecursion (ByItself step empty) bs → read_all (joined step empty) (Some n) bs ≡ Some (Some m)
 joined_again step empty h front n m [] e r all =
     ap (λ x. Some (Some x)) (same_Some n m (sym e ∙ sym (ap (read_from step empty) (append-nil front)) ∙ r))
 joined_again step empty h front n m (b ∷ bs) e r all =
     let x = h.evenly empty n all.0.0 b all.0.1 in
-    let both : Reads step empty (front ++ b) x.0 = reads_append step empty n front b e ∙ x.1 in
-    let whole : Reads step empty ((front ++ b) ++ all_of bs) m = ap (read_from step empty) (append_assoc front b (all_of bs)) ∙ ap (λ (w : List ℕ). read_from step empty (front ++ w)) (sym (flat_map-cons (λ x. x) b bs)) ∙ r in
+    let both : ReadsTo step empty (front ++ b) x.0 = reads_append step empty n front b e ∙ x.1 in
+    let whole : ReadsTo step empty ((front ++ b) ++ all_of bs) m = ap (read_from step empty) (append_assoc front b (all_of bs)) ∙ ap (λ (w : List ℕ). read_from step empty (front ++ w)) (sym (flat_map-cons (λ x. x) b bs)) ∙ r in
     ap (λ o. option_map (λ m. Some m) o >>= λ y. read_all (joined step empty) y bs) x.1 ∙ joined_again step empty h (front ++ b) x.0 m bs both whole all.1
 
-joined_first : {M : Type 0} (step : M → Field → Option M) (empty : M) → IsEven step → (o : Option M) (bs : List (List ℕ)) → read_all (joined step empty) None bs ≡ Some o → AreJoined (Reads step empty) bs o
+joined_first : {M : Type 0} (step : M → Field → Option M) (empty : M) → IsEven step → (o : Option M) (bs : List (List ℕ)) → read_all (joined step empty) None bs ≡ Some o → AreJoined (ReadsTo step empty) bs o
 joined_first step empty h o [] e = sym (same_Some None o e)
 joined_first step empty h o (b ∷ bs) e =
     let s = bound (joined step empty None b) (λ y. read_all (joined step empty) y bs) o e in
     let m = mapped (λ m. Some m) (read_from step empty b) s.0 s.1 in
     let later = joined_read step empty h b m.0 o bs m.1 (ap (λ y. read_all (joined step empty) y bs) m.2 ∙ s.2) in
-    subst (AreJoined (Reads step empty) (b ∷ bs)) (sym later.is) (ap (read_from step empty) (flat_map-cons (λ x. x) b bs) ∙ later.reads, ((m.0, m.1), later.each))
+    subst (AreJoined (ReadsTo step empty) (b ∷ bs)) (sym later.is) (ap (read_from step empty) (flat_map-cons (λ x. x) b bs) ∙ later.reads, ((m.0, m.1), later.each))
 
-joined_first_again : {M : Type 0} (step : M → Field → Option M) (empty : M) → IsEven step → (o : Option M) (bs : List (List ℕ)) → AreJoined (Reads step empty) bs o → read_all (joined step empty) None bs ≡ Some o
+joined_first_again : {M : Type 0} (step : M → Field → Option M) (empty : M) → IsEven step → (o : Option M) (bs : List (List ℕ)) → AreJoined (ReadsTo step empty) bs o → read_all (joined step empty) None bs ≡ Some o
 joined_first_again step empty h o [] e = ap (λ x. Some x) (sym e)
 joined_first_again step empty h None (b ∷ bs) e = absurd e
 joined_first_again step empty h (Some m) (b ∷ bs) e =
     ap (λ o. option_map (λ m. Some m) o >>= λ y. read_all (joined step empty) y bs) e.1.0.1
     ∙ joined_again step empty h b e.1.0.0 m bs e.1.0.1 (sym (ap (read_from step empty) (flat_map-cons (λ x. x) b bs)) ∙ e.0) e.1.1
 
-pub joined_means : {M : Type 0} (k : ℕ) (step : M → Field → Option M) (empty : M) → IsEven step → (o : Option M) (fs : List Field) → folded (delimited_in k (joined step empty)) None fs ≡ Some o → AreJoined (Reads step empty) (delimited_values k fs) o
+pub joined_means : {M : Type 0} (k : ℕ) (step : M → Field → Option M) (empty : M) → IsEven step → (o : Option M) (fs : List Field) → folded (delimited_in k (joined step empty)) None fs ≡ Some o → AreJoined (ReadsTo step empty) (delimited_values k fs) o
 joined_means k step empty h o fs e = joined_first step empty h o (delimited_values k fs) (sym (folded-delimited_in k (joined step empty) None fs) ∙ e)
 
-pub joined_fold : {M : Type 0} (k : ℕ) (step : M → Field → Option M) (empty : M) → IsEven step → (o : Option M) (fs : List Field) → AreJoined (Reads step empty) (delimited_values k fs) o → folded (delimited_in k (joined step empty)) None fs ≡ Some o
+pub joined_fold : {M : Type 0} (k : ℕ) (step : M → Field → Option M) (empty : M) → IsEven step → (o : Option M) (fs : List Field) → AreJoined (ReadsTo step empty) (delimited_values k fs) o → folded (delimited_in k (joined step empty)) None fs ≡ Some o
 joined_fold k step empty h o fs e = folded-delimited_in k (joined step empty) None fs ∙ joined_first_again step empty h o (delimited_values k fs) e
 
 all_map : {A : Type 0} (P Q : A → Type 0) → ((x : A) → P x → Q x) → (xs : List A) → AllByRecursion P xs → AllByRecursion Q xs

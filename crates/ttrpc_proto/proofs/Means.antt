@@ -10,7 +10,7 @@ use Rattle.ttrpc_wire.specs.Reading.{◌>>=◌}
 use Rattle.ttrpc_wire.specs.Fold.{folded}
 use Rattle.ttrpc_wire.proofs.Agrees.{bound, mapped}
 use Rattle.ttrpc_wire.proofs.Folds.{bind_none, bind_same}
-use Rattle.ttrpc_proto.specs.Members.{delimited, number, delimited_in, number_in, text_of, last_text, last_bytes, last_number, both}
+use Rattle.ttrpc_codec.specs.Members.{delimited, number, delimited_in, number_in, text_of, last_text, last_bytes, last_number, both}
 use Rattle.ttrpc_proto.specs.Meaning.{delimited_value, number_value, delimited_values, number_values, last_or}
 
 -- ---- a message of two parts
@@ -43,7 +43,7 @@ both_together s t x v y w fs h = folded-both s t x y fs ∙ ap (λ o. o >>= λ v
 
 -- ---- the same message, seen as another type
 
-pub record Seen {M P : Type 0} (step : M → Field → Option M) (parts : M → P) (make : P → M) (s : P → Field → Option P) : Type 0 where
+pub record StepsByParts {M P : Type 0} (step : M → Field → Option M) (parts : M → P) (make : P → M) (s : P → Field → Option P) : Type 0 where
   pub steps : (m : M) (f : Field) → step m f ≡ option_map make (s (parts m) f)
   pub made : (m : M) → make (parts m) ≡ m
   pub parted : (p : P) → parts (make p) ≡ p
@@ -54,19 +54,19 @@ seen_step : {M P : Type 0} (step : M → Field → Option M) (parts : M → P) (
 seen_step step parts make s fs None h = refl
 seen_step step parts make s fs (Some p) h = h p
 
-folded-made : {M P : Type 0} (step : M → Field → Option M) (parts : M → P) (make : P → M) (s : P → Field → Option P) → Seen step parts make s → (fs : List Field) (p : P) → folded step (make p) fs ≡ option_map make (folded s p fs)
+folded-made : {M P : Type 0} (step : M → Field → Option M) (parts : M → P) (make : P → M) (s : P → Field → Option P) → StepsByParts step parts make s → (fs : List Field) (p : P) → folded step (make p) fs ≡ option_map make (folded s p fs)
 folded-made step parts make s h [] p = refl
 folded-made step parts make s h (f ∷ fs) p =
     ap (λ o. o >>= λ m. folded step m fs) (h.steps (make p) f ∙ ap (λ q. option_map make (s q f)) (h.parted p))
     ∙ seen_step step parts make s fs (s p f) (λ q. folded-made step parts make s h fs q)
 
-pub seen_apart : {M P : Type 0} (step : M → Field → Option M) (parts : M → P) (make : P → M) (s : P → Field → Option P) → Seen step parts make s → (fs : List Field) (m n : M) → folded step m fs ≡ Some n → folded s (parts m) fs ≡ Some (parts n)
+pub seen_apart : {M P : Type 0} (step : M → Field → Option M) (parts : M → P) (make : P → M) (s : P → Field → Option P) → StepsByParts step parts make s → (fs : List Field) (m n : M) → folded step m fs ≡ Some n → folded s (parts m) fs ≡ Some (parts n)
 seen_apart step parts make s h fs m n e =
     let one : folded step m fs ≡ option_map make (folded s (parts m) fs) = ap (λ x. folded step x fs) (sym (h.made m)) ∙ folded-made step parts make s h fs (parts m) in
     let p = mapped make (folded s (parts m) fs) n (sym one ∙ e) in
     p.1 ∙ ap (λ q. Some q) (sym (h.parted p.0) ∙ ap parts p.2)
 
-pub seen_together : {M P : Type 0} (step : M → Field → Option M) (parts : M → P) (make : P → M) (s : P → Field → Option P) → Seen step parts make s → (fs : List Field) (m n : M) → folded s (parts m) fs ≡ Some (parts n) → folded step m fs ≡ Some n
+pub seen_together : {M P : Type 0} (step : M → Field → Option M) (parts : M → P) (make : P → M) (s : P → Field → Option P) → StepsByParts step parts make s → (fs : List Field) (m n : M) → folded s (parts m) fs ≡ Some (parts n) → folded step m fs ≡ Some n
 seen_together step parts make s h fs m n e =
     ap (λ x. folded step x fs) (sym (h.made m)) ∙ folded-made step parts make s h fs (parts m) ∙ ap (option_map make) e ∙ ap (λ x. Some x) (h.made n)
 

@@ -1,4 +1,6 @@
--- The two laws of each message: the fields that are written have a written form, and mean the message.
+-- The two laws of each message: the fields that are written have a written form, and mean the message. The proof of
+-- a law of an impl stands in specs/, as the language has it.
+-- Source: this project's.
 use Rattle.std.specs.Prelude.{◌≡◌, ℕ, ◌<◌, ◌^◌, List, [], ◌∷◌, ◌++◌, length, Option, Some, None, refl, ℤ}
 use Rattle.std.specs.List.{AllByRecursion}
 use Rattle.std.proofs.Common.{sym, ap, arith}
@@ -12,9 +14,9 @@ use Rattle.ttrpc_proto.specs.declared.key_value.KeyValue.{KeyValue}
 use Rattle.ttrpc_proto.specs.declared.request.Request.{Request}
 use Rattle.ttrpc_proto.specs.declared.response.Response.{Response}
 use Rattle.ttrpc_proto.specs.declared.status.Status.{Status}
-use Rattle.ttrpc_proto.specs.Members.{delimited_field, delimited_fields, number_fields, part_fields, optional_fields}
+use Rattle.ttrpc_codec.specs.Members.{delimited_field, delimited_fields, number_fields, part_fields, optional_fields}
 use Rattle.ttrpc_proto.specs.Messages.{IsKeyValue, empty_key_value, key_value_step, key_value_fields, IsAny, empty_any, any_step, any_fields, IsStatus, empty_status, status_step, status_fields, IsRequest, empty_request, request_step, request_head, request_tail, request_fields, IsOptional, IsResponse, empty_response, response_step, response_fields}
-use Rattle.ttrpc_proto.specs.Written.{length-fields_bytes-append, fit_then, fold_then, delimited_fit, fold_delimited, number_fit, fold_number, int32_back, int32_zero, int32_small, int64_back, int64_zero, int64_small, length-part_fields, parts_fit, parts_back, fold_parts, optional_fit}
+use Rattle.ttrpc_codec.proofs.Written.{length-fields_bytes-append, fit_then, fold_then, delimited_fit, fold_delimited, number_fit, fold_number, int32_back, int32_zero, int32_small, int64_back, int64_zero, int64_small, length-part_fields, parts_fit, parts_back, fold_parts, optional_fit}
 
 -- ---- KeyValue
 

@@ -1,9 +1,3 @@
-pub mod Header
-pub mod Code
-pub mod ErrorText
-pub mod GenMessage
-pub mod Members
-pub mod Written
 pub mod Messages
 pub mod Laws
 pub mod Meaning

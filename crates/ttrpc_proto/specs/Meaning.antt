@@ -1,7 +1,7 @@
 -- What fields mean as a message, member by member: of a scalar, a text or bytes the last value of its number
 -- with its own wire type, or the default; of a list all such values in order; of `status` all its values
 -- joined. Other fields mean nothing. A text that isn't UTF-8 gives no meaning, also where a later one follows.
--- Source: the Protocol Buffers encoding guide, "Last One Wins", "Optional Elements" and "Repeated Elements".
+-- Source: the Protocol Buffers encoding guide, "Last One Wins" and "Repeated Elements".
 use Rattle.std.specs.Prelude.{◌≡◌, ℕ, List, [], ◌∷◌, ◌++◌, Option, Some, None, map, ◌==◌, if◌then◌else◌, pos}
 use Rattle.std.specs.List.{AllByRecursion, flat_map}
 use Rattle.std.specs.Str.{IsUtf8}

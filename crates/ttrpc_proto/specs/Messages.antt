@@ -1,6 +1,6 @@
 -- The five messages: the one of no fields, what one more field means, and the fields that are written, by
 -- rising number.
--- Source: the messages of ttrpc's envelope (PROTOCOL.md of ttrpc).
+-- Source: PROTOCOL.md of ttrpc, "RPC", and its definition of the messages.
 use Rattle.std.specs.Prelude.{zero, suc, List, [], ◌++◌, Option, Some, None, ℤ, pos, negsuc, FitsSigned, Bool, true, false, if◌then◌else◌}
 use Rattle.std.specs.List.{AllByRecursion}
 use Rattle.std.specs.Int.{w32, w64}
@@ -13,7 +13,7 @@ use Rattle.ttrpc_proto.specs.declared.key_value.KeyValue.{KeyValue}
 use Rattle.ttrpc_proto.specs.declared.status.Status.{Status}
 use Rattle.ttrpc_proto.specs.declared.request.Request.{Request}
 use Rattle.ttrpc_proto.specs.declared.response.Response.{Response}
-use Rattle.ttrpc_proto.specs.Members.{delimited_in, number_in, last_text, last_bytes, last_number, one_more, joined, delimited_fields, number_fields, part_fields, optional_fields}
+use Rattle.ttrpc_codec.specs.Members.{delimited_in, number_in, last_text, last_bytes, last_number, one_more, joined, delimited_fields, number_fields, part_fields, optional_fields}
 
 -- ---- a key and its value: 1 key, 2 value
 

@@ -1,7 +1,7 @@
-use crate::members::{delimited_len, put_delimited, text_from};
-use crate::message::WireMessage;
 use std::alloc::{AllocError, Global};
-use ttrpc_wire::{Blob, CodecError, Field, FieldNumber, Text, TryClone, Value};
+use ttrpc_codec::{WireMessage, delimited_len, put_delimited, text_from};
+use ttrpc_values::{Blob, CodecError, Text, TryClone};
+use ttrpc_wire::{Field, FieldNumber, Value};
 
 /// The bytes of some message, under the name of its type.
 #[derive(Debug, Drop, PartialEq, Eq)]
@@ -51,13 +51,13 @@ impl WireMessage for Any {
         Ok(())
     }
 
-    #[tactic(auto, using(crate::specs::Written::fields_len))]
+    #[tactic(auto, using(ttrpc_codec::proofs::Written::fields_len))]
     fn length(&self) -> u64 {
         let type_url = delimited_len(TYPE_URL, self.type_url.as_bytes());
         type_url.saturating_add(delimited_len(VALUE, self.value.as_slice()))
     }
 
-    #[tactic(auto, using(crate::specs::Written::fields_then))]
+    #[tactic(auto, using(ttrpc_codec::proofs::Written::fields_then))]
     fn write(&self, out: &mut Vec<u8>) -> Result<(), CodecError> {
         put_delimited(out, TYPE_URL, self.type_url.as_bytes())?;
         put_delimited(out, VALUE, self.value.as_slice())?;

@@ -1,7 +1,7 @@
-use crate::members::{delimited_len, put_delimited, text_from};
-use crate::message::WireMessage;
 use std::alloc::{AllocError, Global};
-use ttrpc_wire::{CodecError, Field, FieldNumber, Text, TryClone, Value};
+use ttrpc_codec::{WireMessage, delimited_len, put_delimited, text_from};
+use ttrpc_values::{CodecError, Text, TryClone};
+use ttrpc_wire::{Field, FieldNumber, Value};
 
 /// A key and its value, of a request's metadata.
 #[derive(Debug, Drop, PartialEq, Eq)]
@@ -51,7 +51,7 @@ impl WireMessage for KeyValue {
         Ok(())
     }
 
-    #[tactic(auto, using(crate::specs::Written::fields_len))]
+    #[tactic(auto, using(ttrpc_codec::proofs::Written::fields_len))]
     fn length(&self) -> u64 {
         delimited_len(KEY, self.key.as_bytes()).saturating_add(delimited_len(
             VALUE,
@@ -59,7 +59,7 @@ impl WireMessage for KeyValue {
         ))
     }
 
-    #[tactic(auto, using(crate::specs::Written::fields_then))]
+    #[tactic(auto, using(ttrpc_codec::proofs::Written::fields_then))]
     fn write(&self, out: &mut Vec<u8>) -> Result<(), CodecError> {
         put_delimited(out, KEY, self.key.as_bytes())?;
         put_delimited(out, VALUE, self.value.as_bytes())?;

@@ -1,12 +1,6 @@
-//! What follows from the definitions alone: a header is its ten bytes, a code is its number, and what bytes mean as
-//! each of the five messages. Each law is the contract of a function that does nothing.
-ghost use Rattle.std.specs.Prelude.{◌≡◌, ◌<◌, ◌≤◌, ◌↔◌, ℕ, pos, List, length, Some};
-ghost use Rattle.std.specs.List.{AllByRecursion};
-ghost use Rattle.ttrpc_proto.specs.declared.code.Code.{Code};
-ghost use Rattle.ttrpc_proto.specs.declared.code.Code.TheVariants.{UNKNOWN};
-ghost use Rattle.ttrpc_proto.specs.declared.header.MessageHeader.{MessageHeader};
-ghost use Rattle.ttrpc_proto.specs.Code.{code_of_number, number_of_code};
-ghost use Rattle.ttrpc_proto.specs.Header.{Fits, header_bytes, header_of};
+//! What follows from the definitions alone: what bytes mean as each of the five messages. Each law is the contract of
+//! a function that does nothing.
+ghost use Rattle.std.specs.Prelude.{◌≡◌, ◌↔◌, ℕ, List, Some};
 ghost use Rattle.ttrpc_wire.specs.Fold.{read_from};
 ghost use Rattle.ttrpc_proto.specs.declared.any.Any.{Any as AnAny};
 ghost use Rattle.ttrpc_proto.specs.declared.key_value.KeyValue.{KeyValue as AKeyValue};
@@ -15,28 +9,6 @@ ghost use Rattle.ttrpc_proto.specs.declared.response.Response.{Response as AResp
 ghost use Rattle.ttrpc_proto.specs.declared.status.Status.{Status as AStatus};
 ghost use Rattle.ttrpc_proto.specs.Messages.{empty_key_value, key_value_step, empty_any, any_step, empty_status, status_step, empty_request, request_step, empty_response, response_step};
 ghost use Rattle.ttrpc_proto.specs.Meaning.{Means, OfKeyValue, OfAny, OfStatus, OfRequest, OfResponse};
-
-/// A header that is written reads back, and ten bytes that are read are those written for their header. So no
-/// two headers have the same bytes, and no two lists of ten bytes are one header.
-pub fn header_is_one_to_one()
-    ensures reads_back { (h : MessageHeader) → Fits h → header_of (header_bytes h) ≡ h }
-    ensures writes_back { (bytes : List ℕ) → length bytes ≡ 10 → AllByRecursion (λ b. b < 256) bytes
-        → header_bytes (header_of bytes) ≡ bytes }
-    ensures one_header { (g h : MessageHeader) → Fits g → Fits h
-        → header_bytes g ≡ header_bytes h → g ≡ h }
-    ensures one_spelling { (xs ys : List ℕ) → length xs ≡ 10 → length ys ≡ 10
-        → AllByRecursion (λ b. b < 256) xs → AllByRecursion (λ b. b < 256) ys
-        → header_of xs ≡ header_of ys → xs ≡ ys }
-    ensures fits { (bytes : List ℕ) → AllByRecursion (λ b. b < 256) bytes → Fits (header_of bytes) }
-{}
-
-/// A code's number stands for that code alone. The numbers from 0 to 16 are the codes' numbers, and each greater
-/// one stands for `UNKNOWN`.
-pub fn code_is_one_to_one()
-    ensures codes { (c : Code) → code_of_number (number_of_code c) ≡ c }
-    ensures numbers { (n : ℕ) → n ≤ 16 → number_of_code (code_of_number (pos n)) ≡ pos n }
-    ensures others { (n : ℕ) → 16 < n → code_of_number (pos n) ≡ UNKNOWN }
-{}
 
 /// A key and its value: the last text of each number.
 pub fn key_value_meaning()

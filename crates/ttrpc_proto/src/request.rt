@@ -3,16 +3,13 @@ ghost use Rattle.ttrpc_wire.specs.Field.{fields_bytes};
 ghost use Rattle.ttrpc_proto.specs.Messages.{request_head, request_tail};
 
 use crate::key_value::KeyValue;
-use crate::members::{
-    delimited_len, known_all, number_len, parts_len, put_delimited, put_number, put_parts,
-    text_from,
-};
-use crate::message::{WireMessage, decode};
 use std::alloc::{AllocError, Global};
-use ttrpc_wire::{
-    Blob, CodecError, Field, FieldNumber, Sequence, Text, TryClone, Value, int64_to_varint,
-    varint_to_int64,
+use ttrpc_codec::{
+    WireMessage, decode, delimited_len, known_all, number_len, parts_len, put_delimited,
+    put_number, put_parts, text_from,
 };
+use ttrpc_values::{Blob, CodecError, Sequence, Text, TryClone};
+use ttrpc_wire::{Field, FieldNumber, Value, int64_to_varint, varint_to_int64};
 
 /// What a client asks of a service's method.
 #[derive(Debug, Drop, PartialEq, Eq)]
@@ -48,7 +45,7 @@ impl TryClone for Request {
 }
 
 /// The texts and the payload.
-#[tactic(auto, using(crate::specs::Written::fields_then))]
+#[tactic(auto, using(ttrpc_codec::proofs::Written::fields_then))]
 fn put_head(out: &mut Vec<u8>, request: &Request) -> Result<(), AllocError>
     ensures { OnOk result (out.new.items ≡ out.old.items ++ fields_bytes (request_head request.now)) }
 {
@@ -58,7 +55,7 @@ fn put_head(out: &mut Vec<u8>, request: &Request) -> Result<(), AllocError>
 }
 
 /// The timeout and the metadata.
-#[tactic(auto, using(crate::specs::Written::fields_then, crate::specs::Written::fields_len))]
+#[tactic(auto, using(ttrpc_codec::proofs::Written::fields_then, ttrpc_codec::proofs::Written::fields_len))]
 fn put_tail(out: &mut Vec<u8>, request: &Request) -> Result<(), CodecError>
     ensures ok { OnOk result (out.new.items ≡ out.old.items ++ fields_bytes (request_tail request.now)) }
     ensures too_long { IfErr result (λ e. e ≢ CodecError.NoMemory
@@ -105,7 +102,7 @@ impl WireMessage for Request {
         Ok(())
     }
 
-    #[tactic(auto, using(crate::specs::Written::fields_len))]
+    #[tactic(auto, using(ttrpc_codec::proofs::Written::fields_len))]
     fn length(&self) -> u64 {
         delimited_len(SERVICE, self.service.as_bytes())
             .saturating_add(delimited_len(METHOD, self.method.as_bytes()))
@@ -114,7 +111,7 @@ impl WireMessage for Request {
             .saturating_add(parts_len(METADATA, self.metadata.as_slice()))
     }
 
-    #[tactic(auto, using(crate::specs::Written::fields_then, crate::specs::Written::fields_len))]
+    #[tactic(auto, using(ttrpc_codec::proofs::Written::fields_then, ttrpc_codec::proofs::Written::fields_len))]
     fn write(&self, out: &mut Vec<u8>) -> Result<(), CodecError> {
         put_head(out, self)?;
         put_tail(out, self)

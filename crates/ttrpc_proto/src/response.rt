@@ -1,8 +1,10 @@
-use crate::members::{delimited_len, part_len, put_delimited, put_part};
-use crate::message::{WireMessage, decode, read_into};
 use crate::status::Status;
 use std::alloc::{AllocError, Global};
-use ttrpc_wire::{Blob, CodecError, Field, FieldNumber, TryClone, Value};
+use ttrpc_codec::{
+    WireMessage, decode, delimited_len, part_len, put_delimited, put_part, read_into,
+};
+use ttrpc_values::{Blob, CodecError, TryClone};
+use ttrpc_wire::{Field, FieldNumber, Value};
 
 /// What a call gave.
 #[derive(Debug, Drop, PartialEq, Eq)]
@@ -59,7 +61,7 @@ impl WireMessage for Response {
         Ok(())
     }
 
-    #[tactic(auto, using(crate::specs::Written::fields_len))]
+    #[tactic(auto, using(ttrpc_codec::proofs::Written::fields_len))]
     fn length(&self) -> u64 {
         let status = match &self.status {
             Some(status) => part_len(STATUS, status.length()),
@@ -68,7 +70,7 @@ impl WireMessage for Response {
         status.saturating_add(delimited_len(PAYLOAD, self.payload.as_slice()))
     }
 
-    #[tactic(auto, using(crate::specs::Written::fields_then, crate::specs::Written::fields_len))]
+    #[tactic(auto, using(ttrpc_codec::proofs::Written::fields_then, ttrpc_codec::proofs::Written::fields_len))]
     fn write(&self, out: &mut Vec<u8>) -> Result<(), CodecError> {
         match &self.status {
             Some(status) => put_part(out, STATUS, status)?,

@@ -1,14 +1,13 @@
+ghost use Rattle.std.specs.Prelude.{◌≡◌};
+
 use crate::any::Any;
-use crate::members::{
-    delimited_len, known_all, number_len, parts_len, put_delimited, put_number, put_parts,
-    text_from,
-};
-use crate::message::{WireMessage, decode};
 use std::alloc::{AllocError, Global};
-use ttrpc_wire::{
-    CodecError, Field, FieldNumber, Sequence, Text, TryClone, Value, int32_to_varint,
-    varint_to_int32,
+use ttrpc_codec::{
+    WireMessage, decode, delimited_len, known_all, number_len, parts_len, put_delimited,
+    put_number, put_parts, text_from,
 };
+use ttrpc_values::{Code, CodecError, Sequence, Text, TryClone};
+use ttrpc_wire::{Field, FieldNumber, Value, int32_to_varint, varint_to_int32};
 
 /// How a call ended.
 #[derive(Debug, Drop, PartialEq, Eq)]
@@ -23,6 +22,36 @@ const CODE: FieldNumber = FieldNumber { value: 1 };
 const MESSAGE: FieldNumber = FieldNumber { value: 2 };
 
 const DETAILS: FieldNumber = FieldNumber { value: 3 };
+
+impl Status {
+    ghost use Rattle.ttrpc_values.specs.Code.{code_of_number};
+
+    /// The code that the status's number stands for, and `UNKNOWN` where it stands for none.
+    pub fn code(&self) -> Code
+        ensures { result ≡ code_of_number self.now.code }
+    {
+        match self.code {
+            0 => Code::OK,
+            1 => Code::CANCELLED,
+            2 => Code::UNKNOWN,
+            3 => Code::INVALID_ARGUMENT,
+            4 => Code::DEADLINE_EXCEEDED,
+            5 => Code::NOT_FOUND,
+            6 => Code::ALREADY_EXISTS,
+            7 => Code::PERMISSION_DENIED,
+            8 => Code::RESOURCE_EXHAUSTED,
+            9 => Code::FAILED_PRECONDITION,
+            10 => Code::ABORTED,
+            11 => Code::OUT_OF_RANGE,
+            12 => Code::UNIMPLEMENTED,
+            13 => Code::INTERNAL,
+            14 => Code::UNAVAILABLE,
+            15 => Code::DATA_LOSS,
+            16 => Code::UNAUTHENTICATED,
+            _ => Code::UNKNOWN,
+        }
+    }
+}
 
 impl TryClone for Status {
     fn try_clone(&self) -> Result<Status, AllocError> {
@@ -67,14 +96,14 @@ impl WireMessage for Status {
         Ok(())
     }
 
-    #[tactic(auto, using(crate::specs::Written::fields_len))]
+    #[tactic(auto, using(ttrpc_codec::proofs::Written::fields_len))]
     fn length(&self) -> u64 {
         number_len(CODE, int32_to_varint(self.code))
             .saturating_add(delimited_len(MESSAGE, self.message.as_bytes()))
             .saturating_add(parts_len(DETAILS, self.details.as_slice()))
     }
 
-    #[tactic(auto, using(crate::specs::Written::fields_then, crate::specs::Written::fields_len))]
+    #[tactic(auto, using(ttrpc_codec::proofs::Written::fields_then, ttrpc_codec::proofs::Written::fields_len))]
     fn write(&self, out: &mut Vec<u8>) -> Result<(), CodecError> {
         put_number(out, CODE, int32_to_varint(self.code))?;
         put_delimited(out, MESSAGE, self.message.as_bytes())?;

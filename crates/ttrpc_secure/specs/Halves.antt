@@ -1,7 +1,8 @@
 -- What the two halves of a transform do, as relations on any types of states, and what it means that two halves are
 -- paired.
+-- Source: this project's.
 use Rattle.std.specs.Prelude.{◌≡◌, ◌+◌, ◌≤◌, ℕ, zero, suc, List, length, Bool, false}
-use Rattle.ttrpc_proto.specs.declared.header.TheConstants.{MESSAGE_LENGTH_MAX}
+use Rattle.ttrpc_header.specs.declared.header.TheConstants.{MESSAGE_LENGTH_MAX}
 
 -- What a half does at a call: its state before, the data that it is given, the associated bytes, what it gives, and its
 -- state after.

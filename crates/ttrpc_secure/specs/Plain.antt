@@ -1,4 +1,5 @@
 -- What plain halves do.
+-- Source: this project's.
 use Rattle.std.specs.Prelude.{◌≡◌}
 use Rattle.ttrpc_secure.specs.Halves.{Moves}
 

@@ -6,8 +6,8 @@ ghost use Rattle.ttrpc_secure.specs.Sends.{Sends, associated};
 use crate::transform::{OutboundTransform, TransformError};
 use std::alloc::Global;
 use ttrpc_frame::{Outgoing, Queued};
-use ttrpc_proto::{MESSAGE_LENGTH_MAX, MessageHeader};
-use ttrpc_wire::Blob;
+use ttrpc_header::{MESSAGE_LENGTH_MAX, MessageHeader};
+use ttrpc_values::Blob;
 
 /// Why nothing was sent.
 #[derive(Debug, Drop, PartialEq, Eq)]

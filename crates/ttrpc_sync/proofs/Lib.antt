@@ -1,4 +1,3 @@
-pub mod Answering
 pub mod Counting
 pub mod Handing
 pub mod Writing

@@ -1,11 +1,12 @@
 -- What the loops do, over bytes that may be known.
+-- Source: this project's.
 use Rattle.std.specs.Prelude.{◌≡◌, ◌⊎◌, ◌+◌, ◌≤◌, ℕ, List, [], length, ◌++◌, Option, None, Some, Result, Ok, Err, ⊤}
 use Rattle.std.specs.Io.KnownBytes.{Appends, Consumes}
 use Rattle.std.specs.IoError.{error_kind}
 use Rattle.std.specs.declared.io.Error.{Error}
 use Rattle.std.specs.declared.io.ErrorKind.{ErrorKind}
 use Rattle.std.specs.declared.io.ErrorKind.TheVariants.{WriteZero}
-use Rattle.ttrpc_proto.specs.declared.header.TheConstants.{DEFAULT_PAGE_SIZE}
+use Rattle.ttrpc_header.specs.declared.header.TheConstants.{DEFAULT_PAGE_SIZE}
 use Rattle.ttrpc_sync.specs.declared.ports.Word.{Word}
 use Rattle.ttrpc_sync.specs.declared.ports.Word.TheVariants.{Open, Ended, Broke, Stopped}
 

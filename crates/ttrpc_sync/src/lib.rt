@@ -10,8 +10,3 @@ mod streams;
 pub use loops::{read_loop, write_loop};
 pub use ports::{ReadPort, Word, WritePort};
 pub use streams::{Sink, Source};
-
-#[cfg(test)]
-mod fakes;
-#[cfg(test)]
-mod tests;

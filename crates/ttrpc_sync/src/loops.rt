@@ -9,7 +9,7 @@ use crate::ports::{ReadPort, WritePort};
 use crate::streams::{Sink, Source};
 use std::io::ErrorKind;
 use std::sync::Wait;
-use ttrpc_proto::DEFAULT_PAGE_SIZE;
+use ttrpc_header::DEFAULT_PAGE_SIZE;
 
 #[tactic(auto, using(crate::proofs::Handing::handed_nothing, crate::proofs::Handing::handed_no_more, crate::proofs::Handing::handed_more, crate::proofs::Handing::handed_all, crate::proofs::Counting::one_more_still))]
 /// Reads pieces and hands each to the port, until it has reported an end or a break of the reader, or the port wants no

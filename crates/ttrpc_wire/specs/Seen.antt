@@ -1,4 +1,5 @@
 -- The code's tags, values and fields as the grammar has them, without where they lie in memory.
+-- Source: the Protocol Buffers encoding guide, "Message Structure".
 use Rattle.std.specs.Prelude.{ℕ, List}
 use Rattle.ttrpc_wire.specs.declared.field.Tag.{Tag}
 use Rattle.ttrpc_wire.specs.declared.field.Value as declared_value

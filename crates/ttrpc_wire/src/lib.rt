@@ -1,22 +1,13 @@
-//! The Protocol Buffers wire format: the fields of a message read from a slice and written onto a vector,
-//! and the small types that values are made of.
+//! The Protocol Buffers wire format: the fields of a message, read from a slice and written onto a vector.
 #![tactic(auto)]
 
-mod blob;
-mod clones;
-mod error;
 mod field;
 mod laws;
 mod number;
 mod reader;
-mod sequence;
-mod text;
 mod varint;
 mod writer;
 
-pub use blob::Blob;
-pub use clones::TryClone;
-pub use error::CodecError;
 pub use field::{Field, FieldNumber, Tag, Value, WireType};
 pub use laws::{
     no_varint_begins_another, one_field_at_the_front, one_list_of_fields, reading_is_exact,
@@ -24,9 +15,4 @@ pub use laws::{
 };
 pub use number::{int32_to_varint, int64_to_varint, varint_to_int32, varint_to_int64};
 pub use reader::Reader;
-pub use sequence::Sequence;
-pub use text::Text;
 pub use writer::{field_len, put_field, put_tag, put_varint, tag_len, varint_len};
-
-#[cfg(test)]
-mod tests;

@@ -6,10 +6,10 @@ ghost use Rattle.ttrpc_wire.specs.Front.{Begins, BeginsSome, Refuses};
 ghost use Rattle.ttrpc_wire.specs.Reading.{Reads, bytes_at, wire_type_at, tag_at, fixed64_at, fixed32_at, length_delimited_at, value_at, field_at};
 ghost use Rattle.ttrpc_wire.specs.Seen.{SpellsTag, seen, seen_value};
 
-use crate::error::CodecError;
 use crate::field::{Field, FieldNumber, Tag, Value, WireType};
 use crate::varint::varint_of;
 use std::marker::Model;
+use ttrpc_values::CodecError;
 
 #[inline]
 #[tactic(auto, unfolding(crate::specs::Reading::bytes_at))]

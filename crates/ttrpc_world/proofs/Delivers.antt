@@ -6,7 +6,7 @@ use Rattle.std.proofs.lemmas.List.Elements.{filter-append}
 use Rattle.std.specs.List.{AllByRecursion}
 use Rattle.ttrpc_proto.specs.declared.request.Request.{Request}
 use Rattle.ttrpc_proto.specs.declared.response.Response.{Response}
-use Rattle.ttrpc_proto.specs.declared.code.Code.TheVariants.{INVALID_ARGUMENT}
+use Rattle.ttrpc_values.specs.declared.code.Code.TheVariants.{INVALID_ARGUMENT}
 use Rattle.ttrpc_frame.specs.Frames.{Held}
 use Rattle.ttrpc_frame.specs.Queue.{Queue}
 use Rattle.ttrpc_core.specs.declared.job.ActiveJob.{ActiveJob}

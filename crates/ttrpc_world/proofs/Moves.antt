@@ -1,7 +1,7 @@
 -- Each event that moves bytes, cuts a pipe or fails a side keeps the invariant.
 use Rattle.std.proofs.Common.{◌≡◌, ◌≢◌, ℕ, zero, suc, ◌≤◌, List, [], ◌∷◌, ◌++◌, length, take, drop, map, min, Bool, true, false, Option, Some, None, refl, sym, ap, ◌∙◌, subst, ◌⊎◌, inl, inr, arith, append_assoc, take-append-drop}
 use Rattle.std.specs.List.{AllByRecursion}
-use Rattle.ttrpc_proto.specs.declared.error.Error.{Error}
+use Rattle.ttrpc_error.specs.declared.error.Error.{Error}
 use Rattle.ttrpc_frame.specs.declared.frame.Incoming.{Incoming}
 use Rattle.ttrpc_frame.specs.Frames.{Fed, Held, given, nothing}
 use Rattle.ttrpc_frame.specs.Queue.{Queue, after_report, open_part, with_lent}
@@ -28,6 +28,7 @@ use Rattle.ttrpc_world.proofs.Stages.{Story}
 use Rattle.ttrpc_world.proofs.Delivers.{AreKnown, Stories, feeds_down, feeds_up}
 use Rattle.ttrpc_world.proofs.Throws.{InFlight, not_both}
 use Rattle.ttrpc_world.proofs.Keeps.{Keeps}
+use Rattle.ttrpc_world.proofs.Turns.{no_cons}
 
 -- ---- bytes of one way
 
@@ -69,9 +70,6 @@ record Acted (frames : List Incoming) (front : List Flying) : Type 0 where
   others : List Flying
   all : first ++ others ≡ front
   are : frames ≡ map arrived first
-
-no_cons : {X : Type 0} (x : X) (xs : List X) → x ∷ xs ≡ [] → ⊥
-no_cons x xs h = cc
 
 acted : (frames more : List Incoming) (front : List Flying) → frames ++ more ≡ map arrived front → Acted frames front
 acted [] more front e = record { first = []; others = front; all = refl; are = refl }

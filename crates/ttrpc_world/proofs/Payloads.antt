@@ -7,9 +7,9 @@ use Rattle.std.proofs.lemmas.Str.{IsUtf8-append, IsUtf8-from_ascii}
 use Rattle.std.specs.Str.{IsAscii, IsUtf8}
 use Rattle.ttrpc_wire.specs.Fold.{read_from}
 use Rattle.ttrpc_wire.proofs.Folds.{reads_back}
-use Rattle.ttrpc_proto.specs.declared.code.Code.TheVariants.{INVALID_ARGUMENT}
-use Rattle.ttrpc_proto.specs.declared.header.MessageHeader.{MessageHeader}
-use Rattle.ttrpc_proto.specs.declared.header.TheConstants.{MESSAGE_LENGTH_MAX, MESSAGE_TYPE_REQUEST, MESSAGE_TYPE_RESPONSE}
+use Rattle.ttrpc_values.specs.declared.code.Code.TheVariants.{INVALID_ARGUMENT}
+use Rattle.ttrpc_header.specs.declared.header.MessageHeader.{MessageHeader}
+use Rattle.ttrpc_header.specs.declared.header.TheConstants.{MESSAGE_LENGTH_MAX, MESSAGE_TYPE_REQUEST, MESSAGE_TYPE_RESPONSE}
 use Rattle.ttrpc_proto.specs.declared.request.Request.{Request}
 use Rattle.ttrpc_proto.specs.declared.response.Response.{Response}
 use Rattle.ttrpc_proto.specs.Laws.{request_again, request_fits, response_again, response_fits}

@@ -3,14 +3,14 @@ use Rattle.std.proofs.Common.{◌≡◌, ℕ, ◌+◌, ◌≤◌, List, [], ◌�
 use Rattle.std.proofs.lemmas.Bool.{cond-false, cond-true, eq-eqb, eqb-true, ne_eqb}
 use Rattle.std.proofs.lemmas.List.{append-nil, length-append}
 use Rattle.std.specs.List.{AllByRecursion}
-use Rattle.ttrpc_proto.specs.declared.error.Error.{Error}
+use Rattle.ttrpc_error.specs.declared.error.Error.{Error}
 use Rattle.ttrpc_frame.specs.declared.frame.Incoming.{Incoming}
 use Rattle.ttrpc_core.specs.declared.job.ActiveJob.{ActiveJob}
 use Rattle.ttrpc_core.specs.declared.job.Job.{Job}
 use Rattle.ttrpc_core.specs.Happens.{ActsAll, Does, EndsOne, Halves}
 use Rattle.ttrpc_core.specs.Server.{Core, Server}
 use Rattle.ttrpc_core.specs.Table.{Row, Skipped, Tells, TellsOf, Known, header_of_frame, row_of}
-use Rattle.ttrpc_proto.specs.declared.header.MessageHeader.{MessageHeader}
+use Rattle.ttrpc_header.specs.declared.header.MessageHeader.{MessageHeader}
 use Rattle.ttrpc_world.specs.declared.events.Side.TheVariants as side
 use Rattle.ttrpc_world.specs.declared.events.Event.{Event}
 use Rattle.ttrpc_world.specs.declared.events.Event.TheVariants.{Call, Open, Outcome, Recv, Send, Close, DropCall, DropReceiver, DropSender, Take, Answer, Respond, Finish, EndStream, Drain, Tick, Carry, Deliver, Cut, Fail}

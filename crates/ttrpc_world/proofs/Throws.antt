@@ -1,7 +1,7 @@
 -- Requests are thrown away: what stays in flight to the server.
 use Rattle.std.proofs.Common.{◌≡◌, ℕ, ◌≤◌, List, [], ◌∷◌, ◌++◌, length, Option, Some, None, refl, sym, ◌∙◌, subst, ◌⊎◌, inl, inr, arith}
 use Rattle.std.specs.List.{AllByRecursion}
-use Rattle.ttrpc_proto.specs.declared.error.Error.{Error}
+use Rattle.ttrpc_error.specs.declared.error.Error.{Error}
 use Rattle.ttrpc_frame.specs.Frames.{Held}
 use Rattle.ttrpc_frame.specs.Queue.{Queue, begun_count, without}
 use Rattle.ttrpc_secure.specs.Halves.{Moves, Refusals}

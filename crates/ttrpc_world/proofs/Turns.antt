@@ -1,9 +1,9 @@
 -- What each event does to the story of an id.
 use Rattle.std.proofs.Common.{◌≡◌, ℕ, ◌≤◌, List, [], ◌∷◌, ◌++◌, length, Bool, true, false, if◌then◌else◌, Option, Some, None, Result, Ok, Err, refl, sym, ap, ◌∙◌, subst, ◌⊎◌, inl, inr, arith, ℤ, pos, negsuc, zero, suc}
 use Rattle.std.proofs.lemmas.List.{append-nil}
-use Rattle.ttrpc_proto.specs.declared.error.Error.{Error}
+use Rattle.ttrpc_error.specs.declared.error.Error.{Error}
 use Rattle.ttrpc_proto.specs.declared.request.Request.{Request}
-use Rattle.ttrpc_proto.specs.declared.error.Error.TheVariants.{RpcStatus}
+use Rattle.ttrpc_error.specs.declared.error.Error.TheVariants.{RpcStatus}
 use Rattle.ttrpc_proto.specs.declared.response.Response.{Response}
 use Rattle.ttrpc_proto.specs.declared.status.Status.{Status}
 use Rattle.ttrpc_proto.specs.Messages.{is_ok_code}
@@ -18,7 +18,7 @@ use Rattle.ttrpc_world.proofs.Stages.{Stage, Unborn, Sent, Made, Running, Told, 
 
 -- ---- lists of at most one item
 
-no_cons : {X : Type 0} (x : X) (xs : List X) → x ∷ xs ≡ [] → ⊥
+pub no_cons : {X : Type 0} (x : X) (xs : List X) → x ∷ xs ≡ [] → ⊥
 no_cons x xs h = cc
 
 never_empty : {X : Type 0} (front back : List X) (x : X) → front ++ x ∷ back ≡ [] → ⊥

@@ -1,4 +1,5 @@
 -- One client, one server, and the bytes in flight between them.
+-- Source: this project's.
 use Rattle.std.specs.Prelude.{◌≡◌, ℕ, List}
 use Rattle.ttrpc_secure.specs.Halves.{IsPaired}
 use Rattle.ttrpc_core.specs.declared.registry.ServiceNames.{ServiceNames}

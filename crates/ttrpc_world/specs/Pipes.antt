@@ -1,4 +1,5 @@
 -- The bytes in flight to one side.
+-- Source: this project's.
 use Rattle.std.specs.Prelude.{ℕ, List, [], ◌∷◌, Bool, true, false}
 
 pub record Pipe : Type 0 where

@@ -1,7 +1,8 @@
 -- What a trace says of one call.
+-- Source: this project's.
 use Rattle.std.specs.Prelude.{◌≡◌, ◌≤◌, ℕ, List, [], ◌∷◌, length, nat_eq, if◌then◌else◌, Bool, true, Option, Some, None, Result, Ok}
 use Rattle.std.specs.List.{AllByRecursion, flat_map}
-use Rattle.ttrpc_proto.specs.declared.error.Error.{Error}
+use Rattle.ttrpc_error.specs.declared.error.Error.{Error}
 use Rattle.ttrpc_proto.specs.declared.request.Request.{Request}
 use Rattle.ttrpc_proto.specs.declared.response.Response.{Response}
 use Rattle.ttrpc_proto.specs.declared.status.Status.{Status}

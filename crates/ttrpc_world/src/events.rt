@@ -2,8 +2,9 @@
 
 use ttrpc_client::CallId;
 use ttrpc_core::{Job, JobId};
-use ttrpc_proto::{Error, Request, Response};
-use ttrpc_wire::Blob;
+use ttrpc_error::Error;
+use ttrpc_proto::{Request, Response};
+use ttrpc_values::Blob;
 
 /// One of the two ends.
 #[derive(Clone, Copy, Debug, PartialEq, Eq)]

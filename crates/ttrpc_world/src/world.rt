@@ -1,7 +1,7 @@
 //! The world: a client, a server and two pipes, and one event after the other.
 ghost use Rattle.std.specs.Prelude.{◌≡◌, ◌≢◌, ◌≤◌, ◌++◌, ◌∷◌, [], ℕ, List, length, take, min, codes, map, is_some, if◌then◌else◌, IfOk, OnOk, OnErr, Result, Ok, Err, IfErr};
 ghost use Rattle.std.specs.Vec.{vec_capacity};
-ghost use Rattle.ttrpc_proto.specs.declared.error.Error.{Error as AnError};
+ghost use Rattle.ttrpc_error.specs.declared.error.Error.{Error as AnError};
 ghost use Rattle.ttrpc_proto.specs.declared.response.Response.{Response as AResponse};
 ghost use Rattle.ttrpc_proto.specs.Messages.{IsResponse};
 ghost use Rattle.ttrpc_core.specs.Happens.{halves_of};
@@ -18,10 +18,12 @@ use crate::pipe::Pipe;
 use std::alloc::{AllocError, Global};
 use std::marker::Model;
 use ttrpc_client::{CallId, ClientCore};
+use ttrpc_codec::WireMessage;
 use ttrpc_core::{JobId, ServerCore};
-use ttrpc_proto::{Error, Request, Response, WireMessage};
+use ttrpc_error::Error;
+use ttrpc_proto::{Request, Response};
 use ttrpc_secure::{InboundTransform, OutboundTransform};
-use ttrpc_wire::{Text, TryClone};
+use ttrpc_values::{Text, TryClone};
 
 /// A client and a server, each over its two halves, and the bytes in flight between them.
 #[derive(Drop)]

@@ -5,9 +5,9 @@ use crate::{Registry, Rules, ServiceNames};
 use std::alloc::Global;
 use std::process::Abort;
 use std::test::Fail;
-use ttrpc_proto::Error;
+use ttrpc_error::Error;
 use ttrpc_secure::Plain;
-use ttrpc_wire::{Sequence, Text};
+use ttrpc_values::{Sequence, Text};
 
 type Core = ServerCore<Plain, Plain>;
 

@@ -1,6 +1,6 @@
 use Rattle.std.proofs.Common.{◌≡◌, ap, ◌∙◌, append_assoc, refl, List, ℕ, Result, Ok, Err, String, Global, IfOk, MatchResult, string_bytes, inl, inr}
-use Rattle.ttrpc_proto.specs.declared.error.Error.{Error}
-use Rattle.ttrpc_proto.specs.declared.error.Error.TheVariants.{NoMemory, Others}
+use Rattle.ttrpc_error.specs.declared.error.Error.{Error}
+use Rattle.ttrpc_error.specs.declared.error.Error.TheVariants.{NoMemory, Others}
 use Rattle.ttrpc_core.specs.Failure.{IsTold}
 use Rattle.ttrpc_client.proofs.errors.above_limit_error.Goals as goal
 

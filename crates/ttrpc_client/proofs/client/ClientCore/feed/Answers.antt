@@ -1,6 +1,6 @@
 use Rattle.std.proofs.Common.{rules, ◌≡◌, refl, None}
 use Rattle.ttrpc_client.proofs.Feeding.{at_first, breaks, one_more, whole}
-use Rattle.ttrpc_proto.specs.declared.error.Error.TheVariants.{NoMemory}
+use Rattle.ttrpc_error.specs.declared.error.Error.TheVariants.{NoMemory}
 use Rattle.ttrpc_client.proofs.Failing.{fails_first}
 use Rattle.ttrpc_client.proofs.client.ClientCore.feed.Goals as goal
 

@@ -1,5 +1,5 @@
 use Rattle.std.proofs.Common.{rules, ◌≡◌, ◌≤◌, ◌-◌, ◌^◌, ◌∙◌, length, min, ap, sym, Err}
-use Rattle.ttrpc_proto.specs.declared.header.TheConstants.{MESSAGE_LENGTH_MAX}
+use Rattle.ttrpc_header.specs.declared.header.TheConstants.{MESSAGE_LENGTH_MAX}
 use Rattle.ttrpc_secure.specs.declared.sending.SendError.{SendError}
 use Rattle.ttrpc_core.specs.Happens.{halves_of, safe_limit, fitted}
 use Rattle.ttrpc_core.proofs.Sending.{refused_why, within_is_sent}

@@ -1,8 +1,0 @@
-use Rattle.ttrpc_demo.specs.Serving.{IsReady, WritesOut}
-use Rattle.ttrpc_demo.proofs.engine.write_out.Given as goal
-
-abbrev pub invariant-loop : goal.invariant-loop
-invariant-loop g l = record {
-  ready : IsReady l.core;
-  out : WritesOut l.fn.core (g.W.Write.contents l.fn.writer) l.core (g.W.Write.contents l.writer);
-}

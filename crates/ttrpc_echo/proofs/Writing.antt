@@ -1,0 +1,74 @@
+-- What is unsent leaves as the writer takes it.
+use Rattle.std.proofs.Common.{◌≡◌, ◌≤◌, ◌+◌, ℕ, Bool, true, false, nat_lt, List, [], ◌∷◌, ◌++◌, length, take, drop, Option, Some, None, is_some, if◌then◌else◌, refl, sym, ap, ◌∙◌, append_assoc, arith, length-drop}
+use Rattle.std.proofs.lemmas.List.{append-nil}
+use Rattle.std.specs.Io.KnownBytes.{Appends}
+use Rattle.ttrpc_error.specs.declared.error.Error.{Error}
+use Rattle.ttrpc_frame.specs.declared.outgoing.Queued.{Queued}
+use Rattle.ttrpc_frame.specs.Queue.{Queue, IsQueue, IsWithin, first_open, open_part, unsent, with_lent, report_first, report_finishes, after_report, written, written_all}
+use Rattle.ttrpc_frame.specs.Queue as queue
+use Rattle.ttrpc_frame.proofs.Departures.{bytes_are_written}
+use Rattle.ttrpc_frame.proofs.Queues.{with_lent_is_queue, after_report_is_queue}
+use Rattle.ttrpc_secure.specs.declared.plain.Plain.{Plain}
+use Rattle.ttrpc_core.specs.Server.{Server, with_queue}
+use Rattle.ttrpc_echo.specs.Serving.{IsReady, WritesOut}
+use Rattle.ttrpc_echo.proofs.Known.{keeps_same, keeps_appends_nothing, appends_twice}
+
+pub by_failure : {X : Type 0} (f : Option Error) (x y : X) → f ≡ None → (if is_some f then x else y) ≡ y
+by_failure None x y alive = refl
+by_failure (Some e) x y alive = absurd cc
+
+-- what a living core lends
+pub lent_alive : (s t : Server Plain Plain) (n : ℕ) → s.core.failure ≡ None → t ≡ (if is_some s.core.failure then s else with_queue s (with_lent s.core.queue n)) → t ≡ with_queue s (with_lent s.core.queue n)
+lent_alive s t n alive is = is ∙ by_failure s.core.failure s (with_queue s (with_lent s.core.queue n)) alive
+
+-- n bytes were lent, and k of them were reported
+abbrev pub lent_and_reported : Server Plain Plain → ℕ → ℕ → Server Plain Plain
+lent_and_reported s n k = with_queue s (after_report (with_lent s.core.queue n) k)
+
+finishes_or_keeps : (fs : List Queued) (n : ℕ) (begun : Bool) → report_finishes fs n ++ (report_first fs n begun).frames ≡ fs
+finishes_or_keeps [] n begun = refl
+finishes_or_keeps (f ∷ fs) n begun = by (nat_lt n (length (written f.message))) refl
+  where
+    by : (b : Bool) → nat_lt n (length (written f.message)) ≡ b → report_finishes (f ∷ fs) n ++ (report_first (f ∷ fs) n begun).frames ≡ f ∷ fs
+    by true e = rw e refl
+    by false e = rw e refl
+
+-- n bytes were lent, and k of them were reported
+pub lent_leaves : (q : Queue) (n k : ℕ) → IsQueue q → n ≤ length (open_part q) → k ≤ n → unsent q ≡ take k (open_part q) ++ unsent (after_report (with_lent q n) k)
+lent_leaves q n k valid within less =
+    let rest = unsent (after_report (with_lent q n) k) in
+    let written = bytes_are_written (queue.Lent n ∷ queue.Reported k ∷ []) q valid (within, (less, tt)) in
+    ap (λ fs. drop q.reported (written_all fs)) (sym (finishes_or_keeps q.frames (q.reported + k) (with_lent q n).begun))
+    ∙ sym written
+    ∙ ap (λ xs. xs ++ rest) (append-nil (take k (open_part q)))
+
+pub writes_nothing : (s : Server Plain Plain) (holds : Option (List ℕ)) → WritesOut s holds s holds
+writes_nothing s holds = record { bytes = []; sent = refl; wrote = keeps_appends_nothing holds holds (keeps_same holds); held = refl; last_job = refl }
+
+pub writes_more : (a b : Server Plain Plain) (n k : ℕ) (x y z : Option (List ℕ)) (bytes : List ℕ) → IsReady b → WritesOut a x b y
+    → n ≤ length (open_part b.core.queue) → k ≤ n → bytes ≡ take k (open_part b.core.queue) → Appends y z bytes
+    → WritesOut a x (lent_and_reported b n k) z
+writes_more a b n k x y z bytes ready one within less are wrote = record {
+  bytes = one.bytes ++ bytes;
+  sent = one.sent ∙ ap (λ xs. one.bytes ++ xs) (lent_leaves b.core.queue n k ready.queue within less ∙ ap (λ xs. xs ++ unsent (lent_and_reported b n k).core.queue) (sym are))
+      ∙ sym (append_assoc one.bytes bytes (unsent (lent_and_reported b n k).core.queue));
+  wrote = appends_twice x y z one.bytes bytes one.wrote wrote;
+  held = one.held;
+  last_job = one.last_job;
+}
+
+pub still_ready : (s : Server Plain Plain) (n k : ℕ) → IsReady s → n ≤ length (open_part s.core.queue) → k ≤ n → IsReady (lent_and_reported s n k)
+still_ready s n k ready within less = record {
+  services = ready.services;
+  jobs = ready.jobs;
+  alive = ready.alive;
+  queue = after_report_is_queue (with_lent s.core.queue n) k (with_lent_is_queue s.core.queue n ready.queue within) less;
+}
+
+all_open : (fs : List Queued) (r : ℕ) → IsWithin fs r → length (first_open fs r) ≡ 0 → drop r (written_all fs) ≡ []
+all_open [] r within none = rw within refl
+all_open (f ∷ fs) r within none = absurd (omega (arith, within, none, length-drop r (written f.message)))
+
+-- where nothing is open, nothing is unsent
+pub nothing_open : (q : Queue) → IsQueue q → length (open_part q) ≡ 0 → unsent q ≡ []
+nothing_open q valid none = all_open q.frames q.reported valid.within none

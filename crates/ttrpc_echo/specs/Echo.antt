@@ -1,0 +1,54 @@
+-- What the program answers to frames, one after the other.
+-- Source: PROTOCOL.md of ttrpc, "Request" and "Response".
+use Rattle.std.specs.Prelude.{◌≡◌, ℕ, ◌%◌, ◌^◌, List, [], ◌∷◌, ◌++◌, length, codes, Option, Some, None}
+use Rattle.ttrpc_header.specs.declared.header.TheConstants.{MESSAGE_LENGTH_MAX, MESSAGE_TYPE_RESPONSE}
+use Rattle.ttrpc_proto.specs.declared.request.Request.{Request}
+use Rattle.ttrpc_proto.specs.declared.response.Response.{Response}
+use Rattle.ttrpc_header.specs.Header.{header_bytes}
+use Rattle.ttrpc_proto.specs.Messages.{empty_status}
+use Rattle.ttrpc_frame.specs.declared.frame.Incoming.{Incoming}
+use Rattle.ttrpc_frame.specs.declared.frame.Incoming.TheVariants.{Frame, Oversize}
+use Rattle.ttrpc_core.specs.declared.registry.ServiceNames.{ServiceNames}
+use Rattle.ttrpc_core.specs.Responses.{IsStatusResponse}
+use Rattle.ttrpc_core.specs.Table.{Opening, Unasked, Opened, Row, Skipped, Tells, TellsOf, Known, header_of_frame, sync_row}
+use Rattle.ttrpc_core.specs.Happens.{fitted, response_bytes}
+
+-- the one service
+abbrev pub echo_services : List ServiceNames
+echo_services = record { name = codes "demo.Echo"; methods = codes "Echo" ∷ []; streams = [] } ∷ []
+
+-- the echo of a request: an OK status that is there and empty, and the request's payload
+abbrev pub echo_of : Request → Response
+echo_of request = record { status = Some empty_status; payload = request.payload }
+
+-- with no transform a payload is opened as it is
+abbrev pub plainly : Incoming → Opening
+plainly (Oversize h) = Unasked
+plainly (Frame m) = Opened m.payload
+
+-- the response that a row gives, if it gives one
+abbrev pub Says : Row → Option Response → Type 0
+Says Skipped said = said ≡ None
+Says (Tells r) said = said ≡ Some r
+Says (TellsOf code) said = (r : Response) × IsStatusResponse code r × (said ≡ Some r)
+Says (Known request) said = said ≡ Some (echo_of request)
+
+-- a payload in a response frame of stream k
+abbrev pub framed : ℕ → List ℕ → List ℕ
+framed k payload = header_bytes (record { length = length payload % 2 ^ 32; stream_id = k; type_ = MESSAGE_TYPE_RESPONSE; flags = 0 }) ++ payload
+
+-- the response as it is written: fitted to what a message may have
+abbrev pub said_bytes : ℕ → Option Response → List ℕ
+said_bytes k None = []
+said_bytes k (Some r) = framed k (response_bytes (fitted MESSAGE_LENGTH_MAX r))
+
+-- the bytes answer the frame, as the table and the echo have it
+pub record IsAnswer (f : Incoming) (bytes : List ℕ) : Type 0 where
+  pub said : Option Response
+  pub says : Says (sync_row echo_services f (plainly f)) said
+  pub bytes_are : bytes ≡ said_bytes ((header_of_frame f).stream_id) said
+
+-- the bytes answer the frames, in order
+abbrev pub AreAnswers : List Incoming → List ℕ → Type 0
+AreAnswers [] bytes = bytes ≡ []
+AreAnswers (f ∷ fs) bytes = (first : List ℕ) × (rest : List ℕ) × IsAnswer f first × (bytes ≡ first ++ rest) × AreAnswers fs rest

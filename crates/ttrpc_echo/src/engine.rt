@@ -1,0 +1,233 @@
+//! The engine of `answer`: frames from a reader, and the answers of a server whose one method echoes, to a writer.
+ghost use Rattle.std.specs.Prelude.{◌≡◌, ◌≢◌, ◌<◌, ◌≤◌, ℕ, List, Option, [], None, length, take, drop, IfOk, IfErr, OnOk, OnErr, MatchResult};
+ghost use Rattle.ttrpc_error.specs.declared.error.Error.TheVariants.{NoMemory};
+ghost use Rattle.ttrpc_frame.specs.Frames.{nothing};
+ghost use Rattle.ttrpc_core.specs.Failure.{IsTold, error_of};
+ghost use Rattle.ttrpc_core.specs.declared.failure.Failure.TheVariants.{DisconnectedInside};
+ghost use Rattle.ttrpc_echo.specs.Echo.{echo_of};
+ghost use Rattle.ttrpc_echo.specs.Answered.{AnsweredAll, Fails, IsOfSystem};
+ghost use Rattle.ttrpc_echo.specs.Serving.{plain_halves, IsFresh, IsReady, IsStop, Echoes, Serves, WritesOut};
+ghost use Rattle.ttrpc_frame.specs.Queue.{unsent};
+ghost use Rattle.std.specs.Io.KnownBytes.{Appends, Keeps, ReadConsumes};
+ghost use Rattle.std.specs.Io.{ReadsAtMost};
+
+use std::alloc::Global;
+use std::io::{ErrorKind, Read, Write};
+use ttrpc_codec::WireMessage;
+use ttrpc_core::{Job, Registry, Rules, ServerCore, ServiceNames};
+use ttrpc_error::Error;
+use ttrpc_proto::{Response, Status};
+use ttrpc_secure::Plain;
+use ttrpc_values::{Sequence, Text};
+
+/// How many bytes are read, and written, at once.
+const PIECE: usize = 4096;
+
+/// The core of a server over no transform.
+type EchoCore = ServerCore<Plain, Plain>;
+
+/// Reads frames to the end of the input and writes their answers: of a request of `Echo` of `demo.Echo` an OK status and
+/// the request's payload, of any other frame what the server's table says. All that a piece asks for is written before
+/// the next is read. At an `Err` a beginning of the answers was written: `NoMemory`, the kind of error of the reader or
+/// the writer, that job ids are used up, or, behind all of the answers, that the input ended inside a frame.
+pub fn answer<R: Read, W: Write>(alloc: Global, reader: &mut R, writer: &mut W) -> Result<(), Error>
+    ensures ok { OnOk result (AnsweredAll
+        (R.remaining reader.old) (R.remaining reader.new) (W.contents writer.old) (W.contents writer.new) []) }
+    ensures err { IfErr result (Fails
+        (R.remaining reader.old) (R.remaining reader.new) (W.contents writer.old) (W.contents writer.new)) }
+{
+    let mut core = echo_core(alloc)?;
+    answer_all(alloc, &mut core, reader, writer)
+}
+
+/// The same with a new core.
+fn answer_all<R: Read, W: Write>(
+    alloc: Global,
+    core: &mut EchoCore,
+    reader: &mut R,
+    writer: &mut W,
+) -> Result<(), Error>
+    requires { IsFresh core.old }
+    ensures ok { OnOk result (AnsweredAll
+        (R.remaining reader.old) (R.remaining reader.new) (W.contents writer.old) (W.contents writer.new) []) }
+    ensures err { IfErr result (Fails
+        (R.remaining reader.old) (R.remaining reader.new) (W.contents writer.old) (W.contents writer.new)) }
+{
+    let mut buffer = [0u8; PIECE];
+    for _ in 0..u64::MAX {
+        let n = read_piece(reader, &mut buffer)?;
+        if n == 0 {
+            return finish(alloc, core);
+        }
+        serve(alloc, core, &buffer[..n])?;
+        write_out(core, writer)?;
+    }
+    Err(Error::Nix(ErrorKind::Other))
+}
+
+/// The input has ended.
+fn finish(alloc: Global, core: &mut EchoCore) -> Result<(), Error>
+    requires alive { core.old.core.failure ≡ None }
+    ensures ok { OnOk result (core.old.held ≡ nothing) }
+    ensures err { IfErr result (λ e. (core.old.held ≢ nothing) × IsTold (error_of DisconnectedInside) e) }
+{
+    if core.at_boundary() {
+        return Ok(());
+    }
+    core.end_of_input();
+    match core.failure(alloc) {
+        None => Ok(()),
+        Some(error) => Err(error),
+    }
+}
+
+/// A core whose one service is `demo.Echo`, with the method `Echo`.
+fn echo_core(alloc: Global) -> Result<EchoCore, Error>
+    ensures { MatchResult result IsFresh (λ e. e ≡ NoMemory) }
+{
+    let mut methods = Vec::new(alloc);
+    methods.push(Text::from_str(alloc, "Echo")?)?;
+    let mut services = Vec::new(alloc);
+    services.push(ServiceNames {
+        name: Text::from_str(alloc, "demo.Echo")?,
+        methods: Sequence::from_vec(methods),
+        streams: Sequence::new(alloc),
+    })?;
+    let registry = Registry {
+        services: Sequence::from_vec(services),
+    };
+    Ok(ServerCore::new(alloc, Rules::Sync, registry, Plain {}, Plain {}))
+}
+
+/// An OK status that is there and empty, and the request's payload.
+fn echo(alloc: Global, job: Job) -> Response
+    ensures { result ≡ echo_of job.request }
+{
+    let request = job.request;
+    Response {
+        status: Some(Status::new(alloc)),
+        payload: request.payload,
+    }
+}
+
+/// Answers the job that waits, if there is one.
+fn echo_next(alloc: Global, core: &mut EchoCore) -> Result<(), Error>
+    requires { core.old.core.failure ≡ None }
+    ensures ok { OnOk result (Echoes core.old core.new) }
+    ensures err { IfErr result (λ e. e ≡ NoMemory) }
+{
+    match core.take_job() {
+        None => Ok(()),
+        Some(job) => {
+            let id = job.id;
+            core.answer(alloc, id, Ok(echo(alloc, job)))
+        }
+    }
+}
+
+/// Feeds a front of the piece, up to the end of the first frame that is whole with it, and echoes the request.
+fn serve_front(alloc: Global, core: &mut EchoCore, piece: &[u8]) -> Result<usize, Error>
+    requires { IsReady core.old }
+    ensures count { IfOk result (λ n. (n ≤ length piece.now) × (0 < length piece.now → 0 < n)) }
+    ensures serves { IfOk result (λ n. Serves core.old (take n piece.now) core.new × IsReady core.new) }
+    ensures err { IfErr result (IsStop core.old piece.now) }
+{
+    let n = core.feed_front(alloc, piece, 0)?;
+    echo_next(alloc, core)?;
+    Ok(n)
+}
+
+/// Serves a whole piece, frame by frame, so that answers are queued in the order of frames.
+fn serve(alloc: Global, core: &mut EchoCore, piece: &[u8]) -> Result<(), Error>
+    requires { IsReady core.old }
+    ensures ok { OnOk result (Serves core.old piece.now core.new × IsReady core.new) }
+    ensures err { IfErr result (IsStop core.old piece.now) }
+{
+    let mut rest = piece;
+    while !rest.is_empty() {
+        let n = serve_front(alloc, core, rest)?;
+        rest = behind(rest, n);
+    }
+    Ok(())
+}
+
+/// Writes all that is unsent, and reports what the writer took.
+fn write_out<W: Write>(core: &mut EchoCore, writer: &mut W) -> Result<(), Error>
+    requires { IsReady core.old }
+    ensures ready { IsReady core.new }
+    ensures wrote { WritesOut core.old (W.contents writer.old) core.new (W.contents writer.new) }
+    ensures all { OnOk result (unsent core.new.core.queue ≡ []) }
+    ensures err { IfErr result IsOfSystem }
+{
+    let mut buffer = [0u8; PIECE];
+    for _ in 0..u64::MAX {
+        let lent = core.lend(&mut buffer);
+        if lent == 0 {
+            return flush(writer);
+        }
+        let taken = write_piece(writer, &buffer[..lent])?;
+        core.wrote(taken);
+    }
+    Err(Error::Nix(ErrorKind::Other))
+}
+
+#[tactic(auto, using(crate::proofs::Known::keeps_same, crate::proofs::Known::keeps_twice, crate::proofs::Known::appends_nothing, crate::proofs::Known::kept_appends))]
+/// Writes what fits of a piece, and says how many bytes: at least one. It tries again after an interruption.
+fn write_piece<W: Write>(writer: &mut W, piece: &[u8]) -> Result<usize, Error>
+    ensures count { IfOk result (λ n. n ≤ length piece.now) }
+    ensures bytes { MatchResult result (λ n. Appends (W.contents writer.old) (W.contents writer.new) (take n piece.now))
+        (λ _. Keeps (W.contents writer.old) (W.contents writer.new)) }
+    ensures err { IfErr result IsOfSystem }
+{
+    for _ in 0..u64::MAX {
+        match writer.write(piece) {
+            Ok(0) => return Err(Error::Nix(ErrorKind::WriteZero)),
+            Ok(n) => return Ok(n),
+            Err(error) => {
+                if error.kind() != ErrorKind::Interrupted {
+                    return Err(Error::Nix(error.kind()));
+                }
+            }
+        }
+    }
+    Err(Error::Nix(ErrorKind::Interrupted))
+}
+
+/// Sees to it that what was written goes out, where the writer holds it back.
+pub fn flush<W: Write>(writer: &mut W) -> Result<(), Error>
+    ensures bytes { Keeps (W.contents writer.old) (W.contents writer.new) }
+    ensures err { IfErr result IsOfSystem }
+{
+    match writer.flush() {
+        Ok(()) => Ok(()),
+        Err(error) => Err(Error::Nix(error.kind())),
+    }
+}
+
+#[tactic(auto, using(crate::proofs::Known::keeps_same, crate::proofs::Known::keeps_twice, crate::proofs::Known::kept_consumes))]
+/// Reads a piece, and says how many bytes: none at the end. It tries again after an interruption.
+fn read_piece<R: Read>(reader: &mut R, buffer: &mut [u8]) -> Result<usize, Error>
+    ensures bound { ReadsAtMost result buffer.new }
+    ensures bytes { ReadConsumes (R.remaining reader.old) (R.remaining reader.new) result buffer.new }
+    ensures err { IfErr result IsOfSystem }
+{
+    for _ in 0..u64::MAX {
+        match reader.read(buffer) {
+            Ok(n) => return Ok(n),
+            Err(error) => {
+                if error.kind() != ErrorKind::Interrupted {
+                    return Err(Error::Nix(error.kind()));
+                }
+            }
+        }
+    }
+    Err(Error::Nix(ErrorKind::Interrupted))
+}
+
+/// What stands behind the first bytes of a piece.
+fn behind(piece: &[u8], n: usize) -> &[u8]
+    requires { n ≤ length piece.now }
+    ensures { result.now ≡ drop n piece.now }
+{
+    &piece[n..]
+}

@@ -1,0 +1,44 @@
+-- What an error prints, and which status stands for it in a response.
+-- Source: this project's.
+use Rattle.std.specs.Prelude.{◌≡◌, ◌≢◌, ⊤, ℕ, List, [], ◌++◌, codes, Option, Some, None, IfSome}
+use Rattle.std.specs.Fmt.{signed_decimal}
+use Rattle.ttrpc_values.specs.declared.code.Code.{Code}
+use Rattle.ttrpc_values.specs.declared.code.Code.TheVariants.{UNKNOWN}
+use Rattle.ttrpc_error.specs.declared.error.Error.{Error}
+use Rattle.ttrpc_error.specs.declared.error.Error.TheVariants.{Socket, RpcStatus, Nix, LocalClosed, RemoteClosed, Eof, Others, NoMemory, NoRoom}
+use Rattle.ttrpc_proto.specs.declared.status.Status.{Status}
+use Rattle.ttrpc_values.specs.Code.{number_of_code}
+
+-- what `{}` writes for an error. The text of an errno's kind is the standard library's, which doesn't state it.
+abbrev pub error_text : Error → Option (List ℕ)
+error_text (Socket text) = Some (codes "socket err: " ++ text)
+error_text (RpcStatus s) = Some (codes "rpc status: " ++ signed_decimal s.code ++ codes " " ++ s.message)
+error_text (Nix _) = None
+error_text LocalClosed = Some (codes "ttrpc err: local stream closed")
+error_text RemoteClosed = Some (codes "ttrpc err: remote stream closed")
+error_text Eof = Some (codes "eof")
+error_text (Others text) = Some (codes "ttrpc err: " ++ text)
+error_text NoMemory = Some (codes "out of memory")
+error_text NoRoom = Some (codes "no room in the outgoing ring")
+
+-- the status of a code with this message, and no details
+abbrev pub status_of : Code → List ℕ → Status
+status_of code message = record { code = number_of_code code; message = message; details = [] }
+
+-- A status of code UNKNOWN with no details. Its message is this text, where that is known, or empty, as it is
+-- where memory for the text was refused.
+pub record IsUnknown (text : Option (List ℕ)) (s : Status) : Type 0 where
+  pub code : s.code ≡ number_of_code UNKNOWN
+  pub message : s.message ≢ [] → IfSome text (λ bs. s.message ≡ bs)
+  pub details : s.details ≡ []
+
+-- the status that a response to an error carries: the error's own, or one of code UNKNOWN with the error's text
+abbrev pub StandsFor : Error → Status → Type 0
+StandsFor (RpcStatus carried) s = s ≡ carried
+StandsFor error s = IsUnknown (error_text error) s
+
+-- an error `Others` of a prefix and this text, where that is known, or NoMemory
+abbrev pub IsOthers : List ℕ → Option (List ℕ) → Error → Type 0
+IsOthers prefix text NoMemory = ⊤
+IsOthers prefix text (Others message) = IfSome text (λ bs. message ≡ prefix ++ bs)
+IsOthers prefix text _ = ⊥

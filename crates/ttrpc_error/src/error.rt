@@ -1,0 +1,182 @@
+//! Why a call failed, and the errors and statuses that are made of a code, a message or another error.
+ghost use Rattle.std.specs.Prelude.{◌≡◌, ◌≢◌, [], codes, string_bytes, IsSomeAnd};
+ghost use Rattle.ttrpc_error.specs.ErrorText.{error_text, status_of, IsOthers, IsUnknown, StandsFor};
+
+use std::alloc::{AllocError, AllocFailed, Global};
+use std::fmt;
+use std::io::ErrorKind;
+use ttrpc_proto::{Response, Status};
+use ttrpc_values::{Blob, Code, Sequence, Text, TryClone};
+
+/// Why a call failed.
+#[derive(Debug, Drop, PartialEq)]
+pub enum Error {
+    /// The socket failed, or was closed.
+    Socket(Text),
+    /// The other side answered with this status.
+    RpcStatus(Status),
+    /// The system refused.
+    Nix(ErrorKind),
+    /// This side closed the stream.
+    LocalClosed,
+    /// The other side closed the stream.
+    RemoteClosed,
+    /// Nothing more comes.
+    Eof,
+    /// Anything else.
+    Others(Text),
+    /// The allocator refused.
+    NoMemory,
+    /// What is to be sent is more than the ring has room for.
+    NoRoom,
+}
+
+/// A result whose error is `Error`.
+pub type Result<T> = std::result::Result<T, Error>;
+
+impl From<AllocError> for Error {
+    ghost use Rattle.ttrpc_error.specs.declared.error.Error.TheVariants.{NoMemory};
+
+    ghost from_gives = { λ _ e. e ≡ NoMemory };
+
+    fn from(_refused: AllocError) -> Error {
+        Error::NoMemory
+    }
+}
+
+impl<T: Drop> From<AllocFailed<T>> for Error {
+    ghost use Rattle.ttrpc_error.specs.declared.error.Error.TheVariants.{NoMemory};
+
+    ghost from_gives = { λ _ e. e ≡ NoMemory };
+
+    fn from(_refused: AllocFailed<T>) -> Error {
+        Error::NoMemory
+    }
+}
+
+impl fmt::Display for Error {
+    ghost output = { error_text };
+
+    fn fmt<W: fmt::Write>(&self, f: &mut fmt::Formatter<W>) -> fmt::Result {
+        match self {
+            Error::Socket(text) => write!(f, "socket err: {}", text.as_str()),
+            Error::RpcStatus(status) => {
+                write!(f, "rpc status: {} {}", status.code, status.message.as_str())
+            }
+            Error::Nix(kind) => write!(f, "Nix error: {kind}"),
+            Error::LocalClosed => write!(f, "ttrpc err: local stream closed"),
+            Error::RemoteClosed => write!(f, "ttrpc err: remote stream closed"),
+            Error::Eof => write!(f, "eof"),
+            Error::Others(text) => write!(f, "ttrpc err: {}", text.as_str()),
+            Error::NoMemory => write!(f, "out of memory"),
+            Error::NoRoom => write!(f, "no room in the outgoing ring"),
+        }
+    }
+}
+
+impl std::error::Error for Error {}
+
+impl TryClone for Error {
+    fn try_clone(&self) -> std::result::Result<Error, AllocError> {
+        Ok(match self {
+            Error::Socket(text) => Error::Socket(text.try_clone()?),
+            Error::RpcStatus(status) => Error::RpcStatus(status.try_clone()?),
+            Error::Nix(kind) => Error::Nix(*kind),
+            Error::LocalClosed => Error::LocalClosed,
+            Error::RemoteClosed => Error::RemoteClosed,
+            Error::Eof => Error::Eof,
+            Error::Others(text) => Error::Others(text.try_clone()?),
+            Error::NoMemory => Error::NoMemory,
+            Error::NoRoom => Error::NoRoom,
+        })
+    }
+}
+
+impl Error {
+    /// The response that tells the other side of the error. Its message is empty where memory for the error's text
+    /// was refused.
+    pub fn into_response(self, alloc: Global) -> Response
+        ensures status { IsSomeAnd result.status (StandsFor self) }
+        ensures payload { result.payload ≡ [] }
+    {
+        Response {
+            status: Some(into_status(self, alloc)),
+            payload: Blob::new(alloc),
+        }
+    }
+}
+
+/// The status of this code with this message and no details. Takes no memory.
+pub fn get_status(c: Code, msg: String) -> Status
+    ensures { result ≡ status_of c (string_bytes msg) }
+{
+    let alloc = *msg.allocator();
+    Status {
+        code: c.number(),
+        message: Text::from_string(msg),
+        details: Sequence::new(alloc),
+    }
+}
+
+/// That status as an error. Takes no memory.
+pub fn get_rpc_status(c: Code, msg: String) -> Error
+    ensures { result ≡ Error.RpcStatus (status_of c (string_bytes msg)) }
+{
+    Error::RpcStatus(get_status(c, msg))
+}
+
+/// The error for a read or a write of this many bytes that failed: with none, the other side is gone.
+/// `NoMemory` only where memory for that text was refused.
+pub fn sock_error_msg(size: usize, msg: String) -> Error
+    ensures gone { size ≡ 0 → result ≢ Error.NoMemory
+        → result ≡ Error.Socket (codes "socket disconnected") }
+    ensures failed { size ≢ 0
+        → result ≡ Error.RpcStatus (status_of Code.INVALID_ARGUMENT (string_bytes msg)) }
+{
+    if size != 0 {
+        return get_rpc_status(Code::INVALID_ARGUMENT, msg);
+    }
+    match Text::from_str(*msg.allocator(), "socket disconnected") {
+        Ok(text) => Error::Socket(text),
+        Err(_) => Error::NoMemory,
+    }
+}
+
+/// `Others` of a prefix and what another error prints, or `NoMemory` where memory for that text was refused.
+pub fn others_of<D: fmt::Display>(alloc: Global, prefix: &str, cause: &D) -> Error
+    ensures { IsOthers prefix.now (D.output cause.now) result }
+{
+    match format!(in alloc; "{prefix}{cause}") {
+        Ok(text) => Error::Others(Text::from_string(text)),
+        Err(_) => Error::NoMemory,
+    }
+}
+
+/// The closure that makes `Others` of a prefix and another error, as in
+/// `call().map_err(err_to_others!(alloc, e, "calling: "))`.
+#[macro_export]
+macro_rules! err_to_others {
+    ($alloc:expr, $e:ident, $prefix:expr) => {
+        |$e| $crate::others_of($alloc, $prefix, &$e)
+    };
+}
+
+// The status that a response to the error carries.
+pub(crate) fn into_status(error: Error, alloc: Global) -> Status
+    ensures { StandsFor error result }
+{
+    match error {
+        Error::RpcStatus(status) => status,
+        other => unknown_status(&other, alloc),
+    }
+}
+
+fn unknown_status(error: &Error, alloc: Global) -> Status
+    ensures { IsUnknown (error_text error.now) result }
+{
+    let message = match error.to_string(alloc) {
+        Ok(text) => text,
+        Err(_) => String::new(alloc),
+    };
+    get_status(Code::UNKNOWN, message)
+}

@@ -1,0 +1,14 @@
+//! Tests of the program's words, its engine and its call in memory: runs as rows of words, input, status and output,
+//! and readers and writers that fail at each place.
+#![tactic(auto)]
+
+#[cfg(test)]
+mod fakes;
+#[cfg(test)]
+mod faults_tests;
+#[cfg(test)]
+mod runs;
+#[cfg(test)]
+mod runs_tests;
+#[cfg(test)]
+mod vectors;

@@ -1,0 +1,51 @@
+//! One run of the program, over any reader.
+use crate::vectors::{NO_MEMORY_LINE, NO_MEMORY_TEXT};
+use std::alloc::Global;
+use std::io::Read;
+use std::test::Fail;
+use ttrpc_echo::run;
+use ttrpc_error::Error;
+
+/// More than any of the runs of a table writes, so that no writer wants memory.
+pub const ROOM: usize = 256;
+
+/// What a run of the program left.
+#[derive(Drop)]
+pub struct Ran {
+    pub status: u8,
+    pub output: Vec<u8>,
+    pub errors: Vec<u8>,
+}
+
+pub fn words_of(alloc: Global, words: &[&str]) -> Result<Vec<String>, Fail> {
+    let mut given = Vec::new(alloc);
+    for word in words {
+        given.push(String::from_str(alloc, word)?)?;
+    }
+    Ok(given)
+}
+
+/// Runs the program with room for so many bytes of output. A run that ends for want of memory is an error.
+pub fn run_words<R: Read>(
+    alloc: Global,
+    words: &[String],
+    input: &mut R,
+    room: usize,
+) -> Result<Ran, Fail> {
+    let mut output = Vec::with_capacity(alloc, room)?;
+    let mut errors = Vec::with_capacity(alloc, ROOM)?;
+    let status = run(alloc, words, input, &mut output, &mut errors);
+    if status == 1 && (output.as_slice() == NO_MEMORY_LINE || errors.as_slice() == NO_MEMORY_TEXT) {
+        return Err(Error::NoMemory.into());
+    }
+    Ok(Ran {
+        status,
+        output,
+        errors,
+    })
+}
+
+/// The first `count` bytes.
+pub fn front(bytes: &[u8], count: usize) -> &[u8] {
+    &bytes[..count.min(bytes.len())]
+}

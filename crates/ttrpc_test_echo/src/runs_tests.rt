@@ -1,0 +1,144 @@
+//! Runs of the program: its words and its input, and then its status, its output and what it tells of errors.
+use crate::fakes::Source;
+use crate::runs::{ROOM, Ran, front, run_words, words_of};
+use crate::vectors::*;
+use std::alloc::Global;
+use std::process::Abort;
+use std::test::Fail;
+
+type Tested = Result<(), Fail>;
+
+/// A run: the words, the input, whether it is read to its end or not at all, the status, the output and the errors.
+type Run = (
+    &'static [&'static str],
+    &'static [u8],
+    bool,
+    u8,
+    &'static [u8],
+    &'static [u8],
+);
+
+const RUNS: &[Run] = &[
+    // requests and their answers
+    (&["answer"], b"", true, 0, b"", b""),
+    (&["answer"], ASKED, true, 0, ECHOED, b""),
+    (&["answer"], EMPTY, true, 0, EMPTY_ECHOED, b""),
+    (&["answer"], NO_METHOD, true, 0, NO_METHOD_ANSWER, b""),
+    (&["answer"], NO_SERVICE, true, 0, NO_SERVICE_ANSWER, b""),
+    (&["answer"], MIXED, true, 0, MIXED_ANSWERS, b""),
+    // an input that ends inside a frame
+    (&["answer"], CUT, true, 1, b"", INSIDE_TEXT),
+    // calls in memory
+    (&["loop", "2A"], ASKED, false, 0, LOOPED, b""),
+    (&["loop", "2a"], ASKED, false, 0, LOOPED, b""),
+    (&["loop", ""], ASKED, false, 0, LOOPED_EMPTY, b""),
+    (&["loop", "00fFAb09"], ASKED, false, 0, LOOPED_FOUR, b""),
+    // wrong words
+    (&[], ASKED, false, 2, b"", USAGE_TEXT),
+    (&["answers"], ASKED, false, 2, b"", USAGE_TEXT),
+    (&["Answer"], ASKED, false, 2, b"", USAGE_TEXT),
+    (&[""], ASKED, false, 2, b"", USAGE_TEXT),
+    (&["answer", ""], ASKED, false, 2, b"", USAGE_TEXT),
+    (&["answer", "answer"], ASKED, false, 2, b"", USAGE_TEXT),
+    (&["loop"], ASKED, false, 2, b"", USAGE_TEXT),
+    (&["loop", "2a", "2a"], ASKED, false, 2, b"", USAGE_TEXT),
+    (&["Loop", "2a"], ASKED, false, 2, b"", USAGE_TEXT),
+    // words of what isn't built yet
+    (&["serve", "127.0.0.1:0"], ASKED, false, 2, b"", USAGE_TEXT),
+    (
+        &["call", "127.0.0.1:1", "demo.Echo", "Echo", "2a", "0"],
+        ASKED,
+        false,
+        2,
+        b"",
+        USAGE_TEXT,
+    ),
+    // digits that are no bytes
+    (&["loop", "2"], ASKED, false, 2, b"", USAGE_TEXT),
+    (&["loop", "2a3"], ASKED, false, 2, b"", USAGE_TEXT),
+    (&["loop", "2g"], ASKED, false, 2, b"", USAGE_TEXT),
+    (&["loop", "g2"], ASKED, false, 2, b"", USAGE_TEXT),
+    (&["loop", " 2a"], ASKED, false, 2, b"", USAGE_TEXT),
+    (&["loop", "0x2a"], ASKED, false, 2, b"", USAGE_TEXT),
+    (&["loop", "2a "], ASKED, false, 2, b"", USAGE_TEXT),
+    (&["loop", "\u{ff12}a"], ASKED, false, 2, b"", USAGE_TEXT),
+];
+
+/// The run ended with this status, this output and these errors.
+fn left(rt: &impl Abort, ran: &Ran, row: &Run) -> Tested {
+    let (words, _, _, status, output, errors) = row;
+    assert!(rt; ran.status == *status, "the status of {words:?}");
+    assert!(rt; ran.output.as_slice() == *output, "the output of {words:?}");
+    assert!(rt; ran.errors.as_slice() == *errors, "what {words:?} tells");
+    Ok(())
+}
+
+/// With all of the input at hand. It is read to its end, or not at all.
+fn runs_at_once(rt: &impl Abort, alloc: Global, row: &Run) -> Tested {
+    let (words, bytes, reads, _, _, _) = row;
+    let given = words_of(alloc, words)?;
+    let mut input = *bytes;
+    let ran = run_words(alloc, given.as_slice(), &mut input, ROOM)?;
+    left(rt, &ran, row)?;
+    assert!(rt;
+        input.len() == if *reads { 0 } else { bytes.len() },
+        "{words:?} read"
+    );
+    Ok(())
+}
+
+/// With an input that comes one byte at a time.
+fn runs_by_bytes(rt: &impl Abort, alloc: Global, row: &Run) -> Tested {
+    let (words, bytes, _, _, _, _) = row;
+    let given = words_of(alloc, words)?;
+    let ran = run_words(alloc, given.as_slice(), &mut Source::new(bytes, 1), ROOM)?;
+    left(rt, &ran, row)
+}
+
+#[test]
+fn runs_of_the_program(rt: HostRuntime) -> Tested {
+    for row in RUNS {
+        runs_at_once(&rt, rt.alloc(), row)?;
+        runs_by_bytes(&rt, rt.alloc(), row)?;
+    }
+    Ok(())
+}
+
+#[test]
+fn a_frame_that_is_too_long_is_answered_behind_it(rt: HostRuntime) -> Tested {
+    let mut frame = Vec::from_slice(rt.alloc(), OVERSIZED)?;
+    frame.resize(10 + 4194305, 0)?;
+    let words = words_of(rt.alloc(), &["answer"])?;
+    let mut input = Source::new(frame.as_slice(), 4096);
+    let ran = run_words(rt.alloc(), words.as_slice(), &mut input, ROOM)?;
+    assert_eq!(rt; ran.status, 0);
+    assert!(rt; ran.output.as_slice() == OVERSIZED_ANSWER);
+    Ok(())
+}
+
+/// A call in memory with so many bytes 77.
+fn sevens(alloc: Global, count: usize, room: usize) -> Result<Ran, Fail> {
+    let digits = vec![in alloc; b'7'; count.saturating_mul(2)]?;
+    let digits = String::from_utf8(digits).map_err(|_| Fail::from("not UTF-8"))?;
+    let words = words_of(alloc, &["loop", digits.as_str()])?;
+    let mut input = ASKED;
+    run_words(alloc, words.as_slice(), &mut input, room)
+}
+
+/// With 22 bytes of the request around it, a payload of 4194282 bytes is the greatest.
+#[test]
+fn the_greatest_payload_is_echoed(rt: HostRuntime) -> Tested {
+    let ran = sevens(rt.alloc(), 4194282, 8388568)?;
+    assert_eq!(rt; ran.status, 0);
+    assert_eq!(rt; ran.output.len(), 8388568);
+    assert!(rt; front(ran.output.as_slice(), 5) == LOOPED_SEVENS);
+    Ok(())
+}
+
+#[test]
+fn a_payload_above_the_greatest_is_refused(rt: HostRuntime) -> Tested {
+    let ran = sevens(rt.alloc(), 4194283, ROOM)?;
+    assert_eq!(rt; ran.status, 1);
+    assert!(rt; ran.output.as_slice() == LOOPED_TOO_LONG);
+    Ok(())
+}

@@ -1,0 +1,169 @@
+//! The loop that writes, over rows of a port, a writer, and what comes of them.
+
+use crate::fakes::{AT_ONCE, BYTES, Lender, Manner, ROOM, Receiver, front, long_bytes};
+use crate::known::writer_had_it;
+use std::alloc::Global;
+use std::io::ErrorKind;
+use std::process::Abort;
+use std::sync::Wait;
+use std::test::Fail;
+use ttrpc_sync::Word;
+
+type Tested = Result<(), Fail>;
+
+/// Ports that lend so many of these bytes at once, and writers that take so many a call: each writes for each.
+#[derive(Clone, Copy)]
+struct Writing<'a> {
+    name: &'static str,
+    bytes: &'a [u8],
+    lent: &'static [usize],
+    /// How many bytes come at a time.
+    batch: usize,
+    taken: &'static [usize],
+    manner: Manner,
+    /// How many bytes a writer takes at most.
+    room: usize,
+    /// How many were written, and how often the port was asked for more.
+    written: usize,
+    asked: usize,
+    word: Word,
+}
+
+/// All twenty come at once, and are written.
+const ALL: Writing<'static> = Writing {
+    name: "twenty bytes",
+    bytes: BYTES,
+    lent: &[4096, 1],
+    batch: ROOM,
+    taken: &[4096, 1],
+    manner: AT_ONCE,
+    room: ROOM,
+    written: 20,
+    asked: 2,
+    word: Word::Stopped,
+};
+
+/// They come by four calls, and the fifth says that there are no more.
+const IN_BATCHES: Writing<'static> = Writing {
+    batch: 6,
+    asked: 5,
+    ..ALL
+};
+
+const WRITINGS: &[Writing<'static>] = &[
+    ALL,
+    Writing {
+        name: "one byte",
+        bytes: b"A",
+        written: 1,
+        ..ALL
+    },
+    Writing {
+        name: "nothing to lend",
+        bytes: b"",
+        written: 0,
+        asked: 1,
+        ..ALL
+    },
+    Writing {
+        name: "more is asked where nothing is lent",
+        lent: &[4096, 4, 1],
+        taken: &[5],
+        ..IN_BATCHES
+    },
+    Writing {
+        name: "interrupted writes are tried again",
+        lent: &[9],
+        taken: &[4096, 7, 1],
+        manner: Manner {
+            interrupts: true,
+            ..AT_ONCE
+        },
+        ..IN_BATCHES
+    },
+];
+
+/// One writer writes for one port, and what comes of it is what the row says.
+fn writes_once<X: Wait + Abort>(
+    rt: &X,
+    alloc: Global,
+    row: &Writing<'_>,
+    lent: usize,
+    taken: usize,
+) -> Tested {
+    let mut port = Lender::new(row.bytes, lent, row.batch);
+    let manner = Manner {
+        step: taken,
+        ..row.manner
+    };
+    let mut writer = Receiver::new(Vec::with_capacity(alloc, ROOM)?, row.room, manner);
+    writer_had_it(rt, &mut writer, &mut port);
+    assert_eq!(rt;
+        writer.taken.as_slice(),
+        front(row.bytes, row.written),
+        "{}",
+        row.name
+    );
+    assert_eq!(rt; port.at, row.written, "{}", row.name);
+    assert_eq!(rt; port.asked, row.asked, "{}", row.name);
+    assert!(rt; port.word == row.word, "{}", row.name);
+    Ok(())
+}
+
+fn writes<X: Wait + Abort>(rt: &X, alloc: Global, row: &Writing<'_>) -> Tested {
+    for lent in row.lent {
+        for taken in row.taken {
+            writes_once(rt, alloc, row, *lent, *taken)?;
+        }
+    }
+    Ok(())
+}
+
+#[test]
+fn what_is_lent_is_written(rt: HostRuntime) -> Tested {
+    for row in WRITINGS {
+        writes(&rt, rt.alloc(), row)?;
+    }
+    Ok(())
+}
+
+#[test]
+fn more_than_a_piece_is_written(rt: HostRuntime) -> Tested {
+    let bytes = long_bytes(rt.alloc())?;
+    let row = Writing {
+        name: "more than a piece",
+        bytes: bytes.as_slice(),
+        written: ROOM,
+        ..ALL
+    };
+    writes(&rt, rt.alloc(), &row)
+}
+
+/// After so many bytes the writer fails, or takes no more: those were written and reported.
+fn breaks_behind<X: Wait + Abort>(
+    rt: &X,
+    alloc: Global,
+    count: usize,
+    behind: Option<ErrorKind>,
+) -> Tested {
+    let row = Writing {
+        name: "a writer that fails",
+        lent: &[9],
+        manner: Manner { behind, ..AT_ONCE },
+        room: count,
+        written: count,
+        asked: (count / 6).saturating_add(1),
+        word: Word::Broke(behind.unwrap_or(ErrorKind::WriteZero)),
+        ..IN_BATCHES
+    };
+    writes(rt, alloc, &row)
+}
+
+#[test]
+fn a_failing_write_is_a_break(rt: HostRuntime) -> Tested {
+    for count in 0..20 {
+        breaks_behind(&rt, rt.alloc(), count, Some(ErrorKind::BrokenPipe))?;
+        breaks_behind(&rt, rt.alloc(), count, None)?;
+    }
+    Ok(())
+}

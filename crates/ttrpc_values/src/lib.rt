@@ -1,0 +1,19 @@
+//! The small types that values of all layers are made of: texts, bytes, lists, the codes of a status, and why bytes
+//! mean no value.
+#![tactic(auto)]
+
+mod blob;
+mod clones;
+mod code;
+mod codec_error;
+mod laws;
+mod sequence;
+mod text;
+
+pub use blob::Blob;
+pub use clones::TryClone;
+pub use code::Code;
+pub use codec_error::CodecError;
+pub use laws::code_is_one_to_one;
+pub use sequence::Sequence;
+pub use text::Text;
