@@ -26,10 +26,10 @@ use crate::landing::{Outcome, opened_outcome};
 use std::alloc::{AllocError, Global};
 use std::collections::BTreeMap;
 use std::marker::Model;
-use ttrpc_core::{Failure, unsealed_error};
-use ttrpc_frame::{FrameDecoder, Incoming, Outgoing, Queued, GenMessage};
 use ttrpc_codec::Codec;
+use ttrpc_core::{Failure, unsealed_error};
 use ttrpc_error::Error;
+use ttrpc_frame::{FrameDecoder, GenMessage, Incoming, Outgoing, Queued};
 use ttrpc_header::{MESSAGE_LENGTH_MAX, MessageHeader};
 use ttrpc_proto::Request;
 use ttrpc_secure::{

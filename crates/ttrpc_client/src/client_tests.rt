@@ -5,9 +5,9 @@ use crate::{CallId, ClientCore, ClientKind};
 use std::alloc::Global;
 use std::process::Abort;
 use std::test::Fail;
+use ttrpc_codec::WireMessage;
 use ttrpc_error::Error;
 use ttrpc_proto::{Request, Response};
-use ttrpc_codec::WireMessage;
 use ttrpc_secure::Plain;
 use ttrpc_values::{Blob, Text};
 

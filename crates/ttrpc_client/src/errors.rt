@@ -9,9 +9,9 @@ ghost use Rattle.ttrpc_client.specs.Happens.{advice, expired_error};
 
 use crate::kind::ClientKind;
 use std::alloc::{AllocError, Global};
-use ttrpc_values::{Code, CodecError, Text};
 use ttrpc_error::{Error, get_rpc_status, oversize_message};
 use ttrpc_header::MessageHeader;
+use ttrpc_values::{Code, CodecError, Text};
 
 /// The outcome of a call whose frame is longer than a message may be.
 pub fn oversize_error(alloc: Global, length: usize) -> Result<Error, AllocError>

@@ -5,9 +5,9 @@ ghost use Rattle.ttrpc_core.specs.Inside.{IsOf, TellsUnsent};
 
 use crate::responses::{limit_response, unsafe_payload_error, unsealed_error};
 use std::alloc::{AllocError, Global};
-use ttrpc_frame::{Queued, GenMessage};
 use ttrpc_codec::Codec;
 use ttrpc_error::Error;
+use ttrpc_frame::{GenMessage, Queued};
 use ttrpc_header::MessageHeader;
 use ttrpc_proto::Response;
 use ttrpc_secure::{SendError, TransformError};

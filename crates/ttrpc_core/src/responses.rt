@@ -5,9 +5,9 @@ ghost use Rattle.ttrpc_core.specs.Failure.{IsTold};
 ghost use Rattle.ttrpc_core.specs.Responses.{status_response, IsStatusResponse, path_text, unopened_text, limit_text, unsafe_payload_text, unsealed_text};
 
 use std::alloc::{AllocError, Global};
-use ttrpc_values::{Code, CodecError, Text};
 use ttrpc_error::{Error, get_status, oversize_message};
 use ttrpc_proto::{Response, ResponseInit};
+use ttrpc_values::{Code, CodecError, Text};
 
 /// The answer to a message that is longer than a message may be.
 pub fn oversize_response(alloc: Global, length: usize) -> Result<Response, AllocError>

@@ -23,9 +23,9 @@ use crate::responses::{
 use crate::rules::Rules;
 use std::alloc::Global;
 use std::marker::Model;
-use ttrpc_frame::{FrameDecoder, Incoming, Outgoing, GenMessage};
 use ttrpc_codec::Codec;
 use ttrpc_error::Error;
+use ttrpc_frame::{FrameDecoder, GenMessage, Incoming, Outgoing};
 use ttrpc_header::{MESSAGE_LENGTH_MAX, MESSAGE_TYPE_REQUEST, MessageHeader};
 use ttrpc_proto::{Request, Response};
 use ttrpc_secure::{InboundTransform, OutboundTransform, TransformError, associated_bytes, send};
