@@ -7,6 +7,6 @@ pub PairedFor-Keeps : {S T : Type 0} (n : ℕ) (s : S) (t : T) → PairedFor (Ke
 PairedFor-Keeps zero s t = tt
 PairedFor-Keeps (suc n) s t =
     λ plain aad sealed s_after sealing. (
-      (λ refused. refused),
+      (λ why refused. refused),
       (λ opened t_after opening. (opening.0 ∙ sealing.0, PairedFor-Keeps n s_after t_after)),
     )

@@ -3,19 +3,26 @@
 -- Source: this project's.
 use Rattle.std.specs.Prelude.{◌≡◌, ◌+◌, ◌≤◌, ℕ, zero, suc, List, length, Bool, false}
 use Rattle.ttrpc_header.specs.declared.header.TheConstants.{MESSAGE_LENGTH_MAX}
+use Rattle.ttrpc_secure.specs.declared.transform.TransformError.{TransformError}
+use Rattle.ttrpc_secure.specs.declared.transform.TransformError.TheVariants.{Refused, NoMemory}
 
 -- What a half does at a call: its state before, the data that it is given, the associated bytes, what it gives, and its
 -- state after.
 abbrev pub Moves : Type 0 → Type 1
 Moves S = S → List ℕ → List ℕ → List ℕ → S → Type 0
 
--- What a half may refuse: its state, the data and the associated bytes.
+-- What a half may refuse: its state, the data, the associated bytes, and the reason that it gives.
 abbrev pub Refusals : Type 0 → Type 1
-Refusals S = S → List ℕ → List ℕ → Type 0
+Refusals S = S → List ℕ → List ℕ → List ℕ → Type 0
+
+-- an error of a half: a refusal that it may give, or want of memory
+abbrev pub MayFail : {S : Type 0} → Refusals S → S → List ℕ → List ℕ → TransformError → Type 0
+MayFail refuses s given aad (Refused why) = refuses s given aad why
+MayFail refuses s given aad NoMemory = Unit {0}
 
 -- Of a half that takes whatever it is given.
 abbrev pub RefusesNothing : {S : Type 0} → Refusals S
-RefusesNothing s given aad = ⊥
+RefusesNothing s given aad why = ⊥
 
 -- The laws of a half that seals.
 pub record IsLawful {S : Type 0} (seals_always : Bool) (overhead : S → ℕ) (seals : Moves S) : Type 0 where
@@ -34,7 +41,7 @@ abbrev pub PairedFor : {S T : Type 0} → Moves S → Moves T → Refusals T →
 PairedFor seals opens refuses zero s t = Unit {0}
 PairedFor seals opens refuses (suc n) s t =
     (plain aad sealed : List ℕ) (s_after : _) → seals s plain aad sealed s_after
-    → (refuses t sealed aad → ⊥)
+    → ((why : List ℕ) → refuses t sealed aad why → ⊥)
     × ((opened : List ℕ) (t_after : _) → opens t sealed aad opened t_after → (opened ≡ plain) × PairedFor seals opens refuses n s_after t_after)
 
 -- For any number of calls.

@@ -9,7 +9,7 @@ use crate::transform::{InboundTransform, OutboundTransform};
 pub fn paired_halves_agree<O: OutboundTransform, I: InboundTransform>()
     ensures not_refused { (s : O) (t : I) (plain aad sealed : List ℕ) (s_after : O)
         → IsPaired O.seals I.opens I.refuses s t → O.seals s plain aad sealed s_after
-        → I.refuses t sealed aad → ⊥ }
+        → (why : List ℕ) → I.refuses t sealed aad why → ⊥ }
     ensures same { (s : O) (t : I) (plain aad sealed opened : List ℕ) (s_after : O) (t_after : I)
         → IsPaired O.seals I.opens I.refuses s t → O.seals s plain aad sealed s_after
         → I.opens t sealed aad opened t_after → opened ≡ plain }

@@ -1,6 +1,7 @@
 //! Sealing and queuing in one call.
-ghost use Rattle.std.specs.Prelude.{◌≡◌, ◌≢◌, ◌<◌, ◌+◌, ◌↔◌, length, Err, OnOk, OnErr};
+ghost use Rattle.std.specs.Prelude.{◌≡◌, ◌<◌, ◌+◌, ◌↔◌, length, Err, OnOk, OnErr};
 ghost use Rattle.ttrpc_secure.specs.declared.transform.TransformError.{TransformError as AnError};
+ghost use Rattle.ttrpc_secure.specs.Halves.{MayFail};
 ghost use Rattle.ttrpc_secure.specs.Sends.{Sends, associated};
 
 use crate::transform::{OutboundTransform, TransformError};
@@ -48,8 +49,8 @@ pub fn send<O: OutboundTransform>(
 ) -> Result<(), SendError>
     ensures ok { OnOk result (Sends O.seals half.old outgoing.old frame «data».now half.new outgoing.new) }
     ensures too_long { (result ≡ Err SendError.TooLong) ↔ (MESSAGE_LENGTH_MAX < length «data».now + O.overhead half.old) }
-    ensures refused { (t : AnError) → result ≡ Err (SendError.Failed t) → t ≢ TransformError.NoMemory
-        → O.refuses half.old «data».now (associated frame.message.header) }
+    ensures refused { (t : AnError) → result ≡ Err (SendError.Failed t)
+        → MayFail O.refuses half.old «data».now (associated frame.message.header) t }
     ensures err { OnErr result ((half.new ≡ half.old) × (outgoing.new ≡ outgoing.old)) }
 {
     if data.len() > MESSAGE_LENGTH_MAX - half.max_overhead() {

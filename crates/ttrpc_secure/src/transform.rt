@@ -1,6 +1,6 @@
 //! The traits of the two halves, and why a half gives nothing.
-ghost use Rattle.std.specs.Prelude.{◌≡◌, ◌≢◌, ℕ, Bool, IfOk, IfErr, OnErr};
-ghost use Rattle.ttrpc_secure.specs.Halves.{Moves, Refusals, IsLawful};
+ghost use Rattle.std.specs.Prelude.{◌≡◌, ℕ, Bool, IfOk, IfErr, OnErr};
+ghost use Rattle.ttrpc_secure.specs.Halves.{Moves, Refusals, MayFail, IsLawful};
 
 use std::alloc::{AllocError, AllocFailed, Global};
 use ttrpc_values::Text;
@@ -58,8 +58,7 @@ pub trait OutboundTransform {
         aad: &[u8],
     ) -> Result<Vec<u8>, TransformError>
         ensures ok { IfOk result (λ sealed. seals self.old «data».now aad.now sealed.items self.new) }
-        ensures refused { IfErr result (λ e. e ≢ TransformError.NoMemory
-            → refuses self.old «data».now aad.now) }
+        ensures refused { IfErr result (MayFail refuses self.old «data».now aad.now) }
         ensures err { OnErr result (self.new ≡ self.old) };
 
     /// How much longer sealed data is at most.
@@ -85,7 +84,6 @@ pub trait InboundTransform {
         aad: &[u8],
     ) -> Result<Vec<u8>, TransformError>
         ensures ok { IfOk result (λ opened. opens self.old «data».now aad.now opened.items self.new) }
-        ensures refused { IfErr result (λ e. e ≢ TransformError.NoMemory
-            → refuses self.old «data».now aad.now) }
+        ensures refused { IfErr result (MayFail refuses self.old «data».now aad.now) }
         ensures err { OnErr result (self.new ≡ self.old) };
 }

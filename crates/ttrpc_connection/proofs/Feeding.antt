@@ -1,0 +1,189 @@
+-- A piece is fed in turns: each takes a front of what is left, and at most one frame acts.
+use Rattle.std.proofs.Common.{◌≡◌, ◌⊎◌, inl, inr, ℕ, List, [], ◌∷◌, ◌++◌, take, drop, ap, refl, sym, ◌∙◌, subst, append_assoc, Option, Some, None, IsSome}
+use Rattle.std.proofs.lemmas.List.{take-append-drop, append-nil}
+use Rattle.ttrpc_error.specs.declared.error.Error.{Error}
+use Rattle.ttrpc_frame.specs.declared.frame.Incoming.{Incoming}
+use Rattle.ttrpc_frame.specs.Frames.{Frames, Held, Fed, given, nothing}
+use Rattle.ttrpc_frame.proofs.Pieces.{frames_append}
+use Rattle.ttrpc_connection.specs.declared.arrived.Arrived.{Arrived}
+use Rattle.ttrpc_connection.specs.declared.connection.Connection.{Connection}
+use Rattle.ttrpc_connection.specs.declared.failure.Failure.{Failure}
+use Rattle.ttrpc_connection.specs.declared.failure.Failure.TheVariants.{NoMemory}
+use Rattle.ttrpc_connection.specs.Failure.{IsTold, error_of}
+use Rattle.ttrpc_connection.specs.Frames.{Opens, SendsAll, Sent, header_of_frame}
+use Rattle.ttrpc_connection.specs.Feeds.{Ways, Scene, ActsAll, Breaks, Feeds, FeedsFront, IsWhy, scene}
+use Rattle.ttrpc_connection.specs.Inside.{StopsAt, TakesFront}
+
+pub nothing_taken : (held : Held) → Fed held [] [] held
+nothing_taken held = λ before h. (before, append-nil before, h)
+
+-- one piece after the other, as one
+pub fed_twice : (held mid new : Held) (p q : List ℕ) (is js : List Incoming) → Fed held p is mid → Fed mid q js new → Fed held (p ++ q) (is ++ js) new
+fed_twice held mid new p q is js one two = λ before h.
+    let a = one before h in
+    let b = two a.0 a.2 in
+    (b.0, subst (λ bytes. Frames bytes (is ++ js) b.0) (append_assoc before p q) (frames_append (before ++ p) is a.0 q js b.0 a.1 b.1), b.2)
+
+pub acts_twice : {S O I : Type 0} (w : Ways S O I) (at : ℕ) (fs gs : List Incoming) (old mid new : Scene S O I) → ActsAll w at old fs mid → ActsAll w at mid gs new → ActsAll w at old (fs ++ gs) new
+acts_twice w at [] gs old mid new one two = subst (λ c. ActsAll w at c gs new) one two
+acts_twice w at (f ∷ fs) gs old mid new one two = (one.0, one.1, acts_twice w at fs gs one.0 mid new one.2 two)
+
+-- ---- a front of a piece
+
+no_frame : (held : Held) → IsSome {T = Incoming} None → held ≡ nothing
+no_frame held h = cc
+
+-- the decoder took nothing
+pub stops_early : {S O I : Type 0} (w : Ways S O I) (s : S) (old : Connection O I) (piece : List ℕ) (at : ℕ) (held : Held) → held ≡ old.decoder
+    → StopsAt w s old piece at NoMemory s (record old { decoder = held })
+stops_early w s old piece at held same = record {
+  frame = None;
+  front = [];
+  back = piece;
+  piece_is = refl;
+  fed = rw same (nothing_taken old.decoder);
+  at_its_end = no_frame held;
+  state = refl;
+  outbox = refl;
+  why = refl;
+}
+
+-- a frame was whole, and the connection is to fail at it
+pub stops_at : {S O I : Type 0} (w : Ways S O I) (s : S) (old : Connection O I) (piece : List ℕ) (at n : ℕ) (f : Incoming) (o : Option Incoming) (failure : Failure) (t : S) (new : Connection O I)
+    → o ≡ Some f → Fed old.decoder (take n piece) (given o) new.decoder → new.decoder ≡ nothing → t ≡ s → new.outbox ≡ old.outbox → IsWhy w at (scene s old) (Some f) failure → StopsAt w s old piece at failure t new
+stops_at w s old piece at n f o failure t new is fed ends state outbox why = record {
+  frame = Some f;
+  front = take n piece;
+  back = drop n piece;
+  piece_is = sym (take-append-drop n piece);
+  fed = subst (λ (x : Option Incoming). Fed old.decoder (take n piece) (given x) new.decoder) is fed;
+  at_its_end = λ _. ends;
+  state = state;
+  outbox = outbox;
+  why = why;
+}
+
+-- the core's word for it
+pub core_says : {S O I : Type 0} (w : Ways S O I) (at : ℕ) (s : S) (old : Connection O I) (f : Incoming) (a : Arrived) (inbound : I) (failure : Failure) → Opens w.in_ old.inbound f a.opening inbound
+    → a.header ≡ header_of_frame f → a.now ≡ at → (failure ≡ NoMemory) ⊎ w.core.fails s a failure → IsWhy w at (scene s old) (Some f) failure
+core_says w at s old f a inbound failure opens header now (inl e) = inl e
+core_says w at s old f a inbound failure opens header now (inr e) =
+    inr (
+      a.opening,
+      inbound,
+      opens,
+      subst (λ m. w.core.fails s (record { header = header_of_frame f; opening = a.opening; now = m }) failure) now
+          (subst (λ h. w.core.fails s (record { header = h; opening = a.opening; now = a.now }) failure) header e),
+    )
+
+-- a frame was whole, and acted
+pub took_frame : {S O I : Type 0} (w : Ways S O I) (s : S) (old : Connection O I) (front : List ℕ) (at : ℕ) (f : Incoming) (o : Option Incoming) (a : Arrived) (t : S) (new : Connection O I)
+    → o ≡ Some f → Fed old.decoder front (given o) new.decoder → Opens w.in_ old.inbound f a.opening new.inbound
+    → a.header ≡ header_of_frame f → a.now ≡ at
+    → (sent : List Sent) × w.core.reacts s old.outbox.half a sent t × SendsAll w.out old.outbox sent new.outbox
+    → TakesFront w s old front at t new
+took_frame w s old front at f o a t new is fed opens header now reacts = record {
+  frame = Some f;
+  fed = subst (λ (x : Option Incoming). Fed old.decoder front (given x) new.decoder) is fed;
+  acts = (
+    scene t new,
+    record {
+      opening = a.opening;
+      opens = opens;
+      sent = reacts.0;
+      reacts = subst (λ m. w.core.reacts s old.outbox.half (record { header = header_of_frame f; opening = a.opening; now = m }) reacts.0 t) now
+          (subst (λ h. w.core.reacts s old.outbox.half (record { header = h; opening = a.opening; now = a.now }) reacts.0 t) header reacts.1);
+      sends = reacts.2;
+    },
+    refl,
+  );
+}
+
+-- none was whole
+pub took_part : {S O I : Type 0} (w : Ways S O I) (s : S) (old : Connection O I) (front : List ℕ) (at : ℕ) (o : Option Incoming) (held : Held)
+    → o ≡ None → Fed old.decoder front (given o) held → TakesFront w s old front at s (record old { decoder = held })
+took_part w s old front at o held is fed = record {
+  frame = None;
+  fed = subst (λ (x : Option Incoming). Fed old.decoder front (given x) held) is fed;
+  acts = refl;
+}
+
+-- ---- a whole piece
+
+-- so far a front of the piece was taken, and its frames acted; the rest is to be taken
+pub record SoFar {S O I : Type 0} (w : Ways S O I) (s : S) (old : Connection O I) (piece rest : List ℕ) (at : ℕ) (t : S) (new : Connection O I) : Type 0 where
+  pub alive : old.failure ≡ None
+  pub still : new.failure ≡ None
+  pub frames : List Incoming
+  pub front : List ℕ
+  pub piece_is : piece ≡ front ++ rest
+  pub fed : Fed old.decoder front frames new.decoder
+  pub acts : ActsAll w at (scene s old) frames (scene t new)
+
+pub at_first : {S O I : Type 0} (w : Ways S O I) (s : S) (old : Connection O I) (piece : List ℕ) (at : ℕ) → old.failure ≡ None → SoFar w s old piece piece at s old
+at_first w s old piece at alive = record { alive = alive; still = alive; frames = []; front = []; piece_is = refl; fed = nothing_taken old.decoder; acts = refl }
+
+pub one_more : {S O I : Type 0} (w : Ways S O I) (s : S) (old : Connection O I) (piece rest : List ℕ) (at : ℕ) (t : S) (mid : Connection O I) (n : ℕ) (u : S) (new : Connection O I)
+    → SoFar w s old piece rest at t mid → FeedsFront w t mid (take n rest) at u new → SoFar w s old piece (drop n rest) at u new
+one_more w s old piece rest at t mid n u new p x = record {
+  alive = p.alive;
+  still = x.still;
+  frames = p.frames ++ given x.frame;
+  front = p.front ++ take n rest;
+  piece_is = p.piece_is ∙ ap (λ xs. p.front ++ xs) (sym (take-append-drop n rest)) ∙ sym (append_assoc p.front (take n rest) (drop n rest));
+  fed = fed_twice old.decoder mid.decoder new.decoder p.front (take n rest) p.frames (given x.frame) p.fed x.fed;
+  acts = acts_twice w at p.frames (given x.frame) (scene s old) (scene t mid) (scene u new) p.acts x.acts;
+}
+
+pub breaks : {S O I : Type 0} (w : Ways S O I) (s : S) (old : Connection O I) (piece : List ℕ) (at : ℕ) (failure : Failure) (told : Error) (t : S) (mid : Connection O I) → old.failure ≡ None
+    → StopsAt w s old piece at failure t mid → IsTold (error_of failure) told → Breaks w s old piece at told t (record mid { failure = Some failure })
+breaks w s old piece at failure told t mid alive x is_told = record {
+  alive = alive;
+  frames = [];
+  last = x.frame;
+  taken = x.front;
+  rest = x.back;
+  piece_is = x.piece_is;
+  fed = x.fed;
+  at_its_end = x.at_its_end;
+  mid = scene s old;
+  acts = refl;
+  state = x.state;
+  outbox = x.outbox;
+  failure = failure;
+  why = x.why;
+  fails = refl;
+  is_told = is_told;
+}
+
+pub breaks_later : {S O I : Type 0} (w : Ways S O I) (s : S) (old : Connection O I) (piece rest : List ℕ) (at : ℕ) (t : S) (mid : Connection O I) (told : Error) (u : S) (new : Connection O I)
+    → SoFar w s old piece rest at t mid → Breaks w t mid rest at told u new → Breaks w s old piece at told u new
+breaks_later w s old piece rest at t mid told u new p b = record {
+  alive = p.alive;
+  frames = p.frames ++ b.frames;
+  last = b.last;
+  taken = p.front ++ b.taken;
+  rest = b.rest;
+  piece_is = p.piece_is ∙ ap (λ xs. p.front ++ xs) b.piece_is ∙ sym (append_assoc p.front b.taken b.rest);
+  fed = subst (λ fs. Fed old.decoder (p.front ++ b.taken) fs new.decoder) (sym (append_assoc p.frames b.frames (given b.last)))
+      (fed_twice old.decoder mid.decoder new.decoder p.front b.taken p.frames (b.frames ++ given b.last) p.fed b.fed);
+  at_its_end = b.at_its_end;
+  mid = b.mid;
+  acts = acts_twice w at p.frames b.frames (scene s old) (scene t mid) b.mid p.acts b.acts;
+  state = b.state;
+  outbox = b.outbox;
+  failure = b.failure;
+  why = b.why;
+  fails = b.fails;
+  is_told = b.is_told;
+}
+
+-- all of the piece was taken
+pub whole : {S O I : Type 0} (w : Ways S O I) (s : S) (old : Connection O I) (piece rest : List ℕ) (at : ℕ) (t : S) (new : Connection O I) → SoFar w s old piece rest at t new → rest ≡ [] → Feeds w s old piece at t new
+whole w s old piece rest at t new p none = record {
+  alive = p.alive;
+  still = p.still;
+  frames = p.frames;
+  fed = subst (λ xs. Fed old.decoder xs p.frames new.decoder) (sym (append-nil p.front) ∙ ap (λ xs. p.front ++ xs) (sym none) ∙ sym p.piece_is) p.fed;
+  acts = p.acts;
+}

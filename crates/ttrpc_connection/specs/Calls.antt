@@ -1,0 +1,96 @@
+-- Calls of a core over a connection one after the other, also past a failure, and what the queue goes through by them.
+use Rattle.std.specs.Prelude.{◌≡◌, ◌≤◌, ◌⊎◌, ℕ, List, [], ◌∷◌, ◌++◌, length, map, is_some, true, if◌then◌else◌, nat_eq}
+use Rattle.ttrpc_error.specs.declared.error.Error.{Error}
+use Rattle.ttrpc_frame.specs.declared.outgoing.Queued.{Queued}
+use Rattle.ttrpc_frame.specs.Queue.{Queue, Happening, Placed, Allowed, after_all, open_part, with_payload, with_lent, after_report}
+use Rattle.ttrpc_frame.specs.Queue as queue
+use Rattle.ttrpc_connection.specs.declared.connection.Connection.{Connection}
+use Rattle.ttrpc_connection.specs.declared.failure.Failure.{Failure}
+use Rattle.ttrpc_connection.specs.Failure.{kept}
+use Rattle.ttrpc_connection.specs.Frames.{SendsOne}
+use Rattle.ttrpc_connection.specs.Feeds.{Ways, Feeds, Breaks}
+
+-- a call, with what it was given and what it gave
+pub data Call (A : Type 0) : Type 0 where
+  -- a piece was fed at a moment: whole, until the connection failed, or in vain
+  Gave : (piece : List ℕ) → (now : ℕ) → Call A
+  -- so many bytes were lent
+  Lent : (n : ℕ) → Call A
+  -- so many of the lent bytes were reported as written
+  Reported : (n : ℕ) → Call A
+  -- the connection was failed, or the input ended
+  Failed : Call A
+  -- another call of the core
+  Did : (other : A) → Call A
+
+-- the queue goes through this
+pub record Goes (q : Queue) (happenings : List Happening) (r : Queue) : Type 0 where
+  pub after : r ≡ after_all q happenings
+  pub allowed : Allowed q happenings
+
+-- What the other calls of a core do: to its state and the connection, and what the queue goes through by it.
+abbrev pub Others : Type 0 → Type 0 → Type 0 → Type 0 → Type 1
+Others A S O I = A → S → Connection O I → List Happening → S → Connection O I → Type 0
+
+-- they take nothing of what comes in, and do to the queue what they say
+pub record AreLawful {A S O I : Type 0} (others : Others A S O I) : Type 0 where
+  pub decoder : (a : A) (s : S) (old : Connection O I) (happenings : List Happening) (t : S) (new : Connection O I) → others a s old happenings t new → new.decoder ≡ old.decoder
+  pub queue : (a : A) (s : S) (old : Connection O I) (happenings : List Happening) (t : S) (new : Connection O I) → others a s old happenings t new → Goes old.outbox.queue happenings new.outbox.queue
+
+-- a piece was fed
+abbrev pub Gives : {S O I : Type 0} → Ways S O I → S → Connection O I → List ℕ → ℕ → S → Connection O I → Type 0
+Gives w s old piece now t new =
+    Feeds w s old piece now t new
+    ⊎ ((told : Error) × Breaks w s old piece now told t new)
+    ⊎ ((is_some old.failure ≡ true) × (t ≡ s) × (new ≡ old))
+
+-- these frames were queued
+abbrev pub Queues : {O I : Type 0} → Connection O I → List Queued → Connection O I → Type 0
+Queues old queued new = new.outbox.queue.frames ≡ old.outbox.queue.frames ++ queued
+
+abbrev pub Calls : {A S O I : Type 0} → Ways S O I → Others A S O I → S → Connection O I → Call A → List Happening → S → Connection O I → Type 0
+Calls w others s old (Gave piece now) happenings t new =
+    Gives w s old piece now t new × ((queued : List Queued) × Queues old queued new × (happenings ≡ map Placed queued))
+Calls w others s old (Lent n) happenings t new =
+    (t ≡ s) × (n ≤ length (open_part old.outbox.queue)) × (is_some old.failure ≡ true → n ≡ 0)
+    × (new ≡ record old { outbox = record old.outbox { queue = with_lent old.outbox.queue n } }) × (happenings ≡ queue.Lent n ∷ [])
+Calls w others s old (Reported n) happenings t new =
+    (t ≡ s) × (n ≤ old.outbox.queue.lent)
+    × (new ≡ record old { outbox = record old.outbox { queue = after_report old.outbox.queue n } }) × (happenings ≡ queue.Reported n ∷ [])
+Calls w others s old Failed happenings t new = (t ≡ s) × ((why : Failure) × (new ≡ record old { failure = kept old.failure why })) × (happenings ≡ [])
+Calls w others s old (Did a) happenings t new = others a s old happenings t new
+
+-- Calls one after the other, and what the queue goes through by them, in order.
+abbrev pub Runs : {A S O I : Type 0} → Ways S O I → Others A S O I → S → Connection O I → List (Call A) → List Happening → S → Connection O I → Type 0
+Runs w others s old [] happenings t new = (happenings ≡ []) × (t ≡ s) × (new ≡ old)
+Runs {A} {S} {O} {I} w others s old (c ∷ cs) happenings t new =
+    (u : S) × (mid : Connection O I) × (now : List Happening) × (later : List Happening)
+    × Calls w others s old c now u mid × (happenings ≡ now ++ later) × Runs w others u mid cs later t new
+
+-- the calls, with pieces that come one directly after the other at one moment put together
+abbrev pub before_others : {A : Type 0} → List ℕ → ℕ → List (Call A) → List (Call A)
+before_others piece now [] = Gave piece now ∷ []
+before_others piece now (Gave more at ∷ cs) = if nat_eq at now then Gave (piece ++ more) now ∷ cs else Gave piece now ∷ Gave more at ∷ cs
+before_others piece now (Lent n ∷ cs) = Gave piece now ∷ Lent n ∷ cs
+before_others piece now (Reported n ∷ cs) = Gave piece now ∷ Reported n ∷ cs
+before_others piece now (Failed ∷ cs) = Gave piece now ∷ Failed ∷ cs
+before_others piece now (Did a ∷ cs) = Gave piece now ∷ Did a ∷ cs
+
+abbrev pub joined : {A : Type 0} → List (Call A) → List (Call A)
+joined [] = []
+joined (Gave piece now ∷ cs) = before_others piece now (joined cs)
+joined (Lent n ∷ cs) = Lent n ∷ joined cs
+joined (Reported n ∷ cs) = Reported n ∷ joined cs
+joined (Failed ∷ cs) = Failed ∷ joined cs
+joined (Did a ∷ cs) = Did a ∷ joined cs
+
+-- ---- the calls of a connection alone
+
+pub data Own : Type 0 where
+  -- data were sealed and queued, and the core's state may have changed
+  Queued_one : (frame : Queued) → (plain : List ℕ) → Own
+
+abbrev pub own : {S O I : Type 0} → Ways S O I → Others Own S O I
+own w (Queued_one frame plain) s old happenings t new =
+    (sends : SendsOne w.out old.outbox frame plain new.outbox) × (new ≡ record old { outbox = new.outbox })
+    × (happenings ≡ Placed (with_payload frame sends.sealed) ∷ [])

@@ -1,0 +1,25 @@
+-- Which error tells why a connection failed.
+use Rattle.std.specs.Prelude.{◌≡◌, ◌⊎◌, codes, Option, None, Some}
+use Rattle.ttrpc_error.specs.declared.error.Error.{Error}
+use Rattle.ttrpc_error.specs.declared.error.Error.TheVariants.{Socket, Others, NoMemory}
+use Rattle.ttrpc_connection.specs.declared.failure.Failure.{Failure}
+use Rattle.ttrpc_connection.specs.declared.failure.Failure.TheVariants.{Told, Disconnected, DisconnectedInside, HandlerError, JobIdsUsedUp, DeadlineDuringWrite, CancelledDuringWrite, NoMemory as MemoryRefused}
+
+abbrev pub error_of : Failure → Error
+error_of (Told error) = error
+error_of Disconnected = Socket (codes "socket disconnected")
+error_of DisconnectedInside = Socket (codes "socket disconnected inside a frame")
+error_of HandlerError = Socket (codes "connection closed after a handler error")
+error_of JobIdsUsedUp = Others (codes "job ids are used up")
+error_of DeadlineDuringWrite = Socket (codes "connection closed after a request deadline elapsed during write")
+error_of CancelledDuringWrite = Socket (codes "connection closed after a request was cancelled during write")
+error_of MemoryRefused = NoMemory
+
+-- The error is the one to be told, or NoMemory, as it is where memory for it was refused.
+abbrev pub IsTold : Error → Error → Type 0
+IsTold told error = (error ≡ told) ⊎ (error ≡ NoMemory)
+
+-- the first failure is kept
+abbrev pub kept : Option Failure → Failure → Option Failure
+kept None failure = Some failure
+kept (Some first) failure = Some first

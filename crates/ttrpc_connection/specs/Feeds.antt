@@ -1,0 +1,108 @@
+-- What it is to feed a connection, over whatever a core does at a whole frame.
+use Rattle.std.specs.Prelude.{◌≡◌, ◌⊎◌, ℕ, List, [], ◌∷◌, ◌++◌, Option, Some, None, IsSome}
+use Rattle.ttrpc_error.specs.declared.error.Error.{Error}
+use Rattle.ttrpc_frame.specs.declared.frame.Incoming.{Incoming}
+use Rattle.ttrpc_frame.specs.Frames.{Fed, given, nothing}
+use Rattle.ttrpc_frame.specs.Queue.{empty_queue}
+use Rattle.ttrpc_secure.specs.declared.transform.OutboundTransform.{Ghosts as OutboundTransform}
+use Rattle.ttrpc_secure.specs.declared.transform.InboundTransform.{Ghosts as InboundTransform}
+use Rattle.ttrpc_connection.specs.declared.arrived.Arrived.{Arrived}
+use Rattle.ttrpc_connection.specs.declared.arrived.Opening.{Opening}
+use Rattle.ttrpc_connection.specs.declared.connection.Connection.{Connection}
+use Rattle.ttrpc_connection.specs.declared.failure.Failure.{Failure}
+use Rattle.ttrpc_connection.specs.declared.failure.Failure.TheVariants.{NoMemory}
+use Rattle.ttrpc_connection.specs.declared.outbox.Outbox.{Outbox}
+use Rattle.ttrpc_connection.specs.declared.reacts.Reacts.{Ghosts as Reacts}
+use Rattle.ttrpc_connection.specs.Failure.{IsTold, error_of}
+use Rattle.ttrpc_connection.specs.Frames.{Opens, Sent, SendsAll, header_of_frame}
+
+-- nothing came, nothing is to be written, and nothing has failed
+abbrev pub new_connection : {O I : Type 0} → O → I → Connection O I
+new_connection outbound inbound = record {
+  decoder = nothing;
+  outbox = record { half = outbound; queue = empty_queue };
+  inbound = inbound;
+  failure = None;
+}
+
+-- what the clauses know of the two halves and of the core
+pub record Ways (S O I : Type 0) : Type 1 where
+  pub out : OutboundTransform O
+  pub in_ : InboundTransform I
+  pub core : Reacts S O
+
+abbrev pub ways : {S O I : Type 0} → OutboundTransform O → InboundTransform I → Reacts S O → Ways S O I
+ways out in_ core = record { out = out; in_ = in_; core = core }
+
+-- what a whole frame acts on: the state of the core, what goes out, and the half that opens
+pub record Scene (S O I : Type 0) : Type 0 where
+  pub state : S
+  pub outbox : Outbox O
+  pub inbound : I
+
+abbrev pub scene : {S O I : Type 0} → S → Connection O I → Scene S O I
+scene state c = record { state = state; outbox = c.outbox; inbound = c.inbound }
+
+-- the frame as the core gets it
+abbrev pub arrived : Incoming → Opening → ℕ → Arrived
+arrived f opening now = record { header = header_of_frame f; opening = opening; now = now }
+
+-- One whole frame acts: it passes the inbound half once, unless it is too long, and the core does what it does at it.
+pub record Acts {S O I : Type 0} (w : Ways S O I) (now : ℕ) (old : Scene S O I) (f : Incoming) (new : Scene S O I) : Type 0 where
+  pub opening : Opening
+  pub opens : Opens w.in_ old.inbound f opening new.inbound
+  pub sent : List Sent
+  pub reacts : w.core.reacts old.state old.outbox.half (arrived f opening now) sent new.state
+  pub sends : SendsAll w.out old.outbox sent new.outbox
+
+abbrev pub ActsAll : {S O I : Type 0} → Ways S O I → ℕ → Scene S O I → List Incoming → Scene S O I → Type 0
+ActsAll w now old [] new = new ≡ old
+ActsAll w now old (f ∷ fs) new = (mid : Scene _ _ _) × Acts w now old f mid × ActsAll w now mid fs new
+
+-- a piece was taken whole at a moment, and its frames acted
+pub record Feeds {S O I : Type 0} (w : Ways S O I) (s : S) (old : Connection O I) (piece : List ℕ) (now : ℕ) (t : S) (new : Connection O I) : Type 0 where
+  pub alive : old.failure ≡ None
+  pub still : new.failure ≡ None
+  pub frames : List Incoming
+  pub fed : Fed old.decoder piece frames new.decoder
+  pub acts : ActsAll w now (scene s old) frames (scene t new)
+
+-- a front of a piece was taken, and at most one frame was whole with it
+pub record FeedsFront {S O I : Type 0} (w : Ways S O I) (s : S) (old : Connection O I) (front : List ℕ) (now : ℕ) (t : S) (new : Connection O I) : Type 0 where
+  pub alive : old.failure ≡ None
+  pub still : new.failure ≡ None
+  pub frame : Option Incoming
+  pub fed : Fed old.decoder front (given frame) new.decoder
+  pub acts : ActsAll w now (scene s old) (given frame) (scene t new)
+
+-- why a connection fails while it is fed: want of memory, or, at a frame, what the core says
+abbrev pub IsWhy : {S O I : Type 0} → Ways S O I → ℕ → Scene S O I → Option Incoming → Failure → Type 0
+IsWhy w now old None failure = failure ≡ NoMemory
+IsWhy {S} {O} {I} w now old (Some f) failure = (failure ≡ NoMemory)
+    ⊎ ((opening : Opening) × (inbound : I) × Opens w.in_ old.inbound f opening inbound × w.core.fails old.state (arrived f opening now) failure)
+
+-- A piece was taken in part: its first frames acted, and then the connection failed, at a frame or before the next one
+-- was whole. That frame changed nothing but the inbound half, and what comes behind it wasn't looked at.
+pub record Breaks {S O I : Type 0} (w : Ways S O I) (s : S) (old : Connection O I) (piece : List ℕ) (now : ℕ) (told : Error) (t : S) (new : Connection O I) : Type 0 where
+  pub alive : old.failure ≡ None
+  pub frames : List Incoming
+  pub last : Option Incoming
+  pub taken : List ℕ
+  pub rest : List ℕ
+  pub piece_is : piece ≡ taken ++ rest
+  pub fed : Fed old.decoder taken (frames ++ given last) new.decoder
+  pub at_its_end : IsSome last → new.decoder ≡ nothing
+  pub mid : Scene S O I
+  pub acts : ActsAll w now (scene s old) frames mid
+  pub state : t ≡ mid.state
+  pub outbox : new.outbox ≡ mid.outbox
+  pub failure : Failure
+  pub why : IsWhy w now mid last failure
+  pub fails : new.failure ≡ Some failure
+  pub is_told : IsTold (error_of failure) told
+
+-- the connection has failed, and this is told
+pub record IsFailed (failure : Option Failure) (told : Error) : Type 0 where
+  pub why : Failure
+  pub is : failure ≡ Some why
+  pub is_told : IsTold (error_of why) told

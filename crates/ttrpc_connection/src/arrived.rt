@@ -1,0 +1,67 @@
+//! A whole frame, after the inbound half.
+ghost use Rattle.std.specs.Prelude.{◌≡◌, IfOk, OnErr};
+ghost use Rattle.ttrpc_connection.specs.Frames.{Opens, header_of_frame};
+
+use std::alloc::{AllocError, Global};
+use ttrpc_frame::Incoming;
+use ttrpc_secure::{InboundTransform, TransformError, associated_bytes};
+use ttrpc_header::MessageHeader;
+use ttrpc_values::{Blob, Text};
+
+/// What the inbound half made of a frame's payload.
+#[derive(Debug, Drop, PartialEq, Eq)]
+pub enum Opening {
+    /// It is longer than a message may be: it was not kept, and the half not asked.
+    TooLong,
+    /// The half opened it.
+    Opened(Blob),
+    /// The half refused it, for this reason.
+    Refused(Text),
+}
+
+/// A whole frame, as a core gets it.
+#[derive(Debug, Drop, PartialEq, Eq)]
+pub struct Arrived {
+    pub header: MessageHeader,
+    pub opening: Opening,
+    /// The moment of the call that brought its last byte, in nanoseconds.
+    pub now: u64,
+}
+
+/// A frame passes the inbound half, unless it is too long. An `Err` changes nothing.
+pub fn open<I: InboundTransform>(
+    alloc: Global,
+    half: &mut I,
+    incoming: Incoming,
+    now: u64,
+) -> Result<Arrived, AllocError>
+    ensures ok { IfOk result (λ arrived. Opens I.InboundTransform half.old incoming arrived.opening half.new) }
+    ensures header { IfOk result (λ arrived. arrived.header ≡ header_of_frame incoming) }
+    ensures at { IfOk result (λ arrived. arrived.now ≡ now) }
+    ensures err { OnErr result (half.new ≡ half.old) }
+{
+    match incoming {
+        Incoming::Oversize(header) => Ok(Arrived {
+            header,
+            opening: Opening::TooLong,
+            now,
+        }),
+        Incoming::Frame(message) => {
+            let header = message.header;
+            let associated = associated_bytes(&header);
+            match half.transform_inbound(alloc, message.payload.as_slice(), &associated) {
+                Ok(plain) => Ok(Arrived {
+                    header,
+                    opening: Opening::Opened(Blob::from_vec(plain)),
+                    now,
+                }),
+                Err(TransformError::Refused(why)) => Ok(Arrived {
+                    header,
+                    opening: Opening::Refused(why),
+                    now,
+                }),
+                Err(TransformError::NoMemory) => Err(AllocError),
+            }
+        }
+    }
+}

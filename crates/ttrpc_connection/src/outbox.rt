@@ -1,0 +1,90 @@
+//! What goes out: frames that are sealed and wait to be written.
+ghost use Rattle.std.specs.Prelude.{◌≡◌, ◌<◌, ◌≤◌, ◌+◌, ◌⊎◌, ◌↔◌, [], length, take, drop, min, Err, OnOk, OnErr};
+ghost use Rattle.ttrpc_frame.specs.Queue.{Queue, open_part, unsent, with_lent, after_report, empty_queue, without, has_begun};
+ghost use Rattle.ttrpc_secure.specs.declared.transform.TransformError.{TransformError as AnError};
+ghost use Rattle.ttrpc_secure.specs.Halves.{MayFail};
+ghost use Rattle.ttrpc_secure.specs.Sends.{associated};
+ghost use Rattle.ttrpc_connection.specs.Frames.{SendsOne, safe_limit};
+
+use std::alloc::Global;
+use ttrpc_frame::{Outgoing, Queued};
+use ttrpc_secure::{OutboundTransform, SendError, send};
+use ttrpc_header::MESSAGE_LENGTH_MAX;
+
+/// The half that seals, and the frames that it sealed and that wait to be written.
+#[derive(Drop)]
+pub struct Outbox<O> {
+    half: O,
+    queue: Outgoing,
+}
+
+impl<O: OutboundTransform + Drop> Outbox<O> {
+    /// Nothing waits. Takes no memory.
+    pub fn new(alloc: Global, half: O) -> Self
+        ensures { result ≡ record { half = half; queue = empty_queue } }
+    {
+        Outbox {
+            half,
+            queue: Outgoing::new(alloc),
+        }
+    }
+
+    /// The longest data that is sure to fit into a message with what sealing adds. Takes no memory.
+    pub fn limit(&self) -> usize
+        ensures { result ≡ safe_limit O.OutboundTransform self.now.half }
+    {
+        MESSAGE_LENGTH_MAX - self.half.max_overhead()
+    }
+
+    /// Seals the data and queues the frame with it, whose payload it takes the place of. An error changes nothing.
+    pub fn send(&mut self, alloc: Global, frame: Queued, data: &[u8]) -> Result<(), SendError>
+        ensures ok { OnOk result (SendsOne O.OutboundTransform self.old frame «data».now self.new) }
+        ensures too_long { (result ≡ Err SendError.TooLong) ↔ (safe_limit O.OutboundTransform self.old.half < length «data».now) }
+        ensures refused { (t : AnError) → result ≡ Err (SendError.Failed t)
+            → MayFail O.refuses self.old.half «data».now (associated frame.message.header) t }
+        ensures err { OnErr result (self.new ≡ self.old) }
+    {
+        send(alloc, &mut self.half, &mut self.queue, frame, data)
+    }
+
+    /// Copies a front of what is left of the first frame, as much as fits, and says how many bytes: none only where
+    /// none fit or nothing is left to be written. Takes no memory.
+    pub(crate) fn lend(&mut self, buffer: &mut [u8]) -> usize
+        ensures count { result ≡ min (length buffer.old) (length (open_part self.old.queue)) }
+        ensures zero { (result ≡ 0) ↔ ((length buffer.old ≡ 0) ⊎ (unsent self.old.queue ≡ [])) }
+        ensures copied { take result buffer.new ≡ take result (open_part self.old.queue) }
+        ensures rest { drop result buffer.new ≡ drop result buffer.old }
+        ensures lent { self.new ≡ record self.old { queue = with_lent self.old.queue result } }
+    {
+        self.queue.lend(buffer)
+    }
+
+    /// Reports this many of the lent bytes as written. Takes no memory.
+    pub(crate) fn wrote(&mut self, n: usize)
+        requires { n ≤ self.old.queue.lent }
+        ensures { self.new ≡ record self.old { queue = after_report self.old.queue n } }
+    {
+        self.queue.wrote(n)
+    }
+
+    /// How many bytes the last `lend` since the last report gave.
+    pub(crate) fn lent(&self) -> usize
+        ensures { result ≡ self.now.queue.lent }
+    {
+        self.queue.lent()
+    }
+
+    /// Whether a byte of this owner's unary request, which is the first frame, was ever lent.
+    pub fn has_begun(&self, owner: u64) -> bool
+        ensures { result ≡ has_begun self.now.queue owner }
+    {
+        self.queue.has_begun(owner)
+    }
+
+    /// Throws away the first unary request of this owner that hasn't begun, if there is one. Takes no memory.
+    pub fn throw_away(&mut self, owner: u64)
+        ensures { self.new ≡ record self.old { queue = without self.old.queue owner } }
+    {
+        self.queue.throw_away(owner)
+    }
+}

@@ -1,0 +1,32 @@
+//! What a connection asks of the core that stands on it.
+ghost use Rattle.std.specs.Prelude.{◌≡◌, ◌⊎◌, List, IfErr, OnOk, OnErr};
+ghost use Rattle.ttrpc_connection.specs.declared.arrived.Arrived.{Arrived as AFrame};
+ghost use Rattle.ttrpc_connection.specs.declared.failure.Failure.{Failure as AFailure};
+ghost use Rattle.ttrpc_connection.specs.Frames.{Sent, SendsAll};
+
+use crate::arrived::Arrived;
+use crate::failure::Failure;
+use crate::outbox::Outbox;
+use std::alloc::Global;
+use ttrpc_secure::OutboundTransform;
+
+/// What acts on whole frames: the state of a core, without its connection.
+pub trait Reacts<O: OutboundTransform> {
+    // What a frame does: to the state, and by what is sent then. The half that seals is there for its limit.
+    ghost reacts: { Self → O → AFrame → List Sent → Self → Type 0 };
+
+    // For which failures the connection is to fail at a frame, beside want of memory.
+    ghost fails: { Self → AFrame → AFailure → Type 0 };
+
+    /// A whole frame acts. An `Err` says why the connection is to fail, and changes nothing.
+    fn react(
+        &mut self,
+        alloc: Global,
+        outbox: &mut Outbox<O>,
+        arrived: Arrived,
+    ) -> Result<(), Failure>
+        ensures ok { OnOk result ((sent : List Sent) × reacts self.old outbox.old.half arrived sent self.new
+            × SendsAll O.OutboundTransform outbox.old sent outbox.new) }
+        ensures fails { IfErr result (λ failure. (failure ≡ Failure.NoMemory) ⊎ fails self.old arrived failure) }
+        ensures err { OnErr result ((self.new ≡ self.old) × (outbox.new ≡ outbox.old)) };
+}

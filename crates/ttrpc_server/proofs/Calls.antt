@@ -1,0 +1,25 @@
+-- The calls of a server core take nothing of what comes in, and the queue goes through what they say.
+use Rattle.std.proofs.Common.{◌≡◌, ℕ, List, [], Option, Some, None, ap}
+use Rattle.ttrpc_frame.specs.Queue.{Happening}
+use Rattle.ttrpc_secure.specs.declared.transform.OutboundTransform.{Ghosts as OutboundTransform}
+use Rattle.ttrpc_connection.specs.declared.connection.Connection.{Connection}
+use Rattle.ttrpc_connection.specs.Calls.{AreLawful, Goes}
+use Rattle.ttrpc_connection.proofs.Leaving.{goes_not, queued_goes, sends_grow}
+use Rattle.ttrpc_server.specs.Server.{Server}
+use Rattle.ttrpc_server.specs.Calls.{Served, Took, Answered, Dropped, served}
+
+decoder : {O I : Type 0} (out : OutboundTransform O) (a : Served) (s : Server) (old : Connection O I) (hs : List Happening) (t : Server) (new : Connection O I) → served out a s old hs t new → new.decoder ≡ old.decoder
+decoder out (Took (Some job)) s old hs t new call = ap (λ c. c.connection.decoder) call.0.same
+decoder out (Took None) s old hs t new call = ap (λ c. c.decoder) call.1
+decoder out (Answered id response) s old hs t new call = ap (λ c. c.connection.decoder) call.0.same
+decoder out (Dropped id) s old hs t new call = ap (λ c. c.connection.decoder) call.0.same
+
+queue : {O I : Type 0} (out : OutboundTransform O) (a : Served) (s : Server) (old : Connection O I) (hs : List Happening) (t : Server) (new : Connection O I) → served out a s old hs t new → Goes old.outbox.queue hs new.outbox.queue
+queue out (Took (Some job)) s old hs t new call = goes_not old.outbox.queue new.outbox.queue hs (ap (λ c. c.connection.outbox.queue) call.0.same) call.1
+queue out (Took None) s old hs t new call = goes_not old.outbox.queue new.outbox.queue hs (ap (λ c. c.outbox.queue) call.1) call.2
+queue out (Answered id response) s old hs t new call =
+    queued_goes old.outbox.queue new.outbox.queue call.1.0 hs (sends_grow out call.0.sent old.outbox new.outbox call.0.sends) call.1.1 call.1.2
+queue out (Dropped id) s old hs t new call = goes_not old.outbox.queue new.outbox.queue hs (ap (λ c. c.connection.outbox.queue) call.0.same) call.1
+
+pub served_is_lawful : {O I : Type 0} (out : OutboundTransform O) → AreLawful (served {O = O} {I = I} out)
+served_is_lawful out = record { decoder = decoder out; queue = queue out }

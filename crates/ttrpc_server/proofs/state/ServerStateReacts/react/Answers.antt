@@ -1,0 +1,20 @@
+use Rattle.std.proofs.Common.{rules, ◌≡◌, refl}
+use Rattle.std.proofs.lemmas.Result.{on_ok_weaker}
+use Rattle.ttrpc_values.specs.declared.code.Code.TheVariants.{UNKNOWN}
+use Rattle.ttrpc_connection.specs.declared.arrived.Opening.TheVariants.{Refused}
+use Rattle.ttrpc_server.specs.Responses.{status_response, unopened_text}
+use Rattle.ttrpc_server.specs.Table.{Tells, row_of}
+use Rattle.ttrpc_server.proofs.Sending.{tells}
+use Rattle.ttrpc_server.proofs.state.ServerStateReacts.react.Goals as goal
+
+pub returns-in_ok-response-in-TooLong-clause-ok : goal.returns-in_ok-response-in-TooLong-clause-ok
+returns-in_ok-response-in-TooLong-clause-ok g c =
+    let row : row_of c.args.self.now c.args.arrived ≡ Tells c.in_ok-response-in-TooLong.response = rw (c.in-TooLong.is, c.in_ok-response-in-TooLong.ensures) refl in
+    on_ok_weaker c.refer.result (λ x. tells g.O.OutboundTransform _ c.args.self.now c.args.arrived.header _ c.args.outbox.now c.refer.new.outbox row x) c.refer.ensures.ok
+
+pub returns-in_ok-response-in-Refused-clause-ok : goal.returns-in_ok-response-in-Refused-clause-ok
+returns-in_ok-response-in-Refused-clause-ok g c =
+    let is : c.args.arrived.opening ≡ Refused c.in-Refused.why = c.in-Refused.is in
+    let text : c.in_ok-response-in-Refused.response ≡ status_response UNKNOWN (unopened_text c.in-Refused.why) = search rules in
+    let row : row_of c.args.self.now c.args.arrived ≡ Tells c.in_ok-response-in-Refused.response = rw (is, text) refl in
+    on_ok_weaker c.refer-in-Refused.result (λ x. tells g.O.OutboundTransform _ c.args.self.now c.args.arrived.header _ c.args.outbox.now c.refer-in-Refused.new.outbox row x) c.refer-in-Refused.ensures.ok

@@ -1,0 +1,30 @@
+-- The calls of a server core beside those of its connection.
+use Rattle.std.specs.Prelude.{◌≡◌, ℕ, List, [], map, Option, Some, None}
+use Rattle.ttrpc_proto.specs.declared.response.Response.{Response}
+use Rattle.ttrpc_frame.specs.declared.outgoing.Queued.{Queued}
+use Rattle.ttrpc_frame.specs.Queue.{Placed}
+use Rattle.ttrpc_secure.specs.declared.transform.OutboundTransform.{Ghosts as OutboundTransform}
+use Rattle.ttrpc_connection.specs.declared.connection.Connection.{Connection}
+use Rattle.ttrpc_connection.specs.Calls.{Others, Queues}
+use Rattle.ttrpc_server.specs.declared.job.Job.{Job}
+use Rattle.ttrpc_server.specs.declared.server.ServerCore.{ServerCore}
+use Rattle.ttrpc_server.specs.Server.{Server}
+use Rattle.ttrpc_server.specs.Happens.{Answers, Drops, Hands}
+
+pub data Served : Type 0 where
+  -- a job was asked for, and this came
+  Took : (job : Option Job) → Served
+  -- a job was answered by this response
+  Answered : (id : ℕ) → (response : Response) → Served
+  -- a job's handler failed
+  Dropped : (id : ℕ) → Served
+
+abbrev pub core : {O I : Type 0} → Server → Connection O I → ServerCore O I
+core state connection = record { state = state; connection = connection }
+
+abbrev pub served : {O I : Type 0} → OutboundTransform O → Others Served Server O I
+served out (Took (Some job)) s old happenings t new = Hands (core s old) job (core t new) × (happenings ≡ [])
+served out (Took None) s old happenings t new = (t ≡ s) × (new ≡ old) × (happenings ≡ [])
+served out (Answered id response) s old happenings t new =
+    Answers out (core s old) id response (core t new) × ((queued : List Queued) × Queues old queued new × (happenings ≡ map Placed queued))
+served out (Dropped id) s old happenings t new = Drops (core s old) id (core t new) × (happenings ≡ [])

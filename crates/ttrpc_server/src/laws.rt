@@ -1,0 +1,69 @@
+//! Laws over the definitions: what the contracts of single calls come to.
+ghost use Rattle.std.specs.Prelude.{◌≡◌, ◌≢◌, ◌≤◌, ◌++◌, ℕ, List, Some, drop};
+ghost use Rattle.std.specs.List.{AllByRecursion};
+ghost use Rattle.ttrpc_proto.specs.declared.request.Request.{Request as ARequest};
+ghost use Rattle.ttrpc_frame.specs.Frames.{nothing};
+ghost use Rattle.ttrpc_frame.specs.Queue.{Happening, IsQueue, all_bytes_left, departing, unsent, written_all};
+ghost use Rattle.ttrpc_connection.specs.declared.arrived.Arrived.{Arrived as AFrame};
+ghost use Rattle.ttrpc_connection.specs.declared.connection.Connection.{Connection as AConnection};
+ghost use Rattle.ttrpc_connection.specs.Calls.{Call, Runs, joined};
+ghost use Rattle.ttrpc_connection.specs.Frames.{Sent};
+ghost use Rattle.ttrpc_server.specs.declared.job.ActiveJob.{ActiveJob as AJob};
+ghost use Rattle.ttrpc_server.specs.declared.job.Job.{Job as AHandedJob};
+ghost use Rattle.ttrpc_server.specs.Calls.{Served, served};
+ghost use Rattle.ttrpc_server.specs.Happens.{EndsOne, HandsOne, serves, serving};
+ghost use Rattle.ttrpc_server.specs.Server.{Server, Rising, jobs_at};
+ghost use Rattle.ttrpc_server.specs.Streams.{IsAnswered, made_by};
+ghost use Rattle.ttrpc_server.specs.Table.{row_of};
+
+use ttrpc_secure::{InboundTransform, OutboundTransform};
+
+/// Each stream id stands by itself. A frame changes the jobs of its own id alone, adds at most the one that its row
+/// makes, and sends at most one answer, under that id. A job that is handed out or answered changes in its own id
+/// alone, as if there were no other.
+pub fn streams_stand_by_themselves<O: OutboundTransform>()
+    ensures frame_elsewhere { (old new : Server) (o : O) (a : AFrame) (sent : List Sent) (k : ℕ) → serves O.OutboundTransform old o a sent new
+        → k ≢ a.header.stream_id → jobs_at new.jobs k ≡ jobs_at old.jobs k }
+    ensures frame { (old new : Server) (o : O) (a : AFrame) (sent : List Sent) → serves O.OutboundTransform old o a sent new
+        → jobs_at new.jobs a.header.stream_id
+        ≡ made_by (row_of old a) a.header old.last_job (jobs_at old.jobs a.header.stream_id) }
+    ensures own_answer { (old new : Server) (o : O) (a : AFrame) (sent : List Sent) → serves O.OutboundTransform old o a sent new
+        → IsAnswered a.header.stream_id sent }
+    ensures taken_elsewhere { (old new : List AJob) (handed : AHandedJob) (k : ℕ) → HandsOne old handed new
+        → k ≢ handed.header.stream_id → jobs_at new k ≡ jobs_at old k }
+    ensures taken { (old new : List AJob) (handed : AHandedJob) → HandsOne old handed new
+        → HandsOne (jobs_at old handed.header.stream_id) handed (jobs_at new handed.header.stream_id) }
+    ensures answered_elsewhere { (old new : List AJob) (id : ℕ) (job : AJob) (k : ℕ) → EndsOne old id job new
+        → k ≢ job.header.stream_id → jobs_at new k ≡ jobs_at old k }
+    ensures answered { (old new : List AJob) (id : ℕ) (job : AJob) → EndsOne old id job new
+        → EndsOne (jobs_at old job.header.stream_id) id job (jobs_at new job.header.stream_id) }
+{}
+
+/// The ids of jobs rise, from 1 on, through every call, so that each job has its own; and the job that is handed out has
+/// the least id of those that wait.
+pub fn job_ids_rise<O: OutboundTransform>()
+    ensures frames { (old new : Server) (o : O) (a : AFrame) (sent : List Sent) → serves O.OutboundTransform old o a sent new
+        → Rising 0 old.jobs old.last_job → Rising 0 new.jobs new.last_job }
+    ensures taken { (old new : List AJob) (last : ℕ) (handed : AHandedJob) → HandsOne old handed new → Rising 0 old last → Rising 0 new last }
+    ensures answered { (old new : List AJob) (last id : ℕ) (job : AJob) → EndsOne old id job new → Rising 0 old last → Rising 0 new last }
+    ensures least { (old new : List AJob) (handed : AHandedJob) (low high : ℕ) → HandsOne old handed new → Rising low old high
+        → AllByRecursion (λ (j : AJob). (request : ARequest) → j.request ≡ Some request → handed.id ≤ j.id) old }
+{}
+
+/// Over any list of calls, also past a failure, the bytes that left and those still to be written are the written forms
+/// of the frames that depart, in order.
+pub fn what_leaves_was_queued<O: OutboundTransform, I: InboundTransform>()
+    ensures { (s t : Server) (old new : AConnection O I) (calls : List (Call Served)) (happenings : List Happening) → IsQueue old.outbox.queue
+        → Runs (serving O.OutboundTransform I.InboundTransform) (served O.OutboundTransform) s old calls happenings t new
+        → all_bytes_left old.outbox.queue happenings ++ unsent new.outbox.queue
+        ≡ drop old.outbox.queue.reported (written_all (departing old.outbox.queue happenings)) }
+{}
+
+/// Over any list of calls, also past a failure, it depends on the bytes, and not on how they were cut, what the queue
+/// goes through and how the core ends: what one cutting may lead to, any other may.
+pub fn cuts_do_not_matter<O: OutboundTransform, I: InboundTransform>()
+    ensures { (s t : Server) (old new : AConnection O I) (calls cut : List (Call Served)) (happenings : List Happening)
+        → old.decoder ≡ nothing → joined calls ≡ joined cut
+        → Runs (serving O.OutboundTransform I.InboundTransform) (served O.OutboundTransform) s old calls happenings t new
+        → Runs (serving O.OutboundTransform I.InboundTransform) (served O.OutboundTransform) s old cut happenings t new }
+{}

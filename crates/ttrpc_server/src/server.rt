@@ -1,0 +1,215 @@
+//! The core of a server: frames in, jobs and responses out.
+ghost use Rattle.std.specs.Prelude.{◌≡◌, ◌≢◌, ◌<◌, ◌≤◌, ◌↔◌, ◌⊎◌, ℕ, [], MatchBool, true, length, take, drop, min, is_some, if◌then◌else◌, IfOk, IfErr, OnOk, OnErr, IfSome, IfNone, Ok, Err, Some, None};
+ghost use Rattle.ttrpc_error.specs.declared.error.Error.{Error as AnError};
+ghost use Rattle.ttrpc_proto.specs.declared.response.Response.{Response as AResponse};
+ghost use Rattle.ttrpc_frame.specs.Frames.{nothing};
+ghost use Rattle.ttrpc_frame.specs.Queue.{open_part, unsent, with_lent, after_report};
+ghost use Rattle.ttrpc_connection.specs.declared.failure.Failure.{Failure as AFailure};
+ghost use Rattle.ttrpc_connection.specs.Failure.{IsTold, error_of, kept};
+ghost use Rattle.ttrpc_connection.specs.Feeds.{Breaks, Feeds, FeedsFront, IsFailed};
+ghost use Rattle.ttrpc_server.specs.Happens.{Answers, Drops, Hands, IsTakenAt, IsUnknown, IsUnsent, NoneWaits, RefusesAnswer, new_core, serving};
+
+use crate::job::{Job, JobId};
+use crate::registry::Registry;
+use crate::replies::respond;
+use crate::responses::unknown_job_error;
+use crate::rules::Rules;
+use crate::state::ServerState;
+use std::alloc::Global;
+use ttrpc_connection::{Connection, Failure};
+use ttrpc_secure::{InboundTransform, OutboundTransform};
+use ttrpc_error::Error;
+use ttrpc_proto::Response;
+
+/// The core of a server, over its connection's two halves.
+#[derive(Drop)]
+pub struct ServerCore<O, I> {
+    state: ServerState,
+    connection: Connection<O, I>,
+}
+
+impl<O: OutboundTransform + Drop, I: InboundTransform + Drop> ServerCore<O, I> {
+    /// A core without jobs, over these halves. Takes no memory.
+    pub fn new(alloc: Global, rules: Rules, registry: Registry, outbound: O, inbound: I) -> Self
+        ensures { result ≡ new_core rules registry.services outbound inbound }
+    {
+        ServerCore {
+            state: ServerState::new(alloc, rules, registry),
+            connection: Connection::new(alloc, outbound, inbound),
+        }
+    }
+
+    /// Takes a piece whole, and says how many bytes that are. Each frame that is whole with it acts, in order. The
+    /// connection fails where memory for a frame is refused or job ids are used up; then and from then on the answer is
+    /// that failure. Under sync rules the moment `now`, in nanoseconds, plays no part.
+    pub fn feed(&mut self, alloc: Global, piece: &[u8], now: u64) -> Result<usize, Error>
+        ensures ok { IfOk result (λ n. (n ≡ length piece.now)
+            × Feeds (serving O.OutboundTransform I.InboundTransform) self.old.state self.old.connection piece.now now self.new.state self.new.connection) }
+        ensures fails { self.old.connection.failure ≡ None → IfErr result (λ e.
+            Breaks (serving O.OutboundTransform I.InboundTransform) self.old.state self.old.connection piece.now now e self.new.state self.new.connection) }
+        ensures failed { (f : AFailure) → self.old.connection.failure ≡ Some f
+            → (self.new ≡ self.old) × IfErr result (IsTold (error_of f)) }
+    {
+        self.connection.feed(alloc, &mut self.state, piece, now)
+    }
+
+    /// Takes a front of the piece, and says how many bytes: at least one of a piece that isn't empty, and none behind the
+    /// first frame that is whole with it. That frame acts. Otherwise as `feed`.
+    pub fn feed_front(&mut self, alloc: Global, piece: &[u8], now: u64) -> Result<usize, Error>
+        ensures count { IfOk result (λ n. (n ≤ length piece.now) × (0 < length piece.now → 0 < n)) }
+        ensures ok { IfOk result (λ n.
+            FeedsFront (serving O.OutboundTransform I.InboundTransform) self.old.state self.old.connection (take n piece.now) now self.new.state self.new.connection) }
+        ensures fails { self.old.connection.failure ≡ None → IfErr result (λ e.
+            Breaks (serving O.OutboundTransform I.InboundTransform) self.old.state self.old.connection piece.now now e self.new.state self.new.connection) }
+        ensures failed { (f : AFailure) → self.old.connection.failure ≡ Some f
+            → (self.new ≡ self.old) × IfErr result (IsTold (error_of f)) }
+    {
+        self.connection
+            .feed_front(alloc, &mut self.state, piece, now)
+    }
+
+    /// Whether nothing of a frame has come that isn't whole. Takes no memory.
+    pub fn at_boundary(&self) -> bool
+        ensures { (result ≡ true) ↔ (self.now.connection.decoder ≡ nothing) }
+    {
+        self.connection.at_boundary()
+    }
+
+    /// Hands out the waiting job of least id, and none where none waits or the connection has failed. Takes no
+    /// memory.
+    pub fn take_job(&mut self) -> Option<Job>
+        ensures handed { IfSome result (λ job. Hands self.old job self.new) }
+        ensures none { IfNone result ((self.new ≡ self.old)
+            × (self.old.connection.failure ≡ None → NoneWaits self.old.state.jobs)) }
+    {
+        if self.connection.has_failed() {
+            return None;
+        }
+        self.state.hand_out()
+    }
+
+    /// Answers a job that was taken: its response is queued, and it is gone. One whose response is above the half's
+    /// limit is answered by a status that says so. A handler's error ends its job and fails the connection. A refusal
+    /// changes nothing.
+    pub fn answer(
+        &mut self,
+        alloc: Global,
+        id: JobId,
+        response: Result<Response, Error>,
+    ) -> Result<(), Error>
+        ensures answered { (r : AResponse) → response ≡ Ok r → OnOk result (Answers O.OutboundTransform self.old id r self.new) }
+        ensures handler_failed { (e : AnError) → response ≡ Err e → OnOk result (Drops self.old id self.new) }
+        ensures refused { IfErr result (RefusesAnswer O.OutboundTransform self.old id response) }
+        ensures err { OnErr result (self.new ≡ self.old) }
+    {
+        self.connection.check_alive(alloc)?;
+        let Some(place) = self.state.taken_at(id) else {
+            return Err(unknown_job_error(alloc));
+        };
+        match response {
+            Ok(response) => self.answer_at(alloc, place, response),
+            Err(_) => {
+                self.state.end(place);
+                self.connection.fail(Failure::HandlerError);
+                Ok(())
+            }
+        }
+    }
+
+    /// Whether the job of this number was taken and not answered yet. Takes no memory.
+    pub fn awaits_answer(&self, id: JobId) -> bool
+        ensures { MatchBool result
+            ((place : ℕ) × IsTakenAt self.now.state.jobs place id)
+            (IsUnknown self.now.state.jobs id) }
+    {
+        match self.state.taken_at(id) {
+            Some(_) => true,
+            None => false,
+        }
+    }
+
+    /// The input ended: the connection fails, if it hasn't. Takes no memory.
+    pub fn end_of_input(&mut self)
+        ensures between { self.old.connection.decoder ≡ nothing → self.new ≡ record self.old {
+          connection = record self.old.connection { failure = kept self.old.connection.failure Failure.Disconnected };
+        } }
+        ensures inside { self.old.connection.decoder ≢ nothing → self.new ≡ record self.old {
+          connection = record self.old.connection { failure = kept self.old.connection.failure Failure.DisconnectedInside };
+        } }
+    {
+        self.connection.end_of_input();
+    }
+
+    /// Fails the connection, if it hasn't failed. Takes no memory.
+    pub fn fail(&mut self, error: Error)
+        ensures { self.new ≡ record self.old {
+          connection = record self.old.connection { failure = kept self.old.connection.failure (Failure.Told error) };
+        } }
+    {
+        self.connection.fail(Failure::Told(error));
+    }
+
+    /// The failure, or `NoMemory` where memory for its text was refused.
+    pub fn failure(&self, alloc: Global) -> Option<Error>
+        ensures none { IfNone result (self.now.connection.failure ≡ None) }
+        ensures told { IfSome result (IsFailed self.now.connection.failure) }
+    {
+        self.connection.failure(alloc)
+    }
+
+    /// Copies a front of what is left of the first unfinished frame, as much as fits, and says how many bytes: none only
+    /// where none fit, nothing is left to be written, or the connection has failed. Takes no memory.
+    pub fn lend(&mut self, buffer: &mut [u8]) -> usize
+        ensures count { result ≡ (if is_some self.old.connection.failure then 0
+            else min (length buffer.old) (length (open_part self.old.connection.outbox.queue))) }
+        ensures zero { (result ≡ 0) ↔ ((length buffer.old ≡ 0)
+            ⊎ (unsent self.old.connection.outbox.queue ≡ []) ⊎ (is_some self.old.connection.failure ≡ true)) }
+        ensures copied { take result buffer.new ≡ take result (open_part self.old.connection.outbox.queue) }
+        ensures rest { drop result buffer.new ≡ drop result buffer.old }
+        ensures lent { self.new ≡ record self.old {
+          connection = record self.old.connection {
+            outbox = record self.old.connection.outbox { queue = with_lent self.old.connection.outbox.queue result };
+          };
+        } }
+    {
+        self.connection.lend(buffer)
+    }
+
+    /// Reports this many of the lent bytes as written. Takes no memory.
+    pub fn wrote(&mut self, n: usize)
+        requires { n ≤ self.old.connection.outbox.queue.lent }
+        ensures { self.new ≡ record self.old {
+          connection = record self.old.connection {
+            outbox = record self.old.connection.outbox { queue = after_report self.old.connection.outbox.queue n };
+          };
+        } }
+    {
+        self.connection.wrote(n)
+    }
+
+    /// How many bytes the last `lend` since the last report gave.
+    pub fn lent(&self) -> usize
+        ensures { result ≡ self.now.connection.outbox.queue.lent }
+    {
+        self.connection.lent()
+    }
+
+    /// Answers the job that stands at this place, which was taken. A refusal changes nothing.
+    fn answer_at(&mut self, alloc: Global, place: usize, response: Response) -> Result<(), Error>
+        requires alive { self.old.connection.failure ≡ None }
+        requires taken { (id : ℕ) × IsTakenAt self.old.state.jobs place id }
+        ensures answered { (id : ℕ) → IsTakenAt self.old.state.jobs place id → OnOk result (Answers O.OutboundTransform self.old id response self.new) }
+        ensures refused { (id : ℕ) → (at : IsTakenAt self.old.state.jobs place id) → IfErr result (IsUnsent
+            O.OutboundTransform self.old.connection.outbox.half at.job.header.stream_id response) }
+        ensures err { OnErr result (self.new ≡ self.old) }
+    {
+        let stream_id = self.state.stream_at(place);
+        match respond(alloc, &mut self.connection.outbox, stream_id, response) {
+            Ok(()) => {
+                self.state.end(place);
+                Ok(())
+            }
+            Err(unsent) => Err(unsent.error(alloc, self.connection.outbox.limit())),
+        }
+    }
+}
