@@ -1,6 +1,6 @@
 //! One end of a connection.
-ghost use Rattle.std.specs.Prelude.{◌≡◌, ◌≢◌, ◌<◌, ◌≤◌, ◌↔◌, ◌⊎◌, [], true, length, take, drop, min, is_some, if◌then◌else◌, IfOk, IfErr, OnOk, OnErr, IfSome, IfNone, Err, Some, None};
-ghost use Rattle.ttrpc_frame.specs.Frames.{nothing};
+ghost use Rattle.std.specs.Prelude.{ℕ, List, ◌≡◌, ◌≢◌, ◌<◌, ◌≤◌, ◌↔◌, ◌⊎◌, [], true, length, take, drop, min, is_some, if◌then◌else◌, IfOk, IfErr, OnOk, OnErr, IfSome, IfNone, Err, Some, None};
+ghost use Rattle.ttrpc_frame.specs.Frames.{Holds, nothing};
 ghost use Rattle.ttrpc_frame.specs.Queue.{open_part, unsent, with_lent, after_report};
 ghost use Rattle.ttrpc_connection.specs.declared.failure.Failure.{Failure as AFailure};
 ghost use Rattle.ttrpc_connection.specs.Failure.{IsTold, error_of, kept};
@@ -95,7 +95,8 @@ impl<O: OutboundTransform + Drop, I: InboundTransform + Drop> Connection<O, I> {
 
     /// Whether nothing of a frame has come that isn't whole. Takes no memory.
     pub fn at_boundary(&self) -> bool
-        ensures { (result ≡ true) ↔ (self.now.decoder ≡ nothing) }
+        ensures nothing { (result ≡ true) ↔ (self.now.decoder ≡ nothing) }
+        ensures held { (rest : List ℕ) × Holds self.now.decoder rest }
     {
         self.decoder.at_boundary()
     }
@@ -176,6 +177,13 @@ impl<O: OutboundTransform + Drop, I: InboundTransform + Drop> Connection<O, I> {
         ensures { self.new ≡ record self.old { outbox = record self.old.outbox { queue = after_report self.old.outbox.queue n } } }
     {
         self.outbox.wrote(n)
+    }
+
+    /// Whether anything is left to be written, which it won't be after a failure. Takes no memory.
+    pub fn has_unsent(&self) -> bool
+        ensures { (result ≡ true) ↔ (unsent self.now.outbox.queue ≢ []) }
+    {
+        self.outbox.has_unsent()
     }
 
     /// How many bytes the last `lend` since the last report gave.

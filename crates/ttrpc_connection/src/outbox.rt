@@ -1,5 +1,5 @@
 //! What goes out: frames that are sealed and wait to be written.
-ghost use Rattle.std.specs.Prelude.{◌≡◌, ◌<◌, ◌≤◌, ◌+◌, ◌⊎◌, ◌↔◌, [], length, take, drop, min, Err, OnOk, OnErr};
+ghost use Rattle.std.specs.Prelude.{◌≡◌, ◌≢◌, true, ◌<◌, ◌≤◌, ◌+◌, ◌⊎◌, ◌↔◌, [], length, take, drop, min, Err, OnOk, OnErr};
 ghost use Rattle.ttrpc_frame.specs.Queue.{Queue, open_part, unsent, with_lent, after_report, empty_queue, without, has_begun};
 ghost use Rattle.ttrpc_secure.specs.declared.transform.TransformError.{TransformError as AnError};
 ghost use Rattle.ttrpc_secure.specs.Halves.{MayFail};
@@ -65,6 +65,13 @@ impl<O: OutboundTransform + Drop> Outbox<O> {
         ensures { self.new ≡ record self.old { queue = after_report self.old.queue n } }
     {
         self.queue.wrote(n)
+    }
+
+    /// Whether anything is left to be written.
+    pub(crate) fn has_unsent(&self) -> bool
+        ensures { (result ≡ true) ↔ (unsent self.now.queue ≢ []) }
+    {
+        !self.queue.is_empty()
     }
 
     /// How many bytes the last `lend` since the last report gave.

@@ -1,13 +1,14 @@
 -- What a decoder's fields say of what it holds, and what a call makes of it.
 use Rattle.std.proofs.Common.{◌≡◌, ℕ, ◌+◌, ◌-◌, ◌<◌, ◌≤◌, List, [], ◌∷◌, ◌++◌, length, take, min, refl, sym, ap, subst, ◌∙◌, arith, length-append, inl, inr}
+use Rattle.std.proofs.Math.ListN.{replicate}
 use Rattle.std.proofs.lemmas.Bool.{cases_lt}
-use Rattle.std.proofs.lemmas.List.{append-nil, take_all, length-take, length-take-le}
+use Rattle.std.proofs.lemmas.List.{append-nil, take_all, length-take, length-take-le, length-replicate, take-append-le}
 use Rattle.ttrpc_header.specs.declared.header.MessageHeader.{MessageHeader}
 use Rattle.ttrpc_frame.specs.declared.frame.Incoming.TheVariants.{Frame, Oversize}
 use Rattle.ttrpc_header.specs.Header.{header_of}
-use Rattle.ttrpc_frame.specs.Frames.{Held, nothing, Fed}
+use Rattle.ttrpc_frame.specs.Frames.{Held, Holds, IsRest, nothing, Fed}
 use Rattle.ttrpc_frame.specs.Decoder.{IsDecoder}
-use Rattle.ttrpc_frame.proofs.Frames.{header_front, head_goes_on, head_is_frame, body_goes_on, body_is_frame, count_goes_on, count_is_frame}
+use Rattle.ttrpc_frame.proofs.Frames.{header_front, head_goes_on, head_is_frame, body_goes_on, body_is_frame, count_goes_on, count_is_frame, held_short, held_kept, held_passed}
 
 -- the header is whole
 pub is_full : (head : List ℕ) (filled : ℕ) (body : List ℕ) (counted : ℕ) → IsDecoder head filled body counted → 10 ≤ length (take filled head ++ body) → filled ≡ 10
@@ -143,3 +144,56 @@ not_at_start head filled body counted d e =
     let l : length (take filled head ++ body) ≡ filled + length body = length-append (take filled head) body ∙ ap (λ n. n + length body) (length-take-le filled head (omega (arith, d.size, d.filled_fits))) in
     let n : length (take filled head ++ body) ≡ 0 = ap (λ (x : Held). length x.bytes) e in
     omega (arith, l, n)
+
+-- ---- what is held is always of a rest
+
+-- a header that isn't whole
+holds_early : (bytes : List ℕ) → length bytes < 10 → Holds (record { bytes = bytes; counted = 0 }) bytes
+holds_early bytes less = (sym (held_short bytes less), λ long. absurd (omega (arith, less, long)))
+
+-- a payload that is kept
+holds_kept : (head body : List ℕ) → length head ≡ 10 → (header_of head).length ≤ 4194304 → length body < (header_of head).length
+    → Holds (record { bytes = head ++ body; counted = 0 }) (head ++ body)
+holds_kept head body size short less =
+    let l : length (head ++ body) ≡ 10 + length body = length-append head body ∙ rw size refl in
+    let h : header_of (head ++ body) ≡ header_of head = header_front head body size in
+    (
+      sym (held_kept (head ++ body) (omega (arith, l)) (subst (λ (x : MessageHeader). x.length ≤ 4194304) (sym h) short)),
+      λ long. subst (λ (x : MessageHeader). length (head ++ body) < 10 + x.length) (sym h) (omega (arith, l, less)),
+    )
+
+-- a payload that is counted: any bytes, as many
+holds_passed : (head : List ℕ) (counted : ℕ) → length head ≡ 10 → 4194304 < (header_of head).length → counted < (header_of head).length
+    → Holds (record { bytes = head; counted = counted }) (head ++ replicate counted 0)
+holds_passed head counted size over less =
+    let more = replicate counted 0 in
+    let m : length more ≡ counted = length-replicate counted 0 in
+    let l : length (head ++ more) ≡ 10 + length more = length-append head more ∙ rw size refl in
+    let h : header_of (head ++ more) ≡ header_of head = header_front head more size in
+    let front : take 10 (head ++ more) ≡ head = take-append-le 10 head more (omega (arith, size)) ∙ take_all 10 head (omega (arith, size)) in
+    let n : length (head ++ more) - 10 ≡ counted = omega (arith, l, m) in
+    (
+      sym (held_passed (head ++ more) (omega (arith, l)) (subst (λ (x : MessageHeader). 4194304 < x.length) (sym h) over) ∙ rw (front, n) refl),
+      λ long. subst (λ (x : MessageHeader). length (head ++ more) < 10 + x.length) (sym h) (omega (arith, l, m, less)),
+    )
+
+pub is_held : (head : List ℕ) (filled : ℕ) (body : List ℕ) (counted : ℕ) → IsDecoder head filled body counted
+    → (rest : List ℕ) × Holds (record { bytes = take filled head ++ body; counted = counted }) rest
+is_held head filled body counted d = elim (cases_lt filled 10) [
+  | inl less ↦
+      let e : take filled head ++ body ≡ take filled head = ap (λ b. take filled head ++ b) ((d.early less).0) ∙ append-nil (take filled head) in
+      let l : length (take filled head ++ body) < 10 = rw e (omega (arith, length-take filled head, less)) in
+      (take filled head ++ body, rw (d.early less).1 (holds_early (take filled head ++ body) l))
+  | inr more ↦
+      let full : filled ≡ 10 = omega (arith, d.filled_fits, more) in
+      let same = held_bytes head filled body d.size full in
+      elim (cases_lt 4194304 (header_of head).length) [
+        | inl over ↦
+            let p = d.passed full over in
+            let e : take filled head ++ body ≡ head = same ∙ ap (λ b. head ++ b) p.0 ∙ append-nil head in
+            (head ++ replicate counted 0, rw e (holds_passed head counted d.size over p.1))
+        | inr short ↦
+            let p = d.kept full (omega (arith, short)) in
+            (head ++ body, rw (same, p.0) (holds_kept head body d.size (omega (arith, short)) p.1))
+      ]
+]

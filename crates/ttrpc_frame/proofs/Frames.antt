@@ -18,16 +18,16 @@ header_front ten after size = grind (arith, common_steps)
 the_whole : (r : List ℕ) → length r ≤ 10 → take 10 r ≡ r
 the_whole r le = grind (arith, common_steps)
 
-held_short : (r : List ℕ) → length r < 10 → held_of r ≡ record { bytes = r; counted = 0 }
+pub held_short : (r : List ℕ) → length r < 10 → held_of r ≡ record { bytes = r; counted = 0 }
 held_short r short = let t : nat_lt (length r) 10 ≡ true = lt-ltb _ _ short in rw t refl
 
-held_kept : (r : List ℕ) → 10 ≤ length r → (header_of r).length ≤ 4194304 → held_of r ≡ record { bytes = r; counted = 0 }
+pub held_kept : (r : List ℕ) → 10 ≤ length r → (header_of r).length ≤ 4194304 → held_of r ≡ record { bytes = r; counted = 0 }
 held_kept r long le =
     let t : nat_lt (length r) 10 ≡ false = le-ltb _ _ long in
     let u : nat_lt 4194304 ((header_of r).length) ≡ false = le-ltb _ _ le in
     rw (t, u) refl
 
-held_passed : (r : List ℕ) → 10 ≤ length r → 4194304 < (header_of r).length → held_of r ≡ record { bytes = take 10 r; counted = length r - 10 }
+pub held_passed : (r : List ℕ) → 10 ≤ length r → 4194304 < (header_of r).length → held_of r ≡ record { bytes = take 10 r; counted = length r - 10 }
 held_passed r long lt =
     let t : nat_lt (length r) 10 ≡ false = le-ltb _ _ long in
     let u : nat_lt 4194304 ((header_of r).length) ≡ true = lt-ltb _ _ lt in

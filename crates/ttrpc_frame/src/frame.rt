@@ -61,7 +61,10 @@ impl FrameDecoder {
 
     /// Whether nothing of a frame has come. Takes no memory.
     pub fn at_boundary(&self) -> bool
-        ensures { (result ≡ true) ↔ (self.now ≡ nothing) }
+        ensures nothing { (result ≡ true) ↔ (self.now ≡ nothing) }
+
+        // What is held is always of bytes that are no whole frame.
+        ensures held { (rest : List ℕ) × Holds self.now rest }
     {
         self.filled == 0
     }

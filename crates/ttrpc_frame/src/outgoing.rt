@@ -81,7 +81,8 @@ impl Outgoing {
 
     /// Whether there are no frames.
     pub fn is_empty(&self) -> bool
-        ensures { IsTrue result ↔ (self.now.frames ≡ []) }
+        ensures none { IsTrue result ↔ (self.now.frames ≡ []) }
+        ensures valid { IsQueue self.now }
     {
         self.frames.is_empty()
     }

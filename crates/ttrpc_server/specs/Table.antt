@@ -1,21 +1,42 @@
--- The server's table under sync rules: which row a frame has, by what it is and by the services.
-use Rattle.std.specs.Prelude.{ℕ, List, Option, Some, None, if◌then◌else◌, nat_eq, nat_lt, length}
-use Rattle.ttrpc_wire.specs.Fold.{read_from}
+-- The server's table under sync rules: which row a frame has, from top to bottom, and for what an answer is refused, in
+-- the order of the tests. Each row and each refusal has its text here.
+-- Source: PROTOCOL.md of ttrpc, "Request" and "Response".
+use Rattle.std.specs.Prelude.{◌≡◌, ◌⊎◌, ℕ, List, ◌++◌, codes, Option, Some, None, Result, Ok, if◌then◌else◌, nat_eq, nat_lt, length}
 use Rattle.ttrpc_values.specs.declared.code.Code.{Code}
 use Rattle.ttrpc_values.specs.declared.code.Code.TheVariants.{UNKNOWN, INVALID_ARGUMENT}
+use Rattle.ttrpc_wire.specs.Fold.{read_from}
 use Rattle.ttrpc_header.specs.declared.header.MessageHeader.{MessageHeader}
 use Rattle.ttrpc_header.specs.declared.header.TheConstants.{MESSAGE_LENGTH_MAX, MESSAGE_TYPE_REQUEST}
 use Rattle.ttrpc_proto.specs.declared.request.Request.{Request}
 use Rattle.ttrpc_proto.specs.declared.response.Response.{Response}
-use Rattle.ttrpc_error.specs.Oversize.{oversize_text}
 use Rattle.ttrpc_proto.specs.Messages.{empty_request, request_step}
+use Rattle.ttrpc_error.specs.declared.error.Error.{Error}
+use Rattle.ttrpc_error.specs.declared.error.Error.TheVariants.{Others, NoMemory}
+use Rattle.ttrpc_error.specs.Oversize.{oversize_text}
+use Rattle.ttrpc_secure.specs.declared.transform.OutboundTransform.{Ghosts as OutboundTransform}
 use Rattle.ttrpc_connection.specs.declared.arrived.Arrived.{Arrived}
 use Rattle.ttrpc_connection.specs.declared.arrived.Opening.{Opening}
 use Rattle.ttrpc_connection.specs.declared.arrived.Opening.TheVariants.{TooLong, Opened, Refused}
+use Rattle.ttrpc_connection.specs.Failure.{IsTold, unsafe_payload_text, unsealed_text}
+use Rattle.ttrpc_connection.specs.Feeds.{IsFailed}
+use Rattle.ttrpc_connection.specs.Frames.{safe_limit}
+use Rattle.ttrpc_server.specs.declared.job.ActiveJob.{ActiveJob}
 use Rattle.ttrpc_server.specs.declared.registry.ServiceNames.{ServiceNames}
+use Rattle.ttrpc_server.specs.declared.server.ServerCore.{ServerCore}
+use Rattle.ttrpc_server.specs.Jobs.{IsTaken, IsUnknown}
 use Rattle.ttrpc_server.specs.Registry.{has_method}
-use Rattle.ttrpc_server.specs.Responses.{status_response, path_text, unopened_text}
+use Rattle.ttrpc_server.specs.Responses.{IsAboveLimit, IsUnsealed, fitted, response_size, status_response}
 use Rattle.ttrpc_server.specs.Server.{Server}
+
+-- ---- frames
+
+-- the inbound half didn't open a payload
+abbrev pub unopened_text : List ℕ → List ℕ
+unopened_text why = codes "ttrpc err: transform_inbound failed: " ++ why
+
+-- no handler has this path
+abbrev pub path_text : List ℕ → List ℕ → List ℕ
+path_text service method = codes "/" ++ service ++ codes "/" ++ method ++ codes " does not exist"
 
 -- what a frame does
 pub data Row : Type 0 where
@@ -46,3 +67,29 @@ sync_row services h (Opened plain) =
 -- The row of a frame in the state of a core. Sync rules are the only ones so far.
 abbrev pub row_of : Server → Arrived → Row
 row_of s a = sync_row s.services a.header a.opening
+
+-- ---- refusals of an answer, in their order
+
+-- the connection lives, and no such job waits for its answer
+pub record HasNoJob {O I : Type 0} (old : ServerCore O I) (id : ℕ) (told : Error) : Type 0 where
+  pub alive : old.connection.failure ≡ None
+  pub unknown : IsUnknown old.state.jobs.list id
+  pub is_told : IsTold (Others (codes "unknown job")) told
+
+-- or it does, and its response can't be sent: it is above the limit, the half refuses it, or memory is wanted
+abbrev pub IsUnsent : {O : Type 0} → OutboundTransform O → O → ℕ → Response → Error → Type 0
+IsUnsent out o k r told =
+    (IsAboveLimit (safe_limit out o) r × IsTold (Others (unsafe_payload_text (response_size (fitted (safe_limit out o) r)) (safe_limit out o))) told)
+    ⊎ ((why : List ℕ) × IsUnsealed out o k r why × IsTold (Others (unsealed_text why)) told)
+    ⊎ (told ≡ NoMemory)
+
+pub record HasUnsent {O I : Type 0} (out : OutboundTransform O) (old : ServerCore O I) (id : ℕ) (response : Result Response Error) (told : Error) : Type 0 where
+  pub alive : old.connection.failure ≡ None
+  pub job : ActiveJob
+  pub at : IsTaken old.state.jobs.list id job
+  pub answer : Response
+  pub is_answer : response ≡ Ok answer
+  pub unsent : IsUnsent out old.connection.outbox.half job.header.stream_id answer told
+
+abbrev pub RefusesAnswer : {O I : Type 0} → OutboundTransform O → ServerCore O I → ℕ → Result Response Error → Error → Type 0
+RefusesAnswer out old id response told = IsFailed old.connection.failure told ⊎ HasNoJob old id told ⊎ HasUnsent out old id response told

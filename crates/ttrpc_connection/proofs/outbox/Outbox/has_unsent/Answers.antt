@@ -1,0 +1,8 @@
+use Rattle.std.proofs.Common.{rules, ◌≡◌, ◌≢◌, true, []}
+use Rattle.ttrpc_connection.proofs.Lending.{any_left}
+use Rattle.ttrpc_connection.proofs.outbox.Outbox.has_unsent.Goals as goal
+
+pub returns : goal.returns
+returns g c =
+    let both = any_left c.args.self.now.queue c.is_empty.ensures.valid.within in
+    (λ is. both.0 (λ none. search rules), λ some. let any = both.1 some in search rules)

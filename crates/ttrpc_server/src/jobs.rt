@@ -1,0 +1,131 @@
+//! The jobs of a server that weren't answered, found by their ids.
+ghost use Rattle.std.specs.Prelude.{◌≡◌, IfErr, IfSome, IfNone, OnOk, filter, length};
+ghost use Rattle.ttrpc_server.specs.declared.job.ActiveJob.{ActiveJob as AJob};
+ghost use Rattle.ttrpc_server.specs.Jobs.{EndsOne, HandsOne, IsTaken, IsUnknown, NoneWaits, no_jobs, waits, with_job};
+ghost use Rattle.ttrpc_server.specs.Inside.{FailsToMake};
+
+use crate::job::{ActiveJob, Job, JobId};
+use std::alloc::Global;
+use std::collections::BTreeMap;
+use std::marker::Model;
+use ttrpc_connection::Failure;
+use ttrpc_header::MessageHeader;
+use ttrpc_proto::Request;
+
+/// The jobs of a server that weren't answered, by rising id. They are handed out in that order: those up to `handed` were
+/// taken, and each from there to `last`, the id of the last job that was made, waits.
+#[derive(Drop)]
+pub struct Jobs {
+    jobs: BTreeMap<JobId, ActiveJob>,
+    handed: JobId,
+    last: JobId,
+}
+
+impl Model for Jobs {
+    ghost use Rattle.std.specs.Map.{values_of};
+    ghost use Rattle.ttrpc_server.specs.Jobs.{JobList};
+    ghost use Rattle.ttrpc_server.specs.Inside.{AreJobs};
+
+    ghost Value = { JobList };
+
+    ghost view = { λ a. record { last = a.last; jobs = values_of a.jobs.entries } };
+
+    ghost invariant = { λ a. AreJobs a.handed a.last a.jobs.entries };
+}
+
+impl Jobs {
+    /// No jobs. Takes no memory.
+    pub fn new(alloc: Global) -> Self
+        ensures { result ≡ no_jobs }
+    {
+        Jobs {
+            jobs: BTreeMap::new(alloc),
+            handed: 0,
+            last: 0,
+        }
+    }
+
+    /// Makes a job that waits. An `Err` changes nothing: no id is left, or no memory.
+    pub fn make(&mut self, header: MessageHeader, request: Request) -> Result<(), Failure>
+        ensures ok { OnOk result (self.new ≡ with_job self.old header request) }
+        ensures err { IfErr result (λ failure. (self.new ≡ self.old) × FailsToMake self.old failure) }
+    {
+        if self.last == u64::MAX {
+            return Err(Failure::JobIdsUsedUp);
+        }
+        let id = self.last + 1;
+        let job = ActiveJob {
+            id,
+            header,
+            request: Some(request),
+        };
+        if self.jobs.insert(id, job).is_err() {
+            return Err(Failure::NoMemory);
+        }
+        self.last = id;
+        Ok(())
+    }
+
+    /// Hands out the first job that waits. Takes no memory.
+    pub fn hand_out(&mut self) -> Option<Job>
+        ensures given { IfSome result (λ job. HandsOne self.old.jobs job self.new.jobs) }
+        ensures none { IfNone result ((self.new ≡ self.old) × NoneWaits self.old.jobs) }
+        ensures last { self.new.last ≡ self.old.last }
+    {
+        if self.handed == self.last {
+            return None;
+        }
+        let id = self.handed + 1;
+        match self.jobs.get_mut(&id) {
+            Some(job) => {
+                let header = job.header;
+                let request = job.request.take();
+                self.handed = id;
+                match request {
+                    Some(request) => Some(Job {
+                        id,
+                        header,
+                        stream: false,
+                        request,
+                    }),
+                    None => unreachable!(),
+                }
+            }
+            None => unreachable!(),
+        }
+    }
+
+    /// The stream's id of the job of this id, if it was taken. Takes no memory.
+    pub fn stream_of(&self, id: JobId) -> Option<u32>
+        ensures some { IfSome result (λ k. (job : AJob) × IsTaken self.now.jobs id job × (k ≡ job.header.stream_id)) }
+        ensures none { IfNone result (IsUnknown self.now.jobs id) }
+    {
+        match self.jobs.get(&id) {
+            Some(job) if job.request.is_none() => Some(job.header.stream_id),
+            _ => None,
+        }
+    }
+
+    /// Forgets the job of this id, which was taken. Takes no memory.
+    pub fn end(&mut self, id: JobId)
+        requires { (job : AJob) × IsTaken self.old.jobs id job }
+        ensures ended { (job : AJob) → IsTaken self.old.jobs id job → EndsOne self.old.jobs id job self.new.jobs }
+        ensures last { self.new.last ≡ self.old.last }
+    {
+        let _ = self.jobs.remove(&id);
+    }
+
+    /// How many jobs wait to be handed out. Takes no memory.
+    pub fn waiting(&self) -> u64
+        ensures { result ≡ length (filter waits self.now.jobs) }
+    {
+        self.last - self.handed
+    }
+
+    /// How many jobs were made and not answered. Takes no memory.
+    pub fn active(&self) -> usize
+        ensures { result ≡ length self.now.jobs }
+    {
+        self.jobs.len()
+    }
+}
