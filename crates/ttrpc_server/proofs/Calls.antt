@@ -1,5 +1,5 @@
 -- The calls of a server core take nothing of what comes in, and the queue goes through what they say.
-use Rattle.std.proofs.Common.{◌≡◌, ℕ, List, [], Option, Some, None, ap}
+use Rattle.std.proofs.Common.{◌≡◌, List, Some, None, ap}
 use Rattle.ttrpc_frame.specs.Queue.{Happening}
 use Rattle.ttrpc_secure.specs.declared.transform.OutboundTransform.{Ghosts as OutboundTransform}
 use Rattle.ttrpc_connection.specs.declared.connection.Connection.{Connection}

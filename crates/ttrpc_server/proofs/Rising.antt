@@ -8,15 +8,13 @@ use Rattle.ttrpc_connection.specs.declared.arrived.Arrived.{Arrived}
 use Rattle.ttrpc_connection.specs.Frames.{Sent}
 use Rattle.ttrpc_server.specs.declared.job.ActiveJob.{ActiveJob}
 use Rattle.ttrpc_server.specs.declared.job.Job.{Job}
-use Rattle.ttrpc_server.specs.Server.{Server, Rising}
+use Rattle.ttrpc_server.specs.Jobs.{EndsOne, HandsOne, NoneWaits, Rising}
+use Rattle.ttrpc_server.specs.Server.{Server}
 use Rattle.ttrpc_server.specs.Table.{Row, Skipped, Tells, TellsOf, Known, row_of}
-use Rattle.ttrpc_server.specs.Happens.{Does, EndsOne, HandsOne, NoneWaits, serves}
+use Rattle.ttrpc_server.specs.Happens.{Does, serves}
+use Rattle.ttrpc_server.proofs.Keyed.{from_lower}
 
 -- ---- lists of jobs
-
-from_lower : (low more high : ℕ) (js : List ActiveJob) → low ≤ more → Rising more js high → Rising low js high
-from_lower low more high [] le rising = omega (arith, le, rising)
-from_lower low more high (j ∷ js) le rising = (omega (arith, le, rising.0), rising.1)
 
 with_one_more : (low high : ℕ) (js : List ActiveJob) (job : ActiveJob) → job.id ≡ high + 1 → Rising low js high → Rising low (js ++ job ∷ []) (high + 1)
 with_one_more low high [] job next rising = (omega (arith, next, rising), omega (arith, next))
@@ -33,14 +31,14 @@ with_one_less low high (j ∷ front) back job rising = (rising.0, with_one_less 
 -- ---- calls
 
 row_keeps : {O : Type 0} (out : OutboundTransform O) (row : Row) (old : Server) (o : O) (header : MessageHeader) (sent : List Sent) (new : Server) → Does out row old o header sent new
-    → Rising 0 old.jobs old.last_job → Rising 0 new.jobs new.last_job
+    → Rising 0 old.jobs.list old.jobs.last → Rising 0 new.jobs.list new.jobs.last
 row_keeps out Skipped old o header sent new does rising = rw does.0 rising
 row_keeps out (Tells r) old o header sent new does rising = rw does.0 rising
 row_keeps out (TellsOf code) old o header sent new does rising = rw does.0 rising
-row_keeps out (Known request) old o header sent new does rising = rw does.0 (with_one_more 0 old.last_job old.jobs _ refl rising)
+row_keeps out (Known request) old o header sent new does rising = rw does.0 (with_one_more 0 old.jobs.last old.jobs.list _ refl rising)
 
 pub frame_keeps : {O : Type 0} (out : OutboundTransform O) (old : Server) (o : O) (a : Arrived) (sent : List Sent) (new : Server) → serves out old o a sent new
-    → Rising 0 old.jobs old.last_job → Rising 0 new.jobs new.last_job
+    → Rising 0 old.jobs.list old.jobs.last → Rising 0 new.jobs.list new.jobs.last
 frame_keeps out old o a sent new does rising = row_keeps out (row_of old a) old o a.header sent new does rising
 
 pub taking_keeps : (old new : List ActiveJob) (high : ℕ) (handed : Job) → HandsOne old handed new → Rising 0 old high → Rising 0 new high
@@ -50,8 +48,8 @@ taking_keeps old new high handed one rising =
 
 pub answering_keeps : (old new : List ActiveJob) (high id : ℕ) (job : ActiveJob) → EndsOne old id job new → Rising 0 old high → Rising 0 new high
 answering_keeps old new high id job ends rising =
-    let was : Rising 0 (ends.front ++ job ∷ ends.back) high = subst (λ js. Rising 0 js high) ends.was rising in
-    subst (λ js. Rising 0 js high) (sym ends.jobs) (with_one_less 0 high ends.front ends.back job was)
+    let was : Rising 0 (ends.at.front ++ job ∷ ends.at.back) high = subst (λ js. Rising 0 js high) ends.at.is rising in
+    subst (λ js. Rising 0 js high) (sym ends.jobs) (with_one_less 0 high ends.at.front ends.at.back job was)
 
 -- ---- the job that is handed out
 

@@ -1,43 +1,39 @@
 -- What was sent, why a response wasn't, and how an answer ends its job.
-use Rattle.std.proofs.Common.{◌≡◌, ◌≢◌, ◌≤◌, ◌<◌, ◌+◌, ◌-◌, ◌^◌, ◌∙◌, min, ℕ, List, [], ◌∷◌, refl, ap, subst, arith, Option, inl, inr, Some, None}
+use Rattle.std.proofs.Common.{◌≡◌, ◌≤◌, ◌<◌, ◌-◌, ◌^◌, ◌∙◌, min, ℕ, List, [], ◌∷◌, refl, ap, subst, arith, Option, inl, inr, None}
 use Rattle.ttrpc_values.specs.declared.code.Code.{Code}
 use Rattle.ttrpc_error.specs.declared.error.Error.{Error}
 use Rattle.ttrpc_error.specs.declared.error.Error.TheVariants.{Others}
 use Rattle.ttrpc_header.specs.declared.header.MessageHeader.{MessageHeader}
-use Rattle.ttrpc_header.specs.declared.header.TheConstants.{MESSAGE_LENGTH_MAX}
 use Rattle.ttrpc_proto.specs.declared.request.Request.{Request}
 use Rattle.ttrpc_proto.specs.declared.response.Response.{Response}
 use Rattle.ttrpc_frame.specs.declared.outgoing.Queued.{Queued}
-use Rattle.ttrpc_secure.specs.declared.sending.SendError.{SendError}
-use Rattle.ttrpc_secure.specs.declared.sending.SendError.TheVariants.{TooLong, Failed}
 use Rattle.ttrpc_secure.specs.declared.transform.OutboundTransform.{Ghosts as OutboundTransform}
-use Rattle.ttrpc_secure.specs.declared.transform.TransformError.{TransformError}
-use Rattle.ttrpc_secure.specs.declared.transform.TransformError.TheVariants.{Refused as HalfRefused, NoMemory as HalfNoMemory}
-use Rattle.ttrpc_secure.specs.Halves.{MayFail}
-use Rattle.ttrpc_secure.specs.Sends.{associated}
 use Rattle.ttrpc_connection.specs.declared.outbox.Outbox.{Outbox}
 use Rattle.ttrpc_connection.specs.declared.failure.Failure.{Failure}
 use Rattle.ttrpc_connection.specs.declared.failure.Failure.TheVariants.{HandlerError}
 use Rattle.ttrpc_connection.specs.Failure.{IsTold, kept}
 use Rattle.ttrpc_connection.specs.Frames.{SendsOne, safe_limit}
+use Rattle.ttrpc_server.specs.declared.job.ActiveJob.{ActiveJob}
 use Rattle.ttrpc_server.specs.declared.replies.Unsent.{Unsent}
 use Rattle.ttrpc_server.specs.declared.replies.Unsent.TheVariants.{AboveLimit, Unsealed, NoMemory}
 use Rattle.ttrpc_server.specs.declared.server.ServerCore.{ServerCore}
-use Rattle.ttrpc_server.specs.Responses.{IsStatusResponse, unsafe_payload_text}
-use Rattle.ttrpc_server.specs.Server.{Server}
-use Rattle.ttrpc_server.specs.Table.{Row, Skipped, Tells, TellsOf, Known}
-use Rattle.ttrpc_server.specs.Happens.{fitted, response_size, response_bytes, Answers, Does, Drops, EndsOne, IsResponseFrame, IsTakenAt, IsUnsent, Refers, Responds, with_job, with_jobs}
-use Rattle.ttrpc_server.specs.Inside.{IsUnsentFor, IsOf, SendsSome, TellsUnsent}
+use Rattle.ttrpc_connection.specs.Texts.{unsafe_payload_text}
+use Rattle.ttrpc_server.specs.Jobs.{EndsOne, with_job}
+use Rattle.ttrpc_server.specs.Responses.{fitted, response_size, response_bytes, IsResponseFrame, IsStatusResponse, Refers, Responds}
+use Rattle.ttrpc_server.specs.Server.{Server, with_list}
+use Rattle.ttrpc_server.specs.Table.{IsUnsent, Row, Skipped, Tells, TellsOf, Known}
+use Rattle.ttrpc_server.specs.Happens.{Answers, Does, Drops, with_jobs}
+use Rattle.ttrpc_server.specs.Inside.{IsUnfit, IsUnsentFor, SendsSome, TellsUnsent}
 
 -- ---- what was sent
 
-pub sent_one : {O : Type 0} (out : OutboundTransform O) (old : Outbox O) (k : ℕ) (r fit : Response) (f : Queued) (bytes : List ℕ) (new : Outbox O)
-    → fit ≡ fitted (safe_limit out old.half) r → bytes ≡ response_bytes fit → response_size fit ≤ safe_limit out old.half → IsResponseFrame k f
+pub sent_one : {O : Type 0} (out : OutboundTransform O) (old : Outbox O) (k : ℕ) (r : Response) (f : Queued) (bytes : List ℕ) (new : Outbox O)
+    → bytes ≡ response_bytes (fitted (safe_limit out old.half) r) → response_size (fitted (safe_limit out old.half) r) ≤ safe_limit out old.half → IsResponseFrame k f
     → SendsOne out old f bytes new → SendsSome out old (Responds (safe_limit out old.half) k r) new
-sent_one out old k r fit f bytes new is written small framed sends = (
+sent_one out old k r f bytes new written small framed sends = (
   record { frame = f; plain = response_bytes (fitted (safe_limit out old.half) r) } ∷ [],
-  record { frame = f; is_frame = framed; fits = rw (← is) small; is = refl },
-  (new, rw (← is, ← written) sends, refl),
+  record { frame = f; is_frame = framed; fits = small; is = refl },
+  (new, rw (← written) sends, refl),
 )
 
 pub refers_one : {O : Type 0} (out : OutboundTransform O) (old : Outbox O) (k : ℕ) (r : Response) (new : Outbox O)
@@ -63,25 +59,21 @@ pub skips : {O : Type 0} (out : OutboundTransform O) (row : Row) (s : Server) (h
     → SendsSome out old (λ sent. Does out row s old.half header sent s) old
 skips out row s header old is = ([], rw is (refl, refl), refl)
 
-pub makes : {O : Type 0} (out : OutboundTransform O) (row : Row) (s : Server) (header : MessageHeader) (request : Request) (old : Outbox O) (t : Server) → row ≡ Known request → t ≡ with_job s header request
+pub makes : {O : Type 0} (out : OutboundTransform O) (row : Row) (s : Server) (header : MessageHeader) (request : Request) (old : Outbox O) (t : Server) → row ≡ Known request → t ≡ record s { jobs = with_job s.jobs header request }
     → SendsSome out old (λ sent. Does out row s old.half header sent t) old
 makes out row s header request old t is made = ([], rw is (made, refl), refl)
 
 -- ---- why a response wasn't sent
 
-pub refused_why : {O : Type 0} (out : OutboundTransform O) (o : O) (k : ℕ) (r fit : Response) (size : ℕ) (bytes : List ℕ) (f : Queued) (error : SendError) (u : Unsent)
-    → fit ≡ fitted (safe_limit out o) r → size ≡ response_size fit → bytes ≡ response_bytes fit → size ≤ safe_limit out o
-    → IsResponseFrame k f → (error ≡ TooLong → ⊥)
-    → ((t : TransformError) → error ≡ Failed t → MayFail out.refuses o bytes (associated f.message.header) t)
-    → IsOf size error u → IsUnsentFor out o k r u
-refused_why out o k r fit size bytes f TooLong u is sized written small framed never refuses of = absurd (never refl)
-refused_why out o k r fit size bytes f (Failed (HalfRefused why)) u is sized written small framed never refuses of =
-    rw of (record { frame = f; is_frame = framed; fits = rw (← is, ← sized) small; refuses = rw (← is, ← written) (refuses (HalfRefused why) refl) })
-refused_why out o k r fit size bytes f (Failed HalfNoMemory) u is sized written small framed never refuses of = rw of tt
+-- what has no written form isn't sent
+pub unfit : {O : Type 0} (out : OutboundTransform O) (o : O) (k limit : ℕ) (r : Response) (u : Unsent) → limit ≡ safe_limit out o → IsUnfit limit r u → IsUnsentFor out o k r u
+unfit out o k limit r (AboveLimit n) is why = subst (λ (m : ℕ). IsUnfit m r (AboveLimit n)) is why
+unfit out o k limit r (Unsealed text) is why = absurd why
+unfit out o k limit r NoMemory is why = tt
 
 -- what is within the limit isn't too long to be sent
-pub within_is_sent : (size len limit : ℕ) → size ≡ min len (2 ^ 32 - 1) → len < 2 ^ 32 → size ≤ limit → limit < len → ⊥
-within_is_sent size len limit is short small long = omega arith
+pub within_is_sent : (size len limit : ℕ) → size ≡ min len (2 ^ 32 - 1) → size ≤ limit → limit < 2 ^ 32 - 1 → limit < len → ⊥
+within_is_sent size len limit is small short long = omega (arith, is, small, short, long)
 
 -- what is told of a response that wasn't sent
 pub told_unsent : {O : Type 0} (out : OutboundTransform O) (o : O) (k : ℕ) (r : Response) (u : Unsent) (limit : ℕ) (told : Error)
@@ -97,28 +89,29 @@ told_unsent out o k r NoMemory limit told why is tells = inr (inr tells)
 -- ---- an answer ends its job
 
 -- a response was sent, and then its job forgotten
-pub answers_at : {O I : Type 0} (out : OutboundTransform O) (old : ServerCore O I) (id place k : ℕ) (r : Response) (t : Server) (outbox : Outbox O) (w : IsTakenAt old.state.jobs place id)
-    → old.connection.failure ≡ None → k ≡ w.job.header.stream_id → SendsSome out old.connection.outbox (Responds (safe_limit out old.connection.outbox.half) k r) outbox
-    → EndsOne old.state.jobs id w.job t.jobs → t ≡ record old.state { jobs = t.jobs }
+pub answers_at : {O I : Type 0} (out : OutboundTransform O) (old : ServerCore O I) (id : ℕ) (job : ActiveJob) (r : Response) (t : Server) (outbox : Outbox O)
+    → old.connection.failure ≡ None → SendsSome out old.connection.outbox (Responds (safe_limit out old.connection.outbox.half) job.header.stream_id r) outbox
+    → EndsOne old.state.jobs.list id job t.jobs.list → t ≡ with_list old.state t.jobs.list
     → Answers out old id r (record { state = t; connection = record old.connection { outbox = outbox } })
-answers_at out old id place k r t outbox w alive is some ends same = record {
+answers_at out old id job r t outbox alive some ends same = record {
   alive = alive;
-  job = w.job;
+  job = job;
   ends = ends;
   sent = some.0;
-  responds = subst (λ (n : ℕ). Responds (safe_limit out old.connection.outbox.half) n r some.0) is some.1;
+  responds = some.1;
   sends = some.2;
   same = ap (λ s. record { state = s; connection = record old.connection { outbox = outbox } }) same;
 }
 
 -- a handler's error: the job forgotten, and the connection failed
-pub drops_at : {O I : Type 0} (old : ServerCore O I) (id place : ℕ) (t : Server) (failure : Option Failure) (w : IsTakenAt old.state.jobs place id)
-    → old.connection.failure ≡ None → failure ≡ kept old.connection.failure HandlerError → EndsOne old.state.jobs id w.job t.jobs → t ≡ record old.state { jobs = t.jobs }
+pub drops_at : {O I : Type 0} (old : ServerCore O I) (id : ℕ) (job : ActiveJob) (t : Server) (failure : Option Failure)
+    → old.connection.failure ≡ None → failure ≡ kept old.connection.failure HandlerError
+    → EndsOne old.state.jobs.list id job t.jobs.list → t ≡ with_list old.state t.jobs.list
     → Drops old id (record { state = t; connection = record old.connection { failure = failure } })
-drops_at old id place t failure w alive fails ends same = record {
+drops_at old id job t failure alive fails ends same = record {
   alive = alive;
-  job = w.job;
+  job = job;
   ends = ends;
   same = ap (λ s. record { state = s; connection = record old.connection { failure = failure } }) same
-      ∙ ap (λ f. record (with_jobs old t.jobs) { connection = record old.connection { failure = f } }) (fails ∙ ap (λ f. kept f HandlerError) alive);
+      ∙ ap (λ f. record (with_jobs old t.jobs.list) { connection = record old.connection { failure = f } }) (fails ∙ ap (λ f. kept f HandlerError) alive);
 }

@@ -1,5 +1,5 @@
 -- What a frame, a job that is handed out, and an answer do to each stream id by itself.
-use Rattle.std.proofs.Common.{◌≡◌, ℕ, Bool, true, false, cond, nat_eq, ◌≢◌, ◌+◌, ◌≤◌, inl, inr, rules, refl, subst, length, arith, List, [], ◌∷◌, ◌++◌, None, Some, sym, ap, ◌∙◌}
+use Rattle.std.proofs.Common.{◌≡◌, ℕ, Bool, true, false, cond, nat_eq, ◌≢◌, inl, inr, rules, refl, arith, List, [], ◌∷◌, ◌++◌, None, sym, ap, ◌∙◌}
 use Rattle.std.proofs.lemmas.Bool.{eq-eqb}
 use Rattle.std.proofs.lemmas.List.{append-nil}
 use Rattle.std.proofs.lemmas.List.Elements.{filter-append}
@@ -8,11 +8,13 @@ use Rattle.ttrpc_server.specs.declared.job.Job.{Job}
 use Rattle.ttrpc_header.specs.declared.header.MessageHeader.{MessageHeader}
 use Rattle.ttrpc_proto.specs.declared.response.Response.{Response}
 use Rattle.ttrpc_secure.specs.declared.transform.OutboundTransform.{Ghosts as OutboundTransform}
-use Rattle.ttrpc_connection.specs.Frames.{Sent, safe_limit}
-use Rattle.ttrpc_server.specs.Server.{Server, jobs_at}
+use Rattle.ttrpc_connection.specs.Frames.{Sent}
+use Rattle.ttrpc_server.specs.Jobs.{EndsOne, HandsOne, NoneWaits, jobs_at}
+use Rattle.ttrpc_server.specs.Responses.{Refers}
+use Rattle.ttrpc_server.specs.Server.{Server}
 use Rattle.ttrpc_server.specs.Streams.{IsAnswered, made_by}
 use Rattle.ttrpc_server.specs.Table.{Row, Skipped, Tells, TellsOf, Known}
-use Rattle.ttrpc_server.specs.Happens.{Does, EndsOne, NoneWaits, HandsOne, Refers, Responds}
+use Rattle.ttrpc_server.specs.Happens.{Does}
 
 one_more_waits_not : (kept : Bool) (j : ActiveJob) (js : List ActiveJob) → j.request ≡ None → NoneWaits js → NoneWaits (cond kept (j ∷ js) js)
 one_more_waits_not true j js here none = (here, none)
@@ -55,19 +57,39 @@ other_job_goes front back job k apart =
     filter-append (λ j. nat_eq j.header.stream_id k) front (job ∷ back)
     ∙ ap (λ b. jobs_at front k ++ cond b (job ∷ jobs_at back k) (jobs_at back k)) f
 
+pub ended_by_its_stream : (old new : List ActiveJob) (id : ℕ) (job : ActiveJob) → EndsOne old id job new
+    → EndsOne (jobs_at old job.header.stream_id) id job (jobs_at new job.header.stream_id)
+ended_by_its_stream old new id job h =
+    let k = job.header.stream_id in
+    record {
+      at = record {
+        front = jobs_at h.at.front k;
+        back = jobs_at h.at.back k;
+        is = ap (λ jobs. jobs_at jobs k) h.at.is ∙ own_job_stays h.at.front h.at.back job k refl;
+        is_job = h.at.is_job;
+        taken = h.at.taken;
+      };
+      jobs = ap (λ jobs. jobs_at jobs k) h.jobs ∙ filter-append (λ j. nat_eq j.header.stream_id k) h.at.front h.at.back;
+    }
+
+pub ended_elsewhere : (old new : List ActiveJob) (id : ℕ) (job : ActiveJob) (k : ℕ) → EndsOne old id job new → k ≢ job.header.stream_id → jobs_at new k ≡ jobs_at old k
+ended_elsewhere old new id job k h apart =
+    ap (λ jobs. jobs_at jobs k) h.jobs ∙ filter-append (λ j. nat_eq j.header.stream_id k) h.at.front h.at.back
+    ∙ sym (ap (λ jobs. jobs_at jobs k) h.at.is ∙ other_job_goes h.at.front h.at.back job k apart)
+
 pub row_elsewhere : {O : Type 0} (out : OutboundTransform O) (row : Row) (old : Server) (o : O) (header : MessageHeader) (sent : List Sent) (new : Server) (k : ℕ) → Does out row old o header sent new
-    → k ≢ header.stream_id → jobs_at new.jobs k ≡ jobs_at old.jobs k
+    → k ≢ header.stream_id → jobs_at new.jobs.list k ≡ jobs_at old.jobs.list k
 row_elsewhere out Skipped old o header sent new k does apart = rw does.0 refl
 row_elsewhere out (Tells r) old o header sent new k does apart = rw does.0 refl
 row_elsewhere out (TellsOf code) old o header sent new k does apart = rw does.0 refl
-row_elsewhere out (Known request) old o header sent new k does apart = rw does.0 (other_job_goes old.jobs [] _ k apart ∙ append-nil (jobs_at old.jobs k))
+row_elsewhere out (Known request) old o header sent new k does apart = rw does.0 (other_job_goes old.jobs.list [] _ k apart ∙ append-nil (jobs_at old.jobs.list k))
 
 pub row_made : {O : Type 0} (out : OutboundTransform O) (row : Row) (old : Server) (o : O) (header : MessageHeader) (sent : List Sent) (new : Server) → Does out row old o header sent new
-    → jobs_at new.jobs header.stream_id ≡ made_by row header old.last_job (jobs_at old.jobs header.stream_id)
+    → jobs_at new.jobs.list header.stream_id ≡ made_by row header old.jobs.last (jobs_at old.jobs.list header.stream_id)
 row_made out Skipped old o header sent new does = rw does.0 refl
 row_made out (Tells r) old o header sent new does = rw does.0 refl
 row_made out (TellsOf code) old o header sent new does = rw does.0 refl
-row_made out (Known request) old o header sent new does = rw does.0 (own_job_stays old.jobs [] _ header.stream_id refl)
+row_made out (Known request) old o header sent new does = rw does.0 (own_job_stays old.jobs.list [] _ header.stream_id refl)
 
 none_sent : (k : ℕ) (sent : List Sent) → sent ≡ [] → IsAnswered k sent
 none_sent k sent none = rw none (record { own = tt; at_most_one = omega arith })

@@ -1,4 +1,5 @@
 -- The calls of a server core beside those of its connection.
+-- Source: this project's.
 use Rattle.std.specs.Prelude.{◌≡◌, ℕ, List, [], map, Option, Some, None}
 use Rattle.ttrpc_proto.specs.declared.response.Response.{Response}
 use Rattle.ttrpc_frame.specs.declared.outgoing.Queued.{Queued}

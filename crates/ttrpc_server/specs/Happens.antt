@@ -1,6 +1,6 @@
 -- What each call of a server core does.
 -- Source: PROTOCOL.md of ttrpc, "Request" and "Response".
-use Rattle.std.specs.Prelude.{◌≡◌, ℕ, ◌-◌, ◌^◌, List, [], Option, Some, None}
+use Rattle.std.specs.Prelude.{◌≡◌, ℕ, ◌-◌, ◌^◌, List, [], Some, None}
 use Rattle.ttrpc_header.specs.declared.header.MessageHeader.{MessageHeader}
 use Rattle.ttrpc_proto.specs.declared.request.Request.{Request}
 use Rattle.ttrpc_proto.specs.declared.response.Response.{Response}
@@ -18,7 +18,7 @@ use Rattle.ttrpc_server.specs.declared.rules.Rules.{Rules}
 use Rattle.ttrpc_server.specs.declared.server.ServerCore.{ServerCore}
 use Rattle.ttrpc_server.specs.Jobs.{EndsOne, HandsOne, with_job}
 use Rattle.ttrpc_server.specs.Responses.{IsStatusResponse, Refers, Responds}
-use Rattle.ttrpc_server.specs.Server.{Server, new_server}
+use Rattle.ttrpc_server.specs.Server.{Server, new_server, with_list}
 use Rattle.ttrpc_server.specs.Table.{Row, Skipped, Tells, TellsOf, Known, row_of}
 
 -- ---- a frame acts
@@ -54,7 +54,7 @@ new_core rules services outbound inbound = record { state = new_server rules ser
 
 -- the core with these jobs
 abbrev pub with_jobs : {O I : Type 0} → ServerCore O I → List ActiveJob → ServerCore O I
-with_jobs c jobs = record c { state = record c.state { jobs = record c.state.jobs { list = jobs } } }
+with_jobs c jobs = record c { state = with_list c.state jobs }
 
 pub record Hands {O I : Type 0} (old : ServerCore O I) (handed : Job) (new : ServerCore O I) : Type 0 where
   pub alive : old.connection.failure ≡ None

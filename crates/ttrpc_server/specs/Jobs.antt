@@ -1,6 +1,6 @@
 -- The jobs of a server that weren't answered.
 -- Source: PROTOCOL.md of ttrpc, "Request" and "Response".
-use Rattle.std.specs.Prelude.{◌≡◌, ◌≢◌, ◌<◌, ◌≤◌, ℕ, ◌+◌, List, [], ◌∷◌, ◌++◌, filter, nat_eq, Option, Some, None, is_some, Bool}
+use Rattle.std.specs.Prelude.{◌≡◌, ◌≢◌, ◌<◌, ◌≤◌, ℕ, ◌+◌, List, [], ◌∷◌, ◌++◌, filter, nat_eq, Some, None, is_some, Bool}
 use Rattle.std.specs.List.{AllByRecursion}
 use Rattle.ttrpc_header.specs.declared.header.MessageHeader.{MessageHeader}
 use Rattle.ttrpc_proto.specs.declared.request.Request.{Request}

@@ -1,10 +1,11 @@
 -- What a frame does to one stream id by itself.
--- Source: PROTOCOL.md of ttrpc, on stream ids.
-use Rattle.std.specs.Prelude.{◌≡◌, ◌≤◌, ℕ, ◌+◌, List, [], ◌∷◌, ◌++◌, length, Some}
+-- Source: PROTOCOL.md of ttrpc, "Message Frame".
+use Rattle.std.specs.Prelude.{◌≡◌, ◌≤◌, ℕ, ◌+◌, List, [], ◌∷◌, ◌++◌, length}
 use Rattle.std.specs.List.{AllByRecursion}
 use Rattle.ttrpc_header.specs.declared.header.MessageHeader.{MessageHeader}
 use Rattle.ttrpc_connection.specs.Frames.{Sent}
 use Rattle.ttrpc_server.specs.declared.job.ActiveJob.{ActiveJob}
+use Rattle.ttrpc_server.specs.Jobs.{new_job}
 use Rattle.ttrpc_server.specs.Table.{Row, Skipped, Tells, TellsOf, Known}
 
 -- The jobs of the frame's own stream id after it: those of before, and behind them the one that its row makes, whose id
@@ -13,7 +14,7 @@ abbrev pub made_by : Row → MessageHeader → ℕ → List ActiveJob → List A
 made_by Skipped header last before = before
 made_by (Tells response) header last before = before
 made_by (TellsOf code) header last before = before
-made_by (Known request) header last before = before ++ record { id = last + 1; header = header; request = Some request } ∷ []
+made_by (Known request) header last before = before ++ new_job (last + 1) header request ∷ []
 
 -- at most one frame was sent, under this stream id
 pub record IsAnswered (k : ℕ) (sent : List Sent) : Type 0 where

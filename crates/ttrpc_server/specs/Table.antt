@@ -17,9 +17,10 @@ use Rattle.ttrpc_secure.specs.declared.transform.OutboundTransform.{Ghosts as Ou
 use Rattle.ttrpc_connection.specs.declared.arrived.Arrived.{Arrived}
 use Rattle.ttrpc_connection.specs.declared.arrived.Opening.{Opening}
 use Rattle.ttrpc_connection.specs.declared.arrived.Opening.TheVariants.{TooLong, Opened, Refused}
-use Rattle.ttrpc_connection.specs.Failure.{IsTold, unsafe_payload_text, unsealed_text}
+use Rattle.ttrpc_connection.specs.Failure.{IsTold}
 use Rattle.ttrpc_connection.specs.Feeds.{IsFailed}
 use Rattle.ttrpc_connection.specs.Frames.{safe_limit}
+use Rattle.ttrpc_connection.specs.Texts.{unsafe_payload_text, unsealed_text}
 use Rattle.ttrpc_server.specs.declared.job.ActiveJob.{ActiveJob}
 use Rattle.ttrpc_server.specs.declared.registry.ServiceNames.{ServiceNames}
 use Rattle.ttrpc_server.specs.declared.server.ServerCore.{ServerCore}

@@ -1,7 +1,7 @@
 //! The jobs of a server that weren't answered, found by their ids.
-ghost use Rattle.std.specs.Prelude.{◌≡◌, IfErr, IfSome, IfNone, OnOk, filter, length};
+ghost use Rattle.std.specs.Prelude.{◌≡◌, ◌-◌, IfErr, IfSome, IfNone, OnOk, filter, length};
 ghost use Rattle.ttrpc_server.specs.declared.job.ActiveJob.{ActiveJob as AJob};
-ghost use Rattle.ttrpc_server.specs.Jobs.{EndsOne, HandsOne, IsTaken, IsUnknown, NoneWaits, no_jobs, waits, with_job};
+ghost use Rattle.ttrpc_server.specs.Jobs.{EndsOne, HandsOne, IsTaken, IsUnknown, NoneWaits, Rising, no_jobs, waits, with_job};
 ghost use Rattle.ttrpc_server.specs.Inside.{FailsToMake};
 
 use crate::job::{ActiveJob, Job, JobId};
@@ -28,7 +28,7 @@ impl Model for Jobs {
 
     ghost Value = { JobList };
 
-    ghost view = { λ a. record { last = a.last; jobs = values_of a.jobs.entries } };
+    ghost view = { λ a. record { last = a.last; list = values_of a.jobs.entries } };
 
     ghost invariant = { λ a. AreJobs a.handed a.last a.jobs.entries };
 }
@@ -68,8 +68,8 @@ impl Jobs {
 
     /// Hands out the first job that waits. Takes no memory.
     pub fn hand_out(&mut self) -> Option<Job>
-        ensures given { IfSome result (λ job. HandsOne self.old.jobs job self.new.jobs) }
-        ensures none { IfNone result ((self.new ≡ self.old) × NoneWaits self.old.jobs) }
+        ensures given { IfSome result (λ job. HandsOne self.old.list job self.new.list) }
+        ensures none { IfNone result ((self.new ≡ self.old) × NoneWaits self.old.list) }
         ensures last { self.new.last ≡ self.old.last }
     {
         if self.handed == self.last {
@@ -97,8 +97,8 @@ impl Jobs {
 
     /// The stream's id of the job of this id, if it was taken. Takes no memory.
     pub fn stream_of(&self, id: JobId) -> Option<u32>
-        ensures some { IfSome result (λ k. (job : AJob) × IsTaken self.now.jobs id job × (k ≡ job.header.stream_id)) }
-        ensures none { IfNone result (IsUnknown self.now.jobs id) }
+        ensures some { IfSome result (λ k. (job : AJob) × IsTaken self.now.list id job × (k ≡ job.header.stream_id)) }
+        ensures none { IfNone result (IsUnknown self.now.list id) }
     {
         match self.jobs.get(&id) {
             Some(job) if job.request.is_none() => Some(job.header.stream_id),
@@ -108,8 +108,8 @@ impl Jobs {
 
     /// Forgets the job of this id, which was taken. Takes no memory.
     pub fn end(&mut self, id: JobId)
-        requires { (job : AJob) × IsTaken self.old.jobs id job }
-        ensures ended { (job : AJob) → IsTaken self.old.jobs id job → EndsOne self.old.jobs id job self.new.jobs }
+        requires { (job : AJob) × IsTaken self.old.list id job }
+        ensures ended { (job : AJob) → IsTaken self.old.list id job → EndsOne self.old.list id job self.new.list }
         ensures last { self.new.last ≡ self.old.last }
     {
         let _ = self.jobs.remove(&id);
@@ -117,15 +117,18 @@ impl Jobs {
 
     /// How many jobs wait to be handed out. Takes no memory.
     pub fn waiting(&self) -> u64
-        ensures { result ≡ length (filter waits self.now.jobs) }
+        ensures count { result ≡ length (filter waits self.now.list) }
+
+        // The ids of jobs rise, and none is above the last that was made.
+        ensures rise { Rising 0 self.now.list self.now.last }
     {
         self.last - self.handed
     }
 
-    /// How many jobs were made and not answered. Takes no memory.
-    pub fn active(&self) -> usize
-        ensures { result ≡ length self.now.jobs }
+    /// How many jobs were taken and not answered yet. Takes no memory.
+    pub fn taken(&self) -> u64
+        ensures { result ≡ length self.now.list - length (filter waits self.now.list) }
     {
-        self.jobs.len()
+        self.jobs.len() as u64 - self.waiting()
     }
 }

@@ -11,8 +11,9 @@ ghost use Rattle.ttrpc_connection.specs.Frames.{Sent};
 ghost use Rattle.ttrpc_server.specs.declared.job.ActiveJob.{ActiveJob as AJob};
 ghost use Rattle.ttrpc_server.specs.declared.job.Job.{Job as AHandedJob};
 ghost use Rattle.ttrpc_server.specs.Calls.{Served, served};
-ghost use Rattle.ttrpc_server.specs.Happens.{EndsOne, HandsOne, serves, serving};
-ghost use Rattle.ttrpc_server.specs.Server.{Server, Rising, jobs_at};
+ghost use Rattle.ttrpc_server.specs.Happens.{serves, serving};
+ghost use Rattle.ttrpc_server.specs.Jobs.{EndsOne, HandsOne, Rising, jobs_at};
+ghost use Rattle.ttrpc_server.specs.Server.{Server};
 ghost use Rattle.ttrpc_server.specs.Streams.{IsAnswered, made_by};
 ghost use Rattle.ttrpc_server.specs.Table.{row_of};
 
@@ -23,10 +24,10 @@ use ttrpc_secure::{InboundTransform, OutboundTransform};
 /// alone, as if there were no other.
 pub fn streams_stand_by_themselves<O: OutboundTransform>()
     ensures frame_elsewhere { (old new : Server) (o : O) (a : AFrame) (sent : List Sent) (k : ℕ) → serves O.OutboundTransform old o a sent new
-        → k ≢ a.header.stream_id → jobs_at new.jobs k ≡ jobs_at old.jobs k }
+        → k ≢ a.header.stream_id → jobs_at new.jobs.list k ≡ jobs_at old.jobs.list k }
     ensures frame { (old new : Server) (o : O) (a : AFrame) (sent : List Sent) → serves O.OutboundTransform old o a sent new
-        → jobs_at new.jobs a.header.stream_id
-        ≡ made_by (row_of old a) a.header old.last_job (jobs_at old.jobs a.header.stream_id) }
+        → jobs_at new.jobs.list a.header.stream_id
+        ≡ made_by (row_of old a) a.header old.jobs.last (jobs_at old.jobs.list a.header.stream_id) }
     ensures own_answer { (old new : Server) (o : O) (a : AFrame) (sent : List Sent) → serves O.OutboundTransform old o a sent new
         → IsAnswered a.header.stream_id sent }
     ensures taken_elsewhere { (old new : List AJob) (handed : AHandedJob) (k : ℕ) → HandsOne old handed new
@@ -43,7 +44,7 @@ pub fn streams_stand_by_themselves<O: OutboundTransform>()
 /// the least id of those that wait.
 pub fn job_ids_rise<O: OutboundTransform>()
     ensures frames { (old new : Server) (o : O) (a : AFrame) (sent : List Sent) → serves O.OutboundTransform old o a sent new
-        → Rising 0 old.jobs old.last_job → Rising 0 new.jobs new.last_job }
+        → Rising 0 old.jobs.list old.jobs.last → Rising 0 new.jobs.list new.jobs.last }
     ensures taken { (old new : List AJob) (last : ℕ) (handed : AHandedJob) → HandsOne old handed new → Rising 0 old last → Rising 0 new last }
     ensures answered { (old new : List AJob) (last id : ℕ) (job : AJob) → EndsOne old id job new → Rising 0 old last → Rising 0 new last }
     ensures least { (old new : List AJob) (handed : AHandedJob) (low high : ℕ) → HandsOne old handed new → Rising low old high

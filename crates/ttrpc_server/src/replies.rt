@@ -1,20 +1,19 @@
 //! How a response is sent: fitted to the limit, in a frame of its own; and why it isn't.
-ghost use Rattle.std.specs.Prelude.{◌≡◌, IfOk, IfErr, OnOk};
+ghost use Rattle.std.specs.Prelude.{◌≡◌, ◌≤◌, IfOk, IfErr, OnOk};
 ghost use Rattle.ttrpc_connection.specs.Frames.{safe_limit};
-ghost use Rattle.ttrpc_server.specs.Happens.{fitted, IsResponseFrame, Refers, Responds};
-ghost use Rattle.ttrpc_server.specs.Inside.{IsOf, IsUnsentFor, SendsSome, TellsUnsent};
+ghost use Rattle.ttrpc_server.specs.Responses.{fitted, IsResponseFrame, Refers, Responds, response_bytes, response_size};
+ghost use Rattle.ttrpc_server.specs.Inside.{IsUnfit, IsUnsentFor, SendsSome, TellsUnsent};
 
-use crate::responses::{limit_response, unsafe_payload_error, unsealed_error};
+use crate::responses::limit_response;
 use std::alloc::{AllocError, Global};
-use ttrpc_connection::{Failure, Outbox};
-use ttrpc_frame::Queued;
-use ttrpc_secure::{OutboundTransform, SendError, TransformError};
 use ttrpc_codec::Codec;
+use ttrpc_connection::{Failure, Outbox, unsafe_payload_error, unsealed_error};
 use ttrpc_error::Error;
-use ttrpc_frame::GenMessage;
-use ttrpc_header::MessageHeader;
+use ttrpc_frame::{GenMessage, Queued};
+use ttrpc_header::{MESSAGE_LENGTH_MAX, MessageHeader};
 use ttrpc_proto::Response;
-use ttrpc_values::{Blob, Text};
+use ttrpc_secure::{OutboundTransform, SendError, TransformError};
+use ttrpc_values::{Blob, CodecError, Text};
 
 /// Why a response wasn't sent.
 #[derive(Debug, Drop)]
@@ -51,26 +50,36 @@ impl Unsent {
     }
 }
 
-/// Why a response of this many bytes wasn't sent, where that was refused for this reason.
-pub fn unsent_of(size: usize, error: SendError) -> Unsent
-    ensures { IsOf size error result }
-{
-    match error {
-        SendError::TooLong => Unsent::AboveLimit(size),
-        SendError::Failed(TransformError::Refused(why)) => Unsent::Unsealed(why),
-        SendError::Failed(TransformError::NoMemory) => Unsent::NoMemory,
-    }
-}
-
-/// The response, or one that says that it has more bytes than the limit.
-pub fn fit(alloc: Global, limit: usize, response: Response) -> Result<Response, AllocError>
-    ensures { IfOk result (λ r. r ≡ fitted limit response) }
+/// The written form of the response, or of one that says that it has more bytes than the limit.
+fn fitted_bytes(alloc: Global, limit: usize, response: &Response) -> Result<Vec<u8>, Unsent>
+    requires { limit ≤ MESSAGE_LENGTH_MAX }
+    ensures ok { IfOk result (λ bytes. (bytes.items ≡ response_bytes (fitted limit response.now))
+        × (response_size (fitted limit response.now) ≤ limit)) }
+    ensures err { IfErr result (IsUnfit limit response.now) }
 {
     let size = response.size() as usize;
     if size <= limit {
-        return Ok(response);
+        return encoded(alloc, response);
     }
-    limit_response(alloc, size, limit)
+    let instead = limit_response(alloc, size, limit)?;
+    let size = instead.size() as usize;
+    if size > limit {
+        return Err(Unsent::AboveLimit(size));
+    }
+    encoded(alloc, &instead)
+}
+
+/// The written form of a response that is no longer than a message may be.
+fn encoded(alloc: Global, response: &Response) -> Result<Vec<u8>, Unsent>
+    requires { response_size response.now ≤ MESSAGE_LENGTH_MAX }
+    ensures ok { IfOk result (λ bytes. bytes.items ≡ response_bytes response.now) }
+    ensures err { IfErr result (λ unsent. unsent ≡ Unsent.NoMemory) }
+{
+    match response.encode(alloc) {
+        Ok(bytes) => Ok(bytes),
+        Err(CodecError::NoMemory) => Err(Unsent::NoMemory),
+        Err(_) => unreachable!(),
+    }
 }
 
 /// The frame that carries a response, without its payload. It is nobody's, since responses aren't thrown away.
@@ -93,26 +102,20 @@ pub fn respond<O: OutboundTransform + Drop>(
     alloc: Global,
     outbox: &mut Outbox<O>,
     stream_id: u32,
-    response: Response,
+    response: &Response,
 ) -> Result<(), Unsent>
     ensures ok { OnOk result (SendsSome O.OutboundTransform outbox.old
-        (Responds (safe_limit O.OutboundTransform outbox.old.half) stream_id response) outbox.new) }
+        (Responds (safe_limit O.OutboundTransform outbox.old.half) stream_id response.now) outbox.new) }
     ensures err { IfErr result (λ unsent. (outbox.new ≡ outbox.old)
-        × IsUnsentFor O.OutboundTransform outbox.old.half stream_id response unsent) }
+        × IsUnsentFor O.OutboundTransform outbox.old.half stream_id response.now unsent) }
 {
-    let limit = outbox.limit();
-    let response = fit(alloc, limit, response)?;
-    let size = response.size() as usize;
-    if size > limit {
-        return Err(Unsent::AboveLimit(size));
-    }
-    let Ok(bytes) = response.encode(alloc) else {
-        return Err(Unsent::NoMemory);
-    };
+    let bytes = fitted_bytes(alloc, outbox.limit(), response)?;
     let frame = response_frame(alloc, stream_id);
     match outbox.send(alloc, frame, bytes.as_slice()) {
         Ok(()) => Ok(()),
-        Err(error) => Err(unsent_of(size, error)),
+        Err(SendError::Failed(TransformError::Refused(why))) => Err(Unsent::Unsealed(why)),
+        Err(SendError::Failed(TransformError::NoMemory)) => Err(Unsent::NoMemory),
+        Err(SendError::TooLong) => unreachable!(),
     }
 }
 
@@ -121,10 +124,10 @@ pub fn refer<O: OutboundTransform + Drop>(
     alloc: Global,
     outbox: &mut Outbox<O>,
     stream_id: u32,
-    response: Response,
+    response: &Response,
 ) -> Result<(), Failure>
     ensures ok { OnOk result (SendsSome O.OutboundTransform outbox.old
-        (Refers O.OutboundTransform outbox.old.half stream_id response) outbox.new) }
+        (Refers O.OutboundTransform outbox.old.half stream_id response.now) outbox.new) }
     ensures err { IfErr result (λ failure. (outbox.new ≡ outbox.old) × (failure ≡ Failure.NoMemory)) }
 {
     match respond(alloc, outbox, stream_id, response) {

@@ -1,14 +1,15 @@
-//! The answers that a core gives by itself, and the errors by which it refuses an answer.
-ghost use Rattle.std.specs.Prelude.{◌≡◌, codes, string_bytes, IfOk, MatchResult};
+//! The answers that a core gives by itself, and the error for an answer to no job.
+ghost use Rattle.std.specs.Prelude.{◌≡◌, codes, string_bytes, IfOk};
 ghost use Rattle.ttrpc_error.specs.Oversize.{oversize_text};
 ghost use Rattle.ttrpc_connection.specs.Failure.{IsTold};
-ghost use Rattle.ttrpc_server.specs.Responses.{status_response, IsStatusResponse, path_text, unopened_text, limit_text, unsafe_payload_text, unsealed_text};
+ghost use Rattle.ttrpc_server.specs.Responses.{status_response, IsStatusResponse, limit_text};
+ghost use Rattle.ttrpc_server.specs.Table.{path_text, unopened_text};
 
 use std::alloc::{AllocError, Global};
+use ttrpc_connection::others_error;
 use ttrpc_error::{Error, get_status, oversize_message};
 use ttrpc_proto::{Response, ResponseInit};
-use ttrpc_values::Code;
-use ttrpc_values::{CodecError, Text};
+use ttrpc_values::{Code, CodecError, Text};
 
 /// The answer to a message that is longer than a message may be.
 pub fn oversize_response(alloc: Global, length: usize) -> Result<Response, AllocError>
@@ -57,43 +58,15 @@ pub fn limit_response(alloc: Global, length: usize, limit: usize) -> Result<Resp
     Ok(response_of(alloc, Code::INVALID_ARGUMENT, text))
 }
 
-/// The error for a payload that may become longer than a message may be, or `NoMemory` where memory for its text was
-/// refused.
-pub fn unsafe_payload_error(alloc: Global, length: usize, limit: usize) -> Error
-    ensures { IsTold (Error.Others (unsafe_payload_text length limit)) result }
-{
-    others(format!(in alloc;
-        "payload {length} bytes exceeds safe limit {limit} bytes (MESSAGE_LENGTH_MAX - transform overhead)"
-    ))
-}
-
-/// The error for a payload that the outbound half didn't seal, for this reason, or `NoMemory` where memory for its
-/// text was refused.
-pub fn unsealed_error(alloc: Global, why: &Text) -> Error
-    ensures { IsTold (Error.Others (unsealed_text why.now)) result }
-{
-    others(format!(in alloc; "transform_outbound failed: {}", why.as_str()))
-}
-
 /// The error for an answer to a job that isn't there, or `NoMemory` where memory for its text was refused.
 pub fn unknown_job_error(alloc: Global) -> Error
     ensures { IsTold (Error.Others (codes "unknown job")) result }
 {
-    others(String::from_str(alloc, "unknown job"))
+    others_error(String::from_str(alloc, "unknown job"))
 }
 
 fn response_of(alloc: Global, code: Code, text: String) -> Response
     ensures { result ≡ status_response code (string_bytes text) }
 {
     Response::init_status(alloc, get_status(code, text))
-}
-
-fn others(text: Result<String, AllocError>) -> Error
-    ensures { MatchResult text (λ made. result ≡ Error.Others (string_bytes made))
-        (λ _. result ≡ Error.NoMemory) }
-{
-    match text {
-        Ok(text) => Error::Others(Text::from_string(text)),
-        Err(refused) => refused.into(),
-    }
 }

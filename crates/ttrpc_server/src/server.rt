@@ -1,13 +1,16 @@
 //! The core of a server: frames in, jobs and responses out.
-ghost use Rattle.std.specs.Prelude.{◌≡◌, ◌≢◌, ◌<◌, ◌≤◌, ◌↔◌, ◌⊎◌, ℕ, [], MatchBool, true, length, take, drop, min, is_some, if◌then◌else◌, IfOk, IfErr, OnOk, OnErr, IfSome, IfNone, Ok, Err, Some, None};
+ghost use Rattle.std.specs.Prelude.{◌≡◌, ◌≢◌, ◌<◌, ◌≤◌, ◌-◌, ◌↔◌, ◌⊎◌, ℕ, List, [], filter, MatchBool, true, length, take, drop, min, is_some, if◌then◌else◌, IfOk, IfErr, OnOk, OnErr, IfSome, IfNone, Ok, Err, Some, None};
 ghost use Rattle.ttrpc_error.specs.declared.error.Error.{Error as AnError};
 ghost use Rattle.ttrpc_proto.specs.declared.response.Response.{Response as AResponse};
-ghost use Rattle.ttrpc_frame.specs.Frames.{nothing};
+ghost use Rattle.ttrpc_frame.specs.Frames.{Holds, nothing};
 ghost use Rattle.ttrpc_frame.specs.Queue.{open_part, unsent, with_lent, after_report};
 ghost use Rattle.ttrpc_connection.specs.declared.failure.Failure.{Failure as AFailure};
 ghost use Rattle.ttrpc_connection.specs.Failure.{IsTold, error_of, kept};
 ghost use Rattle.ttrpc_connection.specs.Feeds.{Breaks, Feeds, FeedsFront, IsFailed};
-ghost use Rattle.ttrpc_server.specs.Happens.{Answers, Drops, Hands, IsTakenAt, IsUnknown, IsUnsent, NoneWaits, RefusesAnswer, new_core, serving};
+ghost use Rattle.ttrpc_server.specs.declared.job.ActiveJob.{ActiveJob as AJob};
+ghost use Rattle.ttrpc_server.specs.Happens.{Answers, Drops, Hands, new_core, serving};
+ghost use Rattle.ttrpc_server.specs.Jobs.{IsTaken, IsUnknown, NoneWaits, Rising, waits};
+ghost use Rattle.ttrpc_server.specs.Table.{IsUnsent, RefusesAnswer};
 
 use crate::job::{Job, JobId};
 use crate::registry::Registry;
@@ -17,9 +20,9 @@ use crate::rules::Rules;
 use crate::state::ServerState;
 use std::alloc::Global;
 use ttrpc_connection::{Connection, Failure};
-use ttrpc_secure::{InboundTransform, OutboundTransform};
 use ttrpc_error::Error;
 use ttrpc_proto::Response;
+use ttrpc_secure::{InboundTransform, OutboundTransform};
 
 /// The core of a server, over its connection's two halves.
 #[derive(Drop)]
@@ -70,7 +73,8 @@ impl<O: OutboundTransform + Drop, I: InboundTransform + Drop> ServerCore<O, I> {
 
     /// Whether nothing of a frame has come that isn't whole. Takes no memory.
     pub fn at_boundary(&self) -> bool
-        ensures { (result ≡ true) ↔ (self.now.connection.decoder ≡ nothing) }
+        ensures nothing { (result ≡ true) ↔ (self.now.connection.decoder ≡ nothing) }
+        ensures held { (rest : List ℕ) × Holds self.now.connection.decoder rest }
     {
         self.connection.at_boundary()
     }
@@ -80,7 +84,7 @@ impl<O: OutboundTransform + Drop, I: InboundTransform + Drop> ServerCore<O, I> {
     pub fn take_job(&mut self) -> Option<Job>
         ensures handed { IfSome result (λ job. Hands self.old job self.new) }
         ensures none { IfNone result ((self.new ≡ self.old)
-            × (self.old.connection.failure ≡ None → NoneWaits self.old.state.jobs)) }
+            × (self.old.connection.failure ≡ None → NoneWaits self.old.state.jobs.list)) }
     {
         if self.connection.has_failed() {
             return None;
@@ -90,26 +94,26 @@ impl<O: OutboundTransform + Drop, I: InboundTransform + Drop> ServerCore<O, I> {
 
     /// Answers a job that was taken: its response is queued, and it is gone. One whose response is above the half's
     /// limit is answered by a status that says so. A handler's error ends its job and fails the connection. A refusal
-    /// changes nothing.
+    /// changes nothing, and its caller still has the response.
     pub fn answer(
         &mut self,
         alloc: Global,
         id: JobId,
-        response: Result<Response, Error>,
+        response: &Result<Response, Error>,
     ) -> Result<(), Error>
-        ensures answered { (r : AResponse) → response ≡ Ok r → OnOk result (Answers O.OutboundTransform self.old id r self.new) }
-        ensures handler_failed { (e : AnError) → response ≡ Err e → OnOk result (Drops self.old id self.new) }
-        ensures refused { IfErr result (RefusesAnswer O.OutboundTransform self.old id response) }
+        ensures answered { (r : AResponse) → response.now ≡ Ok r → OnOk result (Answers O.OutboundTransform self.old id r self.new) }
+        ensures handler_failed { (e : AnError) → response.now ≡ Err e → OnOk result (Drops self.old id self.new) }
+        ensures refused { IfErr result (RefusesAnswer O.OutboundTransform self.old id response.now) }
         ensures err { OnErr result (self.new ≡ self.old) }
     {
         self.connection.check_alive(alloc)?;
-        let Some(place) = self.state.taken_at(id) else {
+        let Some(stream_id) = self.state.jobs().stream_of(id) else {
             return Err(unknown_job_error(alloc));
         };
         match response {
-            Ok(response) => self.answer_at(alloc, place, response),
+            Ok(response) => self.answer_under(alloc, id, stream_id, response),
             Err(_) => {
-                self.state.end(place);
+                self.state.end(id);
                 self.connection.fail(Failure::HandlerError);
                 Ok(())
             }
@@ -119,13 +123,25 @@ impl<O: OutboundTransform + Drop, I: InboundTransform + Drop> ServerCore<O, I> {
     /// Whether the job of this number was taken and not answered yet. Takes no memory.
     pub fn awaits_answer(&self, id: JobId) -> bool
         ensures { MatchBool result
-            ((place : ℕ) × IsTakenAt self.now.state.jobs place id)
-            (IsUnknown self.now.state.jobs id) }
+            ((job : AJob) × IsTaken self.now.state.jobs.list id job)
+            (IsUnknown self.now.state.jobs.list id) }
     {
-        match self.state.taken_at(id) {
-            Some(_) => true,
-            None => false,
-        }
+        self.state.jobs().stream_of(id).is_some()
+    }
+
+    /// How many jobs wait to be handed out. Takes no memory.
+    pub fn jobs_waiting(&self) -> u64
+        ensures count { result ≡ length (filter waits self.now.state.jobs.list) }
+        ensures rise { Rising 0 self.now.state.jobs.list self.now.state.jobs.last }
+    {
+        self.state.jobs().waiting()
+    }
+
+    /// How many jobs were taken and not answered yet. Takes no memory.
+    pub fn jobs_taken(&self) -> u64
+        ensures { result ≡ length self.now.state.jobs.list - length (filter waits self.now.state.jobs.list) }
+    {
+        self.state.jobs().taken()
     }
 
     /// The input ended: the connection fails, if it hasn't. Takes no memory.
@@ -187,6 +203,13 @@ impl<O: OutboundTransform + Drop, I: InboundTransform + Drop> ServerCore<O, I> {
         self.connection.wrote(n)
     }
 
+    /// Whether anything is left to be written, which it won't be after a failure. Takes no memory.
+    pub fn has_unsent(&self) -> bool
+        ensures { (result ≡ true) ↔ (unsent self.now.connection.outbox.queue ≢ []) }
+    {
+        self.connection.has_unsent()
+    }
+
     /// How many bytes the last `lend` since the last report gave.
     pub fn lent(&self) -> usize
         ensures { result ≡ self.now.connection.outbox.queue.lent }
@@ -194,19 +217,24 @@ impl<O: OutboundTransform + Drop, I: InboundTransform + Drop> ServerCore<O, I> {
         self.connection.lent()
     }
 
-    /// Answers the job that stands at this place, which was taken. A refusal changes nothing.
-    fn answer_at(&mut self, alloc: Global, place: usize, response: Response) -> Result<(), Error>
+    /// Answers the job of this id, which was taken and has this stream's id. A refusal changes nothing.
+    fn answer_under(
+        &mut self,
+        alloc: Global,
+        id: JobId,
+        stream_id: u32,
+        response: &Response,
+    ) -> Result<(), Error>
         requires alive { self.old.connection.failure ≡ None }
-        requires taken { (id : ℕ) × IsTakenAt self.old.state.jobs place id }
-        ensures answered { (id : ℕ) → IsTakenAt self.old.state.jobs place id → OnOk result (Answers O.OutboundTransform self.old id response self.new) }
-        ensures refused { (id : ℕ) → (at : IsTakenAt self.old.state.jobs place id) → IfErr result (IsUnsent
-            O.OutboundTransform self.old.connection.outbox.half at.job.header.stream_id response) }
+        requires taken { (job : AJob) × IsTaken self.old.state.jobs.list id job × (stream_id ≡ job.header.stream_id) }
+        ensures answered { OnOk result (Answers O.OutboundTransform self.old id response.now self.new) }
+        ensures refused { IfErr result (IsUnsent
+            O.OutboundTransform self.old.connection.outbox.half stream_id response.now) }
         ensures err { OnErr result (self.new ≡ self.old) }
     {
-        let stream_id = self.state.stream_at(place);
         match respond(alloc, &mut self.connection.outbox, stream_id, response) {
             Ok(()) => {
-                self.state.end(place);
+                self.state.end(id);
                 Ok(())
             }
             Err(unsent) => Err(unsent.error(alloc, self.connection.outbox.limit())),

@@ -1,22 +1,25 @@
 //! What a server core is beside its connection, and how a whole frame acts on it.
-ghost use Rattle.std.specs.Prelude.{◌≡◌, ◌≢◌, ℕ, IfErr, IfSome, IfNone, MatchBool, OnOk, Some};
-ghost use Rattle.ttrpc_server.specs.Server.{new_server};
-ghost use Rattle.ttrpc_server.specs.Table.{Known, request_row, sync_row};
-ghost use Rattle.ttrpc_server.specs.Happens.{Does, EndsOne, HandsOne, IsTakenAt, IsUnknown, NoneWaits, with_job};
+ghost use Rattle.std.specs.Prelude.{◌≡◌, IfErr, IfSome, IfNone, OnOk, Some};
+ghost use Rattle.ttrpc_server.specs.declared.job.ActiveJob.{ActiveJob as AJob};
+ghost use Rattle.ttrpc_server.specs.Happens.{Does};
 ghost use Rattle.ttrpc_server.specs.Inside.{FailsOn, SendsSome};
+ghost use Rattle.ttrpc_server.specs.Jobs.{EndsOne, HandsOne, IsTaken, NoneWaits};
+ghost use Rattle.ttrpc_server.specs.Server.{new_server, with_list};
+ghost use Rattle.ttrpc_server.specs.Table.{request_row, sync_row};
 
-use crate::job::{ActiveJob, Job, JobId, hand_out, taken_at};
+use crate::job::{Job, JobId};
+use crate::jobs::Jobs;
 use crate::registry::Registry;
 use crate::replies::refer;
 use crate::responses::{oversize_response, path_response, unopened_response, unreadable_response};
 use crate::rules::Rules;
 use std::alloc::Global;
 use std::marker::Model;
-use ttrpc_connection::{Arrived, Failure, Opening, Outbox, Reacts};
-use ttrpc_secure::OutboundTransform;
 use ttrpc_codec::Codec;
+use ttrpc_connection::{Arrived, Failure, Opening, Outbox, Reacts};
 use ttrpc_header::{MESSAGE_LENGTH_MAX, MESSAGE_TYPE_REQUEST, MessageHeader};
 use ttrpc_proto::Request;
+use ttrpc_secure::OutboundTransform;
 use ttrpc_values::CodecError;
 
 /// The jobs of a server, and what decides which frames become jobs.
@@ -24,8 +27,7 @@ use ttrpc_values::CodecError;
 pub struct ServerState {
     rules: Rules,
     registry: Registry,
-    last_job: JobId,
-    jobs: Vec<ActiveJob>,
+    jobs: Jobs,
 }
 
 impl Model for ServerState {
@@ -33,12 +35,7 @@ impl Model for ServerState {
 
     ghost Value = { Server };
 
-    ghost view = { λ a. record {
-      rules = a.rules;
-      services = a.registry.services;
-      last_job = a.last_job;
-      jobs = a.jobs.items;
-    } };
+    ghost view = { λ a. record { rules = a.rules; services = a.registry.services; jobs = a.jobs } };
 }
 
 impl ServerState {
@@ -49,43 +46,33 @@ impl ServerState {
         ServerState {
             rules,
             registry,
-            last_job: 0,
-            jobs: Vec::new(alloc),
+            jobs: Jobs::new(alloc),
         }
+    }
+
+    /// The jobs that weren't answered.
+    pub fn jobs(&self) -> &Jobs
+        ensures { result.now ≡ self.now.jobs }
+    {
+        &self.jobs
     }
 
     /// Hands out the first job that waits. Takes no memory.
     pub fn hand_out(&mut self) -> Option<Job>
-        ensures given { IfSome result (λ job. HandsOne self.old.jobs job self.new.jobs) }
-        ensures none { IfNone result ((self.new ≡ self.old) × NoneWaits self.old.jobs) }
-        ensures same { self.new ≡ record self.old { jobs = self.new.jobs } }
+        ensures given { IfSome result (λ job. HandsOne self.old.jobs.list job self.new.jobs.list) }
+        ensures none { IfNone result ((self.new ≡ self.old) × NoneWaits self.old.jobs.list) }
+        ensures same { self.new ≡ with_list self.old self.new.jobs.list }
     {
-        hand_out(&mut self.jobs)
+        self.jobs.hand_out()
     }
 
-    /// Where a job of this id stands that was taken. Takes no memory.
-    pub fn taken_at(&self, id: JobId) -> Option<usize>
-        ensures some { IfSome result (λ place. IsTakenAt self.now.jobs place id) }
-        ensures none { IfNone result (IsUnknown self.now.jobs id) }
+    /// Forgets the job of this id, which was taken. Takes no memory.
+    pub fn end(&mut self, id: JobId)
+        requires { (job : AJob) × IsTaken self.old.jobs.list id job }
+        ensures ended { (job : AJob) → IsTaken self.old.jobs.list id job → EndsOne self.old.jobs.list id job self.new.jobs.list }
+        ensures same { self.new ≡ with_list self.old self.new.jobs.list }
     {
-        taken_at(self.jobs.as_slice(), id)
-    }
-
-    /// The stream's id of the job that stands at this place, which was taken.
-    pub fn stream_at(&self, place: usize) -> u32
-        requires { (id : ℕ) × IsTakenAt self.now.jobs place id }
-        ensures { (id : ℕ) → (at : IsTakenAt self.now.jobs place id) → result ≡ at.job.header.stream_id }
-    {
-        self.jobs[place].header.stream_id
-    }
-
-    /// Forgets the job that stands at this place, which was taken. Takes no memory.
-    pub fn end(&mut self, place: usize)
-        requires { (id : ℕ) × IsTakenAt self.old.jobs place id }
-        ensures ended { (id : ℕ) → (at : IsTakenAt self.old.jobs place id) → EndsOne self.old.jobs id at.job self.new.jobs }
-        ensures same { self.new ≡ record self.old { jobs = self.new.jobs } }
-    {
-        let _ = self.jobs.remove(place);
+        self.jobs.end(id);
     }
 
     /// A frame that was opened acts. An `Err` changes nothing.
@@ -104,7 +91,7 @@ impl ServerState {
     {
         if plain.len() > MESSAGE_LENGTH_MAX {
             let response = oversize_response(alloc, plain.len())?;
-            return refer(alloc, outbox, header.stream_id, response);
+            return refer(alloc, outbox, header.stream_id, &response);
         }
         if header.type_ != MESSAGE_TYPE_REQUEST {
             return Ok(());
@@ -114,7 +101,7 @@ impl ServerState {
             Err(CodecError::NoMemory) => Err(Failure::NoMemory),
             Err(error) => {
                 let response = unreadable_response(alloc, &error)?;
-                refer(alloc, outbox, header.stream_id, response)
+                refer(alloc, outbox, header.stream_id, &response)
             }
         }
     }
@@ -134,30 +121,10 @@ impl ServerState {
             × FailsOn (request_row self.old.services (Some request)) self.old failure) }
     {
         if self.registry.has_method(&request.service, &request.method) {
-            return self.make(header, request);
+            return self.jobs.make(header, request);
         }
         let response = path_response(alloc, &request.service, &request.method)?;
-        refer(alloc, outbox, header.stream_id, response)
-    }
-
-    /// Makes a job that waits. An `Err` changes nothing.
-    fn make(&mut self, header: MessageHeader, request: Request) -> Result<(), Failure>
-        ensures makes { OnOk result (self.new ≡ with_job self.old header request) }
-        ensures err { IfErr result (λ failure. (self.new ≡ self.old) × FailsOn (Known request) self.old failure) }
-    {
-        if self.last_job == u64::MAX {
-            return Err(Failure::JobIdsUsedUp);
-        }
-        let job = ActiveJob {
-            id: self.last_job + 1,
-            header,
-            request: Some(request),
-        };
-        if self.jobs.push(job).is_err() {
-            return Err(Failure::NoMemory);
-        }
-        self.last_job += 1;
-        Ok(())
+        refer(alloc, outbox, header.stream_id, &response)
     }
 }
 
@@ -178,11 +145,11 @@ impl<O: OutboundTransform + Drop> Reacts<O> for ServerState {
         match arrived.opening {
             Opening::TooLong => {
                 let response = oversize_response(alloc, header.length as usize)?;
-                refer(alloc, outbox, header.stream_id, response)
+                refer(alloc, outbox, header.stream_id, &response)
             }
             Opening::Refused(why) => {
                 let response = unopened_response(alloc, &why)?;
-                refer(alloc, outbox, header.stream_id, response)
+                refer(alloc, outbox, header.stream_id, &response)
             }
             Opening::Opened(plain) => self.act(alloc, outbox, header, plain.as_slice()),
         }
