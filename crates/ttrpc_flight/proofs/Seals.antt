@@ -3,8 +3,10 @@
 use Rattle.std.proofs.Common.{◌≡◌, inl, inr, ℕ, suc, List, [], ◌∷◌, ◌++◌, refl, sym, ap, subst}
 use Rattle.ttrpc_secure.specs.Halves.{Moves, Refusals, IsPaired}
 use Rattle.ttrpc_secure.specs.Sends.{associated}
-use Rattle.ttrpc_core.specs.Happens.{Halves, Opens}
-use Rattle.ttrpc_core.specs.Table.{Opening, Unasked, Opened, Refused}
+use Rattle.ttrpc_secure.specs.declared.transform.InboundTransform.{Ghosts as InboundTransform}
+use Rattle.ttrpc_connection.specs.declared.arrived.Opening.{Opening}
+use Rattle.ttrpc_connection.specs.declared.arrived.Opening.TheVariants.{TooLong, Opened, Refused}
+use Rattle.ttrpc_connection.specs.Frames.{Opens}
 use Rattle.ttrpc_flight.specs.Flight.{Flying, AreLinked, Chain, arrived, others_flying_without}
 use Rattle.ttrpc_flight.proofs.Losing.{LosesOne, loses_behind, throw_takes_one}
 
@@ -23,10 +25,10 @@ more_linked seals opens refuses xs out in_ x u l sealed = record { start = l.sta
 
 -- ---- the first is opened
 
-pub first_opened : {O A I : Type 0} (seals : Moves O) (h : Halves A I) (x : Flying) (xs : List Flying) (out : O) (in_ : I) (opening : Opening) (later : I) → AreLinked seals h.opens h.refuses_opening (x ∷ xs) out in_
-    → Opens h in_ (arrived x) opening later → (opening ≡ Opened x.plain) × AreLinked seals h.opens h.refuses_opening xs out later
-first_opened seals h x xs out in_ Unasked later l opens = absurd opens
-first_opened seals h x xs out in_ (Refused why) later l opens = absurd ((l.paired 1 x.plain (associated x.frame.message.header) x.frame.message.payload l.chain.0 l.chain.1).0 opens.0)
+pub first_opened : {O I : Type 0} (seals : Moves O) (h : InboundTransform I) (x : Flying) (xs : List Flying) (out : O) (in_ : I) (opening : Opening) (later : I) → AreLinked seals h.opens h.refuses (x ∷ xs) out in_
+    → Opens h in_ (arrived x) opening later → (opening ≡ Opened x.plain) × AreLinked seals h.opens h.refuses xs out later
+first_opened seals h x xs out in_ TooLong later l opens = absurd opens
+first_opened seals h x xs out in_ (Refused why) later l opens = absurd ((l.paired 1 x.plain (associated x.frame.message.header) x.frame.message.payload l.chain.0 l.chain.1).0 why opens.0)
 first_opened seals h x xs out in_ (Opened plain) later l opens = (
   ap Opened ((l.paired 1 x.plain (associated x.frame.message.header) x.frame.message.payload l.chain.0 l.chain.1).1 plain later opens).0,
   record {

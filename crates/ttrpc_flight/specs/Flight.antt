@@ -12,6 +12,9 @@ use Rattle.ttrpc_frame.specs.Frames.{Held, Holds}
 use Rattle.ttrpc_frame.specs.Queue.{Queue, IsQueue, is_request_of, open_part, written_all}
 use Rattle.ttrpc_secure.specs.Halves.{Moves, Refusals, IsPaired}
 use Rattle.ttrpc_secure.specs.Sends.{associated}
+use Rattle.ttrpc_connection.specs.declared.arrived.Opening.TheVariants.{Opened}
+use Rattle.ttrpc_connection.specs.Frames.{Sent, SendsAll}
+use Rattle.ttrpc_connection.specs.Feeds.{Ways, Scene}
 
 -- A frame in flight: as it was queued, sealed, and the data that were sealed. It is in flight from when it is queued
 -- until the other core has it whole, or it is thrown away.
@@ -88,3 +91,13 @@ parcels k flights = filter (λ (x : Flying). nat_eq x.frame.message.header.strea
 -- a unary request that its own stream id owns
 abbrev pub IsOwnRequest : Flying → Type 0
 IsOwnRequest x = (x.frame.is_unary_request ≡ true) × (x.frame.owner ≡ x.frame.message.header.stream_id)
+
+-- ---- flights that act
+
+-- each acts as opened to the data that were sealed
+abbrev pub ActsOn : {S O I : Type 0} → Ways S O I → ℕ → Scene S O I → List Flying → Scene S O I → Type 0
+ActsOn w now old [] new = new ≡ old
+ActsOn {S} {O} {I} w now old (x ∷ xs) new =
+    (mid : Scene S O I) × (sent : List Sent)
+    × w.core.reacts old.state old.outbox.half (record { header = x.frame.message.header; opening = Opened x.plain; now = now }) sent mid.state
+    × SendsAll w.out old.outbox sent mid.outbox × ActsOn w now mid xs new

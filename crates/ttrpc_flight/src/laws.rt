@@ -7,10 +7,14 @@ ghost use Rattle.ttrpc_frame.specs.Frames.{Held, Fed, nothing};
 ghost use Rattle.ttrpc_frame.specs.Queue.{Queue, after_report, begun_count, empty_queue, open_part, with_frame, with_lent, without};
 ghost use Rattle.ttrpc_secure.specs.Halves.{IsPaired};
 ghost use Rattle.ttrpc_secure.specs.Sends.{associated};
-ghost use Rattle.ttrpc_core.specs.Happens.{halves_of, Opens};
-ghost use Rattle.ttrpc_core.specs.Table.{Opening, Opened};
-ghost use Rattle.ttrpc_flight.specs.Flight.{Flying, AreInFlight, AreLinked, IsOwnRequest, IsSound, arrived, carried, others_flying_without, parcels};
+ghost use Rattle.ttrpc_connection.specs.declared.arrived.Opening.{Opening};
+ghost use Rattle.ttrpc_connection.specs.declared.arrived.Opening.TheVariants.{Opened};
+ghost use Rattle.ttrpc_connection.specs.declared.outbox.Outbox.{Outbox as AnOutbox};
+ghost use Rattle.ttrpc_connection.specs.Frames.{Opens, Sent, SendsAll};
+ghost use Rattle.ttrpc_connection.specs.Feeds.{ActsAll, Scene, ways};
+ghost use Rattle.ttrpc_flight.specs.Flight.{Flying, ActsOn, AreInFlight, AreLinked, frames_of, IsOwnRequest, IsSound, arrived, carried, others_flying_without, parcels};
 
+use ttrpc_connection::Reacts;
 use ttrpc_secure::{InboundTransform, OutboundTransform};
 
 /// Frames that read back come in as they were queued, in order, each once and whole. A frame that is queued is behind the
@@ -43,12 +47,8 @@ pub fn frames_arrive_as_they_were_queued()
 
 /// What is sealed in the order in which it is queued, and opened in the order in which it comes in, opens to what was
 /// sealed, as long as the two halves were paired. A frame may be thrown away unopened where sealing doesn't change the
-/// half. `A` is the outbound half of the core that opens, and has no part in it.
-pub fn seals_open_as_they_were_made<
-    O: OutboundTransform,
-    I: InboundTransform,
-    A: OutboundTransform,
->()
+/// half.
+pub fn seals_open_as_they_were_made<O: OutboundTransform, I: InboundTransform>()
     ensures none { (s : O) (t : I) → IsPaired O.seals I.opens I.refuses s t
         → AreLinked O.seals I.opens I.refuses [] s t }
     ensures more { (flights : List Flying) (x : Flying) (out later : O) (in_ : I)
@@ -57,7 +57,7 @@ pub fn seals_open_as_they_were_made<
         → AreLinked O.seals I.opens I.refuses (flights ++ x ∷ []) later in_ }
     ensures opened { (x : Flying) (flights : List Flying) (out : O) (in_ later : I) (opening : Opening)
         → AreLinked O.seals I.opens I.refuses (x ∷ flights) out in_
-        → Opens (halves_of A.overhead A.seals A.refuses I.opens I.refuses) in_ (arrived x) opening later
+        → Opens I.InboundTransform in_ (arrived x) opening later
         → (opening ≡ Opened x.plain) × AreLinked O.seals I.opens I.refuses flights out later }
     ensures thrown { (transit queued : List Flying) (out : O) (in_ : I) (owner n : ℕ) → O.SEALS ≡ false
         → AreLinked O.seals I.opens I.refuses (transit ++ queued) out in_
@@ -74,4 +74,23 @@ pub fn a_throw_takes_one_request()
         ⊎ (parcels k (transit ++ others_flying_without owner n queued) ≡ []) }
     ensures own { (owner n : ℕ) (transit queued : List Flying) → AllByRecursion IsOwnRequest (transit ++ queued)
         → AllByRecursion IsOwnRequest (transit ++ others_flying_without owner n queued) }
+{}
+
+/// What a connection sends takes wing, one flight a frame, in order, and linked; and where the frames that a core takes
+/// are the first flights of a linked list, each acts as opened to the data that were sealed, and the others stay linked.
+pub fn what_is_sent_acts_as_it_was<
+    O: OutboundTransform,
+    A: OutboundTransform,
+    I: InboundTransform,
+    R: Reacts<A>,
+>()
+    ensures sent { (sent : List Sent) (old new : AnOutbox O) (flights : List Flying) (in_ : I)
+        → AreLinked O.seals I.opens I.refuses flights old.half in_ → SendsAll O.OutboundTransform old sent new
+        → (more : List Flying) × (map Flying.plain more ≡ map Sent.plain sent)
+        × (new.queue.frames ≡ old.queue.frames ++ frames_of more)
+        × AreLinked O.seals I.opens I.refuses (flights ++ more) new.half in_ }
+    ensures acts { let w = ways A.OutboundTransform I.InboundTransform R.Reacts in
+        (now : ℕ) (front rest : List Flying) (out : O) (old new : Scene R A I)
+        → AreLinked O.seals I.opens I.refuses (front ++ rest) out old.inbound → ActsAll w now old (map arrived front) new
+        → ActsOn w now old front new × AreLinked O.seals I.opens I.refuses rest out new.inbound }
 {}

@@ -1,4 +1,3 @@
-use Rattle.ttrpc_core.specs.Happens.{halves_of}
 use Rattle.ttrpc_flight.proofs.Seals.{none_linked, more_linked, first_opened, thrown_linked}
 use Rattle.ttrpc_flight.proofs.laws.seals_open_as_they_were_made.Goals as goal
 
@@ -10,7 +9,7 @@ returns-clause-more g c = λ flights x out later in_ l sealed. more_linked _ _ _
 
 pub returns-clause-opened : goal.returns-clause-opened
 returns-clause-opened g c = λ x flights out in_ later opening l opens.
-    first_opened _ (halves_of g.A.OutboundTransform.overhead g.A.OutboundTransform.seals g.A.OutboundTransform.refuses g.I.InboundTransform.opens g.I.InboundTransform.refuses) x flights out in_ opening later l opens
+    first_opened _ g.I.InboundTransform x flights out in_ opening later l opens
 
 pub returns-clause-thrown : goal.returns-clause-thrown
 returns-clause-thrown g c = λ transit queued out in_ owner n not l. thrown_linked _ (g.met.O.OutboundTransform.lawful.still not) _ _ transit queued out in_ owner n l
