@@ -179,6 +179,16 @@ impl<O: OutboundTransform + Drop, I: InboundTransform + Drop> Connection<O, I> {
         self.outbox.wrote(n)
     }
 
+    /// How many bytes a `lend` gives where all fit. Takes no memory.
+    pub fn lendable(&self) -> usize
+        ensures { result ≡ (if is_some self.now.failure then 0 else length (open_part self.now.outbox.queue)) }
+    {
+        if self.failure.is_some() {
+            return 0;
+        }
+        self.outbox.open_len()
+    }
+
     /// Whether anything is left to be written, which it won't be after a failure. Takes no memory.
     pub fn has_unsent(&self) -> bool
         ensures { (result ≡ true) ↔ (unsent self.now.outbox.queue ≢ []) }

@@ -67,6 +67,13 @@ impl<O: OutboundTransform + Drop> Outbox<O> {
         self.queue.wrote(n)
     }
 
+    /// How many bytes are left of the first frame.
+    pub(crate) fn open_len(&self) -> usize
+        ensures { result ≡ length (open_part self.now.queue) }
+    {
+        self.queue.open_len()
+    }
+
     /// Whether anything is left to be written.
     pub(crate) fn has_unsent(&self) -> bool
         ensures { (result ≡ true) ↔ (unsent self.now.queue ≢ []) }

@@ -10,12 +10,13 @@ use Rattle.ttrpc_frame.specs.Frames.{Frames, Held, Holds, Fed, nothing, held_of}
 use Rattle.ttrpc_frame.specs.Queue.{unsent}
 use Rattle.ttrpc_frame.proofs.Frames.{exact, nothing_held}
 use Rattle.ttrpc_secure.specs.declared.plain.Plain.{Plain}
-use Rattle.ttrpc_core.specs.Failure.{IsTold}
-use Rattle.ttrpc_core.specs.Responses.{status_response}
-use Rattle.ttrpc_core.specs.Server.{Server}
-use Rattle.ttrpc_core.specs.Table.{Row, Skipped, Tells, TellsOf, Known, header_of_frame, sync_row}
-use Rattle.ttrpc_core.proofs.Cuts.{fed_some}
-use Rattle.ttrpc_core.proofs.Feeding.{fed_twice, nothing_taken}
+use Rattle.ttrpc_connection.specs.Failure.{IsTold}
+use Rattle.ttrpc_connection.specs.Frames.{header_of_frame}
+use Rattle.ttrpc_connection.proofs.Feeding.{fed_twice, nothing_taken}
+use Rattle.ttrpc_connection.proofs.Holding.{fed_some}
+use Rattle.ttrpc_server.specs.declared.server.ServerCore.{ServerCore}
+use Rattle.ttrpc_server.specs.Responses.{status_response}
+use Rattle.ttrpc_server.specs.Table.{Row, Skipped, Tells, TellsOf, Known, sync_row}
 use Rattle.ttrpc_echo.specs.Echo.{AreAnswers, Says, echo_of, echo_services, plainly, said_bytes}
 use Rattle.ttrpc_echo.specs.Answered.{AnsweredAll, Fails, IsCause, StopsEarly}
 use Rattle.ttrpc_echo.specs.Serving.{IsFresh, IsReady, IsStop, Serves, WritesOut}
@@ -33,7 +34,7 @@ says_some (Known request) = (Some (echo_of request), refl)
 answers_some : (fs : List Incoming) → (bytes : List ℕ) × AreAnswers fs bytes
 answers_some [] = ([], refl)
 answers_some (f ∷ fs) =
-    let one = says_some (sync_row echo_services f (plainly f)) in
+    let one = says_some (sync_row echo_services (header_of_frame f) (plainly f)) in
     let first = said_bytes ((header_of_frame f).stream_id) one.0 in
     let more = answers_some fs in
     (first ++ more.0, (first, more.0, record { said = one.0; says = one.1; bytes_are = refl }, refl, more.1))
@@ -41,19 +42,19 @@ answers_some (f ∷ fs) =
 -- ---- the run so far
 
 -- all that was read is served, and all that answers it is written
-pub record SoFar (before now held holds : Option (List ℕ)) (core : Server Plain Plain) : Type 0 where
+pub record SoFar (before now held holds : Option (List ℕ)) (core : ServerCore Plain Plain) : Type 0 where
   pub bytes : List ℕ
   pub frames : List Incoming
   pub answers : List ℕ
   pub read : Consumes before now bytes
-  pub fed : Fed nothing bytes frames core.held
+  pub fed : Fed nothing bytes frames core.connection.decoder
   pub are_answers : AreAnswers frames answers
   pub wrote : Appends held holds answers
   pub ready : IsReady core
-  pub queue : unsent core.core.queue ≡ []
-  pub jobs : core.core.last_job ≤ length frames
+  pub queue : unsent core.connection.outbox.queue ≡ []
+  pub jobs : core.state.jobs.last ≤ length frames
 
-pub so_far_none : (before held : Option (List ℕ)) (core : Server Plain Plain) → IsFresh core → SoFar before before held held core
+pub so_far_none : (before held : Option (List ℕ)) (core : ServerCore Plain Plain) → IsFresh core → SoFar before before held held core
 so_far_none before held core fresh = record {
   bytes = [];
   frames = [];
@@ -71,8 +72,8 @@ so_far_none before held core fresh = record {
 to_write : (xs ys zs : List ℕ) → xs ≡ [] → ys ≡ xs ++ zs → ys ≡ zs
 to_write xs ys zs none is = is ∙ ap (λ l. l ++ zs) none
 
-pub so_far_more : (before now next held holds wrote : Option (List ℕ)) (core mid new : Server Plain Plain) (piece : List ℕ) → SoFar before now held holds core → Consumes now next piece
-    → Serves core piece mid → WritesOut mid holds new wrote → IsReady new → unsent new.core.queue ≡ [] → SoFar before next held wrote new
+pub so_far_more : (before now next held holds wrote : Option (List ℕ)) (core mid new : ServerCore Plain Plain) (piece : List ℕ) → SoFar before now held holds core → Consumes now next piece
+    → Serves core piece mid → WritesOut mid holds new wrote → IsReady new → unsent new.connection.outbox.queue ≡ [] → SoFar before next held wrote new
 so_far_more before now next held holds wrote core mid new piece s read serves out ready none =
     let answers : serves.answers ≡ out.bytes = sym (to_write _ _ _ s.queue serves.more) ∙ out.sent ∙ ap (λ xs. out.bytes ++ xs) none ∙ append-nil out.bytes in
     record {
@@ -80,7 +81,7 @@ so_far_more before now next held holds wrote core mid new piece s read serves ou
       frames = s.frames ++ serves.frames;
       answers = s.answers ++ serves.answers;
       read = consumes_twice before now next s.bytes piece s.read read;
-      fed = rw out.held (fed_twice nothing core.held mid.held s.bytes piece s.frames serves.frames s.fed serves.fed);
+      fed = rw out.held (fed_twice nothing core.connection.decoder mid.connection.decoder s.bytes piece s.frames serves.frames s.fed serves.fed);
       are_answers = answers_twice s.frames serves.frames s.answers serves.answers s.are_answers serves.are_answers;
       wrote = rw answers (appends_twice held holds wrote s.answers out.bytes s.wrote out.wrote);
       ready = ready;
@@ -91,10 +92,10 @@ so_far_more before now next held holds wrote core mid new piece s read serves ou
 -- ---- the end
 
 -- the rest that is held
-rest_of : {before now held holds : Option (List ℕ)} {core : Server Plain Plain} (s : SoFar before now held holds core) → (rest : List ℕ) × Frames s.bytes s.frames rest × Holds core.held rest
+rest_of : {before now held holds : Option (List ℕ)} {core : ServerCore Plain Plain} (s : SoFar before now held holds core) → (rest : List ℕ) × Frames s.bytes s.frames rest × Holds core.connection.decoder rest
 rest_of s = s.fed [] nothing_held
 
-answered : (before now next held holds : Option (List ℕ)) (core : Server Plain Plain) (s : SoFar before now held holds core) → Consumes now next [] → IsAtEnd next
+answered : (before now next held holds : Option (List ℕ)) (core : ServerCore Plain Plain) (s : SoFar before now held holds core) → Consumes now next [] → IsAtEnd next
     → AnsweredAll before next held holds (rest_of s).0
 answered before now next held holds core s read end = record {
   bytes = s.bytes;
@@ -107,8 +108,8 @@ answered before now next held holds core s read end = record {
   wrote = s.wrote;
 }
 
-pub ends_between : (before now next held holds : Option (List ℕ)) (core : Server Plain Plain) → SoFar before now held holds core → Consumes now next [] → IsAtEnd next
-    → core.held ≡ nothing → AnsweredAll before next held holds []
+pub ends_between : (before now next held holds : Option (List ℕ)) (core : ServerCore Plain Plain) → SoFar before now held holds core → Consumes now next [] → IsAtEnd next
+    → core.connection.decoder ≡ nothing → AnsweredAll before next held holds []
 ends_between before now next held holds core s read end none =
     let rest : (rest_of s).0 ≡ [] = exact [] (rest_of s).0 (subst (λ (h : Held). Holds h (rest_of s).0) none (rest_of s).2) in
     subst (λ r. AnsweredAll before next held holds r) rest (answered before now next held holds core s read end)
@@ -138,7 +139,7 @@ stops_first before held e memory = record {
 }
 
 -- the run stops where all was served and written
-pub stops_between : (before now next held holds : Option (List ℕ)) (core : Server Plain Plain) (e : Error) → SoFar before now held holds core → Keeps now next
+pub stops_between : (before now next held holds : Option (List ℕ)) (core : ServerCore Plain Plain) (e : Error) → SoFar before now held holds core → Keeps now next
     → ((frames : List Incoming) → IsCause e frames) → StopsEarly before next held holds e
 stops_between before now next held holds core e s read cause = record {
   part = record {
@@ -156,10 +157,10 @@ stops_between before now next held holds core e s read cause = record {
 }
 
 -- the run stops at a piece with these frames, none of which was answered
-stops_with : (before now next held holds : Option (List ℕ)) (core : Server Plain Plain) (piece : List ℕ) (e : Error) (s : SoFar before now held holds core) → Consumes now next piece
-    → (frames : List Incoming) (new : Held) → Fed core.held piece frames new → IsCause e (s.frames ++ frames) → StopsEarly before next held holds e
+stops_with : (before now next held holds : Option (List ℕ)) (core : ServerCore Plain Plain) (piece : List ℕ) (e : Error) (s : SoFar before now held holds core) → Consumes now next piece
+    → (frames : List Incoming) (new : Held) → Fed core.connection.decoder piece frames new → IsCause e (s.frames ++ frames) → StopsEarly before next held holds e
 stops_with before now next held holds core piece e s read frames new fed cause =
-    let all = fed_twice nothing core.held new s.bytes piece s.frames frames s.fed fed [] nothing_held in
+    let all = fed_twice nothing core.connection.decoder new s.bytes piece s.frames frames s.fed fed [] nothing_held in
     let more = answers_some frames in
     record {
       part = record {
@@ -176,11 +177,11 @@ stops_with before now next held holds core piece e s read frames new fed cause =
       cause = cause;
     }
 
-pub stops_serving : (before now next held holds : Option (List ℕ)) (core : Server Plain Plain) (piece : List ℕ) (e : Error) → SoFar before now held holds core → Consumes now next piece
+pub stops_serving : (before now next held holds : Option (List ℕ)) (core : ServerCore Plain Plain) (piece : List ℕ) (e : Error) → SoFar before now held holds core → Consumes now next piece
     → IsStop core piece e → StopsEarly before next held holds e
 stops_serving before now next held holds core piece e s read (inl memory) =
     let at = rest_of s in
-    let f = fed_some core.held at.0 piece at.2 in
+    let f = fed_some core.connection.decoder at.0 piece at.2 in
     stops_with before now next held holds core piece e s read f.0 f.1 f.2 (inl memory)
 stops_serving before now next held holds core piece e s read (inr used) =
     let at = rest_of s in
@@ -188,12 +189,12 @@ stops_serving before now next held holds core piece e s read (inr used) =
     stops_with before now next held holds core piece e s read f.0 f.1 f.2 (inr (inr (used.0, omega (arith, f.3, s.jobs, length-append s.frames f.0))))
 
 -- the run stops while the answers to a piece are written
-pub stops_writing : (before now next held holds wrote : Option (List ℕ)) (core mid new : Server Plain Plain) (piece : List ℕ) (e : Error) → SoFar before now held holds core → Consumes now next piece
+pub stops_writing : (before now next held holds wrote : Option (List ℕ)) (core mid new : ServerCore Plain Plain) (piece : List ℕ) (e : Error) → SoFar before now held holds core → Consumes now next piece
     → Serves core piece mid → WritesOut mid holds new wrote → ((frames : List Incoming) → IsCause e frames) → StopsEarly before next held wrote e
 stops_writing before now next held holds wrote core mid new piece e s read serves out cause =
-    let all = fed_twice nothing core.held mid.held s.bytes piece s.frames serves.frames s.fed serves.fed [] nothing_held in
+    let all = fed_twice nothing core.connection.decoder mid.connection.decoder s.bytes piece s.frames serves.frames s.fed serves.fed [] nothing_held in
     let gone = s.answers ++ out.bytes in
-    let left = unsent new.core.queue in
+    let left = unsent new.connection.outbox.queue in
     let answers : s.answers ++ serves.answers ≡ gone ++ left = ap (λ xs. s.answers ++ xs) (sym (to_write _ _ _ s.queue serves.more) ∙ out.sent) ∙ sym (append_assoc s.answers out.bytes left) in
     record {
       part = record {
@@ -211,8 +212,8 @@ stops_writing before now next held holds wrote core mid new piece e s read serve
     }
 
 -- the input ends inside a frame
-pub ends_inside : (before now next held holds : Option (List ℕ)) (core : Server Plain Plain) (e : Error) → SoFar before now held holds core → Consumes now next [] → IsAtEnd next
-    → core.held ≢ nothing → IsTold (Socket (codes "socket disconnected inside a frame")) e → Fails before next held holds e
+pub ends_inside : (before now next held holds : Option (List ℕ)) (core : ServerCore Plain Plain) (e : Error) → SoFar before now held holds core → Consumes now next [] → IsAtEnd next
+    → core.connection.decoder ≢ nothing → IsTold (Socket (codes "socket disconnected inside a frame")) e → Fails before next held holds e
 ends_inside before now next held holds core e s read end inside (inl told) = inr (record {
   rest = (rest_of s).0;
   inside = λ none. inside ((rest_of s).2.0 ∙ ap held_of none);

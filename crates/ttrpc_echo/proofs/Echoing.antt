@@ -4,6 +4,7 @@ use Rattle.std.proofs.lemmas.Option.{same_Some}
 use Rattle.std.proofs.lemmas.List.{append-nil, drop-append-le, take-append-drop}
 use Rattle.std.proofs.lemmas.Grind.{flat_map-append}
 use Rattle.ttrpc_header.specs.declared.header.MessageHeader.{MessageHeader}
+use Rattle.ttrpc_header.specs.declared.header.TheConstants.{MESSAGE_LENGTH_MAX}
 use Rattle.ttrpc_proto.specs.declared.request.Request.{Request}
 use Rattle.ttrpc_proto.specs.declared.response.Response.{Response}
 use Rattle.ttrpc_header.specs.Header.{header_bytes}
@@ -14,19 +15,28 @@ use Rattle.ttrpc_frame.specs.Frames.{Held, Fed, given}
 use Rattle.ttrpc_frame.specs.Queue.{Queue, IsQueue, IsWithin, unsent, with_frame, with_payload, written, written_all}
 use Rattle.ttrpc_frame.proofs.Queues.{with_frame_is_queue, written_is}
 use Rattle.ttrpc_secure.specs.declared.plain.Plain.{Plain}
-use Rattle.ttrpc_core.specs.declared.job.ActiveJob.{ActiveJob}
-use Rattle.ttrpc_core.specs.Server.{Core, Server}
-use Rattle.ttrpc_core.specs.Table.{Opening, Unasked, Opened, Refused, Row, Skipped, Tells, TellsOf, Known, header_of_frame, row_of, sync_row}
-use Rattle.ttrpc_core.specs.Happens.{Acts, ActsAll, Does, IsResponseFrame, Makes, NoneWaits, Opens, Refers, Responds}
-use Rattle.ttrpc_core.proofs.Feeding.{fed_twice, nothing_taken}
+use Rattle.ttrpc_connection.specs.declared.arrived.Opening.{Opening}
+use Rattle.ttrpc_connection.specs.declared.arrived.Opening.TheVariants.{TooLong, Opened, Refused}
+use Rattle.ttrpc_connection.specs.declared.connection.Connection.{Connection}
+use Rattle.ttrpc_connection.specs.declared.outbox.Outbox.{Outbox}
+use Rattle.ttrpc_connection.specs.Feeds.{Acts, ActsAll, Scene, arrived, scene}
+use Rattle.ttrpc_connection.specs.Frames.{Opens, Sent, SendsAll, SendsOne, header_of_frame}
+use Rattle.ttrpc_connection.proofs.Feeding.{fed_twice, nothing_taken}
+use Rattle.ttrpc_server.specs.declared.job.ActiveJob.{ActiveJob}
+use Rattle.ttrpc_server.specs.declared.server.ServerCore.{ServerCore}
+use Rattle.ttrpc_server.specs.Happens.{Does, serving}
+use Rattle.ttrpc_server.specs.Jobs.{NoneWaits, new_job, with_job}
+use Rattle.ttrpc_server.specs.Responses.{IsResponseFrame, Refers, Responds, fitted, response_bytes}
+use Rattle.ttrpc_server.specs.Server.{Server}
+use Rattle.ttrpc_server.specs.Table.{Row, Skipped, Tells, TellsOf, Known, row_of, sync_row}
 use Rattle.ttrpc_echo.specs.Echo.{AreAnswers, IsAnswer, Says, echo_of, echo_services, framed, plainly, said_bytes}
-use Rattle.ttrpc_echo.specs.Serving.{plain_halves, IsReady, Echoes, Serves}
+use Rattle.ttrpc_echo.specs.Serving.{plain_in, plain_out, IsReady, Echoes, Serves}
 use Rattle.ttrpc_echo.proofs.Limits.{fitted_fits}
 
 -- with plain halves a frame is opened as it is
-pub opened_plainly : (s t : Plain) (f : Incoming) (o : Opening) → Opens plain_halves s f o t → o ≡ plainly f
+pub opened_plainly : (s t : Plain) (f : Incoming) (o : Opening) → Opens plain_in s f o t → o ≡ plainly f
 opened_plainly s t (Oversize h) o opens = opens.0
-opened_plainly s t (Frame m) Unasked opens = absurd opens
+opened_plainly s t (Frame m) TooLong opens = absurd opens
 opened_plainly s t (Frame m) (Opened plain) opens = ap (λ p. Opened p) opens.0
 opened_plainly s t (Frame m) (Refused why) opens = absurd opens.0
 
@@ -60,20 +70,29 @@ adds_frame q r f bytes valid is same = record {
   valid = subst IsQueue (sym is) (with_frame_is_queue q f valid);
 }
 
-responds_adds : (old new : Core Plain Plain) (k : ℕ) (r : Response) → IsQueue old.queue → Responds plain_halves old k r new → Adds old.queue new.queue (said_bytes k (Some r))
-responds_adds old new k r valid responds =
-    adds_frame old.queue new.queue (with_payload responds.frame responds.sends.sealed) (said_bytes k (Some r)) valid responds.sends.queue
-    (written_framed k responds.frame responds.sends.sealed responds.is_frame ∙ ap (framed k) responds.sends.seal.0)
+-- nothing was sent
+none_adds : (old new : Outbox Plain) (sent : List Sent) → IsQueue old.queue → sent ≡ [] → SendsAll plain_out old sent new → Adds old.queue new.queue []
+none_adds old new sent valid none sends =
+    let same : new ≡ old = subst (λ (xs : List Sent). SendsAll plain_out old xs new) none sends in
+    adds_nothing old.queue new.queue valid (ap (λ (o : Outbox Plain). o.queue) same)
+
+responds_adds : (old new : Outbox Plain) (k : ℕ) (r : Response) (sent : List Sent) → IsQueue old.queue → Responds MESSAGE_LENGTH_MAX k r sent → SendsAll plain_out old sent new
+    → Adds old.queue new.queue (said_bytes k (Some r))
+responds_adds old new k r sent valid responds sends =
+    let bytes = response_bytes (fitted MESSAGE_LENGTH_MAX r) in
+    let all = subst (λ (xs : List Sent). SendsAll plain_out old xs new) responds.is sends in
+    let one : SendsOne plain_out old responds.frame bytes new = subst (λ (o : Outbox Plain). SendsOne plain_out old responds.frame bytes o) (sym all.2) all.1 in
+    adds_frame old.queue new.queue (with_payload responds.frame one.sealed) (said_bytes k (Some r)) valid one.queue
+    (written_framed k responds.frame one.sealed responds.is_frame ∙ ap (framed k) one.seal.0)
 
 -- nothing is left out
-refers_adds : (old new : Core Plain Plain) (k : ℕ) (r : Response) → IsQueue old.queue → Refers plain_halves old k r new → Adds old.queue new.queue (said_bytes k (Some r))
-refers_adds old new k r valid refers = elim refers.sent [
-  | inl sent ↦ responds_adds old new k r valid sent
-  | inr out ↦ absurd (elim out.why [
-    | inl above ↦ omega (arith, fitted_fits r, above)
-    | inr unsealed ↦ unsealed.refuses
-  ])
-]
+refers_adds : (old new : Outbox Plain) (k : ℕ) (r : Response) (sent : List Sent) → IsQueue old.queue → Refers plain_out old.half k r sent → SendsAll plain_out old sent new
+    → Adds old.queue new.queue (said_bytes k (Some r))
+refers_adds old new k r sent valid (inl responds) sends = responds_adds old new k r sent valid responds sends
+refers_adds old new k r sent valid (inr out) sends = absurd (elim out.1 [
+  | inl above ↦ omega (arith, fitted_fits r, above)
+  | inr unsealed ↦ unsealed.1.refuses
+])
 
 -- ---- the echo of a job
 
@@ -90,110 +109,123 @@ first_of_one j (a ∷ front) back x e = absurd (no_more front back x cc)
 
 -- ---- one frame
 
-no_job : (mid new : Server Plain Plain) → mid.core.jobs ≡ [] → Echoes mid new → new ≡ mid
+no_job : (mid new : ServerCore Plain Plain) → mid.state.jobs.list ≡ [] → Echoes mid new → new ≡ mid
 no_job mid new none (inl same) = same.0
 no_job mid new none (inr e) = absurd (no_more e.hands.hands.front e.hands.hands.back e.hands.hands.job (sym none ∙ e.hands.hands.was))
 
 -- a frame was answered
-record Done (f : Incoming) (old mid new : Server Plain Plain) : Type 0 where
+record Done (f : Incoming) (old mid new : ServerCore Plain Plain) : Type 0 where
   answers : List ℕ
   is_answer : IsAnswer f answers
-  adds : Adds old.core.queue new.core.queue answers
-  jobs : new.core.jobs ≡ []
-  services : new.core.services ≡ echo_services
-  alive : new.core.failure ≡ None
-  held : new.held ≡ mid.held
-  last_job : new.core.last_job ≤ old.core.last_job + 1
+  adds : Adds old.connection.outbox.queue new.connection.outbox.queue answers
+  jobs : new.state.jobs.list ≡ []
+  services : new.state.services ≡ echo_services
+  alive : new.connection.failure ≡ None
+  held : new.connection.decoder ≡ mid.connection.decoder
+  last_job : new.state.jobs.last ≤ old.state.jobs.last + 1
 
-done_quiet : (f : Incoming) (said : Option Response) (old mid new : Server Plain Plain) → IsReady old → Says (sync_row echo_services f (plainly f)) said
-    → mid.core.jobs ≡ old.core.jobs → mid.core.services ≡ old.core.services → mid.core.last_job ≡ old.core.last_job → mid.core.failure ≡ None
-    → Adds old.core.queue mid.core.queue (said_bytes ((header_of_frame f).stream_id) said) → Echoes mid new → Done f old mid new
-done_quiet f said old mid new ready says jobs services last alive adds echoes =
-    let same : new ≡ mid = no_job mid new (jobs ∙ ready.jobs) echoes in
+done_quiet : (f : Incoming) (said : Option Response) (old mid new : ServerCore Plain Plain) → IsReady old → Says (sync_row echo_services (header_of_frame f) (plainly f)) said
+    → mid.state ≡ old.state → mid.connection.failure ≡ None
+    → Adds old.connection.outbox.queue mid.connection.outbox.queue (said_bytes ((header_of_frame f).stream_id) said) → Echoes mid new → Done f old mid new
+done_quiet f said old mid new ready says state alive adds echoes =
+    let jobs : mid.state.jobs.list ≡ [] = ap (λ (s : Server). s.jobs.list) state ∙ ready.jobs in
+    let same : new ≡ mid = no_job mid new jobs echoes in
     record {
       answers = said_bytes ((header_of_frame f).stream_id) said;
       is_answer = record { said = said; says = says; bytes_are = refl };
-      adds = subst (λ (x : Server Plain Plain). Adds old.core.queue x.core.queue (said_bytes ((header_of_frame f).stream_id) said)) (sym same) adds;
-      jobs = ap (λ (x : Server Plain Plain). x.core.jobs) same ∙ jobs ∙ ready.jobs;
-      services = ap (λ (x : Server Plain Plain). x.core.services) same ∙ services ∙ ready.services;
-      alive = ap (λ (x : Server Plain Plain). x.core.failure) same ∙ alive;
-      held = ap (λ (x : Server Plain Plain). x.held) same;
-      last_job = omega (arith, ap (λ (x : Server Plain Plain). x.core.last_job) same ∙ last);
+      adds = subst (λ (x : ServerCore Plain Plain). Adds old.connection.outbox.queue x.connection.outbox.queue (said_bytes ((header_of_frame f).stream_id) said)) (sym same) adds;
+      jobs = ap (λ (x : ServerCore Plain Plain). x.state.jobs.list) same ∙ jobs;
+      services = ap (λ (x : ServerCore Plain Plain). x.state.services) same ∙ ap (λ (s : Server). s.services) state ∙ ready.services;
+      alive = ap (λ (x : ServerCore Plain Plain). x.connection.failure) same ∙ alive;
+      held = ap (λ (x : ServerCore Plain Plain). x.connection.decoder) same;
+      last_job = omega (arith, ap (λ (x : ServerCore Plain Plain). x.state.jobs.last) same ∙ ap (λ (s : Server). s.jobs.last) state);
     }
 
-done_known : (f : Incoming) (request : Request) (old mid new : Server Plain Plain) → IsReady old → Says (sync_row echo_services f (plainly f)) (Some (echo_of request))
-    → Makes old.core (header_of_frame f) request mid.core → mid.core.failure ≡ None → Echoes mid new → Done f old mid new
-done_known f request old mid new ready says makes alive (inl same) =
-    let jobs : mid.core.jobs ≡ makes.job ∷ [] = makes.jobs ∙ ap (λ js. js ++ makes.job ∷ []) ready.jobs in
+done_known : (f : Incoming) (request : Request) (old mid new : ServerCore Plain Plain) → IsReady old → Says (sync_row echo_services (header_of_frame f) (plainly f)) (Some (echo_of request))
+    → mid.state ≡ record old.state { jobs = with_job old.state.jobs (header_of_frame f) request } → mid.connection.outbox ≡ old.connection.outbox → mid.connection.failure ≡ None → Echoes mid new → Done f old mid new
+done_known f request old mid new ready says makes quiet alive (inl same) =
+    let job = new_job (old.state.jobs.last + 1) (header_of_frame f) request in
+    let jobs : mid.state.jobs.list ≡ job ∷ [] = ap (λ (s : Server). s.jobs.list) makes ∙ ap (λ js. js ++ job ∷ []) ready.jobs in
     let waits = subst NoneWaits jobs same.1 in
-    absurd (some_is_not_none request (sym makes.request ∙ waits.0))
-done_known f request old mid new ready says makes alive (inr e) =
-    let jobs : mid.core.jobs ≡ makes.job ∷ [] = makes.jobs ∙ ap (λ js. js ++ makes.job ∷ []) ready.jobs in
-    let one = first_of_one makes.job e.hands.hands.front e.hands.hands.back e.hands.hands.job (sym jobs ∙ e.hands.hands.was) in
-    let asked : e.job.request ≡ request = same_Some e.job.request request (sym e.hands.hands.request ∙ ap (λ (j : ActiveJob). j.request) one.1 ∙ makes.request) in
-    let left : e.mid.core.jobs ≡ record e.hands.hands.job { request = None } ∷ [] = e.hands.hands.jobs ∙ ap (λ js. js ++ record e.hands.hands.job { request = None } ∷ e.hands.hands.back) one.0 ∙ ap (λ js. record e.hands.hands.job { request = None } ∷ js) one.2 in
-    let gone = first_of_one (record e.hands.hands.job { request = None }) e.answers.ends.front e.answers.ends.back e.answers.job (sym left ∙ e.answers.ends.was) in
-    let stream : e.answers.job.header.stream_id ≡ (header_of_frame f).stream_id = ap (λ (j : ActiveJob). j.header.stream_id) gone.1 ∙ ap (λ (j : ActiveJob). j.header.stream_id) one.1 ∙ ap (λ (h : MessageHeader). h.stream_id) makes.header in
-    let same : e.mid.core.queue ≡ old.core.queue = e.hands.queue ∙ makes.queue in
-    let adds = responds_adds e.mid.core new.core e.answers.job.header.stream_id (echo_of e.job.request) (subst IsQueue (sym same) ready.queue) e.answers.responds in
+    absurd (some_is_not_none request waits.0)
+done_known f request old mid new ready says makes quiet alive (inr e) =
+    let job = new_job (old.state.jobs.last + 1) (header_of_frame f) request in
+    let jobs : mid.state.jobs.list ≡ job ∷ [] = ap (λ (s : Server). s.jobs.list) makes ∙ ap (λ js. js ++ job ∷ []) ready.jobs in
+    let hands = e.hands.hands in
+    let one = first_of_one job hands.front hands.back hands.job (sym jobs ∙ hands.was) in
+    let asked : e.job.request ≡ request = same_Some e.job.request request (sym hands.request ∙ ap (λ (j : ActiveJob). j.request) one.1) in
+    let taken = record hands.job { request = None } in
+    let left : e.mid.state.jobs.list ≡ taken ∷ [] = hands.jobs ∙ ap (λ js. js ++ taken ∷ hands.back) one.0 ∙ ap (λ js. taken ∷ js) one.2 in
+    let at = e.answers.ends.at in
+    let gone = first_of_one taken at.front at.back e.answers.job (sym left ∙ at.is) in
+    let stream : e.answers.job.header.stream_id ≡ (header_of_frame f).stream_id = ap (λ (j : ActiveJob). j.header.stream_id) gone.1 ∙ ap (λ (j : ActiveJob). j.header.stream_id) one.1 in
+    let same : e.mid.connection.outbox ≡ old.connection.outbox = ap (λ (x : ServerCore Plain Plain). x.connection.outbox) e.hands.same ∙ quiet in
+    let queue : e.mid.connection.outbox.queue ≡ old.connection.outbox.queue = ap (λ (o : Outbox Plain). o.queue) same in
+    let adds = responds_adds e.mid.connection.outbox new.connection.outbox e.answers.job.header.stream_id (echo_of e.job.request) e.answers.sent (subst IsQueue (sym queue) ready.queue) e.answers.responds e.answers.sends in
     let k = (header_of_frame f).stream_id in
     record {
       answers = said_bytes k (Some (echo_of request));
       is_answer = record { said = Some (echo_of request); says = says; bytes_are = refl };
-      adds = subst (λ (q : Queue). Adds q new.core.queue (said_bytes k (Some (echo_of request)))) same
-          (subst (λ (n : ℕ). Adds e.mid.core.queue new.core.queue (said_bytes n (Some (echo_of request)))) stream
-          (subst (λ (r : Request). Adds e.mid.core.queue new.core.queue (said_bytes e.answers.job.header.stream_id (Some (echo_of r)))) asked adds));
-      jobs = e.answers.ends.jobs ∙ ap (λ js. js ++ e.answers.ends.back) gone.0 ∙ gone.2;
-      services = e.answers.same.services ∙ e.hands.same.services ∙ makes.services ∙ ready.services;
-      alive = e.answers.failure;
-      held = e.answers.same.held ∙ e.hands.same.held;
-      last_job = omega (arith, e.answers.same.last_job ∙ e.hands.same.last_job ∙ makes.last_job);
+      adds = subst (λ (q : Queue). Adds q new.connection.outbox.queue (said_bytes k (Some (echo_of request)))) queue
+          (subst (λ (n : ℕ). Adds e.mid.connection.outbox.queue new.connection.outbox.queue (said_bytes n (Some (echo_of request)))) stream
+          (subst (λ (r : Request). Adds e.mid.connection.outbox.queue new.connection.outbox.queue (said_bytes e.answers.job.header.stream_id (Some (echo_of r)))) asked adds));
+      jobs = e.answers.ends.jobs ∙ ap (λ js. js ++ at.back) gone.0 ∙ gone.2;
+      services = ap (λ (x : ServerCore Plain Plain). x.state.services) e.answers.same ∙ ap (λ (x : ServerCore Plain Plain). x.state.services) e.hands.same ∙ ap (λ (s : Server). s.services) makes ∙ ready.services;
+      alive = ap (λ (x : ServerCore Plain Plain). x.connection.failure) e.answers.same ∙ e.answers.alive;
+      held = ap (λ (x : ServerCore Plain Plain). x.connection.decoder) e.answers.same ∙ ap (λ (x : ServerCore Plain Plain). x.connection.decoder) e.hands.same;
+      last_job = omega (arith, ap (λ (x : ServerCore Plain Plain). x.state.jobs.last) e.answers.same ∙ ap (λ (x : ServerCore Plain Plain). x.state.jobs.last) e.hands.same ∙ ap (λ (s : Server). s.jobs.last) makes);
     }
 
-done_row : (row : Row) (f : Incoming) (old mid new : Server Plain Plain) → IsReady old → row ≡ sync_row echo_services f (plainly f)
-    → Does plain_halves row old.core (header_of_frame f) mid.core → mid.core.failure ≡ None → Echoes mid new → Done f old mid new
-done_row Skipped f old mid new ready is does alive echoes =
-    done_quiet f None old mid new ready (subst (λ (r : Row). Says r None) is refl) does.jobs does.services does.last_job alive (adds_nothing old.core.queue mid.core.queue ready.queue does.queue) echoes
-done_row (Tells r) f old mid new ready is does alive echoes =
-    done_quiet f (Some r) old mid new ready (subst (λ (x : Row). Says x (Some r)) is refl) does.same.jobs does.same.services does.same.last_job alive (refers_adds old.core mid.core _ r ready.queue does) echoes
-done_row (TellsOf code) f old mid new ready is does alive echoes =
-    done_quiet f (Some does.0) old mid new ready (subst (λ (x : Row). Says x (Some does.0)) is (does.0, does.1, refl)) does.2.same.jobs does.2.same.services does.2.same.last_job alive (refers_adds old.core mid.core _ does.0 ready.queue does.2) echoes
-done_row (Known request) f old mid new ready is does alive echoes =
-    done_known f request old mid new ready (subst (λ (x : Row). Says x (Some (echo_of request))) is refl) does alive echoes
+done_row : (row : Row) (f : Incoming) (old mid new : ServerCore Plain Plain) (sent : List Sent) → IsReady old → row ≡ sync_row echo_services (header_of_frame f) (plainly f)
+    → Does plain_out row old.state old.connection.outbox.half (header_of_frame f) sent mid.state → SendsAll plain_out old.connection.outbox sent mid.connection.outbox → mid.connection.failure ≡ None → Echoes mid new → Done f old mid new
+done_row Skipped f old mid new sent ready is does sends alive echoes =
+    done_quiet f None old mid new ready (subst (λ (r : Row). Says r None) is refl) does.0 alive (none_adds old.connection.outbox mid.connection.outbox sent ready.queue does.1 sends) echoes
+done_row (Tells r) f old mid new sent ready is does sends alive echoes =
+    done_quiet f (Some r) old mid new ready (subst (λ (x : Row). Says x (Some r)) is refl) does.0 alive (refers_adds old.connection.outbox mid.connection.outbox _ r sent ready.queue does.1 sends) echoes
+done_row (TellsOf code) f old mid new sent ready is does sends alive echoes =
+    let r = does.1.0 in
+    done_quiet f (Some r) old mid new ready (subst (λ (x : Row). Says x (Some r)) is (r, does.1.1, refl)) does.0 alive (refers_adds old.connection.outbox mid.connection.outbox _ r sent ready.queue does.1.2 sends) echoes
+done_row (Known request) f old mid new sent ready is does sends alive echoes =
+    let quiet : mid.connection.outbox ≡ old.connection.outbox = subst (λ (xs : List Sent). SendsAll plain_out old.connection.outbox xs mid.connection.outbox) does.1 sends in
+    done_known f request old mid new ready (subst (λ (x : Row). Says x (Some (echo_of request))) is refl) does.0 quiet alive echoes
 
-done_frame : (f : Incoming) (old mid new : Server Plain Plain) → IsReady old → Acts plain_halves old.core f mid.core → Echoes mid new → Done f old mid new
-done_frame f old mid new ready acts echoes =
-    let opening : acts.opening ≡ plainly f = opened_plainly old.core.inbound mid.core.inbound f acts.opening acts.inbound in
-    let row : row_of old.core f acts.opening ≡ sync_row echo_services f (plainly f) = ap (λ o. sync_row old.core.services f o) opening ∙ ap (λ s. sync_row s f (plainly f)) ready.services in
-    done_row (row_of old.core f acts.opening) f old mid new ready row acts.does acts.failure echoes
+done_frame : (now : ℕ) (f : Incoming) (old mid new : ServerCore Plain Plain) → IsReady old → mid.connection.failure ≡ None
+    → Acts (serving plain_out plain_in) now (scene old.state old.connection) f (scene mid.state mid.connection) → Echoes mid new → Done f old mid new
+done_frame now f old mid new ready alive acts echoes =
+    let opening : acts.opening ≡ plainly f = opened_plainly old.connection.inbound mid.connection.inbound f acts.opening acts.opens in
+    let row : row_of old.state (arrived f acts.opening now) ≡ sync_row echo_services (header_of_frame f) (plainly f) =
+    ap (λ o. sync_row old.state.services (header_of_frame f) o) opening ∙ ap (λ s. sync_row s (header_of_frame f) (plainly f)) ready.services in
+    done_row (row_of old.state (arrived f acts.opening now)) f old mid new acts.sent ready row acts.reacts acts.sends alive echoes
 
 -- a front was fed, and the job that it made is echoed
-pub one_front : (o : Option Incoming) (old mid new : Server Plain Plain) (front : List ℕ) → IsReady old → Fed old.held front (given o) mid.held → ActsAll plain_halves old.core (given o) mid.core
-    → Echoes mid new → Serves old front new × IsReady new
-one_front None old mid new front ready fed acts echoes =
-    let same : new ≡ mid = no_job mid new (ap (λ (c : Core Plain Plain). c.jobs) acts ∙ ready.jobs) echoes in
-    let core : new.core ≡ old.core = ap (λ (x : Server Plain Plain). x.core) same ∙ acts in (
+pub one_front : (now : ℕ) (o : Option Incoming) (old mid new : ServerCore Plain Plain) (front : List ℕ) → IsReady old → mid.connection.failure ≡ None → Fed old.connection.decoder front (given o) mid.connection.decoder
+    → ActsAll (serving plain_out plain_in) now (scene old.state old.connection) (given o) (scene mid.state mid.connection) → Echoes mid new → Serves old front new × IsReady new
+one_front now None old mid new front ready still fed acts echoes =
+    let state : mid.state ≡ old.state = ap (λ (c : Scene Server Plain Plain). c.state) acts in
+    let same : new ≡ mid = no_job mid new (ap (λ (s : Server). s.jobs.list) state ∙ ready.jobs) echoes in
+    let left : new.state ≡ old.state = ap (λ (x : ServerCore Plain Plain). x.state) same ∙ state in
+    let queue : new.connection.outbox.queue ≡ old.connection.outbox.queue = ap (λ (x : ServerCore Plain Plain). x.connection.outbox.queue) same ∙ ap (λ (c : Scene Server Plain Plain). c.outbox.queue) acts in (
       record {
         frames = [];
         answers = [];
-        fed = subst (λ (x : Server Plain Plain). Fed old.held front [] x.held) (sym same) fed;
+        fed = subst (λ (x : ServerCore Plain Plain). Fed old.connection.decoder front [] x.connection.decoder) (sym same) fed;
         are_answers = refl;
-        more = ap (λ (c : Core Plain Plain). unsent c.queue) core ∙ sym (append-nil (unsent old.core.queue));
-        jobs = omega (arith, ap (λ (c : Core Plain Plain). c.last_job) core);
+        more = ap unsent queue ∙ sym (append-nil (unsent old.connection.outbox.queue));
+        jobs = omega (arith, ap (λ (s : Server). s.jobs.last) left);
       },
       record {
-        services = ap (λ (c : Core Plain Plain). c.services) core ∙ ready.services;
-        jobs = ap (λ (c : Core Plain Plain). c.jobs) core ∙ ready.jobs;
-        alive = ap (λ (c : Core Plain Plain). c.failure) core ∙ ready.alive;
-        queue = subst (λ (c : Core Plain Plain). IsQueue c.queue) (sym core) ready.queue;
+        services = ap (λ (s : Server). s.services) left ∙ ready.services;
+        jobs = ap (λ (s : Server). s.jobs.list) left ∙ ready.jobs;
+        alive = ap (λ (x : ServerCore Plain Plain). x.connection.failure) same ∙ still;
+        queue = subst IsQueue (sym queue) ready.queue;
       },
     )
-one_front (Some f) old mid new front ready fed acts echoes =
-    let done = done_frame f old mid new ready (subst (λ (c : Core Plain Plain). Acts plain_halves old.core f c) (sym acts.2) acts.1) echoes in (
+one_front now (Some f) old mid new front ready still fed acts echoes =
+    let done = done_frame now f old mid new ready still (subst (λ (c : Scene Server Plain Plain). Acts (serving plain_out plain_in) now (scene old.state old.connection) f c) (sym acts.2) acts.1) echoes in (
       record {
         frames = f ∷ [];
         answers = done.answers;
-        fed = subst (λ (x : Held). Fed old.held front (f ∷ []) x) (sym done.held) fed;
+        fed = subst (λ (x : Held). Fed old.connection.decoder front (f ∷ []) x) (sym done.held) fed;
         are_answers = (done.answers, [], done.is_answer, sym (append-nil done.answers), refl);
         more = done.adds.more;
         jobs = done.last_job;
@@ -208,34 +240,34 @@ answers_twice [] gs xs ys one two = subst (λ (zs : List ℕ). AreAnswers gs (zs
 answers_twice (f ∷ fs) gs xs ys one two =
     (one.0, one.1 ++ ys, one.2, ap (λ zs. zs ++ ys) one.3 ∙ append_assoc one.0 one.1 ys, answers_twice fs gs one.1 ys one.4 two)
 
-pub serves_nothing : (s : Server Plain Plain) → Serves s [] s
-serves_nothing s = record { frames = []; answers = []; fed = nothing_taken s.held; are_answers = refl; more = sym (append-nil (unsent s.core.queue)); jobs = omega (arith) }
+pub serves_nothing : (s : ServerCore Plain Plain) → Serves s [] s
+serves_nothing s = record { frames = []; answers = []; fed = nothing_taken s.connection.decoder; are_answers = refl; more = sym (append-nil (unsent s.connection.outbox.queue)); jobs = omega (arith) }
 
-pub serves_twice : (a b c : Server Plain Plain) (x y : List ℕ) → Serves a x b → Serves b y c → Serves a (x ++ y) c
+pub serves_twice : (a b c : ServerCore Plain Plain) (x y : List ℕ) → Serves a x b → Serves b y c → Serves a (x ++ y) c
 serves_twice a b c x y one two = record {
   frames = one.frames ++ two.frames;
   answers = one.answers ++ two.answers;
-  fed = fed_twice a.held b.held c.held x y one.frames two.frames one.fed two.fed;
+  fed = fed_twice a.connection.decoder b.connection.decoder c.connection.decoder x y one.frames two.frames one.fed two.fed;
   are_answers = answers_twice one.frames two.frames one.answers two.answers one.are_answers two.are_answers;
-  more = two.more ∙ ap (λ xs. xs ++ two.answers) one.more ∙ append_assoc (unsent a.core.queue) one.answers two.answers;
+  more = two.more ∙ ap (λ xs. xs ++ two.answers) one.more ∙ append_assoc (unsent a.connection.outbox.queue) one.answers two.answers;
   jobs = omega (arith, one.jobs, two.jobs, length-append one.frames two.frames);
 }
 
 -- so far a front of the piece was served, and the rest is to be fed
-pub record ServedSoFar (old : Server Plain Plain) (piece rest : List ℕ) (now : Server Plain Plain) : Type 0 where
+pub record ServedSoFar (old : ServerCore Plain Plain) (piece rest : List ℕ) (now : ServerCore Plain Plain) : Type 0 where
   pub front : List ℕ
   pub piece_is : piece ≡ front ++ rest
   pub serves : Serves old front now
 
-pub served_first : (s : Server Plain Plain) (piece : List ℕ) → ServedSoFar s piece piece s
+pub served_first : (s : ServerCore Plain Plain) (piece : List ℕ) → ServedSoFar s piece piece s
 served_first s piece = record { front = []; piece_is = refl; serves = serves_nothing s }
 
-pub served_more : (old now new : Server Plain Plain) (piece rest : List ℕ) (n : ℕ) → ServedSoFar old piece rest now → Serves now (take n rest) new → ServedSoFar old piece (drop n rest) new
+pub served_more : (old now new : ServerCore Plain Plain) (piece rest : List ℕ) (n : ℕ) → ServedSoFar old piece rest now → Serves now (take n rest) new → ServedSoFar old piece (drop n rest) new
 served_more old now new piece rest n p s = record {
   front = p.front ++ take n rest;
   piece_is = p.piece_is ∙ ap (λ xs. p.front ++ xs) (sym (take-append-drop n rest)) ∙ sym (append_assoc p.front (take n rest) (drop n rest));
   serves = serves_twice old now new p.front (take n rest) p.serves s;
 }
 
-pub served_all : (old now : Server Plain Plain) (piece rest : List ℕ) → ServedSoFar old piece rest now → rest ≡ [] → Serves old piece now
+pub served_all : (old now : ServerCore Plain Plain) (piece rest : List ℕ) → ServedSoFar old piece rest now → rest ≡ [] → Serves old piece now
 served_all old now piece rest p none = subst (λ (xs : List ℕ). Serves old xs now) (sym (append-nil p.front) ∙ ap (λ xs. p.front ++ xs) (sym none) ∙ sym p.piece_is) p.serves

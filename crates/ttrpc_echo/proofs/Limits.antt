@@ -18,8 +18,7 @@ use Rattle.ttrpc_error.specs.ErrorText.{status_of}
 use Rattle.ttrpc_codec.specs.Members.{delimited_field, delimited_fields, number_fields}
 use Rattle.ttrpc_proto.specs.Messages.{status_fields}
 use Rattle.ttrpc_codec.proofs.Written.{length-delimited_field, length-fields_bytes-append}
-use Rattle.ttrpc_core.specs.Responses.{status_response, limit_text}
-use Rattle.ttrpc_core.specs.Happens.{response_bytes, response_size, fitted}
+use Rattle.ttrpc_server.specs.Responses.{fitted, limit_text, response_bytes, response_size, status_response}
 
 -- ---- varints and members
 

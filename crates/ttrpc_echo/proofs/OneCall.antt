@@ -30,21 +30,25 @@ use Rattle.ttrpc_frame.specs.Queue.{Queue, IsQueue, after_report, empty_queue, o
 use Rattle.ttrpc_frame.proofs.Frames.{nothing_held}
 use Rattle.ttrpc_frame.proofs.Queues.{after_report_is_queue, with_frame_is_queue, with_lent_is_queue, written_is}
 use Rattle.ttrpc_frame.proofs.Pieces.{one_list}
-use Rattle.ttrpc_core.specs.Happens.{fitted, response_bytes, response_size}
-use Rattle.ttrpc_core.specs.Table.{Row, Known, sync_row}
+use Rattle.ttrpc_connection.specs.declared.arrived.Opening.{Opening}
+use Rattle.ttrpc_connection.specs.declared.failure.Failure.{Failure}
+use Rattle.ttrpc_connection.specs.Feeds.{Acts, ActsAll, Feeds, Scene, scene}
+use Rattle.ttrpc_server.specs.Responses.{fitted, response_bytes, response_size}
+use Rattle.ttrpc_server.specs.Table.{Row, Known, sync_row}
 use Rattle.ttrpc_secure.specs.declared.plain.Plain.{Plain}
 use Rattle.ttrpc_client.specs.declared.call.Call.{Call}
 use Rattle.ttrpc_client.specs.declared.call.Call.TheVariants.{Waiting, Ended}
-use Rattle.ttrpc_client.specs.Client.{Client, Core, call_at, with_queue}
-use Rattle.ttrpc_client.specs.Table.{Landing, LandsOn, Gives, landing_of}
-use Rattle.ttrpc_client.specs.Happens.{Acts, ActsAll, Feeds, GivesOutcome, IsRequestFrame, RefusesRequest, Requests, request_bytes}
+use Rattle.ttrpc_client.specs.declared.client.ClientCore.{ClientCore}
+use Rattle.ttrpc_client.specs.Client.{Client, call_at}
+use Rattle.ttrpc_client.specs.Table.{IsRequestFrame, Landing, LandsOn, Gives, RefusesRequest, landing_of, request_bytes}
+use Rattle.ttrpc_client.specs.Happens.{GivesOutcome, Requests, calling}
 use Rattle.ttrpc_echo.specs.Answered.{AnsweredAll, Fails}
-use Rattle.ttrpc_echo.specs.Calling.{AwaitsAnswer, CallsEcho, FitsLimit, IsUnused, LendsAll, answered_bytes, asked_bytes, echo_request}
+use Rattle.ttrpc_echo.specs.Calling.{AwaitsAnswer, CallsEcho, FitsLimit, IsUnused, LendsAll, answered_bytes, asked_bytes, echo_request, with_queue}
 use Rattle.ttrpc_echo.specs.Echo.{AreAnswers, IsAnswer, Says, echo_of, echo_services, framed, plainly, said_bytes}
-use Rattle.ttrpc_echo.specs.Serving.{plain_halves}
+use Rattle.ttrpc_echo.specs.Serving.{plain_in, plain_out}
 use Rattle.ttrpc_echo.proofs.Echoing.{opened_plainly}
 use Rattle.ttrpc_echo.proofs.Limits.{one_field}
-use Rattle.ttrpc_echo.proofs.Writing.{by_failure, lent_leaves}
+use Rattle.ttrpc_echo.proofs.Writing.{lent_leaves}
 
 -- ---- one frame is all
 
@@ -154,8 +158,8 @@ request_frame_is payload f sealed fits is same =
     ∙ ap (λ xs. in_request (length xs % 2 ^ 32) xs) same
     ∙ ap (λ n. in_request n bytes) (small_length (length bytes) (omega (arith, fits)))
 
-pub asked : (payload : List ℕ) (old mid : Client Plain Plain) → FitsLimit payload → old.core.queue ≡ empty_queue → Requests plain_halves old (echo_request payload) 0 1 mid
-    → unsent mid.core.queue ≡ asked_bytes payload
+pub asked : (payload : List ℕ) (old mid : ClientCore Plain Plain) → FitsLimit payload → old.connection.outbox.queue ≡ empty_queue → Requests plain_out old (echo_request payload) 0 1 mid
+    → unsent mid.connection.outbox.queue ≡ asked_bytes payload
 asked payload old mid fits empty r =
     let f = with_payload r.frame r.sends.sealed in
     ap unsent (r.sends.queue ∙ ap (λ q. with_frame q f) empty) ∙ append-nil (written f.message) ∙ request_frame_is payload r.frame r.sends.sealed fits r.is_frame r.sends.seal.0
@@ -175,7 +179,7 @@ request_message payload = record { header = request_header payload; payload = re
 abbrev response_message : List ℕ → GenMessage
 response_message payload = record { header = response_header payload; payload = response_bytes (echo_of (echo_request payload)) }
 
-request_row_is : (payload : List ℕ) → FitsLimit payload → sync_row echo_services (Frame (request_message payload)) (plainly (Frame (request_message payload))) ≡ Known (echo_request payload)
+request_row_is : (payload : List ℕ) → FitsLimit payload → sync_row echo_services (request_header payload) (plainly (Frame (request_message payload))) ≡ Known (echo_request payload)
 request_row_is payload fits =
     let within : nat_lt MESSAGE_LENGTH_MAX (length (request_bytes (echo_request payload))) ≡ false = le-ltb _ _ (omega (arith, fits)) in
     rw (within, request_reads_back payload fits) refl
@@ -206,7 +210,7 @@ response_bytes_are payload fits =
     let bytes = response_bytes (echo_of (echo_request payload)) in
     ap (λ (n : ℕ). header_bytes (record { length = n; stream_id = 1; type_ = MESSAGE_TYPE_RESPONSE; flags = 0 }) ++ bytes) (small_length (length bytes) (omega (arith, fits, response_short payload)))
 
-response_landing : (payload : List ℕ) → FitsLimit payload → landing_of (Frame (response_message payload)) (plainly (Frame (response_message payload))) ≡ Gives (Ok (echo_of (echo_request payload)))
+response_landing : (payload : List ℕ) → FitsLimit payload → landing_of (response_header payload) (plainly (Frame (response_message payload))) ≡ Gives (Ok (echo_of (echo_request payload)))
 response_landing payload fits =
     let within : nat_lt MESSAGE_LENGTH_MAX (length (response_bytes (echo_of (echo_request payload)))) ≡ false = le-ltb _ _ (omega (arith, fits, response_short payload)) in
     rw (within, response_reads_back payload fits) refl
@@ -217,52 +221,51 @@ lands_on_waiting landing given state new gives waits lands =
     let l : LandsOn (Gives given) (Some (Waiting None)) new = subst (λ s. LandsOn (Gives given) s new) waits (subst (λ (g : Landing). LandsOn g state new) gives lands) in
     l.2 ∙ ap (λ o. Some (Ended o)) l.1
 
-acted : (payload : List ℕ) (old new : Core Plain Plain) → FitsLimit payload → call_at old 1 ≡ Some (Waiting None) → Acts plain_halves old (Frame (response_message payload)) new
-    → (call_at new 1 ≡ Some (Ended (Ok (echo_of (echo_request payload))))) × (new.failure ≡ None)
-acted payload old new fits waits acts =
-    let f = Frame (response_message payload) in
-    let opening : acts.opening ≡ plainly f = opened_plainly old.inbound new.inbound f acts.opening acts.inbound in
-    let gives : landing_of f acts.opening ≡ Gives (Ok (echo_of (echo_request payload))) = ap (λ o. landing_of f o) opening ∙ response_landing payload fits in
-    (lands_on_waiting (landing_of f acts.opening) (Ok (echo_of (echo_request payload))) (call_at old 1) (call_at new 1) gives waits acts.lands.own, acts.failure)
+acted : (payload : List ℕ) (now : ℕ) (old new : Scene Client Plain Plain) → FitsLimit payload → call_at old.state 1 ≡ Some (Waiting None) → Acts (calling plain_out plain_in) now old (Frame (response_message payload)) new
+    → call_at new.state 1 ≡ Some (Ended (Ok (echo_of (echo_request payload))))
+acted payload now old new fits waits acts =
+    let opening : acts.opening ≡ plainly (Frame (response_message payload)) = opened_plainly old.inbound new.inbound (Frame (response_message payload)) acts.opening acts.opens in
+    let gives : landing_of (response_header payload) acts.opening ≡ Gives (Ok (echo_of (echo_request payload))) =
+    ap (λ (o : Opening). landing_of (response_header payload) o) opening ∙ response_landing payload fits in
+    lands_on_waiting (landing_of (response_header payload) acts.opening) (Ok (echo_of (echo_request payload))) (call_at old.state 1) (call_at new.state 1) gives waits acts.reacts.lands.own
 
-all_acted : (payload : List ℕ) (old new : Core Plain Plain) (frames : List Incoming) → FitsLimit payload → call_at old 1 ≡ Some (Waiting None) → frames ≡ Frame (response_message payload) ∷ []
-    → ActsAll plain_halves old frames new → (call_at new 1 ≡ Some (Ended (Ok (echo_of (echo_request payload))))) × (new.failure ≡ None)
-all_acted payload old new frames fits waits are acts =
-    let one = subst (λ fs. ActsAll plain_halves old fs new) are acts in
-    let done = acted payload old one.0 fits waits one.1 in
-    (ap (λ (c : Core Plain Plain). call_at c 1) one.2 ∙ done.0, ap (λ (c : Core Plain Plain). c.failure) one.2 ∙ done.1)
+all_acted : (payload : List ℕ) (now : ℕ) (old new : Scene Client Plain Plain) (frames : List Incoming) → FitsLimit payload → call_at old.state 1 ≡ Some (Waiting None) → frames ≡ Frame (response_message payload) ∷ []
+    → ActsAll (calling plain_out plain_in) now old frames new → call_at new.state 1 ≡ Some (Ended (Ok (echo_of (echo_request payload))))
+all_acted payload now old new frames fits waits are acts =
+    let one = subst (λ fs. ActsAll (calling plain_out plain_in) now old fs new) are acts in
+    ap (λ (c : Scene Client Plain Plain). call_at c.state 1) one.2 ∙ acted payload now old one.0 fits waits one.1
 
-ended : (payload bytes : List ℕ) (old new : Client Plain Plain) → bytes ≡ answered_bytes payload → AwaitsAnswer payload old → Feeds plain_halves old bytes new
-    → (call_at new.core 1 ≡ Some (Ended (Ok (echo_of (echo_request payload))))) × (new.core.failure ≡ None)
-ended payload bytes old new are a feeds =
+ended : (payload bytes : List ℕ) (now : ℕ) (old new : ClientCore Plain Plain) → bytes ≡ answered_bytes payload → AwaitsAnswer payload old
+    → Feeds (calling plain_out plain_in) old.state old.connection bytes now new.state new.connection → call_at new.state 1 ≡ Some (Ended (Ok (echo_of (echo_request payload))))
+ended payload bytes now old new are a feeds =
     let fed = feeds.fed [] (subst (λ (h : Held). Holds h []) (sym a.held) nothing_held) in
-    all_acted payload old.core new.core feeds.frames a.fits a.waits
+    all_acted payload now (scene old.state old.connection) (scene new.state new.connection) feeds.frames a.fits a.waits
     (no_others (response_header payload) (response_bytes (echo_of (echo_request payload))) bytes feeds.frames fed.0 (response_fits_header payload a.fits) refl (omega (arith, a.fits, response_short payload))
     (are ∙ response_bytes_are payload a.fits) fed.1 fed.2.1).0
     feeds.acts
 
 -- so the outcome is the echo
-pub told_echo : (payload bytes : List ℕ) (old new : Client Plain Plain) (given : Option (Result Response Error)) → bytes ≡ answered_bytes payload → AwaitsAnswer payload old
-    → Feeds plain_halves old bytes new → GivesOutcome new.core.failure (call_at new.core 1) given → given ≡ Some (Ok (echo_of (echo_request payload)))
-told_echo payload bytes old new given are a feeds gives =
-    let done = ended payload bytes old new are a feeds in
-    subst (λ s. GivesOutcome None s given) done.0 (subst (λ e. GivesOutcome e (call_at new.core 1) given) done.1 gives)
+pub told_echo : (payload bytes : List ℕ) (now : ℕ) (old new : ClientCore Plain Plain) (given : Option (Result Response Error)) → bytes ≡ answered_bytes payload → AwaitsAnswer payload old
+    → Feeds (calling plain_out plain_in) old.state old.connection bytes now new.state new.connection → GivesOutcome new.connection.failure (call_at new.state 1) given → given ≡ Some (Ok (echo_of (echo_request payload)))
+told_echo payload bytes now old new given are a feeds gives =
+    let done = ended payload bytes now old new are a feeds in
+    subst (λ s. GivesOutcome None s given) done (subst (λ e. GivesOutcome e (call_at new.state 1) given) feeds.still gives)
 
 pub outcome_is : (payload : List ℕ) (outcome : Result Response Error) → FitsLimit payload → Some outcome ≡ Some (Ok (echo_of (echo_request payload))) → CallsEcho payload outcome
 outcome_is payload outcome fits same = subst (λ o. CallsEcho payload o) (sym (same_Some outcome (Ok (echo_of (echo_request payload))) same)) (fits, refl)
 
 -- ---- a request is refused
 
-none_failed : (failure : Option Error) (error : Error) → failure ≡ None → failure ≡ Some error → ⊥
-none_failed failure error alive failed = cc
+none_failed : (failure : Option Failure) (why : Failure) → failure ≡ None → failure ≡ Some why → ⊥
+none_failed failure why alive failed = cc
 
 -- an unused client refuses a request for its length alone, or for want of memory
-pub refused_echo : (payload : List ℕ) (old : Client Plain Plain) (e : Error) → IsUnused old → RefusesRequest plain_halves old.core (echo_request payload) e → CallsEcho payload (Err e)
+pub refused_echo : (payload : List ℕ) (old : ClientCore Plain Plain) (e : Error) → IsUnused old → RefusesRequest plain_out old (echo_request payload) e → CallsEcho payload (Err e)
 refused_echo payload old e unused refuses =
-    let alive : old.core.failure ≡ None = ap (λ (c : Client Plain Plain). c.core.failure) unused in
-    let next : old.core.next ≡ 1 = ap (λ (c : Client Plain Plain). c.core.next) unused in
+    let alive : old.connection.failure ≡ None = ap (λ (c : ClientCore Plain Plain). c.connection.failure) unused in
+    let next : old.state.next ≡ 1 = ap (λ (c : ClientCore Plain Plain). c.state.next) unused in
     elim refuses [
-      | inl failed ↦ absurd (none_failed old.core.failure failed.error alive failed.failure)
+      | inl failed ↦ absurd (none_failed old.connection.failure failed.why alive failed.is)
       | inr (inl long) ↦ inl (long.above, long.is_told)
       | inr (inr (inl used)) ↦ absurd (omega (arith, used.used_up, next))
       | inr (inr (inr (inl above))) ↦ absurd (omega (arith, above.above, above.sendable.short))
@@ -312,19 +315,19 @@ all_answered payload bytes after held answers fits are none all =
 
 -- ---- the client lends
 
-pub lends_nothing : (client : Client Plain Plain) → IsQueue client.core.queue → LendsAll client [] client
+pub lends_nothing : (client : ClientCore Plain Plain) → IsQueue client.connection.outbox.queue → LendsAll client [] client
 lends_nothing client valid = record { all = refl; valid = valid; same = refl }
 
-pub lends_more : (old mid new : Client Plain Plain) (bytes more : List ℕ) (n : ℕ) → LendsAll old bytes mid → n ≤ length (open_part mid.core.queue) → more ≡ take n (open_part mid.core.queue)
-    → new ≡ with_queue mid (after_report (with_lent mid.core.queue n) n) → LendsAll old (bytes ++ more) new
+pub lends_more : (old mid new : ClientCore Plain Plain) (bytes more : List ℕ) (n : ℕ) → LendsAll old bytes mid → n ≤ length (open_part mid.connection.outbox.queue) → more ≡ take n (open_part mid.connection.outbox.queue)
+    → new ≡ with_queue mid (after_report (with_lent mid.connection.outbox.queue n) n) → LendsAll old (bytes ++ more) new
 lends_more old mid new bytes more n l within is same =
-    let q = after_report (with_lent mid.core.queue n) n in
-    let left : unsent mid.core.queue ≡ more ++ unsent q = lent_leaves mid.core.queue n n l.valid within (omega arith) ∙ ap (λ xs. xs ++ unsent q) (sym is) in
-    subst (λ (x : Client Plain Plain). LendsAll old (bytes ++ more) x) (sym same)
+    let q = after_report (with_lent mid.connection.outbox.queue n) n in
+    let left : unsent mid.connection.outbox.queue ≡ more ++ unsent q = lent_leaves mid.connection.outbox.queue n n l.valid within (omega arith) ∙ ap (λ xs. xs ++ unsent q) (sym is) in
+    subst (λ (x : ClientCore Plain Plain). LendsAll old (bytes ++ more) x) (sym same)
     (record {
       all = l.all ∙ ap (λ xs. bytes ++ xs) left ∙ sym (append_assoc bytes more (unsent q));
-      valid = after_report_is_queue (with_lent mid.core.queue n) n (with_lent_is_queue mid.core.queue n l.valid within) (omega arith);
-      same = ap (λ (x : Client Plain Plain). with_queue x q) l.same;
+      valid = after_report_is_queue (with_lent mid.connection.outbox.queue n) n (with_lent_is_queue mid.connection.outbox.queue n l.valid within) (omega arith);
+      same = ap (λ (x : ClientCore Plain Plain). with_queue x q) l.same;
     })
 
 pub lends_less : (q : Queue) (n : ℕ) → IsQueue q → 0 < n → n ≤ length (open_part q) → length (unsent (after_report (with_lent q n) n)) < length (unsent q)
@@ -333,38 +336,34 @@ lends_less q n valid some within =
     let left : length (unsent q) ≡ length (take n (open_part q) ++ r) = ap (λ (xs : List ℕ). length xs) (lent_leaves q n n valid within (omega arith)) in
     omega (arith, left, length-append (take n (open_part q)) r, length-take-le n (open_part q) within, some)
 
-pub lends_alive : (old new : Client Plain Plain) (n : ℕ) → old.core.failure ≡ None → new ≡ (if is_some old.core.failure then old else with_queue old (with_lent old.core.queue n))
-    → new ≡ with_queue old (with_lent old.core.queue n)
-lends_alive old new n alive is = is ∙ by_failure old.core.failure old (with_queue old (with_lent old.core.queue n)) alive
-
 -- ---- the request is asked
 
 empty_is_queue : IsQueue empty_queue
 empty_is_queue = record { within = refl; lent = omega arith; fresh = λ h. (refl, refl); none = λ h. refl }
 
-pub asked_queue : (request : Request) (id : ℕ) (old mid : Client Plain Plain) → IsUnused old → Requests plain_halves old request 0 id mid → IsQueue mid.core.queue
+pub asked_queue : (request : Request) (id : ℕ) (old mid : ClientCore Plain Plain) → IsUnused old → Requests plain_out old request 0 id mid → IsQueue mid.connection.outbox.queue
 asked_queue request id old mid unused r =
-    let was : IsQueue old.core.queue = subst (λ (c : Client Plain Plain). IsQueue c.core.queue) (sym unused) empty_is_queue in
-    subst IsQueue (sym r.sends.queue) (with_frame_is_queue old.core.queue (with_payload r.frame r.sends.sealed) was)
+    let was : IsQueue old.connection.outbox.queue = subst (λ (c : ClientCore Plain Plain). IsQueue c.connection.outbox.queue) (sym unused) empty_is_queue in
+    subst IsQueue (sym r.sends.queue) (with_frame_is_queue old.connection.outbox.queue (with_payload r.frame r.sends.sealed) was)
 
-first_id : (request : Request) (id : ℕ) (old mid : Client Plain Plain) → IsUnused old → Requests plain_halves old request 0 id mid → id ≡ 1
-first_id request id old mid unused r = r.id_is ∙ ap (λ (c : Client Plain Plain). c.core.next) unused
+first_id : (request : Request) (id : ℕ) (old mid : ClientCore Plain Plain) → IsUnused old → Requests plain_out old request 0 id mid → id ≡ 1
+first_id request id old mid unused r = r.id_is ∙ ap (λ (c : ClientCore Plain Plain). c.state.next) unused
 
-first_request : (payload : List ℕ) (request : Request) (id : ℕ) (old mid : Client Plain Plain) → IsUnused old → request ≡ echo_request payload
-    → Requests plain_halves old request 0 id mid → Requests plain_halves old (echo_request payload) 0 1 mid
+first_request : (payload : List ℕ) (request : Request) (id : ℕ) (old mid : ClientCore Plain Plain) → IsUnused old → request ≡ echo_request payload
+    → Requests plain_out old request 0 id mid → Requests plain_out old (echo_request payload) 0 1 mid
 first_request payload request id old mid unused echo r =
-    subst (λ (q : Request). Requests plain_halves old q 0 1 mid) echo (subst (λ (k : ℕ). Requests plain_halves old request 0 k mid) (first_id request id old mid unused r) r)
+    subst (λ (q : Request). Requests plain_out old q 0 1 mid) echo (subst (λ (k : ℕ). Requests plain_out old request 0 k mid) (first_id request id old mid unused r) r)
 
-pub asked_all : (payload : List ℕ) (request : Request) (id : ℕ) (old mid new : Client Plain Plain) (bytes : List ℕ) → IsUnused old → request ≡ echo_request payload
-    → Requests plain_halves old request 0 id mid → LendsAll mid bytes new → unsent new.core.queue ≡ [] → bytes ≡ asked_bytes payload
+pub asked_all : (payload : List ℕ) (request : Request) (id : ℕ) (old mid new : ClientCore Plain Plain) (bytes : List ℕ) → IsUnused old → request ≡ echo_request payload
+    → Requests plain_out old request 0 id mid → LendsAll mid bytes new → unsent new.connection.outbox.queue ≡ [] → bytes ≡ asked_bytes payload
 asked_all payload request id old mid new bytes unused echo r lends done =
     let first = first_request payload request id old mid unused echo r in
     sym (append-nil bytes) ∙ ap (λ xs. bytes ++ xs) (sym done) ∙ sym lends.all
-    ∙ asked payload old mid (omega (arith, first.fits)) (ap (λ (c : Client Plain Plain). c.core.queue) unused) first
+    ∙ asked payload old mid (omega (arith, first.fits)) (ap (λ (c : ClientCore Plain Plain). c.connection.outbox.queue) unused) first
 
-pub awaits : (payload : List ℕ) (request : Request) (id : ℕ) (old mid new : Client Plain Plain) (bytes : List ℕ) → IsUnused old → request ≡ echo_request payload
-    → Requests plain_halves old request 0 id mid → LendsAll mid bytes new → AwaitsAnswer payload new
+pub awaits : (payload : List ℕ) (request : Request) (id : ℕ) (old mid new : ClientCore Plain Plain) (bytes : List ℕ) → IsUnused old → request ≡ echo_request payload
+    → Requests plain_out old request 0 id mid → LendsAll mid bytes new → AwaitsAnswer payload new
 awaits payload request id old mid new bytes unused echo r lends =
     let first = first_request payload request id old mid unused echo r in
-    subst (λ (x : Client Plain Plain). AwaitsAnswer payload x) (sym lends.same)
-    (record { fits = omega (arith, first.fits); waits = first.own; alive = first.failure; held = first.held ∙ ap (λ (c : Client Plain Plain). c.held) unused })
+    subst (λ (x : ClientCore Plain Plain). AwaitsAnswer payload x) (sym lends.same)
+    (record { fits = omega (arith, first.fits); waits = first.own; alive = ap (λ (c : ClientCore Plain Plain). c.connection.failure) first.same ∙ first.alive; held = ap (λ (c : ClientCore Plain Plain). c.connection.decoder) first.same ∙ ap (λ (c : ClientCore Plain Plain). c.connection.decoder) unused })

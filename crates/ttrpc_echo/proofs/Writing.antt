@@ -9,21 +9,17 @@ use Rattle.ttrpc_frame.specs.Queue as queue
 use Rattle.ttrpc_frame.proofs.Departures.{bytes_are_written}
 use Rattle.ttrpc_frame.proofs.Queues.{with_lent_is_queue, after_report_is_queue}
 use Rattle.ttrpc_secure.specs.declared.plain.Plain.{Plain}
-use Rattle.ttrpc_core.specs.Server.{Server, with_queue}
+use Rattle.ttrpc_server.specs.declared.server.ServerCore.{ServerCore}
 use Rattle.ttrpc_echo.specs.Serving.{IsReady, WritesOut}
 use Rattle.ttrpc_echo.proofs.Known.{keeps_same, keeps_appends_nothing, appends_twice}
 
-pub by_failure : {X : Type 0} (f : Option Error) (x y : X) → f ≡ None → (if is_some f then x else y) ≡ y
-by_failure None x y alive = refl
-by_failure (Some e) x y alive = absurd cc
-
--- what a living core lends
-pub lent_alive : (s t : Server Plain Plain) (n : ℕ) → s.core.failure ≡ None → t ≡ (if is_some s.core.failure then s else with_queue s (with_lent s.core.queue n)) → t ≡ with_queue s (with_lent s.core.queue n)
-lent_alive s t n alive is = is ∙ by_failure s.core.failure s (with_queue s (with_lent s.core.queue n)) alive
+-- the core with this queue
+abbrev pub with_queue : ServerCore Plain Plain → Queue → ServerCore Plain Plain
+with_queue s q = record s { connection = record s.connection { outbox = record s.connection.outbox { queue = q } } }
 
 -- n bytes were lent, and k of them were reported
-abbrev pub lent_and_reported : Server Plain Plain → ℕ → ℕ → Server Plain Plain
-lent_and_reported s n k = with_queue s (after_report (with_lent s.core.queue n) k)
+abbrev pub lent_and_reported : ServerCore Plain Plain → ℕ → ℕ → ServerCore Plain Plain
+lent_and_reported s n k = with_queue s (after_report (with_lent s.connection.outbox.queue n) k)
 
 finishes_or_keeps : (fs : List Queued) (n : ℕ) (begun : Bool) → report_finishes fs n ++ (report_first fs n begun).frames ≡ fs
 finishes_or_keeps [] n begun = refl
@@ -42,27 +38,27 @@ lent_leaves q n k valid within less =
     ∙ sym written
     ∙ ap (λ xs. xs ++ rest) (append-nil (take k (open_part q)))
 
-pub writes_nothing : (s : Server Plain Plain) (holds : Option (List ℕ)) → WritesOut s holds s holds
+pub writes_nothing : (s : ServerCore Plain Plain) (holds : Option (List ℕ)) → WritesOut s holds s holds
 writes_nothing s holds = record { bytes = []; sent = refl; wrote = keeps_appends_nothing holds holds (keeps_same holds); held = refl; last_job = refl }
 
-pub writes_more : (a b : Server Plain Plain) (n k : ℕ) (x y z : Option (List ℕ)) (bytes : List ℕ) → IsReady b → WritesOut a x b y
-    → n ≤ length (open_part b.core.queue) → k ≤ n → bytes ≡ take k (open_part b.core.queue) → Appends y z bytes
+pub writes_more : (a b : ServerCore Plain Plain) (n k : ℕ) (x y z : Option (List ℕ)) (bytes : List ℕ) → IsReady b → WritesOut a x b y
+    → n ≤ length (open_part b.connection.outbox.queue) → k ≤ n → bytes ≡ take k (open_part b.connection.outbox.queue) → Appends y z bytes
     → WritesOut a x (lent_and_reported b n k) z
 writes_more a b n k x y z bytes ready one within less are wrote = record {
   bytes = one.bytes ++ bytes;
-  sent = one.sent ∙ ap (λ xs. one.bytes ++ xs) (lent_leaves b.core.queue n k ready.queue within less ∙ ap (λ xs. xs ++ unsent (lent_and_reported b n k).core.queue) (sym are))
-      ∙ sym (append_assoc one.bytes bytes (unsent (lent_and_reported b n k).core.queue));
+  sent = one.sent ∙ ap (λ xs. one.bytes ++ xs) (lent_leaves b.connection.outbox.queue n k ready.queue within less ∙ ap (λ xs. xs ++ unsent (lent_and_reported b n k).connection.outbox.queue) (sym are))
+      ∙ sym (append_assoc one.bytes bytes (unsent (lent_and_reported b n k).connection.outbox.queue));
   wrote = appends_twice x y z one.bytes bytes one.wrote wrote;
   held = one.held;
   last_job = one.last_job;
 }
 
-pub still_ready : (s : Server Plain Plain) (n k : ℕ) → IsReady s → n ≤ length (open_part s.core.queue) → k ≤ n → IsReady (lent_and_reported s n k)
+pub still_ready : (s : ServerCore Plain Plain) (n k : ℕ) → IsReady s → n ≤ length (open_part s.connection.outbox.queue) → k ≤ n → IsReady (lent_and_reported s n k)
 still_ready s n k ready within less = record {
   services = ready.services;
   jobs = ready.jobs;
   alive = ready.alive;
-  queue = after_report_is_queue (with_lent s.core.queue n) k (with_lent_is_queue s.core.queue n ready.queue within) less;
+  queue = after_report_is_queue (with_lent s.connection.outbox.queue n) k (with_lent_is_queue s.connection.outbox.queue n ready.queue within) less;
 }
 
 all_open : (fs : List Queued) (r : ℕ) → IsWithin fs r → length (first_open fs r) ≡ 0 → drop r (written_all fs) ≡ []

@@ -9,14 +9,16 @@ use Rattle.ttrpc_proto.specs.declared.response.Response.{Response}
 use Rattle.ttrpc_error.specs.Oversize.{oversize_text}
 use Rattle.ttrpc_header.specs.Header.{header_bytes}
 use Rattle.ttrpc_frame.specs.Frames.{nothing}
-use Rattle.ttrpc_frame.specs.Queue.{IsQueue, unsent}
+use Rattle.ttrpc_frame.specs.Queue.{Queue, IsQueue, unsent}
 use Rattle.ttrpc_secure.specs.declared.plain.Plain.{Plain}
-use Rattle.ttrpc_core.specs.Failure.{IsTold}
-use Rattle.ttrpc_core.specs.Happens.{response_bytes}
+use Rattle.ttrpc_connection.specs.Failure.{IsTold}
+use Rattle.ttrpc_server.specs.Responses.{response_bytes}
 use Rattle.ttrpc_client.specs.declared.call.Call.TheVariants.{Waiting}
 use Rattle.ttrpc_client.specs.declared.kind.ClientKind.TheVariants.{Sync}
-use Rattle.ttrpc_client.specs.Client.{Client, call_at, new_client, with_queue}
-use Rattle.ttrpc_client.specs.Happens.{request_bytes, request_size}
+use Rattle.ttrpc_client.specs.declared.client.ClientCore.{ClientCore}
+use Rattle.ttrpc_client.specs.Client.{call_at}
+use Rattle.ttrpc_client.specs.Happens.{new_core}
+use Rattle.ttrpc_client.specs.Table.{request_bytes, request_size}
 use Rattle.ttrpc_echo.specs.Answered.{IsOfSystem}
 use Rattle.ttrpc_echo.specs.Echo.{echo_of, framed}
 
@@ -39,21 +41,25 @@ CallsEcho payload (Err e) =
 -- ---- the parts of a call, which its users need not read
 
 -- a client that has done nothing yet
-abbrev pub IsUnused : Client Plain Plain → Type 0
-IsUnused client = client ≡ new_client Sync 1 client.core.outbound client.core.inbound
+abbrev pub IsUnused : ClientCore Plain Plain → Type 0
+IsUnused client = client ≡ new_core Sync 1 client.connection.outbox.half client.connection.inbound
+
+-- the client with this queue
+abbrev pub with_queue : ClientCore Plain Plain → Queue → ClientCore Plain Plain
+with_queue c q = record c { connection = record c.connection { outbox = record c.connection.outbox { queue = q } } }
 
 -- all that a client had to write was lent, and nothing else changed
-pub record LendsAll (old : Client Plain Plain) (bytes : List ℕ) (new : Client Plain Plain) : Type 0 where
-  pub all : unsent old.core.queue ≡ bytes ++ unsent new.core.queue
-  pub valid : IsQueue new.core.queue
-  pub same : new ≡ with_queue old new.core.queue
+pub record LendsAll (old : ClientCore Plain Plain) (bytes : List ℕ) (new : ClientCore Plain Plain) : Type 0 where
+  pub all : unsent old.connection.outbox.queue ≡ bytes ++ unsent new.connection.outbox.queue
+  pub valid : IsQueue new.connection.outbox.queue
+  pub same : new ≡ with_queue old new.connection.outbox.queue
 
 -- the client's one call waits, and it holds nothing
-pub record AwaitsAnswer (payload : List ℕ) (client : Client Plain Plain) : Type 0 where
+pub record AwaitsAnswer (payload : List ℕ) (client : ClientCore Plain Plain) : Type 0 where
   pub fits : FitsLimit payload
-  pub waits : call_at client.core 1 ≡ Some (Waiting None)
-  pub alive : client.core.failure ≡ None
-  pub held : client.held ≡ nothing
+  pub waits : call_at client.state 1 ≡ Some (Waiting None)
+  pub alive : client.connection.failure ≡ None
+  pub held : client.connection.decoder ≡ nothing
 
 -- the one request, as it is written
 abbrev pub asked_bytes : List ℕ → List ℕ

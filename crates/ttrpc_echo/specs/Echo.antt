@@ -8,10 +8,12 @@ use Rattle.ttrpc_header.specs.Header.{header_bytes}
 use Rattle.ttrpc_proto.specs.Messages.{empty_status}
 use Rattle.ttrpc_frame.specs.declared.frame.Incoming.{Incoming}
 use Rattle.ttrpc_frame.specs.declared.frame.Incoming.TheVariants.{Frame, Oversize}
-use Rattle.ttrpc_core.specs.declared.registry.ServiceNames.{ServiceNames}
-use Rattle.ttrpc_core.specs.Responses.{IsStatusResponse}
-use Rattle.ttrpc_core.specs.Table.{Opening, Unasked, Opened, Row, Skipped, Tells, TellsOf, Known, header_of_frame, sync_row}
-use Rattle.ttrpc_core.specs.Happens.{fitted, response_bytes}
+use Rattle.ttrpc_connection.specs.declared.arrived.Opening.{Opening}
+use Rattle.ttrpc_connection.specs.declared.arrived.Opening.TheVariants.{TooLong, Opened}
+use Rattle.ttrpc_connection.specs.Frames.{header_of_frame}
+use Rattle.ttrpc_server.specs.declared.registry.ServiceNames.{ServiceNames}
+use Rattle.ttrpc_server.specs.Responses.{IsStatusResponse, fitted, response_bytes}
+use Rattle.ttrpc_server.specs.Table.{Row, Skipped, Tells, TellsOf, Known, sync_row}
 
 -- the one service
 abbrev pub echo_services : List ServiceNames
@@ -23,7 +25,7 @@ echo_of request = record { status = Some empty_status; payload = request.payload
 
 -- with no transform a payload is opened as it is
 abbrev pub plainly : Incoming → Opening
-plainly (Oversize h) = Unasked
+plainly (Oversize h) = TooLong
 plainly (Frame m) = Opened m.payload
 
 -- the response that a row gives, if it gives one
@@ -45,7 +47,7 @@ said_bytes k (Some r) = framed k (response_bytes (fitted MESSAGE_LENGTH_MAX r))
 -- the bytes answer the frame, as the table and the echo have it
 pub record IsAnswer (f : Incoming) (bytes : List ℕ) : Type 0 where
   pub said : Option Response
-  pub says : Says (sync_row echo_services f (plainly f)) said
+  pub says : Says (sync_row echo_services (header_of_frame f) (plainly f)) said
   pub bytes_are : bytes ≡ said_bytes ((header_of_frame f).stream_id) said
 
 -- the bytes answer the frames, in order

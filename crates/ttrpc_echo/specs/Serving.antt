@@ -10,60 +10,66 @@ use Rattle.ttrpc_frame.specs.Queue.{IsQueue, unsent}
 use Rattle.ttrpc_secure.specs.declared.plain.Plain.{Plain}
 use Rattle.ttrpc_secure.specs.Halves.{RefusesNothing}
 use Rattle.ttrpc_secure.specs.Plain.{Keeps}
-use Rattle.ttrpc_core.specs.declared.job.Job.{Job}
-use Rattle.ttrpc_core.specs.Server.{Server}
-use Rattle.ttrpc_core.specs.Happens.{Halves, halves_of, Answers, Hands, NoneWaits}
+use Rattle.ttrpc_secure.specs.declared.transform.OutboundTransform.{Ghosts as OutboundTransform}
+use Rattle.ttrpc_secure.specs.declared.transform.InboundTransform.{Ghosts as InboundTransform}
+use Rattle.ttrpc_server.specs.declared.job.Job.{Job}
+use Rattle.ttrpc_server.specs.declared.server.ServerCore.{ServerCore}
+use Rattle.ttrpc_server.specs.Happens.{Answers, Hands}
+use Rattle.ttrpc_server.specs.Jobs.{NoneWaits}
 use Rattle.ttrpc_echo.specs.Echo.{AreAnswers, echo_of, echo_services}
 
 -- the halves that leave data as it is
-abbrev pub plain_halves : Halves Plain Plain
-plain_halves = halves_of (λ _. 0) Keeps RefusesNothing Keeps RefusesNothing
+abbrev pub plain_out : OutboundTransform Plain
+plain_out = record { overhead = λ _. 0; seals = Keeps; refuses = RefusesNothing }
+
+abbrev pub plain_in : InboundTransform Plain
+plain_in = record { opens = Keeps; refuses = RefusesNothing }
 
 -- between two fronts: nothing waits or is at work, and the connection lives
-pub record IsReady (s : Server Plain Plain) : Type 0 where
-  pub services : s.core.services ≡ echo_services
-  pub jobs : s.core.jobs ≡ []
-  pub alive : s.core.failure ≡ None
-  pub queue : IsQueue s.core.queue
+pub record IsReady (s : ServerCore Plain Plain) : Type 0 where
+  pub services : s.state.services ≡ echo_services
+  pub jobs : s.state.jobs.list ≡ []
+  pub alive : s.connection.failure ≡ None
+  pub queue : IsQueue s.connection.outbox.queue
 
 -- a new one: it holds and made nothing, and nothing is to be written
-pub record IsFresh (s : Server Plain Plain) : Type 0 where
+pub record IsFresh (s : ServerCore Plain Plain) : Type 0 where
   pub ready : IsReady s
-  pub held : s.held ≡ nothing
-  pub last_job : s.core.last_job ≡ 0
-  pub queue : unsent s.core.queue ≡ []
+  pub held : s.connection.decoder ≡ nothing
+  pub last_job : s.state.jobs.last ≡ 0
+  pub queue : unsent s.connection.outbox.queue ≡ []
 
 -- the job that waits is echoed, if there is one
-pub record EchoesOne (old new : Server Plain Plain) : Type 0 where
+pub record EchoesOne (old new : ServerCore Plain Plain) : Type 0 where
   pub job : Job
-  pub mid : Server Plain Plain
+  pub mid : ServerCore Plain Plain
   pub hands : Hands old job mid
-  pub answers : Answers plain_halves mid job.id (echo_of job.request) new
+  pub answers : Answers plain_out mid job.id (echo_of job.request) new
 
-abbrev pub Echoes : Server Plain Plain → Server Plain Plain → Type 0
-Echoes old new = ((new ≡ old) × NoneWaits old.core.jobs) ⊎ EchoesOne old new
+abbrev pub Echoes : ServerCore Plain Plain → ServerCore Plain Plain → Type 0
+Echoes old new = ((new ≡ old) × NoneWaits old.state.jobs.list) ⊎ EchoesOne old new
 
 -- a front was fed, and its frames are answered behind what is unsent
-pub record Serves (old : Server Plain Plain) (front : List ℕ) (new : Server Plain Plain) : Type 0 where
+pub record Serves (old : ServerCore Plain Plain) (front : List ℕ) (new : ServerCore Plain Plain) : Type 0 where
   pub frames : List Incoming
   pub answers : List ℕ
-  pub fed : Fed old.held front frames new.held
+  pub fed : Fed old.connection.decoder front frames new.connection.decoder
   pub are_answers : AreAnswers frames answers
-  pub more : unsent new.core.queue ≡ unsent old.core.queue ++ answers
-  pub jobs : new.core.last_job ≤ old.core.last_job + length frames
+  pub more : unsent new.connection.outbox.queue ≡ unsent old.connection.outbox.queue ++ answers
+  pub jobs : new.state.jobs.last ≤ old.state.jobs.last + length frames
 
 -- the piece has so many frames that job ids are used up
-abbrev pub UsesUp : Server Plain Plain → List ℕ → Type 0
-UsesUp old piece = (before : List ℕ) → Holds old.held before → (frames : List Incoming) × (new : Held) × Fed old.held piece frames new × (2 ^ 64 ≤ old.core.last_job + length frames)
+abbrev pub UsesUp : ServerCore Plain Plain → List ℕ → Type 0
+UsesUp old piece = (before : List ℕ) → Holds old.connection.decoder before → (frames : List Incoming) × (new : Held) × Fed old.connection.decoder piece frames new × (2 ^ 64 ≤ old.state.jobs.last + length frames)
 
 -- why a piece isn't served to its end
-abbrev pub IsStop : Server Plain Plain → List ℕ → Error → Type 0
+abbrev pub IsStop : ServerCore Plain Plain → List ℕ → Error → Type 0
 IsStop old piece e = (e ≡ NoMemory) ⊎ ((e ≡ Others (codes "job ids are used up")) × UsesUp old piece)
 
 -- What was unsent left, as far as the writer took it.
-pub record WritesOut (old : Server Plain Plain) (holding : Option (List ℕ)) (new : Server Plain Plain) (holds : Option (List ℕ)) : Type 0 where
+pub record WritesOut (old : ServerCore Plain Plain) (holding : Option (List ℕ)) (new : ServerCore Plain Plain) (holds : Option (List ℕ)) : Type 0 where
   pub bytes : List ℕ
-  pub sent : unsent old.core.queue ≡ bytes ++ unsent new.core.queue
+  pub sent : unsent old.connection.outbox.queue ≡ bytes ++ unsent new.connection.outbox.queue
   pub wrote : Appends holding holds bytes
-  pub held : new.held ≡ old.held
-  pub last_job : new.core.last_job ≡ old.core.last_job
+  pub held : new.connection.decoder ≡ old.connection.decoder
+  pub last_job : new.state.jobs.last ≡ old.state.jobs.last

@@ -63,10 +63,10 @@ fn ask(alloc: Global, client: &mut EchoClient, request: &Request) -> Result<Vec<
 
 /// All that a client has to write.
 fn lent_bytes(alloc: Global, client: &mut EchoClient) -> Result<Vec<u8>, AllocError>
-    requires alive { client.old.core.failure ≡ None }
-    requires queue { IsQueue client.old.core.queue }
+    requires alive { client.old.connection.failure ≡ None }
+    requires queue { IsQueue client.old.connection.outbox.queue }
     ensures all { IfOk result (λ bytes. LendsAll client.old bytes.items client.new) }
-    ensures done { OnOk result (unsent client.new.core.queue ≡ []) }
+    ensures done { OnOk result (unsent client.new.connection.outbox.queue ≡ []) }
 {
     let mut bytes = Vec::new(alloc);
     let mut buffer = [0u8; PIECE];

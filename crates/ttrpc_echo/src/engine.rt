@@ -2,11 +2,11 @@
 ghost use Rattle.std.specs.Prelude.{◌≡◌, ◌≢◌, ◌<◌, ◌≤◌, ℕ, List, Option, [], None, length, take, drop, IfOk, IfErr, OnOk, OnErr, MatchResult};
 ghost use Rattle.ttrpc_error.specs.declared.error.Error.TheVariants.{NoMemory};
 ghost use Rattle.ttrpc_frame.specs.Frames.{nothing};
-ghost use Rattle.ttrpc_core.specs.Failure.{IsTold, error_of};
-ghost use Rattle.ttrpc_core.specs.declared.failure.Failure.TheVariants.{DisconnectedInside};
+ghost use Rattle.ttrpc_connection.specs.Failure.{IsTold, error_of};
+ghost use Rattle.ttrpc_connection.specs.declared.failure.Failure.TheVariants.{DisconnectedInside};
 ghost use Rattle.ttrpc_echo.specs.Echo.{echo_of};
 ghost use Rattle.ttrpc_echo.specs.Answered.{AnsweredAll, Fails, IsOfSystem};
-ghost use Rattle.ttrpc_echo.specs.Serving.{plain_halves, IsFresh, IsReady, IsStop, Echoes, Serves, WritesOut};
+ghost use Rattle.ttrpc_echo.specs.Serving.{IsFresh, IsReady, IsStop, Echoes, Serves, WritesOut};
 ghost use Rattle.ttrpc_frame.specs.Queue.{unsent};
 ghost use Rattle.std.specs.Io.KnownBytes.{Appends, Keeps, ReadConsumes};
 ghost use Rattle.std.specs.Io.{ReadsAtMost};
@@ -14,10 +14,10 @@ ghost use Rattle.std.specs.Io.{ReadsAtMost};
 use std::alloc::Global;
 use std::io::{ErrorKind, Read, Write};
 use ttrpc_codec::WireMessage;
-use ttrpc_core::{Job, Registry, Rules, ServerCore, ServiceNames};
 use ttrpc_error::Error;
 use ttrpc_proto::{Response, Status};
 use ttrpc_secure::Plain;
+use ttrpc_server::{Job, Registry, Rules, ServerCore, ServiceNames};
 use ttrpc_values::{Sequence, Text};
 
 /// How many bytes are read, and written, at once.
@@ -67,9 +67,9 @@ fn answer_all<R: Read, W: Write>(
 
 /// The input has ended.
 fn finish(alloc: Global, core: &mut EchoCore) -> Result<(), Error>
-    requires alive { core.old.core.failure ≡ None }
-    ensures ok { OnOk result (core.old.held ≡ nothing) }
-    ensures err { IfErr result (λ e. (core.old.held ≢ nothing) × IsTold (error_of DisconnectedInside) e) }
+    requires alive { core.old.connection.failure ≡ None }
+    ensures ok { OnOk result (core.old.connection.decoder ≡ nothing) }
+    ensures err { IfErr result (λ e. (core.old.connection.decoder ≢ nothing) × IsTold (error_of DisconnectedInside) e) }
 {
     if core.at_boundary() {
         return Ok(());
@@ -112,7 +112,7 @@ fn echo(alloc: Global, job: Job) -> Response
 
 /// Answers the job that waits, if there is one.
 fn echo_next(alloc: Global, core: &mut EchoCore) -> Result<(), Error>
-    requires { core.old.core.failure ≡ None }
+    requires { core.old.connection.failure ≡ None }
     ensures ok { OnOk result (Echoes core.old core.new) }
     ensures err { IfErr result (λ e. e ≡ NoMemory) }
 {
@@ -120,7 +120,7 @@ fn echo_next(alloc: Global, core: &mut EchoCore) -> Result<(), Error>
         None => Ok(()),
         Some(job) => {
             let id = job.id;
-            core.answer(alloc, id, Ok(echo(alloc, job)))
+            core.answer(alloc, id, &Ok(echo(alloc, job)))
         }
     }
 }
@@ -156,7 +156,7 @@ fn write_out<W: Write>(core: &mut EchoCore, writer: &mut W) -> Result<(), Error>
     requires { IsReady core.old }
     ensures ready { IsReady core.new }
     ensures wrote { WritesOut core.old (W.contents writer.old) core.new (W.contents writer.new) }
-    ensures all { OnOk result (unsent core.new.core.queue ≡ []) }
+    ensures all { OnOk result (unsent core.new.connection.outbox.queue ≡ []) }
     ensures err { IfErr result IsOfSystem }
 {
     let mut buffer = [0u8; PIECE];

@@ -166,7 +166,7 @@ holds_kept head body size short less =
 holds_passed : (head : List ℕ) (counted : ℕ) → length head ≡ 10 → 4194304 < (header_of head).length → counted < (header_of head).length
     → Holds (record { bytes = head; counted = counted }) (head ++ replicate counted 0)
 holds_passed head counted size over less =
-    let more = replicate counted 0 in
+    let more : List ℕ = replicate counted 0 in
     let m : length more ≡ counted = length-replicate counted 0 in
     let l : length (head ++ more) ≡ 10 + length more = length-append head more ∙ rw size refl in
     let h : header_of (head ++ more) ≡ header_of head = header_front head more size in

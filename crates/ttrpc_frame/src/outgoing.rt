@@ -151,6 +151,13 @@ impl Outgoing {
         count
     }
 
+    /// How many bytes are left of the first frame: as many as a `lend` gives where all fit.
+    pub fn open_len(&self) -> usize
+        ensures { result ≡ length (open_part self.now) }
+    {
+        first_length(&self.frames) - self.reported
+    }
+
     /// How many bytes the last `lend` since the last report gave.
     pub fn lent(&self) -> usize
         ensures { result ≡ self.now.lent }

@@ -203,6 +203,14 @@ impl<O: OutboundTransform + Drop, I: InboundTransform + Drop> ServerCore<O, I> {
         self.connection.wrote(n)
     }
 
+    /// How many bytes a `lend` gives where all fit. Takes no memory.
+    pub fn lendable(&self) -> usize
+        ensures { result ≡ (if is_some self.now.connection.failure then 0
+            else length (open_part self.now.connection.outbox.queue)) }
+    {
+        self.connection.lendable()
+    }
+
     /// Whether anything is left to be written, which it won't be after a failure. Takes no memory.
     pub fn has_unsent(&self) -> bool
         ensures { (result ≡ true) ↔ (unsent self.now.connection.outbox.queue ≢ []) }

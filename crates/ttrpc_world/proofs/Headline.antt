@@ -1,10 +1,10 @@
 -- THE HEADLINE, for any run from a fresh start: each step keeps the invariant, and the invariant has the headline in it.
 use Rattle.std.proofs.Common.{◌≡◌, ℕ, List, [], ◌∷◌, ◌++◌, Bool, false, Some, None, refl, sym, ap, subst, inl, inr, append_assoc}
 use Rattle.std.proofs.lemmas.List.{append-nil}
-use Rattle.ttrpc_core.specs.Happens.{Halves}
-use Rattle.ttrpc_core.specs.Server.{Server, new_server}
-use Rattle.ttrpc_core.specs.Server as server
-use Rattle.ttrpc_client.specs.Client.{Client, new_client}
+use Rattle.ttrpc_connection.specs.declared.failure.Failure.TheVariants.{Told}
+use Rattle.ttrpc_server.specs.declared.server.ServerCore.{ServerCore}
+use Rattle.ttrpc_server.specs.Jobs as server
+use Rattle.ttrpc_client.specs.declared.client.ClientCore.{ClientCore}
 use Rattle.ttrpc_client.specs.Client as client
 use Rattle.ttrpc_flight.proofs.Bytes.{none_in_flight}
 use Rattle.ttrpc_flight.proofs.Seals.{none_linked}
@@ -14,7 +14,7 @@ use Rattle.ttrpc_world.specs.declared.events.Event.TheVariants.{Call, Open, Outc
 use Rattle.ttrpc_world.specs.declared.events.Reply.{Reply}
 use Rattle.ttrpc_world.specs.declared.events.Reply.TheVariants.{Named, Outcome as Given, Handed, Done, Count, Refused, NoMemory, NoStep}
 use Rattle.ttrpc_world.specs.declared.events.Entry.{Entry}
-use Rattle.ttrpc_world.specs.Net.{Net, IsFresh}
+use Rattle.ttrpc_world.specs.Net.{Halves, Net, IsFresh}
 use Rattle.ttrpc_world.specs.Steps.{Runs, Steps, failed_by_hand}
 use Rattle.ttrpc_world.specs.Story.{IsExactlyOnce, IsRightAt, IsStreamOf, act_of, acts}
 use Rattle.ttrpc_world.proofs.Stages.{Ends, Unborn, exactly_once}
@@ -24,7 +24,7 @@ use Rattle.ttrpc_world.proofs.Keeps.{Keeps, keeps_ask, keeps_call, keeps_drop, k
 use Rattle.ttrpc_world.proofs.Serves.{keeps_answer, keeps_hand}
 use Rattle.ttrpc_world.proofs.Moves.{break_down, break_up, carry_down, carry_up, client_fails, cut_down, cut_up, deliver_down, deliver_up, server_fails}
 
-module _ {CO CI SO SI : Type 0} (c : Halves CO CI) (s : Halves SO SI) (seals : Bool) (still : seals ≡ false → (from to : CO) (plain aad sealed : List ℕ) → c.seals from plain aad sealed to → to ≡ from)
+module _ {CO CI SO SI : Type 0} (c : Halves CO CI) (s : Halves SO SI) (seals : Bool) (still : seals ≡ false → (from to : CO) (plain aad sealed : List ℕ) → c.out.seals from plain aad sealed to → to ≡ from)
     (stream_of : ℕ → ℕ) where
   abbrev Kept : List Entry → Net CO CI SO SI → Type 0
   Kept trace w = Keeps c s stream_of trace w
@@ -51,7 +51,6 @@ module _ {CO CI SO SI : Type 0} (c : Halves CO CI) (s : Halves SO SI) (seals : B
   keeps trace w Take (Handed None) v i r p = same trace w Take (Handed None) v (λ k. refl) i p.same
   keeps trace w (Answer id result) Done v i r p = along _ _ v p.only (keeps_answer c s seals stream_of trace w id result v.server i p.does)
   keeps trace w (Answer id result) (Refused told) v i r p = same trace w (Answer id result) (Refused told) v (λ k. refl) i p.1
-  keeps trace w (Answer id result) NoMemory v i r p = same trace w (Answer id result) NoMemory v (λ k. refl) i p
   keeps trace w (Answer id result) NoStep v i r p = same trace w (Answer id result) NoStep v (λ k. refl) i p.1
   keeps trace w (Tick now) Done v i r p = along _ _ v p.only (keeps_tick c s seals still stream_of trace w now v i p)
   keeps trace w (Tick now) NoStep v i r p = same trace w (Tick now) NoStep v (λ k. refl) i p.1
@@ -68,9 +67,9 @@ module _ {CO CI SO SI : Type 0} (c : Halves CO CI) (s : Halves SO SI) (seals : B
   keeps trace w (Cut side.Server keep) Done v i r p = cut_up c s seals stream_of _ w keep v (quietly trace w (Cut side.Server keep) Done (λ k. refl) i) p
   keeps trace w (Cut side.Client keep) Done v i r p = cut_down c s seals stream_of _ w keep v (quietly trace w (Cut side.Client keep) Done (λ k. refl) i) p
   keeps trace w (Fail side.Client) Done v i r p =
-      along _ _ v p (client_fails c s seals stream_of (with_entry trace (Fail side.Client) Done) w failed_by_hand (quietly trace w (Fail side.Client) Done (λ k. refl) i))
+      along _ _ v p (client_fails c s seals stream_of (with_entry trace (Fail side.Client) Done) w (Told failed_by_hand) (quietly trace w (Fail side.Client) Done (λ k. refl) i))
   keeps trace w (Fail side.Server) Done v i r p =
-      along _ _ v p (server_fails c s seals stream_of (with_entry trace (Fail side.Server) Done) w failed_by_hand (quietly trace w (Fail side.Server) Done (λ k. refl) i))
+      along _ _ v p (server_fails c s seals stream_of (with_entry trace (Fail side.Server) Done) w (Told failed_by_hand) (quietly trace w (Fail side.Server) Done (λ k. refl) i))
   keeps trace w (Fail at) NoMemory v i r p = same trace w (Fail at) NoMemory v (λ k. refl) i p
   keeps trace w (Open request up down) NoStep v i r p = same trace w (Open request up down) NoStep v (λ k. refl) i p
   keeps trace w (Recv at id) NoStep v i r p = same trace w (Recv at id) NoStep v (λ k. refl) i p
@@ -101,16 +100,16 @@ module _ {CO CI SO SI : Type 0} (c : Halves CO CI) (s : Halves SO SI) (seals : B
       young = λ y. refl;
       works_is = refl;
       ups_is = refl;
-      jobs_is = ap (λ (x : Server SO SI). server.jobs_at x.core.jobs k) f.server;
+      jobs_is = ap (λ (x : ServerCore SO SI). server.jobs_at x.state.jobs.list k) f.server;
       downs_is = refl;
-      ends = subst (λ (x : Client CO CI). Ends Unborn [] (client.call_at x.core k)) (sym f.client) (inl refl);
+      ends = subst (λ (x : ClientCore CO CI). Ends Unborn [] (client.call_at x.state k)) (sym f.client) (inl refl);
     };
-    known = subst (λ (x : Server SO SI). AreKnown stream_of x.core.jobs) (sym f.server) tt;
+    known = subst (λ (x : ServerCore SO SI). AreKnown stream_of x.state.jobs.list) (sym f.server) tt;
     own = tt;
     up_bytes = λ alive. rw (f.server, f.up, f.client) (record { transit = []; queued = []; all = refl; bytes = none_in_flight });
     down_bytes = λ alive. rw (f.client, f.down, f.server) (record { transit = []; queued = []; all = refl; bytes = none_in_flight });
-    up_linked = λ alive. none_linked c.seals s.opens s.refuses_opening w.client.core.outbound w.server.core.inbound f.up_paired;
-    down_linked = λ alive. none_linked s.seals c.opens c.refuses_opening w.server.core.outbound w.client.core.inbound f.down_paired;
+    up_linked = λ alive. none_linked c.out.seals s.in_.opens s.in_.refuses w.client.connection.outbox.half w.server.connection.inbound f.up_paired;
+    down_linked = λ alive. none_linked s.out.seals c.in_.opens c.in_.refuses w.server.connection.outbox.half w.client.connection.inbound f.down_paired;
   }
 
   pub headline : (w : Net CO CI SO SI) (trace : List Entry) (v : Net CO CI SO SI) → IsFresh c s w → Runs c s seals w trace v → IsStreamOf stream_of trace → (k : ℕ) → IsExactlyOnce (acts stream_of k trace)

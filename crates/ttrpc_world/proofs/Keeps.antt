@@ -7,15 +7,19 @@ use Rattle.ttrpc_proto.specs.declared.request.Request.{Request}
 use Rattle.ttrpc_proto.specs.declared.response.Response.{Response}
 use Rattle.ttrpc_frame.specs.Frames.{Held}
 use Rattle.ttrpc_frame.specs.Queue.{Queue, without}
-use Rattle.ttrpc_core.specs.Happens.{Halves}
-use Rattle.ttrpc_core.specs.Server.{Core, Server}
-use Rattle.ttrpc_core.specs.Server as server
+use Rattle.ttrpc_connection.specs.declared.connection.Connection.{Connection}
+use Rattle.ttrpc_connection.specs.declared.failure.Failure.{Failure}
+use Rattle.ttrpc_connection.specs.declared.outbox.Outbox.{Outbox}
+use Rattle.ttrpc_server.specs.Jobs as server
+use Rattle.ttrpc_client.specs.declared.call.Call.{Call}
+use Rattle.ttrpc_client.specs.declared.call.Call.TheVariants.{Waiting, Expired, Ended}
 use Rattle.ttrpc_client.specs.declared.kind.ClientKind.{ClientKind}
 use Rattle.ttrpc_client.specs.declared.kind.ClientKind.TheVariants.{Sync, Async}
-use Rattle.ttrpc_client.specs.Client.{Client, deadline_of, throws}
+use Rattle.ttrpc_client.specs.declared.client.ClientCore.{ClientCore}
+use Rattle.ttrpc_client.specs.Client.{deadline_of, throws}
 use Rattle.ttrpc_client.specs.Client as client
-use Rattle.ttrpc_client.specs.Happens.{Forgets, Ticks, due_ids, takes_back, without_all}
-use Rattle.ttrpc_client.specs.Turns.{Passes}
+use Rattle.ttrpc_client.specs.Happens.{Forgets, Ticks, forgotten, queue_left, takes_back, without_all}
+use Rattle.ttrpc_client.specs.Calls.{Passes}
 use Rattle.ttrpc_flight.specs.Flight.{Flying, AreInFlight, AreLinked, IsOwnRequest, parcels}
 use Rattle.ttrpc_flight.proofs.Bytes.{placed_in_flight}
 use Rattle.ttrpc_flight.proofs.Losing.{all_joined}
@@ -27,7 +31,7 @@ use Rattle.ttrpc_world.specs.declared.events.Reply.{Reply}
 use Rattle.ttrpc_world.specs.declared.events.Reply.TheVariants.{Named, Outcome as Given, Done}
 use Rattle.ttrpc_world.specs.declared.events.Entry.{Entry}
 use Rattle.ttrpc_world.specs.Pipes.{Pipe}
-use Rattle.ttrpc_world.specs.Net.{Net, with_client}
+use Rattle.ttrpc_world.specs.Net.{Halves, Net, with_client}
 use Rattle.ttrpc_world.specs.Steps.{Asks, Calls, Forgot, Ticked}
 use Rattle.ttrpc_world.specs.Story.{Called, act_of, acts}
 use Rattle.ttrpc_world.proofs.Stages.{Story}
@@ -42,13 +46,13 @@ use Rattle.ttrpc_world.proofs.Throws.{AreSingle, InFlight, Thrown, throw_all, th
 pub record Keeps {CO CI SO SI : Type 0} (c : Halves CO CI) (s : Halves SO SI) (stream_of : ℕ → ℕ) (trace : List Entry) (w : Net CO CI SO SI) : Type 0 where
   pub up : List Flying
   pub down : List Flying
-  pub stories : Stories stream_of trace up down w.client.core.next w.server.core.jobs (client.call_at w.client.core)
-  pub known : AreKnown stream_of w.server.core.jobs
+  pub stories : Stories stream_of trace up down w.client.state.next w.server.state.jobs.list (client.call_at w.client.state)
+  pub known : AreKnown stream_of w.server.state.jobs.list
   pub own : AllByRecursion IsOwnRequest up
-  pub up_bytes : w.server.core.failure ≡ None → InFlight w.server.held w.up w.client.core.queue up
-  pub down_bytes : w.client.core.failure ≡ None → InFlight w.client.held w.down w.server.core.queue down
-  pub up_linked : w.server.core.failure ≡ None → AreLinked c.seals s.opens s.refuses_opening up w.client.core.outbound w.server.core.inbound
-  pub down_linked : w.client.core.failure ≡ None → AreLinked s.seals c.opens c.refuses_opening down w.server.core.outbound w.client.core.inbound
+  pub up_bytes : w.server.connection.failure ≡ None → InFlight w.server.connection.decoder w.up w.client.connection.outbox.queue up
+  pub down_bytes : w.client.connection.failure ≡ None → InFlight w.client.connection.decoder w.down w.server.connection.outbox.queue down
+  pub up_linked : w.server.connection.failure ≡ None → AreLinked c.out.seals s.in_.opens s.in_.refuses up w.client.connection.outbox.half w.server.connection.inbound
+  pub down_linked : w.client.connection.failure ≡ None → AreLinked s.out.seals c.in_.opens c.in_.refuses down w.server.connection.outbox.half w.client.connection.inbound
 
 -- one more flight is queued
 pub placed : (held : Held) (p : Pipe) (q : Queue) (flights : List Flying) (x : Flying) (r : Queue) → InFlight held p q flights → ((transit queued : List Flying) → AreInFlight held p.bytes p.cut q transit queued → AreInFlight held p.bytes p.cut r transit (queued ++ x ∷ []))
@@ -74,18 +78,25 @@ throws_unsealed Sync seals e = cc
 throws_unsealed Async false e = refl
 throws_unsealed Async true e = cc
 
+-- dropping leaves nothing of a call
+all_forgotten : (e : Option Call) → forgotten e ≡ None
+all_forgotten None = refl
+all_forgotten (Some (Waiting deadline)) = refl
+all_forgotten (Some Expired) = refl
+all_forgotten (Some (Ended outcome)) = refl
+
 chosen_none : {X : Type 0} (b : Bool) (x y : Option X) → (b ≡ true → y ≡ None) → (if b then x else y) ≡ None → y ≡ None
 chosen_none true x y lives e = lives refl
 chosen_none false x y lives e = e
 
-module _ {CO CI SO SI : Type 0} (c : Halves CO CI) (s : Halves SO SI) (seals : Bool) (still : seals ≡ false → (from to : CO) (plain aad sealed : List ℕ) → c.seals from plain aad sealed to → to ≡ from)
+module _ {CO CI SO SI : Type 0} (c : Halves CO CI) (s : Halves SO SI) (seals : Bool) (still : seals ≡ false → (from to : CO) (plain aad sealed : List ℕ) → c.out.seals from plain aad sealed to → to ≡ from)
     (stream_of : ℕ → ℕ) (trace : List Entry) where
   -- nothing happened
   pub keeps_still : (w : Net CO CI SO SI) (event : Event) (reply : Reply) → ((k : ℕ) → act_of stream_of k event reply ≡ []) → Keeps c s stream_of trace w → Keeps c s stream_of (with_entry trace event reply) w
   keeps_still w event reply q i = record {
     up = i.up;
     down = i.down;
-    stories = stories_silent stream_of trace event reply i.up i.down w.client.core.next w.server.core.jobs (client.call_at w.client.core) q i.stories;
+    stories = stories_silent stream_of trace event reply i.up i.down w.client.state.next w.server.state.jobs.list (client.call_at w.client.state) q i.stories;
     known = i.known;
     own = i.own;
     up_bytes = i.up_bytes;
@@ -97,120 +108,124 @@ module _ {CO CI SO SI : Type 0} (c : Halves CO CI) (s : Halves SO SI) (seals : B
   -- A call is accepted.
   pub keeps_call : (w : Net CO CI SO SI) (request : Request) (id : ℕ) (v : Net CO CI SO SI) → Keeps c s stream_of trace w → Calls c s seals w request id v → Keeps c s stream_of (with_entry trace (CallEvent request) (Named id)) (with_client w v.client)
   keeps_call w request id v i p =
-      let r = sends_request c w.client request w.moment id v.client p.known p.does in
+      let r = sends_request c.out w.client request w.moment id v.client p.known p.does in
+      let next : v.client.state.next ≡ id + 2 = ap (λ (x : ClientCore CO CI). x.state.next) p.does.same in
       let deadline = deadline_of w.moment request.timeout_nano in
       record {
         up = i.up ++ r.x ∷ [];
         down = i.down;
         stories = λ k. elim (cases_eq id k) [
           | inl e ↦
-              subst (λ (n : ℕ). Story (v.client.core.next ≤ n) n (acts stream_of n (with_entry trace (CallEvent request) (Named id))) (parcels n (i.up ++ r.x ∷ [])) (server.jobs_at w.server.core.jobs n) (parcels n i.down) (client.call_at v.client.core n)) e
-              (calls_here (w.client.core.next ≤ id) (v.client.core.next ≤ id) id _ _ _ _ _ _ _ _ request r.x deadline (i.stories id) (omega (arith, p.does.id_is)) (λ y. absurd (let no : ⊥ = omega (arith, y, p.does.next) in no)) r.is_sent
+              subst (λ (n : ℕ). Story (v.client.state.next ≤ n) n (acts stream_of n (with_entry trace (CallEvent request) (Named id))) (parcels n (i.up ++ r.x ∷ [])) (server.jobs_at w.server.state.jobs.list n) (parcels n i.down) (client.call_at v.client.state n)) e
+              (calls_here (w.client.state.next ≤ id) (v.client.state.next ≤ id) id _ _ _ _ _ _ _ _ request r.x deadline (i.stories id) (omega (arith, p.does.id_is)) (λ y. absurd (let no : ⊥ = omega (arith, y, p.does.next) in no)) r.is_sent
               (heard stream_of id id trace (CallEvent request) (Named id) (Called request) refl refl) (parcels-push_own id r.x i.up r.is_sent.stream) p.does.own)
-          | inr e ↦ elsewhere (w.client.core.next ≤ k) (v.client.core.next ≤ k) k _ _ _ _ _ _ _ _ _ _ (i.stories k) (λ y. omega (arith, y, p.does.next, p.does.id_is))
+          | inr e ↦ elsewhere (w.client.state.next ≤ k) (v.client.state.next ≤ k) k _ _ _ _ _ _ _ _ _ _ (i.stories k) (λ y. omega (arith, y, next, p.does.id_is))
               (unheard stream_of k id trace (CallEvent request) (Named id) (Called request) refl e) (parcels-push_other k r.x i.up (λ same. e (sym r.is_sent.stream ∙ same))) refl refl (p.does.others k (λ same. e (sym same)))
         ];
         known = i.known;
         own = all_joined IsOwnRequest i.up (r.x ∷ []) i.own (r.own, tt);
-        up_bytes = λ alive. placed w.server.held w.up w.client.core.queue i.up r.x v.client.core.queue (i.up_bytes alive)
-            (λ transit queued a. subst (λ (q : Queue). AreInFlight w.server.held w.up.bytes w.up.cut q transit (queued ++ r.x ∷ [])) (sym r.queue) (placed_in_flight w.server.held w.up.bytes w.up.cut w.client.core.queue transit queued r.x r.sound a));
-        down_bytes = λ alive. subst (λ (h : Held). InFlight h w.down w.server.core.queue i.down) (sym p.does.held) (i.down_bytes p.does.alive);
-        up_linked = λ alive. more_linked c.seals s.opens s.refuses_opening i.up w.client.core.outbound w.server.core.inbound r.x v.client.core.outbound (i.up_linked alive) r.seal;
-        down_linked = λ alive. subst (λ (t : CI). AreLinked s.seals c.opens c.refuses_opening i.down w.server.core.outbound t) (sym p.does.inbound) (i.down_linked p.does.alive);
+        up_bytes = λ alive. placed w.server.connection.decoder w.up w.client.connection.outbox.queue i.up r.x v.client.connection.outbox.queue (i.up_bytes alive)
+            (λ transit queued a. subst (λ (q : Queue). AreInFlight w.server.connection.decoder w.up.bytes w.up.cut q transit (queued ++ r.x ∷ [])) (sym r.queue) (placed_in_flight w.server.connection.decoder w.up.bytes w.up.cut w.client.connection.outbox.queue transit queued r.x r.sound a));
+        down_bytes = λ alive. subst (λ (h : Held). InFlight h w.down w.server.connection.outbox.queue i.down) (sym (ap (λ (x : ClientCore CO CI). x.connection.decoder) p.does.same)) (i.down_bytes p.does.alive);
+        up_linked = λ alive. more_linked c.out.seals s.in_.opens s.in_.refuses i.up w.client.connection.outbox.half w.server.connection.inbound r.x v.client.connection.outbox.half (i.up_linked alive) r.seal;
+        down_linked = λ alive. subst (λ (t : CI). AreLinked s.out.seals c.in_.opens c.in_.refuses i.down w.server.connection.outbox.half t) (sym (ap (λ (x : ClientCore CO CI). x.connection.inbound) p.does.same)) (i.down_linked p.does.alive);
       }
 
   abbrev Left : Net CO CI SO SI → Queue → List Flying → Type 0
-  Left w q flights = Thrown c.seals s.opens s.refuses_opening w.server.core.failure w.server.held w.up q w.client.core.outbound w.server.core.inbound flights
+  Left w q flights = Thrown c.out.seals s.in_.opens s.in_.refuses w.server.connection.failure w.server.connection.decoder w.up q w.client.connection.outbox.half w.server.connection.inbound flights
 
   -- the stories of what is left
-  left_stories : (w : Net CO CI SO SI) (q : Queue) (i : Keeps c s stream_of trace w) → (t : Left w q i.up) → Stories stream_of trace t.left i.down w.client.core.next w.server.core.jobs (client.call_at w.client.core)
-  left_stories w q i t = λ k. thrown_here (w.client.core.next ≤ k) k (acts stream_of k trace) (parcels k i.up) (parcels k t.left) (server.jobs_at w.server.core.jobs k) (parcels k i.down) (client.call_at w.client.core k) (i.stories k) (t.parts k)
+  left_stories : (w : Net CO CI SO SI) (q : Queue) (i : Keeps c s stream_of trace w) → (t : Left w q i.up) → Stories stream_of trace t.left i.down w.client.state.next w.server.state.jobs.list (client.call_at w.client.state)
+  left_stories w q i t = λ k. thrown_here (w.client.state.next ≤ k) k (acts stream_of k trace) (parcels k i.up) (parcels k t.left) (server.jobs_at w.server.state.jobs.list k) (parcels k i.down) (client.call_at w.client.state k) (i.stories k) (t.parts k)
 
   -- what is kept of calls changes, requests may be thrown away, and the connection may fail
-  client_changes : (w : Net CO CI SO SI) (event : Event) (reply : Reply) (x : Client CO CI) → (i : Keeps c s stream_of trace w) → x.held ≡ w.client.held → x.core.outbound ≡ w.client.core.outbound → x.core.inbound ≡ w.client.core.inbound
-      → (x.core.failure ≡ None → w.client.core.failure ≡ None) → (t : Left w x.core.queue i.up)
-      → (Stories stream_of trace t.left i.down w.client.core.next w.server.core.jobs (client.call_at w.client.core) → Stories stream_of (with_entry trace event reply) t.left i.down x.core.next w.server.core.jobs (client.call_at x.core))
+  client_changes : (w : Net CO CI SO SI) (event : Event) (reply : Reply) (x : ClientCore CO CI) → (i : Keeps c s stream_of trace w) → x.held ≡ w.client.connection.decoder → x.connection.outbox.half ≡ w.client.connection.outbox.half → x.connection.inbound ≡ w.client.connection.inbound
+      → (x.connection.failure ≡ None → w.client.connection.failure ≡ None) → (t : Left w x.connection.outbox.queue i.up)
+      → (Stories stream_of trace t.left i.down w.client.state.next w.server.state.jobs.list (client.call_at w.client.state) → Stories stream_of (with_entry trace event reply) t.left i.down x.state.next w.server.state.jobs.list (client.call_at x.state))
       → Keeps c s stream_of (with_entry trace event reply) (with_client w x)
   client_changes w event reply x i held outbound inbound lives t stories = record {
     up = t.left;
     down = i.down;
-    stories = stories (left_stories w x.core.queue i t);
+    stories = stories (left_stories w x.connection.outbox.queue i t);
     known = i.known;
     own = t.own;
     up_bytes = t.bytes;
-    down_bytes = λ alive. subst (λ (h : Held). InFlight h w.down w.server.core.queue i.down) (sym held) (i.down_bytes (lives alive));
-    up_linked = λ alive. subst (λ (o : CO). AreLinked c.seals s.opens s.refuses_opening t.left o w.server.core.inbound) (sym outbound) (t.linked alive);
-    down_linked = λ alive. subst (λ (o : CI). AreLinked s.seals c.opens c.refuses_opening i.down w.server.core.outbound o) (sym inbound) (i.down_linked (lives alive));
+    down_bytes = λ alive. subst (λ (h : Held). InFlight h w.down w.server.connection.outbox.queue i.down) (sym held) (i.down_bytes (lives alive));
+    up_linked = λ alive. subst (λ (o : CO). AreLinked c.out.seals s.in_.opens s.in_.refuses t.left o w.server.connection.inbound) (sym outbound) (t.linked alive);
+    down_linked = λ alive. subst (λ (o : CI). AreLinked s.out.seals c.in_.opens c.in_.refuses i.down w.server.connection.outbox.half o) (sym inbound) (i.down_linked (lives alive));
   }
 
   -- nothing is thrown away
-  same_queue : (w : Net CO CI SO SI) (q : Queue) → (i : Keeps c s stream_of trace w) → q ≡ w.client.core.queue → Left w q i.up
+  same_queue : (w : Net CO CI SO SI) (q : Queue) → (i : Keeps c s stream_of trace w) → q ≡ w.client.connection.outbox.queue → Left w q i.up
   same_queue w q i same = record {
     left = i.up;
     parts = λ k. inl refl;
     own = i.own;
-    bytes = λ alive. subst (λ (r : Queue). InFlight w.server.held w.up r i.up) (sym same) (i.up_bytes alive);
+    bytes = λ alive. subst (λ (r : Queue). InFlight w.server.connection.decoder w.up r i.up) (sym same) (i.up_bytes alive);
     linked = i.up_linked;
   }
 
   single : (w : Net CO CI SO SI) → (i : Keeps c s stream_of trace w) → AreSingle i.up
-  single w i = λ k. one_up (w.client.core.next ≤ k) k (acts stream_of k trace) (parcels k i.up) (server.jobs_at w.server.core.jobs k) (parcels k i.down) (client.call_at w.client.core k) (i.stories k)
+  single w i = λ k. one_up (w.client.state.next ≤ k) k (acts stream_of k trace) (parcels k i.up) (server.jobs_at w.server.state.jobs.list k) (parcels k i.down) (client.call_at w.client.state k) (i.stories k)
 
   -- An outcome is asked for.
   pub keeps_ask : (w : Net CO CI SO SI) (id : ℕ) (given : Option (Result Response Error)) (v : Net CO CI SO SI) → Keeps c s stream_of trace w → Asks c s seals w id given v → Keeps c s stream_of (with_entry trace (Outcome id) (Given given)) (with_client w v.client)
   unfolding same_queue
   keeps_ask w id given v i p =
-      client_changes w (Outcome id) (Given given) v.client i p.does.same.held p.does.same.outbound p.does.same.inbound (λ alive. sym p.does.same.failure ∙ alive) (same_queue w v.client.core.queue i p.does.same.queue)
+      client_changes w (Outcome id) (Given given) v.client i (ap (λ (x : ClientCore CO CI). x.connection.decoder) p.does.same) (ap (λ (x : ClientCore CO CI). x.connection.outbox.half) p.does.same) (ap (λ (x : ClientCore CO CI). x.connection.inbound) p.does.same)
+      (λ alive. sym (ap (λ (x : ClientCore CO CI). x.connection.failure) p.does.same) ∙ alive) (same_queue w v.client.connection.outbox.queue i (ap (λ (x : ClientCore CO CI). x.connection.outbox.queue) p.does.same))
       (λ stories k. elim (cases_eq id k) [
         | inl e ↦
-            subst (λ (n : ℕ). Story (v.client.core.next ≤ n) n (acts stream_of n (with_entry trace (Outcome id) (Given given))) (parcels n i.up) (server.jobs_at w.server.core.jobs n) (parcels n i.down) (client.call_at v.client.core n)) e
-            (asks_here (w.client.core.next ≤ id) (v.client.core.next ≤ id) id _ _ _ _ _ w.client.core.failure _ _ given (stories id) (λ y. omega (arith, y, p.does.same.next)) p.does.gives p.does.own (asked stream_of id id trace given refl))
-        | inr e ↦ elsewhere (w.client.core.next ≤ k) (v.client.core.next ≤ k) k _ _ _ _ _ _ _ _ _ _ (stories k) (λ y. omega (arith, y, p.does.same.next)) (unasked stream_of k id trace given e) refl refl refl (p.does.others k (λ same. e (sym same)))
+            subst (λ (n : ℕ). Story (v.client.state.next ≤ n) n (acts stream_of n (with_entry trace (Outcome id) (Given given))) (parcels n i.up) (server.jobs_at w.server.state.jobs.list n) (parcels n i.down) (client.call_at v.client.state n)) e
+            (asks_here (w.client.state.next ≤ id) (v.client.state.next ≤ id) id _ _ _ _ _ w.client.connection.failure _ _ given (stories id) (λ y. omega (arith, y, ap (λ (x : ClientCore CO CI). x.state.next) p.does.same)) p.does.gives p.does.own (asked stream_of id id trace given refl))
+        | inr e ↦ elsewhere (w.client.state.next ≤ k) (v.client.state.next ≤ k) k _ _ _ _ _ _ _ _ _ _ (stories k) (λ y. omega (arith, y, ap (λ (x : ClientCore CO CI). x.state.next) p.does.same)) (unasked stream_of k id trace given e) refl refl refl (p.does.others k (λ same. e (sym same)))
       ])
 
   -- A call is forgotten.
-  drop_throws : (w : Net CO CI SO SI) (id : ℕ) (b : Bool) → (i : Keeps c s stream_of trace w) → takes_back seals w.client.core id ≡ b → Left w (if b then without w.client.core.queue id else w.client.core.queue) i.up
+  drop_throws : (w : Net CO CI SO SI) (id : ℕ) (b : Bool) → (i : Keeps c s stream_of trace w) → takes_back seals w.client id ≡ b → Left w (if b then without w.client.connection.outbox.queue id else w.client.connection.outbox.queue) i.up
   drop_throws w id true i e =
-      let unsealed = throws_unsealed w.client.core.kind seals (if_true (throws w.client.core.kind seals) _ (alive_if w.client.core.failure _ e).1).0 in
-      throw_one c.seals s.opens s.refuses_opening (still unsealed) w.server.core.failure w.server.held w.up w.client.core.outbound w.server.core.inbound id w.client.core.queue i.up (single w i) i.own i.up_bytes i.up_linked
-  drop_throws w id false i e = same_queue w w.client.core.queue i refl
+      let unsealed = throws_unsealed w.client.state.kind seals (if_true (throws w.client.state.kind seals) _ (alive_if w.client.connection.failure _ e).1).0 in
+      throw_one c.out.seals s.in_.opens s.in_.refuses (still unsealed) w.server.connection.failure w.server.connection.decoder w.up w.client.connection.outbox.half w.server.connection.inbound id w.client.connection.outbox.queue i.up (single w i) i.own i.up_bytes i.up_linked
+  drop_throws w id false i e = same_queue w w.client.connection.outbox.queue i refl
 
-  drop_lives : (w : Net CO CI SO SI) (id : ℕ) (x : Client CO CI) → Forgets seals w.client id x → x.core.failure ≡ None → w.client.core.failure ≡ None
-  drop_lives w id x f alive = chosen_none (takes_back seals w.client.core id) _ w.client.core.failure (λ e. (alive_if w.client.core.failure _ e).0) (sym f.failure ∙ alive)
+  drop_lives : (w : Net CO CI SO SI) (id : ℕ) (x : ClientCore CO CI) → Forgets seals w.client id x → x.connection.failure ≡ None → w.client.connection.failure ≡ None
+  drop_lives w id x f alive = chosen_none (takes_back seals w.client id) _ w.client.connection.failure (λ e. (alive_if w.client.connection.failure _ e).0) (sym (ap (λ (y : ClientCore CO CI). y.connection.failure) f.same) ∙ alive)
 
   pub keeps_drop : (w : Net CO CI SO SI) (id : ℕ) (v : Net CO CI SO SI) → Keeps c s stream_of trace w → Forgot c s seals w id v → Keeps c s stream_of (with_entry trace (DropCall id) Done) (with_client w v.client)
   keeps_drop w id v i p =
-      let left = subst (λ (q : Queue). Left w q i.up) (sym p.does.queue) (drop_throws w id (takes_back seals w.client.core id) i refl) in
-      client_changes w (DropCall id) Done v.client i p.does.held p.does.outbound p.does.inbound (drop_lives w id v.client p.does) left
-      (λ stories. stories_silent stream_of trace (DropCall id) Done left.left i.down v.client.core.next w.server.core.jobs (client.call_at v.client.core) (λ k. refl)
+      let left = subst (λ (q : Queue). Left w q i.up) (sym (ap (λ (x : ClientCore CO CI). x.connection.outbox.queue) p.does.same)) (drop_throws w id (takes_back seals w.client id) i refl) in
+      client_changes w (DropCall id) Done v.client i (ap (λ (x : ClientCore CO CI). x.connection.decoder) p.does.same) (ap (λ (x : ClientCore CO CI). x.connection.outbox.half) p.does.same) (ap (λ (x : ClientCore CO CI). x.connection.inbound) p.does.same)
+      (drop_lives w id v.client p.does) left
+      (λ stories. stories_silent stream_of trace (DropCall id) Done left.left i.down v.client.state.next w.server.state.jobs.list (client.call_at v.client.state) (λ k. refl)
       (λ k. elim (cases_eq id k) [
         | inl e ↦
-            subst (λ (n : ℕ). Story (v.client.core.next ≤ n) n (acts stream_of n trace) (parcels n left.left) (server.jobs_at w.server.core.jobs n) (parcels n i.down) (client.call_at v.client.core n)) e
-            (drops_here (w.client.core.next ≤ id) (v.client.core.next ≤ id) id _ _ _ _ _ _ (stories id) (λ y. omega (arith, y, p.does.next)) p.does.own)
-        | inr e ↦ elsewhere (w.client.core.next ≤ k) (v.client.core.next ≤ k) k _ _ _ _ _ _ _ _ _ _ (stories k) (λ y. omega (arith, y, p.does.next)) refl refl refl refl (p.does.others k (λ same. e (sym same)))
+            subst (λ (n : ℕ). Story (v.client.state.next ≤ n) n (acts stream_of n trace) (parcels n left.left) (server.jobs_at w.server.state.jobs.list n) (parcels n i.down) (client.call_at v.client.state n)) e
+            (drops_here (w.client.state.next ≤ id) (v.client.state.next ≤ id) id _ _ _ _ _ _ (stories id) (λ y. omega (arith, y, ap (λ (x : ClientCore CO CI). x.state.next) p.does.same)) (p.does.own ∙ all_forgotten (client.call_at w.client.state id)))
+        | inr e ↦ elsewhere (w.client.state.next ≤ k) (v.client.state.next ≤ k) k _ _ _ _ _ _ _ _ _ _ (stories k) (λ y. omega (arith, y, ap (λ (x : ClientCore CO CI). x.state.next) p.does.same)) refl refl refl refl (p.does.others k (λ same. e (sym same)))
       ]))
 
   -- A moment comes.
-  tick_throws : (w : Net CO CI SO SI) (now : ℕ) (b : Bool) → (i : Keeps c s stream_of trace w) → throws w.client.core.kind seals ≡ b → Left w (if b then without_all w.client.core.queue (due_ids now w.client.core.calls) else w.client.core.queue) i.up
-  tick_throws w now true i e =
-      throw_all c.seals s.opens s.refuses_opening (still (throws_unsealed w.client.core.kind seals e)) w.server.core.failure w.server.held w.up w.client.core.outbound w.server.core.inbound (due_ids now w.client.core.calls) w.client.core.queue i.up (single w i) i.own i.up_bytes i.up_linked
-  tick_throws w now false i e = same_queue w w.client.core.queue i refl
+  tick_throws : (w : Net CO CI SO SI) (due : List ℕ) (b : Bool) → (i : Keeps c s stream_of trace w) → throws w.client.state.kind seals ≡ b → Left w (queue_left b w.client.connection.outbox.queue due) i.up
+  tick_throws w due true i e =
+      throw_all c.out.seals s.in_.opens s.in_.refuses (still (throws_unsealed w.client.state.kind seals e)) w.server.connection.failure w.server.connection.decoder w.up w.client.connection.outbox.half w.server.connection.inbound due w.client.connection.outbox.queue i.up (single w i) i.own i.up_bytes i.up_linked
+  tick_throws w due false i e = same_queue w w.client.connection.outbox.queue i refl
 
-  tick_lives : (w : Net CO CI SO SI) (now : ℕ) (x : Client CO CI) → Keeps c s stream_of trace w → w.client.core.failure ≡ None → Ticks seals w.client now x → Keeps c s stream_of (with_entry trace (Tick now) Done) (with_client w x)
+  tick_lives : (w : Net CO CI SO SI) (now : ℕ) (x : ClientCore CO CI) → Keeps c s stream_of trace w → w.client.connection.failure ≡ None → Ticks seals w.client now x → Keeps c s stream_of (with_entry trace (Tick now) Done) (with_client w x)
   tick_lives w now x i lives p =
-      let left = subst (λ (q : Queue). Left w q i.up) (sym p.queue) (tick_throws w now (throws w.client.core.kind seals) i refl) in
-      client_changes w (Tick now) Done x i p.held p.outbound p.inbound (λ alive. lives) left
-      (λ stories. stories_silent stream_of trace (Tick now) Done left.left i.down x.core.next w.server.core.jobs (client.call_at x.core) (λ k. refl)
-      (λ k. expires_here (w.client.core.next ≤ k) (x.core.next ≤ k) k _ _ _ _ now _ _ (stories k) (λ y. omega (arith, y, p.next)) (p.calls k)))
+      let left = subst (λ (q : Queue). Left w q i.up) (sym (ap (λ (y : ClientCore CO CI). y.connection.outbox.queue) p.same)) (tick_throws w p.due (throws w.client.state.kind seals) i refl) in
+      let next : x.state.next ≡ w.client.state.next = ap (λ (y : ClientCore CO CI). y.state.next) p.same in
+      client_changes w (Tick now) Done x i (ap (λ (y : ClientCore CO CI). y.connection.decoder) p.same) (ap (λ (y : ClientCore CO CI). y.connection.outbox.half) p.same) (ap (λ (y : ClientCore CO CI). y.connection.inbound) p.same) (λ alive. lives) left
+      (λ stories. stories_silent stream_of trace (Tick now) Done left.left i.down x.state.next w.server.state.jobs.list (client.call_at x.state) (λ k. refl)
+      (λ k. expires_here (w.client.state.next ≤ k) (x.state.next ≤ k) k _ _ _ _ now _ _ (stories k) (λ y. omega (arith, y, next)) (p.calls k)))
 
-  passes : (w : Net CO CI SO SI) (now : ℕ) (x : Client CO CI) (failure : Option Error) → w.client.core.failure ≡ failure → Keeps c s stream_of trace w → Passes seals failure w.client now x → Keeps c s stream_of (with_entry trace (Tick now) Done) (with_client w x)
+  passes : (w : Net CO CI SO SI) (now : ℕ) (x : ClientCore CO CI) (failure : Option Failure) → w.client.connection.failure ≡ failure → Keeps c s stream_of trace w → Passes seals failure w.client now x → Keeps c s stream_of (with_entry trace (Tick now) Done) (with_client w x)
   passes w now x None e i p = tick_lives w now x i e p
-  passes w now x (Some error) e i p =
-      subst (λ (y : Client CO CI). Keeps c s stream_of (with_entry trace (Tick now) Done) (with_client w y)) (sym p) (keeps_still w (Tick now) Done (λ k. refl) i)
+  passes w now x (Some why) e i p =
+      subst (λ (y : ClientCore CO CI). Keeps c s stream_of (with_entry trace (Tick now) Done) (with_client w y)) (sym p) (keeps_still w (Tick now) Done (λ k. refl) i)
 
   -- the moment plays no part
   at_moment : (t : List Entry) (w : Net CO CI SO SI) (now : ℕ) → Keeps c s stream_of t w → Keeps c s stream_of t (record w { moment = now })
   at_moment t w now i = record { up = i.up; down = i.down; stories = i.stories; known = i.known; own = i.own; up_bytes = i.up_bytes; down_bytes = i.down_bytes; up_linked = i.up_linked; down_linked = i.down_linked }
 
   pub keeps_tick : (w : Net CO CI SO SI) (now : ℕ) (v : Net CO CI SO SI) → Keeps c s stream_of trace w → Ticked c s seals w now v → Keeps c s stream_of (with_entry trace (Tick now) Done) (record (with_client w v.client) { moment = now })
-  keeps_tick w now v i p = at_moment (with_entry trace (Tick now) Done) (with_client w v.client) now (passes w now v.client w.client.core.failure refl i p.does)
+  keeps_tick w now v i p = at_moment (with_entry trace (Tick now) Done) (with_client w v.client) now (passes w now v.client w.client.connection.failure refl i p.does)

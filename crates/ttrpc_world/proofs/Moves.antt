@@ -5,26 +5,25 @@ use Rattle.ttrpc_error.specs.declared.error.Error.{Error}
 use Rattle.ttrpc_frame.specs.declared.frame.Incoming.{Incoming}
 use Rattle.ttrpc_frame.specs.Frames.{Fed, Held, given, nothing}
 use Rattle.ttrpc_frame.specs.Queue.{Queue, after_report, open_part, with_lent}
-use Rattle.ttrpc_core.specs.Happens.{Halves, kept}
-use Rattle.ttrpc_core.specs.Happens as jobs
-use Rattle.ttrpc_core.specs.declared.failure.Failure.TheVariants.{Disconnected, DisconnectedInside}
-use Rattle.ttrpc_core.specs.declared.job.ActiveJob.{ActiveJob}
-use Rattle.ttrpc_core.specs.Failure.{error_of}
-use Rattle.ttrpc_client.specs.declared.call.Call.{Call}
-use Rattle.ttrpc_core.specs.Server.{Core, Server}
-use Rattle.ttrpc_core.specs.Server as server
-use Rattle.ttrpc_client.specs.Client.{Client}
-use Rattle.ttrpc_client.specs.Client as client
-use Rattle.ttrpc_client.specs.Happens as calls
-use Rattle.ttrpc_flight.specs.Flight.{Flying, AreLinked, IsOwnRequest, arrived, parcels}
+use Rattle.ttrpc_connection.specs.declared.connection.Connection.{Connection}
+use Rattle.ttrpc_connection.specs.declared.failure.Failure.{Failure}
+use Rattle.ttrpc_connection.specs.declared.failure.Failure.TheVariants.{Disconnected, DisconnectedInside}
+use Rattle.ttrpc_connection.specs.declared.outbox.Outbox.{Outbox}
+use Rattle.ttrpc_connection.specs.Failure.{kept}
+use Rattle.ttrpc_connection.specs.Feeds.{ActsAll, Scene, scene}
+use Rattle.ttrpc_server.specs.declared.job.ActiveJob.{ActiveJob}
+use Rattle.ttrpc_server.specs.Happens.{serving}
+use Rattle.ttrpc_server.specs.Server.{Server}
+use Rattle.ttrpc_client.specs.Client.{Client, call_at}
+use Rattle.ttrpc_client.specs.Happens.{calling}
+use Rattle.ttrpc_flight.specs.Flight.{Flying, AreLinked, IsOwnRequest, arrived}
+use Rattle.ttrpc_flight.proofs.Acting.{act_as_sent}
 use Rattle.ttrpc_flight.proofs.Bytes.{carried_in_flight, cut_in_flight, fed_in_flight}
 use Rattle.ttrpc_flight.proofs.Losing.{all_behind}
 use Rattle.ttrpc_world.specs.declared.events.Entry.{Entry}
 use Rattle.ttrpc_world.specs.Pipes.{Pipe, is_over}
-use Rattle.ttrpc_world.specs.Net.{Net, with_client, with_server}
-use Rattle.ttrpc_world.specs.Steps.{BreaksDown, BreaksUp, CarriesDown, CarriesUp, ClientEnds, ClientHears, CutsDown, CutsUp, DeliversDown, DeliversUp, ServerEnds, ServerHears, carried, cut_to, lent_of, taken_from}
-use Rattle.ttrpc_world.specs.Story.{acts}
-use Rattle.ttrpc_world.proofs.Stages.{Story}
+use Rattle.ttrpc_world.specs.Net.{Halves, Net, with_client, with_server}
+use Rattle.ttrpc_world.specs.Steps.{BreaksDown, BreaksUp, CarriesDown, CarriesUp, CutsDown, CutsUp, DeliversDown, DeliversUp, Hears, InputEnds, carried, cut_to, failed, lent_of, taken_from}
 use Rattle.ttrpc_world.proofs.Delivers.{AreKnown, Stories, feeds_down, feeds_up}
 use Rattle.ttrpc_world.proofs.Throws.{InFlight, not_both}
 use Rattle.ttrpc_world.proofs.Keeps.{Keeps}
@@ -33,7 +32,7 @@ use Rattle.ttrpc_world.proofs.Turns.{no_cons}
 -- ---- bytes of one way
 
 -- no more is lent than is left of the first frame
-lent_fits : (failure : Option Error) (n k : ℕ) (q : Queue) → k ≡ lent_of failure n q → k ≤ length (open_part q)
+lent_fits : (failure : Option Failure) (n k : ℕ) (q : Queue) → k ≡ lent_of failure n q → k ≤ length (open_part q)
 lent_fits None n k q e = omega (arith, e)
 lent_fits (Some x) n k q e = omega (arith, e)
 
@@ -82,9 +81,9 @@ acted (f ∷ frames) more (x ∷ front) e =
 
 -- ---- a failure is kept
 
-kept_some : (failure : Option Error) (error : Error) → kept failure error ≡ None → ⊥
-kept_some None error e = cc
-kept_some (Some first) error e = cc
+kept_some : (failure : Option Failure) (why : Failure) → kept failure why ≡ None → ⊥
+kept_some None why e = cc
+kept_some (Some first) why e = cc
 
 -- what is held is nothing, or isn't
 cases_of : (bytes : List ℕ) (counted : ℕ) → (record { bytes = bytes; counted = counted } ≡ nothing) ⊎ (record { bytes = bytes; counted = counted } ≢ nothing)
@@ -96,66 +95,56 @@ held_cases : (h : Held) → (h ≡ nothing) ⊎ (h ≢ nothing)
 held_cases h = cases_of h.bytes h.counted
 
 -- an end of input is a failure
-pub record ServerStops {O I : Type 0} (old new : Server O I) : Type 0 where
-  pub error : Error
-  pub is : new ≡ server.with_failure old (kept old.core.failure error)
+pub record Stops {O I : Type 0} (old new : Connection O I) : Type 0 where
+  pub why : Failure
+  pub is : new ≡ failed old why
 
-record ClientStops {O I : Type 0} (old new : Client O I) : Type 0 where
-  pub error : Error
-  is : new ≡ client.with_failure old (kept old.core.failure error)
-
-pub server_stops : {O I : Type 0} (old new : Server O I) → ServerEnds old new → ServerStops old new
-server_stops old new e = elim (held_cases old.held) [
-  | inl none ↦ record { error = error_of Disconnected; is = e.between none }
-  | inr some ↦ record { error = error_of DisconnectedInside; is = e.inside some }
-]
-
-client_stops : {O I : Type 0} (old new : Client O I) → ClientEnds old new → ClientStops old new
-client_stops old new e = elim (held_cases old.held) [
-  | inl none ↦ record { error = error_of Disconnected; is = e.between none }
-  | inr some ↦ record { error = error_of DisconnectedInside; is = e.inside some }
+pub stops : {O I : Type 0} (old new : Connection O I) → InputEnds old new → Stops old new
+stops old new e = elim (held_cases old.decoder) [
+  | inl none ↦ record { why = Disconnected; is = e.between none }
+  | inr some ↦ record { why = DisconnectedInside; is = e.inside some }
 ]
 
 module _ {CO CI SO SI : Type 0} (c : Halves CO CI) (s : Halves SO SI) (seals : Bool) (stream_of : ℕ → ℕ) (trace : List Entry) where
   -- a side fails
-  pub server_fails : (w : Net CO CI SO SI) (error : Error) → Keeps c s stream_of trace w → Keeps c s stream_of trace (with_server w (server.with_failure w.server (kept w.server.core.failure error)))
-  server_fails w error i = record {
+  pub server_fails : (w : Net CO CI SO SI) (why : Failure) → Keeps c s stream_of trace w → Keeps c s stream_of trace (with_server w (record w.server { connection = failed w.server.connection why }))
+  server_fails w why i = record {
     up = i.up;
     down = i.down;
     stories = i.stories;
     known = i.known;
     own = i.own;
-    up_bytes = λ alive. absurd (kept_some w.server.core.failure error alive);
+    up_bytes = λ alive. absurd (kept_some w.server.connection.failure why alive);
     down_bytes = i.down_bytes;
-    up_linked = λ alive. absurd (kept_some w.server.core.failure error alive);
+    up_linked = λ alive. absurd (kept_some w.server.connection.failure why alive);
     down_linked = i.down_linked;
   }
 
-  pub client_fails : (w : Net CO CI SO SI) (error : Error) → Keeps c s stream_of trace w → Keeps c s stream_of trace (with_client w (client.with_failure w.client (kept w.client.core.failure error)))
-  client_fails w error i = record {
+  pub client_fails : (w : Net CO CI SO SI) (why : Failure) → Keeps c s stream_of trace w → Keeps c s stream_of trace (with_client w (record w.client { connection = failed w.client.connection why }))
+  client_fails w why i = record {
     up = i.up;
     down = i.down;
     stories = i.stories;
     known = i.known;
     own = i.own;
     up_bytes = i.up_bytes;
-    down_bytes = λ alive. absurd (kept_some w.client.core.failure error alive);
+    down_bytes = λ alive. absurd (kept_some w.client.connection.failure why alive);
     up_linked = i.up_linked;
-    down_linked = λ alive. absurd (kept_some w.client.core.failure error alive);
+    down_linked = λ alive. absurd (kept_some w.client.connection.failure why alive);
   }
 
   -- its input ends, where its pipe is over
-  server_hears : (over : Bool) (w : Net CO CI SO SI) (x : Server SO SI) → Keeps c s stream_of trace w → ServerHears over w.server x → Keeps c s stream_of trace (with_server w x)
+  server_hears : (over : Bool) (w : Net CO CI SO SI) (x : Connection SO SI) → Keeps c s stream_of trace w → Hears over w.server.connection x → Keeps c s stream_of trace (with_server w (record w.server { connection = x }))
   server_hears true w x i h =
-      let stops = server_stops w.server x h in
-      subst (λ (y : Server SO SI). Keeps c s stream_of trace (with_server w y)) (sym stops.is) (server_fails w stops.error i)
-  server_hears false w x i h = subst (λ (y : Server SO SI). Keeps c s stream_of trace (with_server w y)) (sym h) i
+      let end = stops w.server.connection x h in
+      subst (λ (y : Connection SO SI). Keeps c s stream_of trace (with_server w (record w.server { connection = y }))) (sym end.is) (server_fails w end.why i)
+  server_hears false w x i h = subst (λ (y : Connection SO SI). Keeps c s stream_of trace (with_server w (record w.server { connection = y }))) (sym h) i
 
-  client_hears : (over : Bool) (w : Net CO CI SO SI) (x : Client CO CI) → Keeps c s stream_of trace w → ClientHears over w.client x → Keeps c s stream_of trace (with_client w x)
+  client_hears : (over : Bool) (w : Net CO CI SO SI) (x : Connection CO CI) → Keeps c s stream_of trace w → Hears over w.client.connection x → Keeps c s stream_of trace (with_client w (record w.client { connection = x }))
   client_hears true w x i h =
-      let stops = client_stops w.client x h in
-      subst (λ (y : Client CO CI). Keeps c s stream_of trace (with_client w y)) (sym stops.is) (client_fails w stops.error i)
-  client_hears false w x i h = subst (λ (y : Client CO CI). Keeps c s stream_of trace (with_client w y)) (sym h) i
+      let end = stops w.client.connection x h in
+      subst (λ (y : Connection CO CI). Keeps c s stream_of trace (with_client w (record w.client { connection = y }))) (sym end.is) (client_fails w end.why i)
+  client_hears false w x i h = subst (λ (y : Connection CO CI). Keeps c s stream_of trace (with_client w (record w.client { connection = y }))) (sym h) i
 
   -- Bytes are carried.
   pub carry_up : (w : Net CO CI SO SI) (n k : ℕ) (v : Net CO CI SO SI) → Keeps c s stream_of trace w → CarriesUp c s seals w n k v → Keeps c s stream_of trace v
@@ -165,7 +154,7 @@ module _ {CO CI SO SI : Type 0} (c : Halves CO CI) (s : Halves SO SI) (seals : B
     stories = i.stories;
     known = i.known;
     own = i.own;
-    up_bytes = λ alive. carries w.server.held w.up w.client.core.queue i.up k (lent_fits w.client.core.failure n k w.client.core.queue p.count) (i.up_bytes alive);
+    up_bytes = λ alive. carries w.server.connection.decoder w.up w.client.connection.outbox.queue i.up k (lent_fits w.client.connection.failure n k w.client.connection.outbox.queue p.count) (i.up_bytes alive);
     down_bytes = i.down_bytes;
     up_linked = i.up_linked;
     down_linked = i.down_linked;
@@ -179,66 +168,108 @@ module _ {CO CI SO SI : Type 0} (c : Halves CO CI) (s : Halves SO SI) (seals : B
     known = i.known;
     own = i.own;
     up_bytes = i.up_bytes;
-    down_bytes = λ alive. carries w.client.held w.down w.server.core.queue i.down k (lent_fits w.server.core.failure n k w.server.core.queue p.count) (i.down_bytes alive);
+    down_bytes = λ alive. carries w.client.connection.decoder w.down w.server.connection.outbox.queue i.down k (lent_fits w.server.connection.failure n k w.server.connection.outbox.queue p.count) (i.down_bytes alive);
     up_linked = i.up_linked;
     down_linked = i.down_linked;
   })
 
+  -- WHAT FRAMES DO THAT COME TO THE SERVER: the first flights up have acted, and the others are still in flight.
+  record ServedUp (w : Net CO CI SO SI) (i : Keeps c s stream_of trace w) (rest : List Flying) (new : Scene Server SO SI) : Type 0 where
+    more : List Flying
+    stories : Stories stream_of trace rest (i.down ++ more) w.client.state.next new.state.jobs.list (call_at w.client.state)
+    known : AreKnown stream_of new.state.jobs.list
+    own : AllByRecursion IsOwnRequest rest
+    down_bytes : w.client.connection.failure ≡ None → InFlight w.client.connection.decoder w.down new.outbox.queue (i.down ++ more)
+    up_linked : AreLinked c.out.seals s.in_.opens s.in_.refuses rest w.client.connection.outbox.half new.inbound
+    down_linked : w.client.connection.failure ≡ None → AreLinked s.out.seals c.in_.opens c.in_.refuses (i.down ++ more) new.outbox.half w.client.connection.inbound
+
+  served_up : (w : Net CO CI SO SI) (i : Keeps c s stream_of trace w) → w.server.connection.failure ≡ None → (now : ℕ) (front rest : List Flying) → front ++ rest ≡ i.up → (new : Scene Server SO SI)
+      → ActsAll (serving s.out s.in_) now (scene w.server.state w.server.connection) (map arrived front) new → ServedUp w i rest new
+  served_up w i alive now front rest all new acts =
+      let linked = subst (λ (xs : List Flying). AreLinked c.out.seals s.in_.opens s.in_.refuses xs w.client.connection.outbox.half w.server.connection.inbound) (sym all) (i.up_linked alive) in
+      let acted = act_as_sent c.out.seals (serving s.out s.in_) now front rest w.client.connection.outbox.half (scene w.server.state w.server.connection) new linked acts in
+      let u = feeds_up c s stream_of trace now front rest i.down w.client.state.next (call_at w.client.state) (scene w.server.state w.server.connection) new acted.0
+      (subst (λ (xs : List Flying). Stories stream_of trace xs i.down w.client.state.next w.server.state.jobs.list (call_at w.client.state)) (sym all) i.stories) i.known in
+      record {
+        more = u.more;
+        stories = u.stories;
+        known = u.known;
+        own = all_behind IsOwnRequest front rest (subst (λ (xs : List Flying). AllByRecursion IsOwnRequest xs) (sym all) i.own);
+        down_bytes = λ lives. let b = i.down_bytes lives in record {
+          transit = b.transit;
+          queued = b.queued ++ u.more;
+          all = sym (append_assoc b.transit b.queued u.more) ∙ ap (λ xs. xs ++ u.more) b.all;
+          bytes = u.placed w.client.connection.decoder w.down.bytes w.down.cut b.transit b.queued b.bytes;
+        };
+        up_linked = acted.1;
+        down_linked = λ lives. u.sealed i.down w.client.connection.inbound (i.down_linked lives);
+      }
+
   -- Bytes are delivered.
-  deliver_up_mid : (w : Net CO CI SO SI) (n k : ℕ) (v : Net CO CI SO SI) → Keeps c s stream_of trace w → (p : DeliversUp c s seals w n k v) → Keeps c s stream_of trace (record (with_server w p.mid) { up = taken_from w.up k })
+  deliver_up_mid : (w : Net CO CI SO SI) (n k : ℕ) (v : Net CO CI SO SI) → Keeps c s stream_of trace w → (p : DeliversUp c s seals w n k v)
+      → Keeps c s stream_of trace (record (with_server w (record { state = v.server.state; connection = p.does.mid })) { up = taken_from w.up k })
   deliver_up_mid w n k v i p =
-      let f = p.does in
-      let came_now = came w.server.held w.up w.client.core.queue i.up (take k w.up.bytes) (drop k w.up.bytes) f.frames p.mid.held (sym (take-append-drop k w.up.bytes)) f.fed (i.up_bytes f.alive) in
-      let acted_all = subst (λ (fs : List Incoming). jobs.ActsAll s w.server.core fs p.mid.core) came_now.are f.acts in
-      let u = feeds_up c s stream_of trace came_now.front came_now.rest i.down w.client.core.next (client.call_at w.client.core) w.client.core.outbound w.server.core p.mid.core acted_all
-      (subst (λ (xs : List Flying). AreLinked c.seals s.opens s.refuses_opening xs w.client.core.outbound w.server.core.inbound) (sym came_now.all) (i.up_linked f.alive))
-      (subst (λ (xs : List Flying). Stories stream_of trace xs i.down w.client.core.next w.server.core.jobs (client.call_at w.client.core)) (sym came_now.all) i.stories) i.known in
+      let f = p.does.does in
+      let came_now = came w.server.connection.decoder w.up w.client.connection.outbox.queue i.up (take k w.up.bytes) (drop k w.up.bytes) f.frames p.does.mid.decoder (sym (take-append-drop k w.up.bytes)) f.fed (i.up_bytes f.alive) in
+      let new = scene v.server.state p.does.mid in
+      let u = served_up w i f.alive w.moment came_now.front came_now.rest came_now.all new
+      (subst (λ (fs : List Incoming). ActsAll (serving s.out s.in_) w.moment (scene w.server.state w.server.connection) fs new) came_now.are f.acts) in
       record {
         up = came_now.rest;
         down = i.down ++ u.more;
         stories = u.stories;
         known = u.known;
-        own = all_behind IsOwnRequest came_now.front came_now.rest (subst (λ (xs : List Flying). AllByRecursion IsOwnRequest xs) (sym came_now.all) i.own);
+        own = u.own;
         up_bytes = λ alive. came_now.bytes;
-        down_bytes = λ alive. let b = i.down_bytes alive in record {
-          transit = b.transit;
-          queued = b.queued ++ u.more;
-          all = sym (append_assoc b.transit b.queued u.more) ∙ ap (λ xs. xs ++ u.more) b.all;
-          bytes = u.placed w.client.held w.down.bytes w.down.cut b.transit b.queued b.bytes;
-        };
-        up_linked = λ alive. u.linked;
-        down_linked = λ alive. u.sealed i.down w.client.core.inbound (i.down_linked alive);
+        down_bytes = u.down_bytes;
+        up_linked = λ alive. u.up_linked;
+        down_linked = u.down_linked;
       }
 
   pub deliver_up : (w : Net CO CI SO SI) (n k : ℕ) (v : Net CO CI SO SI) → Keeps c s stream_of trace w → DeliversUp c s seals w n k v → Keeps c s stream_of trace v
   deliver_up w n k v i p =
       subst (λ (x : Net CO CI SO SI). Keeps c s stream_of trace x) (sym p.only)
-      (server_hears (is_over (taken_from w.up k)) (record (with_server w p.mid) { up = taken_from w.up k }) v.server (deliver_up_mid w n k v i p) p.hears)
+      (server_hears (is_over (taken_from w.up k)) (record (with_server w (record { state = v.server.state; connection = p.does.mid })) { up = taken_from w.up k }) v.server.connection (deliver_up_mid w n k v i p) p.does.hears)
 
-  deliver_down_mid : (w : Net CO CI SO SI) (n k : ℕ) (v : Net CO CI SO SI) → Keeps c s stream_of trace w → (p : DeliversDown c s seals w n k v) → Keeps c s stream_of trace (record (with_client w p.mid) { down = taken_from w.down k })
+  -- WHAT FRAMES DO THAT COME TO THE CLIENT.
+  record LandedDown (w : Net CO CI SO SI) (i : Keeps c s stream_of trace w) (rest : List Flying) (new : Scene Client CO CI) : Type 0 where
+    stories : Stories stream_of trace i.up rest new.state.next w.server.state.jobs.list (call_at new.state)
+    outbox : new.outbox ≡ w.client.connection.outbox
+    linked : AreLinked s.out.seals c.in_.opens c.in_.refuses rest w.server.connection.outbox.half new.inbound
+
+  landed_down : (w : Net CO CI SO SI) (i : Keeps c s stream_of trace w) → w.client.connection.failure ≡ None → (now : ℕ) (front rest : List Flying) → front ++ rest ≡ i.down → (new : Scene Client CO CI)
+      → ActsAll (calling c.out c.in_) now (scene w.client.state w.client.connection) (map arrived front) new → LandedDown w i rest new
+  landed_down w i alive now front rest all new acts =
+      let linked = subst (λ (xs : List Flying). AreLinked s.out.seals c.in_.opens c.in_.refuses xs w.server.connection.outbox.half w.client.connection.inbound) (sym all) (i.down_linked alive) in
+      let acted = act_as_sent s.out.seals (calling c.out c.in_) now front rest w.server.connection.outbox.half (scene w.client.state w.client.connection) new linked acts in
+      let d = feeds_down c stream_of trace now front i.up rest w.server.state.jobs.list (scene w.client.state w.client.connection) new acted.0
+      (subst (λ (xs : List Flying). Stories stream_of trace i.up xs w.client.state.next w.server.state.jobs.list (call_at w.client.state)) (sym all) i.stories) in
+      record { stories = d.stories; outbox = d.outbox; linked = acted.1 }
+
+  deliver_down_mid : (w : Net CO CI SO SI) (n k : ℕ) (v : Net CO CI SO SI) → Keeps c s stream_of trace w → (p : DeliversDown c s seals w n k v)
+      → Keeps c s stream_of trace (record (with_client w (record { state = v.client.state; connection = p.does.mid })) { down = taken_from w.down k })
   deliver_down_mid w n k v i p =
-      let f = p.does in
-      let came_now = came w.client.held w.down w.server.core.queue i.down (take k w.down.bytes) (drop k w.down.bytes) f.frames p.mid.held (sym (take-append-drop k w.down.bytes)) f.fed (i.down_bytes f.alive) in
-      let acted_all = subst (λ (fs : List Incoming). calls.ActsAll c w.client.core fs p.mid.core) came_now.are f.acts in
-      let d = feeds_down c s stream_of trace came_now.front i.up came_now.rest w.server.core.jobs w.server.core.outbound w.client.core p.mid.core acted_all
-      (subst (λ (xs : List Flying). AreLinked s.seals c.opens c.refuses_opening xs w.server.core.outbound w.client.core.inbound) (sym came_now.all) (i.down_linked f.alive))
-      (subst (λ (xs : List Flying). Stories stream_of trace i.up xs w.client.core.next w.server.core.jobs (client.call_at w.client.core)) (sym came_now.all) i.stories) in
+      let f = p.does.does in
+      let came_now = came w.client.connection.decoder w.down w.server.connection.outbox.queue i.down (take k w.down.bytes) (drop k w.down.bytes) f.frames p.does.mid.decoder (sym (take-append-drop k w.down.bytes)) f.fed (i.down_bytes f.alive) in
+      let new = scene v.client.state p.does.mid in
+      let d = landed_down w i f.alive 0 came_now.front came_now.rest came_now.all new
+      (subst (λ (fs : List Incoming). ActsAll (calling c.out c.in_) 0 (scene w.client.state w.client.connection) fs new) came_now.are f.acts) in
       record {
         up = i.up;
         down = came_now.rest;
         stories = d.stories;
         known = i.known;
         own = i.own;
-        up_bytes = λ alive. subst (λ (q : Queue). InFlight w.server.held w.up q i.up) (sym d.queue) (i.up_bytes alive);
+        up_bytes = λ alive. subst (λ (o : Outbox CO). InFlight w.server.connection.decoder w.up o.queue i.up) (sym d.outbox) (i.up_bytes alive);
         down_bytes = λ alive. came_now.bytes;
-        up_linked = λ alive. subst (λ (o : CO). AreLinked c.seals s.opens s.refuses_opening i.up o w.server.core.inbound) (sym d.outbound) (i.up_linked alive);
+        up_linked = λ alive. subst (λ (o : Outbox CO). AreLinked c.out.seals s.in_.opens s.in_.refuses i.up o.half w.server.connection.inbound) (sym d.outbox) (i.up_linked alive);
         down_linked = λ alive. d.linked;
       }
 
   pub deliver_down : (w : Net CO CI SO SI) (n k : ℕ) (v : Net CO CI SO SI) → Keeps c s stream_of trace w → DeliversDown c s seals w n k v → Keeps c s stream_of trace v
   deliver_down w n k v i p =
       subst (λ (x : Net CO CI SO SI). Keeps c s stream_of trace x) (sym p.only)
-      (client_hears (is_over (taken_from w.down k)) (record (with_client w p.mid) { down = taken_from w.down k }) v.client (deliver_down_mid w n k v i p) p.hears)
+      (client_hears (is_over (taken_from w.down k)) (record (with_client w (record { state = v.client.state; connection = p.does.mid })) { down = taken_from w.down k }) v.client.connection (deliver_down_mid w n k v i p) p.does.hears)
 
   -- A side fails at bytes that are delivered.
   pub break_up : (w : Net CO CI SO SI) (n : ℕ) (told : Error) (v : Net CO CI SO SI) → Keeps c s stream_of trace w → BreaksUp c s seals w n told v → Keeps c s stream_of trace v
@@ -247,30 +278,22 @@ module _ {CO CI SO SI : Type 0} (c : Halves CO CI) (s : Halves SO SI) (seals : B
       let m : ℕ = min n (length w.up.bytes) in
       let pipe : w.up.bytes ≡ f.taken ++ (f.rest ++ drop m w.up.bytes) =
       sym (take-append-drop m w.up.bytes) ∙ ap (λ xs. xs ++ drop m w.up.bytes) f.piece_is ∙ append_assoc f.taken f.rest (drop m w.up.bytes) in
-      let came_now = came w.server.held w.up w.client.core.queue i.up f.taken (f.rest ++ drop m w.up.bytes) (f.frames ++ given f.last) v.server.held pipe f.fed (i.up_bytes f.alive) in
+      let came_now = came w.server.connection.decoder w.up w.client.connection.outbox.queue i.up f.taken (f.rest ++ drop m w.up.bytes) (f.frames ++ given f.last) v.server.connection.decoder pipe f.fed (i.up_bytes f.alive) in
       let first = acted f.frames (given f.last) came_now.front came_now.are in
-      let acted_all = subst (λ (fs : List Incoming). jobs.ActsAll s w.server.core fs f.mid) first.are f.acts in
       let rest : List Flying = first.others ++ came_now.rest in
       let all : first.first ++ rest ≡ i.up = sym (append_assoc first.first first.others came_now.rest) ∙ ap (λ xs. xs ++ came_now.rest) first.all ∙ came_now.all in
-      let u = feeds_up c s stream_of trace first.first rest i.down w.client.core.next (client.call_at w.client.core) w.client.core.outbound w.server.core f.mid acted_all
-      (subst (λ (xs : List Flying). AreLinked c.seals s.opens s.refuses_opening xs w.client.core.outbound w.server.core.inbound) (sym all) (i.up_linked f.alive))
-      (subst (λ (xs : List Flying). Stories stream_of trace xs i.down w.client.core.next w.server.core.jobs (client.call_at w.client.core)) (sym all) i.stories) i.known in
-      let q = f.fails.quiet in
+      let u = served_up w i f.alive w.moment first.first rest all f.mid
+      (subst (λ (fs : List Incoming). ActsAll (serving s.out s.in_) w.moment (scene w.server.state w.server.connection) fs f.mid) first.are f.acts) in
       subst (λ (x : Net CO CI SO SI). Keeps c s stream_of trace x) (sym p.only) (record {
         up = rest;
         down = i.down ++ u.more;
-        stories = subst (λ (js : List ActiveJob). Stories stream_of trace rest (i.down ++ u.more) w.client.core.next js (client.call_at w.client.core)) (sym q.jobs) u.stories;
-        known = subst (λ (js : List ActiveJob). AreKnown stream_of js) (sym q.jobs) u.known;
-        own = all_behind IsOwnRequest first.first rest (subst (λ (xs : List Flying). AllByRecursion IsOwnRequest xs) (sym all) i.own);
-        up_bytes = λ alive. absurd (not_both v.server.core.failure f.error f.fails.failure alive);
-        down_bytes = λ alive. let b = i.down_bytes alive in subst (λ (r : Queue). InFlight w.client.held w.down r (i.down ++ u.more)) (sym q.queue) (record {
-          transit = b.transit;
-          queued = b.queued ++ u.more;
-          all = sym (append_assoc b.transit b.queued u.more) ∙ ap (λ xs. xs ++ u.more) b.all;
-          bytes = u.placed w.client.held w.down.bytes w.down.cut b.transit b.queued b.bytes;
-        });
-        up_linked = λ alive. absurd (not_both v.server.core.failure f.error f.fails.failure alive);
-        down_linked = λ alive. subst (λ (o : SO). AreLinked s.seals c.opens c.refuses_opening (i.down ++ u.more) o w.client.core.inbound) (sym q.outbound) (u.sealed i.down w.client.core.inbound (i.down_linked alive));
+        stories = subst (λ (t : Server). Stories stream_of trace rest (i.down ++ u.more) w.client.state.next t.jobs.list (call_at w.client.state)) (sym f.state) u.stories;
+        known = subst (λ (t : Server). AreKnown stream_of t.jobs.list) (sym f.state) u.known;
+        own = u.own;
+        up_bytes = λ alive. absurd (not_both v.server.connection.failure f.failure f.fails alive);
+        down_bytes = λ alive. subst (λ (o : Outbox SO). InFlight w.client.connection.decoder w.down o.queue (i.down ++ u.more)) (sym f.outbox) (u.down_bytes alive);
+        up_linked = λ alive. absurd (not_both v.server.connection.failure f.failure f.fails alive);
+        down_linked = λ alive. subst (λ (o : Outbox SO). AreLinked s.out.seals c.in_.opens c.in_.refuses (i.down ++ u.more) o.half w.client.connection.inbound) (sym f.outbox) (u.down_linked alive);
       })
 
   pub break_down : (w : Net CO CI SO SI) (n : ℕ) (told : Error) (v : Net CO CI SO SI) → Keeps c s stream_of trace w → BreaksDown c s seals w n told v → Keeps c s stream_of trace v
@@ -279,37 +302,34 @@ module _ {CO CI SO SI : Type 0} (c : Halves CO CI) (s : Halves SO SI) (seals : B
       let m : ℕ = min n (length w.down.bytes) in
       let pipe : w.down.bytes ≡ f.taken ++ (f.rest ++ drop m w.down.bytes) =
       sym (take-append-drop m w.down.bytes) ∙ ap (λ xs. xs ++ drop m w.down.bytes) f.piece_is ∙ append_assoc f.taken f.rest (drop m w.down.bytes) in
-      let came_now = came w.client.held w.down w.server.core.queue i.down f.taken (f.rest ++ drop m w.down.bytes) (f.frames ++ given f.last) v.client.held pipe f.fed (i.down_bytes f.alive) in
+      let came_now = came w.client.connection.decoder w.down w.server.connection.outbox.queue i.down f.taken (f.rest ++ drop m w.down.bytes) (f.frames ++ given f.last) v.client.connection.decoder pipe f.fed (i.down_bytes f.alive) in
       let first = acted f.frames (given f.last) came_now.front came_now.are in
-      let acted_all = subst (λ (fs : List Incoming). calls.ActsAll c w.client.core fs f.mid) first.are f.acts in
       let rest : List Flying = first.others ++ came_now.rest in
       let all : first.first ++ rest ≡ i.down = sym (append_assoc first.first first.others came_now.rest) ∙ ap (λ xs. xs ++ came_now.rest) first.all ∙ came_now.all in
-      let d = feeds_down c s stream_of trace first.first i.up rest w.server.core.jobs w.server.core.outbound w.client.core f.mid acted_all
-      (subst (λ (xs : List Flying). AreLinked s.seals c.opens c.refuses_opening xs w.server.core.outbound w.client.core.inbound) (sym all) (i.down_linked f.alive))
-      (subst (λ (xs : List Flying). Stories stream_of trace i.up xs w.client.core.next w.server.core.jobs (client.call_at w.client.core)) (sym all) i.stories) in
-      let q = f.quiet in
+      let d = landed_down w i f.alive 0 first.first rest all f.mid
+      (subst (λ (fs : List Incoming). ActsAll (calling c.out c.in_) 0 (scene w.client.state w.client.connection) fs f.mid) first.are f.acts) in
+      let outbox : v.client.connection.outbox ≡ w.client.connection.outbox = f.outbox ∙ d.outbox in
       subst (λ (x : Net CO CI SO SI). Keeps c s stream_of trace x) (sym p.only) (record {
         up = i.up;
         down = rest;
-        stories = λ k. subst (λ (x : Option Call). Story (v.client.core.next ≤ k) k (acts stream_of k trace) (parcels k i.up) (server.jobs_at w.server.core.jobs k) (parcels k rest) x) (sym (ap (λ cs. client.call_in cs k) q.calls))
-            (subst (λ (n : ℕ). Story (n ≤ k) k (acts stream_of k trace) (parcels k i.up) (server.jobs_at w.server.core.jobs k) (parcels k rest) (client.call_at f.mid k)) (sym q.next) (d.stories k));
+        stories = subst (λ (t : Client). Stories stream_of trace i.up rest t.next w.server.state.jobs.list (call_at t)) (sym f.state) d.stories;
         known = i.known;
         own = i.own;
-        up_bytes = λ alive. subst (λ (r : Queue). InFlight w.server.held w.up r i.up) (sym (q.queue ∙ d.queue)) (i.up_bytes alive);
-        down_bytes = λ alive. absurd (not_both v.client.core.failure _ f.failure alive);
-        up_linked = λ alive. subst (λ (o : CO). AreLinked c.seals s.opens s.refuses_opening i.up o w.server.core.inbound) (sym (q.outbound ∙ d.outbound)) (i.up_linked alive);
-        down_linked = λ alive. absurd (not_both v.client.core.failure _ f.failure alive);
+        up_bytes = λ alive. subst (λ (o : Outbox CO). InFlight w.server.connection.decoder w.up o.queue i.up) (sym outbox) (i.up_bytes alive);
+        down_bytes = λ alive. absurd (not_both v.client.connection.failure f.failure f.fails alive);
+        up_linked = λ alive. subst (λ (o : Outbox CO). AreLinked c.out.seals s.in_.opens s.in_.refuses i.up o.half w.server.connection.inbound) (sym outbox) (i.up_linked alive);
+        down_linked = λ alive. absurd (not_both v.client.connection.failure f.failure f.fails alive);
       })
 
   -- A pipe is cut.
   pub cut_up : (w : Net CO CI SO SI) (keep : ℕ) (v : Net CO CI SO SI) → Keeps c s stream_of trace w → CutsUp c s seals w keep v → Keeps c s stream_of trace v
   cut_up w keep v i p =
       subst (λ (x : Net CO CI SO SI). Keeps c s stream_of trace x) (sym p.only)
-      (server_hears (is_over (cut_to w.up keep)) (record w { up = cut_to w.up keep }) v.server
-      (record { up = i.up; down = i.down; stories = i.stories; known = i.known; own = i.own; up_bytes = λ alive. cuts w.server.held w.up w.client.core.queue i.up keep (i.up_bytes alive); down_bytes = i.down_bytes; up_linked = i.up_linked; down_linked = i.down_linked }) p.hears)
+      (server_hears (is_over (cut_to w.up keep)) (record w { up = cut_to w.up keep }) p.connection
+      (record { up = i.up; down = i.down; stories = i.stories; known = i.known; own = i.own; up_bytes = λ alive. cuts w.server.connection.decoder w.up w.client.connection.outbox.queue i.up keep (i.up_bytes alive); down_bytes = i.down_bytes; up_linked = i.up_linked; down_linked = i.down_linked }) p.hears)
 
   pub cut_down : (w : Net CO CI SO SI) (keep : ℕ) (v : Net CO CI SO SI) → Keeps c s stream_of trace w → CutsDown c s seals w keep v → Keeps c s stream_of trace v
   cut_down w keep v i p =
       subst (λ (x : Net CO CI SO SI). Keeps c s stream_of trace x) (sym p.only)
-      (client_hears (is_over (cut_to w.down keep)) (record w { down = cut_to w.down keep }) v.client
-      (record { up = i.up; down = i.down; stories = i.stories; known = i.known; own = i.own; up_bytes = i.up_bytes; down_bytes = λ alive. cuts w.client.held w.down w.server.core.queue i.down keep (i.down_bytes alive); up_linked = i.up_linked; down_linked = i.down_linked }) p.hears)
+      (client_hears (is_over (cut_to w.down keep)) (record w { down = cut_to w.down keep }) p.connection
+      (record { up = i.up; down = i.down; stories = i.stories; known = i.known; own = i.own; up_bytes = i.up_bytes; down_bytes = λ alive. cuts w.client.connection.decoder w.down w.server.connection.outbox.queue i.down keep (i.down_bytes alive); up_linked = i.up_linked; down_linked = i.down_linked }) p.hears)

@@ -1,5 +1,5 @@
 -- What is sent reads back, what a core makes of it then, and the flights that it is sent as.
-use Rattle.std.proofs.Common.{rules, ◌≡◌, ℕ, zero, suc, ◌≤◌, ◌<◌, ◌^◌, List, [], ◌∷◌, ◌++◌, length, codes, nat_lt, if◌then◌else◌, Bool, true, false, Some, refl, sym, ◌∙◌, arith}
+use Rattle.std.proofs.Common.{rules, ◌≡◌, ℕ, zero, suc, ◌≤◌, ◌<◌, ◌^◌, List, [], ◌∷◌, ◌++◌, length, codes, nat_lt, if◌then◌else◌, Bool, true, false, Some, refl, sym, subst, ◌∙◌, arith}
 use Rattle.std.specs.Fmt.{decimal}
 use Rattle.std.proofs.lemmas.Bool.{le-ltb, ltb-true}
 use Rattle.std.proofs.lemmas.Fmt.{IsAscii-decimal}
@@ -17,14 +17,16 @@ use Rattle.ttrpc_proto.specs.Messages.{IsRequest, IsResponse, empty_request, emp
 use Rattle.ttrpc_frame.specs.declared.outgoing.Queued.{Queued}
 use Rattle.ttrpc_frame.specs.Queue.{with_frame, with_payload}
 use Rattle.ttrpc_secure.specs.Sends.{associated}
-use Rattle.ttrpc_core.specs.declared.registry.ServiceNames.{ServiceNames}
-use Rattle.ttrpc_core.specs.Happens.{Halves, Responds, fitted, response_bytes, response_size, safe_limit}
-use Rattle.ttrpc_core.specs.Responses.{limit_text, path_text, status_response}
-use Rattle.ttrpc_core.specs.Server.{Core}
-use Rattle.ttrpc_core.specs.Table.{Opened, opened_row, request_row}
-use Rattle.ttrpc_client.specs.Client.{Client}
-use Rattle.ttrpc_client.specs.Table.{Gives, by_status, opened_landing}
-use Rattle.ttrpc_client.specs.Happens.{Requests, last_id, request_bytes}
+use Rattle.ttrpc_server.specs.declared.registry.ServiceNames.{ServiceNames}
+use Rattle.ttrpc_secure.specs.declared.transform.OutboundTransform.{Ghosts as OutboundTransform}
+use Rattle.ttrpc_connection.specs.declared.arrived.Opening.TheVariants.{Opened}
+use Rattle.ttrpc_connection.specs.declared.outbox.Outbox.{Outbox}
+use Rattle.ttrpc_connection.specs.Frames.{Sent, SendsAll, SendsOne, safe_limit}
+use Rattle.ttrpc_server.specs.Responses.{Responds, fitted, limit_text, response_bytes, response_size, status_response}
+use Rattle.ttrpc_server.specs.Table.{path_text, request_row, sync_row}
+use Rattle.ttrpc_client.specs.declared.client.ClientCore.{ClientCore}
+use Rattle.ttrpc_client.specs.Table.{Gives, by_status, landing_of, last_id, request_bytes}
+use Rattle.ttrpc_client.specs.Happens.{Requests}
 use Rattle.ttrpc_flight.specs.Flight.{Flying, IsOwnRequest, IsSound}
 use Rattle.ttrpc_world.specs.Story.{Act, HasOkStatus}
 use Rattle.ttrpc_world.proofs.Stages.{IsAnswerOf, IsDone, IsSent, IsToldOf}
@@ -43,14 +45,14 @@ response_reads r is short =
 
 -- The server makes of a request that is opened as it was sent what its services say.
 pub request_row_is : (services : List ServiceNames) (h : MessageHeader) (r : Request) → IsRequest r → length (request_bytes r) ≤ MESSAGE_LENGTH_MAX → h.type_ ≡ MESSAGE_TYPE_REQUEST
-    → opened_row services h (Opened (request_bytes r)) ≡ request_row services (Some r)
+    → sync_row services h (Opened (request_bytes r)) ≡ request_row services (Some r)
 request_row_is services h r is short type_ =
     let within : nat_lt MESSAGE_LENGTH_MAX (length (request_bytes r)) ≡ false = le-ltb _ _ short in
     rw (within, type_, request_reads r is short) refl
 
 -- The client makes of a response its outcome.
 pub response_landing_is : (h : MessageHeader) (r : Response) → IsResponse r → length (response_bytes r) ≤ MESSAGE_LENGTH_MAX → h.type_ ≡ MESSAGE_TYPE_RESPONSE
-    → opened_landing h (Opened (response_bytes r)) ≡ Gives (by_status r.status r)
+    → landing_of h (Opened (response_bytes r)) ≡ Gives (by_status r.status r)
 response_landing_is h r is short type_ =
     let within : nat_lt MESSAGE_LENGTH_MAX (length (response_bytes r)) ≡ false = le-ltb _ _ short in
     rw (within, type_, response_reads r is short) refl
@@ -131,16 +133,17 @@ sealed_is_sound f sealed short stream type_ flags = record {
 }
 
 -- A request is a flight.
-pub record SendsRequest {O I : Type 0} (h : Halves O I) (old : Client O I) (request : Request) (id : ℕ) (new : Client O I) : Type 0 where
+pub record SendsRequest {O : Type 0} (out : OutboundTransform O) (old : Outbox O) (request : Request) (id : ℕ) (new : Outbox O) : Type 0 where
   pub x : Flying
-  pub queue : new.core.queue ≡ with_frame old.core.queue x.frame
-  pub seal : h.seals old.core.outbound x.plain (associated x.frame.message.header) x.frame.message.payload new.core.outbound
+  pub queue : new.queue ≡ with_frame old.queue x.frame
+  pub seal : out.seals old.half x.plain (associated x.frame.message.header) x.frame.message.payload new.half
   pub sound : IsSound x.frame
   pub own : IsOwnRequest x
   pub is_sent : IsSent id request x
 
-pub sends_request : {O I : Type 0} (h : Halves O I) (old : Client O I) (request : Request) (now id : ℕ) (new : Client O I) → IsRequest request → Requests h old request now id new → SendsRequest h old request id new
-sends_request h old request now id new is p =
+pub sends_request : {O I : Type 0} (out : OutboundTransform O) (old : ClientCore O I) (request : Request) (now id : ℕ) (new : ClientCore O I) → IsRequest request → Requests out old request now id new
+    → SendsRequest out old.connection.outbox request id new.connection.outbox
+sends_request out old request now id new is p =
     let f = p.frame in
     let g = p.is_frame in
     let sealed = p.sends.sealed in
@@ -161,27 +164,30 @@ sends_request h old request now id new is p =
     }
 
 -- A response is a flight.
-pub record SendsResponse {O I : Type 0} (h : Halves O I) (old : Core O I) (k : ℕ) (done : List Act) (new : Core O I) : Type 0 where
+pub record SendsResponse {O : Type 0} (out : OutboundTransform O) (old : Outbox O) (k : ℕ) (done : List Act) (new : Outbox O) : Type 0 where
   pub r : Response
   pub y : Flying
   pub queue : new.queue ≡ with_frame old.queue y.frame
-  pub seal : h.seals old.outbound y.plain (associated y.frame.message.header) y.frame.message.payload new.outbound
+  pub seal : out.seals old.half y.plain (associated y.frame.message.header) y.frame.message.payload new.half
   pub sound : IsSound y.frame
   pub is_told : IsToldOf k done r y
 
-pub sends_response : {O I : Type 0} (h : Halves O I) (old : Core O I) (k : ℕ) (r : Response) (new : Core O I) (done : List Act) → k ≤ last_id → IsDone done → IsResponse r → IsAnswerOf done r → Responds h old k r new → SendsResponse h old k done new
-sends_response h old k r new done within is_done is answer p =
+pub sends_response : {O : Type 0} (out : OutboundTransform O) (old : Outbox O) (k : ℕ) (r : Response) (sent : List Sent) (new : Outbox O) (done : List Act) → k ≤ last_id → IsDone done → IsResponse r → IsAnswerOf done r
+    → Responds (safe_limit out old.half) k r sent → SendsAll out old sent new → SendsResponse out old k done new
+sends_response out old k r sent new done within is_done is answer p q =
     let f = p.frame in
     let g = p.is_frame in
-    let sealed = p.sends.sealed in
-    let limit = safe_limit h old.outbound in
+    let limit = safe_limit out old.half in
+    let all = subst (λ (xs : List Sent). SendsAll out old xs new) p.is q in
+    let one : SendsOne out old f (response_bytes (fitted limit r)) new = subst (λ (o : Outbox _). SendsOne out old f (response_bytes (fitted limit r)) o) (sym all.2) all.1 in
+    let sealed = one.sealed in
     let s = fitted_is limit r (omega arith) is done answer in
     record {
       r = fitted limit r;
       y = record { frame = with_payload f sealed; plain = response_bytes (fitted limit r) };
-      queue = p.sends.queue;
-      seal = p.sends.seal;
-      sound = sealed_is_sound f sealed p.sends.fits (omega (arith, g.stream_id, within)) (omega (arith, g.type_)) (omega (arith, g.flags));
+      queue = one.queue;
+      seal = one.seal;
+      sound = sealed_is_sound f sealed one.fits (omega (arith, g.stream_id, within)) (omega (arith, g.type_)) (omega (arith, g.flags));
       is_told = record {
         is_done = is_done;
         known = s.0;

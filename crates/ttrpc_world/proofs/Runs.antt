@@ -1,10 +1,9 @@
 -- A run goes on by one step.
 use Rattle.std.proofs.Common.{◌≡◌, List, [], ◌∷◌, ◌++◌, Bool, map, subst, refl, ap}
-use Rattle.ttrpc_core.specs.Happens.{Halves}
 use Rattle.ttrpc_world.specs.declared.events.Entry.{Entry}
 use Rattle.ttrpc_world.specs.declared.events.Event.{Event}
 use Rattle.ttrpc_world.specs.declared.events.Reply.{Reply}
-use Rattle.ttrpc_world.specs.Net.{Net}
+use Rattle.ttrpc_world.specs.Net.{Halves, Net}
 use Rattle.ttrpc_world.specs.Steps.{Runs, Steps}
 
 pub run_more : {CO CI SO SI : Type 0} (c : Halves CO CI) (s : Halves SO SI) (seals : Bool) (w : Net CO CI SO SI) (trace : List Entry) (x : Net CO CI SO SI) (event : Event) (reply : Reply) (v : Net CO CI SO SI)

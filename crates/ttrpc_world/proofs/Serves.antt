@@ -7,12 +7,13 @@ use Rattle.ttrpc_proto.specs.declared.response.Response.{Response}
 use Rattle.ttrpc_proto.specs.Messages.{IsResponse}
 use Rattle.ttrpc_frame.specs.Frames.{Held}
 use Rattle.ttrpc_frame.specs.Queue.{Queue}
-use Rattle.ttrpc_core.specs.declared.failure.Failure.TheVariants.{HandlerError}
-use Rattle.ttrpc_core.specs.declared.job.ActiveJob.{ActiveJob}
-use Rattle.ttrpc_core.specs.declared.job.Job.{Job}
-use Rattle.ttrpc_core.specs.Failure.{error_of}
-use Rattle.ttrpc_core.specs.Happens.{Answers, Drops, Halves}
-use Rattle.ttrpc_core.specs.Server.{Server, jobs_at}
+use Rattle.ttrpc_connection.specs.declared.failure.Failure.TheVariants.{HandlerError}
+use Rattle.ttrpc_connection.specs.declared.outbox.Outbox.{Outbox}
+use Rattle.ttrpc_server.specs.declared.job.ActiveJob.{ActiveJob}
+use Rattle.ttrpc_server.specs.declared.job.Job.{Job}
+use Rattle.ttrpc_server.specs.declared.server.ServerCore.{ServerCore}
+use Rattle.ttrpc_server.specs.Happens.{Answers, Drops}
+use Rattle.ttrpc_server.specs.Jobs.{jobs_at}
 use Rattle.ttrpc_client.specs.Client as client
 use Rattle.ttrpc_flight.specs.Flight.{AreInFlight, AreLinked, parcels}
 use Rattle.ttrpc_flight.proofs.Bytes.{placed_in_flight}
@@ -21,7 +22,7 @@ use Rattle.ttrpc_flight.proofs.Seals.{more_linked}
 use Rattle.ttrpc_world.specs.declared.events.Event.TheVariants.{Take, Answer}
 use Rattle.ttrpc_world.specs.declared.events.Reply.TheVariants.{Handed, Done}
 use Rattle.ttrpc_world.specs.declared.events.Entry.{Entry}
-use Rattle.ttrpc_world.specs.Net.{Net, with_server}
+use Rattle.ttrpc_world.specs.Net.{Halves, Net, with_server}
 use Rattle.ttrpc_world.specs.Steps.{AnswersBy, HandsOut}
 use Rattle.ttrpc_world.specs.Story.{Act, Answered, Ran, acts}
 use Rattle.ttrpc_world.proofs.Stages.{IsAnswerOf, IsDone, Story, whole_work}
@@ -68,94 +69,94 @@ module _ {CO CI SO SI : Type 0} (c : Halves CO CI) (s : Halves SO SI) (seals : B
       let taken : ActiveJob = record j { request = None } in
       let k : ℕ = j.header.stream_id in
       let at : job.header.stream_id ≡ k = ap (λ h. h.stream_id) t.header in
-      let was : (n : ℕ) → jobs_at w.server.core.jobs n ≡ jobs_at (t.front ++ j ∷ t.back) n = λ n. ap (λ js. jobs_at js n) t.was in
-      let is : (n : ℕ) → jobs_at v.server.core.jobs n ≡ jobs_at (t.front ++ taken ∷ t.back) n = λ n. ap (λ js. jobs_at js n) t.jobs in
+      let was : (n : ℕ) → jobs_at w.server.state.jobs.list n ≡ jobs_at (t.front ++ j ∷ t.back) n = λ n. ap (λ js. jobs_at js n) t.was in
+      let is : (n : ℕ) → jobs_at v.server.state.jobs.list n ≡ jobs_at (t.front ++ taken ∷ t.back) n = λ n. ap (λ js. jobs_at js n) t.jobs in
       let now_known : stream_of j.id ≡ k = ap stream_of (sym t.id) ∙ right ∙ at in
       record {
         up = i.up;
         down = i.down;
         stories = λ n. elim (cases_eq k n) [
           | inl e ↦
-              subst (λ (m : ℕ). Story (w.client.core.next ≤ m) m (acts stream_of m (with_entry trace Take (Handed (Some job)))) (parcels m i.up) (jobs_at v.server.core.jobs m) (parcels m i.down) (client.call_at w.client.core m)) e
-              (takes_here (w.client.core.next ≤ k) k _ _ _ _ _ _ _ (jobs_at t.front k) (jobs_at t.back k) j taken job.request (i.stories k) (was k ∙ here_at k t.front t.back j refl) (is k ∙ here_at k t.front t.back taken refl) t.request refl
+              subst (λ (m : ℕ). Story (w.client.state.next ≤ m) m (acts stream_of m (with_entry trace Take (Handed (Some job)))) (parcels m i.up) (jobs_at v.server.state.jobs.list m) (parcels m i.down) (client.call_at w.client.state m)) e
+              (takes_here (w.client.state.next ≤ k) k _ _ _ _ _ _ _ (jobs_at t.front k) (jobs_at t.back k) j taken job.request (i.stories k) (was k ∙ here_at k t.front t.back j refl) (is k ∙ here_at k t.front t.back taken refl) t.request refl
               (heard stream_of k job.header.stream_id trace Take (Handed (Some job)) (Ran job.id job.request) refl at ∙ ap (λ (m : ℕ). acts stream_of k trace ++ Ran m job.request ∷ []) t.id))
-          | inr e ↦ elsewhere (w.client.core.next ≤ n) (w.client.core.next ≤ n) n _ _ _ _ _ _ _ _ _ _ (i.stories n) (λ y. y) (unheard stream_of n job.header.stream_id trace Take (Handed (Some job)) (Ran job.id job.request) refl (λ same. e (sym at ∙ same)))
+          | inr e ↦ elsewhere (w.client.state.next ≤ n) (w.client.state.next ≤ n) n _ _ _ _ _ _ _ _ _ _ (i.stories n) (λ y. y) (unheard stream_of n job.header.stream_id trace Take (Handed (Some job)) (Ran job.id job.request) refl (λ same. e (sym at ∙ same)))
               refl (is n ∙ not_here n t.front t.back taken e ∙ sym (was n ∙ not_here n t.front t.back j e)) refl refl
         ];
         known = subst (λ (js : List ActiveJob). AreKnown stream_of js) (sym t.jobs) (known_at stream_of t.front t.back j taken now_known (subst (λ (js : List ActiveJob). AreKnown stream_of js) t.was i.known));
         own = i.own;
-        up_bytes = λ alive. subst (λ (h : Held). InFlight h w.up w.client.core.queue i.up) (sym p.does.same.held) (i.up_bytes p.does.alive);
-        down_bytes = λ alive. subst (λ (q : Queue). InFlight w.client.held w.down q i.down) (sym p.does.queue) (i.down_bytes alive);
-        up_linked = λ alive. subst (λ (x : SI). AreLinked c.seals s.opens s.refuses_opening i.up w.client.core.outbound x) (sym p.does.same.inbound) (i.up_linked p.does.alive);
-        down_linked = λ alive. subst (λ (x : SO). AreLinked s.seals c.opens c.refuses_opening i.down x w.client.core.inbound) (sym p.does.outbound) (i.down_linked alive);
+        up_bytes = λ alive. subst (λ (h : Held). InFlight h w.up w.client.connection.outbox.queue i.up) (sym (ap (λ (x : ServerCore SO SI). x.connection.decoder) p.does.same)) (i.up_bytes p.does.alive);
+        down_bytes = λ alive. subst (λ (q : Queue). InFlight w.client.connection.decoder w.down q i.down) (sym (ap (λ (x : ServerCore SO SI). x.connection.outbox.queue) p.does.same)) (i.down_bytes alive);
+        up_linked = λ alive. subst (λ (x : SI). AreLinked c.out.seals s.in_.opens s.in_.refuses i.up w.client.connection.outbox.half x) (sym (ap (λ (x : ServerCore SO SI). x.connection.inbound) p.does.same)) (i.up_linked p.does.alive);
+        down_linked = λ alive. subst (λ (x : SO). AreLinked s.out.seals c.in_.opens c.in_.refuses i.down x w.client.connection.inbound) (sym (ap (λ (x : ServerCore SO SI). x.connection.outbox.half) p.does.same)) (i.down_linked alive);
       }
 
   -- A job is answered by a response.
-  keeps_response : (w : Net CO CI SO SI) (id : ℕ) (response : Response) (x : Server SO SI) → Keeps c s stream_of trace w → IsResponse response → Answers s w.server id response x
+  keeps_response : (w : Net CO CI SO SI) (id : ℕ) (response : Response) (x : ServerCore SO SI) → Keeps c s stream_of trace w → IsResponse response → Answers s w.server id response x
       → Keeps c s stream_of (with_entry trace (Answer id (Ok response)) Done) (with_server w x)
   keeps_response w id response x i is_response p =
-      let t = p.ends in
+      let t = p.ends.at in
       let j = p.job in
       let k : ℕ = j.header.stream_id in
-      let was : (n : ℕ) → jobs_at w.server.core.jobs n ≡ jobs_at (t.front ++ j ∷ t.back) n = λ n. ap (λ js. jobs_at js n) t.was in
-      let is : (n : ℕ) → jobs_at x.core.jobs n ≡ jobs_at t.front n ++ jobs_at t.back n = λ n. ap (λ js. jobs_at js n) t.jobs ∙ jobs-append n t.front t.back in
-      let known = subst (λ (js : List ActiveJob). AreKnown stream_of js) t.was i.known in
+      let was : (n : ℕ) → jobs_at w.server.state.jobs.list n ≡ jobs_at (t.front ++ j ∷ t.back) n = λ n. ap (λ js. jobs_at js n) t.is in
+      let is : (n : ℕ) → jobs_at x.state.jobs.list n ≡ jobs_at t.front n ++ jobs_at t.back n = λ n. ap (λ js. jobs_at js n) p.ends.jobs ∙ jobs-append n t.front t.back in
+      let known = subst (λ (js : List ActiveJob). AreKnown stream_of js) t.is i.known in
       let at : stream_of id ≡ k = ap stream_of (sym t.is_job) ∙ known_here stream_of t.front t.back j t.taken known in
-      let here : jobs_at w.server.core.jobs k ≡ jobs_at t.front k ++ j ∷ jobs_at t.back k = was k ∙ here_at k t.front t.back j refl in
+      let here : jobs_at w.server.state.jobs.list k ≡ jobs_at t.front k ++ j ∷ jobs_at t.back k = was k ∙ here_at k t.front t.back j refl in
       let running = is_running _ k _ _ _ _ _ (jobs_at t.front k) (jobs_at t.back k) j (i.stories k) here t.taken in
       let done : List Act = whole_work running.request j.id response in
-      let r = sends_response s w.server.core k response x.core done running.is_job.within (answered_work running.request j.id response) is_response (is_answer running.request j.id response) p.responds in
+      let r = sends_response s w.server.core k response x.core done running.is_job.within (answered_work running.request j.id response) is_response (is_answer running.request j.id response) p.responds p.sends in
       record {
         up = i.up;
         down = i.down ++ r.y ∷ [];
         stories = λ n. elim (cases_eq k n) [
           | inl e ↦
-              subst (λ (m : ℕ). Story (w.client.core.next ≤ m) m (acts stream_of m (with_entry trace (Answer id (Ok response)) Done)) (parcels m i.up) (jobs_at x.core.jobs m) (parcels m (i.down ++ r.y ∷ [])) (client.call_at w.client.core m)) e
-              (answers_here (w.client.core.next ≤ k) k _ _ _ _ _ _ _ _ (jobs_at t.front k) (jobs_at t.back k) j response r.r r.y (i.stories k) here (is k) t.taken r.is_told
+              subst (λ (m : ℕ). Story (w.client.state.next ≤ m) m (acts stream_of m (with_entry trace (Answer id (Ok response)) Done)) (parcels m i.up) (jobs_at x.state.jobs.list m) (parcels m (i.down ++ r.y ∷ [])) (client.call_at w.client.state m)) e
+              (answers_here (w.client.state.next ≤ k) k _ _ _ _ _ _ _ _ (jobs_at t.front k) (jobs_at t.back k) j response r.r r.y (i.stories k) here (is k) t.taken r.is_told
               (heard stream_of k (stream_of id) trace (Answer id (Ok response)) Done (Answered (Ok response)) refl at) (parcels-push_own k r.y i.down r.is_told.stream))
-          | inr e ↦ elsewhere (w.client.core.next ≤ n) (w.client.core.next ≤ n) n _ _ _ _ _ _ _ _ _ _ (i.stories n) (λ y. y) (unheard stream_of n (stream_of id) trace (Answer id (Ok response)) Done (Answered (Ok response)) refl (λ same. e (sym at ∙ same)))
+          | inr e ↦ elsewhere (w.client.state.next ≤ n) (w.client.state.next ≤ n) n _ _ _ _ _ _ _ _ _ _ (i.stories n) (λ y. y) (unheard stream_of n (stream_of id) trace (Answer id (Ok response)) Done (Answered (Ok response)) refl (λ same. e (sym at ∙ same)))
               refl (is n ∙ sym (jobs-append n t.front t.back) ∙ sym (was n ∙ not_here n t.front t.back j e)) (parcels-push_other n r.y i.down (λ same. e (sym r.is_told.stream ∙ same))) refl
         ];
-        known = subst (λ (js : List ActiveJob). AreKnown stream_of js) (sym t.jobs) (known_less stream_of t.front t.back j known);
+        known = subst (λ (js : List ActiveJob). AreKnown stream_of js) (sym p.ends.jobs) (known_less stream_of t.front t.back j known);
         own = i.own;
-        up_bytes = λ alive. subst (λ (h : Held). InFlight h w.up w.client.core.queue i.up) (sym p.same.held) (i.up_bytes p.alive);
-        down_bytes = λ alive. placed w.client.held w.down w.server.core.queue i.down r.y x.core.queue (i.down_bytes alive)
-            (λ transit queued a. subst (λ (q : Queue). AreInFlight w.client.held w.down.bytes w.down.cut q transit (queued ++ r.y ∷ [])) (sym r.queue) (placed_in_flight w.client.held w.down.bytes w.down.cut w.server.core.queue transit queued r.y r.sound a));
-        up_linked = λ alive. subst (λ (y : SI). AreLinked c.seals s.opens s.refuses_opening i.up w.client.core.outbound y) (sym p.same.inbound) (i.up_linked p.alive);
-        down_linked = λ alive. more_linked s.seals c.opens c.refuses_opening i.down w.server.core.outbound w.client.core.inbound r.y x.core.outbound (i.down_linked alive) r.seal;
+        up_bytes = λ alive. subst (λ (h : Held). InFlight h w.up w.client.connection.outbox.queue i.up) (sym (ap (λ (y : ServerCore SO SI). y.connection.decoder) p.same)) (i.up_bytes p.alive);
+        down_bytes = λ alive. placed w.client.connection.decoder w.down w.server.connection.outbox.queue i.down r.y x.connection.outbox.queue (i.down_bytes alive)
+            (λ transit queued a. subst (λ (q : Queue). AreInFlight w.client.connection.decoder w.down.bytes w.down.cut q transit (queued ++ r.y ∷ [])) (sym r.queue) (placed_in_flight w.client.connection.decoder w.down.bytes w.down.cut w.server.connection.outbox.queue transit queued r.y r.sound a));
+        up_linked = λ alive. subst (λ (y : SI). AreLinked c.out.seals s.in_.opens s.in_.refuses i.up w.client.connection.outbox.half y) (sym (ap (λ (y : ServerCore SO SI). y.connection.inbound) p.same)) (i.up_linked p.alive);
+        down_linked = λ alive. more_linked s.out.seals c.in_.opens c.in_.refuses i.down w.server.connection.outbox.half w.client.connection.inbound r.y x.connection.outbox.half (i.down_linked alive) r.seal;
       }
 
   -- A handler failed.
-  keeps_error : (w : Net CO CI SO SI) (id : ℕ) (error failure : Error) (x : Server SO SI) → Keeps c s stream_of trace w → Drops w.server id failure x → Keeps c s stream_of (with_entry trace (Answer id (Err error)) Done) (with_server w x)
-  keeps_error w id error failure x i p =
-      let t = p.ends in
+  keeps_error : (w : Net CO CI SO SI) (id : ℕ) (error : Error) (x : ServerCore SO SI) → Keeps c s stream_of trace w → Drops w.server id x → Keeps c s stream_of (with_entry trace (Answer id (Err error)) Done) (with_server w x)
+  keeps_error w id error x i p =
+      let t = p.ends.at in
       let j = p.job in
       let k : ℕ = j.header.stream_id in
-      let was : (n : ℕ) → jobs_at w.server.core.jobs n ≡ jobs_at (t.front ++ j ∷ t.back) n = λ n. ap (λ js. jobs_at js n) t.was in
-      let is : (n : ℕ) → jobs_at x.core.jobs n ≡ jobs_at t.front n ++ jobs_at t.back n = λ n. ap (λ js. jobs_at js n) t.jobs ∙ jobs-append n t.front t.back in
-      let known = subst (λ (js : List ActiveJob). AreKnown stream_of js) t.was i.known in
+      let was : (n : ℕ) → jobs_at w.server.state.jobs.list n ≡ jobs_at (t.front ++ j ∷ t.back) n = λ n. ap (λ js. jobs_at js n) t.is in
+      let is : (n : ℕ) → jobs_at x.state.jobs.list n ≡ jobs_at t.front n ++ jobs_at t.back n = λ n. ap (λ js. jobs_at js n) p.ends.jobs ∙ jobs-append n t.front t.back in
+      let known = subst (λ (js : List ActiveJob). AreKnown stream_of js) t.is i.known in
       let at : stream_of id ≡ k = ap stream_of (sym t.is_job) ∙ known_here stream_of t.front t.back j t.taken known in
       record {
         up = i.up;
         down = i.down;
         stories = λ n. elim (cases_eq k n) [
           | inl e ↦
-              subst (λ (m : ℕ). Story (w.client.core.next ≤ m) m (acts stream_of m (with_entry trace (Answer id (Err error)) Done)) (parcels m i.up) (jobs_at x.core.jobs m) (parcels m i.down) (client.call_at w.client.core m)) e
-              (fails_here (w.client.core.next ≤ k) k _ _ _ _ _ _ _ (jobs_at t.front k) (jobs_at t.back k) j error (i.stories k) (was k ∙ here_at k t.front t.back j refl) (is k) t.taken
+              subst (λ (m : ℕ). Story (w.client.state.next ≤ m) m (acts stream_of m (with_entry trace (Answer id (Err error)) Done)) (parcels m i.up) (jobs_at x.state.jobs.list m) (parcels m i.down) (client.call_at w.client.state m)) e
+              (fails_here (w.client.state.next ≤ k) k _ _ _ _ _ _ _ (jobs_at t.front k) (jobs_at t.back k) j error (i.stories k) (was k ∙ here_at k t.front t.back j refl) (is k) t.taken
               (heard stream_of k (stream_of id) trace (Answer id (Err error)) Done (Answered (Err error)) refl at))
-          | inr e ↦ elsewhere (w.client.core.next ≤ n) (w.client.core.next ≤ n) n _ _ _ _ _ _ _ _ _ _ (i.stories n) (λ y. y) (unheard stream_of n (stream_of id) trace (Answer id (Err error)) Done (Answered (Err error)) refl (λ same. e (sym at ∙ same)))
+          | inr e ↦ elsewhere (w.client.state.next ≤ n) (w.client.state.next ≤ n) n _ _ _ _ _ _ _ _ _ _ (i.stories n) (λ y. y) (unheard stream_of n (stream_of id) trace (Answer id (Err error)) Done (Answered (Err error)) refl (λ same. e (sym at ∙ same)))
               refl (is n ∙ sym (jobs-append n t.front t.back) ∙ sym (was n ∙ not_here n t.front t.back j e)) refl refl
         ];
-        known = subst (λ (js : List ActiveJob). AreKnown stream_of js) (sym t.jobs) (known_less stream_of t.front t.back j known);
+        known = subst (λ (js : List ActiveJob). AreKnown stream_of js) (sym p.ends.jobs) (known_less stream_of t.front t.back j known);
         own = i.own;
-        up_bytes = λ alive. absurd (not_both x.core.failure failure p.failure alive);
-        down_bytes = λ alive. subst (λ (q : Queue). InFlight w.client.held w.down q i.down) (sym p.queue) (i.down_bytes alive);
-        up_linked = λ alive. absurd (not_both x.core.failure failure p.failure alive);
-        down_linked = λ alive. subst (λ (y : SO). AreLinked s.seals c.opens c.refuses_opening i.down y w.client.core.inbound) (sym p.outbound) (i.down_linked alive);
+        up_bytes = λ alive. absurd (not_both x.connection.failure HandlerError (ap (λ (y : ServerCore SO SI). y.connection.failure) p.same) alive);
+        down_bytes = λ alive. subst (λ (q : Queue). InFlight w.client.connection.decoder w.down q i.down) (sym (ap (λ (y : ServerCore SO SI). y.connection.outbox.queue) p.same)) (i.down_bytes alive);
+        up_linked = λ alive. absurd (not_both x.connection.failure HandlerError (ap (λ (y : ServerCore SO SI). y.connection.failure) p.same) alive);
+        down_linked = λ alive. subst (λ (y : SO). AreLinked s.out.seals c.in_.opens c.in_.refuses i.down y w.client.connection.inbound) (sym (ap (λ (y : ServerCore SO SI). y.connection.outbox.half) p.same)) (i.down_linked alive);
       }
 
   -- A job is answered by what its handler gave.
-  pub keeps_answer : (w : Net CO CI SO SI) (id : ℕ) (result : Result Response Error) (x : Server SO SI) → Keeps c s stream_of trace w → AnswersBy c s seals w.server id result x
+  pub keeps_answer : (w : Net CO CI SO SI) (id : ℕ) (result : Result Response Error) (x : ServerCore SO SI) → Keeps c s stream_of trace w → AnswersBy c s seals w.server id result x
       → Keeps c s stream_of (with_entry trace (Answer id result) Done) (with_server w x)
   keeps_answer w id (Ok response) x i p = keeps_response w id response x i p.0 p.1
-  keeps_answer w id (Err error) x i p = keeps_error w id error (error_of HandlerError) x i p
+  keeps_answer w id (Err error) x i p = keeps_error w id error x i p

@@ -5,11 +5,11 @@ use Rattle.ttrpc_header.specs.declared.header.TheConstants.{MESSAGE_LENGTH_MAX, 
 use Rattle.ttrpc_proto.specs.declared.request.Request.{Request}
 use Rattle.ttrpc_proto.specs.declared.response.Response.{Response}
 use Rattle.ttrpc_proto.specs.Messages.{IsRequest, IsResponse}
-use Rattle.ttrpc_core.specs.declared.job.ActiveJob.{ActiveJob}
-use Rattle.ttrpc_core.specs.Happens.{response_bytes}
+use Rattle.ttrpc_server.specs.declared.job.ActiveJob.{ActiveJob}
+use Rattle.ttrpc_server.specs.Responses.{response_bytes}
 use Rattle.ttrpc_client.specs.declared.call.Call.{Call}
 use Rattle.ttrpc_client.specs.declared.call.Call.TheVariants.{Waiting, Expired, Ended}
-use Rattle.ttrpc_client.specs.Happens.{last_id, request_bytes}
+use Rattle.ttrpc_client.specs.Table.{last_id, request_bytes}
 use Rattle.ttrpc_flight.specs.Flight.{Flying}
 use Rattle.ttrpc_world.specs.Story.{Act, Called, Ran, Answered, Gave, HasOkStatus, IsExactlyOnce, calls, outcomes, runs, work}
 

@@ -5,11 +5,17 @@ use Rattle.std.proofs.lemmas.List.{append-nil, length-append}
 use Rattle.std.specs.List.{AllByRecursion}
 use Rattle.ttrpc_error.specs.declared.error.Error.{Error}
 use Rattle.ttrpc_frame.specs.declared.frame.Incoming.{Incoming}
-use Rattle.ttrpc_core.specs.declared.job.ActiveJob.{ActiveJob}
-use Rattle.ttrpc_core.specs.declared.job.Job.{Job}
-use Rattle.ttrpc_core.specs.Happens.{ActsAll, Does, EndsOne, Halves}
-use Rattle.ttrpc_core.specs.Server.{Core, Server}
-use Rattle.ttrpc_core.specs.Table.{Row, Skipped, Tells, TellsOf, Known, header_of_frame, row_of}
+use Rattle.ttrpc_server.specs.declared.job.ActiveJob.{ActiveJob}
+use Rattle.ttrpc_server.specs.declared.job.Job.{Job}
+use Rattle.ttrpc_secure.specs.declared.transform.OutboundTransform.{Ghosts as OutboundTransform}
+use Rattle.ttrpc_connection.specs.declared.connection.Connection.{Connection}
+use Rattle.ttrpc_connection.specs.Feeds.{ActsAll, Scene, arrived, scene}
+use Rattle.ttrpc_connection.specs.Frames.{Sent, header_of_frame}
+use Rattle.ttrpc_server.specs.declared.server.ServerCore.{ServerCore}
+use Rattle.ttrpc_server.specs.Happens.{Does, serving}
+use Rattle.ttrpc_server.specs.Jobs.{EndsOne, JobList, new_job}
+use Rattle.ttrpc_server.specs.Server.{Server}
+use Rattle.ttrpc_server.specs.Table.{Row, Skipped, Tells, TellsOf, Known, row_of}
 use Rattle.ttrpc_header.specs.declared.header.MessageHeader.{MessageHeader}
 use Rattle.ttrpc_world.specs.declared.events.Side.TheVariants as side
 use Rattle.ttrpc_world.specs.declared.events.Event.{Event}
@@ -18,11 +24,11 @@ use Rattle.ttrpc_world.specs.declared.events.Reply.{Reply}
 use Rattle.ttrpc_world.specs.declared.events.Reply.TheVariants.{Named, Outcome as Given, Handed, Done, Count, Refused, NoMemory, NoStep}
 use Rattle.ttrpc_world.specs.declared.events.Entry.{Entry}
 use Rattle.ttrpc_world.specs.Pipes.{is_over}
-use Rattle.ttrpc_world.specs.Net.{Net, IsFresh}
-use Rattle.ttrpc_world.specs.Steps.{AnswersBy, Runs, ServerHears, Steps, cut_to, taken_from}
+use Rattle.ttrpc_world.specs.Net.{Halves, Net, IsFresh}
+use Rattle.ttrpc_world.specs.Steps.{AnswersBy, Hears, Runs, Steps, cut_to, taken_from}
 use Rattle.ttrpc_world.specs.Story.{Act, Called, Ran, Answered, Gave, IsOneToOne, IsRightAt, IsStreamOf, act_of, acts, only_if, runs}
 use Rattle.ttrpc_world.proofs.Traces.{with_entry}
-use Rattle.ttrpc_world.proofs.Moves.{server_stops}
+use Rattle.ttrpc_world.proofs.Moves.{stops}
 
 -- ---- a stream for each job that was made
 
@@ -71,19 +77,30 @@ same_placed trace n m js ks hn hj p = record {
   past = subst (λ (x : ℕ). WasBelow p.f x trace) (sym hn) p.past;
 }
 
-does_placed : {O I : Type 0} (h : Halves O I) (trace : List Entry) (r : Row) (old : Core O I) (header : MessageHeader) (new : Core O I) → Does h r old header new → Placed trace old.last_job old.jobs → Placed trace new.last_job new.jobs
-does_placed h trace Skipped old header new d p = same_placed trace _ _ _ _ d.last_job d.jobs p
-does_placed h trace (Tells response) old header new d p = same_placed trace _ _ _ _ d.same.last_job d.same.jobs p
-does_placed h trace (TellsOf code) old header new d p = same_placed trace _ _ _ _ d.2.same.last_job d.2.same.jobs p
-does_placed h trace (Known request) old header new d p = same_placed trace _ _ _ _ d.last_job d.jobs (record {
-  f = moved p.f old.last_job d.job.header.stream_id;
-  below = jobs_make p.f old.last_job d.job old.jobs d.id p.below;
-  past = past_make p.f old.last_job d.job.header.stream_id trace p.past;
-})
+jobs_placed : (trace : List Entry) (old new : JobList) → new ≡ old → Placed trace old.last old.list → Placed trace new.last new.list
+jobs_placed trace old new same p = subst (λ (j : JobList). Placed trace j.last j.list) (sym same) p
 
-acts_placed : {O I : Type 0} (h : Halves O I) (trace : List Entry) (fs : List Incoming) (old new : Core O I) → ActsAll h old fs new → Placed trace old.last_job old.jobs → Placed trace new.last_job new.jobs
-acts_placed h trace [] old new a p = same_placed trace _ _ _ _ (ap Core.last_job a) (ap Core.jobs a) p
-acts_placed h trace (f ∷ fs) old new a p = acts_placed h trace fs a.0 new a.2 (does_placed h trace (row_of old f a.1.opening) old (header_of_frame f) a.0 a.1.does p)
+does_placed : {O : Type 0} (out : OutboundTransform O) (trace : List Entry) (r : Row) (old : Server) (o : O) (header : MessageHeader) (sent : List Sent) (new : Server) → Does out r old o header sent new
+    → Placed trace old.jobs.last old.jobs.list → Placed trace new.jobs.last new.jobs.list
+does_placed out trace Skipped old o header sent new d p = jobs_placed trace old.jobs new.jobs (ap (λ (t : Server). t.jobs) d.0) p
+does_placed out trace (Tells response) old o header sent new d p = jobs_placed trace old.jobs new.jobs (ap (λ (t : Server). t.jobs) d.0) p
+does_placed out trace (TellsOf code) old o header sent new d p = jobs_placed trace old.jobs new.jobs (ap (λ (t : Server). t.jobs) d.0) p
+does_placed out trace (Known request) old o header sent new d p =
+    let n : ℕ = old.jobs.last in
+    let job = new_job (n + 1) header request in
+    subst (λ (t : Server). Placed trace t.jobs.last t.jobs.list) (sym d.0) (record {
+      f = moved p.f n header.stream_id;
+      below = jobs_make p.f n job old.jobs.list refl p.below;
+      past = past_make p.f n header.stream_id trace p.past;
+    })
+
+acts_placed : {O I : Type 0} (h : Halves O I) (trace : List Entry) (now : ℕ) (fs : List Incoming) (old new : Scene Server O I) → ActsAll (serving h.out h.in_) now old fs new
+    → Placed trace old.state.jobs.last old.state.jobs.list → Placed trace new.state.jobs.last new.state.jobs.list
+acts_placed h trace now [] old new a p = jobs_placed trace old.state.jobs new.state.jobs (ap (λ (x : Scene Server _ _). x.state.jobs) a) p
+acts_placed h trace now (f ∷ fs) old new a p =
+    let one = a.1 in
+    acts_placed h trace now fs a.0 new a.2
+    (does_placed h.out trace (row_of old.state (arrived f one.opening now)) old.state old.outbox.half (header_of_frame f) one.sent a.0.state one.reacts p)
 
 past_more : (f : ℕ → ℕ) (n : ℕ) (trace : List Entry) (event : Event) (reply : Reply) → WasBelow f n trace → IsBelow f n event reply → WasBelow f n (with_entry trace event reply)
 past_more f n [] event reply h r = (r, tt)
@@ -107,38 +124,38 @@ below_less f n (i ∷ front) back j h = (h.0, below_less f n front back j h.1)
 ended_placed : (trace : List Entry) (n : ℕ) (old new : List ActiveJob) (id : ℕ) (job : ActiveJob) → EndsOne old id job new → Placed trace n old → Placed trace n new
 ended_placed trace n old new id job t p = record {
   f = p.f;
-  below = subst (λ (js : List ActiveJob). AreBelow p.f n js) (sym t.jobs) (below_less p.f n t.front t.back job (subst (λ (js : List ActiveJob). AreBelow p.f n js) t.was p.below));
+  below = subst (λ (js : List ActiveJob). AreBelow p.f n js) (sym t.jobs) (below_less p.f n t.at.front t.at.back job (subst (λ (js : List ActiveJob). AreBelow p.f n js) t.at.is p.below));
   past = p.past;
 }
 
 module _ {CO CI SO SI : Type 0} (c : Halves CO CI) (s : Halves SO SI) (seals : Bool) where
   -- the jobs of a server
-  abbrev At : List Entry → Server SO SI → Type 0
-  At trace x = Placed trace x.core.last_job x.core.jobs
+  abbrev At : List Entry → ServerCore SO SI → Type 0
+  At trace x = Placed trace x.state.jobs.last x.state.jobs.list
 
   -- the jobs stay
-  stays : (trace : List Entry) (x y : Server SO SI) → y ≡ x → At trace x → At trace y
-  stays trace x y e p = subst (λ (z : Server SO SI). Placed trace z.core.last_job z.core.jobs) (sym e) p
+  stays : (trace : List Entry) (x y : ServerCore SO SI) → y ≡ x → At trace x → At trace y
+  stays trace x y e p = subst (λ (z : ServerCore SO SI). Placed trace z.state.jobs.last z.state.jobs.list) (sym e) p
 
   -- an entry that hands nothing out, at which the server stays
   still : (trace : List Entry) (w v : Net CO CI SO SI) (event : Event) (reply : Reply) → v.server ≡ w.server → ((f : ℕ → ℕ) (n : ℕ) → IsBelow f n event reply) → At trace w.server → At (with_entry trace event reply) v.server
-  still trace w v event reply e r p = stays (with_entry trace event reply) w.server v.server e (entry_placed trace w.server.core.last_job w.server.core.jobs event reply p (r p.f w.server.core.last_job))
+  still trace w v event reply e r p = stays (with_entry trace event reply) w.server v.server e (entry_placed trace w.server.state.jobs.last w.server.state.jobs.list event reply p (r p.f w.server.state.jobs.last))
 
-  hears : (trace : List Entry) (over : Bool) (x y : Server SO SI) → ServerHears over x y → At trace x → At trace y
-  hears trace true x y h p = let stops = server_stops x y h in same_placed trace _ _ _ _ (ap (λ (z : Server SO SI). z.core.last_job) stops.is) (ap (λ (z : Server SO SI). z.core.jobs) stops.is) p
-  hears trace false x y h p = stays trace x y h p
+  -- the state is the same
+  same_state : (trace : List Entry) (x y : ServerCore SO SI) → y.state ≡ x.state → At trace x → At trace y
+  same_state trace x y e p = subst (λ (z : Server). Placed trace z.jobs.last z.jobs.list) (sym e) p
 
-  answered : (trace : List Entry) (x y : Server SO SI) (id : ℕ) (result : Result _ Error) → AnswersBy c s seals x id result y → At trace x → At trace y
-  answered trace x y id (Ok response) a p = same_placed trace _ _ _ _ a.1.same.last_job refl (ended_placed trace x.core.last_job x.core.jobs y.core.jobs id a.1.job a.1.ends p)
-  answered trace x y id (Err error) a p = same_placed trace _ _ _ _ a.same.last_job refl (ended_placed trace x.core.last_job x.core.jobs y.core.jobs id a.job a.ends p)
+  answered : (trace : List Entry) (x y : ServerCore SO SI) (id : ℕ) (result : Result _ Error) → AnswersBy c s seals x id result y → At trace x → At trace y
+  answered trace x y id (Ok response) a p = same_placed trace _ _ _ _ (ap (λ (z : ServerCore SO SI). z.state.jobs.last) a.1.same) refl (ended_placed trace x.state.jobs.last x.state.jobs.list y.state.jobs.list id a.1.job a.1.ends p)
+  answered trace x y id (Err error) a p = same_placed trace _ _ _ _ (ap (λ (z : ServerCore SO SI). z.state.jobs.last) a.same) refl (ended_placed trace x.state.jobs.last x.state.jobs.list y.state.jobs.list id a.job a.ends p)
 
   handed : (trace : List Entry) (w v : Net CO CI SO SI) (job : Job) → Steps c s seals w Take (Handed (Some job)) v → At trace w.server → At (with_entry trace Take (Handed (Some job))) v.server
   handed trace w v job q p =
       let t = q.does.hands in
-      let n : ℕ = w.server.core.last_job in
+      let n : ℕ = w.server.state.jobs.last in
       let below = subst (λ (js : List ActiveJob). AreBelow p.f n js) t.was p.below in
       let here = below_here p.f n t.front t.back t.job below in
-      same_placed (with_entry trace Take (Handed (Some job))) n v.server.core.last_job _ v.server.core.jobs q.does.same.last_job t.jobs (record {
+      same_placed (with_entry trace Take (Handed (Some job))) n v.server.state.jobs.last _ v.server.state.jobs.list (ap (λ (z : ServerCore SO SI). z.state.jobs.last) q.does.same) t.jobs (record {
         f = p.f;
         below = below_taken p.f n t.front t.back t.job below;
         past = past_more p.f n trace Take (Handed (Some job)) p.past (ap p.f t.id ∙ here.0 ∙ sym (ap (λ (h : MessageHeader). h.stream_id) t.header), omega (arith, here.1, t.id));
@@ -153,28 +170,28 @@ module _ {CO CI SO SI : Type 0} (c : Halves CO CI) (s : Halves SO SI) (seals : B
   places trace w Take (Handed None) v p q = still trace w v Take (Handed None) (ap Net.server q.same) (λ f n. tt) p
   places trace w (Answer id result) Done v p q = entry_placed trace _ _ (Answer id result) Done (answered trace w.server v.server id result q.does p) tt
   places trace w (Answer id result) (Refused told) v p q = still trace w v (Answer id result) (Refused told) (ap Net.server q.1) (λ f n. tt) p
-  places trace w (Answer id result) NoMemory v p q = still trace w v (Answer id result) NoMemory (ap Net.server q) (λ f n. tt) p
   places trace w (Answer id result) NoStep v p q = still trace w v (Answer id result) NoStep (ap Net.server q.1) (λ f n. tt) p
   places trace w (Tick now) Done v p q = still trace w v (Tick now) Done (ap Net.server q.only) (λ f n. tt) p
   places trace w (Tick now) NoStep v p q = still trace w v (Tick now) NoStep (ap Net.server q.1) (λ f n. tt) p
   places trace w (Carry side.Client n) (Count k) v p q = still trace w v (Carry side.Client n) (Count k) (ap Net.server q.only) (λ f m. tt) p
   places trace w (Carry side.Client n) NoMemory v p q = still trace w v (Carry side.Client n) NoMemory (ap Net.server q) (λ f m. tt) p
   places trace w (Carry side.Server n) (Count k) v p q =
-      same_placed (with_entry trace (Carry side.Server n) (Count k)) _ _ _ _ (ap (λ (x : Net CO CI SO SI). x.server.core.last_job) q.only) (ap (λ (x : Net CO CI SO SI). x.server.core.jobs) q.only) (entry_placed trace _ _ (Carry side.Server n) (Count k) p tt)
+      same_placed (with_entry trace (Carry side.Server n) (Count k)) _ _ _ _ (ap (λ (x : Net CO CI SO SI). x.server.state.jobs.last) q.only) (ap (λ (x : Net CO CI SO SI). x.server.state.jobs.list) q.only) (entry_placed trace _ _ (Carry side.Server n) (Count k) p tt)
   places trace w (Carry side.Server n) NoMemory v p q = still trace w v (Carry side.Server n) NoMemory (ap Net.server q) (λ f m. tt) p
   places trace w (Deliver side.Server n) (Count k) v p q =
-      entry_placed trace _ _ (Deliver side.Server n) (Count k) (hears trace (is_over (taken_from w.up k)) q.mid v.server q.hears (acts_placed s trace q.does.frames w.server.core q.mid.core q.does.acts p)) tt
+      entry_placed trace _ _ (Deliver side.Server n) (Count k) (acts_placed s trace w.moment q.does.does.frames (scene w.server.state w.server.connection) (scene v.server.state q.does.mid) q.does.does.acts p) tt
   places trace w (Deliver side.Server n) (Refused told) v p (inl q) =
-      entry_placed trace _ _ (Deliver side.Server n) (Refused told) (same_placed trace _ _ _ _ q.does.fails.quiet.last_job q.does.fails.quiet.jobs (acts_placed s trace q.does.frames w.server.core q.does.mid q.does.acts p)) tt
+      let mid = acts_placed s trace w.moment q.does.frames (scene w.server.state w.server.connection) q.does.mid q.does.acts p in
+      entry_placed trace _ _ (Deliver side.Server n) (Refused told) (subst (λ (z : Server). Placed trace z.jobs.last z.jobs.list) (sym q.does.state) mid) tt
   places trace w (Deliver side.Server n) (Refused told) v p (inr q) = still trace w v (Deliver side.Server n) (Refused told) (ap Net.server q.1) (λ f m. tt) p
   places trace w (Deliver side.Client n) (Count k) v p q = still trace w v (Deliver side.Client n) (Count k) (ap Net.server q.only) (λ f m. tt) p
   places trace w (Deliver side.Client n) (Refused told) v p (inl q) = still trace w v (Deliver side.Client n) (Refused told) (ap Net.server q.only) (λ f m. tt) p
   places trace w (Deliver side.Client n) (Refused told) v p (inr q) = still trace w v (Deliver side.Client n) (Refused told) (ap Net.server q.1) (λ f m. tt) p
-  places trace w (Cut side.Server keep) Done v p q = entry_placed trace _ _ (Cut side.Server keep) Done (hears trace (is_over (cut_to w.up keep)) w.server v.server q.hears p) tt
+  places trace w (Cut side.Server keep) Done v p q = entry_placed trace _ _ (Cut side.Server keep) Done (same_state trace w.server v.server (ap (λ (x : Net CO CI SO SI). x.server.state) q.only) p) tt
   places trace w (Cut side.Client keep) Done v p q = still trace w v (Cut side.Client keep) Done (ap Net.server q.only) (λ f m. tt) p
   places trace w (Fail side.Client) Done v p q = still trace w v (Fail side.Client) Done (ap Net.server q) (λ f m. tt) p
   places trace w (Fail side.Server) Done v p q =
-      same_placed (with_entry trace (Fail side.Server) Done) _ _ _ _ (ap (λ (x : Net CO CI SO SI). x.server.core.last_job) q) (ap (λ (x : Net CO CI SO SI). x.server.core.jobs) q) (entry_placed trace _ _ (Fail side.Server) Done p tt)
+      same_placed (with_entry trace (Fail side.Server) Done) _ _ _ _ (ap (λ (x : Net CO CI SO SI). x.server.state.jobs.last) q) (ap (λ (x : Net CO CI SO SI). x.server.state.jobs.list) q) (entry_placed trace _ _ (Fail side.Server) Done p tt)
   places trace w (Fail at) NoMemory v p q = still trace w v (Fail at) NoMemory (ap Net.server q) (λ f m. tt) p
   places trace w (Open request up down) NoStep v p q = still trace w v (Open request up down) NoStep (ap Net.server q) (λ f m. tt) p
   places trace w (Recv at id) NoStep v p q = still trace w v (Recv at id) NoStep (ap Net.server q) (λ f m. tt) p
@@ -189,9 +206,9 @@ module _ {CO CI SO SI : Type 0} (c : Halves CO CI) (s : Halves SO SI) (seals : B
   places trace w event reply v p q = absurd q
 
   places_all : (before rest : List Entry) (w v : Net CO CI SO SI) → At before w.server → Runs c s seals w rest v → At (before ++ rest) v.server
-  places_all before [] w v i p = subst (λ (t : List Entry). Placed t v.server.core.last_job v.server.core.jobs) (sym (append-nil before)) (stays before w.server v.server (ap Net.server p) i)
+  places_all before [] w v i p = subst (λ (t : List Entry). Placed t v.server.state.jobs.last v.server.state.jobs.list) (sym (append-nil before)) (stays before w.server v.server (ap Net.server p) i)
   places_all before (e ∷ rest) w v i p =
-      subst (λ (t : List Entry). Placed t v.server.core.last_job v.server.core.jobs) (append_assoc before (e ∷ []) rest) (places_all (before ++ e ∷ []) rest p.0 v (places before w e.event e.reply p.0 i p.1) p.2)
+      subst (λ (t : List Entry). Placed t v.server.state.jobs.last v.server.state.jobs.list) (append_assoc before (e ∷ []) rest) (places_all (before ++ e ∷ []) rest p.0 v (places before w e.event e.reply p.0 i p.1) p.2)
 
 right_of : (f : ℕ → ℕ) (n : ℕ) (event : Event) (reply : Reply) → IsBelow f n event reply → IsRightAt f event reply
 right_of f n Take (Handed (Some job)) h = h.0
@@ -203,13 +220,13 @@ past_right f n (e ∷ trace) h = (right_of f n e.event e.reply h.0, past_right f
 
 pub some_streams : {CO CI SO SI : Type 0} (c : Halves CO CI) (s : Halves SO SI) (seals : Bool) (w : Net CO CI SO SI) (trace : List Entry) (v : Net CO CI SO SI) → IsFresh c s w → Runs c s seals w trace v → (stream_of : ℕ → ℕ) × IsStreamOf stream_of trace
 some_streams c s seals w trace v fresh r =
-    let start : Placed [] w.server.core.last_job w.server.core.jobs = record {
+    let start : Placed [] w.server.state.jobs.last w.server.state.jobs.list = record {
       f = λ j. 0;
-      below = subst (λ (x : Server _ _). AreBelow (λ j. 0) x.core.last_job x.core.jobs) (sym fresh.server) tt;
+      below = subst (λ (x : ServerCore _ _). AreBelow (λ j. 0) x.state.jobs.last x.state.jobs.list) (sym fresh.server) tt;
       past = tt;
     } in
     let p = places_all c s seals [] trace w v start r in
-    (p.f, past_right p.f v.server.core.last_job trace p.past)
+    (p.f, past_right p.f v.server.state.jobs.last trace p.past)
 
 -- ---- no two jobs the same
 

@@ -1,10 +1,10 @@
 -- Requests are thrown away: what stays in flight to the server.
 use Rattle.std.proofs.Common.{◌≡◌, ℕ, ◌≤◌, List, [], ◌∷◌, ◌++◌, length, Option, Some, None, refl, sym, ◌∙◌, subst, ◌⊎◌, inl, inr, arith}
 use Rattle.std.specs.List.{AllByRecursion}
-use Rattle.ttrpc_error.specs.declared.error.Error.{Error}
 use Rattle.ttrpc_frame.specs.Frames.{Held}
 use Rattle.ttrpc_frame.specs.Queue.{Queue, begun_count, without}
 use Rattle.ttrpc_secure.specs.Halves.{Moves, Refusals}
+use Rattle.ttrpc_connection.specs.declared.failure.Failure.{Failure}
 use Rattle.ttrpc_client.specs.Happens.{without_all}
 use Rattle.ttrpc_flight.specs.Flight.{Flying, AreInFlight, AreLinked, IsOwnRequest, others_flying_without, parcels}
 use Rattle.ttrpc_flight.proofs.Bytes.{thrown_in_flight}
@@ -21,7 +21,7 @@ pub record InFlight (held : Held) (p : Pipe) (q : Queue) (flights : List Flying)
   pub bytes : AreInFlight held p.bytes p.cut q transit queued
 
 -- the two cases of a side
-pub lives_or_failed : (failure : Option Error) → (failure ≡ None) ⊎ ((e : Error) × (failure ≡ Some e))
+pub lives_or_failed : (failure : Option Failure) → (failure ≡ None) ⊎ ((e : Failure) × (failure ≡ Some e))
 lives_or_failed None = inl refl
 lives_or_failed (Some e) = inr (e, refl)
 
@@ -29,7 +29,7 @@ pub not_both : {X : Type 0} (failure : Option X) (x : X) → failure ≡ Some x 
 not_both failure x a b = let bad : Some x ≡ None = sym a ∙ b in cc
 
 -- What is left of the flights is in flight over the queue that is left; of each id they are the same, or none.
-pub record Thrown {O I : Type 0} (seals : Moves O) (opens : Moves I) (refuses : Refusals I) (failure : Option Error) (held : Held) (p : Pipe) (q : Queue) (out : O) (in_ : I) (flights : List Flying) : Type 0 where
+pub record Thrown {O I : Type 0} (seals : Moves O) (opens : Moves I) (refuses : Refusals I) (failure : Option Failure) (held : Held) (p : Pipe) (q : Queue) (out : O) (in_ : I) (flights : List Flying) : Type 0 where
   pub left : List Flying
   pub parts : (k : ℕ) → (parcels k left ≡ parcels k flights) ⊎ (parcels k left ≡ [])
   pub own : AllByRecursion IsOwnRequest left
@@ -52,14 +52,14 @@ parts_twice a b c k (inr x) (inl y) = inr (y ∙ x)
 parts_twice a b c k x (inr y) = inr y
 
 module _ {O I : Type 0} (seals : Moves O) (opens : Moves I) (refuses : Refusals I) (still : (s t : O) (plain aad sealed : List ℕ) → seals s plain aad sealed t → t ≡ s)
-    (failure : Option Error) (held : Held) (p : Pipe) (out : O) (in_ : I) where
+    (failure : Option Failure) (held : Held) (p : Pipe) (out : O) (in_ : I) where
   -- nothing is thrown away
   nothing_thrown : (q : Queue) (flights : List Flying) → AllByRecursion IsOwnRequest flights → (failure ≡ None → InFlight held p q flights) → (failure ≡ None → AreLinked seals opens refuses flights out in_)
       → Thrown seals opens refuses failure held p q out in_ flights
   nothing_thrown q flights own bytes linked = record { left = flights; parts = λ k. inl refl; own = own; bytes = bytes; linked = linked }
 
   -- a failed side takes no more
-  failed_thrown : (e : Error) → failure ≡ Some e → (q : Queue) (flights : List Flying) → AllByRecursion IsOwnRequest flights → Thrown seals opens refuses failure held p q out in_ flights
+  failed_thrown : (e : Failure) → failure ≡ Some e → (q : Queue) (flights : List Flying) → AllByRecursion IsOwnRequest flights → Thrown seals opens refuses failure held p q out in_ flights
   failed_thrown e dead q flights own = nothing_thrown q flights own (λ alive. absurd (not_both failure e dead alive)) (λ alive. absurd (not_both failure e dead alive))
 
   lives_thrown : (owner : ℕ) (q : Queue) (flights : List Flying) → AreSingle flights → AllByRecursion IsOwnRequest flights → InFlight held p q flights → AreLinked seals opens refuses flights out in_

@@ -7,7 +7,9 @@ use Rattle.ttrpc_error.specs.declared.error.Error.TheVariants.{RpcStatus}
 use Rattle.ttrpc_proto.specs.declared.response.Response.{Response}
 use Rattle.ttrpc_proto.specs.declared.status.Status.{Status}
 use Rattle.ttrpc_proto.specs.Messages.{is_ok_code}
-use Rattle.ttrpc_core.specs.declared.job.ActiveJob.{ActiveJob}
+use Rattle.ttrpc_connection.specs.declared.failure.Failure.{Failure}
+use Rattle.ttrpc_connection.specs.Failure.{error_of}
+use Rattle.ttrpc_server.specs.declared.job.ActiveJob.{ActiveJob}
 use Rattle.ttrpc_client.specs.declared.call.Call.{Call}
 use Rattle.ttrpc_client.specs.declared.call.Call.TheVariants.{Waiting, Expired, Ended}
 use Rattle.ttrpc_client.specs.Table.{Gives, LandsOn, by_code, by_status}
@@ -382,15 +384,15 @@ ends_nothing p a e given none h =
 ends_given : (p : Stage) (a : List Act) (o : Result Response Error) (given : Option (Result Response Error)) → work a ≡ works_of p → given ≡ Some o → Ends p a (Some (Ended o)) → Ends p (a ++ gave_of given) None
 ends_given p a o given w is h = subst (λ (g : Option (Result Response Error)). Given p (a ++ gave_of g)) (sym is) (ends_ask p a o w h)
 
-ends_asked : (p : Stage) (a : List Act) (failure : Option Error) (e : Option Call) (given : Option (Result Response Error)) → work a ≡ works_of p → GivesOutcome failure e given → Ends p a e → Ends p (a ++ gave_of given) (left_of failure e)
+ends_asked : (p : Stage) (a : List Act) (failure : Option Failure) (e : Option Call) (given : Option (Result Response Error)) → work a ≡ works_of p → GivesOutcome failure e given → Ends p a e → Ends p (a ++ gave_of given) (left_of failure e)
 ends_asked p a failure None given w g h = ends_nothing p a None given g h
 ends_asked p a None (Some (Waiting deadline)) given w g h = ends_nothing p a (Some (Waiting deadline)) given g h
-ends_asked p a (Some error) (Some (Waiting deadline)) given w g h = ends_tells p a error given h.0 h.1 g
+ends_asked p a (Some why) (Some (Waiting deadline)) given w g h = ends_tells p a (error_of why) given h.0 h.1 g
 ends_asked p a failure (Some Expired) given w g h = ends_tells p a expired_error given h.0 h.1 g
 ends_asked p a failure (Some (Ended o)) given w g h = ends_given p a o given w g h
 
 -- The outcome is asked for.
-pub asks_here : (Y Y2 : Type 0) (k : ℕ) (a a2 : List Act) (u : List Flying) (j : List ActiveJob) (d : List Flying) (failure : Option Error) (e e2 : Option Call) (given : Option (Result Response Error))
+pub asks_here : (Y Y2 : Type 0) (k : ℕ) (a a2 : List Act) (u : List Flying) (j : List ActiveJob) (d : List Flying) (failure : Option Failure) (e e2 : Option Call) (given : Option (Result Response Error))
     → Story Y k a u j d e → (Y2 → Y) → GivesOutcome failure e given → e2 ≡ left_of failure e → a2 ≡ a ++ gave_of given → Story Y2 k a2 u j d e2
 asks_here Y Y2 k a a2 u j d failure e e2 given s y g he ha = record {
   stage = s.stage;

@@ -1,39 +1,51 @@
 -- One client, one server, and the bytes in flight between them.
 -- Source: this project's.
 use Rattle.std.specs.Prelude.{◌≡◌, ℕ, List}
+use Rattle.ttrpc_secure.specs.declared.transform.OutboundTransform.{Ghosts as OutboundTransform}
+use Rattle.ttrpc_secure.specs.declared.transform.InboundTransform.{Ghosts as InboundTransform}
 use Rattle.ttrpc_secure.specs.Halves.{IsPaired}
-use Rattle.ttrpc_core.specs.declared.registry.ServiceNames.{ServiceNames}
-use Rattle.ttrpc_core.specs.declared.rules.Rules.{Rules}
-use Rattle.ttrpc_core.specs.Server.{Server, new_server}
-use Rattle.ttrpc_core.specs.Happens.{Halves}
+use Rattle.ttrpc_server.specs.declared.registry.ServiceNames.{ServiceNames}
+use Rattle.ttrpc_server.specs.declared.rules.Rules.{Rules}
+use Rattle.ttrpc_server.specs.declared.server.ServerCore.{ServerCore}
+use Rattle.ttrpc_server.specs.Happens as server
+use Rattle.ttrpc_client.specs.declared.client.ClientCore.{ClientCore}
 use Rattle.ttrpc_client.specs.declared.kind.ClientKind.{ClientKind}
-use Rattle.ttrpc_client.specs.Client.{Client, new_client}
+use Rattle.ttrpc_client.specs.Happens as client
 use Rattle.ttrpc_world.specs.Pipes.{Pipe, empty_pipe}
 
+-- what the clauses know of the two halves of a side
+pub record Halves (O I : Type 0) : Type 1 where
+  pub out : OutboundTransform O
+  pub in_ : InboundTransform I
+
+abbrev pub halves : {O I : Type 0} → OutboundTransform O → InboundTransform I → Halves O I
+halves out in_ = record { out = out; in_ = in_ }
+
 pub record Net (CO CI SO SI : Type 0) : Type 0 where
-  pub client : Client CO CI
-  pub server : Server SO SI
+  pub client : ClientCore CO CI
+  pub server : ServerCore SO SI
   -- in flight to the server, and to the client
   pub up : Pipe
   pub down : Pipe
   -- the last moment that came, in nanoseconds
   pub moment : ℕ
 
-abbrev pub with_client : {CO CI SO SI : Type 0} → Net CO CI SO SI → Client CO CI → Net CO CI SO SI
+abbrev pub with_client : {CO CI SO SI : Type 0} → Net CO CI SO SI → ClientCore CO CI → Net CO CI SO SI
 with_client w c = record w { client = c }
 
-abbrev pub with_server : {CO CI SO SI : Type 0} → Net CO CI SO SI → Server SO SI → Net CO CI SO SI
+abbrev pub with_server : {CO CI SO SI : Type 0} → Net CO CI SO SI → ServerCore SO SI → Net CO CI SO SI
 with_server w s = record w { server = s }
 
 -- Nothing has happened yet, and each outbound half is paired with the other side's inbound half.
 pub record IsFresh {CO CI SO SI : Type 0} (c : Halves CO CI) (s : Halves SO SI) (w : Net CO CI SO SI) : Type 0 where
   pub kind : ClientKind
   pub first : ℕ
-  pub client : w.client ≡ new_client kind first w.client.core.outbound w.client.core.inbound
+  pub client : w.client ≡ client.new_core kind first w.client.connection.outbox.half w.client.connection.inbound
   pub rules : Rules
   pub services : List ServiceNames
-  pub server : w.server ≡ new_server rules services w.server.core.outbound w.server.core.inbound
+  pub server : w.server ≡ server.new_core rules services w.server.connection.outbox.half w.server.connection.inbound
   pub up : w.up ≡ empty_pipe
   pub down : w.down ≡ empty_pipe
-  pub up_paired : IsPaired c.seals s.opens s.refuses_opening w.client.core.outbound w.server.core.inbound
-  pub down_paired : IsPaired s.seals c.opens c.refuses_opening w.server.core.outbound w.client.core.inbound
+  pub moment : w.moment ≡ 0
+  pub up_paired : IsPaired c.out.seals s.in_.opens s.in_.refuses w.client.connection.outbox.half w.server.connection.inbound
+  pub down_paired : IsPaired s.out.seals c.in_.opens c.in_.refuses w.server.connection.outbox.half w.client.connection.inbound

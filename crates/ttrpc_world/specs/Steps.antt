@@ -1,6 +1,6 @@
 -- What an event and its reply may do to a client, a server and their pipes.
 -- Source: PROTOCOL.md of ttrpc, "Streaming", by the tables of both cores.
-use Rattle.std.specs.Prelude.{◌≡◌, ◌≢◌, ◌⊎◌, ◌<◌, ◌≤◌, ◌++◌, ℕ, List, [], ◌∷◌, length, take, drop, min, codes, if◌then◌else◌, Bool, true, false, Option, Some, None, Result, Ok, Err}
+use Rattle.std.specs.Prelude.{◌≡◌, ◌≢◌, ◌⊎◌, ◌<◌, ◌≤◌, ◌++◌, ℕ, List, [], ◌∷◌, length, take, drop, min, codes, if◌then◌else◌, Bool, true, false, Option, Some, None, is_some, Result, Ok, Err}
 use Rattle.ttrpc_error.specs.declared.error.Error.{Error}
 use Rattle.ttrpc_error.specs.declared.error.Error.TheVariants.{Socket}
 use Rattle.ttrpc_proto.specs.declared.request.Request.{Request}
@@ -8,18 +8,20 @@ use Rattle.ttrpc_proto.specs.declared.response.Response.{Response}
 use Rattle.ttrpc_proto.specs.Messages.{IsRequest, IsResponse}
 use Rattle.ttrpc_frame.specs.Frames.{nothing}
 use Rattle.ttrpc_frame.specs.Queue.{Queue, open_part, with_lent, after_report}
-use Rattle.ttrpc_core.specs.declared.failure.Failure.TheVariants.{Disconnected, DisconnectedInside, HandlerError}
-use Rattle.ttrpc_core.specs.declared.job.Job.{Job}
-use Rattle.ttrpc_core.specs.Failure.{error_of}
-use Rattle.ttrpc_core.specs.Server.{Server}
-use Rattle.ttrpc_core.specs.Server as server
-use Rattle.ttrpc_core.specs.Happens.{Halves, Answers, Drops, HasUnsent, Hands, IsUnknown, NoneWaits, kept}
-use Rattle.ttrpc_core.specs.Happens as jobs
-use Rattle.ttrpc_client.specs.Client.{Client}
-use Rattle.ttrpc_client.specs.Client as client
-use Rattle.ttrpc_client.specs.Happens.{Forgets, RefusesRequest, Requests}
-use Rattle.ttrpc_client.specs.Happens as calls
-use Rattle.ttrpc_client.specs.Turns.{Passes, Tells}
+use Rattle.ttrpc_connection.specs.declared.connection.Connection.{Connection}
+use Rattle.ttrpc_connection.specs.declared.failure.Failure.{Failure}
+use Rattle.ttrpc_connection.specs.declared.failure.Failure.TheVariants.{Told, Disconnected, DisconnectedInside}
+use Rattle.ttrpc_connection.specs.Failure.{kept}
+use Rattle.ttrpc_connection.specs.Feeds.{Ways, Feeds, Breaks, IsFailed}
+use Rattle.ttrpc_server.specs.declared.job.Job.{Job}
+use Rattle.ttrpc_server.specs.declared.server.ServerCore.{ServerCore}
+use Rattle.ttrpc_server.specs.Jobs.{IsUnknown, NoneWaits}
+use Rattle.ttrpc_server.specs.Table.{HasUnsent}
+use Rattle.ttrpc_server.specs.Happens.{Answers, Drops, Hands, serving}
+use Rattle.ttrpc_client.specs.declared.client.ClientCore.{ClientCore}
+use Rattle.ttrpc_client.specs.Table.{RefusesRequest}
+use Rattle.ttrpc_client.specs.Happens.{Forgets, Requests, Tells, calling}
+use Rattle.ttrpc_client.specs.Calls.{Passes}
 use Rattle.ttrpc_world.specs.declared.events.Side.TheVariants as side
 use Rattle.ttrpc_world.specs.declared.events.Event.{Event}
 use Rattle.ttrpc_world.specs.declared.events.Event.TheVariants.{Call, Open, Outcome, Recv, Send, Close, DropCall, DropReceiver, DropSender, Take, Answer, Respond, Finish, EndStream, Drain, Tick, Carry, Deliver, Cut, Fail}
@@ -27,18 +29,22 @@ use Rattle.ttrpc_world.specs.declared.events.Reply.{Reply}
 use Rattle.ttrpc_world.specs.declared.events.Reply.TheVariants.{Named, Outcome as Given, Handed, Done, Count, Refused, NoMemory, NoStep}
 use Rattle.ttrpc_world.specs.declared.events.Entry.{Entry}
 use Rattle.ttrpc_world.specs.Pipes.{Pipe, is_over}
-use Rattle.ttrpc_world.specs.Net.{Net, with_client, with_server}
+use Rattle.ttrpc_world.specs.Net.{Halves, Net, with_client, with_server}
 
--- ---- the ends of the pipes
+-- ---- one side, and the pipe to it or from it
 
 -- n bytes of the first unfinished frame move into the pipe, or are lost behind its cut
 abbrev pub carried : Pipe → ℕ → Queue → Pipe
 carried p n q = record p { bytes = if p.cut then p.bytes else p.bytes ++ take n (open_part q) }
 
 -- how many bytes a lend of at most n gives: none after a failure
-abbrev pub lent_of : Option Error → ℕ → Queue → ℕ
+abbrev pub lent_of : Option Failure → ℕ → Queue → ℕ
 lent_of None n q = min n (length (open_part q))
-lent_of (Some error) n q = 0
+lent_of (Some why) n q = 0
+
+-- they were lent, and reported as written
+abbrev pub after_carry : {O I : Type 0} → Connection O I → ℕ → Connection O I
+after_carry c k = record c { outbox = record c.outbox { queue = after_report (with_lent c.outbox.queue k) k } }
 
 -- the first n bytes were taken
 abbrev pub taken_from : Pipe → ℕ → Pipe
@@ -48,24 +54,30 @@ taken_from p n = record p { bytes = drop n p.bytes }
 abbrev pub cut_to : Pipe → ℕ → Pipe
 cut_to p keep = record { bytes = take keep p.bytes; cut = true }
 
--- the input of the client ends
-pub record ClientEnds {O I : Type 0} (old new : Client O I) : Type 0 where
-  pub between : old.held ≡ nothing → new ≡ client.with_failure old (kept old.core.failure (error_of Disconnected))
-  pub inside : old.held ≢ nothing → new ≡ client.with_failure old (kept old.core.failure (error_of DisconnectedInside))
+-- the connection failed, if it hadn't
+abbrev pub failed : {O I : Type 0} → Connection O I → Failure → Connection O I
+failed c why = record c { failure = kept c.failure why }
 
--- the input of the server ends
-pub record ServerEnds {O I : Type 0} (old new : Server O I) : Type 0 where
-  pub between : old.held ≡ nothing → new ≡ server.with_failure old (kept old.core.failure (error_of Disconnected))
-  pub inside : old.held ≢ nothing → new ≡ server.with_failure old (kept old.core.failure (error_of DisconnectedInside))
+-- its input ends
+pub record InputEnds {O I : Type 0} (old new : Connection O I) : Type 0 where
+  pub between : old.decoder ≡ nothing → new ≡ failed old Disconnected
+  pub inside : old.decoder ≢ nothing → new ≡ failed old DisconnectedInside
 
 -- it ends where all was delivered that a cut left
-abbrev pub ClientHears : {O I : Type 0} → Bool → Client O I → Client O I → Type 0
-ClientHears true old new = ClientEnds old new
-ClientHears false old new = new ≡ old
+abbrev pub Hears : {O I : Type 0} → Bool → Connection O I → Connection O I → Type 0
+Hears true old new = InputEnds old new
+Hears false old new = new ≡ old
 
-abbrev pub ServerHears : {O I : Type 0} → Bool → Server O I → Server O I → Type 0
-ServerHears true old new = ServerEnds old new
-ServerHears false old new = new ≡ old
+-- Bytes moved from a pipe to its side at a moment. Where they were the last before a cut, the input ends.
+pub record Delivers {S O I : Type 0} (w : Ways S O I) (s : S) (old : Connection O I) (pipe : Pipe) (now n k : ℕ) (t : S) (new : Connection O I) : Type 0 where
+  pub count : k ≡ min n (length pipe.bytes)
+  pub mid : Connection O I
+  pub does : Feeds w s old (take k pipe.bytes) now t mid
+  pub hears : Hears (is_over (taken_from pipe k)) mid new
+
+-- The side fails at these bytes.
+abbrev pub BreaksAt : {S O I : Type 0} → Ways S O I → S → Connection O I → Pipe → ℕ → ℕ → Error → S → Connection O I → Type 0
+BreaksAt w s old pipe now n told t new = Breaks w s old (take (min n (length pipe.bytes)) pipe.bytes) now told t new
 
 abbrev pub failed_by_hand : Error
 failed_by_hand = Socket (codes "failed")
@@ -76,7 +88,7 @@ module _ {CO CI SO SI : Type 0} (c : Halves CO CI) (s : Halves SO SI) (seals : B
   -- A call was accepted at the last moment.
   pub record Calls (old : Net CO CI SO SI) (request : Request) (id : ℕ) (new : Net CO CI SO SI) : Type 0 where
     pub known : IsRequest request
-    pub does : Requests c old.client request old.moment id new.client
+    pub does : Requests c.out old.client request old.moment id new.client
     pub only : new ≡ with_client old new.client
 
   -- An outcome was asked for.
@@ -96,86 +108,81 @@ module _ {CO CI SO SI : Type 0} (c : Halves CO CI) (s : Halves SO SI) (seals : B
 
   -- Nothing was handed out: no job waits, or the connection has failed.
   pub record HandsNone (old new : Net CO CI SO SI) : Type 0 where
-    pub none : old.server.core.failure ≡ None → NoneWaits old.server.core.jobs
+    pub none : old.server.connection.failure ≡ None → NoneWaits old.server.state.jobs.list
     pub same : new ≡ old
 
   -- A job was answered by what its handler gave; a handler's error ends the job, and the connection fails.
-  abbrev pub AnswersBy : Server SO SI → ℕ → Result Response Error → Server SO SI → Type 0
-  AnswersBy old id (Ok response) new = IsResponse response × Answers s old id response new
-  AnswersBy old id (Err error) new = Drops old id (error_of HandlerError) new
+  abbrev pub AnswersBy : ServerCore SO SI → ℕ → Result Response Error → ServerCore SO SI → Type 0
+  AnswersBy old id (Ok response) new = IsResponse response × Answers s.out old id response new
+  AnswersBy old id (Err error) new = Drops old id new
 
   pub record AnswersOne (old : Net CO CI SO SI) (id : ℕ) (result : Result Response Error) (new : Net CO CI SO SI) : Type 0 where
     pub does : AnswersBy old.server id result new.server
     pub only : new ≡ with_server old new.server
 
   -- An answer was refused: the connection has failed, or the response to a job that was taken can't be queued.
-  abbrev pub RefusesOne : Server SO SI → ℕ → Result Response Error → Error → Type 0
-  RefusesOne old id result told = jobs.IsFailed old.core told ⊎ HasUnsent s old.core id result told
+  abbrev pub RefusesOne : ServerCore SO SI → ℕ → Result Response Error → Error → Type 0
+  RefusesOne old id result told = IsFailed old.connection.failure told ⊎ HasUnsent s.out old id result told
 
   -- The job wasn't taken, or is over.
   pub record IsNoJob (old : Net CO CI SO SI) (id : ℕ) : Type 0 where
-    pub alive : old.server.core.failure ≡ None
-    pub unknown : IsUnknown old.server.core.jobs id
+    pub alive : old.server.connection.failure ≡ None
+    pub unknown : IsUnknown old.server.state.jobs.list id
 
   -- A moment came.
   pub record Ticked (old : Net CO CI SO SI) (now : ℕ) (new : Net CO CI SO SI) : Type 0 where
     pub later : old.moment ≤ now
-    pub does : Passes seals old.client.core.failure old.client now new.client
+    pub does : Passes seals old.client.connection.failure old.client now new.client
     pub only : new ≡ record (with_client old new.client) { moment = now }
 
   -- Bytes moved from a side into its pipe, and were reported.
   pub record CarriesUp (old : Net CO CI SO SI) (n k : ℕ) (new : Net CO CI SO SI) : Type 0 where
-    pub count : k ≡ lent_of old.client.core.failure n old.client.core.queue
-    pub only : new ≡ record (with_client old (client.with_queue old.client (after_report (with_lent old.client.core.queue k) k))) { up = carried old.up k old.client.core.queue }
+    pub count : k ≡ lent_of old.client.connection.failure n old.client.connection.outbox.queue
+    pub only : new ≡ record (with_client old (record old.client { connection = after_carry old.client.connection k })) { up = carried old.up k old.client.connection.outbox.queue }
 
   pub record CarriesDown (old : Net CO CI SO SI) (n k : ℕ) (new : Net CO CI SO SI) : Type 0 where
-    pub count : k ≡ lent_of old.server.core.failure n old.server.core.queue
-    pub only : new ≡ record (with_server old (server.with_queue old.server (after_report (with_lent old.server.core.queue k) k))) { down = carried old.down k old.server.core.queue }
+    pub count : k ≡ lent_of old.server.connection.failure n old.server.connection.outbox.queue
+    pub only : new ≡ record (with_server old (record old.server { connection = after_carry old.server.connection k })) { down = carried old.down k old.server.connection.outbox.queue }
 
-  -- Bytes moved from a pipe to its side. Where they were the last before a cut, the input ends.
+  -- Bytes were delivered to a side, at the last moment. The client has none.
   pub record DeliversUp (old : Net CO CI SO SI) (n k : ℕ) (new : Net CO CI SO SI) : Type 0 where
-    pub count : k ≡ min n (length old.up.bytes)
-    pub mid : Server SO SI
-    pub does : jobs.Feeds s old.server (take k old.up.bytes) mid
-    pub hears : ServerHears (is_over (taken_from old.up k)) mid new.server
+    pub does : Delivers (serving s.out s.in_) old.server.state old.server.connection old.up old.moment n k new.server.state new.server.connection
     pub only : new ≡ record (with_server old new.server) { up = taken_from old.up k }
 
   pub record DeliversDown (old : Net CO CI SO SI) (n k : ℕ) (new : Net CO CI SO SI) : Type 0 where
-    pub count : k ≡ min n (length old.down.bytes)
-    pub mid : Client CO CI
-    pub does : calls.Feeds c old.client (take k old.down.bytes) mid
-    pub hears : ClientHears (is_over (taken_from old.down k)) mid new.client
+    pub does : Delivers (calling c.out c.in_) old.client.state old.client.connection old.down 0 n k new.client.state new.client.connection
     pub only : new ≡ record (with_client old new.client) { down = taken_from old.down k }
 
   -- The side fails at these bytes.
   pub record BreaksUp (old : Net CO CI SO SI) (n : ℕ) (told : Error) (new : Net CO CI SO SI) : Type 0 where
-    pub does : jobs.Breaks s old.server (take (min n (length old.up.bytes)) old.up.bytes) told new.server
+    pub does : BreaksAt (serving s.out s.in_) old.server.state old.server.connection old.up old.moment n told new.server.state new.server.connection
     pub only : new ≡ with_server old new.server
 
   pub record BreaksDown (old : Net CO CI SO SI) (n : ℕ) (told : Error) (new : Net CO CI SO SI) : Type 0 where
-    pub does : calls.Breaks c old.client (take (min n (length old.down.bytes)) old.down.bytes) told new.client
+    pub does : BreaksAt (calling c.out c.in_) old.client.state old.client.connection old.down 0 n told new.client.state new.client.connection
     pub only : new ≡ with_client old new.client
 
   -- A pipe was cut; where nothing is left to deliver, the input ends at once.
   pub record CutsUp (old : Net CO CI SO SI) (keep : ℕ) (new : Net CO CI SO SI) : Type 0 where
-    pub hears : ServerHears (is_over (cut_to old.up keep)) old.server new.server
-    pub only : new ≡ record (with_server old new.server) { up = cut_to old.up keep }
+    pub connection : Connection SO SI
+    pub hears : Hears (is_over (cut_to old.up keep)) old.server.connection connection
+    pub only : new ≡ record (with_server old (record old.server { connection = connection })) { up = cut_to old.up keep }
 
   pub record CutsDown (old : Net CO CI SO SI) (keep : ℕ) (new : Net CO CI SO SI) : Type 0 where
-    pub hears : ClientHears (is_over (cut_to old.down keep)) old.client new.client
-    pub only : new ≡ record (with_client old new.client) { down = cut_to old.down keep }
+    pub connection : Connection CO CI
+    pub hears : Hears (is_over (cut_to old.down keep)) old.client.connection connection
+    pub only : new ≡ record (with_client old (record old.client { connection = connection })) { down = cut_to old.down keep }
 
   -- WHAT AN EVENT AND ITS REPLY MAY DO. A reply that isn't here can't be.
   abbrev pub Steps : Net CO CI SO SI → Event → Reply → Net CO CI SO SI → Type 0
   Steps old (Call request) (Named id) new = Calls old request id new
-  Steps old (Call request) (Refused told) new = RefusesRequest c old.client.core request told × (new ≡ old)
+  Steps old (Call request) (Refused told) new = RefusesRequest c.out old.client request told × (new ≡ old)
   Steps old (Outcome id) (Given outcome) new = Asks old id outcome new
   Steps old (DropCall id) Done new = Forgot old id new
   Steps old Take (Handed (Some job)) new = HandsOut old job new
   Steps old Take (Handed None) new = HandsNone old new
   Steps old (Answer id result) Done new = AnswersOne old id result new
   Steps old (Answer id result) (Refused told) new = RefusesOne old.server id result told × (new ≡ old)
-  Steps old (Answer id result) NoMemory new = new ≡ old
   Steps old (Answer id result) NoStep new = IsNoJob old id × (new ≡ old)
   Steps old (Tick now) Done new = Ticked old now new
   Steps old (Tick now) NoStep new = (now < old.moment) × (new ≡ old)
@@ -184,13 +191,13 @@ module _ {CO CI SO SI : Type 0} (c : Halves CO CI) (s : Halves SO SI) (seals : B
   Steps old (Carry side.Server n) (Count k) new = CarriesDown old n k new
   Steps old (Carry side.Server n) NoMemory new = new ≡ old
   Steps old (Deliver side.Server n) (Count k) new = DeliversUp old n k new
-  Steps old (Deliver side.Server n) (Refused told) new = BreaksUp old n told new ⊎ (jobs.IsFailed old.server.core told × (new ≡ old))
+  Steps old (Deliver side.Server n) (Refused told) new = BreaksUp old n told new ⊎ (IsFailed old.server.connection.failure told × (new ≡ old))
   Steps old (Deliver side.Client n) (Count k) new = DeliversDown old n k new
-  Steps old (Deliver side.Client n) (Refused told) new = BreaksDown old n told new ⊎ (calls.IsFailed old.client.core told × (new ≡ old))
+  Steps old (Deliver side.Client n) (Refused told) new = BreaksDown old n told new ⊎ (IsFailed old.client.connection.failure told × (new ≡ old))
   Steps old (Cut side.Server keep) Done new = CutsUp old keep new
   Steps old (Cut side.Client keep) Done new = CutsDown old keep new
-  Steps old (Fail side.Client) Done new = new ≡ with_client old (client.with_failure old.client (kept old.client.core.failure failed_by_hand))
-  Steps old (Fail side.Server) Done new = new ≡ with_server old (server.with_failure old.server (kept old.server.core.failure failed_by_hand))
+  Steps old (Fail side.Client) Done new = new ≡ with_client old (record old.client { connection = failed old.client.connection (Told failed_by_hand) })
+  Steps old (Fail side.Server) Done new = new ≡ with_server old (record old.server { connection = failed old.server.connection (Told failed_by_hand) })
   Steps old (Fail at) NoMemory new = new ≡ old
   -- of streams the cores know nothing yet, and the server's ends a job by its answer alone
   Steps old (Open request up down) NoStep new = new ≡ old

@@ -100,3 +100,10 @@ pub record IsExactlyOnce (xs : List Act) : Type 0 where
   pub no_call : calls xs ≡ [] → outcomes xs ≡ []
   pub whole : (r : Response) → outcomes xs ≡ Ok r ∷ []
       → HasOkStatus r.status × ((request : Request) × (job : ℕ) × (xs ≡ Called request ∷ Ran job request ∷ Answered (Ok r) ∷ Gave (Ok r) ∷ []))
+
+-- THE HEADLINE, for a whole trace, under one function that gives each job its stream: it is right for each job that was
+-- handed out, no two jobs have the same, and each call has at most one outcome, an `Ok` being the answer of its one run.
+pub record IsTold (stream_of : ℕ → ℕ) (trace : List Entry) : Type 0 where
+  pub agrees : IsStreamOf stream_of trace
+  pub one_to_one : IsOneToOne stream_of
+  pub exactly_once : (id : ℕ) → IsExactlyOnce (acts stream_of id trace)

@@ -1,9 +1,9 @@
 //! What may happen to a client and a server over two pipes, and what is replied.
 
 use ttrpc_client::CallId;
-use ttrpc_core::{Job, JobId};
 use ttrpc_error::Error;
 use ttrpc_proto::{Request, Response};
+use ttrpc_server::{Job, JobId};
 use ttrpc_values::Blob;
 
 /// One of the two ends.
@@ -81,7 +81,7 @@ pub enum Reply {
     Count(usize),
     /// It was refused, and nothing changed; or the connection fails.
     Refused(Error),
-    /// A copy found no memory, and nothing was done.
+    /// There was no memory for the event itself, and nothing was done.
     NoMemory,
     /// Nothing of this kind can happen here, and nothing was done.
     NoStep,

@@ -4,14 +4,14 @@ ghost use Rattle.std.specs.Vec.{vec_capacity};
 ghost use Rattle.ttrpc_error.specs.declared.error.Error.{Error as AnError};
 ghost use Rattle.ttrpc_proto.specs.declared.response.Response.{Response as AResponse};
 ghost use Rattle.ttrpc_proto.specs.Messages.{IsResponse};
-ghost use Rattle.ttrpc_core.specs.Happens.{halves_of};
+ghost use Rattle.ttrpc_connection.specs.declared.failure.Failure.{Failure as AFailure};
 ghost use Rattle.ttrpc_world.specs.declared.events.Entry.{Entry as AnEntry};
 ghost use Rattle.ttrpc_world.specs.declared.events.Event.{Event as AnEvent};
 ghost use Rattle.ttrpc_world.specs.declared.events.Side.{Side as ASide};
 ghost use Rattle.ttrpc_world.specs.Pipes.{empty_pipe, is_over};
-ghost use Rattle.ttrpc_world.specs.Net.{Net, IsFresh, with_client, with_server};
-ghost use Rattle.ttrpc_world.specs.Steps.{ClientHears, Runs, ServerHears, Steps, failed_by_hand};
-ghost use Rattle.ttrpc_world.specs.Story.{IsExactlyOnce, IsOneToOne, IsStreamOf, acts};
+ghost use Rattle.ttrpc_world.specs.Net.{Net, IsFresh, halves, with_client, with_server};
+ghost use Rattle.ttrpc_world.specs.Steps.{Hears, Runs, Steps, failed_by_hand};
+ghost use Rattle.ttrpc_world.specs.Story.{IsTold};
 
 use crate::events::{Entry, Event, Reply, Side, Trace};
 use crate::pipe::Pipe;
@@ -19,11 +19,11 @@ use std::alloc::{AllocError, Global};
 use std::marker::Model;
 use ttrpc_client::{CallId, ClientCore};
 use ttrpc_codec::WireMessage;
-use ttrpc_core::{JobId, ServerCore};
 use ttrpc_error::Error;
 use ttrpc_proto::{Request, Response};
 use ttrpc_secure::{InboundTransform, OutboundTransform};
-use ttrpc_values::{Text, TryClone};
+use ttrpc_server::{JobId, ServerCore};
+use ttrpc_values::Text;
 
 /// A client and a server, each over its two halves, and the bytes in flight between them.
 #[derive(Drop)]
@@ -72,21 +72,18 @@ impl<
     /// trace is refused, before any event.
     pub fn run(self, alloc: Global, events: Vec<Event>) -> Result<Trace, Error>
         requires { IsFresh
-            (halves_of CO.overhead CO.seals CO.refuses CI.opens CI.refuses)
-            (halves_of SO.overhead SO.seals SO.refuses SI.opens SI.refuses) self }
+            (halves CO.OutboundTransform CI.InboundTransform)
+            (halves SO.OutboundTransform SI.InboundTransform) self }
         // One entry an event, in order.
         ensures events { IfOk result (λ trace. map AnEntry.event trace.items ≡ events.items) }
         // Each reply is one that the cores' tables allow.
         ensures steps { IfOk result (λ trace. (last : Net _ _ _ _) × Runs
-            (halves_of CO.overhead CO.seals CO.refuses CI.opens CI.refuses)
-            (halves_of SO.overhead SO.seals SO.refuses SI.opens SI.refuses) CO.SEALS
+            (halves CO.OutboundTransform CI.InboundTransform)
+            (halves SO.OutboundTransform SI.InboundTransform) CO.SEALS
             self trace.items last) }
-        // Each job has one stream, and no two jobs the same.
-        ensures streams { IfOk result (λ trace. (stream_of : ℕ → ℕ)
-            × IsStreamOf stream_of trace.items × IsOneToOne stream_of) }
-        // Each call has at most one outcome, and an `Ok` is the answer of its one run.
-        ensures exactly_once { IfOk result (λ trace. (stream_of : ℕ → ℕ) → IsStreamOf stream_of trace.items
-            → (id : ℕ) → IsExactlyOnce (acts stream_of id trace.items)) }
+        // Under one function that gives each job its stream, no two the same: each call has at most one outcome, and an
+        // `Ok` is the answer of its one run.
+        ensures told { IfOk result (λ trace. (stream_of : ℕ → ℕ) × IsTold stream_of trace.items) }
         ensures refused { IfErr result (λ error. error ≡ AnError.NoMemory) }
     {
         let mut trace = Vec::with_capacity(alloc, events.len())?;
@@ -101,8 +98,8 @@ impl<
         requires empty { trace.old.items ≡ [] }
         ensures events { map AnEntry.event trace.new.items ≡ events.items }
         ensures steps { Runs
-            (halves_of CO.overhead CO.seals CO.refuses CI.opens CI.refuses)
-            (halves_of SO.overhead SO.seals SO.refuses SI.opens SI.refuses) CO.SEALS
+            (halves CO.OutboundTransform CI.InboundTransform)
+            (halves SO.OutboundTransform SI.InboundTransform) CO.SEALS
             self.old trace.new.items self.new }
     {
         for event in events {
@@ -114,8 +111,8 @@ impl<
     /// One event happens.
     fn step(&mut self, alloc: Global, event: &Event) -> Reply
         ensures { Steps
-            (halves_of CO.overhead CO.seals CO.refuses CI.opens CI.refuses)
-            (halves_of SO.overhead SO.seals SO.refuses SI.opens SI.refuses) CO.SEALS
+            (halves CO.OutboundTransform CI.InboundTransform)
+            (halves SO.OutboundTransform SI.InboundTransform) CO.SEALS
             self.old event.now result self.new }
     {
         match event {
@@ -139,8 +136,8 @@ impl<
 
     fn call(&mut self, alloc: Global, request: &Request) -> Reply
         ensures { Steps
-            (halves_of CO.overhead CO.seals CO.refuses CI.opens CI.refuses)
-            (halves_of SO.overhead SO.seals SO.refuses SI.opens SI.refuses) CO.SEALS
+            (halves CO.OutboundTransform CI.InboundTransform)
+            (halves SO.OutboundTransform SI.InboundTransform) CO.SEALS
             self.old (AnEvent.Call request.now) result self.new }
     {
         request.known();
@@ -152,8 +149,8 @@ impl<
 
     fn outcome(&mut self, alloc: Global, id: CallId) -> Reply
         ensures { Steps
-            (halves_of CO.overhead CO.seals CO.refuses CI.opens CI.refuses)
-            (halves_of SO.overhead SO.seals SO.refuses SI.opens SI.refuses) CO.SEALS
+            (halves CO.OutboundTransform CI.InboundTransform)
+            (halves SO.OutboundTransform SI.InboundTransform) CO.SEALS
             self.old (AnEvent.Outcome id) result self.new }
     {
         Reply::Outcome(self.client.take_outcome(alloc, id))
@@ -161,8 +158,8 @@ impl<
 
     fn drop_call(&mut self, id: CallId) -> Reply
         ensures { Steps
-            (halves_of CO.overhead CO.seals CO.refuses CI.opens CI.refuses)
-            (halves_of SO.overhead SO.seals SO.refuses SI.opens SI.refuses) CO.SEALS
+            (halves CO.OutboundTransform CI.InboundTransform)
+            (halves SO.OutboundTransform SI.InboundTransform) CO.SEALS
             self.old (AnEvent.DropCall id) result self.new }
     {
         self.client.drop_call(id);
@@ -171,8 +168,8 @@ impl<
 
     fn take(&mut self) -> Reply
         ensures { Steps
-            (halves_of CO.overhead CO.seals CO.refuses CI.opens CI.refuses)
-            (halves_of SO.overhead SO.seals SO.refuses SI.opens SI.refuses) CO.SEALS
+            (halves CO.OutboundTransform CI.InboundTransform)
+            (halves SO.OutboundTransform SI.InboundTransform) CO.SEALS
             self.old AnEvent.Take result self.new }
     {
         Reply::Handed(self.server.take_job())
@@ -180,8 +177,8 @@ impl<
 
     fn answer(&mut self, alloc: Global, id: JobId, given: &Result<Response, Error>) -> Reply
         ensures { Steps
-            (halves_of CO.overhead CO.seals CO.refuses CI.opens CI.refuses)
-            (halves_of SO.overhead SO.seals SO.refuses SI.opens SI.refuses) CO.SEALS
+            (halves CO.OutboundTransform CI.InboundTransform)
+            (halves SO.OutboundTransform SI.InboundTransform) CO.SEALS
             self.old (AnEvent.Answer id given.now) result self.new }
     {
         if let Some(error) = self.server.failure(alloc) {
@@ -190,11 +187,8 @@ impl<
         if !self.server.awaits_answer(id) {
             return Reply::NoStep;
         }
-        let Ok(copy) = copied(given) else {
-            return Reply::NoMemory;
-        };
         note_known(given);
-        match self.server.answer(alloc, id, copy) {
+        match self.server.answer(alloc, id, given) {
             Ok(()) => Reply::Done,
             Err(error) => Reply::Refused(error),
         }
@@ -202,8 +196,8 @@ impl<
 
     fn tick(&mut self, now: u64) -> Reply
         ensures { Steps
-            (halves_of CO.overhead CO.seals CO.refuses CI.opens CI.refuses)
-            (halves_of SO.overhead SO.seals SO.refuses SI.opens SI.refuses) CO.SEALS
+            (halves CO.OutboundTransform CI.InboundTransform)
+            (halves SO.OutboundTransform SI.InboundTransform) CO.SEALS
             self.old (AnEvent.Tick now) result self.new }
     {
         if now < self.moment {
@@ -216,11 +210,12 @@ impl<
 
     fn carry_up(&mut self, alloc: Global, n: usize) -> Reply
         ensures { Steps
-            (halves_of CO.overhead CO.seals CO.refuses CI.opens CI.refuses)
-            (halves_of SO.overhead SO.seals SO.refuses SI.opens SI.refuses) CO.SEALS
+            (halves CO.OutboundTransform CI.InboundTransform)
+            (halves SO.OutboundTransform SI.InboundTransform) CO.SEALS
             self.old (AnEvent.Carry ASide.Client n) result self.new }
     {
-        let Ok(mut buffer) = vec![in alloc; 0u8; n] else {
+        let room = n.min(self.client.lendable());
+        let Ok(mut buffer) = vec![in alloc; 0u8; room] else {
             return Reply::NoMemory;
         };
         let at = self.up.as_slice().len();
@@ -235,11 +230,12 @@ impl<
 
     fn carry_down(&mut self, alloc: Global, n: usize) -> Reply
         ensures { Steps
-            (halves_of CO.overhead CO.seals CO.refuses CI.opens CI.refuses)
-            (halves_of SO.overhead SO.seals SO.refuses SI.opens SI.refuses) CO.SEALS
+            (halves CO.OutboundTransform CI.InboundTransform)
+            (halves SO.OutboundTransform SI.InboundTransform) CO.SEALS
             self.old (AnEvent.Carry ASide.Server n) result self.new }
     {
-        let Ok(mut buffer) = vec![in alloc; 0u8; n] else {
+        let room = n.min(self.server.lendable());
+        let Ok(mut buffer) = vec![in alloc; 0u8; room] else {
             return Reply::NoMemory;
         };
         let at = self.down.as_slice().len();
@@ -254,8 +250,8 @@ impl<
 
     fn deliver_up(&mut self, alloc: Global, n: usize) -> Reply
         ensures { Steps
-            (halves_of CO.overhead CO.seals CO.refuses CI.opens CI.refuses)
-            (halves_of SO.overhead SO.seals SO.refuses SI.opens SI.refuses) CO.SEALS
+            (halves CO.OutboundTransform CI.InboundTransform)
+            (halves SO.OutboundTransform SI.InboundTransform) CO.SEALS
             self.old (AnEvent.Deliver ASide.Server n) result self.new }
     {
         let count = n.min(self.up.as_slice().len());
@@ -274,8 +270,8 @@ impl<
 
     fn deliver_down(&mut self, alloc: Global, n: usize) -> Reply
         ensures { Steps
-            (halves_of CO.overhead CO.seals CO.refuses CI.opens CI.refuses)
-            (halves_of SO.overhead SO.seals SO.refuses SI.opens SI.refuses) CO.SEALS
+            (halves CO.OutboundTransform CI.InboundTransform)
+            (halves SO.OutboundTransform SI.InboundTransform) CO.SEALS
             self.old (AnEvent.Deliver ASide.Client n) result self.new }
     {
         let count = n.min(self.down.as_slice().len());
@@ -291,8 +287,8 @@ impl<
 
     fn cut_up(&mut self, keep: usize) -> Reply
         ensures { Steps
-            (halves_of CO.overhead CO.seals CO.refuses CI.opens CI.refuses)
-            (halves_of SO.overhead SO.seals SO.refuses SI.opens SI.refuses) CO.SEALS
+            (halves CO.OutboundTransform CI.InboundTransform)
+            (halves SO.OutboundTransform SI.InboundTransform) CO.SEALS
             self.old (AnEvent.Cut ASide.Server keep) result self.new }
     {
         self.up.cut(keep);
@@ -302,8 +298,8 @@ impl<
 
     fn cut_down(&mut self, keep: usize) -> Reply
         ensures { Steps
-            (halves_of CO.overhead CO.seals CO.refuses CI.opens CI.refuses)
-            (halves_of SO.overhead SO.seals SO.refuses SI.opens SI.refuses) CO.SEALS
+            (halves CO.OutboundTransform CI.InboundTransform)
+            (halves SO.OutboundTransform SI.InboundTransform) CO.SEALS
             self.old (AnEvent.Cut ASide.Client keep) result self.new }
     {
         self.down.cut(keep);
@@ -313,8 +309,8 @@ impl<
 
     /// The server's input ends, where its pipe is over.
     fn end_up(&mut self)
-        ensures hears { ServerHears (is_over self.old.up) self.old.server self.new.server }
-        ensures only { self.new ≡ with_server self.old self.new.server }
+        ensures hears { Hears (is_over self.old.up) self.old.server.connection self.new.server.connection }
+        ensures only { self.new ≡ with_server self.old (record self.old.server { connection = self.new.server.connection }) }
     {
         if self.up.is_over() {
             self.server.end_of_input();
@@ -323,8 +319,8 @@ impl<
 
     /// The client's input ends, where its pipe is over.
     fn end_down(&mut self)
-        ensures hears { ClientHears (is_over self.old.down) self.old.client self.new.client }
-        ensures only { self.new ≡ with_client self.old self.new.client }
+        ensures hears { Hears (is_over self.old.down) self.old.client.connection self.new.client.connection }
+        ensures only { self.new ≡ with_client self.old (record self.old.client { connection = self.new.client.connection }) }
     {
         if self.down.is_over() {
             self.client.end_of_input();
@@ -333,8 +329,8 @@ impl<
 
     fn fail_client(&mut self, alloc: Global) -> Reply
         ensures { Steps
-            (halves_of CO.overhead CO.seals CO.refuses CI.opens CI.refuses)
-            (halves_of SO.overhead SO.seals SO.refuses SI.opens SI.refuses) CO.SEALS
+            (halves CO.OutboundTransform CI.InboundTransform)
+            (halves SO.OutboundTransform SI.InboundTransform) CO.SEALS
             self.old (AnEvent.Fail ASide.Client) result self.new }
     {
         let Ok(error) = failed_by_hand(alloc) else {
@@ -346,8 +342,8 @@ impl<
 
     fn fail_server(&mut self, alloc: Global) -> Reply
         ensures { Steps
-            (halves_of CO.overhead CO.seals CO.refuses CI.opens CI.refuses)
-            (halves_of SO.overhead SO.seals SO.refuses SI.opens SI.refuses) CO.SEALS
+            (halves CO.OutboundTransform CI.InboundTransform)
+            (halves SO.OutboundTransform SI.InboundTransform) CO.SEALS
             self.old (AnEvent.Fail ASide.Server) result self.new }
     {
         let Ok(error) = failed_by_hand(alloc) else {
@@ -363,16 +359,6 @@ fn failed_by_hand(alloc: Global) -> Result<Error, AllocError>
     ensures { IfOk result (λ e. e ≡ failed_by_hand) }
 {
     Ok(Error::Socket(Text::from_string(String::from_str(alloc, "failed")?)))
-}
-
-/// A copy of what a handler gave.
-fn copied(given: &Result<Response, Error>) -> Result<Result<Response, Error>, AllocError>
-    ensures { IfOk result (λ copy. copy ≡ given.now) }
-{
-    Ok(match given {
-        Ok(response) => Ok(response.try_clone()?),
-        Err(error) => Err(error.try_clone()?),
-    })
 }
 
 /// What a proof knows of the response that a handler gave. Does nothing.

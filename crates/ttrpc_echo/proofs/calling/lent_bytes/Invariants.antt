@@ -5,9 +5,9 @@ use Rattle.ttrpc_echo.proofs.calling.lent_bytes.Given as goal
 
 abbrev pub invariant-loop-buffer : goal.invariant-loop-buffer
 invariant-loop-buffer l = record {
-  alive : l.client.core.failure ≡ None;
+  alive : l.client.connection.failure ≡ None;
   all : LendsAll l.fn.client l.bytes.items l.client;
 }
 
 abbrev pub decreases-loop-buffer : goal.decreases-loop-buffer
-decreases-loop-buffer l = length (unsent l.client.core.queue)
+decreases-loop-buffer l = length (unsent l.client.connection.outbox.queue)

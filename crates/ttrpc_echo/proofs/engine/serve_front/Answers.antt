@@ -6,7 +6,7 @@ use Rattle.ttrpc_echo.proofs.engine.serve_front.Goals as goal
 pub returns-in_err-n-clause-err : goal.returns-in_err-n-clause-err
 returns-in_err-n-clause-err c =
     let e : c.from_residual.result ≡ Err c.in_err-n.field-0.0 = search rules in
-    rw e (breaks_stop _ _ _ _ (c.in_err-n.ensures.fails c.requires.alive))
+    rw e (breaks_stop _ _ _ _ _ (c.in_err-n.ensures.fails c.requires.alive))
 
 pub returns-in_err-echo_next-clause-err : goal.returns-in_err-echo_next-clause-err
 returns-in_err-echo_next-clause-err c =
@@ -16,4 +16,4 @@ returns-in_err-echo_next-clause-err c =
 pub returns-clause-serves : goal.returns-clause-serves
 returns-clause-serves c =
     let t = c.in_ok-n.ensures.ok in
-    one_front t.frame c.args.core.now c.feed_front.new.self c.echo_next.new.core (take c.in_ok-n.n c.args.piece.now) c.requires t.fed t.acts c.in_ok-echo_next.ensures.ok
+    one_front _ t.frame c.args.core.now c.feed_front.new.self c.echo_next.new.core (take c.in_ok-n.n c.args.piece.now) c.requires t.still t.fed t.acts c.in_ok-echo_next.ensures.ok

@@ -4,10 +4,12 @@ use Rattle.ttrpc_world.proofs.world.World.deliver_down.Goals as goal
 
 pub returns-in-Ok : goal.returns-in-Ok
 returns-in-Ok g c = rw (← c.self.view_is) (record {
-  count = search rules;
-  mid = c.feed.new.self;
-  does = search rules;
-  hears = search rules;
+  does = record {
+    count = search rules;
+    mid = c.feed.new.self.connection;
+    does = search rules;
+    hears = search rules;
+  };
   only = search rules;
 })
 
@@ -15,7 +17,7 @@ pub returns-in-Err : goal.returns-in-Err
 returns-in-Err g c =
     let w = c.self.inside in
     let piece : c.front.result.now ≡ take (min c.args.n (length w.down.bytes)) w.down.bytes = search rules in
-    rw (← c.self.view_is) (elim (breaks_or_failed _ _ w.client.core.failure c.in-Err.error c.in-Err.ensures.fails c.in-Err.ensures.failed) [
+    rw (← c.self.view_is) (elim (breaks_or_failed _ _ w.client.connection.failure c.in-Err.error c.in-Err.ensures.fails c.in-Err.ensures.failed) [
       | inl b ↦ inl (record { does = rw (← piece) b; only = search rules })
-      | inr f ↦ inr (record { error = f.0; failure = f.1; is_told = f.2 }, search rules)
+      | inr f ↦ inr (f.0, search rules)
     ])
