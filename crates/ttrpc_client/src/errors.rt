@@ -1,14 +1,15 @@
 //! The errors that a client core tells by itself.
-ghost use Rattle.std.specs.Prelude.{◌≡◌, ◌++◌, ℕ, List, codes, string_bytes, IfOk, MatchResult};
+ghost use Rattle.std.specs.Prelude.{◌≡◌, ◌++◌, ℕ, List, codes, IfOk, MatchResult};
 ghost use Rattle.ttrpc_error.specs.ErrorText.{status_of};
 ghost use Rattle.ttrpc_error.specs.Oversize.{oversize_text};
-ghost use Rattle.ttrpc_core.specs.Failure.{IsTold};
-ghost use Rattle.ttrpc_core.specs.Responses.{unsafe_payload_text};
-ghost use Rattle.ttrpc_client.specs.Table.{malformed_text, unopened_text};
-ghost use Rattle.ttrpc_client.specs.Happens.{advice, expired_error};
+ghost use Rattle.ttrpc_connection.specs.Failure.{IsTold};
+ghost use Rattle.ttrpc_client.specs.Table.{advice, malformed_text, unopened_text};
+ghost use Rattle.ttrpc_connection.specs.Texts.{unsafe_payload_text};
+ghost use Rattle.ttrpc_client.specs.Happens.{expired_error};
 
 use crate::kind::ClientKind;
 use std::alloc::{AllocError, Global};
+use ttrpc_connection::others_error;
 use ttrpc_error::{Error, get_rpc_status, oversize_message};
 use ttrpc_header::MessageHeader;
 use ttrpc_values::{Code, CodecError, Text};
@@ -61,7 +62,7 @@ pub fn malformed_error(alloc: Global, header: &MessageHeader) -> Result<Error, A
 pub fn above_limit_error(alloc: Global, kind: ClientKind, length: usize, limit: usize) -> Error
     ensures { IsTold (Error.Others (unsafe_payload_text length limit ++ advice kind)) result }
 {
-    others(format!(in alloc;
+    others_error(format!(in alloc;
         "payload {length} bytes exceeds safe limit {limit} bytes (MESSAGE_LENGTH_MAX - transform overhead){}",
         advice(kind)
     ))
@@ -81,14 +82,14 @@ fn advice(kind: ClientKind) -> &'static str
 pub fn used_up_error(alloc: Global) -> Error
     ensures { IsTold (Error.Others (codes "stream ids are used up")) result }
 {
-    others(String::from_str(alloc, "stream ids are used up"))
+    others_error(String::from_str(alloc, "stream ids are used up"))
 }
 
 /// The outcome of a call whose deadline has passed, or `NoMemory` where memory for its text was refused.
 pub fn deadline_error(alloc: Global) -> Error
     ensures { IsTold expired_error result }
 {
-    others(String::from_str(alloc, "Request deadline elapsed"))
+    others_error(String::from_str(alloc, "Request deadline elapsed"))
 }
 
 /// The error, or `NoMemory` where memory for its text was refused.
@@ -97,16 +98,6 @@ pub fn told(made: Result<Error, AllocError>) -> Error
 {
     match made {
         Ok(error) => error,
-        Err(refused) => refused.into(),
-    }
-}
-
-fn others(text: Result<String, AllocError>) -> Error
-    ensures { MatchResult text (λ made. result ≡ Error.Others (string_bytes made))
-        (λ _. result ≡ Error.NoMemory) }
-{
-    match text {
-        Ok(text) => Error::Others(Text::from_string(text)),
         Err(refused) => refused.into(),
     }
 }

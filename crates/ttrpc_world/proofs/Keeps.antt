@@ -1,5 +1,5 @@
 -- What holds of a client, a server and their pipes after any run, and that each event of the client keeps it.
-use Rattle.std.proofs.Common.{◌≡◌, ℕ, ◌≤◌, List, [], ◌∷◌, ◌++◌, Bool, true, false, if◌then◌else◌, is_some, Option, Some, None, Result, refl, sym, ap, ◌∙◌, subst, inl, inr, arith, append_assoc}
+use Rattle.std.proofs.Common.{◌≡◌, ℕ, ◌+◌, ◌≤◌, List, [], ◌∷◌, ◌++◌, Bool, true, false, if◌then◌else◌, is_some, Option, Some, None, Result, refl, sym, ap, ◌∙◌, subst, inl, inr, arith, append_assoc}
 use Rattle.std.proofs.lemmas.Bool.{cases_eq}
 use Rattle.std.specs.List.{AllByRecursion}
 use Rattle.ttrpc_error.specs.declared.error.Error.{Error}
@@ -117,7 +117,7 @@ module _ {CO CI SO SI : Type 0} (c : Halves CO CI) (s : Halves SO SI) (seals : B
         stories = λ k. elim (cases_eq id k) [
           | inl e ↦
               subst (λ (n : ℕ). Story (v.client.state.next ≤ n) n (acts stream_of n (with_entry trace (CallEvent request) (Named id))) (parcels n (i.up ++ r.x ∷ [])) (server.jobs_at w.server.state.jobs.list n) (parcels n i.down) (client.call_at v.client.state n)) e
-              (calls_here (w.client.state.next ≤ id) (v.client.state.next ≤ id) id _ _ _ _ _ _ _ _ request r.x deadline (i.stories id) (omega (arith, p.does.id_is)) (λ y. absurd (let no : ⊥ = omega (arith, y, p.does.next) in no)) r.is_sent
+              (calls_here (w.client.state.next ≤ id) (v.client.state.next ≤ id) id _ _ _ _ _ _ _ _ request r.x deadline (i.stories id) (omega (arith, p.does.id_is)) (λ y. absurd (let no : ⊥ = omega (arith, y, next) in no)) r.is_sent
               (heard stream_of id id trace (CallEvent request) (Named id) (Called request) refl refl) (parcels-push_own id r.x i.up r.is_sent.stream) p.does.own)
           | inr e ↦ elsewhere (w.client.state.next ≤ k) (v.client.state.next ≤ k) k _ _ _ _ _ _ _ _ _ _ (i.stories k) (λ y. omega (arith, y, next, p.does.id_is))
               (unheard stream_of k id trace (CallEvent request) (Named id) (Called request) refl e) (parcels-push_other k r.x i.up (λ same. e (sym r.is_sent.stream ∙ same))) refl refl (p.does.others k (λ same. e (sym same)))
@@ -139,7 +139,7 @@ module _ {CO CI SO SI : Type 0} (c : Halves CO CI) (s : Halves SO SI) (seals : B
   left_stories w q i t = λ k. thrown_here (w.client.state.next ≤ k) k (acts stream_of k trace) (parcels k i.up) (parcels k t.left) (server.jobs_at w.server.state.jobs.list k) (parcels k i.down) (client.call_at w.client.state k) (i.stories k) (t.parts k)
 
   -- what is kept of calls changes, requests may be thrown away, and the connection may fail
-  client_changes : (w : Net CO CI SO SI) (event : Event) (reply : Reply) (x : ClientCore CO CI) → (i : Keeps c s stream_of trace w) → x.held ≡ w.client.connection.decoder → x.connection.outbox.half ≡ w.client.connection.outbox.half → x.connection.inbound ≡ w.client.connection.inbound
+  client_changes : (w : Net CO CI SO SI) (event : Event) (reply : Reply) (x : ClientCore CO CI) → (i : Keeps c s stream_of trace w) → x.connection.decoder ≡ w.client.connection.decoder → x.connection.outbox.half ≡ w.client.connection.outbox.half → x.connection.inbound ≡ w.client.connection.inbound
       → (x.connection.failure ≡ None → w.client.connection.failure ≡ None) → (t : Left w x.connection.outbox.queue i.up)
       → (Stories stream_of trace t.left i.down w.client.state.next w.server.state.jobs.list (client.call_at w.client.state) → Stories stream_of (with_entry trace event reply) t.left i.down x.state.next w.server.state.jobs.list (client.call_at x.state))
       → Keeps c s stream_of (with_entry trace event reply) (with_client w x)

@@ -11,9 +11,10 @@ use Rattle.ttrpc_connection.specs.declared.failure.Failure.TheVariants.{Disconne
 use Rattle.ttrpc_connection.specs.declared.outbox.Outbox.{Outbox}
 use Rattle.ttrpc_connection.specs.Failure.{kept}
 use Rattle.ttrpc_connection.specs.Feeds.{ActsAll, Scene, scene}
-use Rattle.ttrpc_server.specs.declared.job.ActiveJob.{ActiveJob}
+use Rattle.ttrpc_server.specs.declared.server.ServerCore.{ServerCore}
 use Rattle.ttrpc_server.specs.Happens.{serving}
 use Rattle.ttrpc_server.specs.Server.{Server}
+use Rattle.ttrpc_client.specs.declared.client.ClientCore.{ClientCore}
 use Rattle.ttrpc_client.specs.Client.{Client, call_at}
 use Rattle.ttrpc_client.specs.Happens.{calling}
 use Rattle.ttrpc_flight.specs.Flight.{Flying, AreLinked, IsOwnRequest, arrived}
@@ -103,6 +104,21 @@ pub stops : {O I : Type 0} (old new : Connection O I) → InputEnds old new → 
 stops old new e = elim (held_cases old.decoder) [
   | inl none ↦ record { why = Disconnected; is = e.between none }
   | inr some ↦ record { why = DisconnectedInside; is = e.inside some }
+]
+
+-- what an end of input does to a core, it does to its connection
+pub server_ends : {O I : Type 0} (old new : ServerCore O I) → (old.connection.decoder ≡ nothing → new ≡ record old { connection = failed old.connection Disconnected })
+    → (old.connection.decoder ≢ nothing → new ≡ record old { connection = failed old.connection DisconnectedInside }) → new ≡ record old { connection = new.connection }
+server_ends old new between inside = elim (held_cases old.connection.decoder) [
+  | inl none ↦ rw (between none) refl
+  | inr some ↦ rw (inside some) refl
+]
+
+pub client_ends : {O I : Type 0} (old new : ClientCore O I) → (old.connection.decoder ≡ nothing → new ≡ record old { connection = failed old.connection Disconnected })
+    → (old.connection.decoder ≢ nothing → new ≡ record old { connection = failed old.connection DisconnectedInside }) → new ≡ record old { connection = new.connection }
+client_ends old new between inside = elim (held_cases old.connection.decoder) [
+  | inl none ↦ rw (between none) refl
+  | inr some ↦ rw (inside some) refl
 ]
 
 module _ {CO CI SO SI : Type 0} (c : Halves CO CI) (s : Halves SO SI) (seals : Bool) (stream_of : ℕ → ℕ) (trace : List Entry) where

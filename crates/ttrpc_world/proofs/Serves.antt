@@ -92,7 +92,7 @@ module _ {CO CI SO SI : Type 0} (c : Halves CO CI) (s : Halves SO SI) (seals : B
       }
 
   -- A job is answered by a response.
-  keeps_response : (w : Net CO CI SO SI) (id : ℕ) (response : Response) (x : ServerCore SO SI) → Keeps c s stream_of trace w → IsResponse response → Answers s w.server id response x
+  keeps_response : (w : Net CO CI SO SI) (id : ℕ) (response : Response) (x : ServerCore SO SI) → Keeps c s stream_of trace w → IsResponse response → Answers s.out w.server id response x
       → Keeps c s stream_of (with_entry trace (Answer id (Ok response)) Done) (with_server w x)
   keeps_response w id response x i is_response p =
       let t = p.ends.at in
@@ -105,7 +105,7 @@ module _ {CO CI SO SI : Type 0} (c : Halves CO CI) (s : Halves SO SI) (seals : B
       let here : jobs_at w.server.state.jobs.list k ≡ jobs_at t.front k ++ j ∷ jobs_at t.back k = was k ∙ here_at k t.front t.back j refl in
       let running = is_running _ k _ _ _ _ _ (jobs_at t.front k) (jobs_at t.back k) j (i.stories k) here t.taken in
       let done : List Act = whole_work running.request j.id response in
-      let r = sends_response s w.server.core k response x.core done running.is_job.within (answered_work running.request j.id response) is_response (is_answer running.request j.id response) p.responds p.sends in
+      let r = sends_response s.out w.server.connection.outbox k response p.sent x.connection.outbox done running.is_job.within (answered_work running.request j.id response) is_response (is_answer running.request j.id response) p.responds p.sends in
       record {
         up = i.up;
         down = i.down ++ r.y ∷ [];

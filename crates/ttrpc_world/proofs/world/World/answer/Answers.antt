@@ -1,12 +1,20 @@
-use Rattle.std.proofs.Common.{rules, ℕ}
-use Rattle.ttrpc_server.specs.declared.job.ActiveJob.{ActiveJob}
-use Rattle.ttrpc_server.specs.Jobs.{IsTaken}
+use Rattle.std.proofs.Common.{rules}
 use Rattle.ttrpc_world.specs.Net.{halves}
 use Rattle.ttrpc_world.proofs.Replies.{answers_by, refuses_one}
 use Rattle.ttrpc_world.proofs.world.World.answer.Goals as goal
+use Rattle.ttrpc_world.proofs.world.World.answer.Goals.{in-Ok, in-Err}
 
-pub returns-in-Ok : goal.returns-in-Ok
-returns-in-Ok g c = ?
-
-pub returns-in-Err : goal.returns-in-Err
-returns-in-Err g c = ?
+pub returns : goal.returns
+returns g c =
+    let client = halves g.CO.OutboundTransform g.CI.InboundTransform in
+    let server = halves g.SO.OutboundTransform g.SI.InboundTransform in
+    let old = c.self.inside.server in
+    rw (← c.self.view_is) (elim c.match-answer.branch [
+      | in-Ok w ↦ rw w.result-is (record {
+        does = answers_by client server g.CO.OutboundTransform.SEALS old c.args.id c.args.given.now c.answer.new.self c.note_known.ensures w.in-Ok.ensures.answered w.in-Ok.ensures.handler_failed;
+        only = search rules;
+      })
+      | in-Err w ↦
+          let taken = c.if-not-awaits_answer.ensures in
+          rw w.result-is (refuses_one g.SO.OutboundTransform old c.args.id taken.0 c.args.given.now w.in-Err.error taken.1 w.in-Err.ensures.refused, search rules)
+    ])

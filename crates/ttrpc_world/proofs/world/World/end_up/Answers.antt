@@ -1,0 +1,8 @@
+use Rattle.std.proofs.Common.{ap}
+use Rattle.ttrpc_world.proofs.Moves.{server_ends}
+use Rattle.ttrpc_world.proofs.world.World.end_up.Goals as goal
+
+pub returns-then-is_over-clause-only : goal.returns-then-is_over-clause-only
+returns-then-is_over-clause-only g c =
+    let w = c.self.inside in
+    rw (← c.self.view_is) (ap (λ x. record { client = w.client; server = x; up = w.up; down = w.down; moment = w.moment }) (server_ends w.server c.end_of_input.new.self c.end_of_input.ensures.between c.end_of_input.ensures.inside))
