@@ -111,7 +111,7 @@ handed_is_known old mid job hands unknown =
 
 unsent_is_memory : (s : Plain) (k : ℕ) (r : Response) (told : Error) → IsUnsent plain_out s k r told → told ≡ NoMemory
 unsent_is_memory s k r told (inl above) = absurd (omega (arith, fitted_fits r, above.0))
-unsent_is_memory s k r told (inr (inl unsealed)) = absurd unsealed.0.refuses
+unsent_is_memory s k r told (inr (inl unsealed)) = absurd unsealed.1.refuses
 unsent_is_memory s k r told (inr (inr memory)) = memory
 
 -- the echo of a job that was just handed out is refused for want of memory alone

@@ -1,6 +1,6 @@
 -- How the echo goes on, one front of the input at a time.
 -- Source: this project's.
-use Rattle.std.specs.Prelude.{◌≡◌, ◌⊎◌, ℕ, ◌+◌, ◌≤◌, ◌^◌, List, [], ◌++◌, length, codes, Option, None}
+use Rattle.std.specs.Prelude.{false, ◌≡◌, ◌⊎◌, ℕ, ◌+◌, ◌≤◌, ◌^◌, List, [], ◌++◌, length, codes, Option, None}
 use Rattle.std.specs.Io.KnownBytes.{Appends}
 use Rattle.ttrpc_error.specs.declared.error.Error.{Error}
 use Rattle.ttrpc_error.specs.declared.error.Error.TheVariants.{Others, NoMemory}
@@ -20,7 +20,7 @@ use Rattle.ttrpc_echo.specs.Echo.{AreAnswers, echo_of, echo_services}
 
 -- the halves that leave data as it is
 abbrev pub plain_out : OutboundTransform Plain
-plain_out = record { overhead = λ _. 0; seals = Keeps; refuses = RefusesNothing }
+plain_out = record { SEALS = false; overhead = λ _. 0; seals = Keeps; refuses = RefusesNothing }
 
 abbrev pub plain_in : InboundTransform Plain
 plain_in = record { opens = Keeps; refuses = RefusesNothing }
