@@ -1,9 +1,9 @@
 -- What is kept of calls, as a list by rising id.
-use Rattle.std.proofs.Common.{◌≡◌, ℕ, List, [], ◌∷◌, refl, sym, Some, None}
+use Rattle.std.proofs.Common.{◌≡◌, ◌≢◌, ℕ, List, [], ◌∷◌, refl, sym, Some, None, false}
 use Rattle.std.specs.Map.{lookup, remove_entry}
 use Rattle.std.specs.BTreeMap.{is_at, insert_entry}
 use Rattle.std.specs.Ordering.{nat_cmp}
-use Rattle.std.specs.Cmp.{nat_cmp_is}
+use Rattle.std.specs.Cmp.{nat_cmp_is, ranked}
 use Rattle.std.specs.declared.cmp.Ordering.{Ordering}
 use Rattle.std.specs.declared.cmp.Ordering.TheVariants.{Less, Equal, Greater}
 
@@ -25,3 +25,23 @@ undone R k v (e ∷ es) self h = undo_at R k v e es self (undone R k v es self (
 
 pub same_place : (k : ℕ) → nat_cmp k k ≡ Equal
 same_place k = sym (nat_cmp_is k k Equal refl)
+
+-- ---- keys
+
+apart_at : (id k : ℕ) → k ≢ id → (o : Ordering) → nat_cmp id k ≡ o → is_at (nat_cmp id) k ≡ false
+apart_at id k apart Less e = rw e refl
+apart_at id k apart Equal e = absurd (apart (sym (ranked id k Equal (sym e))))
+apart_at id k apart Greater e = rw e refl
+
+pub apart_place : (id k : ℕ) → k ≢ id → is_at (nat_cmp id) k ≡ false
+apart_place id k apart = apart_at id k apart (nat_cmp id k) refl
+
+put_at : {K X : Type 0} (R : K → K → Ordering) (e : K × X) (es : List (K × X)) (k : K) (v : X) (o : Ordering) → R k e.0 ≡ o → insert_entry R (e ∷ es) k v ≡ [] → ⊥
+put_at R e es k v Less q h = let bad : (k, v) ∷ e ∷ es ≡ [] = rw q at h in cc
+put_at R e es k v Equal q h = let bad : (e.0, v) ∷ es ≡ [] = rw q at h in cc
+put_at R e es k v Greater q h = let bad : e ∷ insert_entry R es k v ≡ [] = rw q at h in cc
+
+-- a list in which something was put isn't empty
+pub put_told : {K X : Type 0} (R : K → K → Ordering) (es : List (K × X)) (k : K) (v : X) → insert_entry R es k v ≡ [] → ⊥
+put_told R [] k v h = cc
+put_told R (e ∷ es) k v h = put_at R e es k v (R k e.0) refl h

@@ -1,9 +1,10 @@
-pub mod Failing
 pub mod Entries
-pub mod Feeding
-pub mod Dropping
+pub mod Soonest
+pub mod Keeping
+pub mod Expiring
 pub mod Ticking
 pub mod Rising
+pub mod Calls
 pub mod Turning
-pub mod Leaving
 pub mod Once
+pub mod Throwing

@@ -4,67 +4,53 @@ use Rattle.std.proofs.lemmas.Bool.{ltb-false, ltb-true}
 use Rattle.ttrpc_error.specs.declared.error.Error.{Error}
 use Rattle.ttrpc_proto.specs.declared.response.Response.{Response}
 use Rattle.ttrpc_frame.specs.Queue.{Happening}
-use Rattle.ttrpc_core.specs.Happens.{Halves}
+use Rattle.ttrpc_secure.specs.declared.transform.OutboundTransform.{Ghosts as OutboundTransform}
+use Rattle.ttrpc_secure.specs.declared.transform.InboundTransform.{Ghosts as InboundTransform}
+use Rattle.ttrpc_connection.specs.declared.connection.Connection.{Connection}
+use Rattle.ttrpc_connection.specs.declared.failure.Failure.{Failure}
+use Rattle.ttrpc_connection.specs.Calls.{Gave, Lent, Reported, Failed, Did, Calls, Runs}
+use Rattle.ttrpc_connection.specs.Calls.{Call as ACall}
 use Rattle.ttrpc_client.specs.declared.call.Call.{Call}
 use Rattle.ttrpc_client.specs.declared.call.Call.TheVariants.{Waiting, Expired, Ended}
-use Rattle.ttrpc_client.specs.Client.{Client, Core, IsClient, call_at}
-use Rattle.ttrpc_client.specs.Happens.{GivesOutcome, left_of}
-use Rattle.ttrpc_client.specs.Turns.{Turn, Asked, Told, Dropped, Gave, Ticked, Failed, Lent, Reported, Tells, Turns, Runs, asked_by, ids_asked, told_by, outcomes_of}
-use Rattle.ttrpc_client.proofs.Turning.{Leaves, leaves_valid, run_leaves, turn_leaves}
+use Rattle.ttrpc_client.specs.declared.client.ClientCore.{ClientCore}
+use Rattle.ttrpc_client.specs.Calls.{Called, Asked, Told, Dropped, Ticked, AskedEnded, asked_by, called, core, ids_asked, outcomes_of, told_by}
+use Rattle.ttrpc_client.specs.Client.{Client, IsClient, call_at}
+use Rattle.ttrpc_client.specs.Happens.{GivesOutcome, Tells, calling, left_of}
+use Rattle.ttrpc_client.proofs.Turning.{Leaves, call_leaves, leaves_valid, run_leaves}
 use Rattle.ttrpc_client.proofs.Rising.{Apart, apart_before, apart_behind, never_below, rise_up}
 
 -- nothing is kept of a call whose outcome was given
-gone_by_giving : (failure : Option Error) (call : Option Call) (outcome : Result Response Error) → GivesOutcome failure call (Some outcome) → left_of failure call ≡ None
+gone_by_giving : (failure : Option Failure) (call : Option Call) (outcome : Result Response Error) → GivesOutcome failure call (Some outcome) → left_of failure call ≡ None
 gone_by_giving failure None outcome gives = refl
 gone_by_giving None (Some (Waiting deadline)) outcome gives = cc
-gone_by_giving (Some error) (Some (Waiting deadline)) outcome gives = refl
+gone_by_giving (Some why) (Some (Waiting deadline)) outcome gives = refl
 gone_by_giving failure (Some Expired) outcome gives = refl
 gone_by_giving failure (Some (Ended given)) outcome gives = refl
 
 -- ---- a call
 
 -- it gave no outcome of this id, or one, of a call of which nothing is kept then
-abbrev GivesAtMostOne : {O I : Type 0} → ℕ → Turn → Core O I → Core O I → Type 0
-GivesAtMostOne k t old new = (told_by k t ≡ []) ⊎ ((length (told_by k t) ≡ 1) × (call_at old k ≢ None) × (call_at new k ≡ None))
+abbrev GivesAtMostOne : ℕ → ACall Called → Client → Client → Type 0
+GivesAtMostOne k c old new = (told_by k c ≡ []) ⊎ ((length (told_by k c) ≡ 1) × (call_at old k ≢ None) × (call_at new k ≡ None))
 
-tells_at_most_one : {O I : Type 0} (k id : ℕ) (outcome : Result Response Error) (old new : Client O I) → Tells old id (Some outcome) new → (b : Bool) → nat_eq id k ≡ b
-    → GivesAtMostOne k (Told id (Some outcome)) old.core new.core
+tells_at_most_one : {O I : Type 0} (k id : ℕ) (outcome : Result Response Error) (old new : ClientCore O I) → Tells old id (Some outcome) new → (b : Bool) → nat_eq id k ≡ b
+    → GivesAtMostOne k (Did (Told id (Some outcome))) old.state new.state
 tells_at_most_one k id outcome old new tells true e =
     let same : id ≡ k = search rules in
-    let gone : call_at new.core id ≡ None = tells.own ∙ gone_by_giving old.core.failure (call_at old.core id) outcome tells.gives in
+    let gone : call_at new.state id ≡ None = tells.own ∙ gone_by_giving old.connection.failure (call_at old.state id) outcome tells.gives in
     inr (
       rw e refl,
-      subst (λ j. call_at old.core j ≢ None) same (λ none.
-          let bad : Some outcome ≡ None = subst (λ c. GivesOutcome old.core.failure c (Some outcome)) none tells.gives in cc),
-      subst (λ j. call_at new.core j ≡ None) same gone,
+      subst (λ j. call_at old.state j ≢ None) same (λ none.
+          let bad : Some outcome ≡ None = subst (λ c. GivesOutcome old.connection.failure c (Some outcome)) none tells.gives in cc),
+      subst (λ j. call_at new.state j ≡ None) same gone,
     )
 tells_at_most_one k id outcome old new tells false e = inl (rw e refl)
 
-turn_gives : {O I : Type 0} (h : Halves O I) (seals : Bool) (k : ℕ) (t : Turn) (old new : Client O I) → Turns h seals old t new → GivesAtMostOne k t old.core new.core
-turn_gives h seals k (Asked request now id) old new turn = inl refl
-turn_gives h seals k (Told id None) old new turn = inl refl
-turn_gives h seals k (Told id (Some outcome)) old new turn = tells_at_most_one k id outcome old new turn (nat_eq id k) refl
-turn_gives h seals k (Dropped id) old new turn = inl refl
-turn_gives h seals k (Gave piece) old new turn = inl refl
-turn_gives h seals k (Ticked now) old new turn = inl refl
-turn_gives h seals k Failed old new turn = inl refl
-turn_gives h seals k (Lent n) old new turn = inl refl
-turn_gives h seals k (Reported n) old new turn = inl refl
-
 -- ---- calls one after the other
 
-none_of_none : {O I : Type 0} (k : ℕ) (t : Turn) (old new : Core O I) → GivesAtMostOne k t old new → call_at old k ≡ None → told_by k t ≡ []
-none_of_none k t old new (inl none) kept = none
-none_of_none k t old new (inr one) kept = absurd (one.1 kept)
-
-pub run_gives_none : {O I : Type 0} (h : Halves O I) (seals : Bool) (k : ℕ) (ts : List Turn) (old new : Client O I) (happenings : List Happening) → Runs h seals old ts happenings new
-    → call_at old.core k ≡ None → Apart k (ids_asked ts) → outcomes_of k ts ≡ []
-run_gives_none h seals k [] old new happenings run none apart = refl
-run_gives_none h seals k (t ∷ ts) old new happenings run none apart =
-    let mid = run.0 in
-    let still : call_at mid.core k ≡ None = (turn_leaves h seals t old mid run.3).none k (apart_before k (asked_by t) (ids_asked ts) apart) none in
-    ap (λ os. os ++ outcomes_of k ts) (none_of_none k t old.core mid.core (turn_gives h seals k t old mid run.3) none)
-    ∙ run_gives_none h seals k ts mid new run.2 run.6 still (apart_behind k (asked_by t) (ids_asked ts) apart)
+none_of_none : (k : ℕ) (c : ACall Called) (old new : Client) → GivesAtMostOne k c old new → call_at old k ≡ None → told_by k c ≡ []
+none_of_none k c old new (inl none) kept = none
+none_of_none k c old new (inr one) kept = absurd (one.1 kept)
 
 -- only of an id that was used is something kept
 used : (k next : ℕ) (b : Bool) → nat_lt k next ≡ b → (next ≤ k → ⊥) → k < next
@@ -77,18 +63,42 @@ AtMostOne os = length os ≤ 1
 then_none : (os ps : List (Result Response Error)) → length os ≡ 1 → ps ≡ [] → AtMostOne (os ++ ps)
 then_none os ps one none = subst (λ l. AtMostOne (os ++ l)) (sym none) (omega (arith, one, length-append os []))
 
-pub run_gives_one : {O I : Type 0} (h : Halves O I) (seals : Bool) (k : ℕ) (ts : List Turn) (old new : Client O I) (happenings : List Happening)
-    → IsClient old.core.next old.core.calls → Runs h seals old ts happenings new → AtMostOne (outcomes_of k ts)
-run_gives_one h seals k [] old new happenings valid run = omega arith
-run_gives_one h seals k (t ∷ ts) old new happenings valid run =
-    let mid = run.0 in
-    let leaves : Leaves (asked_by t) old.core mid.core = turn_leaves h seals t old mid run.3 in
-    elim (turn_gives h seals k t old mid run.3) [
-      | inl none ↦ subst (λ os. AtMostOne (os ++ outcomes_of k ts)) (sym none) (run_gives_one h seals k ts mid new run.2 (leaves_valid (asked_by t) old.core mid.core leaves valid) run.6)
-      | inr one ↦
-          let before : k < old.core.next = used k old.core.next (nat_lt k old.core.next) refl (λ le. one.1 (valid.fresh k le)) in
-          let up = rise_up old.core.next (asked_by t) mid.core.next leaves.rises in
-          let later = run_leaves h seals ts mid new run.2 run.6 in
-          then_none (told_by k t) (outcomes_of k ts) one.0
-          (run_gives_none h seals k ts mid new run.2 run.6 one.2 (never_below k mid.core.next (ids_asked ts) new.core.next (omega (arith, before, up)) later.rises))
-    ]
+module _ {O I : Type 0} (out : OutboundTransform O) (in_ : InboundTransform I) (seals : Bool) where
+  call_gives : (k : ℕ) (c : ACall Called) (s : Client) (old : Connection O I) (hs : List Happening) (t : Client) (new : Connection O I) → Calls (calling out in_) (called out seals) s old c hs t new
+      → GivesAtMostOne k c s t
+  call_gives k (Gave piece at) s old hs t new call = inl refl
+  call_gives k (Lent n) s old hs t new call = inl refl
+  call_gives k (Reported n) s old hs t new call = inl refl
+  call_gives k Failed s old hs t new call = inl refl
+  call_gives k (Did (Asked request now id)) s old hs t new call = inl refl
+  call_gives k (Did (Told id None)) s old hs t new call = inl refl
+  call_gives k (Did (Told id (Some outcome))) s old hs t new call = tells_at_most_one k id outcome (core s old) (core t new) call.0 (nat_eq id k) refl
+  call_gives k (Did (Dropped id)) s old hs t new call = inl refl
+  call_gives k (Did (Ticked now)) s old hs t new call = inl refl
+  call_gives k (Did (AskedEnded id)) s old hs t new call = inl refl
+
+  pub run_gives_none : (k : ℕ) (cs : List (ACall Called)) (s : Client) (old : Connection O I) (hs : List Happening) (t : Client) (new : Connection O I) → Runs (calling out in_) (called out seals) s old cs hs t new
+      → call_at s k ≡ None → Apart k (ids_asked cs) → outcomes_of k cs ≡ []
+  run_gives_none k [] s old hs t new run none apart = refl
+  run_gives_none k (c ∷ cs) s old hs t new run none apart =
+      let mid = run.0 in
+      let leaves : Leaves (asked_by c) s mid = call_leaves out in_ seals c s old run.2 mid run.1 run.4 in
+      let still : call_at mid k ≡ None = leaves.none k (apart_before k (asked_by c) (ids_asked cs) apart) none in
+      ap (λ os. os ++ outcomes_of k cs) (none_of_none k c s mid (call_gives k c s old run.2 mid run.1 run.4) none)
+      ∙ run_gives_none k cs mid run.1 run.3 t new run.6 still (apart_behind k (asked_by c) (ids_asked cs) apart)
+
+  pub run_gives_one : (k : ℕ) (cs : List (ACall Called)) (s : Client) (old : Connection O I) (hs : List Happening) (t : Client) (new : Connection O I)
+      → IsClient s.next s.calls → Runs (calling out in_) (called out seals) s old cs hs t new → AtMostOne (outcomes_of k cs)
+  run_gives_one k [] s old hs t new valid run = omega arith
+  run_gives_one k (c ∷ cs) s old hs t new valid run =
+      let mid = run.0 in
+      let leaves : Leaves (asked_by c) s mid = call_leaves out in_ seals c s old run.2 mid run.1 run.4 in
+      elim (call_gives k c s old run.2 mid run.1 run.4) [
+        | inl none ↦ subst (λ os. AtMostOne (os ++ outcomes_of k cs)) (sym none) (run_gives_one k cs mid run.1 run.3 t new (leaves_valid (asked_by c) s mid leaves valid) run.6)
+        | inr one ↦
+            let before : k < s.next = used k s.next (nat_lt k s.next) refl (λ le. one.1 (valid.fresh k le)) in
+            let up = rise_up s.next (asked_by c) mid.next leaves.rises in
+            let later = run_leaves out in_ seals cs mid run.1 run.3 t new run.6 in
+            then_none (told_by k c) (outcomes_of k cs) one.0
+            (run_gives_none k cs mid run.1 run.3 t new run.6 one.2 (never_below k mid.next (ids_asked cs) t.next (omega (arith, before, up)) later.rises))
+      ]

@@ -1,7 +1,7 @@
 -- Ids that rise by two.
-use Rattle.std.proofs.Common.{arith, ◌≡◌, ◌≢◌, ℕ, ◌+◌, ◌<◌, ◌≤◌, ◌%◌, nat_eq, List, [], ◌∷◌, ◌++◌, false, sym, subst}
+use Rattle.std.proofs.Common.{arith, ◌≡◌, ◌≢◌, ℕ, ◌+◌, ◌<◌, ◌≤◌, ◌%◌, nat_eq, List, [], ◌∷◌, ◌++◌, false, sym, subst, ◌∙◌}
 use Rattle.std.specs.List.{AllByRecursion, IsDistinct}
-use Rattle.ttrpc_client.specs.Turns.{RiseByTwo}
+use Rattle.ttrpc_client.specs.Calls.{RiseByTwo}
 
 pub rise_both : (xs ys : List ℕ) (first mid next : ℕ) → RiseByTwo first xs mid → RiseByTwo mid ys next → RiseByTwo first (xs ++ ys) next
 rise_both [] ys first mid next one two = subst (λ n. RiseByTwo n ys next) one two
@@ -38,6 +38,12 @@ never_above k first [] next le rises = tt
 never_above k first (id ∷ ids) next le rises =
     let up = rise_up (first + 2) ids next rises.2 in
     (let apart : k ≢ id = omega (arith, le, up, rises.0) in apart, never_above k (first + 2) ids next le rises.2)
+
+-- an id that isn't odd isn't among ids that rise from an odd one
+pub never_even : (k first : ℕ) (ids : List ℕ) (next : ℕ) → k % 2 ≢ 1 → first % 2 ≡ 1 → RiseByTwo first ids next → Apart k ids
+never_even k first [] next even odd rises = tt
+never_even k first (id ∷ ids) next even odd rises =
+    (λ same. even (subst (λ j. j % 2 ≡ 1) (sym (same ∙ rises.0)) odd), never_even k (first + 2) ids next even (omega (arith, odd)) rises.2)
 
 -- ---- no two are equal
 

@@ -1,33 +1,36 @@
 -- What each call of a client leaves of its kind, of how far ids are used, and of ids of which nothing is kept.
-use Rattle.std.proofs.Common.{rules, arith, ◌≡◌, ◌≢◌, inl, inr, ℕ, ◌+◌, nat_eq, List, [], ◌∷◌, ◌++◌, Option, Some, None, Bool, true, false, refl, sym, ap, subst, ◌∙◌}
+use Rattle.std.proofs.Common.{rules, arith, ◌≡◌, ◌≢◌, inl, inr, ℕ, ◌+◌, ◌%◌, nat_eq, List, [], ◌∷◌, ◌++◌, Option, Some, None, Bool, true, false, refl, sym, ap, subst, ◌∙◌}
 use Rattle.std.specs.List.{AllByRecursion}
-use Rattle.ttrpc_error.specs.declared.error.Error.{Error}
 use Rattle.ttrpc_frame.specs.declared.frame.Incoming.{Incoming}
-use Rattle.ttrpc_frame.specs.Queue.{Queue, Happening, after_report, with_lent}
-use Rattle.ttrpc_core.specs.Table.{header_of_frame}
-use Rattle.ttrpc_core.specs.Happens.{Halves, kept}
+use Rattle.ttrpc_frame.specs.Queue.{Happening}
+use Rattle.ttrpc_secure.specs.declared.transform.OutboundTransform.{Ghosts as OutboundTransform}
+use Rattle.ttrpc_secure.specs.declared.transform.InboundTransform.{Ghosts as InboundTransform}
+use Rattle.ttrpc_connection.specs.declared.arrived.Arrived.{Arrived}
+use Rattle.ttrpc_connection.specs.declared.connection.Connection.{Connection}
+use Rattle.ttrpc_connection.specs.declared.failure.Failure.{Failure}
+use Rattle.ttrpc_connection.specs.Calls.{Gave, Lent, Reported, Failed, Did, Calls, Gives, Runs}
+use Rattle.ttrpc_connection.specs.Calls.{Call as ACall}
+use Rattle.ttrpc_connection.specs.Feeds.{ActsAll, Scene, scene}
+use Rattle.ttrpc_connection.specs.Frames.{Sent}
 use Rattle.ttrpc_client.specs.declared.call.Call.{Call}
-use Rattle.ttrpc_client.specs.Client.{Client, Core, IsClient, OthersStay, call_at, call_in}
+use Rattle.ttrpc_client.specs.declared.client.ClientCore.{ClientCore}
+use Rattle.ttrpc_client.specs.Calls.{Called, Asked, Told, Dropped, Ticked, AskedEnded, Passes, RiseByTwo, asked_by, called, core, ids_asked}
+use Rattle.ttrpc_client.specs.Client.{Client, IsClient, OthersStay, call_at, call_in}
 use Rattle.ttrpc_client.specs.Table.{Landing, Lands, LandsOn, landing_of}
-use Rattle.ttrpc_client.specs.Happens.{Acts, ActsAll, Breaks, expired_at, left_of}
-use Rattle.ttrpc_client.specs.Turns.{Turn, Asked, Told, Dropped, Gave, Ticked, Failed, Lent, Reported, Passes, Lends, Turns, Runs, RiseByTwo, asked_by, ids_asked}
-use Rattle.ttrpc_client.proofs.Rising.{apart_before, apart_behind, never_above, rise_both, rise_odd, rise_up}
+use Rattle.ttrpc_client.specs.Happens.{LandsOnce, calling, expired_at, forgotten, left_of}
+use Rattle.ttrpc_client.proofs.Rising.{apart_before, apart_behind, never_above, never_even, rise_both, rise_odd, rise_up}
 
 -- ---- calls by which no id is used
 
-pub record Stays {O I : Type 0} (old new : Core O I) : Type 0 where
+pub record Stays (old new : Client) : Type 0 where
   pub kind : new.kind ≡ old.kind
   pub next : new.next ≡ old.next
   pub none : (k : ℕ) → call_at old k ≡ None → call_at new k ≡ None
 
-stays : {O I : Type 0} (old new : Client O I) → new ≡ old → Stays old.core new.core
-stays old new same = record { kind = ap (λ s. s.core.kind) same; next = ap (λ s. s.core.next) same; none = λ k none. ap (λ s. call_at s.core k) same ∙ none }
+stays : (old new : Client) → new ≡ old → Stays old new
+stays old new same = record { kind = ap (λ s. s.kind) same; next = ap (λ s. s.next) same; none = λ k none. ap (λ s. call_at s k) same ∙ none }
 
--- another queue and another failure are no matter
-as_before : {O I : Type 0} (old : Core O I) (q : Queue) (failure : Option Error) → Stays old (record old { queue = q; failure = failure })
-as_before old q failure = record { kind = refl; next = refl; none = λ k none. none }
-
-stays_twice : {O I : Type 0} (old mid new : Core O I) → Stays old mid → Stays mid new → Stays old new
+stays_twice : (old mid new : Client) → Stays old mid → Stays mid new → Stays old new
 stays_twice old mid new one two = record { kind = two.kind ∙ one.kind; next = two.next ∙ one.next; none = λ k none. two.none k (one.none k none) }
 
 -- one call may change, and the others stay
@@ -44,87 +47,114 @@ lands_none : (landing : Landing) (id : ℕ) (old new : List (ℕ × Call)) → L
 lands_none landing id old new lands k none =
     still_none id old new lands.others (λ h. subst (λ c. LandsOn landing c (call_in new id)) h lands.own) k (nat_eq k id) refl none
 
-frame_stays : {O I : Type 0} (h : Halves O I) (old : Core O I) (f : Incoming) (new : Core O I) → Acts h old f new → Stays old new
-frame_stays h old f new acts = record {
-  kind = acts.kind;
-  next = acts.next;
-  none = lands_none (landing_of f acts.opening) ((header_of_frame f).stream_id) old.calls new.calls acts.lands;
+frame_stays : (old : Client) (a : Arrived) (sent : List Sent) (new : Client) → LandsOnce old a sent new → Stays old new
+frame_stays old a sent new lands = record {
+  kind = ap (λ (s : Client). s.kind) lands.same;
+  next = ap (λ (s : Client). s.next) lands.same;
+  none = lands_none (landing_of a.header a.opening) a.header.stream_id old.calls new.calls lands.lands;
 }
 
-acts_stay : {O I : Type 0} (h : Halves O I) (fs : List Incoming) (old new : Core O I) → ActsAll h old fs new → Stays old new
-acts_stay h [] old new same = subst (λ c. Stays old c) (sym same) (record { kind = refl; next = refl; none = λ k none. none })
-acts_stay h (f ∷ fs) old new acts = stays_twice old acts.0 new (frame_stays h old f acts.0 acts.1) (acts_stay h fs acts.0 new acts.2)
+acts_stay : {O I : Type 0} (out : OutboundTransform O) (in_ : InboundTransform I) (at : ℕ) (fs : List Incoming) (old new : Scene Client O I) → ActsAll (calling out in_) at old fs new → Stays old.state new.state
+acts_stay out in_ at [] old new same = stays old.state new.state (ap (λ (s : Scene Client _ _). s.state) same)
+acts_stay out in_ at (f ∷ fs) old new acts =
+    stays_twice old.state acts.0.state new.state (frame_stays old.state _ acts.1.sent acts.0.state acts.1.reacts) (acts_stay out in_ at fs acts.0 new acts.2)
 
-breaks_stays : {O I : Type 0} (h : Halves O I) (old : Client O I) (piece : List ℕ) (told : Error) (new : Client O I) → Breaks h old piece told new → Stays old.core new.core
-breaks_stays h old piece told new breaks =
-    stays_twice old.core breaks.mid new.core (acts_stay h breaks.frames old.core breaks.mid breaks.acts)
-    (record { kind = breaks.quiet.kind; next = breaks.quiet.next; none = λ k none. ap (λ cs. call_in cs k) breaks.quiet.calls ∙ none })
+gives_stays : {O I : Type 0} (out : OutboundTransform O) (in_ : InboundTransform I) (s : Client) (old : Connection O I) (piece : List ℕ) (at : ℕ) (t : Client) (new : Connection O I)
+    → Gives (calling out in_) s old piece at t new → Stays s t
+gives_stays out in_ s old piece at t new (inl feeds) = acts_stay out in_ at feeds.frames (scene s old) (scene t new) feeds.acts
+gives_stays out in_ s old piece at t new (inr (inl breaks)) =
+    let b = breaks.1 in
+    stays_twice s b.mid.state t (acts_stay out in_ at b.frames (scene s old) b.mid b.acts) (stays b.mid.state t b.state)
+gives_stays out in_ s old piece at t new (inr (inr none)) = stays s t none.1
 
-passes_stays : {O I : Type 0} (seals : Bool) (failure : Option Error) (old : Client O I) (now : ℕ) (new : Client O I) → Passes seals failure old now new → Stays old.core new.core
-passes_stays seals None old now new ticks = record { kind = ticks.kind; next = ticks.next; none = λ k none. ticks.calls k ∙ ap (λ c. expired_at now c) none }
-passes_stays seals (Some error) old now new same = stays old new same
-
-lends_stays : {O I : Type 0} (failure : Option Error) (old : Client O I) (n : ℕ) (new : Client O I) → Lends failure old n new → Stays old.core new.core
-lends_stays None old n new lends = subst (λ s. Stays old.core s.core) (sym lends.1) (as_before old.core (with_lent old.core.queue n) old.core.failure)
-lends_stays (Some error) old n new lends = stays old new lends.1
+passes_stays : {O I : Type 0} (seals : Bool) (failure : Option Failure) (old : ClientCore O I) (now : ℕ) (new : ClientCore O I) → Passes seals failure old now new → Stays old.state new.state
+passes_stays seals None old now new ticks = record {
+  kind = ap (λ c. c.state.kind) ticks.same;
+  next = ap (λ c. c.state.next) ticks.same;
+  none = λ k none. ticks.calls k ∙ ap (λ c. expired_at now c) none;
+}
+passes_stays seals (Some failure) old now new same = stays old.state new.state (ap (λ c. c.state) same)
 
 -- ---- each call
 
 -- these ids were used, and nothing is kept of another of which nothing was
-pub record Leaves {O I : Type 0} (ids : List ℕ) (old new : Core O I) : Type 0 where
+pub record Leaves (ids : List ℕ) (old new : Client) : Type 0 where
   pub kind : new.kind ≡ old.kind
   pub rises : RiseByTwo old.next ids new.next
   pub none : (k : ℕ) → AllByRecursion (λ id. k ≢ id) ids → call_at old k ≡ None → call_at new k ≡ None
 
-uses_none : {O I : Type 0} (old new : Core O I) → Stays old new → Leaves [] old new
+uses_none : (old new : Client) → Stays old new → Leaves [] old new
 uses_none old new s = record { kind = s.kind; rises = s.next; none = λ k _ none. s.none k none }
 
-pub turn_leaves : {O I : Type 0} (h : Halves O I) (seals : Bool) (t : Turn) (old new : Client O I) → Turns h seals old t new → Leaves (asked_by t) old.core new.core
-turn_leaves h seals (Asked request now id) old new turn = record {
-  kind = turn.kind;
-  rises = (turn.id_is, turn.in_range, turn.next ∙ ap (λ n. n + 2) turn.id_is);
-  none = λ k apart none. turn.others k apart.0 ∙ none;
-}
-turn_leaves h seals (Told id outcome) old new turn =
-    uses_none old.core new.core
-    (record {
-      kind = turn.same.kind;
-      next = turn.same.next;
-      none = λ k none. still_none id old.core.calls new.core.calls turn.others (λ h. turn.own ∙ ap (λ c. left_of old.core.failure c) h) k (nat_eq k id) refl none;
-    })
-turn_leaves h seals (Dropped id) old new turn =
-    uses_none old.core new.core
-    (record { kind = turn.kind; next = turn.next; none = λ k none. still_none id old.core.calls new.core.calls turn.others (λ _. turn.own) k (nat_eq k id) refl none })
-turn_leaves h seals (Gave piece) old new (inl feeds) = uses_none old.core new.core (acts_stay h feeds.frames old.core new.core feeds.acts)
-turn_leaves h seals (Gave piece) old new (inr breaks) = uses_none old.core new.core (breaks_stays h old piece breaks.0 new breaks.1)
-turn_leaves h seals (Ticked now) old new turn = uses_none old.core new.core (passes_stays seals old.core.failure old now new turn)
-turn_leaves h seals Failed old new turn =
-    uses_none old.core new.core (subst (λ s. Stays old.core s.core) (sym turn.1) (as_before old.core old.core.queue (kept old.core.failure turn.0)))
-turn_leaves h seals (Lent n) old new turn = uses_none old.core new.core (lends_stays old.core.failure old n new turn)
-turn_leaves h seals (Reported n) old new turn =
-    uses_none old.core new.core (subst (λ s. Stays old.core s.core) (sym turn.1) (as_before old.core (after_report old.core.queue n) old.core.failure))
+module _ {O I : Type 0} (out : OutboundTransform O) (in_ : InboundTransform I) (seals : Bool) where
+  pub call_leaves : (c : ACall Called) (s : Client) (old : Connection O I) (hs : List Happening) (t : Client) (new : Connection O I) → Calls (calling out in_) (called out seals) s old c hs t new → Leaves (asked_by c) s t
+  call_leaves (Gave piece at) s old hs t new call = uses_none s t (gives_stays out in_ s old piece at t new call.0)
+  call_leaves (Lent n) s old hs t new call = uses_none s t (stays s t call.0)
+  call_leaves (Reported n) s old hs t new call = uses_none s t (stays s t call.0)
+  call_leaves Failed s old hs t new call = uses_none s t (stays s t call.0)
+  call_leaves (Did (Asked request now id)) s old hs t new call =
+      let did = call.0 in
+      record {
+        kind = ap (λ c. c.state.kind) did.same;
+        rises = (did.id_is, did.in_range, ap (λ c. c.state.next) did.same ∙ ap (λ n. n + 2) did.id_is);
+        none = λ k apart none. did.others k apart.0 ∙ none;
+      }
+  call_leaves (Did (Told id outcome)) s old hs t new call =
+      let did = call.0 in
+      uses_none s t
+      (record {
+        kind = ap (λ c. c.state.kind) did.same;
+        next = ap (λ c. c.state.next) did.same;
+        none = λ k none. still_none id s.calls t.calls did.others (λ h. did.own ∙ ap (λ c. left_of old.failure c) h) k (nat_eq k id) refl none;
+      })
+  call_leaves (Did (Dropped id)) s old hs t new call =
+      let did = call.0 in
+      uses_none s t
+      (record {
+        kind = ap (λ c. c.state.kind) did.same;
+        next = ap (λ c. c.state.next) did.same;
+        none = λ k none. still_none id s.calls t.calls did.others (λ h. did.own ∙ ap forgotten h) k (nat_eq k id) refl none;
+      })
+  call_leaves (Did (Ticked now)) s old hs t new call = uses_none s t (passes_stays seals old.failure (core s old) now (core t new) call.0)
+  call_leaves (Did (AskedEnded id)) s old hs t new call =
+      let did = call.0 in
+      uses_none s t
+      (record {
+        kind = ap (λ c. c.state.kind) did.same;
+        next = ap (λ c. c.state.next) did.same;
+        none = λ k none. ap (λ c. call_at c.state k) did.same ∙ none;
+      })
 
 -- ---- calls one after the other
 
-leaves_both : {O I : Type 0} (xs ys : List ℕ) (old mid new : Core O I) → Leaves xs old mid → Leaves ys mid new → Leaves (xs ++ ys) old new
+leaves_both : (xs ys : List ℕ) (old mid new : Client) → Leaves xs old mid → Leaves ys mid new → Leaves (xs ++ ys) old new
 leaves_both xs ys old mid new one two = record {
   kind = two.kind ∙ one.kind;
   rises = rise_both xs ys old.next mid.next new.next one.rises two.rises;
   none = λ k apart none. two.none k (apart_behind k xs ys apart) (one.none k (apart_before k xs ys apart) none);
 }
 
-pub run_leaves : {O I : Type 0} (h : Halves O I) (seals : Bool) (ts : List Turn) (old new : Client O I) (happenings : List Happening) → Runs h seals old ts happenings new
-    → Leaves (ids_asked ts) old.core new.core
-run_leaves h seals [] old new happenings run = uses_none old.core new.core (stays old new run.1)
-run_leaves h seals (t ∷ ts) old new happenings run =
-    leaves_both (asked_by t) (ids_asked ts) old.core run.0.core new.core (turn_leaves h seals t old run.0 run.3) (run_leaves h seals ts run.0 new run.2 run.6)
+pub run_leaves : {O I : Type 0} (out : OutboundTransform O) (in_ : InboundTransform I) (seals : Bool) (cs : List (ACall Called)) (s : Client) (old : Connection O I) (hs : List Happening) (t : Client) (new : Connection O I)
+    → Runs (calling out in_) (called out seals) s old cs hs t new → Leaves (ids_asked cs) s t
+run_leaves out in_ seals [] s old hs t new run = uses_none s t (stays s t run.1)
+run_leaves out in_ seals (c ∷ cs) s old hs t new run =
+    leaves_both (asked_by c) (ids_asked cs) s run.0 t (call_leaves out in_ seals c s old run.2 run.0 run.1 run.4) (run_leaves out in_ seals cs run.0 run.1 run.3 t new run.6)
 
 -- ---- what holds of every client goes on to hold
 
-pub leaves_valid : {O I : Type 0} (ids : List ℕ) (old new : Core O I) → Leaves ids old new → IsClient old.next old.calls → IsClient new.next new.calls
+odd_left : (ids : List ℕ) (old new : Client) → Leaves ids old new → IsClient old.next old.calls → (k : ℕ) (call : Option Call) → call_at old k ≡ call
+    → (b : Bool) → nat_eq (k % 2) 1 ≡ b → call_at new k ≢ None → k % 2 ≡ 1
+odd_left ids old new l valid k call is true e some = search (rules, e)
+odd_left ids old new l valid k (Some call) is false e some = valid.odd_calls k (λ none. let bad : Some call ≡ None = sym is ∙ none in cc)
+odd_left ids old new l valid k None is false e some =
+    let even : k % 2 ≢ 1 = search (rules, e) in
+    absurd (some (l.none k (never_even k old.next ids new.next even valid.odd l.rises) is))
+
+pub leaves_valid : (ids : List ℕ) (old new : Client) → Leaves ids old new → IsClient old.next old.calls → IsClient new.next new.calls
 leaves_valid ids old new l valid = record {
   odd = rise_odd old.next ids new.next l.rises valid.odd;
   fresh = λ k le.
       let up = rise_up old.next ids new.next l.rises in
       l.none k (never_above k old.next ids new.next le l.rises) (valid.fresh k (omega (arith, le, up)));
+  odd_calls = λ k. odd_left ids old new l valid k (call_at old k) refl (nat_eq (k % 2) 1) refl;
 }

@@ -1,65 +1,97 @@
 -- What the parts of a call do, which its users need not read.
 -- Source: this project's.
-use Rattle.std.specs.Prelude.{◌≡◌, ℕ, ◌+◌, ◌++◌, List, Option, Some, Bool, false, if◌then◌else◌}
-use Rattle.ttrpc_frame.specs.declared.frame.Incoming.{Incoming}
+use Rattle.std.specs.Prelude.{◌≡◌, ℕ, ◌+◌, ◌++◌, List, [], ◌∷◌, Option, None, Some, Bool, true, false, IsPermutation}
+use Rattle.std.specs.Ordering.{nat_cmp}
+use Rattle.std.specs.List.Sorted.{IsStrictlySortedBy}
+use Rattle.std.specs.BTreeMap.{insert_entry, is_at}
+use Rattle.std.specs.Map.{keys_of, remove_entry}
 use Rattle.ttrpc_frame.specs.declared.outgoing.Queued.{Queued}
-use Rattle.ttrpc_frame.specs.Frames.{Fed, given}
-use Rattle.ttrpc_frame.specs.Queue.{Queue, has_begun, without}
-use Rattle.ttrpc_secure.specs.Sends.{Sends, associated}
-use Rattle.ttrpc_core.specs.Happens.{Halves}
-use Rattle.ttrpc_client.specs.declared.call.Call.TheVariants.{Waiting}
-use Rattle.ttrpc_client.specs.declared.kind.ClientKind.{ClientKind}
-use Rattle.ttrpc_client.specs.Client.{Client, OthersStay, call_at, throws}
-use Rattle.ttrpc_client.specs.Happens.{ActsAll, IsRequestFrame, Quiet}
+use Rattle.ttrpc_secure.specs.declared.transform.OutboundTransform.{Ghosts as OutboundTransform}
+use Rattle.ttrpc_secure.specs.declared.transform.TransformError.{TransformError}
+use Rattle.ttrpc_secure.specs.declared.transform.TransformError.TheVariants.{Refused, NoMemory}
+use Rattle.ttrpc_secure.specs.Sends.{associated}
+use Rattle.ttrpc_connection.specs.Frames.{SendsOne}
+use Rattle.ttrpc_client.specs.declared.call.Call.{Call}
+use Rattle.ttrpc_client.specs.declared.call.Call.TheVariants.{Waiting, Expired, Ended}
+use Rattle.ttrpc_client.specs.declared.client.ClientCore.{ClientCore}
+use Rattle.ttrpc_client.specs.Client.{Client, OthersStay, call_at, told_left}
+use Rattle.ttrpc_client.specs.Happens.{due_ids, expired_at}
+use Rattle.ttrpc_client.specs.Table.{IsRequestFrame}
 
--- A front of a piece was taken: at most one frame is whole with it, and acts.
-pub record TakesFront {O I : Type 0} (h : Halves O I) (old : Client O I) (front : List ℕ) (new : Client O I) : Type 0 where
-  pub frame : Option Incoming
-  pub fed : Fed old.held front (given frame) new.held
-  pub acts : ActsAll h old.core (given frame) new.core
+-- ---- what is done to it
 
--- It was taken, and the connection is to fail: the frame that is whole with it, if there is one, changed nothing
--- but the inbound half.
-pub record StopsAt {O I : Type 0} (h : Halves O I) (old : Client O I) (piece : List ℕ) (new : Client O I) : Type 0 where
-  pub frame : Option Incoming
-  pub front : List ℕ
-  pub back : List ℕ
-  pub piece_is : piece ≡ front ++ back
-  pub fed : Fed old.held front (given frame) new.held
-  pub quiet : Quiet old.core new.core
+-- a new call waits
+pub record Admits (old : Client) (id : ℕ) (deadline : Option ℕ) (new : Client) : Type 0 where
+  pub fresh : call_at old id ≡ None
+  pub told : told_left old.calls old.ended ≡ old.ended
+  pub calls : new.calls ≡ insert_entry nat_cmp old.calls id (Waiting deadline)
+  pub own : call_at new id ≡ Some (Waiting deadline)
+  pub others : OthersStay old.calls id new.calls
+  pub id_is : id ≡ old.next
+  pub same : new ≡ record old { next = id + 2; calls = new.calls }
+
+-- one that waited has ended in some way
+pub record Settles (old : Client) (id : ℕ) (call : Call) (new : Client) : Type 0 where
+  pub own : call_at new id ≡ Some call
+  pub others : OthersStay old.calls id new.calls
+  pub calls : new.calls ≡ insert_entry nat_cmp old.calls id call
+  pub was_ordered : IsStrictlySortedBy nat_cmp (keys_of old.calls)
+  pub same : new ≡ record old { calls = new.calls; ended = old.ended ++ id ∷ [] }
+
+-- one that was due has expired, and the others that were are still due
+pub record Expires (old : Client) (now id : ℕ) (new : Client) : Type 0 where
+  pub due : IsPermutation (id ∷ due_ids now new.calls) (due_ids now old.calls)
+  pub calls : (k : ℕ) → expired_at now (call_at new k) ≡ expired_at now (call_at old k)
+  pub same : new ≡ record old { calls = new.calls; ended = old.ended ++ id ∷ [] }
+
+-- the call of this id is no longer kept
+pub record Leaves (old : Client) (id : ℕ) (new : Client) : Type 0 where
+  pub own : call_at new id ≡ None
+  pub others : OthersStay old.calls id new.calls
+  pub calls : new.calls ≡ remove_entry (is_at (nat_cmp id)) old.calls
+  pub same : new ≡ record old { calls = new.calls; ended = told_left new.calls old.ended }
+
+-- the call whose outcome can be given, by whether the connection has failed
+abbrev pub given_of : Bool → Option Call → Option Call
+given_of failed None = None
+given_of false (Some (Waiting deadline)) = None
+given_of true (Some (Waiting deadline)) = Some (Waiting deadline)
+given_of failed (Some Expired) = Some Expired
+given_of failed (Some (Ended outcome)) = Some (Ended outcome)
+
+-- and what is left of it
+abbrev pub kept_of : Bool → Option Call → Option Call
+kept_of failed None = None
+kept_of false (Some (Waiting deadline)) = Some (Waiting deadline)
+kept_of true (Some (Waiting deadline)) = None
+kept_of failed (Some Expired) = None
+kept_of failed (Some (Ended outcome)) = None
+
+-- it is taken, and no other
+pub record Takes (failed : Bool) (old : Client) (id : ℕ) (new : Client) : Type 0 where
+  pub own : call_at new id ≡ kept_of failed (call_at old id)
+  pub others : OthersStay old.calls id new.calls
+  pub same : new ≡ record old { calls = new.calls; ended = told_left new.calls old.ended }
 
 -- A call was made: it waits, and its request is sealed and queued.
-pub record Begins {O I : Type 0} (h : Halves O I) (old : Client O I) (id : ℕ) (plain : List ℕ) (deadline : Option ℕ) (new : Client O I) : Type 0 where
-  pub next : new.core.next ≡ id + 2
-  pub own : call_at new.core id ≡ Some (Waiting deadline)
-  pub others : OthersStay old.core.calls id new.core.calls
+pub record Begins {O I : Type 0} (out : OutboundTransform O) (old : ClientCore O I) (id : ℕ) (plain : List ℕ) (deadline : Option ℕ) (new : ClientCore O I) : Type 0 where
+  pub own : call_at new.state id ≡ Some (Waiting deadline)
+  pub others : OthersStay old.state.calls id new.state.calls
   pub frame : Queued
   pub is_frame : IsRequestFrame id frame
-  pub sends : Sends h.seals old.core.outbound old.core.queue frame plain new.core.outbound new.core.queue
-  pub held : new.held ≡ old.held
-  pub kind : new.core.kind ≡ old.core.kind
-  pub inbound : new.core.inbound ≡ old.core.inbound
-  pub failure : new.core.failure ≡ old.core.failure
+  pub sends : SendsOne out old.connection.outbox frame plain new.connection.outbox
+  pub same : new ≡ record old {
+    state = record old.state { next = id + 2; calls = new.state.calls };
+    connection = record old.connection { outbox = new.connection.outbox };
+  }
 
--- the half may refuse to seal a request
-pub record MayRefuse {O I : Type 0} (h : Halves O I) (s : O) (id : ℕ) (plain : List ℕ) : Type 0 where
+-- the half refuses to seal a request, for this reason
+pub record RefusesSealing {O I : Type 0} (out : OutboundTransform O) (old : ClientCore O I) (id : ℕ) (plain why : List ℕ) : Type 0 where
   pub frame : Queued
   pub is_frame : IsRequestFrame id frame
-  pub refuses : h.refuses_sealing s plain (associated frame.message.header)
+  pub refuses : out.refuses old.connection.outbox.half plain (associated frame.message.header) why
 
--- the request of this call is thrown away, if requests may be
-abbrev pub taken_back : Bool → ClientKind → Queue → ℕ → Queue
-taken_back seals kind q id = if throws kind seals then without q id else q
-
--- whether it was to be thrown away, and had begun
-abbrev pub comes_late : Bool → ClientKind → Queue → ℕ → Bool
-comes_late seals kind q id = if throws kind seals then has_begun q id else false
-
--- nothing but calls and the queue changed
-pub record SameFlow {O I : Type 0} (old new : Client O I) : Type 0 where
-  pub held : new.held ≡ old.held
-  pub kind : new.core.kind ≡ old.core.kind
-  pub next : new.core.next ≡ old.core.next
-  pub outbound : new.core.outbound ≡ old.core.outbound
-  pub inbound : new.core.inbound ≡ old.core.inbound
-  pub failure : new.core.failure ≡ old.core.failure
+-- it may fail so at a request
+abbrev pub MayRefuse : {O I : Type 0} → OutboundTransform O → ClientCore O I → ℕ → List ℕ → TransformError → Type 0
+MayRefuse out old id plain (Refused why) = RefusesSealing out old id plain why
+MayRefuse out old id plain NoMemory = Unit {0}

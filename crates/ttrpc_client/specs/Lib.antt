@@ -1,5 +1,6 @@
 pub mod Client
+pub mod Kept
 pub mod Table
 pub mod Happens
 pub mod Inside
-pub mod Turns
+pub mod Calls

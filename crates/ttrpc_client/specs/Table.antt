@@ -1,24 +1,36 @@
--- The client's table for unary calls: what a frame gives the call of its id.
--- Source: PROTOCOL.md of ttrpc, "Response" and "Data".
-use Rattle.std.specs.Prelude.{◌≡◌, ℕ, List, ◌++◌, length, codes, Option, Some, None, Result, Ok, Err, nat_eq, nat_lt, if◌then◌else◌, ℤ, pos, negsuc, zero, suc}
+-- The client's table for unary calls: what a frame gives the call of its id, and for what a request is refused.
+-- Source: PROTOCOL.md of ttrpc, "Request", "Response" and "Data".
+use Rattle.std.specs.Prelude.{◌≡◌, ◌⊎◌, ◌<◌, ◌≤◌, ◌-◌, ◌^◌, ℕ, List, [], ◌++◌, length, min, codes, Option, Some, None, true, Result, Ok, Err, nat_eq, nat_lt, if◌then◌else◌, ℤ, pos, negsuc, zero, suc}
 use Rattle.std.specs.Fmt.{decimal}
+use Rattle.ttrpc_wire.specs.Field.{fields_bytes}
 use Rattle.ttrpc_wire.specs.Fold.{read_from}
 use Rattle.ttrpc_values.specs.declared.code.Code.TheVariants.{INVALID_ARGUMENT}
 use Rattle.ttrpc_error.specs.declared.error.Error.{Error}
-use Rattle.ttrpc_error.specs.declared.error.Error.TheVariants.{Others, RpcStatus}
+use Rattle.ttrpc_error.specs.declared.error.Error.TheVariants.{Others, RpcStatus, NoMemory}
 use Rattle.ttrpc_header.specs.declared.header.MessageHeader.{MessageHeader}
-use Rattle.ttrpc_header.specs.declared.header.TheConstants.{MESSAGE_LENGTH_MAX, MESSAGE_TYPE_RESPONSE}
+use Rattle.ttrpc_header.specs.declared.header.TheConstants.{MESSAGE_LENGTH_MAX, MESSAGE_TYPE_REQUEST, MESSAGE_TYPE_RESPONSE}
+use Rattle.ttrpc_proto.specs.declared.request.Request.{Request}
 use Rattle.ttrpc_proto.specs.declared.response.Response.{Response}
 use Rattle.ttrpc_proto.specs.declared.status.Status.{Status}
 use Rattle.ttrpc_error.specs.ErrorText.{status_of}
 use Rattle.ttrpc_error.specs.Oversize.{oversize_text}
-use Rattle.ttrpc_proto.specs.Messages.{empty_response, response_step}
-use Rattle.ttrpc_frame.specs.declared.frame.Incoming.{Incoming}
-use Rattle.ttrpc_frame.specs.declared.frame.Incoming.TheVariants.{Frame, Oversize}
-use Rattle.ttrpc_core.specs.Table.{Opening, Unasked, Opened, Refused}
+use Rattle.ttrpc_proto.specs.Messages.{empty_response, request_fields, response_step}
+use Rattle.ttrpc_frame.specs.declared.outgoing.Queued.{Queued}
+use Rattle.ttrpc_secure.specs.declared.transform.OutboundTransform.{Ghosts as OutboundTransform}
+use Rattle.ttrpc_secure.specs.Sends.{associated}
+use Rattle.ttrpc_connection.specs.declared.arrived.Opening.{Opening}
+use Rattle.ttrpc_connection.specs.declared.arrived.Opening.TheVariants.{TooLong, Opened, Refused}
+use Rattle.ttrpc_connection.specs.Failure.{IsTold}
+use Rattle.ttrpc_connection.specs.Feeds.{IsFailed}
+use Rattle.ttrpc_connection.specs.Frames.{safe_limit}
 use Rattle.ttrpc_client.specs.declared.call.Call.{Call}
 use Rattle.ttrpc_client.specs.declared.call.Call.TheVariants.{Waiting, Expired, Ended}
+use Rattle.ttrpc_client.specs.declared.client.ClientCore.{ClientCore}
+use Rattle.ttrpc_client.specs.declared.kind.ClientKind.{ClientKind}
+use Rattle.ttrpc_client.specs.declared.kind.ClientKind.TheVariants.{Sync, Async}
 use Rattle.ttrpc_client.specs.Client.{OthersStay, call_in}
+
+-- ---- what a frame gives
 
 -- what a frame gives a call that waits
 pub data Landing : Type 0 where
@@ -49,24 +61,14 @@ malformed_text h = codes "Receiver got malformed packet: type " ++ decimal h.typ
 abbrev pub unopened_text : List ℕ → List ℕ
 unopened_text why = codes "transform_inbound failed: " ++ why
 
-abbrev pub unopened_landing : List ℕ → Landing
-unopened_landing why = Gives (Err (Others (unopened_text why)))
-
--- of a frame that isn't too long, from top to bottom
-abbrev pub opened_landing : MessageHeader → Opening → Landing
-opened_landing h Unasked = Gives (Err (Others (malformed_text h)))
-opened_landing h (Refused why) = unopened_landing why
-opened_landing h (Opened plain) =
+-- from top to bottom
+abbrev pub landing_of : MessageHeader → Opening → Landing
+landing_of h TooLong = Gives (Err (RpcStatus (status_of INVALID_ARGUMENT (oversize_text h.length))))
+landing_of h (Refused why) = Gives (Err (Others (unopened_text why)))
+landing_of h (Opened plain) =
     if nat_lt MESSAGE_LENGTH_MAX (length plain) then Gives (Err (Others (oversize_text (length plain)))) else
     if nat_eq h.type_ MESSAGE_TYPE_RESPONSE then read_landing (read_from response_step empty_response plain) else
     Gives (Err (Others (malformed_text h)))
-
-abbrev pub oversize_landing : MessageHeader → Landing
-oversize_landing h = Gives (Err (RpcStatus (status_of INVALID_ARGUMENT (oversize_text h.length))))
-
-abbrev pub landing_of : Incoming → Opening → Landing
-landing_of (Oversize h) opening = oversize_landing h
-landing_of (Frame m) opening = opened_landing m.header opening
 
 -- the outcome is what the frame gives
 abbrev pub IsLanding : Landing → Result Response Error → Type 0
@@ -84,3 +86,81 @@ LandsOn landing (Some (Waiting deadline)) new = (outcome : Result Response Error
 pub record Lands (landing : Landing) (id : ℕ) (old new : List (ℕ × Call)) : Type 0 where
   pub own : LandsOn landing (call_in old id) (call_in new id)
   pub others : OthersStay old id new
+
+-- ---- a request and its frame
+
+abbrev pub request_bytes : Request → List ℕ
+request_bytes r = fields_bytes (request_fields r)
+
+-- how long a request is, as far as 32 bits can say it
+abbrev pub request_size : Request → ℕ
+request_size r = min (length (request_bytes r)) (2 ^ 32 - 1)
+
+-- the greatest id
+abbrev pub last_id : ℕ
+last_id = 2 ^ 32 - 1
+
+-- a frame that carries the request of a call
+pub record IsRequestFrame (id : ℕ) (f : Queued) : Type 0 where
+  pub stream_id : f.message.header.stream_id ≡ id
+  pub type_ : f.message.header.type_ ≡ MESSAGE_TYPE_REQUEST
+  pub flags : f.message.header.flags ≡ 0
+  pub ticket : f.ticket ≡ None
+  pub is_unary_request : f.is_unary_request ≡ true
+  pub owner : f.owner ≡ id
+
+-- ---- for what a request is refused, from top to bottom; first, where the connection has failed, for that
+
+-- the connection lives, and the request is longer than a message may be
+pub record IsTooLong {O I : Type 0} (old : ClientCore O I) (r : Request) (told : Error) : Type 0 where
+  pub alive : old.connection.failure ≡ None
+  pub above : MESSAGE_LENGTH_MAX < request_size r
+  pub is_told : IsTold (Others (oversize_text (request_size r))) told
+
+-- the connection lives, and the request is no longer than a message may be
+pub record IsSendable {O I : Type 0} (old : ClientCore O I) (r : Request) : Type 0 where
+  pub alive : old.connection.failure ≡ None
+  pub short : request_size r ≤ MESSAGE_LENGTH_MAX
+
+-- and no id is left
+pub record HasNoId {O I : Type 0} (old : ClientCore O I) (r : Request) (told : Error) : Type 0 where
+  pub sendable : IsSendable old r
+  pub used_up : last_id < old.state.next
+  pub is_told : IsTold (Others (codes "stream ids are used up")) told
+
+-- a payload may become longer than a message may be, as its sender is told
+abbrev pub unsafe_payload_text : ℕ → ℕ → List ℕ
+unsafe_payload_text length limit = codes "payload " ++ decimal length ++ codes " bytes exceeds safe limit " ++ decimal limit ++ codes " bytes (MESSAGE_LENGTH_MAX - transform overhead)"
+
+-- what a client of a kind adds to it
+abbrev pub advice : ClientKind → List ℕ
+advice Sync = []
+advice Async = codes "; reduce payload size"
+
+-- or an id is left, and the request is above the safe limit
+pub record IsAboveLimit {O I : Type 0} (out : OutboundTransform O) (old : ClientCore O I) (r : Request) (told : Error) : Type 0 where
+  pub sendable : IsSendable old r
+  pub in_range : old.state.next ≤ last_id
+  pub above : safe_limit out old.connection.outbox.half < request_size r
+  pub is_told : IsTold (Others (unsafe_payload_text (request_size r) (safe_limit out old.connection.outbox.half) ++ advice old.state.kind)) told
+
+-- the outbound half didn't seal a payload
+abbrev pub unsealed_text : List ℕ → List ℕ
+unsealed_text why = codes "transform_outbound failed: " ++ why
+
+-- or it isn't, and the half refuses it, for this reason
+pub record IsUnsealed {O I : Type 0} (out : OutboundTransform O) (old : ClientCore O I) (r : Request) (told : Error) : Type 0 where
+  pub sendable : IsSendable old r
+  pub in_range : old.state.next ≤ last_id
+  pub fits : request_size r ≤ safe_limit out old.connection.outbox.half
+  pub frame : Queued
+  pub is_frame : IsRequestFrame old.state.next frame
+  pub why : List ℕ
+  pub refuses : out.refuses old.connection.outbox.half (request_bytes r) (associated frame.message.header) why
+  pub is_told : IsTold (Others (unsealed_text why)) told
+
+-- or memory is wanted
+abbrev pub RefusesRequest : {O I : Type 0} → OutboundTransform O → ClientCore O I → Request → Error → Type 0
+RefusesRequest out old r told =
+    IsFailed old.connection.failure told ⊎ IsTooLong old r told ⊎ HasNoId old r told ⊎ IsAboveLimit out old r told ⊎ IsUnsealed out old r told
+    ⊎ ((told ≡ NoMemory) × (old.connection.failure ≡ None))

@@ -1,7 +1,7 @@
 //! What a client keeps of a call.
 ghost use Rattle.std.specs.Prelude.{◌≡◌};
 ghost use Rattle.ttrpc_client.specs.Client.{deadline_of};
-ghost use Rattle.ttrpc_client.specs.Happens.{is_due};
+ghost use Rattle.ttrpc_client.specs.Kept.{deadline_in};
 
 use ttrpc_error::Error;
 use ttrpc_proto::Response;
@@ -21,15 +21,13 @@ pub enum Call {
     Ended(Result<Response, Error>),
 }
 
-impl Call {
-    /// Whether it waits and its deadline has passed at this moment.
-    pub fn is_due(&self, now: u64) -> bool
-        ensures { result ≡ is_due now self.now }
-    {
-        match self {
-            Call::Waiting(Some(deadline)) => *deadline <= u128::from(now),
-            _ => false,
-        }
+/// The moment until which a call waits, if it waits and there is one.
+pub fn waits_until(call: &Option<Call>) -> Option<u128>
+    ensures { result ≡ deadline_in call.now }
+{
+    match call {
+        Some(Call::Waiting(deadline)) => *deadline,
+        None | Some(Call::Expired | Call::Ended(_)) => None,
     }
 }
 

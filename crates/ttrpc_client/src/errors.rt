@@ -2,10 +2,9 @@
 ghost use Rattle.std.specs.Prelude.{◌≡◌, ◌++◌, ℕ, List, codes, string_bytes, IfOk, MatchResult};
 ghost use Rattle.ttrpc_error.specs.ErrorText.{status_of};
 ghost use Rattle.ttrpc_error.specs.Oversize.{oversize_text};
-ghost use Rattle.ttrpc_core.specs.Failure.{IsTold};
-ghost use Rattle.ttrpc_core.specs.Responses.{unsafe_payload_text};
-ghost use Rattle.ttrpc_client.specs.Table.{malformed_text, unopened_text};
-ghost use Rattle.ttrpc_client.specs.Happens.{advice, expired_error};
+ghost use Rattle.ttrpc_connection.specs.Failure.{IsTold};
+ghost use Rattle.ttrpc_client.specs.Table.{advice, malformed_text, unopened_text, unsafe_payload_text, unsealed_text};
+ghost use Rattle.ttrpc_client.specs.Happens.{expired_error};
 
 use crate::kind::ClientKind;
 use std::alloc::{AllocError, Global};
@@ -75,6 +74,14 @@ fn advice(kind: ClientKind) -> &'static str
         ClientKind::Sync => "",
         ClientKind::Async => "; reduce payload size",
     }
+}
+
+/// The refusal of a request that the outbound half didn't seal, for this reason, or `NoMemory` where memory for its
+/// text was refused.
+pub fn unsealed_error(alloc: Global, why: &Text) -> Error
+    ensures { IsTold (Error.Others (unsealed_text why.now)) result }
+{
+    others(format!(in alloc; "transform_outbound failed: {}", why.as_str()))
 }
 
 /// The refusal of a request for which there is no id, or `NoMemory` where memory for its text was refused.

@@ -1,11 +1,13 @@
 //! What a frame gives a call that waits.
 ghost use Rattle.std.specs.Prelude.{◌≡◌, IfOk, Some, None};
-ghost use Rattle.ttrpc_core.specs.Table.{Opened};
-ghost use Rattle.ttrpc_client.specs.Table.{by_status, IsLanding, opened_landing};
+ghost use Rattle.ttrpc_client.specs.Table.{by_status, IsLanding, landing_of};
 
-use crate::errors::{long_error, malformed_error, unreadable_error};
+use crate::errors::{
+    long_error, malformed_error, oversize_error, unopened_error, unreadable_error,
+};
 use std::alloc::{AllocError, Global};
 use ttrpc_codec::Codec;
+use ttrpc_connection::Opening;
 use ttrpc_error::Error;
 use ttrpc_header::{MESSAGE_LENGTH_MAX, MESSAGE_TYPE_RESPONSE, MessageHeader};
 use ttrpc_proto::Response;
@@ -14,13 +16,28 @@ use ttrpc_values::CodecError;
 /// The outcome of a call.
 pub type Outcome = Result<Response, Error>;
 
+/// What a frame of this header gives, by what the inbound half made of it.
+pub fn outcome_of(
+    alloc: Global,
+    header: &MessageHeader,
+    opening: Opening,
+) -> Result<Outcome, AllocError>
+    ensures { IfOk result (IsLanding (landing_of header.now opening)) }
+{
+    match opening {
+        Opening::TooLong => Ok(Err(oversize_error(alloc, header.length as usize)?)),
+        Opening::Refused(why) => Ok(Err(unopened_error(alloc, &why)?)),
+        Opening::Opened(plain) => opened_outcome(alloc, header, plain.as_slice()),
+    }
+}
+
 /// What a frame of this header gives, whose payload was opened.
-pub fn opened_outcome(
+fn opened_outcome(
     alloc: Global,
     header: &MessageHeader,
     plain: &[u8],
 ) -> Result<Outcome, AllocError>
-    ensures { IfOk result (IsLanding (opened_landing header.now (Opened plain.now))) }
+    ensures { IfOk result (IsLanding (landing_of header.now (Opening.Opened plain.now))) }
 {
     if plain.len() > MESSAGE_LENGTH_MAX {
         return Ok(Err(long_error(alloc, plain.len())?));

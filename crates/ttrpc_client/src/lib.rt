@@ -3,10 +3,12 @@
 
 mod call;
 mod client;
+mod deadlines;
 mod errors;
 mod kind;
 mod landing;
 mod laws;
+mod state;
 
 pub use call::{Call, CallId};
 pub use client::ClientCore;
@@ -14,7 +16,10 @@ pub use errors::{
     above_limit_error, malformed_error, oversize_error, unopened_error, unreadable_error,
 };
 pub use kind::ClientKind;
-pub use laws::{an_outcome_is_given_once, call_ids_rise, what_leaves_was_queued};
+pub use laws::{
+    an_outcome_is_given_once, call_ids_rise, cuts_do_not_matter, what_leaves_was_queued,
+};
+pub use state::ClientState;
 
 #[cfg(test)]
 mod client_tests;

@@ -1,7 +1,7 @@
 use Rattle.std.proofs.Common.{◌≡◌, ap, ◌∙◌, append_assoc, refl, List, ℕ, Result, Ok, Err, String, Global, IfOk, MatchResult, string_bytes, inl, inr}
 use Rattle.ttrpc_error.specs.declared.error.Error.{Error}
 use Rattle.ttrpc_error.specs.declared.error.Error.TheVariants.{NoMemory, Others}
-use Rattle.ttrpc_core.specs.Failure.{IsTold}
+use Rattle.ttrpc_connection.specs.Failure.{IsTold}
 use Rattle.ttrpc_client.proofs.errors.above_limit_error.Goals as goal
 
 told_as : {E : Type 0} (r : Result (String Global) E) (made text : List ℕ) (told : Error) → made ≡ text → IfOk r (λ s. string_bytes s ≡ made)

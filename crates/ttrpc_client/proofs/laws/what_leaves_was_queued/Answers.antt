@@ -1,21 +1,25 @@
 use Rattle.ttrpc_frame.proofs.Departures.{all_are_accounted}
-use Rattle.ttrpc_client.proofs.Leaving.{run_leads, run_writes, turn_causes}
+use Rattle.ttrpc_connection.proofs.Leaving.{run_goes, run_leaves}
+use Rattle.ttrpc_client.specs.Calls.{called}
+use Rattle.ttrpc_client.specs.Happens.{calling}
+use Rattle.ttrpc_client.proofs.Calls.{called_is_lawful, does_cause}
+use Rattle.ttrpc_client.proofs.Throwing.{run_throws_not}
 use Rattle.ttrpc_client.proofs.laws.what_leaves_was_queued.Goals as goal
 
 pub returns-clause-caused : goal.returns-clause-caused
-returns-clause-caused g c = λ old new turn happens. turn_causes _ _ turn old new happens
+returns-clause-caused g c = λ old new call did. does_cause g.O.OutboundTransform g.O.OutboundTransform.SEALS call old new did
 
-pub returns-clause-queue : goal.returns-clause-queue
-returns-clause-queue g c = λ old new turns happenings run. (run_leads _ _ turns old new happenings run).after
-
-pub returns-clause-allowed : goal.returns-clause-allowed
-returns-clause-allowed g c = λ old new turns happenings run. (run_leads _ _ turns old new happenings run).allowed
+pub returns-clause-goes : goal.returns-clause-goes
+returns-clause-goes g c = λ s t old new calls happenings run.
+    run_goes (calling g.O.OutboundTransform g.I.InboundTransform) (called g.O.OutboundTransform g.O.OutboundTransform.SEALS) (called_is_lawful g.O.OutboundTransform g.O.OutboundTransform.SEALS) calls s old happenings t new run
 
 pub returns-clause-written : goal.returns-clause-written
-returns-clause-written g c = λ old new turns happenings valid run. run_writes _ _ turns old new happenings valid run
+returns-clause-written g c = λ s t old new calls happenings valid run.
+    run_leaves (calling g.O.OutboundTransform g.I.InboundTransform) (called g.O.OutboundTransform g.O.OutboundTransform.SEALS) (called_is_lawful g.O.OutboundTransform g.O.OutboundTransform.SEALS) calls s old happenings t new valid run
 
 pub returns-clause-in_order : goal.returns-clause-in_order
-returns-clause-in_order g c = λ old new turns happenings run. all_are_accounted happenings old.core.queue
+returns-clause-in_order g c = λ s t old new calls happenings run. all_are_accounted happenings old.outbox.queue
 
 pub returns-clause-nothing_thrown : goal.returns-clause-nothing_thrown
-returns-clause-nothing_thrown g c = λ old new turns happenings not run. (run_leads _ _ turns old new happenings run).keeps not
+returns-clause-nothing_thrown g c = λ s t old new calls happenings not run.
+    run_throws_not g.O.OutboundTransform g.I.InboundTransform g.O.OutboundTransform.SEALS calls s old happenings t new not run

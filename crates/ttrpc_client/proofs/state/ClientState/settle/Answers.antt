@@ -1,0 +1,24 @@
+use Rattle.std.proofs.Common.{◌≡◌, ◌≤◌, ◌+◌, ◌∙◌, ap, true, deque_len, deque_capacity}
+use Rattle.ttrpc_client.specs.Client.{call_in, waits}
+use Rattle.ttrpc_client.specs.Kept.{deadline_in}
+use Rattle.ttrpc_client.proofs.Keeping.{settle_keeps, settle_room, others_stay}
+use Rattle.ttrpc_client.proofs.state.ClientState.settle.Goals as goal
+
+pub unreachable-requires-in-Err : goal.unreachable-requires-in-Err
+unreachable-requires-in-Err c =
+    let was : waits (call_in c.self.inside.calls.entries c.args.id) ≡ true = rw (← c.self.view_is) at c.requires.waited in
+    settle_room _ c.self.inside.calls.entries c.self.inside.deadlines c.self.inside.ended.items (deque_len c.self.inside.ended) (deque_capacity c.self.inside.ended) c.args.id c.args.call
+    c.self.invariant was c.requires.ended c.in-Err.ensures.full
+
+pub invariant_of-self : goal.invariant_of-self
+invariant_of-self c =
+    let old = c.self.inside.calls.entries in
+    let new = c.insert.new.self.entries in
+    let u = c.in-Ok.ensures.updates in
+    let was : waits (call_in old c.args.id) ≡ true = rw (← c.self.view_is) at c.requires.waited in
+    let is : c.waits_until.result ≡ deadline_in (call_in old c.args.id) = c.waits_until.ensures ∙ ap deadline_in c.in-Ok.ensures.old in
+    let more : deque_len c.push_back.new.self ≡ deque_len c.self.inside.ended + 1 = c.in-Ok-push_back.ensures.len in
+    let wide : deque_capacity c.self.inside.ended ≤ deque_capacity c.push_back.new.self = c.push_back.ensures.capacity in
+    rw c.in-Ok-push_back.ensures.items
+    (settle_keeps _ old new c.self.inside.deadlines c.take_away.new.self c.self.inside.ended.items (deque_len c.self.inside.ended) (deque_capacity c.self.inside.ended) _ _ c.args.id c.waits_until.result c.args.call
+    c.self.invariant is was c.requires.ended c.in-Ok.ensures.entries u.1 (others_stay c.args.id old new u.2) c.insert.ensures.ordered c.take_away.ensures more wide)

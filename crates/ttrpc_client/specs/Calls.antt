@@ -1,0 +1,111 @@
+-- The calls of a client core beside those of its connection, what the queue goes through by them, and what is told of
+-- lists of calls.
+-- Source: this project's.
+use Rattle.std.specs.Prelude.{◌≡◌, ◌≤◌, ℕ, ◌+◌, List, [], ◌∷◌, ◌++◌, map, nat_eq, option_to_list, Option, Some, None, Bool, if◌then◌else◌, Result}
+use Rattle.std.specs.List.{flat_map}
+use Rattle.ttrpc_error.specs.declared.error.Error.{Error}
+use Rattle.ttrpc_proto.specs.declared.request.Request.{Request}
+use Rattle.ttrpc_proto.specs.declared.response.Response.{Response}
+use Rattle.ttrpc_frame.specs.declared.outgoing.Queued.{Queued}
+use Rattle.ttrpc_frame.specs.Queue.{Happening, Placed, Thrown}
+use Rattle.ttrpc_secure.specs.declared.transform.OutboundTransform.{Ghosts as OutboundTransform}
+use Rattle.ttrpc_connection.specs.declared.connection.Connection.{Connection}
+use Rattle.ttrpc_connection.specs.declared.failure.Failure.{Failure}
+use Rattle.ttrpc_connection.specs.Calls.{Call, Gave, Lent, Reported, Failed, Did, Others, Queues}
+use Rattle.ttrpc_client.specs.declared.client.ClientCore.{ClientCore}
+use Rattle.ttrpc_client.specs.Client.{Client, throws}
+use Rattle.ttrpc_client.specs.Table.{IsRequestFrame, last_id}
+use Rattle.ttrpc_client.specs.Happens.{Forgets, Requests, Tells, Ticks, takes_back}
+
+-- a call, with what it was given and what it gave; one that was refused changes nothing, and is none
+pub data Called : Type 0 where
+  -- a request was accepted at a moment, and got this id
+  Asked : (request : Request) → (now id : ℕ) → Called
+  -- the outcome of a call was asked for, and this came
+  Told : (id : ℕ) → (outcome : Option (Result Response Error)) → Called
+  -- a call was dropped
+  Dropped : (id : ℕ) → Called
+  -- a moment was told
+  Ticked : (now : ℕ) → Called
+  -- it was asked which call ended, and this came
+  AskedEnded : (id : Option ℕ) → Called
+
+abbrev pub core : {O I : Type 0} → Client → Connection O I → ClientCore O I
+core state connection = record { state = state; connection = connection }
+
+-- ---- what a call makes of the core
+
+-- a moment came; after a failure it changes nothing
+abbrev pub Passes : {O I : Type 0} → Bool → Option Failure → ClientCore O I → ℕ → ClientCore O I → Type 0
+Passes seals None old now new = Ticks seals old now new
+Passes seals (Some failure) old now new = new ≡ old
+
+-- the first of the calls that ended was told of, if there was one
+pub record TellsEnded {O I : Type 0} (old : ClientCore O I) (id : Option ℕ) (new : ClientCore O I) : Type 0 where
+  pub first : old.state.ended ≡ option_to_list id ++ new.state.ended
+  pub same : new ≡ record old { state = record old.state { ended = new.state.ended } }
+
+abbrev pub Does : {O I : Type 0} → OutboundTransform O → Bool → Called → ClientCore O I → ClientCore O I → Type 0
+Does out seals (Asked request now id) old new = Requests out old request now id new
+Does out seals (Told id outcome) old new = Tells old id outcome new
+Does out seals (Dropped id) old new = Forgets seals old id new
+Does out seals (Ticked now) old new = Passes seals old.connection.failure old now new
+Does out seals (AskedEnded id) old new = TellsEnded old id new
+
+-- ---- what the queue goes through by it
+
+-- the requests of the calls that were due were thrown away, in the order in which they expired, where requests may be
+abbrev pub thrown_at : {O I : Type 0} (seals : Bool) (failure : Option Failure) (old : ClientCore O I) (now : ℕ) (new : ClientCore O I) → Passes seals failure old now new → List Happening
+thrown_at seals None old now new ticks = if throws old.state.kind seals then map Thrown ticks.due else []
+thrown_at seals (Some failure) old now new same = []
+
+abbrev pub Causes : {O I : Type 0} (out : OutboundTransform O) (seals : Bool) (a : Called) (old new : ClientCore O I) → Does out seals a old new → List Happening → Type 0
+Causes out seals (Asked request now id) old new did happenings =
+    (f : Queued) × IsRequestFrame id f × Queues old.connection (f ∷ []) new.connection × (happenings ≡ Placed f ∷ [])
+Causes out seals (Told id outcome) old new did happenings = happenings ≡ []
+Causes out seals (Dropped id) old new did happenings = happenings ≡ (if takes_back seals old id then Thrown id ∷ [] else [])
+Causes out seals (Ticked now) old new did happenings = happenings ≡ thrown_at seals old.connection.failure old now new did
+Causes out seals (AskedEnded id) old new did happenings = happenings ≡ []
+
+abbrev pub called : {O I : Type 0} → OutboundTransform O → Bool → Others Called Client O I
+called out seals a s old happenings t new = (did : Does out seals a (core s old) (core t new)) × Causes out seals a (core s old) (core t new) did happenings
+
+-- ---- what is told of them
+
+-- the id that a call gave its request, if it made one
+abbrev pub asked_by : Call Called → List ℕ
+asked_by (Gave piece now) = []
+asked_by (Lent n) = []
+asked_by (Reported n) = []
+asked_by Failed = []
+asked_by (Did (Asked request now id)) = id ∷ []
+asked_by (Did (Told id outcome)) = []
+asked_by (Did (Dropped id)) = []
+asked_by (Did (Ticked now)) = []
+asked_by (Did (AskedEnded id)) = []
+
+-- the ids of the requests that were accepted, in order
+abbrev pub ids_asked : List (Call Called) → List ℕ
+ids_asked calls = flat_map asked_by calls
+
+-- From this id on each is two more than the one before, and none is above the greatest; the next is then the last one.
+abbrev pub RiseByTwo : ℕ → List ℕ → ℕ → Type 0
+RiseByTwo first [] next = next ≡ first
+RiseByTwo first (id ∷ ids) next = (id ≡ first) × (id ≤ last_id) × RiseByTwo (first + 2) ids next
+
+-- the outcome that a call gave of this id, if it gave one
+abbrev pub told_by : ℕ → Call Called → List (Result Response Error)
+told_by k (Gave piece now) = []
+told_by k (Lent n) = []
+told_by k (Reported n) = []
+told_by k Failed = []
+told_by k (Did (Asked request now id)) = []
+told_by k (Did (Told id None)) = []
+told_by k (Did (Told id (Some outcome))) = if nat_eq id k then outcome ∷ [] else []
+told_by k (Did (Dropped id)) = []
+told_by k (Did (Ticked now)) = []
+told_by k (Did (AskedEnded id)) = []
+
+-- the outcomes that were given of this id, in order
+abbrev pub outcomes_of : ℕ → List (Call Called) → List (Result Response Error)
+outcomes_of k calls = flat_map (told_by k) calls

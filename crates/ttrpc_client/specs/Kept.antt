@@ -1,0 +1,62 @@
+-- What the state of a client keeps beside what is seen of it.
+-- Source: this project's.
+use Rattle.std.specs.Prelude.{◌≡◌, ◌≤◌, ℕ, ◌+◌, List, Option, None, Some, Bool, false, nat_eq, sum_by}
+use Rattle.std.specs.declared.cmp.Ordering.{Ordering}
+use Rattle.std.specs.Ordering.{nat_cmp, ordering_then}
+use Rattle.std.specs.List.{list_any}
+use Rattle.std.specs.List.Sorted.{IsStrictlySortedBy}
+use Rattle.std.specs.BTreeMap.{is_at}
+use Rattle.std.specs.Map.{keys_of, values_of}
+use Rattle.ttrpc_client.specs.declared.call.Call.{Call}
+use Rattle.ttrpc_client.specs.declared.call.Call.TheVariants.{Waiting, Expired, Ended}
+use Rattle.ttrpc_client.specs.Client.{IsClient, call_in, told_left}
+
+-- ---- deadlines, each a moment and the id of a call
+
+-- by rising moment
+abbrev pub sooner : ℕ × ℕ → ℕ × ℕ → Ordering
+sooner x y = ordering_then (nat_cmp x.0 y.0) (nat_cmp x.1 y.1)
+
+-- whether it is among them
+abbrev pub has_deadline : List (ℕ × ℕ) → ℕ → ℕ → Bool
+has_deadline deadlines at id = list_any (is_at (sooner (at, id))) deadlines
+
+-- this call's deadline, if it has one, is there or not, and the others are as they were
+pub record ChangesTo (there : Bool) (old : List (ℕ × ℕ)) (id : ℕ) (deadline : Option ℕ) (new : List (ℕ × ℕ)) : Type 0 where
+  pub own : (at : ℕ) → deadline ≡ Some at → has_deadline new at id ≡ there
+  pub others : (at k : ℕ) → (k ≡ id → deadline ≡ Some at → ⊥) → has_deadline new at k ≡ has_deadline old at k
+
+-- the moment until which a call waits, if it waits and there is one
+abbrev pub deadline_in : Option Call → Option ℕ
+deadline_in None = None
+deadline_in (Some (Waiting deadline)) = deadline
+deadline_in (Some Expired) = None
+deadline_in (Some (Ended outcome)) = None
+
+abbrev pub is_moment : ℕ → Option ℕ → Bool
+is_moment at None = false
+is_moment at (Some moment) = nat_eq at moment
+
+-- ---- what is kept
+
+abbrev pub weight : Call → ℕ
+weight (Waiting deadline) = 1
+weight Expired = 0
+weight (Ended outcome) = 0
+
+-- how many calls wait
+abbrev pub waiting_in : List (ℕ × Call) → ℕ
+waiting_in calls = sum_by weight (values_of calls)
+
+-- the deadlines are those of the calls that wait
+abbrev pub AreDeadlines : List (ℕ × ℕ) → List (ℕ × Call) → Type 0
+AreDeadlines deadlines calls = (at id : ℕ) → has_deadline deadlines at id ≡ is_moment at (deadline_in (call_in calls id))
+
+-- What holds of the state of every client: there is room for each call that waits to be told of as ended, too, and
+-- where no call is left none is told of.
+pub record IsKept (next : ℕ) (calls : List (ℕ × Call)) (deadlines : List (ℕ × ℕ)) (ended : List ℕ) (used room : ℕ) : Type 0 where
+  pub valid : IsClient next calls
+  pub ordered : IsStrictlySortedBy nat_cmp (keys_of calls)
+  pub deadlines_are : AreDeadlines deadlines calls
+  pub has_room : used + waiting_in calls ≤ room
+  pub told : told_left calls ended ≡ ended
