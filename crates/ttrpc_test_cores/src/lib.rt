@@ -2,9 +2,17 @@
 #![tactic(auto)]
 
 #[cfg(test)]
+mod client;
+#[cfg(test)]
+mod client_core;
+#[cfg(test)]
+mod client_numbers;
+#[cfg(test)]
 mod core;
 #[cfg(test)]
 mod halves;
+#[cfg(test)]
+mod plain_client_tests;
 #[cfg(test)]
 mod plain_server_tests;
 #[cfg(test)]
@@ -18,5 +26,7 @@ mod server_numbers;
 mod steps;
 #[cfg(test)]
 mod texts_tests;
+#[cfg(test)]
+mod transforms_client_tests;
 #[cfg(test)]
 mod transforms_server_tests;

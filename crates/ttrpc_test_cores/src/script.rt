@@ -98,6 +98,8 @@ pub enum Step {
     RefusesSevens(usize, Told),
     /// There is no outcome under this id.
     Waits(u32),
+    /// The first call has no outcome any more, and no frame finds it again.
+    IsGone,
     /// The outcome under this id is a response: whether it has a status, which is OK, and its payload of one byte.
     Gives(u32, bool, u8),
     /// The outcome under this id is this error.
