@@ -1,15 +1,16 @@
 -- What the halves do that stand for any others in tests.
 -- Source: this project's.
+use Rattle.std.specs.Prelude.{◌≡◌, codes, length}
 use Rattle.ttrpc_secure.specs.Halves.{Moves, Refusals}
 
--- Whatever is given opens to anything.
-abbrev pub OpensToAny : {S : Type 0} → Moves S
-OpensToAny s given aad gives t = Unit {0}
+-- Whatever is given opens to one byte more than a message may have, and the half stays as it is.
+abbrev pub Swells : {S : Type 0} → Moves S
+Swells s given aad gives t = (length gives ≡ 4194305) × (t ≡ s)
 
 -- Nothing is sealed.
 abbrev pub SealsNothing : {S : Type 0} → Moves S
 SealsNothing s given aad gives t = ⊥
 
--- Anything may be refused.
-abbrev pub RefusesAny : {S : Type 0} → Refusals S
-RefusesAny s given aad = Unit {0}
+-- Whatever is given is refused, for this reason.
+abbrev pub RefusesAll : {S : Type 0} → Refusals S
+RefusesAll s given aad why = why ≡ codes "sealed up"

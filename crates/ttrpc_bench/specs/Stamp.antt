@@ -1,6 +1,6 @@
 -- What halves with stamps do. Each half is its next stamp.
 -- Source: this project's.
-use Rattle.std.specs.Prelude.{◌≡◌, ◌≢◌, ◌+◌, ◌%◌, ℕ, List, [], ◌∷◌, ◌++◌}
+use Rattle.std.specs.Prelude.{◌≡◌, ◌≢◌, ◌+◌, ◌%◌, ℕ, List, [], ◌∷◌, ◌++◌, codes}
 use Rattle.ttrpc_secure.specs.Halves.{Moves, Refusals}
 
 -- Sealing appends the stamp, and the next stamp is one more, modulo 256.
@@ -11,6 +11,6 @@ AppendsStamp stamp plain aad sealed next = (sealed ≡ plain ++ stamp ∷ []) ×
 abbrev pub TakesStampOff : Moves ℕ
 TakesStampOff stamp sealed aad plain next = AppendsStamp stamp plain aad sealed next
 
--- The data don't end in the stamp.
+-- The data don't end in the stamp, which is the reason that is given.
 abbrev pub HasWrongStamp : Refusals ℕ
-HasWrongStamp stamp sealed aad = (plain : List ℕ) → sealed ≢ plain ++ stamp ∷ []
+HasWrongStamp stamp sealed aad why = ((plain : List ℕ) → sealed ≢ plain ++ stamp ∷ []) × (why ≡ codes "bad stamp")

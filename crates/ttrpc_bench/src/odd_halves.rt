@@ -10,11 +10,12 @@ use ttrpc_values::Text;
 pub struct Swelling {}
 
 impl InboundTransform for Swelling {
-    ghost use Rattle.ttrpc_bench.specs.Others.{OpensToAny, RefusesAny};
+    ghost use Rattle.ttrpc_secure.specs.Halves.{RefusesNothing};
+    ghost use Rattle.ttrpc_bench.specs.Others.{Swells};
 
-    ghost opens = { OpensToAny };
+    ghost opens = { Swells };
 
-    ghost refuses = { RefusesAny };
+    ghost refuses = { RefusesNothing };
 
     fn transform_inbound(
         &mut self,
@@ -35,7 +36,7 @@ pub struct Sealed {
 impl OutboundTransform for Sealed {
     ghost use Rattle.std.specs.Prelude.{false, refl, min, ◌-◌};
     ghost use Rattle.std.proofs.Common.{arith};
-    ghost use Rattle.ttrpc_bench.specs.Others.{SealsNothing, RefusesAny};
+    ghost use Rattle.ttrpc_bench.specs.Others.{SealsNothing, RefusesAll};
     ghost use Rattle.ttrpc_bench.specs.declared.odd_halves.Sealed.{Sealed as ASealed};
 
     const SEALS: bool = false;
@@ -46,7 +47,7 @@ impl OutboundTransform for Sealed {
 
     ghost seals = { SealsNothing };
 
-    ghost refuses = { RefusesAny };
+    ghost refuses = { RefusesAll };
 
     fn transform_outbound(
         &mut self,

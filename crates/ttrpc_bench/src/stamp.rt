@@ -100,24 +100,15 @@ impl InboundTransform for StampIn {
         &mut self,
         alloc: Global,
         data: &[u8],
-        aad: &[u8],
-    ) -> Result<Vec<u8>, TransformError>
-        ensures ok { IfOk result (λ opened.
-            TakesStampOff self.old «data».now aad.now opened.items self.new) }
-        ensures refused { IfErr result (λ e. e ≢ TransformError.NoMemory
-            → HasWrongStamp self.old «data».now aad.now) }
-        ensures text { IfErr result (λ e. e ≢ TransformError.NoMemory
-            → e ≡ TransformError.Refused (codes "bad stamp")) }
-        ensures err { OnErr result (self.new ≡ self.old) }
-    {
-        let _ = aad;
+        _aad: &[u8],
+    ) -> Result<Vec<u8>, TransformError> {
         match data {
             [opened @ .., stamp] if *stamp == self.count => {
                 let opened = Vec::from_slice(alloc, opened)?;
                 self.count = self.count.wrapping_add(1);
                 Ok(opened)
             }
-            _ => Err(bad_stamp(alloc)),
+            _ => Err(TransformError::Refused(Text::from_str(alloc, "bad stamp")?)),
         }
     }
 }
@@ -130,14 +121,4 @@ pub fn stamps() -> (StampOut, StampIn)
         result.0 result.1 }
 {
     (StampOut::new(), StampIn::new())
-}
-
-// The refusal, or `NoMemory` where memory for its text was refused.
-fn bad_stamp(alloc: Global) -> TransformError
-    ensures { result ≢ TransformError.NoMemory → result ≡ TransformError.Refused (codes "bad stamp") }
-{
-    match Text::from_str(alloc, "bad stamp") {
-        Ok(text) => TransformError::Refused(text),
-        Err(_) => TransformError::NoMemory,
-    }
 }

@@ -6,6 +6,9 @@ pub const ASKED: &[u8] = b"\0\0\0\x14\0\0\0\x01\x01\0\x0a\x09demo.Echo\x12\x04Ec
 /// What answers it: an OK status and the same payload.
 pub const ECHOED: &[u8] = b"\0\0\0\x05\0\0\0\x01\x02\0\x0a\0\x12\x01\x2a";
 
+/// The first seven bytes of that request.
+pub const SEVEN_OF_ASKED: &[u8] = b"\0\0\0\x14\0\0\0";
+
 /// A request with no payload.
 pub const EMPTY: &[u8] = b"\0\0\0\x11\0\0\0\x01\x01\0\x0a\x09demo.Echo\x12\x04Echo";
 /// A request with no payload, and all flags.

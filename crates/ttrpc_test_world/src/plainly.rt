@@ -2,7 +2,7 @@
 //! written from its sentences alone.
 
 use ttrpc_client::CallId;
-use ttrpc_core::JobId;
+use ttrpc_server::JobId;
 use ttrpc_error::Error;
 use ttrpc_proto::{Request, Response};
 use ttrpc_world::{Entry, Event, Reply};

@@ -4,7 +4,7 @@ use std::test::Fail;
 use ttrpc_bench::stamps;
 use ttrpc_client::{ClientCore, ClientKind};
 use ttrpc_codec::WireMessage;
-use ttrpc_core::{Registry, Rules, ServerCore, ServiceNames};
+use ttrpc_server::{Registry, Rules, ServerCore, ServiceNames};
 use ttrpc_error::Error;
 use ttrpc_proto::{Request, Response, Status};
 use ttrpc_secure::{Plain, plain_is_paired};

@@ -1,9 +1,0 @@
-pub mod Failure
-pub mod Responses
-pub mod Registry
-pub mod Server
-pub mod Table
-pub mod Happens
-pub mod Inside
-pub mod Streams
-pub mod Turns

@@ -1,0 +1,93 @@
+//! Many calls of a client at once.
+use crate::client::ASKED;
+use crate::client_core::{gives, usual_request};
+use crate::core::{End, Met};
+use crate::steps::{behind, leaves};
+use std::alloc::Global;
+use ttrpc_client::ClientCore;
+use ttrpc_proto::Request;
+use ttrpc_secure::{InboundTransform, OutboundTransform};
+
+/// So many calls are made and written before the first is answered. The last is answered first, with its own id's lowest
+/// byte, which is told in that order, and each has its own outcome.
+pub fn calls_last_first<O: OutboundTransform + Drop, I: InboundTransform + Drop>(
+    alloc: Global,
+    core: &mut ClientCore<O, I>,
+    count: u32,
+) -> Met {
+    let request = usual_request(alloc, 10)?;
+    Ok(
+        calls(alloc, core, &request, count)?
+            && writes(core, count)
+            && answers_last_first(alloc, core, count)?
+            && tells_last_first(core, count)
+            && gives_each(alloc, core, count)?,
+    )
+}
+
+/// The id of this call, of those from 0 on.
+fn id_of(number: u32) -> u32 {
+    number.wrapping_mul(2).wrapping_add(1)
+}
+
+fn calls<O: OutboundTransform + Drop, I: InboundTransform + Drop>(
+    alloc: Global,
+    core: &mut ClientCore<O, I>,
+    request: &Request,
+    count: u32,
+) -> Met {
+    for number in 0..count {
+        if core.request(alloc, request, 0)? != id_of(number) {
+            return Ok(false);
+        }
+    }
+    Ok(true)
+}
+
+/// The usual request leaves under each id.
+fn writes<C: End>(core: &mut C, count: u32) -> bool {
+    for number in 0..count {
+        let [a, b, c, d] = id_of(number).to_be_bytes();
+        let is_written = leaves(core, &[0, 0, 0, 0x18, a, b, c, d, 1, 0])
+            && leaves(core, behind(ASKED, 10));
+        if !is_written {
+            return false;
+        }
+    }
+    true
+}
+
+fn answers_last_first<C: End>(alloc: Global, core: &mut C, count: u32) -> Met {
+    for number in (0..count).rev() {
+        let [a, b, c, d] = id_of(number).to_be_bytes();
+        core.feed(alloc, &[0, 0, 0, 5, a, b, c, d, 2, 0, 0x0a, 0, 0x12, 1, d])?;
+    }
+    Ok(true)
+}
+
+fn tells_last_first<O: OutboundTransform + Drop, I: InboundTransform + Drop>(
+    core: &mut ClientCore<O, I>,
+    count: u32,
+) -> bool {
+    for number in (0..count).rev() {
+        if core.next_ended() != Some(id_of(number)) {
+            return false;
+        }
+    }
+    core.next_ended().is_none()
+}
+
+fn gives_each<O: OutboundTransform + Drop, I: InboundTransform + Drop>(
+    alloc: Global,
+    core: &mut ClientCore<O, I>,
+    count: u32,
+) -> Met {
+    for number in 0..count {
+        let id = id_of(number);
+        let [_, _, _, d] = id.to_be_bytes();
+        if !gives(alloc, core, id, true, d)? {
+            return Ok(false);
+        }
+    }
+    Ok(true)
+}
