@@ -2,9 +2,9 @@
 //! written from its sentences alone.
 
 use ttrpc_client::CallId;
-use ttrpc_server::JobId;
 use ttrpc_error::Error;
 use ttrpc_proto::{Request, Response};
+use ttrpc_server::JobId;
 use ttrpc_world::{Entry, Event, Reply};
 
 /// What was read of a trace so far: what is wrong with it, or how many outcomes were `Ok`.
@@ -16,6 +16,8 @@ pub enum Finding {
     IdUsedTwice,
     /// A job was handed out for an id that no call has, or for the second time.
     RunOutOfPlace,
+    /// An answer to a job was accepted for the second time.
+    AnsweredTwice,
     /// An outcome was given of an id that no call has, or for the second time.
     OutcomeOutOfPlace,
     /// An outcome is `Ok`, and not the answer of the one run of its request.
@@ -140,6 +142,8 @@ fn step(before: &[Entry], entry: &Entry) -> Finding {
         (Event::Take, Reply::Handed(Some(job)))
             if calls_of(before, job.header.stream_id) == 0
                 || runs_of(before, job.header.stream_id) > 0 => { Finding::RunOutOfPlace }
+        (Event::Answer(job, _), Reply::Done) if answers_of(before, *job) > 0 =>
+            Finding::AnsweredTwice,
         (Event::Outcome(id), Reply::Outcome(Some(outcome))) => outcome_step(before, *id, outcome),
         _ => Finding::Whole(0),
     }

@@ -8,7 +8,9 @@ use std::test::Fail;
 use ttrpc_client::ClientKind;
 use ttrpc_codec::WireMessage;
 use ttrpc_error::Error;
+use ttrpc_header::MessageHeader;
 use ttrpc_proto::{Response, Status};
+use ttrpc_server::Job;
 use ttrpc_values::Text;
 use ttrpc_world::{Entry, Event, Reply, Side, Trace};
 
@@ -191,10 +193,45 @@ fn outcome_entry(alloc: Global) -> Result<Entry, Fail> {
     })
 }
 
+/// A job of call 1 was handed out.
+fn run_entry(alloc: Global) -> Result<Entry, Fail> {
+    let request = request_of(alloc, b"a", 0)?;
+    let job = Job {
+        id: 1,
+        header: MessageHeader::new_request(1, 0),
+        stream: false,
+        request,
+    };
+    Ok(Entry {
+        event: Event::Take,
+        reply: Reply::Handed(Some(job)),
+    })
+}
+
+fn answer_entry() -> Entry {
+    Entry {
+        event: Event::Answer(1, Err(Error::Eof)),
+        reply: Reply::Done,
+    }
+}
+
 fn two_calls(alloc: Global) -> Result<Trace, Fail> {
     let mut trace = Vec::with_capacity(alloc, 2)?;
     trace.push_reserved(call_entry(alloc)?);
     trace.push_reserved(call_entry(alloc)?);
+    Ok(trace)
+}
+
+fn run_of_nothing(alloc: Global) -> Result<Trace, Fail> {
+    let mut trace = Vec::with_capacity(alloc, 1)?;
+    trace.push_reserved(run_entry(alloc)?);
+    Ok(trace)
+}
+
+fn two_answers(alloc: Global) -> Result<Trace, Fail> {
+    let mut trace = Vec::with_capacity(alloc, 2)?;
+    trace.push_reserved(answer_entry());
+    trace.push_reserved(answer_entry());
     Ok(trace)
 }
 
@@ -216,6 +253,10 @@ fn outcome_without_a_run(alloc: Global) -> Result<Trace, Fail> {
 fn faults_are_found(rt: HostRuntime) -> Tested {
     let used = two_calls(rt.alloc())?;
     assert_eq!(rt; read_headline(used.as_slice()), Finding::IdUsedTwice);
+    let run = run_of_nothing(rt.alloc())?;
+    assert_eq!(rt; read_headline(run.as_slice()), Finding::RunOutOfPlace);
+    let answered = two_answers(rt.alloc())?;
+    assert_eq!(rt; read_headline(answered.as_slice()), Finding::AnsweredTwice);
     let uncalled = outcome_of_nothing(rt.alloc())?;
     assert_eq!(rt;
         read_headline(uncalled.as_slice()),

@@ -4,10 +4,10 @@ use std::test::Fail;
 use ttrpc_bench::stamps;
 use ttrpc_client::{ClientCore, ClientKind};
 use ttrpc_codec::WireMessage;
-use ttrpc_server::{Registry, Rules, ServerCore, ServiceNames};
 use ttrpc_error::Error;
 use ttrpc_proto::{Request, Response, Status};
 use ttrpc_secure::{Plain, plain_is_paired};
+use ttrpc_server::{Registry, Rules, ServerCore, ServiceNames};
 use ttrpc_values::{Blob, Sequence, Text};
 use ttrpc_world::{Entry, Event, Reply, Side, Trace, World};
 

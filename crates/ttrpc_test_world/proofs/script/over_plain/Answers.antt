@@ -11,6 +11,7 @@ run-requires c = rw (c.new.ensures, c.new-client.ensures, c.new-server.ensures) 
   server = refl;
   up = refl;
   down = refl;
+  moment = refl;
   up_paired = c.plain_is_paired.ensures _ _;
   down_paired = c.plain_is_paired.ensures _ _;
 })

@@ -11,6 +11,7 @@ run-requires c = rw (c.new.ensures, c.new-client.ensures, c.new-server.ensures) 
   server = refl;
   up = refl;
   down = refl;
+  moment = refl;
   up_paired = c.stamps-up_out.ensures.paired;
   down_paired = c.stamps-down_out.ensures.paired;
 })
