@@ -4,11 +4,13 @@
 #[cfg(test)]
 mod client;
 #[cfg(test)]
-mod client_core;
-#[cfg(test)]
 mod client_numbers;
 #[cfg(test)]
+mod client_steps;
+#[cfg(test)]
 mod core;
+#[cfg(test)]
+mod ends;
 #[cfg(test)]
 mod halves;
 #[cfg(test)]
@@ -19,9 +21,9 @@ mod plain_server_tests;
 mod script;
 pub mod server;
 #[cfg(test)]
-mod server_core;
-#[cfg(test)]
 mod server_numbers;
+#[cfg(test)]
+mod server_steps;
 #[cfg(test)]
 mod steps;
 #[cfg(test)]
