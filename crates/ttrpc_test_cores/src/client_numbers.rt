@@ -1,8 +1,8 @@
 //! Many calls of a client at once.
 use crate::client::ASKED;
 use crate::client_steps::{gives, usual_request};
-use crate::core::{Client, End, Met};
 use crate::steps::{behind, leaves};
+use crate::under_test::{Client, End, Met};
 use std::alloc::Global;
 use ttrpc_proto::Request;
 

@@ -1,15 +1,16 @@
 //! The steps of a client.
 use crate::client::{ANSWERED, CLOSE};
 use crate::client_numbers::calls_last_first;
-use crate::core::{Client, Met};
 use crate::script::{Step, Told};
 use crate::steps::{feeds, tells};
+use crate::under_test::{Client, Met};
 use std::alloc::Global;
 use std::test::Fail;
 use ttrpc_client::CallId;
+use ttrpc_codec::WireMessage;
 use ttrpc_error::Error;
 use ttrpc_proto::{Request, Response};
-use ttrpc_values::{Blob, Sequence, Text};
+use ttrpc_values::{Blob, Text};
 
 /// A step that only a client knows.
 pub fn client_step<C: Client>(alloc: Global, core: &mut C, step: &Step) -> Met {
@@ -47,24 +48,31 @@ pub fn client_refusal<C: Client>(alloc: Global, core: &mut C) -> Result<Option<E
 
 /// A request to `Echo` of `demo.Echo` with the payload 01 02 03.
 pub fn usual_request(alloc: Global, timeout_nano: i64) -> Result<Request, Fail> {
-    Ok(Request {
-        service: Text::from_str(alloc, "demo.Echo")?,
-        method: Text::from_str(alloc, "Echo")?,
-        payload: Blob::from_slice(alloc, &[1, 2, 3])?,
-        timeout_nano,
-        metadata: Sequence::new(alloc),
-    })
+    let mut request = Request::new(alloc);
+    address(alloc, &mut request, "demo.Echo", "Echo")?;
+    pay(&mut request, Blob::from_slice(alloc, &[1, 2, 3])?);
+    request.timeout_nano = timeout_nano;
+    Ok(request)
 }
 
 /// A request to `m` of `s` with so many bytes of payload.
 fn request_of_sevens(alloc: Global, length: usize) -> Result<Request, Fail> {
-    Ok(Request {
-        service: Text::from_str(alloc, "s")?,
-        method: Text::from_str(alloc, "m")?,
-        payload: Blob::from_vec(vec![in alloc; 7; length]?),
-        timeout_nano: 0,
-        metadata: Sequence::new(alloc),
-    })
+    let mut request = Request::new(alloc);
+    address(alloc, &mut request, "s", "m")?;
+    pay(&mut request, Blob::from_vec(vec![in alloc; 7; length]?));
+    Ok(request)
+}
+
+/// The request goes to this method.
+fn address(alloc: Global, request: &mut Request, service: &str, method: &str) -> Result<(), Fail> {
+    request.service = Text::from_str(alloc, service)?;
+    request.method = Text::from_str(alloc, method)?;
+    Ok(())
+}
+
+/// The request has this payload.
+fn pay(request: &mut Request, payload: Blob) {
+    request.payload = payload;
 }
 
 fn calls<C: Client>(alloc: Global, core: &mut C, timeout_nano: i64, now: u64, id: CallId) -> Met {

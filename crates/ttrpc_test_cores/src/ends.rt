@@ -1,9 +1,9 @@
 //! Both cores over any halves, as scripts see them.
 use crate::client_steps::{client_refusal, client_step};
-use crate::core::{Client, Core, End, Met, Server};
 use crate::halves::Half;
 use crate::script::{Start, Step};
 use crate::server_steps::{registry, server_refusal, server_step};
+use crate::under_test::{Client, Core, End, Met, Server};
 use std::alloc::Global;
 use std::test::Fail;
 use ttrpc_client::{CallId, ClientCore, ClientKind};

@@ -8,8 +8,6 @@ mod client_numbers;
 #[cfg(test)]
 mod client_steps;
 #[cfg(test)]
-mod core;
-#[cfg(test)]
 mod ends;
 #[cfg(test)]
 mod halves;
@@ -32,3 +30,5 @@ mod texts_tests;
 mod transforms_client_tests;
 #[cfg(test)]
 mod transforms_server_tests;
+#[cfg(test)]
+mod under_test;

@@ -1,8 +1,8 @@
 //! Each row of the client's table for unary calls, each refusal, and what becomes of calls that expire or are dropped,
 //! over plain halves. All bytes are written by hand.
 use crate::client::*;
-use crate::core::{Table, Tested, hold};
 use crate::script::{Cuts, FRESH, Row, Start, Step, Told};
+use crate::under_test::{Table, Tested, hold};
 use ttrpc_client::{ClientCore, ClientKind};
 use ttrpc_secure::Plain;
 

@@ -1,7 +1,7 @@
 //! Each row of the server's table under sync rules, and each refusal, over plain halves. All bytes are written by hand.
-use crate::core::{Table, Tested, hold};
 use crate::script::{Cuts, FRESH, Row, Step, Told};
 use crate::server::*;
+use crate::under_test::{Table, Tested, hold};
 use ttrpc_secure::Plain;
 use ttrpc_server::{Rules, ServerCore};
 

@@ -1,8 +1,8 @@
 //! Many requests of a server at once.
-use crate::core::{End, Met, Server};
 use crate::server::ASKED;
 use crate::server_steps::answers;
 use crate::steps::{behind, leaves};
+use crate::under_test::{End, Met, Server};
 use std::alloc::Global;
 
 /// So many requests come, of the streams from 1 on, and are taken before the first is answered. The last is answered

@@ -1,8 +1,8 @@
 //! The steps of a server.
-use crate::core::{Met, Server};
 use crate::script::{Step, Told};
 use crate::server_numbers::serves_last_first;
 use crate::steps::{behind, drained, front, tells};
+use crate::under_test::{Met, Server};
 use std::alloc::Global;
 use std::test::Fail;
 use ttrpc_codec::{Codec, WireMessage};
@@ -213,19 +213,11 @@ fn refused_and_given<S: Server>(
 
 // ---- whole services
 
-fn payload_of(job: Job) -> Blob {
-    let request = job.request;
-    request.payload
-}
-
 /// Answers the job that is handed out with its own payload. Says whether there was one.
 fn echoes<S: Server>(alloc: Global, core: &mut S) -> Met {
     match core.take_job() {
         None => Ok(false),
-        Some(job) => {
-            let id = job.id;
-            gives(alloc, core, id, &Ok(ok_response(alloc, payload_of(job))))
-        }
+        Some(job) => answers(alloc, core, job.id, job.request.payload.as_slice()),
     }
 }
 

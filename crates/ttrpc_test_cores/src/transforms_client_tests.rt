@@ -1,7 +1,7 @@
 //! The client core over halves that stamp, that refuse, and that open to more than a message may have.
 use crate::client::ANSWERED;
-use crate::core::{Table, Tested, hold};
 use crate::script::{FRESH, Row, Start, Step, Told};
+use crate::under_test::{Table, Tested, hold};
 use ttrpc_bench::{Sealed, StampIn, StampOut, Swelling};
 use ttrpc_client::{ClientCore, ClientKind};
 use ttrpc_secure::Plain;

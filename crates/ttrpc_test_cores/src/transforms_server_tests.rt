@@ -1,7 +1,7 @@
 //! The server core over halves that stamp, that refuse, and that open to more than a message may have.
-use crate::core::{Tested, hold};
 use crate::script::{FRESH, Row, Start, Step, Told};
 use crate::server::{ASKED, NO_SERVICE};
+use crate::under_test::{Tested, hold};
 use ttrpc_bench::{Sealed, StampIn, StampOut, Swelling};
 use ttrpc_secure::Plain;
 use ttrpc_server::{Rules, ServerCore};
