@@ -8,3 +8,4 @@ pub mod Calls
 pub mod Turning
 pub mod Once
 pub mod Throwing
+pub mod Queueing

@@ -1,8 +1,8 @@
 -- The calls of a client core beside those of its connection, what the queue goes through by them, and what is told of
 -- lists of calls.
 -- Source: this project's.
-use Rattle.std.specs.Prelude.{◌≡◌, ◌≤◌, ℕ, ◌+◌, List, [], ◌∷◌, ◌++◌, map, nat_eq, option_to_list, Option, Some, None, Bool, if◌then◌else◌, Result}
-use Rattle.std.specs.List.{flat_map}
+use Rattle.std.specs.Prelude.{◌≡◌, ◌<◌, ◌≤◌, ◌==◌, ◌&&◌, not, ℕ, ◌+◌, List, [], ◌∷◌, ◌++◌, map, nat_eq, option_to_list, Option, Some, None, Bool, if◌then◌else◌, Result}
+use Rattle.std.specs.List.{AllByRecursion, IsDistinct, flat_map, list_any}
 use Rattle.ttrpc_error.specs.declared.error.Error.{Error}
 use Rattle.ttrpc_proto.specs.declared.request.Request.{Request}
 use Rattle.ttrpc_proto.specs.declared.response.Response.{Response}
@@ -109,3 +109,19 @@ told_by k (Did (AskedEnded id)) = []
 -- the outcomes that were given of this id, in order
 abbrev pub outcomes_of : ℕ → List (Call Called) → List (Result Response Error)
 outcomes_of k calls = flat_map (told_by k) calls
+
+-- ---- the requests that are queued
+
+-- the ids of the calls whose requests are among these frames
+abbrev pub requests_in : List Queued → List ℕ
+requests_in [] = []
+requests_in (f ∷ fs) = if f.is_unary_request then f.owner ∷ requests_in fs else requests_in fs
+
+-- that of each call at most once, and of none that wasn't made yet
+pub record AreQueuedOnce (next : ℕ) (frames : List Queued) : Type 0 where
+  pub distinct : IsDistinct nat_eq (requests_in frames)
+  pub below : AllByRecursion (λ id. id < next) (requests_in frames)
+
+-- whether the frame is the request of none of these calls
+abbrev pub is_of_none : List ℕ → Queued → Bool
+is_of_none ids f = not (f.is_unary_request && list_any (λ id. f.owner == id) ids)

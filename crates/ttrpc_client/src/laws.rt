@@ -1,17 +1,17 @@
 //! Laws over the definitions: what the contracts of single calls come to over whole runs. A run is any list of calls
 //! that were accepted, one after the other, over a connection that may fail at any of them; with it stands what its
 //! queue goes through.
-ghost use Rattle.std.specs.Prelude.{◌≡◌, ◌≢◌, ◌≤◌, ◌++◌, ℕ, List, [], None, false, length, drop, nat_eq, IsPermutation};
+ghost use Rattle.std.specs.Prelude.{◌≡◌, ◌≢◌, ◌≤◌, ◌++◌, ℕ, List, [], None, true, false, length, take, drop, filter, nat_eq, IsPermutation};
 ghost use Rattle.std.specs.List.{AllByRecursion, IsDistinct};
 ghost use Rattle.ttrpc_frame.specs.declared.outgoing.Queued.{Queued as AFrame};
 ghost use Rattle.ttrpc_frame.specs.Frames.{nothing};
-ghost use Rattle.ttrpc_frame.specs.Queue.{Happening, IsMerge, IsQueue, all_bytes_left, departing, placed, thrown, unsent, written_all};
+ghost use Rattle.ttrpc_frame.specs.Queue.{Happening, IsMerge, IsQueue, all_bytes_left, begun_count, departing, placed, thrown, unsent, written_all};
 ghost use Rattle.ttrpc_connection.specs.declared.connection.Connection.{Connection as AConnection};
 ghost use Rattle.ttrpc_connection.specs.Calls.{Call, Goes, Runs, joined};
 ghost use Rattle.ttrpc_client.specs.declared.client.ClientCore.{ClientCore as ACore};
-ghost use Rattle.ttrpc_client.specs.Calls.{Called, Causes, Does, RiseByTwo, called, ids_asked, outcomes_of};
+ghost use Rattle.ttrpc_client.specs.Calls.{AreQueuedOnce, Called, Causes, Does, RiseByTwo, called, ids_asked, is_of_none, outcomes_of, requests_in};
 ghost use Rattle.ttrpc_client.specs.Client.{Client, IsClient, call_at, throws};
-ghost use Rattle.ttrpc_client.specs.Happens.{calling};
+ghost use Rattle.ttrpc_client.specs.Happens.{Ticks, calling, due_ids};
 
 use ttrpc_secure::{InboundTransform, OutboundTransform};
 
@@ -75,4 +75,23 @@ pub fn an_outcome_is_given_once<O: OutboundTransform, I: InboundTransform>()
         → IsClient s.next s.calls
         → Runs (calling O.OutboundTransform I.InboundTransform) (called O.OutboundTransform O.SEALS) s old calls happenings t new
         → IsClient t.next t.calls }
+{}
+
+/// Over any run that starts where no call's request is queued twice, and none of a call that wasn't made yet, it is so at
+/// the end of the run, too.
+pub fn requests_queued_once<O: OutboundTransform, I: InboundTransform>()
+    ensures { (s t : Client) (old new : AConnection O I) (calls : List (Call Called)) (happenings : List Happening)
+        → AreQueuedOnce s.next old.outbox.queue.frames
+        → Runs (calling O.OutboundTransform I.InboundTransform) (called O.OutboundTransform O.SEALS) s old calls happenings t new
+        → AreQueuedOnce t.next new.outbox.queue.frames }
+{}
+
+/// Where requests may be thrown away and none is queued twice, a tick leaves no request of a call that was due but one
+/// that has begun, and all other frames, in their order.
+pub fn a_tick_leaves_no_due_request<O: OutboundTransform, I: InboundTransform>()
+    ensures { (old new : ACore O I) (now : ℕ) → throws old.state.kind O.SEALS ≡ true
+        → IsDistinct nat_eq (requests_in old.connection.outbox.queue.frames) → Ticks O.SEALS old now new
+        → new.connection.outbox.queue.frames
+        ≡ take (begun_count old.connection.outbox.queue) old.connection.outbox.queue.frames
+        ++ filter (is_of_none (due_ids now old.state.calls)) (drop (begun_count old.connection.outbox.queue) old.connection.outbox.queue.frames) }
 {}

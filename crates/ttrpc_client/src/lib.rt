@@ -17,7 +17,8 @@ pub use errors::{
 };
 pub use kind::ClientKind;
 pub use laws::{
-    an_outcome_is_given_once, call_ids_rise, cuts_do_not_matter, what_leaves_was_queued,
+    a_tick_leaves_no_due_request, an_outcome_is_given_once, call_ids_rise, cuts_do_not_matter,
+    requests_queued_once, what_leaves_was_queued,
 };
 pub use state::ClientState;
 
