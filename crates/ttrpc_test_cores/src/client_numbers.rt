@@ -1,20 +1,14 @@
 //! Many calls of a client at once.
 use crate::client::ASKED;
-use crate::client_core::{gives, usual_request};
-use crate::core::{End, Met};
+use crate::client_steps::{gives, usual_request};
 use crate::steps::{behind, leaves};
+use crate::under_test::{Client, End, Met};
 use std::alloc::Global;
-use ttrpc_client::ClientCore;
 use ttrpc_proto::Request;
-use ttrpc_secure::{InboundTransform, OutboundTransform};
 
 /// So many calls are made and written before the first is answered. The last is answered first, with its own id's lowest
 /// byte, which is told in that order, and each has its own outcome.
-pub fn calls_last_first<O: OutboundTransform + Drop, I: InboundTransform + Drop>(
-    alloc: Global,
-    core: &mut ClientCore<O, I>,
-    count: u32,
-) -> Met {
+pub fn calls_last_first<C: Client>(alloc: Global, core: &mut C, count: u32) -> Met {
     let request = usual_request(alloc, 10)?;
     Ok(
         calls(alloc, core, &request, count)?
@@ -30,12 +24,7 @@ fn id_of(number: u32) -> u32 {
     number.wrapping_mul(2).wrapping_add(1)
 }
 
-fn calls<O: OutboundTransform + Drop, I: InboundTransform + Drop>(
-    alloc: Global,
-    core: &mut ClientCore<O, I>,
-    request: &Request,
-    count: u32,
-) -> Met {
+fn calls<C: Client>(alloc: Global, core: &mut C, request: &Request, count: u32) -> Met {
     for number in 0..count {
         if core.request(alloc, request, 0)? != id_of(number) {
             return Ok(false);
@@ -65,10 +54,7 @@ fn answers_last_first<C: End>(alloc: Global, core: &mut C, count: u32) -> Met {
     Ok(true)
 }
 
-fn tells_last_first<O: OutboundTransform + Drop, I: InboundTransform + Drop>(
-    core: &mut ClientCore<O, I>,
-    count: u32,
-) -> bool {
+fn tells_last_first<C: Client>(core: &mut C, count: u32) -> bool {
     for number in (0..count).rev() {
         if core.next_ended() != Some(id_of(number)) {
             return false;
@@ -77,11 +63,7 @@ fn tells_last_first<O: OutboundTransform + Drop, I: InboundTransform + Drop>(
     core.next_ended().is_none()
 }
 
-fn gives_each<O: OutboundTransform + Drop, I: InboundTransform + Drop>(
-    alloc: Global,
-    core: &mut ClientCore<O, I>,
-    count: u32,
-) -> Met {
+fn gives_each<C: Client>(alloc: Global, core: &mut C, count: u32) -> Met {
     for number in 0..count {
         let id = id_of(number);
         let [_, _, _, d] = id.to_be_bytes();

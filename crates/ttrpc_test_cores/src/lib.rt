@@ -4,11 +4,11 @@
 #[cfg(test)]
 mod client;
 #[cfg(test)]
-mod client_core;
-#[cfg(test)]
 mod client_numbers;
 #[cfg(test)]
-mod core;
+mod client_steps;
+#[cfg(test)]
+mod ends;
 #[cfg(test)]
 mod halves;
 #[cfg(test)]
@@ -19,9 +19,9 @@ mod plain_server_tests;
 mod script;
 pub mod server;
 #[cfg(test)]
-mod server_core;
-#[cfg(test)]
 mod server_numbers;
+#[cfg(test)]
+mod server_steps;
 #[cfg(test)]
 mod steps;
 #[cfg(test)]
@@ -30,3 +30,5 @@ mod texts_tests;
 mod transforms_client_tests;
 #[cfg(test)]
 mod transforms_server_tests;
+#[cfg(test)]
+mod under_test;

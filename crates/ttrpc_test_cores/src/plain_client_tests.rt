@@ -1,12 +1,16 @@
 //! Each row of the client's table for unary calls, each refusal, and what becomes of calls that expire or are dropped,
 //! over plain halves. All bytes are written by hand.
 use crate::client::*;
-use crate::core::{Tested, hold};
 use crate::script::{Cuts, FRESH, Row, Start, Step, Told};
+use crate::under_test::{Table, Tested, hold};
 use ttrpc_client::{ClientCore, ClientKind};
 use ttrpc_secure::Plain;
 
 type Core = ClientCore<Plain, Plain>;
+
+const SYNC: &[ClientKind] = &[ClientKind::Sync];
+
+const ASYNC: &[ClientKind] = &[ClientKind::Async];
 
 const BOTH: &[ClientKind] = &[ClientKind::Sync, ClientKind::Async];
 
@@ -100,11 +104,6 @@ const REQUEST_ROWS: &[Row] = &[
     },
 ];
 
-#[test]
-fn requests_leave(rt: HostRuntime) -> Tested {
-    hold::<Core>(&rt, rt.alloc(), BOTH, REQUEST_ROWS)
-}
-
 const REFUSAL_ROWS: &[Row] = &[
     // With eleven bytes around it, a payload of 4194293 bytes is the greatest.
     Row {
@@ -118,11 +117,6 @@ const REFUSAL_ROWS: &[Row] = &[
         ..FRESH
     },
 ];
-
-#[test]
-fn requests_that_are_too_long_are_refused(rt: HostRuntime) -> Tested {
-    hold::<Core>(&rt, rt.alloc(), &[ClientKind::Sync], REFUSAL_ROWS)
-}
 
 const ORDER_ROWS: &[Row] = &[
     Row {
@@ -148,11 +142,6 @@ const ORDER_ROWS: &[Row] = &[
         ..FRESH
     },
 ];
-
-#[test]
-fn requests_are_numbered_and_refused_in_order(rt: HostRuntime) -> Tested {
-    hold::<Core>(&rt, rt.alloc(), &[ClientKind::Async], ORDER_ROWS)
-}
 
 const FRAME_ROWS: &[Row] = &[
     Row {
@@ -276,11 +265,6 @@ const FRAME_ROWS: &[Row] = &[
     },
 ];
 
-#[test]
-fn each_frame_gives_its_outcome(rt: HostRuntime) -> Tested {
-    hold::<Core>(&rt, rt.alloc(), BOTH, FRAME_ROWS)
-}
-
 const SYNC_FRAME_ROWS: &[Row] = &[
     // How the text begins is stated, what follows isn't.
     Row {
@@ -308,28 +292,7 @@ const SYNC_FRAME_ROWS: &[Row] = &[
     },
 ];
 
-#[test]
-fn frames_decide_once(rt: HostRuntime) -> Tested {
-    hold::<Core>(&rt, rt.alloc(), &[ClientKind::Sync], SYNC_FRAME_ROWS)
-}
-
 const ASYNC_FRAME_ROWS: &[Row] = &[
-    Row {
-        name: "oversized frames are told with their last byte, and the next frame is read",
-        steps: &[
-            Step::Calls(0, 0, 1),
-            Step::Feed(OVERSIZED),
-            Step::Calls(0, 0, 3),
-            Step::FeedSevens(4194304),
-            Step::Waits(1),
-            Step::FeedSevens(1),
-            Step::Feed(ANSWERED_NEXT),
-            Step::Ends(1, Told::Status(3, LONG)),
-            Step::IsGone,
-            Step::Gives(3, true, 0x2b),
-        ],
-        ..FRESH
-    },
     Row {
         name: "answers are given by their ids",
         steps: &[
@@ -365,11 +328,6 @@ const ASYNC_FRAME_ROWS: &[Row] = &[
         ..FRESH
     },
 ];
-
-#[test]
-fn frames_are_told_apart(rt: HostRuntime) -> Tested {
-    hold::<Core>(&rt, rt.alloc(), &[ClientKind::Async], ASYNC_FRAME_ROWS)
-}
 
 const EXPIRY_ROWS: &[Row] = &[
     Row {
@@ -432,11 +390,6 @@ const EXPIRY_ROWS: &[Row] = &[
     },
 ];
 
-#[test]
-fn calls_expire(rt: HostRuntime) -> Tested {
-    hold::<Core>(&rt, rt.alloc(), BOTH, EXPIRY_ROWS)
-}
-
 const SYNC_EXPIRY_ROWS: &[Row] = &[
     // A client of kind `Sync` writes a request in full, whatever becomes of its call.
     Row {
@@ -475,11 +428,6 @@ const SYNC_EXPIRY_ROWS: &[Row] = &[
         ..FRESH
     },
 ];
-
-#[test]
-fn begun_requests_and_timeouts_are_kept(rt: HostRuntime) -> Tested {
-    hold::<Core>(&rt, rt.alloc(), &[ClientKind::Sync], SYNC_EXPIRY_ROWS)
-}
 
 const ASYNC_EXPIRY_ROWS: &[Row] = &[
     Row {
@@ -545,11 +493,6 @@ const ASYNC_EXPIRY_ROWS: &[Row] = &[
     },
 ];
 
-#[test]
-fn expired_requests_are_thrown_away_or_break_off(rt: HostRuntime) -> Tested {
-    hold::<Core>(&rt, rt.alloc(), &[ClientKind::Async], ASYNC_EXPIRY_ROWS)
-}
-
 const DROP_ROWS: &[Row] = &[
     Row {
         name: "a dropped request is thrown away",
@@ -604,11 +547,6 @@ const DROP_ROWS: &[Row] = &[
     },
 ];
 
-#[test]
-fn calls_are_dropped(rt: HostRuntime) -> Tested {
-    hold::<Core>(&rt, rt.alloc(), &[ClientKind::Async], DROP_ROWS)
-}
-
 const FAILURE_ROWS: &[Row] = &[Row {
     name: "a failure is the outcome of what waits, once, and a tick changes nothing any more",
     steps: &[
@@ -630,11 +568,6 @@ const FAILURE_ROWS: &[Row] = &[Row {
     ],
     ..FRESH
 }];
-
-#[test]
-fn failures_end_what_waits(rt: HostRuntime) -> Tested {
-    hold::<Core>(&rt, rt.alloc(), BOTH, FAILURE_ROWS)
-}
 
 const END_ROWS: &[Row] = &[
     Row {
@@ -663,7 +596,44 @@ const END_ROWS: &[Row] = &[
     },
 ];
 
+const LONG_ROWS: &[Row] = &[Row {
+    name: "oversized frames are told with their last byte, and the next frame is read",
+    steps: &[
+        Step::Calls(0, 0, 1),
+        Step::Feed(OVERSIZED),
+        Step::Calls(0, 0, 3),
+        Step::FeedSevens(4194304),
+        Step::Waits(1),
+        Step::FeedSevens(1),
+        Step::Feed(ANSWERED_NEXT),
+        Step::Ends(1, Told::Status(3, LONG)),
+        Step::IsGone,
+        Step::Gives(3, true, 0x2b),
+    ],
+    ..FRESH
+}];
+
+const TABLES: &[Table<ClientKind>] = &[
+    (BOTH, REQUEST_ROWS),
+    (SYNC, REFUSAL_ROWS),
+    (ASYNC, ORDER_ROWS),
+    (BOTH, FRAME_ROWS),
+    (SYNC, SYNC_FRAME_ROWS),
+    (ASYNC, ASYNC_FRAME_ROWS),
+    (BOTH, EXPIRY_ROWS),
+    (SYNC, SYNC_EXPIRY_ROWS),
+    (ASYNC, ASYNC_EXPIRY_ROWS),
+    (ASYNC, DROP_ROWS),
+    (BOTH, FAILURE_ROWS),
+    (SYNC, END_ROWS),
+];
+
 #[test]
-fn an_end_of_input_is_told_by_where_it_is(rt: HostRuntime) -> Tested {
-    hold::<Core>(&rt, rt.alloc(), &[ClientKind::Sync], END_ROWS)
+fn a_client_keeps_its_table(rt: HostRuntime) -> Tested {
+    hold::<Core>(&rt, rt.alloc(), TABLES)
+}
+
+#[test]
+fn oversized_responses_are_told(rt: HostRuntime) -> Tested {
+    hold::<Core>(&rt, rt.alloc(), &[(ASYNC, LONG_ROWS)])
 }

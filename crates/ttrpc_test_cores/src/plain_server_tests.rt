@@ -1,7 +1,7 @@
 //! Each row of the server's table under sync rules, and each refusal, over plain halves. All bytes are written by hand.
-use crate::core::{Tested, hold};
 use crate::script::{Cuts, FRESH, Row, Step, Told};
 use crate::server::*;
+use crate::under_test::{Table, Tested, hold};
 use ttrpc_secure::Plain;
 use ttrpc_server::{Rules, ServerCore};
 
@@ -67,21 +67,7 @@ const ANSWERED_ROWS: &[Row] = &[
         ],
         ..FRESH
     },
-    Row {
-        name: "oversized frames are answered, and the request behind them",
-        steps: &[
-            Step::Feed(OVERSIZED),
-            Step::FeedSevens(4194305),
-            Step::Serves(ASKED, OVERSIZED_ANSWER),
-        ],
-        ..FRESH
-    },
 ];
-
-#[test]
-fn each_frame_has_its_answer(rt: HostRuntime) -> Tested {
-    hold::<Core>(&rt, rt.alloc(), &[Rules::Sync], ANSWERED_ROWS)
-}
 
 const JOB_ROWS: &[Row] = &[
     Row {
@@ -182,11 +168,6 @@ const JOB_ROWS: &[Row] = &[
     },
 ];
 
-#[test]
-fn jobs_are_handed_out_and_answered(rt: HostRuntime) -> Tested {
-    hold::<Core>(&rt, rt.alloc(), &[Rules::Sync], JOB_ROWS)
-}
-
 const FAILURE_ROWS: &[Row] = &[
     // The answer of the other job stays in the queue, and isn't lent.
     Row {
@@ -247,11 +228,6 @@ const FAILURE_ROWS: &[Row] = &[
         ..FRESH
     },
 ];
-
-#[test]
-fn failures_are_told(rt: HostRuntime) -> Tested {
-    hold::<Core>(&rt, rt.alloc(), &[Rules::Sync], FAILURE_ROWS)
-}
 
 const FRONT_ROWS: &[Row] = &[
     // The second request is no job before the first is answered, so the answers lie in the order of frames.
@@ -328,7 +304,31 @@ const FRONT_ROWS: &[Row] = &[
     },
 ];
 
+const LONG_ROWS: &[Row] = &[Row {
+    name: "oversized frames are answered, and the request behind them",
+    steps: &[
+        Step::Feed(OVERSIZED),
+        Step::FeedSevens(4194305),
+        Step::Serves(ASKED, OVERSIZED_ANSWER),
+    ],
+    ..FRESH
+}];
+
+const SYNC: &[Rules] = &[Rules::Sync];
+
+const TABLES: &[Table<Rules>] = &[
+    (SYNC, ANSWERED_ROWS),
+    (SYNC, JOB_ROWS),
+    (SYNC, FAILURE_ROWS),
+    (SYNC, FRONT_ROWS),
+];
+
 #[test]
-fn fronts_are_taken(rt: HostRuntime) -> Tested {
-    hold::<Core>(&rt, rt.alloc(), &[Rules::Sync], FRONT_ROWS)
+fn a_server_keeps_its_table(rt: HostRuntime) -> Tested {
+    hold::<Core>(&rt, rt.alloc(), TABLES)
+}
+
+#[test]
+fn oversized_requests_are_answered(rt: HostRuntime) -> Tested {
+    hold::<Core>(&rt, rt.alloc(), &[(SYNC, LONG_ROWS)])
 }

@@ -1,19 +1,13 @@
 //! Many requests of a server at once.
-use crate::core::{End, Met};
 use crate::server::ASKED;
-use crate::server_core::answers;
+use crate::server_steps::answers;
 use crate::steps::{behind, leaves};
+use crate::under_test::{End, Met, Server};
 use std::alloc::Global;
-use ttrpc_secure::{InboundTransform, OutboundTransform};
-use ttrpc_server::ServerCore;
 
 /// So many requests come, of the streams from 1 on, and are taken before the first is answered. The last is answered
 /// first, with its own stream's lowest byte, and so are the answers written.
-pub fn serves_last_first<O: OutboundTransform + Drop, I: InboundTransform + Drop>(
-    alloc: Global,
-    core: &mut ServerCore<O, I>,
-    count: u32,
-) -> Met {
+pub fn serves_last_first<S: Server>(alloc: Global, core: &mut S, count: u32) -> Met {
     Ok(
         asks(alloc, core, count)?
             && core.jobs_waiting() == u64::from(count)
@@ -27,23 +21,16 @@ pub fn serves_last_first<O: OutboundTransform + Drop, I: InboundTransform + Drop
 }
 
 /// The request of each stream: the usual one under another id.
-fn asks<O: OutboundTransform + Drop, I: InboundTransform + Drop>(
-    alloc: Global,
-    core: &mut ServerCore<O, I>,
-    count: u32,
-) -> Met {
+fn asks<S: Server>(alloc: Global, core: &mut S, count: u32) -> Met {
     for stream in 1..=count {
         let [a, b, c, d] = stream.to_be_bytes();
-        core.feed(alloc, &[0, 0, 0, 0x14, a, b, c, d, 1, 0], 0)?;
-        core.feed(alloc, behind(ASKED, 10), 0)?;
+        core.feed(alloc, &[0, 0, 0, 0x14, a, b, c, d, 1, 0])?;
+        core.feed(alloc, behind(ASKED, 10))?;
     }
     Ok(true)
 }
 
-fn takes<O: OutboundTransform + Drop, I: InboundTransform + Drop>(
-    core: &mut ServerCore<O, I>,
-    count: u32,
-) -> bool {
+fn takes<S: Server>(core: &mut S, count: u32) -> bool {
     for stream in 1..=count {
         match core.take_job() {
             Some(job) if job.header.stream_id == stream && job.id == u64::from(stream) => {}
@@ -53,11 +40,7 @@ fn takes<O: OutboundTransform + Drop, I: InboundTransform + Drop>(
     true
 }
 
-fn answers_last_first<O: OutboundTransform + Drop, I: InboundTransform + Drop>(
-    alloc: Global,
-    core: &mut ServerCore<O, I>,
-    count: u32,
-) -> Met {
+fn answers_last_first<S: Server>(alloc: Global, core: &mut S, count: u32) -> Met {
     for stream in (1..=count).rev() {
         let [_, _, _, d] = stream.to_be_bytes();
         answers(alloc, core, u64::from(stream), &[d])?;

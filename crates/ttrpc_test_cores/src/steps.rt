@@ -1,6 +1,6 @@
 //! The steps of either core.
-use crate::core::{Core, End, Met};
 use crate::script::{Step, Told};
+use crate::under_test::{Core, End, Met};
 use std::alloc::Global;
 use ttrpc_error::Error;
 use ttrpc_values::Text;
@@ -131,13 +131,19 @@ fn is_told(error: Error, why: Told) -> Met {
 }
 
 fn is(error: &Error, why: Told) -> bool {
-    match (error, why) {
-        (Error::Others(text), Told::Others(told)) => text.as_str() == told,
-        (Error::Others(text), Told::Begins(told)) => text.as_str().starts_with(told),
-        (Error::Socket(text), Told::Socket(told)) => text.as_str() == told,
-        (Error::RpcStatus(status), Told::Status(code, told)) => {
-            status.code == code && status.message.as_str() == told
+    match why {
+        Told::Others(told) => matches!(error, Error::Others(text) if text.as_str() == told),
+        Told::Begins(told) => {
+            matches!(error, Error::Others(text) if text.as_str().starts_with(told))
         }
+        Told::Socket(told) => matches!(error, Error::Socket(text) if text.as_str() == told),
+        Told::Status(code, told) => is_status(error, code, told),
+    }
+}
+
+fn is_status(error: &Error, code: i32, message: &str) -> bool {
+    match error {
+        Error::RpcStatus(status) => status.code == code && status.message.as_str() == message,
         _ => false,
     }
 }

@@ -1,10 +1,11 @@
 //! Each answer that a core gives by itself, and each error that it tells, with its text.
-use crate::core::{Met, Tested};
 use crate::script::Told;
 use crate::steps::tells;
-use std::alloc::Global;
+use crate::under_test::Tested;
+use std::alloc::{AllocError, Global};
 use std::io::ErrorKind;
 use std::process::Abort;
+use std::test::Fail;
 use ttrpc_connection::{Failure, unsafe_payload_error, unsealed_error};
 use ttrpc_error::Error;
 use ttrpc_proto::Response;
@@ -16,11 +17,6 @@ use ttrpc_values::{CodecError, Text};
 
 // ---- failures
 
-/// The failure tells this error.
-fn fails(rt: &impl Abort, alloc: Global, failure: &Failure, told: Told) -> Tested {
-    is(rt, failure.error(alloc), told)
-}
-
 /// The error is told so.
 fn is(rt: &impl Abort, error: Error, told: Told) -> Tested {
     let met = tells(Some(error), told)?;
@@ -28,9 +24,22 @@ fn is(rt: &impl Abort, error: Error, told: Told) -> Tested {
     Ok(())
 }
 
-const DEADLINE: &str = "connection closed after a request deadline elapsed during write";
+/// The failure tells this error.
+fn fails(rt: &impl Abort, alloc: Global, failure: Failure, told: Told) -> Tested {
+    is(rt, failure.error(alloc), told)
+}
 
-const CANCELLED: &str = "connection closed after a request was cancelled during write";
+const INSIDE: Told = Told::Socket("socket disconnected inside a frame");
+
+const HANDLER: Told = Told::Socket("connection closed after a handler error");
+
+const DEADLINE: Told = Told::Socket(
+    "connection closed after a request deadline elapsed during write",
+);
+
+const CANCELLED: Told = Told::Socket(
+    "connection closed after a request was cancelled during write",
+);
 
 #[test]
 fn failures_have_their_texts(rt: HostRuntime) -> Tested {
@@ -38,47 +47,37 @@ fn failures_have_their_texts(rt: HostRuntime) -> Tested {
     fails(
         &rt,
         alloc,
-        &Failure::Disconnected,
+        Failure::Disconnected,
         Told::Socket("socket disconnected"),
     )?;
-    let inside = Told::Socket("socket disconnected inside a frame");
-    fails(&rt, alloc, &Failure::DisconnectedInside, inside)?;
-    let handler = Told::Socket("connection closed after a handler error");
-    fails(&rt, alloc, &Failure::HandlerError, handler)?;
+    fails(&rt, alloc, Failure::DisconnectedInside, INSIDE)?;
+    fails(&rt, alloc, Failure::HandlerError, HANDLER)?;
+    fails(&rt, alloc, Failure::DeadlineDuringWrite, DEADLINE)?;
+    fails(&rt, alloc, Failure::CancelledDuringWrite, CANCELLED)?;
     fails(
         &rt,
         alloc,
-        &Failure::DeadlineDuringWrite,
-        Told::Socket(DEADLINE),
-    )?;
-    fails(
-        &rt,
-        alloc,
-        &Failure::CancelledDuringWrite,
-        Told::Socket(CANCELLED),
-    )?;
-    fails(
-        &rt,
-        alloc,
-        &Failure::JobIdsUsedUp,
+        Failure::JobIdsUsedUp,
         Told::Others("job ids are used up"),
-    )
+    )?;
+    assert!(rt; matches!(Failure::NoMemory.error(alloc), Error::NoMemory));
+    Ok(())
 }
 
-#[test]
-fn refused_memory_has_no_text(rt: HostRuntime) {
-    assert_eq!(rt; Failure::NoMemory.error(rt.alloc()), Error::NoMemory);
-    let broken = Failure::Told(Error::Nix(ErrorKind::BrokenPipe));
-    assert_eq!(rt; broken.error(rt.alloc()), Error::Nix(ErrorKind::BrokenPipe));
+fn text(alloc: Global, text: &str) -> Result<Text, Fail> {
+    Ok(Text::from_str(alloc, text)?)
 }
 
 #[test]
 fn told_errors_are_told_again(rt: HostRuntime) -> Tested {
     let alloc = rt.alloc();
-    let broken = Failure::Told(Error::Socket(Text::from_str(alloc, "broken")?));
-    fails(&rt, alloc, &broken, Told::Socket("broken"))?;
-    let long = Failure::Told(Error::Others(Text::from_str(alloc, "too long")?));
-    fails(&rt, alloc, &long, Told::Others("too long"))
+    let broken = Error::Socket(text(alloc, "broken")?);
+    fails(&rt, alloc, Failure::Told(broken), Told::Socket("broken"))?;
+    let long = Error::Others(text(alloc, "too long")?);
+    fails(&rt, alloc, Failure::Told(long), Told::Others("too long"))?;
+    let system = Failure::Told(Error::Nix(ErrorKind::BrokenPipe)).error(alloc);
+    assert!(rt; matches!(system, Error::Nix(ErrorKind::BrokenPipe)));
+    Ok(())
 }
 
 // ---- answers
@@ -96,26 +95,45 @@ fn has_status(response: &Response, code: i32, message: &str) -> bool {
     }
 }
 
-fn tells_path(alloc: Global, service: &str, method: &str, message: &str) -> Met {
-    let service = Text::from_str(alloc, service)?;
-    let method = Text::from_str(alloc, method)?;
-    let response = path_response(alloc, &service, &method)?;
-    Ok(has_status(&response, 3, message))
+/// The response is made, and has that status.
+fn answers(
+    rt: &impl Abort,
+    response: Result<Response, AllocError>,
+    code: i32,
+    message: &str,
+) -> Tested {
+    let response = response?;
+    assert!(rt; has_status(&response, code, message));
+    Ok(())
+}
+
+fn answers_path(
+    rt: &impl Abort,
+    alloc: Global,
+    service: &Text,
+    method: &Text,
+    message: &str,
+) -> Tested {
+    answers(rt, path_response(alloc, service, method), 3, message)
+}
+
+fn answers_unopened(rt: &impl Abort, alloc: Global, why: &Text) -> Tested {
+    let message = "ttrpc err: transform_inbound failed: bad stamp";
+    answers(rt, unopened_response(alloc, why), 2, message)
 }
 
 #[test]
-fn requests_without_a_handler_are_answered(rt: HostRuntime) -> Tested {
+fn unknown_paths_are_answered(rt: HostRuntime) -> Tested {
     let alloc = rt.alloc();
-    assert!(rt;
-        tells_path(
-            alloc,
-            "grpc.Health",
-            "Check",
-            "/grpc.Health/Check does not exist"
-        )?
-    );
-    assert!(rt; tells_path(alloc, "", "", "// does not exist")?);
-    Ok(())
+    let service = text(alloc, "grpc.Health")?;
+    let method = text(alloc, "Check")?;
+    answers_path(
+        &rt,
+        alloc,
+        &service,
+        &method,
+        "/grpc.Health/Check does not exist",
+    )
 }
 
 const LONG: &str = "message length 4194305 exceed maximum message size of 4194304";
@@ -123,35 +141,36 @@ const LONG: &str = "message length 4194305 exceed maximum message size of 419430
 const LIMITED: &str =
     "response payload 4194300 bytes exceeds safe limit 4194288 bytes (after transform overhead)";
 
+const BAD_UTF8: &str = "Unpack request error a text is not UTF-8";
+
 #[test]
-fn long_messages_are_answered(rt: HostRuntime) -> Tested {
-    let long = oversize_response(rt.alloc(), 4194305)?;
-    assert!(rt; has_status(&long, 3, LONG));
-    let limited = limit_response(rt.alloc(), 4194300, 4194288)?;
-    assert!(rt; has_status(&limited, 3, LIMITED));
-    Ok(())
+fn other_requests_are_answered(rt: HostRuntime) -> Tested {
+    let alloc = rt.alloc();
+    let empty = Text::new(alloc);
+    answers_path(&rt, alloc, &empty, &empty, "// does not exist")?;
+    answers(&rt, oversize_response(alloc, 4194305), 3, LONG)?;
+    answers(&rt, limit_response(alloc, 4194300, 4194288), 3, LIMITED)?;
+    answers(
+        &rt,
+        unreadable_response(alloc, &CodecError::BadUtf8),
+        3,
+        BAD_UTF8,
+    )
 }
 
 #[test]
-fn requests_that_cannot_be_read_are_answered(rt: HostRuntime) -> Tested {
-    let why = Text::from_str(rt.alloc(), "bad stamp")?;
-    let unopened = unopened_response(rt.alloc(), &why)?;
-    assert!(rt;
-        has_status(
-            &unopened,
-            2,
-            "ttrpc err: transform_inbound failed: bad stamp"
-        )
-    );
-    let unreadable = unreadable_response(rt.alloc(), &CodecError::BadUtf8)?;
-    assert!(rt; has_status(&unreadable, 3, "Unpack request error a text is not UTF-8"));
-    Ok(())
+fn unopened_requests_are_answered(rt: HostRuntime) -> Tested {
+    let why = text(rt.alloc(), "bad stamp")?;
+    answers_unopened(&rt, rt.alloc(), &why)
 }
 
 // ---- refusals
 
-const ABOVE_LIMIT: &str =
-    "payload 4194300 bytes exceeds safe limit 4194288 bytes (MESSAGE_LENGTH_MAX - transform overhead)";
+const ABOVE_LIMIT: Told = Told::Others(
+    "payload 4194300 bytes exceeds safe limit 4194288 bytes (MESSAGE_LENGTH_MAX - transform overhead)",
+);
+
+const UNSEALED: Told = Told::Others("transform_outbound failed: key used up");
 
 #[test]
 fn refused_answers_have_their_texts(rt: HostRuntime) -> Tested {
@@ -159,10 +178,9 @@ fn refused_answers_have_their_texts(rt: HostRuntime) -> Tested {
     is(
         &rt,
         unsafe_payload_error(alloc, 4194300, 4194288),
-        Told::Others(ABOVE_LIMIT),
+        ABOVE_LIMIT,
     )?;
     is(&rt, unknown_job_error(alloc), Told::Others("unknown job"))?;
-    let why = Text::from_str(alloc, "key used up")?;
-    let unsealed = Told::Others("transform_outbound failed: key used up");
-    is(&rt, unsealed_error(alloc, &why), unsealed)
+    let why = text(alloc, "key used up")?;
+    is(&rt, unsealed_error(alloc, &why), UNSEALED)
 }

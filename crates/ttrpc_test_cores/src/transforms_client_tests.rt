@@ -1,7 +1,7 @@
 //! The client core over halves that stamp, that refuse, and that open to more than a message may have.
 use crate::client::ANSWERED;
-use crate::core::{Tested, hold};
 use crate::script::{FRESH, Row, Start, Step, Told};
+use crate::under_test::{Table, Tested, hold};
 use ttrpc_bench::{Sealed, StampIn, StampOut, Swelling};
 use ttrpc_client::{ClientCore, ClientKind};
 use ttrpc_secure::Plain;
@@ -65,14 +65,11 @@ const STAMP_ROWS: &[Row] = &[
     },
 ];
 
+const STAMPS: &[Table<ClientKind>] = &[(&[ClientKind::Sync, ClientKind::Async], STAMP_ROWS)];
+
 #[test]
 fn stamps_are_given_and_looked_at(rt: HostRuntime) -> Tested {
-    hold::<Stamping>(
-        &rt,
-        rt.alloc(),
-        &[ClientKind::Sync, ClientKind::Async],
-        STAMP_ROWS,
-    )
+    hold::<Stamping>(&rt, rt.alloc(), STAMPS)
 }
 
 const SWELLING_ROWS: &[Row] = &[Row {
@@ -89,7 +86,7 @@ const LONG: &str = "message length 4194305 exceed maximum message size of 419430
 
 #[test]
 fn payloads_that_open_too_long_end_their_calls(rt: HostRuntime) -> Tested {
-    hold::<ClientCore<Plain, Swelling>>(&rt, rt.alloc(), &[ClientKind::Sync], SWELLING_ROWS)
+    hold::<ClientCore<Plain, Swelling>>(&rt, rt.alloc(), &[(&[ClientKind::Sync], SWELLING_ROWS)])
 }
 
 const ABOVE_LIMIT: Told = Told::Others(
@@ -112,11 +109,6 @@ const SYNC_SEALED_ROWS: &[Row] = &[Row {
     ],
     ..FRESH
 }];
-
-#[test]
-fn requests_above_the_safe_limit_are_refused(rt: HostRuntime) -> Tested {
-    hold::<SealedUp>(&rt, rt.alloc(), &[ClientKind::Sync], SYNC_SEALED_ROWS)
-}
 
 const ASYNC_SEALED_ROWS: &[Row] = &[
     Row {
@@ -143,7 +135,12 @@ const ASYNC_SEALED_ROWS: &[Row] = &[
     },
 ];
 
+const SEALED: &[Table<ClientKind>] = &[
+    (&[ClientKind::Sync], SYNC_SEALED_ROWS),
+    (&[ClientKind::Async], ASYNC_SEALED_ROWS),
+];
+
 #[test]
 fn requests_that_are_not_sealed_are_refused(rt: HostRuntime) -> Tested {
-    hold::<SealedUp>(&rt, rt.alloc(), &[ClientKind::Async], ASYNC_SEALED_ROWS)
+    hold::<SealedUp>(&rt, rt.alloc(), SEALED)
 }

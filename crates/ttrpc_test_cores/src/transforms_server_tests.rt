@@ -1,7 +1,7 @@
 //! The server core over halves that stamp, that refuse, and that open to more than a message may have.
-use crate::core::{Tested, hold};
 use crate::script::{FRESH, Row, Start, Step, Told};
 use crate::server::{ASKED, NO_SERVICE};
+use crate::under_test::{Tested, hold};
 use ttrpc_bench::{Sealed, StampIn, StampOut, Swelling};
 use ttrpc_secure::Plain;
 use ttrpc_server::{Rules, ServerCore};
@@ -67,7 +67,7 @@ const STAMP_ROWS: &[Row] = &[
 
 #[test]
 fn stamps_are_looked_at_and_given(rt: HostRuntime) -> Tested {
-    hold::<ServerCore<StampOut, StampIn>>(&rt, rt.alloc(), &[Rules::Sync], STAMP_ROWS)
+    hold::<ServerCore<StampOut, StampIn>>(&rt, rt.alloc(), &[(&[Rules::Sync], STAMP_ROWS)])
 }
 
 const SWELLING_ROWS: &[Row] = &[Row {
@@ -78,7 +78,7 @@ const SWELLING_ROWS: &[Row] = &[Row {
 
 #[test]
 fn payloads_that_open_too_long_are_answered(rt: HostRuntime) -> Tested {
-    hold::<ServerCore<Plain, Swelling>>(&rt, rt.alloc(), &[Rules::Sync], SWELLING_ROWS)
+    hold::<ServerCore<Plain, Swelling>>(&rt, rt.alloc(), &[(&[Rules::Sync], SWELLING_ROWS)])
 }
 
 const SEALED_ROWS: &[Row] = &[
@@ -124,5 +124,5 @@ const ABOVE_LIMIT: &str =
 
 #[test]
 fn answers_that_are_not_sealed_are_refused(rt: HostRuntime) -> Tested {
-    hold::<ServerCore<Sealed, Plain>>(&rt, rt.alloc(), &[Rules::Sync], SEALED_ROWS)
+    hold::<ServerCore<Sealed, Plain>>(&rt, rt.alloc(), &[(&[Rules::Sync], SEALED_ROWS)])
 }

@@ -4,7 +4,10 @@ use crate::steps::act;
 use std::alloc::Global;
 use std::process::Abort;
 use std::test::Fail;
+use ttrpc_client::CallId;
 use ttrpc_error::Error;
+use ttrpc_proto::{Request, Response};
+use ttrpc_server::{Job, JobId};
 
 /// Nothing, or why a test ended.
 pub type Tested = Result<(), Fail>;
@@ -30,6 +33,45 @@ pub trait End {
     fn failure(&self, alloc: Global) -> Option<Error>;
 }
 
+/// What a server does beside.
+pub trait Server: End {
+    fn feed_front(&mut self, alloc: Global, piece: &[u8]) -> Result<usize, Error>;
+
+    fn at_boundary(&self) -> bool;
+
+    fn take_job(&mut self) -> Option<Job>;
+
+    fn answer(
+        &mut self,
+        alloc: Global,
+        id: JobId,
+        answer: &Result<Response, Error>,
+    ) -> Result<(), Error>;
+
+    fn awaits_answer(&self, id: JobId) -> bool;
+
+    fn jobs_waiting(&self) -> u64;
+
+    fn jobs_taken(&self) -> u64;
+
+    fn has_unsent(&self) -> bool;
+}
+
+/// What a client does beside.
+pub trait Client: End {
+    fn request(&mut self, alloc: Global, request: &Request, now: u64) -> Result<CallId, Error>;
+
+    fn take_outcome(&mut self, alloc: Global, id: CallId) -> Option<Result<Response, Error>>;
+
+    fn drop_call(&mut self, id: CallId);
+
+    fn tick(&mut self, now: u64);
+
+    fn next_ended(&mut self) -> Option<CallId>;
+
+    fn next_deadline(&self) -> Option<u64>;
+}
+
 /// Either core.
 pub trait Core: End + Sized + Drop {
     /// In which kinds there is such a core.
@@ -44,11 +86,16 @@ pub trait Core: End + Sized + Drop {
     fn own_step(&mut self, alloc: Global, step: &Step, cut: usize) -> Met;
 }
 
-/// Each row holds of each of these kinds.
-pub fn hold<C: Core>(rt: &impl Abort, alloc: Global, kinds: &[C::Kind], rows: &[Row]) -> Tested {
-    for kind in kinds {
-        for row in rows {
-            holds::<C>(rt, alloc, *kind, row)?;
+/// Kinds of a core, and what holds of each of them.
+pub type Table<K> = (&'static [K], &'static [Row]);
+
+/// Each table holds.
+pub fn hold<C: Core>(rt: &impl Abort, alloc: Global, tables: &[Table<C::Kind>]) -> Tested {
+    for (kinds, rows) in tables {
+        for kind in *kinds {
+            for row in *rows {
+                holds::<C>(rt, alloc, *kind, row)?;
+            }
         }
     }
     Ok(())
