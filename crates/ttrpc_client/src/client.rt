@@ -12,9 +12,7 @@ ghost use Rattle.ttrpc_client.specs.Inside.{Begins, MayRefuse};
 ghost use Rattle.ttrpc_client.specs.Table.{IsRequestFrame, RefusesRequest};
 
 use crate::call::{Call, CallId, deadline_of};
-use crate::errors::{
-    above_limit_error, deadline_error, long_error, told, used_up_error,
-};
+use crate::errors::{above_limit_error, deadline_error, long_error, told, used_up_error};
 use crate::kind::ClientKind;
 use crate::landing::Outcome;
 use crate::state::ClientState;

@@ -4,8 +4,8 @@ ghost use Rattle.ttrpc_connection.specs.Frames.{Opens, header_of_frame};
 
 use std::alloc::{AllocError, Global};
 use ttrpc_frame::Incoming;
-use ttrpc_secure::{InboundTransform, TransformError, associated_bytes};
 use ttrpc_header::MessageHeader;
+use ttrpc_secure::{InboundTransform, TransformError, associated_bytes};
 use ttrpc_values::{Blob, Text};
 
 /// What the inbound half made of a frame's payload.

@@ -12,9 +12,9 @@ use crate::failure::Failure;
 use crate::outbox::Outbox;
 use crate::reacts::Reacts;
 use std::alloc::Global;
+use ttrpc_error::Error;
 use ttrpc_frame::FrameDecoder;
 use ttrpc_secure::{InboundTransform, OutboundTransform};
-use ttrpc_error::Error;
 
 /// One end of a connection, over its two halves.
 #[derive(Drop)]

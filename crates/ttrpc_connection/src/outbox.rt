@@ -8,8 +8,8 @@ ghost use Rattle.ttrpc_connection.specs.Frames.{SendsOne, safe_limit};
 
 use std::alloc::Global;
 use ttrpc_frame::{Outgoing, Queued};
-use ttrpc_secure::{OutboundTransform, SendError, send};
 use ttrpc_header::MESSAGE_LENGTH_MAX;
+use ttrpc_secure::{OutboundTransform, SendError, send};
 
 /// The half that seals, and the frames that it sealed and that wait to be written.
 #[derive(Drop)]

@@ -156,8 +156,7 @@ holds_kept : (head body : List ℕ) → length head ≡ 10 → (header_of head).
     → Holds (record { bytes = head ++ body; counted = 0 }) (head ++ body)
 holds_kept head body size short less =
     let l : length (head ++ body) ≡ 10 + length body = length-append head body ∙ rw size refl in
-    let h : header_of (head ++ body) ≡ header_of head = header_front head body size in
-    (
+    let h : header_of (head ++ body) ≡ header_of head = header_front head body size in (
       sym (held_kept (head ++ body) (omega (arith, l)) (subst (λ (x : MessageHeader). x.length ≤ 4194304) (sym h) short)),
       λ long. subst (λ (x : MessageHeader). length (head ++ body) < 10 + x.length) (sym h) (omega (arith, l, less)),
     )
@@ -171,8 +170,7 @@ holds_passed head counted size over less =
     let l : length (head ++ more) ≡ 10 + length more = length-append head more ∙ rw size refl in
     let h : header_of (head ++ more) ≡ header_of head = header_front head more size in
     let front : take 10 (head ++ more) ≡ head = take-append-le 10 head more (omega (arith, size)) ∙ take_all 10 head (omega (arith, size)) in
-    let n : length (head ++ more) - 10 ≡ counted = omega (arith, l, m) in
-    (
+    let n : length (head ++ more) - 10 ≡ counted = omega (arith, l, m) in (
       sym (held_passed (head ++ more) (omega (arith, l)) (subst (λ (x : MessageHeader). 4194304 < x.length) (sym h) over) ∙ rw (front, n) refl),
       λ long. subst (λ (x : MessageHeader). length (head ++ more) < 10 + x.length) (sym h) (omega (arith, l, m, less)),
     )
