@@ -22,8 +22,3 @@ pub use responses::{
 };
 pub use rules::Rules;
 pub use server::ServerCore;
-
-#[cfg(test)]
-mod failure_tests;
-#[cfg(test)]
-mod responses_tests;

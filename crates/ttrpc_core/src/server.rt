@@ -511,6 +511,3 @@ fn behind(piece: &[u8], n: usize) -> &[u8]
 {
     &piece[n..]
 }
-
-#[cfg(test)]
-mod used_up_tests;
