@@ -21,8 +21,3 @@ pub use laws::{
     requests_queued_once, what_leaves_was_queued,
 };
 pub use state::ClientState;
-
-#[cfg(test)]
-mod client_tests;
-#[cfg(test)]
-mod vectors;

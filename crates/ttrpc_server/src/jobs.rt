@@ -4,6 +4,9 @@ ghost use Rattle.ttrpc_server.specs.declared.job.ActiveJob.{ActiveJob as AJob};
 ghost use Rattle.ttrpc_server.specs.Jobs.{EndsOne, HandsOne, IsTaken, IsUnknown, NoneWaits, Rising, no_jobs, waits, with_job};
 ghost use Rattle.ttrpc_server.specs.Inside.{FailsToMake};
 
+#[cfg(test)]
+mod used_up_tests;
+
 use crate::job::{ActiveJob, Job, JobId};
 use std::alloc::Global;
 use std::collections::BTreeMap;

@@ -613,24 +613,44 @@ const LONG_ROWS: &[Row] = &[Row {
     ..FRESH
 }];
 
-const TABLES: &[Table<ClientKind>] = &[
+const REQUESTS: &[Table<ClientKind>] = &[
     (BOTH, REQUEST_ROWS),
     (SYNC, REFUSAL_ROWS),
     (ASYNC, ORDER_ROWS),
-    (BOTH, FRAME_ROWS),
-    (SYNC, SYNC_FRAME_ROWS),
-    (ASYNC, ASYNC_FRAME_ROWS),
-    (BOTH, EXPIRY_ROWS),
-    (SYNC, SYNC_EXPIRY_ROWS),
-    (ASYNC, ASYNC_EXPIRY_ROWS),
-    (ASYNC, DROP_ROWS),
-    (BOTH, FAILURE_ROWS),
-    (SYNC, END_ROWS),
 ];
 
 #[test]
-fn a_client_keeps_its_table(rt: HostRuntime) -> Tested {
-    hold::<Core>(&rt, rt.alloc(), TABLES)
+fn requests_are_numbered_queued_and_refused(rt: HostRuntime) -> Tested {
+    hold::<Core>(&rt, rt.alloc(), REQUESTS)
+}
+
+const FRAMES: &[Table<ClientKind>] = &[
+    (BOTH, FRAME_ROWS),
+    (SYNC, SYNC_FRAME_ROWS),
+    (ASYNC, ASYNC_FRAME_ROWS),
+];
+
+#[test]
+fn frames_give_outcomes(rt: HostRuntime) -> Tested {
+    hold::<Core>(&rt, rt.alloc(), FRAMES)
+}
+
+const DEADLINES: &[Table<ClientKind>] = &[
+    (BOTH, EXPIRY_ROWS),
+    (SYNC, SYNC_EXPIRY_ROWS),
+    (ASYNC, ASYNC_EXPIRY_ROWS),
+];
+
+#[test]
+fn calls_expire(rt: HostRuntime) -> Tested {
+    hold::<Core>(&rt, rt.alloc(), DEADLINES)
+}
+
+const ENDS: &[Table<ClientKind>] = &[(ASYNC, DROP_ROWS), (BOTH, FAILURE_ROWS), (SYNC, END_ROWS)];
+
+#[test]
+fn calls_are_dropped_and_connections_fail(rt: HostRuntime) -> Tested {
+    hold::<Core>(&rt, rt.alloc(), ENDS)
 }
 
 #[test]
