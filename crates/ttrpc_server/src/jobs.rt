@@ -18,7 +18,7 @@ use ttrpc_proto::Request;
 /// The jobs of a server that weren't answered, by rising id. They are handed out in that order: those up to `handed` were
 /// taken, and each from there to `last`, the id of the last job that was made, waits.
 #[derive(Drop)]
-pub struct Jobs {
+pub(crate) struct Jobs {
     jobs: BTreeMap<JobId, ActiveJob>,
     handed: JobId,
     last: JobId,
@@ -38,7 +38,7 @@ impl Model for Jobs {
 
 impl Jobs {
     /// No jobs. Takes no memory.
-    pub fn new(alloc: Global) -> Self
+    pub(crate) fn new(alloc: Global) -> Self
         ensures { result ≡ no_jobs }
     {
         Jobs {
@@ -49,7 +49,7 @@ impl Jobs {
     }
 
     /// Makes a job that waits. An `Err` changes nothing: no id is left, or no memory.
-    pub fn make(&mut self, header: MessageHeader, request: Request) -> Result<(), Failure>
+    pub(crate) fn make(&mut self, header: MessageHeader, request: Request) -> Result<(), Failure>
         ensures ok { OnOk result (self.new ≡ with_job self.old header request) }
         ensures err { IfErr result (λ failure. (self.new ≡ self.old) × FailsToMake self.old failure) }
     {
@@ -70,7 +70,7 @@ impl Jobs {
     }
 
     /// Hands out the first job that waits. Takes no memory.
-    pub fn hand_out(&mut self) -> Option<Job>
+    pub(crate) fn hand_out(&mut self) -> Option<Job>
         ensures given { IfSome result (λ job. HandsOne self.old.list job self.new.list) }
         ensures none { IfNone result ((self.new ≡ self.old) × NoneWaits self.old.list) }
         ensures last { self.new.last ≡ self.old.last }
@@ -99,7 +99,7 @@ impl Jobs {
     }
 
     /// The stream's id of the job of this id, if it was taken. Takes no memory.
-    pub fn stream_of(&self, id: JobId) -> Option<u32>
+    pub(crate) fn stream_of(&self, id: JobId) -> Option<u32>
         ensures some { IfSome result (λ k. (job : AJob) × IsTaken self.now.list id job × (k ≡ job.header.stream_id)) }
         ensures none { IfNone result (IsUnknown self.now.list id) }
     {
@@ -110,7 +110,7 @@ impl Jobs {
     }
 
     /// Forgets the job of this id, which was taken. Takes no memory.
-    pub fn end(&mut self, id: JobId)
+    pub(crate) fn end(&mut self, id: JobId)
         requires { (job : AJob) × IsTaken self.old.list id job }
         ensures ended { (job : AJob) → IsTaken self.old.list id job → EndsOne self.old.list id job self.new.list }
         ensures last { self.new.last ≡ self.old.last }
@@ -119,7 +119,7 @@ impl Jobs {
     }
 
     /// How many jobs wait to be handed out. Takes no memory.
-    pub fn waiting(&self) -> u64
+    pub(crate) fn waiting(&self) -> u64
         ensures count { result ≡ length (filter waits self.now.list) }
 
         // The ids of jobs rise, and none is above the last that was made.
@@ -129,7 +129,7 @@ impl Jobs {
     }
 
     /// How many jobs were taken and not answered yet. Takes no memory.
-    pub fn taken(&self) -> u64
+    pub(crate) fn taken(&self) -> u64
         ensures { result ≡ length self.now.list - length (filter waits self.now.list) }
     {
         self.jobs.len() as u64 - self.waiting()

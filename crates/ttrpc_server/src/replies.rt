@@ -17,7 +17,7 @@ use ttrpc_values::{Blob, CodecError, Text};
 
 /// Why a response wasn't sent.
 #[derive(Debug, Drop)]
-pub enum Unsent {
+pub(crate) enum Unsent {
     /// It has this many bytes, which are more than fit with the half's overhead.
     AboveLimit(usize),
     /// The half refused it, for this reason.
@@ -39,7 +39,7 @@ impl From<AllocError> for Unsent {
 
 impl Unsent {
     /// What is told of it, where payloads have this limit.
-    pub fn error(self, alloc: Global, limit: usize) -> Error
+    pub(crate) fn error(self, alloc: Global, limit: usize) -> Error
         ensures { TellsUnsent limit self result }
     {
         match self {
@@ -83,7 +83,7 @@ fn encoded(alloc: Global, response: &Response) -> Result<Vec<u8>, Unsent>
 }
 
 /// The frame that carries a response, without its payload. It is nobody's, since responses aren't thrown away.
-pub fn response_frame(alloc: Global, stream_id: u32) -> Queued
+pub(crate) fn response_frame(alloc: Global, stream_id: u32) -> Queued
     ensures { IsResponseFrame stream_id result }
 {
     Queued {
@@ -98,7 +98,7 @@ pub fn response_frame(alloc: Global, stream_id: u32) -> Queued
 }
 
 /// Sends a response, or one that says that it is above the limit. An `Err` changes nothing.
-pub fn respond<O: OutboundTransform + Drop>(
+pub(crate) fn respond<O: OutboundTransform + Drop>(
     alloc: Global,
     outbox: &mut Outbox<O>,
     stream_id: u32,
@@ -120,7 +120,7 @@ pub fn respond<O: OutboundTransform + Drop>(
 }
 
 /// Sends the core's own answer, or leaves it out where it can't be sent. An `Err` changes nothing.
-pub fn refer<O: OutboundTransform + Drop>(
+pub(crate) fn refer<O: OutboundTransform + Drop>(
     alloc: Global,
     outbox: &mut Outbox<O>,
     stream_id: u32,

@@ -40,7 +40,7 @@ impl Model for ServerState {
 
 impl ServerState {
     /// No jobs. Takes no memory.
-    pub fn new(alloc: Global, rules: Rules, registry: Registry) -> Self
+    pub(crate) fn new(alloc: Global, rules: Rules, registry: Registry) -> Self
         ensures { result ≡ new_server rules registry.services }
     {
         ServerState {
@@ -51,14 +51,14 @@ impl ServerState {
     }
 
     /// The jobs that weren't answered.
-    pub fn jobs(&self) -> &Jobs
+    pub(crate) fn jobs(&self) -> &Jobs
         ensures { result.now ≡ self.now.jobs }
     {
         &self.jobs
     }
 
     /// Hands out the first job that waits. Takes no memory.
-    pub fn hand_out(&mut self) -> Option<Job>
+    pub(crate) fn hand_out(&mut self) -> Option<Job>
         ensures given { IfSome result (λ job. HandsOne self.old.jobs.list job self.new.jobs.list) }
         ensures none { IfNone result ((self.new ≡ self.old) × NoneWaits self.old.jobs.list) }
         ensures same { self.new ≡ with_list self.old self.new.jobs.list }
@@ -67,7 +67,7 @@ impl ServerState {
     }
 
     /// Forgets the job of this id, which was taken. Takes no memory.
-    pub fn end(&mut self, id: JobId)
+    pub(crate) fn end(&mut self, id: JobId)
         requires { (job : AJob) × IsTaken self.old.jobs.list id job }
         ensures ended { (job : AJob) → IsTaken self.old.jobs.list id job → EndsOne self.old.jobs.list id job self.new.jobs.list }
         ensures same { self.new ≡ with_list self.old self.new.jobs.list }
