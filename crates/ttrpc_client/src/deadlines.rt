@@ -22,7 +22,7 @@ impl Model for Deadlines {
 }
 
 impl Deadlines {
-    /// None. Takes no memory.
+    /// No deadlines. Takes no memory.
     pub fn new(alloc: Global) -> Self
         ensures { result ≡ [] }
     {
