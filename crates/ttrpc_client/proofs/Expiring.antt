@@ -3,7 +3,7 @@ use Rattle.std.proofs.Common.{rules, arith, ◌≡◌, ◌≢◌, ◌<◌, ◌�
 use Rattle.std.proofs.lemmas.List.Sorted.{IsPermutation-cons, IsPermutation-middle, IsPermutation-refl, IsPermutation-trans, length_permutation}
 use Rattle.std.specs.declared.cmp.Ordering.{Ordering}
 use Rattle.std.specs.declared.cmp.Ordering.TheVariants.{Less, Equal, Greater}
-use Rattle.std.specs.BTreeMap.{insert_entry}
+use Rattle.std.specs.BTreeMap.{insert_entry, is_at}
 use Rattle.std.specs.Cmp.{nat_cmp_is, ranked}
 use Rattle.std.specs.List.{AllByRecursion}
 use Rattle.std.specs.List.Sorted.{IsPermutation, IsStrictlySortedBy}
@@ -12,8 +12,8 @@ use Rattle.std.specs.Ordering.{nat_cmp}
 use Rattle.ttrpc_client.specs.declared.call.Call.{Call}
 use Rattle.ttrpc_client.specs.declared.call.Call.TheVariants.{Waiting, Expired, Ended}
 use Rattle.ttrpc_client.specs.Client.{Client, OthersStay, call_in, waits}
-use Rattle.ttrpc_client.specs.Happens.{IsDeadline, due_ids, expired_at, is_due}
-use Rattle.ttrpc_client.specs.Inside.{Expires, Settles}
+use Rattle.ttrpc_client.specs.Happens.{IsDeadline, due_at, due_ids, expired_at, is_due}
+use Rattle.ttrpc_client.specs.Inside.{ExpiresOne, Settles}
 use Rattle.ttrpc_client.specs.Kept.{AreDeadlines, deadline_in, has_deadline, is_moment}
 use Rattle.ttrpc_client.proofs.Entries.{same_place}
 
@@ -81,10 +81,25 @@ later_due ds calls now are later k (Ended outcome) is = refl
 pub none_due_before : (ds : List (ℕ × ℕ)) (calls : List (ℕ × Call)) (now : ℕ) → IsOrdered calls → AreDeadlines ds calls → ((at id : ℕ) → has_deadline ds at id ≡ true → now < at) → due_ids now calls ≡ []
 none_due_before ds calls now ordered are later = none_due now calls ordered (later_due ds calls now are later)
 
+-- where none is due, no call of any id is
+not_due_at : (now k : ℕ) (e : ℕ × Call) (es : List (ℕ × Call)) (b : Bool) → is_due now e.1 ≡ b → (due_ids now es ≡ [] → due_at now (call_in es k) ≡ false)
+    → due_ids now (e ∷ es) ≡ [] → (c : Bool) → is_at (nat_cmp k) e.0 ≡ c → due_at now (call_in (e ∷ es) k) ≡ false
+not_due_at now k e es true due later h c at = let bad : e.0 ∷ due_ids now es ≡ [] = rw due at h in cc
+not_due_at now k e es false due later h true at = rw at due
+not_due_at now k e es false due later h false at = rw at (later (rw due at h))
+
+pub not_due : (now k : ℕ) (es : List (ℕ × Call)) → due_ids now es ≡ [] → due_at now (call_in es k) ≡ false
+not_due now k [] h = refl
+not_due now k (e ∷ es) h = not_due_at now k e es (is_due now e.1) refl (not_due now k es) h (is_at (nat_cmp k) e.0) refl
+
+pub stays_as_it_is : (now : ℕ) (call : Option Call) → due_at now call ≡ false → expired_at now call ≡ call
+stays_as_it_is now None h = refl
+stays_as_it_is now (Some call) h = rw h refl
+
 -- ---- one that is due expires
 
-due_at : (now at : ℕ) → at ≤ now → is_due now (Waiting (Some at)) ≡ true
-due_at now at le = search (rules, le)
+due_by : (now at : ℕ) → at ≤ now → is_due now (Waiting (Some at)) ≡ true
+due_by now at le = search (rules, le)
 
 two_swapped : (x y : ℕ) (xs ys : List ℕ) → IsPermutation (x ∷ xs) ys → IsPermutation (x ∷ y ∷ xs) (y ∷ ys)
 two_swapped x y xs ys p = IsPermutation-trans (x ∷ y ∷ xs) (y ∷ x ∷ xs) (y ∷ ys) (IsPermutation-middle (x ∷ []) y xs) (IsPermutation-cons y (x ∷ xs) ys p)
@@ -131,9 +146,9 @@ by_id now id old new due own others k false e =
     let apart : k ≢ id = search rules in
     ap (λ c. expired_at now c) (others k apart)
 
-pub expires : (old new : Client) (now at id : ℕ) → call_in old.calls id ≡ Some (Waiting (Some at)) → at ≤ now → Settles old id Expired new → Expires old now id new
+pub expires : (old new : Client) (now at id : ℕ) → call_in old.calls id ≡ Some (Waiting (Some at)) → at ≤ now → Settles old id Expired new → ExpiresOne old now id new
 expires old new now at id was le settles =
-    let due : is_due now (Waiting (Some at)) ≡ true = due_at now at le in
+    let due : is_due now (Waiting (Some at)) ≡ true = due_by now at le in
     let becomes : expired_at now (call_in old.calls id) ≡ Some Expired = rw (was, due) refl in
     record {
       due = subst (λ cs. IsPermutation (id ∷ due_ids now cs) (due_ids now old.calls)) (sym settles.calls) (expired_one now id (Waiting (Some at)) old.calls settles.was_ordered due was);
@@ -151,6 +166,6 @@ pub is_deadline : (ds : List (ℕ × ℕ)) (calls : List (ℕ × Call)) (at id :
     → ((moment k : ℕ) → has_deadline ds moment k ≡ true → at ≤ moment) → IsDeadline calls at
 is_deadline ds calls at id ordered are there least = record {
   some = some_due at id (due_ids at (insert_entry nat_cmp calls id Expired)) (due_ids at calls)
-      (expired_one at id (Waiting (Some at)) calls ordered (due_at at at (omega arith)) (found ds calls at id are there));
+      (expired_one at id (Waiting (Some at)) calls ordered (due_by at at (omega arith)) (found ds calls at id are there));
   earlier = λ now less. none_due_before ds calls now ordered are (λ moment k h. let le = least moment k h in omega (arith, le, less));
 }

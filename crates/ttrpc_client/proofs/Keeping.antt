@@ -1,5 +1,5 @@
 -- What the state of every client keeps, through each change.
-use Rattle.std.proofs.Common.{rules, arith, inl, inr, ◌⊎◌, length, ◌≡◌, ◌≢◌, ◌≤◌, ◌%◌, ◌+◌, ◌-◌, ◌++◌, ℕ, nat_eq, List, [], ◌∷◌, Option, Some, None, Bool, true, false, refl, sym, ap, subst, ◌∙◌}
+use Rattle.std.proofs.Common.{rules, arith, inl, inr, ◌⊎◌, length, ◌≡◌, ◌≢◌, ◌<◌, ◌≤◌, ◌%◌, ◌^◌, ◌+◌, ◌-◌, ◌++◌, ℕ, nat_eq, List, [], ◌∷◌, Option, Some, None, Bool, true, false, refl, sym, ap, subst, ◌∙◌}
 use Rattle.std.proofs.lemmas.Map.Entries.{sum_by-insert_entry, sum_by-remove_entry}
 use Rattle.std.proofs.lemmas.List.Sums.{sum_by-cons}
 use Rattle.std.specs.Cmp.{nat_cmp_total}
@@ -168,6 +168,7 @@ is_there (Some call) h none = cc
 changed_valid : (next : ℕ) (old new : List (ℕ × Call)) (id : ℕ) → IsClient next old → OthersStay old id new → waits (call_in old id) ≡ true → IsClient next new
 changed_valid next old new id valid others was = record {
   odd = valid.odd;
+  in_range = valid.in_range;
   fresh = λ k. fresh_at next old new id valid others (inl (λ le. is_there (call_in old id) was (valid.fresh id le))) k (nat_eq k id) refl;
   odd_calls = λ k. odd_at next old new id (valid.odd_calls id (is_there (call_in old id) was)) valid others k (nat_eq k id) refl;
 }
@@ -183,15 +184,17 @@ gone_odd_at next old new id valid others none k false e some =
 pub gone_valid : (next : ℕ) (old new : List (ℕ × Call)) (id : ℕ) → IsClient next old → OthersStay old id new → call_in new id ≡ None → IsClient next new
 gone_valid next old new id valid others none = record {
   odd = valid.odd;
+  in_range = valid.in_range;
   fresh = λ k. fresh_at next old new id valid others (inr none) k (nat_eq k id) refl;
   odd_calls = λ k. gone_odd_at next old new id valid others none k (nat_eq k id) refl;
 }
 
-pub new_valid : (next : ℕ) (old new : List (ℕ × Call)) → IsClient next old → OthersStay old next new → IsClient (next + 2) new
-new_valid next old new valid others =
+pub new_valid : (next : ℕ) (old new : List (ℕ × Call)) → next < 2 ^ 32 → IsClient next old → OthersStay old next new → IsClient (next + 2) new
+new_valid next old new below valid others =
     let odd = valid.odd in
     record {
       odd = omega (arith, odd);
+      in_range = omega (arith, below);
       fresh = λ k le. let apart : k ≢ next = omega (arith, le) in others k apart ∙ valid.fresh k (omega (arith, le));
       odd_calls = λ k. odd_at next old new next odd valid others k (nat_eq k next) refl;
     }
@@ -219,9 +222,11 @@ pub back_keeps : (next id back : ℕ) (calls : List (ℕ × Call)) (ds : List (�
     → IsKept next calls ds ended used room → next ≡ id + 2 → call_in calls id ≡ None → back ≡ id → IsKept back calls ds ended used room
 back_keeps next id back calls ds ended used room kept is none back_is =
     let odd = kept.valid.odd in
+    let in_range = kept.valid.in_range in
     record {
       valid = record {
         odd = omega (arith, odd, is, back_is);
+        in_range = omega (arith, in_range, is, back_is);
         fresh = λ k le. back_fresh next id calls kept.valid is none k (omega (arith, le, back_is)) (nat_eq k id) (nat_eq k (id + 1)) refl refl;
         odd_calls = kept.valid.odd_calls;
       };
@@ -260,17 +265,17 @@ settle_room next calls ds ended used room id call kept was ended_is full =
     omega (arith, fewer, has_room, full)
 
 pub admit_keeps : (next : ℕ) (old new : List (ℕ × Call)) (ds es : List (ℕ × ℕ)) (ended : List ℕ) (used room more_room id : ℕ) (deadline : Option ℕ)
-    → IsKept next old ds ended used room → id ≡ next
+    → IsKept next old ds ended used room → id ≡ next → next < 2 ^ 32
     → new ≡ insert_entry nat_cmp old id (Waiting deadline) → call_in new id ≡ Some (Waiting deadline) → OthersStay old id new → IsStrictlySortedBy nat_cmp (keys_of new)
     → ChangesTo true ds id deadline es → used + (length old + 1) ≤ more_room
     → IsKept (next + 2) new es ended used more_room
-admit_keeps next old new ds es ended used room more_room id deadline kept is entries own others ordered there wide =
+admit_keeps next old new ds es ended used room more_room id deadline kept is below entries own others ordered there wide =
     let none : call_in old id ≡ None = kept.valid.fresh id (omega (arith, is)) in
     let more = more_wait old id deadline kept.ordered none in
     let few = waiting_few old in
     let count : waiting_in new ≡ waiting_in (insert_entry nat_cmp old id (Waiting deadline)) = ap waiting_in entries in
     record {
-      valid = new_valid next old new kept.valid (subst (λ i. OthersStay old i new) is others);
+      valid = new_valid next old new below kept.valid (subst (λ i. OthersStay old i new) is others);
       ordered = ordered;
       deadlines_are = others_same old new ds es id kept.deadlines_are others (elsewhere_same true ds es id deadline there)
           (λ at. own_new ds es id deadline there (λ t. kept.deadlines_are t id ∙ ap (until t) none) at ∙ sym (ap (until at) own));

@@ -1,10 +1,9 @@
--- The requests that are queued: none twice, and none of a call that is due once a tick has thrown them away.
-use Rattle.std.proofs.Common.{rules, arith, ◌≡◌, ◌⊎◌, inl, inr, ℕ, ◌<◌, ◌≤◌, ◌+◌, ◌==◌, ◌&&◌, ◌||◌, not, nat_eq, nat_lt, length, List, [], ◌∷◌, ◌++◌, take, drop, Option, Some, None, Bool, true, false, if◌then◌else◌, refl, sym, ap, subst, ◌∙◌}
-use Rattle.std.proofs.lemmas.List.Sorted.{list_any-IsPermutation}
-use Rattle.std.specs.List.{AllByRecursion, IsDistinct, filter, list_any}
+-- The requests that are queued: none twice.
+use Rattle.std.proofs.Common.{arith, ◌≡◌, ◌⊎◌, inl, inr, ℕ, ◌<◌, ◌≤◌, ◌+◌, nat_eq, nat_lt, length, List, [], ◌∷◌, ◌++◌, take, drop, Option, Some, None, Bool, true, false, if◌then◌else◌, refl, sym, ap, subst, ◌∙◌}
+use Rattle.std.specs.List.{AllByRecursion, IsDistinct}
 use Rattle.ttrpc_frame.specs.declared.frame.Incoming.{Incoming}
 use Rattle.ttrpc_frame.specs.declared.outgoing.Queued.{Queued}
-use Rattle.ttrpc_frame.specs.Queue.{Queue, Happening, after_report, begun_count, frames_without, is_request_of, others_without, report_first, with_payload, without, written}
+use Rattle.ttrpc_frame.specs.Queue.{Queue, Happening, after_report, frames_without, is_request_of, report_first, with_payload, without, written}
 use Rattle.ttrpc_secure.specs.declared.transform.OutboundTransform.{Ghosts as OutboundTransform}
 use Rattle.ttrpc_secure.specs.declared.transform.InboundTransform.{Ghosts as InboundTransform}
 use Rattle.ttrpc_connection.specs.declared.connection.Connection.{Connection}
@@ -15,9 +14,9 @@ use Rattle.ttrpc_connection.specs.Calls.{Call as ACall}
 use Rattle.ttrpc_connection.specs.Feeds.{ActsAll, Scene, scene}
 use Rattle.ttrpc_connection.specs.Frames.{Sent, SendsAll}
 use Rattle.ttrpc_client.specs.declared.client.ClientCore.{ClientCore}
-use Rattle.ttrpc_client.specs.Calls.{AreQueuedOnce, Called, Asked, Told, Dropped, Ticked, AskedEnded, Passes, asked_by, called, core, is_of_none, requests_in}
+use Rattle.ttrpc_client.specs.Calls.{AreQueuedOnce, Called, Asked, Told, Dropped, Ticked, AskedEnded, Passes, asked_by, called, core, requests_in}
 use Rattle.ttrpc_client.specs.Client.{Client, throws}
-use Rattle.ttrpc_client.specs.Happens.{Ticks, calling, due_ids, queue_left, takes_back, without_all}
+use Rattle.ttrpc_client.specs.Happens.{calling, taken_back, takes_back}
 use Rattle.ttrpc_client.proofs.Rising.{rise_up}
 use Rattle.ttrpc_client.proofs.Turning.{call_leaves}
 
@@ -49,27 +48,27 @@ shorter_at : (f : Queued) (b : Bool) → f.is_unary_request ≡ b → (fs gs : L
 shorter_at f true e fs gs w = rw e (inr (requests_in gs, refl, w))
 shorter_at f false e fs gs w = rw e w
 
-gone_at : (f : Queued) (b : Bool) → f.is_unary_request ≡ b → (fs : List Queued) → Within (requests_in fs) (requests_in (f ∷ fs))
-gone_at f true e fs = rw e (inl (within_itself (requests_in fs)))
-gone_at f false e fs = rw e (within_itself (requests_in fs))
+gone_at : (f : Queued) (b : Bool) → f.is_unary_request ≡ b → (fs : List Queued) (ids : List ℕ) → Within ids (requests_in fs) → Within ids (requests_in (f ∷ fs))
+gone_at f true e fs ids w = rw e (inl w)
+gone_at f false e fs ids w = rw e w
 
-without_at : (owner : ℕ) (f : Queued) (fs : List Queued) (b : Bool) → is_request_of owner f ≡ b → Within (requests_in (frames_without owner fs)) (requests_in fs)
-    → Within (requests_in (frames_without owner (f ∷ fs))) (requests_in (f ∷ fs))
-without_at owner f fs true e w = rw e (gone_at f f.is_unary_request refl fs)
-without_at owner f fs false e w = rw e (shorter_at f f.is_unary_request refl fs (frames_without owner fs) w)
+without_at : (ids : ℕ → Bool) (f : Queued) (fs : List Queued) (b : Bool) → is_request_of ids f ≡ b → Within (requests_in (frames_without ids fs)) (requests_in fs)
+    → Within (requests_in (frames_without ids (f ∷ fs))) (requests_in (f ∷ fs))
+without_at ids f fs true e w = rw e (gone_at f f.is_unary_request refl fs (requests_in (frames_without ids fs)) w)
+without_at ids f fs false e w = rw e (shorter_at f f.is_unary_request refl fs (frames_without ids fs) w)
 
-without_within : (owner : ℕ) (fs : List Queued) → Within (requests_in (frames_without owner fs)) (requests_in fs)
-without_within owner [] = refl
-without_within owner (f ∷ fs) = without_at owner f fs (is_request_of owner f) refl (without_within owner fs)
+without_within : (ids : ℕ → Bool) (fs : List Queued) → Within (requests_in (frames_without ids fs)) (requests_in fs)
+without_within ids [] = refl
+without_within ids (f ∷ fs) = without_at ids f fs (is_request_of ids f) refl (without_within ids fs)
 
-others_within : (owner : ℕ) (begun : Bool) (fs : List Queued) → Within (requests_in (others_without owner (if begun then 1 else 0) fs)) (requests_in fs)
-others_within owner false fs = without_within owner fs
-others_within owner true [] = refl
-others_within owner true (f ∷ fs) = shorter_at f f.is_unary_request refl fs (frames_without owner fs) (without_within owner fs)
+others_within : (ids : ℕ → Bool) (begun : Bool) (fs : List Queued) → (let n : ℕ = if begun then 1 else 0 in Within (requests_in (take n fs ++ frames_without ids (drop n fs))) (requests_in fs))
+others_within ids false fs = without_within ids fs
+others_within ids true [] = refl
+others_within ids true (f ∷ fs) = shorter_at f f.is_unary_request refl fs (frames_without ids fs) (without_within ids fs)
 
 report_at : (f : Queued) (fs : List Queued) (n : ℕ) (begun b : Bool) → nat_lt n (length (written f.message)) ≡ b → Within (requests_in (report_first (f ∷ fs) n begun).frames) (requests_in (f ∷ fs))
 report_at f fs n begun true e = rw e (within_itself (requests_in (f ∷ fs)))
-report_at f fs n begun false e = rw e (gone_at f f.is_unary_request refl fs)
+report_at f fs n begun false e = rw e (gone_at f f.is_unary_request refl fs (requests_in fs) (within_itself (requests_in fs)))
 
 report_within : (fs : List Queued) (n : ℕ) (begun : Bool) → Within (requests_in (report_first fs n begun).frames) (requests_in fs)
 report_within [] n begun = refl
@@ -122,18 +121,10 @@ once_behind id fs f unary own once =
           (all_behind (λ k. k < id + 2) (requests_in fs) id (all_up id (id + 2) (requests_in fs) (omega arith) once.below) (omega arith));
     }
 
-once_without_all : (next : ℕ) (q : Queue) (ids : List ℕ) → AreQueuedOnce next q.frames → AreQueuedOnce next (without_all q ids).frames
-once_without_all next q [] once = once
-once_without_all next q (id ∷ ids) once =
-    once_without_all next (without q id) ids (once_within next q.frames (without q id).frames (others_within id q.begun q.frames) once)
-
-once_expired : (may_throw : Bool) (next : ℕ) (q : Queue) (ids : List ℕ) → AreQueuedOnce next q.frames → AreQueuedOnce next (queue_left may_throw q ids).frames
-once_expired true next q ids once = once_without_all next q ids once
-once_expired false next q ids once = once
-
-once_back : (back : Bool) (next : ℕ) (q : Queue) (id : ℕ) → AreQueuedOnce next q.frames → AreQueuedOnce next (if back then without q id else q).frames
-once_back true next q id once = once_within next q.frames (without q id).frames (others_within id q.begun q.frames) once
-once_back false next q id once = once
+once_back : {O I : Type 0} (b : Bool) (next : ℕ) (c : Connection O I) (ids : ℕ → Bool) (why : Failure) → AreQueuedOnce next c.outbox.queue.frames
+    → AreQueuedOnce next (if b then taken_back c ids why else c).outbox.queue.frames
+once_back true next c ids why once = let q = c.outbox.queue in once_within next q.frames (without q ids).frames (others_within ids q.begun q.frames) once
+once_back false next c ids why once = once
 
 -- ---- each call
 
@@ -155,7 +146,7 @@ gives_outbox out in_ s old piece at t new (inr (inr none)) = ap (λ (c : Connect
 passes_once : {O I : Type 0} (seals : Bool) (failure : Option Failure) (old : ClientCore O I) (now : ℕ) (new : ClientCore O I) → Passes seals failure old now new
     → (next : ℕ) → AreQueuedOnce next old.connection.outbox.queue.frames → AreQueuedOnce next new.connection.outbox.queue.frames
 passes_once seals None old now new ticks next once =
-    once_so next _ new.connection.outbox.queue.frames (ap (λ c. c.connection.outbox.queue.frames) ticks.same) (once_expired (throws old.state.kind seals) next old.connection.outbox.queue ticks.due once)
+    once_so next _ new.connection.outbox.queue.frames (ap (λ (c : Connection _ _). c.outbox.queue.frames) ticks.connection) (once_back (throws old.state.kind seals) next old.connection _ _ once)
 passes_once seals (Some failure) old now new same next once = once_so next old.connection.outbox.queue.frames new.connection.outbox.queue.frames (ap (λ c. c.connection.outbox.queue.frames) same) once
 
 module _ {O I : Type 0} (out : OutboundTransform O) (in_ : InboundTransform I) (seals : Bool) where
@@ -183,7 +174,7 @@ module _ {O I : Type 0} (out : OutboundTransform O) (in_ : InboundTransform I) (
       once_up s.next t.next new.outbox.queue.frames le (once_so s.next old.outbox.queue.frames new.outbox.queue.frames (ap (λ c. c.connection.outbox.queue.frames) call.0.same) once)
   call_once (Did (Dropped id)) s old hs t new call once le =
       once_up s.next t.next new.outbox.queue.frames le
-      (once_so s.next _ new.outbox.queue.frames (ap (λ c. c.connection.outbox.queue.frames) call.0.same) (once_back (takes_back seals (core s old) id) s.next old.outbox.queue id once))
+      (once_so s.next _ new.outbox.queue.frames (ap (λ c. c.connection.outbox.queue.frames) call.0.same) (once_back (takes_back seals (core s old) id) s.next old _ _ once))
   call_once (Did (Ticked now)) s old hs t new call once le =
       once_up s.next t.next new.outbox.queue.frames le (passes_once seals old.failure (core s old) now (core t new) call.0 s.next once)
   call_once (Did (AskedEnded id)) s old hs t new call once le =
@@ -198,121 +189,3 @@ module _ {O I : Type 0} (out : OutboundTransform O) (in_ : InboundTransform I) (
       let leaves = call_leaves out in_ seals c s old run.2 run.0 run.1 run.4 in
       run_once cs run.0 run.1 run.3 t new
       (call_once c s old run.2 run.0 run.1 run.4 once (rise_up s.next (asked_by c) run.0.next leaves.rises)) run.6
-
--- ---- a tick
-
-filter_all : (p : Queued → Bool) (fs : List Queued) → ((f : Queued) → p f ≡ true) → filter p fs ≡ fs
-filter_all p [] all = refl
-filter_all p (f ∷ fs) all = rw (all f) (ap (λ gs. f ∷ gs) (filter_all p fs all))
-
-filter_same : (p r : Queued → Bool) (fs : List Queued) → ((f : Queued) → p f ≡ r f) → filter p fs ≡ filter r fs
-filter_same p r [] same = refl
-filter_same p r (f ∷ fs) same = rw (same f, filter_same p r fs same) refl
-
-of_none : (b : Bool) → not (b && false) ≡ true
-of_none true = refl
-of_none false = refl
-
-other_request : (u here x : Bool) → (u && here) ≡ false → (u && (here || x)) ≡ (u && x)
-other_request true true x e = cc
-other_request true false x e = refl
-other_request false here x e = refl
-
-one_request : (u here x : Bool) → (u && here) ≡ true → (u && (here || x)) ≡ true
-one_request true true x e = refl
-one_request true false x e = cc
-one_request false here x e = cc
-
-is_unary : (u here : Bool) → (u && here) ≡ true → u ≡ true
-is_unary true here e = refl
-is_unary false here e = cc
-
-is_here : (u here : Bool) → (u && here) ≡ true → here ≡ true
-is_here true here e = e
-is_here false here e = cc
-
-rest_distinct : (f : Queued) (fs : List Queued) → IsDistinct nat_eq (requests_in (f ∷ fs)) → IsDistinct nat_eq (requests_in fs)
-rest_distinct f fs d = distinct_within (requests_in fs) (requests_in (f ∷ fs)) (gone_at f f.is_unary_request refl fs) d
-
--- no other is a request of this call
-elsewhere_at : (k : ℕ) (ids : List ℕ) (f : Queued) (fs : List Queued) (b : Bool) → f.is_unary_request ≡ b → AllByRecursion (λ o. nat_eq k o ≡ false) (requests_in (f ∷ fs))
-    → (f.is_unary_request && (f.owner == k)) ≡ false
-elsewhere_at k ids f fs true e all =
-    let apart : nat_eq k f.owner ≡ false = (rw e at all).0 in
-    let back : (f.owner == k) ≡ false = search (rules, apart) in
-    rw (e, back) refl
-elsewhere_at k ids f fs false e all = rw e refl
-
-behind_all : (k : ℕ) (f : Queued) (fs : List Queued) (b : Bool) → f.is_unary_request ≡ b → AllByRecursion (λ o. nat_eq k o ≡ false) (requests_in (f ∷ fs)) → AllByRecursion (λ o. nat_eq k o ≡ false) (requests_in fs)
-behind_all k f fs true e all = (rw e at all).1
-behind_all k f fs false e all = rw e at all
-
-none_of_it : (k : ℕ) (ids : List ℕ) (fs : List Queued) → AllByRecursion (λ o. nat_eq k o ≡ false) (requests_in fs) → filter (is_of_none (k ∷ ids)) fs ≡ filter (is_of_none ids) fs
-none_of_it k ids [] all = refl
-none_of_it k ids (f ∷ fs) all =
-    let not_it = elsewhere_at k ids f fs f.is_unary_request refl all in
-    rw (other_request f.is_unary_request (f.owner == k) (list_any (λ id. f.owner == id) ids) not_it, none_of_it k ids fs (behind_all k f fs f.is_unary_request refl all)) refl
-
-first_apart : (f : Queued) (fs : List Queued) → f.is_unary_request ≡ true → IsDistinct nat_eq (requests_in (f ∷ fs)) → AllByRecursion (λ o. nat_eq f.owner o ≡ false) (requests_in fs)
-unfolding IsDistinct
-first_apart f fs e d = (rw e at d).0
-
-thrown_at_place : (k : ℕ) (ids : List ℕ) (f : Queued) (fs : List Queued) (b : Bool) → is_request_of k f ≡ b → IsDistinct nat_eq (requests_in (f ∷ fs))
-    → filter (is_of_none ids) (frames_without k fs) ≡ filter (is_of_none (k ∷ ids)) fs
-    → filter (is_of_none ids) (frames_without k (f ∷ fs)) ≡ filter (is_of_none (k ∷ ids)) (f ∷ fs)
-thrown_at_place k ids f fs true e d later =
-    let u = f.is_unary_request in
-    let unary : u ≡ true = is_unary u (f.owner == k) e in
-    let here : f.owner ≡ k = let h = is_here u (f.owner == k) e in search (rules, h) in
-    let apart = subst (λ j. AllByRecursion (λ o. nat_eq j o ≡ false) (requests_in fs)) here (first_apart f fs unary d) in
-    rw (e, one_request u (f.owner == k) (list_any (λ id. f.owner == id) ids) e) (sym (none_of_it k ids fs apart))
-thrown_at_place k ids f fs false e d later =
-    rw (e, other_request f.is_unary_request (f.owner == k) (list_any (λ id. f.owner == id) ids) e, later) refl
-
-thrown_behind : (k : ℕ) (ids : List ℕ) (fs : List Queued) → IsDistinct nat_eq (requests_in fs) → filter (is_of_none ids) (frames_without k fs) ≡ filter (is_of_none (k ∷ ids)) fs
-thrown_behind k ids [] d = refl
-thrown_behind k ids (f ∷ fs) d = thrown_at_place k ids f fs (is_request_of k f) refl d (thrown_behind k ids fs (rest_distinct f fs d))
-
-abbrev count : Bool → ℕ
-count begun = if begun then 1 else 0
-
-front_stays : (begun : Bool) (k : ℕ) (fs : List Queued) → take (count begun) (others_without k (count begun) fs) ≡ take (count begun) fs
-front_stays false k fs = refl
-front_stays true k [] = refl
-front_stays true k (f ∷ fs) = refl
-
-back_stays : (begun : Bool) (k : ℕ) (fs : List Queued) → drop (count begun) (others_without k (count begun) fs) ≡ frames_without k (drop (count begun) fs)
-back_stays false k fs = refl
-back_stays true k [] = refl
-back_stays true k (f ∷ fs) = refl
-
-both_parts : (begun : Bool) (fs : List Queued) → fs ≡ take (count begun) fs ++ drop (count begun) fs
-both_parts false fs = refl
-both_parts true [] = refl
-both_parts true (f ∷ fs) = refl
-
-back_distinct : (begun : Bool) (fs : List Queued) → IsDistinct nat_eq (requests_in fs) → IsDistinct nat_eq (requests_in (drop (count begun) fs))
-back_distinct false fs d = d
-back_distinct true [] d = d
-back_distinct true (f ∷ fs) d = rest_distinct f fs d
-
-thrown_frames : (q : Queue) (ids : List ℕ) → IsDistinct nat_eq (requests_in q.frames)
-    → (without_all q ids).frames ≡ take (begun_count q) q.frames ++ filter (is_of_none ids) (drop (begun_count q) q.frames)
-thrown_frames q [] d =
-    both_parts q.begun q.frames ∙ ap (λ fs. take (begun_count q) q.frames ++ fs) (sym (filter_all (is_of_none []) (drop (begun_count q) q.frames) (λ f. of_none f.is_unary_request)))
-thrown_frames q (k ∷ ks) d =
-    let n = begun_count q in
-    thrown_frames (without q k) ks (distinct_within (requests_in (without q k).frames) (requests_in q.frames) (others_within k q.begun q.frames) d)
-    ∙ ap (λ fs. fs ++ filter (is_of_none ks) (drop n (without q k).frames)) (front_stays q.begun k q.frames)
-    ∙ ap (λ fs. take n q.frames ++ filter (is_of_none ks) fs) (back_stays q.begun k q.frames)
-    ∙ ap (λ fs. take n q.frames ++ fs) (thrown_behind k ks (drop n q.frames) (back_distinct q.begun q.frames d))
-
-pub tick_frames : {O I : Type 0} (seals : Bool) (old new : ClientCore O I) (now : ℕ) → throws old.state.kind seals ≡ true → IsDistinct nat_eq (requests_in old.connection.outbox.queue.frames) → Ticks seals old now new
-    → new.connection.outbox.queue.frames ≡ take (begun_count old.connection.outbox.queue) old.connection.outbox.queue.frames
-    ++ filter (is_of_none (due_ids now old.state.calls)) (drop (begun_count old.connection.outbox.queue) old.connection.outbox.queue.frames)
-tick_frames seals old new now throws_is d ticks =
-    let q = old.connection.outbox.queue in
-    ap (λ c. c.connection.outbox.queue.frames) ticks.same ∙ ap (λ b. (queue_left b q ticks.due).frames) throws_is ∙ thrown_frames q ticks.due d
-    ∙ ap (λ fs. take (begun_count q) q.frames ++ fs)
-    (filter_same (is_of_none ticks.due) (is_of_none (due_ids now old.state.calls)) (drop (begun_count q) q.frames)
-    (λ f. ap (λ b. not (f.is_unary_request && b)) (list_any-IsPermutation (λ id. f.owner == id) ticks.due (due_ids now old.state.calls) ticks.is_due)))

@@ -2,6 +2,7 @@
 use Rattle.std.proofs.Common.{arith, ◌≡◌, ◌≢◌, ℕ, ◌+◌, ◌<◌, ◌≤◌, ◌%◌, nat_eq, List, [], ◌∷◌, ◌++◌, false, sym, subst, ◌∙◌}
 use Rattle.std.specs.List.{AllByRecursion, IsDistinct}
 use Rattle.ttrpc_client.specs.Calls.{RiseByTwo}
+use Rattle.ttrpc_client.specs.Table.{last_id}
 
 pub rise_both : (xs ys : List ℕ) (first mid next : ℕ) → RiseByTwo first xs mid → RiseByTwo mid ys next → RiseByTwo first (xs ++ ys) next
 rise_both [] ys first mid next one two = subst (λ n. RiseByTwo n ys next) one two
@@ -14,6 +15,10 @@ rise_up first (id ∷ ids) next rises = let up = rise_up (first + 2) ids next ri
 pub rise_odd : (first : ℕ) (ids : List ℕ) (next : ℕ) → RiseByTwo first ids next → first % 2 ≡ 1 → next % 2 ≡ 1
 rise_odd first [] next rises odd = subst (λ n. n % 2 ≡ 1) (sym rises) odd
 rise_odd first (id ∷ ids) next rises odd = rise_odd (first + 2) ids next rises.2 (omega (arith, odd))
+
+pub rise_range : (first : ℕ) (ids : List ℕ) (next : ℕ) → RiseByTwo first ids next → first ≤ last_id + 2 → next ≤ last_id + 2
+rise_range first [] next rises le = omega (arith, rises, le)
+rise_range first (id ∷ ids) next rises le = let is = rises.0 in let below = rises.1 in rise_range (first + 2) ids next rises.2 (omega (arith, is, below))
 
 -- ---- ids that are not among others
 

@@ -1,18 +1,16 @@
 -- Where requests may not be thrown away, none is.
-use Rattle.std.proofs.Common.{◌≡◌, ℕ, List, [], ◌∷◌, ◌++◌, map, is_some, if◌then◌else◌, Option, Some, None, Bool, true, false, refl, sym, ap, ◌∙◌, append_assoc}
+use Rattle.std.proofs.Common.{◌≡◌, ◌&&◌, not, ℕ, List, [], ◌∷◌, ◌++◌, map, is_some, if◌then◌else◌, Bool, true, false, refl, sym, ap, ◌∙◌, append_assoc}
 use Rattle.ttrpc_frame.specs.declared.outgoing.Queued.{Queued}
-use Rattle.ttrpc_frame.specs.Queue.{Queue, Happening, Placed, Thrown, after, after_all, thrown, thrown_by, with_frame}
+use Rattle.ttrpc_frame.specs.Queue.{Queue, Happening, Placed, after, after_all, thrown, thrown_by, with_frame}
 use Rattle.ttrpc_secure.specs.declared.transform.OutboundTransform.{Ghosts as OutboundTransform}
 use Rattle.ttrpc_secure.specs.declared.transform.InboundTransform.{Ghosts as InboundTransform}
 use Rattle.ttrpc_connection.specs.declared.connection.Connection.{Connection}
-use Rattle.ttrpc_connection.specs.declared.failure.Failure.{Failure}
 use Rattle.ttrpc_connection.specs.Calls.{Gave, Lent, Reported, Failed, Did, Calls, Runs}
 use Rattle.ttrpc_connection.specs.Calls.{Call as ACall}
 use Rattle.ttrpc_connection.proofs.Leaving.{call_goes}
-use Rattle.ttrpc_client.specs.declared.client.ClientCore.{ClientCore}
-use Rattle.ttrpc_client.specs.Calls.{Called, Asked, Told, Dropped, Ticked, AskedEnded, Passes, called, core, thrown_at}
+use Rattle.ttrpc_client.specs.Calls.{Called, Asked, Told, Dropped, Ticked, AskedEnded, called, core, thrown_if}
 use Rattle.ttrpc_client.specs.Client.{Client, call_at, throws, waits}
-use Rattle.ttrpc_client.specs.Happens.{calling}
+use Rattle.ttrpc_client.specs.Happens.{calling, takes_back}
 use Rattle.ttrpc_client.proofs.Calls.{called_is_lawful}
 use Rattle.ttrpc_client.proofs.Turning.{call_leaves}
 
@@ -28,37 +26,39 @@ none_placed (f ∷ fs) q = none_placed fs (with_frame q f)
 none_by : (q : Queue) (hs ks : List Happening) → hs ≡ ks → thrown q ks ≡ [] → thrown q hs ≡ []
 none_by q hs ks is none = ap (thrown q) is ∙ none
 
-back_not : (failed waiting may_throw : Bool) (q : Queue) (id : ℕ) → may_throw ≡ false → thrown q (if (if failed then false else if may_throw then waiting else false) then Thrown id ∷ [] else []) ≡ []
-back_not true waiting may_throw q id not = refl
-back_not false waiting may_throw q id not = rw not refl
+none_thrown : (b : Bool) (ids : ℕ → Bool) (q : Queue) → b ≡ false → thrown q (thrown_if b ids) ≡ []
+none_thrown b ids q e = rw e refl
 
-passes_not : {O I : Type 0} (seals : Bool) (failure : Option Failure) (old : ClientCore O I) (now : ℕ) (new : ClientCore O I) (did : Passes seals failure old now new) (q : Queue) → throws old.state.kind seals ≡ false
-    → thrown q (thrown_at seals failure old now new did) ≡ []
-passes_not seals None old now new did q not = rw not refl
-passes_not seals (Some failure) old now new did q not = refl
+back_not : (failed waiting may_throw : Bool) → may_throw ≡ false → (if failed then false else if may_throw then waiting else false) ≡ false
+back_not true waiting may_throw e = refl
+back_not false waiting may_throw e = rw e refl
+
+tick_not : (failed may_throw : Bool) → may_throw ≡ false → (not failed && may_throw) ≡ false
+tick_not true may_throw e = refl
+tick_not false may_throw e = e
 
 module _ {O I : Type 0} (out : OutboundTransform O) (in_ : InboundTransform I) (seals : Bool) where
   call_throws_not : (c : ACall Called) (s : Client) (old : Connection O I) (hs : List Happening) (t : Client) (new : Connection O I) → throws s.kind seals ≡ false → Calls (calling out in_) (called out seals) s old c hs t new
       → thrown old.outbox.queue hs ≡ []
-  call_throws_not (Gave piece at) s old hs t new not call = none_by old.outbox.queue hs (map Placed call.1.0) call.1.2 (none_placed call.1.0 old.outbox.queue)
-  call_throws_not (Lent n) s old hs t new not call = ap (thrown old.outbox.queue) call.4
-  call_throws_not (Reported n) s old hs t new not call = ap (thrown old.outbox.queue) call.3
-  call_throws_not Failed s old hs t new not call = ap (thrown old.outbox.queue) call.2
-  call_throws_not (Did (Asked request now id)) s old hs t new not call = ap (thrown old.outbox.queue) call.1.3
-  call_throws_not (Did (Told id outcome)) s old hs t new not call = ap (thrown old.outbox.queue) call.1
-  call_throws_not (Did (Dropped id)) s old hs t new not call =
-      ap (thrown old.outbox.queue) call.1 ∙ back_not (is_some old.failure) (waits (call_at s id)) (throws s.kind seals) old.outbox.queue id not
-  call_throws_not (Did (Ticked now)) s old hs t new not call =
-      ap (thrown old.outbox.queue) call.1 ∙ passes_not seals old.failure (core s old) now (core t new) call.0 old.outbox.queue not
-  call_throws_not (Did (AskedEnded id)) s old hs t new not call = ap (thrown old.outbox.queue) call.1
+  call_throws_not (Gave piece at) s old hs t new e call = none_by old.outbox.queue hs (map Placed call.1.0) call.1.2 (none_placed call.1.0 old.outbox.queue)
+  call_throws_not (Lent n) s old hs t new e call = ap (thrown old.outbox.queue) call.4
+  call_throws_not (Reported n) s old hs t new e call = ap (thrown old.outbox.queue) call.3
+  call_throws_not Failed s old hs t new e call = ap (thrown old.outbox.queue) call.2
+  call_throws_not (Did (Asked request now id)) s old hs t new e call = ap (thrown old.outbox.queue) call.1.3
+  call_throws_not (Did (Told id outcome)) s old hs t new e call = ap (thrown old.outbox.queue) call.1
+  call_throws_not (Did (Dropped id)) s old hs t new e call =
+      ap (thrown old.outbox.queue) call.1 ∙ none_thrown (takes_back seals (core s old) id) _ old.outbox.queue (back_not (is_some old.failure) (waits (call_at s id)) (throws s.kind seals) e)
+  call_throws_not (Did (Ticked now)) s old hs t new e call =
+      ap (thrown old.outbox.queue) call.1 ∙ none_thrown (not (is_some old.failure) && throws s.kind seals) _ old.outbox.queue (tick_not (is_some old.failure) (throws s.kind seals) e)
+  call_throws_not (Did (AskedEnded id)) s old hs t new e call = ap (thrown old.outbox.queue) call.1
 
   pub run_throws_not : (cs : List (ACall Called)) (s : Client) (old : Connection O I) (hs : List Happening) (t : Client) (new : Connection O I) → throws s.kind seals ≡ false
       → Runs (calling out in_) (called out seals) s old cs hs t new → thrown old.outbox.queue hs ≡ []
-  run_throws_not [] s old hs t new not run = ap (thrown old.outbox.queue) run.0
-  run_throws_not (c ∷ cs) s old hs t new not run =
+  run_throws_not [] s old hs t new e run = ap (thrown old.outbox.queue) run.0
+  run_throws_not (c ∷ cs) s old hs t new e run =
       let goes = call_goes (calling out in_) (called out seals) (called_is_lawful out seals) c s old run.2 run.0 run.1 run.4 in
       let leaves = call_leaves out in_ seals c s old run.2 run.0 run.1 run.4 in
-      let still : throws run.0.kind seals ≡ false = ap (λ k. throws k seals) leaves.kind ∙ not in
+      let still : throws run.0.kind seals ≡ false = ap (λ k. throws k seals) leaves.kind ∙ e in
       ap (thrown old.outbox.queue) run.5 ∙ thrown_both run.2 run.3 old.outbox.queue
-      ∙ ap (λ fs. fs ++ thrown (after_all old.outbox.queue run.2) run.3) (call_throws_not c s old run.2 run.0 run.1 not run.4)
+      ∙ ap (λ fs. fs ++ thrown (after_all old.outbox.queue run.2) run.3) (call_throws_not c s old run.2 run.0 run.1 e run.4)
       ∙ ap (λ q. thrown q run.3) (sym goes.after) ∙ run_throws_not cs run.0 run.1 run.3 t new still run.6

@@ -18,7 +18,7 @@ use Rattle.ttrpc_client.specs.Calls.{Called, Asked, Told, Dropped, Ticked, Asked
 use Rattle.ttrpc_client.specs.Client.{Client, IsClient, OthersStay, call_at, call_in}
 use Rattle.ttrpc_client.specs.Table.{Landing, Lands, LandsOn, landing_of}
 use Rattle.ttrpc_client.specs.Happens.{LandsOnce, calling, expired_at, forgotten, left_of}
-use Rattle.ttrpc_client.proofs.Rising.{apart_before, apart_behind, never_above, never_even, rise_both, rise_odd, rise_up}
+use Rattle.ttrpc_client.proofs.Rising.{apart_before, apart_behind, never_above, never_even, rise_both, rise_odd, rise_range, rise_up}
 
 -- ---- calls by which no id is used
 
@@ -69,9 +69,9 @@ gives_stays out in_ s old piece at t new (inr (inr none)) = stays s t none.1
 
 passes_stays : {O I : Type 0} (seals : Bool) (failure : Option Failure) (old : ClientCore O I) (now : ℕ) (new : ClientCore O I) → Passes seals failure old now new → Stays old.state new.state
 passes_stays seals None old now new ticks = record {
-  kind = ap (λ c. c.state.kind) ticks.same;
-  next = ap (λ c. c.state.next) ticks.same;
-  none = λ k none. ticks.calls k ∙ ap (λ c. expired_at now c) none;
+  kind = ap (λ (s : Client). s.kind) ticks.expires.same;
+  next = ap (λ (s : Client). s.next) ticks.expires.same;
+  none = λ k none. ticks.expires.calls k ∙ ap (λ c. expired_at now c) none;
 }
 passes_stays seals (Some failure) old now new same = stays old.state new.state (ap (λ c. c.state) same)
 
@@ -153,6 +153,7 @@ odd_left ids old new l valid k None is false e some =
 pub leaves_valid : (ids : List ℕ) (old new : Client) → Leaves ids old new → IsClient old.next old.calls → IsClient new.next new.calls
 leaves_valid ids old new l valid = record {
   odd = rise_odd old.next ids new.next l.rises valid.odd;
+  in_range = rise_range old.next ids new.next l.rises valid.in_range;
   fresh = λ k le.
       let up = rise_up old.next ids new.next l.rises in
       l.none k (never_above k old.next ids new.next le l.rises) (valid.fresh k (omega (arith, le, up)));

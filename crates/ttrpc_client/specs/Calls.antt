@@ -1,8 +1,8 @@
 -- The calls of a client core beside those of its connection, what the queue goes through by them, and what is told of
 -- lists of calls.
 -- Source: this project's.
-use Rattle.std.specs.Prelude.{◌≡◌, ◌<◌, ◌≤◌, ◌==◌, ◌&&◌, not, ℕ, ◌+◌, List, [], ◌∷◌, ◌++◌, map, nat_eq, option_to_list, Option, Some, None, Bool, if◌then◌else◌, Result}
-use Rattle.std.specs.List.{AllByRecursion, IsDistinct, flat_map, list_any}
+use Rattle.std.specs.Prelude.{◌≡◌, ◌<◌, ◌≤◌, ◌&&◌, not, ℕ, ◌+◌, List, [], ◌∷◌, ◌++◌, nat_eq, option_to_list, Option, Some, None, is_some, Bool, if◌then◌else◌, Result}
+use Rattle.std.specs.List.{AllByRecursion, IsDistinct, flat_map}
 use Rattle.ttrpc_error.specs.declared.error.Error.{Error}
 use Rattle.ttrpc_proto.specs.declared.request.Request.{Request}
 use Rattle.ttrpc_proto.specs.declared.response.Response.{Response}
@@ -13,9 +13,9 @@ use Rattle.ttrpc_connection.specs.declared.connection.Connection.{Connection}
 use Rattle.ttrpc_connection.specs.declared.failure.Failure.{Failure}
 use Rattle.ttrpc_connection.specs.Calls.{Call, Gave, Lent, Reported, Failed, Did, Others, Queues}
 use Rattle.ttrpc_client.specs.declared.client.ClientCore.{ClientCore}
-use Rattle.ttrpc_client.specs.Client.{Client, throws}
+use Rattle.ttrpc_client.specs.Client.{Client, call_at, throws}
 use Rattle.ttrpc_client.specs.Table.{IsRequestFrame, last_id}
-use Rattle.ttrpc_client.specs.Happens.{Forgets, Requests, Tells, Ticks, takes_back}
+use Rattle.ttrpc_client.specs.Happens.{Forgets, Requests, Tells, Ticks, due_at, takes_back}
 
 -- a call, with what it was given and what it gave; one that was refused changes nothing, and is none
 pub data Called : Type 0 where
@@ -54,21 +54,24 @@ Does out seals (AskedEnded id) old new = TellsEnded old id new
 
 -- ---- what the queue goes through by it
 
--- the requests of the calls that were due were thrown away, in the order in which they expired, where requests may be
-abbrev pub thrown_at : {O I : Type 0} (seals : Bool) (failure : Option Failure) (old : ClientCore O I) (now : ℕ) (new : ClientCore O I) → Passes seals failure old now new → List Happening
-thrown_at seals None old now new ticks = if throws old.state.kind seals then map Thrown ticks.due else []
-thrown_at seals (Some failure) old now new same = []
+-- the requests of these calls are thrown away, if any may be
+abbrev pub thrown_if : Bool → (ℕ → Bool) → List Happening
+thrown_if may ids = if may then Thrown ids ∷ [] else []
 
-abbrev pub Causes : {O I : Type 0} (out : OutboundTransform O) (seals : Bool) (a : Called) (old new : ClientCore O I) → Does out seals a old new → List Happening → Type 0
-Causes out seals (Asked request now id) old new did happenings =
+-- those of the calls that are due, where requests may be thrown away, and never after a failure
+abbrev pub thrown_at : {O I : Type 0} → Bool → ClientCore O I → ℕ → List Happening
+thrown_at seals old now = thrown_if (not (is_some old.connection.failure) && throws old.state.kind seals) (λ id. due_at now (call_at old.state id))
+
+abbrev pub Causes : {O I : Type 0} → Called → Bool → ClientCore O I → ClientCore O I → List Happening → Type 0
+Causes (Asked request now id) seals old new happenings =
     (f : Queued) × IsRequestFrame id f × Queues old.connection (f ∷ []) new.connection × (happenings ≡ Placed f ∷ [])
-Causes out seals (Told id outcome) old new did happenings = happenings ≡ []
-Causes out seals (Dropped id) old new did happenings = happenings ≡ (if takes_back seals old id then Thrown id ∷ [] else [])
-Causes out seals (Ticked now) old new did happenings = happenings ≡ thrown_at seals old.connection.failure old now new did
-Causes out seals (AskedEnded id) old new did happenings = happenings ≡ []
+Causes (Told id outcome) seals old new happenings = happenings ≡ []
+Causes (Dropped id) seals old new happenings = happenings ≡ thrown_if (takes_back seals old id) (λ k. nat_eq k id)
+Causes (Ticked now) seals old new happenings = happenings ≡ thrown_at seals old now
+Causes (AskedEnded id) seals old new happenings = happenings ≡ []
 
 abbrev pub called : {O I : Type 0} → OutboundTransform O → Bool → Others Called Client O I
-called out seals a s old happenings t new = (did : Does out seals a (core s old) (core t new)) × Causes out seals a (core s old) (core t new) did happenings
+called out seals a s old happenings t new = Does out seals a (core s old) (core t new) × Causes a seals (core s old) (core t new) happenings
 
 -- ---- what is told of them
 
@@ -121,7 +124,3 @@ requests_in (f ∷ fs) = if f.is_unary_request then f.owner ∷ requests_in fs e
 pub record AreQueuedOnce (next : ℕ) (frames : List Queued) : Type 0 where
   pub distinct : IsDistinct nat_eq (requests_in frames)
   pub below : AllByRecursion (λ id. id < next) (requests_in frames)
-
--- whether the frame is the request of none of these calls
-abbrev pub is_of_none : List ℕ → Queued → Bool
-is_of_none ids f = not (f.is_unary_request && list_any (λ id. f.owner == id) ids)

@@ -1,6 +1,6 @@
 -- What a client core is, beside its connection.
 -- Source: PROTOCOL.md of ttrpc, "Request", "Response" and "Streaming".
-use Rattle.std.specs.Prelude.{◌≡◌, ◌≢◌, ◌≤◌, ◌%◌, ℕ, ◌+◌, List, [], ◌∷◌, Option, None, Some, Bool, false, ℤ, pos, negsuc, zero, suc}
+use Rattle.std.specs.Prelude.{◌≡◌, ◌≢◌, ◌≤◌, ◌%◌, ◌^◌, ℕ, ◌+◌, List, [], ◌∷◌, Option, None, Some, Bool, false, ℤ, pos, negsuc, zero, suc}
 use Rattle.std.specs.Map.{lookup}
 use Rattle.std.specs.BTreeMap.{is_at}
 use Rattle.std.specs.Ordering.{nat_cmp}
@@ -35,9 +35,10 @@ call_at c id = call_in c.calls id
 abbrev pub OthersStay : List (ℕ × Call) → ℕ → List (ℕ × Call) → Type 0
 OthersStay old id new = (k : ℕ) → k ≢ id → call_in new k ≡ call_in old k
 
--- what holds of every client: ids are odd, and those that were not given have no call
+-- what holds of every client: ids are odd, none is above 2^32 - 1, and those that were not given have no call
 pub record IsClient (next : ℕ) (calls : List (ℕ × Call)) : Type 0 where
   pub odd : next % 2 ≡ 1
+  pub in_range : next ≤ 2 ^ 32 + 1
   pub fresh : (k : ℕ) → next ≤ k → call_in calls k ≡ None
   pub odd_calls : (k : ℕ) → call_in calls k ≢ None → k % 2 ≡ 1
 

@@ -1,18 +1,19 @@
 -- What each call of a client core does.
 -- Source: PROTOCOL.md of ttrpc, "Request", "Response" and "Streaming".
-use Rattle.std.specs.Prelude.{◌≡◌, ◌≢◌, ◌<◌, ◌≤◌, ℕ, ◌+◌, List, [], ◌∷◌, ◌++◌, codes, map, filter, Option, Some, None, Bool, true, false, nat_le, if◌then◌else◌, Result, Err, is_some, IsPermutation}
+use Rattle.std.specs.Prelude.{◌≡◌, ◌≢◌, ◌<◌, ◌≤◌, ℕ, ◌+◌, List, [], ◌∷◌, ◌++◌, codes, map, filter, Option, Some, None, Bool, false, nat_eq, nat_le, if◌then◌else◌, Result, Err, is_some, IsPermutation}
 use Rattle.ttrpc_error.specs.declared.error.Error.{Error}
 use Rattle.ttrpc_error.specs.declared.error.Error.TheVariants.{Others}
 use Rattle.ttrpc_proto.specs.declared.request.Request.{Request}
 use Rattle.ttrpc_proto.specs.declared.response.Response.{Response}
 use Rattle.ttrpc_frame.specs.declared.outgoing.Queued.{Queued}
-use Rattle.ttrpc_frame.specs.Queue.{Queue, has_begun, without}
+use Rattle.ttrpc_frame.specs.Queue.{has_begun, without}
 use Rattle.ttrpc_secure.specs.declared.transform.OutboundTransform.{Ghosts as OutboundTransform}
 use Rattle.ttrpc_secure.specs.declared.transform.InboundTransform.{Ghosts as InboundTransform}
 use Rattle.ttrpc_connection.specs.declared.arrived.Arrived.{Arrived}
 use Rattle.ttrpc_connection.specs.declared.failure.Failure.{Failure}
 use Rattle.ttrpc_connection.specs.declared.failure.Failure.TheVariants.{DeadlineDuringWrite, CancelledDuringWrite}
-use Rattle.ttrpc_connection.specs.Failure.{IsTold, error_of}
+use Rattle.ttrpc_connection.specs.declared.connection.Connection.{Connection}
+use Rattle.ttrpc_connection.specs.Failure.{IsTold, error_of, kept}
 use Rattle.ttrpc_connection.specs.Feeds.{Ways, new_connection}
 use Rattle.ttrpc_connection.specs.Frames.{Sent, SendsOne, safe_limit}
 use Rattle.ttrpc_client.specs.declared.call.Call.{Call}
@@ -111,6 +112,11 @@ is_due now (Waiting None) = false
 is_due now Expired = false
 is_due now (Ended outcome) = false
 
+-- the same of what is kept of an id
+abbrev pub due_at : ℕ → Option Call → Bool
+due_at now None = false
+due_at now (Some call) = is_due now call
+
 abbrev pub expired_at : ℕ → Option Call → Option Call
 expired_at now None = None
 expired_at now (Some call) = Some (if is_due now call then Expired else call)
@@ -119,37 +125,26 @@ expired_at now (Some call) = Some (if is_due now call then Expired else call)
 abbrev pub due_ids : ℕ → List (ℕ × Call) → List ℕ
 due_ids now calls = map (λ c. c.0) (filter (λ c. is_due now c.1) calls)
 
--- the request of each of these calls is thrown away, if it hasn't begun
-abbrev pub without_all : Queue → List ℕ → Queue
-without_all q [] = q
-without_all q (k ∷ ks) = without_all (without q k) ks
-
--- whether the request of one of them has begun
-abbrev pub any_begun : Queue → List ℕ → Bool
-any_begun q [] = false
-any_begun q (k ∷ ks) = if has_begun q k then true else any_begun q ks
-
--- what is left of the queue after these calls expired
-abbrev pub queue_left : Bool → Queue → List ℕ → Queue
-queue_left may_throw q due = if may_throw then without_all q due else q
-
--- for what the connection then fails, if it does
-abbrev pub failure_left : Bool → Queue → List ℕ → Option Failure
-failure_left may_throw q due = if may_throw then (if any_begun q due then Some DeadlineDuringWrite else None) else None
-
--- A moment passed: the calls that are due have expired, in some order. Where requests may be thrown away, theirs are,
--- and the connection fails if one of them has begun.
-pub record Ticks {O I : Type 0} (seals : Bool) (old : ClientCore O I) (now : ℕ) (new : ClientCore O I) : Type 0 where
+-- the calls that are due have expired, in some order
+pub record Expires (old : Client) (now : ℕ) (new : Client) : Type 0 where
   pub due : List ℕ
-  pub is_due : IsPermutation due (due_ids now old.state.calls)
-  pub calls : (k : ℕ) → call_at new.state k ≡ expired_at now (call_at old.state k)
-  pub same : new ≡ record old {
-    state = record old.state { calls = new.state.calls; ended = old.state.ended ++ due };
-    connection = record old.connection {
-      outbox = record old.connection.outbox { queue = queue_left (throws old.state.kind seals) old.connection.outbox.queue due };
-      failure = failure_left (throws old.state.kind seals) old.connection.outbox.queue due;
-    };
-  }
+  pub is_due : IsPermutation due (due_ids now old.calls)
+  pub calls : (k : ℕ) → call_at new k ≡ expired_at now (call_at old k)
+  pub same : new ≡ record old { calls = new.calls; ended = old.ended ++ due }
+
+-- the requests of these calls are taken back: those that haven't begun are thrown away, and where one has, the
+-- connection fails for this
+abbrev pub taken_back : {O I : Type 0} → Connection O I → (ℕ → Bool) → Failure → Connection O I
+taken_back c ids why = record c {
+  outbox = record c.outbox { queue = without c.outbox.queue ids };
+  failure = if has_begun c.outbox.queue ids then kept c.failure why else c.failure;
+}
+
+-- A moment passed: the calls that are due have expired. Where requests may be thrown away, theirs are taken back.
+pub record Ticks {O I : Type 0} (seals : Bool) (old : ClientCore O I) (now : ℕ) (new : ClientCore O I) : Type 0 where
+  pub expires : Expires old.state now new.state
+  pub connection : new.connection ≡ (if throws old.state.kind seals
+      then taken_back old.connection (λ id. due_at now (call_at old.state id)) DeadlineDuringWrite else old.connection)
 
 -- the least moment at which a call expires
 pub record IsDeadline (calls : List (ℕ × Call)) (at : ℕ) : Type 0 where
@@ -165,7 +160,7 @@ forgotten (Some (Waiting deadline)) = None
 forgotten (Some Expired) = None
 forgotten (Some (Ended outcome)) = None
 
--- whether dropping the call throws its request away: it still waits, and the connection lives
+-- whether dropping the call takes its request back: it still waits, and the connection lives
 abbrev pub takes_back : {O I : Type 0} → Bool → ClientCore O I → ℕ → Bool
 takes_back seals old id = if is_some old.connection.failure then false else if throws old.state.kind seals then waits (call_at old.state id) else false
 
@@ -174,8 +169,5 @@ pub record Forgets {O I : Type 0} (seals : Bool) (old : ClientCore O I) (id : �
   pub own : call_at new.state id ≡ forgotten (call_at old.state id)
   pub others : OthersStay old.state.calls id new.state.calls
   pub same : new ≡ record (with_calls old new.state.calls) {
-    connection = record old.connection {
-      outbox = record old.connection.outbox { queue = if takes_back seals old id then without old.connection.outbox.queue id else old.connection.outbox.queue };
-      failure = if takes_back seals old id then (if has_begun old.connection.outbox.queue id then Some CancelledDuringWrite else None) else old.connection.failure;
-    };
+    connection = if takes_back seals old id then taken_back old.connection (λ k. nat_eq k id) CancelledDuringWrite else old.connection;
   }

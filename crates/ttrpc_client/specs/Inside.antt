@@ -39,7 +39,7 @@ pub record Settles (old : Client) (id : ℕ) (call : Call) (new : Client) : Type
   pub same : new ≡ record old { calls = new.calls; ended = old.ended ++ id ∷ [] }
 
 -- one that was due has expired, and the others that were are still due
-pub record Expires (old : Client) (now id : ℕ) (new : Client) : Type 0 where
+pub record ExpiresOne (old : Client) (now id : ℕ) (new : Client) : Type 0 where
   pub due : IsPermutation (id ∷ due_ids now new.calls) (due_ids now old.calls)
   pub calls : (k : ℕ) → expired_at now (call_at new k) ≡ expired_at now (call_at old k)
   pub same : new ≡ record old { calls = new.calls; ended = old.ended ++ id ∷ [] }

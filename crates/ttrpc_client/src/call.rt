@@ -1,6 +1,7 @@
 //! What a client keeps of a call.
 ghost use Rattle.std.specs.Prelude.{◌≡◌};
 ghost use Rattle.ttrpc_client.specs.Client.{deadline_of};
+ghost use Rattle.ttrpc_client.specs.Happens.{is_due};
 ghost use Rattle.ttrpc_client.specs.Kept.{deadline_in};
 
 use ttrpc_error::Error;
@@ -19,6 +20,15 @@ pub enum Call {
     Expired,
     /// A frame ended it with this outcome.
     Ended(Result<Response, Error>),
+}
+
+impl Call {
+    /// Whether it waits, and its deadline has come by this moment.
+    pub fn is_due(&self, now: u64) -> bool
+        ensures { result ≡ is_due now self.now }
+    {
+        matches!(self, Call::Waiting(Some(deadline)) if *deadline <= u128::from(now))
+    }
 }
 
 /// The moment until which a call waits, if it waits and there is one.

@@ -1,13 +1,13 @@
 //! The core of a client: calls and frames in, requests and outcomes out.
 ghost use Rattle.std.specs.Prelude.{◌≡◌, ◌≢◌, ◌<◌, ◌≤◌, ◌%◌, ◌^◌, ◌+◌, ◌++◌, ◌↔◌, ◌⊎◌, ℕ, [], length, take, drop, min, is_some, if◌then◌else◌, true, option_to_list, IfOk, IfErr, OnOk, OnErr, IfSome, IfNone, Some, None};
 ghost use Rattle.ttrpc_frame.specs.Frames.{nothing};
-ghost use Rattle.ttrpc_frame.specs.Queue.{open_part, unsent, with_lent, after_report, has_begun, without};
+ghost use Rattle.ttrpc_frame.specs.Queue.{open_part, unsent, with_lent, after_report};
 ghost use Rattle.ttrpc_connection.specs.declared.failure.Failure.{Failure as AFailure};
 ghost use Rattle.ttrpc_connection.specs.Failure.{IsTold, error_of, kept};
 ghost use Rattle.ttrpc_connection.specs.Feeds.{Breaks, Feeds, IsFailed};
 ghost use Rattle.ttrpc_connection.specs.Frames.{safe_limit};
 ghost use Rattle.ttrpc_client.specs.Client.{throws};
-ghost use Rattle.ttrpc_client.specs.Happens.{Forgets, IsDeadline, Requests, Tells, Ticks, calling, due_ids, new_core};
+ghost use Rattle.ttrpc_client.specs.Happens.{Forgets, IsDeadline, Requests, Tells, Ticks, calling, due_ids, new_core, taken_back};
 ghost use Rattle.ttrpc_client.specs.Inside.{Begins, MayRefuse};
 ghost use Rattle.ttrpc_client.specs.Table.{IsRequestFrame, RefusesRequest};
 
@@ -20,7 +20,7 @@ use std::alloc::Global;
 use ttrpc_codec::Codec;
 use ttrpc_connection::{Connection, Failure, Outbox, unsealed_error};
 use ttrpc_error::Error;
-use ttrpc_frame::{GenMessage, Queued};
+use ttrpc_frame::{GenMessage, Owners, Queued};
 use ttrpc_header::{MESSAGE_LENGTH_MAX, MessageHeader};
 use ttrpc_proto::Request;
 use ttrpc_secure::{InboundTransform, OutboundTransform, SendError, TransformError};
@@ -121,9 +121,11 @@ impl<O: OutboundTransform + Drop, I: InboundTransform + Drop> ClientCore<O, I> {
         if !waited || self.connection.has_failed() || !self.throws() {
             return;
         }
-        if take_back(&mut self.connection.outbox, id) {
-            self.connection.fail(Failure::CancelledDuringWrite);
-        }
+        take_back(
+            &mut self.connection,
+            &u64::from(id),
+            Failure::CancelledDuringWrite,
+        );
     }
 
     /// Says that this moment, in nanoseconds, has come. The calls whose deadline it is or was expire. Where requests may
@@ -135,16 +137,20 @@ impl<O: OutboundTransform + Drop, I: InboundTransform + Drop> ClientCore<O, I> {
         if self.connection.has_failed() {
             return;
         }
-        let throws = self.throws();
-        let mut late = false;
-        while let Some(id) = self.state.expire_first(now) {
-            if throws {
-                late |= take_back(&mut self.connection.outbox, id);
-            }
+        let Some(soonest) = self.state.next_deadline() else {
+            return;
+        };
+        if now < soonest {
+            return;
         }
-        if late {
-            self.connection.fail(Failure::DeadlineDuringWrite);
+        if self.throws() {
+            let due = DueCalls {
+                state: &self.state,
+                moment: now,
+            };
+            take_back(&mut self.connection, &due, Failure::DeadlineDuringWrite);
         }
+        self.state.expire(now);
     }
 
     /// The least moment at which `tick` would expire a call: none where it never would. Takes no memory.
@@ -286,15 +292,38 @@ impl<O: OutboundTransform + Drop, I: InboundTransform + Drop> ClientCore<O, I> {
     }
 }
 
-/// A call's request is thrown away, unless it has begun. Says whether it has.
-fn take_back<O: OutboundTransform + Drop>(outbox: &mut Outbox<O>, id: CallId) -> bool
-    ensures begun { result ≡ has_begun outbox.old.queue id }
-    ensures thrown { outbox.new ≡ record outbox.old { queue = without outbox.old.queue id } }
+/// The calls of a client that are due at a moment.
+#[derive(Drop)]
+struct DueCalls<'a> {
+    state: &'a ClientState,
+    moment: u64,
+}
+
+impl Owners for DueCalls<'_> {
+    ghost use Rattle.ttrpc_client.specs.Client.{call_at};
+    ghost use Rattle.ttrpc_client.specs.Happens.{due_at};
+
+    ghost has = { λ due id. due_at due.moment (call_at due.state.now id) };
+
+    fn has(&self, owner: u64) -> bool {
+        self.state.is_due(owner, self.moment)
+    }
+}
+
+/// Takes the requests of these calls back: those that haven't begun are thrown away, and where one has, the connection
+/// fails for this.
+fn take_back<O: OutboundTransform + Drop, I: InboundTransform + Drop, W: Owners>(
+    connection: &mut Connection<O, I>,
+    calls: &W,
+    why: Failure,
+)
+    ensures { connection.new ≡ taken_back connection.old (W.has calls.now) why }
 {
-    let owner = u64::from(id);
-    let has_begun = outbox.has_begun(owner);
-    outbox.throw_away(owner);
-    has_begun
+    let has_begun = connection.outbox.has_begun(calls);
+    connection.outbox.throw_away(calls);
+    if has_begun {
+        connection.fail(why);
+    }
 }
 
 /// The frame that carries the request of a call, without its payload.

@@ -1,7 +1,7 @@
 //! Laws over the definitions: what the contracts of single calls come to over whole runs. A run is any list of calls
 //! that were accepted, one after the other, over a connection that may fail at any of them; with it stands what its
 //! queue goes through.
-ghost use Rattle.std.specs.Prelude.{◌≡◌, ◌≢◌, ◌≤◌, ◌++◌, ℕ, List, [], None, true, false, length, take, drop, filter, nat_eq, IsPermutation};
+ghost use Rattle.std.specs.Prelude.{◌≡◌, ◌≢◌, ◌≤◌, ◌++◌, ℕ, List, [], None, true, false, not, ◌&&◌, length, take, drop, filter, nat_eq, IsPermutation};
 ghost use Rattle.std.specs.List.{AllByRecursion, IsDistinct};
 ghost use Rattle.ttrpc_frame.specs.declared.outgoing.Queued.{Queued as AFrame};
 ghost use Rattle.ttrpc_frame.specs.Frames.{nothing};
@@ -9,9 +9,9 @@ ghost use Rattle.ttrpc_frame.specs.Queue.{Happening, IsMerge, IsQueue, all_bytes
 ghost use Rattle.ttrpc_connection.specs.declared.connection.Connection.{Connection as AConnection};
 ghost use Rattle.ttrpc_connection.specs.Calls.{Call, Goes, Runs, joined};
 ghost use Rattle.ttrpc_client.specs.declared.client.ClientCore.{ClientCore as ACore};
-ghost use Rattle.ttrpc_client.specs.Calls.{AreQueuedOnce, Called, Causes, Does, RiseByTwo, called, ids_asked, is_of_none, outcomes_of, requests_in};
+ghost use Rattle.ttrpc_client.specs.Calls.{AreQueuedOnce, Called, Causes, Does, RiseByTwo, called, ids_asked, outcomes_of};
 ghost use Rattle.ttrpc_client.specs.Client.{Client, IsClient, call_at, throws};
-ghost use Rattle.ttrpc_client.specs.Happens.{Ticks, calling, due_ids};
+ghost use Rattle.ttrpc_client.specs.Happens.{Ticks, calling, due_at};
 
 use ttrpc_secure::{InboundTransform, OutboundTransform};
 
@@ -20,8 +20,8 @@ use ttrpc_secure::{InboundTransform, OutboundTransform};
 /// of the frames that depart, in order; and those are the frames that were queued, in order, without the ones that were
 /// thrown away. Where requests may not be thrown away, none is.
 pub fn what_leaves_was_queued<O: OutboundTransform, I: InboundTransform>()
-    ensures caused { (old new : ACore O I) (call : Called) → (did : Does O.OutboundTransform O.SEALS call old new)
-        → (happenings : List Happening) × Causes O.OutboundTransform O.SEALS call old new did happenings }
+    ensures caused { (old new : ACore O I) (call : Called) → Does O.OutboundTransform O.SEALS call old new
+        → (happenings : List Happening) × Causes call O.SEALS old new happenings }
     ensures goes { (s t : Client) (old new : AConnection O I) (calls : List (Call Called)) (happenings : List Happening)
         → Runs (calling O.OutboundTransform I.InboundTransform) (called O.OutboundTransform O.SEALS) s old calls happenings t new
         → Goes old.outbox.queue happenings new.outbox.queue }
@@ -86,12 +86,11 @@ pub fn requests_queued_once<O: OutboundTransform, I: InboundTransform>()
         → AreQueuedOnce t.next new.outbox.queue.frames }
 {}
 
-/// Where requests may be thrown away and none is queued twice, a tick leaves no request of a call that was due but one
-/// that has begun, and all other frames, in their order.
+/// Where requests may be thrown away, a tick leaves no request of a call that was due but one that has begun, and all
+/// other frames, in their order.
 pub fn a_tick_leaves_no_due_request<O: OutboundTransform, I: InboundTransform>()
-    ensures { (old new : ACore O I) (now : ℕ) → throws old.state.kind O.SEALS ≡ true
-        → IsDistinct nat_eq (requests_in old.connection.outbox.queue.frames) → Ticks O.SEALS old now new
+    ensures { (old new : ACore O I) (now : ℕ) → throws old.state.kind O.SEALS ≡ true → Ticks O.SEALS old now new
         → new.connection.outbox.queue.frames
         ≡ take (begun_count old.connection.outbox.queue) old.connection.outbox.queue.frames
-        ++ filter (is_of_none (due_ids now old.state.calls)) (drop (begun_count old.connection.outbox.queue) old.connection.outbox.queue.frames) }
+        ++ filter (λ f. not (f.is_unary_request && due_at now (call_at old.state f.owner))) (drop (begun_count old.connection.outbox.queue) old.connection.outbox.queue.frames) }
 {}

@@ -1,8 +1,8 @@
 //! What a client core is beside its connection, and how a whole frame acts on it.
 ghost use Rattle.std.specs.Prelude.{◌≡◌, ◌%◌, ◌+◌, ◌++◌, ◌<◌, ◌^◌, ℕ, [], true, false, option_to_list, IfSome, IfNone, OnOk, OnErr, Option, Some};
 ghost use Rattle.ttrpc_client.specs.Client.{Client, call_at, new_client, waits};
-ghost use Rattle.ttrpc_client.specs.Happens.{IsDeadline, due_ids};
-ghost use Rattle.ttrpc_client.specs.Inside.{Admits, Expires, Leaves, Settles, Takes, given_of};
+ghost use Rattle.ttrpc_client.specs.Happens.{Expires, IsDeadline, due_at, due_ids};
+ghost use Rattle.ttrpc_client.specs.Inside.{Admits, ExpiresOne, Leaves, Settles, Takes, given_of};
 ghost use Rattle.ttrpc_client.specs.Table.{last_id};
 
 use crate::call::{Call, CallId, waits_until};
@@ -130,9 +130,27 @@ impl ClientState {
         }
     }
 
-    /// The first of the calls that are due at this moment expires. Takes no memory.
-    pub(crate) fn expire_first(&mut self, now: u64) -> Option<CallId>
-        ensures some { IfSome result (λ id. Expires self.old now id self.new) }
+    /// Whether a call of this id is due at this moment.
+    pub(crate) fn is_due(&self, id: u64, now: u64) -> bool
+        ensures { result ≡ due_at now (call_at self.now id) }
+    {
+        let calls = &self.calls;
+        let Ok(id) = CallId::try_from(id) else {
+            return false;
+        };
+        calls.get(&id).is_some_and(|call| call.is_due(now))
+    }
+
+    /// The calls that are due at this moment expire. Takes no memory.
+    pub(crate) fn expire(&mut self, now: u64)
+        ensures { Expires self.old now self.new }
+    {
+        while let Some(_) = self.expire_first(now) {}
+    }
+
+    /// The first of the calls that are due at this moment expires.
+    fn expire_first(&mut self, now: u64) -> Option<CallId>
+        ensures some { IfSome result (λ id. ExpiresOne self.old now id self.new) }
         ensures none { IfNone result ((self.new ≡ self.old) × (due_ids now self.old.calls ≡ [])) }
     {
         let (deadline, id) = self.deadlines.first()?;

@@ -7,7 +7,7 @@ ghost use Rattle.ttrpc_secure.specs.Sends.{associated};
 ghost use Rattle.ttrpc_connection.specs.Frames.{SendsOne, safe_limit};
 
 use std::alloc::Global;
-use ttrpc_frame::{Outgoing, Queued};
+use ttrpc_frame::{Outgoing, Owners, Queued};
 use ttrpc_header::MESSAGE_LENGTH_MAX;
 use ttrpc_secure::{OutboundTransform, SendError, send};
 
@@ -88,17 +88,17 @@ impl<O: OutboundTransform + Drop> Outbox<O> {
         self.queue.lent()
     }
 
-    /// Whether a byte of this owner's unary request, which is the first frame, was ever lent.
-    pub fn has_begun(&self, owner: u64) -> bool
-        ensures { result ≡ has_begun self.now.queue owner }
+    /// Whether a byte of the first frame was ever lent, and it is a unary request of one of these owners.
+    pub fn has_begun<W: Owners>(&self, owners: &W) -> bool
+        ensures { result ≡ has_begun self.now.queue (W.has owners.now) }
     {
-        self.queue.has_begun(owner)
+        self.queue.has_begun(owners)
     }
 
-    /// Throws away the first unary request of this owner that hasn't begun, if there is one. Takes no memory.
-    pub fn throw_away(&mut self, owner: u64)
-        ensures { self.new ≡ record self.old { queue = without self.old.queue owner } }
+    /// Throws away the unary requests of these owners that haven't begun. Takes no memory.
+    pub fn throw_away<W: Owners>(&mut self, owners: &W)
+        ensures { self.new ≡ record self.old { queue = without self.old.queue (W.has owners.now) } }
     {
-        self.queue.throw_away(owner)
+        self.queue.throw_away(owners)
     }
 }

@@ -1,13 +1,11 @@
 -- What a connection sends takes wing, and what comes in acts as it was sent.
 use Rattle.std.proofs.Common.{◌≡◌, ℕ, List, [], ◌∷◌, ◌++◌, map, refl, sym, ap, subst, ◌∙◌, append_assoc}
 use Rattle.std.proofs.lemmas.List.{append-nil}
-use Rattle.ttrpc_frame.specs.declared.outgoing.Queued.{Queued}
 use Rattle.ttrpc_frame.specs.Queue.{Queue, with_payload}
 use Rattle.ttrpc_secure.specs.declared.transform.OutboundTransform.{Ghosts as OutboundTransform}
 use Rattle.ttrpc_secure.specs.Halves.{Moves, Refusals}
 use Rattle.ttrpc_connection.specs.declared.outbox.Outbox.{Outbox}
 use Rattle.ttrpc_connection.specs.declared.arrived.Opening.{Opening}
-use Rattle.ttrpc_connection.specs.declared.arrived.Opening.TheVariants.{Opened}
 use Rattle.ttrpc_connection.specs.Frames.{Sent, SendsAll}
 use Rattle.ttrpc_connection.specs.Feeds.{Ways, Scene, ActsAll}
 use Rattle.ttrpc_flight.specs.Flight.{Flying, ActsOn, AreLinked, arrived, frames_of}

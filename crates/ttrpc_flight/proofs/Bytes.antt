@@ -1,5 +1,6 @@
 -- The bytes in flight: what is queued, what leaves, what is thrown away or cut off, and what comes in. No seals.
 use Rattle.std.proofs.Common.{◌≡◌, ◌+◌, ◌-◌, ◌<◌, ◌≤◌, inl, inr, ℕ, Bool, true, false, cond, List, [], ◌∷◌, ◌++◌, length, map, take, drop, arith, refl, sym, ap, subst, ◌∙◌, append_assoc, length-append, length-drop}
+use Rattle.std.specs.List.{filter}
 use Rattle.std.proofs.Math.Seq.{take-append-add}
 use Rattle.std.proofs.lemmas.Bool.{cases_lt}
 use Rattle.std.proofs.lemmas.List.{append-nil, take-append-drop, take-append-le, take-take, take_all, drop-take, drop_at, length-take-le, map-append, map_push, take-map, drop-map}
@@ -10,12 +11,12 @@ use Rattle.ttrpc_header.proofs.Headers as headers
 use Rattle.ttrpc_frame.specs.declared.frame.Incoming.{Incoming}
 use Rattle.ttrpc_frame.specs.declared.outgoing.Queued.{Queued}
 use Rattle.ttrpc_frame.specs.Frames.{IsFrame, Frames, IsRest, Held, nothing, Holds, Fed}
-use Rattle.ttrpc_frame.specs.Queue.{Queue, IsWithin, written, written_all, first_open, open_part, empty_queue, with_frame, with_lent, after_report, begun_count, is_request_of, frames_without, others_without, without}
+use Rattle.ttrpc_frame.specs.Queue.{Queue, IsWithin, written, written_all, first_open, open_part, empty_queue, with_frame, with_lent, after_report, begun_count, frames_without, without}
 use Rattle.ttrpc_frame.proofs.Frames.{exact, header_front, nothing_held}
 use Rattle.ttrpc_frame.proofs.Pieces.{one_list, is_frames}
 use Rattle.ttrpc_frame.proofs.Queues.{length-written, written_is, fresh_is_queue, with_frame_is_queue, with_lent_is_queue, after_report_is_queue, without_is_queue, report_of_a_part, report_of_all}
-use Rattle.ttrpc_flight.specs.Flight.{Flying, AreInFlight, IsSound, AreSound, arrived, carried, frames_of, flying_without, others_flying_without}
-use Rattle.ttrpc_flight.proofs.Losing.{all_behind, all_in_front, all_joined, all_thrown}
+use Rattle.ttrpc_flight.specs.Flight.{Flying, AreInFlight, IsSound, AreSound, arrived, carried, frames_of, flying_without}
+use Rattle.ttrpc_flight.proofs.Losing.{all_behind, all_in_front, all_joined, all_thrown, stays}
 
 -- ---- nothing is in flight
 
@@ -162,39 +163,39 @@ carried_in_flight held pipe cut q transit queued n le f = elim (cases_lt (q.repo
 
 -- ---- a request is thrown away
 
-frames_first_gone : (b : Bool) (x : Flying) (xs left : List Flying) → frames_of (cond b xs (x ∷ left)) ≡ cond b (frames_of xs) (x.frame ∷ frames_of left)
-frames_first_gone true x xs left = refl
-frames_first_gone false x xs left = refl
+frames_at : (b : Bool) (x : Flying) (xs : List Flying) → frames_of (cond b (x ∷ xs) xs) ≡ cond b (x.frame ∷ frames_of xs) (frames_of xs)
+frames_at true x xs = refl
+frames_at false x xs = refl
 
-frames_flying_without : (owner : ℕ) (xs : List Flying) → frames_of (flying_without owner xs) ≡ frames_without owner (frames_of xs)
-frames_flying_without owner [] = refl
-frames_flying_without owner (x ∷ xs) =
-    frames_first_gone (is_request_of owner x.frame) x xs (flying_without owner xs)
-    ∙ ap (λ fs. cond (is_request_of owner x.frame) (frames_of xs) (x.frame ∷ fs)) (frames_flying_without owner xs)
+frames_left : (owners : ℕ → Bool) (xs : List Flying) → frames_of (filter (stays owners) xs) ≡ frames_without owners (frames_of xs)
+frames_left owners [] = refl
+frames_left owners (x ∷ xs) =
+    frames_at (stays owners x) x (filter (stays owners) xs) ∙ ap (λ fs. cond (stays owners x) (x.frame ∷ fs) fs) (frames_left owners xs)
 
-frames_others : (owner n : ℕ) (xs : List Flying) → frames_of (others_flying_without owner n xs) ≡ others_without owner n (frames_of xs)
-frames_others owner n xs =
-    map-append Flying.frame (take n xs) (flying_without owner (drop n xs))
-    ∙ ap (λ fs. fs ++ frames_of (flying_without owner (drop n xs))) (sym (take-map Flying.frame n xs))
-    ∙ ap (λ fs. take n (frames_of xs) ++ fs) (frames_flying_without owner (drop n xs) ∙ ap (frames_without owner) (sym (drop-map Flying.frame n xs)))
+frames_others : (owners : ℕ → Bool) (n : ℕ) (xs : List Flying) → frames_of (flying_without owners n xs) ≡ take n (frames_of xs) ++ frames_without owners (drop n (frames_of xs))
+frames_others owners n xs =
+    map-append Flying.frame (take n xs) (filter (stays owners) (drop n xs))
+    ∙ ap (λ fs. fs ++ frames_of (filter (stays owners) (drop n xs))) (sym (take-map Flying.frame n xs))
+    ∙ ap (λ fs. take n (frames_of xs) ++ fs) (frames_left owners (drop n xs) ∙ ap (frames_without owners) (sym (drop-map Flying.frame n xs)))
 
 -- Of the first frame a byte was reported only where it has begun, and then it stays.
-begun_stays : (b : Bool) (owner : ℕ) (fs : List Queued) (m : ℕ) → IsWithin fs m → (b ≡ false → m ≡ 0) → take m (written_all (others_without owner (cond b 1 0) fs)) ≡ take m (written_all fs)
-begun_stays false owner fs m within fresh =
-    ap (λ k. take k (written_all (frames_without owner fs))) (fresh refl) ∙ sym (ap (λ k. take k (written_all fs)) (fresh refl))
-begun_stays true owner [] m within fresh = refl
-begun_stays true owner (f ∷ fs) m within fresh = begun_part f (frames_without owner fs) m (omega (arith, within)) ∙ sym (begun_part f fs m (omega (arith, within)))
+begun_stays : (b : Bool) (owners : ℕ → Bool) (fs : List Queued) (m : ℕ) → IsWithin fs m → (b ≡ false → m ≡ 0)
+    → take m (written_all (take (cond b 1 0) fs ++ frames_without owners (drop (cond b 1 0) fs))) ≡ take m (written_all fs)
+begun_stays false owners fs m within fresh =
+    ap (λ k. take k (written_all (frames_without owners fs))) (fresh refl) ∙ sym (ap (λ k. take k (written_all fs)) (fresh refl))
+begun_stays true owners [] m within fresh = refl
+begun_stays true owners (f ∷ fs) m within fresh = begun_part f (frames_without owners fs) m (omega (arith, within)) ∙ sym (begun_part f fs m (omega (arith, within)))
 
-pub thrown_in_flight : (held : Held) (pipe : List ℕ) (cut : Bool) (q : Queue) (transit queued : List Flying) (owner : ℕ) → AreInFlight held pipe cut q transit queued
-    → AreInFlight held pipe cut (without q owner) transit (others_flying_without owner (begun_count q) queued)
-thrown_in_flight held pipe cut q transit queued owner f = record {
-  valid = without_is_queue q owner f.valid;
-  same = frames_others owner (begun_count q) queued ∙ ap (others_without owner (begun_count q)) f.same;
-  sound = all_thrown (λ (x : Flying). IsSound x.frame) owner (begun_count q) transit queued f.sound;
+pub thrown_in_flight : (held : Held) (pipe : List ℕ) (cut : Bool) (q : Queue) (transit queued : List Flying) (owners : ℕ → Bool) → AreInFlight held pipe cut q transit queued
+    → AreInFlight held pipe cut (without q owners) transit (flying_without owners (begun_count q) queued)
+thrown_in_flight held pipe cut q transit queued owners f = record {
+  valid = without_is_queue q owners f.valid;
+  same = frames_others owners (begun_count q) queued ∙ ap (λ fs. take (begun_count q) fs ++ frames_without owners (drop (begun_count q) fs)) f.same;
+  sound = all_thrown (λ (x : Flying). IsSound x.frame) owners (begun_count q) transit queued f.sound;
   before = f.before;
   holds = f.holds;
   lost = f.lost;
-  bytes = f.bytes ∙ ap (λ bs. written_all (frames_of transit) ++ bs) (sym (begun_stays q.begun owner q.frames q.reported f.valid.within (λ e. (f.valid.fresh e).0)));
+  bytes = f.bytes ∙ ap (λ bs. written_all (frames_of transit) ++ bs) (sym (begun_stays q.begun owners q.frames q.reported f.valid.within (λ e. (f.valid.fresh e).0)));
   uncut = f.uncut;
 }
 

@@ -1,11 +1,11 @@
 -- The flights of one stream, and what a throw leaves of them. No bytes, no seals, no queue.
-use Rattle.std.proofs.Common.{◌≡◌, ◌≢◌, ◌≤◌, ◌&&◌, ◌⊎◌, inl, inr, ℕ, Bool, true, false, nat_eq, List, [], ◌∷◌, ◌++◌, length, arith, refl, sym, ap, subst, ◌∙◌, length-append}
-use Rattle.std.specs.List.{AllByRecursion}
-use Rattle.std.proofs.lemmas.Bool.{cond-true, cond-false, eq-eqb, ne_eqb, eqb-true, cases_eq}
+use Rattle.std.proofs.Common.{◌≡◌, ◌≢◌, ◌≤◌, ◌&&◌, not, ◌⊎◌, inl, inr, ℕ, Bool, true, false, nat_eq, List, [], ◌∷◌, ◌++◌, length, arith, refl, sym, ap, subst, ◌∙◌, length-append}
+use Rattle.std.specs.List.{AllByRecursion, filter}
+use Rattle.std.proofs.lemmas.Bool.{cond-true, cond-false, eq-eqb, ne_eqb, eqb-true}
 use Rattle.std.proofs.lemmas.List.{append-nil}
 use Rattle.std.proofs.lemmas.List.Elements.{filter-append}
-use Rattle.ttrpc_flight.specs.Flight.{Flying, IsOwnRequest, others_flying_without, parcels}
-use Rattle.ttrpc_flight.proofs.Losing.{LosesOne, all_behind, loses_behind, throw_takes_one}
+use Rattle.ttrpc_flight.specs.Flight.{Flying, IsOwnRequest, flying_without, parcels}
+use Rattle.ttrpc_flight.proofs.Losing.{all_behind, left_behind, stays}
 
 -- ---- the flights of one stream
 
@@ -27,51 +27,64 @@ parcels-push_other k x xs other = parcels-append k xs (x ∷ []) ∙ ap (λ ys. 
 pub parcels-push_own : (k : ℕ) (x : Flying) (xs : List Flying) → x.frame.message.header.stream_id ≡ k → parcels k (xs ++ x ∷ []) ≡ parcels k xs ++ x ∷ []
 parcels-push_own k x xs own = parcels-append k xs (x ∷ []) ∙ ap (λ ys. parcels k xs ++ ys) (parcels-cons_own k x [] own)
 
--- a flight of another stream is gone
-left_elsewhere : (k owner : ℕ) (all left : List Flying) → (h : LosesOne owner all left) → id_of h.gone ≢ k → parcels k left ≡ parcels k all
-left_elsewhere k owner all left h other =
-    ap (parcels k) h.is ∙ parcels-append k h.front h.back
-    ∙ ap (λ ys. parcels k h.front ++ ys) (sym (parcels-cons_other k h.gone h.back other))
-    ∙ sym (parcels-append k h.front (h.gone ∷ h.back)) ∙ ap (parcels k) (sym h.was)
+-- ---- what a throw leaves of them
 
-and_right : (a b : Bool) → a && b ≡ true → b ≡ true
-and_right true b e = e
-and_right false b e = absurd (cc)
+-- of at most one item it stays or nothing does
+filter_twice_at : {X : Type 0} (p q : X → Bool) (x : X) (xs : List X) (b c : Bool) → p x ≡ b → q x ≡ c → filter p (filter q xs) ≡ filter q (filter p xs)
+    → filter p (filter q (x ∷ xs)) ≡ filter q (filter p (x ∷ xs))
+filter_twice_at p q x xs true true e f later = rw (f, e, f, later) refl
+filter_twice_at p q x xs true false e f later = rw (f, e, f, later) refl
+filter_twice_at p q x xs false true e f later = rw (f, e, later) refl
+filter_twice_at p q x xs false false e f later = rw (f, e, later) refl
 
-own_elsewhere : (k owner : ℕ) (all left : List Flying) → LosesOne owner all left → k ≢ owner → AllByRecursion IsOwnRequest all → parcels k left ≡ parcels k all
-own_elsewhere k owner all left h other each =
-    let own : IsOwnRequest h.gone = (all_behind IsOwnRequest h.front (h.gone ∷ h.back) (subst (AllByRecursion IsOwnRequest) h.was each)).0 in
-    let of_owner : h.gone.frame.owner ≡ owner = eqb-true h.gone.frame.owner owner (and_right h.gone.frame.is_unary_request (nat_eq h.gone.frame.owner owner) h.request) in
-    left_elsewhere k owner all left h (λ same. other (sym same ∙ sym own.1 ∙ of_owner))
+filter_twice : {X : Type 0} (p q : X → Bool) (xs : List X) → filter p (filter q xs) ≡ filter q (filter p xs)
+filter_twice p q [] = refl
+filter_twice p q (x ∷ xs) = filter_twice_at p q x xs (p x) (q x) refl refl (filter_twice p q xs)
 
-pub parcels_thrown_elsewhere : (k owner n : ℕ) (queued : List Flying) → k ≢ owner → AllByRecursion IsOwnRequest queued → parcels k (others_flying_without owner n queued) ≡ parcels k queued
-parcels_thrown_elsewhere k owner n queued other each = elim (throw_takes_one owner n queued) [
-  | inl same ↦ ap (parcels k) same
-  | inr one ↦ own_elsewhere k owner queued (others_flying_without owner n queued) one other each
-]
+one_left : {X : Type 0} (p : X → Bool) (x : X) (b : Bool) → p x ≡ b → (filter p (x ∷ []) ≡ x ∷ []) ⊎ (filter p (x ∷ []) ≡ [])
+one_left p x true e = inl (rw e refl)
+one_left p x false e = inr (rw e refl)
 
--- the only flight of the stream is gone
-none_left : {X : Type 0} (xs ys : List X) (x : X) → length (xs ++ x ∷ ys) ≤ 1 → xs ++ ys ≡ []
-none_left [] [] x le = refl
-none_left [] (y ∷ ys) x le = absurd (omega (arith, le))
-none_left (z ∷ xs) ys x le = absurd (omega (arith, le, length-append xs (x ∷ ys)))
+few_left : {X : Type 0} (p : X → Bool) (xs ys : List X) → length (xs ++ ys) ≤ 1 → (xs ++ filter p ys ≡ xs ++ ys) ⊎ (xs ++ filter p ys ≡ [])
+few_left p xs [] le = inl refl
+few_left p [] (y ∷ []) le = one_left p y (p y) refl
+few_left p [] (y ∷ z ∷ ys) le = absurd (omega (arith, le))
+few_left p (x ∷ xs) (y ∷ ys) le = absurd (omega (arith, le, length-append xs (y ∷ ys)))
 
-left_here : (k owner : ℕ) (all left : List Flying) → (h : LosesOne owner all left) → id_of h.gone ≡ k → length (parcels k all) ≤ 1 → parcels k left ≡ []
-left_here k owner all left h here le =
-    let parts : parcels k all ≡ parcels k h.front ++ h.gone ∷ parcels k h.back =
-    ap (parcels k) h.was ∙ parcels-append k h.front (h.gone ∷ h.back) ∙ ap (λ ys. parcels k h.front ++ ys) (parcels-cons_own k h.gone h.back here) in
-    ap (parcels k) h.is ∙ parcels-append k h.front h.back
-    ∙ none_left (parcels k h.front) (parcels k h.back) h.gone (subst (λ ys. length ys ≤ 1) parts le)
+abbrev LeftOf : ℕ → List Flying → List Flying → Type 0
+LeftOf k all left = length (parcels k all) ≤ 1 → (parcels k left ≡ parcels k all) ⊎ (parcels k left ≡ [])
 
-left_anywhere : (k owner : ℕ) (all left : List Flying) → LosesOne owner all left → length (parcels k all) ≤ 1 → (parcels k left ≡ parcels k all) ⊎ (parcels k left ≡ [])
-left_anywhere k owner all left h le = elim (cases_eq (id_of h.gone) k) [
-  | inl here ↦ inr (left_here k owner all left h here le)
-  | inr other ↦ inl (left_elsewhere k owner all left h other)
-]
+left_of : (k : ℕ) (keep : Flying → Bool) (front back : List Flying) → LeftOf k (front ++ back) (front ++ filter keep back)
+left_of k keep front back le =
+    let all = parcels-append k front back in
+    let left : parcels k (front ++ filter keep back) ≡ parcels k front ++ filter keep (parcels k back) =
+    parcels-append k front (filter keep back) ∙ ap (λ xs. parcels k front ++ xs) (filter_twice (λ (x : Flying). nat_eq (id_of x) k) keep back) in
+    rw (all, left) (few_left keep (parcels k front) (parcels k back) (subst (λ (xs : List Flying). length xs ≤ 1) all le))
 
-pub parcels_thrown : (k owner n : ℕ) (transit queued : List Flying) → length (parcels k (transit ++ queued)) ≤ 1
-    → (parcels k (transit ++ others_flying_without owner n queued) ≡ parcels k (transit ++ queued)) ⊎ (parcels k (transit ++ others_flying_without owner n queued) ≡ [])
-parcels_thrown k owner n transit queued le = elim (throw_takes_one owner n queued) [
-  | inl same ↦ inl (ap (λ xs. parcels k (transit ++ xs)) same)
-  | inr one ↦ left_anywhere k owner (transit ++ queued) (transit ++ others_flying_without owner n queued) (loses_behind owner transit queued (others_flying_without owner n queued) one) le
-]
+pub parcels_thrown : (k : ℕ) (owners : ℕ → Bool) (n : ℕ) (transit queued : List Flying) → LeftOf k (transit ++ queued) (transit ++ flying_without owners n queued)
+parcels_thrown k owners n transit queued = left_behind (LeftOf k) owners n transit queued (left_of k (stays owners))
+
+-- requests of other owners stay
+and_not : (a b : Bool) → b ≡ false → not (a && b) ≡ true
+and_not true b e = rw e refl
+and_not false b e = refl
+
+stays_there : (k : ℕ) (owners : ℕ → Bool) (x : Flying) → owners k ≡ false → IsOwnRequest x → id_of x ≡ k → stays owners x ≡ true
+stays_there k owners x none own is = and_not x.frame.is_unary_request (owners x.frame.owner) (ap owners (own.1 ∙ is) ∙ none)
+
+own_stay_at : (k : ℕ) (owners : ℕ → Bool) (x : Flying) (xs : List Flying) (b : Bool) → nat_eq (id_of x) k ≡ b → owners k ≡ false → IsOwnRequest x
+    → filter (stays owners) (parcels k xs) ≡ parcels k xs → filter (stays owners) (parcels k (x ∷ xs)) ≡ parcels k (x ∷ xs)
+own_stay_at k owners x xs true e none own later = rw (e, stays_there k owners x none own (eqb-true (id_of x) k e), later) refl
+own_stay_at k owners x xs false e none own later = rw (e, later) refl
+
+own_stay : (k : ℕ) (owners : ℕ → Bool) → owners k ≡ false → (xs : List Flying) → AllByRecursion IsOwnRequest xs → filter (stays owners) (parcels k xs) ≡ parcels k xs
+own_stay k owners none [] own = refl
+own_stay k owners none (x ∷ xs) own = own_stay_at k owners x xs (nat_eq (id_of x) k) refl none own.0 (own_stay k owners none xs own.1)
+
+pub parcels_thrown_elsewhere : (k : ℕ) (owners : ℕ → Bool) (n : ℕ) (queued : List Flying) → owners k ≡ false → AllByRecursion IsOwnRequest queued
+    → parcels k (flying_without owners n queued) ≡ parcels k queued
+parcels_thrown_elsewhere k owners n queued none =
+    left_behind (λ all left. AllByRecursion IsOwnRequest all → parcels k left ≡ parcels k all) owners n [] queued
+    (λ front back own. parcels-append k front (filter (stays owners) back)
+    ∙ ap (λ xs. parcels k front ++ xs) (filter_twice (λ (x : Flying). nat_eq (id_of x) k) (stays owners) back ∙ own_stay k owners none back (all_behind IsOwnRequest front back own))
+    ∙ sym (parcels-append k front back))

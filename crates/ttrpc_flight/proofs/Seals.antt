@@ -1,14 +1,15 @@
 -- The seals in flight: a chain from a state that is paired with the half that will open them. No bytes of a stream, no
 -- queue.
-use Rattle.std.proofs.Common.{◌≡◌, inl, inr, ℕ, suc, List, [], ◌∷◌, ◌++◌, refl, sym, ap, subst}
+use Rattle.std.proofs.Common.{◌≡◌, ℕ, suc, Bool, true, false, List, [], ◌∷◌, ◌++◌, refl, ap, subst}
+use Rattle.std.specs.List.{filter}
 use Rattle.ttrpc_secure.specs.Halves.{Moves, Refusals, IsPaired}
 use Rattle.ttrpc_secure.specs.Sends.{associated}
 use Rattle.ttrpc_secure.specs.declared.transform.InboundTransform.{Ghosts as InboundTransform}
 use Rattle.ttrpc_connection.specs.declared.arrived.Opening.{Opening}
 use Rattle.ttrpc_connection.specs.declared.arrived.Opening.TheVariants.{TooLong, Opened, Refused}
 use Rattle.ttrpc_connection.specs.Frames.{Opens}
-use Rattle.ttrpc_flight.specs.Flight.{Flying, AreLinked, Chain, arrived, others_flying_without}
-use Rattle.ttrpc_flight.proofs.Losing.{LosesOne, loses_behind, throw_takes_one}
+use Rattle.ttrpc_flight.specs.Flight.{Flying, AreLinked, Chain, arrived, flying_without}
+use Rattle.ttrpc_flight.proofs.Losing.{left_behind, stays}
 
 pub none_linked : {O I : Type 0} (seals : Moves O) (opens : Moves I) (refuses : Refusals I) (s : O) (t : I) → IsPaired seals opens refuses s t → AreLinked seals opens refuses [] s t
 none_linked seals opens refuses s t paired = record { start = s; paired = paired; chain = refl }
@@ -38,23 +39,23 @@ first_opened seals h x xs out in_ (Opened plain) later l opens = (
   },
 )
 
--- ---- one is thrown away that didn't change the half
+-- ---- some are thrown away that didn't change the half
 
 module _ {O : Type 0} (seals : Moves O) (still : (s t : O) (plain aad sealed : List ℕ) → seals s plain aad sealed t → t ≡ s) where
-  chain_without : (s : O) (front : List Flying) (x : Flying) (back : List Flying) (t : O) → Chain seals s (front ++ x ∷ back) t → Chain seals s (front ++ back) t
-  chain_without s [] x back t c = subst (λ r. Chain seals r back t) (still s c.0 x.plain (associated x.frame.message.header) x.frame.message.payload c.1) c.2
-  chain_without s (y ∷ front) x back t c = (c.0, c.1, chain_without c.0 front x back t c.2)
+  chain_kept_at : (keep : Flying → Bool) (b : Bool) (y : Flying) (ys : List Flying) (s t : O) → keep y ≡ b → Chain seals s (y ∷ ys) t
+      → ((r : O) → Chain seals r ys t → Chain seals r (filter keep ys) t) → Chain seals s (filter keep (y ∷ ys)) t
+  chain_kept_at keep true y ys s t e c later = rw e (c.0, c.1, later c.0 c.2)
+  chain_kept_at keep false y ys s t e c later = rw e (later s (subst (λ r. Chain seals r ys t) (still s c.0 y.plain (associated y.frame.message.header) y.frame.message.payload c.1) c.2))
 
-  chain_left : (s : O) (owner : ℕ) (all left : List Flying) (t : O) → LosesOne owner all left → Chain seals s all t → Chain seals s left t
-  chain_left s owner all left t h c = subst (λ xs. Chain seals s xs t) (sym h.is) (chain_without s h.front h.gone h.back t (subst (λ xs. Chain seals s xs t) h.was c))
+  chain_kept : (keep : Flying → Bool) (t : O) (front back : List Flying) (s : O) → Chain seals s (front ++ back) t → Chain seals s (front ++ filter keep back) t
+  chain_kept keep t [] [] s c = c
+  chain_kept keep t [] (y ∷ ys) s c = chain_kept_at keep (keep y) y ys s t refl c (chain_kept keep t [] ys)
+  chain_kept keep t (x ∷ xs) ys s c = (c.0, c.1, chain_kept keep t xs ys c.0 c.2)
 
-  pub thrown_linked : {I : Type 0} (opens : Moves I) (refuses : Refusals I) (transit queued : List Flying) (out : O) (in_ : I) (owner n : ℕ) → AreLinked seals opens refuses (transit ++ queued) out in_
-      → AreLinked seals opens refuses (transit ++ others_flying_without owner n queued) out in_
-  thrown_linked opens refuses transit queued out in_ owner n l = record {
+  pub thrown_linked : {I : Type 0} (opens : Moves I) (refuses : Refusals I) (transit queued : List Flying) (out : O) (in_ : I) (owners : ℕ → Bool) (n : ℕ) → AreLinked seals opens refuses (transit ++ queued) out in_
+      → AreLinked seals opens refuses (transit ++ flying_without owners n queued) out in_
+  thrown_linked opens refuses transit queued out in_ owners n l = record {
     start = l.start;
     paired = l.paired;
-    chain = elim (throw_takes_one owner n queued) [
-      | inl same ↦ subst (λ xs. Chain seals l.start (transit ++ xs) out) (sym same) l.chain
-      | inr one ↦ chain_left l.start owner (transit ++ queued) (transit ++ others_flying_without owner n queued) out (loses_behind owner transit queued (others_flying_without owner n queued) one) l.chain
-    ];
+    chain = left_behind (λ all left. Chain seals l.start all out → Chain seals l.start left out) owners n transit queued (λ front back. chain_kept (stays owners) out front back l.start) l.chain;
   }

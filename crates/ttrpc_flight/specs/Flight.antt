@@ -1,7 +1,7 @@
 -- Frames in flight from one core to another: as bytes in a pipe, as seals that are still to be opened, and as what there
 -- is of one stream.
 -- Source: this project's.
-use Rattle.std.specs.Prelude.{◌≡◌, ◌≤◌, ℕ, Bool, false, true, if◌then◌else◌, nat_eq, List, [], ◌∷◌, ◌++◌, length, map, take, drop}
+use Rattle.std.specs.Prelude.{◌≡◌, ◌≤◌, ℕ, Bool, false, true, not, if◌then◌else◌, nat_eq, List, [], ◌∷◌, ◌++◌, length, map, take, drop}
 use Rattle.std.specs.List.{AllByRecursion, filter}
 use Rattle.ttrpc_header.specs.declared.header.TheConstants.{MESSAGE_LENGTH_MAX}
 use Rattle.ttrpc_header.specs.Header.{FitsHeader}
@@ -59,14 +59,9 @@ pub record AreInFlight (held : Held) (pipe : List ℕ) (cut : Bool) (q : Queue) 
 
 -- ---- what is thrown away
 
--- the flights without the first unary request of this owner, if there is one
-abbrev pub flying_without : ℕ → List Flying → List Flying
-flying_without owner [] = []
-flying_without owner (x ∷ xs) = if is_request_of owner x.frame then xs else x ∷ flying_without owner xs
-
--- the flights without the first unary request of this owner behind the first n
-abbrev pub others_flying_without : ℕ → ℕ → List Flying → List Flying
-others_flying_without owner n flights = take n flights ++ flying_without owner (drop n flights)
+-- the flights without the unary requests of these owners behind the first n
+abbrev pub flying_without : (ℕ → Bool) → ℕ → List Flying → List Flying
+flying_without owners n flights = take n flights ++ filter (λ (x : Flying). not (is_request_of owners x.frame)) (drop n flights)
 
 -- ---- the seals
 

@@ -1,6 +1,6 @@
 //! Laws over the definitions: what becomes of the frames in flight from one core to another at each thing that may
 //! happen to the queue of the one, to the pipe, and to what the other holds.
-ghost use Rattle.std.specs.Prelude.{◌≡◌, ◌≢◌, ◌⊎◌, ◌≤◌, ◌++◌, ◌∷◌, [], ℕ, Bool, false, true, List, length, map, take};
+ghost use Rattle.std.specs.Prelude.{◌≡◌, ◌⊎◌, ◌≤◌, ◌++◌, ◌∷◌, [], ℕ, Bool, false, true, List, length, map, take};
 ghost use Rattle.std.specs.List.{AllByRecursion};
 ghost use Rattle.ttrpc_frame.specs.declared.frame.Incoming.{Incoming as AnIncoming};
 ghost use Rattle.ttrpc_frame.specs.Frames.{Held, Fed, nothing};
@@ -12,7 +12,7 @@ ghost use Rattle.ttrpc_connection.specs.declared.arrived.Opening.TheVariants.{Op
 ghost use Rattle.ttrpc_connection.specs.declared.outbox.Outbox.{Outbox as AnOutbox};
 ghost use Rattle.ttrpc_connection.specs.Frames.{Opens, Sent, SendsAll};
 ghost use Rattle.ttrpc_connection.specs.Feeds.{ActsAll, Scene, ways};
-ghost use Rattle.ttrpc_flight.specs.Flight.{Flying, ActsOn, AreInFlight, AreLinked, frames_of, IsOwnRequest, IsSound, arrived, carried, others_flying_without, parcels};
+ghost use Rattle.ttrpc_flight.specs.Flight.{Flying, ActsOn, AreInFlight, AreLinked, frames_of, IsOwnRequest, IsSound, arrived, carried, flying_without, parcels};
 
 use ttrpc_connection::Reacts;
 use ttrpc_secure::{InboundTransform, OutboundTransform};
@@ -30,9 +30,9 @@ pub fn frames_arrive_as_they_were_queued()
         → n ≤ length (open_part q) → AreInFlight held pipe cut q transit queued
         → (t : List Flying) × (r : List Flying) × (t ++ r ≡ transit ++ queued)
         × AreInFlight held (carried cut pipe n q) cut (after_report (with_lent q n) n) t r }
-    ensures thrown { (held : Held) (pipe : List ℕ) (cut : Bool) (q : Queue) (transit queued : List Flying) (owner : ℕ)
+    ensures thrown { (held : Held) (pipe : List ℕ) (cut : Bool) (q : Queue) (transit queued : List Flying) (owners : ℕ → Bool)
         → AreInFlight held pipe cut q transit queued
-        → AreInFlight held pipe cut (without q owner) transit (others_flying_without owner (begun_count q) queued) }
+        → AreInFlight held pipe cut (without q owners) transit (flying_without owners (begun_count q) queued) }
     ensures cut { (held : Held) (pipe : List ℕ) (cut : Bool) (q : Queue) (transit queued : List Flying) (keep : ℕ)
         → AreInFlight held pipe cut q transit queued → AreInFlight held (take keep pipe) true q transit queued }
     ensures fed { (held new : Held) (pipe taken later : List ℕ) (cut : Bool) (q : Queue) (transit queued : List Flying)
@@ -59,21 +59,21 @@ pub fn seals_open_as_they_were_made<O: OutboundTransform, I: InboundTransform>()
         → AreLinked O.seals I.opens I.refuses (x ∷ flights) out in_
         → Opens I.InboundTransform in_ (arrived x) opening later
         → (opening ≡ Opened x.plain) × AreLinked O.seals I.opens I.refuses flights out later }
-    ensures thrown { (transit queued : List Flying) (out : O) (in_ : I) (owner n : ℕ) → O.SEALS ≡ false
+    ensures thrown { (transit queued : List Flying) (out : O) (in_ : I) (owners : ℕ → Bool) (n : ℕ) → O.SEALS ≡ false
         → AreLinked O.seals I.opens I.refuses (transit ++ queued) out in_
-        → AreLinked O.seals I.opens I.refuses (transit ++ others_flying_without owner n queued) out in_ }
+        → AreLinked O.seals I.opens I.refuses (transit ++ flying_without owners n queued) out in_ }
 {}
 
-/// A throw takes at most one flight. Where each flight is a request that its own stream id owns, the flights of another
-/// stream stay, and those that are left are such requests; and of a stream with one flight it stays or is gone.
-pub fn a_throw_takes_one_request()
-    ensures elsewhere { (k owner n : ℕ) (queued : List Flying) → k ≢ owner → AllByRecursion IsOwnRequest queued
-        → parcels k (others_flying_without owner n queued) ≡ parcels k queued }
-    ensures one { (k owner n : ℕ) (transit queued : List Flying) → length (parcels k (transit ++ queued)) ≤ 1
-        → (parcels k (transit ++ others_flying_without owner n queued) ≡ parcels k (transit ++ queued))
-        ⊎ (parcels k (transit ++ others_flying_without owner n queued) ≡ []) }
-    ensures own { (owner n : ℕ) (transit queued : List Flying) → AllByRecursion IsOwnRequest (transit ++ queued)
-        → AllByRecursion IsOwnRequest (transit ++ others_flying_without owner n queued) }
+/// Where each flight is a request that its own stream id owns, a throw leaves the flights of streams that aren't among its
+/// owners, and those that are left are such requests; and of a stream with one flight it stays or is gone.
+pub fn a_throw_takes_requests_of_its_owners()
+    ensures elsewhere { (k : ℕ) (owners : ℕ → Bool) (n : ℕ) (queued : List Flying) → owners k ≡ false
+        → AllByRecursion IsOwnRequest queued → parcels k (flying_without owners n queued) ≡ parcels k queued }
+    ensures one { (k : ℕ) (owners : ℕ → Bool) (n : ℕ) (transit queued : List Flying) → length (parcels k (transit ++ queued)) ≤ 1
+        → (parcels k (transit ++ flying_without owners n queued) ≡ parcels k (transit ++ queued))
+        ⊎ (parcels k (transit ++ flying_without owners n queued) ≡ []) }
+    ensures own { (owners : ℕ → Bool) (n : ℕ) (transit queued : List Flying) → AllByRecursion IsOwnRequest (transit ++ queued)
+        → AllByRecursion IsOwnRequest (transit ++ flying_without owners n queued) }
 {}
 
 /// What a connection sends takes wing, one flight a frame, in order, and linked; and where the frames that a core takes

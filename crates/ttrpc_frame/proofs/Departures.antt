@@ -1,19 +1,19 @@
 -- Over any allowed history, what leaves is the written forms of the frames that depart, in order, and each frame that
 -- is queued departs or is thrown away.
-use Rattle.std.proofs.Common.{◌≡◌, ◌+◌, ◌≤◌, ◌==◌, ◌&&◌, ◌⊎◌, inl, inr, ℕ, Bool, true, false, cond, nat_lt, List, [], ◌∷◌, ◌++◌, length, take, drop, arith, sym, ap, ◌∙◌, refl, subst, length-drop, append_assoc, IsPermutation}
+use Rattle.std.proofs.Common.{◌≡◌, ◌+◌, ◌≤◌, ◌&&◌, inl, inr, not, filter, ℕ, Bool, true, false, cond, nat_lt, List, [], ◌∷◌, ◌++◌, length, take, drop, arith, sym, ap, ◌∙◌, refl, subst, length-drop, append_assoc, IsPermutation}
 use Rattle.std.specs.List.{AllByRecursion}
 use Rattle.std.proofs.lemmas.Bool.{ltb-false}
 use Rattle.std.proofs.lemmas.List.{take_all, take-append-drop, take-append-le, drop-append-le, drop-drop}
 use Rattle.std.proofs.lemmas.List.Sorted.{IsPermutation-refl, IsPermutation-cons, IsPermutation-trans, IsPermutation-middle}
 use Rattle.ttrpc_frame.specs.declared.outgoing.Queued.{Queued}
-use Rattle.ttrpc_frame.specs.Queue.{Queue, IsQueue, written, written_all, first_open, unsent, with_frame, with_lent, report_first, after_report, begun_count, is_request_of, request_of, frames_without, without, Happening, Placed, Lent, Reported, Thrown, after, after_all, all_bytes_left, report_finishes, departing, thrown_by, thrown, placed, MayHappen, Allowed, IsMerge}
+use Rattle.ttrpc_frame.specs.Queue.{Queue, IsQueue, written, written_all, first_open, unsent, with_frame, with_lent, report_first, after_report, begun_count, is_request_of, frames_without, without, Happening, Placed, Lent, Reported, Thrown, after, after_all, all_bytes_left, report_finishes, departing, thrown_by, thrown, placed, MayHappen, Allowed, IsMerge}
 use Rattle.ttrpc_frame.proofs.Queues.{queue_of, with_frame_is_queue, with_lent_is_queue, after_report_is_queue, without_is_queue, report_fits}
 
 pub after_is_queue : (q : Queue) (h : Happening) → IsQueue q → MayHappen q h → IsQueue (after q h)
 after_is_queue q (Placed f) valid may = with_frame_is_queue q f valid
 after_is_queue q (Lent n) valid may = with_lent_is_queue q n valid may
 after_is_queue q (Reported n) valid may = after_report_is_queue q n valid may
-after_is_queue q (Thrown owner) valid may = without_is_queue q owner valid
+after_is_queue q (Thrown owners) valid may = without_is_queue q owners valid
 
 -- ---- The bytes that leave
 
@@ -30,7 +30,7 @@ begun_departs [] f fs r l = (fs, refl)
 begun_departs (Placed g ∷ hs) f fs r l = begun_departs hs f (fs ++ g ∷ []) r l
 begun_departs (Lent n ∷ hs) f fs r l = begun_departs hs f fs r n
 begun_departs (Reported n ∷ hs) f fs r l = report_departs (nat_lt (r + n) (length (written f.message))) f (queue_of true (f ∷ fs) (r + n) 0) (queue_of false fs 0 0) hs (begun_departs hs f fs (r + n) 0)
-begun_departs (Thrown owner ∷ hs) f fs r l = begun_departs hs f (frames_without owner fs) r l
+begun_departs (Thrown owners ∷ hs) f fs r l = begun_departs hs f (frames_without owners fs) r l
 
 -- n bytes from a place on, and what stands behind them
 pieces : (w x : List ℕ) (r n : ℕ) → r + n ≤ length w → take n (drop r w) ++ drop (r + n) (w ++ x) ≡ drop r (w ++ x)
@@ -83,7 +83,7 @@ bytes_are_written (Reported n ∷ hs) q valid may =
     append_assoc (take n (first_open q.frames q.reported)) (all_bytes_left (after_report q n) hs) (unsent (after_all (after_report q n) hs))
     ∙ ap (λ l. take n (first_open q.frames q.reported) ++ l) (bytes_are_written hs (after_report q n) (after_is_queue q (Reported n) valid may.0) may.1)
     ∙ report_leaves q.begun q.frames q.reported q.lent n hs valid may.0
-bytes_are_written (Thrown owner ∷ hs) q valid may = bytes_are_written hs (without q owner) (after_is_queue q (Thrown owner) valid may.0) may.1
+bytes_are_written (Thrown owners ∷ hs) q valid may = bytes_are_written hs (without q owners) (after_is_queue q (Thrown owners) valid may.0) may.1
 
 -- ---- The frames that depart and those that are thrown away
 
@@ -110,54 +110,52 @@ finish_accounts : (fs ps ys : List Queued) (n : ℕ) (b : Bool) (hs : List Happe
 finish_accounts [] ps ys n b hs m = m
 finish_accounts (f ∷ fs) ps ys n b hs m = report_accounts (nat_lt n (length (written f.message))) f fs ps ys n b hs m
 
--- there is no request of the owner, or one stands between others
-abbrev Splits : ℕ → List Queued → Type 0
-Splits owner fs = ((request_of owner fs ≡ []) × (frames_without owner fs ≡ fs)) ⊎ ((cs : List Queued) × (g : Queued) × (bs : List Queued) × (fs ≡ cs ++ g ∷ bs) × (request_of owner fs ≡ g ∷ []) × (frames_without owner fs ≡ cs ++ bs))
+-- with the frames that are thrown away
+throw_at : (c : Bool) (f : Queued) (front fs gone left ps departed away : List Queued)
+    → ((start : List Queued) → Accounts departed away (start ++ (left ++ ps)) → Accounts departed (gone ++ away) (start ++ (fs ++ ps)))
+    → Accounts departed away (front ++ (cond (not c) (f ∷ left) left ++ ps)) → Accounts departed (cond c (f ∷ gone) gone ++ away) (front ++ (f ∷ fs ++ ps))
+throw_at true f front fs gone left ps departed away behind h =
+    let k = behind front h in
+    let r = merge_more front (fs ++ ps) f departed k.0 k.1 in
+    (r.0, r.1, IsPermutation-trans r.0 (f ∷ k.0) (f ∷ gone ++ away) r.2 (IsPermutation-cons f k.0 (gone ++ away) k.2))
+throw_at false f front fs gone left ps departed away behind h =
+    let k = behind (front ++ f ∷ []) (subst (Accounts departed away) (sym (append_assoc front (f ∷ []) (left ++ ps))) h) in
+    subst (Accounts departed (gone ++ away)) (append_assoc front (f ∷ []) (fs ++ ps)) k
 
-split_cons : (c : Bool) (f : Queued) (fs found left : List Queued) → ((found ≡ []) × (left ≡ fs)) ⊎ ((cs : List Queued) × (g : Queued) × (bs : List Queued) × (fs ≡ cs ++ g ∷ bs) × (found ≡ g ∷ []) × (left ≡ cs ++ bs))
-    → ((cond c (f ∷ []) found ≡ []) × (cond c fs (f ∷ left) ≡ f ∷ fs)) ⊎ ((cs : List Queued) × (g : Queued) × (bs : List Queued) × (f ∷ fs ≡ cs ++ g ∷ bs) × (cond c (f ∷ []) found ≡ g ∷ []) × (cond c fs (f ∷ left) ≡ cs ++ bs))
-split_cons true f fs found left s = inr ([], f, fs, refl, refl, refl)
-split_cons false f fs found left (inl p) = inl (p.0, ap (λ l. f ∷ l) p.1)
-split_cons false f fs found left (inr p) = inr (f ∷ p.0, p.1, p.2, ap (λ l. f ∷ l) p.3, p.4, ap (λ l. f ∷ l) p.5)
-
-splits : (owner : ℕ) (fs : List Queued) → Splits owner fs
-splits owner [] = inl (refl, refl)
-splits owner (f ∷ fs) = split_cons (is_request_of owner f) f fs (request_of owner fs) (frames_without owner fs) (splits owner fs)
-
--- with the frame that is thrown away
-throw_accounts : (owner : ℕ) (front fs ps departed away : List Queued) → Splits owner fs → Accounts departed away ((front ++ frames_without owner fs) ++ ps) → Accounts departed (request_of owner fs ++ away) ((front ++ fs) ++ ps)
-throw_accounts owner front fs ps departed away (inl p) h =
-    (h.0, subst (λ l. IsMerge departed h.0 ((front ++ l) ++ ps)) p.1 h.1, subst (λ l. IsPermutation h.0 (l ++ away)) (sym p.0) h.2)
-throw_accounts owner front fs ps departed away (inr p) h =
-    let before = ap (λ l. (front ++ l) ++ ps) p.5 ∙ ap (λ l. l ++ ps) (sym (append_assoc front p.0 p.2)) ∙ append_assoc (front ++ p.0) p.2 ps in
-    let behind = append_assoc (front ++ p.0) (p.1 ∷ p.2) ps in
-    let whole = ap (λ l. (front ++ l) ++ ps) p.3 ∙ ap (λ l. l ++ ps) (sym (append_assoc front p.0 (p.1 ∷ p.2))) ∙ behind in
-    let r = merge_more (front ++ p.0) (p.2 ++ ps) p.1 departed h.0 (subst (IsMerge departed h.0) before h.1) in
-    (r.0, subst (IsMerge departed r.0) (sym whole) r.1, subst (λ l. IsPermutation r.0 (l ++ away)) (sym p.4) (IsPermutation-trans r.0 (p.1 ∷ h.0) (p.1 ∷ away) r.2 (IsPermutation-cons p.1 h.0 away h.2)))
+throw_accounts : (owners : ℕ → Bool) (fs ps departed away front : List Queued) → Accounts departed away (front ++ (frames_without owners fs ++ ps))
+    → Accounts departed (filter (is_request_of owners) fs ++ away) (front ++ (fs ++ ps))
+throw_accounts owners [] ps departed away front h = h
+throw_accounts owners (f ∷ fs) ps departed away front h =
+    throw_at (is_request_of owners f) f front fs (filter (is_request_of owners) fs) (frames_without owners fs) ps departed away (throw_accounts owners fs ps departed away) h
 
 pub all_are_accounted : (hs : List Happening) (q : Queue) → Accounts (departing q hs) (thrown q hs) (q.frames ++ placed hs)
 all_are_accounted [] q = ([], merge_of_one q.frames, IsPermutation-refl [])
 all_are_accounted (Placed f ∷ hs) q = subst (Accounts (departing (with_frame q f) hs) (thrown (with_frame q f) hs)) (append_assoc q.frames (f ∷ []) (placed hs)) (all_are_accounted hs (with_frame q f))
 all_are_accounted (Lent n ∷ hs) q = all_are_accounted hs (with_lent q n)
 all_are_accounted (Reported n ∷ hs) q = let h = all_are_accounted hs (after_report q n) in (h.0, finish_accounts q.frames (placed hs) h.0 (q.reported + n) q.begun hs h.1, h.2)
-all_are_accounted (Thrown owner ∷ hs) q =
-    let k = begun_count q in
-    subst (λ fs. Accounts (departing (without q owner) hs) (thrown_by q (Thrown owner) ++ thrown (without q owner) hs) (fs ++ placed hs)) (take-append-drop k q.frames)
-    (throw_accounts owner (take k q.frames) (drop k q.frames) (placed hs) (departing (without q owner) hs) (thrown (without q owner) hs) (splits owner (drop k q.frames)) (all_are_accounted hs (without q owner)))
+all_are_accounted (Thrown owners ∷ hs) q =
+    let n = begun_count q in
+    let front = take n q.frames in
+    let fs = drop n q.frames in
+    let left = without q owners in
+    subst (λ all. Accounts (departing left hs) (thrown_by q (Thrown owners) ++ thrown left hs) (all ++ placed hs)) (take-append-drop n q.frames)
+    (subst (Accounts (departing left hs) (thrown_by q (Thrown owners) ++ thrown left hs)) (sym (append_assoc front fs (placed hs)))
+    (throw_accounts owners fs (placed hs) (departing left hs) (thrown left hs) front
+    (subst (Accounts (departing left hs) (thrown left hs)) (append_assoc front (frames_without owners fs) (placed hs)) (all_are_accounted hs left))))
 
 -- ---- What is thrown away
 
 abbrev AreRequests : List Queued → Type 0
 AreRequests fs = AllByRecursion (λ f. f.is_unary_request ≡ true) fs
 
-request_first : (a b : Bool) (f : Queued) (found : List Queued) → f.is_unary_request ≡ a → AreRequests found → AreRequests (cond (a && b) (f ∷ []) found)
-request_first true true f found is h = (is, tt)
+request_first : (a b : Bool) (f : Queued) (found : List Queued) → f.is_unary_request ≡ a → AreRequests found → AreRequests (cond (a && b) (f ∷ found) found)
+request_first true true f found is h = (is, h)
 request_first true false f found is h = h
 request_first false b f found is h = h
 
-requests_are : (owner : ℕ) (fs : List Queued) → AreRequests (request_of owner fs)
-requests_are owner [] = tt
-requests_are owner (f ∷ fs) = request_first f.is_unary_request (f.owner == owner) f (request_of owner fs) refl (requests_are owner fs)
+requests_are : (owners : ℕ → Bool) (fs : List Queued) → AreRequests (filter (is_request_of owners) fs)
+requests_are owners [] = tt
+requests_are owners (f ∷ fs) = request_first f.is_unary_request (owners f.owner) f (filter (is_request_of owners) fs) refl (requests_are owners fs)
 
 requests_append : (fs gs : List Queued) → AreRequests fs → AreRequests gs → AreRequests (fs ++ gs)
 requests_append [] gs h i = i
@@ -168,4 +166,6 @@ thrown_are_requests [] q = tt
 thrown_are_requests (Placed f ∷ hs) q = thrown_are_requests hs (with_frame q f)
 thrown_are_requests (Lent n ∷ hs) q = thrown_are_requests hs (with_lent q n)
 thrown_are_requests (Reported n ∷ hs) q = thrown_are_requests hs (after_report q n)
-thrown_are_requests (Thrown owner ∷ hs) q = requests_append (request_of owner (drop (begun_count q) q.frames)) (thrown (without q owner) hs) (requests_are owner (drop (begun_count q) q.frames)) (thrown_are_requests hs (without q owner))
+thrown_are_requests (Thrown owners ∷ hs) q =
+    let fs = drop (begun_count q) q.frames in
+    requests_append (filter (is_request_of owners) fs) (thrown (without q owners) hs) (requests_are owners fs) (thrown_are_requests hs (without q owners))

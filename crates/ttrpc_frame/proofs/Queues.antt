@@ -1,15 +1,14 @@
 -- The frames still to be written: what each call leaves is a queue, and what the calls' bodies compute is what is
 -- stated.
-use Rattle.std.proofs.Common.{◌≡◌, ◌+◌, ◌-◌, ◌%◌, ◌^◌, ◌<◌, ◌≤◌, ◌||◌, ℕ, Bool, true, false, cond, Option, None, Some, IsSome, OnSome, nat_lt, subst, add-one, suc, set, get_or, min, List, [], ◌∷◌, ◌++◌, length, take, drop, arith, sym, ap, ◌∙◌, refl, ⊎_elim, length-append, length-take, length-drop, append_assoc}
+use Rattle.std.proofs.Common.{◌≡◌, ◌+◌, ◌-◌, ◌%◌, ◌^◌, ◌<◌, ◌≤◌, ◌||◌, ℕ, Bool, true, false, cond, nat_lt, subst, suc, set, get_or, min, List, [], ◌∷◌, ◌++◌, length, take, drop, arith, sym, ap, ◌∙◌, refl, ⊎_elim, length-append, length-take, length-drop, append_assoc}
 use Rattle.std.proofs.Math.Seq.{take-append-add, drop-append-add}
-use Rattle.std.proofs.lemmas.Bool.{cases_lt, cond_both, cond-true, cond-false, ltb-true, lt-ltb, le-ltb, false≢true}
+use Rattle.std.proofs.lemmas.Bool.{cases_lt, cond_both, cond-true, cond-false, ltb-true, lt-ltb, le-ltb}
 use Rattle.std.proofs.lemmas.Bool.Decides.{nat_tests}
-use Rattle.std.proofs.lemmas.List.{take_at, take_all, take_rest, append-nil, drop_at, take-append-le, drop-append-le, drop_all, drop-drop, drop_more, take_more}
-use Rattle.std.specs.List.{remove}
+use Rattle.std.proofs.lemmas.List.{take_at, take_all, take_rest, append-nil, drop_at, take-append-le, drop-append-le, drop_all, drop-drop}
 use Rattle.std.specs.Int.{from_bool}
 use Rattle.ttrpc_frame.specs.declared.gen_message.GenMessage.{GenMessage}
 use Rattle.ttrpc_frame.specs.declared.outgoing.Queued.{Queued}
-use Rattle.ttrpc_frame.specs.Queue.{written, Queue, IsQueue, IsWithin, first_open, open_part, with_frame, with_lent, report_first, after_report, begun_count, last_may_change, with_payload, last_filled, filled, withdrawn, without, is_request_of, frames_without, others_without}
+use Rattle.ttrpc_frame.specs.Queue.{written, Queue, IsQueue, IsWithin, first_open, open_part, with_frame, with_lent, report_first, after_report, begun_count, last_may_change, with_payload, last_filled, filled, withdrawn, without, frames_without}
 use Rattle.ttrpc_header.specs.Header.{header_bytes}
 
 pub length-written : (m : GenMessage) → length (written m) ≡ 10 + length m.payload
@@ -247,13 +246,13 @@ withdrawn_queue true (f ∷ g ∷ fs) r l h =
 pub withdrawn_is_queue : (q : Queue) → IsQueue q → IsQueue (withdrawn q)
 withdrawn_is_queue q h = withdrawn_queue q.begun q.frames q.reported q.lent h
 
-without_queue : (b : Bool) (fs : List Queued) (r l owner : ℕ) → IsQueue (queue_of b fs r l) → IsQueue (without (queue_of b fs r l) owner)
-without_queue false fs r l owner h = fresh_is_queue _ r l (h.fresh refl)
-without_queue true [] r l owner h = h
-without_queue true (f ∷ fs) r l owner h = begun_is_queue f fs (frames_without owner fs) r l true h
+without_queue : (b : Bool) (fs : List Queued) (r l : ℕ) (owners : ℕ → Bool) → IsQueue (queue_of b fs r l) → IsQueue (without (queue_of b fs r l) owners)
+without_queue false fs r l owners h = fresh_is_queue _ r l (h.fresh refl)
+without_queue true [] r l owners h = h
+without_queue true (f ∷ fs) r l owners h = begun_is_queue f fs (frames_without owners fs) r l true h
 
-pub without_is_queue : (q : Queue) (owner : ℕ) → IsQueue q → IsQueue (without q owner)
-without_is_queue q owner h = without_queue q.begun q.frames q.reported q.lent owner h
+pub without_is_queue : (q : Queue) (owners : ℕ → Bool) → IsQueue q → IsQueue (without q owners)
+without_is_queue q owners h = without_queue q.begun q.frames q.reported q.lent owners h
 
 -- ---- The last frame
 
@@ -296,29 +295,6 @@ placed_withdrawn q f h =
     let size = length-append q.frames (f ∷ []) in
     cond-true (last_may_change (with_frame q f)) _ _ (placed_may_change q.begun q.frames q.reported q.lent f h)
     ∙ ap (λ fs. queue_of q.begun fs q.reported q.lent) (take_at q.frames (f ∷ []) (length (q.frames ++ f ∷ []) - 1) (omega arith))
-
--- ---- Throwing away
-
-pub on_some : {X P : Type 0} (r : Option X) → IsSome r → OnSome r P → P
-on_some None e h = absurd (false≢true e)
-on_some (Some x) e h = h
-
-pub others_without_here : (owner n : ℕ) (xs : List Queued) (x : Queued) → n < length xs → x ≡ get_or xs n x → is_request_of owner x ≡ true → others_without owner n xs ≡ remove xs n
-others_without_here owner n xs x lt is true' =
-    ap (λ l. take n xs ++ frames_without owner l) (drop_more xs n x lt ∙ ap (λ y. y ∷ drop (n + 1) xs) (sym is))
-    ∙ ap (λ l. take n xs ++ l) (cond-true (is_request_of owner x) _ _ true')
-    ∙ ap (λ k. take n xs ++ drop k xs) (add-one n)
-
-pub others_without_more : (owner n : ℕ) (xs : List Queued) (x : Queued) → n < length xs → x ≡ get_or xs n x → is_request_of owner x ≡ false → others_without owner n xs ≡ others_without owner (n + 1) xs
-others_without_more owner n xs x lt is false' =
-    ap (λ l. take n xs ++ frames_without owner l) (drop_more xs n x lt ∙ ap (λ y. y ∷ drop (n + 1) xs) (sym is))
-    ∙ ap (λ l. take n xs ++ l) (cond-false (is_request_of owner x) _ _ false')
-    ∙ sym (append_assoc (take n xs) (x ∷ []) (frames_without owner (drop (n + 1) xs)))
-    ∙ ap (λ l. l ++ frames_without owner (drop (n + 1) xs)) (ap (λ y. take n xs ++ y ∷ []) is ∙ sym (take_more xs n x lt))
-
-pub others_without_all : (owner n : ℕ) (xs : List Queued) → length xs ≤ n → others_without owner n xs ≡ xs
-others_without_all owner n xs le =
-    ap (λ l. take n xs ++ frames_without owner l) (drop_all n xs le) ∙ append-nil (take n xs) ∙ take_all n xs le
 
 -- ---- The first frame
 

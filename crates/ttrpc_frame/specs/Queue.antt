@@ -1,6 +1,6 @@
 -- The frames still to be written, in order, how far the first of them is, and what becomes of them over time.
 -- Source: PROTOCOL.md of ttrpc, "Message Frame".
-use Rattle.std.specs.Prelude.{◌≡◌, ◌≤◌, ◌<◌, ◌+◌, ◌-◌, ◌%◌, ◌^◌, ◌==◌, ◌&&◌, ◌||◌, ◌⊎◌, ℕ, Bool, false, if◌then◌else◌, nat_lt, List, [], ◌∷◌, ◌++◌, length, take, drop, remove, Option, None, Some}
+use Rattle.std.specs.Prelude.{◌≡◌, ◌≤◌, ◌<◌, ◌+◌, ◌-◌, ◌%◌, ◌^◌, ◌&&◌, ◌||◌, ◌⊎◌, not, ℕ, Bool, false, if◌then◌else◌, nat_lt, List, [], ◌∷◌, ◌++◌, length, take, drop, filter}
 use Rattle.std.specs.List.{flat_map}
 use Rattle.ttrpc_frame.specs.declared.gen_message.GenMessage.{GenMessage}
 use Rattle.ttrpc_frame.specs.declared.outgoing.Queued.{Queued}
@@ -95,41 +95,28 @@ filled q payload = if last_may_change q then record q { frames = last_filled q.f
 abbrev pub withdrawn : Queue → Queue
 withdrawn q = if last_may_change q then record q { frames = take (length q.frames - 1) q.frames } else q
 
--- whether the frame is a unary request of this owner
-abbrev pub is_request_of : ℕ → Queued → Bool
-is_request_of owner f = f.is_unary_request && (f.owner == owner)
+-- ---- What is thrown away: requests of some owners
+
+-- whether the frame is a unary request of one of these owners
+abbrev pub is_request_of : (ℕ → Bool) → Queued → Bool
+is_request_of owners f = f.is_unary_request && owners f.owner
 
 -- whether there is a first frame and it is one
-abbrev pub first_is_request_of : ℕ → List Queued → Bool
-first_is_request_of owner [] = false
-first_is_request_of owner (f ∷ fs) = is_request_of owner f
+abbrev pub first_is_request_of : (ℕ → Bool) → List Queued → Bool
+first_is_request_of owners [] = false
+first_is_request_of owners (f ∷ fs) = is_request_of owners f
 
--- whether the first frame is a unary request of this owner and has begun
-abbrev pub has_begun : Queue → ℕ → Bool
-has_begun q owner = q.begun && first_is_request_of owner q.frames
+-- whether the first frame is a unary request of one of these owners and has begun
+abbrev pub has_begun : Queue → (ℕ → Bool) → Bool
+has_begun q owners = q.begun && first_is_request_of owners q.frames
 
--- the first unary request of this owner among the frames, if there is one
-abbrev pub request_of : ℕ → List Queued → List Queued
-request_of owner [] = []
-request_of owner (f ∷ fs) = if is_request_of owner f then f ∷ [] else request_of owner fs
+-- the frames that aren't unary requests of these owners
+abbrev pub frames_without : (ℕ → Bool) → List Queued → List Queued
+frames_without owners frames = filter (λ f. not (is_request_of owners f)) frames
 
--- the frames without it
-abbrev pub frames_without : ℕ → List Queued → List Queued
-frames_without owner [] = []
-frames_without owner (f ∷ fs) = if is_request_of owner f then fs else f ∷ frames_without owner fs
-
--- the frames without the first unary request of this owner behind the first n
-abbrev pub others_without : ℕ → ℕ → List Queued → List Queued
-others_without owner n frames = take n frames ++ frames_without owner (drop n frames)
-
--- the first unary request of this owner that hasn't begun is gone
-abbrev pub without : Queue → ℕ → Queue
-without q owner = record q { frames = others_without owner (begun_count q) q.frames }
-
--- the place is that of the frame which they are without, if there is one
-abbrev pub StandsAt : ℕ → ℕ → List Queued → Option ℕ → Type 0
-StandsAt owner n frames None = others_without owner n frames ≡ frames
-StandsAt owner n frames (Some place) = (place < length frames) × (others_without owner n frames ≡ remove frames place)
+-- the unary requests of these owners that haven't begun are gone, and the others keep their order
+abbrev pub without : Queue → (ℕ → Bool) → Queue
+without q owners = record q { frames = take (begun_count q) q.frames ++ frames_without owners (drop (begun_count q) q.frames) }
 
 -- ---- What happens to a queue over time
 
@@ -140,22 +127,22 @@ pub data Happening : Type 0 where
   Lent : ℕ → Happening
   -- this many bytes of those that are lent are reported as written
   Reported : ℕ → Happening
-  -- a unary request of this owner is thrown away, if one hasn't begun
-  Thrown : ℕ → Happening
+  -- the unary requests of these owners that haven't begun are thrown away
+  Thrown : (ℕ → Bool) → Happening
 
 -- the queue after it
 abbrev pub after : Queue → Happening → Queue
 after q (Placed f) = with_frame q f
 after q (Lent n) = with_lent q n
 after q (Reported n) = after_report q n
-after q (Thrown owner) = without q owner
+after q (Thrown owners) = without q owners
 
 -- the bytes that leave
 abbrev pub bytes_left : Queue → Happening → List ℕ
 bytes_left q (Placed f) = []
 bytes_left q (Lent n) = []
 bytes_left q (Reported n) = take n (open_part q)
-bytes_left q (Thrown owner) = []
+bytes_left q (Thrown owners) = []
 
 -- the first frame, if it is whole with n bytes of it reported
 abbrev pub report_finishes : List Queued → ℕ → List Queued
@@ -167,28 +154,28 @@ abbrev pub finished_by : Queue → Happening → List Queued
 finished_by q (Placed f) = []
 finished_by q (Lent n) = []
 finished_by q (Reported n) = report_finishes q.frames (q.reported + n)
-finished_by q (Thrown owner) = []
+finished_by q (Thrown owners) = []
 
--- the frame that is thrown away by it
+-- the frames that are thrown away by it
 abbrev pub thrown_by : Queue → Happening → List Queued
 thrown_by q (Placed f) = []
 thrown_by q (Lent n) = []
 thrown_by q (Reported n) = []
-thrown_by q (Thrown owner) = request_of owner (drop (begun_count q) q.frames)
+thrown_by q (Thrown owners) = filter (is_request_of owners) (drop (begun_count q) q.frames)
 
 -- the frame that is queued by it
 abbrev pub placed_by : Happening → List Queued
 placed_by (Placed f) = f ∷ []
 placed_by (Lent n) = []
 placed_by (Reported n) = []
-placed_by (Thrown owner) = []
+placed_by (Thrown owners) = []
 
 -- no more bytes are lent than are left of the first frame, and no more reported than are lent
 abbrev pub MayHappen : Queue → Happening → Type 0
 MayHappen q (Placed f) = Unit {0}
 MayHappen q (Lent n) = n ≤ length (open_part q)
 MayHappen q (Reported n) = n ≤ q.lent
-MayHappen q (Thrown owner) = Unit {0}
+MayHappen q (Thrown owners) = Unit {0}
 
 -- the same of each happening of a history
 abbrev pub Allowed : Queue → List Happening → Type 0

@@ -1,11 +1,13 @@
 //! The frames still to be written, in order.
-ghost use Rattle.std.specs.Prelude.{◌≡◌, ◌-◌, ◌≤◌, ◌↔◌, ◌++◌, [], List, IsTrue, IsPermutation, length, take, drop, min, OnOk, OnErr, IfErr};
+ghost use Rattle.std.specs.Prelude.{◌≡◌, ◌-◌, ◌≤◌, ◌<◌, ◌↔◌, ◌++◌, [], List, IsTrue, IsPermutation, length, take, drop, min, if◌then◌else◌, option_to_list, IfSome, OnOk, OnErr, IfErr};
+ghost use Rattle.std.specs.VecDeque.{deque_len, deque_capacity};
 ghost use Rattle.std.specs.List.{AllByRecursion};
 ghost use Rattle.ttrpc_frame.specs.declared.outgoing.Queued.{Queued as AFrame};
 ghost use Rattle.ttrpc_frame.specs.Queue.{Happening, Allowed, IsMerge, after_all, all_bytes_left, departing, placed, thrown, unsent, written_all};
-ghost use Rattle.ttrpc_frame.specs.Queue.{Queue, IsQueue, StandsAt, written, first_open, open_part, empty_queue, with_frame, with_lent, after_report, last_may_change, filled, withdrawn, is_request_of, has_begun, without};
+ghost use Rattle.ttrpc_frame.specs.Queue.{Queue, IsQueue, written, first_open, open_part, empty_queue, with_frame, with_lent, after_report, last_may_change, filled, withdrawn, is_request_of, has_begun, without};
 
 use crate::gen_message::GenMessage;
+use crate::owners::Owners;
 use std::alloc::Global;
 use std::collections::VecDeque;
 use std::marker::Model;
@@ -30,10 +32,10 @@ pub struct Queued {
 }
 
 impl Queued {
-    fn is_request_of(&self, owner: u64) -> bool
-        ensures { result ≡ is_request_of owner self.now }
+    fn is_request_of<W: Owners>(&self, owners: &W) -> bool
+        ensures { result ≡ is_request_of (W.has owners.now) self.now }
     {
-        self.is_unary_request && self.owner == owner
+        self.is_unary_request && owners.has(self.owner)
     }
 }
 
@@ -181,24 +183,26 @@ impl Outgoing {
         }
     }
 
-    /// Whether the first frame is a unary request of this owner and has begun.
-    pub fn has_begun(&self, owner: u64) -> bool
-        ensures { result ≡ has_begun self.now owner }
+    /// Whether the first frame is a unary request of one of these owners and has begun.
+    pub fn has_begun<W: Owners>(&self, owners: &W) -> bool
+        ensures { result ≡ has_begun self.now (W.has owners.now) }
     {
         self.begun
             && self
                 .frames
                 .front()
-                .is_some_and(|frame| frame.is_request_of(owner))
+                .is_some_and(|frame| frame.is_request_of(owners))
     }
 
-    /// Throws away the first unary request of this owner that hasn't begun, if there is one. Takes no memory.
-    pub fn throw_away(&mut self, owner: u64)
-        ensures without { self.new ≡ without self.old owner }
+    /// Throws away the unary requests of these owners that haven't begun. Takes no memory.
+    pub fn throw_away<W: Owners>(&mut self, owners: &W)
+        ensures without { self.new ≡ without self.old (W.has owners.now) }
         ensures valid { IsQueue self.new }
     {
-        if let Some(index) = request_place(&self.frames, usize::from(self.begun), owner) {
-            let _ = self.frames.remove(index);
+        let first = take_begun(&mut self.frames, self.begun);
+        self.frames.retain(|frame| !frame.is_request_of(owners));
+        if let Some(frame) = first {
+            self.frames.push_front_reserved(frame);
         }
     }
 }
@@ -243,16 +247,16 @@ fn copy_front(from: &[u8], to: &mut [u8]) -> usize
     count
 }
 
-// Where the first unary request of this owner stands behind the first frames, which have begun.
-fn request_place(frames: &VecDeque<Queued>, begun: usize, owner: u64) -> Option<usize>
-    ensures { StandsAt owner begun frames.now.items result }
+// Takes the first frame out, if it has begun.
+fn take_begun(frames: &mut VecDeque<Queued>, begun: bool) -> Option<Queued>
+    ensures first { option_to_list result ≡ take (if begun then 1 else 0) frames.old.items }
+    ensures rest { frames.new.items ≡ drop (if begun then 1 else 0) frames.old.items }
+    ensures place { IfSome result (λ _. deque_len frames.new < deque_capacity frames.new) }
 {
-    for i in begun..frames.len() {
-        if frames[i].is_request_of(owner) {
-            return Some(i);
-        }
+    if !begun {
+        return None;
     }
-    None
+    frames.pop_front()
 }
 
 // How many bytes the first frame has, or 0 where there is none.

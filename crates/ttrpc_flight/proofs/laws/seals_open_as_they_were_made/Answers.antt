@@ -12,4 +12,4 @@ returns-clause-opened g c = λ x flights out in_ later opening l opens.
     first_opened _ g.I.InboundTransform x flights out in_ opening later l opens
 
 pub returns-clause-thrown : goal.returns-clause-thrown
-returns-clause-thrown g c = λ transit queued out in_ owner n not l. thrown_linked _ (g.met.O.OutboundTransform.lawful.still not) _ _ transit queued out in_ owner n l
+returns-clause-thrown g c = λ transit queued out in_ owners n not l. thrown_linked _ (g.met.O.OutboundTransform.lawful.still not) _ _ transit queued out in_ owners n l

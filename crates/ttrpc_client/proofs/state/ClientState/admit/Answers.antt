@@ -22,4 +22,4 @@ invariant_of-self-2 c =
     let same = c.reserve.ensures.len in
     rw (c.reserve.ensures.items, c.reserve.ensures.len)
     (admit_keeps c.self.inside.next old new c.self.inside.deadlines c.add.new.self c.self.inside.ended.items (deque_len c.self.inside.ended) (deque_capacity c.self.inside.ended) (deque_capacity c.reserve.new.self) c.args.id c.args.deadline
-    c.self.invariant next put u.1 (others_stay c.args.id old new u.2) c.insert.ensures.ordered c.in_ok-add.ensures.ok (omega (arith, wide, size, same)))
+    c.self.invariant next (search rules) put u.1 (others_stay c.args.id old new u.2) c.insert.ensures.ordered c.in_ok-add.ensures.ok (omega (arith, wide, size, same)))

@@ -1,21 +1,29 @@
-use Rattle.std.proofs.Common.{◌≡◌, arith, ap, sym, subst, ◌∙◌}
-use Rattle.ttrpc_frame.specs.Queue.{Queue, IsQueue, begun_count, others_without}
-use Rattle.ttrpc_frame.proofs.Queues.{begun_number, on_some, without_is_queue}
+use Rattle.std.proofs.Common.{rules, ◌≡◌, ◌∷◌, ◌++◌, ap, sym, subst, ◌∙◌, drop}
+use Rattle.std.proofs.lemmas.Fn.{filter_same}
+use Rattle.ttrpc_frame.specs.Queue.{Queue, IsQueue, begun_count, frames_without}
+use Rattle.ttrpc_frame.proofs.Queues.{without_is_queue}
 use Rattle.ttrpc_frame.proofs.outgoing.Outgoing.throw_away.Goals as goal
 
-pub invariant_of-self : goal.invariant_of-self
-invariant_of-self c =
+pub invariant_of-self-in_default : goal.invariant_of-self-in_default
+invariant_of-self-in_default g c =
     let q : Queue = record { frames = c.self.inside.frames.items; reported = c.self.inside.reported; lent = c.self.inside.lent; begun = c.self.inside.begun } in
-    let begun : c.from.result ≡ begun_count q = begun_number q c.from.result c.from.ensures in
-    let full = c.self.inside.frames.ok in
-    let left = ap (λ n. others_without c.args.owner n q.frames) (sym begun) ∙ c.in-Some.ensures.1 ∙ sym (on_some c.remove.result (c.remove.ensures.variant.1 (omega (arith, c.in-Some.ensures.0))) c.remove.ensures.items) in
-    subst (λ fs. IsQueue (record q { frames = fs })) left (without_is_queue q c.args.owner c.self.invariant)
+    let owners = g.W.Owners.has c.args.owners.now in
+    let kept : c.retain.new.self.items ≡ frames_without owners (drop (begun_count q) q.frames) = filter_same _ _ _ (λ x b f k. search rules) _ _ c.retain.ensures.filtered ∙ ap (frames_without owners) c.take_begun-first.ensures.rest in
+    subst (λ fs. IsQueue (record q { frames = fs })) (sym (kept ∙ ap (λ l. l ++ frames_without owners (drop (begun_count q) q.frames)) c.in_default.ensures.first)) (without_is_queue q owners c.self.invariant)
 
-pub returns-in-Some-clause-valid : goal.returns-in-Some-clause-valid
-returns-in-Some-clause-valid c =
+pub returns-in-Some-clause-without : goal.returns-in-Some-clause-without
+returns-in-Some-clause-without g c =
     let q : Queue = record { frames = c.self.inside.frames.items; reported = c.self.inside.reported; lent = c.self.inside.lent; begun = c.self.inside.begun } in
-    let begun : c.from.result ≡ begun_count q = begun_number q c.from.result c.from.ensures in
-    let full = c.self.inside.frames.ok in
-    let left = ap (λ n. others_without c.args.owner n q.frames) (sym begun) ∙ c.in-Some.ensures.1 ∙ sym (on_some c.remove.result (c.remove.ensures.variant.1 (omega (arith, c.in-Some.ensures.0))) c.remove.ensures.items) in
-    let kept = subst (λ fs. IsQueue (record q { frames = fs })) left (without_is_queue q c.args.owner c.self.invariant) in
-    grind (arith, kept)
+    let owners = g.W.Owners.has c.args.owners.now in
+    let kept : c.retain.new.self.items ≡ frames_without owners (drop (begun_count q) q.frames) = filter_same _ _ _ (λ x b f k. search rules) _ _ c.retain.ensures.filtered ∙ ap (frames_without owners) c.take_begun-first.ensures.rest in
+    rw (← c.self.view_is) (ap (λ fs. record q { frames = fs }) (c.push_front_reserved.ensures.items ∙ ap (λ l. c.in-Some.frame ∷ l) kept ∙ ap (λ l. l ++ frames_without owners (drop (begun_count q) q.frames)) c.in-Some.ensures.first))
+
+pub returns-in_default-clause-without : goal.returns-in_default-clause-without
+returns-in_default-clause-without g c =
+    let q : Queue = record { frames = c.self.inside.frames.items; reported = c.self.inside.reported; lent = c.self.inside.lent; begun = c.self.inside.begun } in
+    let owners = g.W.Owners.has c.args.owners.now in
+    let kept : c.retain.new.self.items ≡ frames_without owners (drop (begun_count q) q.frames) = filter_same _ _ _ (λ x b f k. search rules) _ _ c.retain.ensures.filtered ∙ ap (frames_without owners) c.take_begun-first.ensures.rest in
+    rw (← c.self.view_is) (ap (λ fs. record q { frames = fs }) (kept ∙ ap (λ l. l ++ frames_without owners (drop (begun_count q) q.frames)) c.in_default.ensures.first))
+
+pub returns-in_default-clause-valid : goal.returns-in_default-clause-valid
+returns-in_default-clause-valid g c = invariant_of-self-in_default g c

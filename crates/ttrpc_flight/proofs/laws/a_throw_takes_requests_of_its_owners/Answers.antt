@@ -1,7 +1,7 @@
 use Rattle.ttrpc_flight.specs.Flight.{IsOwnRequest}
 use Rattle.ttrpc_flight.proofs.Losing.{all_thrown}
 use Rattle.ttrpc_flight.proofs.Parcels.{parcels_thrown, parcels_thrown_elsewhere}
-use Rattle.ttrpc_flight.proofs.laws.a_throw_takes_one_request.Goals as goal
+use Rattle.ttrpc_flight.proofs.laws.a_throw_takes_requests_of_its_owners.Goals as goal
 
 pub returns-clause-elsewhere : goal.returns-clause-elsewhere
 returns-clause-elsewhere c = parcels_thrown_elsewhere
