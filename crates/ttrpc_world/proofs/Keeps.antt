@@ -1,24 +1,24 @@
 -- What holds of a client, a server and their pipes after any run, and that each event of the client keeps it.
-use Rattle.std.proofs.Common.{◌≡◌, ℕ, ◌+◌, ◌≤◌, List, [], ◌∷◌, ◌++◌, Bool, true, false, if◌then◌else◌, is_some, Option, Some, None, Result, refl, sym, ap, ◌∙◌, subst, inl, inr, arith, append_assoc}
+use Rattle.std.proofs.Common.{◌≡◌, ℕ, nat_eq, ◌+◌, ◌≤◌, List, [], ◌∷◌, ◌++◌, Bool, true, false, if◌then◌else◌, is_some, Option, Some, None, Result, refl, sym, ap, ◌∙◌, subst, inl, inr, arith, append_assoc}
 use Rattle.std.proofs.lemmas.Bool.{cases_eq}
 use Rattle.std.specs.List.{AllByRecursion}
 use Rattle.ttrpc_error.specs.declared.error.Error.{Error}
 use Rattle.ttrpc_proto.specs.declared.request.Request.{Request}
 use Rattle.ttrpc_proto.specs.declared.response.Response.{Response}
 use Rattle.ttrpc_frame.specs.Frames.{Held}
-use Rattle.ttrpc_frame.specs.Queue.{Queue, without}
+use Rattle.ttrpc_frame.specs.Queue.{Queue}
 use Rattle.ttrpc_connection.specs.declared.connection.Connection.{Connection}
 use Rattle.ttrpc_connection.specs.declared.failure.Failure.{Failure}
-use Rattle.ttrpc_connection.specs.declared.outbox.Outbox.{Outbox}
+use Rattle.ttrpc_connection.specs.declared.failure.Failure.TheVariants.{CancelledDuringWrite, DeadlineDuringWrite}
 use Rattle.ttrpc_server.specs.Jobs as server
 use Rattle.ttrpc_client.specs.declared.call.Call.{Call}
 use Rattle.ttrpc_client.specs.declared.call.Call.TheVariants.{Waiting, Expired, Ended}
 use Rattle.ttrpc_client.specs.declared.kind.ClientKind.{ClientKind}
 use Rattle.ttrpc_client.specs.declared.kind.ClientKind.TheVariants.{Sync, Async}
 use Rattle.ttrpc_client.specs.declared.client.ClientCore.{ClientCore}
-use Rattle.ttrpc_client.specs.Client.{deadline_of, throws}
+use Rattle.ttrpc_client.specs.Client.{Client, deadline_of, throws}
 use Rattle.ttrpc_client.specs.Client as client
-use Rattle.ttrpc_client.specs.Happens.{Forgets, Ticks, forgotten, queue_left, takes_back, without_all}
+use Rattle.ttrpc_client.specs.Happens.{Ticks, due_at, forgotten, taken_back, takes_back}
 use Rattle.ttrpc_client.specs.Calls.{Passes}
 use Rattle.ttrpc_flight.specs.Flight.{Flying, AreInFlight, AreLinked, IsOwnRequest, parcels}
 use Rattle.ttrpc_flight.proofs.Bytes.{placed_in_flight}
@@ -39,7 +39,7 @@ use Rattle.ttrpc_world.proofs.Turns.{asks_here, calls_here, drops_here, elsewher
 use Rattle.ttrpc_world.proofs.Payloads.{sends_request}
 use Rattle.ttrpc_world.proofs.Delivers.{AreKnown, Stories}
 use Rattle.ttrpc_world.proofs.Traces.{asked, heard, stories_silent, unasked, unheard, with_entry}
-use Rattle.ttrpc_world.proofs.Throws.{AreSingle, InFlight, Thrown, throw_all, throw_one}
+use Rattle.ttrpc_world.proofs.Throws.{AreSingle, InFlight, Stays, Thrown, back_stays, some_thrown}
 
 -- THE INVARIANT. In flight are these frames each way, in order: as bytes, as seals, and each as a part of one call. A side
 -- that failed takes no more, so nothing need be said of what is still in flight to it.
@@ -84,10 +84,6 @@ all_forgotten None = refl
 all_forgotten (Some (Waiting deadline)) = refl
 all_forgotten (Some Expired) = refl
 all_forgotten (Some (Ended outcome)) = refl
-
-chosen_none : {X : Type 0} (b : Bool) (x y : Option X) → (b ≡ true → y ≡ None) → (if b then x else y) ≡ None → y ≡ None
-chosen_none true x y lives e = lives refl
-chosen_none false x y lives e = e
 
 module _ {CO CI SO SI : Type 0} (c : Halves CO CI) (s : Halves SO SI) (seals : Bool) (still : seals ≡ false → (from to : CO) (plain aad sealed : List ℕ) → c.out.seals from plain aad sealed to → to ≡ from)
     (stream_of : ℕ → ℕ) (trace : List Entry) where
@@ -181,45 +177,46 @@ module _ {CO CI SO SI : Type 0} (c : Halves CO CI) (s : Halves SO SI) (seals : B
         | inr e ↦ elsewhere (w.client.state.next ≤ k) (v.client.state.next ≤ k) k _ _ _ _ _ _ _ _ _ _ (stories k) (λ y. omega (arith, y, ap (λ (x : ClientCore CO CI). x.state.next) p.does.same)) (unasked stream_of k id trace given e) refl refl refl (p.does.others k (λ same. e (sym same)))
       ])
 
+  -- Requests are taken back, where they may be.
+  back_throws : (w : Net CO CI SO SI) (ids : ℕ → Bool) (b : Bool) (why : Failure) → (b ≡ true → throws w.client.state.kind seals ≡ true) → (i : Keeps c s stream_of trace w)
+      → Left w (if b then taken_back w.client.connection ids why else w.client.connection).outbox.queue i.up
+  back_throws w ids true why may i =
+      some_thrown c.out.seals s.in_.opens s.in_.refuses (still (throws_unsealed w.client.state.kind seals (may refl))) w.server.connection.failure w.server.connection.decoder w.up w.client.connection.outbox.half w.server.connection.inbound
+      ids w.client.connection.outbox.queue i.up (single w i) i.own i.up_bytes i.up_linked
+  back_throws w ids false why may i = same_queue w w.client.connection.outbox.queue i refl
+
+  taken_back_keeps : (w : Net CO CI SO SI) (event : Event) (reply : Reply) (x : ClientCore CO CI) (ids : ℕ → Bool) (b : Bool) (why : Failure) → (i : Keeps c s stream_of trace w)
+      → (b ≡ true → throws w.client.state.kind seals ≡ true) → x.connection ≡ (if b then taken_back w.client.connection ids why else w.client.connection)
+      → ((left : List Flying) → Stories stream_of trace left i.down w.client.state.next w.server.state.jobs.list (client.call_at w.client.state) → Stories stream_of (with_entry trace event reply) left i.down x.state.next w.server.state.jobs.list (client.call_at x.state))
+      → Keeps c s stream_of (with_entry trace event reply) (with_client w x)
+  taken_back_keeps w event reply x ids b why i may same stories =
+      let stays = subst (λ (d : Connection CO CI). Stays w.client.connection d) (sym same) (back_stays b w.client.connection ids why) in
+      let left = subst (λ (d : Connection CO CI). Left w d.outbox.queue i.up) (sym same) (back_throws w ids b why may i) in
+      client_changes w event reply x i stays.decoder stays.outbound stays.inbound stays.lives left (stories left.left)
+
   -- A call is forgotten.
-  drop_throws : (w : Net CO CI SO SI) (id : ℕ) (b : Bool) → (i : Keeps c s stream_of trace w) → takes_back seals w.client id ≡ b → Left w (if b then without w.client.connection.outbox.queue id else w.client.connection.outbox.queue) i.up
-  drop_throws w id true i e =
-      let unsealed = throws_unsealed w.client.state.kind seals (if_true (throws w.client.state.kind seals) _ (alive_if w.client.connection.failure _ e).1).0 in
-      throw_one c.out.seals s.in_.opens s.in_.refuses (still unsealed) w.server.connection.failure w.server.connection.decoder w.up w.client.connection.outbox.half w.server.connection.inbound id w.client.connection.outbox.queue i.up (single w i) i.own i.up_bytes i.up_linked
-  drop_throws w id false i e = same_queue w w.client.connection.outbox.queue i refl
-
-  drop_lives : (w : Net CO CI SO SI) (id : ℕ) (x : ClientCore CO CI) → Forgets seals w.client id x → x.connection.failure ≡ None → w.client.connection.failure ≡ None
-  drop_lives w id x f alive = chosen_none (takes_back seals w.client id) _ w.client.connection.failure (λ e. (alive_if w.client.connection.failure _ e).0) (sym (ap (λ (y : ClientCore CO CI). y.connection.failure) f.same) ∙ alive)
-
   pub keeps_drop : (w : Net CO CI SO SI) (id : ℕ) (v : Net CO CI SO SI) → Keeps c s stream_of trace w → Forgot c s seals w id v → Keeps c s stream_of (with_entry trace (DropCall id) Done) (with_client w v.client)
   keeps_drop w id v i p =
-      let left = subst (λ (q : Queue). Left w q i.up) (sym (ap (λ (x : ClientCore CO CI). x.connection.outbox.queue) p.does.same)) (drop_throws w id (takes_back seals w.client id) i refl) in
-      client_changes w (DropCall id) Done v.client i (ap (λ (x : ClientCore CO CI). x.connection.decoder) p.does.same) (ap (λ (x : ClientCore CO CI). x.connection.outbox.half) p.does.same) (ap (λ (x : ClientCore CO CI). x.connection.inbound) p.does.same)
-      (drop_lives w id v.client p.does) left
-      (λ stories. stories_silent stream_of trace (DropCall id) Done left.left i.down v.client.state.next w.server.state.jobs.list (client.call_at v.client.state) (λ k. refl)
+      taken_back_keeps w (DropCall id) Done v.client (λ k. nat_eq k id) (takes_back seals w.client id) CancelledDuringWrite i
+      (λ e. (if_true (throws w.client.state.kind seals) _ (alive_if w.client.connection.failure _ e).1).0) (ap (λ (x : ClientCore CO CI). x.connection) p.does.same)
+      (λ left stories. stories_silent stream_of trace (DropCall id) Done left i.down v.client.state.next w.server.state.jobs.list (client.call_at v.client.state) (λ k. refl)
       (λ k. elim (cases_eq id k) [
         | inl e ↦
-            subst (λ (n : ℕ). Story (v.client.state.next ≤ n) n (acts stream_of n trace) (parcels n left.left) (server.jobs_at w.server.state.jobs.list n) (parcels n i.down) (client.call_at v.client.state n)) e
+            subst (λ (n : ℕ). Story (v.client.state.next ≤ n) n (acts stream_of n trace) (parcels n left) (server.jobs_at w.server.state.jobs.list n) (parcels n i.down) (client.call_at v.client.state n)) e
             (drops_here (w.client.state.next ≤ id) (v.client.state.next ≤ id) id _ _ _ _ _ _ (stories id) (λ y. omega (arith, y, ap (λ (x : ClientCore CO CI). x.state.next) p.does.same)) (p.does.own ∙ all_forgotten (client.call_at w.client.state id)))
         | inr e ↦ elsewhere (w.client.state.next ≤ k) (v.client.state.next ≤ k) k _ _ _ _ _ _ _ _ _ _ (stories k) (λ y. omega (arith, y, ap (λ (x : ClientCore CO CI). x.state.next) p.does.same)) refl refl refl refl (p.does.others k (λ same. e (sym same)))
       ]))
 
   -- A moment comes.
-  tick_throws : (w : Net CO CI SO SI) (due : List ℕ) (b : Bool) → (i : Keeps c s stream_of trace w) → throws w.client.state.kind seals ≡ b → Left w (queue_left b w.client.connection.outbox.queue due) i.up
-  tick_throws w due true i e =
-      throw_all c.out.seals s.in_.opens s.in_.refuses (still (throws_unsealed w.client.state.kind seals e)) w.server.connection.failure w.server.connection.decoder w.up w.client.connection.outbox.half w.server.connection.inbound due w.client.connection.outbox.queue i.up (single w i) i.own i.up_bytes i.up_linked
-  tick_throws w due false i e = same_queue w w.client.connection.outbox.queue i refl
-
-  tick_lives : (w : Net CO CI SO SI) (now : ℕ) (x : ClientCore CO CI) → Keeps c s stream_of trace w → w.client.connection.failure ≡ None → Ticks seals w.client now x → Keeps c s stream_of (with_entry trace (Tick now) Done) (with_client w x)
-  tick_lives w now x i lives p =
-      let left = subst (λ (q : Queue). Left w q i.up) (sym (ap (λ (y : ClientCore CO CI). y.connection.outbox.queue) p.same)) (tick_throws w p.due (throws w.client.state.kind seals) i refl) in
-      let next : x.state.next ≡ w.client.state.next = ap (λ (y : ClientCore CO CI). y.state.next) p.same in
-      client_changes w (Tick now) Done x i (ap (λ (y : ClientCore CO CI). y.connection.decoder) p.same) (ap (λ (y : ClientCore CO CI). y.connection.outbox.half) p.same) (ap (λ (y : ClientCore CO CI). y.connection.inbound) p.same) (λ alive. lives) left
-      (λ stories. stories_silent stream_of trace (Tick now) Done left.left i.down x.state.next w.server.state.jobs.list (client.call_at x.state) (λ k. refl)
-      (λ k. expires_here (w.client.state.next ≤ k) (x.state.next ≤ k) k _ _ _ _ now _ _ (stories k) (λ y. omega (arith, y, next)) (p.calls k)))
+  tick_lives : (w : Net CO CI SO SI) (now : ℕ) (x : ClientCore CO CI) → Keeps c s stream_of trace w → Ticks seals w.client now x → Keeps c s stream_of (with_entry trace (Tick now) Done) (with_client w x)
+  tick_lives w now x i p =
+      let next : x.state.next ≡ w.client.state.next = ap (λ (y : Client). y.next) p.expires.same in
+      taken_back_keeps w (Tick now) Done x (λ id. due_at now (client.call_at w.client.state id)) (throws w.client.state.kind seals) DeadlineDuringWrite i (λ e. e) p.connection
+      (λ left stories. stories_silent stream_of trace (Tick now) Done left i.down x.state.next w.server.state.jobs.list (client.call_at x.state) (λ k. refl)
+      (λ k. expires_here (w.client.state.next ≤ k) (x.state.next ≤ k) k _ _ _ _ now _ _ (stories k) (λ y. omega (arith, y, next)) (p.expires.calls k)))
 
   passes : (w : Net CO CI SO SI) (now : ℕ) (x : ClientCore CO CI) (failure : Option Failure) → w.client.connection.failure ≡ failure → Keeps c s stream_of trace w → Passes seals failure w.client now x → Keeps c s stream_of (with_entry trace (Tick now) Done) (with_client w x)
-  passes w now x None e i p = tick_lives w now x i e p
+  passes w now x None e i p = tick_lives w now x i p
   passes w now x (Some why) e i p =
       subst (λ (y : ClientCore CO CI). Keeps c s stream_of (with_entry trace (Tick now) Done) (with_client w y)) (sym p) (keeps_still w (Tick now) Done (λ k. refl) i)
 

@@ -8,7 +8,6 @@ use Rattle.ttrpc_frame.specs.declared.frame.Incoming.{Incoming}
 use Rattle.ttrpc_server.specs.declared.job.ActiveJob.{ActiveJob}
 use Rattle.ttrpc_server.specs.declared.job.Job.{Job}
 use Rattle.ttrpc_secure.specs.declared.transform.OutboundTransform.{Ghosts as OutboundTransform}
-use Rattle.ttrpc_connection.specs.declared.connection.Connection.{Connection}
 use Rattle.ttrpc_connection.specs.Feeds.{ActsAll, Scene, arrived, scene}
 use Rattle.ttrpc_connection.specs.Frames.{Sent, header_of_frame}
 use Rattle.ttrpc_server.specs.declared.server.ServerCore.{ServerCore}
@@ -23,12 +22,10 @@ use Rattle.ttrpc_world.specs.declared.events.Event.TheVariants.{Call, Open, Outc
 use Rattle.ttrpc_world.specs.declared.events.Reply.{Reply}
 use Rattle.ttrpc_world.specs.declared.events.Reply.TheVariants.{Named, Outcome as Given, Handed, Done, Count, Refused, NoMemory, NoStep}
 use Rattle.ttrpc_world.specs.declared.events.Entry.{Entry}
-use Rattle.ttrpc_world.specs.Pipes.{is_over}
 use Rattle.ttrpc_world.specs.Net.{Halves, Net, IsFresh}
-use Rattle.ttrpc_world.specs.Steps.{AnswersBy, Hears, Runs, Steps, cut_to, taken_from}
+use Rattle.ttrpc_world.specs.Steps.{AnswersBy, Runs, Steps}
 use Rattle.ttrpc_world.specs.Story.{Act, Called, Ran, Answered, Gave, IsOneToOne, IsRightAt, IsStreamOf, act_of, acts, only_if, runs}
 use Rattle.ttrpc_world.proofs.Traces.{with_entry}
-use Rattle.ttrpc_world.proofs.Moves.{stops}
 
 -- ---- a stream for each job that was made
 

@@ -1,12 +1,14 @@
 -- Requests are thrown away: what stays in flight to the server.
-use Rattle.std.proofs.Common.{◌≡◌, ℕ, ◌≤◌, List, [], ◌∷◌, ◌++◌, length, Option, Some, None, refl, sym, ◌∙◌, subst, ◌⊎◌, inl, inr, arith}
+use Rattle.std.proofs.Common.{◌≡◌, ℕ, ◌≤◌, Bool, true, false, if◌then◌else◌, List, [], ◌++◌, length, Option, Some, None, refl, sym, ◌∙◌, subst, ◌⊎◌, inl, inr}
 use Rattle.std.specs.List.{AllByRecursion}
 use Rattle.ttrpc_frame.specs.Frames.{Held}
-use Rattle.ttrpc_frame.specs.Queue.{Queue, begun_count, without}
+use Rattle.ttrpc_frame.specs.Queue.{Queue, begun_count, has_begun, without}
 use Rattle.ttrpc_secure.specs.Halves.{Moves, Refusals}
+use Rattle.ttrpc_connection.specs.declared.connection.Connection.{Connection}
 use Rattle.ttrpc_connection.specs.declared.failure.Failure.{Failure}
-use Rattle.ttrpc_client.specs.Happens.{without_all}
-use Rattle.ttrpc_flight.specs.Flight.{Flying, AreInFlight, AreLinked, IsOwnRequest, others_flying_without, parcels}
+use Rattle.ttrpc_connection.specs.Failure.{kept}
+use Rattle.ttrpc_client.specs.Happens.{taken_back}
+use Rattle.ttrpc_flight.specs.Flight.{Flying, AreInFlight, AreLinked, IsOwnRequest, flying_without, parcels}
 use Rattle.ttrpc_flight.proofs.Bytes.{thrown_in_flight}
 use Rattle.ttrpc_flight.proofs.Losing.{all_thrown}
 use Rattle.ttrpc_flight.proofs.Parcels.{parcels_thrown}
@@ -40,17 +42,6 @@ pub record Thrown {O I : Type 0} (seals : Moves O) (opens : Moves I) (refuses : 
 abbrev pub AreSingle : List Flying → Type 0
 AreSingle flights = (k : ℕ) → length (parcels k flights) ≤ 1
 
-single_left : (flights left : List Flying) → AreSingle flights → ((k : ℕ) → (parcels k left ≡ parcels k flights) ⊎ (parcels k left ≡ [])) → AreSingle left
-single_left flights left single parts = λ k. elim (parts k) [
-  | inl same ↦ subst (λ (xs : List Flying). length xs ≤ 1) (sym same) (single k)
-  | inr none ↦ subst (λ (xs : List Flying). length xs ≤ 1) (sym none) (omega arith)
-]
-
-parts_twice : (a b c : List Flying) (k : ℕ) → (parcels k b ≡ parcels k a) ⊎ (parcels k b ≡ []) → (parcels k c ≡ parcels k b) ⊎ (parcels k c ≡ []) → (parcels k c ≡ parcels k a) ⊎ (parcels k c ≡ [])
-parts_twice a b c k (inl x) (inl y) = inl (y ∙ x)
-parts_twice a b c k (inr x) (inl y) = inr (y ∙ x)
-parts_twice a b c k x (inr y) = inr y
-
 module _ {O I : Type 0} (seals : Moves O) (opens : Moves I) (refuses : Refusals I) (still : (s t : O) (plain aad sealed : List ℕ) → seals s plain aad sealed t → t ≡ s)
     (failure : Option Failure) (held : Held) (p : Pipe) (out : O) (in_ : I) where
   -- nothing is thrown away
@@ -62,35 +53,44 @@ module _ {O I : Type 0} (seals : Moves O) (opens : Moves I) (refuses : Refusals 
   failed_thrown : (e : Failure) → failure ≡ Some e → (q : Queue) (flights : List Flying) → AllByRecursion IsOwnRequest flights → Thrown seals opens refuses failure held p q out in_ flights
   failed_thrown e dead q flights own = nothing_thrown q flights own (λ alive. absurd (not_both failure e dead alive)) (λ alive. absurd (not_both failure e dead alive))
 
-  lives_thrown : (owner : ℕ) (q : Queue) (flights : List Flying) → AreSingle flights → AllByRecursion IsOwnRequest flights → InFlight held p q flights → AreLinked seals opens refuses flights out in_
-      → Thrown seals opens refuses failure held p (without q owner) out in_ flights
-  lives_thrown owner q flights single own b l =
+  lives_thrown : (owners : ℕ → Bool) (q : Queue) (flights : List Flying) → AreSingle flights → AllByRecursion IsOwnRequest flights → InFlight held p q flights → AreLinked seals opens refuses flights out in_
+      → Thrown seals opens refuses failure held p (without q owners) out in_ flights
+  lives_thrown owners q flights single own b l =
       let n : ℕ = begun_count q in
-      let rest : List Flying = others_flying_without owner n b.queued in
+      let rest : List Flying = flying_without owners n b.queued in
       let all_own = subst (λ (xs : List Flying). AllByRecursion IsOwnRequest xs) (sym b.all) own in
       record {
         left = b.transit ++ rest;
         parts = λ k.
             subst (λ (xs : List Flying). (parcels k (b.transit ++ rest) ≡ parcels k xs) ⊎ (parcels k (b.transit ++ rest) ≡ [])) b.all
-            (parcels_thrown k owner n b.transit b.queued (subst (λ (xs : List Flying). length (parcels k xs) ≤ 1) (sym b.all) (single k)));
-        own = all_thrown IsOwnRequest owner n b.transit b.queued all_own;
-        bytes = λ alive. record { transit = b.transit; queued = rest; all = refl; bytes = thrown_in_flight held p.bytes p.cut q b.transit b.queued owner b.bytes };
-        linked = λ alive. thrown_linked seals still opens refuses b.transit b.queued out in_ owner n (subst (λ (xs : List Flying). AreLinked seals opens refuses xs out in_) (sym b.all) l);
+            (parcels_thrown k owners n b.transit b.queued (subst (λ (xs : List Flying). length (parcels k xs) ≤ 1) (sym b.all) (single k)));
+        own = all_thrown IsOwnRequest owners n b.transit b.queued all_own;
+        bytes = λ alive. record { transit = b.transit; queued = rest; all = refl; bytes = thrown_in_flight held p.bytes p.cut q b.transit b.queued owners b.bytes };
+        linked = λ alive. thrown_linked seals still opens refuses b.transit b.queued out in_ owners n (subst (λ (xs : List Flying). AreLinked seals opens refuses xs out in_) (sym b.all) l);
       }
 
-  pub throw_one : (owner : ℕ) (q : Queue) (flights : List Flying) → AreSingle flights → AllByRecursion IsOwnRequest flights
+  pub some_thrown : (owners : ℕ → Bool) (q : Queue) (flights : List Flying) → AreSingle flights → AllByRecursion IsOwnRequest flights
       → (failure ≡ None → InFlight held p q flights) → (failure ≡ None → AreLinked seals opens refuses flights out in_)
-      → Thrown seals opens refuses failure held p (without q owner) out in_ flights
-  throw_one owner q flights single own bytes linked = elim (lives_or_failed failure) [
-    | inl alive ↦ lives_thrown owner q flights single own (bytes alive) (linked alive)
-    | inr dead ↦ failed_thrown dead.0 dead.1 (without q owner) flights own
+      → Thrown seals opens refuses failure held p (without q owners) out in_ flights
+  some_thrown owners q flights single own bytes linked = elim (lives_or_failed failure) [
+    | inl alive ↦ lives_thrown owners q flights single own (bytes alive) (linked alive)
+    | inr dead ↦ failed_thrown dead.0 dead.1 (without q owners) flights own
   ]
 
-  pub throw_all : (owners : List ℕ) (q : Queue) (flights : List Flying) → AreSingle flights → AllByRecursion IsOwnRequest flights
-      → (failure ≡ None → InFlight held p q flights) → (failure ≡ None → AreLinked seals opens refuses flights out in_)
-      → Thrown seals opens refuses failure held p (without_all q owners) out in_ flights
-  throw_all [] q flights single own bytes linked = nothing_thrown q flights own bytes linked
-  throw_all (owner ∷ owners) q flights single own bytes linked =
-      let first = throw_one owner q flights single own bytes linked in
-      let later = throw_all owners (without q owner) first.left (single_left flights first.left single first.parts) first.own first.bytes first.linked in
-      record { left = later.left; parts = λ k. parts_twice flights first.left later.left k (first.parts k) (later.parts k); own = later.own; bytes = later.bytes; linked = later.linked }
+-- ---- what taking requests back leaves of the connection
+
+-- its decoder and its halves, and it hasn't failed before where it hasn't now
+pub record Stays {O I : Type 0} (old new : Connection O I) : Type 0 where
+  pub decoder : new.decoder ≡ old.decoder
+  pub outbound : new.outbox.half ≡ old.outbox.half
+  pub inbound : new.inbound ≡ old.inbound
+  pub lives : new.failure ≡ None → old.failure ≡ None
+
+kept_lives : (begun : Bool) (failure : Option Failure) (why : Failure) → (if begun then kept failure why else failure) ≡ None → failure ≡ None
+kept_lives false failure why e = e
+kept_lives true None why e = refl
+kept_lives true (Some first) why e = e
+
+pub back_stays : {O I : Type 0} (b : Bool) (c : Connection O I) (ids : ℕ → Bool) (why : Failure) → Stays c (if b then taken_back c ids why else c)
+back_stays true c ids why = record { decoder = refl; outbound = refl; inbound = refl; lives = kept_lives (has_begun c.outbox.queue ids) c.failure why }
+back_stays false c ids why = record { decoder = refl; outbound = refl; inbound = refl; lives = λ e. e }

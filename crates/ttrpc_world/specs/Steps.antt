@@ -1,6 +1,6 @@
 -- What an event and its reply may do to a client, a server and their pipes.
 -- Source: PROTOCOL.md of ttrpc, "Streaming", by the tables of both cores.
-use Rattle.std.specs.Prelude.{◌≡◌, ◌≢◌, ◌⊎◌, ◌<◌, ◌≤◌, ◌++◌, ℕ, List, [], ◌∷◌, length, take, drop, min, codes, if◌then◌else◌, Bool, true, false, Option, Some, None, is_some, Result, Ok, Err}
+use Rattle.std.specs.Prelude.{◌≡◌, ◌≢◌, ◌⊎◌, ◌<◌, ◌≤◌, ◌++◌, ℕ, List, [], ◌∷◌, length, take, drop, min, codes, if◌then◌else◌, Bool, true, false, Option, Some, None, Result, Ok, Err}
 use Rattle.ttrpc_error.specs.declared.error.Error.{Error}
 use Rattle.ttrpc_error.specs.declared.error.Error.TheVariants.{Socket}
 use Rattle.ttrpc_proto.specs.declared.request.Request.{Request}
@@ -18,7 +18,6 @@ use Rattle.ttrpc_server.specs.declared.server.ServerCore.{ServerCore}
 use Rattle.ttrpc_server.specs.Jobs.{IsUnknown, NoneWaits}
 use Rattle.ttrpc_server.specs.Table.{HasUnsent}
 use Rattle.ttrpc_server.specs.Happens.{Answers, Drops, Hands, serving}
-use Rattle.ttrpc_client.specs.declared.client.ClientCore.{ClientCore}
 use Rattle.ttrpc_client.specs.Table.{RefusesRequest}
 use Rattle.ttrpc_client.specs.Happens.{Forgets, Requests, Tells, calling}
 use Rattle.ttrpc_client.specs.Calls.{Passes}
