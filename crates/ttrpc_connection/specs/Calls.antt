@@ -1,4 +1,5 @@
 -- Calls of a core over a connection one after the other, also past a failure, and what the queue goes through by them.
+-- Source: this project's.
 use Rattle.std.specs.Prelude.{◌≡◌, ◌≤◌, ◌⊎◌, ℕ, List, [], ◌∷◌, ◌++◌, length, map, is_some, true, if◌then◌else◌, nat_eq}
 use Rattle.ttrpc_error.specs.declared.error.Error.{Error}
 use Rattle.ttrpc_frame.specs.declared.outgoing.Queued.{Queued}

@@ -1,4 +1,5 @@
 -- Which error tells why a connection failed.
+-- Source: this project's.
 use Rattle.std.specs.Prelude.{◌≡◌, ◌⊎◌, codes, Option, None, Some}
 use Rattle.ttrpc_error.specs.declared.error.Error.{Error}
 use Rattle.ttrpc_error.specs.declared.error.Error.TheVariants.{Socket, Others, NoMemory}

@@ -1,4 +1,5 @@
 -- What it is to feed a connection, over whatever a core does at a whole frame.
+-- Source: this project's.
 use Rattle.std.specs.Prelude.{◌≡◌, ◌⊎◌, ℕ, List, [], ◌∷◌, ◌++◌, Option, Some, None, IsSome}
 use Rattle.ttrpc_error.specs.declared.error.Error.{Error}
 use Rattle.ttrpc_frame.specs.declared.frame.Incoming.{Incoming}

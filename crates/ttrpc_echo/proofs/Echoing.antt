@@ -7,6 +7,8 @@ use Rattle.ttrpc_header.specs.declared.header.MessageHeader.{MessageHeader}
 use Rattle.ttrpc_header.specs.declared.header.TheConstants.{MESSAGE_LENGTH_MAX}
 use Rattle.ttrpc_proto.specs.declared.request.Request.{Request}
 use Rattle.ttrpc_proto.specs.declared.response.Response.{Response}
+use Rattle.ttrpc_proto.specs.Messages.{empty_request, request_step}
+use Rattle.ttrpc_wire.specs.Fold.{read_from}
 use Rattle.ttrpc_header.specs.Header.{header_bytes}
 use Rattle.ttrpc_frame.specs.declared.frame.Incoming.{Incoming}
 use Rattle.ttrpc_frame.specs.declared.frame.Incoming.TheVariants.{Frame, Oversize}
@@ -27,9 +29,10 @@ use Rattle.ttrpc_server.specs.declared.server.ServerCore.{ServerCore}
 use Rattle.ttrpc_server.specs.Happens.{Does, serving}
 use Rattle.ttrpc_server.specs.Jobs.{NoneWaits, new_job, with_job}
 use Rattle.ttrpc_server.specs.Responses.{IsResponseFrame, Refers, Responds, fitted, response_bytes}
+use Rattle.ttrpc_server.specs.Registry.{Services}
 use Rattle.ttrpc_server.specs.Server.{Server}
-use Rattle.ttrpc_server.specs.Table.{Row, Skipped, Tells, TellsOf, Known, row_of, sync_row}
-use Rattle.ttrpc_echo.specs.Echo.{AreAnswers, IsAnswer, Says, echo_of, echo_services, framed, plainly, said_bytes}
+use Rattle.ttrpc_server.specs.Table.{Row, Skipped, Tells, TellsOf, Known, request_row, row_of, sync_row}
+use Rattle.ttrpc_echo.specs.Echo.{AreAnswers, HasEcho, IsAnswer, Says, echo_of, echo_services, framed, plainly, said_bytes}
 use Rattle.ttrpc_echo.specs.Serving.{plain_in, plain_out, IsReady, Echoes, Serves}
 use Rattle.ttrpc_echo.proofs.Limits.{fitted_fits}
 
@@ -119,7 +122,7 @@ record Done (f : Incoming) (old mid new : ServerCore Plain Plain) : Type 0 where
   is_answer : IsAnswer f answers
   adds : Adds old.connection.outbox.queue new.connection.outbox.queue answers
   jobs : new.state.jobs.list ≡ []
-  services : new.state.services ≡ echo_services
+  services : HasEcho new.state.services
   alive : new.connection.failure ≡ None
   held : new.connection.decoder ≡ mid.connection.decoder
   last_job : new.state.jobs.last ≤ old.state.jobs.last + 1
@@ -135,7 +138,7 @@ done_quiet f said old mid new ready says state alive adds echoes =
       is_answer = record { said = said; says = says; bytes_are = refl };
       adds = subst (λ (x : ServerCore Plain Plain). Adds old.connection.outbox.queue x.connection.outbox.queue (said_bytes ((header_of_frame f).stream_id) said)) (sym same) adds;
       jobs = ap (λ (x : ServerCore Plain Plain). x.state.jobs.list) same ∙ jobs;
-      services = ap (λ (x : ServerCore Plain Plain). x.state.services) same ∙ ap (λ (s : Server). s.services) state ∙ ready.services;
+      services = subst HasEcho (sym (ap (λ (x : ServerCore Plain Plain). x.state.services) same ∙ ap (λ (s : Server). s.services) state)) ready.services;
       alive = ap (λ (x : ServerCore Plain Plain). x.connection.failure) same ∙ alive;
       held = ap (λ (x : ServerCore Plain Plain). x.connection.decoder) same;
       last_job = omega (arith, ap (λ (x : ServerCore Plain Plain). x.state.jobs.last) same ∙ ap (λ (s : Server). s.jobs.last) state);
@@ -170,7 +173,7 @@ done_known f request old mid new ready says makes quiet alive (inr e) =
           (subst (λ (n : ℕ). Adds e.mid.connection.outbox.queue new.connection.outbox.queue (said_bytes n (Some (echo_of request)))) stream
           (subst (λ (r : Request). Adds e.mid.connection.outbox.queue new.connection.outbox.queue (said_bytes e.answers.job.header.stream_id (Some (echo_of r)))) asked adds));
       jobs = e.answers.ends.jobs ∙ ap (λ js. js ++ at.back) gone.0 ∙ gone.2;
-      services = ap (λ (x : ServerCore Plain Plain). x.state.services) e.answers.same ∙ ap (λ (x : ServerCore Plain Plain). x.state.services) e.hands.same ∙ ap (λ (s : Server). s.services) makes ∙ ready.services;
+      services = subst HasEcho (sym (ap (λ (x : ServerCore Plain Plain). x.state.services) e.answers.same ∙ ap (λ (x : ServerCore Plain Plain). x.state.services) e.hands.same ∙ ap (λ (s : Server). s.services) makes)) ready.services;
       alive = ap (λ (x : ServerCore Plain Plain). x.connection.failure) e.answers.same ∙ e.answers.alive;
       held = ap (λ (x : ServerCore Plain Plain). x.connection.decoder) e.answers.same ∙ ap (λ (x : ServerCore Plain Plain). x.connection.decoder) e.hands.same;
       last_job = omega (arith, ap (λ (x : ServerCore Plain Plain). x.state.jobs.last) e.answers.same ∙ ap (λ (x : ServerCore Plain Plain). x.state.jobs.last) e.hands.same ∙ ap (λ (s : Server). s.jobs.last) makes);
@@ -189,12 +192,22 @@ done_row (Known request) f old mid new sent ready is does sends alive echoes =
     let quiet : mid.connection.outbox ≡ old.connection.outbox = subst (λ (xs : List Sent). SendsAll plain_out old.connection.outbox xs mid.connection.outbox) does.1 sends in
     done_known f request old mid new ready (subst (λ (x : Row). Says x (Some (echo_of request))) is refl) does.0 quiet alive echoes
 
+-- the table asks of services for their methods alone
+same_request : (s : Services) (r : Option Request) → HasEcho s → request_row s r ≡ request_row echo_services r
+same_request s None has = refl
+same_request s (Some r) has = rw (has r.service r.method) refl
+
+same_row : (s : Services) (h : MessageHeader) (o : Opening) → HasEcho s → sync_row s h o ≡ sync_row echo_services h o
+same_row s h TooLong has = refl
+same_row s h (Refused why) has = refl
+same_row s h (Opened plain) has = rw (same_request s (read_from request_step empty_request plain) has) refl
+
 done_frame : (now : ℕ) (f : Incoming) (old mid new : ServerCore Plain Plain) → IsReady old → mid.connection.failure ≡ None
     → Acts (serving plain_out plain_in) now (scene old.state old.connection) f (scene mid.state mid.connection) → Echoes mid new → Done f old mid new
 done_frame now f old mid new ready alive acts echoes =
     let opening : acts.opening ≡ plainly f = opened_plainly old.connection.inbound mid.connection.inbound f acts.opening acts.opens in
     let row : row_of old.state (arrived f acts.opening now) ≡ sync_row echo_services (header_of_frame f) (plainly f) =
-    ap (λ o. sync_row old.state.services (header_of_frame f) o) opening ∙ ap (λ s. sync_row s (header_of_frame f) (plainly f)) ready.services in
+    ap (λ o. sync_row old.state.services (header_of_frame f) o) opening ∙ same_row old.state.services (header_of_frame f) (plainly f) ready.services in
     done_row (row_of old.state (arrived f acts.opening now)) f old mid new acts.sent ready row acts.reacts acts.sends alive echoes
 
 -- a front was fed, and the job that it made is echoed
@@ -214,7 +227,7 @@ one_front now None old mid new front ready still fed acts echoes =
         jobs = omega (arith, ap (λ (s : Server). s.jobs.last) left);
       },
       record {
-        services = ap (λ (s : Server). s.services) left ∙ ready.services;
+        services = subst HasEcho (sym (ap (λ (s : Server). s.services) left)) ready.services;
         jobs = ap (λ (s : Server). s.jobs.list) left ∙ ready.jobs;
         alive = ap (λ (x : ServerCore Plain Plain). x.connection.failure) same ∙ still;
         queue = subst IsQueue (sym queue) ready.queue;

@@ -11,13 +11,17 @@ use Rattle.ttrpc_frame.specs.declared.frame.Incoming.TheVariants.{Frame, Oversiz
 use Rattle.ttrpc_connection.specs.declared.arrived.Opening.{Opening}
 use Rattle.ttrpc_connection.specs.declared.arrived.Opening.TheVariants.{TooLong, Opened}
 use Rattle.ttrpc_connection.specs.Frames.{header_of_frame}
-use Rattle.ttrpc_server.specs.declared.registry.ServiceNames.{ServiceNames}
+use Rattle.ttrpc_server.specs.Registry.{Services, has_method}
 use Rattle.ttrpc_server.specs.Responses.{IsStatusResponse, fitted, response_bytes}
 use Rattle.ttrpc_server.specs.Table.{Row, Skipped, Tells, TellsOf, Known, sync_row}
 
 -- the one service
-abbrev pub echo_services : List ServiceNames
-echo_services = record { name = codes "demo.Echo"; methods = codes "Echo" ∷ []; streams = [] } ∷ []
+abbrev pub echo_services : Services
+echo_services = record { methods = (codes "demo.Echo", codes "Echo" ∷ []) ∷ []; streams = [] }
+
+-- these have its method, and no other
+abbrev pub HasEcho : Services → Type 0
+HasEcho services = (service method : List ℕ) → has_method services service method ≡ has_method echo_services service method
 
 -- the echo of a request: an OK status that is there and empty, and the request's payload
 abbrev pub echo_of : Request → Response

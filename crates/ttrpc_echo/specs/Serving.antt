@@ -16,7 +16,7 @@ use Rattle.ttrpc_server.specs.declared.job.Job.{Job}
 use Rattle.ttrpc_server.specs.declared.server.ServerCore.{ServerCore}
 use Rattle.ttrpc_server.specs.Happens.{Answers, Hands}
 use Rattle.ttrpc_server.specs.Jobs.{NoneWaits}
-use Rattle.ttrpc_echo.specs.Echo.{AreAnswers, echo_of, echo_services}
+use Rattle.ttrpc_echo.specs.Echo.{AreAnswers, HasEcho, echo_of}
 
 -- the halves that leave data as it is
 abbrev pub plain_out : OutboundTransform Plain
@@ -27,7 +27,7 @@ plain_in = record { opens = Keeps; refuses = RefusesNothing }
 
 -- between two fronts: nothing waits or is at work, and the connection lives
 pub record IsReady (s : ServerCore Plain Plain) : Type 0 where
-  pub services : s.state.services ≡ echo_services
+  pub services : HasEcho s.state.services
   pub jobs : s.state.jobs.list ≡ []
   pub alive : s.connection.failure ≡ None
   pub queue : IsQueue s.connection.outbox.queue

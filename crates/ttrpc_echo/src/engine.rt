@@ -17,8 +17,8 @@ use ttrpc_codec::WireMessage;
 use ttrpc_error::Error;
 use ttrpc_proto::{Response, Status};
 use ttrpc_secure::Plain;
-use ttrpc_server::{Job, Registry, Rules, ServerCore, ServiceNames};
-use ttrpc_values::{Sequence, Text};
+use ttrpc_server::{Job, Registry, Rules, ServerCore};
+use ttrpc_values::Text;
 
 /// How many bytes are read, and written, at once.
 const PIECE: usize = 4096;
@@ -85,17 +85,12 @@ fn finish(alloc: Global, core: &mut EchoCore) -> Result<(), Error>
 fn echo_core(alloc: Global) -> Result<EchoCore, Error>
     ensures { MatchResult result IsFresh (λ e. e ≡ NoMemory) }
 {
-    let mut methods = Vec::new(alloc);
-    methods.push(Text::from_str(alloc, "Echo")?)?;
-    let mut services = Vec::new(alloc);
-    services.push(ServiceNames {
-        name: Text::from_str(alloc, "demo.Echo")?,
-        methods: Sequence::from_vec(methods),
-        streams: Sequence::new(alloc),
-    })?;
-    let registry = Registry {
-        services: Sequence::from_vec(services),
-    };
+    let mut registry = Registry::new(alloc);
+    registry.add_method(
+        alloc,
+        Text::from_str(alloc, "demo.Echo")?,
+        Text::from_str(alloc, "Echo")?,
+    )?;
     Ok(ServerCore::new(alloc, Rules::Sync, registry, Plain {}, Plain {}))
 }
 

@@ -13,10 +13,10 @@ use Rattle.ttrpc_connection.specs.Frames.{Sent, SendsAll, safe_limit}
 use Rattle.ttrpc_connection.specs.Feeds.{Ways, new_connection}
 use Rattle.ttrpc_server.specs.declared.job.ActiveJob.{ActiveJob}
 use Rattle.ttrpc_server.specs.declared.job.Job.{Job}
-use Rattle.ttrpc_server.specs.declared.registry.ServiceNames.{ServiceNames}
 use Rattle.ttrpc_server.specs.declared.rules.Rules.{Rules}
 use Rattle.ttrpc_server.specs.declared.server.ServerCore.{ServerCore}
 use Rattle.ttrpc_server.specs.Jobs.{EndsOne, HandsOne, with_job}
+use Rattle.ttrpc_server.specs.Registry.{Services}
 use Rattle.ttrpc_server.specs.Responses.{IsStatusResponse, Refers, Responds}
 use Rattle.ttrpc_server.specs.Server.{Server, new_server, with_list}
 use Rattle.ttrpc_server.specs.Table.{Row, Skipped, Tells, TellsOf, Known, row_of}
@@ -49,7 +49,7 @@ serving out in_ = record { out = out; in_ = in_; core = record { reacts = serves
 
 -- ---- taking and answering a job
 
-abbrev pub new_core : {O I : Type 0} → Rules → List ServiceNames → O → I → ServerCore O I
+abbrev pub new_core : {O I : Type 0} → Rules → Services → O → I → ServerCore O I
 new_core rules services outbound inbound = record { state = new_server rules services; connection = new_connection outbound inbound }
 
 -- the core with these jobs

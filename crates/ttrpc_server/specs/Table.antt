@@ -22,10 +22,9 @@ use Rattle.ttrpc_connection.specs.Feeds.{IsFailed}
 use Rattle.ttrpc_connection.specs.Frames.{safe_limit}
 use Rattle.ttrpc_connection.specs.Texts.{unsafe_payload_text, unsealed_text}
 use Rattle.ttrpc_server.specs.declared.job.ActiveJob.{ActiveJob}
-use Rattle.ttrpc_server.specs.declared.registry.ServiceNames.{ServiceNames}
 use Rattle.ttrpc_server.specs.declared.server.ServerCore.{ServerCore}
 use Rattle.ttrpc_server.specs.Jobs.{IsTaken, IsUnknown}
-use Rattle.ttrpc_server.specs.Registry.{has_method}
+use Rattle.ttrpc_server.specs.Registry.{Services, has_method}
 use Rattle.ttrpc_server.specs.Responses.{IsAboveLimit, IsUnsealed, fitted, response_size, status_response}
 use Rattle.ttrpc_server.specs.Server.{Server}
 
@@ -50,14 +49,14 @@ pub data Row : Type 0 where
   -- a job is made
   Known : (request : Request) → Row
 
-abbrev pub request_row : List ServiceNames → Option Request → Row
+abbrev pub request_row : Services → Option Request → Row
 request_row services None = TellsOf INVALID_ARGUMENT
 request_row services (Some r) =
     if has_method services r.service r.method then Known r else
     Tells (status_response INVALID_ARGUMENT (path_text r.service r.method))
 
 -- the rows from top to bottom
-abbrev pub sync_row : List ServiceNames → MessageHeader → Opening → Row
+abbrev pub sync_row : Services → MessageHeader → Opening → Row
 sync_row services h TooLong = Tells (status_response INVALID_ARGUMENT (oversize_text h.length))
 sync_row services h (Refused why) = Tells (status_response UNKNOWN (unopened_text why))
 sync_row services h (Opened plain) =

@@ -1,35 +1,131 @@
-//! Which services, methods and streams a server has.
-ghost use Rattle.std.specs.Prelude.{◌≡◌};
-ghost use Rattle.ttrpc_server.specs.Registry.{has_text, has_method};
+//! Which methods and streams a server has.
+ghost use Rattle.std.specs.Prelude.{◌≡◌, [], string_bytes, OnOk, OnErr};
+ghost use Rattle.ttrpc_server.specs.Registry.{AddsName, has_method, has_name, has_stream, no_services};
 
-use ttrpc_values::{Sequence, Text};
+use std::alloc::{AllocError, Global};
+use std::collections::{BTreeMap, BTreeSet};
+use std::marker::Model;
+use ttrpc_values::Text;
 
-/// A service, and the names of its methods and of its streams.
-#[derive(Debug, Drop, PartialEq, Eq)]
-pub struct ServiceNames {
-    pub name: Text,
-    pub methods: Sequence<Text>,
-    pub streams: Sequence<Text>,
+/// The methods and the streams of a server's services, each found by ordered search. A service is there once it has one
+/// of either.
+#[derive(Drop)]
+pub struct Registry {
+    methods: Names,
+    streams: Names,
 }
 
-/// The services of a server, fixed from the start.
-#[derive(Debug, Drop, PartialEq, Eq)]
-pub struct Registry {
-    pub services: Sequence<ServiceNames>,
+impl Model for Registry {
+    ghost use Rattle.ttrpc_server.specs.Registry.{Services};
+
+    ghost Value = { Services };
+
+    ghost view = { λ a. record { methods = a.methods; streams = a.streams } };
 }
 
 impl Registry {
-    /// Whether a service of this name has a method of this name. Takes no memory.
-    pub fn has_method(&self, service: &Text, method: &Text) -> bool
-        ensures { result ≡ has_method self.now.services service.now method.now }
+    /// No services. Takes no memory.
+    pub fn new(alloc: Global) -> Registry
+        ensures { result ≡ no_services }
     {
-        self.services.as_slice().iter().any(|names| names.name == *service
-            && has_text(names.methods.as_slice(), method))
+        Registry {
+            methods: Names::new(alloc),
+            streams: Names::new(alloc),
+        }
+    }
+
+    /// Gives this service this method. An `Err` changes nothing.
+    pub fn add_method(
+        &mut self,
+        alloc: Global,
+        service: Text,
+        method: Text,
+    ) -> Result<(), AllocError>
+        ensures ok { OnOk result (AddsName self.old.methods service method self.new.methods) }
+        ensures others { self.new.streams ≡ self.old.streams }
+        ensures err { OnErr result (self.new ≡ self.old) }
+    {
+        self.methods
+            .add(alloc, service.into_string(), method.into_string())
+    }
+
+    /// Gives this service this stream. An `Err` changes nothing.
+    pub fn add_stream(
+        &mut self,
+        alloc: Global,
+        service: Text,
+        stream: Text,
+    ) -> Result<(), AllocError>
+        ensures ok { OnOk result (AddsName self.old.streams service stream self.new.streams) }
+        ensures others { self.new.methods ≡ self.old.methods }
+        ensures err { OnErr result (self.new ≡ self.old) }
+    {
+        self.streams
+            .add(alloc, service.into_string(), stream.into_string())
+    }
+
+    /// Whether this service has this method. Takes no memory.
+    pub fn has_method(&self, service: &Text, method: &Text) -> bool
+        ensures { result ≡ has_method self.now service.now method.now }
+    {
+        self.methods.has(service.as_str(), method.as_str())
+    }
+
+    /// Whether this service has this stream. Takes no memory.
+    pub fn has_stream(&self, service: &Text, stream: &Text) -> bool
+        ensures { result ≡ has_stream self.now service.now stream.now }
+    {
+        self.streams.has(service.as_str(), stream.as_str())
     }
 }
 
-fn has_text(texts: &[Text], text: &Text) -> bool
-    ensures { result ≡ has_text texts.now text.now }
-{
-    texts.iter().any(|t| *t == *text)
+/// Names under the names of services.
+#[derive(Drop)]
+struct Names {
+    services: BTreeMap<String, BTreeSet<String>>,
+}
+
+impl Model for Names {
+    ghost use Rattle.std.specs.Prelude.{map, string_bytes};
+    ghost use Rattle.ttrpc_server.specs.Registry.{Names as TheNames};
+
+    ghost Value = { TheNames };
+
+    ghost view = { λ a. map (λ e. (string_bytes e.0, map string_bytes e.1.keys)) a.services.entries };
+}
+
+impl Names {
+    /// None. Takes no memory.
+    fn new(alloc: Global) -> Names
+        ensures { result ≡ [] }
+    {
+        Names {
+            services: BTreeMap::new(alloc),
+        }
+    }
+
+    /// One more. An `Err` changes nothing.
+    fn add(&mut self, alloc: Global, service: String, name: String) -> Result<(), AllocError>
+        ensures ok { OnOk result (AddsName self.old (string_bytes service) (string_bytes name) self.new) }
+        ensures err { OnErr result (self.new ≡ self.old) }
+    {
+        if let Some(names) = self.services.get_mut(service.as_str()) {
+            names.insert(name)?;
+            return Ok(());
+        }
+        let mut names = BTreeSet::new(alloc);
+        names.insert(name)?;
+        self.services.insert(service, names)?;
+        Ok(())
+    }
+
+    /// Whether this name is under this service. Takes no memory.
+    fn has(&self, service: &str, name: &str) -> bool
+        ensures { result ≡ has_name self.now service.now name.now }
+    {
+        match self.services.get(service) {
+            Some(names) => names.contains(name),
+            None => false,
+        }
+    }
 }

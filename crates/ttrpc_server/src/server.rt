@@ -34,7 +34,7 @@ pub struct ServerCore<O, I> {
 impl<O: OutboundTransform + Drop, I: InboundTransform + Drop> ServerCore<O, I> {
     /// A core without jobs, over these halves. Takes no memory.
     pub fn new(alloc: Global, rules: Rules, registry: Registry, outbound: O, inbound: I) -> Self
-        ensures { result ≡ new_core rules registry.services outbound inbound }
+        ensures { result ≡ new_core rules registry outbound inbound }
     {
         ServerCore {
             state: ServerState::new(alloc, rules, registry),

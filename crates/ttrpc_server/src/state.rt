@@ -35,13 +35,13 @@ impl Model for ServerState {
 
     ghost Value = { Server };
 
-    ghost view = { λ a. record { rules = a.rules; services = a.registry.services; jobs = a.jobs } };
+    ghost view = { λ a. record { rules = a.rules; services = a.registry; jobs = a.jobs } };
 }
 
 impl ServerState {
     /// No jobs. Takes no memory.
     pub(crate) fn new(alloc: Global, rules: Rules, registry: Registry) -> Self
-        ensures { result ≡ new_server rules registry.services }
+        ensures { result ≡ new_server rules registry }
     {
         ServerState {
             rules,

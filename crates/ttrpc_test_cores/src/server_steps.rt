@@ -8,8 +8,8 @@ use std::test::Fail;
 use ttrpc_codec::{Codec, WireMessage};
 use ttrpc_error::Error;
 use ttrpc_proto::{Response, Status};
-use ttrpc_server::{Job, JobId, Registry, ServiceNames};
-use ttrpc_values::{Blob, Sequence, Text};
+use ttrpc_server::{Job, JobId, Registry};
+use ttrpc_values::{Blob, Text};
 
 /// A step that only a server knows.
 pub fn server_step<S: Server>(alloc: Global, core: &mut S, step: &Step, cut: usize) -> Met {
@@ -63,28 +63,12 @@ fn front_step<S: Server>(alloc: Global, core: &mut S, step: &Step, cut: usize) -
 
 // ---- what a server has
 
-fn texts(alloc: Global, name: &str) -> Result<Sequence<Text>, Fail> {
-    let mut texts = Vec::new(alloc);
-    texts.push(Text::from_str(alloc, name)?)?;
-    Ok(Sequence::from_vec(texts))
-}
-
 /// The service `demo.Echo` with the method `Echo` and the stream `Chat`.
-fn service(alloc: Global) -> Result<ServiceNames, Fail> {
-    Ok(ServiceNames {
-        name: Text::from_str(alloc, "demo.Echo")?,
-        methods: texts(alloc, "Echo")?,
-        streams: texts(alloc, "Chat")?,
-    })
-}
-
-/// That service alone.
 pub fn registry(alloc: Global) -> Result<Registry, Fail> {
-    let mut services = Vec::new(alloc);
-    services.push(service(alloc)?)?;
-    Ok(Registry {
-        services: Sequence::from_vec(services),
-    })
+    let mut registry = Registry::new(alloc);
+    registry.add_method(alloc, Text::from_str(alloc, "demo.Echo")?, Text::from_str(alloc, "Echo")?)?;
+    registry.add_stream(alloc, Text::from_str(alloc, "demo.Echo")?, Text::from_str(alloc, "Chat")?)?;
+    Ok(registry)
 }
 
 /// A response with an OK status and this payload.

@@ -7,8 +7,8 @@ use ttrpc_codec::WireMessage;
 use ttrpc_error::Error;
 use ttrpc_proto::{Request, Response, Status};
 use ttrpc_secure::{Plain, plain_is_paired};
-use ttrpc_server::{Registry, Rules, ServerCore, ServiceNames};
-use ttrpc_values::{Blob, Sequence, Text};
+use ttrpc_server::{Registry, Rules, ServerCore};
+use ttrpc_values::{Blob, Text};
 use ttrpc_world::{Entry, Event, Reply, Side, Trace, World};
 
 /// One event of a script.
@@ -193,17 +193,13 @@ pub fn first_fault(trace: &[Entry], script: &[(Act, Said)]) -> Option<usize> {
 
 /// One service, `demo.Echo`, with the method `Echo`.
 fn registry(alloc: Global) -> Result<Registry, Fail> {
-    let mut methods = Vec::new(alloc);
-    methods.push(Text::from_str(alloc, "Echo")?)?;
-    let mut services = Vec::new(alloc);
-    services.push(ServiceNames {
-        name: Text::from_str(alloc, "demo.Echo")?,
-        methods: Sequence::from_vec(methods),
-        streams: Sequence::from_vec(Vec::new(alloc)),
-    })?;
-    Ok(Registry {
-        services: Sequence::from_vec(services),
-    })
+    let mut registry = Registry::new(alloc);
+    registry.add_method(
+        alloc,
+        Text::from_str(alloc, "demo.Echo")?,
+        Text::from_str(alloc, "Echo")?,
+    )?;
+    Ok(registry)
 }
 
 /// Runs events over plain halves.

@@ -1,13 +1,13 @@
 -- One client, one server, and the bytes in flight between them.
 -- Source: this project's.
-use Rattle.std.specs.Prelude.{◌≡◌, ℕ, List}
+use Rattle.std.specs.Prelude.{◌≡◌, ℕ}
 use Rattle.ttrpc_secure.specs.declared.transform.OutboundTransform.{Ghosts as OutboundTransform}
 use Rattle.ttrpc_secure.specs.declared.transform.InboundTransform.{Ghosts as InboundTransform}
 use Rattle.ttrpc_secure.specs.Halves.{IsPaired}
-use Rattle.ttrpc_server.specs.declared.registry.ServiceNames.{ServiceNames}
 use Rattle.ttrpc_server.specs.declared.rules.Rules.{Rules}
 use Rattle.ttrpc_server.specs.declared.server.ServerCore.{ServerCore}
 use Rattle.ttrpc_server.specs.Happens as server
+use Rattle.ttrpc_server.specs.Registry.{Services}
 use Rattle.ttrpc_client.specs.declared.client.ClientCore.{ClientCore}
 use Rattle.ttrpc_client.specs.declared.kind.ClientKind.{ClientKind}
 use Rattle.ttrpc_client.specs.Happens as client
@@ -42,7 +42,7 @@ pub record IsFresh {CO CI SO SI : Type 0} (c : Halves CO CI) (s : Halves SO SI) 
   pub first : ℕ
   pub client : w.client ≡ client.new_core kind first w.client.connection.outbox.half w.client.connection.inbound
   pub rules : Rules
-  pub services : List ServiceNames
+  pub services : Services
   pub server : w.server ≡ server.new_core rules services w.server.connection.outbox.half w.server.connection.inbound
   pub up : w.up ≡ empty_pipe
   pub down : w.down ≡ empty_pipe

@@ -1,0 +1,57 @@
+-- The names of a registry, as its maps have them.
+use Rattle.std.proofs.Common.{rules, ◌≡◌, ℕ, Bool, true, false, cond, ◌&&◌, ◌||◌, List, [], ◌∷◌, map, Option, Some, String, string_bytes, refl, sym, ap, ◌∙◌}
+use Rattle.std.specs.BTreeMap.{BTreeMap, get_by_text, is_at}
+use Rattle.std.specs.BTreeSet.{BTreeSet, contains_text}
+use Rattle.std.specs.List.{list_any}
+use Rattle.std.specs.BTreeMap as tree
+use Rattle.std.specs.Map.{lookup, set_value, update}
+use Rattle.std.specs.Option.{option_map_or}
+use Rattle.std.specs.Str.{bytes_eq}
+use Rattle.std.specs.String.{string_cmp}
+use Rattle.std.proofs.lemmas.Cmp.{nat_list_eq_equiv}
+use Rattle.std.proofs.lemmas.Map.Text.{btree_map_updates_text, is_eq-slice_cmp, text_cmp}
+use Rattle.std.proofs.lemmas.Map.Steps.{set_value_same}
+use Rattle.std.proofs.lemmas.Slice.Eq.{bytes_eq-Decides}
+use Rattle.ttrpc_server.specs.Registry.{AddsName, Names, has_name}
+
+either : {X Z : Type 0} (f : X → Bool) (g : Z → Bool) (b : Bool) (x : X) (z : Z) (o : Option X) (p : Option Z) → f x ≡ g z → option_map_or f o false ≡ option_map_or g p false
+    → option_map_or f (cond b (Some x) o) false ≡ option_map_or g (cond b (Some z) p) false
+either f g true x z o p one more = one
+either f g false x z o p one more = more
+
+or_is : (a b : Bool) → cond a true b ≡ (a || b)
+or_is true b = refl
+or_is false b = refl
+
+module _ {Y : Type 0} where
+  -- the names that a map has
+  abbrev pub seen : List (String Y × BTreeSet (String Y)) → Names
+  seen entries = map (λ e. (string_bytes e.0, map string_bytes e.1.keys)) entries
+
+  -- the same by the map's own words
+  abbrev found : Option (BTreeSet (String Y)) → List ℕ → Bool
+  found names n = option_map_or (λ x. contains_text x n) names false
+
+  keys_have : (n : List ℕ) (keys : List (String Y)) → list_any (bytes_eq n) (map string_bytes keys) ≡ list_any (is_at (text_cmp n)) keys
+  keys_have n [] = refl
+  keys_have n (k ∷ ks) = rw (is_eq-slice_cmp n (string_bytes k), keys_have n ks) refl
+
+  pub stored : (s n : List ℕ) (entries : List (String Y × BTreeSet (String Y))) → has_name (seen entries) s n ≡ found (lookup (is_at (text_cmp s)) entries) n
+  stored s n [] = refl
+  stored s n (e ∷ es) = rw (is_eq-slice_cmp s (string_bytes e.0))
+      (either (λ names. list_any (bytes_eq n) names) (λ names. contains_text names n) (bytes_eq s (string_bytes e.0)) (map string_bytes e.1.keys) e.1 _ _ (keys_have n e.1.keys) (stored s n es))
+
+  more : (b : Bool) (s service name n : List ℕ) (f : List ℕ → Option (BTreeSet (String Y))) (names : BTreeSet (String Y)) → bytes_eq service s ≡ b
+      → contains_text names n ≡ cond (bytes_eq name n) true (found (f service) n) → found (cond b (Some names) (f s)) n ≡ ((b && bytes_eq name n) || found (f s) n)
+  more true s service name n f names e has = let same : service ≡ s = search (rules, bytes_eq-Decides) in rw (has, same) (or_is (bytes_eq name n) (found (f s) n))
+  more false s service name n f names e has = refl
+
+  pub one_more : (old new : BTreeMap (String Y) (BTreeSet (String Y))) (service name : List ℕ) (names : BTreeSet (String Y)) → tree.UpdatesBy string_cmp (text_cmp service) old new (Some names)
+      → ((n : List ℕ) → contains_text names n ≡ cond (bytes_eq name n) true (found (get_by_text old service) n)) → AddsName (seen old.entries) service name (seen new.entries)
+  one_more old new service name names updates has s n =
+      let at : get_by_text new s ≡ update bytes_eq (get_by_text old) service (Some names) s = btree_map_updates_text service old new (Some names) updates s in
+      rw (nat_list_eq_equiv.symm s service, nat_list_eq_equiv.symm n name, stored s n new.entries, stored s n old.entries, at) (more (bytes_eq service s) s service name n (get_by_text old) names refl (has n))
+
+  pub as_before : (old new : BTreeMap (String Y) (BTreeSet (String Y))) (service : List ℕ) (names same : BTreeSet (String Y)) → get_by_text old service ≡ Some names → same.keys ≡ names.keys
+      → new.entries ≡ set_value (is_at (text_cmp service)) old.entries same → seen new.entries ≡ seen old.entries
+  as_before old new service names same at keys set = ap seen (set ∙ set_value_same (is_at (text_cmp service)) old.entries same (at ∙ ap (λ (k : List (String Y)). Some (record { keys = k })) (sym keys)))
