@@ -12,7 +12,7 @@ use Rattle.ttrpc_frame.specs.declared.frame.Incoming.{Incoming}
 use Rattle.ttrpc_frame.specs.declared.outgoing.Queued.{Queued}
 use Rattle.ttrpc_frame.specs.Frames.{IsFrame, Frames, IsRest, Held, nothing, Holds, Fed}
 use Rattle.ttrpc_frame.specs.Queue.{Queue, IsWithin, written, written_all, first_open, open_part, empty_queue, with_frame, with_lent, after_report, begun_count, frames_without, without}
-use Rattle.ttrpc_frame.proofs.Frames.{exact, header_front, nothing_held}
+use Rattle.ttrpc_frame.proofs.Frames.{header_front, nothing_held}
 use Rattle.ttrpc_frame.proofs.Pieces.{one_list, is_frames}
 use Rattle.ttrpc_frame.proofs.Queues.{length-written, written_is, fresh_is_queue, with_frame_is_queue, with_lent_is_queue, after_report_is_queue, without_is_queue, report_of_a_part, report_of_all}
 use Rattle.ttrpc_flight.specs.Flight.{Flying, AreInFlight, IsSound, AreSound, arrived, carried, frames_of, flying_without}
@@ -324,15 +324,18 @@ no_frames : (xs : List Flying) → frames_of xs ≡ [] → xs ≡ []
 no_frames [] e = refl
 no_frames (x ∷ xs) e = absurd (cc)
 
-none_written : (xs : List Flying) → written_all (frames_of xs) ≡ [] → xs ≡ []
-none_written [] e = refl
-none_written (x ∷ xs) e = absurd (omega (arith, ap length e, length-append (written x.frame.message) (written_all (frames_of xs)), length-written x.frame.message))
+-- whole frames are no rest
+none_written : (xs : List Flying) → AreSound xs → IsRest (written_all (frames_of xs)) → xs ≡ []
+none_written [] sound rest = refl
+none_written (x ∷ xs) sound rest = absurd (no_frame (arrived x) (written x.frame.message) (written_all (frames_of xs)) (written_all (frames_of (x ∷ xs))) rest (written_is_frame x sound.0) refl)
 
-pub all_has_come : (held : Held) (pipe : List ℕ) (cut : Bool) (q : Queue) (transit queued : List Flying) → pipe ≡ [] → cut ≡ false → held ≡ nothing → q.frames ≡ [] → AreInFlight held pipe cut q transit queued
+-- What is held is a rest, and these are whole frames, so it is nothing.
+pub all_has_come : (held : Held) (pipe : List ℕ) (cut : Bool) (q : Queue) (transit queued : List Flying) → pipe ≡ [] → cut ≡ false → q.frames ≡ [] → AreInFlight held pipe cut q transit queued
     → (transit ≡ []) × (queued ≡ [])
-all_has_come held pipe cut q transit queued empty whole boundary none f =
-    let nothing_before : f.before ≡ [] = exact [] f.before (subst (λ h. Holds h f.before) boundary f.holds) in
+all_has_come held pipe cut q transit queued empty whole none f =
     let begun : take q.reported (written_all q.frames) ≡ [] = ap (λ fs. take q.reported (written_all fs)) none ∙ take_all q.reported [] (omega arith) in
-    let nothing_left : f.before ++ (pipe ++ f.lost) ≡ [] = ap (λ bs. bs ++ (pipe ++ f.lost)) nothing_before ∙ ap (λ bs. bs ++ f.lost) empty ∙ f.uncut whole in
-    let w = written_all (frames_of transit) in
-    (none_written transit (sym (append-nil w) ∙ ap (λ bs. w ++ bs) (sym begun) ∙ sym f.bytes ∙ nothing_left), no_frames queued (f.same ∙ none))
+    let before : f.before ≡ written_all (frames_of transit) =
+    sym (append-nil f.before) ∙ sym (ap (λ bs. f.before ++ bs) (ap (λ bs. bs ++ f.lost) empty ∙ f.uncut whole))
+    ∙ f.bytes ∙ ap (λ bs. written_all (frames_of transit) ++ bs) begun ∙ append-nil (written_all (frames_of transit)) in
+    let sound : AreSound transit = all_in_front (λ (x : Flying). IsSound x.frame) transit queued f.sound in
+    (none_written transit sound (subst IsRest before f.holds.1), no_frames queued (f.same ∙ none))

@@ -20,7 +20,7 @@ use ttrpc_secure::{InboundTransform, OutboundTransform};
 /// Frames that read back come in as they were queued, in order, each once and whole. A frame that is queued is behind the
 /// others in flight; bytes that leave, into a pipe or behind its cut, change no frame and no order; of a request that is
 /// thrown away no byte was reported; and the frames that a core takes are the first of those in transit, whatever the
-/// pieces. Where nothing was cut off, and no byte is held or in the pipe and no frame queued, nothing is in flight.
+/// pieces. Where nothing was cut off, no byte is in the pipe and no frame queued, nothing is in flight.
 pub fn frames_arrive_as_they_were_queued()
     ensures none { AreInFlight nothing [] false empty_queue [] [] }
     ensures placed { (held : Held) (pipe : List ℕ) (cut : Bool) (q : Queue) (transit queued : List Flying) (x : Flying)
@@ -41,7 +41,7 @@ pub fn frames_arrive_as_they_were_queued()
         → (front : List Flying) × (rest : List Flying) × (transit ≡ front ++ rest)
         × (incoming ≡ map arrived front) × AreInFlight new later cut q rest queued }
     ensures all_has_come { (held : Held) (pipe : List ℕ) (cut : Bool) (q : Queue) (transit queued : List Flying)
-        → pipe ≡ [] → cut ≡ false → held ≡ nothing → q.frames ≡ []
+        → pipe ≡ [] → cut ≡ false → q.frames ≡ []
         → AreInFlight held pipe cut q transit queued → (transit ≡ []) × (queued ≡ []) }
 {}
 
