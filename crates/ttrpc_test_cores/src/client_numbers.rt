@@ -1,6 +1,7 @@
 //! Many calls of a client at once.
 use crate::client::ASKED;
-use crate::client_steps::{gives, usual_request};
+use crate::client_steps::{ends, gives, usual_request};
+use crate::script::Told;
 use crate::steps::{behind, leaves};
 use crate::under_test::{Client, End, Met};
 use std::alloc::Global;
@@ -19,14 +20,26 @@ pub fn calls_last_first<C: Client>(alloc: Global, core: &mut C, count: u32) -> M
     )
 }
 
+/// So many calls are made, each due a nanosecond behind the one before, and all expire by the tick at which the last is
+/// due: each is told of and has its outcome, and no request leaves.
+pub fn calls_expire_at_once<C: Client>(alloc: Global, core: &mut C, count: u32) -> Met {
+    let request = usual_request(alloc, 10)?;
+    if !calls(alloc, core, &request, count)? {
+        return Ok(false);
+    }
+    core.tick(u64::from(count).wrapping_add(9));
+    Ok(leaves(core, b"") && tells_all(core, count) && expires_each(alloc, core, count)?)
+}
+
 /// The id of this call, of those from 0 on.
 fn id_of(number: u32) -> u32 {
     number.wrapping_mul(2).wrapping_add(1)
 }
 
+/// Each is made a nanosecond behind the one before.
 fn calls<C: Client>(alloc: Global, core: &mut C, request: &Request, count: u32) -> Met {
     for number in 0..count {
-        if core.request(alloc, request, 0)? != id_of(number) {
+        if core.request(alloc, request, u64::from(number))? != id_of(number) {
             return Ok(false);
         }
     }
@@ -68,6 +81,29 @@ fn gives_each<C: Client>(alloc: Global, core: &mut C, count: u32) -> Met {
         let id = id_of(number);
         let [_, _, _, d] = id.to_be_bytes();
         if !gives(alloc, core, id, true, d)? {
+            return Ok(false);
+        }
+    }
+    Ok(true)
+}
+
+fn tells_all<C: Client>(core: &mut C, count: u32) -> bool {
+    for _ in 0..count {
+        if core.next_ended().is_none() {
+            return false;
+        }
+    }
+    core.next_ended().is_none()
+}
+
+fn expires_each<C: Client>(alloc: Global, core: &mut C, count: u32) -> Met {
+    for number in 0..count {
+        if !ends(
+            alloc,
+            core,
+            id_of(number),
+            Told::Others("Request deadline elapsed"),
+        )? {
             return Ok(false);
         }
     }

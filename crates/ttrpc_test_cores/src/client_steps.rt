@@ -1,6 +1,6 @@
 //! The steps of a client.
 use crate::client::{ANSWERED, CLOSE};
-use crate::client_numbers::calls_last_first;
+use crate::client_numbers::{calls_expire_at_once, calls_last_first};
 use crate::script::{Step, Told};
 use crate::steps::{feeds, tells};
 use crate::under_test::{Client, Met};
@@ -26,6 +26,7 @@ pub fn client_step<C: Client>(alloc: Global, core: &mut C, step: &Step) -> Met {
         Step::NextEnded(id) => Ok(core.next_ended() == id),
         Step::NextDeadline(at) => Ok(core.next_deadline() == at),
         Step::CallsLastFirst(count) => calls_last_first(alloc, core, count),
+        Step::CallsExpireAtOnce(count) => calls_expire_at_once(alloc, core, count),
         Step::DropsCall(id) => {
             core.drop_call(id);
             Ok(true)
@@ -129,7 +130,7 @@ pub fn gives<C: Client>(
 }
 
 /// The outcome of the call is this error.
-fn ends<C: Client>(alloc: Global, core: &mut C, id: CallId, why: Told) -> Met {
+pub fn ends<C: Client>(alloc: Global, core: &mut C, id: CallId, why: Told) -> Met {
     match core.take_outcome(alloc, id) {
         None | Some(Ok(_)) => Ok(false),
         Some(Err(error)) => tells(Some(error), why),

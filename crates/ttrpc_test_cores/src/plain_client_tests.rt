@@ -491,6 +491,11 @@ const ASYNC_EXPIRY_ROWS: &[Row] = &[
         ],
         ..FRESH
     },
+    Row {
+        name: "a thousand calls expire at once",
+        steps: &[Step::CallsExpireAtOnce(1000), Step::IsAlive],
+        ..FRESH
+    },
 ];
 
 const DROP_ROWS: &[Row] = &[

@@ -114,6 +114,8 @@ pub enum Step {
     NextDeadline(Option<u64>),
     /// So many calls are made and answered, the last first.
     CallsLastFirst(u32),
+    /// So many calls are made, and all expire by one tick.
+    CallsExpireAtOnce(u32),
 }
 
 /// How a core starts.

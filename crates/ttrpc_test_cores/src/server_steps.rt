@@ -66,8 +66,16 @@ fn front_step<S: Server>(alloc: Global, core: &mut S, step: &Step, cut: usize) -
 /// The service `demo.Echo` with the method `Echo` and the stream `Chat`.
 pub fn registry(alloc: Global) -> Result<Registry, Fail> {
     let mut registry = Registry::new(alloc);
-    registry.add_method(alloc, Text::from_str(alloc, "demo.Echo")?, Text::from_str(alloc, "Echo")?)?;
-    registry.add_stream(alloc, Text::from_str(alloc, "demo.Echo")?, Text::from_str(alloc, "Chat")?)?;
+    registry.add_method(
+        alloc,
+        Text::from_str(alloc, "demo.Echo")?,
+        Text::from_str(alloc, "Echo")?,
+    )?;
+    registry.add_stream(
+        alloc,
+        Text::from_str(alloc, "demo.Echo")?,
+        Text::from_str(alloc, "Chat")?,
+    )?;
     Ok(registry)
 }
 

@@ -5,7 +5,7 @@ use std::alloc::Global;
 use std::process::Abort;
 use std::test::Fail;
 use ttrpc_error::Error;
-use ttrpc_frame::Outgoing;
+use ttrpc_frame::{Outgoing, Owners};
 use ttrpc_values::Blob;
 
 type Tested = Result<(), Fail>;
@@ -19,12 +19,30 @@ enum Act {
     Fill(&'static [u8]),
     Withdraw,
     ThrowAway(u64),
+    /// The requests of all owners up to this one.
+    ThrowAwayUpTo(u64),
     /// So much room is offered, and these bytes are lent.
     Lend(usize, &'static [u8]),
     Wrote(usize),
     Lent(usize),
     HasBegun(u64, bool),
     IsEmpty(bool),
+}
+
+/// The owners up to this one.
+#[derive(Drop)]
+struct UpTo {
+    last: u64,
+}
+
+impl Owners for UpTo {
+    ghost use Rattle.std.specs.Prelude.{nat_le};
+
+    ghost has = { λ owners owner. nat_le owner owners.last };
+
+    fn has(&self, owner: u64) -> bool {
+        owner <= self.last
+    }
 }
 
 /// A request of stream 1 with the payload "abc", and its bytes.
@@ -84,6 +102,19 @@ const SCRIPTS: &[(&[Act], &[u8])] = &[
             Act::ThrowAway(7),
         ],
         SAID,
+    ),
+    // requests of several owners are thrown away at once, and the other frames keep their order
+    (
+        &[
+            Act::PlaceOf(ASKING, 1),
+            Act::Place(SAYING),
+            Act::PlaceOf(ASKING, 3),
+            Act::PlaceOf(ASKING, 5),
+            Act::PlaceOf(ASKING, 2),
+            Act::Place(ANSWERING),
+            Act::ThrowAwayUpTo(3),
+        ],
+        b"\x01\x02\x03\x04\0\0\x01\x02\x03\x06\xff\x00\0\0\0\x03\0\0\0\x01\x01\0abc\0\0\0\0\0\0\0\x05\x02\0",
     ),
     // one that has begun stays: it begins with its first lent byte
     (
@@ -160,11 +191,12 @@ fn does(alloc: Global, queue: &mut Outgoing, act: Act) -> Result<bool, Fail> {
         Act::PlaceOf(row, owner) => queue.place(queued_of(alloc, &row, Some(owner))?)?,
         Act::Fill(payload) => queue.fill(Blob::from_slice(alloc, payload)?),
         Act::Withdraw => queue.withdraw(),
-        Act::ThrowAway(owner) => queue.throw_away(owner),
+        Act::ThrowAway(owner) => queue.throw_away(&owner),
+        Act::ThrowAwayUpTo(last) => queue.throw_away(&UpTo { last }),
         Act::Lend(size, expected) => return Ok(lends(queue, size, expected)),
         Act::Wrote(count) => queue.wrote(count.min(queue.lent())),
         Act::Lent(count) => return Ok(queue.lent() == count),
-        Act::HasBegun(owner, begun) => return Ok(queue.has_begun(owner) == begun),
+        Act::HasBegun(owner, begun) => return Ok(queue.has_begun(&owner) == begun),
         Act::IsEmpty(empty) => return Ok(queue.is_empty() == empty),
     }
     Ok(true)
