@@ -1,5 +1,6 @@
 -- What is kept of calls, as a list by rising id.
-use Rattle.std.proofs.Common.{◌≡◌, ◌≢◌, ℕ, List, [], ◌∷◌, refl, sym, Some, None, false}
+use Rattle.std.proofs.Common.{◌≡◌, ◌≢◌, inl, inr, ℕ, List, [], ◌∷◌, refl, sym, subst, Some, None, false}
+use Rattle.std.proofs.lemmas.Bool.{cases_eq}
 use Rattle.std.specs.Map.{lookup, remove_entry}
 use Rattle.std.specs.BTreeMap.{is_at, insert_entry}
 use Rattle.std.specs.Ordering.{nat_cmp}
@@ -36,12 +37,9 @@ apart_at id k apart Greater e = rw e refl
 pub apart_place : (id k : ℕ) → k ≢ id → is_at (nat_cmp id) k ≡ false
 apart_place id k apart = apart_at id k apart (nat_cmp id k) refl
 
-put_at : {K X : Type 0} (R : K → K → Ordering) (e : K × X) (es : List (K × X)) (k : K) (v : X) (o : Ordering) → R k e.0 ≡ o → insert_entry R (e ∷ es) k v ≡ [] → ⊥
-put_at R e es k v Less q h = let bad : (k, v) ∷ e ∷ es ≡ [] = rw q at h in cc
-put_at R e es k v Equal q h = let bad : (e.0, v) ∷ es ≡ [] = rw q at h in cc
-put_at R e es k v Greater q h = let bad : e ∷ insert_entry R es k v ≡ [] = rw q at h in cc
-
--- a list in which something was put isn't empty
-pub put_told : {K X : Type 0} (R : K → K → Ordering) (es : List (K × X)) (k : K) (v : X) → insert_entry R es k v ≡ [] → ⊥
-put_told R [] k v h = cc
-put_told R (e ∷ es) k v h = put_at R e es k v (R k e.0) refl h
+-- what holds of one, and of each other, holds of all
+pub at_or_apart : (P : ℕ → Type 0) (id : ℕ) → P id → ((k : ℕ) → k ≢ id → P k) → (k : ℕ) → P k
+at_or_apart P id here apart k = elim (cases_eq k id) [
+  | inl e ↦ subst P (sym e) here
+  | inr e ↦ apart k e
+]

@@ -1,5 +1,5 @@
 -- Calls that expire: which are due, and what is left of those that are.
-use Rattle.std.proofs.Common.{rules, arith, ◌≡◌, ◌≢◌, ◌<◌, ◌≤◌, ℕ, nat_eq, nat_le, List, [], ◌∷◌, length, Option, Some, None, Bool, true, false, refl, sym, ap, subst, ◌∙◌}
+use Rattle.std.proofs.Common.{rules, arith, ◌≡◌, ◌≢◌, ◌<◌, ◌≤◌, ℕ, nat_le, List, [], ◌∷◌, length, Option, Some, None, Bool, true, false, refl, sym, ap, subst, ◌∙◌}
 use Rattle.std.proofs.lemmas.List.Sorted.{IsPermutation-cons, IsPermutation-middle, IsPermutation-refl, IsPermutation-trans, length_permutation}
 use Rattle.std.specs.declared.cmp.Ordering.{Ordering}
 use Rattle.std.specs.declared.cmp.Ordering.TheVariants.{Less, Equal, Greater}
@@ -15,7 +15,7 @@ use Rattle.ttrpc_client.specs.Client.{Client, OthersStay, call_in, waits}
 use Rattle.ttrpc_client.specs.Happens.{IsDeadline, due_at, due_ids, expired_at, is_due}
 use Rattle.ttrpc_client.specs.Inside.{ExpiresOne, Settles}
 use Rattle.ttrpc_client.specs.Kept.{AreDeadlines, deadline_in, has_deadline, is_moment}
-use Rattle.ttrpc_client.proofs.Entries.{same_place}
+use Rattle.ttrpc_client.proofs.Entries.{at_or_apart, same_place}
 
 abbrev pub IsOrdered : List (ℕ × Call) → Type 0
 IsOrdered calls = IsStrictlySortedBy nat_cmp (keys_of calls)
@@ -138,13 +138,9 @@ expired_one now id call (e ∷ es) ordered due h = expired_at_place now id call 
 
 -- what a call is in the end doesn't depend on whether it has expired already
 by_id : (now id : ℕ) (old new : List (ℕ × Call)) → expired_at now (call_in old id) ≡ Some Expired → call_in new id ≡ Some Expired → OthersStay old id new
-    → (k : ℕ) (b : Bool) → nat_eq k id ≡ b → expired_at now (call_in new k) ≡ expired_at now (call_in old k)
-by_id now id old new due own others k true e =
-    let same : k ≡ id = search rules in
-    rw same (ap (λ c. expired_at now c) own ∙ sym due)
-by_id now id old new due own others k false e =
-    let apart : k ≢ id = search rules in
-    ap (λ c. expired_at now c) (others k apart)
+    → (k : ℕ) → expired_at now (call_in new k) ≡ expired_at now (call_in old k)
+by_id now id old new due own others = at_or_apart (λ k. expired_at now (call_in new k) ≡ expired_at now (call_in old k)) id
+    (ap (expired_at now) own ∙ sym due) (λ k apart. ap (expired_at now) (others k apart))
 
 pub expires : (old new : Client) (now at id : ℕ) → call_in old.calls id ≡ Some (Waiting (Some at)) → at ≤ now → Settles old id Expired new → ExpiresOne old now id new
 expires old new now at id was le settles =
@@ -152,7 +148,7 @@ expires old new now at id was le settles =
     let becomes : expired_at now (call_in old.calls id) ≡ Some Expired = rw (was, due) refl in
     record {
       due = subst (λ cs. IsPermutation (id ∷ due_ids now cs) (due_ids now old.calls)) (sym settles.calls) (expired_one now id (Waiting (Some at)) old.calls settles.was_ordered due was);
-      calls = λ k. by_id now id old.calls new.calls becomes settles.own settles.others k (nat_eq k id) refl;
+      calls = by_id now id old.calls new.calls becomes settles.own settles.others;
       same = settles.same;
     }
 

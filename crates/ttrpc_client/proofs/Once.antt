@@ -1,5 +1,5 @@
 -- The outcome of a call is given once.
-use Rattle.std.proofs.Common.{rules, arith, ◌≡◌, ◌≢◌, ◌⊎◌, inl, inr, ℕ, ◌<◌, ◌≤◌, nat_eq, nat_lt, List, [], ◌∷◌, ◌++◌, length, length-append, Option, Some, None, Result, Bool, true, false, refl, sym, ap, subst, ◌∙◌}
+use Rattle.std.proofs.Common.{rules, arith, ◌≡◌, ◌≢◌, ◌⊎◌, inl, inr, ℕ, ◌<◌, ◌≤◌, nat_eq, nat_lt, List, [], ◌∷◌, ◌++◌, length, length-append, Option, Some, None, is_some, Result, Bool, true, false, refl, sym, ap, subst, ◌∙◌}
 use Rattle.std.proofs.lemmas.Bool.{ltb-false, ltb-true}
 use Rattle.ttrpc_error.specs.declared.error.Error.{Error}
 use Rattle.ttrpc_proto.specs.declared.response.Response.{Response}
@@ -20,7 +20,7 @@ use Rattle.ttrpc_client.proofs.Turning.{Leaves, call_leaves, leaves_valid, run_l
 use Rattle.ttrpc_client.proofs.Rising.{Apart, apart_before, apart_behind, never_below, rise_up}
 
 -- nothing is kept of a call whose outcome was given
-gone_by_giving : (failure : Option Failure) (call : Option Call) (outcome : Result Response Error) → GivesOutcome failure call (Some outcome) → left_of failure call ≡ None
+gone_by_giving : (failure : Option Failure) (call : Option Call) (outcome : Result Response Error) → GivesOutcome failure call (Some outcome) → left_of (is_some failure) call ≡ None
 gone_by_giving failure None outcome gives = refl
 gone_by_giving None (Some (Waiting deadline)) outcome gives = cc
 gone_by_giving (Some why) (Some (Waiting deadline)) outcome gives = refl

@@ -1,5 +1,5 @@
 -- Deadlines that are added and taken away, and the first of them.
-use Rattle.std.proofs.Common.{arith, ◌≡◌, ◌≤◌, ℕ, List, Option, Some, Bool, true, false, refl, sym, ap, ◌∙◌}
+use Rattle.std.proofs.Common.{arith, rules, ◌≡◌, ◌≢◌, ◌≤◌, ◌&&◌, ℕ, nat_eq, List, Option, Some, Bool, true, false, if◌then◌else◌, refl, sym, ap}
 use Rattle.std.proofs.lemmas.Map.Lookups.{exact_pairs, exact_unsigned}
 use Rattle.std.specs.declared.cmp.Ordering.{Ordering}
 use Rattle.std.specs.declared.cmp.Ordering.TheVariants.{Less, Equal, Greater}
@@ -8,9 +8,6 @@ use Rattle.std.specs.Cmp.{ranked}
 use Rattle.std.specs.List.{list_any}
 use Rattle.std.specs.BTreeMap.{is_at}
 use Rattle.ttrpc_client.specs.Kept.{ChangesTo, has_deadline, sooner}
-
-Same : ℕ → ℕ → ℕ → ℕ → Type 0
-Same at id d k = (at ≡ d) × (id ≡ k)
 
 same_pair : (at id d k : ℕ) (o : Ordering) → sooner (at, id) (d, k) ≡ o → is_eq o ≡ true → sooner (at, id) (d, k) ≡ Equal
 same_pair at id d k Equal e h = e
@@ -30,16 +27,25 @@ elsewhere at id d k apart true e =
     let same : (at, id) ≡ (d, k) = exact_pairs nat_cmp nat_cmp exact_unsigned exact_unsigned (at, id) (d, k) (same_pair at id d k (sooner (at, id) (d, k)) refl e) in
     absurd (apart (sym (second_part (at, id) (d, k) same)) (first_part (at, id) (d, k) same))
 
-some_is : (x y : ℕ) → Some x ≡ Some y → x ≡ y
-some_is x y e = cc
+changes_at : (there : Bool) (old new : List (ℕ × ℕ)) (id moment : ℕ) → has_deadline new moment id ≡ there
+    → ((q : ℕ × ℕ) → is_at (sooner (moment, id)) q ≡ false → list_any (is_at (sooner q)) new ≡ list_any (is_at (sooner q)) old)
+    → (at k : ℕ) (b c : Bool) → nat_eq k id ≡ b → nat_eq at moment ≡ c → has_deadline new at k ≡ (if b && c then there else has_deadline old at k)
+changes_at there old new id moment own others at k true true e f =
+    let here : k ≡ id = search (rules, e) in
+    let now : at ≡ moment = search (rules, f) in
+    rw (here, now) own
+changes_at there old new id moment own others at k true false e f =
+    let apart : at ≢ moment = search (rules, f) in
+    others (at, k) (elsewhere moment id at k (λ _ now. apart (sym now)) (is_at (sooner (moment, id)) (at, k)) refl)
+changes_at there old new id moment own others at k false c e f =
+    let apart : k ≢ id = search (rules, e) in
+    others (at, k) (elsewhere moment id at k (λ here _. apart here) (is_at (sooner (moment, id)) (at, k)) refl)
 
-pub changes : (there : Bool) (old new : List (ℕ × ℕ)) (id at : ℕ) (deadline : Option ℕ) → deadline ≡ Some at → has_deadline new at id ≡ there
-    → ((q : ℕ × ℕ) → is_at (sooner (at, id)) q ≡ false → list_any (is_at (sooner q)) new ≡ list_any (is_at (sooner q)) old)
+pub changes : (there : Bool) (old new : List (ℕ × ℕ)) (id moment : ℕ) (deadline : Option ℕ) → deadline ≡ Some moment → has_deadline new moment id ≡ there
+    → ((q : ℕ × ℕ) → is_at (sooner (moment, id)) q ≡ false → list_any (is_at (sooner q)) new ≡ list_any (is_at (sooner q)) old)
     → ChangesTo there old id deadline new
-changes there old new id at deadline is own others = record {
-  own = λ d same. ap (λ t. has_deadline new t id) (some_is d at (sym same ∙ is)) ∙ own;
-  others = λ d k apart. others (d, k) (elsewhere at id d k (λ here now. apart here (is ∙ ap (λ t. Some t) now)) (is_at (sooner (at, id)) (d, k)) refl);
-}
+changes there old new id moment deadline is own others at k =
+    rw is (changes_at there old new id moment own others at k (nat_eq k id) (nat_eq at moment) refl refl)
 
 least_at : (a b c d : ℕ) (o : Ordering) → o ≡ nat_cmp a b → is_gt (ordering_then o (nat_cmp c d)) ≡ false → a ≤ b
 least_at a b c d Less e h = let r = ranked a b Less e in omega (arith, r)

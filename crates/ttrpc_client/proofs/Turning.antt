@@ -1,5 +1,5 @@
 -- What each call of a client leaves of its kind, of how far ids are used, and of ids of which nothing is kept.
-use Rattle.std.proofs.Common.{rules, arith, ◌≡◌, ◌≢◌, inl, inr, ℕ, ◌+◌, ◌%◌, nat_eq, List, [], ◌∷◌, ◌++◌, Option, Some, None, Bool, true, false, refl, sym, ap, subst, ◌∙◌}
+use Rattle.std.proofs.Common.{rules, arith, ◌≡◌, ◌≢◌, inl, inr, ℕ, ◌+◌, ◌%◌, nat_eq, List, [], ◌∷◌, ◌++◌, Option, Some, None, is_some, Bool, true, false, refl, sym, ap, subst, ◌∙◌}
 use Rattle.std.specs.List.{AllByRecursion}
 use Rattle.ttrpc_frame.specs.declared.frame.Incoming.{Incoming}
 use Rattle.ttrpc_frame.specs.Queue.{Happening}
@@ -18,6 +18,7 @@ use Rattle.ttrpc_client.specs.Calls.{Called, Asked, Told, Dropped, Ticked, Asked
 use Rattle.ttrpc_client.specs.Client.{Client, IsClient, OthersStay, call_at, call_in}
 use Rattle.ttrpc_client.specs.Table.{Landing, Lands, LandsOn, landing_of}
 use Rattle.ttrpc_client.specs.Happens.{LandsOnce, calling, expired_at, forgotten, left_of}
+use Rattle.ttrpc_client.proofs.Entries.{at_or_apart}
 use Rattle.ttrpc_client.proofs.Rising.{apart_before, apart_behind, never_above, never_even, rise_both, rise_odd, rise_range, rise_up}
 
 -- ---- calls by which no id is used
@@ -34,18 +35,11 @@ stays_twice : (old mid new : Client) → Stays old mid → Stays mid new → Sta
 stays_twice old mid new one two = record { kind = two.kind ∙ one.kind; next = two.next ∙ one.next; none = λ k none. two.none k (one.none k none) }
 
 -- one call may change, and the others stay
-still_none : (id : ℕ) (old new : List (ℕ × Call)) → OthersStay old id new → (call_in old id ≡ None → call_in new id ≡ None)
-    → (k : ℕ) (b : Bool) → nat_eq k id ≡ b → call_in old k ≡ None → call_in new k ≡ None
-still_none id old new others own k true e none =
-    let same : k ≡ id = search rules in
-    subst (λ j. call_in new j ≡ None) (sym same) (own (subst (λ j. call_in old j ≡ None) same none))
-still_none id old new others own k false e none =
-    let apart : k ≢ id = search rules in
-    others k apart ∙ none
+still_none : (id : ℕ) (old new : List (ℕ × Call)) → OthersStay old id new → (call_in old id ≡ None → call_in new id ≡ None) → (k : ℕ) → call_in old k ≡ None → call_in new k ≡ None
+still_none id old new others own = at_or_apart (λ k. call_in old k ≡ None → call_in new k ≡ None) id own (λ k apart none. others k apart ∙ none)
 
 lands_none : (landing : Landing) (id : ℕ) (old new : List (ℕ × Call)) → Lands landing id old new → (k : ℕ) → call_in old k ≡ None → call_in new k ≡ None
-lands_none landing id old new lands k none =
-    still_none id old new lands.others (λ h. subst (λ c. LandsOn landing c (call_in new id)) h lands.own) k (nat_eq k id) refl none
+lands_none landing id old new lands = still_none id old new lands.others (λ h. subst (λ c. LandsOn landing c (call_in new id)) h lands.own)
 
 frame_stays : (old : Client) (a : Arrived) (sent : List Sent) (new : Client) → LandsOnce old a sent new → Stays old new
 frame_stays old a sent new lands = record {
@@ -105,7 +99,7 @@ module _ {O I : Type 0} (out : OutboundTransform O) (in_ : InboundTransform I) (
       (record {
         kind = ap (λ c. c.state.kind) did.same;
         next = ap (λ c. c.state.next) did.same;
-        none = λ k none. still_none id s.calls t.calls did.others (λ h. did.own ∙ ap (λ c. left_of old.failure c) h) k (nat_eq k id) refl none;
+        none = λ k none. still_none id s.calls t.calls did.others (λ h. did.own ∙ ap (left_of (is_some old.failure)) h) k none;
       })
   call_leaves (Did (Dropped id)) s old hs t new call =
       let did = call.0 in
@@ -113,7 +107,7 @@ module _ {O I : Type 0} (out : OutboundTransform O) (in_ : InboundTransform I) (
       (record {
         kind = ap (λ c. c.state.kind) did.same;
         next = ap (λ c. c.state.next) did.same;
-        none = λ k none. still_none id s.calls t.calls did.others (λ h. did.own ∙ ap forgotten h) k (nat_eq k id) refl none;
+        none = λ k none. still_none id s.calls t.calls did.others (λ h. did.own ∙ ap forgotten h) k none;
       })
   call_leaves (Did (Ticked now)) s old hs t new call = uses_none s t (passes_stays seals old.failure (core s old) now (core t new) call.0)
   call_leaves (Did (AskedEnded id)) s old hs t new call =

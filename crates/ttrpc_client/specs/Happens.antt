@@ -1,6 +1,6 @@
 -- What each call of a client core does.
 -- Source: PROTOCOL.md of ttrpc, "Request", "Response" and "Streaming".
-use Rattle.std.specs.Prelude.{◌≡◌, ◌≢◌, ◌<◌, ◌≤◌, ℕ, ◌+◌, List, [], ◌∷◌, ◌++◌, codes, map, filter, Option, Some, None, Bool, false, nat_eq, nat_le, if◌then◌else◌, Result, Err, is_some, IsPermutation}
+use Rattle.std.specs.Prelude.{◌≡◌, ◌≢◌, ◌<◌, ◌≤◌, ℕ, ◌+◌, ◌&&◌, not, List, [], ◌∷◌, ◌++◌, codes, map, filter, Option, Some, None, Bool, false, nat_eq, nat_le, if◌then◌else◌, Result, Err, is_some, IsPermutation}
 use Rattle.ttrpc_error.specs.declared.error.Error.{Error}
 use Rattle.ttrpc_error.specs.declared.error.Error.TheVariants.{Others}
 use Rattle.ttrpc_proto.specs.declared.request.Request.{Request}
@@ -61,13 +61,9 @@ GivesOutcome (Some why) (Some (Waiting deadline)) given = TellsOutcome (error_of
 GivesOutcome failure (Some Expired) given = TellsOutcome expired_error given
 GivesOutcome failure (Some (Ended outcome)) given = given ≡ Some outcome
 
--- and what it leaves of the call
-abbrev pub left_of : Option Failure → Option Call → Option Call
-left_of failure None = None
-left_of None (Some (Waiting deadline)) = Some (Waiting deadline)
-left_of (Some why) (Some (Waiting deadline)) = None
-left_of failure (Some Expired) = None
-left_of failure (Some (Ended outcome)) = None
+-- and what it leaves of the call, by whether the connection has failed: nothing, unless the call goes on to wait
+abbrev pub left_of : Bool → Option Call → Option Call
+left_of failed call = if waits call && not failed then call else None
 
 -- the core with these calls, and with the ended ones of which it is still to be told
 abbrev pub with_calls : {O I : Type 0} → ClientCore O I → List (ℕ × Call) → ClientCore O I
@@ -76,7 +72,7 @@ with_calls c calls = record c { state = record c.state { calls = calls; ended = 
 -- the outcome of a call was asked for, and given if there was one
 pub record Tells {O I : Type 0} (old : ClientCore O I) (id : ℕ) (given : Option (Result Response Error)) (new : ClientCore O I) : Type 0 where
   pub gives : GivesOutcome old.connection.failure (call_at old.state id) given
-  pub own : call_at new.state id ≡ left_of old.connection.failure (call_at old.state id)
+  pub own : call_at new.state id ≡ left_of (is_some old.connection.failure) (call_at old.state id)
   pub others : OthersStay old.state.calls id new.state.calls
   pub same : new ≡ with_calls old new.state.calls
 

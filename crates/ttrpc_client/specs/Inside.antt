@@ -1,6 +1,6 @@
 -- What the parts of a call do, which its users need not read.
 -- Source: this project's.
-use Rattle.std.specs.Prelude.{◌≡◌, ℕ, ◌+◌, ◌++◌, List, [], ◌∷◌, Option, None, Some, Bool, true, false, IsPermutation}
+use Rattle.std.specs.Prelude.{◌≡◌, ℕ, ◌+◌, ◌++◌, List, [], ◌∷◌, ◌&&◌, not, if◌then◌else◌, Option, None, Some, Bool, IsPermutation}
 use Rattle.std.specs.Ordering.{nat_cmp}
 use Rattle.std.specs.List.Sorted.{IsStrictlySortedBy}
 use Rattle.std.specs.BTreeMap.{insert_entry, is_at}
@@ -12,10 +12,10 @@ use Rattle.ttrpc_secure.specs.declared.transform.TransformError.TheVariants.{Ref
 use Rattle.ttrpc_secure.specs.Sends.{associated}
 use Rattle.ttrpc_connection.specs.Frames.{SendsOne}
 use Rattle.ttrpc_client.specs.declared.call.Call.{Call}
-use Rattle.ttrpc_client.specs.declared.call.Call.TheVariants.{Waiting, Expired, Ended}
+use Rattle.ttrpc_client.specs.declared.call.Call.TheVariants.{Waiting}
 use Rattle.ttrpc_client.specs.declared.client.ClientCore.{ClientCore}
-use Rattle.ttrpc_client.specs.Client.{Client, OthersStay, call_at, told_left}
-use Rattle.ttrpc_client.specs.Happens.{due_ids, expired_at}
+use Rattle.ttrpc_client.specs.Client.{Client, OthersStay, call_at, told_left, waits}
+use Rattle.ttrpc_client.specs.Happens.{due_ids, expired_at, left_of}
 use Rattle.ttrpc_client.specs.Table.{IsRequestFrame}
 
 -- ---- what is done to it
@@ -53,23 +53,11 @@ pub record Leaves (old : Client) (id : ℕ) (new : Client) : Type 0 where
 
 -- the call whose outcome can be given, by whether the connection has failed
 abbrev pub given_of : Bool → Option Call → Option Call
-given_of failed None = None
-given_of false (Some (Waiting deadline)) = None
-given_of true (Some (Waiting deadline)) = Some (Waiting deadline)
-given_of failed (Some Expired) = Some Expired
-given_of failed (Some (Ended outcome)) = Some (Ended outcome)
-
--- and what is left of it
-abbrev pub kept_of : Bool → Option Call → Option Call
-kept_of failed None = None
-kept_of false (Some (Waiting deadline)) = Some (Waiting deadline)
-kept_of true (Some (Waiting deadline)) = None
-kept_of failed (Some Expired) = None
-kept_of failed (Some (Ended outcome)) = None
+given_of failed call = if waits call && not failed then None else call
 
 -- it is taken, and no other
 pub record Takes (failed : Bool) (old : Client) (id : ℕ) (new : Client) : Type 0 where
-  pub own : call_at new id ≡ kept_of failed (call_at old id)
+  pub own : call_at new id ≡ left_of failed (call_at old id)
   pub others : OthersStay old.calls id new.calls
   pub same : new ≡ record old { calls = new.calls; ended = told_left new.calls old.ended }
 

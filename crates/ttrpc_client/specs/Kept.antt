@@ -1,6 +1,6 @@
 -- What the state of a client keeps beside what is seen of it.
 -- Source: this project's.
-use Rattle.std.specs.Prelude.{◌≡◌, ◌≤◌, ℕ, ◌+◌, List, Option, None, Some, Bool, false, nat_eq, sum_by}
+use Rattle.std.specs.Prelude.{◌≡◌, ◌≤◌, ◌&&◌, ℕ, ◌+◌, List, Option, None, Some, Bool, false, if◌then◌else◌, nat_eq, sum_by}
 use Rattle.std.specs.declared.cmp.Ordering.{Ordering}
 use Rattle.std.specs.Ordering.{nat_cmp, ordering_then}
 use Rattle.std.specs.List.{list_any}
@@ -9,7 +9,7 @@ use Rattle.std.specs.BTreeMap.{is_at}
 use Rattle.std.specs.Map.{keys_of, values_of}
 use Rattle.ttrpc_client.specs.declared.call.Call.{Call}
 use Rattle.ttrpc_client.specs.declared.call.Call.TheVariants.{Waiting, Expired, Ended}
-use Rattle.ttrpc_client.specs.Client.{IsClient, call_in, told_left}
+use Rattle.ttrpc_client.specs.Client.{IsClient, call_in, told_left, waits}
 
 -- ---- deadlines, each a moment and the id of a call
 
@@ -21,10 +21,14 @@ sooner x y = ordering_then (nat_cmp x.0 y.0) (nat_cmp x.1 y.1)
 abbrev pub has_deadline : List (ℕ × ℕ) → ℕ → ℕ → Bool
 has_deadline deadlines at id = list_any (is_at (sooner (at, id))) deadlines
 
+abbrev pub is_moment : ℕ → Option ℕ → Bool
+is_moment at None = false
+is_moment at (Some moment) = nat_eq at moment
+
 -- this call's deadline, if it has one, is there or not, and the others are as they were
-pub record ChangesTo (there : Bool) (old : List (ℕ × ℕ)) (id : ℕ) (deadline : Option ℕ) (new : List (ℕ × ℕ)) : Type 0 where
-  pub own : (at : ℕ) → deadline ≡ Some at → has_deadline new at id ≡ there
-  pub others : (at k : ℕ) → (k ≡ id → deadline ≡ Some at → ⊥) → has_deadline new at k ≡ has_deadline old at k
+abbrev pub ChangesTo : Bool → List (ℕ × ℕ) → ℕ → Option ℕ → List (ℕ × ℕ) → Type 0
+ChangesTo there old id deadline new =
+    (at k : ℕ) → has_deadline new at k ≡ (if nat_eq k id && is_moment at deadline then there else has_deadline old at k)
 
 -- the moment until which a call waits, if it waits and there is one
 abbrev pub deadline_in : Option Call → Option ℕ
@@ -33,16 +37,10 @@ deadline_in (Some (Waiting deadline)) = deadline
 deadline_in (Some Expired) = None
 deadline_in (Some (Ended outcome)) = None
 
-abbrev pub is_moment : ℕ → Option ℕ → Bool
-is_moment at None = false
-is_moment at (Some moment) = nat_eq at moment
-
 -- ---- what is kept
 
 abbrev pub weight : Call → ℕ
-weight (Waiting deadline) = 1
-weight Expired = 0
-weight (Ended outcome) = 0
+weight call = if waits (Some call) then 1 else 0
 
 -- how many calls wait
 abbrev pub waiting_in : List (ℕ × Call) → ℕ

@@ -1,4 +1,4 @@
-use Rattle.std.proofs.Common.{rules, arith, ◌≡◌, false, Result, Ok, Err, OnOk, deque_len, deque_capacity}
+use Rattle.std.proofs.Common.{rules, arith, ◌≡◌, false, Result, Ok, Err, OnOk, deque_capacity}
 use Rattle.std.specs.Result.{is_err}
 use Rattle.std.specs.Ordering.{nat_cmp}
 use Rattle.std.specs.BTreeMap.{insert_entry}
@@ -21,5 +21,4 @@ invariant_of-self-2 c =
     let size = c.len.ensures.len in
     let same = c.reserve.ensures.len in
     rw (c.reserve.ensures.items, c.reserve.ensures.len)
-    (admit_keeps c.self.inside.next old new c.self.inside.deadlines c.add.new.self c.self.inside.ended.items (deque_len c.self.inside.ended) (deque_capacity c.self.inside.ended) (deque_capacity c.reserve.new.self) c.args.id c.args.deadline
-    c.self.invariant next (search rules) put u.1 (others_stay c.args.id old new u.2) c.insert.ensures.ordered c.in_ok-add.ensures.ok (omega (arith, wide, size, same)))
+    (admit_keeps _ _ _ _ _ _ c.self.invariant new c.add.new.self (deque_capacity c.reserve.new.self) c.args.id c.args.deadline next (search rules) put u.1 (others_stay c.args.id old new u.2) c.insert.ensures.ordered c.in_ok-add.ensures.ok (omega (arith, wide, size, same)))

@@ -1,4 +1,4 @@
-use Rattle.std.proofs.Common.{arith, ◌≡◌, ◌∙◌, ap, true, deque_len, deque_capacity}
+use Rattle.std.proofs.Common.{arith, ◌≡◌, ◌∙◌, ap, true}
 use Rattle.ttrpc_client.specs.Client.{call_in}
 use Rattle.ttrpc_client.specs.Kept.{deadline_in}
 use Rattle.ttrpc_client.proofs.Keeping.{forget_keeps, kept_told, others_stay}
@@ -10,7 +10,6 @@ invariant_of-self-else-is_empty c =
     let new = c.remove-call.new.self.entries in
     let u = c.remove-call.ensures.updates in
     let is : c.waits_until.result ≡ deadline_in (call_in old c.args.id) = c.waits_until.ensures ∙ ap deadline_in c.remove-call.ensures.value in
-    forget_keeps _ old new c.self.inside.deadlines c.take_away.new.self c.self.inside.ended.items _ (deque_len c.self.inside.ended) (deque_capacity c.self.inside.ended) _ c.args.id c.waits_until.result
-    c.self.invariant is c.remove-call.ensures.entries u.1 (others_stay c.args.id old new u.2) c.remove-call.ensures.ordered c.take_away.ensures
+    forget_keeps _ _ _ _ _ _ c.self.invariant new c.take_away.new.self _ _ c.args.id c.waits_until.result is c.remove-call.ensures.entries u.1 (others_stay c.args.id old new u.2) c.remove-call.ensures.ordered c.take_away.ensures
     (kept_told new c.self.inside.ended.items (λ z. let yes : c.is_empty.result ≡ true = c.is_empty.ensures.1 z in let no = c.if-is_empty.false in cc))
     (omega arith)

@@ -7,8 +7,7 @@ use Rattle.ttrpc_client.proofs.state.ClientState.settle.Goals as goal
 pub unreachable-requires-in-Err : goal.unreachable-requires-in-Err
 unreachable-requires-in-Err c =
     let was : waits (call_in c.self.inside.calls.entries c.args.id) ≡ true = rw (← c.self.view_is) at c.requires.waited in
-    settle_room _ c.self.inside.calls.entries c.self.inside.deadlines c.self.inside.ended.items (deque_len c.self.inside.ended) (deque_capacity c.self.inside.ended) c.args.id c.args.call
-    c.self.invariant was c.requires.ended c.in-Err.ensures.full
+    settle_room _ _ _ _ _ _ c.self.invariant c.args.id c.args.call was c.requires.ended c.in-Err.ensures.full
 
 pub invariant_of-self : goal.invariant_of-self
 invariant_of-self c =
@@ -20,5 +19,4 @@ invariant_of-self c =
     let more : deque_len c.push_back.new.self ≡ deque_len c.self.inside.ended + 1 = c.in-Ok-push_back.ensures.len in
     let wide : deque_capacity c.self.inside.ended ≤ deque_capacity c.push_back.new.self = c.push_back.ensures.capacity in
     rw c.in-Ok-push_back.ensures.items
-    (settle_keeps _ old new c.self.inside.deadlines c.take_away.new.self c.self.inside.ended.items (deque_len c.self.inside.ended) (deque_capacity c.self.inside.ended) _ _ c.args.id c.waits_until.result c.args.call
-    c.self.invariant is was c.requires.ended c.in-Ok.ensures.entries u.1 (others_stay c.args.id old new u.2) c.insert.ensures.ordered c.take_away.ensures more wide)
+    (settle_keeps _ _ _ _ _ _ c.self.invariant new c.take_away.new.self _ _ c.args.id c.waits_until.result c.args.call is was c.requires.ended c.in-Ok.ensures.entries u.1 (others_stay c.args.id old new u.2) c.insert.ensures.ordered c.take_away.ensures more wide)
