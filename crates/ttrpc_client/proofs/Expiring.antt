@@ -11,7 +11,7 @@ use Rattle.std.specs.Map.{keys_of}
 use Rattle.std.specs.Ordering.{nat_cmp}
 use Rattle.ttrpc_client.specs.declared.call.Call.{Call}
 use Rattle.ttrpc_client.specs.declared.call.Call.TheVariants.{Waiting, Expired, Ended}
-use Rattle.ttrpc_client.specs.Client.{Client, OthersStay, call_in, waits}
+use Rattle.ttrpc_client.specs.Client.{Client, OthersStay, call_in}
 use Rattle.ttrpc_client.specs.Happens.{IsDeadline, due_at, due_ids, expired_at, is_due}
 use Rattle.ttrpc_client.specs.Inside.{ExpiresOne, Settles}
 use Rattle.ttrpc_client.specs.Kept.{AreDeadlines, deadline_in, has_deadline, is_moment}
@@ -34,9 +34,6 @@ waiting_at at (Some (Ended outcome)) h = cc
 
 pub found : (ds : List (ℕ × ℕ)) (calls : List (ℕ × Call)) (at id : ℕ) → AreDeadlines ds calls → has_deadline ds at id ≡ true → call_in calls id ≡ Some (Waiting (Some at))
 found ds calls at id are there = waiting_at at (call_in calls id) (sym (are at id) ∙ there)
-
-pub found_waits : (calls : List (ℕ × Call)) (at id : ℕ) → call_in calls id ≡ Some (Waiting (Some at)) → waits (call_in calls id) ≡ true
-found_waits calls at id is = ap waits is
 
 -- ---- none is due
 

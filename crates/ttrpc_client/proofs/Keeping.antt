@@ -40,10 +40,6 @@ come : (b : Bool) → (if b then true else false) ≡ b
 come true = refl
 come false = refl
 
-come_and_gone : (b : Bool) → (if b then false else if b then true else false) ≡ false
-come_and_gone true = refl
-come_and_gone false = refl
-
 deadline_gone : (old new : List (ℕ × Call)) (ds es : List (ℕ × ℕ)) (id : ℕ) (deadline : Option ℕ) → AreDeadlines ds old → OthersStay old id new → ChangesTo false ds id deadline es
     → deadline ≡ deadline_in (call_in old id) → deadline_in (call_in new id) ≡ None → AreDeadlines es new
 deadline_gone old new ds es id deadline are others changes was none = deadlines_move false old new ds es id deadline are others changes
@@ -53,15 +49,6 @@ deadline_come : (old new : List (ℕ × Call)) (ds es : List (ℕ × ℕ)) (id :
     → call_in old id ≡ None → call_in new id ≡ Some (Waiting deadline) → AreDeadlines es new
 deadline_come old new ds es id deadline are others changes was is = deadlines_move true old new ds es id deadline are others changes
     (λ at. ap (λ call. if is_moment at deadline then true else until at call) was ∙ come (is_moment at deadline) ∙ sym (ap (until at) is))
-
--- it came and went
-deadline_undone : (calls : List (ℕ × Call)) (ds es fs : List (ℕ × ℕ)) (id : ℕ) (deadline : Option ℕ) → AreDeadlines ds calls → ChangesTo true ds id deadline es → ChangesTo false es id deadline fs
-    → call_in calls id ≡ None → AreDeadlines fs calls
-deadline_undone calls ds es fs id deadline are there away none at = at_or_apart (λ k. has_deadline fs at k ≡ until at (call_in calls k)) id
-    (let same : nat_eq id id ≡ true = search rules in
-    let was : has_deadline ds at id ≡ false = are at id ∙ ap (until at) none in
-    rw (same, there at id, same, was) at (away at id) ∙ come_and_gone (is_moment at deadline) ∙ sym (ap (until at) none))
-    (λ k apart. let other : nat_eq k id ≡ false = search (rules, apart) in rw (other, there at k, other) at (away at k) ∙ are at k)
 
 -- a call that doesn't wait has none
 not_waiting : (call : Call) → waits (Some call) ≡ false → deadline_in (Some call) ≡ None
@@ -143,31 +130,6 @@ new_valid next old new below valid others =
       odd_calls = at_or_apart (λ k. call_in new k ≢ None → k % 2 ≡ 1) next (λ _. odd) (λ k apart some. valid.odd_calls k (λ none. some (others k apart ∙ none)));
     }
 
-none_of : (call : Option Call) → (call ≢ None → ⊥) → call ≡ None
-none_of None h = refl
-none_of (Some call) h = absurd (h (λ bad. cc))
-
--- the id before the next one is odd, so no call has the one between them
-pub back_keeps : (next id back : ℕ) (calls : List (ℕ × Call)) (ds : List (ℕ × ℕ)) (ended : List ℕ) (used room : ℕ)
-    → IsKept next calls ds ended used room → next ≡ id + 2 → call_in calls id ≡ None → back ≡ id → IsKept back calls ds ended used room
-back_keeps next id back calls ds ended used room kept is none back_is =
-    let odd = kept.valid.odd in
-    let in_range = kept.valid.in_range in
-    let between : call_in calls (id + 1) ≡ None = none_of (call_in calls (id + 1)) (λ some. let also = kept.valid.odd_calls (id + 1) some in omega (arith, odd, also, is)) in
-    record {
-      valid = record {
-        odd = omega (arith, odd, is, back_is);
-        in_range = omega (arith, in_range, is, back_is);
-        fresh = at_or_apart (λ k. back ≤ k → call_in calls k ≡ None) id (λ _. none)
-            (λ k one. at_or_apart (λ j. j ≢ id → back ≤ j → call_in calls j ≡ None) (id + 1) (λ _ _. between) (λ j two also le. kept.valid.fresh j (omega (arith, is, le, also, two, back_is))) k one);
-        odd_calls = kept.valid.odd_calls;
-      };
-      ordered = kept.ordered;
-      deadlines_are = kept.deadlines_are;
-      has_room = kept.has_room;
-      told = kept.told;
-    }
-
 -- ---- each change
 
 module _ (next : ℕ) (old : List (ℕ × Call)) (ds : List (ℕ × ℕ)) (ended : List ℕ) (used room : ℕ) (kept : IsKept next old ds ended used room) where
@@ -211,19 +173,6 @@ module _ (next : ℕ) (old : List (ℕ × Call)) (ds : List (ℕ × ℕ)) (ended
         deadlines_are = deadline_come old new ds es id deadline kept.deadlines_are others there none own;
         has_room = omega (arith, more, few, count, wide);
         told = some_told new ended id (Waiting deadline) own;
-      }
-
-  -- a deadline was added and taken away again
-  pub undone_keeps : (es fs : List (ℕ × ℕ)) (more_room id : ℕ) (deadline : Option ℕ) → id ≡ next → ChangesTo true ds id deadline es → ChangesTo false es id deadline fs → room ≤ more_room
-      → IsKept next old fs ended used more_room
-  undone_keeps es fs more_room id deadline is there away wide =
-      let has_room = kept.has_room in
-      record {
-        valid = kept.valid;
-        ordered = kept.ordered;
-        deadlines_are = deadline_undone old ds es fs id deadline kept.deadlines_are there away (kept.valid.fresh id (omega (arith, is)));
-        has_room = omega (arith, has_room, wide);
-        told = kept.told;
       }
 
   -- a call is no longer kept, and its deadline, if it had one, is gone
