@@ -1,5 +1,5 @@
 -- A piece is fed in turns: each takes a front of what is left, and at most one frame acts.
-use Rattle.std.proofs.Common.{◌≡◌, ◌⊎◌, inl, inr, ℕ, List, [], ◌∷◌, ◌++◌, take, drop, ap, refl, sym, ◌∙◌, subst, append_assoc, Option, Some, None, IsSome}
+use Rattle.std.proofs.Common.{◌≡◌, ◌⊎◌, inl, inr, ℕ, List, [], ◌∷◌, ◌++◌, take, drop, refl, sym, subst, append_assoc, Option, Some, None, IsSome}
 use Rattle.std.proofs.lemmas.List.{take-append-drop, append-nil}
 use Rattle.ttrpc_error.specs.declared.error.Error.{Error}
 use Rattle.ttrpc_frame.specs.declared.frame.Incoming.{Incoming}
@@ -68,13 +68,7 @@ pub core_says : {S O I : Type 0} (w : Ways S O I) (at : ℕ) (s : S) (old : Conn
     → a.header ≡ header_of_frame f → a.now ≡ at → (failure ≡ NoMemory) ⊎ w.core.fails s a failure → IsWhy w at (scene s old) (Some f) failure
 core_says w at s old f a inbound failure opens header now (inl e) = inl e
 core_says w at s old f a inbound failure opens header now (inr e) =
-    inr (
-      a.opening,
-      inbound,
-      opens,
-      subst (λ m. w.core.fails s (record { header = header_of_frame f; opening = a.opening; now = m }) failure) now
-          (subst (λ h. w.core.fails s (record { header = h; opening = a.opening; now = a.now }) failure) header e),
-    )
+    inr (a.opening, inbound, opens, rw (← header, ← now) e)
 
 -- a frame was whole, and acted
 pub took_frame : {S O I : Type 0} (w : Ways S O I) (s : S) (old : Connection O I) (front : List ℕ) (at : ℕ) (f : Incoming) (o : Option Incoming) (a : Arrived) (t : S) (new : Connection O I)
@@ -91,8 +85,7 @@ took_frame w s old front at f o a t new is fed opens header now reacts = record 
       opening = a.opening;
       opens = opens;
       sent = reacts.0;
-      reacts = subst (λ m. w.core.reacts s old.outbox.half (record { header = header_of_frame f; opening = a.opening; now = m }) reacts.0 t) now
-          (subst (λ h. w.core.reacts s old.outbox.half (record { header = h; opening = a.opening; now = a.now }) reacts.0 t) header reacts.1);
+      reacts = rw (← header, ← now) reacts.1;
       sends = reacts.2;
     },
     refl,
@@ -110,30 +103,36 @@ took_part w s old front at o held is fed = record {
 
 -- ---- a whole piece
 
--- so far a front of the piece was taken, and its frames acted; the rest is to be taken
+pub feeds_joined : {S O I : Type 0} (w : Ways S O I) (s : S) (old : Connection O I) (at : ℕ) (u : S) (mid : Connection O I) (t : S) (new : Connection O I) (p q : List ℕ)
+    → Feeds w s old p at u mid → Feeds w u mid q at t new → Feeds w s old (p ++ q) at t new
+feeds_joined w s old at u mid t new p q one two = record {
+  alive = one.alive;
+  still = two.still;
+  frames = one.frames ++ two.frames;
+  fed = fed_twice old.decoder mid.decoder new.decoder p q one.frames two.frames one.fed two.fed;
+  acts = acts_twice w at one.frames two.frames (scene s old) (scene u mid) (scene t new) one.acts two.acts;
+}
+
+-- so far a front of the piece was taken, and the rest is to be taken
 pub record SoFar {S O I : Type 0} (w : Ways S O I) (s : S) (old : Connection O I) (piece rest : List ℕ) (at : ℕ) (t : S) (new : Connection O I) : Type 0 where
-  pub alive : old.failure ≡ None
-  pub still : new.failure ≡ None
-  pub frames : List Incoming
   pub front : List ℕ
   pub piece_is : piece ≡ front ++ rest
-  pub fed : Fed old.decoder front frames new.decoder
-  pub acts : ActsAll w at (scene s old) frames (scene t new)
+  pub feeds : Feeds w s old front at t new
 
 pub at_first : {S O I : Type 0} (w : Ways S O I) (s : S) (old : Connection O I) (piece : List ℕ) (at : ℕ) → old.failure ≡ None → SoFar w s old piece piece at s old
-at_first w s old piece at alive = record { alive = alive; still = alive; frames = []; front = []; piece_is = refl; fed = nothing_taken old.decoder; acts = refl }
+at_first w s old piece at alive = record { front = []; piece_is = refl; feeds = record { alive = alive; still = alive; frames = []; fed = nothing_taken old.decoder; acts = refl } }
 
 pub one_more : {S O I : Type 0} (w : Ways S O I) (s : S) (old : Connection O I) (piece rest : List ℕ) (at : ℕ) (t : S) (mid : Connection O I) (n : ℕ) (u : S) (new : Connection O I)
     → SoFar w s old piece rest at t mid → FeedsFront w t mid (take n rest) at u new → SoFar w s old piece (drop n rest) at u new
 one_more w s old piece rest at t mid n u new p x = record {
-  alive = p.alive;
-  still = x.still;
-  frames = p.frames ++ given x.frame;
   front = p.front ++ take n rest;
-  piece_is = p.piece_is ∙ ap (λ xs. p.front ++ xs) (sym (take-append-drop n rest)) ∙ sym (append_assoc p.front (take n rest) (drop n rest));
-  fed = fed_twice old.decoder mid.decoder new.decoder p.front (take n rest) p.frames (given x.frame) p.fed x.fed;
-  acts = acts_twice w at p.frames (given x.frame) (scene s old) (scene t mid) (scene u new) p.acts x.acts;
+  piece_is = rw (append_assoc, take-append-drop) p.piece_is;
+  feeds = feeds_joined w s old at t mid u new p.front (take n rest) p.feeds (record { alive = x.alive; still = x.still; frames = given x.frame; fed = x.fed; acts = x.acts });
 }
+
+-- all of the piece was taken
+pub whole : {S O I : Type 0} (w : Ways S O I) (s : S) (old : Connection O I) (piece rest : List ℕ) (at : ℕ) (t : S) (new : Connection O I) → SoFar w s old piece rest at t new → rest ≡ [] → Feeds w s old piece at t new
+whole w s old piece rest at t new p none = rw (p.piece_is, none, append-nil) p.feeds
 
 pub breaks : {S O I : Type 0} (w : Ways S O I) (s : S) (old : Connection O I) (piece : List ℕ) (at : ℕ) (failure : Failure) (told : Error) (t : S) (mid : Connection O I) → old.failure ≡ None
     → StopsAt w s old piece at failure t mid → IsTold (error_of failure) told → Breaks w s old piece at told t (record mid { failure = Some failure })
@@ -156,20 +155,21 @@ breaks w s old piece at failure told t mid alive x is_told = record {
   is_told = is_told;
 }
 
-pub breaks_later : {S O I : Type 0} (w : Ways S O I) (s : S) (old : Connection O I) (piece rest : List ℕ) (at : ℕ) (t : S) (mid : Connection O I) (told : Error) (u : S) (new : Connection O I)
-    → SoFar w s old piece rest at t mid → Breaks w t mid rest at told u new → Breaks w s old piece at told u new
-breaks_later w s old piece rest at t mid told u new p b = record {
-  alive = p.alive;
-  frames = p.frames ++ b.frames;
+-- the connection breaks at the same frame where other bytes lead up to it, from another connection
+pub breaks_so : {S O I : Type 0} (w : Ways S O I) (r s : S) (first old : Connection O I) (piece p : List ℕ) (at : ℕ) (told : Error) (t : S) (new : Connection O I) (b : Breaks w s old p at told t new)
+    (frames : List Incoming) (taken rest : List ℕ) → first.failure ≡ None → piece ≡ taken ++ rest → Fed first.decoder taken (frames ++ given b.last) new.decoder → ActsAll w at (scene r first) frames b.mid
+    → Breaks w r first piece at told t new
+breaks_so w r s first old piece p at told t new b frames taken rest alive piece_is fed acts = record {
+  alive = alive;
+  frames = frames;
   last = b.last;
-  taken = p.front ++ b.taken;
-  rest = b.rest;
-  piece_is = p.piece_is ∙ ap (λ xs. p.front ++ xs) b.piece_is ∙ sym (append_assoc p.front b.taken b.rest);
-  fed = subst (λ fs. Fed old.decoder (p.front ++ b.taken) fs new.decoder) (sym (append_assoc p.frames b.frames (given b.last)))
-      (fed_twice old.decoder mid.decoder new.decoder p.front b.taken p.frames (b.frames ++ given b.last) p.fed b.fed);
+  taken = taken;
+  rest = rest;
+  piece_is = piece_is;
+  fed = fed;
   at_its_end = b.at_its_end;
   mid = b.mid;
-  acts = acts_twice w at p.frames b.frames (scene s old) (scene t mid) b.mid p.acts b.acts;
+  acts = acts;
   state = b.state;
   outbox = b.outbox;
   failure = b.failure;
@@ -178,12 +178,14 @@ breaks_later w s old piece rest at t mid told u new p b = record {
   is_told = b.is_told;
 }
 
--- all of the piece was taken
-pub whole : {S O I : Type 0} (w : Ways S O I) (s : S) (old : Connection O I) (piece rest : List ℕ) (at : ℕ) (t : S) (new : Connection O I) → SoFar w s old piece rest at t new → rest ≡ [] → Feeds w s old piece at t new
-whole w s old piece rest at t new p none = record {
-  alive = p.alive;
-  still = p.still;
-  frames = p.frames;
-  fed = subst (λ xs. Fed old.decoder xs p.frames new.decoder) (sym (append-nil p.front) ∙ ap (λ xs. p.front ++ xs) (sym none) ∙ sym p.piece_is) p.fed;
-  acts = p.acts;
-}
+-- a front was taken, and the rest breaks the connection
+pub breaks_behind : {S O I : Type 0} (w : Ways S O I) (s : S) (old : Connection O I) (at : ℕ) (u : S) (mid : Connection O I) (told : Error) (t : S) (new : Connection O I) (p q : List ℕ)
+    → Feeds w s old p at u mid → Breaks w u mid q at told t new → Breaks w s old (p ++ q) at told t new
+breaks_behind w s old at u mid told t new p q one b =
+    breaks_so w s u old mid (p ++ q) q at told t new b (one.frames ++ b.frames) (p ++ b.taken) b.rest one.alive (rw (append_assoc, b.piece_is) refl)
+    (rw append_assoc (fed_twice old.decoder mid.decoder new.decoder p b.taken one.frames (b.frames ++ given b.last) one.fed b.fed))
+    (acts_twice w at one.frames b.frames (scene s old) (scene u mid) b.mid one.acts b.acts)
+
+pub breaks_later : {S O I : Type 0} (w : Ways S O I) (s : S) (old : Connection O I) (piece rest : List ℕ) (at : ℕ) (t : S) (mid : Connection O I) (told : Error) (u : S) (new : Connection O I)
+    → SoFar w s old piece rest at t mid → Breaks w t mid rest at told u new → Breaks w s old piece at told u new
+breaks_later w s old piece rest at t mid told u new p b = rw p.piece_is (breaks_behind w s old at t mid told u new p.front rest p.feeds b)

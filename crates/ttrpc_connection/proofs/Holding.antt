@@ -46,26 +46,18 @@ fed_counted ten n p size over less = elim (cases_lt (n + length p) ((header_of t
 ]
 
 pub fed_some : (held : Held) (before p : List ℕ) → Holds held before → Feedable held p
-fed_some held before p h = elim (cases_lt (length before) 10) [
-  | inl short ↦
-      let s : nat_lt (length before) 10 ≡ true = lt-ltb _ _ short in
-      let e : held_of before ≡ record { bytes = before; counted = 0 } = rw s refl in
-      subst (λ x. Feedable x p) (sym (h.0 ∙ e)) (fed_bytes before p)
+fed_some held before p h = rw h.0 (elim (cases_lt (length before) 10) [
+  | inl short ↦ let s : nat_lt (length before) 10 ≡ true = lt-ltb _ _ short in rw s (fed_bytes before p)
   | inr long ↦
       let s : nat_lt (length before) 10 ≡ false = le-ltb _ _ long in
       elim (cases_lt 4194304 ((header_of before).length)) [
         | inl over ↦
             let l : nat_lt 4194304 ((header_of before).length) ≡ true = lt-ltb _ _ over in
-            let e : held_of before ≡ record { bytes = take 10 before; counted = length before - 10 } = rw (s, l) refl in
             let size : length (take 10 before) ≡ 10 = length-take-le 10 before long in
             let same : header_of before ≡ header_of (take 10 before) = ap header_of (sym (take-append-drop 10 before)) ∙ header_front (take 10 before) (drop 10 before) size in
             let fits : length before - 10 ≤ (header_of before).length = omega (arith, h.1 long) in
-            subst (λ x. Feedable x p) (sym (h.0 ∙ e))
-            (fed_counted (take 10 before) (length before - 10) p size (subst (λ (x : MessageHeader). 4194304 < x.length) same over)
+            rw (s, l) (fed_counted (take 10 before) (length before - 10) p size (subst (λ (x : MessageHeader). 4194304 < x.length) same over)
             (subst (λ (x : MessageHeader). length before - 10 ≤ x.length) same fits))
-        | inr kept ↦
-            let l : nat_lt 4194304 ((header_of before).length) ≡ false = le-ltb _ _ kept in
-            let e : held_of before ≡ record { bytes = before; counted = 0 } = rw (s, l) refl in
-            subst (λ x. Feedable x p) (sym (h.0 ∙ e)) (fed_bytes before p)
+        | inr kept ↦ let l : nat_lt 4194304 ((header_of before).length) ≡ false = le-ltb _ _ kept in rw (s, l) (fed_bytes before p)
       ]
-]
+])

@@ -70,20 +70,13 @@ Runs {A} {S} {O} {I} w others s old (c ∷ cs) happenings t new =
 
 -- the calls, with pieces that come one directly after the other at one moment put together
 abbrev pub before_others : {A : Type 0} → List ℕ → ℕ → List (Call A) → List (Call A)
-before_others piece now [] = Gave piece now ∷ []
 before_others piece now (Gave more at ∷ cs) = if nat_eq at now then Gave (piece ++ more) now ∷ cs else Gave piece now ∷ Gave more at ∷ cs
-before_others piece now (Lent n ∷ cs) = Gave piece now ∷ Lent n ∷ cs
-before_others piece now (Reported n ∷ cs) = Gave piece now ∷ Reported n ∷ cs
-before_others piece now (Failed ∷ cs) = Gave piece now ∷ Failed ∷ cs
-before_others piece now (Did a ∷ cs) = Gave piece now ∷ Did a ∷ cs
+before_others piece now cs = Gave piece now ∷ cs
 
 abbrev pub joined : {A : Type 0} → List (Call A) → List (Call A)
 joined [] = []
 joined (Gave piece now ∷ cs) = before_others piece now (joined cs)
-joined (Lent n ∷ cs) = Lent n ∷ joined cs
-joined (Reported n ∷ cs) = Reported n ∷ joined cs
-joined (Failed ∷ cs) = Failed ∷ joined cs
-joined (Did a ∷ cs) = Did a ∷ joined cs
+joined (c ∷ cs) = c ∷ joined cs
 
 -- ---- the calls of a connection alone
 
