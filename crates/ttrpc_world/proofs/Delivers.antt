@@ -5,19 +5,17 @@ use Rattle.std.proofs.lemmas.List.{append-nil}
 use Rattle.std.proofs.lemmas.List.Elements.{filter-append}
 use Rattle.std.specs.List.{AllByRecursion}
 use Rattle.ttrpc_values.specs.declared.code.Code.TheVariants.{INVALID_ARGUMENT}
-use Rattle.ttrpc_header.specs.declared.header.MessageHeader.{MessageHeader}
 use Rattle.ttrpc_proto.specs.declared.request.Request.{Request}
 use Rattle.ttrpc_proto.specs.declared.response.Response.{Response}
 use Rattle.ttrpc_frame.specs.Frames.{Held}
 use Rattle.ttrpc_frame.specs.Queue.{Queue}
 use Rattle.ttrpc_secure.specs.declared.transform.OutboundTransform.{Ghosts as OutboundTransform}
-use Rattle.ttrpc_connection.specs.declared.arrived.Opening.{Opening}
 use Rattle.ttrpc_connection.specs.declared.arrived.Opening.TheVariants.{Opened}
 use Rattle.ttrpc_connection.specs.declared.outbox.Outbox.{Outbox}
 use Rattle.ttrpc_connection.specs.Frames.{Sent, SendsAll}
 use Rattle.ttrpc_connection.specs.Feeds.{Scene}
 use Rattle.ttrpc_server.specs.declared.job.ActiveJob.{ActiveJob}
-use Rattle.ttrpc_server.specs.Jobs.{jobs_at, new_job, with_job}
+use Rattle.ttrpc_server.specs.Jobs.{jobs_at, new_job}
 use Rattle.ttrpc_server.specs.Registry.{has_method}
 use Rattle.ttrpc_server.specs.Responses.{status_response}
 use Rattle.ttrpc_server.specs.Server.{Server}

@@ -7,9 +7,7 @@ use Rattle.ttrpc_proto.specs.declared.request.Request.{Request}
 use Rattle.ttrpc_proto.specs.declared.response.Response.{Response}
 use Rattle.ttrpc_frame.specs.Frames.{Held}
 use Rattle.ttrpc_frame.specs.Queue.{Queue, without}
-use Rattle.ttrpc_connection.specs.declared.connection.Connection.{Connection}
 use Rattle.ttrpc_connection.specs.declared.failure.Failure.{Failure}
-use Rattle.ttrpc_connection.specs.declared.outbox.Outbox.{Outbox}
 use Rattle.ttrpc_server.specs.Jobs as server
 use Rattle.ttrpc_client.specs.declared.call.Call.{Call}
 use Rattle.ttrpc_client.specs.declared.call.Call.TheVariants.{Waiting, Expired, Ended}
@@ -18,7 +16,7 @@ use Rattle.ttrpc_client.specs.declared.kind.ClientKind.TheVariants.{Sync, Async}
 use Rattle.ttrpc_client.specs.declared.client.ClientCore.{ClientCore}
 use Rattle.ttrpc_client.specs.Client.{deadline_of, throws}
 use Rattle.ttrpc_client.specs.Client as client
-use Rattle.ttrpc_client.specs.Happens.{Forgets, Ticks, forgotten, queue_left, takes_back, without_all}
+use Rattle.ttrpc_client.specs.Happens.{Forgets, Ticks, forgotten, queue_left, takes_back}
 use Rattle.ttrpc_client.specs.Calls.{Passes}
 use Rattle.ttrpc_flight.specs.Flight.{Flying, AreInFlight, AreLinked, IsOwnRequest, parcels}
 use Rattle.ttrpc_flight.proofs.Bytes.{placed_in_flight}

@@ -24,7 +24,7 @@ use Rattle.ttrpc_flight.proofs.Losing.{all_behind}
 use Rattle.ttrpc_world.specs.declared.events.Entry.{Entry}
 use Rattle.ttrpc_world.specs.Pipes.{Pipe, is_over}
 use Rattle.ttrpc_world.specs.Net.{Halves, Net, with_client, with_server}
-use Rattle.ttrpc_world.specs.Steps.{BreaksDown, BreaksUp, CarriesDown, CarriesUp, CutsDown, CutsUp, DeliversDown, DeliversUp, Hears, InputEnds, carried, cut_to, failed, lent_of, taken_from}
+use Rattle.ttrpc_world.specs.Steps.{BreaksDown, BreaksUp, CarriesDown, CarriesUp, CutsDown, CutsUp, DeliversDown, DeliversUp, Hears, InputEnds, carried, cut_to, failed, after_carry, lent_of, taken_from}
 use Rattle.ttrpc_world.proofs.Delivers.{AreKnown, Stories, feeds_down, feeds_up}
 use Rattle.ttrpc_world.proofs.Throws.{InFlight, not_both}
 use Rattle.ttrpc_world.proofs.Keeps.{Keeps}
@@ -122,32 +122,33 @@ client_ends old new between inside = elim (held_cases old.connection.decoder) [
 ]
 
 module _ {CO CI SO SI : Type 0} (c : Halves CO CI) (s : Halves SO SI) (seals : Bool) (stream_of : ℕ → ℕ) (trace : List Entry) where
-  -- a side fails
-  pub server_fails : (w : Net CO CI SO SI) (why : Failure) → Keeps c s stream_of trace w → Keeps c s stream_of trace (with_server w (record w.server { connection = failed w.server.connection why }))
-  server_fails w why i = record {
+  -- the states of both cores stay, and what is in flight
+  rewired : (w : Net CO CI SO SI) → (i : Keeps c s stream_of trace w) → (x : Connection CO CI) (y : Connection SO SI) (p q : Pipe)
+      → (y.failure ≡ None → InFlight y.decoder p x.outbox.queue i.up) → (x.failure ≡ None → InFlight x.decoder q y.outbox.queue i.down)
+      → (y.failure ≡ None → AreLinked c.out.seals s.in_.opens s.in_.refuses i.up x.outbox.half y.inbound) → (x.failure ≡ None → AreLinked s.out.seals c.in_.opens c.in_.refuses i.down y.outbox.half x.inbound)
+      → Keeps c s stream_of trace (record { client = record w.client { connection = x }; server = record w.server { connection = y }; up = p; down = q; moment = w.moment })
+  rewired w i x y p q up_bytes down_bytes up_linked down_linked = record {
     up = i.up;
     down = i.down;
     stories = i.stories;
     known = i.known;
     own = i.own;
-    up_bytes = λ alive. absurd (kept_some w.server.connection.failure why alive);
-    down_bytes = i.down_bytes;
-    up_linked = λ alive. absurd (kept_some w.server.connection.failure why alive);
-    down_linked = i.down_linked;
+    up_bytes = up_bytes;
+    down_bytes = down_bytes;
+    up_linked = up_linked;
+    down_linked = down_linked;
   }
 
+  -- a side fails
+  pub server_fails : (w : Net CO CI SO SI) (why : Failure) → Keeps c s stream_of trace w → Keeps c s stream_of trace (with_server w (record w.server { connection = failed w.server.connection why }))
+  server_fails w why i =
+      rewired w i w.client.connection (failed w.server.connection why) w.up w.down
+      (λ alive. absurd (kept_some w.server.connection.failure why alive)) i.down_bytes (λ alive. absurd (kept_some w.server.connection.failure why alive)) i.down_linked
+
   pub client_fails : (w : Net CO CI SO SI) (why : Failure) → Keeps c s stream_of trace w → Keeps c s stream_of trace (with_client w (record w.client { connection = failed w.client.connection why }))
-  client_fails w why i = record {
-    up = i.up;
-    down = i.down;
-    stories = i.stories;
-    known = i.known;
-    own = i.own;
-    up_bytes = i.up_bytes;
-    down_bytes = λ alive. absurd (kept_some w.client.connection.failure why alive);
-    up_linked = i.up_linked;
-    down_linked = λ alive. absurd (kept_some w.client.connection.failure why alive);
-  }
+  client_fails w why i =
+      rewired w i (failed w.client.connection why) w.server.connection w.up w.down
+      i.up_bytes (λ alive. absurd (kept_some w.client.connection.failure why alive)) i.up_linked (λ alive. absurd (kept_some w.client.connection.failure why alive))
 
   -- its input ends, where its pipe is over
   server_hears : (over : Bool) (w : Net CO CI SO SI) (x : Connection SO SI) → Keeps c s stream_of trace w → Hears over w.server.connection x → Keeps c s stream_of trace (with_server w (record w.server { connection = x }))
@@ -164,30 +165,18 @@ module _ {CO CI SO SI : Type 0} (c : Halves CO CI) (s : Halves SO SI) (seals : B
 
   -- Bytes are carried.
   pub carry_up : (w : Net CO CI SO SI) (n k : ℕ) (v : Net CO CI SO SI) → Keeps c s stream_of trace w → CarriesUp c s seals w n k v → Keeps c s stream_of trace v
-  carry_up w n k v i p = subst (λ (x : Net CO CI SO SI). Keeps c s stream_of trace x) (sym p.only) (record {
-    up = i.up;
-    down = i.down;
-    stories = i.stories;
-    known = i.known;
-    own = i.own;
-    up_bytes = λ alive. carries w.server.connection.decoder w.up w.client.connection.outbox.queue i.up k (lent_fits w.client.connection.failure n k w.client.connection.outbox.queue p.count) (i.up_bytes alive);
-    down_bytes = i.down_bytes;
-    up_linked = i.up_linked;
-    down_linked = i.down_linked;
-  })
+  carry_up w n k v i p =
+      let x = w.client.connection in
+      subst (λ (x : Net CO CI SO SI). Keeps c s stream_of trace x) (sym p.only)
+      (rewired w i (after_carry x k) w.server.connection (carried w.up k x.outbox.queue) w.down
+      (λ alive. carries w.server.connection.decoder w.up x.outbox.queue i.up k (lent_fits x.failure n k x.outbox.queue p.count) (i.up_bytes alive)) i.down_bytes i.up_linked i.down_linked)
 
   pub carry_down : (w : Net CO CI SO SI) (n k : ℕ) (v : Net CO CI SO SI) → Keeps c s stream_of trace w → CarriesDown c s seals w n k v → Keeps c s stream_of trace v
-  carry_down w n k v i p = subst (λ (x : Net CO CI SO SI). Keeps c s stream_of trace x) (sym p.only) (record {
-    up = i.up;
-    down = i.down;
-    stories = i.stories;
-    known = i.known;
-    own = i.own;
-    up_bytes = i.up_bytes;
-    down_bytes = λ alive. carries w.client.connection.decoder w.down w.server.connection.outbox.queue i.down k (lent_fits w.server.connection.failure n k w.server.connection.outbox.queue p.count) (i.down_bytes alive);
-    up_linked = i.up_linked;
-    down_linked = i.down_linked;
-  })
+  carry_down w n k v i p =
+      let y = w.server.connection in
+      subst (λ (x : Net CO CI SO SI). Keeps c s stream_of trace x) (sym p.only)
+      (rewired w i w.client.connection (after_carry y k) w.up (carried w.down k y.outbox.queue)
+      i.up_bytes (λ alive. carries w.client.connection.decoder w.down y.outbox.queue i.down k (lent_fits y.failure n k y.outbox.queue p.count) (i.down_bytes alive)) i.up_linked i.down_linked)
 
   -- WHAT FRAMES DO THAT COME TO THE SERVER: the first flights up have acted, and the others are still in flight.
   record ServedUp (w : Net CO CI SO SI) (i : Keeps c s stream_of trace w) (rest : List Flying) (new : Scene Server SO SI) : Type 0 where
@@ -342,10 +331,12 @@ module _ {CO CI SO SI : Type 0} (c : Halves CO CI) (s : Halves SO SI) (seals : B
   cut_up w keep v i p =
       subst (λ (x : Net CO CI SO SI). Keeps c s stream_of trace x) (sym p.only)
       (server_hears (is_over (cut_to w.up keep)) (record w { up = cut_to w.up keep }) p.connection
-      (record { up = i.up; down = i.down; stories = i.stories; known = i.known; own = i.own; up_bytes = λ alive. cuts w.server.connection.decoder w.up w.client.connection.outbox.queue i.up keep (i.up_bytes alive); down_bytes = i.down_bytes; up_linked = i.up_linked; down_linked = i.down_linked }) p.hears)
+      (rewired w i w.client.connection w.server.connection (cut_to w.up keep) w.down
+      (λ alive. cuts w.server.connection.decoder w.up w.client.connection.outbox.queue i.up keep (i.up_bytes alive)) i.down_bytes i.up_linked i.down_linked) p.hears)
 
   pub cut_down : (w : Net CO CI SO SI) (keep : ℕ) (v : Net CO CI SO SI) → Keeps c s stream_of trace w → CutsDown c s seals w keep v → Keeps c s stream_of trace v
   cut_down w keep v i p =
       subst (λ (x : Net CO CI SO SI). Keeps c s stream_of trace x) (sym p.only)
       (client_hears (is_over (cut_to w.down keep)) (record w { down = cut_to w.down keep }) p.connection
-      (record { up = i.up; down = i.down; stories = i.stories; known = i.known; own = i.own; up_bytes = i.up_bytes; down_bytes = λ alive. cuts w.client.connection.decoder w.down w.server.connection.outbox.queue i.down keep (i.down_bytes alive); up_linked = i.up_linked; down_linked = i.down_linked }) p.hears)
+      (rewired w i w.client.connection w.server.connection w.up (cut_to w.down keep)
+      i.up_bytes (λ alive. cuts w.client.connection.decoder w.down w.server.connection.outbox.queue i.down keep (i.down_bytes alive)) i.up_linked i.down_linked) p.hears)

@@ -8,7 +8,6 @@ use Rattle.ttrpc_proto.specs.Messages.{IsResponse}
 use Rattle.ttrpc_frame.specs.Frames.{Held}
 use Rattle.ttrpc_frame.specs.Queue.{Queue}
 use Rattle.ttrpc_connection.specs.declared.failure.Failure.TheVariants.{HandlerError}
-use Rattle.ttrpc_connection.specs.declared.outbox.Outbox.{Outbox}
 use Rattle.ttrpc_server.specs.declared.job.ActiveJob.{ActiveJob}
 use Rattle.ttrpc_server.specs.declared.job.Job.{Job}
 use Rattle.ttrpc_server.specs.declared.server.ServerCore.{ServerCore}

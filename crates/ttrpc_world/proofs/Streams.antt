@@ -1,5 +1,5 @@
 -- Each job has one stream, and no two jobs the same: ids of jobs are used once, and so are streams.
-use Rattle.std.proofs.Common.{◌≡◌, ℕ, ◌+◌, ◌≤◌, List, [], ◌∷◌, ◌++◌, length, Bool, true, false, Some, None, Result, Ok, Err, nat_eq, if◌then◌else◌, refl, sym, ap, ◌∙◌, subst, ◌⊎◌, inl, inr, arith, append_assoc}
+use Rattle.std.proofs.Common.{rules, ◌≡◌, ℕ, ◌+◌, ◌≤◌, List, [], ◌∷◌, ◌++◌, length, Bool, true, false, Some, None, Result, Ok, Err, nat_eq, if◌then◌else◌, refl, sym, ap, ◌∙◌, subst, ◌⊎◌, inl, inr, arith, append_assoc}
 use Rattle.std.proofs.lemmas.Bool.{cond-false, cond-true, eq-eqb, eqb-true, ne_eqb}
 use Rattle.std.proofs.lemmas.List.{append-nil, length-append}
 use Rattle.std.specs.List.{AllByRecursion}
@@ -8,7 +8,6 @@ use Rattle.ttrpc_frame.specs.declared.frame.Incoming.{Incoming}
 use Rattle.ttrpc_server.specs.declared.job.ActiveJob.{ActiveJob}
 use Rattle.ttrpc_server.specs.declared.job.Job.{Job}
 use Rattle.ttrpc_secure.specs.declared.transform.OutboundTransform.{Ghosts as OutboundTransform}
-use Rattle.ttrpc_connection.specs.declared.connection.Connection.{Connection}
 use Rattle.ttrpc_connection.specs.Feeds.{ActsAll, Scene, arrived, scene}
 use Rattle.ttrpc_connection.specs.Frames.{Sent, header_of_frame}
 use Rattle.ttrpc_server.specs.declared.server.ServerCore.{ServerCore}
@@ -19,16 +18,14 @@ use Rattle.ttrpc_server.specs.Table.{Row, Skipped, Tells, TellsOf, Known, row_of
 use Rattle.ttrpc_header.specs.declared.header.MessageHeader.{MessageHeader}
 use Rattle.ttrpc_world.specs.declared.events.Side.TheVariants as side
 use Rattle.ttrpc_world.specs.declared.events.Event.{Event}
-use Rattle.ttrpc_world.specs.declared.events.Event.TheVariants.{Call, Open, Outcome, Recv, Send, Close, DropCall, DropReceiver, DropSender, Take, Answer, Respond, Finish, EndStream, Drain, Tick, Carry, Deliver, Cut, Fail}
+use Rattle.ttrpc_world.specs.declared.events.Event.TheVariants.{Call, Outcome, DropCall, Take, Answer, Tick, Carry, Deliver, Cut, Fail}
 use Rattle.ttrpc_world.specs.declared.events.Reply.{Reply}
-use Rattle.ttrpc_world.specs.declared.events.Reply.TheVariants.{Named, Outcome as Given, Handed, Done, Count, Refused, NoMemory, NoStep}
+use Rattle.ttrpc_world.specs.declared.events.Reply.TheVariants.{Named, Outcome as Given, Handed, Done, Count, Refused}
 use Rattle.ttrpc_world.specs.declared.events.Entry.{Entry}
-use Rattle.ttrpc_world.specs.Pipes.{is_over}
 use Rattle.ttrpc_world.specs.Net.{Halves, Net, IsFresh}
-use Rattle.ttrpc_world.specs.Steps.{AnswersBy, Hears, Runs, Steps, cut_to, taken_from}
-use Rattle.ttrpc_world.specs.Story.{Act, Called, Ran, Answered, Gave, IsOneToOne, IsRightAt, IsStreamOf, act_of, acts, only_if, runs}
+use Rattle.ttrpc_world.specs.Steps.{AnswersBy, Runs, Steps}
+use Rattle.ttrpc_world.specs.Story.{Act, Ran, IsOneToOne, IsRightAt, IsStreamOf, act_of, acts, only_if, runs}
 use Rattle.ttrpc_world.proofs.Traces.{with_entry}
-use Rattle.ttrpc_world.proofs.Moves.{stops}
 
 -- ---- a stream for each job that was made
 
@@ -162,48 +159,30 @@ module _ {CO CI SO SI : Type 0} (c : Halves CO CI) (s : Halves SO SI) (seals : B
       })
 
   places : (trace : List Entry) (w : Net CO CI SO SI) (event : Event) (reply : Reply) (v : Net CO CI SO SI) → At trace w.server → Steps c s seals w event reply v → At (with_entry trace event reply) v.server
-  places trace w (Call request) (Named id) v p q = still trace w v (Call request) (Named id) (ap Net.server q.only) (λ f n. tt) p
-  places trace w (Call request) (Refused told) v p q = still trace w v (Call request) (Refused told) (ap Net.server q.1) (λ f n. tt) p
-  places trace w (Outcome id) (Given outcome) v p q = still trace w v (Outcome id) (Given outcome) (ap Net.server q.only) (λ f n. tt) p
-  places trace w (DropCall id) Done v p q = still trace w v (DropCall id) Done (ap Net.server q.only) (λ f n. tt) p
   places trace w Take (Handed (Some job)) v p q = handed trace w v job q p
-  places trace w Take (Handed None) v p q = still trace w v Take (Handed None) (ap Net.server q.same) (λ f n. tt) p
   places trace w (Answer id result) Done v p q = entry_placed trace _ _ (Answer id result) Done (answered trace w.server v.server id result q.does p) tt
-  places trace w (Answer id result) (Refused told) v p q = still trace w v (Answer id result) (Refused told) (ap Net.server q.1) (λ f n. tt) p
-  places trace w (Answer id result) NoStep v p q = still trace w v (Answer id result) NoStep (ap Net.server q.1) (λ f n. tt) p
-  places trace w (Tick now) Done v p q = still trace w v (Tick now) Done (ap Net.server q.only) (λ f n. tt) p
-  places trace w (Tick now) NoStep v p q = still trace w v (Tick now) NoStep (ap Net.server q.1) (λ f n. tt) p
-  places trace w (Carry side.Client n) (Count k) v p q = still trace w v (Carry side.Client n) (Count k) (ap Net.server q.only) (λ f m. tt) p
-  places trace w (Carry side.Client n) NoMemory v p q = still trace w v (Carry side.Client n) NoMemory (ap Net.server q) (λ f m. tt) p
   places trace w (Carry side.Server n) (Count k) v p q =
       same_placed (with_entry trace (Carry side.Server n) (Count k)) _ _ _ _ (ap (λ (x : Net CO CI SO SI). x.server.state.jobs.last) q.only) (ap (λ (x : Net CO CI SO SI). x.server.state.jobs.list) q.only) (entry_placed trace _ _ (Carry side.Server n) (Count k) p tt)
-  places trace w (Carry side.Server n) NoMemory v p q = still trace w v (Carry side.Server n) NoMemory (ap Net.server q) (λ f m. tt) p
   places trace w (Deliver side.Server n) (Count k) v p q =
       entry_placed trace _ _ (Deliver side.Server n) (Count k) (acts_placed s trace w.moment q.does.does.frames (scene w.server.state w.server.connection) (scene v.server.state q.does.mid) q.does.does.acts p) tt
   places trace w (Deliver side.Server n) (Refused told) v p (inl q) =
       let mid = acts_placed s trace w.moment q.does.frames (scene w.server.state w.server.connection) q.does.mid q.does.acts p in
       entry_placed trace _ _ (Deliver side.Server n) (Refused told) (subst (λ (z : Server). Placed trace z.jobs.last z.jobs.list) (sym q.does.state) mid) tt
   places trace w (Deliver side.Server n) (Refused told) v p (inr q) = still trace w v (Deliver side.Server n) (Refused told) (ap Net.server q.1) (λ f m. tt) p
-  places trace w (Deliver side.Client n) (Count k) v p q = still trace w v (Deliver side.Client n) (Count k) (ap Net.server q.only) (λ f m. tt) p
   places trace w (Deliver side.Client n) (Refused told) v p (inl q) = still trace w v (Deliver side.Client n) (Refused told) (ap Net.server q.only) (λ f m. tt) p
   places trace w (Deliver side.Client n) (Refused told) v p (inr q) = still trace w v (Deliver side.Client n) (Refused told) (ap Net.server q.1) (λ f m. tt) p
   places trace w (Cut side.Server keep) Done v p q = entry_placed trace _ _ (Cut side.Server keep) Done (same_state trace w.server v.server (ap (λ (x : Net CO CI SO SI). x.server.state) q.only) p) tt
-  places trace w (Cut side.Client keep) Done v p q = still trace w v (Cut side.Client keep) Done (ap Net.server q.only) (λ f m. tt) p
-  places trace w (Fail side.Client) Done v p q = still trace w v (Fail side.Client) Done (ap Net.server q) (λ f m. tt) p
   places trace w (Fail side.Server) Done v p q =
       same_placed (with_entry trace (Fail side.Server) Done) _ _ _ _ (ap (λ (x : Net CO CI SO SI). x.server.state.jobs.last) q) (ap (λ (x : Net CO CI SO SI). x.server.state.jobs.list) q) (entry_placed trace _ _ (Fail side.Server) Done p tt)
-  places trace w (Fail at) NoMemory v p q = still trace w v (Fail at) NoMemory (ap Net.server q) (λ f m. tt) p
-  places trace w (Open request up down) NoStep v p q = still trace w v (Open request up down) NoStep (ap Net.server q) (λ f m. tt) p
-  places trace w (Recv at id) NoStep v p q = still trace w v (Recv at id) NoStep (ap Net.server q) (λ f m. tt) p
-  places trace w (Send at id bytes) NoStep v p q = still trace w v (Send at id bytes) NoStep (ap Net.server q) (λ f m. tt) p
-  places trace w (Close id) NoStep v p q = still trace w v (Close id) NoStep (ap Net.server q) (λ f m. tt) p
-  places trace w (DropReceiver at id) NoStep v p q = still trace w v (DropReceiver at id) NoStep (ap Net.server q) (λ f m. tt) p
-  places trace w (DropSender id) NoStep v p q = still trace w v (DropSender id) NoStep (ap Net.server q) (λ f m. tt) p
-  places trace w (Respond id response) NoStep v p q = still trace w v (Respond id response) NoStep (ap Net.server q) (λ f m. tt) p
-  places trace w (Finish id) NoStep v p q = still trace w v (Finish id) NoStep (ap Net.server q) (λ f m. tt) p
-  places trace w (EndStream id result) NoStep v p q = still trace w v (EndStream id result) NoStep (ap Net.server q) (λ f m. tt) p
-  places trace w Drain NoStep v p q = still trace w v Drain NoStep (ap Net.server q) (λ f m. tt) p
-  places trace w event reply v p q = absurd q
+  places trace w (Call request) (Named id) v p q = still trace w v (Call request) (Named id) (ap Net.server q.only) (λ f n. tt) p
+  places trace w (Outcome id) (Given outcome) v p q = still trace w v (Outcome id) (Given outcome) (ap Net.server q.only) (λ f n. tt) p
+  places trace w (DropCall id) Done v p q = still trace w v (DropCall id) Done (ap Net.server q.only) (λ f n. tt) p
+  places trace w (Tick now) Done v p q = still trace w v (Tick now) Done (ap Net.server q.only) (λ f n. tt) p
+  places trace w (Carry side.Client n) (Count k) v p q = still trace w v (Carry side.Client n) (Count k) (ap Net.server q.only) (λ f m. tt) p
+  places trace w (Deliver side.Client n) (Count k) v p q = still trace w v (Deliver side.Client n) (Count k) (ap Net.server q.only) (λ f m. tt) p
+  places trace w (Cut side.Client keep) Done v p q = still trace w v (Cut side.Client keep) Done (ap Net.server q.only) (λ f m. tt) p
+  places trace w (Fail side.Client) Done v p q = still trace w v (Fail side.Client) Done (ap Net.server q) (λ f m. tt) p
+  places trace w event reply v p q = let same : v ≡ w = first_of (assumption, cc, search rules) in still trace w v event reply (ap Net.server same) (λ f n. tt) p
 
   places_all : (before rest : List Entry) (w v : Net CO CI SO SI) → At before w.server → Runs c s seals w rest v → At (before ++ rest) v.server
   places_all before [] w v i p = subst (λ (t : List Entry). Placed t v.server.state.jobs.last v.server.state.jobs.list) (sym (append-nil before)) (stays before w.server v.server (ap Net.server p) i)
@@ -294,10 +273,8 @@ record IsAmong (j : ℕ) (xs : List ℕ) : Type 0 where
 
 runs_append : (a b : List Act) → runs (a ++ b) ≡ runs a ++ runs b
 runs_append [] b = refl
-runs_append (Called request ∷ a) b = runs_append a b
 runs_append (Ran job request ∷ a) b = ap (λ xs. job ∷ xs) (runs_append a b)
-runs_append (Answered result ∷ a) b = runs_append a b
-runs_append (Gave outcome ∷ a) b = runs_append a b
+runs_append (act ∷ a) b = runs_append a b
 
 among_now : (f : ℕ → ℕ) (j k : ℕ) (event : Event) (reply : Reply) → IsRightAt f event reply → HandsOut j event reply → f j ≡ k → runs (act_of f k event reply) ≡ j ∷ []
 among_now f j k event reply right h at =

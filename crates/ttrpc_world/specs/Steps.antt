@@ -1,6 +1,6 @@
 -- What an event and its reply may do to a client, a server and their pipes.
 -- Source: PROTOCOL.md of ttrpc, "Streaming", by the tables of both cores.
-use Rattle.std.specs.Prelude.{◌≡◌, ◌≢◌, ◌⊎◌, ◌<◌, ◌≤◌, ◌++◌, ℕ, List, [], ◌∷◌, length, take, drop, min, codes, if◌then◌else◌, Bool, true, false, Option, Some, None, is_some, Result, Ok, Err}
+use Rattle.std.specs.Prelude.{◌≡◌, ◌≢◌, ◌⊎◌, ◌<◌, ◌≤◌, ◌++◌, ℕ, List, [], ◌∷◌, length, take, drop, min, codes, if◌then◌else◌, Bool, true, false, Option, Some, None, Result, Ok, Err}
 use Rattle.ttrpc_error.specs.declared.error.Error.{Error}
 use Rattle.ttrpc_error.specs.declared.error.Error.TheVariants.{Socket}
 use Rattle.ttrpc_proto.specs.declared.request.Request.{Request}
@@ -18,7 +18,6 @@ use Rattle.ttrpc_server.specs.declared.server.ServerCore.{ServerCore}
 use Rattle.ttrpc_server.specs.Jobs.{IsUnknown, NoneWaits}
 use Rattle.ttrpc_server.specs.Table.{HasUnsent}
 use Rattle.ttrpc_server.specs.Happens.{Answers, Drops, Hands, serving}
-use Rattle.ttrpc_client.specs.declared.client.ClientCore.{ClientCore}
 use Rattle.ttrpc_client.specs.Table.{RefusesRequest}
 use Rattle.ttrpc_client.specs.Happens.{Forgets, Requests, Tells, calling}
 use Rattle.ttrpc_client.specs.Calls.{Passes}
@@ -41,6 +40,10 @@ carried p n q = record p { bytes = if p.cut then p.bytes else p.bytes ++ take n 
 abbrev pub lent_of : Option Failure → ℕ → Queue → ℕ
 lent_of None n q = min n (length (open_part q))
 lent_of (Some why) n q = 0
+
+-- bytes may be lent: the side is alive, and some are left of its first frame
+abbrev pub HasToLend : {O I : Type 0} → Connection O I → ℕ → Type 0
+HasToLend c n = 0 < lent_of c.failure n c.outbox.queue
 
 -- they were lent, and reported as written
 abbrev pub after_carry : {O I : Type 0} → Connection O I → ℕ → Connection O I
@@ -173,7 +176,8 @@ module _ {CO CI SO SI : Type 0} (c : Halves CO CI) (s : Halves SO SI) (seals : B
     pub hears : Hears (is_over (cut_to old.down keep)) old.client.connection connection
     pub only : new ≡ record (with_client old (record old.client { connection = connection })) { down = cut_to old.down keep }
 
-  -- WHAT AN EVENT AND ITS REPLY MAY DO. A reply that isn't here can't be.
+  -- WHAT AN EVENT AND ITS REPLY MAY DO. A reply that isn't here can't be. Where memory is refused nothing changes, and
+  -- it was asked for: bytes were to be carried, or a side that was alive to fail.
   abbrev pub Steps : Net CO CI SO SI → Event → Reply → Net CO CI SO SI → Type 0
   Steps old (Call request) (Named id) new = Calls old request id new
   Steps old (Call request) (Refused told) new = RefusesRequest c.out old.client request told × (new ≡ old)
@@ -187,9 +191,9 @@ module _ {CO CI SO SI : Type 0} (c : Halves CO CI) (s : Halves SO SI) (seals : B
   Steps old (Tick now) Done new = Ticked old now new
   Steps old (Tick now) NoStep new = (now < old.moment) × (new ≡ old)
   Steps old (Carry side.Client n) (Count k) new = CarriesUp old n k new
-  Steps old (Carry side.Client n) NoMemory new = new ≡ old
+  Steps old (Carry side.Client n) NoMemory new = HasToLend old.client.connection n × (new ≡ old)
   Steps old (Carry side.Server n) (Count k) new = CarriesDown old n k new
-  Steps old (Carry side.Server n) NoMemory new = new ≡ old
+  Steps old (Carry side.Server n) NoMemory new = HasToLend old.server.connection n × (new ≡ old)
   Steps old (Deliver side.Server n) (Count k) new = DeliversUp old n k new
   Steps old (Deliver side.Server n) (Refused told) new = BreaksUp old n told new ⊎ (IsFailed old.server.connection.failure told × (new ≡ old))
   Steps old (Deliver side.Client n) (Count k) new = DeliversDown old n k new
@@ -198,7 +202,8 @@ module _ {CO CI SO SI : Type 0} (c : Halves CO CI) (s : Halves SO SI) (seals : B
   Steps old (Cut side.Client keep) Done new = CutsDown old keep new
   Steps old (Fail side.Client) Done new = new ≡ with_client old (record old.client { connection = failed old.client.connection (Told failed_by_hand) })
   Steps old (Fail side.Server) Done new = new ≡ with_server old (record old.server { connection = failed old.server.connection (Told failed_by_hand) })
-  Steps old (Fail at) NoMemory new = new ≡ old
+  Steps old (Fail side.Client) NoMemory new = (old.client.connection.failure ≡ None) × (new ≡ old)
+  Steps old (Fail side.Server) NoMemory new = (old.server.connection.failure ≡ None) × (new ≡ old)
   -- of streams the cores know nothing yet, and the server's ends a job by its answer alone
   Steps old (Open request up down) NoStep new = new ≡ old
   Steps old (Recv at id) NoStep new = new ≡ old
