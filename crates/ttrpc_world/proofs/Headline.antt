@@ -21,8 +21,7 @@ use Rattle.ttrpc_world.proofs.Stages.{Ends, Unborn, exactly_once}
 use Rattle.ttrpc_world.proofs.Delivers.{AreKnown}
 use Rattle.ttrpc_world.proofs.Traces.{with_entry}
 use Rattle.ttrpc_world.proofs.Keeps.{Keeps, keeps_ask, keeps_call, keeps_drop, keeps_still, keeps_tick}
-use Rattle.ttrpc_world.proofs.Serves.{keeps_answer, keeps_hand}
-use Rattle.ttrpc_world.proofs.Moves.{break_down, break_up, carry_down, carry_up, client_fails, cut_down, cut_up, deliver_down, deliver_up, server_fails}
+use Rattle.ttrpc_world.proofs.Moves.{break_down, break_up, carry_down, carry_up, client_fails, cut_down, cut_up, deliver_down, deliver_up, keeps_answer, keeps_hand, server_fails}
 
 module _ {CO CI SO SI : Type 0} (c : Halves CO CI) (s : Halves SO SI) (seals : Bool) (still : seals ≡ false → (from to : CO) (plain aad sealed : List ℕ) → c.out.seals from plain aad sealed to → to ≡ from)
     (stream_of : ℕ → ℕ) where
@@ -43,19 +42,19 @@ module _ {CO CI SO SI : Type 0} (c : Halves CO CI) (s : Halves SO SI) (seals : B
 
   -- EACH STEP KEEPS IT.
   keeps : (trace : List Entry) (w : Net CO CI SO SI) (event : Event) (reply : Reply) (v : Net CO CI SO SI) → Kept trace w → IsRightAt stream_of event reply → Steps c s seals w event reply v → Kept (with_entry trace event reply) v
-  keeps trace w (Call request) (Named id) v i r p = along _ _ v p.only (keeps_call c s seals still stream_of trace w request id v i p)
-  keeps trace w (Outcome id) (Given outcome) v i r p = along _ _ v p.only (keeps_ask c s seals still stream_of trace w id outcome v i p)
+  keeps trace w (Call request) (Named id) v i r p = along _ _ v p.2 (keeps_call c s seals still stream_of trace w request id v i p.0 p.1)
+  keeps trace w (Outcome id) (Given outcome) v i r p = along _ _ v p.1 (keeps_ask c s seals still stream_of trace w id outcome v i p.0)
   keeps trace w (DropCall id) Done v i r p = along _ _ v p.only (keeps_drop c s seals still stream_of trace w id v i p)
-  keeps trace w Take (Handed (Some job)) v i r p = along _ _ v p.only (keeps_hand c s seals stream_of trace w job v r i p)
-  keeps trace w (Answer id result) Done v i r p = along _ _ v p.only (keeps_answer c s seals stream_of trace w id result v.server i p.does)
+  keeps trace w Take (Handed (Some job)) v i r p = along _ _ v p.1 (keeps_hand c s seals stream_of trace w job v r i p.0)
+  keeps trace w (Answer id result) Done v i r p = along _ _ v p.1 (keeps_answer c s seals stream_of trace w id result v.server i p.0)
   keeps trace w (Tick now) Done v i r p = along _ _ v p.only (keeps_tick c s seals still stream_of trace w now v i p)
   keeps trace w (Carry side.Client n) (Count k) v i r p = carry_up c s seals stream_of _ w n k v (quietly trace w (Carry side.Client n) (Count k) (λ j. refl) i) p
   keeps trace w (Carry side.Server n) (Count k) v i r p = carry_down c s seals stream_of _ w n k v (quietly trace w (Carry side.Server n) (Count k) (λ j. refl) i) p
   keeps trace w (Deliver side.Server n) (Count k) v i r p = deliver_up c s seals stream_of _ w n k v (quietly trace w (Deliver side.Server n) (Count k) (λ j. refl) i) p
-  keeps trace w (Deliver side.Server n) (Refused told) v i r (inl p) = break_up c s seals stream_of _ w n told v (quietly trace w (Deliver side.Server n) (Refused told) (λ j. refl) i) p
+  keeps trace w (Deliver side.Server n) (Refused told) v i r (inl p) = break_up c s seals stream_of _ w n told v (quietly trace w (Deliver side.Server n) (Refused told) (λ j. refl) i) p.0 p.1
   keeps trace w (Deliver side.Server n) (Refused told) v i r (inr p) = same trace w (Deliver side.Server n) (Refused told) v (λ k. refl) i p.1
   keeps trace w (Deliver side.Client n) (Count k) v i r p = deliver_down c s seals stream_of _ w n k v (quietly trace w (Deliver side.Client n) (Count k) (λ j. refl) i) p
-  keeps trace w (Deliver side.Client n) (Refused told) v i r (inl p) = break_down c s seals stream_of _ w n told v (quietly trace w (Deliver side.Client n) (Refused told) (λ j. refl) i) p
+  keeps trace w (Deliver side.Client n) (Refused told) v i r (inl p) = break_down c s seals stream_of _ w n told v (quietly trace w (Deliver side.Client n) (Refused told) (λ j. refl) i) p.0 p.1
   keeps trace w (Deliver side.Client n) (Refused told) v i r (inr p) = same trace w (Deliver side.Client n) (Refused told) v (λ k. refl) i p.1
   keeps trace w (Cut side.Server keep) Done v i r p = cut_up c s seals stream_of _ w keep v (quietly trace w (Cut side.Server keep) Done (λ k. refl) i) p
   keeps trace w (Cut side.Client keep) Done v i r p = cut_down c s seals stream_of _ w keep v (quietly trace w (Cut side.Client keep) Done (λ k. refl) i) p

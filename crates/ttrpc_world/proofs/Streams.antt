@@ -148,11 +148,11 @@ module _ {CO CI SO SI : Type 0} (c : Halves CO CI) (s : Halves SO SI) (seals : B
 
   handed : (trace : List Entry) (w v : Net CO CI SO SI) (job : Job) → Steps c s seals w Take (Handed (Some job)) v → At trace w.server → At (with_entry trace Take (Handed (Some job))) v.server
   handed trace w v job q p =
-      let t = q.does.hands in
+      let t = q.0.hands in
       let n : ℕ = w.server.state.jobs.last in
       let below = subst (λ (js : List ActiveJob). AreBelow p.f n js) t.was p.below in
       let here = below_here p.f n t.front t.back t.job below in
-      same_placed (with_entry trace Take (Handed (Some job))) n v.server.state.jobs.last _ v.server.state.jobs.list (ap (λ (z : ServerCore SO SI). z.state.jobs.last) q.does.same) t.jobs (record {
+      same_placed (with_entry trace Take (Handed (Some job))) n v.server.state.jobs.last _ v.server.state.jobs.list (ap (λ (z : ServerCore SO SI). z.state.jobs.last) q.0.same) t.jobs (record {
         f = p.f;
         below = below_taken p.f n t.front t.back t.job below;
         past = past_more p.f n trace Take (Handed (Some job)) p.past (ap p.f t.id ∙ here.0 ∙ sym (ap (λ (h : MessageHeader). h.stream_id) t.header), omega (arith, here.1, t.id));
@@ -160,22 +160,22 @@ module _ {CO CI SO SI : Type 0} (c : Halves CO CI) (s : Halves SO SI) (seals : B
 
   places : (trace : List Entry) (w : Net CO CI SO SI) (event : Event) (reply : Reply) (v : Net CO CI SO SI) → At trace w.server → Steps c s seals w event reply v → At (with_entry trace event reply) v.server
   places trace w Take (Handed (Some job)) v p q = handed trace w v job q p
-  places trace w (Answer id result) Done v p q = entry_placed trace _ _ (Answer id result) Done (answered trace w.server v.server id result q.does p) tt
+  places trace w (Answer id result) Done v p q = entry_placed trace _ _ (Answer id result) Done (answered trace w.server v.server id result q.0 p) tt
   places trace w (Carry side.Server n) (Count k) v p q =
       same_placed (with_entry trace (Carry side.Server n) (Count k)) _ _ _ _ (ap (λ (x : Net CO CI SO SI). x.server.state.jobs.last) q.only) (ap (λ (x : Net CO CI SO SI). x.server.state.jobs.list) q.only) (entry_placed trace _ _ (Carry side.Server n) (Count k) p tt)
   places trace w (Deliver side.Server n) (Count k) v p q =
       entry_placed trace _ _ (Deliver side.Server n) (Count k) (acts_placed s trace w.moment q.does.does.frames (scene w.server.state w.server.connection) (scene v.server.state q.does.mid) q.does.does.acts p) tt
   places trace w (Deliver side.Server n) (Refused told) v p (inl q) =
-      let mid = acts_placed s trace w.moment q.does.frames (scene w.server.state w.server.connection) q.does.mid q.does.acts p in
-      entry_placed trace _ _ (Deliver side.Server n) (Refused told) (subst (λ (z : Server). Placed trace z.jobs.last z.jobs.list) (sym q.does.state) mid) tt
+      let mid = acts_placed s trace w.moment q.0.frames (scene w.server.state w.server.connection) q.0.mid q.0.acts p in
+      entry_placed trace _ _ (Deliver side.Server n) (Refused told) (subst (λ (z : Server). Placed trace z.jobs.last z.jobs.list) (sym q.0.state) mid) tt
   places trace w (Deliver side.Server n) (Refused told) v p (inr q) = still trace w v (Deliver side.Server n) (Refused told) (ap Net.server q.1) (λ f m. tt) p
-  places trace w (Deliver side.Client n) (Refused told) v p (inl q) = still trace w v (Deliver side.Client n) (Refused told) (ap Net.server q.only) (λ f m. tt) p
+  places trace w (Deliver side.Client n) (Refused told) v p (inl q) = still trace w v (Deliver side.Client n) (Refused told) (ap Net.server q.1) (λ f m. tt) p
   places trace w (Deliver side.Client n) (Refused told) v p (inr q) = still trace w v (Deliver side.Client n) (Refused told) (ap Net.server q.1) (λ f m. tt) p
   places trace w (Cut side.Server keep) Done v p q = entry_placed trace _ _ (Cut side.Server keep) Done (same_state trace w.server v.server (ap (λ (x : Net CO CI SO SI). x.server.state) q.only) p) tt
   places trace w (Fail side.Server) Done v p q =
       same_placed (with_entry trace (Fail side.Server) Done) _ _ _ _ (ap (λ (x : Net CO CI SO SI). x.server.state.jobs.last) q) (ap (λ (x : Net CO CI SO SI). x.server.state.jobs.list) q) (entry_placed trace _ _ (Fail side.Server) Done p tt)
-  places trace w (Call request) (Named id) v p q = still trace w v (Call request) (Named id) (ap Net.server q.only) (λ f n. tt) p
-  places trace w (Outcome id) (Given outcome) v p q = still trace w v (Outcome id) (Given outcome) (ap Net.server q.only) (λ f n. tt) p
+  places trace w (Call request) (Named id) v p q = still trace w v (Call request) (Named id) (ap Net.server q.2) (λ f n. tt) p
+  places trace w (Outcome id) (Given outcome) v p q = still trace w v (Outcome id) (Given outcome) (ap Net.server q.1) (λ f n. tt) p
   places trace w (DropCall id) Done v p q = still trace w v (DropCall id) Done (ap Net.server q.only) (λ f n. tt) p
   places trace w (Tick now) Done v p q = still trace w v (Tick now) Done (ap Net.server q.only) (λ f n. tt) p
   places trace w (Carry side.Client n) (Count k) v p q = still trace w v (Carry side.Client n) (Count k) (ap Net.server q.only) (λ f m. tt) p
