@@ -26,6 +26,7 @@ use Rattle.ttrpc_world.specs.Net.{Halves, Net, IsFresh}
 use Rattle.ttrpc_world.specs.Steps.{AnswersBy, Runs, Steps}
 use Rattle.ttrpc_world.specs.Story.{Act, Ran, IsOneToOne, IsRightAt, IsStreamOf, act_of, acts, only_if, runs}
 use Rattle.ttrpc_world.proofs.Traces.{with_entry}
+use Rattle.ttrpc_world.proofs.Turns.{never_empty, only_one}
 
 -- ---- a stream for each job that was made
 
@@ -201,17 +202,6 @@ above_all (e ∷ trace) = stream_named e.event e.reply + above_all trace
 abbrev spread : (ℕ → ℕ) → List Entry → ℕ → ℕ
 spread f trace j = if was_handed_out j trace then f j else above_all trace + j
 
--- an entry that hands out a job
-record HandsOut (j : ℕ) (event : Event) (reply : Reply) : Type 0 where
-  job : Job
-  event_is : event ≡ Take
-  reply_is : reply ≡ Handed (Some job)
-  id : job.id ≡ j
-
-hands_out_is : (j : ℕ) (event : Event) (reply : Reply) → hands_out j event reply ≡ true → HandsOut j event reply
-hands_out_is j Take (Handed (Some job)) e = record { job = job; event_is = refl; reply_is = refl; id = eqb-true job.id j e }
-hands_out_is j event reply e = absurd (let no : ⊥ = cc in no)
-
 either : (a b : Bool) → (if a then true else b) ≡ true → (a ≡ true) ⊎ ((a ≡ false) × (b ≡ true))
 either true b e = inl refl
 either false b e = inr (refl, e)
@@ -221,17 +211,14 @@ later true b e = refl
 later false b e = e
 
 -- its stream is right, and below all others' numbers
-named_below : (f : ℕ → ℕ) (j : ℕ) (event : Event) (reply : Reply) → IsRightAt f event reply → HandsOut j event reply → f j + 1 ≤ stream_named event reply
-named_below f j event reply right h =
-    subst (λ (e : Event). f j + 1 ≤ stream_named e reply) (sym h.event_is)
-    (subst (λ (r : Reply). f j + 1 ≤ stream_named Take r) (sym h.reply_is)
-    (let at : f h.job.id ≡ h.job.header.stream_id = subst (λ (r : Reply). IsRightAt f Take r) h.reply_is (subst (λ (e : Event). IsRightAt f e reply) h.event_is right) in
-    omega (arith, at, ap f h.id)))
+named_below : (f : ℕ → ℕ) (j : ℕ) (event : Event) (reply : Reply) → IsRightAt f event reply → hands_out j event reply ≡ true → f j + 1 ≤ stream_named event reply
+named_below f j Take (Handed (Some job)) right e = omega (arith, right, ap f (eqb-true job.id j e))
+named_below f j event reply right e = absurd (let no : ⊥ = cc in no)
 
 stream_below : (f : ℕ → ℕ) (j : ℕ) (trace : List Entry) → IsStreamOf f trace → was_handed_out j trace ≡ true → f j + 1 ≤ above_all trace
 stream_below f j [] right e = cc
 stream_below f j (x ∷ trace) right e = elim (either (hands_out j x.event x.reply) (was_handed_out j trace) e) [
-  | inl here ↦ omega (arith, named_below f j x.event x.reply right.0 (hands_out_is j x.event x.reply here))
+  | inl here ↦ omega (arith, named_below f j x.event x.reply right.0 here)
   | inr there ↦ omega (arith, stream_below f j trace right.1 there.1)
 ]
 
@@ -246,11 +233,11 @@ runs_append [] b = refl
 runs_append (Ran job request ∷ a) b = ap (λ xs. job ∷ xs) (runs_append a b)
 runs_append (act ∷ a) b = runs_append a b
 
-among_now : (f : ℕ → ℕ) (j k : ℕ) (event : Event) (reply : Reply) → IsRightAt f event reply → HandsOut j event reply → f j ≡ k → runs (act_of f k event reply) ≡ j ∷ []
-among_now f j k event reply right h at =
-    let stream : h.job.header.stream_id ≡ k = sym (subst (λ (r : Reply). IsRightAt f Take r) h.reply_is (subst (λ (e : Event). IsRightAt f e reply) h.event_is right)) ∙ ap f h.id ∙ at in
-    ap (λ (e : Event). runs (act_of f k e reply)) h.event_is ∙ ap (λ (r : Reply). runs (act_of f k Take r)) h.reply_is
-    ∙ ap (λ (b : Bool). runs (only_if b (Ran h.job.id h.job.request))) (eq-eqb h.job.header.stream_id k stream) ∙ ap (λ (n : ℕ). n ∷ []) h.id
+among_now : (f : ℕ → ℕ) (j k : ℕ) (event : Event) (reply : Reply) → IsRightAt f event reply → hands_out j event reply ≡ true → f j ≡ k → runs (act_of f k event reply) ≡ j ∷ []
+among_now f j k Take (Handed (Some job)) right e at =
+    let id : job.id ≡ j = eqb-true job.id j e in
+    ap (λ (b : Bool). runs (only_if b (Ran job.id job.request))) (eq-eqb job.header.stream_id k (sym right ∙ ap f id ∙ at)) ∙ ap (λ (n : ℕ). n ∷ []) id
+among_now f j k event reply right e at = absurd (let no : ⊥ = cc in no)
 
 among : (f : ℕ → ℕ) (j k : ℕ) (trace : List Entry) → IsStreamOf f trace → was_handed_out j trace ≡ true → f j ≡ k → IsAmong j (runs (acts f k trace))
 among f j k [] right e at = cc
@@ -258,7 +245,7 @@ among f j k (x ∷ trace) right e at = elim (either (hands_out j x.event x.reply
   | inl here ↦ record {
     front = [];
     back = runs (acts f k trace);
-    is = runs_append (act_of f k x.event x.reply) (acts f k trace) ∙ ap (λ xs. xs ++ runs (acts f k trace)) (among_now f j k x.event x.reply right.0 (hands_out_is j x.event x.reply here) at);
+    is = runs_append (act_of f k x.event x.reply) (acts f k trace) ∙ ap (λ xs. xs ++ runs (acts f k trace)) (among_now f j k x.event x.reply right.0 here at);
   }
   | inr there ↦ let a = among f j k trace right.1 there.1 at in record {
     front = runs (act_of f k x.event x.reply) ++ a.front;
@@ -268,16 +255,10 @@ among f j k (x ∷ trace) right e at = elim (either (hands_out j x.event x.reply
 ]
 
 -- a list of at most one item has no two
-alone : (front back : List ℕ) (i : ℕ) → length (front ++ i ∷ back) ≤ 1 → front ++ i ∷ back ≡ i ∷ []
-alone [] [] i h = refl
-alone [] (b ∷ back) i h = absurd (let no : ⊥ = omega (arith, h) in no)
-alone (z ∷ front) back i h = absurd (let no : ⊥ = omega (arith, h, length-append front (i ∷ back)) in no)
-
-only_among : (xs : List ℕ) (i : ℕ) → length xs ≤ 1 → IsAmong i xs → xs ≡ i ∷ []
-only_among xs i short a = a.is ∙ alone a.front a.back i (subst (λ (ys : List ℕ). length ys ≤ 1) a.is short)
-
 same_item : (xs : List ℕ) (i j : ℕ) → length xs ≤ 1 → IsAmong i xs → IsAmong j xs → i ≡ j
-same_item xs i j short a b = let e : i ∷ [] ≡ j ∷ [] = sym (only_among xs i short a) ∙ only_among xs j short b in cc
+same_item [] i j short a b = absurd (never_empty a.front a.back i (sym a.is))
+same_item (x ∷ []) i j short a b = (only_one a.front a.back i x (sym a.is)).1 ∙ sym (only_one b.front b.back j x (sym b.is)).1
+same_item (x ∷ y ∷ xs) i j short a b = absurd (let no : ⊥ = omega (arith, short) in no)
 
 spread_handed : (f : ℕ → ℕ) (trace : List Entry) (j : ℕ) → was_handed_out j trace ≡ true → spread f trace j ≡ f j
 spread_handed f trace j e = cond-true (was_handed_out j trace) _ _ e

@@ -23,12 +23,12 @@ use Rattle.ttrpc_world.proofs.Stages.{Stage, Unborn, Sent, Made, Running, Told, 
 pub no_cons : {X : Type 0} (x : X) (xs : List X) → x ∷ xs ≡ [] → ⊥
 no_cons x xs h = cc
 
-never_empty : {X : Type 0} (front back : List X) (x : X) → front ++ x ∷ back ≡ [] → ⊥
+pub never_empty : {X : Type 0} (front back : List X) (x : X) → front ++ x ∷ back ≡ [] → ⊥
 never_empty [] back x h = cc
 never_empty (z ∷ front) back x h = cc
 
 -- a list of one item, cut around an item
-only_one : {X : Type 0} (front back : List X) (x y : X) → front ++ x ∷ back ≡ y ∷ [] → (front ≡ []) × (x ≡ y) × (back ≡ [])
+pub only_one : {X : Type 0} (front back : List X) (x y : X) → front ++ x ∷ back ≡ y ∷ [] → (front ≡ []) × (x ≡ y) × (back ≡ [])
 only_one [] back x y h = (refl, cc, cc)
 only_one (z ∷ []) back x y h = let bad : x ∷ back ≡ [] = cc in cc
 only_one (z ∷ w ∷ front) back x y h = let bad : w ∷ (front ++ x ∷ back) ≡ [] = cc in cc
