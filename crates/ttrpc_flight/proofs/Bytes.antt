@@ -10,7 +10,7 @@ use Rattle.ttrpc_header.specs.Header.{header_bytes, header_of}
 use Rattle.ttrpc_header.proofs.Headers as headers
 use Rattle.ttrpc_frame.specs.declared.frame.Incoming.{Incoming}
 use Rattle.ttrpc_frame.specs.declared.outgoing.Queued.{Queued}
-use Rattle.ttrpc_frame.specs.Frames.{IsFrame, Frames, IsRest, Held, nothing, Holds, Fed}
+use Rattle.ttrpc_frame.specs.Frames.{IsFrame, Frames, IsRest, Held, nothing, Fed}
 use Rattle.ttrpc_frame.specs.Queue.{Queue, IsWithin, written, written_all, first_open, open_part, empty_queue, with_frame, with_lent, after_report, begun_count, frames_without, without}
 use Rattle.ttrpc_frame.proofs.Frames.{header_front, nothing_held}
 use Rattle.ttrpc_frame.proofs.Pieces.{one_list, is_frames}

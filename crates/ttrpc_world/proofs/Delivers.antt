@@ -6,7 +6,6 @@ use Rattle.std.proofs.lemmas.List.Elements.{filter-append}
 use Rattle.std.specs.List.{AllByRecursion}
 use Rattle.ttrpc_values.specs.declared.code.Code.TheVariants.{INVALID_ARGUMENT}
 use Rattle.ttrpc_proto.specs.declared.request.Request.{Request}
-use Rattle.ttrpc_proto.specs.declared.response.Response.{Response}
 use Rattle.ttrpc_frame.specs.Frames.{Held}
 use Rattle.ttrpc_frame.specs.Queue.{Queue}
 use Rattle.ttrpc_secure.specs.declared.transform.OutboundTransform.{Ghosts as OutboundTransform}
@@ -31,14 +30,21 @@ use Rattle.ttrpc_flight.proofs.Parcels.{parcels-cons_other, parcels-cons_own, pa
 use Rattle.ttrpc_flight.proofs.Seals.{more_linked}
 use Rattle.ttrpc_world.specs.declared.events.Entry.{Entry}
 use Rattle.ttrpc_world.specs.Net.{Halves}
-use Rattle.ttrpc_world.specs.Story.{Called, acts}
-use Rattle.ttrpc_world.proofs.Stages.{IsToldOf, Story}
+use Rattle.ttrpc_world.specs.Story.{Act, Called, acts}
+use Rattle.ttrpc_world.proofs.Stages.{Story}
 use Rattle.ttrpc_world.proofs.Turns.{arrives_here, arriving, called_alone, elsewhere, lands_here, leaves_out_here, refers_here, returning}
 use Rattle.ttrpc_world.proofs.Payloads.{SendsResponse, path_refusal, request_row_is, response_landing_is, sends_response}
 
 -- THE STORIES: that of each id.
 abbrev pub Stories : (ℕ → ℕ) → List Entry → List Flying → List Flying → ℕ → List ActiveJob → (ℕ → Option Call) → Type 0
 Stories stream_of trace up down next jobs kept = (k : ℕ) → Story (next ≤ k) k (acts stream_of k trace) (parcels k up) (jobs_at jobs k) (parcels k down) (kept k)
+
+-- what holds at one id, and at each other
+pub at_one : (T : ℕ → Type 0) (k : ℕ) → T k → ((n : ℕ) → k ≢ n → T n) → (n : ℕ) → T n
+at_one T k here there n = elim (cases_eq k n) [
+  | inl e ↦ subst T e here
+  | inr e ↦ there n e
+]
 
 -- the stream of each job that was handed out is known
 abbrev pub AreKnown : (ℕ → ℕ) → List ActiveJob → Type 0
@@ -102,50 +108,13 @@ module _ {CO CI SO SI : Type 0} (c : Halves CO CI) (s : Halves SO SI) (stream_of
     sealed = λ flights in_ a. more_linked s.out.seals c.in_.opens c.in_.refuses flights old.outbox.half in_ r.y new.outbox.half a r.seal;
   }
 
-  -- the request becomes a job
-  makes_up : (x : Flying) (rest down : List Flying) (next : ℕ) (kept : ℕ → Option Call) (old new : List ActiveJob) (k id : ℕ) → x.frame.message.header.stream_id ≡ k
-      → (story : Stories stream_of trace (x ∷ rest) down next old kept)
-      → (own : Story (next ≤ k) k (acts stream_of k trace) (x ∷ parcels k rest) (jobs_at old k) (parcels k down) (kept k))
-      → new ≡ old ++ new_job id x.frame.message.header (arriving _ k _ x _ _ _ _ own).request ∷ [] → Stories stream_of trace rest down next new kept
-  makes_up x rest down next kept old new k id at story own is =
-      let a = arriving _ k _ x _ _ _ _ own in
-      let job = new_job id x.frame.message.header a.request in
-      λ i. elim (cases_eq x.frame.message.header.stream_id i) [
-        | inl e ↦
-            let same : k ≡ i = sym at ∙ e in
-            subst (λ (n : ℕ). Story (next ≤ n) n (acts stream_of n trace) (parcels n rest) (jobs_at new n) (parcels n down) (kept n)) same
-            (arrives_here (next ≤ k) k (acts stream_of k trace) x (parcels k rest) (jobs_at old k) (jobs_at new k) (parcels k down) (kept k) job own
-            (record { request = refl; stream = at; within = a.is_sent.within })
-            (ap (λ js. jobs_at js k) is ∙ jobs-push_own k job old at))
-        | inr e ↦ elsewhere (next ≤ i) (next ≤ i) i _ _ _ _ _ _ _ _ _ _ (story i) (λ y. y) refl (sym (parcels-cons_other i x rest e))
-            (ap (λ js. jobs_at js i) is ∙ jobs-push_other i job old e) refl refl
-      ]
-
-  -- the server answers it itself
-  refers_up : (x : Flying) (rest down : List Flying) (next : ℕ) (kept : ℕ → Option Call) (jobs : List ActiveJob) (k : ℕ) → x.frame.message.header.stream_id ≡ k
-      → (story : Stories stream_of trace (x ∷ rest) down next jobs kept)
-      → (own : Story (next ≤ k) k (acts stream_of k trace) (x ∷ parcels k rest) (jobs_at jobs k) (parcels k down) (kept k))
-      → (r : Response) (y : Flying) → IsToldOf k (Called (arriving _ k _ x _ _ _ _ own).request ∷ []) r y → Stories stream_of trace rest (down ++ y ∷ []) next jobs kept
-  refers_up x rest down next kept jobs k at story own r y told = λ i. elim (cases_eq x.frame.message.header.stream_id i) [
-    | inl e ↦
-        let same : k ≡ i = sym at ∙ e in
-        subst (λ (n : ℕ). Story (next ≤ n) n (acts stream_of n trace) (parcels n rest) (jobs_at jobs n) (parcels n (down ++ y ∷ [])) (kept n)) same
-        (refers_here (next ≤ k) k (acts stream_of k trace) x (parcels k rest) (jobs_at jobs k) (parcels k down) (parcels k (down ++ y ∷ [])) (kept k) r y own told (parcels-push_own k y down told.stream))
-    | inr e ↦ elsewhere (next ≤ i) (next ≤ i) i _ _ _ _ _ _ _ _ _ _ (story i) (λ z. z) refl (sym (parcels-cons_other i x rest e)) refl
-        (parcels-push_other i y down (λ same. e (at ∙ sym told.stream ∙ same))) refl
-  ]
-
-  -- it can't
-  leaves_up : (x : Flying) (rest down : List Flying) (next : ℕ) (kept : ℕ → Option Call) (jobs : List ActiveJob) (k : ℕ) → x.frame.message.header.stream_id ≡ k
-      → (story : Stories stream_of trace (x ∷ rest) down next jobs kept)
-      → (own : Story (next ≤ k) k (acts stream_of k trace) (x ∷ parcels k rest) (jobs_at jobs k) (parcels k down) (kept k)) → Stories stream_of trace rest down next jobs kept
-  leaves_up x rest down next kept jobs k at story own = λ i. elim (cases_eq x.frame.message.header.stream_id i) [
-    | inl e ↦
-        let same : k ≡ i = sym at ∙ e in
-        subst (λ (n : ℕ). Story (next ≤ n) n (acts stream_of n trace) (parcels n rest) (jobs_at jobs n) (parcels n down) (kept n)) same
-        (leaves_out_here (next ≤ k) k (acts stream_of k trace) x (parcels k rest) (jobs_at jobs k) (parcels k down) (kept k) own)
-    | inr e ↦ elsewhere (next ≤ i) (next ≤ i) i _ _ _ _ _ _ _ _ _ _ (story i) (λ z. z) refl (sym (parcels-cons_other i x rest e)) refl refl refl
-  ]
+  -- the frame is gone: the story that it is of turns, and the others stay
+  turns_up : (x : Flying) (rest down down2 : List Flying) (next : ℕ) (kept : ℕ → Option Call) (old new : List ActiveJob) → Stories stream_of trace (x ∷ rest) down next old kept
+      → (let k : ℕ = x.frame.message.header.stream_id in Story (next ≤ k) k (acts stream_of k trace) (parcels k rest) (jobs_at new k) (parcels k down2) (kept k))
+      → ((i : ℕ) → x.frame.message.header.stream_id ≢ i → (jobs_at new i ≡ jobs_at old i) × (parcels i down2 ≡ parcels i down)) → Stories stream_of trace rest down2 next new kept
+  turns_up x rest down down2 next kept old new story here others =
+      at_one (λ (n : ℕ). Story (next ≤ n) n (acts stream_of n trace) (parcels n rest) (jobs_at new n) (parcels n down2) (kept n)) x.frame.message.header.stream_id here
+      (λ i e. let o = others i e in elsewhere (next ≤ i) (next ≤ i) i _ _ _ _ _ _ _ _ _ _ (story i) (λ y. y) refl (sym (parcels-cons_other i x rest e)) o.0 o.1 refl)
 
   -- what a row makes of the request
   by_row : (b : Bool) (x : Flying) (rest down : List Flying) (next : ℕ) (kept : ℕ → Option Call) (old new : Scene Server SO SI) (sent : List Sent)
@@ -156,26 +125,36 @@ module _ {CO CI SO SI : Type 0} (c : Halves CO CI) (s : Halves SO SI) (stream_of
       else Tells (status_response INVALID_ARGUMENT (path_text (arriving _ _ _ x _ _ _ _ own).request.service (arriving _ _ _ x _ _ _ _ own).request.method))) old.state old.outbox.half x.frame.message.header sent new.state
       → ComesUp c s stream_of trace rest down next kept old new
   by_row true x rest down next kept old new sent stories known sends own m =
-      let request = (arriving _ _ _ x _ _ _ _ own).request in
-      let job = new_job (old.state.jobs.last + 1) x.frame.message.header request in
-      let is : new.state.jobs.list ≡ old.state.jobs.list ++ job ∷ [] = ap (λ (t : Server). t.jobs.list) m.0 in
+      let k : ℕ = x.frame.message.header.stream_id in
+      let a = arriving _ _ _ x _ _ _ _ own in
+      let jobs : List ActiveJob = old.state.jobs.list in
+      let job = new_job (old.state.jobs.last + 1) x.frame.message.header a.request in
+      let is : new.state.jobs.list ≡ jobs ++ job ∷ [] = ap (λ (t : Server). t.jobs.list) m.0 in
       quiet_comes rest down next kept old new (none_sent s.out old.outbox sent new.outbox m.1 sends)
-      (makes_up x rest down next kept old.state.jobs.list new.state.jobs.list x.frame.message.header.stream_id (old.state.jobs.last + 1) refl stories own is)
-      (subst (λ (js : List ActiveJob). AreKnown stream_of js) (sym is) (known_more stream_of old.state.jobs.list job request refl known))
+      (turns_up x rest down down next kept jobs new.state.jobs.list stories
+      (arrives_here _ k _ x _ _ _ _ _ job own (record { request = refl; stream = refl; within = a.is_sent.within }) (ap (λ js. jobs_at js k) is ∙ jobs-push_own k job jobs refl))
+      (λ i e. (ap (λ js. jobs_at js i) is ∙ jobs-push_other i job jobs e, refl)))
+      (subst (λ (js : List ActiveJob). AreKnown stream_of js) (sym is) (known_more stream_of jobs job a.request refl known))
   by_row false x rest down next kept old new sent stories known sends own p =
       let k : ℕ = x.frame.message.header.stream_id in
-      let request = (arriving _ _ _ x _ _ _ _ own).request in
-      let is_sent = (arriving _ _ _ x _ _ _ _ own).is_sent in
-      let refusal = path_refusal request is_sent.known in
+      let a = arriving _ _ _ x _ _ _ _ own in
+      let refusal = path_refusal a.request a.is_sent.known in
       let jobs : old.state.jobs.list ≡ new.state.jobs.list = ap (λ (t : Server). t.jobs.list) (sym p.0) in
       let same : AreKnown stream_of new.state.jobs.list = subst (λ (js : List ActiveJob). AreKnown stream_of js) jobs known in
       elim p.1 [
         | inl responds ↦
-            let r = sends_response s.out old.outbox k (status_response INVALID_ARGUMENT (path_text request.service request.method)) sent new.outbox (Called request ∷ []) is_sent.within (called_alone request) refusal.is (λ ok. absurd (refusal.never_ok ok)) responds sends in
-            answer_comes rest down next kept old new k (Called request ∷ []) r
-            (subst (λ (js : List ActiveJob). Stories stream_of trace rest (down ++ r.y ∷ []) next js kept) jobs (refers_up x rest down next kept old.state.jobs.list k refl stories own r.r r.y r.is_told)) same
+            let done : List Act = Called a.request ∷ [] in
+            let r = sends_response s.out old.outbox k (status_response INVALID_ARGUMENT (path_text a.request.service a.request.method)) sent new.outbox done a.is_sent.within (called_alone a.request) refusal.is (λ ok. absurd (refusal.never_ok ok)) responds sends in
+            answer_comes rest down next kept old new k done r
+            (subst (λ (js : List ActiveJob). Stories stream_of trace rest (down ++ r.y ∷ []) next js kept) jobs
+            (turns_up x rest down (down ++ r.y ∷ []) next kept old.state.jobs.list old.state.jobs.list stories
+            (refers_here _ k _ x _ _ _ _ _ r.r r.y own r.is_told (parcels-push_own k r.y down r.is_told.stream))
+            (λ i e. (refl, parcels-push_other i r.y down (λ same. e (sym r.is_told.stream ∙ same))))))
+            same
         | inr left ↦ quiet_comes rest down next kept old new (none_sent s.out old.outbox sent new.outbox left.0 sends)
-            (subst (λ (js : List ActiveJob). Stories stream_of trace rest down next js kept) jobs (leaves_up x rest down next kept old.state.jobs.list k refl stories own)) same
+            (subst (λ (js : List ActiveJob). Stories stream_of trace rest down next js kept) jobs
+            (turns_up x rest down down next kept old.state.jobs.list old.state.jobs.list stories (leaves_out_here _ k _ x _ _ _ _ own) (λ i e. (refl, refl))))
+            same
       ]
 
   -- one frame
@@ -228,12 +207,10 @@ module _ {CO CI : Type 0} (c : Halves CO CI) (stream_of : ℕ → ℕ) (trace : 
       ap (λ (plain : List ℕ). landing_of x.frame.message.header (Opened plain)) told.is_told.plain ∙ response_landing_is x.frame.message.header told.r told.is_told.known told.is_told.short told.is_told.type_ in
       let next : new.next ≡ old.next = ap (λ (s : Client). s.next) p.same in
       let young : (i : ℕ) → new.next ≤ i → old.next ≤ i = λ i y. omega (arith, y, next) in
-      λ i. elim (cases_eq k i) [
-        | inl e ↦ subst (λ (n : ℕ). Story (new.next ≤ n) n (acts stream_of n trace) (parcels n up) (jobs_at jobs n) (parcels n rest) (call_at new n)) e
-            (lands_here (old.next ≤ k) (new.next ≤ k) k (acts stream_of k trace) (parcels k up) (jobs_at jobs k) x (parcels k rest) (call_at old k) (call_at new k) own (young k)
-            (subst (λ (l : Landing). LandsOn l (call_at old k) (call_at new k)) landing p.lands.own))
-        | inr e ↦ elsewhere (old.next ≤ i) (new.next ≤ i) i _ _ _ _ _ _ _ _ _ _ (stories i) (young i) refl refl refl (sym (parcels-cons_other i x rest e)) (p.lands.others i (λ same. e (sym same)))
-      ]
+      at_one (λ (n : ℕ). Story (new.next ≤ n) n (acts stream_of n trace) (parcels n up) (jobs_at jobs n) (parcels n rest) (call_at new n)) k
+      (lands_here (old.next ≤ k) (new.next ≤ k) k (acts stream_of k trace) (parcels k up) (jobs_at jobs k) x (parcels k rest) (call_at old k) (call_at new k) own (young k)
+      (subst (λ (l : Landing). LandsOn l (call_at old k) (call_at new k)) landing p.lands.own))
+      (λ i e. elsewhere (old.next ≤ i) (new.next ≤ i) i _ _ _ _ _ _ _ _ _ _ (stories i) (young i) refl refl refl (sym (parcels-cons_other i x rest e)) (p.lands.others i (λ same. e (sym same))))
 
   pub feeds_down : (now : ℕ) (front up rest : List Flying) (jobs : List ActiveJob) (old new : Scene Client CO CI)
       → ActsOn (calling c.out c.in_) now old front new → Stories stream_of trace up (front ++ rest) old.state.next jobs (call_at old.state)

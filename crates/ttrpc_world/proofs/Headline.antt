@@ -1,5 +1,5 @@
 -- THE HEADLINE, for any run from a fresh start: each step keeps the invariant, and the invariant has the headline in it.
-use Rattle.std.proofs.Common.{◌≡◌, ℕ, List, [], ◌∷◌, ◌++◌, Bool, false, Some, None, refl, sym, ap, subst, inl, inr, append_assoc}
+use Rattle.std.proofs.Common.{rules, ◌≡◌, ℕ, List, [], ◌∷◌, ◌++◌, Bool, false, Some, refl, sym, ap, subst, inl, inr, append_assoc}
 use Rattle.std.proofs.lemmas.List.{append-nil}
 use Rattle.ttrpc_connection.specs.declared.failure.Failure.TheVariants.{Told}
 use Rattle.ttrpc_server.specs.declared.server.ServerCore.{ServerCore}
@@ -10,9 +10,9 @@ use Rattle.ttrpc_flight.proofs.Bytes.{none_in_flight}
 use Rattle.ttrpc_flight.proofs.Seals.{none_linked}
 use Rattle.ttrpc_world.specs.declared.events.Side.TheVariants as side
 use Rattle.ttrpc_world.specs.declared.events.Event.{Event}
-use Rattle.ttrpc_world.specs.declared.events.Event.TheVariants.{Call, Open, Outcome, Recv, Send, Close, DropCall, DropReceiver, DropSender, Take, Answer, Respond, Finish, EndStream, Drain, Tick, Carry, Deliver, Cut, Fail}
+use Rattle.ttrpc_world.specs.declared.events.Event.TheVariants.{Call, Outcome, DropCall, Take, Answer, Tick, Carry, Deliver, Cut, Fail}
 use Rattle.ttrpc_world.specs.declared.events.Reply.{Reply}
-use Rattle.ttrpc_world.specs.declared.events.Reply.TheVariants.{Named, Outcome as Given, Handed, Done, Count, Refused, NoMemory, NoStep}
+use Rattle.ttrpc_world.specs.declared.events.Reply.TheVariants.{Named, Outcome as Given, Handed, Done, Count, Refused}
 use Rattle.ttrpc_world.specs.declared.events.Entry.{Entry}
 use Rattle.ttrpc_world.specs.Net.{Halves, Net, IsFresh}
 use Rattle.ttrpc_world.specs.Steps.{Runs, Steps, failed_by_hand}
@@ -21,8 +21,7 @@ use Rattle.ttrpc_world.proofs.Stages.{Ends, Unborn, exactly_once}
 use Rattle.ttrpc_world.proofs.Delivers.{AreKnown}
 use Rattle.ttrpc_world.proofs.Traces.{with_entry}
 use Rattle.ttrpc_world.proofs.Keeps.{Keeps, keeps_ask, keeps_call, keeps_drop, keeps_still, keeps_tick}
-use Rattle.ttrpc_world.proofs.Serves.{keeps_answer, keeps_hand}
-use Rattle.ttrpc_world.proofs.Moves.{break_down, break_up, carry_down, carry_up, client_fails, cut_down, cut_up, deliver_down, deliver_up, server_fails}
+use Rattle.ttrpc_world.proofs.Moves.{break_down, break_up, carry_down, carry_up, client_fails, cut_down, cut_up, deliver_down, deliver_up, keeps_answer, keeps_hand, server_fails}
 
 module _ {CO CI SO SI : Type 0} (c : Halves CO CI) (s : Halves SO SI) (seals : Bool) (still : seals ≡ false → (from to : CO) (plain aad sealed : List ℕ) → c.out.seals from plain aad sealed to → to ≡ from)
     (stream_of : ℕ → ℕ) where
@@ -43,26 +42,19 @@ module _ {CO CI SO SI : Type 0} (c : Halves CO CI) (s : Halves SO SI) (seals : B
 
   -- EACH STEP KEEPS IT.
   keeps : (trace : List Entry) (w : Net CO CI SO SI) (event : Event) (reply : Reply) (v : Net CO CI SO SI) → Kept trace w → IsRightAt stream_of event reply → Steps c s seals w event reply v → Kept (with_entry trace event reply) v
-  keeps trace w (Call request) (Named id) v i r p = along _ _ v p.only (keeps_call c s seals still stream_of trace w request id v i p)
-  keeps trace w (Call request) (Refused told) v i r p = same trace w (Call request) (Refused told) v (λ k. refl) i p.1
-  keeps trace w (Outcome id) (Given outcome) v i r p = along _ _ v p.only (keeps_ask c s seals still stream_of trace w id outcome v i p)
+  keeps trace w (Call request) (Named id) v i r p = along _ _ v p.2 (keeps_call c s seals still stream_of trace w request id v i p.0 p.1)
+  keeps trace w (Outcome id) (Given outcome) v i r p = along _ _ v p.1 (keeps_ask c s seals still stream_of trace w id outcome v i p.0)
   keeps trace w (DropCall id) Done v i r p = along _ _ v p.only (keeps_drop c s seals still stream_of trace w id v i p)
-  keeps trace w Take (Handed (Some job)) v i r p = along _ _ v p.only (keeps_hand c s seals stream_of trace w job v r i p)
-  keeps trace w Take (Handed None) v i r p = same trace w Take (Handed None) v (λ k. refl) i p.same
-  keeps trace w (Answer id result) Done v i r p = along _ _ v p.only (keeps_answer c s seals stream_of trace w id result v.server i p.does)
-  keeps trace w (Answer id result) (Refused told) v i r p = same trace w (Answer id result) (Refused told) v (λ k. refl) i p.1
-  keeps trace w (Answer id result) NoStep v i r p = same trace w (Answer id result) NoStep v (λ k. refl) i p.1
+  keeps trace w Take (Handed (Some job)) v i r p = along _ _ v p.1 (keeps_hand c s seals stream_of trace w job v r i p.0)
+  keeps trace w (Answer id result) Done v i r p = along _ _ v p.1 (keeps_answer c s seals stream_of trace w id result v.server i p.0)
   keeps trace w (Tick now) Done v i r p = along _ _ v p.only (keeps_tick c s seals still stream_of trace w now v i p)
-  keeps trace w (Tick now) NoStep v i r p = same trace w (Tick now) NoStep v (λ k. refl) i p.1
   keeps trace w (Carry side.Client n) (Count k) v i r p = carry_up c s seals stream_of _ w n k v (quietly trace w (Carry side.Client n) (Count k) (λ j. refl) i) p
-  keeps trace w (Carry side.Client n) NoMemory v i r p = same trace w (Carry side.Client n) NoMemory v (λ k. refl) i p
   keeps trace w (Carry side.Server n) (Count k) v i r p = carry_down c s seals stream_of _ w n k v (quietly trace w (Carry side.Server n) (Count k) (λ j. refl) i) p
-  keeps trace w (Carry side.Server n) NoMemory v i r p = same trace w (Carry side.Server n) NoMemory v (λ k. refl) i p
   keeps trace w (Deliver side.Server n) (Count k) v i r p = deliver_up c s seals stream_of _ w n k v (quietly trace w (Deliver side.Server n) (Count k) (λ j. refl) i) p
-  keeps trace w (Deliver side.Server n) (Refused told) v i r (inl p) = break_up c s seals stream_of _ w n told v (quietly trace w (Deliver side.Server n) (Refused told) (λ j. refl) i) p
+  keeps trace w (Deliver side.Server n) (Refused told) v i r (inl p) = break_up c s seals stream_of _ w n told v (quietly trace w (Deliver side.Server n) (Refused told) (λ j. refl) i) p.0 p.1
   keeps trace w (Deliver side.Server n) (Refused told) v i r (inr p) = same trace w (Deliver side.Server n) (Refused told) v (λ k. refl) i p.1
   keeps trace w (Deliver side.Client n) (Count k) v i r p = deliver_down c s seals stream_of _ w n k v (quietly trace w (Deliver side.Client n) (Count k) (λ j. refl) i) p
-  keeps trace w (Deliver side.Client n) (Refused told) v i r (inl p) = break_down c s seals stream_of _ w n told v (quietly trace w (Deliver side.Client n) (Refused told) (λ j. refl) i) p
+  keeps trace w (Deliver side.Client n) (Refused told) v i r (inl p) = break_down c s seals stream_of _ w n told v (quietly trace w (Deliver side.Client n) (Refused told) (λ j. refl) i) p.0 p.1
   keeps trace w (Deliver side.Client n) (Refused told) v i r (inr p) = same trace w (Deliver side.Client n) (Refused told) v (λ k. refl) i p.1
   keeps trace w (Cut side.Server keep) Done v i r p = cut_up c s seals stream_of _ w keep v (quietly trace w (Cut side.Server keep) Done (λ k. refl) i) p
   keeps trace w (Cut side.Client keep) Done v i r p = cut_down c s seals stream_of _ w keep v (quietly trace w (Cut side.Client keep) Done (λ k. refl) i) p
@@ -70,18 +62,7 @@ module _ {CO CI SO SI : Type 0} (c : Halves CO CI) (s : Halves SO SI) (seals : B
       along _ _ v p (client_fails c s seals stream_of (with_entry trace (Fail side.Client) Done) w (Told failed_by_hand) (quietly trace w (Fail side.Client) Done (λ k. refl) i))
   keeps trace w (Fail side.Server) Done v i r p =
       along _ _ v p (server_fails c s seals stream_of (with_entry trace (Fail side.Server) Done) w (Told failed_by_hand) (quietly trace w (Fail side.Server) Done (λ k. refl) i))
-  keeps trace w (Fail at) NoMemory v i r p = same trace w (Fail at) NoMemory v (λ k. refl) i p
-  keeps trace w (Open request up down) NoStep v i r p = same trace w (Open request up down) NoStep v (λ k. refl) i p
-  keeps trace w (Recv at id) NoStep v i r p = same trace w (Recv at id) NoStep v (λ k. refl) i p
-  keeps trace w (Send at id bytes) NoStep v i r p = same trace w (Send at id bytes) NoStep v (λ k. refl) i p
-  keeps trace w (Close id) NoStep v i r p = same trace w (Close id) NoStep v (λ k. refl) i p
-  keeps trace w (DropReceiver at id) NoStep v i r p = same trace w (DropReceiver at id) NoStep v (λ k. refl) i p
-  keeps trace w (DropSender id) NoStep v i r p = same trace w (DropSender id) NoStep v (λ k. refl) i p
-  keeps trace w (Respond id response) NoStep v i r p = same trace w (Respond id response) NoStep v (λ k. refl) i p
-  keeps trace w (Finish id) NoStep v i r p = same trace w (Finish id) NoStep v (λ k. refl) i p
-  keeps trace w (EndStream id result) NoStep v i r p = same trace w (EndStream id result) NoStep v (λ k. refl) i p
-  keeps trace w Drain NoStep v i r p = same trace w Drain NoStep v (λ k. refl) i p
-  keeps trace w event reply v i r p = absurd p
+  keeps trace w event reply v i r p = same trace w event reply v (λ k. refl) i (first_of (assumption, cc, search rules))
 
   keeps_all : (before rest : List Entry) (w v : Net CO CI SO SI) → Kept before w → IsStreamOf stream_of rest → Runs c s seals w rest v → Kept (before ++ rest) v
   keeps_all before [] w v i r p = subst (λ (t : List Entry). Keeps c s stream_of t v) (sym (append-nil before)) (along before w v p i)

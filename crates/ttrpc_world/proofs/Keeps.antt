@@ -5,6 +5,7 @@ use Rattle.std.specs.List.{AllByRecursion}
 use Rattle.ttrpc_error.specs.declared.error.Error.{Error}
 use Rattle.ttrpc_proto.specs.declared.request.Request.{Request}
 use Rattle.ttrpc_proto.specs.declared.response.Response.{Response}
+use Rattle.ttrpc_proto.specs.Messages.{IsRequest}
 use Rattle.ttrpc_frame.specs.Frames.{Held}
 use Rattle.ttrpc_frame.specs.Queue.{Queue}
 use Rattle.ttrpc_connection.specs.declared.connection.Connection.{Connection}
@@ -18,7 +19,7 @@ use Rattle.ttrpc_client.specs.declared.kind.ClientKind.TheVariants.{Sync, Async}
 use Rattle.ttrpc_client.specs.declared.client.ClientCore.{ClientCore}
 use Rattle.ttrpc_client.specs.Client.{Client, deadline_of, throws}
 use Rattle.ttrpc_client.specs.Client as client
-use Rattle.ttrpc_client.specs.Happens.{Ticks, due_at, forgotten, taken_back, takes_back}
+use Rattle.ttrpc_client.specs.Happens.{Requests, Tells, Ticks, due_at, forgotten, taken_back, takes_back}
 use Rattle.ttrpc_client.specs.Calls.{Passes}
 use Rattle.ttrpc_flight.specs.Flight.{Flying, AreInFlight, AreLinked, IsOwnRequest, parcels}
 use Rattle.ttrpc_flight.proofs.Bytes.{placed_in_flight}
@@ -32,12 +33,12 @@ use Rattle.ttrpc_world.specs.declared.events.Reply.TheVariants.{Named, Outcome a
 use Rattle.ttrpc_world.specs.declared.events.Entry.{Entry}
 use Rattle.ttrpc_world.specs.Pipes.{Pipe}
 use Rattle.ttrpc_world.specs.Net.{Halves, Net, with_client}
-use Rattle.ttrpc_world.specs.Steps.{Asks, Calls, Forgot, Ticked}
+use Rattle.ttrpc_world.specs.Steps.{Forgot, Ticked}
 use Rattle.ttrpc_world.specs.Story.{Called, act_of, acts}
 use Rattle.ttrpc_world.proofs.Stages.{Story}
 use Rattle.ttrpc_world.proofs.Turns.{asks_here, calls_here, drops_here, elsewhere, expires_here, one_up, thrown_here}
 use Rattle.ttrpc_world.proofs.Payloads.{sends_request}
-use Rattle.ttrpc_world.proofs.Delivers.{AreKnown, Stories}
+use Rattle.ttrpc_world.proofs.Delivers.{AreKnown, Stories, at_one}
 use Rattle.ttrpc_world.proofs.Traces.{asked, heard, stories_silent, unasked, unheard, with_entry}
 use Rattle.ttrpc_world.proofs.Throws.{AreSingle, InFlight, Stays, Thrown, back_stays, some_thrown}
 
@@ -102,29 +103,26 @@ module _ {CO CI SO SI : Type 0} (c : Halves CO CI) (s : Halves SO SI) (seals : B
   }
 
   -- A call is accepted.
-  pub keeps_call : (w : Net CO CI SO SI) (request : Request) (id : ℕ) (v : Net CO CI SO SI) → Keeps c s stream_of trace w → Calls c s seals w request id v → Keeps c s stream_of (with_entry trace (CallEvent request) (Named id)) (with_client w v.client)
-  keeps_call w request id v i p =
-      let r = sends_request c.out w.client request w.moment id v.client p.known p.does in
-      let next : v.client.state.next ≡ id + 2 = ap (λ (x : ClientCore CO CI). x.state.next) p.does.same in
+  pub keeps_call : (w : Net CO CI SO SI) (request : Request) (id : ℕ) (v : Net CO CI SO SI) → Keeps c s stream_of trace w → IsRequest request → Requests c.out w.client request w.moment id v.client → Keeps c s stream_of (with_entry trace (CallEvent request) (Named id)) (with_client w v.client)
+  keeps_call w request id v i known p =
+      let r = sends_request c.out w.client request w.moment id v.client known p in
+      let next : v.client.state.next ≡ id + 2 = ap (λ (x : ClientCore CO CI). x.state.next) p.same in
       let deadline = deadline_of w.moment request.timeout_nano in
       record {
         up = i.up ++ r.x ∷ [];
         down = i.down;
-        stories = λ k. elim (cases_eq id k) [
-          | inl e ↦
-              subst (λ (n : ℕ). Story (v.client.state.next ≤ n) n (acts stream_of n (with_entry trace (CallEvent request) (Named id))) (parcels n (i.up ++ r.x ∷ [])) (server.jobs_at w.server.state.jobs.list n) (parcels n i.down) (client.call_at v.client.state n)) e
-              (calls_here (w.client.state.next ≤ id) (v.client.state.next ≤ id) id _ _ _ _ _ _ _ _ request r.x deadline (i.stories id) (omega (arith, p.does.id_is)) (λ y. absurd (let no : ⊥ = omega (arith, y, next) in no)) r.is_sent
-              (heard stream_of id id trace (CallEvent request) (Named id) (Called request) refl refl) (parcels-push_own id r.x i.up r.is_sent.stream) p.does.own)
-          | inr e ↦ elsewhere (w.client.state.next ≤ k) (v.client.state.next ≤ k) k _ _ _ _ _ _ _ _ _ _ (i.stories k) (λ y. omega (arith, y, next, p.does.id_is))
-              (unheard stream_of k id trace (CallEvent request) (Named id) (Called request) refl e) (parcels-push_other k r.x i.up (λ same. e (sym r.is_sent.stream ∙ same))) refl refl (p.does.others k (λ same. e (sym same)))
-        ];
+        stories = at_one (λ (n : ℕ). Story (v.client.state.next ≤ n) n (acts stream_of n (with_entry trace (CallEvent request) (Named id))) (parcels n (i.up ++ r.x ∷ [])) (server.jobs_at w.server.state.jobs.list n) (parcels n i.down) (client.call_at v.client.state n)) id
+            (calls_here (w.client.state.next ≤ id) (v.client.state.next ≤ id) id _ _ _ _ _ _ _ _ request r.x deadline (i.stories id) (omega (arith, p.id_is)) (λ y. absurd (let no : ⊥ = omega (arith, y, next) in no)) r.is_sent
+            (heard stream_of id id trace (CallEvent request) (Named id) (Called request) refl refl) (parcels-push_own id r.x i.up r.is_sent.stream) p.own)
+            (λ k e. elsewhere (w.client.state.next ≤ k) (v.client.state.next ≤ k) k _ _ _ _ _ _ _ _ _ _ (i.stories k) (λ y. omega (arith, y, next, p.id_is))
+            (unheard stream_of k id trace (CallEvent request) (Named id) (Called request) refl e) (parcels-push_other k r.x i.up (λ same. e (sym r.is_sent.stream ∙ same))) refl refl (p.others k (λ same. e (sym same))));
         known = i.known;
         own = all_joined IsOwnRequest i.up (r.x ∷ []) i.own (r.own, tt);
         up_bytes = λ alive. placed w.server.connection.decoder w.up w.client.connection.outbox.queue i.up r.x v.client.connection.outbox.queue (i.up_bytes alive)
             (λ transit queued a. subst (λ (q : Queue). AreInFlight w.server.connection.decoder w.up.bytes w.up.cut q transit (queued ++ r.x ∷ [])) (sym r.queue) (placed_in_flight w.server.connection.decoder w.up.bytes w.up.cut w.client.connection.outbox.queue transit queued r.x r.sound a));
-        down_bytes = λ alive. subst (λ (h : Held). InFlight h w.down w.server.connection.outbox.queue i.down) (sym (ap (λ (x : ClientCore CO CI). x.connection.decoder) p.does.same)) (i.down_bytes p.does.alive);
+        down_bytes = λ alive. subst (λ (h : Held). InFlight h w.down w.server.connection.outbox.queue i.down) (sym (ap (λ (x : ClientCore CO CI). x.connection.decoder) p.same)) (i.down_bytes p.alive);
         up_linked = λ alive. more_linked c.out.seals s.in_.opens s.in_.refuses i.up w.client.connection.outbox.half w.server.connection.inbound r.x v.client.connection.outbox.half (i.up_linked alive) r.seal;
-        down_linked = λ alive. subst (λ (t : CI). AreLinked s.out.seals c.in_.opens c.in_.refuses i.down w.server.connection.outbox.half t) (sym (ap (λ (x : ClientCore CO CI). x.connection.inbound) p.does.same)) (i.down_linked p.does.alive);
+        down_linked = λ alive. subst (λ (t : CI). AreLinked s.out.seals c.in_.opens c.in_.refuses i.down w.server.connection.outbox.half t) (sym (ap (λ (x : ClientCore CO CI). x.connection.inbound) p.same)) (i.down_linked p.alive);
       }
 
   abbrev Left : Net CO CI SO SI → Queue → List Flying → Type 0
@@ -165,17 +163,14 @@ module _ {CO CI SO SI : Type 0} (c : Halves CO CI) (s : Halves SO SI) (seals : B
   single w i = λ k. one_up (w.client.state.next ≤ k) k (acts stream_of k trace) (parcels k i.up) (server.jobs_at w.server.state.jobs.list k) (parcels k i.down) (client.call_at w.client.state k) (i.stories k)
 
   -- An outcome is asked for.
-  pub keeps_ask : (w : Net CO CI SO SI) (id : ℕ) (given : Option (Result Response Error)) (v : Net CO CI SO SI) → Keeps c s stream_of trace w → Asks c s seals w id given v → Keeps c s stream_of (with_entry trace (Outcome id) (Given given)) (with_client w v.client)
+  pub keeps_ask : (w : Net CO CI SO SI) (id : ℕ) (given : Option (Result Response Error)) (v : Net CO CI SO SI) → Keeps c s stream_of trace w → Tells w.client id given v.client → Keeps c s stream_of (with_entry trace (Outcome id) (Given given)) (with_client w v.client)
   unfolding same_queue
   keeps_ask w id given v i p =
-      client_changes w (Outcome id) (Given given) v.client i (ap (λ (x : ClientCore CO CI). x.connection.decoder) p.does.same) (ap (λ (x : ClientCore CO CI). x.connection.outbox.half) p.does.same) (ap (λ (x : ClientCore CO CI). x.connection.inbound) p.does.same)
-      (λ alive. sym (ap (λ (x : ClientCore CO CI). x.connection.failure) p.does.same) ∙ alive) (same_queue w v.client.connection.outbox.queue i (ap (λ (x : ClientCore CO CI). x.connection.outbox.queue) p.does.same))
-      (λ stories k. elim (cases_eq id k) [
-        | inl e ↦
-            subst (λ (n : ℕ). Story (v.client.state.next ≤ n) n (acts stream_of n (with_entry trace (Outcome id) (Given given))) (parcels n i.up) (server.jobs_at w.server.state.jobs.list n) (parcels n i.down) (client.call_at v.client.state n)) e
-            (asks_here (w.client.state.next ≤ id) (v.client.state.next ≤ id) id _ _ _ _ _ w.client.connection.failure _ _ given (stories id) (λ y. omega (arith, y, ap (λ (x : ClientCore CO CI). x.state.next) p.does.same)) p.does.gives p.does.own (asked stream_of id id trace given refl))
-        | inr e ↦ elsewhere (w.client.state.next ≤ k) (v.client.state.next ≤ k) k _ _ _ _ _ _ _ _ _ _ (stories k) (λ y. omega (arith, y, ap (λ (x : ClientCore CO CI). x.state.next) p.does.same)) (unasked stream_of k id trace given e) refl refl refl (p.does.others k (λ same. e (sym same)))
-      ])
+      client_changes w (Outcome id) (Given given) v.client i (ap (λ (x : ClientCore CO CI). x.connection.decoder) p.same) (ap (λ (x : ClientCore CO CI). x.connection.outbox.half) p.same) (ap (λ (x : ClientCore CO CI). x.connection.inbound) p.same)
+      (λ alive. sym (ap (λ (x : ClientCore CO CI). x.connection.failure) p.same) ∙ alive) (same_queue w v.client.connection.outbox.queue i (ap (λ (x : ClientCore CO CI). x.connection.outbox.queue) p.same))
+      (λ stories. at_one (λ (n : ℕ). Story (v.client.state.next ≤ n) n (acts stream_of n (with_entry trace (Outcome id) (Given given))) (parcels n i.up) (server.jobs_at w.server.state.jobs.list n) (parcels n i.down) (client.call_at v.client.state n)) id
+      (asks_here (w.client.state.next ≤ id) (v.client.state.next ≤ id) id _ _ _ _ _ w.client.connection.failure _ _ given (stories id) (λ y. omega (arith, y, ap (λ (x : ClientCore CO CI). x.state.next) p.same)) p.gives p.own (asked stream_of id id trace given refl))
+      (λ k e. elsewhere (w.client.state.next ≤ k) (v.client.state.next ≤ k) k _ _ _ _ _ _ _ _ _ _ (stories k) (λ y. omega (arith, y, ap (λ (x : ClientCore CO CI). x.state.next) p.same)) (unasked stream_of k id trace given e) refl refl refl (p.others k (λ same. e (sym same)))))
 
   -- Requests are taken back, where they may be.
   back_throws : (w : Net CO CI SO SI) (ids : ℕ → Bool) (b : Bool) (why : Failure) → (b ≡ true → throws w.client.state.kind seals ≡ true) → (i : Keeps c s stream_of trace w)

@@ -5,10 +5,7 @@ pub mod Delivers
 pub mod Traces
 pub mod Throws
 pub mod Keeps
-pub mod Serves
 pub mod Moves
 pub mod Headline
 pub mod Streams
-pub mod Pieces
-pub mod Runs
 pub mod Replies

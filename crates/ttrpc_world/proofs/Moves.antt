@@ -1,5 +1,5 @@
--- Each event that moves bytes, cuts a pipe or fails a side keeps the invariant.
-use Rattle.std.proofs.Common.{◌≡◌, ◌≢◌, ℕ, zero, suc, ◌≤◌, List, [], ◌∷◌, ◌++◌, length, take, drop, map, min, Bool, true, false, Option, Some, None, refl, sym, ap, ◌∙◌, subst, ◌⊎◌, inl, inr, arith, append_assoc, take-append-drop}
+-- Each event that moves bytes, cuts a pipe or fails a side, and each of the server, keeps the invariant.
+use Rattle.std.proofs.Common.{◌≡◌, ◌≢◌, ℕ, zero, suc, ◌≤◌, List, [], ◌∷◌, ◌++◌, length, take, drop, map, min, Bool, true, false, Option, Some, None, refl, sym, ap, ◌∙◌, subst, ◌⊎◌, inl, inr, arith, append_assoc, take-append-drop, Result, Ok, Err}
 use Rattle.std.specs.List.{AllByRecursion}
 use Rattle.ttrpc_error.specs.declared.error.Error.{Error}
 use Rattle.ttrpc_frame.specs.declared.frame.Incoming.{Incoming}
@@ -7,28 +7,44 @@ use Rattle.ttrpc_frame.specs.Frames.{Fed, Held, given, nothing}
 use Rattle.ttrpc_frame.specs.Queue.{Queue, after_report, open_part, with_lent}
 use Rattle.ttrpc_connection.specs.declared.connection.Connection.{Connection}
 use Rattle.ttrpc_connection.specs.declared.failure.Failure.{Failure}
-use Rattle.ttrpc_connection.specs.declared.failure.Failure.TheVariants.{Disconnected, DisconnectedInside}
+use Rattle.ttrpc_connection.specs.declared.failure.Failure.TheVariants.{Disconnected, DisconnectedInside, HandlerError}
 use Rattle.ttrpc_connection.specs.declared.outbox.Outbox.{Outbox}
 use Rattle.ttrpc_connection.specs.Failure.{kept}
 use Rattle.ttrpc_connection.specs.Feeds.{ActsAll, Scene, scene}
 use Rattle.ttrpc_server.specs.declared.server.ServerCore.{ServerCore}
-use Rattle.ttrpc_server.specs.Happens.{serving}
+use Rattle.ttrpc_server.specs.Happens.{Hands, serving, Answers, Drops}
 use Rattle.ttrpc_server.specs.Server.{Server}
 use Rattle.ttrpc_client.specs.declared.client.ClientCore.{ClientCore}
 use Rattle.ttrpc_client.specs.Client.{Client, call_at}
 use Rattle.ttrpc_client.specs.Happens.{calling}
-use Rattle.ttrpc_flight.specs.Flight.{Flying, AreLinked, IsOwnRequest, arrived}
+use Rattle.ttrpc_flight.specs.Flight.{Flying, AreLinked, IsOwnRequest, arrived, AreInFlight, parcels}
 use Rattle.ttrpc_flight.proofs.Acting.{act_as_sent}
-use Rattle.ttrpc_flight.proofs.Bytes.{carried_in_flight, cut_in_flight, fed_in_flight}
+use Rattle.ttrpc_flight.proofs.Bytes.{carried_in_flight, cut_in_flight, fed_in_flight, placed_in_flight}
 use Rattle.ttrpc_flight.proofs.Losing.{all_behind}
 use Rattle.ttrpc_world.specs.declared.events.Entry.{Entry}
 use Rattle.ttrpc_world.specs.Pipes.{Pipe, is_over}
 use Rattle.ttrpc_world.specs.Net.{Halves, Net, with_client, with_server}
-use Rattle.ttrpc_world.specs.Steps.{BreaksDown, BreaksUp, CarriesDown, CarriesUp, CutsDown, CutsUp, DeliversDown, DeliversUp, Hears, InputEnds, carried, cut_to, failed, lent_of, taken_from}
-use Rattle.ttrpc_world.proofs.Delivers.{AreKnown, Stories, feeds_down, feeds_up}
+use Rattle.ttrpc_world.specs.Steps.{BreaksAt, OnlyClient, OnlyServer, CarriesDown, CarriesUp, CutsDown, CutsUp, DeliversDown, DeliversUp, Hears, InputEnds, carried, cut_to, failed, after_carry, lent_of, taken_from, AnswersBy}
+use Rattle.ttrpc_world.proofs.Delivers.{AreKnown, Stories, feeds_down, feeds_up, at_one, jobs-append, jobs-cons_other, jobs-cons_own}
 use Rattle.ttrpc_world.proofs.Throws.{InFlight, not_both}
-use Rattle.ttrpc_world.proofs.Keeps.{Keeps}
-use Rattle.ttrpc_world.proofs.Turns.{no_cons}
+use Rattle.ttrpc_world.proofs.Keeps.{Keeps, placed}
+use Rattle.ttrpc_world.proofs.Turns.{no_cons, answers_here, elsewhere, fails_here, is_running, takes_here}
+use Rattle.ttrpc_proto.specs.declared.request.Request.{Request}
+use Rattle.ttrpc_proto.specs.declared.response.Response.{Response}
+use Rattle.ttrpc_proto.specs.Messages.{IsResponse}
+use Rattle.ttrpc_server.specs.declared.job.ActiveJob.{ActiveJob}
+use Rattle.ttrpc_server.specs.declared.job.Job.{Job}
+use Rattle.ttrpc_server.specs.Jobs.{jobs_at}
+use Rattle.ttrpc_flight.proofs.Parcels.{parcels-push_other, parcels-push_own}
+use Rattle.ttrpc_flight.proofs.Seals.{more_linked}
+use Rattle.ttrpc_world.specs.declared.events.Event.{Event}
+use Rattle.ttrpc_world.specs.declared.events.Event.TheVariants.{Take, Answer}
+use Rattle.ttrpc_world.specs.declared.events.Reply.{Reply}
+use Rattle.ttrpc_world.specs.declared.events.Reply.TheVariants.{Handed, Done}
+use Rattle.ttrpc_world.specs.Story.{Act, Answered, Ran, acts}
+use Rattle.ttrpc_world.proofs.Stages.{IsAnswerOf, IsDone, Story, whole_work}
+use Rattle.ttrpc_world.proofs.Payloads.{sends_response}
+use Rattle.ttrpc_world.proofs.Traces.{heard, unheard, with_entry}
 
 -- ---- bytes of one way
 
@@ -122,32 +138,33 @@ client_ends old new between inside = elim (held_cases old.connection.decoder) [
 ]
 
 module _ {CO CI SO SI : Type 0} (c : Halves CO CI) (s : Halves SO SI) (seals : Bool) (stream_of : ℕ → ℕ) (trace : List Entry) where
-  -- a side fails
-  pub server_fails : (w : Net CO CI SO SI) (why : Failure) → Keeps c s stream_of trace w → Keeps c s stream_of trace (with_server w (record w.server { connection = failed w.server.connection why }))
-  server_fails w why i = record {
+  -- the states of both cores stay, and what is in flight
+  rewired : (w : Net CO CI SO SI) → (i : Keeps c s stream_of trace w) → (x : Connection CO CI) (y : Connection SO SI) (p q : Pipe)
+      → (y.failure ≡ None → InFlight y.decoder p x.outbox.queue i.up) → (x.failure ≡ None → InFlight x.decoder q y.outbox.queue i.down)
+      → (y.failure ≡ None → AreLinked c.out.seals s.in_.opens s.in_.refuses i.up x.outbox.half y.inbound) → (x.failure ≡ None → AreLinked s.out.seals c.in_.opens c.in_.refuses i.down y.outbox.half x.inbound)
+      → Keeps c s stream_of trace (record { client = record w.client { connection = x }; server = record w.server { connection = y }; up = p; down = q; moment = w.moment })
+  rewired w i x y p q up_bytes down_bytes up_linked down_linked = record {
     up = i.up;
     down = i.down;
     stories = i.stories;
     known = i.known;
     own = i.own;
-    up_bytes = λ alive. absurd (kept_some w.server.connection.failure why alive);
-    down_bytes = i.down_bytes;
-    up_linked = λ alive. absurd (kept_some w.server.connection.failure why alive);
-    down_linked = i.down_linked;
+    up_bytes = up_bytes;
+    down_bytes = down_bytes;
+    up_linked = up_linked;
+    down_linked = down_linked;
   }
 
+  -- a side fails
+  pub server_fails : (w : Net CO CI SO SI) (why : Failure) → Keeps c s stream_of trace w → Keeps c s stream_of trace (with_server w (record w.server { connection = failed w.server.connection why }))
+  server_fails w why i =
+      rewired w i w.client.connection (failed w.server.connection why) w.up w.down
+      (λ alive. absurd (kept_some w.server.connection.failure why alive)) i.down_bytes (λ alive. absurd (kept_some w.server.connection.failure why alive)) i.down_linked
+
   pub client_fails : (w : Net CO CI SO SI) (why : Failure) → Keeps c s stream_of trace w → Keeps c s stream_of trace (with_client w (record w.client { connection = failed w.client.connection why }))
-  client_fails w why i = record {
-    up = i.up;
-    down = i.down;
-    stories = i.stories;
-    known = i.known;
-    own = i.own;
-    up_bytes = i.up_bytes;
-    down_bytes = λ alive. absurd (kept_some w.client.connection.failure why alive);
-    up_linked = i.up_linked;
-    down_linked = λ alive. absurd (kept_some w.client.connection.failure why alive);
-  }
+  client_fails w why i =
+      rewired w i (failed w.client.connection why) w.server.connection w.up w.down
+      i.up_bytes (λ alive. absurd (kept_some w.client.connection.failure why alive)) i.up_linked (λ alive. absurd (kept_some w.client.connection.failure why alive))
 
   -- its input ends, where its pipe is over
   server_hears : (over : Bool) (w : Net CO CI SO SI) (x : Connection SO SI) → Keeps c s stream_of trace w → Hears over w.server.connection x → Keeps c s stream_of trace (with_server w (record w.server { connection = x }))
@@ -164,30 +181,18 @@ module _ {CO CI SO SI : Type 0} (c : Halves CO CI) (s : Halves SO SI) (seals : B
 
   -- Bytes are carried.
   pub carry_up : (w : Net CO CI SO SI) (n k : ℕ) (v : Net CO CI SO SI) → Keeps c s stream_of trace w → CarriesUp c s seals w n k v → Keeps c s stream_of trace v
-  carry_up w n k v i p = subst (λ (x : Net CO CI SO SI). Keeps c s stream_of trace x) (sym p.only) (record {
-    up = i.up;
-    down = i.down;
-    stories = i.stories;
-    known = i.known;
-    own = i.own;
-    up_bytes = λ alive. carries w.server.connection.decoder w.up w.client.connection.outbox.queue i.up k (lent_fits w.client.connection.failure n k w.client.connection.outbox.queue p.count) (i.up_bytes alive);
-    down_bytes = i.down_bytes;
-    up_linked = i.up_linked;
-    down_linked = i.down_linked;
-  })
+  carry_up w n k v i p =
+      let x = w.client.connection in
+      subst (λ (x : Net CO CI SO SI). Keeps c s stream_of trace x) (sym p.only)
+      (rewired w i (after_carry x k) w.server.connection (carried w.up k x.outbox.queue) w.down
+      (λ alive. carries w.server.connection.decoder w.up x.outbox.queue i.up k (lent_fits x.failure n k x.outbox.queue p.count) (i.up_bytes alive)) i.down_bytes i.up_linked i.down_linked)
 
   pub carry_down : (w : Net CO CI SO SI) (n k : ℕ) (v : Net CO CI SO SI) → Keeps c s stream_of trace w → CarriesDown c s seals w n k v → Keeps c s stream_of trace v
-  carry_down w n k v i p = subst (λ (x : Net CO CI SO SI). Keeps c s stream_of trace x) (sym p.only) (record {
-    up = i.up;
-    down = i.down;
-    stories = i.stories;
-    known = i.known;
-    own = i.own;
-    up_bytes = i.up_bytes;
-    down_bytes = λ alive. carries w.client.connection.decoder w.down w.server.connection.outbox.queue i.down k (lent_fits w.server.connection.failure n k w.server.connection.outbox.queue p.count) (i.down_bytes alive);
-    up_linked = i.up_linked;
-    down_linked = i.down_linked;
-  })
+  carry_down w n k v i p =
+      let y = w.server.connection in
+      subst (λ (x : Net CO CI SO SI). Keeps c s stream_of trace x) (sym p.only)
+      (rewired w i w.client.connection (after_carry y k) w.up (carried w.down k y.outbox.queue)
+      i.up_bytes (λ alive. carries w.client.connection.decoder w.down y.outbox.queue i.down k (lent_fits y.failure n k y.outbox.queue p.count) (i.down_bytes alive)) i.up_linked i.down_linked)
 
   -- WHAT FRAMES DO THAT COME TO THE SERVER: the first flights up have acted, and the others are still in flight.
   record ServedUp (w : Net CO CI SO SI) (i : Keeps c s stream_of trace w) (rest : List Flying) (new : Scene Server SO SI) : Type 0 where
@@ -288,9 +293,8 @@ module _ {CO CI SO SI : Type 0} (c : Halves CO CI) (s : Halves SO SI) (seals : B
       (client_hears (is_over (taken_from w.down k)) (record (with_client w (record { state = v.client.state; connection = p.does.mid })) { down = taken_from w.down k }) v.client.connection (deliver_down_mid w n k v i p) p.does.hears)
 
   -- A side fails at bytes that are delivered.
-  pub break_up : (w : Net CO CI SO SI) (n : ℕ) (told : Error) (v : Net CO CI SO SI) → Keeps c s stream_of trace w → BreaksUp c s seals w n told v → Keeps c s stream_of trace v
-  break_up w n told v i p =
-      let f = p.does in
+  pub break_up : (w : Net CO CI SO SI) (n : ℕ) (told : Error) (v : Net CO CI SO SI) → Keeps c s stream_of trace w → BreaksAt (serving s.out s.in_) w.server.state w.server.connection w.up w.moment n told v.server.state v.server.connection → OnlyServer c s seals w v → Keeps c s stream_of trace v
+  break_up w n told v i f only =
       let m : ℕ = min n (length w.up.bytes) in
       let pipe : w.up.bytes ≡ f.taken ++ (f.rest ++ drop m w.up.bytes) =
       sym (take-append-drop m w.up.bytes) ∙ ap (λ xs. xs ++ drop m w.up.bytes) f.piece_is ∙ append_assoc f.taken f.rest (drop m w.up.bytes) in
@@ -300,7 +304,7 @@ module _ {CO CI SO SI : Type 0} (c : Halves CO CI) (s : Halves SO SI) (seals : B
       let all : first.first ++ rest ≡ i.up = sym (append_assoc first.first first.others came_now.rest) ∙ ap (λ xs. xs ++ came_now.rest) first.all ∙ came_now.all in
       let u = served_up w i f.alive w.moment first.first rest all f.mid
       (subst (λ (fs : List Incoming). ActsAll (serving s.out s.in_) w.moment (scene w.server.state w.server.connection) fs f.mid) first.are f.acts) in
-      subst (λ (x : Net CO CI SO SI). Keeps c s stream_of trace x) (sym p.only) (record {
+      subst (λ (x : Net CO CI SO SI). Keeps c s stream_of trace x) (sym only) (record {
         up = rest;
         down = i.down ++ u.more;
         stories = subst (λ (t : Server). Stories stream_of trace rest (i.down ++ u.more) w.client.state.next t.jobs.list (call_at w.client.state)) (sym f.state) u.stories;
@@ -312,9 +316,8 @@ module _ {CO CI SO SI : Type 0} (c : Halves CO CI) (s : Halves SO SI) (seals : B
         down_linked = λ alive. subst (λ (o : Outbox SO). AreLinked s.out.seals c.in_.opens c.in_.refuses (i.down ++ u.more) o.half w.client.connection.inbound) (sym f.outbox) (u.down_linked alive);
       })
 
-  pub break_down : (w : Net CO CI SO SI) (n : ℕ) (told : Error) (v : Net CO CI SO SI) → Keeps c s stream_of trace w → BreaksDown c s seals w n told v → Keeps c s stream_of trace v
-  break_down w n told v i p =
-      let f = p.does in
+  pub break_down : (w : Net CO CI SO SI) (n : ℕ) (told : Error) (v : Net CO CI SO SI) → Keeps c s stream_of trace w → BreaksAt (calling c.out c.in_) w.client.state w.client.connection w.down 0 n told v.client.state v.client.connection → OnlyClient c s seals w v → Keeps c s stream_of trace v
+  break_down w n told v i f only =
       let m : ℕ = min n (length w.down.bytes) in
       let pipe : w.down.bytes ≡ f.taken ++ (f.rest ++ drop m w.down.bytes) =
       sym (take-append-drop m w.down.bytes) ∙ ap (λ xs. xs ++ drop m w.down.bytes) f.piece_is ∙ append_assoc f.taken f.rest (drop m w.down.bytes) in
@@ -325,7 +328,7 @@ module _ {CO CI SO SI : Type 0} (c : Halves CO CI) (s : Halves SO SI) (seals : B
       let d = landed_down w i f.alive 0 first.first rest all f.mid
       (subst (λ (fs : List Incoming). ActsAll (calling c.out c.in_) 0 (scene w.client.state w.client.connection) fs f.mid) first.are f.acts) in
       let outbox : v.client.connection.outbox ≡ w.client.connection.outbox = f.outbox ∙ d.outbox in
-      subst (λ (x : Net CO CI SO SI). Keeps c s stream_of trace x) (sym p.only) (record {
+      subst (λ (x : Net CO CI SO SI). Keeps c s stream_of trace x) (sym only) (record {
         up = i.up;
         down = rest;
         stories = subst (λ (t : Client). Stories stream_of trace i.up rest t.next w.server.state.jobs.list (call_at t)) (sym f.state) d.stories;
@@ -342,10 +345,143 @@ module _ {CO CI SO SI : Type 0} (c : Halves CO CI) (s : Halves SO SI) (seals : B
   cut_up w keep v i p =
       subst (λ (x : Net CO CI SO SI). Keeps c s stream_of trace x) (sym p.only)
       (server_hears (is_over (cut_to w.up keep)) (record w { up = cut_to w.up keep }) p.connection
-      (record { up = i.up; down = i.down; stories = i.stories; known = i.known; own = i.own; up_bytes = λ alive. cuts w.server.connection.decoder w.up w.client.connection.outbox.queue i.up keep (i.up_bytes alive); down_bytes = i.down_bytes; up_linked = i.up_linked; down_linked = i.down_linked }) p.hears)
+      (rewired w i w.client.connection w.server.connection (cut_to w.up keep) w.down
+      (λ alive. cuts w.server.connection.decoder w.up w.client.connection.outbox.queue i.up keep (i.up_bytes alive)) i.down_bytes i.up_linked i.down_linked) p.hears)
 
   pub cut_down : (w : Net CO CI SO SI) (keep : ℕ) (v : Net CO CI SO SI) → Keeps c s stream_of trace w → CutsDown c s seals w keep v → Keeps c s stream_of trace v
   cut_down w keep v i p =
       subst (λ (x : Net CO CI SO SI). Keeps c s stream_of trace x) (sym p.only)
       (client_hears (is_over (cut_to w.down keep)) (record w { down = cut_to w.down keep }) p.connection
-      (record { up = i.up; down = i.down; stories = i.stories; known = i.known; own = i.own; up_bytes = i.up_bytes; down_bytes = λ alive. cuts w.client.connection.decoder w.down w.server.connection.outbox.queue i.down keep (i.down_bytes alive); up_linked = i.up_linked; down_linked = i.down_linked }) p.hears)
+      (rewired w i w.client.connection w.server.connection w.up (cut_to w.down keep)
+      i.up_bytes (λ alive. cuts w.client.connection.decoder w.down w.server.connection.outbox.queue i.down keep (i.down_bytes alive)) i.up_linked i.down_linked) p.hears)
+
+-- ---- jobs around a job
+
+here_at : (k : ℕ) (front back : List ActiveJob) (j : ActiveJob) → j.header.stream_id ≡ k → jobs_at (front ++ j ∷ back) k ≡ jobs_at front k ++ j ∷ jobs_at back k
+here_at k front back j own = jobs-append k front (j ∷ back) ∙ ap (λ js. jobs_at front k ++ js) (jobs-cons_own k j back own)
+
+not_here : (k : ℕ) (front back : List ActiveJob) (j : ActiveJob) → j.header.stream_id ≢ k → jobs_at (front ++ j ∷ back) k ≡ jobs_at (front ++ back) k
+not_here k front back j other = jobs-append k front (j ∷ back) ∙ ap (λ js. jobs_at front k ++ js) (jobs-cons_other k j back other) ∙ sym (jobs-append k front back)
+
+known_at : (stream_of : ℕ → ℕ) (front back : List ActiveJob) (j taken : ActiveJob) → stream_of taken.id ≡ taken.header.stream_id → AreKnown stream_of (front ++ j ∷ back) → AreKnown stream_of (front ++ taken ∷ back)
+known_at stream_of [] back j taken right h = ((λ e. right), h.1)
+known_at stream_of (i ∷ front) back j taken right h = (h.0, known_at stream_of front back j taken right h.1)
+
+known_less : (stream_of : ℕ → ℕ) (front back : List ActiveJob) (j : ActiveJob) → AreKnown stream_of (front ++ j ∷ back) → AreKnown stream_of (front ++ back)
+known_less stream_of [] back j h = h.1
+known_less stream_of (i ∷ front) back j h = (h.0, known_less stream_of front back j h.1)
+
+known_here : (stream_of : ℕ → ℕ) (front back : List ActiveJob) (j : ActiveJob) → j.request ≡ None → AreKnown stream_of (front ++ j ∷ back) → stream_of j.id ≡ j.header.stream_id
+known_here stream_of [] back j taken h = h.0 taken
+known_here stream_of (i ∷ front) back j taken h = known_here stream_of front back j taken h.1
+
+answered_work : (request : Request) (job : ℕ) (response : Response) → IsDone (whole_work request job response)
+answered_work request job response = record { one_call = refl; one_run = omega arith }
+
+is_answer : (request : Request) (job : ℕ) (response : Response) → IsAnswerOf (whole_work request job response) response
+is_answer request job response = λ ok. (request, job, refl)
+
+module _ {CO CI SO SI : Type 0} (c : Halves CO CI) (s : Halves SO SI) (seals : Bool) (stream_of : ℕ → ℕ) (trace : List Entry) where
+  -- the server's jobs change, and it may queue a response
+  server_changes : (w : Net CO CI SO SI) (event : Event) (reply : Reply) (x : ServerCore SO SI) (down : List Flying) → (i : Keeps c s stream_of trace w)
+      → Stories stream_of (with_entry trace event reply) i.up down w.client.state.next x.state.jobs.list (call_at w.client.state) → AreKnown stream_of x.state.jobs.list
+      → x.connection.decoder ≡ w.server.connection.decoder → x.connection.inbound ≡ w.server.connection.inbound → (x.connection.failure ≡ None → w.server.connection.failure ≡ None)
+      → (w.client.connection.failure ≡ None → InFlight w.client.connection.decoder w.down x.connection.outbox.queue down)
+      → (w.client.connection.failure ≡ None → AreLinked s.out.seals c.in_.opens c.in_.refuses down x.connection.outbox.half w.client.connection.inbound)
+      → Keeps c s stream_of (with_entry trace event reply) (with_server w x)
+  server_changes w event reply x down i stories known held inbound lives bytes linked = record {
+    up = i.up;
+    down = down;
+    stories = stories;
+    known = known;
+    own = i.own;
+    up_bytes = λ alive. subst (λ (h : Held). InFlight h w.up w.client.connection.outbox.queue i.up) (sym held) (i.up_bytes (lives alive));
+    down_bytes = bytes;
+    up_linked = λ alive. subst (λ (y : SI). AreLinked c.out.seals s.in_.opens s.in_.refuses i.up w.client.connection.outbox.half y) (sym inbound) (i.up_linked (lives alive));
+    down_linked = linked;
+  }
+
+  -- what is queued stays
+  same_outbox : (w : Net CO CI SO SI) (event : Event) (reply : Reply) (x : ServerCore SO SI) → (i : Keeps c s stream_of trace w)
+      → Stories stream_of (with_entry trace event reply) i.up i.down w.client.state.next x.state.jobs.list (call_at w.client.state) → AreKnown stream_of x.state.jobs.list
+      → x.connection.decoder ≡ w.server.connection.decoder → x.connection.inbound ≡ w.server.connection.inbound → (x.connection.failure ≡ None → w.server.connection.failure ≡ None)
+      → x.connection.outbox ≡ w.server.connection.outbox → Keeps c s stream_of (with_entry trace event reply) (with_server w x)
+  same_outbox w event reply x i stories known held inbound lives outbox =
+      server_changes w event reply x i.down i stories known held inbound lives
+      (λ alive. subst (λ (o : Outbox SO). InFlight w.client.connection.decoder w.down o.queue i.down) (sym outbox) (i.down_bytes alive))
+      (λ alive. subst (λ (o : Outbox SO). AreLinked s.out.seals c.in_.opens c.in_.refuses i.down o.half w.client.connection.inbound) (sym outbox) (i.down_linked alive))
+
+  -- A job is handed out.
+  pub keeps_hand : (w : Net CO CI SO SI) (job : Job) (v : Net CO CI SO SI) → stream_of job.id ≡ job.header.stream_id → Keeps c s stream_of trace w → Hands w.server job v.server
+      → Keeps c s stream_of (with_entry trace Take (Handed (Some job))) (with_server w v.server)
+  keeps_hand w job v right i p =
+      let t = p.hands in
+      let j = t.job in
+      let taken : ActiveJob = record j { request = None } in
+      let k : ℕ = j.header.stream_id in
+      let at : job.header.stream_id ≡ k = ap (λ h. h.stream_id) t.header in
+      let was : (n : ℕ) → jobs_at w.server.state.jobs.list n ≡ jobs_at (t.front ++ j ∷ t.back) n = λ n. ap (λ js. jobs_at js n) t.was in
+      let is : (n : ℕ) → jobs_at v.server.state.jobs.list n ≡ jobs_at (t.front ++ taken ∷ t.back) n = λ n. ap (λ js. jobs_at js n) t.jobs in
+      let now_known : stream_of j.id ≡ k = ap stream_of (sym t.id) ∙ right ∙ at in
+      let same = p.same in
+      same_outbox w Take (Handed (Some job)) v.server i
+      (at_one (λ (m : ℕ). Story (w.client.state.next ≤ m) m (acts stream_of m (with_entry trace Take (Handed (Some job)))) (parcels m i.up) (jobs_at v.server.state.jobs.list m) (parcels m i.down) (call_at w.client.state m)) k
+      (takes_here (w.client.state.next ≤ k) k _ _ _ _ _ _ _ (jobs_at t.front k) (jobs_at t.back k) j taken job.request (i.stories k) (was k ∙ here_at k t.front t.back j refl) (is k ∙ here_at k t.front t.back taken refl) t.request refl
+      (heard stream_of k job.header.stream_id trace Take (Handed (Some job)) (Ran job.id job.request) refl at ∙ ap (λ (m : ℕ). acts stream_of k trace ++ Ran m job.request ∷ []) t.id))
+      (λ n e. elsewhere (w.client.state.next ≤ n) (w.client.state.next ≤ n) n _ _ _ _ _ _ _ _ _ _ (i.stories n) (λ y. y) (unheard stream_of n job.header.stream_id trace Take (Handed (Some job)) (Ran job.id job.request) refl (λ same. e (sym at ∙ same)))
+      refl (is n ∙ not_here n t.front t.back taken e ∙ sym (was n ∙ not_here n t.front t.back j e)) refl refl))
+      (subst (λ (js : List ActiveJob). AreKnown stream_of js) (sym t.jobs) (known_at stream_of t.front t.back j taken now_known (subst (λ (js : List ActiveJob). AreKnown stream_of js) t.was i.known)))
+      (ap (λ (x : ServerCore SO SI). x.connection.decoder) same) (ap (λ (x : ServerCore SO SI). x.connection.inbound) same) (λ alive. p.alive) (ap (λ (x : ServerCore SO SI). x.connection.outbox) same)
+
+  -- A job is answered by a response.
+  keeps_response : (w : Net CO CI SO SI) (id : ℕ) (response : Response) (x : ServerCore SO SI) → Keeps c s stream_of trace w → IsResponse response → Answers s.out w.server id response x
+      → Keeps c s stream_of (with_entry trace (Answer id (Ok response)) Done) (with_server w x)
+  keeps_response w id response x i is_response p =
+      let t = p.ends.at in
+      let j = p.job in
+      let k : ℕ = j.header.stream_id in
+      let was : (n : ℕ) → jobs_at w.server.state.jobs.list n ≡ jobs_at (t.front ++ j ∷ t.back) n = λ n. ap (λ js. jobs_at js n) t.is in
+      let is : (n : ℕ) → jobs_at x.state.jobs.list n ≡ jobs_at t.front n ++ jobs_at t.back n = λ n. ap (λ js. jobs_at js n) p.ends.jobs ∙ jobs-append n t.front t.back in
+      let known = subst (λ (js : List ActiveJob). AreKnown stream_of js) t.is i.known in
+      let at : stream_of id ≡ k = ap stream_of (sym t.is_job) ∙ known_here stream_of t.front t.back j t.taken known in
+      let here : jobs_at w.server.state.jobs.list k ≡ jobs_at t.front k ++ j ∷ jobs_at t.back k = was k ∙ here_at k t.front t.back j refl in
+      let running = is_running _ k _ _ _ _ _ (jobs_at t.front k) (jobs_at t.back k) j (i.stories k) here t.taken in
+      let done : List Act = whole_work running.request j.id response in
+      let r = sends_response s.out w.server.connection.outbox k response p.sent x.connection.outbox done running.is_job.within (answered_work running.request j.id response) is_response (is_answer running.request j.id response) p.responds p.sends in
+      server_changes w (Answer id (Ok response)) Done x (i.down ++ r.y ∷ []) i
+      (at_one (λ (m : ℕ). Story (w.client.state.next ≤ m) m (acts stream_of m (with_entry trace (Answer id (Ok response)) Done)) (parcels m i.up) (jobs_at x.state.jobs.list m) (parcels m (i.down ++ r.y ∷ [])) (call_at w.client.state m)) k
+      (answers_here (w.client.state.next ≤ k) k _ _ _ _ _ _ _ _ (jobs_at t.front k) (jobs_at t.back k) j response r.r r.y (i.stories k) here (is k) t.taken r.is_told
+      (heard stream_of k (stream_of id) trace (Answer id (Ok response)) Done (Answered (Ok response)) refl at) (parcels-push_own k r.y i.down r.is_told.stream))
+      (λ n e. elsewhere (w.client.state.next ≤ n) (w.client.state.next ≤ n) n _ _ _ _ _ _ _ _ _ _ (i.stories n) (λ y. y) (unheard stream_of n (stream_of id) trace (Answer id (Ok response)) Done (Answered (Ok response)) refl (λ same. e (sym at ∙ same)))
+      refl (is n ∙ sym (jobs-append n t.front t.back) ∙ sym (was n ∙ not_here n t.front t.back j e)) (parcels-push_other n r.y i.down (λ same. e (sym r.is_told.stream ∙ same))) refl))
+      (subst (λ (js : List ActiveJob). AreKnown stream_of js) (sym p.ends.jobs) (known_less stream_of t.front t.back j known))
+      (ap (λ (y : ServerCore SO SI). y.connection.decoder) p.same) (ap (λ (y : ServerCore SO SI). y.connection.inbound) p.same) (λ alive. p.alive)
+      (λ alive. placed w.client.connection.decoder w.down w.server.connection.outbox.queue i.down r.y x.connection.outbox.queue (i.down_bytes alive)
+      (λ transit queued a. subst (λ (q : Queue). AreInFlight w.client.connection.decoder w.down.bytes w.down.cut q transit (queued ++ r.y ∷ [])) (sym r.queue) (placed_in_flight w.client.connection.decoder w.down.bytes w.down.cut w.server.connection.outbox.queue transit queued r.y r.sound a)))
+      (λ alive. more_linked s.out.seals c.in_.opens c.in_.refuses i.down w.server.connection.outbox.half w.client.connection.inbound r.y x.connection.outbox.half (i.down_linked alive) r.seal)
+
+  -- A handler failed.
+  keeps_error : (w : Net CO CI SO SI) (id : ℕ) (error : Error) (x : ServerCore SO SI) → Keeps c s stream_of trace w → Drops w.server id x → Keeps c s stream_of (with_entry trace (Answer id (Err error)) Done) (with_server w x)
+  keeps_error w id error x i p =
+      let t = p.ends.at in
+      let j = p.job in
+      let k : ℕ = j.header.stream_id in
+      let was : (n : ℕ) → jobs_at w.server.state.jobs.list n ≡ jobs_at (t.front ++ j ∷ t.back) n = λ n. ap (λ js. jobs_at js n) t.is in
+      let is : (n : ℕ) → jobs_at x.state.jobs.list n ≡ jobs_at t.front n ++ jobs_at t.back n = λ n. ap (λ js. jobs_at js n) p.ends.jobs ∙ jobs-append n t.front t.back in
+      let known = subst (λ (js : List ActiveJob). AreKnown stream_of js) t.is i.known in
+      let at : stream_of id ≡ k = ap stream_of (sym t.is_job) ∙ known_here stream_of t.front t.back j t.taken known in
+      same_outbox w (Answer id (Err error)) Done x i
+      (at_one (λ (m : ℕ). Story (w.client.state.next ≤ m) m (acts stream_of m (with_entry trace (Answer id (Err error)) Done)) (parcels m i.up) (jobs_at x.state.jobs.list m) (parcels m i.down) (call_at w.client.state m)) k
+      (fails_here (w.client.state.next ≤ k) k _ _ _ _ _ _ _ (jobs_at t.front k) (jobs_at t.back k) j error (i.stories k) (was k ∙ here_at k t.front t.back j refl) (is k) t.taken
+      (heard stream_of k (stream_of id) trace (Answer id (Err error)) Done (Answered (Err error)) refl at))
+      (λ n e. elsewhere (w.client.state.next ≤ n) (w.client.state.next ≤ n) n _ _ _ _ _ _ _ _ _ _ (i.stories n) (λ y. y) (unheard stream_of n (stream_of id) trace (Answer id (Err error)) Done (Answered (Err error)) refl (λ same. e (sym at ∙ same)))
+      refl (is n ∙ sym (jobs-append n t.front t.back) ∙ sym (was n ∙ not_here n t.front t.back j e)) refl refl))
+      (subst (λ (js : List ActiveJob). AreKnown stream_of js) (sym p.ends.jobs) (known_less stream_of t.front t.back j known))
+      (ap (λ (y : ServerCore SO SI). y.connection.decoder) p.same) (ap (λ (y : ServerCore SO SI). y.connection.inbound) p.same)
+      (λ alive. absurd (not_both x.connection.failure HandlerError (ap (λ (y : ServerCore SO SI). y.connection.failure) p.same) alive)) (ap (λ (y : ServerCore SO SI). y.connection.outbox) p.same)
+
+  -- A job is answered by what its handler gave.
+  pub keeps_answer : (w : Net CO CI SO SI) (id : ℕ) (result : Result Response Error) (x : ServerCore SO SI) → Keeps c s stream_of trace w → AnswersBy c s seals w.server id result x
+      → Keeps c s stream_of (with_entry trace (Answer id result) Done) (with_server w x)
+  keeps_answer w id (Ok response) x i p = keeps_response w id response x i p.0 p.1
+  keeps_answer w id (Err error) x i p = keeps_error w id error x i p

@@ -1,17 +1,37 @@
--- What an answer comes to, by what the core says of it.
-use Rattle.std.proofs.Common.{◌≡◌, ℕ, List, [], ◌∷◌, ◌++◌, None, Result, Ok, Err, refl, subst, ◌⊎◌, inl, inr, Bool}
+-- A run goes on by one step, why a piece was refused, and what an answer comes to by what the core says of it.
+use Rattle.std.proofs.Common.{◌≡◌, List, [], ◌∷◌, ◌++◌, Bool, map, subst, refl, ap, Option, Some, None, ◌⊎◌, inl, inr, ℕ, Result, Ok, Err}
+use Rattle.ttrpc_world.specs.declared.events.Entry.{Entry}
+use Rattle.ttrpc_world.specs.declared.events.Event.{Event}
+use Rattle.ttrpc_world.specs.declared.events.Reply.{Reply}
+use Rattle.ttrpc_world.specs.Net.{Halves, Net}
+use Rattle.ttrpc_world.specs.Steps.{Runs, Steps, AnswersBy}
 use Rattle.ttrpc_error.specs.declared.error.Error.{Error}
+use Rattle.ttrpc_connection.specs.declared.failure.Failure.{Failure}
+use Rattle.ttrpc_connection.specs.Failure.{IsTold, error_of}
+use Rattle.ttrpc_connection.specs.Feeds.{IsFailed}
 use Rattle.ttrpc_proto.specs.declared.response.Response.{Response}
 use Rattle.ttrpc_proto.specs.Messages.{IsResponse}
 use Rattle.ttrpc_secure.specs.declared.transform.OutboundTransform.{Ghosts as OutboundTransform}
-use Rattle.ttrpc_connection.specs.Feeds.{IsFailed}
 use Rattle.ttrpc_server.specs.declared.job.ActiveJob.{ActiveJob}
 use Rattle.ttrpc_server.specs.declared.server.ServerCore.{ServerCore}
 use Rattle.ttrpc_server.specs.Jobs.{IsTaken, IsUnknown}
 use Rattle.ttrpc_server.specs.Happens.{Answers, Drops}
 use Rattle.ttrpc_server.specs.Table.{HasUnsent, RefusesAnswer}
-use Rattle.ttrpc_world.specs.Net.{Halves}
-use Rattle.ttrpc_world.specs.Steps.{AnswersBy}
+
+pub run_more : {CO CI SO SI : Type 0} (c : Halves CO CI) (s : Halves SO SI) (seals : Bool) (w : Net CO CI SO SI) (trace : List Entry) (x : Net CO CI SO SI) (event : Event) (reply : Reply) (v : Net CO CI SO SI)
+    → Runs c s seals w trace x → Steps c s seals x event reply v → Runs c s seals w (trace ++ record { event = event; reply = reply } ∷ []) v
+run_more c s seals w [] x event reply v p q = (v, subst (λ (y : Net _ _ _ _). Steps c s seals y event reply v) p q, refl)
+run_more c s seals w (e ∷ trace) x event reply v p q = (p.0, p.1, run_more c s seals p.0 trace x event reply v p.2 q)
+
+-- the events of a trace with one more entry
+pub events_more : (trace : List Entry) (event : Event) (reply : Reply) → map Entry.event (trace ++ record { event = event; reply = reply } ∷ []) ≡ map Entry.event trace ++ event ∷ []
+events_more [] event reply = refl
+events_more (e ∷ trace) event reply = ap (λ xs. e.event ∷ xs) (events_more trace event reply)
+
+pub breaks_or_failed : (Breaks Same : Type 0) (failure : Option Failure) (told : Error) → (failure ≡ None → Breaks) → ((f : Failure) → failure ≡ Some f → Same × IsTold (error_of f) told)
+    → Breaks ⊎ (IsFailed failure told × Same)
+breaks_or_failed Breaks Same None told fails failed = inl (fails refl)
+breaks_or_failed Breaks Same (Some why) told fails failed = let f = failed why refl in inr (record { why = why; is = refl; is_told = f.1 }, f.0)
 
 unknown_between : (front back : List ActiveJob) (id : ℕ) (job : ActiveJob) → job.id ≡ id → job.request ≡ None → IsUnknown (front ++ job ∷ back) id → ⊥
 unknown_between [] back id job is taken none = none.0 is taken

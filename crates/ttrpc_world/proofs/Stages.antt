@@ -8,7 +8,7 @@ use Rattle.ttrpc_proto.specs.Messages.{IsRequest, IsResponse}
 use Rattle.ttrpc_server.specs.declared.job.ActiveJob.{ActiveJob}
 use Rattle.ttrpc_server.specs.Responses.{response_bytes}
 use Rattle.ttrpc_client.specs.declared.call.Call.{Call}
-use Rattle.ttrpc_client.specs.declared.call.Call.TheVariants.{Waiting, Expired, Ended}
+use Rattle.ttrpc_client.specs.declared.call.Call.TheVariants.{Ended}
 use Rattle.ttrpc_client.specs.Table.{last_id, request_bytes}
 use Rattle.ttrpc_flight.specs.Flight.{Flying}
 use Rattle.ttrpc_world.specs.Story.{Act, Called, Ran, Answered, Gave, HasOkStatus, IsExactlyOnce, calls, outcomes, runs, work}
@@ -41,28 +41,17 @@ works_of (Over done) = done
 
 -- what there is of it in flight to the server, at the server, and in flight to the client
 abbrev pub ups_of : Stage → List Flying
-ups_of Unborn = []
 ups_of (Sent request x) = x ∷ []
-ups_of (Made request j) = []
-ups_of (Running request j) = []
-ups_of (Told done r x) = []
-ups_of (Over done) = []
+ups_of p = []
 
 abbrev pub jobs_of : Stage → List ActiveJob
-jobs_of Unborn = []
-jobs_of (Sent request x) = []
 jobs_of (Made request j) = j ∷ []
 jobs_of (Running request j) = j ∷ []
-jobs_of (Told done r x) = []
-jobs_of (Over done) = []
+jobs_of p = []
 
 abbrev pub downs_of : Stage → List Flying
-downs_of Unborn = []
-downs_of (Sent request x) = []
-downs_of (Made request j) = []
-downs_of (Running request j) = []
 downs_of (Told done r x) = x ∷ []
-downs_of (Over done) = []
+downs_of p = []
 
 -- a request in flight
 pub record IsSent (k : ℕ) (request : Request) (x : Flying) : Type 0 where
@@ -107,20 +96,12 @@ IsStage k (Over done) = IsDone done
 
 abbrev pub IsBorn : Stage → Type 0
 IsBorn Unborn = ⊥
-IsBorn (Sent request x) = Unit {0}
-IsBorn (Made request j) = Unit {0}
-IsBorn (Running request j) = Unit {0}
-IsBorn (Told done r x) = Unit {0}
-IsBorn (Over done) = Unit {0}
+IsBorn p = Unit {0}
 
 -- the response came, and is the answer of the one run
 abbrev pub HasLanded : Stage → Response → Type 0
-HasLanded Unborn r = ⊥
-HasLanded (Sent request x) r = ⊥
-HasLanded (Made request j) r = ⊥
-HasLanded (Running request j) r = ⊥
-HasLanded (Told done told x) r = ⊥
 HasLanded (Over done) r = HasOkStatus r.status × ((request : Request) × (job : ℕ) × (done ≡ whole_work request job r))
+HasLanded p r = ⊥
 
 abbrev pub IsWhole : List Act → Response → Type 0
 IsWhole a r = HasOkStatus r.status × ((request : Request) × (job : ℕ) × (a ≡ Called request ∷ Ran job request ∷ Answered (Ok r) ∷ Gave (Ok r) ∷ []))
@@ -129,13 +110,15 @@ IsWhole a r = HasOkStatus r.status × ((request : Request) × (job : ℕ) × (a 
 abbrev pub Given : Stage → List Act → Type 0
 Given p a = (outcomes a ≡ []) ⊎ (((e : Error) × (outcomes a ≡ Err e ∷ []) × IsBorn p) ⊎ ((r : Response) × HasLanded p r × IsWhole a r))
 
+-- what the client keeps of the call
+abbrev pub IsKept : Stage → Call → Type 0
+IsKept p (Ended (Ok r)) = HasLanded p r
+IsKept p call = IsBorn p
+
 -- what the client keeps of the call, and what it gave
 abbrev pub Ends : Stage → List Act → Option Call → Type 0
 Ends p a None = Given p a
-Ends p a (Some (Waiting deadline)) = (outcomes a ≡ []) × IsBorn p
-Ends p a (Some Expired) = (outcomes a ≡ []) × IsBorn p
-Ends p a (Some (Ended (Ok r))) = (outcomes a ≡ []) × HasLanded p r
-Ends p a (Some (Ended (Err e))) = (outcomes a ≡ []) × IsBorn p
+Ends p a (Some call) = (outcomes a ≡ []) × IsKept p call
 
 pub record Story (Young : Type 0) (k : ℕ) (a : List Act) (u : List Flying) (j : List ActiveJob) (d : List Flying) (e : Option Call) : Type 0 where
   pub stage : Stage
@@ -151,82 +134,61 @@ pub record Story (Young : Type 0) (k : ℕ) (a : List Act) (u : List Flying) (j 
 
 pub work_append : (a b : List Act) → work (a ++ b) ≡ work a ++ work b
 work_append [] b = refl
-work_append (Called request ∷ a) b = ap (λ xs. Called request ∷ xs) (work_append a b)
-work_append (Ran job request ∷ a) b = ap (λ xs. Ran job request ∷ xs) (work_append a b)
-work_append (Answered result ∷ a) b = ap (λ xs. Answered result ∷ xs) (work_append a b)
 work_append (Gave outcome ∷ a) b = work_append a b
+work_append (act ∷ a) b = ap (λ xs. act ∷ xs) (work_append a b)
 
 pub outcomes_append : (a b : List Act) → outcomes (a ++ b) ≡ outcomes a ++ outcomes b
 outcomes_append [] b = refl
-outcomes_append (Called request ∷ a) b = outcomes_append a b
-outcomes_append (Ran job request ∷ a) b = outcomes_append a b
-outcomes_append (Answered result ∷ a) b = outcomes_append a b
 outcomes_append (Gave outcome ∷ a) b = ap (λ xs. outcome ∷ xs) (outcomes_append a b)
+outcomes_append (act ∷ a) b = outcomes_append a b
 
 calls_work : (a : List Act) → calls a ≡ calls (work a)
 calls_work [] = refl
 calls_work (Called request ∷ a) = ap (λ xs. request ∷ xs) (calls_work a)
-calls_work (Ran job request ∷ a) = calls_work a
-calls_work (Answered result ∷ a) = calls_work a
-calls_work (Gave outcome ∷ a) = calls_work a
+calls_work (act ∷ a) = calls_work a
 
 runs_work : (a : List Act) → runs a ≡ runs (work a)
 runs_work [] = refl
-runs_work (Called request ∷ a) = runs_work a
 runs_work (Ran job request ∷ a) = ap (λ xs. job ∷ xs) (runs_work a)
-runs_work (Answered result ∷ a) = runs_work a
-runs_work (Gave outcome ∷ a) = runs_work a
+runs_work (act ∷ a) = runs_work a
 
 pub all_work : (a : List Act) → outcomes a ≡ [] → a ≡ work a
 all_work [] h = refl
-all_work (Called request ∷ a) h = ap (λ xs. Called request ∷ xs) (all_work a h)
-all_work (Ran job request ∷ a) h = ap (λ xs. Ran job request ∷ xs) (all_work a h)
-all_work (Answered result ∷ a) h = ap (λ xs. Answered result ∷ xs) (all_work a h)
 all_work (Gave outcome ∷ a) h = cc
+all_work (act ∷ a) h = ap (λ xs. act ∷ xs) (all_work a h)
 
 -- ---- the story as the headline
 
 one_call_of : (k : ℕ) (p : Stage) → IsStage k p → length (calls (works_of p)) ≤ 1
-one_call_of k Unborn h = omega arith
-one_call_of k (Sent request x) h = omega arith
-one_call_of k (Made request j) h = omega arith
-one_call_of k (Running request j) h = omega arith
 one_call_of k (Told done r x) h = omega (arith, h.is_done.one_call)
 one_call_of k (Over done) h = omega (arith, h.one_call)
+one_call_of k p h = omega arith
 
 one_run_of : (k : ℕ) (p : Stage) → IsStage k p → length (runs (works_of p)) ≤ 1
-one_run_of k Unborn h = omega arith
-one_run_of k (Sent request x) h = omega arith
-one_run_of k (Made request j) h = omega arith
-one_run_of k (Running request j) h = omega arith
 one_run_of k (Told done r x) h = h.is_done.one_run
 one_run_of k (Over done) h = h.one_run
+one_run_of k p h = omega arith
 
 not_none : (done : List Act) → IsDone done → calls done ≡ [] → ⊥
 not_none done h e = absurd (let no : ⊥ = omega (arith, h.one_call, ap (λ (xs : List Request). length xs) e) in no)
 
 called_if_born : (k : ℕ) (p : Stage) → IsStage k p → IsBorn p → calls (works_of p) ≡ [] → ⊥
 called_if_born k Unborn h b e = b
-called_if_born k (Sent request x) h b e = cc
-called_if_born k (Made request j) h b e = cc
-called_if_born k (Running request j) h b e = cc
 called_if_born k (Told done r x) h b e = not_none done h.is_done e
 called_if_born k (Over done) h b e = not_none done h e
+called_if_born k p h b e = cc
 
 pub landed_is_born : (p : Stage) (r : Response) → HasLanded p r → IsBorn p
 landed_is_born Unborn r h = h
-landed_is_born (Sent request x) r h = tt
-landed_is_born (Made request j) r h = tt
-landed_is_born (Running request j) r h = tt
-landed_is_born (Told done told x) r h = tt
-landed_is_born (Over done) r h = tt
+landed_is_born p r h = tt
 
-given_of : (p : Stage) (a : List Act) (e : Option Call) → Ends p a e → Given p a
+pub kept_is_born : (p : Stage) (call : Call) → IsKept p call → IsBorn p
+kept_is_born p (Ended (Ok r)) h = landed_is_born p r h
+kept_is_born p call h = h
+
+pub given_of : (p : Stage) (a : List Act) (e : Option Call) → Ends p a e → Given p a
 given_of p a None h = h
-given_of p a (Some (Waiting deadline)) h = inl h.0
-given_of p a (Some Expired) h = inl h.0
-given_of p a (Some (Ended (Ok r))) h = inl h.0
-given_of p a (Some (Ended (Err e))) h = inl h.0
+given_of p a (Some call) h = inl h.0
 
 one_given : (p : Stage) (a : List Act) → Given p a → length (outcomes a) ≤ 1
 one_given p a (inl h) = rw h (omega arith)

@@ -1,6 +1,6 @@
 -- Each job has one stream, and no two jobs the same: ids of jobs are used once, and so are streams.
-use Rattle.std.proofs.Common.{◌≡◌, ℕ, ◌+◌, ◌≤◌, List, [], ◌∷◌, ◌++◌, length, Bool, true, false, Some, None, Result, Ok, Err, nat_eq, if◌then◌else◌, refl, sym, ap, ◌∙◌, subst, ◌⊎◌, inl, inr, arith, append_assoc}
-use Rattle.std.proofs.lemmas.Bool.{cond-false, cond-true, eq-eqb, eqb-true, ne_eqb}
+use Rattle.std.proofs.Common.{rules, ◌≡◌, ℕ, ◌+◌, ◌≤◌, List, [], ◌∷◌, ◌++◌, length, Bool, true, false, Some, None, Result, Ok, Err, nat_eq, if◌then◌else◌, refl, sym, ap, ◌∙◌, subst, ◌⊎◌, inl, inr, arith, append_assoc}
+use Rattle.std.proofs.lemmas.Bool.{cases_Bool, cond-false, cond-true, eq-eqb, eqb-true, ne_eqb}
 use Rattle.std.proofs.lemmas.List.{append-nil, length-append}
 use Rattle.std.specs.List.{AllByRecursion}
 use Rattle.ttrpc_error.specs.declared.error.Error.{Error}
@@ -18,14 +18,15 @@ use Rattle.ttrpc_server.specs.Table.{Row, Skipped, Tells, TellsOf, Known, row_of
 use Rattle.ttrpc_header.specs.declared.header.MessageHeader.{MessageHeader}
 use Rattle.ttrpc_world.specs.declared.events.Side.TheVariants as side
 use Rattle.ttrpc_world.specs.declared.events.Event.{Event}
-use Rattle.ttrpc_world.specs.declared.events.Event.TheVariants.{Call, Open, Outcome, Recv, Send, Close, DropCall, DropReceiver, DropSender, Take, Answer, Respond, Finish, EndStream, Drain, Tick, Carry, Deliver, Cut, Fail}
+use Rattle.ttrpc_world.specs.declared.events.Event.TheVariants.{Call, Outcome, DropCall, Take, Answer, Tick, Carry, Deliver, Cut, Fail}
 use Rattle.ttrpc_world.specs.declared.events.Reply.{Reply}
-use Rattle.ttrpc_world.specs.declared.events.Reply.TheVariants.{Named, Outcome as Given, Handed, Done, Count, Refused, NoMemory, NoStep}
+use Rattle.ttrpc_world.specs.declared.events.Reply.TheVariants.{Named, Outcome as Given, Handed, Done, Count, Refused}
 use Rattle.ttrpc_world.specs.declared.events.Entry.{Entry}
 use Rattle.ttrpc_world.specs.Net.{Halves, Net, IsFresh}
 use Rattle.ttrpc_world.specs.Steps.{AnswersBy, Runs, Steps}
-use Rattle.ttrpc_world.specs.Story.{Act, Called, Ran, Answered, Gave, IsOneToOne, IsRightAt, IsStreamOf, act_of, acts, only_if, runs}
+use Rattle.ttrpc_world.specs.Story.{Act, Ran, IsOneToOne, IsRightAt, IsStreamOf, act_of, acts, only_if, runs}
 use Rattle.ttrpc_world.proofs.Traces.{with_entry}
+use Rattle.ttrpc_world.proofs.Turns.{never_empty, only_one}
 
 -- ---- a stream for each job that was made
 
@@ -40,10 +41,10 @@ IsBelow f n event reply = Unit {0}
 abbrev WasBelow : (ℕ → ℕ) → ℕ → List Entry → Type 0
 WasBelow f n trace = AllByRecursion (λ (e : Entry). IsBelow f n e.event e.reply) trace
 
-record Placed (trace : List Entry) (n : ℕ) (jobs : List ActiveJob) : Type 0 where
+record Placed (trace : List Entry) (jobs : JobList) : Type 0 where
   f : ℕ → ℕ
-  below : AreBelow f n jobs
-  past : WasBelow f n trace
+  below : AreBelow f jobs.last jobs.list
+  past : WasBelow f jobs.last trace
 
 -- one more job
 abbrev moved : (ℕ → ℕ) → ℕ → ℕ → ℕ → ℕ
@@ -67,33 +68,32 @@ past_make : (f : ℕ → ℕ) (n s : ℕ) (trace : List Entry) → WasBelow f n 
 past_make f n s [] h = tt
 past_make f n s (e ∷ trace) h = (entry_make f n s e.event e.reply h.0, past_make f n s trace h.1)
 
-same_placed : (trace : List Entry) (n m : ℕ) (js ks : List ActiveJob) → m ≡ n → ks ≡ js → Placed trace n js → Placed trace m ks
-same_placed trace n m js ks hn hj p = record {
-  f = p.f;
-  below = subst (λ (x : ℕ). AreBelow p.f x ks) (sym hn) (subst (λ (x : List ActiveJob). AreBelow p.f n x) (sym hj) p.below);
-  past = subst (λ (x : ℕ). WasBelow p.f x trace) (sym hn) p.past;
+same_placed : (trace : List Entry) (old new : JobList) → new ≡ old → Placed trace old → Placed trace new
+same_placed trace old new same p = subst (λ (j : JobList). Placed trace j) (sym same) p
+
+-- other jobs, and none is made
+others_placed : (trace : List Entry) (f : ℕ → ℕ) (n : ℕ) (js : List ActiveJob) (new : JobList) → new.last ≡ n → new.list ≡ js → AreBelow f n js → WasBelow f n trace → Placed trace new
+others_placed trace f n js new last list below past = record {
+  f = f;
+  below = subst (λ (m : ℕ). AreBelow f m new.list) (sym last) (subst (λ (ks : List ActiveJob). AreBelow f n ks) (sym list) below);
+  past = subst (λ (m : ℕ). WasBelow f m trace) (sym last) past;
 }
 
-jobs_placed : (trace : List Entry) (old new : JobList) → new ≡ old → Placed trace old.last old.list → Placed trace new.last new.list
-jobs_placed trace old new same p = subst (λ (j : JobList). Placed trace j.last j.list) (sym same) p
-
 does_placed : {O : Type 0} (out : OutboundTransform O) (trace : List Entry) (r : Row) (old : Server) (o : O) (header : MessageHeader) (sent : List Sent) (new : Server) → Does out r old o header sent new
-    → Placed trace old.jobs.last old.jobs.list → Placed trace new.jobs.last new.jobs.list
-does_placed out trace Skipped old o header sent new d p = jobs_placed trace old.jobs new.jobs (ap (λ (t : Server). t.jobs) d.0) p
-does_placed out trace (Tells response) old o header sent new d p = jobs_placed trace old.jobs new.jobs (ap (λ (t : Server). t.jobs) d.0) p
-does_placed out trace (TellsOf code) old o header sent new d p = jobs_placed trace old.jobs new.jobs (ap (λ (t : Server). t.jobs) d.0) p
+    → Placed trace old.jobs → Placed trace new.jobs
 does_placed out trace (Known request) old o header sent new d p =
     let n : ℕ = old.jobs.last in
     let job = new_job (n + 1) header request in
-    subst (λ (t : Server). Placed trace t.jobs.last t.jobs.list) (sym d.0) (record {
+    subst (λ (t : Server). Placed trace t.jobs) (sym d.0) (record {
       f = moved p.f n header.stream_id;
       below = jobs_make p.f n job old.jobs.list refl p.below;
       past = past_make p.f n header.stream_id trace p.past;
     })
+does_placed out trace r old o header sent new d p = same_placed trace old.jobs new.jobs (ap (λ (t : Server). t.jobs) d.0) p
 
 acts_placed : {O I : Type 0} (h : Halves O I) (trace : List Entry) (now : ℕ) (fs : List Incoming) (old new : Scene Server O I) → ActsAll (serving h.out h.in_) now old fs new
-    → Placed trace old.state.jobs.last old.state.jobs.list → Placed trace new.state.jobs.last new.state.jobs.list
-acts_placed h trace now [] old new a p = jobs_placed trace old.state.jobs new.state.jobs (ap (λ (x : Scene Server _ _). x.state.jobs) a) p
+    → Placed trace old.state.jobs → Placed trace new.state.jobs
+acts_placed h trace now [] old new a p = same_placed trace old.state.jobs new.state.jobs (ap (λ (x : Scene Server _ _). x.state.jobs) a) p
 acts_placed h trace now (f ∷ fs) old new a p =
     let one = a.1 in
     acts_placed h trace now fs a.0 new a.2
@@ -103,8 +103,8 @@ past_more : (f : ℕ → ℕ) (n : ℕ) (trace : List Entry) (event : Event) (re
 past_more f n [] event reply h r = (r, tt)
 past_more f n (e ∷ trace) event reply h r = (h.0, past_more f n trace event reply h.1 r)
 
-entry_placed : (trace : List Entry) (n : ℕ) (js : List ActiveJob) (event : Event) (reply : Reply) → (p : Placed trace n js) → IsBelow p.f n event reply → Placed (with_entry trace event reply) n js
-entry_placed trace n js event reply p r = record { f = p.f; below = p.below; past = past_more p.f n trace event reply p.past r }
+entry_placed : (trace : List Entry) (js : JobList) (event : Event) (reply : Reply) → (p : Placed trace js) → IsBelow p.f js.last event reply → Placed (with_entry trace event reply) js
+entry_placed trace js event reply p r = record { f = p.f; below = p.below; past = past_more p.f js.last trace event reply p.past r }
 
 below_here : (f : ℕ → ℕ) (n : ℕ) (front back : List ActiveJob) (j : ActiveJob) → AreBelow f n (front ++ j ∷ back) → (f j.id ≡ j.header.stream_id) × (j.id ≤ n)
 below_here f n [] back j h = h.0
@@ -118,94 +118,47 @@ below_less : (f : ℕ → ℕ) (n : ℕ) (front back : List ActiveJob) (j : Acti
 below_less f n [] back j h = h.1
 below_less f n (i ∷ front) back j h = (h.0, below_less f n front back j h.1)
 
-ended_placed : (trace : List Entry) (n : ℕ) (old new : List ActiveJob) (id : ℕ) (job : ActiveJob) → EndsOne old id job new → Placed trace n old → Placed trace n new
-ended_placed trace n old new id job t p = record {
-  f = p.f;
-  below = subst (λ (js : List ActiveJob). AreBelow p.f n js) (sym t.jobs) (below_less p.f n t.at.front t.at.back job (subst (λ (js : List ActiveJob). AreBelow p.f n js) t.at.is p.below));
-  past = p.past;
-}
+ended_placed : (trace : List Entry) (old new : JobList) (id : ℕ) (job : ActiveJob) → new.last ≡ old.last → EndsOne old.list id job new.list → Placed trace old → Placed trace new
+ended_placed trace old new id job last t p =
+    others_placed trace p.f old.last (t.at.front ++ t.at.back) new last t.jobs (below_less p.f old.last t.at.front t.at.back job (subst (λ (js : List ActiveJob). AreBelow p.f old.last js) t.at.is p.below)) p.past
 
 module _ {CO CI SO SI : Type 0} (c : Halves CO CI) (s : Halves SO SI) (seals : Bool) where
-  -- the jobs of a server
-  abbrev At : List Entry → ServerCore SO SI → Type 0
-  At trace x = Placed trace x.state.jobs.last x.state.jobs.list
+  abbrev jobs : Net CO CI SO SI → JobList
+  jobs w = w.server.state.jobs
 
-  -- the jobs stay
-  stays : (trace : List Entry) (x y : ServerCore SO SI) → y ≡ x → At trace x → At trace y
-  stays trace x y e p = subst (λ (z : ServerCore SO SI). Placed trace z.state.jobs.last z.state.jobs.list) (sym e) p
+  -- an entry that hands nothing out, at which the jobs stay
+  still : (trace : List Entry) (w v : Net CO CI SO SI) (event : Event) (reply : Reply) → jobs v ≡ jobs w → ((f : ℕ → ℕ) (n : ℕ) → IsBelow f n event reply) → Placed trace (jobs w) → Placed (with_entry trace event reply) (jobs v)
+  still trace w v event reply e r p = same_placed (with_entry trace event reply) (jobs w) (jobs v) e (entry_placed trace (jobs w) event reply p (r p.f (jobs w).last))
 
-  -- an entry that hands nothing out, at which the server stays
-  still : (trace : List Entry) (w v : Net CO CI SO SI) (event : Event) (reply : Reply) → v.server ≡ w.server → ((f : ℕ → ℕ) (n : ℕ) → IsBelow f n event reply) → At trace w.server → At (with_entry trace event reply) v.server
-  still trace w v event reply e r p = stays (with_entry trace event reply) w.server v.server e (entry_placed trace w.server.state.jobs.last w.server.state.jobs.list event reply p (r p.f w.server.state.jobs.last))
+  answered : (trace : List Entry) (x y : ServerCore SO SI) (id : ℕ) (result : Result _ Error) → AnswersBy c s seals x id result y → Placed trace x.state.jobs → Placed trace y.state.jobs
+  answered trace x y id (Ok response) a p = ended_placed trace x.state.jobs y.state.jobs id a.1.job (ap (λ (z : ServerCore SO SI). z.state.jobs.last) a.1.same) a.1.ends p
+  answered trace x y id (Err error) a p = ended_placed trace x.state.jobs y.state.jobs id a.job (ap (λ (z : ServerCore SO SI). z.state.jobs.last) a.same) a.ends p
 
-  -- the state is the same
-  same_state : (trace : List Entry) (x y : ServerCore SO SI) → y.state ≡ x.state → At trace x → At trace y
-  same_state trace x y e p = subst (λ (z : Server). Placed trace z.jobs.last z.jobs.list) (sym e) p
-
-  answered : (trace : List Entry) (x y : ServerCore SO SI) (id : ℕ) (result : Result _ Error) → AnswersBy c s seals x id result y → At trace x → At trace y
-  answered trace x y id (Ok response) a p = same_placed trace _ _ _ _ (ap (λ (z : ServerCore SO SI). z.state.jobs.last) a.1.same) refl (ended_placed trace x.state.jobs.last x.state.jobs.list y.state.jobs.list id a.1.job a.1.ends p)
-  answered trace x y id (Err error) a p = same_placed trace _ _ _ _ (ap (λ (z : ServerCore SO SI). z.state.jobs.last) a.same) refl (ended_placed trace x.state.jobs.last x.state.jobs.list y.state.jobs.list id a.job a.ends p)
-
-  handed : (trace : List Entry) (w v : Net CO CI SO SI) (job : Job) → Steps c s seals w Take (Handed (Some job)) v → At trace w.server → At (with_entry trace Take (Handed (Some job))) v.server
+  handed : (trace : List Entry) (w v : Net CO CI SO SI) (job : Job) → Steps c s seals w Take (Handed (Some job)) v → Placed trace (jobs w) → Placed (with_entry trace Take (Handed (Some job))) (jobs v)
   handed trace w v job q p =
-      let t = q.does.hands in
+      let t = q.0.hands in
       let n : ℕ = w.server.state.jobs.last in
       let below = subst (λ (js : List ActiveJob). AreBelow p.f n js) t.was p.below in
       let here = below_here p.f n t.front t.back t.job below in
-      same_placed (with_entry trace Take (Handed (Some job))) n v.server.state.jobs.last _ v.server.state.jobs.list (ap (λ (z : ServerCore SO SI). z.state.jobs.last) q.does.same) t.jobs (record {
-        f = p.f;
-        below = below_taken p.f n t.front t.back t.job below;
-        past = past_more p.f n trace Take (Handed (Some job)) p.past (ap p.f t.id ∙ here.0 ∙ sym (ap (λ (h : MessageHeader). h.stream_id) t.header), omega (arith, here.1, t.id));
-      })
+      others_placed (with_entry trace Take (Handed (Some job))) p.f n _ (jobs v) (ap (λ (z : ServerCore SO SI). z.state.jobs.last) q.0.same) t.jobs (below_taken p.f n t.front t.back t.job below)
+      (past_more p.f n trace Take (Handed (Some job)) p.past (ap p.f t.id ∙ here.0 ∙ sym (ap (λ (h : MessageHeader). h.stream_id) t.header), omega (arith, here.1, t.id)))
 
-  places : (trace : List Entry) (w : Net CO CI SO SI) (event : Event) (reply : Reply) (v : Net CO CI SO SI) → At trace w.server → Steps c s seals w event reply v → At (with_entry trace event reply) v.server
-  places trace w (Call request) (Named id) v p q = still trace w v (Call request) (Named id) (ap Net.server q.only) (λ f n. tt) p
-  places trace w (Call request) (Refused told) v p q = still trace w v (Call request) (Refused told) (ap Net.server q.1) (λ f n. tt) p
-  places trace w (Outcome id) (Given outcome) v p q = still trace w v (Outcome id) (Given outcome) (ap Net.server q.only) (λ f n. tt) p
-  places trace w (DropCall id) Done v p q = still trace w v (DropCall id) Done (ap Net.server q.only) (λ f n. tt) p
+  places : (trace : List Entry) (w : Net CO CI SO SI) (event : Event) (reply : Reply) (v : Net CO CI SO SI) → Placed trace (jobs w) → Steps c s seals w event reply v → Placed (with_entry trace event reply) (jobs v)
   places trace w Take (Handed (Some job)) v p q = handed trace w v job q p
-  places trace w Take (Handed None) v p q = still trace w v Take (Handed None) (ap Net.server q.same) (λ f n. tt) p
-  places trace w (Answer id result) Done v p q = entry_placed trace _ _ (Answer id result) Done (answered trace w.server v.server id result q.does p) tt
-  places trace w (Answer id result) (Refused told) v p q = still trace w v (Answer id result) (Refused told) (ap Net.server q.1) (λ f n. tt) p
-  places trace w (Answer id result) NoStep v p q = still trace w v (Answer id result) NoStep (ap Net.server q.1) (λ f n. tt) p
-  places trace w (Tick now) Done v p q = still trace w v (Tick now) Done (ap Net.server q.only) (λ f n. tt) p
-  places trace w (Tick now) NoStep v p q = still trace w v (Tick now) NoStep (ap Net.server q.1) (λ f n. tt) p
-  places trace w (Carry side.Client n) (Count k) v p q = still trace w v (Carry side.Client n) (Count k) (ap Net.server q.only) (λ f m. tt) p
-  places trace w (Carry side.Client n) NoMemory v p q = still trace w v (Carry side.Client n) NoMemory (ap Net.server q) (λ f m. tt) p
-  places trace w (Carry side.Server n) (Count k) v p q =
-      same_placed (with_entry trace (Carry side.Server n) (Count k)) _ _ _ _ (ap (λ (x : Net CO CI SO SI). x.server.state.jobs.last) q.only) (ap (λ (x : Net CO CI SO SI). x.server.state.jobs.list) q.only) (entry_placed trace _ _ (Carry side.Server n) (Count k) p tt)
-  places trace w (Carry side.Server n) NoMemory v p q = still trace w v (Carry side.Server n) NoMemory (ap Net.server q) (λ f m. tt) p
+  places trace w (Answer id result) Done v p q = entry_placed trace (jobs v) (Answer id result) Done (answered trace w.server v.server id result q.0 p) tt
   places trace w (Deliver side.Server n) (Count k) v p q =
-      entry_placed trace _ _ (Deliver side.Server n) (Count k) (acts_placed s trace w.moment q.does.does.frames (scene w.server.state w.server.connection) (scene v.server.state q.does.mid) q.does.does.acts p) tt
+      entry_placed trace (jobs v) (Deliver side.Server n) (Count k) (acts_placed s trace w.moment q.does.does.frames (scene w.server.state w.server.connection) (scene v.server.state q.does.mid) q.does.does.acts p) tt
   places trace w (Deliver side.Server n) (Refused told) v p (inl q) =
-      let mid = acts_placed s trace w.moment q.does.frames (scene w.server.state w.server.connection) q.does.mid q.does.acts p in
-      entry_placed trace _ _ (Deliver side.Server n) (Refused told) (subst (λ (z : Server). Placed trace z.jobs.last z.jobs.list) (sym q.does.state) mid) tt
-  places trace w (Deliver side.Server n) (Refused told) v p (inr q) = still trace w v (Deliver side.Server n) (Refused told) (ap Net.server q.1) (λ f m. tt) p
-  places trace w (Deliver side.Client n) (Count k) v p q = still trace w v (Deliver side.Client n) (Count k) (ap Net.server q.only) (λ f m. tt) p
-  places trace w (Deliver side.Client n) (Refused told) v p (inl q) = still trace w v (Deliver side.Client n) (Refused told) (ap Net.server q.only) (λ f m. tt) p
-  places trace w (Deliver side.Client n) (Refused told) v p (inr q) = still trace w v (Deliver side.Client n) (Refused told) (ap Net.server q.1) (λ f m. tt) p
-  places trace w (Cut side.Server keep) Done v p q = entry_placed trace _ _ (Cut side.Server keep) Done (same_state trace w.server v.server (ap (λ (x : Net CO CI SO SI). x.server.state) q.only) p) tt
-  places trace w (Cut side.Client keep) Done v p q = still trace w v (Cut side.Client keep) Done (ap Net.server q.only) (λ f m. tt) p
-  places trace w (Fail side.Client) Done v p q = still trace w v (Fail side.Client) Done (ap Net.server q) (λ f m. tt) p
-  places trace w (Fail side.Server) Done v p q =
-      same_placed (with_entry trace (Fail side.Server) Done) _ _ _ _ (ap (λ (x : Net CO CI SO SI). x.server.state.jobs.last) q) (ap (λ (x : Net CO CI SO SI). x.server.state.jobs.list) q) (entry_placed trace _ _ (Fail side.Server) Done p tt)
-  places trace w (Fail at) NoMemory v p q = still trace w v (Fail at) NoMemory (ap Net.server q) (λ f m. tt) p
-  places trace w (Open request up down) NoStep v p q = still trace w v (Open request up down) NoStep (ap Net.server q) (λ f m. tt) p
-  places trace w (Recv at id) NoStep v p q = still trace w v (Recv at id) NoStep (ap Net.server q) (λ f m. tt) p
-  places trace w (Send at id bytes) NoStep v p q = still trace w v (Send at id bytes) NoStep (ap Net.server q) (λ f m. tt) p
-  places trace w (Close id) NoStep v p q = still trace w v (Close id) NoStep (ap Net.server q) (λ f m. tt) p
-  places trace w (DropReceiver at id) NoStep v p q = still trace w v (DropReceiver at id) NoStep (ap Net.server q) (λ f m. tt) p
-  places trace w (DropSender id) NoStep v p q = still trace w v (DropSender id) NoStep (ap Net.server q) (λ f m. tt) p
-  places trace w (Respond id response) NoStep v p q = still trace w v (Respond id response) NoStep (ap Net.server q) (λ f m. tt) p
-  places trace w (Finish id) NoStep v p q = still trace w v (Finish id) NoStep (ap Net.server q) (λ f m. tt) p
-  places trace w (EndStream id result) NoStep v p q = still trace w v (EndStream id result) NoStep (ap Net.server q) (λ f m. tt) p
-  places trace w Drain NoStep v p q = still trace w v Drain NoStep (ap Net.server q) (λ f m. tt) p
-  places trace w event reply v p q = absurd q
+      let mid = acts_placed s trace w.moment q.0.frames (scene w.server.state w.server.connection) q.0.mid q.0.acts p in
+      entry_placed trace (jobs v) (Deliver side.Server n) (Refused told) (subst (λ (z : Server). Placed trace z.jobs) (sym q.0.state) mid) tt
+  places trace w (Deliver at n) (Refused told) v p (inr q) = still trace w v (Deliver at n) (Refused told) (ap jobs q.1) (λ f m. tt) p
+  places trace w (Deliver side.Client n) (Refused told) v p (inl q) = still trace w v (Deliver side.Client n) (Refused told) (ap jobs q.1) (λ f m. tt) p
+  places trace w event reply v p q = let same : jobs v ≡ jobs w = first_of (cc, search rules) in still trace w v event reply same (λ f n. tt) p
 
-  places_all : (before rest : List Entry) (w v : Net CO CI SO SI) → At before w.server → Runs c s seals w rest v → At (before ++ rest) v.server
-  places_all before [] w v i p = subst (λ (t : List Entry). Placed t v.server.state.jobs.last v.server.state.jobs.list) (sym (append-nil before)) (stays before w.server v.server (ap Net.server p) i)
+  places_all : (before rest : List Entry) (w v : Net CO CI SO SI) → Placed before (jobs w) → Runs c s seals w rest v → Placed (before ++ rest) (jobs v)
+  places_all before [] w v i p = subst (λ (t : List Entry). Placed t (jobs v)) (sym (append-nil before)) (same_placed before (jobs w) (jobs v) (ap jobs p) i)
   places_all before (e ∷ rest) w v i p =
-      subst (λ (t : List Entry). Placed t v.server.state.jobs.last v.server.state.jobs.list) (append_assoc before (e ∷ []) rest) (places_all (before ++ e ∷ []) rest p.0 v (places before w e.event e.reply p.0 i p.1) p.2)
+      subst (λ (t : List Entry). Placed t (jobs v)) (append_assoc before (e ∷ []) rest) (places_all (before ++ e ∷ []) rest p.0 v (places before w e.event e.reply p.0 i p.1) p.2)
 
 right_of : (f : ℕ → ℕ) (n : ℕ) (event : Event) (reply : Reply) → IsBelow f n event reply → IsRightAt f event reply
 right_of f n Take (Handed (Some job)) h = h.0
@@ -217,7 +170,7 @@ past_right f n (e ∷ trace) h = (right_of f n e.event e.reply h.0, past_right f
 
 pub some_streams : {CO CI SO SI : Type 0} (c : Halves CO CI) (s : Halves SO SI) (seals : Bool) (w : Net CO CI SO SI) (trace : List Entry) (v : Net CO CI SO SI) → IsFresh c s w → Runs c s seals w trace v → (stream_of : ℕ → ℕ) × IsStreamOf stream_of trace
 some_streams c s seals w trace v fresh r =
-    let start : Placed [] w.server.state.jobs.last w.server.state.jobs.list = record {
+    let start : Placed [] w.server.state.jobs = record {
       f = λ j. 0;
       below = subst (λ (x : ServerCore _ _). AreBelow (λ j. 0) x.state.jobs.last x.state.jobs.list) (sym fresh.server) tt;
       past = tt;
@@ -249,17 +202,6 @@ above_all (e ∷ trace) = stream_named e.event e.reply + above_all trace
 abbrev spread : (ℕ → ℕ) → List Entry → ℕ → ℕ
 spread f trace j = if was_handed_out j trace then f j else above_all trace + j
 
--- an entry that hands out a job
-record HandsOut (j : ℕ) (event : Event) (reply : Reply) : Type 0 where
-  job : Job
-  event_is : event ≡ Take
-  reply_is : reply ≡ Handed (Some job)
-  id : job.id ≡ j
-
-hands_out_is : (j : ℕ) (event : Event) (reply : Reply) → hands_out j event reply ≡ true → HandsOut j event reply
-hands_out_is j Take (Handed (Some job)) e = record { job = job; event_is = refl; reply_is = refl; id = eqb-true job.id j e }
-hands_out_is j event reply e = absurd (let no : ⊥ = cc in no)
-
 either : (a b : Bool) → (if a then true else b) ≡ true → (a ≡ true) ⊎ ((a ≡ false) × (b ≡ true))
 either true b e = inl refl
 either false b e = inr (refl, e)
@@ -269,17 +211,14 @@ later true b e = refl
 later false b e = e
 
 -- its stream is right, and below all others' numbers
-named_below : (f : ℕ → ℕ) (j : ℕ) (event : Event) (reply : Reply) → IsRightAt f event reply → HandsOut j event reply → f j + 1 ≤ stream_named event reply
-named_below f j event reply right h =
-    subst (λ (e : Event). f j + 1 ≤ stream_named e reply) (sym h.event_is)
-    (subst (λ (r : Reply). f j + 1 ≤ stream_named Take r) (sym h.reply_is)
-    (let at : f h.job.id ≡ h.job.header.stream_id = subst (λ (r : Reply). IsRightAt f Take r) h.reply_is (subst (λ (e : Event). IsRightAt f e reply) h.event_is right) in
-    omega (arith, at, ap f h.id)))
+named_below : (f : ℕ → ℕ) (j : ℕ) (event : Event) (reply : Reply) → IsRightAt f event reply → hands_out j event reply ≡ true → f j + 1 ≤ stream_named event reply
+named_below f j Take (Handed (Some job)) right e = omega (arith, right, ap f (eqb-true job.id j e))
+named_below f j event reply right e = absurd (let no : ⊥ = cc in no)
 
 stream_below : (f : ℕ → ℕ) (j : ℕ) (trace : List Entry) → IsStreamOf f trace → was_handed_out j trace ≡ true → f j + 1 ≤ above_all trace
 stream_below f j [] right e = cc
 stream_below f j (x ∷ trace) right e = elim (either (hands_out j x.event x.reply) (was_handed_out j trace) e) [
-  | inl here ↦ omega (arith, named_below f j x.event x.reply right.0 (hands_out_is j x.event x.reply here))
+  | inl here ↦ omega (arith, named_below f j x.event x.reply right.0 here)
   | inr there ↦ omega (arith, stream_below f j trace right.1 there.1)
 ]
 
@@ -291,16 +230,14 @@ record IsAmong (j : ℕ) (xs : List ℕ) : Type 0 where
 
 runs_append : (a b : List Act) → runs (a ++ b) ≡ runs a ++ runs b
 runs_append [] b = refl
-runs_append (Called request ∷ a) b = runs_append a b
 runs_append (Ran job request ∷ a) b = ap (λ xs. job ∷ xs) (runs_append a b)
-runs_append (Answered result ∷ a) b = runs_append a b
-runs_append (Gave outcome ∷ a) b = runs_append a b
+runs_append (act ∷ a) b = runs_append a b
 
-among_now : (f : ℕ → ℕ) (j k : ℕ) (event : Event) (reply : Reply) → IsRightAt f event reply → HandsOut j event reply → f j ≡ k → runs (act_of f k event reply) ≡ j ∷ []
-among_now f j k event reply right h at =
-    let stream : h.job.header.stream_id ≡ k = sym (subst (λ (r : Reply). IsRightAt f Take r) h.reply_is (subst (λ (e : Event). IsRightAt f e reply) h.event_is right)) ∙ ap f h.id ∙ at in
-    ap (λ (e : Event). runs (act_of f k e reply)) h.event_is ∙ ap (λ (r : Reply). runs (act_of f k Take r)) h.reply_is
-    ∙ ap (λ (b : Bool). runs (only_if b (Ran h.job.id h.job.request))) (eq-eqb h.job.header.stream_id k stream) ∙ ap (λ (n : ℕ). n ∷ []) h.id
+among_now : (f : ℕ → ℕ) (j k : ℕ) (event : Event) (reply : Reply) → IsRightAt f event reply → hands_out j event reply ≡ true → f j ≡ k → runs (act_of f k event reply) ≡ j ∷ []
+among_now f j k Take (Handed (Some job)) right e at =
+    let id : job.id ≡ j = eqb-true job.id j e in
+    ap (λ (b : Bool). runs (only_if b (Ran job.id job.request))) (eq-eqb job.header.stream_id k (sym right ∙ ap f id ∙ at)) ∙ ap (λ (n : ℕ). n ∷ []) id
+among_now f j k event reply right e at = absurd (let no : ⊥ = cc in no)
 
 among : (f : ℕ → ℕ) (j k : ℕ) (trace : List Entry) → IsStreamOf f trace → was_handed_out j trace ≡ true → f j ≡ k → IsAmong j (runs (acts f k trace))
 among f j k [] right e at = cc
@@ -308,7 +245,7 @@ among f j k (x ∷ trace) right e at = elim (either (hands_out j x.event x.reply
   | inl here ↦ record {
     front = [];
     back = runs (acts f k trace);
-    is = runs_append (act_of f k x.event x.reply) (acts f k trace) ∙ ap (λ xs. xs ++ runs (acts f k trace)) (among_now f j k x.event x.reply right.0 (hands_out_is j x.event x.reply here) at);
+    is = runs_append (act_of f k x.event x.reply) (acts f k trace) ∙ ap (λ xs. xs ++ runs (acts f k trace)) (among_now f j k x.event x.reply right.0 here at);
   }
   | inr there ↦ let a = among f j k trace right.1 there.1 at in record {
     front = runs (act_of f k x.event x.reply) ++ a.front;
@@ -318,26 +255,16 @@ among f j k (x ∷ trace) right e at = elim (either (hands_out j x.event x.reply
 ]
 
 -- a list of at most one item has no two
-alone : (front back : List ℕ) (i : ℕ) → length (front ++ i ∷ back) ≤ 1 → front ++ i ∷ back ≡ i ∷ []
-alone [] [] i h = refl
-alone [] (b ∷ back) i h = absurd (let no : ⊥ = omega (arith, h) in no)
-alone (z ∷ front) back i h = absurd (let no : ⊥ = omega (arith, h, length-append front (i ∷ back)) in no)
-
-only_among : (xs : List ℕ) (i : ℕ) → length xs ≤ 1 → IsAmong i xs → xs ≡ i ∷ []
-only_among xs i short a = a.is ∙ alone a.front a.back i (subst (λ (ys : List ℕ). length ys ≤ 1) a.is short)
-
 same_item : (xs : List ℕ) (i j : ℕ) → length xs ≤ 1 → IsAmong i xs → IsAmong j xs → i ≡ j
-same_item xs i j short a b = let e : i ∷ [] ≡ j ∷ [] = sym (only_among xs i short a) ∙ only_among xs j short b in cc
+same_item [] i j short a b = absurd (never_empty a.front a.back i (sym a.is))
+same_item (x ∷ []) i j short a b = (only_one a.front a.back i x (sym a.is)).1 ∙ sym (only_one b.front b.back j x (sym b.is)).1
+same_item (x ∷ y ∷ xs) i j short a b = absurd (let no : ⊥ = omega (arith, short) in no)
 
 spread_handed : (f : ℕ → ℕ) (trace : List Entry) (j : ℕ) → was_handed_out j trace ≡ true → spread f trace j ≡ f j
 spread_handed f trace j e = cond-true (was_handed_out j trace) _ _ e
 
 spread_other : (f : ℕ → ℕ) (trace : List Entry) (j : ℕ) → was_handed_out j trace ≡ false → spread f trace j ≡ above_all trace + j
 spread_other f trace j e = cond-false (was_handed_out j trace) _ _ e
-
-true_or_false : (b : Bool) → (b ≡ true) ⊎ (b ≡ false)
-true_or_false true = inl refl
-true_or_false false = inr refl
 
 two_jobs : (f : ℕ → ℕ) (trace : List Entry) (i j : ℕ) → IsStreamOf f trace → ((k : ℕ) → length (runs (acts f k trace)) ≤ 1) → spread f trace i ≡ spread f trace j
     → (was_handed_out i trace ≡ true) ⊎ (was_handed_out i trace ≡ false) → (was_handed_out j trace ≡ true) ⊎ (was_handed_out j trace ≡ false) → i ≡ j
@@ -368,5 +295,5 @@ pub one_to_one : (trace : List Entry) (f : ℕ → ℕ) → IsStreamOf f trace �
 one_to_one trace f right short = (
   spread f trace,
   right_in f (spread f trace) trace (λ j e. spread_handed f trace j e) right,
-  λ i j same. two_jobs f trace i j right short same (true_or_false (was_handed_out i trace)) (true_or_false (was_handed_out j trace)),
+  λ i j same. two_jobs f trace i j right short same (cases_Bool (was_handed_out i trace)) (cases_Bool (was_handed_out j trace)),
 )

@@ -16,19 +16,19 @@ use Rattle.ttrpc_client.specs.Table.{Gives, LandsOn, by_code, by_status}
 use Rattle.ttrpc_client.specs.Happens.{GivesOutcome, TellsOutcome, expired_at, expired_error, is_due, left_of}
 use Rattle.ttrpc_flight.specs.Flight.{Flying}
 use Rattle.ttrpc_world.specs.Story.{Act, Called, Ran, Answered, Gave, HasOkStatus, outcomes, work}
-use Rattle.ttrpc_world.proofs.Stages.{Stage, Unborn, Sent, Made, Running, Told, Over, Ends, Given, HasLanded, IsAnswerOf, IsBorn, IsDone, IsJob, IsSent, IsStage, IsToldOf, IsWhole, Story, all_work, downs_of, jobs_of, outcomes_append, ups_of, whole_work, work_append, works_of}
+use Rattle.ttrpc_world.proofs.Stages.{Stage, Unborn, Sent, Made, Running, Told, Over, Ends, Given, HasLanded, IsAnswerOf, IsBorn, IsDone, IsJob, IsKept, IsSent, IsStage, IsToldOf, IsWhole, Story, all_work, downs_of, given_of, jobs_of, kept_is_born, outcomes_append, ups_of, whole_work, work_append, works_of}
 
 -- ---- lists of at most one item
 
 pub no_cons : {X : Type 0} (x : X) (xs : List X) → x ∷ xs ≡ [] → ⊥
 no_cons x xs h = cc
 
-never_empty : {X : Type 0} (front back : List X) (x : X) → front ++ x ∷ back ≡ [] → ⊥
+pub never_empty : {X : Type 0} (front back : List X) (x : X) → front ++ x ∷ back ≡ [] → ⊥
 never_empty [] back x h = cc
 never_empty (z ∷ front) back x h = cc
 
 -- a list of one item, cut around an item
-only_one : {X : Type 0} (front back : List X) (x y : X) → front ++ x ∷ back ≡ y ∷ [] → (front ≡ []) × (x ≡ y) × (back ≡ [])
+pub only_one : {X : Type 0} (front back : List X) (x y : X) → front ++ x ∷ back ≡ y ∷ [] → (front ≡ []) × (x ≡ y) × (back ≡ [])
 only_one [] back x y h = (refl, cc, cc)
 only_one (z ∷ []) back x y h = let bad : x ∷ back ≡ [] = cc in cc
 only_one (z ∷ w ∷ front) back x y h = let bad : w ∷ (front ++ x ∷ back) ≡ [] = cc in cc
@@ -36,39 +36,61 @@ only_one (z ∷ w ∷ front) back x y h = let bad : w ∷ (front ++ x ∷ back) 
 -- ---- what was given stays
 
 -- a call goes on, and gives nothing
+kept_moves : (p q : Stage) (call : Call) → (IsBorn p → IsBorn q) → ((r : Response) → HasLanded p r → HasLanded q r) → IsKept p call → IsKept q call
+kept_moves p q (Ended (Ok r)) born landed h = landed r h
+kept_moves p q call born landed h = born h
+
 ends_move : (p q : Stage) (a b : List Act) (e : Option Call) → outcomes b ≡ outcomes a → (IsBorn p → IsBorn q)
     → ((r : Response) → HasLanded p r → HasLanded q r × (IsWhole a r → IsWhole b r)) → Ends p a e → Ends q b e
 ends_move p q a b None g born landed (inl h) = inl (g ∙ h)
 ends_move p q a b None g born landed (inr (inl h)) = inr (inl (h.0, g ∙ h.1, born h.2))
 ends_move p q a b None g born landed (inr (inr h)) = let l = landed h.0 h.1 in inr (inr (h.0, l.0, l.1 h.2))
-ends_move p q a b (Some (Waiting deadline)) g born landed h = (g ∙ h.0, born h.1)
-ends_move p q a b (Some Expired) g born landed h = (g ∙ h.0, born h.1)
-ends_move p q a b (Some (Ended (Ok r))) g born landed h = (g ∙ h.0, (landed r h.1).0)
-ends_move p q a b (Some (Ended (Err x))) g born landed h = (g ∙ h.0, born h.1)
+ends_move p q a b (Some call) g born landed h = (g ∙ h.0, kept_moves p q call born (λ r l. (landed r l).0) h.1)
 
 unborn_gave : (a : List Act) (e : Option Call) → Ends Unborn a e → outcomes a ≡ []
-unborn_gave a None (inl h) = h
-unborn_gave a None (inr (inl h)) = absurd h.2
-unborn_gave a None (inr (inr h)) = absurd h.1
-unborn_gave a (Some (Waiting deadline)) h = h.0
-unborn_gave a (Some Expired) h = h.0
-unborn_gave a (Some (Ended (Ok r))) h = h.0
-unborn_gave a (Some (Ended (Err x))) h = h.0
+unborn_gave a e h = elim (given_of Unborn a e h) [
+  | inl none ↦ none
+  | inr (inl told) ↦ absurd told.2
+  | inr (inr whole) ↦ absurd whole.1
+]
 
 -- ---- the turns
+
+-- The stage stays.
+stays_here : (Y Y2 : Type 0) (k : ℕ) (a a2 : List Act) (u u2 : List Flying) (j j2 : List ActiveJob) (d d2 : List Flying) (e e2 : Option Call)
+    → (s : Story Y k a u j d e) → (Y2 → Y) → work a2 ≡ work a → u2 ≡ u → j2 ≡ j → d2 ≡ d → Ends s.stage a2 e2 → Story Y2 k a2 u2 j2 d2 e2
+stays_here Y Y2 k a a2 u u2 j j2 d d2 e e2 s y ha hu hj hd ends = record {
+  stage = s.stage;
+  is_stage = s.is_stage;
+  young = λ z. s.young (y z);
+  works_is = ha ∙ s.works_is;
+  ups_is = hu ∙ s.ups_is;
+  jobs_is = hj ∙ s.jobs_is;
+  downs_is = hd ∙ s.downs_is;
+  ends = ends;
+}
 
 -- Nothing changes at an id that an event isn't about.
 pub elsewhere : (Y Y2 : Type 0) (k : ℕ) (a a2 : List Act) (u u2 : List Flying) (j j2 : List ActiveJob) (d d2 : List Flying) (e e2 : Option Call)
     → Story Y k a u j d e → (Y2 → Y) → a2 ≡ a → u2 ≡ u → j2 ≡ j → d2 ≡ d → e2 ≡ e → Story Y2 k a2 u2 j2 d2 e2
-elsewhere Y Y2 k a a2 u u2 j j2 d d2 e e2 s y ha hu hj hd he = record {
-  stage = s.stage;
-  is_stage = s.is_stage;
-  young = λ z. s.young (y z);
-  works_is = ap work ha ∙ s.works_is;
-  ups_is = hu ∙ s.ups_is;
-  jobs_is = hj ∙ s.jobs_is;
-  downs_is = hd ∙ s.downs_is;
-  ends = subst (λ (x : List Act). Ends s.stage x e2) (sym ha) (subst (λ (x : Option Call). Ends s.stage a x) (sym he) s.ends);
+elsewhere Y Y2 k a a2 u u2 j j2 d d2 e e2 s y ha hu hj hd he =
+    stays_here Y Y2 k a a2 u u2 j j2 d d2 e e2 s y (ap work ha) hu hj hd
+    (subst (λ (x : List Act). Ends s.stage x e2) (sym ha) (subst (λ (x : Option Call). Ends s.stage a x) (sym he) s.ends))
+
+-- A call that has an answer yet to come goes on to another stage, by no act or one that gives no outcome.
+moves_on : {Y Y2 : Type 0} {k : ℕ} {a a2 : List Act} {u u2 : List Flying} {j j2 : List ActiveJob} {d d2 : List Flying} {e : Option Call} (more : List Act) (p q : Stage)
+    → (s : Story Y k a u j d e) → s.stage ≡ p → (Y2 → Y) → IsBorn p → ((r : Response) → HasLanded p r → ⊥) → IsBorn q → IsStage k q
+    → a2 ≡ a ++ more → outcomes more ≡ [] → works_of q ≡ works_of p ++ work more → u2 ≡ ups_of q → j2 ≡ jobs_of q → d2 ≡ downs_of q → Story Y2 k a2 u2 j2 d2 e
+moves_on {a} {a2} {e} more p q s at y born never born_then is ha quiet grows hu hj hd = record {
+  stage = q;
+  is_stage = is;
+  young = λ z. absurd (subst IsBorn (sym at ∙ s.young (y z)) born);
+  works_is = ap work ha ∙ work_append a more ∙ ap (λ xs. xs ++ work more) (s.works_is ∙ ap works_of at) ∙ sym grows;
+  ups_is = hu;
+  jobs_is = hj;
+  downs_is = hd;
+  ends = ends_move p q a a2 e (ap outcomes ha ∙ outcomes_append a more ∙ ap (λ xs. outcomes a ++ xs) quiet ∙ append-nil (outcomes a)) (λ b. born_then) (λ r l. absurd (never r l))
+      (subst (λ (x : Stage). Ends x a e) at s.ends);
 }
 
 -- A call is accepted.
@@ -89,12 +111,8 @@ calls_here Y Y2 k a a2 u u2 j d e e2 request x deadline s y y2 sent ha hu he =
     }
 
 sent_only : (p : Stage) (x : Flying) (u : List Flying) → x ∷ u ≡ ups_of p → (request : Request) × (p ≡ Sent request x) × (u ≡ [])
-sent_only Unborn x u h = absurd (no_cons x u h)
 sent_only (Sent request z) x u h = (request, (let same : x ≡ z = cc in ap (λ (w : Flying). Sent request w) (sym same)), cc)
-sent_only (Made request job) x u h = absurd (no_cons x u h)
-sent_only (Running request job) x u h = absurd (no_cons x u h)
-sent_only (Told done r y) x u h = absurd (no_cons x u h)
-sent_only (Over done) x u h = absurd (no_cons x u h)
+sent_only p x u h = absurd (no_cons x u h)
 
 -- What a frame on its way to the server says of its call.
 pub record Arriving (k : ℕ) (x : Flying) : Type 0 where
@@ -116,17 +134,8 @@ pub arrives_here : (Y : Type 0) (k : ℕ) (a : List Act) (x : Flying) (u : List 
 unfolding sent_only arriving
 arrives_here Y k a x u j j2 d e job s is hj =
     let o = sent_only s.stage x u s.ups_is in
-    let q = o.1 in
-    record {
-      stage = Made o.0 job;
-      is_stage = is;
-      young = λ z. let bad : Sent o.0 x ≡ Unborn = sym q ∙ s.young z in cc;
-      works_is = s.works_is ∙ ap works_of q;
-      ups_is = o.2;
-      jobs_is = hj ∙ ap (λ (xs : List ActiveJob). xs ++ job ∷ []) (s.jobs_is ∙ ap jobs_of q);
-      downs_is = s.downs_is ∙ ap downs_of q;
-      ends = ends_move (Sent o.0 x) (Made o.0 job) a a e refl (λ b. tt) (λ r l. absurd l) (subst (λ (p : Stage). Ends p a e) q s.ends);
-    }
+    moves_on [] (Sent o.0 x) (Made o.0 job) s o.1 (λ y. y) tt (λ r l. l) tt is (sym (append-nil a)) refl refl o.2
+    (hj ∙ ap (λ (xs : List ActiveJob). xs ++ job ∷ []) (s.jobs_is ∙ ap jobs_of o.1)) (s.downs_is ∙ ap downs_of o.1)
 
 -- The server answers the request itself.
 pub refers_here : (Y : Type 0) (k : ℕ) (a : List Act) (x : Flying) (u : List Flying) (j : List ActiveJob) (d d2 : List Flying) (e : Option Call) (r : Response) (y : Flying)
@@ -134,43 +143,29 @@ pub refers_here : (Y : Type 0) (k : ℕ) (a : List Act) (x : Flying) (u : List F
 unfolding sent_only arriving
 refers_here Y k a x u j d d2 e r y s is hd =
     let o = sent_only s.stage x u s.ups_is in
-    let q = o.1 in
-    let done : List Act = Called o.0 ∷ [] in
-    record {
-      stage = Told done r y;
-      is_stage = is;
-      young = λ z. let bad : Sent o.0 x ≡ Unborn = sym q ∙ s.young z in cc;
-      works_is = s.works_is ∙ ap works_of q;
-      ups_is = o.2;
-      jobs_is = s.jobs_is ∙ ap jobs_of q;
-      downs_is = hd ∙ ap (λ (xs : List Flying). xs ++ y ∷ []) (s.downs_is ∙ ap downs_of q);
-      ends = ends_move (Sent o.0 x) (Told done r y) a a e refl (λ b. tt) (λ r2 l. absurd l) (subst (λ (p : Stage). Ends p a e) q s.ends);
-    }
+    moves_on [] (Sent o.0 x) (Told (Called o.0 ∷ []) r y) s o.1 (λ z. z) tt (λ r2 l. l) tt is (sym (append-nil a)) refl refl o.2
+    (s.jobs_is ∙ ap jobs_of o.1) (hd ∙ ap (λ (xs : List Flying). xs ++ y ∷ []) (s.downs_is ∙ ap downs_of o.1))
 
 pub called_alone : (request : Request) → IsDone (Called request ∷ [])
 called_alone request = record { one_call = refl; one_run = omega arith }
 
+-- Its request goes out of the world, if it is still in flight.
+thrown_at : (Y : Type 0) (k : ℕ) (a : List Act) (u u2 : List Flying) (j : List ActiveJob) (d : List Flying) (e : Option Call) (p : Stage) → (s : Story Y k a u j d e) → s.stage ≡ p → u2 ≡ [] → Story Y k a u2 j d e
+thrown_at Y k a u u2 j d e (Sent request x) s at none =
+    moves_on [] (Sent request x) (Over (Called request ∷ [])) s at (λ y. y) tt (λ r l. l) tt (called_alone request) (sym (append-nil a)) refl refl none (s.jobs_is ∙ ap jobs_of at) (s.downs_is ∙ ap downs_of at)
+thrown_at Y k a u u2 j d e p s at none = stays_here Y Y k a a u u2 j j d d e e s (λ y. y) refl (none ∙ sym (s.ups_is ∙ ap ups_of at)) refl refl s.ends
+
+pub thrown_here : (Y : Type 0) (k : ℕ) (a : List Act) (u u2 : List Flying) (j : List ActiveJob) (d : List Flying) (e : Option Call) → Story Y k a u j d e → (u2 ≡ u) ⊎ (u2 ≡ []) → Story Y k a u2 j d e
+thrown_here Y k a u u2 j d e s (inl h) = elsewhere Y Y k a a u u2 j j d d e e s (λ y. y) refl h refl refl refl
+thrown_here Y k a u u2 j d e s (inr h) = thrown_at Y k a u u2 j d e s.stage s refl h
+
 -- It has no answer at all, since none can be sent.
 pub leaves_out_here : (Y : Type 0) (k : ℕ) (a : List Act) (x : Flying) (u : List Flying) (j : List ActiveJob) (d : List Flying) (e : Option Call)
     → Story Y k a (x ∷ u) j d e → Story Y k a u j d e
-leaves_out_here Y k a x u j d e s =
-    let o = sent_only s.stage x u s.ups_is in
-    let q = o.1 in
-    record {
-      stage = Over (Called o.0 ∷ []);
-      is_stage = called_alone o.0;
-      young = λ z. let bad : Sent o.0 x ≡ Unborn = sym q ∙ s.young z in cc;
-      works_is = s.works_is ∙ ap works_of q;
-      ups_is = o.2;
-      jobs_is = s.jobs_is ∙ ap jobs_of q;
-      downs_is = s.downs_is ∙ ap downs_of q;
-      ends = ends_move (Sent o.0 x) (Over (Called o.0 ∷ [])) a a e refl (λ b. tt) (λ r l. absurd l) (subst (λ (p : Stage). Ends p a e) q s.ends);
-    }
+leaves_out_here Y k a x u j d e s = thrown_here Y k a (x ∷ u) u j d e s (inr (sent_only s.stage x u s.ups_is).2)
 
 made_only : (k : ℕ) (p : Stage) (front back : List ActiveJob) (job : ActiveJob) (request : Request) → IsStage k p → job.request ≡ Some request → front ++ job ∷ back ≡ jobs_of p
     → (p ≡ Made request job) × (front ≡ []) × (back ≡ [])
-made_only k Unborn front back job request s asked h = absurd (never_empty front back job h)
-made_only k (Sent r x) front back job request s asked h = absurd (never_empty front back job h)
 made_only k (Made r j) front back job request s asked h =
     let o = only_one front back job j h in
     let same_job : j ≡ job = sym o.1 in
@@ -181,8 +176,7 @@ made_only k (Running r j) front back job request s asked h =
     let o = only_one front back job j h in
     let bad : Some request ≡ None = sym asked ∙ ap ActiveJob.request o.1 ∙ s.request in
     absurd (let no : ⊥ = cc in no)
-made_only k (Told done r x) front back job request s asked h = absurd (never_empty front back job h)
-made_only k (Over done) front back job request s asked h = absurd (never_empty front back job h)
+made_only k p front back job request s asked h = absurd (never_empty front back job h)
 
 -- The job is handed out.
 pub takes_here : (Y : Type 0) (k : ℕ) (a a2 : List Act) (u : List Flying) (j j2 : List ActiveJob) (d : List Flying) (e : Option Call) (front back : List ActiveJob) (job taken : ActiveJob) (request : Request)
@@ -192,22 +186,13 @@ takes_here Y k a a2 u j j2 d e front back job taken request s was is asked now h
     let o = made_only k s.stage front back job request s.is_stage asked (sym was ∙ s.jobs_is) in
     let q = o.0 in
     let made : IsJob k (Some request) job = subst (λ (p : Stage). IsStage k p) q s.is_stage in
-    let act : List Act = Ran job.id request ∷ [] in
-    record {
-      stage = Running request taken;
-      is_stage = record { request = ap ActiveJob.request now; stream = ap (λ (x : ActiveJob). x.header.stream_id) now ∙ made.stream; within = made.within };
-      young = λ z. let bad : Made request job ≡ Unborn = sym q ∙ s.young z in cc;
-      works_is = ap work ha ∙ work_append a act ∙ ap (λ xs. xs ++ act) (s.works_is ∙ ap works_of q) ∙ ap (λ (n : ℕ). Called request ∷ Ran n request ∷ []) (sym (ap ActiveJob.id now));
-      ups_is = s.ups_is ∙ ap ups_of q;
-      jobs_is = is ∙ ap (λ (xs : List ActiveJob). xs ++ taken ∷ back) o.1 ∙ ap (λ (xs : List ActiveJob). taken ∷ xs) o.2;
-      downs_is = s.downs_is ∙ ap downs_of q;
-      ends = ends_move (Made request job) (Running request taken) a a2 e (ap outcomes ha ∙ outcomes_append a act ∙ append-nil (outcomes a)) (λ b. tt) (λ r l. absurd l) (subst (λ (p : Stage). Ends p a e) q s.ends);
-    }
+    moves_on (Ran job.id request ∷ []) (Made request job) (Running request taken) s q (λ y. y) tt (λ r l. l) tt
+    (record { request = ap ActiveJob.request now; stream = ap (λ (x : ActiveJob). x.header.stream_id) now ∙ made.stream; within = made.within })
+    ha refl (ap (λ (n : ℕ). Called request ∷ Ran n request ∷ []) (ap ActiveJob.id now)) (s.ups_is ∙ ap ups_of q)
+    (is ∙ ap (λ (xs : List ActiveJob). xs ++ taken ∷ back) o.1 ∙ ap (λ (xs : List ActiveJob). taken ∷ xs) o.2) (s.downs_is ∙ ap downs_of q)
 
 running_only : (k : ℕ) (p : Stage) (front back : List ActiveJob) (job : ActiveJob) → IsStage k p → job.request ≡ None → front ++ job ∷ back ≡ jobs_of p
     → (request : Request) × (p ≡ Running request job) × (front ≡ []) × (back ≡ [])
-running_only k Unborn front back job s asked h = absurd (never_empty front back job h)
-running_only k (Sent r x) front back job s asked h = absurd (never_empty front back job h)
 running_only k (Made r j) front back job s asked h =
     let o = only_one front back job j h in
     let bad : None ≡ Some r = sym asked ∙ ap ActiveJob.request o.1 ∙ s.request in
@@ -215,8 +200,7 @@ running_only k (Made r j) front back job s asked h =
 running_only k (Running r j) front back job s asked h =
     let o = only_one front back job j h in
     (r, ap (λ (x : ActiveJob). Running r x) (sym o.1), o.0, o.2)
-running_only k (Told done r x) front back job s asked h = absurd (never_empty front back job h)
-running_only k (Over done) front back job s asked h = absurd (never_empty front back job h)
+running_only k p front back job s asked h = absurd (never_empty front back job h)
 
 -- What a job that runs says of its call.
 pub record IsRunning (k : ℕ) (job : ActiveJob) : Type 0 where
@@ -237,19 +221,8 @@ pub answers_here : (Y : Type 0) (k : ℕ) (a a2 : List Act) (u : List Flying) (j
 unfolding running_only is_running
 answers_here Y k a a2 u j j2 d d2 e front back job response r y s was is asked told ha hd =
     let o = running_only k s.stage front back job s.is_stage asked (sym was ∙ s.jobs_is) in
-    let q = o.1 in
-    let act : List Act = Answered (Ok response) ∷ [] in
-    let done : List Act = whole_work o.0 job.id response in
-    record {
-      stage = Told done r y;
-      is_stage = told;
-      young = λ z. let bad : Running o.0 job ≡ Unborn = sym q ∙ s.young z in cc;
-      works_is = ap work ha ∙ work_append a act ∙ ap (λ xs. xs ++ act) (s.works_is ∙ ap works_of q);
-      ups_is = s.ups_is ∙ ap ups_of q;
-      jobs_is = is ∙ ap (λ (xs : List ActiveJob). xs ++ back) o.2 ∙ o.3;
-      downs_is = hd ∙ ap (λ (xs : List Flying). xs ++ y ∷ []) (s.downs_is ∙ ap downs_of q);
-      ends = ends_move (Running o.0 job) (Told done r y) a a2 e (ap outcomes ha ∙ outcomes_append a act ∙ append-nil (outcomes a)) (λ b. tt) (λ r2 l. absurd l) (subst (λ (p : Stage). Ends p a e) q s.ends);
-    }
+    moves_on (Answered (Ok response) ∷ []) (Running o.0 job) (Told (whole_work o.0 job.id response) r y) s o.1 (λ z. z) tt (λ r2 l. l) tt told ha refl refl (s.ups_is ∙ ap ups_of o.1)
+    (is ∙ ap (λ (xs : List ActiveJob). xs ++ back) o.2 ∙ o.3) (hd ∙ ap (λ (xs : List Flying). xs ++ y ∷ []) (s.downs_is ∙ ap downs_of o.1))
 
 failed_work : (request : Request) (job : ℕ) (error : Error) → IsDone (Called request ∷ Ran job request ∷ Answered (Err error) ∷ [])
 failed_work request job error = record { one_call = refl; one_run = omega arith }
@@ -259,27 +232,12 @@ pub fails_here : (Y : Type 0) (k : ℕ) (a a2 : List Act) (u : List Flying) (j j
     → Story Y k a u j d e → j ≡ front ++ job ∷ back → j2 ≡ front ++ back → job.request ≡ None → a2 ≡ a ++ Answered (Err error) ∷ [] → Story Y k a2 u j2 d e
 fails_here Y k a a2 u j j2 d e front back job error s was is asked ha =
     let o = running_only k s.stage front back job s.is_stage asked (sym was ∙ s.jobs_is) in
-    let q = o.1 in
-    let act : List Act = Answered (Err error) ∷ [] in
-    let done : List Act = Called o.0 ∷ Ran job.id o.0 ∷ Answered (Err error) ∷ [] in
-    record {
-      stage = Over done;
-      is_stage = failed_work o.0 job.id error;
-      young = λ z. let bad : Running o.0 job ≡ Unborn = sym q ∙ s.young z in cc;
-      works_is = ap work ha ∙ work_append a act ∙ ap (λ xs. xs ++ act) (s.works_is ∙ ap works_of q);
-      ups_is = s.ups_is ∙ ap ups_of q;
-      jobs_is = is ∙ ap (λ (xs : List ActiveJob). xs ++ back) o.2 ∙ o.3;
-      downs_is = s.downs_is ∙ ap downs_of q;
-      ends = ends_move (Running o.0 job) (Over done) a a2 e (ap outcomes ha ∙ outcomes_append a act ∙ append-nil (outcomes a)) (λ b. tt) (λ r l. absurd l) (subst (λ (p : Stage). Ends p a e) q s.ends);
-    }
+    moves_on (Answered (Err error) ∷ []) (Running o.0 job) (Over (Called o.0 ∷ Ran job.id o.0 ∷ Answered (Err error) ∷ [])) s o.1 (λ z. z) tt (λ r l. l) tt (failed_work o.0 job.id error) ha refl refl
+    (s.ups_is ∙ ap ups_of o.1) (is ∙ ap (λ (xs : List ActiveJob). xs ++ back) o.2 ∙ o.3) (s.downs_is ∙ ap downs_of o.1)
 
 told_only : (p : Stage) (x : Flying) (d : List Flying) → x ∷ d ≡ downs_of p → (done : List Act) × (r : Response) × (p ≡ Told done r x) × (d ≡ [])
-told_only Unborn x d h = absurd (no_cons x d h)
-told_only (Sent request y) x d h = absurd (no_cons x d h)
-told_only (Made request job) x d h = absurd (no_cons x d h)
-told_only (Running request job) x d h = absurd (no_cons x d h)
 told_only (Told done r y) x d h = (done, r, (let same : x ≡ y = cc in ap (λ (w : Flying). Told done r w) (sym same)), cc)
-told_only (Over done) x d h = absurd (no_cons x d h)
+told_only p x d h = absurd (no_cons x d h)
 
 -- What a frame on its way to the client says of its call.
 pub record Returning (k : ℕ) (x : Flying) : Type 0 where
@@ -292,11 +250,11 @@ returning Y k a u j x d e s =
     let o = told_only s.stage x d s.downs_is in
     record { done = o.0; r = o.1; is_told = subst (λ (p : Stage). IsStage k p) o.2 s.is_stage }
 
-ends_by : (done : List Act) (r : Response) (x : Flying) (a : List Act) (outcome : Result Response Error) → IsAnswerOf done r → outcomes a ≡ [] → ((HasOkStatus r.status × (outcome ≡ Ok r)) ⊎ ((e : Error) × (outcome ≡ Err e)))
+ends_by : (done : List Act) (r : Response) (a : List Act) (outcome : Result Response Error) → IsAnswerOf done r → outcomes a ≡ [] → ((HasOkStatus r.status × (outcome ≡ Ok r)) ⊎ ((e : Error) × (outcome ≡ Err e)))
     → Ends (Over done) a (Some (Ended outcome))
-ends_by done r x a outcome answer none (inl h) =
+ends_by done r a outcome answer none (inl h) =
     subst (λ (o : Result Response Error). Ends (Over done) a (Some (Ended o))) (sym h.1) (none, (h.0, answer h.0))
-ends_by done r x a outcome answer none (inr h) = subst (λ (o : Result Response Error). Ends (Over done) a (Some (Ended o))) (sym h.1) (none, tt)
+ends_by done r a outcome answer none (inr h) = subst (λ (o : Result Response Error). Ends (Over done) a (Some (Ended o))) (sym h.1) (none, tt)
 
 -- the response is an outcome that is Ok, or none that is
 code_cases : (code : ℤ) (s : Status) (r : Response) → ((is_ok_code code ≡ true) × (by_code code s r ≡ Ok r)) ⊎ ((e : Error) × (by_code code s r ≡ Err e))
@@ -308,20 +266,12 @@ status_cases : (status : Option Status) (r : Response) → (HasOkStatus status �
 status_cases None r = inl (tt, refl)
 status_cases (Some s) r = code_cases s.code s r
 
-by_code_cases : (r : Response) → (HasOkStatus r.status × (by_status r.status r ≡ Ok r)) ⊎ ((e : Error) × (by_status r.status r ≡ Err e))
-by_code_cases r = status_cases r.status r
-
 ends_land : (done : List Act) (r : Response) (x : Flying) (a : List Act) (e e2 : Option Call) → IsAnswerOf done r → LandsOn (Gives (by_status r.status r)) e e2 → Ends (Told done r x) a e → Ends (Over done) a e2
-ends_land done r x a None e2 answer l (inl h) = subst (λ (z : Option Call). Ends (Over done) a z) (sym l) (inl h)
-ends_land done r x a None e2 answer l (inr (inl h)) = subst (λ (z : Option Call). Ends (Over done) a z) (sym l) (inr (inl (h.0, h.1, tt)))
-ends_land done r x a None e2 answer l (inr (inr h)) = absurd h.1
-ends_land done r x a (Some Expired) e2 answer l h = subst (λ (z : Option Call). Ends (Over done) a z) (sym l) (h.0, tt)
-ends_land done r x a (Some (Ended (Ok o))) e2 answer l h = absurd h.1
-ends_land done r x a (Some (Ended (Err o))) e2 answer l h = subst (λ (z : Option Call). Ends (Over done) a z) (sym l) (h.0, tt)
 ends_land done r x a (Some (Waiting deadline)) e2 answer l h =
     let given : (o : Result Response Error) × (o ≡ by_status r.status r) × (e2 ≡ Some (Ended o)) = l in
     subst (λ (z : Option Call). Ends (Over done) a z) (sym (given.2 ∙ ap (λ (o : Result Response Error). Some (Ended o)) given.1))
-    (ends_by done r x a (by_status r.status r) answer h.0 (by_code_cases r))
+    (ends_by done r a (by_status r.status r) answer h.0 (status_cases r.status r))
+ends_land done r x a e e2 answer l h = subst (λ (z : Option Call). Ends (Over done) a z) (sym l) (ends_move (Told done r x) (Over done) a a e refl (λ b. tt) (λ r2 n. absurd n) h)
 
 -- The response arrives. A call that was forgotten stays so.
 pub lands_here : (Y Y2 : Type 0) (k : ℕ) (a : List Act) (u : List Flying) (j : List ActiveJob) (x : Flying) (d : List Flying) (e e2 : Option Call)
@@ -345,13 +295,9 @@ lands_here Y Y2 k a u j x d e e2 s y l =
 -- ---- outcomes
 
 whole_of : (p : Stage) (a : List Act) (r : Response) → work a ≡ works_of p → outcomes a ≡ [] → HasLanded p r → IsWhole (a ++ Gave (Ok r) ∷ []) r
-whole_of Unborn a r w g h = absurd h
-whole_of (Sent request x) a r w g h = absurd h
-whole_of (Made request j) a r w g h = absurd h
-whole_of (Running request j) a r w g h = absurd h
-whole_of (Told done told x) a r w g h = absurd h
 whole_of (Over done) a r w g h =
     (h.0, (h.1.0, h.1.1, ap (λ (xs : List Act). xs ++ Gave (Ok r) ∷ []) (all_work a g ∙ w ∙ h.1.2)))
+whole_of p a r w g h = absurd h
 
 -- what is kept ends, and is what was given
 ends_ask : (p : Stage) (a : List Act) (o : Result Response Error) → work a ≡ works_of p → Ends p a (Some (Ended o)) → Given p (a ++ Gave o ∷ [])
@@ -394,121 +340,31 @@ ends_asked p a failure (Some (Ended o)) given w g h = ends_given p a o given w g
 -- The outcome is asked for.
 pub asks_here : (Y Y2 : Type 0) (k : ℕ) (a a2 : List Act) (u : List Flying) (j : List ActiveJob) (d : List Flying) (failure : Option Failure) (e e2 : Option Call) (given : Option (Result Response Error))
     → Story Y k a u j d e → (Y2 → Y) → GivesOutcome failure e given → e2 ≡ left_of failure e → a2 ≡ a ++ gave_of given → Story Y2 k a2 u j d e2
-asks_here Y Y2 k a a2 u j d failure e e2 given s y g he ha = record {
-  stage = s.stage;
-  is_stage = s.is_stage;
-  young = λ z. s.young (y z);
-  works_is = ap work ha ∙ work_gave a given ∙ s.works_is;
-  ups_is = s.ups_is;
-  jobs_is = s.jobs_is;
-  downs_is = s.downs_is;
-  ends = subst (λ (x : List Act). Ends s.stage x e2) (sym ha) (subst (λ (x : Option Call). Ends s.stage (a ++ gave_of given) x) (sym he) (ends_asked s.stage a failure e given s.works_is g s.ends));
-}
+asks_here Y Y2 k a a2 u j d failure e e2 given s y g he ha =
+    stays_here Y Y2 k a a2 u u j j d d e e2 s y (ap work ha ∙ work_gave a given) refl refl refl
+    (subst (λ (x : List Act). Ends s.stage x e2) (sym ha) (subst (λ (x : Option Call). Ends s.stage (a ++ gave_of given) x) (sym he) (ends_asked s.stage a failure e given s.works_is g s.ends)))
 
 -- ---- calls that expire or are dropped
 
-ends_dropped : (p : Stage) (a : List Act) (e : Option Call) → Ends p a e → Ends p a None
-ends_dropped p a None h = h
-ends_dropped p a (Some (Waiting deadline)) h = inl h.0
-ends_dropped p a (Some Expired) h = inl h.0
-ends_dropped p a (Some (Ended (Ok r))) h = inl h.0
-ends_dropped p a (Some (Ended (Err x))) h = inl h.0
-
--- a call that has ended isn't due
-abbrev is_due_only : Bool → Call → Type 0
-is_due_only due (Waiting deadline) = Unit {0}
-is_due_only due Expired = Unit {0}
-is_due_only false (Ended o) = Unit {0}
-is_due_only true (Ended o) = ⊥
-
-waiting_only_due : (due : Bool) (deadline : Option ℕ) → is_due_only due (Waiting deadline)
-waiting_only_due due deadline = tt
-
-ends_due : (p : Stage) (a : List Act) (due : Bool) (c : Call) → is_due_only due c → Ends p a (Some c) → Ends p a (Some (if due then Expired else c))
-ends_due p a false c only h = h
-ends_due p a true (Waiting deadline) only h = h
-ends_due p a true Expired only h = h
-ends_due p a true (Ended o) only h = absurd only
+ends_due : (p : Stage) (a : List Act) (due : Bool) (c : Call) → Ends p a (Some c) → Ends p a (Some (if due then Expired else c))
+ends_due p a false c h = h
+ends_due p a true c h = (h.0, kept_is_born p c h.1)
 
 ends_expired : (p : Stage) (a : List Act) (now : ℕ) (e : Option Call) → Ends p a e → Ends p a (expired_at now e)
 ends_expired p a now None h = h
-ends_expired p a now (Some (Waiting (Some deadline))) h = ends_due p a (is_due now (Waiting (Some deadline))) (Waiting (Some deadline)) (waiting_only_due (is_due now (Waiting (Some deadline))) (Some deadline)) h
-ends_expired p a now (Some (Waiting None)) h = h
-ends_expired p a now (Some Expired) h = h
-ends_expired p a now (Some (Ended o)) h = h
-
--- what is kept of it changes, and nothing else
-keeps_here : (Y Y2 : Type 0) (k : ℕ) (a : List Act) (u : List Flying) (j : List ActiveJob) (d : List Flying) (e e2 : Option Call)
-    → (s : Story Y k a u j d e) → (Y2 → Y) → Ends s.stage a e2 → Story Y2 k a u j d e2
-keeps_here Y Y2 k a u j d e e2 s y ends = record {
-  stage = s.stage;
-  is_stage = s.is_stage;
-  young = λ z. s.young (y z);
-  works_is = s.works_is;
-  ups_is = s.ups_is;
-  jobs_is = s.jobs_is;
-  downs_is = s.downs_is;
-  ends = ends;
-}
+ends_expired p a now (Some c) h = ends_due p a (is_due now c) c h
 
 -- The call is forgotten.
 pub drops_here : (Y Y2 : Type 0) (k : ℕ) (a : List Act) (u : List Flying) (j : List ActiveJob) (d : List Flying) (e e2 : Option Call) → Story Y k a u j d e → (Y2 → Y) → e2 ≡ None → Story Y2 k a u j d e2
-drops_here Y Y2 k a u j d e e2 s y he = keeps_here Y Y2 k a u j d e e2 s y (subst (λ (x : Option Call). Ends s.stage a x) (sym he) (ends_dropped s.stage a e s.ends))
+drops_here Y Y2 k a u j d e e2 s y he = stays_here Y Y2 k a a u u j j d d e e2 s y refl refl refl refl (subst (λ (x : Option Call). Ends s.stage a x) (sym he) (given_of s.stage a e s.ends))
 
 -- The call expires, if it is due.
 pub expires_here : (Y Y2 : Type 0) (k : ℕ) (a : List Act) (u : List Flying) (j : List ActiveJob) (d : List Flying) (now : ℕ) (e e2 : Option Call) → Story Y k a u j d e → (Y2 → Y) → e2 ≡ expired_at now e → Story Y2 k a u j d e2
-expires_here Y Y2 k a u j d now e e2 s y he = keeps_here Y Y2 k a u j d e e2 s y (subst (λ (x : Option Call). Ends s.stage a x) (sym he) (ends_expired s.stage a now e s.ends))
-
--- the stage of a call whose request was thrown away
-abbrev thrown : Stage → Stage
-thrown Unborn = Unborn
-thrown (Sent request x) = Over (Called request ∷ [])
-thrown (Made request j) = Made request j
-thrown (Running request j) = Running request j
-thrown (Told done r x) = Told done r x
-thrown (Over done) = Over done
-
-record Thrown (k : ℕ) (p : Stage) : Type 0 where
-  is_stage : IsStage k (thrown p)
-  unborn : p ≡ Unborn → thrown p ≡ Unborn
-  works : works_of (thrown p) ≡ works_of p
-  ups : ups_of (thrown p) ≡ []
-  jobs : jobs_of (thrown p) ≡ jobs_of p
-  downs : downs_of (thrown p) ≡ downs_of p
-  born : IsBorn p → IsBorn (thrown p)
-  landed : (r : Response) → HasLanded p r → HasLanded (thrown p) r
-
-is_thrown : (k : ℕ) (p : Stage) → IsStage k p → Thrown k p
-is_thrown k Unborn h = record { is_stage = h; unborn = λ e. e; works = refl; ups = refl; jobs = refl; downs = refl; born = λ b. b; landed = λ r l. l }
-is_thrown k (Sent request x) h = record { is_stage = called_alone request; unborn = λ e. cc; works = refl; ups = refl; jobs = refl; downs = refl; born = λ b. tt; landed = λ r l. absurd l }
-is_thrown k (Made request j) h = record { is_stage = h; unborn = λ e. e; works = refl; ups = refl; jobs = refl; downs = refl; born = λ b. b; landed = λ r l. l }
-is_thrown k (Running request j) h = record { is_stage = h; unborn = λ e. e; works = refl; ups = refl; jobs = refl; downs = refl; born = λ b. b; landed = λ r l. l }
-is_thrown k (Told done r x) h = record { is_stage = h; unborn = λ e. e; works = refl; ups = refl; jobs = refl; downs = refl; born = λ b. b; landed = λ r2 l. l }
-is_thrown k (Over done) h = record { is_stage = h; unborn = λ e. e; works = refl; ups = refl; jobs = refl; downs = refl; born = λ b. b; landed = λ r l. l }
-
--- Its request is thrown away, if it is still in flight.
-pub thrown_here : (Y : Type 0) (k : ℕ) (a : List Act) (u u2 : List Flying) (j : List ActiveJob) (d : List Flying) (e : Option Call) → Story Y k a u j d e → (u2 ≡ u) ⊎ (u2 ≡ []) → Story Y k a u2 j d e
-thrown_here Y k a u u2 j d e s (inl h) = elsewhere Y Y k a a u u2 j j d d e e s (λ y. y) refl h refl refl refl
-thrown_here Y k a u u2 j d e s (inr h) =
-    let t = is_thrown k s.stage s.is_stage in
-    record {
-      stage = thrown s.stage;
-      is_stage = t.is_stage;
-      young = λ z. t.unborn (s.young z);
-      works_is = s.works_is ∙ sym t.works;
-      ups_is = h ∙ sym t.ups;
-      jobs_is = s.jobs_is ∙ sym t.jobs;
-      downs_is = s.downs_is ∙ sym t.downs;
-      ends = ends_move s.stage (thrown s.stage) a a e refl t.born (λ r l. (t.landed r l, λ w. w)) s.ends;
-    }
+expires_here Y Y2 k a u j d now e e2 s y he = stays_here Y Y2 k a a u u j j d d e e2 s y refl refl refl refl (subst (λ (x : Option Call). Ends s.stage a x) (sym he) (ends_expired s.stage a now e s.ends))
 
 one_up_of : (p : Stage) → length (ups_of p) ≤ 1
-one_up_of Unborn = omega arith
 one_up_of (Sent request x) = omega arith
-one_up_of (Made request j) = omega arith
-one_up_of (Running request j) = omega arith
-one_up_of (Told done r x) = omega arith
-one_up_of (Over done) = omega arith
+one_up_of p = omega arith
 
 -- at most one request of it is in flight
 pub one_up : (Y : Type 0) (k : ℕ) (a : List Act) (u : List Flying) (j : List ActiveJob) (d : List Flying) (e : Option Call) → Story Y k a u j d e → length u ≤ 1

@@ -3,7 +3,6 @@
 use Rattle.std.specs.Prelude.{◌≡◌, ◌≢◌, ◌⊎◌, ◌<◌, ◌≤◌, ◌++◌, ℕ, List, [], ◌∷◌, length, take, drop, min, codes, if◌then◌else◌, Bool, true, false, Option, Some, None, Result, Ok, Err}
 use Rattle.ttrpc_error.specs.declared.error.Error.{Error}
 use Rattle.ttrpc_error.specs.declared.error.Error.TheVariants.{Socket}
-use Rattle.ttrpc_proto.specs.declared.request.Request.{Request}
 use Rattle.ttrpc_proto.specs.declared.response.Response.{Response}
 use Rattle.ttrpc_proto.specs.Messages.{IsRequest, IsResponse}
 use Rattle.ttrpc_frame.specs.Frames.{nothing}
@@ -13,7 +12,6 @@ use Rattle.ttrpc_connection.specs.declared.failure.Failure.{Failure}
 use Rattle.ttrpc_connection.specs.declared.failure.Failure.TheVariants.{Told, Disconnected, DisconnectedInside}
 use Rattle.ttrpc_connection.specs.Failure.{kept}
 use Rattle.ttrpc_connection.specs.Feeds.{Ways, Feeds, Breaks, IsFailed}
-use Rattle.ttrpc_server.specs.declared.job.Job.{Job}
 use Rattle.ttrpc_server.specs.declared.server.ServerCore.{ServerCore}
 use Rattle.ttrpc_server.specs.Jobs.{IsUnknown, NoneWaits}
 use Rattle.ttrpc_server.specs.Table.{HasUnsent}
@@ -40,6 +38,10 @@ carried p n q = record p { bytes = if p.cut then p.bytes else p.bytes ++ take n 
 abbrev pub lent_of : Option Failure → ℕ → Queue → ℕ
 lent_of None n q = min n (length (open_part q))
 lent_of (Some why) n q = 0
+
+-- bytes may be lent: the side is alive, and some are left of its first frame
+abbrev pub HasToLend : {O I : Type 0} → Connection O I → ℕ → Type 0
+HasToLend c n = 0 < lent_of c.failure n c.outbox.queue
 
 -- they were lent, and reported as written
 abbrev pub after_carry : {O I : Type 0} → Connection O I → ℕ → Connection O I
@@ -84,49 +86,26 @@ failed_by_hand = Socket (codes "failed")
 -- ---- the events, each with its reply
 
 module _ {CO CI SO SI : Type 0} (c : Halves CO CI) (s : Halves SO SI) (seals : Bool) where
-  -- A call was accepted at the last moment.
-  pub record Calls (old : Net CO CI SO SI) (request : Request) (id : ℕ) (new : Net CO CI SO SI) : Type 0 where
-    pub known : IsRequest request
-    pub does : Requests c.out old.client request old.moment id new.client
-    pub only : new ≡ with_client old new.client
+  -- Only the client changed, or the server.
+  abbrev pub OnlyClient : Net CO CI SO SI → Net CO CI SO SI → Type 0
+  OnlyClient old new = new ≡ with_client old new.client
 
-  -- An outcome was asked for.
-  pub record Asks (old : Net CO CI SO SI) (id : ℕ) (given : Option (Result Response Error)) (new : Net CO CI SO SI) : Type 0 where
-    pub does : Tells old.client id given new.client
-    pub only : new ≡ with_client old new.client
+  abbrev pub OnlyServer : Net CO CI SO SI → Net CO CI SO SI → Type 0
+  OnlyServer old new = new ≡ with_server old new.server
 
   -- A call was forgotten.
   pub record Forgot (old : Net CO CI SO SI) (id : ℕ) (new : Net CO CI SO SI) : Type 0 where
     pub does : Forgets seals old.client id new.client
     pub only : new ≡ with_client old new.client
 
-  -- A job was handed out.
-  pub record HandsOut (old : Net CO CI SO SI) (job : Job) (new : Net CO CI SO SI) : Type 0 where
-    pub does : Hands old.server job new.server
-    pub only : new ≡ with_server old new.server
-
-  -- Nothing was handed out: no job waits, or the connection has failed.
-  pub record HandsNone (old new : Net CO CI SO SI) : Type 0 where
-    pub none : old.server.connection.failure ≡ None → NoneWaits old.server.state.jobs.list
-    pub same : new ≡ old
-
   -- A job was answered by what its handler gave; a handler's error ends the job, and the connection fails.
   abbrev pub AnswersBy : ServerCore SO SI → ℕ → Result Response Error → ServerCore SO SI → Type 0
   AnswersBy old id (Ok response) new = IsResponse response × Answers s.out old id response new
   AnswersBy old id (Err error) new = Drops old id new
 
-  pub record AnswersOne (old : Net CO CI SO SI) (id : ℕ) (result : Result Response Error) (new : Net CO CI SO SI) : Type 0 where
-    pub does : AnswersBy old.server id result new.server
-    pub only : new ≡ with_server old new.server
-
   -- An answer was refused: the connection has failed, or the response to a job that was taken can't be queued.
   abbrev pub RefusesOne : ServerCore SO SI → ℕ → Result Response Error → Error → Type 0
   RefusesOne old id result told = IsFailed old.connection.failure told ⊎ HasUnsent s.out old id result told
-
-  -- The job wasn't taken, or is over.
-  pub record IsNoJob (old : Net CO CI SO SI) (id : ℕ) : Type 0 where
-    pub alive : old.server.connection.failure ≡ None
-    pub unknown : IsUnknown old.server.state.jobs.list id
 
   -- A moment came.
   pub record Ticked (old : Net CO CI SO SI) (now : ℕ) (new : Net CO CI SO SI) : Type 0 where
@@ -152,14 +131,16 @@ module _ {CO CI SO SI : Type 0} (c : Halves CO CI) (s : Halves SO SI) (seals : B
     pub does : Delivers (calling c.out c.in_) old.client.state old.client.connection old.down 0 n k new.client.state new.client.connection
     pub only : new ≡ record (with_client old new.client) { down = taken_from old.down k }
 
-  -- The side fails at these bytes.
-  pub record BreaksUp (old : Net CO CI SO SI) (n : ℕ) (told : Error) (new : Net CO CI SO SI) : Type 0 where
-    pub does : BreaksAt (serving s.out s.in_) old.server.state old.server.connection old.up old.moment n told new.server.state new.server.connection
-    pub only : new ≡ with_server old new.server
+  -- Bytes were refused: the side fails at them, or had failed.
+  abbrev pub RefusesUp : Net CO CI SO SI → ℕ → Error → Net CO CI SO SI → Type 0
+  RefusesUp old n told new =
+      (BreaksAt (serving s.out s.in_) old.server.state old.server.connection old.up old.moment n told new.server.state new.server.connection × OnlyServer old new)
+      ⊎ (IsFailed old.server.connection.failure told × (new ≡ old))
 
-  pub record BreaksDown (old : Net CO CI SO SI) (n : ℕ) (told : Error) (new : Net CO CI SO SI) : Type 0 where
-    pub does : BreaksAt (calling c.out c.in_) old.client.state old.client.connection old.down 0 n told new.client.state new.client.connection
-    pub only : new ≡ with_client old new.client
+  abbrev pub RefusesDown : Net CO CI SO SI → ℕ → Error → Net CO CI SO SI → Type 0
+  RefusesDown old n told new =
+      (BreaksAt (calling c.out c.in_) old.client.state old.client.connection old.down 0 n told new.client.state new.client.connection × OnlyClient old new)
+      ⊎ (IsFailed old.client.connection.failure told × (new ≡ old))
 
   -- A pipe was cut; where nothing is left to deliver, the input ends at once.
   pub record CutsUp (old : Net CO CI SO SI) (keep : ℕ) (new : Net CO CI SO SI) : Type 0 where
@@ -172,32 +153,34 @@ module _ {CO CI SO SI : Type 0} (c : Halves CO CI) (s : Halves SO SI) (seals : B
     pub hears : Hears (is_over (cut_to old.down keep)) old.client.connection connection
     pub only : new ≡ record (with_client old (record old.client { connection = connection })) { down = cut_to old.down keep }
 
-  -- WHAT AN EVENT AND ITS REPLY MAY DO. A reply that isn't here can't be.
+  -- WHAT AN EVENT AND ITS REPLY MAY DO. A reply that isn't here can't be. Where memory is refused nothing changes, and
+  -- it was asked for: bytes were to be carried, or a side that was alive to fail.
   abbrev pub Steps : Net CO CI SO SI → Event → Reply → Net CO CI SO SI → Type 0
-  Steps old (Call request) (Named id) new = Calls old request id new
+  Steps old (Call request) (Named id) new = IsRequest request × Requests c.out old.client request old.moment id new.client × OnlyClient old new
   Steps old (Call request) (Refused told) new = RefusesRequest c.out old.client request told × (new ≡ old)
-  Steps old (Outcome id) (Given outcome) new = Asks old id outcome new
+  Steps old (Outcome id) (Given outcome) new = Tells old.client id outcome new.client × OnlyClient old new
   Steps old (DropCall id) Done new = Forgot old id new
-  Steps old Take (Handed (Some job)) new = HandsOut old job new
-  Steps old Take (Handed None) new = HandsNone old new
-  Steps old (Answer id result) Done new = AnswersOne old id result new
+  Steps old Take (Handed (Some job)) new = Hands old.server job new.server × OnlyServer old new
+  Steps old Take (Handed None) new = (old.server.connection.failure ≡ None → NoneWaits old.server.state.jobs.list) × (new ≡ old)
+  Steps old (Answer id result) Done new = AnswersBy old.server id result new.server × OnlyServer old new
   Steps old (Answer id result) (Refused told) new = RefusesOne old.server id result told × (new ≡ old)
-  Steps old (Answer id result) NoStep new = IsNoJob old id × (new ≡ old)
+  Steps old (Answer id result) NoStep new = (old.server.connection.failure ≡ None) × IsUnknown old.server.state.jobs.list id × (new ≡ old)
   Steps old (Tick now) Done new = Ticked old now new
   Steps old (Tick now) NoStep new = (now < old.moment) × (new ≡ old)
   Steps old (Carry side.Client n) (Count k) new = CarriesUp old n k new
-  Steps old (Carry side.Client n) NoMemory new = new ≡ old
+  Steps old (Carry side.Client n) NoMemory new = HasToLend old.client.connection n × (new ≡ old)
   Steps old (Carry side.Server n) (Count k) new = CarriesDown old n k new
-  Steps old (Carry side.Server n) NoMemory new = new ≡ old
+  Steps old (Carry side.Server n) NoMemory new = HasToLend old.server.connection n × (new ≡ old)
   Steps old (Deliver side.Server n) (Count k) new = DeliversUp old n k new
-  Steps old (Deliver side.Server n) (Refused told) new = BreaksUp old n told new ⊎ (IsFailed old.server.connection.failure told × (new ≡ old))
+  Steps old (Deliver side.Server n) (Refused told) new = RefusesUp old n told new
   Steps old (Deliver side.Client n) (Count k) new = DeliversDown old n k new
-  Steps old (Deliver side.Client n) (Refused told) new = BreaksDown old n told new ⊎ (IsFailed old.client.connection.failure told × (new ≡ old))
+  Steps old (Deliver side.Client n) (Refused told) new = RefusesDown old n told new
   Steps old (Cut side.Server keep) Done new = CutsUp old keep new
   Steps old (Cut side.Client keep) Done new = CutsDown old keep new
   Steps old (Fail side.Client) Done new = new ≡ with_client old (record old.client { connection = failed old.client.connection (Told failed_by_hand) })
   Steps old (Fail side.Server) Done new = new ≡ with_server old (record old.server { connection = failed old.server.connection (Told failed_by_hand) })
-  Steps old (Fail at) NoMemory new = new ≡ old
+  Steps old (Fail side.Client) NoMemory new = (old.client.connection.failure ≡ None) × (new ≡ old)
+  Steps old (Fail side.Server) NoMemory new = (old.server.connection.failure ≡ None) × (new ≡ old)
   -- of streams the cores know nothing yet, and the server's ends a job by its answer alone
   Steps old (Open request up down) NoStep new = new ≡ old
   Steps old (Recv at id) NoStep new = new ≡ old

@@ -56,34 +56,26 @@ IsOneToOne f = (i j : ℕ) → f i ≡ f j → i ≡ j
 -- the outcomes, in order
 abbrev pub outcomes : List Act → List (Result Response Error)
 outcomes [] = []
-outcomes (Called request ∷ xs) = outcomes xs
-outcomes (Ran job request ∷ xs) = outcomes xs
-outcomes (Answered result ∷ xs) = outcomes xs
 outcomes (Gave outcome ∷ xs) = outcome ∷ outcomes xs
+outcomes (act ∷ xs) = outcomes xs
 
 -- all but the outcomes
 abbrev pub work : List Act → List Act
 work [] = []
-work (Called request ∷ xs) = Called request ∷ work xs
-work (Ran job request ∷ xs) = Ran job request ∷ work xs
-work (Answered result ∷ xs) = Answered result ∷ work xs
 work (Gave outcome ∷ xs) = work xs
+work (act ∷ xs) = act ∷ work xs
 
 -- the requests with which a call was accepted under this id
 abbrev pub calls : List Act → List Request
 calls [] = []
 calls (Called request ∷ xs) = request ∷ calls xs
-calls (Ran job request ∷ xs) = calls xs
-calls (Answered result ∷ xs) = calls xs
-calls (Gave outcome ∷ xs) = calls xs
+calls (act ∷ xs) = calls xs
 
 -- the jobs that were handed out for it
 abbrev pub runs : List Act → List ℕ
 runs [] = []
-runs (Called request ∷ xs) = runs xs
 runs (Ran job request ∷ xs) = job ∷ runs xs
-runs (Answered result ∷ xs) = runs xs
-runs (Gave outcome ∷ xs) = runs xs
+runs (act ∷ xs) = runs xs
 
 -- a response of a call that ended well: it has no status of another code than OK
 abbrev pub HasOkStatus : Option Status → Type 0

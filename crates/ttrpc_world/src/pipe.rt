@@ -1,5 +1,5 @@
 //! The bytes in flight to one side.
-ghost use Rattle.std.specs.Prelude.{◌≡◌, ◌+◌, ◌++◌, ◌≤◌, [], length, take, drop, if◌then◌else◌, true, false, OnOk, OnErr};
+ghost use Rattle.std.specs.Prelude.{◌≡◌, ◌+◌, ◌++◌, ◌<◌, ◌≤◌, [], length, take, drop, if◌then◌else◌, true, false, OnOk, OnErr};
 ghost use Rattle.ttrpc_world.specs.Pipes.{is_over};
 
 use std::alloc::{AllocError, Global};
@@ -38,15 +38,17 @@ impl Pipe {
         self.bytes.as_slice()
     }
 
-    /// Bytes come behind the others, or are lost behind a cut. An `Err` changes nothing.
+    /// Bytes come behind the others, or are lost behind a cut. An `Err` changes nothing, and comes only where there are
+    /// bytes.
     pub fn put(&mut self, bytes: &[u8]) -> Result<(), AllocError>
         ensures ok { OnOk result (self.new ≡ record {
           bytes = (if self.old.cut then self.old.bytes else self.old.bytes ++ bytes.now);
           cut = self.old.cut;
         }) }
         ensures err { OnErr result (self.new ≡ self.old) }
+        ensures some { OnErr result (0 < length bytes.now) }
     {
-        if self.cut {
+        if self.cut || bytes.is_empty() {
             return Ok(());
         }
         self.bytes.extend_from_slice(bytes)

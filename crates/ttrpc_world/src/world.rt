@@ -1,5 +1,5 @@
 //! The world: a client, a server and two pipes, and one event after the other.
-ghost use Rattle.std.specs.Prelude.{◌≡◌, ◌≢◌, ◌≤◌, ◌++◌, ◌∷◌, [], ℕ, List, length, take, min, codes, map, is_some, if◌then◌else◌, IfOk, OnOk, OnErr, Result, Ok, Err, IfErr};
+ghost use Rattle.std.specs.Prelude.{◌≡◌, ◌≢◌, ◌<◌, ◌≤◌, ◌++◌, ◌∷◌, [], ℕ, List, length, take, min, codes, map, is_some, if◌then◌else◌, IfOk, OnOk, OnErr, Result, Ok, Err, IfErr};
 ghost use Rattle.std.specs.Vec.{vec_capacity};
 ghost use Rattle.ttrpc_error.specs.declared.error.Error.{Error as AnError};
 ghost use Rattle.ttrpc_proto.specs.declared.response.Response.{Response as AResponse};
@@ -215,7 +215,7 @@ impl<
             self.old (AnEvent.Carry ASide.Client n) result self.new }
     {
         let room = n.min(self.client.lendable());
-        let Ok(mut buffer) = vec![in alloc; 0u8; room] else {
+        let Ok(mut buffer) = zeros(alloc, room) else {
             return Reply::NoMemory;
         };
         let at = self.up.as_slice().len();
@@ -235,7 +235,7 @@ impl<
             self.old (AnEvent.Carry ASide.Server n) result self.new }
     {
         let room = n.min(self.server.lendable());
-        let Ok(mut buffer) = vec![in alloc; 0u8; room] else {
+        let Ok(mut buffer) = zeros(alloc, room) else {
             return Reply::NoMemory;
         };
         let at = self.down.as_slice().len();
@@ -333,6 +333,9 @@ impl<
             (halves SO.OutboundTransform SI.InboundTransform) CO.SEALS
             self.old (AnEvent.Fail ASide.Client) result self.new }
     {
+        if self.client.failure(alloc).is_some() {
+            return Reply::Done;
+        }
         let Ok(error) = failed_by_hand(alloc) else {
             return Reply::NoMemory;
         };
@@ -346,6 +349,9 @@ impl<
             (halves SO.OutboundTransform SI.InboundTransform) CO.SEALS
             self.old (AnEvent.Fail ASide.Server) result self.new }
     {
+        if self.server.failure(alloc).is_some() {
+            return Reply::Done;
+        }
         let Ok(error) = failed_by_hand(alloc) else {
             return Reply::NoMemory;
         };
@@ -368,6 +374,17 @@ fn note_known(given: &Result<Response, Error>)
     if let Ok(response) = given {
         response.known();
     }
+}
+
+/// This many zeros. Memory is asked for only where there are some.
+fn zeros(alloc: Global, n: usize) -> Result<Vec<u8>, AllocError>
+    ensures ok { IfOk result (λ bytes. length bytes.items ≡ n) }
+    ensures err { OnErr result (0 < n) }
+{
+    if n == 0 {
+        return Ok(Vec::new(alloc));
+    }
+    vec![in alloc; 0u8; n]
 }
 
 /// The first bytes of a piece.

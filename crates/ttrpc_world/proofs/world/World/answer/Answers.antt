@@ -10,10 +10,10 @@ returns g c =
     let server = halves g.SO.OutboundTransform g.SI.InboundTransform in
     let old = c.self.inside.server in
     rw (← c.self.view_is) (elim c.match-answer.branch [
-      | in-Ok w ↦ rw w.result-is (record {
-        does = answers_by client server g.CO.OutboundTransform.SEALS old c.args.id c.args.given.now c.answer.new.self c.note_known.ensures w.in-Ok.ensures.answered w.in-Ok.ensures.handler_failed;
-        only = search rules;
-      })
+      | in-Ok w ↦ rw w.result-is (
+        answers_by client server g.CO.OutboundTransform.SEALS old c.args.id c.args.given.now c.answer.new.self c.note_known.ensures w.in-Ok.ensures.answered w.in-Ok.ensures.handler_failed,
+        search rules,
+      )
       | in-Err w ↦
           let taken = c.if-not-awaits_answer.ensures in
           rw w.result-is (refuses_one g.SO.OutboundTransform old c.args.id taken.0 c.args.given.now w.in-Err.error taken.1 w.in-Err.ensures.refused, search rules)

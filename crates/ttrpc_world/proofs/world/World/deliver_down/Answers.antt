@@ -1,5 +1,5 @@
 use Rattle.std.proofs.Common.{rules, ◌≡◌, take, min, length, inl, inr}
-use Rattle.ttrpc_world.proofs.Pieces.{breaks_or_failed}
+use Rattle.ttrpc_world.proofs.Replies.{breaks_or_failed}
 use Rattle.ttrpc_world.proofs.world.World.deliver_down.Goals as goal
 
 pub returns-in-Ok : goal.returns-in-Ok
@@ -18,6 +18,6 @@ returns-in-Err g c =
     let w = c.self.inside in
     let piece : c.front.result.now ≡ take (min c.args.n (length w.down.bytes)) w.down.bytes = search rules in
     rw (← c.self.view_is) (elim (breaks_or_failed _ _ w.client.connection.failure c.in-Err.error c.in-Err.ensures.fails c.in-Err.ensures.failed) [
-      | inl b ↦ inl (record { does = rw (← piece) b; only = search rules })
+      | inl b ↦ inl (rw (← piece) b, search rules)
       | inr f ↦ inr (f.0, search rules)
     ])

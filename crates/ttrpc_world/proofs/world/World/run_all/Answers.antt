@@ -1,6 +1,6 @@
 use Rattle.std.proofs.Common.{◌≤◌, ◌++◌, ◌∷◌, [], length, ap, ◌∙◌, arith}
 use Rattle.std.specs.Vec.{vec_capacity}
-use Rattle.ttrpc_world.proofs.Runs.{events_more, run_more}
+use Rattle.ttrpc_world.proofs.Replies.{events_more, run_more}
 use Rattle.ttrpc_world.proofs.world.World.run_all.Goals as goal
 
 pub loop-event-preserved : goal.loop-event-preserved
