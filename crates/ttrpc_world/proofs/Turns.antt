@@ -1,5 +1,5 @@
 -- What each event does to the story of an id.
-use Rattle.std.proofs.Common.{◌≡◌, ℕ, ◌≤◌, List, [], ◌∷◌, ◌++◌, length, Bool, true, false, if◌then◌else◌, Option, Some, None, Result, Ok, Err, refl, sym, ap, ◌∙◌, subst, ◌⊎◌, inl, inr, arith, ℤ, pos, negsuc, zero, suc}
+use Rattle.std.proofs.Common.{is_some, ◌≡◌, ℕ, ◌≤◌, List, [], ◌∷◌, ◌++◌, length, Bool, true, false, if◌then◌else◌, Option, Some, None, Result, Ok, Err, refl, sym, ap, ◌∙◌, subst, ◌⊎◌, inl, inr, arith, ℤ, pos, negsuc, zero, suc}
 use Rattle.std.proofs.lemmas.List.{append-nil}
 use Rattle.ttrpc_error.specs.declared.error.Error.{Error}
 use Rattle.ttrpc_proto.specs.declared.request.Request.{Request}
@@ -330,7 +330,7 @@ ends_nothing p a e given none h =
 ends_given : (p : Stage) (a : List Act) (o : Result Response Error) (given : Option (Result Response Error)) → work a ≡ works_of p → given ≡ Some o → Ends p a (Some (Ended o)) → Ends p (a ++ gave_of given) None
 ends_given p a o given w is h = subst (λ (g : Option (Result Response Error)). Given p (a ++ gave_of g)) (sym is) (ends_ask p a o w h)
 
-ends_asked : (p : Stage) (a : List Act) (failure : Option Failure) (e : Option Call) (given : Option (Result Response Error)) → work a ≡ works_of p → GivesOutcome failure e given → Ends p a e → Ends p (a ++ gave_of given) (left_of failure e)
+ends_asked : (p : Stage) (a : List Act) (failure : Option Failure) (e : Option Call) (given : Option (Result Response Error)) → work a ≡ works_of p → GivesOutcome failure e given → Ends p a e → Ends p (a ++ gave_of given) (left_of (is_some failure) e)
 ends_asked p a failure None given w g h = ends_nothing p a None given g h
 ends_asked p a None (Some (Waiting deadline)) given w g h = ends_nothing p a (Some (Waiting deadline)) given g h
 ends_asked p a (Some why) (Some (Waiting deadline)) given w g h = ends_tells p a (error_of why) given h.0 h.1 g
@@ -339,7 +339,7 @@ ends_asked p a failure (Some (Ended o)) given w g h = ends_given p a o given w g
 
 -- The outcome is asked for.
 pub asks_here : (Y Y2 : Type 0) (k : ℕ) (a a2 : List Act) (u : List Flying) (j : List ActiveJob) (d : List Flying) (failure : Option Failure) (e e2 : Option Call) (given : Option (Result Response Error))
-    → Story Y k a u j d e → (Y2 → Y) → GivesOutcome failure e given → e2 ≡ left_of failure e → a2 ≡ a ++ gave_of given → Story Y2 k a2 u j d e2
+    → Story Y k a u j d e → (Y2 → Y) → GivesOutcome failure e given → e2 ≡ left_of (is_some failure) e → a2 ≡ a ++ gave_of given → Story Y2 k a2 u j d e2
 asks_here Y Y2 k a a2 u j d failure e e2 given s y g he ha =
     stays_here Y Y2 k a a2 u u j j d d e e2 s y (ap work ha ∙ work_gave a given) refl refl refl
     (subst (λ (x : List Act). Ends s.stage x e2) (sym ha) (subst (λ (x : Option Call). Ends s.stage (a ++ gave_of given) x) (sym he) (ends_asked s.stage a failure e given s.works_is g s.ends)))
