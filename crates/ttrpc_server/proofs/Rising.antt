@@ -1,5 +1,5 @@
 -- The ids of jobs rise through every call.
-use Rattle.std.proofs.Common.{◌≡◌, ℕ, ◌+◌, ◌≤◌, List, [], ◌∷◌, ◌++◌, Option, Some, None, refl, sym, subst, arith}
+use Rattle.std.proofs.Common.{◌≡◌, ℕ, ◌≤◌, List, [], ◌∷◌, ◌++◌, Some, None, refl, arith}
 use Rattle.std.specs.List.{AllByRecursion}
 use Rattle.ttrpc_header.specs.declared.header.MessageHeader.{MessageHeader}
 use Rattle.ttrpc_proto.specs.declared.request.Request.{Request}
@@ -10,46 +10,32 @@ use Rattle.ttrpc_server.specs.declared.job.ActiveJob.{ActiveJob}
 use Rattle.ttrpc_server.specs.declared.job.Job.{Job}
 use Rattle.ttrpc_server.specs.Jobs.{EndsOne, HandsOne, NoneWaits, Rising}
 use Rattle.ttrpc_server.specs.Server.{Server}
-use Rattle.ttrpc_server.specs.Table.{Row, Skipped, Tells, TellsOf, Known, row_of}
+use Rattle.ttrpc_server.specs.Table.{Row, Known, row_of}
 use Rattle.ttrpc_server.specs.Happens.{Does, serves}
-use Rattle.ttrpc_server.proofs.Keyed.{from_lower}
+use Rattle.ttrpc_server.proofs.Keyed.{one_less, rising_more}
 
 -- ---- lists of jobs
-
-with_one_more : (low high : ℕ) (js : List ActiveJob) (job : ActiveJob) → job.id ≡ high + 1 → Rising low js high → Rising low (js ++ job ∷ []) (high + 1)
-with_one_more low high [] job next rising = (omega (arith, next, rising), omega (arith, next))
-with_one_more low high (j ∷ js) job next rising = (rising.0, with_one_more j.id high js job next rising.1)
 
 with_one_taken : (low high : ℕ) (front back : List ActiveJob) (job : ActiveJob) → Rising low (front ++ job ∷ back) high → Rising low (front ++ record job { request = None } ∷ back) high
 with_one_taken low high [] back job rising = rising
 with_one_taken low high (j ∷ front) back job rising = (rising.0, with_one_taken j.id high front back job rising.1)
 
-with_one_less : (low high : ℕ) (front back : List ActiveJob) (job : ActiveJob) → Rising low (front ++ job ∷ back) high → Rising low (front ++ back) high
-with_one_less low high [] back job rising = from_lower low job.id high back (omega (arith, rising.0)) rising.1
-with_one_less low high (j ∷ front) back job rising = (rising.0, with_one_less j.id high front back job rising.1)
-
 -- ---- calls
 
 row_keeps : {O : Type 0} (out : OutboundTransform O) (row : Row) (old : Server) (o : O) (header : MessageHeader) (sent : List Sent) (new : Server) → Does out row old o header sent new
     → Rising 0 old.jobs.list old.jobs.last → Rising 0 new.jobs.list new.jobs.last
-row_keeps out Skipped old o header sent new does rising = rw does.0 rising
-row_keeps out (Tells r) old o header sent new does rising = rw does.0 rising
-row_keeps out (TellsOf code) old o header sent new does rising = rw does.0 rising
-row_keeps out (Known request) old o header sent new does rising = rw does.0 (with_one_more 0 old.jobs.last old.jobs.list _ refl rising)
+row_keeps out (Known request) old o header sent new does rising = rw does.0 (rising_more 0 old.jobs.last old.jobs.list _ refl rising)
+row_keeps out row old o header sent new does rising = rw does.0 rising
 
 pub frame_keeps : {O : Type 0} (out : OutboundTransform O) (old : Server) (o : O) (a : Arrived) (sent : List Sent) (new : Server) → serves out old o a sent new
     → Rising 0 old.jobs.list old.jobs.last → Rising 0 new.jobs.list new.jobs.last
 frame_keeps out old o a sent new does rising = row_keeps out (row_of old a) old o a.header sent new does rising
 
 pub taking_keeps : (old new : List ActiveJob) (high : ℕ) (handed : Job) → HandsOne old handed new → Rising 0 old high → Rising 0 new high
-taking_keeps old new high handed one rising =
-    let was : Rising 0 (one.front ++ one.job ∷ one.back) high = subst (λ js. Rising 0 js high) one.was rising in
-    subst (λ js. Rising 0 js high) (sym one.jobs) (with_one_taken 0 high one.front one.back one.job was)
+taking_keeps old new high handed one rising = rw one.jobs (with_one_taken 0 high one.front one.back one.job (rw one.was at rising))
 
 pub answering_keeps : (old new : List ActiveJob) (high id : ℕ) (job : ActiveJob) → EndsOne old id job new → Rising 0 old high → Rising 0 new high
-answering_keeps old new high id job ends rising =
-    let was : Rising 0 (ends.at.front ++ job ∷ ends.at.back) high = subst (λ js. Rising 0 js high) ends.at.is rising in
-    subst (λ js. Rising 0 js high) (sym ends.jobs) (with_one_less 0 high ends.at.front ends.at.back job was)
+answering_keeps old new high id job ends rising = rw ends.jobs (one_less 0 high ends.at.front ends.at.back job (rw ends.at.is at rising))
 
 -- ---- the job that is handed out
 
@@ -62,16 +48,10 @@ least_behind id low high [] le rising = tt
 least_behind id low high (j ∷ js) le rising =
     (λ request is. omega (arith, le, rising.0), least_behind id j.id high js (omega (arith, le, rising.0)) rising.1)
 
-waits_not : (request : Request) (asked : Option Request) → asked ≡ None → asked ≡ Some request → ⊥
-waits_not request asked none some = cc
-
 least_of_all : (low high : ℕ) (front back : List ActiveJob) (job : ActiveJob) → NoneWaits front → Rising low (front ++ job ∷ back) high → LeastOf job.id (front ++ job ∷ back)
 least_of_all low high [] back job none rising = (λ request is. omega arith, least_behind job.id job.id high back (omega arith) rising.1)
 least_of_all low high (j ∷ front) back job none rising =
-    (λ request is. absurd (waits_not request j.request none.0 is), least_of_all j.id high front back job none.1 rising.1)
+    (λ request is. absurd (cc (none.0, is)), least_of_all j.id high front back job none.1 rising.1)
 
 pub handed_is_least : (old new : List ActiveJob) (handed : Job) (low high : ℕ) → HandsOne old handed new → Rising low old high → LeastOf handed.id old
-handed_is_least old new handed low high hands rising =
-    let was : Rising low (hands.front ++ hands.job ∷ hands.back) high = subst (λ js. Rising low js high) hands.was rising in
-    subst (λ js. LeastOf handed.id js) (sym hands.was)
-    (subst (λ id. LeastOf id (hands.front ++ hands.job ∷ hands.back)) (sym hands.id) (least_of_all low high hands.front hands.back hands.job hands.first was))
+handed_is_least old new handed low high hands rising = rw (hands.was, hands.id) (least_of_all low high hands.front hands.back hands.job hands.first (rw hands.was at rising))

@@ -1,10 +1,9 @@
 -- What was sent, why a response wasn't, and how an answer ends its job.
-use Rattle.std.proofs.Common.{◌≡◌, ◌≤◌, ◌<◌, ◌-◌, ◌^◌, ◌∙◌, min, ℕ, List, [], ◌∷◌, refl, ap, subst, arith, Option, inl, inr, None}
+use Rattle.std.proofs.Common.{◌≡◌, ◌≤◌, ◌∙◌, ℕ, List, [], ◌∷◌, refl, ap, subst, Option, inl, inr, None}
 use Rattle.ttrpc_values.specs.declared.code.Code.{Code}
 use Rattle.ttrpc_error.specs.declared.error.Error.{Error}
 use Rattle.ttrpc_error.specs.declared.error.Error.TheVariants.{Others}
 use Rattle.ttrpc_header.specs.declared.header.MessageHeader.{MessageHeader}
-use Rattle.ttrpc_proto.specs.declared.request.Request.{Request}
 use Rattle.ttrpc_proto.specs.declared.response.Response.{Response}
 use Rattle.ttrpc_frame.specs.declared.outgoing.Queued.{Queued}
 use Rattle.ttrpc_secure.specs.declared.transform.OutboundTransform.{Ghosts as OutboundTransform}
@@ -18,12 +17,12 @@ use Rattle.ttrpc_server.specs.declared.replies.Unsent.{Unsent}
 use Rattle.ttrpc_server.specs.declared.replies.Unsent.TheVariants.{AboveLimit, Unsealed, NoMemory}
 use Rattle.ttrpc_server.specs.declared.server.ServerCore.{ServerCore}
 use Rattle.ttrpc_connection.specs.Texts.{unsafe_payload_text}
-use Rattle.ttrpc_server.specs.Jobs.{EndsOne, with_job}
+use Rattle.ttrpc_server.specs.Jobs.{EndsOne}
 use Rattle.ttrpc_server.specs.Responses.{fitted, response_size, response_bytes, IsResponseFrame, IsStatusResponse, Refers, Responds}
 use Rattle.ttrpc_server.specs.Server.{Server, with_list}
-use Rattle.ttrpc_server.specs.Table.{IsUnsent, Row, Skipped, Tells, TellsOf, Known}
+use Rattle.ttrpc_server.specs.Table.{IsUnsent, Row, Tells, TellsOf}
 use Rattle.ttrpc_server.specs.Happens.{Answers, Does, Drops, with_jobs}
-use Rattle.ttrpc_server.specs.Inside.{IsUnfit, IsUnsentFor, SendsSome, TellsUnsent}
+use Rattle.ttrpc_server.specs.Inside.{IsUnsentFor, SendsSome, TellsUnsent}
 
 -- ---- what was sent
 
@@ -35,10 +34,6 @@ sent_one out old k r f bytes new written small framed sends = (
   record { frame = f; is_frame = framed; fits = small; is = refl },
   (new, rw (← written) sends, refl),
 )
-
-pub refers_one : {O : Type 0} (out : OutboundTransform O) (old : Outbox O) (k : ℕ) (r : Response) (new : Outbox O)
-    → SendsSome out old (Responds (safe_limit out old.half) k r) new → SendsSome out old (Refers out old.half k r) new
-refers_one out old k r new some = (some.0, inl some.1, some.2)
 
 pub refers_none : {O : Type 0} (out : OutboundTransform O) (old : Outbox O) (k : ℕ) (r : Response) (u : Unsent) (new : Outbox O)
     → new ≡ old → IsUnsentFor out old.half k r u → (u ≡ NoMemory → ⊥) → SendsSome out old (Refers out old.half k r) new
@@ -55,25 +50,7 @@ pub tells_of : {O : Type 0} (out : OutboundTransform O) (row : Row) (s : Server)
     → SendsSome out old (Refers out old.half header.stream_id r) new → SendsSome out old (λ sent. Does out row s old.half header sent s) new
 tells_of out row s header code r old new is status some = (some.0, rw is (refl, (r, status, some.1)), some.2)
 
-pub skips : {O : Type 0} (out : OutboundTransform O) (row : Row) (s : Server) (header : MessageHeader) (old : Outbox O) → row ≡ Skipped
-    → SendsSome out old (λ sent. Does out row s old.half header sent s) old
-skips out row s header old is = ([], rw is (refl, refl), refl)
-
-pub makes : {O : Type 0} (out : OutboundTransform O) (row : Row) (s : Server) (header : MessageHeader) (request : Request) (old : Outbox O) (t : Server) → row ≡ Known request → t ≡ record s { jobs = with_job s.jobs header request }
-    → SendsSome out old (λ sent. Does out row s old.half header sent t) old
-makes out row s header request old t is made = ([], rw is (made, refl), refl)
-
 -- ---- why a response wasn't sent
-
--- what has no written form isn't sent
-pub unfit : {O : Type 0} (out : OutboundTransform O) (o : O) (k limit : ℕ) (r : Response) (u : Unsent) → limit ≡ safe_limit out o → IsUnfit limit r u → IsUnsentFor out o k r u
-unfit out o k limit r (AboveLimit n) is why = subst (λ (m : ℕ). IsUnfit m r (AboveLimit n)) is why
-unfit out o k limit r (Unsealed text) is why = absurd why
-unfit out o k limit r NoMemory is why = tt
-
--- what is within the limit isn't too long to be sent
-pub within_is_sent : (size len limit : ℕ) → size ≡ min len (2 ^ 32 - 1) → size ≤ limit → limit < 2 ^ 32 - 1 → limit < len → ⊥
-within_is_sent size len limit is small short long = omega (arith, is, small, short, long)
 
 -- what is told of a response that wasn't sent
 pub told_unsent : {O : Type 0} (out : OutboundTransform O) (o : O) (k : ℕ) (r : Response) (u : Unsent) (limit : ℕ) (told : Error)

@@ -24,13 +24,17 @@ none_waits_at : (js : List ActiveJob) (k : ℕ) → NoneWaits js → NoneWaits (
 none_waits_at [] k none = tt
 none_waits_at (j ∷ js) k none = one_more_waits_not (nat_eq j.header.stream_id k) j (jobs_at js k) none.0 (none_waits_at js k none.1)
 
--- a job of this stream id between others stays
-own_job_stays : (front back : List ActiveJob) (job : ActiveJob) (k : ℕ) → job.header.stream_id ≡ k
-    → jobs_at (front ++ job ∷ back) k ≡ jobs_at front k ++ job ∷ jobs_at back k
-own_job_stays front back job k same =
-    let t : nat_eq job.header.stream_id k ≡ true = eq-eqb _ _ same in
-    filter-append (λ j. nat_eq j.header.stream_id k) front (job ∷ back)
-    ∙ ap (λ b. jobs_at front k ++ cond b (job ∷ jobs_at back k) (jobs_at back k)) t
+-- a job between others stays at its stream id, and is no matter at another one
+job_between : (front back : List ActiveJob) (job : ActiveJob) (k : ℕ) (b : Bool) → nat_eq job.header.stream_id k ≡ b
+    → jobs_at (front ++ job ∷ back) k ≡ jobs_at front k ++ cond b (job ∷ jobs_at back k) (jobs_at back k)
+job_between front back job k b is =
+    filter-append (λ j. nat_eq j.header.stream_id k) front (job ∷ back) ∙ ap (λ c. jobs_at front k ++ cond c (job ∷ jobs_at back k) (jobs_at back k)) is
+
+own_job_stays : (front back : List ActiveJob) (job : ActiveJob) (k : ℕ) → job.header.stream_id ≡ k → jobs_at (front ++ job ∷ back) k ≡ jobs_at front k ++ job ∷ jobs_at back k
+own_job_stays front back job k same = job_between front back job k true (eq-eqb _ _ same)
+
+other_job_goes : (front back : List ActiveJob) (job : ActiveJob) (k : ℕ) → k ≢ job.header.stream_id → jobs_at (front ++ job ∷ back) k ≡ jobs_at front k ++ jobs_at back k
+other_job_goes front back job k apart = job_between front back job k false (search (rules, apart))
 
 pub handed_by_its_stream : (old new : List ActiveJob) (handed : Job) → HandsOne old handed new
     → HandsOne (jobs_at old handed.header.stream_id) handed (jobs_at new handed.header.stream_id)
@@ -49,13 +53,6 @@ handed_by_its_stream old new handed h =
       first = none_waits_at h.front k h.first;
       jobs = ap (λ jobs. jobs_at jobs k) h.jobs ∙ own_job_stays h.front h.back (record h.job { request = None }) k same;
     }
-
--- a job of another stream id between others is no matter
-other_job_goes : (front back : List ActiveJob) (job : ActiveJob) (k : ℕ) → k ≢ job.header.stream_id → jobs_at (front ++ job ∷ back) k ≡ jobs_at front k ++ jobs_at back k
-other_job_goes front back job k apart =
-    let f : nat_eq job.header.stream_id k ≡ false = search (rules, apart) in
-    filter-append (λ j. nat_eq j.header.stream_id k) front (job ∷ back)
-    ∙ ap (λ b. jobs_at front k ++ cond b (job ∷ jobs_at back k) (jobs_at back k)) f
 
 pub ended_by_its_stream : (old new : List ActiveJob) (id : ℕ) (job : ActiveJob) → EndsOne old id job new
     → EndsOne (jobs_at old job.header.stream_id) id job (jobs_at new job.header.stream_id)
@@ -79,17 +76,13 @@ ended_elsewhere old new id job k h apart =
 
 pub row_elsewhere : {O : Type 0} (out : OutboundTransform O) (row : Row) (old : Server) (o : O) (header : MessageHeader) (sent : List Sent) (new : Server) (k : ℕ) → Does out row old o header sent new
     → k ≢ header.stream_id → jobs_at new.jobs.list k ≡ jobs_at old.jobs.list k
-row_elsewhere out Skipped old o header sent new k does apart = rw does.0 refl
-row_elsewhere out (Tells r) old o header sent new k does apart = rw does.0 refl
-row_elsewhere out (TellsOf code) old o header sent new k does apart = rw does.0 refl
 row_elsewhere out (Known request) old o header sent new k does apart = rw does.0 (other_job_goes old.jobs.list [] _ k apart ∙ append-nil (jobs_at old.jobs.list k))
+row_elsewhere out row old o header sent new k does apart = rw does.0 refl
 
 pub row_made : {O : Type 0} (out : OutboundTransform O) (row : Row) (old : Server) (o : O) (header : MessageHeader) (sent : List Sent) (new : Server) → Does out row old o header sent new
     → jobs_at new.jobs.list header.stream_id ≡ made_by row header old.jobs.last (jobs_at old.jobs.list header.stream_id)
-row_made out Skipped old o header sent new does = rw does.0 refl
-row_made out (Tells r) old o header sent new does = rw does.0 refl
-row_made out (TellsOf code) old o header sent new does = rw does.0 refl
 row_made out (Known request) old o header sent new does = rw does.0 (own_job_stays old.jobs.list [] _ header.stream_id refl)
+row_made out row old o header sent new does = rw does.0 refl
 
 none_sent : (k : ℕ) (sent : List Sent) → sent ≡ [] → IsAnswered k sent
 none_sent k sent none = rw none (record { own = tt; at_most_one = omega arith })

@@ -1,4 +1,4 @@
-use Rattle.std.proofs.Common.{rules, ◌∙◌}
+use Rattle.std.proofs.Common.{rules}
 use Rattle.ttrpc_secure.specs.declared.transform.TransformError.TheVariants.{Refused}
 use Rattle.ttrpc_server.proofs.Sending.{sent_one}
 use Rattle.ttrpc_server.proofs.replies.respond.Goals as goal
@@ -7,8 +7,8 @@ pub returns-in-Ok-clause-ok : goal.returns-in-Ok-clause-ok
 returns-in-Ok-clause-ok g c =
     let out = g.O.OutboundTransform in
     let fit = rw c.limit.ensures at c.in_ok-bytes.ensures.ok in
-    sent_one out c.args.outbox.now c.args.stream_id c.args.response.now c.response_frame-frame.result _ _
-    (c.as_slice.ensures.value ∙ fit.0) fit.1 c.response_frame-frame.ensures c.in-Ok.ensures.ok
+    sent_one out c.args.outbox.now c.args.stream_id c.args.response.now c.response_frame-frame.result c.as_slice.result.now _
+    (rw c.as_slice.ensures.value fit.0) fit.1 c.response_frame-frame.ensures c.in-Ok.ensures.ok
 
 pub returns-in-Err-Failed-Refused-clause-err : goal.returns-in-Err-Failed-Refused-clause-err
 returns-in-Err-Failed-Refused-clause-err g c =
@@ -18,6 +18,6 @@ returns-in-Err-Failed-Refused-clause-err g c =
         frame = c.response_frame-frame.result;
         is_frame = c.response_frame-frame.ensures;
         fits = fit.1;
-        refuses = rw (← c.as_slice.ensures.value ∙ fit.0) (c.send.ensures.refused (Refused c.in-Err-Failed-Refused.why) (search rules));
+        refuses = rw (← fit.0, ← c.as_slice.ensures.value) (c.send.ensures.refused (Refused c.in-Err-Failed-Refused.why) (search rules));
       },
     )

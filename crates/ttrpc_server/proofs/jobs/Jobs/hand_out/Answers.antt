@@ -1,10 +1,11 @@
-use Rattle.std.proofs.Common.{rules, ◌≡◌, ◌<◌, refl, ◌+◌, None, Some, false}
+use Rattle.std.proofs.Common.{rules, sym, ◌∙◌, ◌≡◌, ◌<◌, refl, ◌+◌, None, Some, false}
+use Rattle.std.proofs.lemmas.Option.{same_Some}
 use Rattle.std.specs.BTreeMap.{is_at}
 use Rattle.std.specs.Map.{lookup, values_of}
 use Rattle.std.specs.Ordering.{nat_cmp}
 use Rattle.ttrpc_server.specs.Inside.{AreJobs}
 use Rattle.ttrpc_server.specs.Jobs.{HandsOne}
-use Rattle.ttrpc_server.proofs.Keyed.{first_found, first_waits, found_first, given_out, none_waits, not_past, waits_not}
+use Rattle.ttrpc_server.proofs.Keyed.{first_waits, given_out, none_waits, not_past, waits_not}
 use Rattle.ttrpc_server.proofs.jobs.Jobs.hand_out.Goals as goal
 
 pub returns-then-self-clause-none : goal.returns-then-self-clause-none
@@ -12,7 +13,7 @@ returns-then-self-clause-none c = (refl, rw (← c.self.view_is) (none_waits _ _
 
 pub overflow_add-id : goal.overflow_add-id
 overflow_add-id c =
-    let most = not_past _ _ _ c.self.invariant in
+    let most = not_past c.self.invariant in
     let less : c.self.inside.handed < c.self.inside.last = search (rules, most) in
     search (rules, less)
 
@@ -20,15 +21,14 @@ pub unreachable-requires : goal.unreachable-requires
 unreachable-requires c =
     let w = first_waits _ _ _ c.self.invariant c.if-self.false in
     let here : lookup (is_at (nat_cmp (c.self.inside.handed + 1))) c.self.inside.jobs.entries ≡ Some c.in-Some.job.now = search rules in
-    let same = found_first _ _ _ c.self.invariant w c.in-Some.job.now here in
+    let same : w.job ≡ c.in-Some.job.now = same_Some _ _ (sym w.found ∙ here) in
     let none : c.in-Some.job.now.request ≡ None = search rules in
-    waits_not w.job.request (rw (← same) none) w.some
+    waits_not w.job.request (rw same none) w.some
 
 pub unreachable-requires-in-None : goal.unreachable-requires-in-None
 unreachable-requires-in-None c =
     let w = first_waits _ _ _ c.self.invariant c.if-self.false in
-    let is = first_found _ _ _ c.self.invariant w in
-    let bad : None ≡ Some w.job = search (rules, is) in cc
+    let bad : None ≡ Some w.job = search (rules, w.found) in cc
 
 both : (c : goal.In-Some-request)
     → AreJobs (c.self.inside.handed + 1) c.self.inside.last (c.get_mut.follows.lender (record { id = c.in-Some.job.now.id; header = c.in-Some.job.now.header; request = c.take-request.new.self })).entries

@@ -3,7 +3,7 @@ use Rattle.std.specs.BTreeMap.{insert_entry}
 use Rattle.std.specs.Ordering.{nat_cmp}
 use Rattle.ttrpc_server.specs.declared.job.ActiveJob.{ActiveJob}
 use Rattle.ttrpc_server.specs.Jobs.{JobList, new_job}
-use Rattle.ttrpc_server.proofs.Keyed.{made, made_list}
+use Rattle.ttrpc_server.proofs.Keyed.{made}
 use Rattle.ttrpc_server.proofs.jobs.Jobs.make.Goals as goal
 
 pub invariant_of-self-2 : goal.invariant_of-self-2
@@ -11,7 +11,7 @@ invariant_of-self-2 c =
     let last = c.self.inside.last in
     let job = new_job (last + 1) c.args.header c.args.request in
     let put : c.insert.new.self.entries ≡ insert_entry nat_cmp c.self.inside.jobs.entries (last + 1) job = search rules in
-    rw put (made c.self.inside.handed last c.self.inside.jobs.entries c.self.invariant job refl refl)
+    rw put (made c.self.inside.handed last c.self.inside.jobs.entries c.self.invariant job refl refl).0
 
 pub returns-clause-ok : goal.returns-clause-ok
 returns-clause-ok c =
@@ -19,4 +19,4 @@ returns-clause-ok c =
     let job = new_job (last + 1) c.args.header c.args.request in
     let put : c.insert.new.self.entries ≡ insert_entry nat_cmp c.self.inside.jobs.entries (last + 1) job = search rules in
     rw (← c.self.view_is, put)
-    (ap {B = JobList} (λ (l : List ActiveJob). record { last = last + 1; list = l }) (made_list c.self.inside.handed last c.self.inside.jobs.entries c.self.invariant job refl))
+    (ap {B = JobList} (λ (l : List ActiveJob). record { last = last + 1; list = l }) (made c.self.inside.handed last c.self.inside.jobs.entries c.self.invariant job refl refl).1)

@@ -4,12 +4,12 @@ use Rattle.ttrpc_server.proofs.jobs.Jobs.stream_of.Goals as goal
 
 pub returns-in-Some-clause-some : goal.returns-in-Some-clause-some
 returns-in-Some-clause-some c =
-    rw (← c.self.view_is) (c.in-Some.job.now, taken_found _ _ _ c.self.invariant c.args.id c.in-Some.job.now (search rules) (search rules), refl)
+    rw (← c.self.view_is) (c.in-Some.job.now, taken_found c.self.invariant c.args.id c.in-Some.job.now (search rules) (search rules), refl)
 
 pub returns-in_default-clause-none : goal.returns-in_default-clause-none
 returns-in_default-clause-none c =
-    rw (← c.self.view_is) (unknown_here _ _ _ c.self.invariant c.args.id (Some c.in-Some.job.now) (search rules) (λ job is taken. search rules))
+    rw (← c.self.view_is) (unknown_here c.self.invariant c.args.id (Some c.in-Some.job.now) (search rules) (λ job is taken. search rules))
 
 pub returns-in_default-2-clause-none : goal.returns-in_default-2-clause-none
 returns-in_default-2-clause-none c =
-    rw (← c.self.view_is) (unknown_here _ _ _ c.self.invariant c.args.id None (search rules) (λ job is taken. search rules))
+    rw (← c.self.view_is) (unknown_here c.self.invariant c.args.id None (search rules) (λ job is taken. search rules))
