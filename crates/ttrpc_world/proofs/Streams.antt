@@ -1,27 +1,21 @@
 -- Each job has one stream, and no two jobs the same: ids of jobs are used once, and so are streams.
 use Rattle.std.proofs.Common.{rules, ◌≡◌, ℕ, ◌+◌, ◌≤◌, List, [], ◌∷◌, ◌++◌, length, Bool, true, false, Some, None, Result, Ok, Err, nat_eq, if◌then◌else◌, refl, sym, ap, ◌∙◌, subst, ◌⊎◌, inl, inr, arith, append_assoc}
 use Rattle.std.proofs.lemmas.Bool.{cases_Bool, cond-false, cond-true, eq-eqb, eqb-true, ne_eqb}
-use Rattle.std.proofs.lemmas.List.{append-nil, length-append}
+use Rattle.std.proofs.lemmas.List.{append-nil}
 use Rattle.std.specs.List.{AllByRecursion}
-use Rattle.ttrpc_error.specs.declared.error.Error.{Error}
+use Rattle.ttrpc_world.proofs.Words.{Error, ActiveJob, OutboundTransform, ServerCore, Event, Reply, Entry}
 use Rattle.ttrpc_frame.specs.declared.frame.Incoming.{Incoming}
-use Rattle.ttrpc_server.specs.declared.job.ActiveJob.{ActiveJob}
 use Rattle.ttrpc_server.specs.declared.job.Job.{Job}
-use Rattle.ttrpc_secure.specs.declared.transform.OutboundTransform.{Ghosts as OutboundTransform}
 use Rattle.ttrpc_connection.specs.Feeds.{ActsAll, Scene, arrived, scene}
 use Rattle.ttrpc_connection.specs.Frames.{Sent, header_of_frame}
-use Rattle.ttrpc_server.specs.declared.server.ServerCore.{ServerCore}
 use Rattle.ttrpc_server.specs.Happens.{Does, serving}
 use Rattle.ttrpc_server.specs.Jobs.{EndsOne, JobList, new_job}
 use Rattle.ttrpc_server.specs.Server.{Server}
-use Rattle.ttrpc_server.specs.Table.{Row, Skipped, Tells, TellsOf, Known, row_of}
+use Rattle.ttrpc_server.specs.Table.{Row, Known, row_of}
 use Rattle.ttrpc_header.specs.declared.header.MessageHeader.{MessageHeader}
 use Rattle.ttrpc_world.specs.declared.events.Side.TheVariants as side
-use Rattle.ttrpc_world.specs.declared.events.Event.{Event}
-use Rattle.ttrpc_world.specs.declared.events.Event.TheVariants.{Call, Outcome, DropCall, Take, Answer, Tick, Carry, Deliver, Cut, Fail}
-use Rattle.ttrpc_world.specs.declared.events.Reply.{Reply}
-use Rattle.ttrpc_world.specs.declared.events.Reply.TheVariants.{Named, Outcome as Given, Handed, Done, Count, Refused}
-use Rattle.ttrpc_world.specs.declared.events.Entry.{Entry}
+use Rattle.ttrpc_world.specs.declared.events.Event.TheVariants.{Take, Answer, Deliver}
+use Rattle.ttrpc_world.specs.declared.events.Reply.TheVariants.{Handed, Done, Count, Refused}
 use Rattle.ttrpc_world.specs.Net.{Halves, Net, IsFresh}
 use Rattle.ttrpc_world.specs.Steps.{AnswersBy, Runs, Steps}
 use Rattle.ttrpc_world.specs.Story.{Act, Ran, IsOneToOne, IsRightAt, IsStreamOf, act_of, acts, only_if, runs}
