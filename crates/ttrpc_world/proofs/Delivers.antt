@@ -4,23 +4,19 @@ use Rattle.std.proofs.lemmas.Bool.{cases_eq, cond-false, cond-true, eq-eqb, ne_e
 use Rattle.std.proofs.lemmas.List.{append-nil}
 use Rattle.std.proofs.lemmas.List.Elements.{filter-append}
 use Rattle.std.specs.List.{AllByRecursion}
+use Rattle.ttrpc_world.proofs.Words.{Request, OutboundTransform, Outbox, ActiveJob, Call, Entry}
 use Rattle.ttrpc_values.specs.declared.code.Code.TheVariants.{INVALID_ARGUMENT}
-use Rattle.ttrpc_proto.specs.declared.request.Request.{Request}
 use Rattle.ttrpc_frame.specs.Frames.{Held}
 use Rattle.ttrpc_frame.specs.Queue.{Queue}
-use Rattle.ttrpc_secure.specs.declared.transform.OutboundTransform.{Ghosts as OutboundTransform}
 use Rattle.ttrpc_connection.specs.declared.arrived.Opening.TheVariants.{Opened}
-use Rattle.ttrpc_connection.specs.declared.outbox.Outbox.{Outbox}
 use Rattle.ttrpc_connection.specs.Frames.{Sent, SendsAll}
 use Rattle.ttrpc_connection.specs.Feeds.{Scene}
-use Rattle.ttrpc_server.specs.declared.job.ActiveJob.{ActiveJob}
 use Rattle.ttrpc_server.specs.Jobs.{jobs_at, new_job}
 use Rattle.ttrpc_server.specs.Registry.{has_method}
 use Rattle.ttrpc_server.specs.Responses.{status_response}
 use Rattle.ttrpc_server.specs.Server.{Server}
 use Rattle.ttrpc_server.specs.Table.{Row, Known, Tells, path_text, request_row, sync_row}
 use Rattle.ttrpc_server.specs.Happens.{Does, serving}
-use Rattle.ttrpc_client.specs.declared.call.Call.{Call}
 use Rattle.ttrpc_client.specs.Client.{Client, call_at}
 use Rattle.ttrpc_client.specs.Table.{Landing, LandsOn, Gives, by_status, landing_of}
 use Rattle.ttrpc_client.specs.Happens.{LandsOnce, calling}
@@ -28,7 +24,6 @@ use Rattle.ttrpc_flight.specs.Flight.{Flying, ActsOn, AreInFlight, AreLinked, pa
 use Rattle.ttrpc_flight.proofs.Bytes.{placed_in_flight}
 use Rattle.ttrpc_flight.proofs.Parcels.{parcels-cons_other, parcels-cons_own, parcels-push_other, parcels-push_own}
 use Rattle.ttrpc_flight.proofs.Seals.{more_linked}
-use Rattle.ttrpc_world.specs.declared.events.Entry.{Entry}
 use Rattle.ttrpc_world.specs.Net.{Halves}
 use Rattle.ttrpc_world.specs.Story.{Act, Called, acts}
 use Rattle.ttrpc_world.proofs.Stages.{Story}

@@ -1,19 +1,15 @@
 -- THE HEADLINE, for any run from a fresh start: each step keeps the invariant, and the invariant has the headline in it.
 use Rattle.std.proofs.Common.{rules, ◌≡◌, ℕ, List, [], ◌∷◌, ◌++◌, Bool, false, Some, refl, sym, ap, subst, inl, inr, append_assoc}
 use Rattle.std.proofs.lemmas.List.{append-nil}
+use Rattle.ttrpc_world.proofs.Words.{ServerCore, ClientCore, Event, Reply, Entry}
 use Rattle.ttrpc_connection.specs.declared.failure.Failure.TheVariants.{Told}
-use Rattle.ttrpc_server.specs.declared.server.ServerCore.{ServerCore}
 use Rattle.ttrpc_server.specs.Jobs as server
-use Rattle.ttrpc_client.specs.declared.client.ClientCore.{ClientCore}
 use Rattle.ttrpc_client.specs.Client as client
 use Rattle.ttrpc_flight.proofs.Bytes.{none_in_flight}
 use Rattle.ttrpc_flight.proofs.Seals.{none_linked}
 use Rattle.ttrpc_world.specs.declared.events.Side.TheVariants as side
-use Rattle.ttrpc_world.specs.declared.events.Event.{Event}
 use Rattle.ttrpc_world.specs.declared.events.Event.TheVariants.{Call, Outcome, DropCall, Take, Answer, Tick, Carry, Deliver, Cut, Fail}
-use Rattle.ttrpc_world.specs.declared.events.Reply.{Reply}
 use Rattle.ttrpc_world.specs.declared.events.Reply.TheVariants.{Named, Outcome as Given, Handed, Done, Count, Refused}
-use Rattle.ttrpc_world.specs.declared.events.Entry.{Entry}
 use Rattle.ttrpc_world.specs.Net.{Halves, Net, IsFresh}
 use Rattle.ttrpc_world.specs.Steps.{Runs, Steps, failed_by_hand}
 use Rattle.ttrpc_world.specs.Story.{IsExactlyOnce, IsRightAt, IsStreamOf, act_of, acts}

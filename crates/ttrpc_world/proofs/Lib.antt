@@ -1,3 +1,4 @@
+pub mod Words
 pub mod Stages
 pub mod Turns
 pub mod Payloads

@@ -1,27 +1,22 @@
 -- Each event that moves bytes, cuts a pipe or fails a side, and each of the server, keeps the invariant.
 use Rattle.std.proofs.Common.{◌≡◌, ◌≢◌, ℕ, zero, suc, ◌≤◌, List, [], ◌∷◌, ◌++◌, length, take, drop, map, min, Bool, true, false, Option, Some, None, refl, sym, ap, ◌∙◌, subst, ◌⊎◌, inl, inr, arith, append_assoc, take-append-drop, Result, Ok, Err}
 use Rattle.std.specs.List.{AllByRecursion}
-use Rattle.ttrpc_error.specs.declared.error.Error.{Error}
+use Rattle.ttrpc_world.proofs.Words.{Error, Failure, Outbox, ServerCore, ClientCore, Entry, Request, Response, ActiveJob, Event, Reply}
 use Rattle.ttrpc_frame.specs.declared.frame.Incoming.{Incoming}
 use Rattle.ttrpc_frame.specs.Frames.{Fed, Held, given, nothing}
 use Rattle.ttrpc_frame.specs.Queue.{Queue, after_report, open_part, with_lent}
 use Rattle.ttrpc_connection.specs.declared.connection.Connection.{Connection}
-use Rattle.ttrpc_connection.specs.declared.failure.Failure.{Failure}
 use Rattle.ttrpc_connection.specs.declared.failure.Failure.TheVariants.{Disconnected, DisconnectedInside, HandlerError}
-use Rattle.ttrpc_connection.specs.declared.outbox.Outbox.{Outbox}
 use Rattle.ttrpc_connection.specs.Failure.{kept}
 use Rattle.ttrpc_connection.specs.Feeds.{ActsAll, Scene, scene}
-use Rattle.ttrpc_server.specs.declared.server.ServerCore.{ServerCore}
 use Rattle.ttrpc_server.specs.Happens.{Hands, serving, Answers, Drops}
 use Rattle.ttrpc_server.specs.Server.{Server}
-use Rattle.ttrpc_client.specs.declared.client.ClientCore.{ClientCore}
 use Rattle.ttrpc_client.specs.Client.{Client, call_at}
 use Rattle.ttrpc_client.specs.Happens.{calling}
 use Rattle.ttrpc_flight.specs.Flight.{Flying, AreLinked, IsOwnRequest, arrived, AreInFlight, parcels}
 use Rattle.ttrpc_flight.proofs.Acting.{act_as_sent}
 use Rattle.ttrpc_flight.proofs.Bytes.{carried_in_flight, cut_in_flight, fed_in_flight, placed_in_flight}
 use Rattle.ttrpc_flight.proofs.Losing.{all_behind}
-use Rattle.ttrpc_world.specs.declared.events.Entry.{Entry}
 use Rattle.ttrpc_world.specs.Pipes.{Pipe, is_over}
 use Rattle.ttrpc_world.specs.Net.{Halves, Net, with_client, with_server}
 use Rattle.ttrpc_world.specs.Steps.{BreaksAt, OnlyClient, OnlyServer, CarriesDown, CarriesUp, CutsDown, CutsUp, DeliversDown, DeliversUp, Hears, InputEnds, carried, cut_to, failed, after_carry, lent_of, taken_from, AnswersBy}
@@ -29,17 +24,12 @@ use Rattle.ttrpc_world.proofs.Delivers.{AreKnown, Stories, feeds_down, feeds_up,
 use Rattle.ttrpc_world.proofs.Throws.{InFlight, not_both}
 use Rattle.ttrpc_world.proofs.Keeps.{Keeps, placed}
 use Rattle.ttrpc_world.proofs.Turns.{no_cons, answers_here, elsewhere, fails_here, is_running, takes_here}
-use Rattle.ttrpc_proto.specs.declared.request.Request.{Request}
-use Rattle.ttrpc_proto.specs.declared.response.Response.{Response}
 use Rattle.ttrpc_proto.specs.Messages.{IsResponse}
-use Rattle.ttrpc_server.specs.declared.job.ActiveJob.{ActiveJob}
 use Rattle.ttrpc_server.specs.declared.job.Job.{Job}
 use Rattle.ttrpc_server.specs.Jobs.{jobs_at}
 use Rattle.ttrpc_flight.proofs.Parcels.{parcels-push_other, parcels-push_own}
 use Rattle.ttrpc_flight.proofs.Seals.{more_linked}
-use Rattle.ttrpc_world.specs.declared.events.Event.{Event}
 use Rattle.ttrpc_world.specs.declared.events.Event.TheVariants.{Take, Answer}
-use Rattle.ttrpc_world.specs.declared.events.Reply.{Reply}
 use Rattle.ttrpc_world.specs.declared.events.Reply.TheVariants.{Handed, Done}
 use Rattle.ttrpc_world.specs.Story.{Act, Answered, Ran, acts}
 use Rattle.ttrpc_world.proofs.Stages.{IsAnswerOf, IsDone, Story, whole_work}

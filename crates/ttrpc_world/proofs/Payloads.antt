@@ -5,26 +5,22 @@ use Rattle.std.proofs.lemmas.Bool.{le-ltb, ltb-true}
 use Rattle.std.proofs.lemmas.Fmt.{IsAscii-decimal}
 use Rattle.std.proofs.lemmas.Str.{IsUtf8-append, IsUtf8-from_ascii}
 use Rattle.std.specs.Str.{IsAscii, IsUtf8}
+use Rattle.ttrpc_world.proofs.Words.{Request, Response, OutboundTransform, Outbox, ClientCore}
 use Rattle.ttrpc_wire.specs.Fold.{read_from}
 use Rattle.ttrpc_wire.proofs.Folds.{reads_back}
 use Rattle.ttrpc_values.specs.declared.code.Code.TheVariants.{INVALID_ARGUMENT}
 use Rattle.ttrpc_header.specs.declared.header.MessageHeader.{MessageHeader}
 use Rattle.ttrpc_header.specs.declared.header.TheConstants.{MESSAGE_LENGTH_MAX, MESSAGE_TYPE_REQUEST, MESSAGE_TYPE_RESPONSE}
-use Rattle.ttrpc_proto.specs.declared.request.Request.{Request}
-use Rattle.ttrpc_proto.specs.declared.response.Response.{Response}
 use Rattle.ttrpc_proto.specs.Laws.{request_again, request_fits, response_again, response_fits}
 use Rattle.ttrpc_proto.specs.Messages.{IsRequest, IsResponse, empty_request, empty_response, request_fields, request_step, response_fields, response_step}
 use Rattle.ttrpc_frame.specs.declared.outgoing.Queued.{Queued}
 use Rattle.ttrpc_frame.specs.Queue.{with_frame, with_payload}
 use Rattle.ttrpc_secure.specs.Sends.{associated}
-use Rattle.ttrpc_secure.specs.declared.transform.OutboundTransform.{Ghosts as OutboundTransform}
+use Rattle.ttrpc_server.specs.declared.registry.ServiceNames.{ServiceNames}
 use Rattle.ttrpc_connection.specs.declared.arrived.Opening.TheVariants.{Opened}
-use Rattle.ttrpc_connection.specs.declared.outbox.Outbox.{Outbox}
 use Rattle.ttrpc_connection.specs.Frames.{Sent, SendsAll, SendsOne, safe_limit}
-use Rattle.ttrpc_server.specs.Registry.{Services}
 use Rattle.ttrpc_server.specs.Responses.{Responds, fitted, limit_text, response_bytes, response_size, status_response}
 use Rattle.ttrpc_server.specs.Table.{path_text, request_row, sync_row}
-use Rattle.ttrpc_client.specs.declared.client.ClientCore.{ClientCore}
 use Rattle.ttrpc_client.specs.Table.{Gives, by_status, landing_of, last_id, request_bytes}
 use Rattle.ttrpc_client.specs.Happens.{Requests}
 use Rattle.ttrpc_flight.specs.Flight.{Flying, IsOwnRequest, IsSound}
@@ -44,7 +40,7 @@ response_reads r is short =
     reads_back response_step empty_response r (response_fields r) (response_fits r is fits) (response_again r is fits)
 
 -- The server makes of a request that is opened as it was sent what its services say.
-pub request_row_is : (services : Services) (h : MessageHeader) (r : Request) → IsRequest r → length (request_bytes r) ≤ MESSAGE_LENGTH_MAX → h.type_ ≡ MESSAGE_TYPE_REQUEST
+pub request_row_is : (services : List ServiceNames) (h : MessageHeader) (r : Request) → IsRequest r → length (request_bytes r) ≤ MESSAGE_LENGTH_MAX → h.type_ ≡ MESSAGE_TYPE_REQUEST
     → sync_row services h (Opened (request_bytes r)) ≡ request_row services (Some r)
 request_row_is services h r is short type_ =
     let within : nat_lt MESSAGE_LENGTH_MAX (length (request_bytes r)) ≡ false = le-ltb _ _ short in

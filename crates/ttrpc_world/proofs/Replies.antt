@@ -1,19 +1,11 @@
 -- A run goes on by one step, why a piece was refused, and what an answer comes to by what the core says of it.
 use Rattle.std.proofs.Common.{◌≡◌, List, [], ◌∷◌, ◌++◌, Bool, map, subst, refl, ap, Option, Some, None, ◌⊎◌, inl, inr, ℕ, Result, Ok, Err}
-use Rattle.ttrpc_world.specs.declared.events.Entry.{Entry}
-use Rattle.ttrpc_world.specs.declared.events.Event.{Event}
-use Rattle.ttrpc_world.specs.declared.events.Reply.{Reply}
+use Rattle.ttrpc_world.proofs.Words.{Entry, Event, Reply, Error, Failure, Response, OutboundTransform, ActiveJob, ServerCore}
 use Rattle.ttrpc_world.specs.Net.{Halves, Net}
 use Rattle.ttrpc_world.specs.Steps.{Runs, Steps, AnswersBy}
-use Rattle.ttrpc_error.specs.declared.error.Error.{Error}
-use Rattle.ttrpc_connection.specs.declared.failure.Failure.{Failure}
 use Rattle.ttrpc_connection.specs.Failure.{IsTold, error_of}
 use Rattle.ttrpc_connection.specs.Feeds.{IsFailed}
-use Rattle.ttrpc_proto.specs.declared.response.Response.{Response}
 use Rattle.ttrpc_proto.specs.Messages.{IsResponse}
-use Rattle.ttrpc_secure.specs.declared.transform.OutboundTransform.{Ghosts as OutboundTransform}
-use Rattle.ttrpc_server.specs.declared.job.ActiveJob.{ActiveJob}
-use Rattle.ttrpc_server.specs.declared.server.ServerCore.{ServerCore}
 use Rattle.ttrpc_server.specs.Jobs.{IsTaken, IsUnknown}
 use Rattle.ttrpc_server.specs.Happens.{Answers, Drops}
 use Rattle.ttrpc_server.specs.Table.{HasUnsent, RefusesAnswer}

@@ -1,13 +1,9 @@
 -- The story of one id: how far its call has come, what that says of all that is at that id, and that it is the headline.
 use Rattle.std.proofs.Common.{◌≡◌, ℕ, ◌≤◌, List, [], ◌∷◌, ◌++◌, length, Option, Some, None, Ok, Err, refl, sym, ap, ◌∙◌, subst, ◌⊎◌, inl, inr, arith}
-use Rattle.ttrpc_error.specs.declared.error.Error.{Error}
+use Rattle.ttrpc_world.proofs.Words.{Error, Request, Response, ActiveJob, Call}
 use Rattle.ttrpc_header.specs.declared.header.TheConstants.{MESSAGE_LENGTH_MAX, MESSAGE_TYPE_REQUEST, MESSAGE_TYPE_RESPONSE}
-use Rattle.ttrpc_proto.specs.declared.request.Request.{Request}
-use Rattle.ttrpc_proto.specs.declared.response.Response.{Response}
 use Rattle.ttrpc_proto.specs.Messages.{IsRequest, IsResponse}
-use Rattle.ttrpc_server.specs.declared.job.ActiveJob.{ActiveJob}
 use Rattle.ttrpc_server.specs.Responses.{response_bytes}
-use Rattle.ttrpc_client.specs.declared.call.Call.{Call}
 use Rattle.ttrpc_client.specs.declared.call.Call.TheVariants.{Ended}
 use Rattle.ttrpc_client.specs.Table.{last_id, request_bytes}
 use Rattle.ttrpc_flight.specs.Flight.{Flying}

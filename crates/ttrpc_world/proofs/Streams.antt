@@ -3,25 +3,19 @@ use Rattle.std.proofs.Common.{rules, ◌≡◌, ℕ, ◌+◌, ◌≤◌, List, [
 use Rattle.std.proofs.lemmas.Bool.{cases_Bool, cond-false, cond-true, eq-eqb, eqb-true, ne_eqb}
 use Rattle.std.proofs.lemmas.List.{append-nil}
 use Rattle.std.specs.List.{AllByRecursion}
-use Rattle.ttrpc_error.specs.declared.error.Error.{Error}
+use Rattle.ttrpc_world.proofs.Words.{Error, ActiveJob, OutboundTransform, ServerCore, Event, Reply, Entry}
 use Rattle.ttrpc_frame.specs.declared.frame.Incoming.{Incoming}
-use Rattle.ttrpc_server.specs.declared.job.ActiveJob.{ActiveJob}
 use Rattle.ttrpc_server.specs.declared.job.Job.{Job}
-use Rattle.ttrpc_secure.specs.declared.transform.OutboundTransform.{Ghosts as OutboundTransform}
 use Rattle.ttrpc_connection.specs.Feeds.{ActsAll, Scene, arrived, scene}
 use Rattle.ttrpc_connection.specs.Frames.{Sent, header_of_frame}
-use Rattle.ttrpc_server.specs.declared.server.ServerCore.{ServerCore}
 use Rattle.ttrpc_server.specs.Happens.{Does, serving}
 use Rattle.ttrpc_server.specs.Jobs.{EndsOne, JobList, new_job}
 use Rattle.ttrpc_server.specs.Server.{Server}
 use Rattle.ttrpc_server.specs.Table.{Row, Known, row_of}
 use Rattle.ttrpc_header.specs.declared.header.MessageHeader.{MessageHeader}
 use Rattle.ttrpc_world.specs.declared.events.Side.TheVariants as side
-use Rattle.ttrpc_world.specs.declared.events.Event.{Event}
 use Rattle.ttrpc_world.specs.declared.events.Event.TheVariants.{Take, Answer, Deliver}
-use Rattle.ttrpc_world.specs.declared.events.Reply.{Reply}
 use Rattle.ttrpc_world.specs.declared.events.Reply.TheVariants.{Handed, Done, Count, Refused}
-use Rattle.ttrpc_world.specs.declared.events.Entry.{Entry}
 use Rattle.ttrpc_world.specs.Net.{Halves, Net, IsFresh}
 use Rattle.ttrpc_world.specs.Steps.{AnswersBy, Runs, Steps}
 use Rattle.ttrpc_world.specs.Story.{Act, Ran, IsOneToOne, IsRightAt, IsStreamOf, act_of, acts, only_if, runs}

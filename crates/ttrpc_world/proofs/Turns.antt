@@ -1,16 +1,11 @@
 -- What each event does to the story of an id.
 use Rattle.std.proofs.Common.{is_some, ◌≡◌, ℕ, ◌≤◌, List, [], ◌∷◌, ◌++◌, length, Bool, true, false, if◌then◌else◌, Option, Some, None, Result, Ok, Err, refl, sym, ap, ◌∙◌, subst, ◌⊎◌, inl, inr, arith, ℤ, pos, negsuc, zero, suc}
 use Rattle.std.proofs.lemmas.List.{append-nil}
-use Rattle.ttrpc_error.specs.declared.error.Error.{Error}
-use Rattle.ttrpc_proto.specs.declared.request.Request.{Request}
+use Rattle.ttrpc_world.proofs.Words.{Error, Request, Response, Failure, ActiveJob, Call}
 use Rattle.ttrpc_error.specs.declared.error.Error.TheVariants.{RpcStatus}
-use Rattle.ttrpc_proto.specs.declared.response.Response.{Response}
 use Rattle.ttrpc_proto.specs.declared.status.Status.{Status}
 use Rattle.ttrpc_proto.specs.Messages.{is_ok_code}
-use Rattle.ttrpc_connection.specs.declared.failure.Failure.{Failure}
 use Rattle.ttrpc_connection.specs.Failure.{error_of}
-use Rattle.ttrpc_server.specs.declared.job.ActiveJob.{ActiveJob}
-use Rattle.ttrpc_client.specs.declared.call.Call.{Call}
 use Rattle.ttrpc_client.specs.declared.call.Call.TheVariants.{Waiting, Expired, Ended}
 use Rattle.ttrpc_client.specs.Table.{Gives, LandsOn, by_code, by_status}
 use Rattle.ttrpc_client.specs.Happens.{GivesOutcome, TellsOutcome, expired_at, expired_error, is_due, left_of}
@@ -123,10 +118,6 @@ pub arriving : (Y : Type 0) (k : ℕ) (a : List Act) (x : Flying) (u : List Flyi
 arriving Y k a x u j d e s =
     let o = sent_only s.stage x u s.ups_is in
     record { request = o.0; is_sent = subst (λ (p : Stage). IsStage k p) o.1 s.is_stage }
-
--- the request that a frame carries is one
-sent_request : (k : ℕ) (r q : Request) (x : Flying) → Sent r x ≡ Sent q x → r ≡ q
-sent_request k r q x h = cc
 
 -- The request is a job.
 pub arrives_here : (Y : Type 0) (k : ℕ) (a : List Act) (x : Flying) (u : List Flying) (j j2 : List ActiveJob) (d : List Flying) (e : Option Call) (job : ActiveJob)
