@@ -1,18 +1,8 @@
 -- The calls of a client core take nothing of what comes in, and the queue goes through what they say.
 use Rattle.std.proofs.Common.{◌≡◌, ◌∙◌, ◌&&◌, not, ℕ, nat_eq, List, [], ◌∷◌, Option, Some, None, is_some, Bool, true, false, if◌then◌else◌, refl, sym, ap, subst}
-use Rattle.ttrpc_frame.specs.declared.outgoing.Queued.{Queued}
-use Rattle.ttrpc_frame.specs.Queue.{Queue, Happening, Placed, with_payload}
-use Rattle.ttrpc_secure.specs.declared.transform.OutboundTransform.{Ghosts as OutboundTransform}
-use Rattle.ttrpc_connection.specs.declared.connection.Connection.{Connection}
-use Rattle.ttrpc_connection.specs.declared.failure.Failure.{Failure}
+use Rattle.ttrpc_client.proofs.Words.{Queued, Queue, Happening, Placed, with_payload, OutboundTransform, Connection, Failure, AreLawful, Goes, ClientCore, Called, Asked, Told, Dropped, Ticked, AskedEnded, Passes, Does, Causes, called, core, thrown_at, thrown_if, Client, call_at, throws, due_at, taken_back, takes_back, IsRequestFrame}
 use Rattle.ttrpc_connection.specs.declared.failure.Failure.TheVariants.{CancelledDuringWrite, DeadlineDuringWrite}
-use Rattle.ttrpc_connection.specs.Calls.{AreLawful, Goes}
 use Rattle.ttrpc_connection.proofs.Leaving.{goes_not, queued_goes}
-use Rattle.ttrpc_client.specs.declared.client.ClientCore.{ClientCore}
-use Rattle.ttrpc_client.specs.Calls.{Called, Asked, Told, Dropped, Ticked, AskedEnded, Passes, Does, Causes, called, core, thrown_at, thrown_if}
-use Rattle.ttrpc_client.specs.Client.{Client, call_at, throws}
-use Rattle.ttrpc_client.specs.Happens.{due_at, taken_back, takes_back}
-use Rattle.ttrpc_client.specs.Table.{IsRequestFrame}
 
 -- ---- the decoder
 

@@ -9,12 +9,7 @@ use Rattle.std.specs.List.{AllByRecursion}
 use Rattle.std.specs.List.Sorted.{IsPermutation, IsStrictlySortedBy}
 use Rattle.std.specs.Map.{keys_of}
 use Rattle.std.specs.Ordering.{nat_cmp}
-use Rattle.ttrpc_client.specs.declared.call.Call.{Call}
-use Rattle.ttrpc_client.specs.declared.call.Call.TheVariants.{Waiting, Expired, Ended}
-use Rattle.ttrpc_client.specs.Client.{Client, OthersStay, call_in}
-use Rattle.ttrpc_client.specs.Happens.{IsDeadline, due_at, due_ids, expired_at, is_due}
-use Rattle.ttrpc_client.specs.Inside.{ExpiresOne, Settles}
-use Rattle.ttrpc_client.specs.Kept.{AreDeadlines, deadline_in, has_deadline, is_moment}
+use Rattle.ttrpc_client.proofs.Words.{Call, Waiting, Expired, Ended, Client, OthersStay, call_in, IsDeadline, due_at, due_ids, expired_at, is_due, ExpiresOne, Settles, AreDeadlines, deadline_in, has_deadline, is_moment}
 use Rattle.ttrpc_client.proofs.Entries.{at_or_apart, same_place}
 
 abbrev pub IsOrdered : List (ℕ × Call) → Type 0

@@ -8,12 +8,8 @@ use Rattle.std.specs.Map.{keys_of, values_of, remove_entry}
 use Rattle.std.specs.Option.{option_map, unwrap_or}
 use Rattle.std.specs.BTreeMap.{insert_entry, is_at}
 use Rattle.std.specs.Ordering.{nat_cmp}
-use Rattle.ttrpc_client.specs.declared.call.Call.{Call}
-use Rattle.ttrpc_client.specs.declared.call.Call.TheVariants.{Waiting, Expired, Ended}
-use Rattle.ttrpc_client.specs.Client.{Client, IsClient, OthersStay, call_in, told_left, waits}
+use Rattle.ttrpc_client.proofs.Words.{Call, Waiting, Expired, Ended, Client, IsClient, OthersStay, call_in, told_left, waits, Admits, Leaves, AreDeadlines, ChangesTo, IsKept, deadline_in, has_deadline, is_moment, waiting_in, weight}
 use Rattle.ttrpc_client.specs.declared.kind.ClientKind.{ClientKind}
-use Rattle.ttrpc_client.specs.Inside.{Admits, Leaves}
-use Rattle.ttrpc_client.specs.Kept.{AreDeadlines, ChangesTo, IsKept, deadline_in, has_deadline, is_moment, waiting_in, weight}
 use Rattle.ttrpc_client.proofs.Entries.{apart_place, at_or_apart, same_place, undone}
 
 -- what a change of the map says of the others

@@ -3,19 +3,8 @@ use Rattle.std.proofs.Common.{rules, arith, ◌≡◌, ◌≢◌, ◌⊎◌, inl
 use Rattle.std.proofs.lemmas.Bool.{ltb-false, ltb-true}
 use Rattle.ttrpc_error.specs.declared.error.Error.{Error}
 use Rattle.ttrpc_proto.specs.declared.response.Response.{Response}
-use Rattle.ttrpc_frame.specs.Queue.{Happening}
-use Rattle.ttrpc_secure.specs.declared.transform.OutboundTransform.{Ghosts as OutboundTransform}
-use Rattle.ttrpc_secure.specs.declared.transform.InboundTransform.{Ghosts as InboundTransform}
-use Rattle.ttrpc_connection.specs.declared.connection.Connection.{Connection}
-use Rattle.ttrpc_connection.specs.declared.failure.Failure.{Failure}
+use Rattle.ttrpc_client.proofs.Words.{Happening, OutboundTransform, InboundTransform, Connection, Failure, ACall, Call, Waiting, Expired, Ended, ClientCore, Called, Asked, Told, Dropped, Ticked, AskedEnded, asked_by, called, core, ids_asked, outcomes_of, told_by, Client, IsClient, call_at, GivesOutcome, Tells, calling, left_of}
 use Rattle.ttrpc_connection.specs.Calls.{Gave, Lent, Reported, Failed, Did, Calls, Runs}
-use Rattle.ttrpc_connection.specs.Calls.{Call as ACall}
-use Rattle.ttrpc_client.specs.declared.call.Call.{Call}
-use Rattle.ttrpc_client.specs.declared.call.Call.TheVariants.{Waiting, Expired, Ended}
-use Rattle.ttrpc_client.specs.declared.client.ClientCore.{ClientCore}
-use Rattle.ttrpc_client.specs.Calls.{Called, Asked, Told, Dropped, Ticked, AskedEnded, asked_by, called, core, ids_asked, outcomes_of, told_by}
-use Rattle.ttrpc_client.specs.Client.{Client, IsClient, call_at}
-use Rattle.ttrpc_client.specs.Happens.{GivesOutcome, Tells, calling, left_of}
 use Rattle.ttrpc_client.proofs.Turning.{Leaves, call_leaves, leaves_valid, run_leaves}
 use Rattle.ttrpc_client.proofs.Rising.{Apart, apart_before, apart_behind, never_below, rise_up}
 

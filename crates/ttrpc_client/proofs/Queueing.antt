@@ -2,21 +2,11 @@
 use Rattle.std.proofs.Common.{arith, ◌≡◌, ◌⊎◌, inl, inr, ℕ, ◌<◌, ◌≤◌, ◌+◌, nat_eq, nat_lt, length, List, [], ◌∷◌, ◌++◌, take, drop, Option, Some, None, Bool, true, false, if◌then◌else◌, refl, sym, ap, subst, ◌∙◌}
 use Rattle.std.specs.List.{AllByRecursion, IsDistinct}
 use Rattle.ttrpc_frame.specs.declared.frame.Incoming.{Incoming}
-use Rattle.ttrpc_frame.specs.declared.outgoing.Queued.{Queued}
-use Rattle.ttrpc_frame.specs.Queue.{Queue, Happening, after_report, frames_without, is_request_of, report_first, with_payload, without, written}
-use Rattle.ttrpc_secure.specs.declared.transform.OutboundTransform.{Ghosts as OutboundTransform}
-use Rattle.ttrpc_secure.specs.declared.transform.InboundTransform.{Ghosts as InboundTransform}
-use Rattle.ttrpc_connection.specs.declared.connection.Connection.{Connection}
-use Rattle.ttrpc_connection.specs.declared.failure.Failure.{Failure}
+use Rattle.ttrpc_client.proofs.Words.{Queued, Queue, Happening, after_report, frames_without, is_request_of, report_first, with_payload, without, written, OutboundTransform, InboundTransform, Connection, Failure, ACall, ClientCore, AreQueuedOnce, Called, Asked, Told, Dropped, Ticked, AskedEnded, Passes, asked_by, called, core, requests_in, Client, throws, calling, taken_back, takes_back}
 use Rattle.ttrpc_connection.specs.declared.outbox.Outbox.{Outbox}
 use Rattle.ttrpc_connection.specs.Calls.{Gave, Lent, Reported, Failed, Did, Calls, Gives, Runs}
-use Rattle.ttrpc_connection.specs.Calls.{Call as ACall}
 use Rattle.ttrpc_connection.specs.Feeds.{ActsAll, Scene, scene}
 use Rattle.ttrpc_connection.specs.Frames.{Sent, SendsAll}
-use Rattle.ttrpc_client.specs.declared.client.ClientCore.{ClientCore}
-use Rattle.ttrpc_client.specs.Calls.{AreQueuedOnce, Called, Asked, Told, Dropped, Ticked, AskedEnded, Passes, asked_by, called, core, requests_in}
-use Rattle.ttrpc_client.specs.Client.{Client, throws}
-use Rattle.ttrpc_client.specs.Happens.{calling, taken_back, takes_back}
 use Rattle.ttrpc_client.proofs.Rising.{rise_up}
 use Rattle.ttrpc_client.proofs.Turning.{call_leaves}
 

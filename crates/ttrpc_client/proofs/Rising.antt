@@ -1,8 +1,7 @@
 -- Ids that rise by two.
 use Rattle.std.proofs.Common.{arith, ◌≡◌, ◌≢◌, ℕ, ◌+◌, ◌<◌, ◌≤◌, ◌%◌, nat_eq, List, [], ◌∷◌, ◌++◌, false, sym, subst, ◌∙◌}
 use Rattle.std.specs.List.{AllByRecursion, IsDistinct}
-use Rattle.ttrpc_client.specs.Calls.{RiseByTwo}
-use Rattle.ttrpc_client.specs.Table.{last_id}
+use Rattle.ttrpc_client.proofs.Words.{RiseByTwo, last_id}
 
 pub rise_both : (xs ys : List ℕ) (first mid next : ℕ) → RiseByTwo first xs mid → RiseByTwo mid ys next → RiseByTwo first (xs ++ ys) next
 rise_both [] ys first mid next one two = subst (λ n. RiseByTwo n ys next) one two

@@ -7,7 +7,7 @@ use Rattle.std.specs.Ordering.{is_eq, is_gt, nat_cmp, ordering_then}
 use Rattle.std.specs.Cmp.{ranked}
 use Rattle.std.specs.List.{list_any}
 use Rattle.std.specs.BTreeMap.{is_at}
-use Rattle.ttrpc_client.specs.Kept.{ChangesTo, has_deadline, sooner}
+use Rattle.ttrpc_client.proofs.Words.{ChangesTo, has_deadline, sooner}
 
 same_pair : (at id d k : ℕ) (o : Ordering) → sooner (at, id) (d, k) ≡ o → is_eq o ≡ true → sooner (at, id) (d, k) ≡ Equal
 same_pair at id d k Equal e h = e

@@ -1,16 +1,8 @@
 -- Where requests may not be thrown away, none is.
 use Rattle.std.proofs.Common.{◌≡◌, ◌&&◌, not, ℕ, List, [], ◌∷◌, ◌++◌, map, is_some, if◌then◌else◌, Bool, true, false, refl, sym, ap, ◌∙◌, append_assoc}
-use Rattle.ttrpc_frame.specs.declared.outgoing.Queued.{Queued}
-use Rattle.ttrpc_frame.specs.Queue.{Queue, Happening, Placed, after, after_all, thrown, thrown_by, with_frame}
-use Rattle.ttrpc_secure.specs.declared.transform.OutboundTransform.{Ghosts as OutboundTransform}
-use Rattle.ttrpc_secure.specs.declared.transform.InboundTransform.{Ghosts as InboundTransform}
-use Rattle.ttrpc_connection.specs.declared.connection.Connection.{Connection}
+use Rattle.ttrpc_client.proofs.Words.{Queued, Queue, Happening, Placed, after, after_all, thrown, thrown_by, with_frame, OutboundTransform, InboundTransform, Connection, ACall, Called, Asked, Told, Dropped, Ticked, AskedEnded, called, core, thrown_if, Client, call_at, throws, waits, calling, takes_back}
 use Rattle.ttrpc_connection.specs.Calls.{Gave, Lent, Reported, Failed, Did, Calls, Runs}
-use Rattle.ttrpc_connection.specs.Calls.{Call as ACall}
 use Rattle.ttrpc_connection.proofs.Leaving.{call_goes}
-use Rattle.ttrpc_client.specs.Calls.{Called, Asked, Told, Dropped, Ticked, AskedEnded, called, core, thrown_if}
-use Rattle.ttrpc_client.specs.Client.{Client, call_at, throws, waits}
-use Rattle.ttrpc_client.specs.Happens.{calling, takes_back}
 use Rattle.ttrpc_client.proofs.Calls.{called_is_lawful}
 use Rattle.ttrpc_client.proofs.Turning.{call_leaves}
 

@@ -2,15 +2,8 @@
 use Rattle.std.proofs.Common.{arith, rules, ◌≡◌, ℕ, ◌<◌, List, [], ◌∷◌, ◌++◌, length, not, ◌&&◌, append_assoc, append-nil, take-append-drop, Bool, true, false, if◌then◌else◌, refl, sym, ap, subst, ◌∙◌, take, drop}
 use Rattle.std.proofs.lemmas.List.Sorted.{IsPermutation-pop_more, IsPermutation-refl, IsPermutation-sym, length_permutation}
 use Rattle.std.specs.List.Sorted.{IsPermutation}
-use Rattle.ttrpc_frame.specs.declared.outgoing.Queued.{Queued}
-use Rattle.ttrpc_frame.specs.Queue.{begun_count, first_is_request_of, frames_without, without}
-use Rattle.ttrpc_connection.specs.declared.connection.Connection.{Connection}
-use Rattle.ttrpc_connection.specs.declared.failure.Failure.{Failure}
+use Rattle.ttrpc_client.proofs.Words.{Queued, begun_count, first_is_request_of, frames_without, without, Connection, Failure, ClientCore, Client, call_at, throws, Expires, Ticks, due_at, due_ids, expired_at, taken_back, ExpiresOne}
 use Rattle.ttrpc_connection.specs.declared.failure.Failure.TheVariants.{DeadlineDuringWrite}
-use Rattle.ttrpc_client.specs.declared.client.ClientCore.{ClientCore}
-use Rattle.ttrpc_client.specs.Client.{Client, call_at, throws}
-use Rattle.ttrpc_client.specs.Happens.{Expires, Ticks, due_at, due_ids, expired_at, taken_back}
-use Rattle.ttrpc_client.specs.Inside.{ExpiresOne}
 use Rattle.ttrpc_client.proofs.Expiring.{not_due, stays_as_it_is}
 
 -- some calls that are due have expired, and the others are still to

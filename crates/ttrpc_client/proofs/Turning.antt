@@ -2,22 +2,11 @@
 use Rattle.std.proofs.Common.{rules, arith, ◌≡◌, ◌≢◌, inl, inr, ℕ, ◌+◌, ◌%◌, nat_eq, List, [], ◌∷◌, ◌++◌, Option, Some, None, is_some, Bool, true, false, refl, sym, ap, subst, ◌∙◌}
 use Rattle.std.specs.List.{AllByRecursion}
 use Rattle.ttrpc_frame.specs.declared.frame.Incoming.{Incoming}
-use Rattle.ttrpc_frame.specs.Queue.{Happening}
-use Rattle.ttrpc_secure.specs.declared.transform.OutboundTransform.{Ghosts as OutboundTransform}
-use Rattle.ttrpc_secure.specs.declared.transform.InboundTransform.{Ghosts as InboundTransform}
+use Rattle.ttrpc_client.proofs.Words.{Happening, OutboundTransform, InboundTransform, Connection, Failure, ACall, Call, ClientCore, Called, Asked, Told, Dropped, Ticked, AskedEnded, Passes, RiseByTwo, asked_by, called, core, ids_asked, Client, IsClient, OthersStay, call_at, call_in, Landing, Lands, LandsOn, landing_of, LandsOnce, calling, expired_at, forgotten, left_of}
 use Rattle.ttrpc_connection.specs.declared.arrived.Arrived.{Arrived}
-use Rattle.ttrpc_connection.specs.declared.connection.Connection.{Connection}
-use Rattle.ttrpc_connection.specs.declared.failure.Failure.{Failure}
 use Rattle.ttrpc_connection.specs.Calls.{Gave, Lent, Reported, Failed, Did, Calls, Gives, Runs}
-use Rattle.ttrpc_connection.specs.Calls.{Call as ACall}
 use Rattle.ttrpc_connection.specs.Feeds.{ActsAll, Scene, scene}
 use Rattle.ttrpc_connection.specs.Frames.{Sent}
-use Rattle.ttrpc_client.specs.declared.call.Call.{Call}
-use Rattle.ttrpc_client.specs.declared.client.ClientCore.{ClientCore}
-use Rattle.ttrpc_client.specs.Calls.{Called, Asked, Told, Dropped, Ticked, AskedEnded, Passes, RiseByTwo, asked_by, called, core, ids_asked}
-use Rattle.ttrpc_client.specs.Client.{Client, IsClient, OthersStay, call_at, call_in}
-use Rattle.ttrpc_client.specs.Table.{Landing, Lands, LandsOn, landing_of}
-use Rattle.ttrpc_client.specs.Happens.{LandsOnce, calling, expired_at, forgotten, left_of}
 use Rattle.ttrpc_client.proofs.Entries.{at_or_apart}
 use Rattle.ttrpc_client.proofs.Rising.{apart_before, apart_behind, never_above, never_even, rise_both, rise_odd, rise_range, rise_up}
 

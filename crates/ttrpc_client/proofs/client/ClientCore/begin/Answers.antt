@@ -1,13 +1,9 @@
 use Rattle.std.proofs.Common.{rules, ℕ, List}
-use Rattle.ttrpc_frame.specs.declared.outgoing.Queued.{Queued}
-use Rattle.ttrpc_secure.specs.declared.transform.OutboundTransform.{Ghosts as OutboundTransform}
+use Rattle.ttrpc_client.proofs.Words.{Queued, OutboundTransform, ClientCore, MayRefuse, IsRequestFrame}
 use Rattle.ttrpc_secure.specs.declared.transform.TransformError.{TransformError}
 use Rattle.ttrpc_secure.specs.declared.transform.TransformError.TheVariants.{Refused, NoMemory}
 use Rattle.ttrpc_secure.specs.Halves.{MayFail}
 use Rattle.ttrpc_secure.specs.Sends.{associated}
-use Rattle.ttrpc_client.specs.declared.client.ClientCore.{ClientCore}
-use Rattle.ttrpc_client.specs.Inside.{MayRefuse}
-use Rattle.ttrpc_client.specs.Table.{IsRequestFrame}
 use Rattle.ttrpc_client.proofs.client.ClientCore.begin.Goals as goal
 
 may_refuse : {O I : Type 0} (out : OutboundTransform O) (old : ClientCore O I) (id : ℕ) (plain : List ℕ) (frame : Queued) (error : TransformError) → IsRequestFrame id frame

@@ -2,7 +2,7 @@ use Rattle.std.proofs.Common.{rules, arith, ◌≡◌, false, Result, Ok, Err, O
 use Rattle.std.specs.Result.{is_err}
 use Rattle.std.specs.Ordering.{nat_cmp}
 use Rattle.std.specs.BTreeMap.{insert_entry}
-use Rattle.ttrpc_client.specs.declared.call.Call.TheVariants.{Waiting}
+use Rattle.ttrpc_client.proofs.Words.{Waiting}
 use Rattle.ttrpc_client.proofs.Keeping.{admit_keeps, others_stay}
 use Rattle.ttrpc_client.proofs.state.ClientState.admit.Goals as goal
 

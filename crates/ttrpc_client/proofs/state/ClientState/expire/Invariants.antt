@@ -1,5 +1,5 @@
 use Rattle.std.proofs.Common.{length}
-use Rattle.ttrpc_client.specs.Happens.{due_ids}
+use Rattle.ttrpc_client.proofs.Words.{due_ids}
 use Rattle.ttrpc_client.proofs.Ticking.{SoFar}
 use Rattle.ttrpc_client.proofs.state.ClientState.expire.Given as goal
 

@@ -1,7 +1,5 @@
 use Rattle.std.proofs.Common.{arith, ◌≡◌, ◌≤◌, ◌∙◌, [], refl, sym, subst, Some, true, false}
-use Rattle.ttrpc_client.specs.declared.call.Call.TheVariants.{Waiting}
-use Rattle.ttrpc_client.specs.Client.{Client, call_in}
-use Rattle.ttrpc_client.specs.Happens.{due_ids}
+use Rattle.ttrpc_client.proofs.Words.{Waiting, Client, call_in, due_ids}
 use Rattle.ttrpc_client.proofs.Expiring.{expires, found, none_due_before}
 use Rattle.ttrpc_client.proofs.state.ClientState.expire_first.Goals as goal
 

@@ -1,6 +1,5 @@
 use Rattle.std.proofs.Common.{◌≡◌, ◌≤◌, ◌+◌, ◌∙◌, ap, true, deque_len, deque_capacity}
-use Rattle.ttrpc_client.specs.Client.{call_in, waits}
-use Rattle.ttrpc_client.specs.Kept.{deadline_in}
+use Rattle.ttrpc_client.proofs.Words.{call_in, waits, deadline_in}
 use Rattle.ttrpc_client.proofs.Keeping.{settle_keeps, settle_room, others_stay}
 use Rattle.ttrpc_client.proofs.state.ClientState.settle.Goals as goal
 
