@@ -256,23 +256,6 @@ outcome_is payload outcome fits same = subst (λ o. CallsEcho payload o) (sym (s
 
 -- ---- a request is refused
 
-none_failed : (failure : Option Failure) (why : Failure) → failure ≡ None → failure ≡ Some why → ⊥
-none_failed failure why alive failed = cc
-
--- an unused client refuses a request for its length alone, or for want of memory
-pub refused_echo : (payload : List ℕ) (old : ClientCore Plain Plain) (e : Error) → IsUnused old → RefusesRequest plain_out old (echo_request payload) e → CallsEcho payload (Err e)
-refused_echo payload old e unused refuses =
-    let alive : old.connection.failure ≡ None = ap (λ (c : ClientCore Plain Plain). c.connection.failure) unused in
-    let next : old.state.next ≡ 1 = ap (λ (c : ClientCore Plain Plain). c.state.next) unused in
-    elim refuses [
-      | inl failed ↦ absurd (none_failed old.connection.failure failed.why alive failed.is)
-      | inr (inl long) ↦ inl (long.above, long.is_told)
-      | inr (inr (inl used)) ↦ absurd (omega (arith, used.used_up, next))
-      | inr (inr (inr (inl above))) ↦ absurd (omega (arith, above.above, above.sendable.short))
-      | inr (inr (inr (inr (inl unsealed)))) ↦ absurd unsealed.refuses
-      | inr (inr (inr (inr (inr memory)))) ↦ inr (inl memory.0)
-    ]
-
 -- ---- the engine doesn't answer
 
 longer : (i : Incoming) (front : List ℕ) → IsFrame i front → 1 ≤ length front
@@ -315,9 +298,6 @@ all_answered payload bytes after held answers fits are none all =
 
 -- ---- the client lends
 
-pub lends_nothing : (client : ClientCore Plain Plain) → IsQueue client.connection.outbox.queue → LendsAll client [] client
-lends_nothing client valid = record { all = refl; valid = valid; same = refl }
-
 pub lends_more : (old mid new : ClientCore Plain Plain) (bytes more : List ℕ) (n : ℕ) → LendsAll old bytes mid → n ≤ length (open_part mid.connection.outbox.queue) → more ≡ take n (open_part mid.connection.outbox.queue)
     → new ≡ with_queue mid (after_report (with_lent mid.connection.outbox.queue n) n) → LendsAll old (bytes ++ more) new
 lends_more old mid new bytes more n l within is same =
@@ -329,12 +309,6 @@ lends_more old mid new bytes more n l within is same =
       valid = after_report_is_queue (with_lent mid.connection.outbox.queue n) n (with_lent_is_queue mid.connection.outbox.queue n l.valid within) (omega arith);
       same = ap (λ (x : ClientCore Plain Plain). with_queue x q) l.same;
     })
-
-pub lends_less : (q : Queue) (n : ℕ) → IsQueue q → 0 < n → n ≤ length (open_part q) → length (unsent (after_report (with_lent q n) n)) < length (unsent q)
-lends_less q n valid some within =
-    let r = unsent (after_report (with_lent q n) n) in
-    let left : length (unsent q) ≡ length (take n (open_part q) ++ r) = ap (λ (xs : List ℕ). length xs) (lent_leaves q n n valid within (omega arith)) in
-    omega (arith, left, length-append (take n (open_part q)) r, length-take-le n (open_part q) within, some)
 
 -- ---- the request is asked
 

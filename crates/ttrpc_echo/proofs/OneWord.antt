@@ -14,6 +14,3 @@ two_words f [] x y some few first second = absurd (omega (arith, some))
 two_words f (a ∷ []) x y some few first second = absurd (omega (arith, some))
 two_words f (a ∷ b ∷ []) x y some few first second = ap (λ z. f z ∷ f b ∷ []) (sym first) ∙ ap (λ z. f x ∷ f z ∷ []) (sym second)
 two_words f (a ∷ b ∷ c ∷ xs) x y some few first second = absurd (omega (arith, few))
-
-pub first_word : (a b x y : List ℕ) → a ∷ b ∷ [] ≡ x ∷ y ∷ [] → a ≡ x
-first_word a b x y e = cc

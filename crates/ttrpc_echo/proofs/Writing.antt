@@ -37,9 +37,6 @@ lent_leaves q n k valid within less =
     ∙ sym written
     ∙ ap (λ xs. xs ++ rest) (append-nil (take k (open_part q)))
 
-pub writes_nothing : (s : ServerCore Plain Plain) (holds : Option (List ℕ)) → WritesOut s holds s holds
-writes_nothing s holds = record { bytes = []; sent = refl; wrote = keeps_appends_nothing holds holds (keeps_same holds); held = refl; last_job = refl }
-
 pub writes_more : (a b : ServerCore Plain Plain) (n k : ℕ) (x y z : Option (List ℕ)) (bytes : List ℕ) → IsReady b → WritesOut a x b y
     → n ≤ length (open_part b.connection.outbox.queue) → k ≤ n → bytes ≡ take k (open_part b.connection.outbox.queue) → Appends y z bytes
     → WritesOut a x (lent_and_reported b n k) z
@@ -59,11 +56,3 @@ still_ready s n k ready within less = record {
   alive = ready.alive;
   queue = after_report_is_queue (with_lent s.connection.outbox.queue n) k (with_lent_is_queue s.connection.outbox.queue n ready.queue within) less;
 }
-
-all_open : (fs : List Queued) (r : ℕ) → IsWithin fs r → length (first_open fs r) ≡ 0 → drop r (written_all fs) ≡ []
-all_open [] r within none = rw within refl
-all_open (f ∷ fs) r within none = absurd (omega (arith, within, none, length-drop r (written f.message)))
-
--- where nothing is open, nothing is unsent
-pub nothing_open : (q : Queue) → IsQueue q → length (open_part q) ≡ 0 → unsent q ≡ []
-nothing_open q valid none = all_open q.frames q.reported valid.within none

@@ -105,12 +105,6 @@ early_bytes head filled body counted d short =
     let e = d.early f in
     (f, e.0, e.1)
 
-pub is_early : (head : List ℕ) (filled : ℕ) (body : List ℕ) (counted : ℕ) → IsDecoder head filled body counted → filled < 10 → length (take filled head ++ body) < 10
-is_early head filled body counted d less =
-    let l : length (take filled head ++ body) ≡ filled + length body = length-append (take filled head) body ∙ ap (λ n. n + length body) (length-take-le filled head (omega (arith, d.size, less))) in
-    let n : length body ≡ 0 = ap length ((d.early less).0) in
-    omega (arith, l, n, less)
-
 pub head_stays : (head : List ℕ) (filled : ℕ) (body : List ℕ) (counted n : ℕ) (p now : List ℕ) → IsDecoder head filled body counted
     → length (take filled head ++ body) < 10 → length p ≡ n → length now ≡ 10 → take (filled + n) now ≡ take filled head ++ p → filled + n ≤ 10 → (10 ≤ filled + n → 0 < (header_of now).length)
     → Fed (record { bytes = take filled head ++ body; counted = counted }) p [] (record { bytes = take (filled + n) now ++ body; counted = counted })

@@ -1,14 +1,13 @@
 -- The frames still to be written: what each call leaves is a queue, and what the calls' bodies compute is what is
 -- stated.
-use Rattle.std.proofs.Common.{◌≡◌, ◌+◌, ◌-◌, ◌%◌, ◌^◌, ◌<◌, ◌≤◌, ◌||◌, ℕ, Bool, true, false, cond, nat_lt, subst, suc, set, get_or, min, List, [], ◌∷◌, ◌++◌, length, take, drop, arith, sym, ap, ◌∙◌, refl, ⊎_elim, length-append, length-take, length-drop, append_assoc}
+use Rattle.std.proofs.Common.{◌≡◌, ◌+◌, ◌-◌, ◌%◌, ◌^◌, ◌<◌, ◌≤◌, ◌||◌, ℕ, Bool, true, false, nat_lt, subst, suc, set, get_or, min, List, [], ◌∷◌, ◌++◌, length, take, drop, arith, sym, ap, ◌∙◌, refl, ⊎_elim, length-append, length-take, length-drop, append_assoc}
 use Rattle.std.proofs.Math.Seq.{take-append-add, drop-append-add}
 use Rattle.std.proofs.lemmas.Bool.{cases_lt, cond_both, cond-true, cond-false, ltb-true, lt-ltb, le-ltb}
 use Rattle.std.proofs.lemmas.Bool.Decides.{nat_tests}
 use Rattle.std.proofs.lemmas.List.{take_at, take_all, take_rest, append-nil, drop_at, take-append-le, drop-append-le, drop_all, drop-drop}
-use Rattle.std.specs.Int.{from_bool}
 use Rattle.ttrpc_frame.specs.declared.gen_message.GenMessage.{GenMessage}
 use Rattle.ttrpc_frame.specs.declared.outgoing.Queued.{Queued}
-use Rattle.ttrpc_frame.specs.Queue.{written, Queue, IsQueue, IsWithin, first_open, open_part, with_frame, with_lent, report_first, after_report, begun_count, last_may_change, with_payload, last_filled, filled, withdrawn, without, frames_without}
+use Rattle.ttrpc_frame.specs.Queue.{written, Queue, IsQueue, IsWithin, first_open, open_part, with_frame, with_lent, report_first, after_report, last_may_change, with_payload, last_filled, filled, withdrawn, without, frames_without}
 use Rattle.ttrpc_header.specs.Header.{header_bytes}
 
 pub length-written : (m : GenMessage) → length (written m) ≡ 10 + length m.payload
@@ -215,14 +214,6 @@ fresh_is_queue fs r l h = record {
 begun_is_queue : (f : Queued) (fs gs : List Queued) (r l : ℕ) (b : Bool) → IsQueue (record { frames = f ∷ fs; reported = r; lent = l; begun = b }) → IsQueue (record { frames = f ∷ gs; reported = r; lent = l; begun = b })
 begun_is_queue f fs gs r l b h = record { within = h.within; lent = h.lent; fresh = h.fresh; none = λ e. absurd (cc) }
 
--- the number that the code makes of whether the first frame has begun
-pub begun_number : (q : Queue) (n : ℕ) → n ≡ from_bool q.begun → n ≡ begun_count q
-begun_number q n e = e ∙ number q.begun
-  where
-    number : (b : Bool) → from_bool b ≡ cond b 1 0
-    number true = refl
-    number false = refl
-
 abbrev pub queue_of : Bool → List Queued → ℕ → ℕ → Queue
 queue_of b fs r l = record { frames = fs; reported = r; lent = l; begun = b }
 
@@ -234,17 +225,6 @@ filled_queue true (f ∷ g ∷ fs) r l payload h = cond_both (last_may_change (q
 
 pub filled_is_queue : (q : Queue) (payload : List ℕ) → IsQueue q → IsQueue (filled q payload)
 filled_is_queue q payload h = filled_queue q.begun q.frames q.reported q.lent payload h
-
-withdrawn_queue : (b : Bool) (fs : List Queued) (r l : ℕ) → IsQueue (queue_of b fs r l) → IsQueue (withdrawn (queue_of b fs r l))
-withdrawn_queue false fs r l h = cond_both (last_may_change (queue_of false fs r l)) _ _ IsQueue (λ _. fresh_is_queue (take (length fs - 1) fs) r l (h.fresh refl)) (λ _. h)
-withdrawn_queue true [] r l h = h
-withdrawn_queue true (f ∷ []) r l h = h
-withdrawn_queue true (f ∷ g ∷ fs) r l h =
-    let some : suc (length fs) ≡ length (f ∷ g ∷ fs) - 1 = omega arith in
-    cond_both (last_may_change (queue_of true (f ∷ g ∷ fs) r l)) _ _ IsQueue (λ _. subst (λ n. IsQueue (queue_of true (take n (f ∷ g ∷ fs)) r l)) some (begun_is_queue f (g ∷ fs) (take (length fs) (g ∷ fs)) r l true h)) (λ _. h)
-
-pub withdrawn_is_queue : (q : Queue) → IsQueue q → IsQueue (withdrawn q)
-withdrawn_is_queue q h = withdrawn_queue q.begun q.frames q.reported q.lent h
 
 without_queue : (b : Bool) (fs : List Queued) (r l : ℕ) (owners : ℕ → Bool) → IsQueue (queue_of b fs r l) → IsQueue (without (queue_of b fs r l) owners)
 without_queue false fs r l owners h = fresh_is_queue _ r l (h.fresh refl)
