@@ -3,7 +3,7 @@ use Rattle.std.proofs.Common.{rules, ◌≡◌, ◌+◌, ◌*◌, ◌<◌, ◌�
 use Rattle.std.proofs.lemmas.Option.{same_Some}
 use Rattle.std.proofs.lemmas.Str.{IsUtf8-from_ascii, IsUtf8-nil}
 use Rattle.std.proofs.lemmas.Bool.{le-ltb, lt-ltb}
-use Rattle.std.proofs.lemmas.List.{append-nil, length-append, length-take-le}
+use Rattle.std.proofs.lemmas.List.{append-nil, length-append}
 use Rattle.std.specs.Io.KnownBytes.{Consumes, IsAtEnd}
 use Rattle.ttrpc_wire.specs.declared.field.WireType.TheVariants as wire
 use Rattle.ttrpc_wire.specs.Varint.{digits, varint}
@@ -26,12 +26,11 @@ use Rattle.ttrpc_frame.specs.declared.frame.Incoming.{Incoming}
 use Rattle.ttrpc_frame.specs.declared.frame.Incoming.TheVariants.{Frame, Oversize}
 use Rattle.ttrpc_frame.specs.declared.outgoing.Queued.{Queued}
 use Rattle.ttrpc_frame.specs.Frames.{Frames, Held, Holds, IsFrame, IsRest}
-use Rattle.ttrpc_frame.specs.Queue.{Queue, IsQueue, after_report, empty_queue, open_part, unsent, with_frame, with_lent, with_payload, written}
+use Rattle.ttrpc_frame.specs.Queue.{IsQueue, after_report, empty_queue, open_part, unsent, with_frame, with_lent, with_payload, written}
 use Rattle.ttrpc_frame.proofs.Frames.{nothing_held}
 use Rattle.ttrpc_frame.proofs.Queues.{after_report_is_queue, with_frame_is_queue, with_lent_is_queue, written_is}
 use Rattle.ttrpc_frame.proofs.Pieces.{one_list}
 use Rattle.ttrpc_connection.specs.declared.arrived.Opening.{Opening}
-use Rattle.ttrpc_connection.specs.declared.failure.Failure.{Failure}
 use Rattle.ttrpc_connection.specs.Feeds.{Acts, ActsAll, Feeds, Scene, scene}
 use Rattle.ttrpc_server.specs.Responses.{fitted, response_bytes, response_size}
 use Rattle.ttrpc_server.specs.Table.{Row, Known, sync_row}
@@ -40,7 +39,7 @@ use Rattle.ttrpc_client.specs.declared.call.Call.{Call}
 use Rattle.ttrpc_client.specs.declared.call.Call.TheVariants.{Waiting, Ended}
 use Rattle.ttrpc_client.specs.declared.client.ClientCore.{ClientCore}
 use Rattle.ttrpc_client.specs.Client.{Client, call_at}
-use Rattle.ttrpc_client.specs.Table.{IsRequestFrame, Landing, LandsOn, Gives, RefusesRequest, landing_of, request_bytes}
+use Rattle.ttrpc_client.specs.Table.{IsRequestFrame, Landing, LandsOn, Gives, landing_of, request_bytes}
 use Rattle.ttrpc_client.specs.Happens.{GivesOutcome, Requests, calling}
 use Rattle.ttrpc_echo.specs.Answered.{AnsweredAll, Fails}
 use Rattle.ttrpc_echo.specs.Calling.{AwaitsAnswer, CallsEcho, FitsLimit, IsUnused, LendsAll, answered_bytes, asked_bytes, echo_request, with_queue}

@@ -1,5 +1,5 @@
 -- What is unsent leaves as the writer takes it.
-use Rattle.std.proofs.Common.{◌≡◌, ◌≤◌, ◌+◌, ℕ, Bool, true, false, nat_lt, List, [], ◌∷◌, ◌++◌, length, take, drop, Option, refl, sym, ap, ◌∙◌, append_assoc, arith, length-drop}
+use Rattle.std.proofs.Common.{◌≡◌, ◌≤◌, ◌+◌, ℕ, Bool, true, false, nat_lt, List, [], ◌∷◌, ◌++◌, length, take, drop, Option, refl, sym, ap, ◌∙◌, append_assoc}
 use Rattle.std.proofs.lemmas.List.{append-nil}
 use Rattle.std.specs.Io.KnownBytes.{Appends}
 use Rattle.ttrpc_frame.specs.declared.outgoing.Queued.{Queued}
@@ -10,7 +10,7 @@ use Rattle.ttrpc_frame.proofs.Queues.{with_lent_is_queue, after_report_is_queue}
 use Rattle.ttrpc_secure.specs.declared.plain.Plain.{Plain}
 use Rattle.ttrpc_server.specs.declared.server.ServerCore.{ServerCore}
 use Rattle.ttrpc_echo.specs.Serving.{IsReady, WritesOut}
-use Rattle.ttrpc_echo.proofs.Known.{keeps_same, keeps_appends_nothing, appends_twice}
+use Rattle.ttrpc_echo.proofs.Known.{appends_twice}
 
 -- the core with this queue
 abbrev pub with_queue : ServerCore Plain Plain → Queue → ServerCore Plain Plain
