@@ -42,8 +42,24 @@ at_one T k here there n = elim (cases_eq k n) [
 ]
 
 -- the stream of each job that was handed out is known
+abbrev pub IsKnown : (ℕ → ℕ) → ActiveJob → Type 0
+IsKnown stream_of j = j.request ≡ None → stream_of j.id ≡ j.header.stream_id
+
 abbrev pub AreKnown : (ℕ → ℕ) → List ActiveJob → Type 0
-AreKnown stream_of jobs = AllByRecursion (λ (j : ActiveJob). j.request ≡ None → stream_of j.id ≡ j.header.stream_id) jobs
+AreKnown stream_of jobs = AllByRecursion (IsKnown stream_of) jobs
+
+-- what holds of each job holds of one among them, if it is another one then of that, and of the others
+pub all_at : (P : ActiveJob → Type 0) (front back : List ActiveJob) (j : ActiveJob) → AllByRecursion P (front ++ j ∷ back) → P j
+all_at P [] back j h = h.0
+all_at P (i ∷ front) back j h = all_at P front back j h.1
+
+pub all_changed : (P : ActiveJob → Type 0) (front back : List ActiveJob) (j new : ActiveJob) → P new → AllByRecursion P (front ++ j ∷ back) → AllByRecursion P (front ++ new ∷ back)
+all_changed P [] back j new now h = (now, h.1)
+all_changed P (i ∷ front) back j new now h = (h.0, all_changed P front back j new now h.1)
+
+pub all_less : (P : ActiveJob → Type 0) (front back : List ActiveJob) (j : ActiveJob) → AllByRecursion P (front ++ j ∷ back) → AllByRecursion P (front ++ back)
+all_less P [] back j h = h.1
+all_less P (i ∷ front) back j h = (h.0, all_less P front back j h.1)
 
 -- ---- jobs of one id
 

@@ -1,7 +1,7 @@
 -- Each event that moves bytes, cuts a pipe or fails a side, and each of the server, keeps the invariant.
 use Rattle.std.proofs.Common.{◌≡◌, ◌≢◌, ℕ, zero, suc, ◌≤◌, List, [], ◌∷◌, ◌++◌, length, take, drop, map, min, Bool, true, false, Option, Some, None, refl, sym, ap, ◌∙◌, subst, ◌⊎◌, inl, inr, arith, append_assoc, take-append-drop, Result, Ok, Err}
 use Rattle.std.specs.List.{AllByRecursion}
-use Rattle.ttrpc_world.proofs.Words.{Error, Failure, Outbox, ServerCore, ClientCore, Entry, Request, Response, ActiveJob, Event, Reply}
+use Rattle.ttrpc_world.proofs.Words.{Error, Failure, Outbox, ServerCore, Entry, Request, Response, ActiveJob, Event, Reply}
 use Rattle.ttrpc_frame.specs.declared.frame.Incoming.{Incoming}
 use Rattle.ttrpc_frame.specs.Frames.{Fed, Held, given, nothing}
 use Rattle.ttrpc_frame.specs.Queue.{Queue, after_report, open_part, with_lent}
@@ -20,7 +20,7 @@ use Rattle.ttrpc_flight.proofs.Losing.{all_behind}
 use Rattle.ttrpc_world.specs.Pipes.{Pipe, is_over}
 use Rattle.ttrpc_world.specs.Net.{Halves, Net, with_client, with_server}
 use Rattle.ttrpc_world.specs.Steps.{BreaksAt, OnlyClient, OnlyServer, CarriesDown, CarriesUp, CutsDown, CutsUp, DeliversDown, DeliversUp, Hears, InputEnds, carried, cut_to, failed, after_carry, lent_of, taken_from, AnswersBy}
-use Rattle.ttrpc_world.proofs.Delivers.{AreKnown, Stories, feeds_down, feeds_up, at_one, jobs-append, jobs-cons_other, jobs-cons_own}
+use Rattle.ttrpc_world.proofs.Delivers.{AreKnown, IsKnown, Stories, all_at, all_changed, all_less, feeds_down, feeds_up, at_one, jobs-append, jobs-cons_other, jobs-cons_own}
 use Rattle.ttrpc_world.proofs.Throws.{InFlight, not_both}
 use Rattle.ttrpc_world.proofs.Keeps.{Keeps, placed}
 use Rattle.ttrpc_world.proofs.Turns.{no_cons, answers_here, elsewhere, fails_here, is_running, takes_here}
@@ -101,31 +101,19 @@ cases_of (b ∷ bytes) counted = inr (λ e. no_cons b bytes (ap Held.bytes e))
 held_cases : (h : Held) → (h ≡ nothing) ⊎ (h ≢ nothing)
 held_cases h = cases_of h.bytes h.counted
 
+pub one_way : {P : Type 0} (h : Held) → (h ≡ nothing → P) → (h ≢ nothing → P) → P
+one_way h none some = elim (held_cases h) [
+  | inl e ↦ none e
+  | inr e ↦ some e
+]
+
 -- an end of input is a failure
-pub record Stops {O I : Type 0} (old new : Connection O I) : Type 0 where
-  pub why : Failure
-  pub is : new ≡ failed old why
+record Stops {O I : Type 0} (old new : Connection O I) : Type 0 where
+  why : Failure
+  is : new ≡ failed old why
 
-pub stops : {O I : Type 0} (old new : Connection O I) → InputEnds old new → Stops old new
-stops old new e = elim (held_cases old.decoder) [
-  | inl none ↦ record { why = Disconnected; is = e.between none }
-  | inr some ↦ record { why = DisconnectedInside; is = e.inside some }
-]
-
--- what an end of input does to a core, it does to its connection
-pub server_ends : {O I : Type 0} (old new : ServerCore O I) → (old.connection.decoder ≡ nothing → new ≡ record old { connection = failed old.connection Disconnected })
-    → (old.connection.decoder ≢ nothing → new ≡ record old { connection = failed old.connection DisconnectedInside }) → new ≡ record old { connection = new.connection }
-server_ends old new between inside = elim (held_cases old.connection.decoder) [
-  | inl none ↦ rw (between none) refl
-  | inr some ↦ rw (inside some) refl
-]
-
-pub client_ends : {O I : Type 0} (old new : ClientCore O I) → (old.connection.decoder ≡ nothing → new ≡ record old { connection = failed old.connection Disconnected })
-    → (old.connection.decoder ≢ nothing → new ≡ record old { connection = failed old.connection DisconnectedInside }) → new ≡ record old { connection = new.connection }
-client_ends old new between inside = elim (held_cases old.connection.decoder) [
-  | inl none ↦ rw (between none) refl
-  | inr some ↦ rw (inside some) refl
-]
+stops : {O I : Type 0} (old new : Connection O I) → InputEnds old new → Stops old new
+stops old new e = one_way old.decoder (λ none. record { why = Disconnected; is = e.between none }) (λ some. record { why = DisconnectedInside; is = e.inside some })
 
 module _ {CO CI SO SI : Type 0} (c : Halves CO CI) (s : Halves SO SI) (seals : Bool) (stream_of : ℕ → ℕ) (trace : List Entry) where
   -- the states of both cores stay, and what is in flight
@@ -353,18 +341,6 @@ here_at k front back j own = jobs-append k front (j ∷ back) ∙ ap (λ js. job
 not_here : (k : ℕ) (front back : List ActiveJob) (j : ActiveJob) → j.header.stream_id ≢ k → jobs_at (front ++ j ∷ back) k ≡ jobs_at (front ++ back) k
 not_here k front back j other = jobs-append k front (j ∷ back) ∙ ap (λ js. jobs_at front k ++ js) (jobs-cons_other k j back other) ∙ sym (jobs-append k front back)
 
-known_at : (stream_of : ℕ → ℕ) (front back : List ActiveJob) (j taken : ActiveJob) → stream_of taken.id ≡ taken.header.stream_id → AreKnown stream_of (front ++ j ∷ back) → AreKnown stream_of (front ++ taken ∷ back)
-known_at stream_of [] back j taken right h = ((λ e. right), h.1)
-known_at stream_of (i ∷ front) back j taken right h = (h.0, known_at stream_of front back j taken right h.1)
-
-known_less : (stream_of : ℕ → ℕ) (front back : List ActiveJob) (j : ActiveJob) → AreKnown stream_of (front ++ j ∷ back) → AreKnown stream_of (front ++ back)
-known_less stream_of [] back j h = h.1
-known_less stream_of (i ∷ front) back j h = (h.0, known_less stream_of front back j h.1)
-
-known_here : (stream_of : ℕ → ℕ) (front back : List ActiveJob) (j : ActiveJob) → j.request ≡ None → AreKnown stream_of (front ++ j ∷ back) → stream_of j.id ≡ j.header.stream_id
-known_here stream_of [] back j taken h = h.0 taken
-known_here stream_of (i ∷ front) back j taken h = known_here stream_of front back j taken h.1
-
 answered_work : (request : Request) (job : ℕ) (response : Response) → IsDone (whole_work request job response)
 answered_work request job response = record { one_call = refl; one_run = omega arith }
 
@@ -420,7 +396,7 @@ module _ {CO CI SO SI : Type 0} (c : Halves CO CI) (s : Halves SO SI) (seals : B
       (heard stream_of k job.header.stream_id trace Take (Handed (Some job)) (Ran job.id job.request) refl at ∙ ap (λ (m : ℕ). acts stream_of k trace ++ Ran m job.request ∷ []) t.id))
       (λ n e. elsewhere (w.client.state.next ≤ n) (w.client.state.next ≤ n) n _ _ _ _ _ _ _ _ _ _ (i.stories n) (λ y. y) (unheard stream_of n job.header.stream_id trace Take (Handed (Some job)) (Ran job.id job.request) refl (λ same. e (sym at ∙ same)))
       refl (is n ∙ not_here n t.front t.back taken e ∙ sym (was n ∙ not_here n t.front t.back j e)) refl refl))
-      (subst (λ (js : List ActiveJob). AreKnown stream_of js) (sym t.jobs) (known_at stream_of t.front t.back j taken now_known (subst (λ (js : List ActiveJob). AreKnown stream_of js) t.was i.known)))
+      (subst (λ (js : List ActiveJob). AreKnown stream_of js) (sym t.jobs) (all_changed (IsKnown stream_of) t.front t.back j taken (λ e. now_known) (subst (λ (js : List ActiveJob). AreKnown stream_of js) t.was i.known)))
       (ap (λ (x : ServerCore SO SI). x.connection.decoder) same) (ap (λ (x : ServerCore SO SI). x.connection.inbound) same) (λ alive. p.alive) (ap (λ (x : ServerCore SO SI). x.connection.outbox) same)
 
   -- A job is answered by a response.
@@ -433,7 +409,7 @@ module _ {CO CI SO SI : Type 0} (c : Halves CO CI) (s : Halves SO SI) (seals : B
       let was : (n : ℕ) → jobs_at w.server.state.jobs.list n ≡ jobs_at (t.front ++ j ∷ t.back) n = λ n. ap (λ js. jobs_at js n) t.is in
       let is : (n : ℕ) → jobs_at x.state.jobs.list n ≡ jobs_at t.front n ++ jobs_at t.back n = λ n. ap (λ js. jobs_at js n) p.ends.jobs ∙ jobs-append n t.front t.back in
       let known = subst (λ (js : List ActiveJob). AreKnown stream_of js) t.is i.known in
-      let at : stream_of id ≡ k = ap stream_of (sym t.is_job) ∙ known_here stream_of t.front t.back j t.taken known in
+      let at : stream_of id ≡ k = ap stream_of (sym t.is_job) ∙ all_at (IsKnown stream_of) t.front t.back j known t.taken in
       let here : jobs_at w.server.state.jobs.list k ≡ jobs_at t.front k ++ j ∷ jobs_at t.back k = was k ∙ here_at k t.front t.back j refl in
       let running = is_running _ k _ _ _ _ _ (jobs_at t.front k) (jobs_at t.back k) j (i.stories k) here t.taken in
       let done : List Act = whole_work running.request j.id response in
@@ -444,7 +420,7 @@ module _ {CO CI SO SI : Type 0} (c : Halves CO CI) (s : Halves SO SI) (seals : B
       (heard stream_of k (stream_of id) trace (Answer id (Ok response)) Done (Answered (Ok response)) refl at) (parcels-push_own k r.y i.down r.is_told.stream))
       (λ n e. elsewhere (w.client.state.next ≤ n) (w.client.state.next ≤ n) n _ _ _ _ _ _ _ _ _ _ (i.stories n) (λ y. y) (unheard stream_of n (stream_of id) trace (Answer id (Ok response)) Done (Answered (Ok response)) refl (λ same. e (sym at ∙ same)))
       refl (is n ∙ sym (jobs-append n t.front t.back) ∙ sym (was n ∙ not_here n t.front t.back j e)) (parcels-push_other n r.y i.down (λ same. e (sym r.is_told.stream ∙ same))) refl))
-      (subst (λ (js : List ActiveJob). AreKnown stream_of js) (sym p.ends.jobs) (known_less stream_of t.front t.back j known))
+      (subst (λ (js : List ActiveJob). AreKnown stream_of js) (sym p.ends.jobs) (all_less (IsKnown stream_of) t.front t.back j known))
       (ap (λ (y : ServerCore SO SI). y.connection.decoder) p.same) (ap (λ (y : ServerCore SO SI). y.connection.inbound) p.same) (λ alive. p.alive)
       (λ alive. placed w.client.connection.decoder w.down w.server.connection.outbox.queue i.down r.y x.connection.outbox.queue (i.down_bytes alive)
       (λ transit queued a. subst (λ (q : Queue). AreInFlight w.client.connection.decoder w.down.bytes w.down.cut q transit (queued ++ r.y ∷ [])) (sym r.queue) (placed_in_flight w.client.connection.decoder w.down.bytes w.down.cut w.server.connection.outbox.queue transit queued r.y r.sound a)))
@@ -459,14 +435,14 @@ module _ {CO CI SO SI : Type 0} (c : Halves CO CI) (s : Halves SO SI) (seals : B
       let was : (n : ℕ) → jobs_at w.server.state.jobs.list n ≡ jobs_at (t.front ++ j ∷ t.back) n = λ n. ap (λ js. jobs_at js n) t.is in
       let is : (n : ℕ) → jobs_at x.state.jobs.list n ≡ jobs_at t.front n ++ jobs_at t.back n = λ n. ap (λ js. jobs_at js n) p.ends.jobs ∙ jobs-append n t.front t.back in
       let known = subst (λ (js : List ActiveJob). AreKnown stream_of js) t.is i.known in
-      let at : stream_of id ≡ k = ap stream_of (sym t.is_job) ∙ known_here stream_of t.front t.back j t.taken known in
+      let at : stream_of id ≡ k = ap stream_of (sym t.is_job) ∙ all_at (IsKnown stream_of) t.front t.back j known t.taken in
       same_outbox w (Answer id (Err error)) Done x i
       (at_one (λ (m : ℕ). Story (w.client.state.next ≤ m) m (acts stream_of m (with_entry trace (Answer id (Err error)) Done)) (parcels m i.up) (jobs_at x.state.jobs.list m) (parcels m i.down) (call_at w.client.state m)) k
       (fails_here (w.client.state.next ≤ k) k _ _ _ _ _ _ _ (jobs_at t.front k) (jobs_at t.back k) j error (i.stories k) (was k ∙ here_at k t.front t.back j refl) (is k) t.taken
       (heard stream_of k (stream_of id) trace (Answer id (Err error)) Done (Answered (Err error)) refl at))
       (λ n e. elsewhere (w.client.state.next ≤ n) (w.client.state.next ≤ n) n _ _ _ _ _ _ _ _ _ _ (i.stories n) (λ y. y) (unheard stream_of n (stream_of id) trace (Answer id (Err error)) Done (Answered (Err error)) refl (λ same. e (sym at ∙ same)))
       refl (is n ∙ sym (jobs-append n t.front t.back) ∙ sym (was n ∙ not_here n t.front t.back j e)) refl refl))
-      (subst (λ (js : List ActiveJob). AreKnown stream_of js) (sym p.ends.jobs) (known_less stream_of t.front t.back j known))
+      (subst (λ (js : List ActiveJob). AreKnown stream_of js) (sym p.ends.jobs) (all_less (IsKnown stream_of) t.front t.back j known))
       (ap (λ (y : ServerCore SO SI). y.connection.decoder) p.same) (ap (λ (y : ServerCore SO SI). y.connection.inbound) p.same)
       (λ alive. absurd (not_both x.connection.failure HandlerError (ap (λ (y : ServerCore SO SI). y.connection.failure) p.same) alive)) (ap (λ (y : ServerCore SO SI). y.connection.outbox) p.same)
 

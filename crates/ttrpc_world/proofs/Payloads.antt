@@ -1,12 +1,11 @@
 -- What is sent reads back, what a core makes of it then, and the flights that it is sent as.
-use Rattle.std.proofs.Common.{rules, ◌≡◌, ℕ, zero, suc, ◌≤◌, ◌<◌, ◌^◌, List, [], ◌∷◌, ◌++◌, length, codes, nat_lt, if◌then◌else◌, Bool, true, false, Some, refl, sym, subst, ◌∙◌, arith}
+use Rattle.std.proofs.Common.{rules, ◌≡◌, ℕ, zero, suc, ◌≤◌, ◌<◌, ◌^◌, List, [], ◌∷◌, ◌++◌, length, codes, nat_lt, ◌&&◌, Bool, true, false, Some, refl, sym, subst, ◌∙◌, arith}
 use Rattle.std.specs.Fmt.{decimal}
-use Rattle.std.proofs.lemmas.Bool.{le-ltb, ltb-true}
+use Rattle.std.proofs.lemmas.Bool.{and_parts, le-ltb, ltb-true}
 use Rattle.std.proofs.lemmas.Fmt.{IsAscii-decimal}
 use Rattle.std.proofs.lemmas.Str.{IsUtf8-append, IsUtf8-from_ascii}
 use Rattle.std.specs.Str.{IsAscii, IsUtf8}
 use Rattle.ttrpc_world.proofs.Words.{Request, Response, OutboundTransform, Outbox, ClientCore}
-use Rattle.ttrpc_wire.specs.Fold.{read_from}
 use Rattle.ttrpc_wire.proofs.Folds.{reads_back}
 use Rattle.ttrpc_values.specs.declared.code.Code.TheVariants.{INVALID_ARGUMENT}
 use Rattle.ttrpc_header.specs.declared.header.MessageHeader.{MessageHeader}
@@ -29,29 +28,21 @@ use Rattle.ttrpc_world.proofs.Stages.{IsAnswerOf, IsDone, IsSent, IsToldOf}
 
 -- ---- reading
 
-request_reads : (r : Request) → IsRequest r → length (request_bytes r) ≤ MESSAGE_LENGTH_MAX → read_from request_step empty_request (request_bytes r) ≡ Some r
-request_reads r is short =
-    let fits : length (request_bytes r) < 2 ^ 32 = omega (arith, short) in
-    reads_back request_step empty_request r (request_fields r) (request_fits r is fits) (request_again r is fits)
-
-response_reads : (r : Response) → IsResponse r → length (response_bytes r) ≤ MESSAGE_LENGTH_MAX → read_from response_step empty_response (response_bytes r) ≡ Some r
-response_reads r is short =
-    let fits : length (response_bytes r) < 2 ^ 32 = omega (arith, short) in
-    reads_back response_step empty_response r (response_fields r) (response_fits r is fits) (response_again r is fits)
-
 -- The server makes of a request that is opened as it was sent what its services say.
 pub request_row_is : (services : List ServiceNames) (h : MessageHeader) (r : Request) → IsRequest r → length (request_bytes r) ≤ MESSAGE_LENGTH_MAX → h.type_ ≡ MESSAGE_TYPE_REQUEST
     → sync_row services h (Opened (request_bytes r)) ≡ request_row services (Some r)
 request_row_is services h r is short type_ =
     let within : nat_lt MESSAGE_LENGTH_MAX (length (request_bytes r)) ≡ false = le-ltb _ _ short in
-    rw (within, type_, request_reads r is short) refl
+    let fits : length (request_bytes r) < 2 ^ 32 = omega (arith, short) in
+    rw (within, type_, reads_back request_step empty_request r (request_fields r) (request_fits r is fits) (request_again r is fits)) refl
 
 -- The client makes of a response its outcome.
 pub response_landing_is : (h : MessageHeader) (r : Response) → IsResponse r → length (response_bytes r) ≤ MESSAGE_LENGTH_MAX → h.type_ ≡ MESSAGE_TYPE_RESPONSE
     → landing_of h (Opened (response_bytes r)) ≡ Gives (by_status r.status r)
 response_landing_is h r is short type_ =
     let within : nat_lt MESSAGE_LENGTH_MAX (length (response_bytes r)) ≡ false = le-ltb _ _ short in
-    rw (within, type_, response_reads r is short) refl
+    let fits : length (response_bytes r) < 2 ^ 32 = omega (arith, short) in
+    rw (within, type_, reads_back response_step empty_response r (response_fields r) (response_fits r is fits) (response_again r is fits)) refl
 
 -- ---- responses that the core makes itself
 
@@ -68,16 +59,12 @@ refusal_answers done text = λ ok. absurd (not_ok text ok)
 -- whether all bytes are below 128
 abbrev is_plain : List ℕ → Bool
 is_plain [] = true
-is_plain (b ∷ bs) = if nat_lt b 128 then is_plain bs else false
-
-first_is_plain : (x b : Bool) → (if x then b else false) ≡ true → (x ≡ true) × (b ≡ true)
-first_is_plain true b e = (refl, e)
-first_is_plain false b e = cc
+is_plain (b ∷ bs) = nat_lt b 128 && is_plain bs
 
 plain_is_ascii : (bs : List ℕ) → is_plain bs ≡ true → IsAscii bs
 plain_is_ascii [] is i = omega arith
-plain_is_ascii (b ∷ bs) is zero = ltb-true b 128 (first_is_plain (nat_lt b 128) (is_plain bs) is).0
-plain_is_ascii (b ∷ bs) is (suc i) = plain_is_ascii bs (first_is_plain (nat_lt b 128) (is_plain bs) is).1 i
+plain_is_ascii (b ∷ bs) is zero = ltb-true b 128 (and_parts (nat_lt b 128) (is_plain bs) is).0
+plain_is_ascii (b ∷ bs) is (suc i) = plain_is_ascii bs (and_parts (nat_lt b 128) (is_plain bs) is).1 i
 
 plain_text : (bs : List ℕ) → is_plain bs ≡ true → IsUtf8 bs
 plain_text bs is = IsUtf8-from_ascii bs (plain_is_ascii bs is)
@@ -89,17 +76,14 @@ path_is_utf8 r is =
     (IsUtf8-append (codes "/" ++ r.service ++ codes "/") r.method (IsUtf8-append (codes "/" ++ r.service) (codes "/") (IsUtf8-append (codes "/") r.service slash is.service) slash) is.method)
     (plain_text (codes " does not exist") refl)
 
-number_is_utf8 : (n : ℕ) → n < 2 ^ 64 → IsUtf8 (decimal n)
-number_is_utf8 n small = IsUtf8-from_ascii (decimal n) (IsAscii-decimal n small)
-
 limit_is_utf8 : (n limit : ℕ) → n < 2 ^ 64 → limit < 2 ^ 64 → IsUtf8 (limit_text n limit)
 limit_is_utf8 n limit small low =
     IsUtf8-append (codes "response payload " ++ decimal n ++ codes " bytes exceeds safe limit " ++ decimal limit) (codes " bytes (after transform overhead)")
     (IsUtf8-append (codes "response payload " ++ decimal n ++ codes " bytes exceeds safe limit ") (decimal limit)
     (IsUtf8-append (codes "response payload " ++ decimal n) (codes " bytes exceeds safe limit ")
-    (IsUtf8-append (codes "response payload ") (decimal n) (plain_text (codes "response payload ") refl) (number_is_utf8 n small))
+    (IsUtf8-append (codes "response payload ") (decimal n) (plain_text (codes "response payload ") refl) (IsUtf8-from_ascii (decimal n) (IsAscii-decimal n small)))
     (plain_text (codes " bytes exceeds safe limit ") refl))
-    (number_is_utf8 limit low))
+    (IsUtf8-from_ascii (decimal limit) (IsAscii-decimal limit low)))
     (plain_text (codes " bytes (after transform overhead)") refl)
 
 -- what the core says of a path that no handler has

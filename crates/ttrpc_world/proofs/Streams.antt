@@ -19,14 +19,18 @@ use Rattle.ttrpc_world.specs.declared.events.Reply.TheVariants.{Handed, Done, Co
 use Rattle.ttrpc_world.specs.Net.{Halves, Net, IsFresh}
 use Rattle.ttrpc_world.specs.Steps.{AnswersBy, Runs, Steps}
 use Rattle.ttrpc_world.specs.Story.{Act, Ran, IsOneToOne, IsRightAt, IsStreamOf, act_of, acts, only_if, runs}
+use Rattle.ttrpc_world.proofs.Delivers.{all_at, all_changed, all_less}
 use Rattle.ttrpc_world.proofs.Traces.{with_entry}
 use Rattle.ttrpc_world.proofs.Turns.{never_empty, only_one}
 
 -- ---- a stream for each job that was made
 
 -- the streams of jobs are right, and no job is above the last one
+abbrev IsPlaced : (ℕ → ℕ) → ℕ → ActiveJob → Type 0
+IsPlaced f n j = (f j.id ≡ j.header.stream_id) × (j.id ≤ n)
+
 abbrev AreBelow : (ℕ → ℕ) → ℕ → List ActiveJob → Type 0
-AreBelow f n jobs = AllByRecursion (λ (j : ActiveJob). (f j.id ≡ j.header.stream_id) × (j.id ≤ n)) jobs
+AreBelow f n jobs = AllByRecursion (IsPlaced f n) jobs
 
 abbrev IsBelow : (ℕ → ℕ) → ℕ → Event → Reply → Type 0
 IsBelow f n Take (Handed (Some job)) = (f job.id ≡ job.header.stream_id) × (job.id ≤ n)
@@ -100,21 +104,9 @@ past_more f n (e ∷ trace) event reply h r = (h.0, past_more f n trace event re
 entry_placed : (trace : List Entry) (js : JobList) (event : Event) (reply : Reply) → (p : Placed trace js) → IsBelow p.f js.last event reply → Placed (with_entry trace event reply) js
 entry_placed trace js event reply p r = record { f = p.f; below = p.below; past = past_more p.f js.last trace event reply p.past r }
 
-below_here : (f : ℕ → ℕ) (n : ℕ) (front back : List ActiveJob) (j : ActiveJob) → AreBelow f n (front ++ j ∷ back) → (f j.id ≡ j.header.stream_id) × (j.id ≤ n)
-below_here f n [] back j h = h.0
-below_here f n (i ∷ front) back j h = below_here f n front back j h.1
-
-below_taken : (f : ℕ → ℕ) (n : ℕ) (front back : List ActiveJob) (j : ActiveJob) → AreBelow f n (front ++ j ∷ back) → AreBelow f n (front ++ record j { request = None } ∷ back)
-below_taken f n [] back j h = (h.0, h.1)
-below_taken f n (i ∷ front) back j h = (h.0, below_taken f n front back j h.1)
-
-below_less : (f : ℕ → ℕ) (n : ℕ) (front back : List ActiveJob) (j : ActiveJob) → AreBelow f n (front ++ j ∷ back) → AreBelow f n (front ++ back)
-below_less f n [] back j h = h.1
-below_less f n (i ∷ front) back j h = (h.0, below_less f n front back j h.1)
-
 ended_placed : (trace : List Entry) (old new : JobList) (id : ℕ) (job : ActiveJob) → new.last ≡ old.last → EndsOne old.list id job new.list → Placed trace old → Placed trace new
 ended_placed trace old new id job last t p =
-    others_placed trace p.f old.last (t.at.front ++ t.at.back) new last t.jobs (below_less p.f old.last t.at.front t.at.back job (subst (λ (js : List ActiveJob). AreBelow p.f old.last js) t.at.is p.below)) p.past
+    others_placed trace p.f old.last (t.at.front ++ t.at.back) new last t.jobs (all_less (IsPlaced p.f old.last) t.at.front t.at.back job (subst (λ (js : List ActiveJob). AreBelow p.f old.last js) t.at.is p.below)) p.past
 
 module _ {CO CI SO SI : Type 0} (c : Halves CO CI) (s : Halves SO SI) (seals : Bool) where
   abbrev jobs : Net CO CI SO SI → JobList
@@ -133,8 +125,8 @@ module _ {CO CI SO SI : Type 0} (c : Halves CO CI) (s : Halves SO SI) (seals : B
       let t = q.0.hands in
       let n : ℕ = w.server.state.jobs.last in
       let below = subst (λ (js : List ActiveJob). AreBelow p.f n js) t.was p.below in
-      let here = below_here p.f n t.front t.back t.job below in
-      others_placed (with_entry trace Take (Handed (Some job))) p.f n _ (jobs v) (ap (λ (z : ServerCore SO SI). z.state.jobs.last) q.0.same) t.jobs (below_taken p.f n t.front t.back t.job below)
+      let here = all_at (IsPlaced p.f n) t.front t.back t.job below in
+      others_placed (with_entry trace Take (Handed (Some job))) p.f n _ (jobs v) (ap (λ (z : ServerCore SO SI). z.state.jobs.last) q.0.same) t.jobs (all_changed (IsPlaced p.f n) t.front t.back t.job (record t.job { request = None }) here below)
       (past_more p.f n trace Take (Handed (Some job)) p.past (ap p.f t.id ∙ here.0 ∙ sym (ap (λ (h : MessageHeader). h.stream_id) t.header), omega (arith, here.1, t.id)))
 
   places : (trace : List Entry) (w : Net CO CI SO SI) (event : Event) (reply : Reply) (v : Net CO CI SO SI) → Placed trace (jobs w) → Steps c s seals w event reply v → Placed (with_entry trace event reply) (jobs v)
