@@ -15,7 +15,7 @@ use Rattle.ttrpc_proto.specs.Messages.{IsRequest, IsResponse, empty_request, emp
 use Rattle.ttrpc_frame.specs.declared.outgoing.Queued.{Queued}
 use Rattle.ttrpc_frame.specs.Queue.{with_frame, with_payload}
 use Rattle.ttrpc_secure.specs.Sends.{associated}
-use Rattle.ttrpc_server.specs.declared.registry.ServiceNames.{ServiceNames}
+use Rattle.ttrpc_server.specs.Registry.{Services}
 use Rattle.ttrpc_connection.specs.declared.arrived.Opening.TheVariants.{Opened}
 use Rattle.ttrpc_connection.specs.Frames.{Sent, SendsAll, SendsOne, safe_limit}
 use Rattle.ttrpc_server.specs.Responses.{Responds, fitted, limit_text, response_bytes, response_size, status_response}
@@ -29,7 +29,7 @@ use Rattle.ttrpc_world.proofs.Stages.{IsAnswerOf, IsDone, IsSent, IsToldOf}
 -- ---- reading
 
 -- The server makes of a request that is opened as it was sent what its services say.
-pub request_row_is : (services : List ServiceNames) (h : MessageHeader) (r : Request) → IsRequest r → length (request_bytes r) ≤ MESSAGE_LENGTH_MAX → h.type_ ≡ MESSAGE_TYPE_REQUEST
+pub request_row_is : (services : Services) (h : MessageHeader) (r : Request) → IsRequest r → length (request_bytes r) ≤ MESSAGE_LENGTH_MAX → h.type_ ≡ MESSAGE_TYPE_REQUEST
     → sync_row services h (Opened (request_bytes r)) ≡ request_row services (Some r)
 request_row_is services h r is short type_ =
     let within : nat_lt MESSAGE_LENGTH_MAX (length (request_bytes r)) ≡ false = le-ltb _ _ short in
