@@ -1,6 +1,6 @@
 -- Laws of the written forms of members: their lengths, that they fit, and that they read back. The laws of the
 -- messages' impls stand on these.
-use Rattle.std.specs.Prelude.{◌≡◌, ℕ, suc, zero, ◌+◌, ◌%◌, ◌<◌, ◌≤◌, ◌^◌, List, [], ◌∷◌, ◌++◌, length, Option, Some, None, refl, ℤ, pos, negsuc, FitsSigned}
+use Rattle.std.specs.Prelude.{◌≡◌, ℕ, suc, zero, ◌+◌, ◌%◌, ◌<◌, ◌≤◌, ◌^◌, ◌-◌, List, [], ◌∷◌, ◌++◌, length, Option, Some, None, refl, ℤ, pos, negsuc, FitsSigned}
 use Rattle.std.specs.List.{AllByRecursion}
 use Rattle.std.specs.Int.{cast_signed, cast_unsigned, w32, w64}
 use Rattle.std.proofs.Common.{sym, ap, ◌∙◌, arith, length-append, append_assoc}
@@ -37,8 +37,8 @@ all_then [] gs f g = g
 all_then (x ∷ fs) gs f g = (f.0, all_then fs gs f.1 g)
 
 -- where both are short, as their whole is
-pub fit_then : (fs gs : List Field) → length (fields_bytes (fs ++ gs)) < 2 ^ 32
-    → (length (fields_bytes fs) < 2 ^ 32 → AllByRecursion Fits fs) → (length (fields_bytes gs) < 2 ^ 32 → AllByRecursion Fits gs) → AllByRecursion Fits (fs ++ gs)
+pub fit_then : (fs gs : List Field) → length (fields_bytes (fs ++ gs)) < 2 ^ 64 - 1
+    → (length (fields_bytes fs) < 2 ^ 64 - 1 → AllByRecursion Fits fs) → (length (fields_bytes gs) < 2 ^ 64 - 1 → AllByRecursion Fits gs) → AllByRecursion Fits (fs ++ gs)
 fit_then fs gs short f g = all_then fs gs (f (omega (arith, length-fields_bytes-append fs gs))) (g (omega (arith, length-fields_bytes-append fs gs)))
 
 pub fold_then : {M : Type 0} (step : M → Field → Option M) (m n o : M) (fs gs : List Field) → folded step m fs ≡ Some n → folded step n gs ≡ Some o → folded step m (fs ++ gs) ≡ Some o
@@ -52,7 +52,7 @@ length-delimited_field k bytes =
     let b = length-append (varint (length bytes)) bytes in
     omega (arith, a, b)
 
-pub delimited_fit : (k : ℕ) (bytes : List ℕ) → 1 ≤ k → k < 2 ^ 29 → length (fields_bytes (delimited_fields k bytes)) < 2 ^ 32 → AllByRecursion Fits (delimited_fields k bytes)
+pub delimited_fit : (k : ℕ) (bytes : List ℕ) → 1 ≤ k → k < 2 ^ 29 → length (fields_bytes (delimited_fields k bytes)) < 2 ^ 64 - 1 → AllByRecursion Fits (delimited_fields k bytes)
 delimited_fit k [] low high short = tt
 delimited_fit k (x ∷ bytes) low high short =
     let one = length-append (field_bytes (delimited_field k (x ∷ bytes))) [] in
@@ -104,20 +104,20 @@ length-part_fields k fields x xs =
     let b = length-append (field_bytes f) (fields_bytes (part_fields k fields xs)) in
     omega (arith, a, b, length-delimited_field k (fields_bytes (fields x)))
 
-pub parts_fit : {A : Type 0} (k : ℕ) (fields : A → List Field) (xs : List A) → 1 ≤ k → k < 2 ^ 29 → length (fields_bytes (part_fields k fields xs)) < 2 ^ 32 → AllByRecursion Fits (part_fields k fields xs)
+pub parts_fit : {A : Type 0} (k : ℕ) (fields : A → List Field) (xs : List A) → 1 ≤ k → k < 2 ^ 29 → length (fields_bytes (part_fields k fields xs)) < 2 ^ 64 - 1 → AllByRecursion Fits (part_fields k fields xs)
 parts_fit k fields [] low high short = tt
 parts_fit k fields (x ∷ xs) low high short =
     (record { low = low; high = high; value = omega (arith, length-part_fields k fields x xs) }, parts_fit k fields xs low high (omega (arith, length-part_fields k fields x xs)))
 
 -- each reads back
 pub parts_back : {A : Type 0} (step : A → Field → Option A) (empty : A) (Is : A → Type 0) (k : ℕ) (fields : A → List Field) (xs : List A)
-    → ((x : A) → Is x → length (fields_bytes (fields x)) < 2 ^ 32 → folded step empty (fields x) ≡ Some x)
-    → ((x : A) → Is x → length (fields_bytes (fields x)) < 2 ^ 32 → AllByRecursion Fits (fields x))
-    → AllByRecursion Is xs → length (fields_bytes (part_fields k fields xs)) < 2 ^ 32
+    → ((x : A) → Is x → length (fields_bytes (fields x)) < 2 ^ 64 - 1 → folded step empty (fields x) ≡ Some x)
+    → ((x : A) → Is x → length (fields_bytes (fields x)) < 2 ^ 64 - 1 → AllByRecursion Fits (fields x))
+    → AllByRecursion Is xs → length (fields_bytes (part_fields k fields xs)) < 2 ^ 64 - 1
     → AllByRecursion (λ x. read_from step empty (fields_bytes (fields x)) ≡ Some x) xs
 parts_back step empty Is k fields [] again fits all short = tt
 parts_back step empty Is k fields (x ∷ xs) again fits all short =
-    let one : length (fields_bytes (fields x)) < 2 ^ 32 = omega (arith, length-part_fields k fields x xs) in
+    let one : length (fields_bytes (fields x)) < 2 ^ 64 - 1 = omega (arith, length-part_fields k fields x xs) in
     (reads_back step empty x (fields x) (fits x all.0 one) (again x all.0 one), parts_back step empty Is k fields xs again fits all.1 (omega (arith, length-part_fields k fields x xs)))
 
 -- a member that is a list grows by them
@@ -129,6 +129,6 @@ fold_parts step make k fields old (x ∷ xs) all =
     ap (λ o. o >>= λ n. folded step n (part_fields k fields xs)) (all.0 old) ∙ fold_parts step make k fields (old ++ x ∷ []) xs all.1
     ∙ ap (λ w. Some (make w)) (append_assoc old (x ∷ []) xs)
 
-pub optional_fit : {A : Type 0} (k : ℕ) (fields : A → List Field) (o : Option A) → 1 ≤ k → k < 2 ^ 29 → length (fields_bytes (optional_fields k fields o)) < 2 ^ 32 → AllByRecursion Fits (optional_fields k fields o)
+pub optional_fit : {A : Type 0} (k : ℕ) (fields : A → List Field) (o : Option A) → 1 ≤ k → k < 2 ^ 29 → length (fields_bytes (optional_fields k fields o)) < 2 ^ 64 - 1 → AllByRecursion Fits (optional_fields k fields o)
 optional_fit k fields None low high short = tt
 optional_fit k fields (Some x) low high short = parts_fit k fields (x ∷ []) low high short

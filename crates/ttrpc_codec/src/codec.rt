@@ -3,14 +3,14 @@ ghost use Rattle.std.specs.Prelude.{◌≡◌, ℕ, List, ◌<◌, ◌≤◌, �
 
 use crate::message::{WireMessage, decode, encode, merge, size};
 use std::alloc::Global;
-use ttrpc_values::CodecError;
+use ttrpc_values::{CodecError, CodecFailure};
 
 /// A value with a written form, and what bytes mean as such a value.
 ///
 /// A type that implements `WireMessage` implements it by the calls of that module; any other format may
 /// implement it, too.
 pub trait Codec: Sized + Drop {
-    type E;
+    type E: CodecFailure;
 
     /// The written form.
     ghost written: { Self → List ℕ };
@@ -18,32 +18,31 @@ pub trait Codec: Sized + Drop {
     /// The value that bytes mean, if they mean one.
     ghost meaning: { List ℕ → Option Self };
 
-    /// Holds of the error of refused memory.
-    ghost is_no_memory: { Self.E → Type 0 };
-
     /// The length of the written form, or 4294967295 where it is longer. Takes no memory.
     fn size(&self) -> u32
         ensures { result ≡ min (length (written self.now)) (2 ^ 32 - 1) };
 
-    /// The written form, which means the value. An error other than that of refused memory comes only where
-    /// it is 2^32 bytes or longer.
+    /// The written form, which means the value. An error other than that of refused memory tells that it is too long, and
+    /// comes only where it is 2^32 bytes or longer.
     fn encode(&self, alloc: Global) -> Result<Vec<u8>, Self::E>
         ensures ok { IfOk result (λ v. v.items ≡ written self.now) }
         ensures again { IfOk result (λ v. meaning v.items ≡ Some self.now) }
         ensures short { IfOk result (λ v. length v.items < 2 ^ 32) }
-        ensures too_long { IfErr result (λ e. ¬ (is_no_memory e) → 2 ^ 32 ≤ length (written self.now)) };
+        ensures too_long { IfErr result (λ e. ¬ (Self.E.is_no_memory e)
+            → Self.E.is_too_long e × (2 ^ 32 ≤ length (written self.now))) };
 
     /// The value that the bytes mean. An error other than that of refused memory comes only where they mean
     /// none.
     fn decode(alloc: Global, bytes: &[u8]) -> Result<Self, Self::E>
         ensures ok { IfOk result (λ v. meaning bytes.now ≡ Some v) }
-        ensures refused { IfErr result (λ e. ¬ (is_no_memory e) → meaning bytes.now ≡ None) };
+        ensures refused { IfErr result (λ e. ¬ (Self.E.is_no_memory e) → meaning bytes.now ≡ None) };
 
-    /// What the written form with the bytes behind it means. An error changes nothing.
+    /// What the written form with the bytes behind it means. An error changes nothing. One other than that of refused
+    /// memory comes only where these mean nothing, or tells that the written form is 2^64 - 1 bytes or longer.
     fn merge(&mut self, alloc: Global, bytes: &[u8]) -> Result<(), Self::E>
         ensures ok { OnOk result (meaning (written self.old ++ bytes.now) ≡ Some self.new) }
-        ensures refused { IfErr result (λ e. ¬ (is_no_memory e)
-            → (2 ^ 32 ≤ length (written self.old)) ⊎ (meaning (written self.old ++ bytes.now) ≡ None)) }
+        ensures refused { IfErr result (λ e. ¬ (Self.E.is_no_memory e)
+            → (Self.E.is_too_long e × (2 ^ 64 - 1 ≤ length (written self.old))) ⊎ (meaning (written self.old ++ bytes.now) ≡ None)) }
         ensures err { OnErr result (self.new ≡ self.old) };
 }
 
@@ -52,13 +51,10 @@ impl<M: WireMessage> Codec for M {
 
     ghost use Rattle.ttrpc_wire.specs.Field.{fields_bytes};
     ghost use Rattle.ttrpc_wire.specs.Fold.{read_from};
-    ghost use Rattle.ttrpc_values.specs.declared.codec_error.CodecError.TheVariants.{NoMemory};
 
     ghost written = { λ m. fields_bytes (M.fields m) };
 
     ghost meaning = { read_from M.step M.empty };
-
-    ghost is_no_memory = { λ e. e ≡ NoMemory };
 
     fn size(&self) -> u32 {
         size(self)

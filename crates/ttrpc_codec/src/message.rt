@@ -49,10 +49,10 @@ pub trait WireMessage: TryClone {
         ensures { is_value self.now };
 
     /// The fields that are written mean the message.
-    ghost again: { (m : Self) → is_value m → length (fields_bytes (fields m)) < 2 ^ 32 → folded step empty (fields m) ≡ Some m };
+    ghost again: { (m : Self) → is_value m → length (fields_bytes (fields m)) < 2 ^ 64 - 1 → folded step empty (fields m) ≡ Some m };
 
     /// Each of them has a written form.
-    ghost fits: { (m : Self) → is_value m → length (fields_bytes (fields m)) < 2 ^ 32 → AllByRecursion Fits (fields m) };
+    ghost fits: { (m : Self) → is_value m → length (fields_bytes (fields m)) < 2 ^ 64 - 1 → AllByRecursion Fits (fields m) };
 }
 
 /// Takes in the fields of the bytes. After an error the message is some message.
@@ -110,18 +110,18 @@ pub fn encode<M: WireMessage>(alloc: Global, message: &M) -> Result<Vec<u8>, Cod
     Ok(out)
 }
 
-/// Takes in more fields, as if they stood behind those of the message. An error changes nothing; `TooLong`
-/// where the message's own written form is 2^32 bytes or longer.
+/// Takes in more fields, as if they stood behind those of the message. An error changes nothing; `TooLong` where the
+/// message's own written form is 2^64 - 1 bytes or longer, which no machine's memory holds.
 pub fn merge<M: WireMessage>(alloc: Global, message: &mut M, bytes: &[u8]) -> Result<(), CodecError>
     ensures ok { OnOk result
         (read_from M.step M.empty (fields_bytes (M.fields message.old) ++ bytes.now) ≡ Some message.new) }
     ensures refused { IfErr result (λ e. e ≢ CodecError.NoMemory
-        → (2 ^ 32 ≤ length (fields_bytes (M.fields message.old)))
+        → ((e ≡ CodecError.TooLong) × (2 ^ 64 - 1 ≤ length (fields_bytes (M.fields message.old))))
         ⊎ (read_from M.step M.empty (fields_bytes (M.fields message.old) ++ bytes.now) ≡ None)) }
     ensures err { OnErr result (message.new ≡ message.old) }
 {
     message.known();
-    if message.length() > u32::MAX as u64 {
+    if message.length() == u64::MAX {
         return Err(CodecError::TooLong);
     }
     let mut whole = message.try_clone()?;

@@ -1,7 +1,7 @@
 -- The two laws of each message: the fields that are written have a written form, and mean the message. The proof of
 -- a law of an impl stands in specs/, as the language has it.
 -- Source: this project's.
-use Rattle.std.specs.Prelude.{◌≡◌, ℕ, ◌<◌, ◌^◌, List, [], ◌∷◌, ◌++◌, length, Option, Some, None, refl, ℤ}
+use Rattle.std.specs.Prelude.{◌≡◌, ℕ, ◌<◌, ◌^◌, ◌-◌, List, [], ◌∷◌, ◌++◌, length, Option, Some, None, refl, ℤ}
 use Rattle.std.specs.List.{AllByRecursion}
 use Rattle.std.proofs.Common.{sym, ap, arith}
 use Rattle.std.proofs.lemmas.Str.{is_utf8-from_IsUtf8}
@@ -20,10 +20,10 @@ use Rattle.ttrpc_codec.proofs.Written.{length-fields_bytes-append, fit_then, fol
 
 -- ---- KeyValue
 
-pub key_value_fits : (m : KeyValue) → length (fields_bytes (key_value_fields m)) < 2 ^ 32 → AllByRecursion Fits (key_value_fields m)
+pub key_value_fits : (m : KeyValue) → length (fields_bytes (key_value_fields m)) < 2 ^ 64 - 1 → AllByRecursion Fits (key_value_fields m)
 key_value_fits m short = fit_then (delimited_fields 1 m.key) (delimited_fields 2 m.value) short (delimited_fit 1 m.key (omega arith) (omega arith)) (delimited_fit 2 m.value (omega arith) (omega arith))
 
-pub key_value_again : (m : KeyValue) → IsKeyValue m → length (fields_bytes (key_value_fields m)) < 2 ^ 32 → folded key_value_step empty_key_value (key_value_fields m) ≡ Some m
+pub key_value_again : (m : KeyValue) → IsKeyValue m → length (fields_bytes (key_value_fields m)) < 2 ^ 64 - 1 → folded key_value_step empty_key_value (key_value_fields m) ≡ Some m
 key_value_again m h short =
     let key = is_utf8-from_IsUtf8 m.key h.key in
     let value = is_utf8-from_IsUtf8 m.value h.value in
@@ -34,10 +34,10 @@ key_value_again m h short =
 
 -- ---- Any
 
-pub any_fits : (m : Any) → length (fields_bytes (any_fields m)) < 2 ^ 32 → AllByRecursion Fits (any_fields m)
+pub any_fits : (m : Any) → length (fields_bytes (any_fields m)) < 2 ^ 64 - 1 → AllByRecursion Fits (any_fields m)
 any_fits m short = fit_then (delimited_fields 1 m.type_url) (delimited_fields 2 m.value) short (delimited_fit 1 m.type_url (omega arith) (omega arith)) (delimited_fit 2 m.value (omega arith) (omega arith))
 
-pub any_again : (m : Any) → IsAny m → length (fields_bytes (any_fields m)) < 2 ^ 32 → folded any_step empty_any (any_fields m) ≡ Some m
+pub any_again : (m : Any) → IsAny m → length (fields_bytes (any_fields m)) < 2 ^ 64 - 1 → folded any_step empty_any (any_fields m) ≡ Some m
 any_again m h short =
     let type_url = is_utf8-from_IsUtf8 m.type_url h.type_url in
     let half : Any = record { type_url = m.type_url; value = [] } in
@@ -52,20 +52,20 @@ status_details : (m : Status) (xs : List Any) → AllByRecursion (λ x. read_fro
 status_details m [] all = tt
 status_details m (x ∷ xs) all = ((λ old. let e = all.0 in rw e refl), status_details m xs all.1)
 
-pub status_fits : (m : Status) → IsStatus m → length (fields_bytes (status_fields m)) < 2 ^ 32 → AllByRecursion Fits (status_fields m)
+pub status_fits : (m : Status) → IsStatus m → length (fields_bytes (status_fields m)) < 2 ^ 64 - 1 → AllByRecursion Fits (status_fields m)
 status_fits m h short =
     fit_then (number_fields 1 (number_of m.code)) (delimited_fields 2 m.message ++ part_fields 3 any_fields m.details) short
     (λ _. number_fit 1 (number_of m.code) (omega arith) (omega arith) (int32_small m.code h.code))
     (λ rest. fit_then (delimited_fields 2 m.message) (part_fields 3 any_fields m.details) rest (delimited_fit 2 m.message (omega arith) (omega arith)) (parts_fit 3 any_fields m.details (omega arith) (omega arith)))
 
-pub status_again : (m : Status) → IsStatus m → length (fields_bytes (status_fields m)) < 2 ^ 32 → folded status_step empty_status (status_fields m) ≡ Some m
+pub status_again : (m : Status) → IsStatus m → length (fields_bytes (status_fields m)) < 2 ^ 64 - 1 → folded status_step empty_status (status_fields m) ≡ Some m
 status_again m h short =
     let message = is_utf8-from_IsUtf8 m.message h.message in
     let a : Status = record { code = m.code; message = []; details = [] } in
     let b : Status = record { code = m.code; message = m.message; details = [] } in
     let l1 = length-fields_bytes-append (number_fields 1 (number_of m.code)) (delimited_fields 2 m.message ++ part_fields 3 any_fields m.details) in
     let l2 = length-fields_bytes-append (delimited_fields 2 m.message) (part_fields 3 any_fields m.details) in
-    let parts : length (fields_bytes (part_fields 3 any_fields m.details)) < 2 ^ 32 = omega arith in
+    let parts : length (fields_bytes (part_fields 3 any_fields m.details)) < 2 ^ 64 - 1 = omega arith in
     let back : int32_of (number_of m.code) ≡ m.code = int32_back m.code h.code in
     fold_then status_step empty_status a m (number_fields 1 (number_of m.code)) (delimited_fields 2 m.message ++ part_fields 3 any_fields m.details)
     (fold_number status_step empty_status a 1 (number_of m.code) (λ e. ap (λ (z : ℤ). record { code = z; message = []; details = [] }) (int32_zero m.code h.code e)) (ap (λ (z : ℤ). Some (record { code = z; message = []; details = [] })) back))
@@ -83,7 +83,7 @@ request_metadata m (x ∷ xs) all = ((λ old. let e = all.0 in rw e refl), reque
 abbrev request_names : Request → List Field
 request_names m = delimited_fields 2 m.method ++ delimited_fields 3 m.payload
 
-pub request_fits : (m : Request) → IsRequest m → length (fields_bytes (request_fields m)) < 2 ^ 32 → AllByRecursion Fits (request_fields m)
+pub request_fits : (m : Request) → IsRequest m → length (fields_bytes (request_fields m)) < 2 ^ 64 - 1 → AllByRecursion Fits (request_fields m)
 request_fits m h short =
     fit_then (request_head m) (request_tail m) short
     (λ head. fit_then (delimited_fields 1 m.service) (request_names m) head (delimited_fit 1 m.service (omega arith) (omega arith))
@@ -92,7 +92,7 @@ request_fits m h short =
     (λ _. number_fit 4 (number_of m.timeout_nano) (omega arith) (omega arith) (int64_small m.timeout_nano h.timeout_nano))
     (parts_fit 5 key_value_fields m.metadata (omega arith) (omega arith)))
 
-pub request_again : (m : Request) → IsRequest m → length (fields_bytes (request_fields m)) < 2 ^ 32 → folded request_step empty_request (request_fields m) ≡ Some m
+pub request_again : (m : Request) → IsRequest m → length (fields_bytes (request_fields m)) < 2 ^ 64 - 1 → folded request_step empty_request (request_fields m) ≡ Some m
 request_again m h short =
     let service = is_utf8-from_IsUtf8 m.service h.service in
     let method = is_utf8-from_IsUtf8 m.method h.method in
@@ -102,7 +102,7 @@ request_again m h short =
     let d : Request = record c { timeout_nano = m.timeout_nano } in
     let l1 = length-fields_bytes-append (request_head m) (request_tail m) in
     let l2 = length-fields_bytes-append (number_fields 4 (number_of m.timeout_nano)) (part_fields 5 key_value_fields m.metadata) in
-    let parts : length (fields_bytes (part_fields 5 key_value_fields m.metadata)) < 2 ^ 32 = omega arith in
+    let parts : length (fields_bytes (part_fields 5 key_value_fields m.metadata)) < 2 ^ 64 - 1 = omega arith in
     let back : int64_of (number_of m.timeout_nano) ≡ m.timeout_nano = int64_back m.timeout_nano h.timeout_nano in
     fold_then request_step empty_request c m (request_head m) (request_tail m)
     (fold_then request_step empty_request a c (delimited_fields 1 m.service) (request_names m)
@@ -116,18 +116,18 @@ request_again m h short =
 
 -- ---- Response
 
-response_status : (o : Option Status) → IsOptional IsStatus o → length (fields_bytes (optional_fields 1 status_fields o)) < 2 ^ 32
+response_status : (o : Option Status) → IsOptional IsStatus o → length (fields_bytes (optional_fields 1 status_fields o)) < 2 ^ 64 - 1
     → folded response_step empty_response (optional_fields 1 status_fields o) ≡ Some (record { status = o; payload = [] })
 response_status None h short = refl
 response_status (Some m) h short =
-    let one : length (fields_bytes (status_fields m)) < 2 ^ 32 = omega (arith, length-part_fields 1 status_fields m []) in
+    let one : length (fields_bytes (status_fields m)) < 2 ^ 64 - 1 = omega (arith, length-part_fields 1 status_fields m []) in
     let back : read_from status_step empty_status (fields_bytes (status_fields m)) ≡ Some m = reads_back status_step empty_status m (status_fields m) (status_fits m h one) (status_again m h one) in
     rw back refl
 
-pub response_fits : (m : Response) → IsResponse m → length (fields_bytes (response_fields m)) < 2 ^ 32 → AllByRecursion Fits (response_fields m)
+pub response_fits : (m : Response) → IsResponse m → length (fields_bytes (response_fields m)) < 2 ^ 64 - 1 → AllByRecursion Fits (response_fields m)
 response_fits m h short = fit_then (optional_fields 1 status_fields m.status) (delimited_fields 2 m.payload) short (optional_fit 1 status_fields m.status (omega arith) (omega arith)) (delimited_fit 2 m.payload (omega arith) (omega arith))
 
-pub response_again : (m : Response) → IsResponse m → length (fields_bytes (response_fields m)) < 2 ^ 32 → folded response_step empty_response (response_fields m) ≡ Some m
+pub response_again : (m : Response) → IsResponse m → length (fields_bytes (response_fields m)) < 2 ^ 64 - 1 → folded response_step empty_response (response_fields m) ≡ Some m
 response_again m h short =
     let a : Response = record { status = m.status; payload = [] } in
     let l = length-fields_bytes-append (optional_fields 1 status_fields m.status) (delimited_fields 2 m.payload) in

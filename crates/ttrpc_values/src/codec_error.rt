@@ -1,8 +1,21 @@
-ghost use Rattle.std.specs.Prelude.{◌≡◌};
-ghost use Rattle.ttrpc_values.specs.declared.codec_error.CodecError.TheVariants.{NoMemory};
+ghost use Rattle.std.specs.Prelude.{◌≡◌, ◌↔◌, true};
+ghost use Rattle.ttrpc_values.specs.declared.codec_error.CodecError.TheVariants.{NoMemory, TooLong};
 
 use std::alloc::{AllocError, AllocFailed};
 use thiserror::Error;
+
+/// Why a value wasn't read, or has no written form.
+pub trait CodecFailure {
+    // Holds of the error by which refused memory is told.
+    ghost is_no_memory: { Self → Type 0 };
+
+    // Holds of the error by which a written form is told to be too long.
+    ghost is_too_long: { Self → Type 0 };
+
+    /// Whether memory was refused.
+    fn is_no_memory(&self) -> bool
+        ensures { (result ≡ true) ↔ is_no_memory self.now };
+}
 
 /// Why bytes don't read as a message, why a message has no written form, or that memory was refused.
 #[derive(Clone, Copy, Debug, PartialEq, Eq, Error)]
@@ -43,5 +56,15 @@ impl<T: Drop> From<AllocFailed<T>> for CodecError {
 
     fn from(_refused: AllocFailed<T>) -> CodecError {
         CodecError::NoMemory
+    }
+}
+
+impl CodecFailure for CodecError {
+    ghost is_no_memory = { λ e. e ≡ NoMemory };
+
+    ghost is_too_long = { λ e. e ≡ TooLong };
+
+    fn is_no_memory(&self) -> bool {
+        *self == CodecError::NoMemory
     }
 }

@@ -13,7 +13,7 @@ mod text;
 pub use blob::Blob;
 pub use clones::TryClone;
 pub use code::Code;
-pub use codec_error::CodecError;
+pub use codec_error::{CodecError, CodecFailure};
 pub use laws::code_is_one_to_one;
 pub use sequence::Sequence;
 pub use text::Text;
