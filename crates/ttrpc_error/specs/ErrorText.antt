@@ -25,20 +25,29 @@ error_text NoRoom = Some (codes "no room in the outgoing ring")
 abbrev pub status_of : Code → List ℕ → Status
 status_of code message = record { code = number_of_code code; message = message; details = [] }
 
--- A status of code UNKNOWN with no details. Its message is this text, where that is known, or empty, as it is
--- where memory for the text was refused.
-pub record IsUnknown (text : Option (List ℕ)) (s : Status) : Type 0 where
+-- such a text; that of an errno's kind at least begins so
+abbrev pub IsTextOf : Error → List ℕ → Type 0
+IsTextOf (Nix _) text = (rest : List ℕ) × (text ≡ codes "Nix error: " ++ rest)
+IsTextOf error text = IfSome (error_text error) (λ bs. text ≡ bs)
+
+-- a status of code UNKNOWN with no details
+pub record IsUnknown (s : Status) : Type 0 where
   pub code : s.code ≡ number_of_code UNKNOWN
-  pub message : s.message ≢ [] → IfSome text (λ bs. s.message ≡ bs)
   pub details : s.details ≡ []
 
 -- the status that a response to an error carries: the error's own, or one of code UNKNOWN with the error's text
+abbrev pub Tells : Error → Status → Type 0
+Tells (RpcStatus carried) s = s ≡ carried
+Tells error s = IsUnknown s × IsTextOf error s.message
+
+-- the same, or with no text, as it is where memory for it was refused
 abbrev pub StandsFor : Error → Status → Type 0
 StandsFor (RpcStatus carried) s = s ≡ carried
-StandsFor error s = IsUnknown (error_text error) s
+StandsFor error s = IsUnknown s × (s.message ≢ [] → IsTextOf error s.message)
 
--- an error `Others` of a prefix and this text, where that is known, or NoMemory
+-- an error `Others` of a prefix and this text, or some text where it isn't known, or NoMemory
 abbrev pub IsOthers : List ℕ → Option (List ℕ) → Error → Type 0
 IsOthers prefix text NoMemory = ⊤
-IsOthers prefix text (Others message) = IfSome text (λ bs. message ≡ prefix ++ bs)
+IsOthers prefix (Some bs) (Others message) = message ≡ prefix ++ bs
+IsOthers prefix None (Others message) = (rest : List ℕ) × (message ≡ prefix ++ rest)
 IsOthers prefix text _ = ⊥

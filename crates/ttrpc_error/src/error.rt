@@ -1,6 +1,6 @@
 //! Why a call failed, and the errors and statuses that are made of a code, a message or another error.
-ghost use Rattle.std.specs.Prelude.{◌≡◌, ◌≢◌, [], codes, string_bytes, IsSomeAnd};
-ghost use Rattle.ttrpc_error.specs.ErrorText.{error_text, status_of, IsOthers, IsUnknown, StandsFor};
+ghost use Rattle.std.specs.Prelude.{◌≡◌, ◌≢◌, [], codes, string_bytes, IfOk, IsSomeAnd, Some};
+ghost use Rattle.ttrpc_error.specs.ErrorText.{error_text, status_of, IsOthers, IsTextOf, StandsFor, Tells};
 
 use std::alloc::{AllocError, AllocFailed, Global};
 use std::fmt;
@@ -93,16 +93,57 @@ impl TryClone for Error {
 }
 
 impl Error {
+    /// What the error prints.
+    pub fn text(&self, alloc: Global) -> std::result::Result<String, AllocError>
+        ensures { IfOk result (λ text. IsTextOf self.now (string_bytes text)) }
+    {
+        match self {
+            Error::Nix(kind) => {
+                // Of what the kind prints nothing is known, so it is printed by itself, behind what is.
+                let kind = kind.to_string(alloc)?;
+                format!(in alloc; "Nix error: {kind}")
+            }
+            other => other.to_string(alloc),
+        }
+    }
+
     /// The response that tells the other side of the error. Its message is empty where memory for the error's text
     /// was refused.
     pub fn into_response(self, alloc: Global) -> Response
         ensures status { IsSomeAnd result.status (StandsFor self) }
         ensures payload { result.payload ≡ [] }
     {
-        Response {
-            status: Some(into_status(self, alloc)),
-            payload: Blob::new(alloc),
-        }
+        let status = match self {
+            Error::RpcStatus(status) => status,
+            other => match other.text(alloc) {
+                Ok(text) => get_status(Code::UNKNOWN, text),
+                Err(_) => get_status(Code::UNKNOWN, String::new(alloc)),
+            },
+        };
+        response_of(alloc, status)
+    }
+
+    /// The same response, and an `Err` where memory for the error's text was refused, for a side that never leaves the
+    /// text out.
+    pub fn try_into_response(self, alloc: Global) -> std::result::Result<Response, AllocError>
+        ensures status { IfOk result (λ response. IsSomeAnd response.status (Tells self)) }
+        ensures payload { IfOk result (λ response. response.payload ≡ []) }
+    {
+        let status = match self {
+            Error::RpcStatus(status) => status,
+            other => get_status(Code::UNKNOWN, other.text(alloc)?),
+        };
+        Ok(response_of(alloc, status))
+    }
+}
+
+// A response with this status, and no payload.
+fn response_of(alloc: Global, status: Status) -> Response
+    ensures { result ≡ record { status = Some status; payload = [] } }
+{
+    Response {
+        status: Some(status),
+        payload: Blob::new(alloc),
     }
 }
 
@@ -146,10 +187,22 @@ pub fn sock_error_msg(size: usize, msg: String) -> Error
 pub fn others_of<D: fmt::Display>(alloc: Global, prefix: &str, cause: &D) -> Error
     ensures { IsOthers prefix.now (D.output cause.now) result }
 {
-    match format!(in alloc; "{prefix}{cause}") {
+    match prefixed(alloc, prefix, cause) {
         Ok(text) => Error::Others(Text::from_string(text)),
         Err(_) => Error::NoMemory,
     }
+}
+
+// A prefix and what another error prints. That is printed by itself, so that the prefix is known whatever it prints.
+fn prefixed<D: fmt::Display>(
+    alloc: Global,
+    prefix: &str,
+    cause: &D,
+) -> std::result::Result<String, AllocError>
+    ensures { IfOk result (λ text. IsOthers prefix.now (D.output cause.now) (Error.Others (string_bytes text))) }
+{
+    let cause = cause.to_string(alloc)?;
+    format!(in alloc; "{prefix}{cause}")
 }
 
 /// The closure that makes `Others` of a prefix and another error, as in
@@ -159,24 +212,4 @@ macro_rules! err_to_others {
     ($alloc:expr, $e:ident, $prefix:expr) => {
         |$e| $crate::others_of($alloc, $prefix, &$e)
     };
-}
-
-// The status that a response to the error carries.
-pub(crate) fn into_status(error: Error, alloc: Global) -> Status
-    ensures { StandsFor error result }
-{
-    match error {
-        Error::RpcStatus(status) => status,
-        other => unknown_status(&other, alloc),
-    }
-}
-
-fn unknown_status(error: &Error, alloc: Global) -> Status
-    ensures { IsUnknown (error_text error.now) result }
-{
-    let message = match error.to_string(alloc) {
-        Ok(text) => text,
-        Err(_) => String::new(alloc),
-    };
-    get_status(Code::UNKNOWN, message)
 }
