@@ -62,3 +62,9 @@ FedAll held (p ∷ ps) frames new = (first : List Incoming) × (later : List Inc
 abbrev pub given : Option Incoming → List Incoming
 given None = []
 given (Some i) = i ∷ []
+
+-- A piece makes what is held grow: a whole header is held, of a payload that is kept, and the piece has bytes.
+pub record Grows (held : Held) (piece : List ℕ) : Type 0 where
+  pub whole : MESSAGE_HEADER_LENGTH ≤ length held.bytes
+  pub short : (header_of held.bytes).length ≤ MESSAGE_LENGTH_MAX
+  pub some : 0 < length piece

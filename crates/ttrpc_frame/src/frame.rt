@@ -1,8 +1,8 @@
 //! Frames out of a stream of bytes, in whatever pieces it comes.
-ghost use Rattle.std.specs.Prelude.{ℕ, List, flat_map, ◌≡◌, ◌≤◌, ◌<◌, ◌+◌, ◌-◌, ◌++◌, ◌↔◌, true, take, length, min, max, vec_capacity, Some, IfOk, OnOk, IfErr, OnErr};
+ghost use Rattle.std.specs.Prelude.{ℕ, List, flat_map, ◌≡◌, ◌≤◌, ◌<◌, ◌+◌, ◌-◌, ◌*◌, ◌++◌, ◌↔◌, true, take, length, min, max, vec_capacity, Some, IfOk, OnOk, IfErr, OnErr};
 ghost use Rattle.ttrpc_frame.specs.declared.frame.Incoming.{Incoming as AnIncoming};
 ghost use Rattle.ttrpc_header.specs.Header.{header_of};
-ghost use Rattle.ttrpc_frame.specs.Frames.{Frames, IsRest, Held, Holds, Fed, FedAll, given, nothing};
+ghost use Rattle.ttrpc_frame.specs.Frames.{Frames, IsRest, Held, Holds, Fed, FedAll, Grows, given, nothing};
 
 use crate::gen_message::GenMessage;
 use std::alloc::{AllocError, Global};
@@ -69,14 +69,15 @@ impl FrameDecoder {
         self.filled == 0
     }
 
-    /// Takes a front of the piece, at least one byte of one that isn't empty, and gives what its last byte made
-    /// whole. An error is `NoMemory`, and changes nothing.
+    /// Takes a front of the piece, at least one byte of one that isn't empty, and gives what its last byte made whole. An
+    /// error is `NoMemory`, changes nothing, and comes only where bytes of a payload that is kept are to be held.
     pub fn feed(&mut self, alloc: Global, piece: &[u8]) -> Result<(usize, Option<Incoming>)>
         ensures takes { IfOk result (λ r. (r.0 ≤ length piece.now) × (0 < length piece.now → 0 < r.0)) }
         ensures frames { IfOk result (λ r. Fed self.old (take r.0 piece.now) (given r.1) self.new) }
         ensures at_its_end { IfOk result (λ r. (i : AnIncoming) → r.1 ≡ Some i → self.new ≡ nothing) }
         ensures bound { length self.new.bytes ≤ MESSAGE_HEADER_LENGTH + MESSAGE_LENGTH_MAX }
         ensures no_memory { IfErr result (λ e. e ≡ Error.NoMemory) }
+        ensures grows { OnErr result (Grows self.old piece.now) }
         ensures err { OnErr result (self.new ≡ self.old) }
     {
         if self.filled < MESSAGE_HEADER_LENGTH {
@@ -147,6 +148,7 @@ impl FrameDecoder {
         ensures at_its_end { IfOk result (λ r. (i : AnIncoming) → r.1 ≡ Some i → self.new ≡ nothing) }
         ensures bound { length self.new.bytes ≤ MESSAGE_HEADER_LENGTH + MESSAGE_LENGTH_MAX }
         ensures no_memory { IfErr result (λ e. e ≡ Error.NoMemory) }
+        ensures grows { OnErr result (0 < length piece.now) }
         ensures err { OnErr result (self.new ≡ self.old) }
     {
         let stated = header.length as usize;
@@ -178,14 +180,17 @@ fn fill(head: &mut [u8; 10], filled: usize, piece: &[u8]) -> usize
 fn append(body: &mut Vec<u8>, bytes: &[u8], stated: usize) -> std::result::Result<(), AllocError>
     requires { length body.old.items + length bytes.now ≤ stated }
     ensures ok { OnOk result (body.new.items ≡ body.old.items ++ bytes.now) }
-    ensures err { OnErr result (body.new.items ≡ body.old.items) }
+    ensures err { OnErr result ((body.new.items ≡ body.old.items) × (0 < length bytes.now)) }
 {
+    if bytes.is_empty() {
+        return Ok(());
+    }
     make_room(body, body.len() + bytes.len(), stated)?;
     body.extend_from_slice(bytes)
 }
 
-/// Room for as many bytes as are needed now. A vector that has to grow doubles, so that each byte is moved a
-/// bounded number of times, but it has at least a page and at most what the header states.
+/// Room for as many bytes as are needed now. A vector that has to grow doubles, so that each byte is moved a bounded
+/// number of times, but it has at least a page and at most what the header states: what a header states alone takes none.
 fn make_room(
     body: &mut Vec<u8>,
     needed: usize,
@@ -194,7 +199,7 @@ fn make_room(
     requires { (length body.old.items ≤ needed) × (needed ≤ stated) }
     ensures items { body.new.items ≡ body.old.items }
     ensures ok { OnOk result (needed ≤ vec_capacity body.new) }
-    ensures capacity { vec_capacity body.new ≤ max (vec_capacity body.old) stated }
+    ensures capacity { vec_capacity body.new ≤ max (vec_capacity body.old) (min stated (max DEFAULT_PAGE_SIZE (2 * needed))) }
 {
     if needed <= body.capacity() {
         return Ok(());
