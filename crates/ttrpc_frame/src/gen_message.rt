@@ -1,11 +1,11 @@
 //! A message as it lies in a frame, before it is read.
-ghost use Rattle.std.specs.Prelude.{◌≡◌, ◌≢◌, ◌≤◌, ◌↔◌, true, IsOk, IfErr};
+ghost use Rattle.std.specs.Prelude.{◌≡◌, ◌≢◌, ◌≤◌, ◌↔◌, [], true, IsOk, IfErr};
 ghost use Rattle.ttrpc_error.specs.Oversize.{oversize_error};
 
-use std::alloc::Global;
+use std::alloc::{AllocError, Global};
 use ttrpc_error::{Error, Result, check_oversize};
 use ttrpc_header::{MESSAGE_LENGTH_MAX, MessageHeader};
-use ttrpc_values::Blob;
+use ttrpc_values::{Blob, TryClone};
 
 /// A header, and the bytes of its message.
 #[derive(Debug, Drop, PartialEq, Eq)]
@@ -33,7 +33,29 @@ impl From<Error> for GenMessageError {
     }
 }
 
+impl TryClone for GenMessage {
+    fn try_clone(&self) -> std::result::Result<GenMessage, AllocError> {
+        Ok(GenMessage {
+            header: self.header,
+            payload: self.payload.try_clone()?,
+        })
+    }
+}
+
 impl GenMessage {
+    /// A header of zeros, and no payload. Takes no memory.
+    pub fn new(alloc: Global) -> GenMessage
+        ensures { result ≡ record {
+          header = record { length = 0; stream_id = 0; type_ = 0; flags = 0 };
+          payload = [];
+        } }
+    {
+        GenMessage {
+            header: MessageHeader::default(),
+            payload: Blob::new(alloc),
+        }
+    }
+
     /// Refuses the message if its header says that it is longer than a message may be.
     pub fn check(&self, alloc: Global) -> Result<()>
         ensures ok { IsOk result ↔ (self.now.header.length ≤ MESSAGE_LENGTH_MAX) }

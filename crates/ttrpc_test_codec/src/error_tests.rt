@@ -109,7 +109,7 @@ fn has_no_message(response: &Response) -> bool {
     }
 }
 
-/// The error prints so, its copy is equal, and it becomes this response.
+/// The error prints so, its copy is equal, and it becomes this response, also where its text is never left out.
 fn is_told(
     rt: &impl Abort,
     alloc: Global,
@@ -118,13 +118,16 @@ fn is_told(
     let (error, printed, code, message) = row;
     let error = error_of(alloc, error)?;
     assert!(rt; error.to_string(alloc)?.as_str() == *printed, "{printed}");
+    assert!(rt; error.text(alloc)?.as_str() == *printed, "{printed}");
     assert!(rt; error.try_clone()? == error, "{printed} is copied");
+    let told = error.try_clone()?.try_into_response(alloc)?;
     let response = error.into_response(alloc);
     if has_no_message(&response) {
         return Err(Error::NoMemory.into());
     }
     let expected = response_of(alloc, &(Some((*code, *message, &[])), b""))?;
     assert!(rt; response == expected, "{printed} becomes a response");
+    assert!(rt; told == expected, "{printed} becomes a response with a text");
     Ok(())
 }
 

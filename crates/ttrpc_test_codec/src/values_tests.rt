@@ -2,7 +2,7 @@
 use std::alloc::Global;
 use std::process::Abort;
 use std::test::Fail;
-use ttrpc_values::{Blob, CodecError, Sequence, Text, TryClone};
+use ttrpc_values::{Blob, CodecError, CodecFailure, Sequence, Text, TryClone};
 
 type Tested = Result<(), Fail>;
 
@@ -10,6 +10,8 @@ type Tested = Result<(), Fail>;
 fn is_kept(rt: &impl Abort, alloc: Global, text: Text, expected: &str) -> Tested {
     assert!(rt; text.as_str() == expected);
     assert!(rt; text.as_bytes() == expected.as_bytes());
+    assert!(rt; text.to_string(alloc)?.as_str() == expected);
+    assert!(rt; text.len() == expected.len(), "a text reads as std's does");
     assert!(rt; text.try_clone()? == text);
     assert!(rt; Text::new(alloc) != text);
     let back = Text::from_string(text.into_string());
@@ -79,6 +81,8 @@ fn reserved(alloc: Global, room: usize) -> Result<Vec<u8>, CodecError> {
 fn refused_memory_has_its_name(rt: HostRuntime) -> Tested {
     let refused = reserved(rt.alloc(), usize::MAX).err();
     assert!(rt; refused == Some(CodecError::NoMemory));
+    assert!(rt; CodecError::NoMemory.is_no_memory());
+    assert!(rt; !CodecError::TooLong.is_no_memory());
     assert!(rt; reserved(rt.alloc(), 1)?.is_empty());
     let text = CodecError::NoMemory.to_string(rt.alloc())?;
     assert!(rt; text.as_str() == "out of memory");

@@ -258,6 +258,17 @@ fn long_messages_are_refused(rt: HostRuntime) -> Tested {
 }
 
 #[test]
+fn messages_are_copied(rt: HostRuntime) -> Tested {
+    let alloc = rt.alloc();
+    let empty = GenMessage::new(alloc);
+    assert!(rt; empty == message_of(alloc, &FrameRow(0, 0, 0, 0, b""))?);
+    let message = message_of(alloc, &FrameRow(3, 258, 2, 1, b"abc"))?;
+    assert!(rt; message.try_clone()? == message);
+    assert!(rt; message != empty);
+    Ok(())
+}
+
+#[test]
 fn errors_of_a_connection_are_its_own(rt: HostRuntime) {
     let error = GenMessageError::from(Error::Eof);
     assert!(rt; error == GenMessageError::InternalError(Error::Eof));

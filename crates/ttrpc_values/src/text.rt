@@ -5,7 +5,9 @@ ghost use Rattle.std.specs.Str.{IsUtf8};
 use crate::clones::TryClone;
 use crate::codec_error::CodecError;
 use std::alloc::{AllocError, Global};
+use std::fmt;
 use std::marker::Model;
+use std::ops::Deref;
 
 /// A text, which contracts see as the list of its bytes in UTF-8.
 #[derive(Debug, Drop)]
@@ -78,6 +80,27 @@ impl Text {
         ensures utf8 { IsUtf8 self.now }
     {
         self.as_str().as_bytes()
+    }
+}
+
+impl fmt::Display for Text {
+    ghost use Rattle.std.specs.Prelude.{Some};
+
+    ghost output = { λ text. Some text };
+
+    fn fmt<W: fmt::Write>(&self, f: &mut fmt::Formatter<W>) -> fmt::Result {
+        fmt::Display::fmt(&self.text, f)
+    }
+}
+
+/// A text reads as std's text does.
+impl Deref for Text {
+    type Target = String;
+
+    ghost deref_gives = { λ text s. string_bytes s ≡ text };
+
+    fn deref(&self) -> &String {
+        &self.text
     }
 }
 
