@@ -9,10 +9,8 @@ use Rattle.ttrpc_server.specs.Server.{Server}
 use Rattle.ttrpc_server.specs.Calls.{Served, Took, Answered, Dropped, served}
 
 decoder : {O I : Type 0} (out : OutboundTransform O) (a : Served) (s : Server) (old : Connection O I) (hs : List Happening) (t : Server) (new : Connection O I) → served out a s old hs t new → new.decoder ≡ old.decoder
-decoder out (Took (Some job)) s old hs t new call = ap (λ c. c.connection.decoder) call.0.same
 decoder out (Took None) s old hs t new call = ap (λ c. c.decoder) call.1
-decoder out (Answered id response) s old hs t new call = ap (λ c. c.connection.decoder) call.0.same
-decoder out (Dropped id) s old hs t new call = ap (λ c. c.connection.decoder) call.0.same
+decoder out a s old hs t new call = ap (λ c. c.connection.decoder) call.0.same
 
 queue : {O I : Type 0} (out : OutboundTransform O) (a : Served) (s : Server) (old : Connection O I) (hs : List Happening) (t : Server) (new : Connection O I) → served out a s old hs t new → Goes old.outbox.queue hs new.outbox.queue
 queue out (Took (Some job)) s old hs t new call = goes_not old.outbox.queue new.outbox.queue hs (ap (λ c. c.connection.outbox.queue) call.0.same) call.1

@@ -6,15 +6,13 @@ use Rattle.ttrpc_header.specs.declared.header.MessageHeader.{MessageHeader}
 use Rattle.ttrpc_connection.specs.Frames.{Sent}
 use Rattle.ttrpc_server.specs.declared.job.ActiveJob.{ActiveJob}
 use Rattle.ttrpc_server.specs.Jobs.{new_job}
-use Rattle.ttrpc_server.specs.Table.{Row, Skipped, Tells, TellsOf, Known}
+use Rattle.ttrpc_server.specs.Table.{Row, Known}
 
 -- The jobs of the frame's own stream id after it: those of before, and behind them the one that its row makes, whose id
 -- comes next.
 abbrev pub made_by : Row → MessageHeader → ℕ → List ActiveJob → List ActiveJob
-made_by Skipped header last before = before
-made_by (Tells response) header last before = before
-made_by (TellsOf code) header last before = before
 made_by (Known request) header last before = before ++ new_job (last + 1) header request ∷ []
+made_by row header last before = before
 
 -- at most one frame was sent, under this stream id
 pub record IsAnswered (k : ℕ) (sent : List Sent) : Type 0 where
