@@ -15,6 +15,7 @@ use std::alloc::Global;
 use ttrpc_error::Error;
 use ttrpc_frame::FrameDecoder;
 use ttrpc_secure::{InboundTransform, OutboundTransform};
+use ttrpc_values::behind;
 
 /// One end of a connection, over its two halves.
 #[derive(Drop)]
@@ -228,12 +229,4 @@ impl<O: OutboundTransform + Drop, I: InboundTransform + Drop> Connection<O, I> {
         }
         Ok(n)
     }
-}
-
-/// What stands behind the first bytes of a piece.
-fn behind(piece: &[u8], n: usize) -> &[u8]
-    requires { n ≤ length piece.now }
-    ensures { result.now ≡ drop n piece.now }
-{
-    &piece[n..]
 }

@@ -102,8 +102,8 @@ no_more : (front back : List ActiveJob) (x : ActiveJob) → [] ≡ front ++ x �
 no_more [] back x e = absurd cc
 no_more (a ∷ front) back x e = absurd cc
 
-some_is_not_none : (r : Request) → Some r ≡ None → ⊥
-some_is_not_none r e = absurd cc
+pub some_is_not_none : {X : Type 0} (x : X) → Some x ≡ None → ⊥
+some_is_not_none x e = absurd cc
 
 first_of_one : (j : ActiveJob) (front back : List ActiveJob) (x : ActiveJob) → j ∷ [] ≡ front ++ x ∷ back → (front ≡ []) × (x ≡ j) × (back ≡ [])
 first_of_one j [] back x e = (refl, cc, cc)

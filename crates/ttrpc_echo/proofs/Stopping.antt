@@ -23,6 +23,7 @@ use Rattle.ttrpc_server.specs.Server.{Server}
 use Rattle.ttrpc_server.specs.Table.{IsUnsent, RefusesAnswer, Row, Skipped, Tells, TellsOf, Known, row_of}
 use Rattle.ttrpc_echo.specs.Serving.{plain_in, plain_out, IsStop, Serves, UsesUp}
 use Rattle.ttrpc_echo.proofs.Limits.{fitted_fits}
+use Rattle.ttrpc_echo.proofs.Echoing.{some_is_not_none}
 
 -- ---- a frame makes one job at most
 
@@ -93,9 +94,6 @@ stops_later old now front rest piece e is serves (inr used) = inr (
 )
 
 -- ---- the echo is refused
-
-some_is_not_none : {X : Type 0} (x : X) → Some x ≡ None → ⊥
-some_is_not_none x e = absurd cc
 
 at_middle : {X : Type 0} (P : X → Type 0) (front back : List X) (x : X) → AllByRecursion P (front ++ x ∷ back) → P x
 at_middle P [] back x all = all.0

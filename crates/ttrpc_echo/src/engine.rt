@@ -18,7 +18,7 @@ use ttrpc_error::Error;
 use ttrpc_proto::{Response, Status};
 use ttrpc_secure::Plain;
 use ttrpc_server::{Job, Registry, Rules, ServerCore};
-use ttrpc_values::Text;
+use ttrpc_values::{Text, behind};
 
 /// How many bytes are read, and written, at once.
 const PIECE: usize = 4096;
@@ -217,12 +217,4 @@ fn read_piece<R: Read>(reader: &mut R, buffer: &mut [u8]) -> Result<usize, Error
         }
     }
     Err(Error::Nix(ErrorKind::Interrupted))
-}
-
-/// What stands behind the first bytes of a piece.
-fn behind(piece: &[u8], n: usize) -> &[u8]
-    requires { n ≤ length piece.now }
-    ensures { result.now ≡ drop n piece.now }
-{
-    &piece[n..]
 }

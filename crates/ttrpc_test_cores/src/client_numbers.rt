@@ -2,10 +2,11 @@
 use crate::client::ASKED;
 use crate::client_steps::{ends, gives, usual_request};
 use crate::script::Told;
-use crate::steps::{behind, leaves};
+use crate::steps::leaves;
 use crate::under_test::{Client, End, Met};
 use std::alloc::Global;
 use ttrpc_proto::Request;
+use ttrpc_values::behind;
 
 /// So many calls are made and written before the first is answered. The last is answered first, with its own id's lowest
 /// byte, which is told in that order, and each has its own outcome.

@@ -1,7 +1,7 @@
 //! The steps of a server.
 use crate::script::{Step, Told};
 use crate::server_numbers::serves_last_first;
-use crate::steps::{behind, drained, front, tells};
+use crate::steps::{drained, tells};
 use crate::under_test::{Met, Server};
 use std::alloc::Global;
 use std::test::Fail;
@@ -9,7 +9,7 @@ use ttrpc_codec::{Codec, WireMessage};
 use ttrpc_error::Error;
 use ttrpc_proto::{Response, Status};
 use ttrpc_server::{Job, JobId, Registry};
-use ttrpc_values::{Blob, Text};
+use ttrpc_values::{Blob, Text, behind, front};
 
 /// A step that only a server knows.
 pub fn server_step<S: Server>(alloc: Global, core: &mut S, step: &Step, cut: usize) -> Met {

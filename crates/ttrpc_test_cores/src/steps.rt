@@ -3,7 +3,7 @@ use crate::script::{Step, Told};
 use crate::under_test::{Core, End, Met};
 use std::alloc::Global;
 use ttrpc_error::Error;
-use ttrpc_values::Text;
+use ttrpc_values::{Text, behind, front};
 
 /// Whether the step is met.
 pub fn act<C: Core>(alloc: Global, core: &mut C, step: &Step, cut: usize) -> Met {
@@ -30,16 +30,6 @@ pub fn act<C: Core>(alloc: Global, core: &mut C, step: &Step, cut: usize) -> Met
         }
         _ => core.own_step(alloc, step, cut),
     }
-}
-
-/// The first bytes of a piece, or all of it where it has fewer.
-pub fn front(piece: &[u8], n: usize) -> &[u8] {
-    &piece[..n.min(piece.len())]
-}
-
-/// What stands behind the first bytes of a piece, or nothing where it has no more.
-pub fn behind(piece: &[u8], n: usize) -> &[u8] {
-    &piece[n.min(piece.len())..]
 }
 
 /// Bytes are taken whole, in pieces of this size.

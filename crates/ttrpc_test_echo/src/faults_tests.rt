@@ -1,6 +1,6 @@
 //! Readers and writers that fail at each place, move one byte a call or are interrupted.
 use crate::fakes::{Sink, Source};
-use crate::runs::{ROOM, front, run_words, words_of};
+use crate::runs::{ROOM, run_words, words_of};
 use crate::vectors::*;
 use std::alloc::Global;
 use std::io::ErrorKind;
@@ -8,6 +8,7 @@ use std::process::Abort;
 use std::test::Fail;
 use ttrpc_echo::{answer, run};
 use ttrpc_error::Error;
+use ttrpc_values::front;
 
 type Tested = Result<(), Fail>;
 

@@ -44,8 +44,3 @@ pub fn run_words<R: Read>(
         errors,
     })
 }
-
-/// The first `count` bytes.
-pub fn front(bytes: &[u8], count: usize) -> &[u8] {
-    &bytes[..count.min(bytes.len())]
-}

@@ -1,10 +1,11 @@
 //! Runs of the program: its words and its input, and then its status, its output and what it tells of errors.
 use crate::fakes::Source;
-use crate::runs::{ROOM, Ran, front, run_words, words_of};
+use crate::runs::{ROOM, Ran, run_words, words_of};
 use crate::vectors::*;
 use std::alloc::Global;
 use std::process::Abort;
 use std::test::Fail;
+use ttrpc_values::front;
 
 type Tested = Result<(), Fail>;
 

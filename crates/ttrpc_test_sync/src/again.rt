@@ -1,9 +1,10 @@
 //! One loop after the other over one port.
 
-use crate::fakes::{AT_ONCE, BYTES, Giver, Lender, Manner, ROOM, Receiver, Taker, front};
+use crate::fakes::{AT_ONCE, BYTES, Giver, Lender, Manner, ROOM, Receiver, Taker};
 use std::io::ErrorKind;
 use std::test::Fail;
 use ttrpc_sync::{Word, read_loop, write_loop};
+use ttrpc_values::front;
 
 const IN_FIVES: Manner = Manner { step: 5, ..AT_ONCE };
 

@@ -19,11 +19,6 @@ pub const BYTES: &[u8] = b"ABCDEFGHIJKLMNOPQRST";
 /// More than any of the tests moves, so that no writer and no port wants memory.
 pub const ROOM: usize = 10000;
 
-/// The first `count` bytes.
-pub fn front(bytes: &[u8], count: usize) -> &[u8] {
-    &bytes[..count.min(bytes.len())]
-}
-
 /// More bytes than two pieces have: 0 to 250, again and again.
 pub fn long_bytes(alloc: Global) -> Result<Vec<u8>, Fail> {
     let mut bytes = Vec::with_capacity(alloc, ROOM)?;

@@ -1,6 +1,6 @@
 //! The loop that reads, over rows of a reader, a port, and what comes of them.
 
-use crate::fakes::{AT_ONCE, BYTES, Giver, Manner, ROOM, Taker, front, long_bytes};
+use crate::fakes::{AT_ONCE, BYTES, Giver, Manner, ROOM, Taker, long_bytes};
 use crate::known::reader_had_it;
 use std::alloc::Global;
 use std::io::ErrorKind;
@@ -8,6 +8,7 @@ use std::process::Abort;
 use std::sync::Wait;
 use std::test::Fail;
 use ttrpc_sync::Word;
+use ttrpc_values::front;
 
 type Tested = Result<(), Fail>;
 

@@ -1,6 +1,6 @@
 //! The loop that writes, over rows of a port, a writer, and what comes of them.
 
-use crate::fakes::{AT_ONCE, BYTES, Lender, Manner, ROOM, Receiver, front, long_bytes};
+use crate::fakes::{AT_ONCE, BYTES, Lender, Manner, ROOM, Receiver, long_bytes};
 use crate::known::writer_had_it;
 use std::alloc::Global;
 use std::io::ErrorKind;
@@ -8,6 +8,7 @@ use std::process::Abort;
 use std::sync::Wait;
 use std::test::Fail;
 use ttrpc_sync::Word;
+use ttrpc_values::front;
 
 type Tested = Result<(), Fail>;
 

@@ -8,6 +8,7 @@ mod code;
 mod codec_error;
 mod laws;
 mod sequence;
+mod slices;
 mod text;
 
 pub use blob::Blob;
@@ -16,4 +17,5 @@ pub use code::Code;
 pub use codec_error::{CodecError, CodecFailure};
 pub use laws::code_is_one_to_one;
 pub use sequence::Sequence;
+pub use slices::{behind, front};
 pub use text::Text;

@@ -23,7 +23,7 @@ use ttrpc_error::Error;
 use ttrpc_proto::{Request, Response};
 use ttrpc_secure::{InboundTransform, OutboundTransform};
 use ttrpc_server::{JobId, ServerCore};
-use ttrpc_values::Text;
+use ttrpc_values::{Text, front};
 
 /// A client and a server, each over its two halves, and the bytes in flight between them.
 #[derive(Drop)]
@@ -385,12 +385,4 @@ fn zeros(alloc: Global, n: usize) -> Result<Vec<u8>, AllocError>
         return Ok(Vec::new(alloc));
     }
     vec![in alloc; 0u8; n]
-}
-
-/// The first bytes of a piece.
-fn front(bytes: &[u8], n: usize) -> &[u8]
-    requires { n ≤ length bytes.now }
-    ensures { result.now ≡ take n bytes.now }
-{
-    &bytes[..n]
 }
