@@ -1,5 +1,5 @@
 -- A request that is the only frame is answered by the only response, which ends its call.
-use Rattle.std.proofs.Common.{rules, ◌≡◌, ◌+◌, ◌*◌, ◌<◌, ◌≤◌, ◌%◌, ◌^◌, ◌++◌, ℕ, List, [], ◌∷◌, length, codes, take, Option, Some, None, true, false, nat_lt, Result, Ok, Err, refl, sym, ap, ◌∙◌, subst, arith, append_assoc, inl, inr}
+use Rattle.std.proofs.Common.{rules, ◌≡◌, ◌+◌, ◌*◌, ◌<◌, ◌≤◌, ◌%◌, ◌^◌, ◌-◌, ◌++◌, ℕ, List, [], ◌∷◌, length, codes, take, Option, Some, None, true, false, nat_lt, Result, Ok, Err, refl, sym, ap, ◌∙◌, subst, arith, append_assoc, inl, inr}
 use Rattle.std.proofs.lemmas.Option.{same_Some}
 use Rattle.std.proofs.lemmas.Str.{IsUtf8-from_ascii, IsUtf8-nil}
 use Rattle.std.proofs.lemmas.Bool.{le-ltb, lt-ltb}
@@ -120,13 +120,13 @@ response_short payload =
 
 pub request_reads_back : (payload : List ℕ) → FitsLimit payload → read_from request_step empty_request (request_bytes (echo_request payload)) ≡ Some (echo_request payload)
 request_reads_back payload fits =
-    let short : length (request_bytes (echo_request payload)) < 2 ^ 32 = omega (arith, fits) in
+    let short : length (request_bytes (echo_request payload)) < 2 ^ 64 - 1 = omega (arith, fits) in
     reads_back request_step empty_request (echo_request payload) (request_fields (echo_request payload)) (request_fits (echo_request payload) (is_request payload) short) (request_again (echo_request payload) (is_request payload) short)
 
 pub response_reads_back : (payload : List ℕ) → FitsLimit payload → read_from response_step empty_response (response_bytes (echo_of (echo_request payload))) ≡ Some (echo_of (echo_request payload))
 response_reads_back payload fits =
     let r = echo_of (echo_request payload) in
-    let short : length (response_bytes r) < 2 ^ 32 = omega (arith, fits, response_short payload) in
+    let short : length (response_bytes r) < 2 ^ 64 - 1 = omega (arith, fits, response_short payload) in
     reads_back response_step empty_response r (response_fields r) (response_fits r (is_response payload) short) (response_again r (is_response payload) short)
 
 -- ---- the request leaves

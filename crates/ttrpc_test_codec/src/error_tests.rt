@@ -127,7 +127,10 @@ fn is_told(
     }
     let expected = response_of(alloc, &(Some((*code, *message, &[])), b""))?;
     assert!(rt; response == expected, "{printed} becomes a response");
-    assert!(rt; told == expected, "{printed} becomes a response with a text");
+    assert!(rt;
+        told == expected,
+        "{printed} becomes a response with a text"
+    );
     Ok(())
 }
 

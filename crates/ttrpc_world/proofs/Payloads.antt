@@ -1,5 +1,5 @@
 -- What is sent reads back, what a core makes of it then, and the flights that it is sent as.
-use Rattle.std.proofs.Common.{rules, ◌≡◌, ℕ, zero, suc, ◌≤◌, ◌<◌, ◌^◌, List, [], ◌∷◌, ◌++◌, length, codes, nat_lt, ◌&&◌, Bool, true, false, Some, refl, sym, subst, ◌∙◌, arith}
+use Rattle.std.proofs.Common.{rules, ◌≡◌, ℕ, zero, suc, ◌≤◌, ◌<◌, ◌^◌, ◌-◌, List, [], ◌∷◌, ◌++◌, length, codes, nat_lt, ◌&&◌, Bool, true, false, Some, refl, sym, subst, ◌∙◌, arith}
 use Rattle.std.specs.Fmt.{decimal}
 use Rattle.std.proofs.lemmas.Bool.{and_parts, le-ltb, ltb-true}
 use Rattle.std.proofs.lemmas.Fmt.{IsAscii-decimal}
@@ -33,7 +33,7 @@ pub request_row_is : (services : Services) (h : MessageHeader) (r : Request) →
     → sync_row services h (Opened (request_bytes r)) ≡ request_row services (Some r)
 request_row_is services h r is short type_ =
     let within : nat_lt MESSAGE_LENGTH_MAX (length (request_bytes r)) ≡ false = le-ltb _ _ short in
-    let fits : length (request_bytes r) < 2 ^ 32 = omega (arith, short) in
+    let fits : length (request_bytes r) < 2 ^ 64 - 1 = omega (arith, short) in
     rw (within, type_, reads_back request_step empty_request r (request_fields r) (request_fits r is fits) (request_again r is fits)) refl
 
 -- The client makes of a response its outcome.
@@ -41,7 +41,7 @@ pub response_landing_is : (h : MessageHeader) (r : Response) → IsResponse r �
     → landing_of h (Opened (response_bytes r)) ≡ Gives (by_status r.status r)
 response_landing_is h r is short type_ =
     let within : nat_lt MESSAGE_LENGTH_MAX (length (response_bytes r)) ≡ false = le-ltb _ _ short in
-    let fits : length (response_bytes r) < 2 ^ 32 = omega (arith, short) in
+    let fits : length (response_bytes r) < 2 ^ 64 - 1 = omega (arith, short) in
     rw (within, type_, reads_back response_step empty_response r (response_fields r) (response_fits r is fits) (response_again r is fits)) refl
 
 -- ---- responses that the core makes itself
