@@ -6,7 +6,7 @@ use std::test::Fail;
 use ttrpc_error::Error;
 use ttrpc_frame::{FrameDecoder, GenMessage, GenMessageError, Incoming};
 use ttrpc_header::{MESSAGE_LENGTH_MAX, MessageHeader};
-use ttrpc_values::Blob;
+use ttrpc_values::{Blob, TryClone};
 
 type Tested = Result<(), Fail>;
 
