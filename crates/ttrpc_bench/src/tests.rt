@@ -5,7 +5,8 @@ use std::process::Abort;
 use std::test::Fail;
 use ttrpc_frame::{GenMessage, Outgoing, Queued};
 use ttrpc_header::MessageHeader;
-use ttrpc_secure::{InboundTransform, OutboundTransform, SendError, TransformError, send};
+use ttrpc_secure::sending::{SendError, send};
+use ttrpc_secure::{InboundTransform, OutboundTransform, TransformError};
 use ttrpc_values::Blob;
 
 type Tested = Result<(), Fail>;
@@ -123,9 +124,11 @@ fn a_refused_frame_is_not_counted(rt: HostRuntime) -> Tested {
     let alloc = rt.alloc();
     let (mut half, _) = stamps();
     let mut outgoing = Outgoing::new(alloc);
-    if send(alloc, &mut half, &mut outgoing, request(alloc, 1), &[7]).is_err() {
+    let data = vec![in alloc; 7]?;
+    if send(alloc, &mut half, &mut outgoing, request(alloc, 1), data).is_err() {
         assert!(rt; outgoing.is_empty());
-        let again = send(alloc, &mut half, &mut outgoing, request(alloc, 1), &[7]);
+        let data = vec![in alloc; 7]?;
+        let again = send(alloc, &mut half, &mut outgoing, request(alloc, 1), data);
         assert!(rt; again.is_ok());
     }
     let mut buffer = [0; 64];
@@ -146,6 +149,7 @@ fn frames_are_sealed_as_they_are_queued(rt: HostRuntime) -> Tested {
     let mut outgoing = Outgoing::new(alloc);
     for stream_id in [1, 3] {
         let request = request(alloc, stream_id);
+        let data = Vec::from_slice(alloc, data)?;
         sent(send(alloc, &mut half, &mut outgoing, request, data))?;
     }
     let mut buffer = [0; 64];

@@ -1,25 +1,19 @@
 -- The calls of a client core take nothing of what comes in, and the queue goes through what they say.
-use Rattle.std.proofs.Common.{◌≡◌, ◌∙◌, ◌&&◌, not, ℕ, nat_eq, List, [], ◌∷◌, Option, Some, None, is_some, Bool, true, false, if◌then◌else◌, refl, sym, ap, subst}
-use Rattle.ttrpc_client.proofs.Words.{Queued, Queue, Happening, Placed, with_payload, OutboundTransform, Connection, Failure, AreLawful, Goes, ClientCore, Called, Asked, Told, Dropped, Ticked, AskedEnded, Passes, Does, Causes, called, core, thrown_at, thrown_if, Client, call_at, throws, due_at, taken_back, takes_back, IsRequestFrame}
-use Rattle.ttrpc_connection.specs.declared.failure.Failure.TheVariants.{CancelledDuringWrite, DeadlineDuringWrite}
-use Rattle.ttrpc_connection.proofs.Leaving.{goes_not, queued_goes}
+use Rattle.ttrpc_client.proofs.Words.{cond_both, ◌≡◌, ◌∙◌, ◌&&◌, not, ℕ, nat_eq, List, [], ◌∷◌, Option, Some, None, is_some, Bool, true, false, if◌then◌else◌, refl, sym, ap, subst, Queued, Queue, Happening, Placed, with_payload, OutboundTransform, Connection, Failure, AreLawful, Goes, ClientCore, Called, Asked, Dropped, Ticked, Passes, Does, Causes, called, core, thrown_at, thrown_if, Client, call_at, throws, due_at, taken_back, takes_back, IsRequestFrame, CancelledDuringWrite, DeadlineDuringWrite, goes_not, queued_goes}
 
 -- ---- the decoder
 
 back_decoder : {O I : Type 0} (b : Bool) (c : Connection O I) (ids : ℕ → Bool) (why : Failure) → (if b then taken_back c ids why else c).decoder ≡ c.decoder
-back_decoder true c ids why = refl
-back_decoder false c ids why = refl
+back_decoder b c ids why = cond_both b (taken_back c ids why) c (λ x. x.decoder ≡ c.decoder) (λ _. refl) (λ _. refl)
 
 passes_decoder : {O I : Type 0} (seals : Bool) (failure : Option Failure) (old : ClientCore O I) (now : ℕ) (new : ClientCore O I) → Passes seals failure old now new → new.connection.decoder ≡ old.connection.decoder
 passes_decoder seals None old now new ticks = ap (λ (c : Connection _ _). c.decoder) ticks.connection ∙ back_decoder (throws old.state.kind seals) old.connection _ _
 passes_decoder seals (Some failure) old now new same = ap (λ c. c.connection.decoder) same
 
 does_decoder : {O I : Type 0} (out : OutboundTransform O) (seals : Bool) (a : Called) (old new : ClientCore O I) → Does out seals a old new → new.connection.decoder ≡ old.connection.decoder
-does_decoder out seals (Asked request now id) old new did = ap (λ c. c.connection.decoder) did.same
-does_decoder out seals (Told id outcome) old new did = ap (λ c. c.connection.decoder) did.same
 does_decoder out seals (Dropped id) old new did = ap (λ c. c.connection.decoder) did.same ∙ back_decoder (takes_back seals old id) old.connection _ _
 does_decoder out seals (Ticked now) old new did = passes_decoder seals old.connection.failure old now new did
-does_decoder out seals (AskedEnded id) old new did = ap (λ c. c.connection.decoder) did.same
+does_decoder out seals a old new did = ap (λ c. c.connection.decoder) did.same
 
 decoder : {O I : Type 0} (out : OutboundTransform O) (seals : Bool) (a : Called) (s : Client) (old : Connection O I) (hs : List Happening) (t : Client) (new : Connection O I) → called out seals a s old hs t new
     → new.decoder ≡ old.decoder
@@ -48,11 +42,10 @@ queue : {O I : Type 0} (out : OutboundTransform O) (seals : Bool) (a : Called) (
     → Goes old.outbox.queue hs new.outbox.queue
 queue out seals (Asked request now id) s old hs t new call =
     queued_goes old.outbox.queue new.outbox.queue (call.1.0 ∷ []) hs (with_payload call.0.frame call.0.sends.sealed ∷ [], call.0.sends.queue) call.1.2 call.1.3
-queue out seals (Told id outcome) s old hs t new call = goes_not old.outbox.queue new.outbox.queue hs (ap (λ c. c.connection.outbox.queue) call.0.same) call.1
 queue out seals (Dropped id) s old hs t new call =
     goes_so old.outbox.queue hs _ new.outbox.queue _ (back_goes (takes_back seals (core s old) id) old (λ k. nat_eq k id) CancelledDuringWrite) call.1 (ap (λ c. c.connection.outbox.queue) call.0.same)
 queue out seals (Ticked now) s old hs t new call = passes_goes seals old.failure (core s old) now (core t new) refl call.0 hs call.1
-queue out seals (AskedEnded id) s old hs t new call = goes_not old.outbox.queue new.outbox.queue hs (ap (λ c. c.connection.outbox.queue) call.0.same) call.1
+queue out seals a s old hs t new call = goes_not old.outbox.queue new.outbox.queue hs (ap (λ c. c.connection.outbox.queue) call.0.same) call.1
 
 pub called_is_lawful : {O I : Type 0} (out : OutboundTransform O) (seals : Bool) → AreLawful (called {O = O} {I = I} out seals)
 called_is_lawful out seals = record { decoder = decoder out seals; queue = queue out seals }
@@ -67,7 +60,6 @@ pub does_cause : {O I : Type 0} (out : OutboundTransform O) (seals : Bool) (a : 
 does_cause out seals (Asked request now id) old new did =
     let f = with_payload did.frame did.sends.sealed in
     (Placed f ∷ [], (f, filled_request id did.frame did.sends.sealed did.is_frame, ap (λ (q : Queue). q.frames) did.sends.queue, refl))
-does_cause out seals (Told id outcome) old new did = ([], refl)
 does_cause out seals (Dropped id) old new did = (_, refl)
 does_cause out seals (Ticked now) old new did = (_, refl)
-does_cause out seals (AskedEnded id) old new did = ([], refl)
+does_cause out seals a old new did = ([], refl)

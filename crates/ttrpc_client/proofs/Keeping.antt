@@ -1,16 +1,8 @@
 -- What the state of every client keeps, through each change.
-use Rattle.std.proofs.Common.{rules, arith, length, ◌≡◌, ◌≢◌, ◌<◌, ◌≤◌, ◌%◌, ◌^◌, ◌+◌, ◌-◌, ◌++◌, ℕ, nat_eq, List, [], ◌∷◌, Option, Some, None, Bool, true, false, if◌then◌else◌, refl, sym, ap, subst, ◌∙◌}
-use Rattle.std.proofs.lemmas.Map.Entries.{sum_by-insert_entry, sum_by-remove_entry}
+use Rattle.ttrpc_client.proofs.Words.{rules, arith, length, ◌≡◌, ◌≢◌, ◌<◌, ◌≤◌, ◌%◌, ◌^◌, ◌+◌, ◌-◌, ◌++◌, ℕ, nat_eq, List, [], ◌∷◌, Option, Some, None, Bool, true, false, if◌then◌else◌, refl, sym, ap, subst, ◌∙◌, nat_cmp_total, IsStrictlySortedBy, keys_of, values_of, remove_entry, option_map, unwrap_or, insert_entry, is_at, nat_cmp, Call, Waiting, Client, IsClient, OthersStay, call_in, told_left, waits, Admits, Leaves, AreDeadlines, ChangesTo, IsKept, deadline_in, has_deadline, is_moment, waiting_in, weight, cond_both, sum_by-insert_entry, sum_by-remove_entry}
 use Rattle.std.proofs.lemmas.List.Sums.{sum_by-cons}
-use Rattle.std.specs.Cmp.{nat_cmp_total}
-use Rattle.std.specs.List.Sorted.{IsStrictlySortedBy}
-use Rattle.std.specs.Map.{keys_of, values_of, remove_entry}
-use Rattle.std.specs.Option.{option_map, unwrap_or}
-use Rattle.std.specs.BTreeMap.{insert_entry, is_at}
-use Rattle.std.specs.Ordering.{nat_cmp}
-use Rattle.ttrpc_client.proofs.Words.{Call, Waiting, Expired, Ended, Client, IsClient, OthersStay, call_in, told_left, waits, Admits, Leaves, AreDeadlines, ChangesTo, IsKept, deadline_in, has_deadline, is_moment, waiting_in, weight}
 use Rattle.ttrpc_client.specs.declared.kind.ClientKind.{ClientKind}
-use Rattle.ttrpc_client.proofs.Entries.{apart_place, at_or_apart, same_place, undone}
+use Rattle.ttrpc_client.proofs.Entries.{apart_place, at_or_apart, undone}
 
 -- what a change of the map says of the others
 pub others_stay : (id : ℕ) (old new : List (ℕ × Call)) → ((q : ℕ) → is_at (nat_cmp id) q ≡ false → call_in new q ≡ call_in old q) → OthersStay old id new
@@ -28,29 +20,20 @@ deadlines_move there old new ds es id deadline are others changes own at = at_or
     (let same : nat_eq id id ≡ true = search rules in rw (same, are at id) at (changes at id) ∙ own at)
     (λ k apart. let other : nat_eq k id ≡ false = search (rules, apart) in rw other at (changes at k) ∙ are at k ∙ ap (until at) (sym (others k apart)))
 
-gone : (b : Bool) → (if b then false else b) ≡ false
-gone true = refl
-gone false = refl
-
-come : (b : Bool) → (if b then true else false) ≡ b
-come true = refl
-come false = refl
-
 deadline_gone : (old new : List (ℕ × Call)) (ds es : List (ℕ × ℕ)) (id : ℕ) (deadline : Option ℕ) → AreDeadlines ds old → OthersStay old id new → ChangesTo false ds id deadline es
     → deadline ≡ deadline_in (call_in old id) → deadline_in (call_in new id) ≡ None → AreDeadlines es new
 deadline_gone old new ds es id deadline are others changes was none = deadlines_move false old new ds es id deadline are others changes
-    (λ at. ap (λ d. if is_moment at d then false else until at (call_in old id)) was ∙ gone (until at (call_in old id)) ∙ sym (ap (is_moment at) none))
+    (λ at. ap (λ d. if is_moment at d then false else until at (call_in old id)) was ∙ cond_both (until at (call_in old id)) false _ (λ b. b ≡ false) (λ _. refl) (λ e. e) ∙ sym (ap (is_moment at) none))
 
 deadline_come : (old new : List (ℕ × Call)) (ds es : List (ℕ × ℕ)) (id : ℕ) (deadline : Option ℕ) → AreDeadlines ds old → OthersStay old id new → ChangesTo true ds id deadline es
     → call_in old id ≡ None → call_in new id ≡ Some (Waiting deadline) → AreDeadlines es new
 deadline_come old new ds es id deadline are others changes was is = deadlines_move true old new ds es id deadline are others changes
-    (λ at. ap (λ call. if is_moment at deadline then true else until at call) was ∙ come (is_moment at deadline) ∙ sym (ap (until at) is))
+    (λ at. ap (λ call. if is_moment at deadline then true else until at call) was ∙ cond_both (is_moment at deadline) true false (λ b. b ≡ is_moment at deadline) (λ e. sym e) (λ e. sym e) ∙ sym (ap (until at) is))
 
 -- a call that doesn't wait has none
 not_waiting : (call : Call) → waits (Some call) ≡ false → deadline_in (Some call) ≡ None
 not_waiting (Waiting deadline) h = cc
-not_waiting Expired h = refl
-not_waiting (Ended outcome) h = refl
+not_waiting call h = refl
 
 -- ---- how many wait
 
@@ -74,16 +57,12 @@ more_wait calls id deadline ordered was =
     let none : unwrap_or (option_map weight (call_in calls id)) 0 ≡ 0 = rw was refl in
     omega (arith, count, none)
 
-light : (b : Bool) → (if b then 1 else 0) ≤ 1
-light true = omega arith
-light false = omega arith
-
 -- no more wait than there are
 waiting_few : (calls : List (ℕ × Call)) → waiting_in calls ≤ length calls
 waiting_few [] = omega arith
 waiting_few (c ∷ cs) =
     let few = waiting_few cs in
-    let one = light (waits (Some c.1)) in
+    let one = cond_both (waits (Some c.1)) 1 0 (λ n. n ≤ 1) (λ _. omega arith) (λ _. omega arith) in
     let step = sum_by-cons weight c.1 (values_of cs) in
     omega (arith, few, one, step)
 
@@ -199,7 +178,7 @@ withdrawn old mid new id deadline admits leaves =
     let next_was : mid.next ≡ id + 2 = ap (λ (c : Client). c.next) admits.same in
     let next_is : new.next ≡ mid.next = ap (λ (c : Client). c.next) leaves.same in
     let id_is = admits.id_is in
-    let calls : new.calls ≡ old.calls = leaves.calls ∙ ap (remove_entry (is_at (nat_cmp id))) admits.calls ∙ undone nat_cmp id (Waiting deadline) old.calls (same_place id) admits.fresh in
+    let calls : new.calls ≡ old.calls = leaves.calls ∙ ap (remove_entry (is_at (nat_cmp id))) admits.calls ∙ undone id (Waiting deadline) old.calls admits.fresh in
     same_client old new.kind (new.next - 2) new.calls new.ended
     (ap (λ (c : Client). c.kind) leaves.same ∙ ap (λ (c : Client). c.kind) admits.same)
     (omega (arith, next_was, next_is, id_is))

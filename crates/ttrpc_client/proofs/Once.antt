@@ -1,20 +1,15 @@
 -- The outcome of a call is given once.
-use Rattle.std.proofs.Common.{rules, arith, ◌≡◌, ◌≢◌, ◌⊎◌, inl, inr, ℕ, ◌<◌, ◌≤◌, nat_eq, nat_lt, List, [], ◌∷◌, ◌++◌, length, length-append, Option, Some, None, is_some, Result, Bool, true, false, refl, sym, ap, subst, ◌∙◌}
-use Rattle.std.proofs.lemmas.Bool.{ltb-false, ltb-true}
-use Rattle.ttrpc_error.specs.declared.error.Error.{Error}
+use Rattle.ttrpc_client.proofs.Words.{cases_eq, cases_lt, eq-eqb, ne_eqb, arith, ◌≡◌, ◌≢◌, ◌⊎◌, inl, inr, ℕ, ◌<◌, ◌≤◌, List, [], ◌∷◌, ◌++◌, length, length-append, Option, Some, None, is_some, Result, Bool, refl, sym, ap, subst, ◌∙◌, Error, Happening, OutboundTransform, InboundTransform, Connection, Failure, ACall, Call, Waiting, ClientCore, Called, Told, asked_by, called, core, ids_asked, outcomes_of, told_by, Client, IsClient, call_at, GivesOutcome, Tells, calling, left_of, Did, Calls, Runs, all_in_front, all_behind}
 use Rattle.ttrpc_proto.specs.declared.response.Response.{Response}
-use Rattle.ttrpc_client.proofs.Words.{Happening, OutboundTransform, InboundTransform, Connection, Failure, ACall, Call, Waiting, Expired, Ended, ClientCore, Called, Asked, Told, Dropped, Ticked, AskedEnded, asked_by, called, core, ids_asked, outcomes_of, told_by, Client, IsClient, call_at, GivesOutcome, Tells, calling, left_of}
-use Rattle.ttrpc_connection.specs.Calls.{Gave, Lent, Reported, Failed, Did, Calls, Runs}
 use Rattle.ttrpc_client.proofs.Turning.{Leaves, call_leaves, leaves_valid, run_leaves}
-use Rattle.ttrpc_client.proofs.Rising.{Apart, apart_before, apart_behind, never_below, rise_up}
+use Rattle.ttrpc_client.proofs.Rising.{Apart, never_below, rise_up}
 
 -- nothing is kept of a call whose outcome was given
 gone_by_giving : (failure : Option Failure) (call : Option Call) (outcome : Result Response Error) → GivesOutcome failure call (Some outcome) → left_of (is_some failure) call ≡ None
 gone_by_giving failure None outcome gives = refl
 gone_by_giving None (Some (Waiting deadline)) outcome gives = cc
 gone_by_giving (Some why) (Some (Waiting deadline)) outcome gives = refl
-gone_by_giving failure (Some Expired) outcome gives = refl
-gone_by_giving failure (Some (Ended given)) outcome gives = refl
+gone_by_giving failure (Some call) outcome gives = refl
 
 -- ---- a call
 
@@ -22,29 +17,21 @@ gone_by_giving failure (Some (Ended given)) outcome gives = refl
 abbrev GivesAtMostOne : ℕ → ACall Called → Client → Client → Type 0
 GivesAtMostOne k c old new = (told_by k c ≡ []) ⊎ ((length (told_by k c) ≡ 1) × (call_at old k ≢ None) × (call_at new k ≡ None))
 
-tells_at_most_one : {O I : Type 0} (k id : ℕ) (outcome : Result Response Error) (old new : ClientCore O I) → Tells old id (Some outcome) new → (b : Bool) → nat_eq id k ≡ b
-    → GivesAtMostOne k (Did (Told id (Some outcome))) old.state new.state
-tells_at_most_one k id outcome old new tells true e =
-    let same : id ≡ k = search rules in
-    let gone : call_at new.state id ≡ None = tells.own ∙ gone_by_giving old.connection.failure (call_at old.state id) outcome tells.gives in
-    inr (
-      rw e refl,
-      subst (λ j. call_at old.state j ≢ None) same (λ none.
-          let bad : Some outcome ≡ None = subst (λ c. GivesOutcome old.connection.failure c (Some outcome)) none tells.gives in cc),
-      subst (λ j. call_at new.state j ≡ None) same gone,
-    )
-tells_at_most_one k id outcome old new tells false e = inl (rw e refl)
+tells_at_most_one : {O I : Type 0} (k id : ℕ) (outcome : Result Response Error) (old new : ClientCore O I) → Tells old id (Some outcome) new → GivesAtMostOne k (Did (Told id (Some outcome))) old.state new.state
+tells_at_most_one k id outcome old new tells = elim (cases_eq id k) [
+  | inl same ↦ rw (← same) (inr (
+    rw (eq-eqb id id refl) refl,
+    (λ none. let bad : Some outcome ≡ None = rw none at tells.gives in cc),
+    tells.own ∙ gone_by_giving old.connection.failure (call_at old.state id) outcome tells.gives,
+  ))
+  | inr apart ↦ inl (rw (ne_eqb id k apart) refl)
+]
 
 -- ---- calls one after the other
 
 none_of_none : (k : ℕ) (c : ACall Called) (old new : Client) → GivesAtMostOne k c old new → call_at old k ≡ None → told_by k c ≡ []
 none_of_none k c old new (inl none) kept = none
 none_of_none k c old new (inr one) kept = absurd (one.1 kept)
-
--- only of an id that was used is something kept
-used : (k next : ℕ) (b : Bool) → nat_lt k next ≡ b → (next ≤ k → ⊥) → k < next
-used k next true e bad = ltb-true k next e
-used k next false e bad = absurd (bad (ltb-false k next e))
 
 abbrev AtMostOne : List (Result Response Error) → Type 0
 AtMostOne os = length os ≤ 1
@@ -55,16 +42,8 @@ then_none os ps one none = subst (λ l. AtMostOne (os ++ l)) (sym none) (omega (
 module _ {O I : Type 0} (out : OutboundTransform O) (in_ : InboundTransform I) (seals : Bool) where
   call_gives : (k : ℕ) (c : ACall Called) (s : Client) (old : Connection O I) (hs : List Happening) (t : Client) (new : Connection O I) → Calls (calling out in_) (called out seals) s old c hs t new
       → GivesAtMostOne k c s t
-  call_gives k (Gave piece at) s old hs t new call = inl refl
-  call_gives k (Lent n) s old hs t new call = inl refl
-  call_gives k (Reported n) s old hs t new call = inl refl
-  call_gives k Failed s old hs t new call = inl refl
-  call_gives k (Did (Asked request now id)) s old hs t new call = inl refl
-  call_gives k (Did (Told id None)) s old hs t new call = inl refl
-  call_gives k (Did (Told id (Some outcome))) s old hs t new call = tells_at_most_one k id outcome (core s old) (core t new) call.0 (nat_eq id k) refl
-  call_gives k (Did (Dropped id)) s old hs t new call = inl refl
-  call_gives k (Did (Ticked now)) s old hs t new call = inl refl
-  call_gives k (Did (AskedEnded id)) s old hs t new call = inl refl
+  call_gives k (Did (Told id (Some outcome))) s old hs t new call = tells_at_most_one k id outcome (core s old) (core t new) call.0
+  call_gives k c s old hs t new call = inl refl
 
   pub run_gives_none : (k : ℕ) (cs : List (ACall Called)) (s : Client) (old : Connection O I) (hs : List Happening) (t : Client) (new : Connection O I) → Runs (calling out in_) (called out seals) s old cs hs t new
       → call_at s k ≡ None → Apart k (ids_asked cs) → outcomes_of k cs ≡ []
@@ -72,9 +51,9 @@ module _ {O I : Type 0} (out : OutboundTransform O) (in_ : InboundTransform I) (
   run_gives_none k (c ∷ cs) s old hs t new run none apart =
       let mid = run.0 in
       let leaves : Leaves (asked_by c) s mid = call_leaves out in_ seals c s old run.2 mid run.1 run.4 in
-      let still : call_at mid k ≡ None = leaves.none k (apart_before k (asked_by c) (ids_asked cs) apart) none in
+      let still : call_at mid k ≡ None = leaves.none k (all_in_front (λ id. k ≢ id) (asked_by c) (ids_asked cs) apart) none in
       ap (λ os. os ++ outcomes_of k cs) (none_of_none k c s mid (call_gives k c s old run.2 mid run.1 run.4) none)
-      ∙ run_gives_none k cs mid run.1 run.3 t new run.6 still (apart_behind k (asked_by c) (ids_asked cs) apart)
+      ∙ run_gives_none k cs mid run.1 run.3 t new run.6 still (all_behind (λ id. k ≢ id) (asked_by c) (ids_asked cs) apart)
 
   pub run_gives_one : (k : ℕ) (cs : List (ACall Called)) (s : Client) (old : Connection O I) (hs : List Happening) (t : Client) (new : Connection O I)
       → IsClient s.next s.calls → Runs (calling out in_) (called out seals) s old cs hs t new → AtMostOne (outcomes_of k cs)
@@ -85,7 +64,7 @@ module _ {O I : Type 0} (out : OutboundTransform O) (in_ : InboundTransform I) (
       elim (call_gives k c s old run.2 mid run.1 run.4) [
         | inl none ↦ subst (λ os. AtMostOne (os ++ outcomes_of k cs)) (sym none) (run_gives_one k cs mid run.1 run.3 t new (leaves_valid (asked_by c) s mid leaves valid) run.6)
         | inr one ↦
-            let before : k < s.next = used k s.next (nat_lt k s.next) refl (λ le. one.1 (valid.fresh k le)) in
+            let before : k < s.next = elim (cases_lt k s.next) [ inl less ↦ less | inr le ↦ absurd (one.1 (valid.fresh k le)) ] in
             let up = rise_up s.next (asked_by c) mid.next leaves.rises in
             let later = run_leaves out in_ seals cs mid run.1 run.3 t new run.6 in
             then_none (told_by k c) (outcomes_of k cs) one.0

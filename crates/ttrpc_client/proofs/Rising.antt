@@ -1,7 +1,5 @@
 -- Ids that rise by two.
-use Rattle.std.proofs.Common.{arith, ◌≡◌, ◌≢◌, ℕ, ◌+◌, ◌<◌, ◌≤◌, ◌%◌, nat_eq, List, [], ◌∷◌, ◌++◌, false, sym, subst, ◌∙◌}
-use Rattle.std.specs.List.{AllByRecursion, IsDistinct}
-use Rattle.ttrpc_client.proofs.Words.{RiseByTwo, last_id}
+use Rattle.ttrpc_client.proofs.Words.{arith, ◌≡◌, ◌≢◌, ℕ, ◌+◌, ◌<◌, ◌≤◌, ◌%◌, nat_eq, List, [], ◌∷◌, ◌++◌, false, sym, subst, ◌∙◌, AllByRecursion, IsDistinct, RiseByTwo, last_id}
 
 pub rise_both : (xs ys : List ℕ) (first mid next : ℕ) → RiseByTwo first xs mid → RiseByTwo mid ys next → RiseByTwo first (xs ++ ys) next
 rise_both [] ys first mid next one two = subst (λ n. RiseByTwo n ys next) one two
@@ -19,18 +17,14 @@ pub rise_range : (first : ℕ) (ids : List ℕ) (next : ℕ) → RiseByTwo first
 rise_range first [] next rises le = omega (arith, rises, le)
 rise_range first (id ∷ ids) next rises le = let is = rises.0 in let below = rises.1 in rise_range (first + 2) ids next rises.2 (omega (arith, is, below))
 
+pub rise_below : (first : ℕ) (ids : List ℕ) (next : ℕ) → RiseByTwo first ids next → AllByRecursion (λ id. id < next) ids
+rise_below first [] next rises = tt
+rise_below first (id ∷ ids) next rises = let up = rise_up (first + 2) ids next rises.2 in (omega (arith, up, rises.0), rise_below (first + 2) ids next rises.2)
+
 -- ---- ids that are not among others
 
 abbrev pub Apart : ℕ → List ℕ → Type 0
 Apart k ids = AllByRecursion (λ id. k ≢ id) ids
-
-pub apart_before : (k : ℕ) (xs ys : List ℕ) → Apart k (xs ++ ys) → Apart k xs
-apart_before k [] ys apart = tt
-apart_before k (x ∷ xs) ys apart = (apart.0, apart_before k xs ys apart.1)
-
-pub apart_behind : (k : ℕ) (xs ys : List ℕ) → Apart k (xs ++ ys) → Apart k ys
-apart_behind k [] ys apart = apart
-apart_behind k (x ∷ xs) ys apart = apart_behind k xs ys apart.1
 
 pub never_below : (k first : ℕ) (ids : List ℕ) (next : ℕ) → k < first → RiseByTwo first ids next → Apart k ids
 never_below k first [] next less rises = tt
@@ -51,7 +45,7 @@ never_even k first (id ∷ ids) next even odd rises =
 
 -- ---- no two are equal
 
-differ : (k : ℕ) (ids : List ℕ) → Apart k ids → AllByRecursion (λ id. nat_eq k id ≡ false) ids
+pub differ : (k : ℕ) (ids : List ℕ) → Apart k ids → AllByRecursion (λ id. nat_eq k id ≡ false) ids
 differ k [] apart = tt
 differ k (id ∷ ids) apart = (search (arith, apart.0), differ k ids apart.1)
 

@@ -1,8 +1,5 @@
 -- Where requests may not be thrown away, none is.
-use Rattle.std.proofs.Common.{◌≡◌, ◌&&◌, not, ℕ, List, [], ◌∷◌, ◌++◌, map, is_some, if◌then◌else◌, Bool, true, false, refl, sym, ap, ◌∙◌, append_assoc}
-use Rattle.ttrpc_client.proofs.Words.{Queued, Queue, Happening, Placed, after, after_all, thrown, thrown_by, with_frame, OutboundTransform, InboundTransform, Connection, ACall, Called, Asked, Told, Dropped, Ticked, AskedEnded, called, core, thrown_if, Client, call_at, throws, waits, calling, takes_back}
-use Rattle.ttrpc_connection.specs.Calls.{Gave, Lent, Reported, Failed, Did, Calls, Runs}
-use Rattle.ttrpc_connection.proofs.Leaving.{call_goes}
+use Rattle.ttrpc_client.proofs.Words.{and_right, cond_both, ◌≡◌, ◌&&◌, not, ℕ, List, [], ◌∷◌, ◌++◌, map, is_some, Bool, false, refl, sym, ap, ◌∙◌, append_assoc, Queued, Queue, Happening, Placed, after, after_all, thrown, thrown_by, with_frame, OutboundTransform, InboundTransform, Connection, ACall, Called, Asked, Dropped, Ticked, called, core, thrown_if, Client, throws, calling, takes_back, Gave, Lent, Reported, Failed, Did, Calls, Runs, call_goes}
 use Rattle.ttrpc_client.proofs.Calls.{called_is_lawful}
 use Rattle.ttrpc_client.proofs.Turning.{call_leaves}
 
@@ -15,34 +12,22 @@ none_placed : (fs : List Queued) (q : Queue) → thrown q (map Placed fs) ≡ []
 none_placed [] q = refl
 none_placed (f ∷ fs) q = none_placed fs (with_frame q f)
 
-none_by : (q : Queue) (hs ks : List Happening) → hs ≡ ks → thrown q ks ≡ [] → thrown q hs ≡ []
-none_by q hs ks is none = ap (thrown q) is ∙ none
-
 none_thrown : (b : Bool) (ids : ℕ → Bool) (q : Queue) → b ≡ false → thrown q (thrown_if b ids) ≡ []
 none_thrown b ids q e = rw e refl
-
-back_not : (failed waiting may_throw : Bool) → may_throw ≡ false → (if failed then false else if may_throw then waiting else false) ≡ false
-back_not true waiting may_throw e = refl
-back_not false waiting may_throw e = rw e refl
-
-tick_not : (failed may_throw : Bool) → may_throw ≡ false → (not failed && may_throw) ≡ false
-tick_not true may_throw e = refl
-tick_not false may_throw e = e
 
 module _ {O I : Type 0} (out : OutboundTransform O) (in_ : InboundTransform I) (seals : Bool) where
   call_throws_not : (c : ACall Called) (s : Client) (old : Connection O I) (hs : List Happening) (t : Client) (new : Connection O I) → throws s.kind seals ≡ false → Calls (calling out in_) (called out seals) s old c hs t new
       → thrown old.outbox.queue hs ≡ []
-  call_throws_not (Gave piece at) s old hs t new e call = none_by old.outbox.queue hs (map Placed call.1.0) call.1.2 (none_placed call.1.0 old.outbox.queue)
+  call_throws_not (Gave piece at) s old hs t new e call = ap (thrown old.outbox.queue) call.1.2 ∙ none_placed call.1.0 old.outbox.queue
   call_throws_not (Lent n) s old hs t new e call = ap (thrown old.outbox.queue) call.4
   call_throws_not (Reported n) s old hs t new e call = ap (thrown old.outbox.queue) call.3
   call_throws_not Failed s old hs t new e call = ap (thrown old.outbox.queue) call.2
   call_throws_not (Did (Asked request now id)) s old hs t new e call = ap (thrown old.outbox.queue) call.1.3
-  call_throws_not (Did (Told id outcome)) s old hs t new e call = ap (thrown old.outbox.queue) call.1
   call_throws_not (Did (Dropped id)) s old hs t new e call =
-      ap (thrown old.outbox.queue) call.1 ∙ none_thrown (takes_back seals (core s old) id) _ old.outbox.queue (back_not (is_some old.failure) (waits (call_at s id)) (throws s.kind seals) e)
+      ap (thrown old.outbox.queue) call.1 ∙ none_thrown (takes_back seals (core s old) id) _ old.outbox.queue (rw e (cond_both (is_some old.failure) false false (λ b. b ≡ false) (λ _. refl) (λ _. refl)))
   call_throws_not (Did (Ticked now)) s old hs t new e call =
-      ap (thrown old.outbox.queue) call.1 ∙ none_thrown (not (is_some old.failure) && throws s.kind seals) _ old.outbox.queue (tick_not (is_some old.failure) (throws s.kind seals) e)
-  call_throws_not (Did (AskedEnded id)) s old hs t new e call = ap (thrown old.outbox.queue) call.1
+      ap (thrown old.outbox.queue) call.1 ∙ none_thrown (not (is_some old.failure) && throws s.kind seals) _ old.outbox.queue (and_right (not (is_some old.failure)) (throws s.kind seals) e)
+  call_throws_not (Did a) s old hs t new e call = ap (thrown old.outbox.queue) call.1
 
   pub run_throws_not : (cs : List (ACall Called)) (s : Client) (old : Connection O I) (hs : List Happening) (t : Client) (new : Connection O I) → throws s.kind seals ≡ false
       → Runs (calling out in_) (called out seals) s old cs hs t new → thrown old.outbox.queue hs ≡ []

@@ -1,9 +1,5 @@
 -- The calls that are due expire one after the other, and where none is due nothing changes.
-use Rattle.std.proofs.Common.{arith, rules, ◌≡◌, ℕ, ◌<◌, List, [], ◌∷◌, ◌++◌, length, not, ◌&&◌, append_assoc, append-nil, take-append-drop, Bool, true, false, if◌then◌else◌, refl, sym, ap, subst, ◌∙◌, take, drop}
-use Rattle.std.proofs.lemmas.List.Sorted.{IsPermutation-pop_more, IsPermutation-refl, IsPermutation-sym, length_permutation}
-use Rattle.std.specs.List.Sorted.{IsPermutation}
-use Rattle.ttrpc_client.proofs.Words.{Queued, begun_count, first_is_request_of, frames_without, without, Connection, Failure, ClientCore, Client, call_at, throws, Expires, Ticks, due_at, due_ids, expired_at, taken_back, ExpiresOne}
-use Rattle.ttrpc_connection.specs.declared.failure.Failure.TheVariants.{DeadlineDuringWrite}
+use Rattle.ttrpc_client.proofs.Words.{arith, rules, ◌≡◌, ℕ, ◌<◌, List, [], ◌∷◌, ◌++◌, length, not, ◌&&◌, append_assoc, append-nil, take-append-drop, Bool, true, false, if◌then◌else◌, refl, sym, ap, subst, ◌∙◌, take, drop, IsPermutation-pop_more, IsPermutation-refl, IsPermutation-sym, length_permutation, IsPermutation, Queued, begun_count, first_is_request_of, frames_without, without, Connection, Failure, ClientCore, Client, call_at, throws, Expires, Ticks, due_at, due_ids, expired_at, taken_back, ExpiresOne, DeadlineDuringWrite}
 use Rattle.ttrpc_client.proofs.Expiring.{not_due, stays_as_it_is}
 
 -- some calls that are due have expired, and the others are still to

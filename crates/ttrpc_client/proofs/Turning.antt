@@ -1,14 +1,7 @@
 -- What each call of a client leaves of its kind, of how far ids are used, and of ids of which nothing is kept.
-use Rattle.std.proofs.Common.{rules, arith, ◌≡◌, ◌≢◌, inl, inr, ℕ, ◌+◌, ◌%◌, nat_eq, List, [], ◌∷◌, ◌++◌, Option, Some, None, is_some, Bool, true, false, refl, sym, ap, subst, ◌∙◌}
-use Rattle.std.specs.List.{AllByRecursion}
-use Rattle.ttrpc_frame.specs.declared.frame.Incoming.{Incoming}
-use Rattle.ttrpc_client.proofs.Words.{Happening, OutboundTransform, InboundTransform, Connection, Failure, ACall, Call, ClientCore, Called, Asked, Told, Dropped, Ticked, AskedEnded, Passes, RiseByTwo, asked_by, called, core, ids_asked, Client, IsClient, OthersStay, call_at, call_in, Landing, Lands, LandsOn, landing_of, LandsOnce, calling, expired_at, forgotten, left_of}
-use Rattle.ttrpc_connection.specs.declared.arrived.Arrived.{Arrived}
-use Rattle.ttrpc_connection.specs.Calls.{Gave, Lent, Reported, Failed, Did, Calls, Gives, Runs}
-use Rattle.ttrpc_connection.specs.Feeds.{ActsAll, Scene, scene}
-use Rattle.ttrpc_connection.specs.Frames.{Sent}
+use Rattle.ttrpc_client.proofs.Words.{cases_eq, arith, ◌≡◌, ◌≢◌, inl, inr, ℕ, ◌+◌, ◌%◌, List, [], ◌∷◌, ◌++◌, Option, Some, None, is_some, Bool, refl, sym, ap, subst, ◌∙◌, AllByRecursion, Incoming, Happening, OutboundTransform, InboundTransform, Connection, Failure, ACall, Call, ClientCore, Called, Asked, Told, Dropped, Ticked, AskedEnded, Passes, RiseByTwo, asked_by, called, core, ids_asked, Client, IsClient, OthersStay, call_at, LandsOn, landing_of, LandsOnce, calling, expired_at, forgotten, left_of, Arrived, Gave, Did, Calls, Gives, Runs, ActsAll, Scene, scene, Sent, all_in_front, all_behind}
 use Rattle.ttrpc_client.proofs.Entries.{at_or_apart}
-use Rattle.ttrpc_client.proofs.Rising.{apart_before, apart_behind, never_above, never_even, rise_both, rise_odd, rise_range, rise_up}
+use Rattle.ttrpc_client.proofs.Rising.{never_above, never_even, rise_both, rise_odd, rise_range, rise_up}
 
 -- ---- calls by which no id is used
 
@@ -24,18 +17,14 @@ stays_twice : (old mid new : Client) → Stays old mid → Stays mid new → Sta
 stays_twice old mid new one two = record { kind = two.kind ∙ one.kind; next = two.next ∙ one.next; none = λ k none. two.none k (one.none k none) }
 
 -- one call may change, and the others stay
-still_none : (id : ℕ) (old new : List (ℕ × Call)) → OthersStay old id new → (call_in old id ≡ None → call_in new id ≡ None) → (k : ℕ) → call_in old k ≡ None → call_in new k ≡ None
-still_none id old new others own = at_or_apart (λ k. call_in old k ≡ None → call_in new k ≡ None) id own (λ k apart none. others k apart ∙ none)
-
-lands_none : (landing : Landing) (id : ℕ) (old new : List (ℕ × Call)) → Lands landing id old new → (k : ℕ) → call_in old k ≡ None → call_in new k ≡ None
-lands_none landing id old new lands = still_none id old new lands.others (λ h. subst (λ c. LandsOn landing c (call_in new id)) h lands.own)
+one_stays : (id : ℕ) (old new : Client) → new.kind ≡ old.kind → new.next ≡ old.next → OthersStay old.calls id new.calls → (call_at old id ≡ None → call_at new id ≡ None) → Stays old new
+one_stays id old new kind next others own =
+    record { kind = kind; next = next; none = at_or_apart (λ k. call_at old k ≡ None → call_at new k ≡ None) id own (λ k apart none. others k apart ∙ none) }
 
 frame_stays : (old : Client) (a : Arrived) (sent : List Sent) (new : Client) → LandsOnce old a sent new → Stays old new
-frame_stays old a sent new lands = record {
-  kind = ap (λ (s : Client). s.kind) lands.same;
-  next = ap (λ (s : Client). s.next) lands.same;
-  none = lands_none (landing_of a.header a.opening) a.header.stream_id old.calls new.calls lands.lands;
-}
+frame_stays old a sent new lands =
+    one_stays a.header.stream_id old new (ap (λ (s : Client). s.kind) lands.same) (ap (λ (s : Client). s.next) lands.same) lands.lands.others
+    (λ h. subst (λ c. LandsOn (landing_of a.header a.opening) c (call_at new a.header.stream_id)) h lands.lands.own)
 
 acts_stay : {O I : Type 0} (out : OutboundTransform O) (in_ : InboundTransform I) (at : ℕ) (fs : List Incoming) (old new : Scene Client O I) → ActsAll (calling out in_) at old fs new → Stays old.state new.state
 acts_stay out in_ at [] old new same = stays old.state new.state (ap (λ (s : Scene Client _ _). s.state) same)
@@ -72,9 +61,6 @@ uses_none old new s = record { kind = s.kind; rises = s.next; none = λ k _ none
 module _ {O I : Type 0} (out : OutboundTransform O) (in_ : InboundTransform I) (seals : Bool) where
   pub call_leaves : (c : ACall Called) (s : Client) (old : Connection O I) (hs : List Happening) (t : Client) (new : Connection O I) → Calls (calling out in_) (called out seals) s old c hs t new → Leaves (asked_by c) s t
   call_leaves (Gave piece at) s old hs t new call = uses_none s t (gives_stays out in_ s old piece at t new call.0)
-  call_leaves (Lent n) s old hs t new call = uses_none s t (stays s t call.0)
-  call_leaves (Reported n) s old hs t new call = uses_none s t (stays s t call.0)
-  call_leaves Failed s old hs t new call = uses_none s t (stays s t call.0)
   call_leaves (Did (Asked request now id)) s old hs t new call =
       let did = call.0 in
       record {
@@ -84,29 +70,15 @@ module _ {O I : Type 0} (out : OutboundTransform O) (in_ : InboundTransform I) (
       }
   call_leaves (Did (Told id outcome)) s old hs t new call =
       let did = call.0 in
-      uses_none s t
-      (record {
-        kind = ap (λ c. c.state.kind) did.same;
-        next = ap (λ c. c.state.next) did.same;
-        none = λ k none. still_none id s.calls t.calls did.others (λ h. did.own ∙ ap (left_of (is_some old.failure)) h) k none;
-      })
+      uses_none s t (one_stays id s t (ap (λ c. c.state.kind) did.same) (ap (λ c. c.state.next) did.same) did.others (λ h. did.own ∙ ap (left_of (is_some old.failure)) h))
   call_leaves (Did (Dropped id)) s old hs t new call =
       let did = call.0 in
-      uses_none s t
-      (record {
-        kind = ap (λ c. c.state.kind) did.same;
-        next = ap (λ c. c.state.next) did.same;
-        none = λ k none. still_none id s.calls t.calls did.others (λ h. did.own ∙ ap forgotten h) k none;
-      })
+      uses_none s t (one_stays id s t (ap (λ c. c.state.kind) did.same) (ap (λ c. c.state.next) did.same) did.others (λ h. did.own ∙ ap forgotten h))
   call_leaves (Did (Ticked now)) s old hs t new call = uses_none s t (passes_stays seals old.failure (core s old) now (core t new) call.0)
   call_leaves (Did (AskedEnded id)) s old hs t new call =
-      let did = call.0 in
-      uses_none s t
-      (record {
-        kind = ap (λ c. c.state.kind) did.same;
-        next = ap (λ c. c.state.next) did.same;
-        none = λ k none. ap (λ c. call_at c.state k) did.same ∙ none;
-      })
+      let same = call.0.same in
+      uses_none s t (record { kind = ap (λ c. c.state.kind) same; next = ap (λ c. c.state.next) same; none = λ k none. ap (λ c. call_at c.state k) same ∙ none })
+  call_leaves c s old hs t new call = uses_none s t (stays s t call.0)
 
 -- ---- calls one after the other
 
@@ -114,7 +86,7 @@ leaves_both : (xs ys : List ℕ) (old mid new : Client) → Leaves xs old mid �
 leaves_both xs ys old mid new one two = record {
   kind = two.kind ∙ one.kind;
   rises = rise_both xs ys old.next mid.next new.next one.rises two.rises;
-  none = λ k apart none. two.none k (apart_behind k xs ys apart) (one.none k (apart_before k xs ys apart) none);
+  none = λ k apart none. two.none k (all_behind (λ id. k ≢ id) xs ys apart) (one.none k (all_in_front (λ id. k ≢ id) xs ys apart) none);
 }
 
 pub run_leaves : {O I : Type 0} (out : OutboundTransform O) (in_ : InboundTransform I) (seals : Bool) (cs : List (ACall Called)) (s : Client) (old : Connection O I) (hs : List Happening) (t : Client) (new : Connection O I)
@@ -125,13 +97,12 @@ run_leaves out in_ seals (c ∷ cs) s old hs t new run =
 
 -- ---- what holds of every client goes on to hold
 
-odd_left : (ids : List ℕ) (old new : Client) → Leaves ids old new → IsClient old.next old.calls → (k : ℕ) (call : Option Call) → call_at old k ≡ call
-    → (b : Bool) → nat_eq (k % 2) 1 ≡ b → call_at new k ≢ None → k % 2 ≡ 1
-odd_left ids old new l valid k call is true e some = search (rules, e)
-odd_left ids old new l valid k (Some call) is false e some = valid.odd_calls k (λ none. let bad : Some call ≡ None = sym is ∙ none in cc)
-odd_left ids old new l valid k None is false e some =
-    let even : k % 2 ≢ 1 = search (rules, e) in
-    absurd (some (l.none k (never_even k old.next ids new.next even valid.odd l.rises) is))
+odd_left : (ids : List ℕ) (old new : Client) → Leaves ids old new → IsClient old.next old.calls → (k : ℕ) (call : Option Call) → call_at old k ≡ call → call_at new k ≢ None → k % 2 ≡ 1
+odd_left ids old new l valid k (Some call) is some = valid.odd_calls k (λ none. let bad : Some call ≡ None = sym is ∙ none in cc)
+odd_left ids old new l valid k None is some = elim (cases_eq (k % 2) 1) [
+  | inl odd ↦ odd
+  | inr even ↦ absurd (some (l.none k (never_even k old.next ids new.next even valid.odd l.rises) is))
+]
 
 pub leaves_valid : (ids : List ℕ) (old new : Client) → Leaves ids old new → IsClient old.next old.calls → IsClient new.next new.calls
 leaves_valid ids old new l valid = record {
@@ -140,5 +111,5 @@ leaves_valid ids old new l valid = record {
   fresh = λ k le.
       let up = rise_up old.next ids new.next l.rises in
       l.none k (never_above k old.next ids new.next le l.rises) (valid.fresh k (omega (arith, le, up)));
-  odd_calls = λ k. odd_left ids old new l valid k (call_at old k) refl (nat_eq (k % 2) 1) refl;
+  odd_calls = λ k. odd_left ids old new l valid k (call_at old k) refl;
 }

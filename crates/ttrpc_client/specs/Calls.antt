@@ -3,15 +3,9 @@
 -- Source: this project's.
 use Rattle.std.specs.Prelude.{◌≡◌, ◌<◌, ◌≤◌, ◌&&◌, not, ℕ, ◌+◌, List, [], ◌∷◌, ◌++◌, nat_eq, option_to_list, Option, Some, None, is_some, Bool, if◌then◌else◌, Result}
 use Rattle.std.specs.List.{AllByRecursion, IsDistinct, flat_map}
-use Rattle.ttrpc_error.specs.declared.error.Error.{Error}
-use Rattle.ttrpc_proto.specs.declared.request.Request.{Request}
-use Rattle.ttrpc_proto.specs.declared.response.Response.{Response}
-use Rattle.ttrpc_frame.specs.declared.outgoing.Queued.{Queued}
+use Rattle.ttrpc_client.specs.Types.{Error, Request, Response, Queued, OutboundTransform, Connection, Failure}
 use Rattle.ttrpc_frame.specs.Queue.{Happening, Placed, Thrown}
-use Rattle.ttrpc_secure.specs.declared.transform.OutboundTransform.{Ghosts as OutboundTransform}
-use Rattle.ttrpc_connection.specs.declared.connection.Connection.{Connection}
-use Rattle.ttrpc_connection.specs.declared.failure.Failure.{Failure}
-use Rattle.ttrpc_connection.specs.Calls.{Call, Gave, Lent, Reported, Failed, Did, Others, Queues}
+use Rattle.ttrpc_connection.specs.Calls.{Call, Did, Others, Queues}
 use Rattle.ttrpc_client.specs.declared.client.ClientCore.{ClientCore}
 use Rattle.ttrpc_client.specs.Client.{Client, call_at, throws}
 use Rattle.ttrpc_client.specs.Table.{IsRequestFrame, last_id}
@@ -77,15 +71,8 @@ called out seals a s old happenings t new = Does out seals a (core s old) (core 
 
 -- the id that a call gave its request, if it made one
 abbrev pub asked_by : Call Called → List ℕ
-asked_by (Gave piece now) = []
-asked_by (Lent n) = []
-asked_by (Reported n) = []
-asked_by Failed = []
 asked_by (Did (Asked request now id)) = id ∷ []
-asked_by (Did (Told id outcome)) = []
-asked_by (Did (Dropped id)) = []
-asked_by (Did (Ticked now)) = []
-asked_by (Did (AskedEnded id)) = []
+asked_by call = []
 
 -- the ids of the requests that were accepted, in order
 abbrev pub ids_asked : List (Call Called) → List ℕ
@@ -98,16 +85,8 @@ RiseByTwo first (id ∷ ids) next = (id ≡ first) × (id ≤ last_id) × RiseBy
 
 -- the outcome that a call gave of this id, if it gave one
 abbrev pub told_by : ℕ → Call Called → List (Result Response Error)
-told_by k (Gave piece now) = []
-told_by k (Lent n) = []
-told_by k (Reported n) = []
-told_by k Failed = []
-told_by k (Did (Asked request now id)) = []
-told_by k (Did (Told id None)) = []
 told_by k (Did (Told id (Some outcome))) = if nat_eq id k then outcome ∷ [] else []
-told_by k (Did (Dropped id)) = []
-told_by k (Did (Ticked now)) = []
-told_by k (Did (AskedEnded id)) = []
+told_by k call = []
 
 -- the outcomes that were given of this id, in order
 abbrev pub outcomes_of : ℕ → List (Call Called) → List (Result Response Error)

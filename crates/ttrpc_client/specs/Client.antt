@@ -5,10 +5,7 @@ use Rattle.std.specs.Map.{lookup}
 use Rattle.std.specs.BTreeMap.{is_at}
 use Rattle.std.specs.Ordering.{nat_cmp}
 use Rattle.ttrpc_wire.specs.Number.{number_of}
-use Rattle.ttrpc_client.specs.declared.call.Call.{Call}
-use Rattle.ttrpc_client.specs.declared.call.Call.TheVariants.{Waiting, Expired, Ended}
-use Rattle.ttrpc_client.specs.declared.kind.ClientKind.{ClientKind}
-use Rattle.ttrpc_client.specs.declared.kind.ClientKind.TheVariants.{Sync, Async}
+use Rattle.ttrpc_client.specs.Types.{Call, Waiting, ClientKind, Async}
 
 -- all but the connection
 pub record Client : Type 0 where
@@ -44,10 +41,8 @@ pub record IsClient (next : ℕ) (calls : List (ℕ × Call)) : Type 0 where
 
 -- whether the call waits
 abbrev pub waits : Option Call → Bool
-waits None = false
 waits (Some (Waiting deadline)) = Bool.true
-waits (Some Expired) = false
-waits (Some (Ended outcome)) = false
+waits call = false
 
 -- the moment by which a call must have ended: none where its timeout is 0
 abbrev pub deadline_of : ℕ → ℤ → Option ℕ
@@ -57,9 +52,8 @@ deadline_of now (negsuc n) = Some (now + number_of (negsuc n))
 
 -- whether a request may be thrown away before it begins: its frame must not be sealed
 abbrev pub throws : ClientKind → Bool → Bool
-throws Sync seals = false
 throws Async false = Bool.true
-throws Async Bool.true = false
+throws kind seals = false
 
 -- which ended calls are still to be told, where these calls are left: none if no call is
 abbrev pub told_left : List (ℕ × Call) → List ℕ → List ℕ

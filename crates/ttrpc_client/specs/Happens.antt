@@ -1,30 +1,19 @@
 -- What each call of a client core does.
 -- Source: PROTOCOL.md of ttrpc, "Request", "Response" and "Streaming".
 use Rattle.std.specs.Prelude.{◌≡◌, ◌≢◌, ◌<◌, ◌≤◌, ℕ, ◌+◌, ◌&&◌, not, List, [], ◌∷◌, ◌++◌, codes, map, filter, Option, Some, None, Bool, false, nat_eq, nat_le, if◌then◌else◌, Result, Err, is_some, IsPermutation}
-use Rattle.ttrpc_error.specs.declared.error.Error.{Error}
-use Rattle.ttrpc_error.specs.declared.error.Error.TheVariants.{Others}
-use Rattle.ttrpc_proto.specs.declared.request.Request.{Request}
-use Rattle.ttrpc_proto.specs.declared.response.Response.{Response}
-use Rattle.ttrpc_frame.specs.declared.outgoing.Queued.{Queued}
+use Rattle.ttrpc_client.specs.Types.{Error, Others, Request, Response, Queued, OutboundTransform, Arrived, Failure, DeadlineDuringWrite, CancelledDuringWrite, Connection, Call, Waiting, Expired, Ended, ClientKind}
 use Rattle.ttrpc_frame.specs.Queue.{has_begun, without}
-use Rattle.ttrpc_secure.specs.declared.transform.OutboundTransform.{Ghosts as OutboundTransform}
 use Rattle.ttrpc_secure.specs.declared.transform.InboundTransform.{Ghosts as InboundTransform}
-use Rattle.ttrpc_connection.specs.declared.arrived.Arrived.{Arrived}
-use Rattle.ttrpc_connection.specs.declared.failure.Failure.{Failure}
-use Rattle.ttrpc_connection.specs.declared.failure.Failure.TheVariants.{DeadlineDuringWrite, CancelledDuringWrite}
-use Rattle.ttrpc_connection.specs.declared.connection.Connection.{Connection}
+use Rattle.ttrpc_hooks.specs.Facts.{Facts}
 use Rattle.ttrpc_connection.specs.Failure.{IsTold, error_of, kept}
 use Rattle.ttrpc_connection.specs.Feeds.{Ways, new_connection}
 use Rattle.ttrpc_connection.specs.Frames.{Sent, SendsOne, safe_limit}
-use Rattle.ttrpc_client.specs.declared.call.Call.{Call}
-use Rattle.ttrpc_client.specs.declared.call.Call.TheVariants.{Waiting, Expired, Ended}
 use Rattle.ttrpc_client.specs.declared.client.ClientCore.{ClientCore}
-use Rattle.ttrpc_client.specs.declared.kind.ClientKind.{ClientKind}
 use Rattle.ttrpc_client.specs.Client.{Client, OthersStay, call_at, deadline_of, new_client, throws, told_left, waits}
 use Rattle.ttrpc_client.specs.Table.{IsRequestFrame, Lands, landing_of, last_id, request_bytes, request_size}
 
-abbrev pub new_core : {O I : Type 0} → ClientKind → ℕ → O → I → ClientCore O I
-new_core kind next outbound inbound = record { state = new_client kind next; connection = new_connection outbound inbound }
+abbrev pub new_core : {O I : Type 0} → ClientKind → ℕ → Facts → O → I → ClientCore O I
+new_core kind next known outbound inbound = record { state = new_client kind next; connection = new_connection known outbound inbound }
 
 -- ---- requests
 
@@ -104,9 +93,7 @@ calling out in_ = record { out = out; in_ = in_; core = record { reacts = lands_
 -- whether the call's deadline has passed at a moment
 abbrev pub is_due : ℕ → Call → Bool
 is_due now (Waiting (Some deadline)) = nat_le deadline now
-is_due now (Waiting None) = false
-is_due now Expired = false
-is_due now (Ended outcome) = false
+is_due now call = false
 
 -- the same of what is kept of an id
 abbrev pub due_at : ℕ → Option Call → Bool
@@ -151,10 +138,7 @@ pub record IsDeadline (calls : List (ℕ × Call)) (at : ℕ) : Type 0 where
 
 -- what dropping leaves of a call
 abbrev pub forgotten : Option Call → Option Call
-forgotten None = None
-forgotten (Some (Waiting deadline)) = None
-forgotten (Some Expired) = None
-forgotten (Some (Ended outcome)) = None
+forgotten call = None
 
 -- whether dropping the call takes its request back: it still waits, and the connection lives
 abbrev pub takes_back : {O I : Type 0} → Bool → ClientCore O I → ℕ → Bool

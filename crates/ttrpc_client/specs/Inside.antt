@@ -5,14 +5,11 @@ use Rattle.std.specs.Ordering.{nat_cmp}
 use Rattle.std.specs.List.Sorted.{IsStrictlySortedBy}
 use Rattle.std.specs.BTreeMap.{insert_entry, is_at}
 use Rattle.std.specs.Map.{keys_of, remove_entry}
-use Rattle.ttrpc_frame.specs.declared.outgoing.Queued.{Queued}
-use Rattle.ttrpc_secure.specs.declared.transform.OutboundTransform.{Ghosts as OutboundTransform}
+use Rattle.ttrpc_client.specs.Types.{Queued, OutboundTransform, Call, Waiting}
 use Rattle.ttrpc_secure.specs.declared.transform.TransformError.{TransformError}
 use Rattle.ttrpc_secure.specs.declared.transform.TransformError.TheVariants.{Refused, NoMemory}
 use Rattle.ttrpc_secure.specs.Sends.{associated}
 use Rattle.ttrpc_connection.specs.Frames.{SendsOne}
-use Rattle.ttrpc_client.specs.declared.call.Call.{Call}
-use Rattle.ttrpc_client.specs.declared.call.Call.TheVariants.{Waiting}
 use Rattle.ttrpc_client.specs.declared.client.ClientCore.{ClientCore}
 use Rattle.ttrpc_client.specs.Client.{Client, OthersStay, call_at, told_left, waits}
 use Rattle.ttrpc_client.specs.Happens.{due_ids, expired_at, left_of}

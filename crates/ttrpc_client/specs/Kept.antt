@@ -7,8 +7,7 @@ use Rattle.std.specs.List.{list_any}
 use Rattle.std.specs.List.Sorted.{IsStrictlySortedBy}
 use Rattle.std.specs.BTreeMap.{is_at}
 use Rattle.std.specs.Map.{keys_of, values_of}
-use Rattle.ttrpc_client.specs.declared.call.Call.{Call}
-use Rattle.ttrpc_client.specs.declared.call.Call.TheVariants.{Waiting, Expired, Ended}
+use Rattle.ttrpc_client.specs.Types.{Call, Waiting}
 use Rattle.ttrpc_client.specs.Client.{IsClient, call_in, told_left, waits}
 
 -- ---- deadlines, each a moment and the id of a call
@@ -32,10 +31,8 @@ ChangesTo there old id deadline new =
 
 -- the moment until which a call waits, if it waits and there is one
 abbrev pub deadline_in : Option Call → Option ℕ
-deadline_in None = None
 deadline_in (Some (Waiting deadline)) = deadline
-deadline_in (Some Expired) = None
-deadline_in (Some (Ended outcome)) = None
+deadline_in call = None
 
 -- ---- what is kept
 

@@ -1,3 +1,4 @@
+pub mod Types
 pub mod Client
 pub mod Kept
 pub mod Table

@@ -1,34 +1,25 @@
 -- The client's table for unary calls: what a frame gives the call of its id, and for what a request is refused.
 -- Source: PROTOCOL.md of ttrpc, "Request", "Response" and "Data".
-use Rattle.std.specs.Prelude.{◌≡◌, ◌⊎◌, ◌<◌, ◌≤◌, ◌-◌, ◌^◌, ℕ, List, [], ◌++◌, length, min, codes, Option, Some, None, true, Result, Ok, Err, nat_eq, nat_lt, if◌then◌else◌, ℤ, pos, negsuc, zero, suc}
+use Rattle.std.specs.Prelude.{◌≡◌, ◌⊎◌, ◌<◌, ◌≤◌, ◌-◌, ◌^◌, ℕ, List, [], ◌++◌, length, min, codes, Option, Some, None, true, Result, Ok, Err, nat_eq, nat_lt, if◌then◌else◌, ℤ, pos, zero}
 use Rattle.std.specs.Fmt.{decimal}
 use Rattle.ttrpc_wire.specs.Field.{fields_bytes}
 use Rattle.ttrpc_wire.specs.Fold.{read_from}
 use Rattle.ttrpc_values.specs.declared.code.Code.TheVariants.{INVALID_ARGUMENT}
-use Rattle.ttrpc_error.specs.declared.error.Error.{Error}
-use Rattle.ttrpc_error.specs.declared.error.Error.TheVariants.{Others, RpcStatus, NoMemory}
+use Rattle.ttrpc_client.specs.Types.{Error, Others, RpcStatus, NoMemory, Request, Response, Queued, OutboundTransform, Call, Waiting, Ended, ClientKind, Sync, Async}
 use Rattle.ttrpc_header.specs.declared.header.MessageHeader.{MessageHeader}
 use Rattle.ttrpc_header.specs.declared.header.TheConstants.{MESSAGE_LENGTH_MAX, MESSAGE_TYPE_REQUEST, MESSAGE_TYPE_RESPONSE}
-use Rattle.ttrpc_proto.specs.declared.request.Request.{Request}
-use Rattle.ttrpc_proto.specs.declared.response.Response.{Response}
 use Rattle.ttrpc_proto.specs.declared.status.Status.{Status}
 use Rattle.ttrpc_error.specs.ErrorText.{status_of}
-use Rattle.ttrpc_error.specs.Oversize.{oversize_text}
+use Rattle.ttrpc_header.specs.Oversize.{oversize_text}
 use Rattle.ttrpc_proto.specs.Messages.{empty_response, request_fields, response_step}
-use Rattle.ttrpc_frame.specs.declared.outgoing.Queued.{Queued}
-use Rattle.ttrpc_secure.specs.declared.transform.OutboundTransform.{Ghosts as OutboundTransform}
 use Rattle.ttrpc_secure.specs.Sends.{associated}
 use Rattle.ttrpc_connection.specs.declared.arrived.Opening.{Opening}
 use Rattle.ttrpc_connection.specs.declared.arrived.Opening.TheVariants.{TooLong, Opened, Refused}
 use Rattle.ttrpc_connection.specs.Failure.{IsTold}
 use Rattle.ttrpc_connection.specs.Feeds.{IsFailed}
-use Rattle.ttrpc_connection.specs.Texts.{unsafe_payload_text, unsealed_text}
+use Rattle.ttrpc_security.specs.Texts.{advice_text, unopened_text, unsafe_payload_text, unsealed_text}
 use Rattle.ttrpc_connection.specs.Frames.{safe_limit}
-use Rattle.ttrpc_client.specs.declared.call.Call.{Call}
-use Rattle.ttrpc_client.specs.declared.call.Call.TheVariants.{Waiting, Expired, Ended}
 use Rattle.ttrpc_client.specs.declared.client.ClientCore.{ClientCore}
-use Rattle.ttrpc_client.specs.declared.kind.ClientKind.{ClientKind}
-use Rattle.ttrpc_client.specs.declared.kind.ClientKind.TheVariants.{Sync, Async}
 use Rattle.ttrpc_client.specs.Client.{OthersStay, call_in}
 
 -- ---- what a frame gives
@@ -43,8 +34,7 @@ pub data Landing : Type 0 where
 -- a status of another code than OK is a refusal
 abbrev pub by_code : ℤ → Status → Response → Result Response Error
 by_code (pos zero) s r = Ok r
-by_code (pos (suc n)) s r = Err (RpcStatus s)
-by_code (negsuc n) s r = Err (RpcStatus s)
+by_code code s r = Err (RpcStatus s)
 
 abbrev pub by_status : Option Status → Response → Result Response Error
 by_status None r = Ok r
@@ -57,10 +47,6 @@ read_landing (Some r) = Gives (by_status r.status r)
 -- a frame of this header ends no call well
 abbrev pub malformed_text : MessageHeader → List ℕ
 malformed_text h = codes "Receiver got malformed packet: type " ++ decimal h.type_ ++ codes ", flags " ++ decimal h.flags ++ codes ", stream " ++ decimal h.stream_id
-
--- the inbound half didn't open a payload
-abbrev pub unopened_text : List ℕ → List ℕ
-unopened_text why = codes "transform_inbound failed: " ++ why
 
 -- from top to bottom
 abbrev pub landing_of : MessageHeader → Opening → Landing
@@ -78,10 +64,8 @@ IsLanding (GivesBeginning text) outcome = (rest : List ℕ) × (outcome ≡ Err 
 
 -- what it makes of the call: one that waits ends with the outcome, and any other stays as it is
 abbrev pub LandsOn : Landing → Option Call → Option Call → Type 0
-LandsOn landing None new = new ≡ None
-LandsOn landing (Some Expired) new = new ≡ Some Expired
-LandsOn landing (Some (Ended outcome)) new = new ≡ Some (Ended outcome)
 LandsOn landing (Some (Waiting deadline)) new = (outcome : Result Response Error) × IsLanding landing outcome × (new ≡ Some (Ended outcome))
+LandsOn landing old new = new ≡ old
 
 -- it lands on the call of this id, and on no other
 pub record Lands (landing : Landing) (id : ℕ) (old new : List (ℕ × Call)) : Type 0 where
@@ -132,14 +116,14 @@ pub record HasNoId {O I : Type 0} (old : ClientCore O I) (r : Request) (told : E
 -- what a client of a kind adds to the text on the safe limit
 abbrev pub advice : ClientKind → List ℕ
 advice Sync = []
-advice Async = codes "; reduce payload size"
+advice Async = advice_text
 
 -- or an id is left, and the request is above the safe limit
 pub record IsAboveLimit {O I : Type 0} (out : OutboundTransform O) (old : ClientCore O I) (r : Request) (told : Error) : Type 0 where
   pub sendable : IsSendable old r
   pub in_range : old.state.next ≤ last_id
   pub above : safe_limit out old.connection.outbox.half < request_size r
-  pub is_told : IsTold (Others (unsafe_payload_text (request_size r) (safe_limit out old.connection.outbox.half) ++ advice old.state.kind)) told
+  pub is_told : IsTold (Others (unsafe_payload_text (request_size r) (safe_limit out old.connection.outbox.half) (advice old.state.kind))) told
 
 -- or it isn't, and the half refuses it, for this reason
 pub record IsUnsealed {O I : Type 0} (out : OutboundTransform O) (old : ClientCore O I) (r : Request) (told : Error) : Type 0 where

@@ -2,28 +2,36 @@
 ghost use Rattle.std.specs.Prelude.{◌≡◌, ◌≢◌, ◌<◌, ◌≤◌, ◌%◌, ◌^◌, ◌+◌, ◌++◌, ◌↔◌, ◌⊎◌, ℕ, [], length, take, drop, min, is_some, if◌then◌else◌, true, option_to_list, IfOk, IfErr, OnOk, OnErr, IfSome, IfNone, Some, None};
 ghost use Rattle.ttrpc_frame.specs.Frames.{nothing};
 ghost use Rattle.ttrpc_frame.specs.Queue.{open_part, unsent, with_lent, after_report};
+ghost use Rattle.ttrpc_hooks.specs.Facts.{facts_of};
 ghost use Rattle.ttrpc_connection.specs.declared.failure.Failure.{Failure as AFailure};
 ghost use Rattle.ttrpc_connection.specs.Failure.{IsTold, error_of, kept};
 ghost use Rattle.ttrpc_connection.specs.Feeds.{Breaks, Feeds, IsFailed};
 ghost use Rattle.ttrpc_connection.specs.Frames.{safe_limit};
-ghost use Rattle.ttrpc_client.specs.Client.{throws};
+ghost use Rattle.ttrpc_client.specs.Client.{IsClient, throws};
 ghost use Rattle.ttrpc_client.specs.Happens.{Forgets, IsDeadline, Requests, Tells, Ticks, calling, due_ids, new_core, taken_back};
 ghost use Rattle.ttrpc_client.specs.Inside.{Begins, MayRefuse};
 ghost use Rattle.ttrpc_client.specs.Table.{IsRequestFrame, RefusesRequest};
 
 use crate::call::{Call, CallId, deadline_of};
-use crate::errors::{above_limit_error, deadline_error, long_error, told, used_up_error};
+use crate::errors::{above_limit_error, deadline_error, used_up_error};
 use crate::kind::ClientKind;
 use crate::landing::Outcome;
 use crate::state::ClientState;
 use std::alloc::Global;
 use ttrpc_codec::Codec;
-use ttrpc_connection::{Connection, Failure, Outbox, unsealed_error};
+use ttrpc_codec::message::encode_with_room;
+use ttrpc_connection::{Connection, Failure, Outbox};
 use ttrpc_error::Error;
-use ttrpc_frame::{GenMessage, Owners, Queued};
+use ttrpc_frame::owners::Owners;
+use ttrpc_frame::{GenMessage, Queued};
+use ttrpc_header::oversize::oversize_error;
 use ttrpc_header::{MESSAGE_LENGTH_MAX, MessageHeader};
+use ttrpc_hooks::ConnectionData;
 use ttrpc_proto::Request;
-use ttrpc_secure::{InboundTransform, OutboundTransform, SendError, TransformError};
+use ttrpc_secure::sending::SendError;
+use ttrpc_secure::{InboundTransform, OutboundTransform, TransformError};
+use ttrpc_security::ConnectionContext;
+use ttrpc_security::errors::{told, unsealed_error};
 use ttrpc_values::{Blob, CodecError};
 
 /// The core of a client, over its connection's two halves.
@@ -35,21 +43,33 @@ pub struct ClientCore<O, I> {
 
 impl<O: OutboundTransform + Drop, I: InboundTransform + Drop> ClientCore<O, I> {
     /// A core without calls, whose first call gets id 1. Takes no memory.
-    pub fn new(alloc: Global, kind: ClientKind, outbound: O, inbound: I) -> Self
-        ensures { result ≡ new_core kind 1 outbound inbound }
+    pub fn new(alloc: Global, kind: ClientKind, context: ConnectionContext<O, I>) -> Self
+        ensures { result ≡ new_core kind 1 (facts_of context.connection_data.entries) context.outbound context.inbound }
     {
-        ClientCore::starting_at(alloc, kind, outbound, inbound, 1)
+        ClientCore::starting_at(alloc, kind, context, 1)
     }
 
-    /// The same with this odd id for the first call.
-    pub fn starting_at(alloc: Global, kind: ClientKind, outbound: O, inbound: I, id: CallId) -> Self
+    /// A core without calls, whose first call gets this odd id. Takes no memory.
+    pub fn starting_at(
+        alloc: Global,
+        kind: ClientKind,
+        context: ConnectionContext<O, I>,
+        id: CallId,
+    ) -> Self
         requires { id % 2 ≡ 1 }
-        ensures { result ≡ new_core kind id outbound inbound }
+        ensures { result ≡ new_core kind id (facts_of context.connection_data.entries) context.outbound context.inbound }
     {
         ClientCore {
             state: ClientState::new(alloc, kind, id),
-            connection: Connection::new(alloc, outbound, inbound),
+            connection: Connection::new(alloc, context),
         }
+    }
+
+    /// What is known of the connection, which stays as its context had it.
+    pub fn connection_data(&self) -> &ConnectionData
+        ensures { facts_of result.now.entries ≡ self.now.connection.known }
+    {
+        self.connection.connection_data()
     }
 
     /// Makes a call: its request is sealed and queued under the next id. A refusal changes nothing. The call waits until
@@ -62,7 +82,7 @@ impl<O: OutboundTransform + Drop, I: InboundTransform + Drop> ClientCore<O, I> {
         self.connection.check_alive(alloc)?;
         let size = request.size() as usize;
         if size > MESSAGE_LENGTH_MAX {
-            return Err(told(long_error(alloc, size)));
+            return Err(told(oversize_error(alloc, size, false)));
         }
         let Some(id) = self.state.next_id() else {
             return Err(used_up_error(alloc));
@@ -71,13 +91,13 @@ impl<O: OutboundTransform + Drop, I: InboundTransform + Drop> ClientCore<O, I> {
         if size > limit {
             return Err(above_limit_error(alloc, self.state.kind(), size, limit));
         }
-        let bytes = match request.encode(alloc) {
+        let bytes = match encode_with_room(alloc, request, size) {
             Ok(bytes) => bytes,
             Err(CodecError::NoMemory) => return Err(Error::NoMemory),
             Err(_) => unreachable!(),
         };
         let deadline = deadline_of(now, request.timeout_nano);
-        match self.begin(alloc, id, bytes.as_slice(), deadline) {
+        match self.begin(alloc, id, bytes, deadline) {
             Ok(()) => Ok(id),
             Err(TransformError::Refused(why)) => Err(unsealed_error(alloc, &why)),
             Err(TransformError::NoMemory) => Err(Error::NoMemory),
@@ -89,13 +109,13 @@ impl<O: OutboundTransform + Drop, I: InboundTransform + Drop> ClientCore<O, I> {
         &mut self,
         alloc: Global,
         id: CallId,
-        bytes: &[u8],
+        bytes: Vec<u8>,
         deadline: Option<u128>,
     ) -> Result<(), TransformError>
         requires next { id ≡ self.old.state.next }
-        requires fits { length bytes.now ≤ safe_limit O.OutboundTransform self.old.connection.outbox.half }
-        ensures ok { OnOk result (Begins O.OutboundTransform self.old id bytes.now deadline self.new) }
-        ensures refused { IfErr result (MayRefuse O.OutboundTransform self.old id bytes.now) }
+        requires fits { length bytes.items ≤ safe_limit O.OutboundTransform self.old.connection.outbox.half }
+        ensures ok { OnOk result (Begins O.OutboundTransform self.old id bytes.items deadline self.new) }
+        ensures refused { IfErr result (MayRefuse O.OutboundTransform self.old id bytes.items) }
         ensures err { OnErr result (self.new ≡ self.old) }
     {
         if self.state.admit(id, deadline).is_err() {
@@ -181,6 +201,7 @@ impl<O: OutboundTransform + Drop, I: InboundTransform + Drop> ClientCore<O, I> {
             Breaks (calling O.OutboundTransform I.InboundTransform) self.old.state self.old.connection piece.now 0 e self.new.state self.new.connection) }
         ensures failed { (f : AFailure) → self.old.connection.failure ≡ Some f
             → (self.new ≡ self.old) × IfErr result (IsTold (error_of f)) }
+        ensures known { self.new.connection.known ≡ self.old.connection.known }
     {
         // No rule of a client asks for the moment at which a frame came.
         self.connection.feed(alloc, &mut self.state, piece, 0)
@@ -205,9 +226,17 @@ impl<O: OutboundTransform + Drop, I: InboundTransform + Drop> ClientCore<O, I> {
     /// The first of the calls that ended, by a frame or their deadline, and weren't told of yet. Takes no memory.
     pub fn next_ended(&mut self) -> Option<CallId>
         ensures first { self.old.state.ended ≡ option_to_list result ++ self.new.state.ended }
+        ensures none { IfNone result (self.old.state.ended ≡ []) }
         ensures same { self.new ≡ record self.old { state = record self.old.state { ended = self.new.state.ended } } }
     {
         self.state.next_ended()
+    }
+
+    /// What holds of every client: its ids are odd, and what it keeps is of ids below the next one. Does nothing.
+    pub fn known(&self)
+        ensures { IsClient self.now.state.next self.now.state.calls }
+    {
+        self.state.known();
     }
 
     /// The input ended: the connection fails, if it hasn't. Takes no memory.
@@ -229,6 +258,13 @@ impl<O: OutboundTransform + Drop, I: InboundTransform + Drop> ClientCore<O, I> {
         } }
     {
         self.connection.fail(Failure::Told(error));
+    }
+
+    /// Whether the connection has failed. Takes no memory.
+    pub fn has_failed(&self) -> bool
+        ensures { result ≡ is_some self.now.connection.failure }
+    {
+        self.connection.has_failed()
     }
 
     /// The failure, or `NoMemory` where memory for its text was refused.

@@ -1,40 +1,16 @@
 //! The errors that a client core tells by itself.
-ghost use Rattle.std.specs.Prelude.{◌≡◌, ◌++◌, ℕ, List, codes, IfOk, MatchResult};
-ghost use Rattle.ttrpc_error.specs.ErrorText.{status_of};
-ghost use Rattle.ttrpc_error.specs.Oversize.{oversize_text};
+ghost use Rattle.std.specs.Prelude.{◌≡◌, ◌++◌, ℕ, List, codes, IfOk};
 ghost use Rattle.ttrpc_connection.specs.Failure.{IsTold};
-ghost use Rattle.ttrpc_client.specs.Table.{advice, malformed_text, unopened_text};
-ghost use Rattle.ttrpc_connection.specs.Texts.{unsafe_payload_text};
+ghost use Rattle.ttrpc_client.specs.Table.{advice, malformed_text};
+ghost use Rattle.ttrpc_security.specs.Texts.{unsafe_payload_text};
 ghost use Rattle.ttrpc_client.specs.Happens.{expired_error};
 
 use crate::kind::ClientKind;
 use std::alloc::{AllocError, Global};
-use ttrpc_connection::others_error;
-use ttrpc_error::{Error, get_rpc_status, oversize_message};
+use ttrpc_error::Error;
 use ttrpc_header::MessageHeader;
-use ttrpc_values::{Code, CodecError, Text};
-
-/// The outcome of a call whose frame is longer than a message may be.
-pub fn oversize_error(alloc: Global, length: usize) -> Result<Error, AllocError>
-    ensures { IfOk result (λ error. error ≡ Error.RpcStatus (status_of Code.INVALID_ARGUMENT (oversize_text length))) }
-{
-    Ok(get_rpc_status(Code::INVALID_ARGUMENT, oversize_message(alloc, length)?))
-}
-
-/// The outcome of a call whose payload opened to more than a message may have, and the refusal of a request that has.
-pub fn long_error(alloc: Global, length: usize) -> Result<Error, AllocError>
-    ensures { IfOk result (λ error. error ≡ Error.Others (oversize_text length)) }
-{
-    Ok(Error::Others(Text::from_string(oversize_message(alloc, length)?)))
-}
-
-/// The outcome of a call whose payload the inbound half didn't open, for this reason.
-pub fn unopened_error(alloc: Global, why: &Text) -> Result<Error, AllocError>
-    ensures { IfOk result (λ error. error ≡ Error.Others (unopened_text why.now)) }
-{
-    let text = format!(in alloc; "transform_inbound failed: {}", why.as_str())?;
-    Ok(Error::Others(Text::from_string(text)))
-}
+use ttrpc_security::errors::{others_error, unsafe_payload_error};
+use ttrpc_values::{CodecError, Text};
 
 /// The outcome of a call whose response doesn't read as one. The clause leaves the end of its text open, as it leaves
 /// the texts of `CodecError`.
@@ -60,12 +36,9 @@ pub fn malformed_error(alloc: Global, header: &MessageHeader) -> Result<Error, A
 /// The refusal of a request that may become longer than a message may be, or `NoMemory` where memory for its text was
 /// refused.
 pub fn above_limit_error(alloc: Global, kind: ClientKind, length: usize, limit: usize) -> Error
-    ensures { IsTold (Error.Others (unsafe_payload_text length limit ++ advice kind)) result }
+    ensures { IsTold (Error.Others (unsafe_payload_text length limit (advice kind))) result }
 {
-    others_error(format!(in alloc;
-        "payload {length} bytes exceeds safe limit {limit} bytes (MESSAGE_LENGTH_MAX - transform overhead){}",
-        advice(kind)
-    ))
+    unsafe_payload_error(alloc, length, limit, advice(kind))
 }
 
 /// What a client of this kind adds to the text about the safe limit.
@@ -90,14 +63,4 @@ pub fn deadline_error(alloc: Global) -> Error
     ensures { IsTold expired_error result }
 {
     others_error(String::from_str(alloc, "Request deadline elapsed"))
-}
-
-/// The error, or `NoMemory` where memory for its text was refused.
-pub fn told(made: Result<Error, AllocError>) -> Error
-    ensures { MatchResult made (λ error. result ≡ error) (λ _. result ≡ Error.NoMemory) }
-{
-    match made {
-        Ok(error) => error,
-        Err(refused) => refused.into(),
-    }
 }

@@ -2,16 +2,16 @@
 ghost use Rattle.std.specs.Prelude.{◌≡◌, IfOk, Some, None};
 ghost use Rattle.ttrpc_client.specs.Table.{by_status, IsLanding, landing_of};
 
-use crate::errors::{
-    long_error, malformed_error, oversize_error, unopened_error, unreadable_error,
-};
+use crate::errors::{malformed_error, unreadable_error};
 use std::alloc::{AllocError, Global};
-use ttrpc_codec::Codec;
+use ttrpc_codec::in_place::decode_in_place;
 use ttrpc_connection::Opening;
 use ttrpc_error::Error;
+use ttrpc_header::oversize::oversize_error;
 use ttrpc_header::{MESSAGE_LENGTH_MAX, MESSAGE_TYPE_RESPONSE, MessageHeader};
 use ttrpc_proto::Response;
-use ttrpc_values::CodecError;
+use ttrpc_security::errors::unopened_error;
+use ttrpc_values::{Blob, CodecError};
 
 /// The outcome of a call.
 pub type Outcome = Result<Response, Error>;
@@ -25,27 +25,23 @@ pub fn outcome_of(
     ensures { IfOk result (IsLanding (landing_of header.now opening)) }
 {
     match opening {
-        Opening::TooLong => Ok(Err(oversize_error(alloc, header.length as usize)?)),
+        Opening::TooLong => Ok(Err(oversize_error(alloc, header.length as usize, true)?)),
         Opening::Refused(why) => Ok(Err(unopened_error(alloc, &why)?)),
-        Opening::Opened(plain) => opened_outcome(alloc, header, plain.as_slice()),
+        Opening::Opened(plain) => opened_outcome(alloc, header, plain),
     }
 }
 
 /// What a frame of this header gives, whose payload was opened.
-fn opened_outcome(
-    alloc: Global,
-    header: &MessageHeader,
-    plain: &[u8],
-) -> Result<Outcome, AllocError>
-    ensures { IfOk result (IsLanding (landing_of header.now (Opening.Opened plain.now))) }
+fn opened_outcome(alloc: Global, header: &MessageHeader, plain: Blob) -> Result<Outcome, AllocError>
+    ensures { IfOk result (IsLanding (landing_of header.now (Opening.Opened plain))) }
 {
     if plain.len() > MESSAGE_LENGTH_MAX {
-        return Ok(Err(long_error(alloc, plain.len())?));
+        return Ok(Err(oversize_error(alloc, plain.len(), false)?));
     }
     if header.type_ != MESSAGE_TYPE_RESPONSE {
         return Ok(Err(malformed_error(alloc, header)?));
     }
-    match Response::decode(alloc, plain) {
+    match decode_in_place(alloc, plain.into_vec()) {
         Ok(response) => Ok(answered(response)),
         Err(CodecError::NoMemory) => Err(AllocError),
         Err(error) => Ok(Err(unreadable_error(alloc, &error)?)),

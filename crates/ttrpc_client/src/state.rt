@@ -1,6 +1,6 @@
 //! What a client core is beside its connection, and how a whole frame acts on it.
 ghost use Rattle.std.specs.Prelude.{◌≡◌, ◌%◌, ◌+◌, ◌++◌, ◌<◌, ◌^◌, ℕ, [], true, false, option_to_list, IfSome, IfNone, OnOk, OnErr, Option, Some};
-ghost use Rattle.ttrpc_client.specs.Client.{Client, call_at, new_client, waits};
+ghost use Rattle.ttrpc_client.specs.Client.{Client, IsClient, call_at, new_client, waits};
 ghost use Rattle.ttrpc_client.specs.Happens.{Expires, IsDeadline, due_at, due_ids};
 ghost use Rattle.ttrpc_client.specs.Inside.{Admits, ExpiresOne, Leaves, Settles, Takes, given_of};
 ghost use Rattle.ttrpc_client.specs.Table.{last_id};
@@ -60,6 +60,13 @@ impl ClientState {
             deadlines: Deadlines::new(alloc),
             ended: VecDeque::new(alloc),
         }
+    }
+
+    /// What holds of every client. Does nothing.
+    pub(crate) fn known(&self)
+        ensures { IsClient self.now.next self.now.calls }
+    {
+        let _next = self.next;
     }
 
     pub(crate) fn kind(&self) -> ClientKind
@@ -173,6 +180,7 @@ impl ClientState {
     /// The first of the calls that ended and weren't told of yet. Takes no memory.
     pub(crate) fn next_ended(&mut self) -> Option<CallId>
         ensures first { self.old.ended ≡ option_to_list result ++ self.new.ended }
+        ensures none { IfNone result (self.old.ended ≡ []) }
         ensures same { self.new ≡ record self.old { ended = self.new.ended } }
     {
         self.ended.pop_front()

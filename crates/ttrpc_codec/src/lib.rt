@@ -3,12 +3,8 @@
 #![tactic(auto)]
 
 mod codec;
-mod members;
-mod message;
+pub mod in_place;
+pub mod members;
+pub mod message;
 
 pub use codec::Codec;
-pub use members::{
-    delimited_len, known_all, number_len, part_len, parts_len, put_delimited, put_number, put_part,
-    put_parts, text_from,
-};
-pub use message::{WireMessage, decode, encode, merge, read_into, size};

@@ -11,8 +11,7 @@ use crate::message::WireMessage;
 use std::alloc::{AllocError, Global};
 use ttrpc_values::{CodecError, Text};
 use ttrpc_wire::{
-    Field, FieldNumber, Tag, Value, WireType, field_len, put_field, put_tag, put_varint, tag_len,
-    varint_len,
+    Field, FieldNumber, Tag, Value, WireType, field_len, put_tag, put_varint, tag_len, varint_len,
 };
 
 /// The text that the bytes are, copied; an error where they aren't UTF-8.
@@ -56,7 +55,22 @@ pub fn put_delimited(out: &mut Vec<u8>, number: FieldNumber, bytes: &[u8]) -> Re
     if bytes.is_empty() {
         return Ok(());
     }
-    put_field(out, delimited(number, bytes))
+    put_head(out, number, WireType::LengthDelimited, bytes.len() as u64)?;
+    out.extend_from_slice(bytes)
+}
+
+/// Writes a tag, and the number behind it.
+fn put_head(
+    out: &mut Vec<u8>,
+    number: FieldNumber,
+    wire_type: WireType,
+    n: u64,
+) -> Result<(), AllocError>
+    ensures { OnOk result
+        (out.new.items ≡ out.old.items ++ (tag_bytes number.value wire_type ++ varint n)) }
+{
+    put_tag(out, Tag { number, wire_type })?;
+    put_varint(out, n)
 }
 
 /// How long the field of a number is; 0 where it is 0.
@@ -77,7 +91,7 @@ pub fn put_number(out: &mut Vec<u8>, number: FieldNumber, n: u64) -> Result<(), 
     if n == 0 {
         return Ok(());
     }
-    put_field(out, numeric(number, n))
+    put_head(out, number, WireType::Varint, n)
 }
 
 /// How long a field is whose value is a message of this length; at most the greatest `u64`.
@@ -106,9 +120,7 @@ pub fn put_part<M: WireMessage>(
     if len > u32::MAX as u64 {
         return Err(CodecError::TooLong);
     }
-    let wire_type = WireType::LengthDelimited;
-    put_tag(out, Tag { number, wire_type })?;
-    put_varint(out, len)?;
+    put_head(out, number, WireType::LengthDelimited, len)?;
     part.write(out)
 }
 

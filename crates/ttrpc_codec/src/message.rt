@@ -84,12 +84,13 @@ pub fn decode<M: WireMessage>(alloc: Global, bytes: &[u8]) -> Result<M, CodecErr
 pub fn size<M: WireMessage>(message: &M) -> u32
     ensures { result ≡ min (length (fields_bytes (M.fields message.now))) (2 ^ 32 - 1) }
 {
-    let length = message.length();
-    if length < u32::MAX as u64 {
-        length as u32
-    } else {
-        u32::MAX
-    }
+    saturated(message.length())
+}
+
+fn saturated(length: u64) -> u32
+    ensures { result ≡ min length (2 ^ 32 - 1) }
+{
+    length.min(u32::MAX as u64) as u32
 }
 
 /// The written form. `TooLong` where it is 2^32 bytes or longer.
@@ -105,7 +106,21 @@ pub fn encode<M: WireMessage>(alloc: Global, message: &M) -> Result<Vec<u8>, Cod
     if length > u32::MAX as u64 {
         return Err(CodecError::TooLong);
     }
-    let mut out = Vec::with_capacity(alloc, length as usize)?;
+    encode_with_room(alloc, message, length as usize)
+}
+
+/// The written form, in a vector that has this much room at first, for a caller who has measured the message. `TooLong`
+/// only where it is 2^32 bytes or longer.
+pub fn encode_with_room<M: WireMessage>(
+    alloc: Global,
+    message: &M,
+    room: usize,
+) -> Result<Vec<u8>, CodecError>
+    ensures ok { IfOk result (λ v. v.items ≡ fields_bytes (M.fields message.now)) }
+    ensures too_long { IfErr result (λ e. e ≢ CodecError.NoMemory
+        → (e ≡ CodecError.TooLong) × (2 ^ 32 ≤ length (fields_bytes (M.fields message.now)))) }
+{
+    let mut out = Vec::with_capacity(alloc, room)?;
     message.write(&mut out)?;
     Ok(out)
 }

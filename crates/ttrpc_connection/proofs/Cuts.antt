@@ -1,15 +1,6 @@
 -- A piece that is fed in two parts at one moment does what it does whole, so that calls with pieces cut otherwise lead
 -- to the same.
-use Rattle.std.proofs.Common.{◌≡◌, ◌⊎◌, inl, inr, ℕ, Bool, true, false, cond, nat_eq, List, [], ◌∷◌, ◌++◌, length, map, Option, Some, None, IsSome, is_some, arith, rules, refl, sym, ap, subst, ◌∙◌, append_assoc, length-append}
-use Rattle.std.proofs.lemmas.List.{append_cancel_left, map-append}
-use Rattle.ttrpc_error.specs.declared.error.Error.{Error}
-use Rattle.ttrpc_frame.specs.declared.frame.Incoming.{Incoming}
-use Rattle.ttrpc_frame.specs.Frames.{Held, nothing, Holds, Fed, given}
-use Rattle.ttrpc_frame.specs.Queue.{Queue, Happening, Placed}
-use Rattle.ttrpc_frame.proofs.Frames.{nothing_held, exact}
-use Rattle.ttrpc_connection.specs.declared.connection.Connection.{Connection}
-use Rattle.ttrpc_connection.specs.Feeds.{Ways, Scene, ActsAll, Feeds, Breaks, scene}
-use Rattle.ttrpc_connection.specs.Calls.{Call, Gave, Lent, Reported, Failed, Did, Others, AreLawful, Gives, Calls, Runs, before_others, joined}
+use Rattle.ttrpc_connection.proofs.Words.{◌≡◌, ◌⊎◌, inl, inr, ℕ, Bool, true, false, cond, nat_eq, List, [], ◌∷◌, ◌++◌, length, map, Option, Some, None, IsSome, is_some, arith, rules, refl, sym, ap, subst, ◌∙◌, append_assoc, length-append, append_cancel_left, map-append, Error, Incoming, Held, nothing, Holds, Fed, given, Queue, Happening, Placed, nothing_held, exact, Connection, Ways, Scene, ActsAll, Feeds, Breaks, scene, Call, Gave, Lent, Reported, Failed, Did, Others, AreLawful, Gives, Calls, Runs, before_others, joined}
 use Rattle.ttrpc_connection.proofs.Feeding.{breaks_behind, breaks_so, fed_twice, feeds_joined}
 use Rattle.ttrpc_connection.proofs.Holding.{fed_one_way, fed_some}
 use Rattle.ttrpc_connection.proofs.Leaving.{gives_grow}
@@ -84,7 +75,7 @@ module _ {S O I : Type 0} (w : Ways S O I) where
       let same = fed_one_way old.decoder two.1 new.decoder before (p ++ q) (one.0 ++ two.0) feeds.frames holds whole feeds.fed in
       let acts = acts_apart at one.0 two.0 (scene s old) (scene t new) (rw same.0 feeds.acts) in (
         acts.0.state,
-        record { decoder = one.1; outbox = acts.0.outbox; inbound = acts.0.inbound; failure = None },
+        record { decoder = one.1; outbox = acts.0.outbox; inbound = acts.0.inbound; failure = None; known = old.known },
         inl (record { alive = feeds.alive; still = refl; frames = one.0; fed = one.2; acts = acts.1 }),
         inl (record { alive = refl; still = feeds.still; frames = two.0; fed = rw (← same.1) two.2; acts = acts.2 }),
       )
@@ -107,7 +98,7 @@ module _ {S O I : Type 0} (w : Ways S O I) where
         let last = last_in one.0 two.0 b.frames b.last same.0
         (λ some none. ends_not one.1 two.1 rest.0 h.0 h.1 rest.2 (subst (λ fs. Fed one.1 more fs two.1) none two.2) (same.1 ∙ b.at_its_end some)) in
         let acts = acts_apart at one.0 last.0 (scene s old) b.mid (rw (← last.2) b.acts) in
-        let mid : Connection O I = record { decoder = one.1; outbox = acts.0.outbox; inbound = acts.0.inbound; failure = None } in (
+        let mid : Connection O I = record { decoder = one.1; outbox = acts.0.outbox; inbound = acts.0.inbound; failure = None; known = old.known } in (
           acts.0.state,
           mid,
           inl (record { alive = b.alive; still = refl; frames = one.0; fed = one.2; acts = acts.1 }),

@@ -1,17 +1,5 @@
 -- A piece is fed in turns: each takes a front of what is left, and at most one frame acts.
-use Rattle.std.proofs.Common.{◌≡◌, ◌⊎◌, inl, inr, ℕ, List, [], ◌∷◌, ◌++◌, take, drop, refl, sym, subst, append_assoc, Option, Some, None, IsSome}
-use Rattle.std.proofs.lemmas.List.{take-append-drop, append-nil}
-use Rattle.ttrpc_error.specs.declared.error.Error.{Error}
-use Rattle.ttrpc_frame.specs.declared.frame.Incoming.{Incoming}
-use Rattle.ttrpc_frame.specs.Frames.{Frames, Held, Fed, given, nothing}
-use Rattle.ttrpc_frame.proofs.Pieces.{frames_append}
-use Rattle.ttrpc_connection.specs.declared.arrived.Arrived.{Arrived}
-use Rattle.ttrpc_connection.specs.declared.connection.Connection.{Connection}
-use Rattle.ttrpc_connection.specs.declared.failure.Failure.{Failure}
-use Rattle.ttrpc_connection.specs.declared.failure.Failure.TheVariants.{NoMemory}
-use Rattle.ttrpc_connection.specs.Failure.{IsTold, error_of}
-use Rattle.ttrpc_connection.specs.Frames.{Opens, SendsAll, Sent, header_of_frame}
-use Rattle.ttrpc_connection.specs.Feeds.{Ways, Scene, ActsAll, Breaks, Feeds, FeedsFront, IsWhy, scene}
+use Rattle.ttrpc_connection.proofs.Words.{◌≡◌, ◌⊎◌, inl, inr, ℕ, List, [], ◌∷◌, ◌++◌, take, drop, refl, sym, subst, append_assoc, Option, Some, None, IsSome, take-append-drop, append-nil, Error, Incoming, Frames, Held, Fed, given, nothing, frames_append, Arrived, Connection, Failure, NoMemory, IsTold, error_of, Opens, SendsAll, Sent, header_of_frame, Ways, Scene, ActsAll, Breaks, Feeds, FeedsFront, IsWhy, scene}
 use Rattle.ttrpc_connection.specs.Inside.{StopsAt, TakesFront}
 
 pub nothing_taken : (held : Held) → Fed held [] [] held

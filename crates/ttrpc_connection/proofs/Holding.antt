@@ -1,14 +1,7 @@
 -- What a decoder holds, and that each piece can be fed to it.
-use Rattle.std.proofs.Common.{◌≡◌, inl, inr, ℕ, ◌+◌, ◌-◌, ◌<◌, ◌≤◌, true, false, nat_lt, List, [], ◌∷◌, ◌++◌, length, take, drop, arith, refl, sym, ap, subst, ◌∙◌, le-ltb, lt-ltb}
-use Rattle.std.proofs.lemmas.Bool.{cases_lt}
-use Rattle.std.proofs.lemmas.List.{take-append-drop, length-take-le}
-use Rattle.ttrpc_header.specs.declared.header.MessageHeader.{MessageHeader}
+use Rattle.ttrpc_connection.proofs.Words.{◌≡◌, inl, inr, ℕ, ◌+◌, ◌-◌, ◌<◌, ◌≤◌, true, false, nat_lt, List, [], ◌∷◌, ◌++◌, length, take, drop, arith, refl, sym, ap, subst, ◌∙◌, le-ltb, lt-ltb, cases_lt, take-append-drop, length-take-le, MessageHeader, Incoming, Frames, Held, nothing, held_of, Holds, Fed, header_front, exact, count_goes_on, count_is_frame, is_frames, one_list}
 use Rattle.ttrpc_header.specs.Header.{header_of}
-use Rattle.ttrpc_frame.specs.declared.frame.Incoming.{Incoming}
 use Rattle.ttrpc_frame.specs.declared.frame.Incoming.TheVariants.{Oversize}
-use Rattle.ttrpc_frame.specs.Frames.{Frames, Held, nothing, held_of, Holds, Fed}
-use Rattle.ttrpc_frame.proofs.Frames.{header_front, exact, count_goes_on, count_is_frame}
-use Rattle.ttrpc_frame.proofs.Pieces.{is_frames, one_list}
 use Rattle.ttrpc_connection.proofs.Feeding.{fed_twice}
 
 -- ---- what a decoder holds

@@ -1,18 +1,8 @@
 -- Over any list of calls, the queue goes through a history in which only what is open is lent, and only what was lent
 -- is reported.
-use Rattle.std.proofs.Common.{◌≡◌, inl, inr, ℕ, List, [], ◌∷◌, ◌++◌, map, drop, refl, sym, ap, subst, ◌∙◌, append_assoc}
-use Rattle.std.proofs.lemmas.List.{append_cancel_left, append-nil}
-use Rattle.ttrpc_frame.specs.declared.frame.Incoming.{Incoming}
-use Rattle.ttrpc_frame.specs.declared.outgoing.Queued.{Queued}
-use Rattle.ttrpc_frame.specs.Queue.{Queue, Happening, Placed, Allowed, IsQueue, MayHappen, after, after_all, all_bytes_left, departing, unsent, with_frame, with_payload, written_all}
+use Rattle.ttrpc_connection.proofs.Words.{◌≡◌, inl, inr, ℕ, List, [], ◌∷◌, ◌++◌, map, drop, refl, sym, ap, subst, ◌∙◌, append_assoc, append_cancel_left, append-nil, Incoming, Queued, Queue, Happening, Placed, Allowed, IsQueue, MayHappen, after, after_all, all_bytes_left, departing, unsent, with_frame, with_payload, written_all, OutboundTransform, Connection, Outbox, Sent, SendsAll, Ways, Scene, ActsAll, scene, Call, Gave, Lent, Reported, Failed, Did, Goes, Others, AreLawful, Gives, Calls, Runs, Own, Queued_one, own}
 use Rattle.ttrpc_frame.specs.Queue as queue
 use Rattle.ttrpc_frame.proofs.Departures.{bytes_are_written}
-use Rattle.ttrpc_secure.specs.declared.transform.OutboundTransform.{Ghosts as OutboundTransform}
-use Rattle.ttrpc_connection.specs.declared.connection.Connection.{Connection}
-use Rattle.ttrpc_connection.specs.declared.outbox.Outbox.{Outbox}
-use Rattle.ttrpc_connection.specs.Frames.{Sent, SendsAll}
-use Rattle.ttrpc_connection.specs.Feeds.{Ways, Scene, ActsAll, scene}
-use Rattle.ttrpc_connection.specs.Calls.{Call, Gave, Lent, Reported, Failed, Did, Goes, Others, AreLawful, Gives, Calls, Runs, Own, Queued_one, own}
 
 -- ---- queues that grow
 

@@ -1,12 +1,9 @@
 -- Calls of a core over a connection one after the other, also past a failure, and what the queue goes through by them.
 -- Source: this project's.
 use Rattle.std.specs.Prelude.{◌≡◌, ◌≤◌, ◌⊎◌, ℕ, List, [], ◌∷◌, ◌++◌, length, map, is_some, true, if◌then◌else◌, nat_eq}
-use Rattle.ttrpc_error.specs.declared.error.Error.{Error}
-use Rattle.ttrpc_frame.specs.declared.outgoing.Queued.{Queued}
+use Rattle.ttrpc_connection.specs.Types.{Error, Queued, Connection, Failure}
 use Rattle.ttrpc_frame.specs.Queue.{Queue, Happening, Placed, Allowed, after_all, open_part, with_payload, with_lent, after_report}
 use Rattle.ttrpc_frame.specs.Queue as queue
-use Rattle.ttrpc_connection.specs.declared.connection.Connection.{Connection}
-use Rattle.ttrpc_connection.specs.declared.failure.Failure.{Failure}
 use Rattle.ttrpc_connection.specs.Failure.{kept}
 use Rattle.ttrpc_connection.specs.Frames.{SendsOne}
 use Rattle.ttrpc_connection.specs.Feeds.{Ways, Feeds, Breaks}

@@ -1,10 +1,9 @@
 -- Which error tells why a connection failed.
 -- Source: this project's.
-use Rattle.std.specs.Prelude.{◌≡◌, ◌⊎◌, codes, Option, None, Some}
-use Rattle.ttrpc_error.specs.declared.error.Error.{Error}
+use Rattle.std.specs.Prelude.{codes, Option, None, Some}
+use Rattle.ttrpc_connection.specs.Types.{Error, Failure, Told, Disconnected, DisconnectedInside, HandlerError, JobIdsUsedUp, DeadlineDuringWrite, CancelledDuringWrite, MemoryRefused}
 use Rattle.ttrpc_error.specs.declared.error.Error.TheVariants.{Socket, Others, NoMemory}
-use Rattle.ttrpc_connection.specs.declared.failure.Failure.{Failure}
-use Rattle.ttrpc_connection.specs.declared.failure.Failure.TheVariants.{Told, Disconnected, DisconnectedInside, HandlerError, JobIdsUsedUp, DeadlineDuringWrite, CancelledDuringWrite, NoMemory as MemoryRefused}
+pub use Rattle.ttrpc_security.specs.Told.{IsTold}
 
 abbrev pub error_of : Failure → Error
 error_of (Told error) = error
@@ -15,10 +14,6 @@ error_of JobIdsUsedUp = Others (codes "job ids are used up")
 error_of DeadlineDuringWrite = Socket (codes "connection closed after a request deadline elapsed during write")
 error_of CancelledDuringWrite = Socket (codes "connection closed after a request was cancelled during write")
 error_of MemoryRefused = NoMemory
-
--- The error is the one to be told, or NoMemory, as it is where memory for it was refused.
-abbrev pub IsTold : Error → Error → Type 0
-IsTold told error = (error ≡ told) ⊎ (error ≡ NoMemory)
 
 -- the first failure is kept
 abbrev pub kept : Option Failure → Failure → Option Failure

@@ -1,29 +1,22 @@
 -- What it is to feed a connection, over whatever a core does at a whole frame.
 -- Source: this project's.
 use Rattle.std.specs.Prelude.{◌≡◌, ◌⊎◌, ℕ, List, [], ◌∷◌, ◌++◌, Option, Some, None, IsSome}
-use Rattle.ttrpc_error.specs.declared.error.Error.{Error}
-use Rattle.ttrpc_frame.specs.declared.frame.Incoming.{Incoming}
+use Rattle.ttrpc_connection.specs.Types.{Error, Incoming, OutboundTransform, InboundTransform, Arrived, Opening, Connection, Failure, NoMemory, Outbox}
 use Rattle.ttrpc_frame.specs.Frames.{Fed, given, nothing}
 use Rattle.ttrpc_frame.specs.Queue.{empty_queue}
-use Rattle.ttrpc_secure.specs.declared.transform.OutboundTransform.{Ghosts as OutboundTransform}
-use Rattle.ttrpc_secure.specs.declared.transform.InboundTransform.{Ghosts as InboundTransform}
-use Rattle.ttrpc_connection.specs.declared.arrived.Arrived.{Arrived}
-use Rattle.ttrpc_connection.specs.declared.arrived.Opening.{Opening}
-use Rattle.ttrpc_connection.specs.declared.connection.Connection.{Connection}
-use Rattle.ttrpc_connection.specs.declared.failure.Failure.{Failure}
-use Rattle.ttrpc_connection.specs.declared.failure.Failure.TheVariants.{NoMemory}
-use Rattle.ttrpc_connection.specs.declared.outbox.Outbox.{Outbox}
+use Rattle.ttrpc_hooks.specs.Facts.{Facts}
 use Rattle.ttrpc_connection.specs.declared.reacts.Reacts.{Ghosts as Reacts}
 use Rattle.ttrpc_connection.specs.Failure.{IsTold, error_of}
 use Rattle.ttrpc_connection.specs.Frames.{Opens, Sent, SendsAll, header_of_frame}
 
 -- nothing came, nothing is to be written, and nothing has failed
-abbrev pub new_connection : {O I : Type 0} → O → I → Connection O I
-new_connection outbound inbound = record {
+abbrev pub new_connection : {O I : Type 0} → Facts → O → I → Connection O I
+new_connection known outbound inbound = record {
   decoder = nothing;
   outbox = record { half = outbound; queue = empty_queue };
   inbound = inbound;
   failure = None;
+  known = known;
 }
 
 -- what the clauses know of the two halves and of the core

@@ -1,17 +1,10 @@
 -- What a whole frame does.
 -- Source: this project's.
-use Rattle.std.specs.Prelude.{◌≡◌, ℕ, ◌-◌, List, [], ◌∷◌}
-use Rattle.ttrpc_header.specs.declared.header.MessageHeader.{MessageHeader}
-use Rattle.ttrpc_header.specs.declared.header.TheConstants.{MESSAGE_LENGTH_MAX}
-use Rattle.ttrpc_frame.specs.declared.frame.Incoming.{Incoming}
+use Rattle.std.specs.Prelude.{◌≡◌, ℕ, List, [], ◌∷◌}
+use Rattle.ttrpc_connection.specs.Types.{MessageHeader, Incoming, Queued, OutboundTransform, InboundTransform, Opening, TooLong, Opened, Refused, Outbox}
 use Rattle.ttrpc_frame.specs.declared.frame.Incoming.TheVariants.{Frame, Oversize}
-use Rattle.ttrpc_frame.specs.declared.outgoing.Queued.{Queued}
-use Rattle.ttrpc_secure.specs.declared.transform.OutboundTransform.{Ghosts as OutboundTransform}
-use Rattle.ttrpc_secure.specs.declared.transform.InboundTransform.{Ghosts as InboundTransform}
 use Rattle.ttrpc_secure.specs.Sends.{Sends, associated}
-use Rattle.ttrpc_connection.specs.declared.arrived.Opening.{Opening}
-use Rattle.ttrpc_connection.specs.declared.arrived.Opening.TheVariants.{TooLong, Opened, Refused}
-use Rattle.ttrpc_connection.specs.declared.outbox.Outbox.{Outbox}
+pub use Rattle.ttrpc_secure.specs.Sends.{safe_limit}
 
 abbrev pub header_of_frame : Incoming → MessageHeader
 header_of_frame (Frame m) = m.header
@@ -23,10 +16,6 @@ Opens half before (Oversize _) opening after = (opening ≡ TooLong) × (after �
 Opens half before (Frame m) TooLong after = ⊥
 Opens half before (Frame m) (Opened plain) after = half.opens before m.payload (associated m.header) plain after
 Opens half before (Frame m) (Refused why) after = half.refuses before m.payload (associated m.header) why × (after ≡ before)
-
--- the longest data that is sure to fit into a message with what sealing adds
-abbrev pub safe_limit : {O : Type 0} → OutboundTransform O → O → ℕ
-safe_limit half s = MESSAGE_LENGTH_MAX - half.overhead s
 
 -- a frame that was sent, without its payload, and the data that was sealed for it
 pub record Sent : Type 0 where

@@ -5,7 +5,8 @@ ghost use Rattle.ttrpc_connection.specs.Frames.{Opens, header_of_frame};
 use std::alloc::{AllocError, Global};
 use ttrpc_frame::Incoming;
 use ttrpc_header::MessageHeader;
-use ttrpc_secure::{InboundTransform, TransformError, associated_bytes};
+use ttrpc_secure::sending::associated_bytes;
+use ttrpc_secure::{InboundTransform, TransformError};
 use ttrpc_values::{Blob, Text};
 
 /// What the inbound half made of a frame's payload.
@@ -49,7 +50,7 @@ pub fn open<I: InboundTransform>(
         Incoming::Frame(message) => {
             let header = message.header;
             let associated = associated_bytes(&header);
-            match half.transform_inbound(alloc, message.payload.as_slice(), &associated) {
+            match half.transform_inbound_vec(alloc, message.payload.into_vec(), &associated) {
                 Ok(plain) => Ok(Arrived {
                     header,
                     opening: Opening::Opened(Blob::from_vec(plain)),

@@ -2,6 +2,7 @@
 ghost use Rattle.std.specs.Prelude.{ℕ, List, ◌≡◌, ◌≢◌, ◌<◌, ◌≤◌, ◌↔◌, ◌⊎◌, [], true, length, take, drop, min, is_some, if◌then◌else◌, IfOk, IfErr, OnOk, OnErr, IfSome, IfNone, Err, Some, None};
 ghost use Rattle.ttrpc_frame.specs.Frames.{Holds, nothing};
 ghost use Rattle.ttrpc_frame.specs.Queue.{open_part, unsent, with_lent, after_report};
+ghost use Rattle.ttrpc_hooks.specs.Facts.{facts_of};
 ghost use Rattle.ttrpc_connection.specs.declared.failure.Failure.{Failure as AFailure};
 ghost use Rattle.ttrpc_connection.specs.Failure.{IsTold, error_of, kept};
 ghost use Rattle.ttrpc_connection.specs.Feeds.{Breaks, Feeds, FeedsFront, IsFailed, new_connection, ways};
@@ -14,8 +15,10 @@ use crate::reacts::Reacts;
 use std::alloc::Global;
 use ttrpc_error::Error;
 use ttrpc_frame::FrameDecoder;
+use ttrpc_hooks::{ConnectionData, Known};
 use ttrpc_secure::{InboundTransform, OutboundTransform};
-use ttrpc_values::behind;
+use ttrpc_security::ConnectionContext;
+use ttrpc_values::slices::behind;
 
 /// One end of a connection, over its two halves.
 #[derive(Drop)]
@@ -25,19 +28,29 @@ pub struct Connection<O, I> {
     pub outbox: Outbox<O>,
     inbound: I,
     failure: Option<Failure>,
+    /// What is known of it.
+    known: Known,
 }
 
 impl<O: OutboundTransform + Drop, I: InboundTransform + Drop> Connection<O, I> {
-    /// A connection over these halves. Takes no memory.
-    pub fn new(alloc: Global, outbound: O, inbound: I) -> Self
-        ensures { result ≡ new_connection outbound inbound }
+    /// A connection of this context, whose halves its payloads go through. Takes no memory.
+    pub fn new(alloc: Global, context: ConnectionContext<O, I>) -> Self
+        ensures { result ≡ new_connection (facts_of context.connection_data.entries) context.outbound context.inbound }
     {
         Connection {
             decoder: FrameDecoder::new(alloc),
-            outbox: Outbox::new(alloc, outbound),
-            inbound,
+            outbox: Outbox::new(alloc, context.outbound),
+            inbound: context.inbound,
             failure: None,
+            known: Known::new(context.connection_data),
         }
+    }
+
+    /// What is known of the connection, which stays as its context had it.
+    pub fn connection_data(&self) -> &ConnectionData
+        ensures { facts_of result.now.entries ≡ self.now.known }
+    {
+        self.known.data()
     }
 
     /// Takes a piece whole, and says how many bytes that are. Each frame that is whole with it acts, in order, at this
@@ -56,6 +69,7 @@ impl<O: OutboundTransform + Drop, I: InboundTransform + Drop> Connection<O, I> {
             Breaks (ways O.OutboundTransform I.InboundTransform R.Reacts) core.old self.old piece.now now e core.new self.new) }
         ensures failed { (f : AFailure) → self.old.failure ≡ Some f
             → (self.new ≡ self.old) × (core.new ≡ core.old) × IfErr result (IsTold (error_of f)) }
+        ensures known { self.new.known ≡ self.old.known }
     {
         self.check_alive(alloc)?;
         let mut rest = piece;
@@ -82,6 +96,7 @@ impl<O: OutboundTransform + Drop, I: InboundTransform + Drop> Connection<O, I> {
             Breaks (ways O.OutboundTransform I.InboundTransform R.Reacts) core.old self.old piece.now now e core.new self.new) }
         ensures failed { (f : AFailure) → self.old.failure ≡ Some f
             → (self.new ≡ self.old) × (core.new ≡ core.old) × IfErr result (IsTold (error_of f)) }
+        ensures known { self.new.known ≡ self.old.known }
     {
         self.check_alive(alloc)?;
         match self.take_front(alloc, core, piece, now) {
@@ -219,6 +234,7 @@ impl<O: OutboundTransform + Drop, I: InboundTransform + Drop> Connection<O, I> {
         ensures err { IfErr result (λ failure.
             StopsAt (ways O.OutboundTransform I.InboundTransform R.Reacts) core.old self.old piece.now now failure core.new self.new) }
         ensures failure { self.new.failure ≡ self.old.failure }
+        ensures known { self.new.known ≡ self.old.known }
     {
         let Ok((n, incoming)) = self.decoder.feed(alloc, piece) else {
             return Err(Failure::NoMemory);

@@ -7,9 +7,10 @@ ghost use Rattle.ttrpc_secure.specs.Sends.{associated};
 ghost use Rattle.ttrpc_connection.specs.Frames.{SendsOne, safe_limit};
 
 use std::alloc::Global;
-use ttrpc_frame::{Outgoing, Owners, Queued};
-use ttrpc_header::MESSAGE_LENGTH_MAX;
-use ttrpc_secure::{OutboundTransform, SendError, send};
+use ttrpc_frame::owners::Owners;
+use ttrpc_frame::{Outgoing, Queued};
+use ttrpc_secure::OutboundTransform;
+use ttrpc_secure::sending::{SendError, limit_of, send};
 
 /// The half that seals, and the frames that it sealed and that wait to be written.
 #[derive(Drop)]
@@ -33,15 +34,15 @@ impl<O: OutboundTransform + Drop> Outbox<O> {
     pub fn limit(&self) -> usize
         ensures { result ≡ safe_limit O.OutboundTransform self.now.half }
     {
-        MESSAGE_LENGTH_MAX - self.half.max_overhead()
+        limit_of(&self.half)
     }
 
     /// Seals the data and queues the frame with it, whose payload it takes the place of. An error changes nothing.
-    pub fn send(&mut self, alloc: Global, frame: Queued, data: &[u8]) -> Result<(), SendError>
-        ensures ok { OnOk result (SendsOne O.OutboundTransform self.old frame «data».now self.new) }
-        ensures too_long { (result ≡ Err SendError.TooLong) ↔ (safe_limit O.OutboundTransform self.old.half < length «data».now) }
+    pub fn send(&mut self, alloc: Global, frame: Queued, data: Vec<u8>) -> Result<(), SendError>
+        ensures ok { OnOk result (SendsOne O.OutboundTransform self.old frame «data».items self.new) }
+        ensures too_long { (result ≡ Err SendError.TooLong) ↔ (safe_limit O.OutboundTransform self.old.half < length «data».items) }
         ensures refused { (t : AnError) → result ≡ Err (SendError.Failed t)
-            → MayFail O.refuses self.old.half «data».now (associated frame.message.header) t }
+            → MayFail O.refuses self.old.half «data».items (associated frame.message.header) t }
         ensures err { OnErr result (self.new ≡ self.old) }
     {
         send(alloc, &mut self.half, &mut self.queue, frame, data)

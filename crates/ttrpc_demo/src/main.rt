@@ -1,13 +1,15 @@
-//! `ttrpc-demo`, the program of the project: a server and a client to try by hand. By now it has `answer`, which reads
-//! frames from standard input and writes their answers to standard output, and `loop`, which makes one call in memory.
+//! `ttrpc-demo`, the program of the project: a server and a client to try by hand. Its words are `answer`, which reads frames
+//! from standard input and writes their answers to standard output, `serve`, `call`, and `loop`, which calls a server of its
+//! own.
 #![tactic(auto)]
 
 use std::env;
 use std::io::{BufWriter, ErrorKind};
 use std::process::ExitCode;
 use std::rt::Env;
-use ttrpc_echo::{Outcome, run, tell};
+use ttrpc_address::nodelay_from;
 use ttrpc_error::Error;
+use ttrpc_program::{Outcome, run, tell};
 
 /// The words behind the program's name. Words that aren't UTF-8 are wrong ones.
 fn given_words<R: Env + AllocGlobal>(rt: &R) -> Result<Vec<String>, Outcome> {
@@ -33,9 +35,11 @@ fn main(rt: HostRuntime) -> ExitCode {
     let Ok(mut output) = BufWriter::new(rt.alloc(), rt.stdout()) else {
         return ExitCode::from(tell(&Outcome::Failed(Error::NoMemory), &mut rt.stderr()));
     };
+    let setting = env::var(&rt, "TTRPC_TCP_NODELAY_ENABLED").ok();
     ExitCode::from(run(
-        rt.alloc(),
+        rt,
         words.as_slice(),
+        nodelay_from(setting.as_deref()),
         &mut rt.stdin(),
         &mut output,
         &mut rt.stderr(),

@@ -4,5 +4,3 @@ pub mod Echoing
 pub mod Writing
 pub mod Stopping
 pub mod Answering
-pub mod OneCall
-pub mod OneWord

@@ -13,15 +13,17 @@ ghost use Rattle.std.specs.Io.{ReadsAtMost};
 
 use std::alloc::Global;
 use std::io::{ErrorKind, Read, Write};
-use ttrpc_codec::WireMessage;
+use ttrpc_codec::message::WireMessage;
 use ttrpc_error::Error;
-use ttrpc_proto::{Response, Status};
+use ttrpc_proto::{Request, Response, Status};
 use ttrpc_secure::Plain;
-use ttrpc_server::{Job, Registry, Rules, ServerCore};
-use ttrpc_values::{Text, behind};
+use ttrpc_security::plain_context;
+use ttrpc_server::{Registry, Rules, ServerCore};
+use ttrpc_values::Text;
+use ttrpc_values::slices::behind;
 
 /// How many bytes are read, and written, at once.
-const PIECE: usize = 4096;
+const PIECE: usize = 65536;
 
 /// The core of a server over no transform.
 type EchoCore = ServerCore<Plain, Plain>;
@@ -60,7 +62,7 @@ fn answer_all<R: Read, W: Write>(
             return finish(alloc, core);
         }
         serve(alloc, core, &buffer[..n])?;
-        write_out(core, writer)?;
+        write_out(core, writer, &mut buffer)?;
     }
     Err(Error::Nix(ErrorKind::Other))
 }
@@ -91,14 +93,13 @@ fn echo_core(alloc: Global) -> Result<EchoCore, Error>
         Text::from_str(alloc, "demo.Echo")?,
         Text::from_str(alloc, "Echo")?,
     )?;
-    Ok(ServerCore::new(alloc, Rules::Sync, registry, Plain {}, Plain {}))
+    Ok(ServerCore::new(alloc, Rules::Sync, registry, plain_context(alloc)))
 }
 
-/// An OK status that is there and empty, and the request's payload.
-fn echo(alloc: Global, job: Job) -> Response
-    ensures { result ≡ echo_of job.request }
+/// An OK status that is there and empty, and the request's payload. Takes no memory.
+pub fn echo(alloc: Global, request: Request) -> Response
+    ensures { result ≡ echo_of request }
 {
-    let request = job.request;
     Response {
         status: Some(Status::new(alloc)),
         payload: request.payload,
@@ -115,7 +116,7 @@ fn echo_next(alloc: Global, core: &mut EchoCore) -> Result<(), Error>
         None => Ok(()),
         Some(job) => {
             let id = job.id;
-            core.answer(alloc, id, &Ok(echo(alloc, job)))
+            core.answer(alloc, id, &Ok(echo(alloc, job.request)))
         }
     }
 }
@@ -146,17 +147,20 @@ fn serve(alloc: Global, core: &mut EchoCore, piece: &[u8]) -> Result<(), Error>
     Ok(())
 }
 
-/// Writes all that is unsent, and reports what the writer took.
-fn write_out<W: Write>(core: &mut EchoCore, writer: &mut W) -> Result<(), Error>
+/// Writes all that is unsent, by way of the buffer, and reports what the writer took.
+fn write_out<W: Write>(
+    core: &mut EchoCore,
+    writer: &mut W,
+    buffer: &mut [u8; PIECE],
+) -> Result<(), Error>
     requires { IsReady core.old }
     ensures ready { IsReady core.new }
     ensures wrote { WritesOut core.old (W.contents writer.old) core.new (W.contents writer.new) }
     ensures all { OnOk result (unsent core.new.connection.outbox.queue ≡ []) }
     ensures err { IfErr result IsOfSystem }
 {
-    let mut buffer = [0u8; PIECE];
     for _ in 0..u64::MAX {
-        let lent = core.lend(&mut buffer);
+        let lent = core.lend(buffer);
         if lent == 0 {
             return flush(writer);
         }

@@ -1,11 +1,7 @@
-//! What the program `ttrpc-demo` does, over any reader and writers: the service `demo.Echo`, whose engine answers the
-//! frames of an input, one call in memory, and the words that ask for them.
+//! The service `demo.Echo` of the program `ttrpc-demo`, and the engine that answers the frames of an input, over any reader
+//! and writer.
 #![tactic(auto)]
 
-mod calling;
 mod engine;
-mod words;
 
-pub use calling::call_echo;
-pub use engine::answer;
-pub use words::{Outcome, run, tell};
+pub use engine::{answer, echo, flush};

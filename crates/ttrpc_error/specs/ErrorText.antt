@@ -51,3 +51,10 @@ IsOthers prefix text NoMemory = ⊤
 IsOthers prefix (Some bs) (Others message) = message ≡ prefix ++ bs
 IsOthers prefix None (Others message) = (rest : List ℕ) × (message ≡ prefix ++ rest)
 IsOthers prefix text _ = ⊥
+
+-- an error `Socket` of this text, or some text where it isn't known, or NoMemory
+abbrev pub IsSocket : Option (List ℕ) → Error → Type 0
+IsSocket text NoMemory = ⊤
+IsSocket (Some bs) (Socket message) = message ≡ bs
+IsSocket None (Socket message) = ⊤
+IsSocket text _ = ⊥

@@ -1,6 +1,6 @@
 //! Why a call failed, and the errors and statuses that are made of a code, a message or another error.
 ghost use Rattle.std.specs.Prelude.{◌≡◌, ◌≢◌, [], codes, string_bytes, IfOk, IsSomeAnd, Some};
-ghost use Rattle.ttrpc_error.specs.ErrorText.{error_text, status_of, IsOthers, IsTextOf, StandsFor, Tells};
+ghost use Rattle.ttrpc_error.specs.ErrorText.{error_text, status_of, IsTextOf, StandsFor, Tells};
 
 use std::alloc::{AllocError, AllocFailed, Global};
 use std::fmt;
@@ -181,35 +181,4 @@ pub fn sock_error_msg(size: usize, msg: String) -> Error
         Ok(text) => Error::Socket(text),
         Err(_) => Error::NoMemory,
     }
-}
-
-/// `Others` of a prefix and what another error prints, or `NoMemory` where memory for that text was refused.
-pub fn others_of<D: fmt::Display>(alloc: Global, prefix: &str, cause: &D) -> Error
-    ensures { IsOthers prefix.now (D.output cause.now) result }
-{
-    match prefixed(alloc, prefix, cause) {
-        Ok(text) => Error::Others(Text::from_string(text)),
-        Err(_) => Error::NoMemory,
-    }
-}
-
-// A prefix and what another error prints. That is printed by itself, so that the prefix is known whatever it prints.
-fn prefixed<D: fmt::Display>(
-    alloc: Global,
-    prefix: &str,
-    cause: &D,
-) -> std::result::Result<String, AllocError>
-    ensures { IfOk result (λ text. IsOthers prefix.now (D.output cause.now) (Error.Others (string_bytes text))) }
-{
-    let cause = cause.to_string(alloc)?;
-    format!(in alloc; "{prefix}{cause}")
-}
-
-/// The closure that makes `Others` of a prefix and another error, as in
-/// `call().map_err(err_to_others!(alloc, e, "calling: "))`.
-#[macro_export]
-macro_rules! err_to_others {
-    ($alloc:expr, $e:ident, $prefix:expr) => {
-        |$e| $crate::others_of($alloc, $prefix, &$e)
-    };
 }

@@ -1,8 +1,7 @@
 //! Why a call failed, and the statuses, the responses and the texts that are made of that.
 #![tactic(auto)]
 
+pub mod causes;
 mod error;
-mod oversize;
 
-pub use error::{Error, Result, get_rpc_status, get_status, others_of, sock_error_msg};
-pub use oversize::{check_oversize, oversize_message};
+pub use error::{Error, Result, get_rpc_status, get_status, sock_error_msg};

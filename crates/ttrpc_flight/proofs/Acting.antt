@@ -1,14 +1,5 @@
 -- What a connection sends takes wing, and what comes in acts as it was sent.
-use Rattle.std.proofs.Common.{◌≡◌, ℕ, List, [], ◌∷◌, ◌++◌, map, refl, sym, ap, subst, ◌∙◌, append_assoc}
-use Rattle.std.proofs.lemmas.List.{append-nil}
-use Rattle.ttrpc_frame.specs.Queue.{Queue, with_payload}
-use Rattle.ttrpc_secure.specs.declared.transform.OutboundTransform.{Ghosts as OutboundTransform}
-use Rattle.ttrpc_secure.specs.Halves.{Moves, Refusals}
-use Rattle.ttrpc_connection.specs.declared.outbox.Outbox.{Outbox}
-use Rattle.ttrpc_connection.specs.declared.arrived.Opening.{Opening}
-use Rattle.ttrpc_connection.specs.Frames.{Sent, SendsAll}
-use Rattle.ttrpc_connection.specs.Feeds.{Ways, Scene, ActsAll}
-use Rattle.ttrpc_flight.specs.Flight.{Flying, ActsOn, AreLinked, arrived, frames_of}
+use Rattle.ttrpc_flight.proofs.Words.{◌≡◌, ℕ, List, [], ◌∷◌, ◌++◌, map, refl, sym, ap, subst, ◌∙◌, append_assoc, append-nil, Queue, with_payload, OutboundTransform, Moves, Refusals, Outbox, Opening, Sent, SendsAll, Ways, Scene, ActsAll, Flying, ActsOn, AreLinked, arrived, frames_of}
 use Rattle.ttrpc_flight.proofs.Seals.{first_opened, more_linked}
 
 abbrev pub TakesWing : {O I : Type 0} → OutboundTransform O → Moves I → Refusals I → List Sent → Outbox O → Outbox O → List Flying → I → Type 0

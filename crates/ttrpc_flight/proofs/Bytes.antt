@@ -1,22 +1,13 @@
 -- The bytes in flight: what is queued, what leaves, what is thrown away or cut off, and what comes in. No seals.
-use Rattle.std.proofs.Common.{◌≡◌, ◌+◌, ◌-◌, ◌<◌, ◌≤◌, inl, inr, ℕ, Bool, true, false, cond, List, [], ◌∷◌, ◌++◌, length, map, take, drop, arith, refl, sym, ap, subst, ◌∙◌, append_assoc, length-append, length-drop}
-use Rattle.std.specs.List.{filter}
+use Rattle.ttrpc_flight.proofs.Words.{cases_Bool, ◌≡◌, ◌+◌, ◌-◌, ◌<◌, ◌≤◌, inl, inr, ℕ, Bool, true, false, cond, List, [], ◌∷◌, ◌++◌, length, map, take, drop, arith, refl, sym, ap, subst, ◌∙◌, append_assoc, length-append, length-drop, filter, cases_lt, append-nil, take-append-drop, length-take-le, map-append, MessageHeader, Incoming, Queued, Frames, Held, nothing, Fed, Queue, IsWithin, written, written_all, first_open, open_part, with_frame, with_lent, after_report, begun_count, frames_without, without, header_front, nothing_held, one_list, is_frames, Flying, AreInFlight, IsSound, AreSound, arrived, carried, frames_of, flying_without, all_behind, all_in_front, all_joined, flat_map-append}
 use Rattle.std.proofs.Math.Seq.{take-append-add}
-use Rattle.std.proofs.lemmas.Bool.{cases_lt}
-use Rattle.std.proofs.lemmas.List.{append-nil, take-append-drop, take-append-le, take-take, take_all, drop-take, drop_at, length-take-le, map-append, map_push, take-map, drop-map}
-use Rattle.std.proofs.lemmas.List.Concat.{flat_map-append}
-use Rattle.ttrpc_header.specs.declared.header.MessageHeader.{MessageHeader}
+use Rattle.std.proofs.lemmas.List.{take-append-le, take-take, take_all, drop-take, drop_at, map_push, take-map, drop-map}
 use Rattle.ttrpc_header.specs.Header.{header_bytes, header_of}
 use Rattle.ttrpc_header.proofs.Headers as headers
-use Rattle.ttrpc_frame.specs.declared.frame.Incoming.{Incoming}
-use Rattle.ttrpc_frame.specs.declared.outgoing.Queued.{Queued}
-use Rattle.ttrpc_frame.specs.Frames.{IsFrame, Frames, IsRest, Held, nothing, Fed}
-use Rattle.ttrpc_frame.specs.Queue.{Queue, IsWithin, written, written_all, first_open, open_part, empty_queue, with_frame, with_lent, after_report, begun_count, frames_without, without}
-use Rattle.ttrpc_frame.proofs.Frames.{header_front, nothing_held}
-use Rattle.ttrpc_frame.proofs.Pieces.{one_list, is_frames}
+use Rattle.ttrpc_frame.specs.Frames.{IsFrame, IsRest}
+use Rattle.ttrpc_frame.specs.Queue.{empty_queue}
 use Rattle.ttrpc_frame.proofs.Queues.{length-written, written_is, fresh_is_queue, with_frame_is_queue, with_lent_is_queue, after_report_is_queue, without_is_queue, report_of_a_part, report_of_all}
-use Rattle.ttrpc_flight.specs.Flight.{Flying, AreInFlight, IsSound, AreSound, arrived, carried, frames_of, flying_without}
-use Rattle.ttrpc_flight.proofs.Losing.{all_behind, all_in_front, all_joined, all_thrown, stays}
+use Rattle.ttrpc_flight.proofs.Losing.{all_thrown, stays}
 
 -- ---- nothing is in flight
 
@@ -101,76 +92,63 @@ all_leaves (f ∷ fs) m n within le =
     ∙ take-append-drop m w
     ∙ sym (append-nil w)
 
-carried_part : (held : Held) (pipe : List ℕ) (cut : Bool) (q : Queue) (transit queued : List Flying) (n : ℕ) → n ≤ length (open_part q) → q.reported + n < length (first_open q.frames 0) → AreInFlight held pipe cut q transit queued
-    → AreInFlight held (carried cut pipe n q) cut (after_report (with_lent q n) n) transit queued
-carried_part held pipe cut q transit queued n le lt f =
-    let p : Queue = after_report (with_lent q n) n in
-    let is : p ≡ record { frames = q.frames; reported = q.reported + n; lent = 0; begun = (with_lent q n).begun } = report_of_a_part (with_lent q n) n lt in
-    let go = bytes_leave f.before pipe f.lost (take n (open_part q)) cut f.uncut in
-    record {
-      valid = after_report_is_queue (with_lent q n) n (with_lent_is_queue q n f.valid le) (omega arith);
-      same = f.same ∙ sym (ap Queue.frames is);
-      sound = f.sound;
-      before = f.before;
-      holds = f.holds;
-      lost = go.lost;
-      bytes =
-          go.bytes ∙ ap (λ bs. bs ++ take n (open_part q)) f.bytes
-          ∙ append_assoc (written_all (frames_of transit)) (take q.reported (written_all q.frames)) (take n (open_part q))
-          ∙ ap (λ bs. written_all (frames_of transit) ++ bs) (part_leaves q.frames q.reported n lt ∙ sym (ap (λ (r : Queue). take r.reported (written_all r.frames)) is));
-      uncut = go.uncut;
-    }
-
 one_more_written : (transit queued : List Flying) → written_all (frames_of (transit ++ take 1 queued)) ≡ written_all (frames_of transit) ++ written_all (take 1 (frames_of queued))
 one_more_written transit queued =
     ap written_all (map-append Flying.frame transit (take 1 queued)) ∙ flat_map-append (λ (f : Queued). written f.message) (frames_of transit) (frames_of (take 1 queued))
     ∙ ap (λ fs. written_all (frames_of transit) ++ written_all fs) (sym (take-map Flying.frame 1 queued))
 
-carried_all : (held : Held) (pipe : List ℕ) (cut : Bool) (q : Queue) (transit queued : List Flying) (n : ℕ) → n ≤ length (open_part q) → length (first_open q.frames 0) ≤ q.reported + n → AreInFlight held pipe cut q transit queued
-    → AreInFlight held (carried cut pipe n q) cut (after_report (with_lent q n) n) (transit ++ take 1 queued) (drop 1 queued)
-carried_all held pipe cut q transit queued n le whole f =
-    let p : Queue = after_report (with_lent q n) n in
-    let is : p ≡ record { frames = drop 1 q.frames; reported = 0; lent = 0; begun = false } = report_of_all (with_lent q n) n whole in
+-- then these flights are in transit, and these queued
+carried_so : (held : Held) (pipe : List ℕ) (cut : Bool) (q : Queue) (transit queued t r : List Flying) (n : ℕ) → n ≤ length (open_part q) → AreInFlight held pipe cut q transit queued → t ++ r ≡ transit ++ queued
+    → (let p : Queue = after_report (with_lent q n) n in
+    frames_of r ≡ p.frames → written_all (frames_of transit) ++ (take q.reported (written_all q.frames) ++ take n (open_part q)) ≡ written_all (frames_of t) ++ take p.reported (written_all p.frames)
+    → AreInFlight held (carried cut pipe n q) cut p t r)
+carried_so held pipe cut q transit queued t r n le f all same bytes =
     let go = bytes_leave f.before pipe f.lost (take n (open_part q)) cut f.uncut in
     record {
       valid = after_report_is_queue (with_lent q n) n (with_lent_is_queue q n f.valid le) (omega arith);
-      same = sym (drop-map Flying.frame 1 queued) ∙ ap (drop 1) f.same ∙ sym (ap Queue.frames is);
-      sound = subst AreSound (sym (append_assoc transit (take 1 queued) (drop 1 queued) ∙ ap (λ xs. transit ++ xs) (take-append-drop 1 queued))) f.sound;
+      same = same;
+      sound = subst AreSound (sym all) f.sound;
       before = f.before;
       holds = f.holds;
       lost = go.lost;
       bytes =
           go.bytes ∙ ap (λ bs. bs ++ take n (open_part q)) f.bytes
-          ∙ append_assoc (written_all (frames_of transit)) (take q.reported (written_all q.frames)) (take n (open_part q))
-          ∙ ap (λ bs. written_all (frames_of transit) ++ bs) (all_leaves q.frames q.reported n f.valid.within whole ∙ ap (λ fs. written_all (take 1 fs)) (sym f.same))
-          ∙ sym (one_more_written transit queued)
-          ∙ sym (append-nil (written_all (frames_of (transit ++ take 1 queued))))
-          ∙ ap (λ bs. written_all (frames_of (transit ++ take 1 queued)) ++ bs) (sym (ap (λ (r : Queue). take r.reported (written_all r.frames)) is));
+          ∙ append_assoc (written_all (frames_of transit)) (take q.reported (written_all q.frames)) (take n (open_part q)) ∙ bytes;
       uncut = go.uncut;
     }
 
 pub carried_in_flight : (held : Held) (pipe : List ℕ) (cut : Bool) (q : Queue) (transit queued : List Flying) (n : ℕ) → n ≤ length (open_part q) → AreInFlight held pipe cut q transit queued
     → (t : List Flying) × (r : List Flying) × (t ++ r ≡ transit ++ queued) × AreInFlight held (carried cut pipe n q) cut (after_report (with_lent q n) n) t r
-carried_in_flight held pipe cut q transit queued n le f = elim (cases_lt (q.reported + n) (length (first_open q.frames 0))) [
-  | inl part ↦ (transit, queued, refl, carried_part held pipe cut q transit queued n le part f)
-  | inr whole ↦ (
-    transit ++ take 1 queued,
-    drop 1 queued,
-    append_assoc transit (take 1 queued) (drop 1 queued) ∙ ap (λ xs. transit ++ xs) (take-append-drop 1 queued),
-    carried_all held pipe cut q transit queued n le whole f,
-  )
-]
+carried_in_flight held pipe cut q transit queued n le f =
+    let p : Queue = after_report (with_lent q n) n in
+    let reported = λ (r : Queue). take r.reported (written_all r.frames) in
+    elim (cases_lt (q.reported + n) (length (first_open q.frames 0))) [
+      | inl part ↦
+          let is : p ≡ record { frames = q.frames; reported = q.reported + n; lent = 0; begun = (with_lent q n).begun } = report_of_a_part (with_lent q n) n part in (
+            transit,
+            queued,
+            refl,
+            carried_so held pipe cut q transit queued transit queued n le f refl (f.same ∙ sym (ap Queue.frames is))
+                (ap (λ bs. written_all (frames_of transit) ++ bs) (part_leaves q.frames q.reported n part ∙ sym (ap reported is))),
+          )
+      | inr whole ↦
+          let is : p ≡ record { frames = drop 1 q.frames; reported = 0; lent = 0; begun = false } = report_of_all (with_lent q n) n whole in
+          let t = transit ++ take 1 queued in
+          let all : t ++ drop 1 queued ≡ transit ++ queued = append_assoc transit (take 1 queued) (drop 1 queued) ∙ ap (λ xs. transit ++ xs) (take-append-drop 1 queued) in (
+            t,
+            drop 1 queued,
+            all,
+            carried_so held pipe cut q transit queued t (drop 1 queued) n le f all (sym (drop-map Flying.frame 1 queued) ∙ ap (drop 1) f.same ∙ sym (ap Queue.frames is))
+                (ap (λ bs. written_all (frames_of transit) ++ bs) (all_leaves q.frames q.reported n f.valid.within whole ∙ ap (λ fs. written_all (take 1 fs)) (sym f.same))
+                ∙ sym (one_more_written transit queued) ∙ sym (append-nil (written_all (frames_of t))) ∙ ap (λ bs. written_all (frames_of t) ++ bs) (sym (ap reported is))),
+          )
+    ]
 
 -- ---- a request is thrown away
 
-frames_at : (b : Bool) (x : Flying) (xs : List Flying) → frames_of (cond b (x ∷ xs) xs) ≡ cond b (x.frame ∷ frames_of xs) (frames_of xs)
-frames_at true x xs = refl
-frames_at false x xs = refl
-
 frames_left : (owners : ℕ → Bool) (xs : List Flying) → frames_of (filter (stays owners) xs) ≡ frames_without owners (frames_of xs)
 frames_left owners [] = refl
-frames_left owners (x ∷ xs) =
-    frames_at (stays owners x) x (filter (stays owners) xs) ∙ ap (λ fs. cond (stays owners x) (x.frame ∷ fs) fs) (frames_left owners xs)
+frames_left owners (x ∷ xs) = let later = frames_left owners xs in elim (cases_Bool (stays owners x)) [ inl e ↦ rw (e, later) refl | inr e ↦ rw (e, later) refl ]
 
 frames_others : (owners : ℕ → Bool) (n : ℕ) (xs : List Flying) → frames_of (flying_without owners n xs) ≡ take n (frames_of xs) ++ frames_without owners (drop n (frames_of xs))
 frames_others owners n xs =

@@ -1,14 +1,7 @@
 -- The seals in flight: a chain from a state that is paired with the half that will open them. No bytes of a stream, no
 -- queue.
-use Rattle.std.proofs.Common.{◌≡◌, ℕ, suc, Bool, true, false, List, [], ◌∷◌, ◌++◌, refl, ap, subst}
-use Rattle.std.specs.List.{filter}
-use Rattle.ttrpc_secure.specs.Halves.{Moves, Refusals, IsPaired}
-use Rattle.ttrpc_secure.specs.Sends.{associated}
-use Rattle.ttrpc_secure.specs.declared.transform.InboundTransform.{Ghosts as InboundTransform}
-use Rattle.ttrpc_connection.specs.declared.arrived.Opening.{Opening}
-use Rattle.ttrpc_connection.specs.declared.arrived.Opening.TheVariants.{TooLong, Opened, Refused}
-use Rattle.ttrpc_connection.specs.Frames.{Opens}
-use Rattle.ttrpc_flight.specs.Flight.{Flying, AreLinked, Chain, arrived, flying_without}
+use Rattle.ttrpc_flight.proofs.Words.{◌≡◌, ℕ, suc, Bool, true, false, List, [], ◌∷◌, ◌++◌, refl, ap, subst, filter, Moves, Refusals, associated, InboundTransform, Opening, Opened, Refused, Opens, Flying, AreLinked, Chain, arrived, flying_without, TooLong}
+use Rattle.ttrpc_secure.specs.Halves.{IsPaired}
 use Rattle.ttrpc_flight.proofs.Losing.{left_behind, stays}
 
 pub none_linked : {O I : Type 0} (seals : Moves O) (opens : Moves I) (refuses : Refusals I) (s : O) (t : I) → IsPaired seals opens refuses s t → AreLinked seals opens refuses [] s t

@@ -51,7 +51,17 @@ same_front f g b c e l = (
   sym (drop-append_seam f b) ∙ ap (drop (length f)) e ∙ ap (λ n. drop n (g ++ c)) l ∙ drop-append_seam g c,
 )
 
-no_frame : (i : Incoming) (bytes front back : List ℕ) → bytes ≡ front ++ back → IsFrame i front → IsRest bytes → ⊥
+-- one frame stands at the front
+pub one_front_frame : (bytes : List ℕ) (i j : Incoming) (f b g c : List ℕ) → bytes ≡ f ++ b → IsFrame i f → bytes ≡ g ++ c → IsFrame j g → (i ≡ j) × (f ≡ g) × (b ≡ c)
+one_front_frame bytes i j f b g c is frame also other =
+    let hi : header_of bytes ≡ header_in i = ap header_of is ∙ frame_header i f b frame in
+    let hj : header_of bytes ≡ header_in j = ap header_of also ∙ frame_header j g c other in
+    let h : header_in i ≡ header_in j = sym hi ∙ hj in
+    let l : length f ≡ length g = frame_length i f frame ∙ ap (λ (h : MessageHeader). 10 + h.length) h ∙ sym (frame_length j g other) in
+    let p = same_front f g b c (sym is ∙ also) l in
+    (one_frame i j g h (subst (IsFrame i) p.0 frame) other, p.0, p.1)
+
+pub no_frame : (i : Incoming) (bytes front back : List ℕ) → bytes ≡ front ++ back → IsFrame i front → IsRest bytes → ⊥
 no_frame i bytes front back e f rest =
     let h : (header_of bytes).length ≡ (header_in i).length = ap (λ b. (header_of b).length) e ∙ ap MessageHeader.length (frame_header i front back f) in
     let l : length bytes ≡ length front + length back = ap length e ∙ length-append front back in
@@ -64,14 +74,9 @@ one_list bytes [] [] r s f x g y = (refl, sym f ∙ g)
 one_list bytes [] (j ∷ js) r s f x g y = absurd (no_frame j r g.0 g.1 (sym f ∙ g.2) g.3 x)
 one_list bytes (i ∷ is) [] r s f x g y = absurd (no_frame i s f.0 f.1 (sym g ∙ f.2) f.3 y)
 one_list bytes (i ∷ is) (j ∷ js) r s f x g y =
-    let hi : header_of bytes ≡ header_in i = ap header_of f.2 ∙ frame_header i f.0 f.1 f.3 in
-    let hj : header_of bytes ≡ header_in j = ap header_of g.2 ∙ frame_header j g.0 g.1 g.3 in
-    let h : header_in i ≡ header_in j = sym hi ∙ hj in
-    let l : length f.0 ≡ length g.0 = frame_length i f.0 f.3 ∙ ap (λ (h : MessageHeader). 10 + h.length) h ∙ sym (frame_length j g.0 g.3) in
-    let p = same_front f.0 g.0 f.1 g.1 (sym f.2 ∙ g.2) l in
-    let e : i ≡ j = one_frame i j g.0 h (subst (IsFrame i) p.0 f.3) g.3 in
-    let rec = one_list g.1 is js r s (subst (λ b. Frames b is r) p.1 f.4) x g.4 y in
-    (ap (λ k. k ∷ is) e ∙ ap (λ ks. j ∷ ks) rec.0, rec.1)
+    let p = one_front_frame bytes i j f.0 f.1 g.0 g.1 f.2 f.3 g.2 g.3 in
+    let rec = one_list g.1 is js r s (subst (λ b. Frames b is r) p.2 f.4) x g.4 y in
+    (ap (λ k. k ∷ is) p.0 ∙ ap (λ ks. j ∷ ks) rec.0, rec.1)
 
 frame_at : (bytes : List ℕ) → 10 + (header_of bytes).length ≤ length bytes
     → (i : Incoming) × IsFrame i (take (10 + (header_of bytes).length) bytes)

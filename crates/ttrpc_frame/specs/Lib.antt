@@ -1,3 +1,5 @@
 pub mod Frames
 pub mod Decoder
 pub mod Queue
+pub mod Streaming
+pub mod Inside

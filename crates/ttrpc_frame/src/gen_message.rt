@@ -1,9 +1,10 @@
 //! A message as it lies in a frame, before it is read.
 ghost use Rattle.std.specs.Prelude.{◌≡◌, ◌≢◌, ◌≤◌, ◌↔◌, [], true, IsOk, IfErr};
-ghost use Rattle.ttrpc_error.specs.Oversize.{oversize_error};
+ghost use Rattle.ttrpc_header.specs.Oversize.{oversize_error};
 
 use std::alloc::{AllocError, Global};
-use ttrpc_error::{Error, Result, check_oversize};
+use ttrpc_error::{Error, Result};
+use ttrpc_header::oversize::check_oversize;
 use ttrpc_header::{MESSAGE_LENGTH_MAX, MessageHeader};
 use ttrpc_values::{Blob, TryClone};
 

@@ -1,12 +1,15 @@
-//! Frames out of a stream of bytes, and the queue of those that are still to be written.
+//! Frames out of a stream of bytes, and the queue of those that are still to be written; frames from a reader and to a
+//! writer.
 #![tactic(auto)]
 
-mod frame;
+pub mod failure;
+pub mod frame;
 mod gen_message;
-mod outgoing;
-mod owners;
+pub mod outgoing;
+pub mod owners;
+pub mod reading;
+pub mod writing;
 
-pub use frame::{FrameDecoder, Incoming, bytes_are_frames, pieces_are_joined};
+pub use frame::{FrameDecoder, Incoming};
 pub use gen_message::{GenMessage, GenMessageError};
-pub use outgoing::{Outgoing, Queued, departing_frames_are_written};
-pub use owners::Owners;
+pub use outgoing::{Outgoing, Queued};

@@ -1,6 +1,7 @@
 -- A frame's header: ten bytes, its numbers with the greatest byte first.
 -- Source: PROTOCOL.md of ttrpc, "Message Frame".
-use Rattle.std.specs.Prelude.{ℕ, ◌+◌, ◌*◌, ◌/◌, ◌%◌, ◌<◌, ◌^◌, List, [], ◌∷◌, ◌++◌, slice_index}
+use Rattle.std.specs.Prelude.{◌≡◌, ℕ, ◌+◌, ◌*◌, ◌/◌, ◌%◌, ◌<◌, ◌^◌, List, [], ◌∷◌, ◌++◌, length, slice_index, Option}
+use Rattle.std.specs.Io.KnownBytes.{Consumes}
 use Rattle.ttrpc_header.specs.declared.header.MessageHeader.{MessageHeader}
 
 -- the four digits of a number in base 256, the greatest first
@@ -30,3 +31,7 @@ pub record FitsHeader (h : MessageHeader) : Type 0 where
   pub stream_id : h.stream_id < 2 ^ 32
   pub type_ : h.type_ < 2 ^ 8
   pub flags : h.flags < 2 ^ 8
+
+-- known bytes lose the ten that stand for the header
+abbrev pub ConsumesHeader : Option (List ℕ) → Option (List ℕ) → MessageHeader → Type 0
+ConsumesHeader old new h = (ten : List ℕ) × (length ten ≡ 10) × (header_of ten ≡ h) × Consumes old new ten

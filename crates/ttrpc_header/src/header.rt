@@ -1,8 +1,14 @@
 //! The ten bytes in front of each message.
-ghost use Rattle.std.specs.Prelude.{◌≡◌, ◌<◌, ◌↔◌, length, IsNone, IfSome, IfOk, bit_or};
+ghost use Rattle.std.specs.Prelude.{◌≡◌, ◌<◌, ◌↔◌, length, IsNone, IfSome, IfOk, IfErr, OnErr, OnOk, bit_or};
+ghost use Rattle.std.specs.Io.KnownBytes.{Appends};
+ghost use Rattle.std.specs.IoError.{error_kind};
+ghost use Rattle.ttrpc_streams.specs.Streams.{AppendsFront, ConsumesBelow, FillFails, Flushes, Makes, Then, Writes, failure};
 
 use byteorder::{BigEndian, ByteOrder};
-use std::alloc::{AllocError, Global};
+use std::alloc::Global;
+use std::io::{self, ErrorKind};
+use ttrpc_error::{Error, Result};
+use ttrpc_streams::{Sink, Source, fill, write_part};
 
 /// How many bytes a header has.
 pub const MESSAGE_HEADER_LENGTH: usize = 10;
@@ -60,7 +66,7 @@ impl From<&[u8; 10]> for MessageHeader {
 }
 
 impl MessageHeader {
-    ghost use Rattle.ttrpc_header.specs.Header.{header_bytes, header_of};
+    ghost use Rattle.ttrpc_header.specs.Header.{ConsumesHeader, header_bytes, header_of};
 
     /// The header that the first ten bytes are, if there are as many.
     pub fn try_from_slice(bytes: &[u8]) -> Option<MessageHeader>
@@ -84,10 +90,37 @@ impl MessageHeader {
     }
 
     /// The header's ten bytes, in a vector.
-    pub fn to_vec(&self, alloc: Global) -> Result<Vec<u8>, AllocError>
-        ensures { IfOk result (λ bytes. bytes.items ≡ header_bytes self.now) }
+    pub fn to_vec(&self, alloc: Global) -> Result<Vec<u8>>
+        ensures ok { IfOk result (λ bytes. bytes.items ≡ header_bytes self.now) }
+        ensures only_memory { IfErr result (λ e. e ≡ Error.NoMemory) }
     {
-        Vec::from_slice(alloc, &self.to_bytes())
+        Ok(Vec::from_slice(alloc, &self.to_bytes())?)
+    }
+
+    /// Reads a header: ten bytes, and none behind them. Where the reader ends before them, the error is `UnexpectedEof`.
+    pub fn read_from<R: Source>(reader: &mut R) -> io::Result<MessageHeader>
+        ensures ok { IfOk result (ConsumesHeader (R.remaining reader.old) (R.remaining reader.new)) }
+        ensures cut { OnErr result (ConsumesBelow (R.remaining reader.old) (R.remaining reader.new) MESSAGE_HEADER_LENGTH) }
+        ensures err { IfErr result (λ e. FillFails (R.remaining reader.new) (R.last reader.new) (error_kind e)) }
+    {
+        let mut bytes = [0u8; 10];
+        let (count, filled) = fill(reader, &mut bytes);
+        filled?;
+        if count < MESSAGE_HEADER_LENGTH {
+            return Err(ErrorKind::UnexpectedEof.into());
+        }
+        Ok(MessageHeader::from(&bytes))
+    }
+
+    /// Offers the ten bytes alone, and then flushes.
+    pub fn write_to<W: Sink>(&self, writer: &mut W) -> io::Result<()>
+        ensures ok { OnOk result (Appends (W.contents writer.old) (W.contents writer.new) (header_bytes self.now)) }
+        ensures err { OnErr result (AppendsFront (W.contents writer.old) (W.contents writer.new) (header_bytes self.now)) }
+        ensures calls { Makes (W.calls writer.old) (W.calls writer.new)
+            (λ calls. Then (Writes (header_bytes self.now)) Flushes calls (failure result)) }
+    {
+        write_part(writer, &self.to_bytes())?;
+        writer.flush()
     }
 
     /// The header of a request with this length.

@@ -2,11 +2,11 @@
 #![tactic(auto)]
 
 mod header;
-mod laws;
+pub mod laws;
+pub mod oversize;
 
 pub use header::{
     DEFAULT_PAGE_SIZE, FLAG_NO_DATA, FLAG_REMOTE_CLOSED, FLAG_REMOTE_OPEN, MESSAGE_HEADER_LENGTH,
     MESSAGE_LENGTH_MAX, MESSAGE_TYPE_DATA, MESSAGE_TYPE_REQUEST, MESSAGE_TYPE_RESPONSE,
     MessageHeader,
 };
-pub use laws::header_is_one_to_one;

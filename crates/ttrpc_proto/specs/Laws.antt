@@ -14,8 +14,12 @@ use Rattle.ttrpc_proto.specs.declared.key_value.KeyValue.{KeyValue}
 use Rattle.ttrpc_proto.specs.declared.request.Request.{Request}
 use Rattle.ttrpc_proto.specs.declared.response.Response.{Response}
 use Rattle.ttrpc_proto.specs.declared.status.Status.{Status}
-use Rattle.ttrpc_codec.specs.Members.{delimited_field, delimited_fields, number_fields, part_fields, optional_fields}
+use Rattle.ttrpc_codec.specs.Members.{delimited_field, delimited_fields, delimited_in, last_number, last_text, number_fields, number_in, one_more, part_fields, optional_fields}
 use Rattle.ttrpc_proto.specs.Messages.{IsKeyValue, empty_key_value, key_value_step, key_value_fields, IsAny, empty_any, any_step, any_fields, IsStatus, empty_status, status_step, status_fields, IsRequest, empty_request, request_step, request_head, request_tail, request_fields, IsOptional, IsResponse, empty_response, response_step, response_fields}
+use Rattle.std.specs.Option.{option_map}
+use Rattle.ttrpc_wire.specs.Reading.{◌>>=◌}
+use Rattle.ttrpc_codec.specs.InPlace.{HasPayload, payload_in}
+use Rattle.ttrpc_codec.proofs.Around.{other_field}
 use Rattle.ttrpc_codec.proofs.Written.{length-fields_bytes-append, fit_then, fold_then, delimited_fit, fold_delimited, number_fit, fold_number, int32_back, int32_zero, int32_small, int64_back, int64_zero, int64_small, length-part_fields, parts_fit, parts_back, fold_parts, optional_fit}
 
 -- ---- KeyValue
@@ -134,3 +138,40 @@ response_again m h short =
     fold_then response_step empty_response a m (optional_fields 1 status_fields m.status) (delimited_fields 2 m.payload)
     (response_status m.status h.status (omega arith))
     (fold_delimited response_step a m 2 m.payload (λ e. ap (λ (w : List ℕ). record { status = m.status; payload = w }) (sym e)) refl)
+
+-- ---- the payload of a request and of a response
+
+request_around : (m : Request) (p : List ℕ) (a b : Option (List ℕ)) (d : Option ℤ) (e : Option (List KeyValue))
+    → (a >>= λ service. b >>= λ method. d >>= λ timeout_nano. e >>= λ metadata.
+    Some (record { service = service; method = method; payload = p; timeout_nano = timeout_nano; metadata = metadata }))
+    ≡ option_map (λ (n : Request). record n { payload = p }) (a >>= λ service. b >>= λ method. d >>= λ timeout_nano. e >>= λ metadata.
+    Some (record { service = service; method = method; payload = m.payload; timeout_nano = timeout_nano; metadata = metadata }))
+request_around m p None b d e = refl
+request_around m p (Some a) None d e = refl
+request_around m p (Some a) (Some b) None e = refl
+request_around m p (Some a) (Some b) (Some d) None = refl
+request_around m p (Some a) (Some b) (Some d) (Some e) = refl
+
+pub request_carries : HasPayload request_step empty_request 3 (λ m p. record m { payload = p })
+request_carries = record {
+  first = refl;
+  twice = λ m p q. refl;
+  takes = λ m p. refl;
+  keeps = λ m p f other. rw (other_field 3 p f other, other_field 3 m.payload f other)
+      (request_around m p (delimited_in 1 last_text m.service f) (delimited_in 2 last_text m.method f) (number_in 4 (last_number int64_of) m.timeout_nano f)
+      (delimited_in 5 (one_more key_value_step empty_key_value) m.metadata f));
+}
+
+response_around : (m : Response) (p : List ℕ) (a : Option (Option Status))
+    → (a >>= λ status. Some (record { status = status; payload = p }))
+    ≡ option_map (λ (n : Response). record n { payload = p }) (a >>= λ status. Some (record { status = status; payload = m.payload }))
+response_around m p None = refl
+response_around m p (Some a) = refl
+
+pub response_carries : HasPayload response_step empty_response 2 (λ m p. record m { payload = p })
+response_carries = record {
+  first = refl;
+  twice = λ m p q. refl;
+  takes = λ m p. refl;
+  keeps = λ m p f other. rw (other_field 2 p f other, other_field 2 m.payload f other) (response_around m p _);
+}

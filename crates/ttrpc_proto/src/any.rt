@@ -1,5 +1,6 @@
 use std::alloc::{AllocError, Global};
-use ttrpc_codec::{WireMessage, delimited_len, put_delimited, text_from};
+use ttrpc_codec::members::{delimited_len, put_delimited, text_from};
+use ttrpc_codec::message::WireMessage;
 use ttrpc_values::{Blob, CodecError, Text, TryClone};
 use ttrpc_wire::{Field, FieldNumber, Value};
 

@@ -3,7 +3,7 @@
 
 mod any;
 mod key_value;
-mod laws;
+pub mod laws;
 mod request;
 mod request_init;
 mod response;
@@ -12,7 +12,6 @@ mod status;
 
 pub use any::Any;
 pub use key_value::KeyValue;
-pub use laws::{any_meaning, key_value_meaning, request_meaning, response_meaning, status_meaning};
 pub use request::Request;
 pub use request_init::RequestInit;
 pub use response::Response;

@@ -4,10 +4,12 @@ ghost use Rattle.ttrpc_proto.specs.Messages.{request_head, request_tail};
 
 use crate::key_value::KeyValue;
 use std::alloc::{AllocError, Global};
-use ttrpc_codec::{
-    WireMessage, decode, delimited_len, known_all, number_len, parts_len, put_delimited,
-    put_number, put_parts, text_from,
+use ttrpc_codec::in_place::CarriesPayload;
+use ttrpc_codec::members::{
+    delimited_len, known_all, number_len, parts_len, put_delimited, put_number, put_parts,
+    text_from,
 };
+use ttrpc_codec::message::{WireMessage, decode};
 use ttrpc_values::{Blob, CodecError, Sequence, Text, TryClone};
 use ttrpc_wire::{Field, FieldNumber, Value, int64_to_varint, varint_to_int64};
 
@@ -127,4 +129,22 @@ impl WireMessage for Request {
     ghost again = { request_again };
 
     ghost fits = { request_fits };
+}
+
+impl CarriesPayload for Request {
+    ghost use Rattle.ttrpc_proto.specs.Laws.{request_carries};
+
+    ghost payload_field = { 3 };
+
+    ghost with_payload = { λ request payload. record request { payload = payload } };
+
+    fn payload_number() -> u32 {
+        PAYLOAD.value
+    }
+
+    fn replace_payload(&mut self, payload: Blob) {
+        self.payload = payload;
+    }
+
+    ghost carries = { request_carries };
 }

@@ -1,8 +1,8 @@
 use crate::status::Status;
 use std::alloc::{AllocError, Global};
-use ttrpc_codec::{
-    WireMessage, decode, delimited_len, part_len, put_delimited, put_part, read_into,
-};
+use ttrpc_codec::in_place::CarriesPayload;
+use ttrpc_codec::members::{delimited_len, part_len, put_delimited, put_part};
+use ttrpc_codec::message::{WireMessage, decode, read_into};
 use ttrpc_values::{Blob, CodecError, TryClone};
 use ttrpc_wire::{Field, FieldNumber, Value};
 
@@ -90,4 +90,22 @@ impl WireMessage for Response {
     ghost again = { response_again };
 
     ghost fits = { response_fits };
+}
+
+impl CarriesPayload for Response {
+    ghost use Rattle.ttrpc_proto.specs.Laws.{response_carries};
+
+    ghost payload_field = { 2 };
+
+    ghost with_payload = { λ response payload. record response { payload = payload } };
+
+    fn payload_number() -> u32 {
+        PAYLOAD.value
+    }
+
+    fn replace_payload(&mut self, payload: Blob) {
+        self.payload = payload;
+    }
+
+    ghost carries = { response_carries };
 }

@@ -2,10 +2,11 @@ ghost use Rattle.std.specs.Prelude.{◌≡◌};
 
 use crate::any::Any;
 use std::alloc::{AllocError, Global};
-use ttrpc_codec::{
-    WireMessage, decode, delimited_len, known_all, number_len, parts_len, put_delimited,
-    put_number, put_parts, text_from,
+use ttrpc_codec::members::{
+    delimited_len, known_all, number_len, parts_len, put_delimited, put_number, put_parts,
+    text_from,
 };
+use ttrpc_codec::message::{WireMessage, decode};
 use ttrpc_values::{Code, CodecError, Sequence, Text, TryClone};
 use ttrpc_wire::{Field, FieldNumber, Value, int32_to_varint, varint_to_int32};
 

@@ -34,6 +34,15 @@ impl OutboundTransform for Plain {
         Ok(sealed)
     }
 
+    fn transform_outbound_vec(
+        &mut self,
+        _alloc: Global,
+        plain: Vec<u8>,
+        _aad: &[u8],
+    ) -> Result<Vec<u8>, TransformError> {
+        Ok(plain)
+    }
+
     fn max_overhead(&self) -> usize {
         0
     }
@@ -62,6 +71,15 @@ impl InboundTransform for Plain {
     ) -> Result<Vec<u8>, TransformError> {
         let opened = Vec::from_slice(alloc, data)?;
         Ok(opened)
+    }
+
+    fn transform_inbound_vec(
+        &mut self,
+        _alloc: Global,
+        data: Vec<u8>,
+        _aad: &[u8],
+    ) -> Result<Vec<u8>, TransformError> {
+        Ok(data)
     }
 }
 

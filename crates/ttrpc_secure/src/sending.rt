@@ -1,8 +1,9 @@
 //! Sealing and queuing in one call.
-ghost use Rattle.std.specs.Prelude.{◌≡◌, ◌<◌, ◌+◌, ◌↔◌, length, Err, OnOk, OnErr};
+ghost use Rattle.std.specs.Prelude.{◌≡◌, ◌<◌, ◌≤◌, ◌+◌, ◌↔◌, length, Ok, Err, IfOk, IfErr, OnOk, OnErr, MatchResult};
+ghost use Rattle.ttrpc_frame.specs.Queue.{IsQueue, with_frame, filled, withdrawn};
 ghost use Rattle.ttrpc_secure.specs.declared.transform.TransformError.{TransformError as AnError};
 ghost use Rattle.ttrpc_secure.specs.Halves.{MayFail};
-ghost use Rattle.ttrpc_secure.specs.Sends.{Sends, associated};
+ghost use Rattle.ttrpc_secure.specs.Sends.{Sends, SendsUnder, associated, safe_limit};
 
 use crate::transform::{OutboundTransform, TransformError};
 use std::alloc::Global;
@@ -37,32 +38,110 @@ pub fn associated_bytes(header: &MessageHeader) -> [u8; 6]
     [a, b, c, d, type_, flags]
 }
 
-/// Seals the data and queues the frame with it, whose payload it takes the place of. There is room in the queue
-/// before the half is asked, so that nothing is sealed which isn't queued, and the order of sealing is that of
-/// the queue. An error changes nothing.
+/// The longest data that is sure to fit into a message with what sealing adds. Takes no memory.
+pub fn limit_of<O: OutboundTransform>(half: &O) -> usize
+    ensures { result ≡ safe_limit O.OutboundTransform half.now }
+{
+    MESSAGE_LENGTH_MAX - half.max_overhead()
+}
+
+/// Refuses data of this length where it may become longer than a message may be.
+fn check_limit<O: OutboundTransform>(half: &O, length: usize) -> Result<(), SendError>
+    ensures ok { OnOk result (length + O.overhead half.now ≤ MESSAGE_LENGTH_MAX) }
+    ensures err { IfErr result (λ e. (e ≡ SendError.TooLong) × (MESSAGE_LENGTH_MAX < length + O.overhead half.now)) }
+{
+    if length > limit_of(half) {
+        return Err(SendError::TooLong);
+    }
+    Ok(())
+}
+
+/// Seals the data and queues the frame with it, whose payload it takes the place of; a half that adds nothing moves it
+/// there. There is room in the queue before the half is asked, so that nothing is sealed which isn't queued, and the
+/// order of sealing is that of the queue. An error changes nothing.
 pub fn send<O: OutboundTransform>(
     alloc: Global,
     half: &mut O,
     outgoing: &mut Outgoing,
     frame: Queued,
-    data: &[u8],
+    data: Vec<u8>,
 ) -> Result<(), SendError>
-    ensures ok { OnOk result (Sends O.seals half.old outgoing.old frame «data».now half.new outgoing.new) }
-    ensures too_long { (result ≡ Err SendError.TooLong) ↔ (MESSAGE_LENGTH_MAX < length «data».now + O.overhead half.old) }
+    ensures ok { OnOk result (Sends O.seals half.old outgoing.old frame «data».items half.new outgoing.new) }
+    ensures too_long { (result ≡ Err SendError.TooLong) ↔ (MESSAGE_LENGTH_MAX < length «data».items + O.overhead half.old) }
     ensures refused { (t : AnError) → result ≡ Err (SendError.Failed t)
-        → MayFail O.refuses half.old «data».now (associated frame.message.header) t }
+        → MayFail O.refuses half.old «data».items (associated frame.message.header) t }
     ensures err { OnErr result ((half.new ≡ half.old) × (outgoing.new ≡ outgoing.old)) }
 {
-    if data.len() > MESSAGE_LENGTH_MAX - half.max_overhead() {
-        return Err(SendError::TooLong);
-    }
+    check_limit(half, data.len())?;
     let associated = associated_bytes(&frame.message.header);
-    if outgoing.place(frame).is_err() {
-        return Err(SendError::Failed(TransformError::NoMemory));
+    make_room(outgoing, frame)?;
+    let sealed = half.transform_outbound_vec(alloc, data, &associated);
+    settle(outgoing, sealed)
+}
+
+/// Seals data that stay the caller's under these associated bytes. An error changes nothing.
+pub fn seal<O: OutboundTransform>(
+    alloc: Global,
+    half: &mut O,
+    data: &[u8],
+    aad: &[u8],
+) -> Result<Vec<u8>, SendError>
+    ensures ok { IfOk result (λ sealed. O.seals half.old «data».now aad.now sealed.items half.new) }
+    ensures fits { IfOk result (λ sealed. length sealed.items ≤ MESSAGE_LENGTH_MAX) }
+    ensures too_long { (result ≡ Err SendError.TooLong) ↔ (MESSAGE_LENGTH_MAX < length «data».now + O.overhead half.old) }
+    ensures refused { (t : AnError) → result ≡ Err (SendError.Failed t)
+        → MayFail O.refuses half.old «data».now aad.now t }
+    ensures err { OnErr result (half.new ≡ half.old) }
+{
+    check_limit(half, data.len())?;
+    let sealed = half.transform_outbound(alloc, data, aad)?;
+    Ok(sealed)
+}
+
+/// Seals such data and queues the frame with them, as `send` does, but under these associated bytes.
+pub fn send_copy<O: OutboundTransform>(
+    alloc: Global,
+    half: &mut O,
+    outgoing: &mut Outgoing,
+    frame: Queued,
+    data: &[u8],
+    aad: &[u8],
+) -> Result<(), SendError>
+    ensures ok { OnOk result (SendsUnder O.seals half.old outgoing.old frame «data».now aad.now half.new outgoing.new) }
+    ensures too_long { (result ≡ Err SendError.TooLong) ↔ (MESSAGE_LENGTH_MAX < length «data».now + O.overhead half.old) }
+    ensures refused { (t : AnError) → result ≡ Err (SendError.Failed t)
+        → MayFail O.refuses half.old «data».now aad.now t }
+    ensures err { OnErr result ((half.new ≡ half.old) × (outgoing.new ≡ outgoing.old)) }
+{
+    check_limit(half, data.len())?;
+    make_room(outgoing, frame)?;
+    let sealed = half.transform_outbound(alloc, data, aad);
+    settle(outgoing, sealed)
+}
+
+/// Queues the frame, whose payload is still to come. An error changes nothing.
+fn make_room(outgoing: &mut Outgoing, frame: Queued) -> Result<(), SendError>
+    ensures ok { OnOk result (outgoing.new ≡ with_frame outgoing.old frame) }
+    ensures err { IfErr result (λ e. (e ≡ SendError.Failed AnError.NoMemory) × (outgoing.new ≡ outgoing.old)) }
+
+    // What `placed_filled` and `placed_withdrawn` ask of a caller that settles the frame.
+    ensures was { IsQueue outgoing.old }
+{
+    match outgoing.place(frame) {
+        Ok(()) => Ok(()),
+        Err(_) => Err(SendError::Failed(TransformError::NoMemory)),
     }
-    match half.transform_outbound(alloc, data, &associated) {
-        Ok(sealed) => {
-            outgoing.fill(Blob::from_vec(sealed));
+}
+
+/// Gives the last frame its payload, or takes it back where there is none.
+fn settle(outgoing: &mut Outgoing, sealed: Result<Vec<u8>, TransformError>) -> Result<(), SendError>
+    ensures { MatchResult sealed
+        (λ payload. (result ≡ Ok tt) × (outgoing.new ≡ filled outgoing.old payload.items))
+        (λ error. (result ≡ Err (SendError.Failed error)) × (outgoing.new ≡ withdrawn outgoing.old)) }
+{
+    match sealed {
+        Ok(payload) => {
+            outgoing.fill(Blob::from_vec(payload));
             Ok(())
         }
         Err(error) => {

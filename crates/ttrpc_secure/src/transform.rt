@@ -61,6 +61,20 @@ pub trait OutboundTransform {
         ensures refused { IfErr result (MayFail refuses self.old «data».now aad.now) }
         ensures err { OnErr result (self.new ≡ self.old) };
 
+    /// Seals data that the half may keep, as it seals other data: a half that adds nothing gives the vector back.
+    fn transform_outbound_vec(
+        &mut self,
+        alloc: Global,
+        data: Vec<u8>,
+        aad: &[u8],
+    ) -> Result<Vec<u8>, TransformError>
+        ensures ok { IfOk result (λ sealed. seals self.old «data».items aad.now sealed.items self.new) }
+        ensures refused { IfErr result (MayFail refuses self.old «data».items aad.now) }
+        ensures err { OnErr result (self.new ≡ self.old) }
+    {
+        self.transform_outbound(alloc, data.as_slice(), aad)
+    }
+
     /// How much longer sealed data is at most.
     fn max_overhead(&self) -> usize
         ensures { result ≡ overhead self.now };
@@ -86,4 +100,18 @@ pub trait InboundTransform {
         ensures ok { IfOk result (λ opened. opens self.old «data».now aad.now opened.items self.new) }
         ensures refused { IfErr result (MayFail refuses self.old «data».now aad.now) }
         ensures err { OnErr result (self.new ≡ self.old) };
+
+    /// Opens data that the half may keep, as it opens other data: a half that takes nothing off gives the vector back.
+    fn transform_inbound_vec(
+        &mut self,
+        alloc: Global,
+        data: Vec<u8>,
+        aad: &[u8],
+    ) -> Result<Vec<u8>, TransformError>
+        ensures ok { IfOk result (λ opened. opens self.old «data».items aad.now opened.items self.new) }
+        ensures refused { IfErr result (MayFail refuses self.old «data».items aad.now) }
+        ensures err { OnErr result (self.new ≡ self.old) }
+    {
+        self.transform_inbound(alloc, data.as_slice(), aad)
+    }
 }

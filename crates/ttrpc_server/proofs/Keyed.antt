@@ -1,18 +1,7 @@
 -- Jobs under their ids, in order.
-use Rattle.std.proofs.Common.{rules, Bool, cond, arith, ◌≡◌, ◌<◌, ◌≤◌, ◌-◌, ℕ, ◌+◌, List, [], ◌∷◌, ◌++◌, append_assoc, length, filter, Option, Some, None, IsSome, is_some, not, true, false, refl, sym, ap, subst, ◌∙◌}
-use Rattle.std.specs.List.{AllByRecursion}
-use Rattle.std.proofs.lemmas.Option.{same_Some}
+use Rattle.ttrpc_server.proofs.Words.{rules, cases_Bool, inl, inr, arith, ◌≡◌, ◌<◌, ◌≤◌, ◌-◌, ℕ, ◌+◌, List, [], ◌∷◌, ◌++◌, append_assoc, length, filter, Option, Some, None, IsSome, not, false, refl, sym, ap, subst, ◌∙◌, AllByRecursion, same_Some, is_at, insert_entry, lookup, remove_entry, set_value, values_of, nat_cmp, nat_cmp_is, Equal, Greater, Request, ActiveJob, AllWait, AreJobs, keyed, EndsOne, HandsOne, IsTaken, IsUnknown, NoneWaits, Rising, waits, all_joined, all_less, Equal-is}
 use Rattle.std.proofs.lemmas.List.Filters.{length-filter_both}
-use Rattle.std.specs.BTreeMap.{is_at, insert_entry}
-use Rattle.std.specs.Map.{lookup, remove_entry, set_value, values_of}
-use Rattle.std.specs.Ordering.{nat_cmp}
-use Rattle.std.specs.Cmp.{Equal-is, nat_cmp_is}
 use Rattle.std.proofs.lemmas.Map.Lookups.{exact_unsigned}
-use Rattle.std.specs.declared.cmp.Ordering.TheVariants.{Equal, Greater}
-use Rattle.ttrpc_proto.specs.declared.request.Request.{Request}
-use Rattle.ttrpc_server.specs.declared.job.ActiveJob.{ActiveJob}
-use Rattle.ttrpc_server.specs.Inside.{AllWait, AreJobs, keyed}
-use Rattle.ttrpc_server.specs.Jobs.{EndsOne, HandsOne, IsTaken, IsUnknown, NoneWaits, Rising, waits}
 
 above : (k x : ℕ) → x < k → nat_cmp k x ≡ Greater
 above k x less = sym (nat_cmp_is k x Greater less)
@@ -76,29 +65,20 @@ between low high (j ∷ front) back job rising =
 abbrev Stands : ℕ → List ActiveJob → ActiveJob → Type 0
 Stands k js job = (front : List ActiveJob) × (back : List ActiveJob) × (js ≡ front ++ job ∷ back) × (job.id ≡ k)
 
-found_at : (k : ℕ) (j : ActiveJob) (js : List ActiveJob) (job : ActiveJob) (b : Bool) → is_at (nat_cmp k) j.id ≡ b → (lookup (is_at (nat_cmp k)) (keyed js) ≡ Some job → Stands k js job)
-    → cond b (Some j) (lookup (is_at (nat_cmp k)) (keyed js)) ≡ Some job → Stands k (j ∷ js) job
-found_at k j js job false e more found = let x = more found in (j ∷ x.0, x.1, ap (λ (l : List ActiveJob). j ∷ l) x.2, x.3)
-found_at k j js job true e more found =
-    let is : j ≡ job = same_Some j job found in
-    let same : k ≡ j.id = exact_unsigned k j.id (search (rules, Equal-is)) in
-    ([], js, ap (λ (x : ActiveJob). x ∷ js) is, sym (same ∙ ap (λ (x : ActiveJob). x.id) is))
-
 found : (k : ℕ) (js : List ActiveJob) (job : ActiveJob) → lookup (is_at (nat_cmp k)) (keyed js) ≡ Some job → Stands k js job
 found k [] job is = cc
-found k (j ∷ js) job is = found_at k j js job (is_at (nat_cmp k) j.id) refl (found k js job) is
+found k (j ∷ js) job is = elim (cases_Bool (is_at (nat_cmp k) j.id)) [
+  | inl e ↦
+      let here : j ≡ job = same_Some j job (rw e at is) in
+      let same : k ≡ j.id = exact_unsigned k j.id (search (rules, Equal-is)) in
+      ([], js, ap (λ (x : ActiveJob). x ∷ js) here, sym (same ∙ ap (λ (x : ActiveJob). x.id) here))
+  | inr e ↦ let x = found k js job (rw e at is) in (j ∷ x.0, x.1, ap (λ (l : List ActiveJob). j ∷ l) x.2, x.3)
+]
 
 -- what holds of each that stands between others holds of all
 all_by_split : {X : Type 0} (P : X → Type 0) (xs : List X) → ((front back : List X) (x : X) → xs ≡ front ++ x ∷ back → P x) → AllByRecursion P xs
 all_by_split P [] each = tt
 all_by_split P (x ∷ xs) each = (each [] xs x refl, all_by_split P xs (λ front back y is. each (x ∷ front) back y (ap (λ l. x ∷ l) is)))
-
--- only what is found under an id has it
-unknown : (low high k : ℕ) (js : List ActiveJob) (r : Option ActiveJob) → Rising low js high → lookup (is_at (nat_cmp k)) (keyed js) ≡ r
-    → ((job : ActiveJob) → r ≡ Some job → job.request ≡ None → ⊥) → IsUnknown js k
-unknown low high k js r rising found none = all_by_split _ js (λ front back job is same taken.
-    let here = (between low high front back job (rw is at rising)).0 in
-    none job (sym found ∙ rw (is, ← same) here) taken)
 
 -- ---- the jobs of a server
 
@@ -122,25 +102,23 @@ module _ {handed last : ℕ} {entries : List (ℕ × ActiveJob)} where
 
   pub unknown_here : AreJobs handed last entries → (id : ℕ) (r : Option ActiveJob) → lookup (is_at (nat_cmp id)) entries ≡ r
       → ((job : ActiveJob) → r ≡ Some job → job.request ≡ None → ⊥) → IsUnknown (values_of entries) id
-  unknown_here a id r is none = rw (list_is a) (unknown 0 last id (a.taken ++ a.waiting) r (all_rise a) (ap (λ es. lookup (is_at (nat_cmp id)) es) (sym a.are) ∙ is) none)
+  unknown_here a id r is none = rw (list_is a) (all_by_split _ (a.taken ++ a.waiting) (λ front back job at same taken.
+      let here = (between 0 last front back job (rw at at (all_rise a))).0 in
+      none job (sym is ∙ rw (a.are, at, ← same) here) taken))
 
-pub new_jobs : AreJobs 0 0 []
-new_jobs = record { taken = []; waiting = []; are = refl; rising = omega arith; none_waits = tt; wait = refl }
+pub new_jobs : (n : ℕ) → AreJobs n n []
+new_jobs n = record { taken = []; waiting = []; are = refl; rising = omega arith; none_waits = tt; wait = refl }
 
 -- one more is made
 wait_more : (from to : ℕ) (js : List ActiveJob) (job : ActiveJob) → AllWait from js to → job.id ≡ to + 1 → IsSome job.request → AllWait from (js ++ job ∷ []) (to + 1)
 wait_more from to [] job wait next some = (omega (arith, wait, next), some, omega (arith, wait))
 wait_more from to (j ∷ js) job wait next some = (wait.0, wait.1, wait_more (from + 1) to js job wait.2 next some)
 
-inserted : (last : ℕ) (entries : List (ℕ × ActiveJob)) (taken waiting : List ActiveJob) (job : ActiveJob) → entries ≡ keyed (taken ++ waiting) → Rising 0 (taken ++ waiting) last → job.id ≡ last + 1
-    → insert_entry nat_cmp entries (last + 1) job ≡ keyed (taken ++ (waiting ++ job ∷ []))
-inserted last entries taken waiting job are rising next =
-    rw are (insert_behind 0 last (last + 1) (taken ++ waiting) job rising (omega arith) ∙ rw (← next, ← append_assoc, keyed_append (taken ++ waiting) (job ∷ [])) refl)
-
 pub made : (handed last : ℕ) (entries : List (ℕ × ActiveJob)) → AreJobs handed last entries → (job : ActiveJob) → job.id ≡ last + 1 → IsSome job.request
     → AreJobs handed (last + 1) (insert_entry nat_cmp entries (last + 1) job) × (values_of (insert_entry nat_cmp entries (last + 1) job) ≡ values_of entries ++ job ∷ [])
 made handed last entries a job next some =
-    let are = inserted last entries a.taken a.waiting job a.are (all_rise a) next in (
+    let are : insert_entry nat_cmp entries (last + 1) job ≡ keyed (a.taken ++ (a.waiting ++ job ∷ [])) =
+    rw a.are (insert_behind 0 last (last + 1) (a.taken ++ a.waiting) job (all_rise a) (omega arith) ∙ rw (← next, ← append_assoc, keyed_append (a.taken ++ a.waiting) (job ∷ [])) refl) in (
       record {
         taken = a.taken;
         waiting = a.waiting ++ job ∷ [];
@@ -187,10 +165,6 @@ pub rising_more : (low high : ℕ) (js : List ActiveJob) (job : ActiveJob) → j
 rising_more low high [] job next rising = (omega (arith, next, rising), omega (arith, next))
 rising_more low high (j ∷ js) job next rising = (rising.0, rising_more j.id high js job next rising.1)
 
-none_more : (js : List ActiveJob) (job : ActiveJob) → NoneWaits js → job.request ≡ None → NoneWaits (js ++ job ∷ [])
-none_more [] job none here = (here, tt)
-none_more (j ∷ js) job none here = (none.0, none_more js job none.1 here)
-
 pub given_out : (handed last : ℕ) (entries new : List (ℕ × ActiveJob)) → AreJobs handed last entries → (handed ≡ last → ⊥) → (job : ActiveJob) (request : Request) (after : Option Request)
     → lookup (is_at (nat_cmp (handed + 1))) entries ≡ Some job → job.request ≡ Some request → after ≡ None
     → new ≡ set_value (is_at (nat_cmp (handed + 1))) entries (record { id = job.id; header = job.header; request = after })
@@ -206,7 +180,7 @@ given_out handed last entries new a more job request after found asked gone is =
         waiting = w.back;
         are = rw append_assoc refl;
         rising = rising_more 0 handed a.taken taken w.id a.rising;
-        none_waits = none_more a.taken taken a.none_waits refl;
+        none_waits = all_joined (λ (j : ActiveJob). j.request ≡ None) a.taken (taken ∷ []) a.none_waits (refl, tt);
         wait = w.wait;
       },
       record {
@@ -234,13 +208,9 @@ pub none_waits : (handed last : ℕ) (entries : List (ℕ × ActiveJob)) (a : Ar
 none_waits handed last entries a all = rw (list_is a) (none_both a.taken a.waiting handed last a.none_waits a.wait all)
 
 -- how many wait
-counted_some : (j : ActiveJob) (js : List ActiveJob) (from to : ℕ) (r : Option Request) → j.request ≡ r → IsSome j.request → length (filter waits js) + (from + 1) ≡ to → length (filter waits (j ∷ js)) + from ≡ to
-counted_some j js from to None is some more = let bad : is_some {T = Request} None ≡ true = rw is at some in cc
-counted_some j js from to (Some request) is some more = rw is (omega (arith, more))
-
 counted : (taken waiting : List ActiveJob) (from to : ℕ) → NoneWaits taken → AllWait from waiting to → length (filter waits (taken ++ waiting)) + from ≡ to
 counted [] [] from to none wait = omega (arith, wait)
-counted [] (j ∷ js) from to none wait = counted_some j js from to j.request refl wait.1 (counted [] js (from + 1) to tt wait.2)
+counted [] (j ∷ js) from to none wait = let more = counted [] js (from + 1) to tt wait.2 in rw wait.1 (omega (arith, more))
 counted (j ∷ taken) waiting from to none wait = rw none.0 (counted taken waiting from to none.1 wait)
 
 pub count_waits : (handed last : ℕ) (entries : List (ℕ × ActiveJob)) → AreJobs handed last entries → last - handed ≡ length (filter waits (values_of entries))
@@ -271,10 +241,6 @@ pub one_less : (low high : ℕ) (front back : List ActiveJob) (job : ActiveJob) 
 one_less low high [] back job rising = from_lower low job.id high back (omega (arith, rising.0)) rising.1
 one_less low high (j ∷ front) back job rising = (rising.0, one_less j.id high front back job rising.1)
 
-none_less : (front back : List ActiveJob) (job : ActiveJob) → NoneWaits (front ++ job ∷ back) → NoneWaits (front ++ back)
-none_less [] back job none = none.1
-none_less (j ∷ front) back job none = (none.0, none_less front back job none.1)
-
 pub ended : {handed last : ℕ} {entries : List (ℕ × ActiveJob)} → AreJobs handed last entries → (id : ℕ) (job : ActiveJob) → IsTaken (values_of entries) id job
     → AreJobs handed last (remove_entry (is_at (nat_cmp id)) entries) × EndsOne (values_of entries) id job (values_of (remove_entry (is_at (nat_cmp id)) entries))
 ended {handed} {last} {entries} a id job at =
@@ -287,7 +253,7 @@ ended {handed} {last} {entries} a id job at =
         waiting = a.waiting;
         are = gone ∙ ap keyed (ap (λ (l : List ActiveJob). at.front ++ l) x.2 ∙ sym (append_assoc at.front x.0 a.waiting));
         rising = one_less 0 handed at.front x.0 job (rw x.1 at a.rising);
-        none_waits = none_less at.front x.0 job (rw x.1 at a.none_waits);
+        none_waits = all_less (λ (j : ActiveJob). j.request ≡ None) at.front x.0 job (rw x.1 at a.none_waits);
         wait = a.wait;
       },
       record { at = at; jobs = ap (λ (es : List (ℕ × ActiveJob)). values_of es) gone ∙ values_keyed (at.front ++ at.back) },

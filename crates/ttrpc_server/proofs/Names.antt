@@ -1,18 +1,14 @@
 -- The names of a registry, as its maps have them.
-use Rattle.std.proofs.Common.{rules, ◌≡◌, ℕ, Bool, true, false, cond, ◌&&◌, ◌||◌, List, [], ◌∷◌, map, Option, Some, String, string_bytes, refl, sym, ap, ◌∙◌}
-use Rattle.std.specs.BTreeMap.{BTreeMap, get_by_text, is_at}
+use Rattle.ttrpc_server.proofs.Words.{rules, ◌≡◌, ℕ, Bool, true, false, cond, ◌&&◌, List, [], ◌∷◌, map, Option, Some, String, string_bytes, refl, sym, ap, ◌∙◌, BTreeMap, get_by_text, is_at, list_any, lookup, set_value, update, btree_map_updates_text, is_eq-slice_cmp, text_cmp, AddsName, Names, has_name}
+use Rattle.std.proofs.Common.{◌||◌}
 use Rattle.std.specs.BTreeSet.{BTreeSet, contains_text}
-use Rattle.std.specs.List.{list_any}
 use Rattle.std.specs.BTreeMap as tree
-use Rattle.std.specs.Map.{lookup, set_value, update}
 use Rattle.std.specs.Option.{option_map_or}
 use Rattle.std.specs.Str.{bytes_eq}
 use Rattle.std.specs.String.{string_cmp}
 use Rattle.std.proofs.lemmas.Cmp.{nat_list_eq_equiv}
-use Rattle.std.proofs.lemmas.Map.Text.{btree_map_updates_text, is_eq-slice_cmp, text_cmp}
 use Rattle.std.proofs.lemmas.Map.Steps.{set_value_same}
 use Rattle.std.proofs.lemmas.Slice.Eq.{bytes_eq-Decides}
-use Rattle.ttrpc_server.specs.Registry.{AddsName, Names, has_name}
 
 either : {X Z : Type 0} (f : X → Bool) (g : Z → Bool) (b : Bool) (x : X) (z : Z) (o : Option X) (p : Option Z) → f x ≡ g z → option_map_or f o false ≡ option_map_or g p false
     → option_map_or f (cond b (Some x) o) false ≡ option_map_or g (cond b (Some z) p) false

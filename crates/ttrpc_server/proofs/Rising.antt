@@ -1,17 +1,5 @@
 -- The ids of jobs rise through every call.
-use Rattle.std.proofs.Common.{◌≡◌, ℕ, ◌≤◌, List, [], ◌∷◌, ◌++◌, Some, None, refl, arith}
-use Rattle.std.specs.List.{AllByRecursion}
-use Rattle.ttrpc_header.specs.declared.header.MessageHeader.{MessageHeader}
-use Rattle.ttrpc_proto.specs.declared.request.Request.{Request}
-use Rattle.ttrpc_secure.specs.declared.transform.OutboundTransform.{Ghosts as OutboundTransform}
-use Rattle.ttrpc_connection.specs.declared.arrived.Arrived.{Arrived}
-use Rattle.ttrpc_connection.specs.Frames.{Sent}
-use Rattle.ttrpc_server.specs.declared.job.ActiveJob.{ActiveJob}
-use Rattle.ttrpc_server.specs.declared.job.Job.{Job}
-use Rattle.ttrpc_server.specs.Jobs.{EndsOne, HandsOne, NoneWaits, Rising}
-use Rattle.ttrpc_server.specs.Server.{Server}
-use Rattle.ttrpc_server.specs.Table.{Row, Known, row_of}
-use Rattle.ttrpc_server.specs.Happens.{Does, serves}
+use Rattle.ttrpc_server.proofs.Words.{◌≡◌, ℕ, ◌≤◌, List, [], ◌∷◌, ◌++◌, Some, None, refl, arith, AllByRecursion, MessageHeader, Request, OutboundTransform, Arrived, Sent, ActiveJob, Job, EndsOne, HandsOne, NoneWaits, Rising, Server, Row, Known, row_of, Does, serves}
 use Rattle.ttrpc_server.proofs.Keyed.{one_less, rising_more}
 
 -- ---- lists of jobs

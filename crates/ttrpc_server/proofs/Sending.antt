@@ -1,28 +1,15 @@
 -- What was sent, why a response wasn't, and how an answer ends its job.
-use Rattle.std.proofs.Common.{◌≡◌, ◌≤◌, ◌∙◌, ℕ, List, [], ◌∷◌, refl, ap, subst, Option, inl, inr, None}
+use Rattle.ttrpc_server.proofs.Words.{◌≡◌, ◌≤◌, ◌∙◌, ℕ, List, [], ◌∷◌, refl, ap, subst, Option, inl, inr, None, Error, MessageHeader, Response, Queued, OutboundTransform, Outbox, Failure, HandlerError, IsTold, kept, SendsOne, safe_limit, ActiveJob, EndsOne, fitted, response_size, response_bytes, IsResponseFrame, IsStatusResponse, Refers, Responds, Server, with_list, IsUnsent, Row, Tells, TellsOf, Answers, Does, Drops, Finishes, QueuesResponse, with_jobs, IsUnsentFor, SendsSome, TellsUnsent}
+use Rattle.std.specs.Prelude.{◌⊎◌, Result, Ok}
+use Rattle.ttrpc_connection.specs.Feeds.{IsFailed}
+use Rattle.ttrpc_server.specs.Jobs.{IsTaken}
+use Rattle.ttrpc_server.specs.Table.{HasUnsent, RefusesAnswer, RefusesResponse}
 use Rattle.ttrpc_values.specs.declared.code.Code.{Code}
-use Rattle.ttrpc_error.specs.declared.error.Error.{Error}
 use Rattle.ttrpc_error.specs.declared.error.Error.TheVariants.{Others}
-use Rattle.ttrpc_header.specs.declared.header.MessageHeader.{MessageHeader}
-use Rattle.ttrpc_proto.specs.declared.response.Response.{Response}
-use Rattle.ttrpc_frame.specs.declared.outgoing.Queued.{Queued}
-use Rattle.ttrpc_secure.specs.declared.transform.OutboundTransform.{Ghosts as OutboundTransform}
-use Rattle.ttrpc_connection.specs.declared.outbox.Outbox.{Outbox}
-use Rattle.ttrpc_connection.specs.declared.failure.Failure.{Failure}
-use Rattle.ttrpc_connection.specs.declared.failure.Failure.TheVariants.{HandlerError}
-use Rattle.ttrpc_connection.specs.Failure.{IsTold, kept}
-use Rattle.ttrpc_connection.specs.Frames.{SendsOne, safe_limit}
-use Rattle.ttrpc_server.specs.declared.job.ActiveJob.{ActiveJob}
 use Rattle.ttrpc_server.specs.declared.replies.Unsent.{Unsent}
 use Rattle.ttrpc_server.specs.declared.replies.Unsent.TheVariants.{AboveLimit, Unsealed, NoMemory}
 use Rattle.ttrpc_server.specs.declared.server.ServerCore.{ServerCore}
-use Rattle.ttrpc_connection.specs.Texts.{unsafe_payload_text}
-use Rattle.ttrpc_server.specs.Jobs.{EndsOne}
-use Rattle.ttrpc_server.specs.Responses.{fitted, response_size, response_bytes, IsResponseFrame, IsStatusResponse, Refers, Responds}
-use Rattle.ttrpc_server.specs.Server.{Server, with_list}
-use Rattle.ttrpc_server.specs.Table.{IsUnsent, Row, Tells, TellsOf}
-use Rattle.ttrpc_server.specs.Happens.{Answers, Does, Drops, with_jobs}
-use Rattle.ttrpc_server.specs.Inside.{IsUnsentFor, SendsSome, TellsUnsent}
+use Rattle.ttrpc_security.specs.Texts.{unsafe_payload_text}
 
 -- ---- what was sent
 
@@ -57,28 +44,58 @@ pub told_unsent : {O : Type 0} (out : OutboundTransform O) (o : O) (k : ℕ) (r 
     → IsUnsentFor out o k r u → limit ≡ safe_limit out o → TellsUnsent limit u told → IsUnsent out o k r told
 told_unsent out o k r (AboveLimit n) limit told why is tells = inl (
   why.1,
-  subst (λ (m : ℕ). IsTold (Others (unsafe_payload_text (response_size (fitted (safe_limit out o) r)) m)) told) is
-      (subst (λ (m : ℕ). IsTold (Others (unsafe_payload_text m limit)) told) why.0 tells),
+  subst (λ (m : ℕ). IsTold (Others (unsafe_payload_text (response_size (fitted (safe_limit out o) r)) m [])) told) is
+      (subst (λ (m : ℕ). IsTold (Others (unsafe_payload_text m limit [])) told) why.0 tells),
 )
 told_unsent out o k r (Unsealed text) limit told why is tells = inr (inl (text, why, tells))
 told_unsent out o k r NoMemory limit told why is tells = inr (inr tells)
 
+-- a response that can't be sent is no answer to its job
+pub unsent_answer : {O I : Type 0} (out : OutboundTransform O) (old : ServerCore O I) (id k : ℕ) (job : ActiveJob) (r : Response) (response : Result Response Error) (told : Error)
+    → IsTaken old.state.jobs.list id job → k ≡ job.header.stream_id → response ≡ Ok r → RefusesResponse out old k r told → IsFailed old.connection.failure told ⊎ HasUnsent out old id response told
+unsent_answer out old id k job r response told at stream is (inl failed) = inl failed
+unsent_answer out old id k job r response told at stream is (inr unsent) = inr (record {
+  alive = unsent.alive;
+  job = job;
+  at = at;
+  answer = r;
+  is_answer = is;
+  unsent = subst (λ n. IsUnsent out old.connection.outbox.half n r told) stream unsent.unsent;
+})
+
+pub refuses_answer : {O I : Type 0} (out : OutboundTransform O) (old : ServerCore O I) (id : ℕ) (response : Result Response Error) (told : Error)
+    → IsFailed old.connection.failure told ⊎ HasUnsent out old id response told → RefusesAnswer out old id response told
+refuses_answer out old id response told (inl failed) = inl failed
+refuses_answer out old id response told (inr unsent) = inr (inr unsent)
+
 -- ---- an answer ends its job
 
--- a response was sent, and then its job forgotten
-pub answers_at : {O I : Type 0} (out : OutboundTransform O) (old : ServerCore O I) (id : ℕ) (job : ActiveJob) (r : Response) (t : Server) (outbox : Outbox O)
-    → old.connection.failure ≡ None → SendsSome out old.connection.outbox (Responds (safe_limit out old.connection.outbox.half) job.header.stream_id r) outbox
-    → EndsOne old.state.jobs.list id job t.jobs.list → t ≡ with_list old.state t.jobs.list
-    → Answers out old id r (record { state = t; connection = record old.connection { outbox = outbox } })
-answers_at out old id job r t outbox alive some ends same = record {
+-- a job was forgotten
+pub finishes_at : {O I : Type 0} (old : ServerCore O I) (id : ℕ) (job : ActiveJob) (t : Server) → old.connection.failure ≡ None
+    → EndsOne old.state.jobs.list id job t.jobs.list → t ≡ with_list old.state t.jobs.list → Finishes old id (record { state = t; connection = old.connection })
+finishes_at old id job t alive ends same = record {
   alive = alive;
   job = job;
   ends = ends;
-  sent = some.0;
-  responds = some.1;
-  sends = some.2;
-  same = ap (λ s. record { state = s; connection = record old.connection { outbox = outbox } }) same;
+  same = ap (λ s. record { state = s; connection = old.connection }) same;
 }
+
+-- a response was queued, and then its job forgotten
+pub answers_at : {O I : Type 0} (out : OutboundTransform O) (old : ServerCore O I) (id k : ℕ) (job : ActiveJob) (r : Response) (mid : ServerCore O I) (t : Server)
+    → QueuesResponse out old k r mid → k ≡ job.header.stream_id → EndsOne mid.state.jobs.list id job t.jobs.list → t ≡ with_list mid.state t.jobs.list
+    → Answers out old id r (record { state = t; connection = mid.connection })
+answers_at out old id k job r mid t queues at ends same =
+    let state : mid.state ≡ old.state = ap (λ (c : ServerCore _ _). c.state) queues.same in
+    record {
+      alive = queues.alive;
+      job = job;
+      ends = subst (λ (s : Server). EndsOne s.jobs.list id job t.jobs.list) state ends;
+      sent = queues.sent;
+      responds = subst (λ n. Responds (safe_limit out old.connection.outbox.half) n r queues.sent) at queues.responds;
+      sends = queues.sends;
+      same = ap (λ s. record { state = s; connection = mid.connection }) (same ∙ ap (λ (s : Server). with_list s t.jobs.list) state)
+          ∙ ap (λ c. record { state = with_list old.state t.jobs.list; connection = c }) (ap (λ (c : ServerCore _ _). c.connection) queues.same);
+    }
 
 -- a handler's error: the job forgotten, and the connection failed
 pub drops_at : {O I : Type 0} (old : ServerCore O I) (id : ℕ) (job : ActiveJob) (t : Server) (failure : Option Failure)

@@ -1,16 +1,12 @@
 -- The calls of a server core beside those of its connection.
 -- Source: this project's.
 use Rattle.std.specs.Prelude.{◌≡◌, ℕ, List, [], map, Option, Some, None}
-use Rattle.ttrpc_proto.specs.declared.response.Response.{Response}
-use Rattle.ttrpc_frame.specs.declared.outgoing.Queued.{Queued}
+use Rattle.ttrpc_server.specs.Types.{Response, Queued, OutboundTransform, Connection, Job}
 use Rattle.ttrpc_frame.specs.Queue.{Placed}
-use Rattle.ttrpc_secure.specs.declared.transform.OutboundTransform.{Ghosts as OutboundTransform}
-use Rattle.ttrpc_connection.specs.declared.connection.Connection.{Connection}
 use Rattle.ttrpc_connection.specs.Calls.{Others, Queues}
-use Rattle.ttrpc_server.specs.declared.job.Job.{Job}
 use Rattle.ttrpc_server.specs.declared.server.ServerCore.{ServerCore}
 use Rattle.ttrpc_server.specs.Server.{Server}
-use Rattle.ttrpc_server.specs.Happens.{Answers, Drops, Hands}
+use Rattle.ttrpc_server.specs.Happens.{Answers, Drops, Finishes, Hands, QueuesResponse}
 
 pub data Served : Type 0 where
   -- a job was asked for, and this came
@@ -19,6 +15,10 @@ pub data Served : Type 0 where
   Answered : (id : ℕ) → (response : Response) → Served
   -- a job's handler failed
   Dropped : (id : ℕ) → Served
+  -- a response was queued under a stream's id
+  Responded : (k : ℕ) → (response : Response) → Served
+  -- a job was ended
+  Finished : (id : ℕ) → Served
 
 abbrev pub core : {O I : Type 0} → Server → Connection O I → ServerCore O I
 core state connection = record { state = state; connection = connection }
@@ -29,3 +29,6 @@ served out (Took None) s old happenings t new = (t ≡ s) × (new ≡ old) × (h
 served out (Answered id response) s old happenings t new =
     Answers out (core s old) id response (core t new) × ((queued : List Queued) × Queues old queued new × (happenings ≡ map Placed queued))
 served out (Dropped id) s old happenings t new = Drops (core s old) id (core t new) × (happenings ≡ [])
+served out (Responded k response) s old happenings t new =
+    QueuesResponse out (core s old) k response (core t new) × ((queued : List Queued) × Queues old queued new × (happenings ≡ map Placed queued))
+served out (Finished id) s old happenings t new = Finishes (core s old) id (core t new) × (happenings ≡ [])

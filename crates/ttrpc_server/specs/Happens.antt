@@ -1,19 +1,11 @@
 -- What each call of a server core does.
 -- Source: PROTOCOL.md of ttrpc, "Request" and "Response".
 use Rattle.std.specs.Prelude.{◌≡◌, ℕ, ◌-◌, ◌^◌, List, [], Some, None}
-use Rattle.ttrpc_header.specs.declared.header.MessageHeader.{MessageHeader}
-use Rattle.ttrpc_proto.specs.declared.request.Request.{Request}
-use Rattle.ttrpc_proto.specs.declared.response.Response.{Response}
-use Rattle.ttrpc_secure.specs.declared.transform.OutboundTransform.{Ghosts as OutboundTransform}
+use Rattle.ttrpc_server.specs.Types.{MessageHeader, Request, Response, OutboundTransform, Arrived, Failure, JobIdsUsedUp, HandlerError, ActiveJob, Job, Rules}
 use Rattle.ttrpc_secure.specs.declared.transform.InboundTransform.{Ghosts as InboundTransform}
-use Rattle.ttrpc_connection.specs.declared.arrived.Arrived.{Arrived}
-use Rattle.ttrpc_connection.specs.declared.failure.Failure.{Failure}
-use Rattle.ttrpc_connection.specs.declared.failure.Failure.TheVariants.{JobIdsUsedUp, HandlerError}
+use Rattle.ttrpc_hooks.specs.Facts.{Facts}
 use Rattle.ttrpc_connection.specs.Frames.{Sent, SendsAll, safe_limit}
 use Rattle.ttrpc_connection.specs.Feeds.{Ways, new_connection}
-use Rattle.ttrpc_server.specs.declared.job.ActiveJob.{ActiveJob}
-use Rattle.ttrpc_server.specs.declared.job.Job.{Job}
-use Rattle.ttrpc_server.specs.declared.rules.Rules.{Rules}
 use Rattle.ttrpc_server.specs.declared.server.ServerCore.{ServerCore}
 use Rattle.ttrpc_server.specs.Jobs.{EndsOne, HandsOne, with_job}
 use Rattle.ttrpc_server.specs.Registry.{Services}
@@ -47,10 +39,10 @@ stops_serving old a failure = IsUsedUp (row_of old a) old failure
 abbrev pub serving : {O I : Type 0} → OutboundTransform O → InboundTransform I → Ways Server O I
 serving out in_ = record { out = out; in_ = in_; core = record { reacts = serves out; fails = stops_serving } }
 
--- ---- taking and answering a job
+-- ---- taking, answering and ending a job
 
-abbrev pub new_core : {O I : Type 0} → Rules → Services → O → I → ServerCore O I
-new_core rules services outbound inbound = record { state = new_server rules services; connection = new_connection outbound inbound }
+abbrev pub new_core : {O I : Type 0} → Rules → Services → Facts → O → I → ServerCore O I
+new_core rules services known outbound inbound = record { state = new_server rules services; connection = new_connection known outbound inbound }
 
 -- the core with these jobs
 abbrev pub with_jobs : {O I : Type 0} → ServerCore O I → List ActiveJob → ServerCore O I
@@ -59,6 +51,21 @@ with_jobs c jobs = record c { state = with_list c.state jobs }
 pub record Hands {O I : Type 0} (old : ServerCore O I) (handed : Job) (new : ServerCore O I) : Type 0 where
   pub alive : old.connection.failure ≡ None
   pub hands : HandsOne old.state.jobs.list handed new.state.jobs.list
+  pub same : new ≡ with_jobs old new.state.jobs.list
+
+-- a response is queued under a stream's id, and no job ends
+pub record QueuesResponse {O I : Type 0} (out : OutboundTransform O) (old : ServerCore O I) (k : ℕ) (response : Response) (new : ServerCore O I) : Type 0 where
+  pub alive : old.connection.failure ≡ None
+  pub sent : List Sent
+  pub responds : Responds (safe_limit out old.connection.outbox.half) k response sent
+  pub sends : SendsAll out old.connection.outbox sent new.connection.outbox
+  pub same : new ≡ record old { connection = record old.connection { outbox = new.connection.outbox } }
+
+-- a job that was taken ends, and nothing is queued
+pub record Finishes {O I : Type 0} (old : ServerCore O I) (id : ℕ) (new : ServerCore O I) : Type 0 where
+  pub alive : old.connection.failure ≡ None
+  pub job : ActiveJob
+  pub ends : EndsOne old.state.jobs.list id job new.state.jobs.list
   pub same : new ≡ with_jobs old new.state.jobs.list
 
 -- a job that was taken is answered

@@ -2,17 +2,10 @@
 -- Source: this project's.
 use Rattle.std.specs.Prelude.{◌≡◌, ◌⊎◌, ◌+◌, ◌-◌, ◌^◌, ℕ, List, [], ◌∷◌, ◌++◌, None, IsSome}
 use Rattle.std.specs.List.{AllByRecursion}
-use Rattle.ttrpc_error.specs.declared.error.Error.{Error}
-use Rattle.ttrpc_error.specs.declared.error.Error.TheVariants.{Others, NoMemory as MemoryRefused}
-use Rattle.ttrpc_proto.specs.declared.response.Response.{Response}
-use Rattle.ttrpc_secure.specs.declared.transform.OutboundTransform.{Ghosts as OutboundTransform}
-use Rattle.ttrpc_connection.specs.declared.failure.Failure.{Failure}
-use Rattle.ttrpc_connection.specs.declared.failure.Failure.TheVariants.{JobIdsUsedUp, NoMemory as NoMemoryLeft}
-use Rattle.ttrpc_connection.specs.declared.outbox.Outbox.{Outbox}
+use Rattle.ttrpc_server.specs.Types.{Error, Others, MemoryRefused, Response, OutboundTransform, Failure, JobIdsUsedUp, NoMemoryLeft, Outbox, ActiveJob}
 use Rattle.ttrpc_connection.specs.Failure.{IsTold}
 use Rattle.ttrpc_connection.specs.Frames.{Sent, SendsAll, safe_limit}
-use Rattle.ttrpc_connection.specs.Texts.{unsafe_payload_text, unsealed_text}
-use Rattle.ttrpc_server.specs.declared.job.ActiveJob.{ActiveJob}
+use Rattle.ttrpc_security.specs.Texts.{unsafe_payload_text, unsealed_text}
 use Rattle.ttrpc_server.specs.declared.replies.Unsent.{Unsent}
 use Rattle.ttrpc_server.specs.declared.replies.Unsent.TheVariants.{AboveLimit, Unsealed, NoMemory}
 use Rattle.ttrpc_server.specs.Happens.{IsUsedUp}
@@ -66,7 +59,7 @@ IsUnfit limit r NoMemory = Unit {0}
 
 -- what is told of it
 abbrev pub TellsUnsent : ℕ → Unsent → Error → Type 0
-TellsUnsent limit (AboveLimit n) told = IsTold (Others (unsafe_payload_text n limit)) told
+TellsUnsent limit (AboveLimit n) told = IsTold (Others (unsafe_payload_text n limit [])) told
 TellsUnsent limit (Unsealed why) told = IsTold (Others (unsealed_text why)) told
 TellsUnsent limit NoMemory told = told ≡ MemoryRefused
 

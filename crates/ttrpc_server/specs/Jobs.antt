@@ -2,10 +2,7 @@
 -- Source: PROTOCOL.md of ttrpc, "Request" and "Response".
 use Rattle.std.specs.Prelude.{◌≡◌, ◌≢◌, ◌<◌, ◌≤◌, ℕ, ◌+◌, List, [], ◌∷◌, ◌++◌, filter, nat_eq, Some, None, is_some, Bool}
 use Rattle.std.specs.List.{AllByRecursion}
-use Rattle.ttrpc_header.specs.declared.header.MessageHeader.{MessageHeader}
-use Rattle.ttrpc_proto.specs.declared.request.Request.{Request}
-use Rattle.ttrpc_server.specs.declared.job.ActiveJob.{ActiveJob}
-use Rattle.ttrpc_server.specs.declared.job.Job.{Job}
+use Rattle.ttrpc_server.specs.Types.{MessageHeader, Request, ActiveJob, Job}
 
 pub record JobList : Type 0 where
   -- the id of the last job that was made, 0 before the first

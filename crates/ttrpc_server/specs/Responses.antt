@@ -2,15 +2,10 @@
 -- Source: PROTOCOL.md of ttrpc, "Response".
 use Rattle.std.specs.Prelude.{◌≡◌, ◌⊎◌, ℕ, ◌-◌, ◌<◌, ◌≤◌, ◌^◌, List, [], ◌∷◌, ◌++◌, length, codes, min, None, Some, Bool, nat_lt, if◌then◌else◌}
 use Rattle.std.specs.Fmt.{decimal}
-use Rattle.ttrpc_values.specs.declared.code.Code.{Code}
-use Rattle.ttrpc_values.specs.declared.code.Code.TheVariants.{INVALID_ARGUMENT}
+use Rattle.ttrpc_server.specs.Types.{Code, INVALID_ARGUMENT, MESSAGE_TYPE_RESPONSE, Response, Queued, OutboundTransform}
 use Rattle.ttrpc_wire.specs.Field.{fields_bytes}
-use Rattle.ttrpc_header.specs.declared.header.TheConstants.{MESSAGE_TYPE_RESPONSE}
-use Rattle.ttrpc_proto.specs.declared.response.Response.{Response}
 use Rattle.ttrpc_proto.specs.Messages.{response_fields}
 use Rattle.ttrpc_error.specs.ErrorText.{status_of}
-use Rattle.ttrpc_frame.specs.declared.outgoing.Queued.{Queued}
-use Rattle.ttrpc_secure.specs.declared.transform.OutboundTransform.{Ghosts as OutboundTransform}
 use Rattle.ttrpc_secure.specs.Sends.{associated}
 use Rattle.ttrpc_connection.specs.Frames.{Sent, safe_limit}
 

@@ -2,9 +2,8 @@
 -- Source: PROTOCOL.md of ttrpc, "Message Frame".
 use Rattle.std.specs.Prelude.{◌≡◌, ◌≤◌, ℕ, ◌+◌, List, [], ◌∷◌, ◌++◌, length}
 use Rattle.std.specs.List.{AllByRecursion}
-use Rattle.ttrpc_header.specs.declared.header.MessageHeader.{MessageHeader}
+use Rattle.ttrpc_server.specs.Types.{MessageHeader, ActiveJob}
 use Rattle.ttrpc_connection.specs.Frames.{Sent}
-use Rattle.ttrpc_server.specs.declared.job.ActiveJob.{ActiveJob}
 use Rattle.ttrpc_server.specs.Jobs.{new_job}
 use Rattle.ttrpc_server.specs.Table.{Row, Known}
 

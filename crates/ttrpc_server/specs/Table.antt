@@ -1,27 +1,16 @@
 -- The server's table under sync rules: which row a frame has, from top to bottom, and for what an answer is refused, in
 -- the order of the tests. Each row and each refusal has its text here.
 -- Source: PROTOCOL.md of ttrpc, "Request" and "Response".
-use Rattle.std.specs.Prelude.{◌≡◌, ◌⊎◌, ℕ, List, ◌++◌, codes, Option, Some, None, Result, Ok, if◌then◌else◌, nat_eq, nat_lt, length}
-use Rattle.ttrpc_values.specs.declared.code.Code.{Code}
-use Rattle.ttrpc_values.specs.declared.code.Code.TheVariants.{UNKNOWN, INVALID_ARGUMENT}
+use Rattle.std.specs.Prelude.{[], ◌≡◌, ◌⊎◌, ℕ, List, ◌++◌, codes, Option, Some, None, Result, Ok, if◌then◌else◌, nat_eq, nat_lt, length}
+use Rattle.ttrpc_server.specs.Types.{Code, UNKNOWN, INVALID_ARGUMENT, MessageHeader, MESSAGE_LENGTH_MAX, MESSAGE_TYPE_REQUEST, Request, Response, Error, Others, NoMemory, OutboundTransform, Arrived, TooLong, Opened, Refused, ActiveJob}
 use Rattle.ttrpc_wire.specs.Fold.{read_from}
-use Rattle.ttrpc_header.specs.declared.header.MessageHeader.{MessageHeader}
-use Rattle.ttrpc_header.specs.declared.header.TheConstants.{MESSAGE_LENGTH_MAX, MESSAGE_TYPE_REQUEST}
-use Rattle.ttrpc_proto.specs.declared.request.Request.{Request}
-use Rattle.ttrpc_proto.specs.declared.response.Response.{Response}
 use Rattle.ttrpc_proto.specs.Messages.{empty_request, request_step}
-use Rattle.ttrpc_error.specs.declared.error.Error.{Error}
-use Rattle.ttrpc_error.specs.declared.error.Error.TheVariants.{Others, NoMemory}
-use Rattle.ttrpc_error.specs.Oversize.{oversize_text}
-use Rattle.ttrpc_secure.specs.declared.transform.OutboundTransform.{Ghosts as OutboundTransform}
-use Rattle.ttrpc_connection.specs.declared.arrived.Arrived.{Arrived}
+use Rattle.ttrpc_header.specs.Oversize.{oversize_text}
 use Rattle.ttrpc_connection.specs.declared.arrived.Opening.{Opening}
-use Rattle.ttrpc_connection.specs.declared.arrived.Opening.TheVariants.{TooLong, Opened, Refused}
 use Rattle.ttrpc_connection.specs.Failure.{IsTold}
 use Rattle.ttrpc_connection.specs.Feeds.{IsFailed}
 use Rattle.ttrpc_connection.specs.Frames.{safe_limit}
-use Rattle.ttrpc_connection.specs.Texts.{unsafe_payload_text, unsealed_text}
-use Rattle.ttrpc_server.specs.declared.job.ActiveJob.{ActiveJob}
+use Rattle.ttrpc_security.specs.Texts.{unsafe_payload_text, unsealed_text}
 use Rattle.ttrpc_server.specs.declared.server.ServerCore.{ServerCore}
 use Rattle.ttrpc_server.specs.Jobs.{IsTaken, IsUnknown}
 use Rattle.ttrpc_server.specs.Registry.{Services, has_method}
@@ -68,7 +57,7 @@ sync_row services h (Opened plain) =
 abbrev pub row_of : Server → Arrived → Row
 row_of s a = sync_row s.services a.header a.opening
 
--- ---- refusals of an answer, in their order
+-- ---- refusals of an answer, of a response and of a job's end, in their order
 
 -- the connection lives, and no such job waits for its answer
 pub record HasNoJob {O I : Type 0} (old : ServerCore O I) (id : ℕ) (told : Error) : Type 0 where
@@ -79,7 +68,7 @@ pub record HasNoJob {O I : Type 0} (old : ServerCore O I) (id : ℕ) (told : Err
 -- or it does, and its response can't be sent: it is above the limit, the half refuses it, or memory is wanted
 abbrev pub IsUnsent : {O : Type 0} → OutboundTransform O → O → ℕ → Response → Error → Type 0
 IsUnsent out o k r told =
-    (IsAboveLimit (safe_limit out o) r × IsTold (Others (unsafe_payload_text (response_size (fitted (safe_limit out o) r)) (safe_limit out o))) told)
+    (IsAboveLimit (safe_limit out o) r × IsTold (Others (unsafe_payload_text (response_size (fitted (safe_limit out o) r)) (safe_limit out o) [])) told)
     ⊎ ((why : List ℕ) × IsUnsealed out o k r why × IsTold (Others (unsealed_text why)) told)
     ⊎ (told ≡ NoMemory)
 
@@ -93,3 +82,14 @@ pub record HasUnsent {O I : Type 0} (out : OutboundTransform O) (old : ServerCor
 
 abbrev pub RefusesAnswer : {O I : Type 0} → OutboundTransform O → ServerCore O I → ℕ → Result Response Error → Error → Type 0
 RefusesAnswer out old id response told = IsFailed old.connection.failure told ⊎ HasNoJob old id told ⊎ HasUnsent out old id response told
+
+-- the connection lives, and the response can't be sent
+pub record HasUnsentResponse {O I : Type 0} (out : OutboundTransform O) (old : ServerCore O I) (k : ℕ) (response : Response) (told : Error) : Type 0 where
+  pub alive : old.connection.failure ≡ None
+  pub unsent : IsUnsent out old.connection.outbox.half k response told
+
+abbrev pub RefusesResponse : {O I : Type 0} → OutboundTransform O → ServerCore O I → ℕ → Response → Error → Type 0
+RefusesResponse out old k response told = IsFailed old.connection.failure told ⊎ HasUnsentResponse out old k response told
+
+abbrev pub RefusesFinish : {O I : Type 0} → ServerCore O I → ℕ → Error → Type 0
+RefusesFinish old id told = IsFailed old.connection.failure told ⊎ HasNoJob old id told

@@ -7,12 +7,15 @@ ghost use Rattle.ttrpc_server.specs.Inside.{IsUnfit, IsUnsentFor, SendsSome, Tel
 use crate::responses::limit_response;
 use std::alloc::{AllocError, Global};
 use ttrpc_codec::Codec;
-use ttrpc_connection::{Failure, Outbox, unsafe_payload_error, unsealed_error};
+use ttrpc_codec::message::encode_with_room;
+use ttrpc_connection::{Failure, Outbox};
 use ttrpc_error::Error;
 use ttrpc_frame::{GenMessage, Queued};
 use ttrpc_header::{MESSAGE_LENGTH_MAX, MessageHeader};
 use ttrpc_proto::Response;
-use ttrpc_secure::{OutboundTransform, SendError, TransformError};
+use ttrpc_secure::sending::SendError;
+use ttrpc_secure::{OutboundTransform, TransformError};
+use ttrpc_security::errors::{unsafe_payload_error, unsealed_error};
 use ttrpc_values::{Blob, CodecError, Text};
 
 /// Why a response wasn't sent.
@@ -43,7 +46,7 @@ impl Unsent {
         ensures { TellsUnsent limit self result }
     {
         match self {
-            Unsent::AboveLimit(size) => unsafe_payload_error(alloc, size, limit),
+            Unsent::AboveLimit(size) => unsafe_payload_error(alloc, size, limit, ""),
             Unsent::Unsealed(why) => unsealed_error(alloc, &why),
             Unsent::NoMemory => Error::NoMemory,
         }
@@ -59,23 +62,23 @@ fn fitted_bytes(alloc: Global, limit: usize, response: &Response) -> Result<Vec<
 {
     let size = response.size() as usize;
     if size <= limit {
-        return encoded(alloc, response);
+        return encoded(alloc, response, size);
     }
     let instead = limit_response(alloc, size, limit)?;
     let size = instead.size() as usize;
     if size > limit {
         return Err(Unsent::AboveLimit(size));
     }
-    encoded(alloc, &instead)
+    encoded(alloc, &instead, size)
 }
 
-/// The written form of a response that is no longer than a message may be.
-fn encoded(alloc: Global, response: &Response) -> Result<Vec<u8>, Unsent>
+/// The written form of a response that has this size, and is no longer than a message may be.
+fn encoded(alloc: Global, response: &Response, size: usize) -> Result<Vec<u8>, Unsent>
     requires { response_size response.now ≤ MESSAGE_LENGTH_MAX }
     ensures ok { IfOk result (λ bytes. bytes.items ≡ response_bytes response.now) }
     ensures err { IfErr result (λ unsent. unsent ≡ Unsent.NoMemory) }
 {
-    match response.encode(alloc) {
+    match encode_with_room(alloc, response, size) {
         Ok(bytes) => Ok(bytes),
         Err(CodecError::NoMemory) => Err(Unsent::NoMemory),
         Err(_) => unreachable!(),
@@ -98,7 +101,7 @@ pub(crate) fn response_frame(alloc: Global, stream_id: u32) -> Queued
 }
 
 /// Sends a response, or one that says that it is above the limit. An `Err` changes nothing.
-pub(crate) fn respond<O: OutboundTransform + Drop>(
+pub(crate) fn send_response<O: OutboundTransform + Drop>(
     alloc: Global,
     outbox: &mut Outbox<O>,
     stream_id: u32,
@@ -111,7 +114,7 @@ pub(crate) fn respond<O: OutboundTransform + Drop>(
 {
     let bytes = fitted_bytes(alloc, outbox.limit(), response)?;
     let frame = response_frame(alloc, stream_id);
-    match outbox.send(alloc, frame, bytes.as_slice()) {
+    match outbox.send(alloc, frame, bytes) {
         Ok(()) => Ok(()),
         Err(SendError::Failed(TransformError::Refused(why))) => Err(Unsent::Unsealed(why)),
         Err(SendError::Failed(TransformError::NoMemory)) => Err(Unsent::NoMemory),
@@ -130,7 +133,7 @@ pub(crate) fn refer<O: OutboundTransform + Drop>(
         (Refers O.OutboundTransform outbox.old.half stream_id response.now) outbox.new) }
     ensures err { IfErr result (λ failure. (outbox.new ≡ outbox.old) × (failure ≡ Failure.NoMemory)) }
 {
-    match respond(alloc, outbox, stream_id, response) {
+    match send_response(alloc, outbox, stream_id, response) {
         Ok(()) => Ok(()),
         Err(Unsent::NoMemory) => Err(Failure::NoMemory),
         Err(Unsent::AboveLimit(_)) => Ok(()),

@@ -1,28 +1,31 @@
 //! The core of a server: frames in, jobs and responses out.
-ghost use Rattle.std.specs.Prelude.{◌≡◌, ◌≢◌, ◌<◌, ◌≤◌, ◌-◌, ◌↔◌, ◌⊎◌, ℕ, List, [], filter, MatchBool, true, length, take, drop, min, is_some, if◌then◌else◌, IfOk, IfErr, OnOk, OnErr, IfSome, IfNone, Ok, Err, Some, None};
+ghost use Rattle.std.specs.Prelude.{◌≡◌, ◌≢◌, ◌<◌, ◌≤◌, ◌-◌, ◌↔◌, ◌⊎◌, ℕ, List, [], filter, true, length, take, drop, min, is_some, if◌then◌else◌, IfOk, IfErr, OnOk, OnErr, IfSome, IfNone, Ok, Err, Some, None};
 ghost use Rattle.ttrpc_error.specs.declared.error.Error.{Error as AnError};
 ghost use Rattle.ttrpc_proto.specs.declared.response.Response.{Response as AResponse};
 ghost use Rattle.ttrpc_frame.specs.Frames.{Holds, nothing};
 ghost use Rattle.ttrpc_frame.specs.Queue.{open_part, unsent, with_lent, after_report};
+ghost use Rattle.ttrpc_hooks.specs.Facts.{facts_of};
 ghost use Rattle.ttrpc_connection.specs.declared.failure.Failure.{Failure as AFailure};
 ghost use Rattle.ttrpc_connection.specs.Failure.{IsTold, error_of, kept};
 ghost use Rattle.ttrpc_connection.specs.Feeds.{Breaks, Feeds, FeedsFront, IsFailed};
 ghost use Rattle.ttrpc_server.specs.declared.job.ActiveJob.{ActiveJob as AJob};
-ghost use Rattle.ttrpc_server.specs.Happens.{Answers, Drops, Hands, new_core, serving};
+ghost use Rattle.ttrpc_server.specs.Happens.{Answers, Drops, Finishes, Hands, QueuesResponse, new_core, serving};
 ghost use Rattle.ttrpc_server.specs.Jobs.{IsTaken, IsUnknown, NoneWaits, Rising, waits};
-ghost use Rattle.ttrpc_server.specs.Table.{IsUnsent, RefusesAnswer};
+ghost use Rattle.ttrpc_server.specs.Table.{RefusesAnswer, RefusesFinish, RefusesResponse};
 
 use crate::job::{Job, JobId};
 use crate::registry::Registry;
-use crate::replies::respond;
+use crate::replies::send_response;
 use crate::responses::unknown_job_error;
 use crate::rules::Rules;
 use crate::state::ServerState;
 use std::alloc::Global;
 use ttrpc_connection::{Connection, Failure};
 use ttrpc_error::Error;
+use ttrpc_hooks::ConnectionData;
 use ttrpc_proto::Response;
 use ttrpc_secure::{InboundTransform, OutboundTransform};
+use ttrpc_security::ConnectionContext;
 
 /// The core of a server, over its connection's two halves.
 #[derive(Drop)]
@@ -32,14 +35,26 @@ pub struct ServerCore<O, I> {
 }
 
 impl<O: OutboundTransform + Drop, I: InboundTransform + Drop> ServerCore<O, I> {
-    /// A core without jobs, over these halves. Takes no memory.
-    pub fn new(alloc: Global, rules: Rules, registry: Registry, outbound: O, inbound: I) -> Self
-        ensures { result ≡ new_core rules registry outbound inbound }
+    /// A core without jobs, over a connection of this context. Takes no memory.
+    pub fn new(
+        alloc: Global,
+        rules: Rules,
+        registry: Registry,
+        context: ConnectionContext<O, I>,
+    ) -> Self
+        ensures { result ≡ new_core rules registry (facts_of context.connection_data.entries) context.outbound context.inbound }
     {
         ServerCore {
             state: ServerState::new(alloc, rules, registry),
-            connection: Connection::new(alloc, outbound, inbound),
+            connection: Connection::new(alloc, context),
         }
+    }
+
+    /// What is known of the connection, which stays as its context had it.
+    pub fn connection_data(&self) -> &ConnectionData
+        ensures { facts_of result.now.entries ≡ self.now.connection.known }
+    {
+        self.connection.connection_data()
     }
 
     /// Takes a piece whole, and says how many bytes that are. Each frame that is whole with it acts, in order. The
@@ -52,6 +67,7 @@ impl<O: OutboundTransform + Drop, I: InboundTransform + Drop> ServerCore<O, I> {
             Breaks (serving O.OutboundTransform I.InboundTransform) self.old.state self.old.connection piece.now now e self.new.state self.new.connection) }
         ensures failed { (f : AFailure) → self.old.connection.failure ≡ Some f
             → (self.new ≡ self.old) × IfErr result (IsTold (error_of f)) }
+        ensures known { self.new.connection.known ≡ self.old.connection.known }
     {
         self.connection.feed(alloc, &mut self.state, piece, now)
     }
@@ -66,6 +82,7 @@ impl<O: OutboundTransform + Drop, I: InboundTransform + Drop> ServerCore<O, I> {
             Breaks (serving O.OutboundTransform I.InboundTransform) self.old.state self.old.connection piece.now now e self.new.state self.new.connection) }
         ensures failed { (f : AFailure) → self.old.connection.failure ≡ Some f
             → (self.new ≡ self.old) × IfErr result (IsTold (error_of f)) }
+        ensures known { self.new.connection.known ≡ self.old.connection.known }
     {
         self.connection
             .feed_front(alloc, &mut self.state, piece, now)
@@ -106,12 +123,13 @@ impl<O: OutboundTransform + Drop, I: InboundTransform + Drop> ServerCore<O, I> {
         ensures refused { IfErr result (RefusesAnswer O.OutboundTransform self.old id response.now) }
         ensures err { OnErr result (self.new ≡ self.old) }
     {
-        self.connection.check_alive(alloc)?;
-        let Some(stream_id) = self.state.jobs().stream_of(id) else {
-            return Err(unknown_job_error(alloc));
-        };
+        let stream_id = self.active(alloc, id)?;
         match response {
-            Ok(response) => self.answer_under(alloc, id, stream_id, response),
+            Ok(response) => {
+                self.respond(alloc, stream_id, response)?;
+                self.state.end(id);
+                Ok(())
+            }
             Err(_) => {
                 self.state.end(id);
                 self.connection.fail(Failure::HandlerError);
@@ -120,13 +138,43 @@ impl<O: OutboundTransform + Drop, I: InboundTransform + Drop> ServerCore<O, I> {
         }
     }
 
-    /// Whether the job of this number was taken and not answered yet. Takes no memory.
-    pub fn awaits_answer(&self, id: JobId) -> bool
-        ensures { MatchBool result
-            ((job : AJob) × IsTaken self.now.state.jobs.list id job)
-            (IsUnknown self.now.state.jobs.list id) }
+    /// Queues a response under a stream's id, and ends no job: `finish` does that. One above the half's limit is
+    /// replaced by a status that says so. A refusal changes nothing, and its caller still has the response.
+    pub fn respond(
+        &mut self,
+        alloc: Global,
+        stream_id: u32,
+        response: &Response,
+    ) -> Result<(), Error>
+        ensures queued { OnOk result (QueuesResponse O.OutboundTransform self.old stream_id response.now self.new) }
+        ensures refused { IfErr result (RefusesResponse O.OutboundTransform self.old stream_id response.now) }
+        ensures err { OnErr result (self.new ≡ self.old) }
     {
-        self.state.jobs().stream_of(id).is_some()
+        self.connection.check_alive(alloc)?;
+        match send_response(alloc, &mut self.connection.outbox, stream_id, response) {
+            Ok(()) => Ok(()),
+            Err(unsent) => Err(unsent.error(alloc, self.connection.outbox.limit())),
+        }
+    }
+
+    /// Ends a job that was taken, and queues nothing. It is refused only for a job that wasn't taken or has ended, or
+    /// once the connection has failed; memory is taken for the text of a refusal alone. A refusal changes nothing.
+    pub fn finish(&mut self, alloc: Global, id: JobId) -> Result<(), Error>
+        ensures finished { OnOk result (Finishes self.old id self.new) }
+        ensures refused { IfErr result (RefusesFinish self.old id) }
+        ensures err { OnErr result (self.new ≡ self.old) }
+    {
+        self.active(alloc, id)?;
+        self.state.end(id);
+        Ok(())
+    }
+
+    /// The stream's id of the job of this number, if it was taken and hasn't ended. Takes no memory.
+    pub fn stream_of(&self, id: JobId) -> Option<u32>
+        ensures some { IfSome result (λ k. (job : AJob) × IsTaken self.now.state.jobs.list id job × (k ≡ job.header.stream_id)) }
+        ensures none { IfNone result (IsUnknown self.now.state.jobs.list id) }
+    {
+        self.state.jobs().stream_of(id)
     }
 
     /// How many jobs wait to be handed out. Takes no memory.
@@ -163,6 +211,13 @@ impl<O: OutboundTransform + Drop, I: InboundTransform + Drop> ServerCore<O, I> {
         } }
     {
         self.connection.fail(Failure::Told(error));
+    }
+
+    /// Whether the connection has failed. Takes no memory.
+    pub fn has_failed(&self) -> bool
+        ensures { result ≡ is_some self.now.connection.failure }
+    {
+        self.connection.has_failed()
     }
 
     /// The failure, or `NoMemory` where memory for its text was refused.
@@ -225,27 +280,16 @@ impl<O: OutboundTransform + Drop, I: InboundTransform + Drop> ServerCore<O, I> {
         self.connection.lent()
     }
 
-    /// Answers the job of this id, which was taken and has this stream's id. A refusal changes nothing.
-    fn answer_under(
-        &mut self,
-        alloc: Global,
-        id: JobId,
-        stream_id: u32,
-        response: &Response,
-    ) -> Result<(), Error>
-        requires alive { self.old.connection.failure ≡ None }
-        requires taken { (job : AJob) × IsTaken self.old.state.jobs.list id job × (stream_id ≡ job.header.stream_id) }
-        ensures answered { OnOk result (Answers O.OutboundTransform self.old id response.now self.new) }
-        ensures refused { IfErr result (IsUnsent
-            O.OutboundTransform self.old.connection.outbox.half stream_id response.now) }
-        ensures err { OnErr result (self.new ≡ self.old) }
+    /// The stream's id of a job that may be answered or ended, or why it may not.
+    fn active(&self, alloc: Global, id: JobId) -> Result<u32, Error>
+        ensures ok { IfOk result (λ k. (self.now.connection.failure ≡ None)
+            × ((job : AJob) × IsTaken self.now.state.jobs.list id job × (k ≡ job.header.stream_id))) }
+        ensures err { IfErr result (RefusesFinish self.now id) }
     {
-        match respond(alloc, &mut self.connection.outbox, stream_id, response) {
-            Ok(()) => {
-                self.state.end(id);
-                Ok(())
-            }
-            Err(unsent) => Err(unsent.error(alloc, self.connection.outbox.limit())),
+        self.connection.check_alive(alloc)?;
+        match self.stream_of(id) {
+            Some(stream_id) => Ok(stream_id),
+            None => Err(unknown_job_error(alloc)),
         }
     }
 }

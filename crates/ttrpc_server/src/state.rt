@@ -15,12 +15,12 @@ use crate::responses::{oversize_response, path_response, unopened_response, unre
 use crate::rules::Rules;
 use std::alloc::Global;
 use std::marker::Model;
-use ttrpc_codec::Codec;
+use ttrpc_codec::in_place::decode_in_place;
 use ttrpc_connection::{Arrived, Failure, Opening, Outbox, Reacts};
 use ttrpc_header::{MESSAGE_LENGTH_MAX, MESSAGE_TYPE_REQUEST, MessageHeader};
 use ttrpc_proto::Request;
 use ttrpc_secure::OutboundTransform;
-use ttrpc_values::CodecError;
+use ttrpc_values::{Blob, CodecError};
 
 /// The jobs of a server, and what decides which frames become jobs.
 #[derive(Drop)]
@@ -81,13 +81,13 @@ impl ServerState {
         alloc: Global,
         outbox: &mut Outbox<O>,
         header: MessageHeader,
-        plain: &[u8],
+        plain: Blob,
     ) -> Result<(), Failure>
         ensures does { OnOk result (SendsSome O.OutboundTransform outbox.old
-            (λ sent. Does O.OutboundTransform (sync_row self.old.services header (Opening.Opened plain.now)) self.old outbox.old.half header sent self.new)
+            (λ sent. Does O.OutboundTransform (sync_row self.old.services header (Opening.Opened plain)) self.old outbox.old.half header sent self.new)
             outbox.new) }
         ensures err { IfErr result (λ failure. (self.new ≡ self.old) × (outbox.new ≡ outbox.old)
-            × FailsOn (sync_row self.old.services header (Opening.Opened plain.now)) self.old failure) }
+            × FailsOn (sync_row self.old.services header (Opening.Opened plain)) self.old failure) }
     {
         if plain.len() > MESSAGE_LENGTH_MAX {
             let response = oversize_response(alloc, plain.len())?;
@@ -96,7 +96,7 @@ impl ServerState {
         if header.type_ != MESSAGE_TYPE_REQUEST {
             return Ok(());
         }
-        match Request::decode(alloc, plain) {
+        match decode_in_place(alloc, plain.into_vec()) {
             Ok(request) => self.begin(alloc, outbox, header, request),
             Err(CodecError::NoMemory) => Err(Failure::NoMemory),
             Err(error) => {
@@ -151,7 +151,7 @@ impl<O: OutboundTransform + Drop> Reacts<O> for ServerState {
                 let response = unopened_response(alloc, &why)?;
                 refer(alloc, outbox, header.stream_id, &response)
             }
-            Opening::Opened(plain) => self.act(alloc, outbox, header, plain.as_slice()),
+            Opening::Opened(plain) => self.act(alloc, outbox, header, plain),
         }
     }
 }

@@ -1,3 +1,4 @@
 pub mod Counting
 pub mod Handing
+pub mod Working
 pub mod Writing

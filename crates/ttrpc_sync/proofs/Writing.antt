@@ -1,8 +1,12 @@
 -- What was written and what was reported, one write after the other.
-use Rattle.std.proofs.Common.{◌≡◌, ℕ, zero, suc, ◌≤◌, List, [], ◌∷◌, ◌++◌, Option, Some, None, IfSome, take, sym, ◌∙◌, ap, subst, refl, arith}
+use Rattle.std.proofs.Common.{All, ◌≡◌, ℕ, zero, suc, ◌≤◌, List, [], ◌∷◌, ◌++◌, Option, Some, None, IfSome, take, sym, ◌∙◌, ap, subst, refl, arith}
 use Rattle.std.proofs.KnownBytes.{Appends-nil, Appends-trans, Appends-kept}
 use Rattle.std.specs.Io.KnownBytes.{Appends, Keeps}
-use Rattle.ttrpc_sync.specs.Loops.{Told, Written, reported, waiting}
+use Rattle.std.proofs.lemmas.List.Elements.{All-push}
+use Rattle.ttrpc_streams.proofs.Calls.{makes_more, makes_none}
+use Rattle.ttrpc_streams.specs.Streams.{Called, Makes}
+use Rattle.ttrpc_sync.specs.declared.ports.Word.{Word}
+use Rattle.ttrpc_sync.specs.Loops.{EndsAt, GoesOn, Told, WritesUntil, Written, reported, waiting}
 
 pub written_nothing : (a p : Option (List ℕ)) → Written a a p p
 written_nothing a p = record { bytes = []; written = Appends-nil a; told = Appends-nil p }
@@ -33,3 +37,20 @@ pub reported_as_lent : (t : Option Told) (new : Option (List ℕ)) (lent : List 
 reported_as_lent None new lent n m le is told = tt
 reported_as_lent (Some t) new lent n m le is told =
     subst (λ xs. Appends (Some t.reported) new xs) (sym (ap (λ xs. take n xs) is ∙ take_fewer n m t.waiting le)) told
+
+pub no_calls : (a : Option (List Called)) → Makes a a (All GoesOn)
+no_calls a = makes_none a (All GoesOn) (λ k d lt. absurd (omega arith))
+
+pub goes_on : (a b c : Option (List Called)) (call : Called) → Makes a b (All GoesOn) → Makes b c (λ calls. calls ≡ call ∷ []) → GoesOn call → Makes a c (All GoesOn)
+goes_on a b c call before now goes =
+    makes_more a b c (All GoesOn) (λ calls. calls ≡ call ∷ []) (All GoesOn) (λ xs ys all is. subst (λ l. All GoesOn (xs ++ l)) (sym is) (All-push GoesOn xs call all goes)) before now
+
+pub ends_here : (a b c : Option (List Called)) (call : Called) (word : Word) → Makes a b (All GoesOn) → Makes b c (λ calls. calls ≡ call ∷ []) → EndsAt call word → Makes a c (WritesUntil word)
+ends_here a b c call word before now ends =
+    makes_more a b c (All GoesOn) (λ calls. calls ≡ call ∷ []) (WritesUntil word) (λ xs ys goes is. record {
+      before = xs;
+      last = call;
+      all = ap (λ l. xs ++ l) is;
+      goes = goes;
+      ends = ends;
+    }) before now

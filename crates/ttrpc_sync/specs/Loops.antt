@@ -1,12 +1,10 @@
 -- What the loops do, over bytes that may be known.
 -- Source: this project's.
-use Rattle.std.specs.Prelude.{◌≡◌, ◌⊎◌, ◌+◌, ◌≤◌, ℕ, List, [], length, ◌++◌, Option, None, Some, Result, Ok, Err, ⊤}
+use Rattle.std.specs.Prelude.{◌≡◌, ◌≢◌, ◌⊎◌, ◌+◌, ◌<◌, ◌≤◌, ℕ, List, [], ◌∷◌, length, ◌++◌, All, Option, None, Some, ⊤}
 use Rattle.std.specs.Io.KnownBytes.{Appends, Consumes}
-use Rattle.std.specs.IoError.{error_kind}
-use Rattle.std.specs.declared.io.Error.{Error}
-use Rattle.std.specs.declared.io.ErrorKind.{ErrorKind}
-use Rattle.std.specs.declared.io.ErrorKind.TheVariants.{WriteZero}
+use Rattle.std.specs.declared.io.ErrorKind.TheVariants.{Interrupted, WriteZero}
 use Rattle.ttrpc_header.specs.declared.header.TheConstants.{DEFAULT_PAGE_SIZE}
+use Rattle.ttrpc_streams.specs.Streams.{Answered, Moved, Failed, Called, Offered, Flushed}
 use Rattle.ttrpc_sync.specs.declared.ports.Word.{Word}
 use Rattle.ttrpc_sync.specs.declared.ports.Word.TheVariants.{Open, Ended, Broke, Stopped}
 
@@ -43,20 +41,6 @@ abbrev pub waiting : Option Told → List ℕ
 waiting None = []
 waiting (Some t) = t.waiting
 
--- What a call of a reader or a writer answered: that it moved so many bytes, or that it failed with an error of this kind.
-pub data Answered : Type 0 where
-  Moved : (count : ℕ) → Answered
-  Failed : (kind : ErrorKind) → Answered
-
-abbrev pub answered : Result ℕ Error → Answered
-answered (Ok n) = Moved n
-answered (Err e) = Failed (error_kind e)
-
--- The same, where only the kind of the error was kept.
-abbrev pub answered_kind : Result ℕ ErrorKind → Answered
-answered_kind (Ok n) = Moved n
-answered_kind (Err k) = Failed k
-
 -- By this last answer of its reader a loop ends with this word: the end where it gave nothing, and a break where it failed, with the error's kind.
 abbrev pub EndsReading : Answered → Word → Type 0
 EndsReading a Open = ⊥
@@ -64,12 +48,34 @@ EndsReading a Ended = a ≡ Moved 0
 EndsReading a (Broke k) = a ≡ Failed k
 EndsReading a Stopped = ⊤
 
--- By this last answer of its writer a loop ends with this word: a break where it failed, with the error's kind, or where it took nothing.
+-- By this last answer of its writer a loop ends with this word: a break where it failed, with the error's kind, or where it took nothing, and at its port's word where it was flushed just before.
 abbrev pub EndsWriting : Answered → Word → Type 0
 EndsWriting a Open = ⊥
 EndsWriting a Ended = ⊥
 EndsWriting a (Broke k) = (a ≡ Failed k) ⊎ ((a ≡ Moved 0) × (k ≡ WriteZero))
-EndsWriting a Stopped = ⊤
+EndsWriting a Stopped = a ≡ Moved 0
+
+-- A call of a writer behind which a loop goes on: it took some bytes, it was flushed, or it was interrupted.
+abbrev pub GoesOn : Called → Type 0
+GoesOn (Offered bytes (Moved n)) = 0 < n
+GoesOn (Offered bytes (Failed k)) = k ≡ Interrupted
+GoesOn (Flushed (Moved n)) = ⊤
+GoesOn (Flushed (Failed k)) = k ≡ Interrupted
+
+-- A call of a writer behind which a loop ends with this word: a break where it failed or took nothing, and at its port's word where it was flushed.
+abbrev pub EndsAt : Called → Word → Type 0
+EndsAt (Offered bytes (Moved n)) word = (n ≡ 0) × (word ≡ Broke WriteZero)
+EndsAt (Offered bytes (Failed k)) word = (k ≢ Interrupted) × (word ≡ Broke k)
+EndsAt (Flushed (Moved n)) word = word ≡ Stopped
+EndsAt (Flushed (Failed k)) word = (k ≢ Interrupted) × (word ≡ Broke k)
+
+-- These are the calls of a writer by a loop that ended with this word: it ended at the last one, and at none before.
+pub record WritesUntil (word : Word) (calls : List Called) : Type 0 where
+  pub before : List Called
+  pub last : Called
+  pub all : calls ≡ before ++ last ∷ []
+  pub goes : All GoesOn before
+  pub ends : EndsAt last word
 
 -- A count that is known in the end stayed as it was.
 abbrev pub IsSameCount : Option ℕ → Option ℕ → Type 0

@@ -3,13 +3,14 @@ ghost use Rattle.std.specs.Prelude.{◌≡◌, ◌≢◌, ◌⊎◌, ℕ, take, 
 ghost use Rattle.std.specs.Io.KnownBytes.{Appends, IsAtEnd};
 ghost use Rattle.std.specs.declared.io.ErrorKind.{ErrorKind};
 ghost use Rattle.ttrpc_sync.specs.declared.ports.Word.{Word};
-ghost use Rattle.ttrpc_sync.specs.Loops.{EndsReading, EndsWriting, Handed, HandedAll, IsOneMore, IsSameCount, Written, reported};
+ghost use Rattle.ttrpc_sync.specs.Loops.{EndsReading, EndsWriting, Handed, HandedAll, IsOneMore, IsSameCount, WritesUntil, Written, reported};
+ghost use Rattle.ttrpc_streams.specs.Streams.{Makes};
 
 use crate::ports::{ReadPort, WritePort};
-use crate::streams::{Sink, Source};
 use std::io::ErrorKind;
 use std::sync::Wait;
 use ttrpc_header::DEFAULT_PAGE_SIZE;
+use ttrpc_streams::{Sink, Source};
 
 #[tactic(auto, using(crate::proofs::Handing::handed_nothing, crate::proofs::Handing::handed_no_more, crate::proofs::Handing::handed_more, crate::proofs::Handing::handed_all, crate::proofs::Counting::one_more_still))]
 /// Reads pieces and hands each to the port, until it has reported an end or a break of the reader, or the port wants no
@@ -69,14 +70,15 @@ fn offer<X: Wait, P: ReadPort>(rt: &X, port: &mut P, piece: &[u8]) -> bool
     unreachable!()
 }
 
-#[tactic(auto, using(crate::proofs::Writing::written_nothing, crate::proofs::Writing::written_no_more, crate::proofs::Counting::one_more_still))]
 /// Writes what the port lends, and reports what the writer took, until it has reported a break, or the port wants to
-/// end. A writer that takes nothing has broken. An interrupted write is tried again, with what is lent then. The port
-/// is asked for more where it lends nothing.
+/// end. A writer that takes nothing has broken. An interrupted write is tried again, with what is lent then. Where the
+/// port lends nothing, the writer is flushed, and then the port is asked for more. An interrupted flush is tried again,
+/// unless the port lends something by then.
 pub fn write_loop<X: Wait, W: Sink, P: WritePort>(rt: &X, writer: &mut W, port: &mut P)
     ensures written { Written (W.contents writer.old) (W.contents writer.new)
         (reported (P.told port.old)) (reported (P.told port.new)) }
     ensures last { IfSome (W.last writer.new) (λ a. EndsWriting a (P.word port.new)) }
+    ensures calls { Makes (W.calls writer.old) (W.calls writer.new) (WritesUntil (P.word port.new)) }
     ensures once { IsOneMore (P.begun port.old) (P.begun port.new) }
     ensures over { (P.word port.new ≡ Word.Stopped) ⊎ ((k : ErrorKind) × (P.word port.new ≡ Word.Broke k)) }
 {
@@ -85,8 +87,18 @@ pub fn write_loop<X: Wait, W: Sink, P: WritePort>(rt: &X, writer: &mut W, port: 
     for _ in rt.forever() {
         let lent = port.lend(&mut buffer);
         if lent == 0 {
-            if !port.more() {
-                return;
+            match writer.flush() {
+                Ok(()) => {
+                    if !port.more() {
+                        return;
+                    }
+                }
+                Err(error) => {
+                    if error.kind() != ErrorKind::Interrupted {
+                        port.broke(error);
+                        return;
+                    }
+                }
             }
         } else {
             match writer.write(&buffer[..lent]) {

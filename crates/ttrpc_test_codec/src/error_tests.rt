@@ -7,10 +7,9 @@ use std::alloc::{AllocError, Global};
 use std::io::ErrorKind;
 use std::process::Abort;
 use std::test::Fail;
-use ttrpc_error::{
-    Error, Result, check_oversize, err_to_others, get_rpc_status, get_status, others_of,
-    sock_error_msg,
-};
+use ttrpc_error::causes::others_of;
+use ttrpc_error::{Error, Result, err_to_others, get_rpc_status, get_status, sock_error_msg};
+use ttrpc_header::oversize::check_oversize;
 use ttrpc_proto::Response;
 use ttrpc_values::{Code, TryClone};
 

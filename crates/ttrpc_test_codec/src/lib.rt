@@ -1,9 +1,11 @@
-//! Tests of the small types, the wire format, the header, the messages and the errors: rows of bytes and of what they
+//! Tests of the small types, the wire format, the header, the messages, the errors and contexts: rows of bytes and of what they
 //! mean, which few functions run.
 #![tactic(auto)]
 
 #[cfg(test)]
 mod bounds_tests;
+#[cfg(test)]
+mod context_tests;
 #[cfg(test)]
 mod error_tests;
 #[cfg(test)]

@@ -8,6 +8,7 @@ use std::fmt::Debug;
 use std::process::Abort;
 use std::test::Fail;
 use ttrpc_codec::Codec;
+use ttrpc_codec::in_place::{CarriesPayload, decode_in_place};
 use ttrpc_proto::{Any, KeyValue, Request, Response, Status};
 use ttrpc_values::{CodecError, TryClone};
 
@@ -102,6 +103,24 @@ const READ: &[(&[u8], Row)] = &[
         Row::KeyValue("k", "v"),
     ),
     (b"\x0a\x01a\x10\x05", Row::Status((0, "", &[]))),
+    // the last payload wins, wherever it lies, and a number under its number is none
+    (
+        b"\x1a\x01\x07\x0a\x01s\x1a\x02\x05\x06\x18\x09\x12\x01m",
+        Row::Request(RequestRow {
+            service: "s",
+            method: "m",
+            payload: &[5, 6],
+            ..NOTHING_ASKED
+        }),
+    ),
+    (
+        b"\x12\x02\x05\x06\x0a\x00\x12\x00",
+        Row::Response((Some((0, "", &[])), b"")),
+    ),
+    (
+        b"\x12\x00\x10\x01\x12\x01\x08\x20\x02",
+        Row::Response((None, b"\x08")),
+    ),
 ];
 
 /// Bytes that mean no message of the type of the row beside them.
@@ -181,6 +200,25 @@ fn refuses<C: Codec<E = CodecError>>(
     Ok(())
 }
 
+/// The bytes mean no such value, read in place or not.
+fn refuses_in_place<C: CarriesPayload>(
+    rt: &impl Abort,
+    alloc: Global,
+    bytes: &[u8],
+    expected: CodecError,
+) -> Tested {
+    refuses::<C>(rt, alloc, bytes, expected)?;
+    match decode_in_place::<C>(alloc, Vec::from_slice(alloc, bytes)?) {
+        Ok(_) => assert!(rt; false, "{bytes:?} are read in place"),
+        Err(CodecError::NoMemory) => return Err(CodecError::NoMemory.into()),
+        Err(error) => assert!(rt;
+            error == expected,
+            "{bytes:?} are refused otherwise in place"
+        ),
+    }
+    Ok(())
+}
+
 /// What a row is asked: to travel as its written form, or to be what other bytes mean.
 #[derive(Clone, Copy)]
 enum Asked {
@@ -215,14 +253,28 @@ fn status_is_so(rt: &impl Abort, alloc: Global, row: &StatusRow, asked: Asked) -
     is_so(rt, alloc, &status, asked)
 }
 
+/// The row holds, and a payload that stays where it lies is the same payload.
+fn is_so_in_place<C: CarriesPayload + PartialEq>(
+    rt: &impl Abort,
+    alloc: Global,
+    value: &C,
+    asked: Asked,
+) -> Tested {
+    is_so(rt, alloc, value, asked)?;
+    let (Asked::Travels(bytes) | Asked::IsReadFrom(bytes)) = asked;
+    let read: C = decode_in_place(alloc, Vec::from_slice(alloc, bytes)?)?;
+    assert!(rt; read == *value, "{bytes:?} are read in place");
+    Ok(())
+}
+
 fn request_is_so(rt: &impl Abort, alloc: Global, row: &RequestRow, asked: Asked) -> Tested {
     let request = request_of(alloc, row)?;
-    is_so(rt, alloc, &request, asked)
+    is_so_in_place(rt, alloc, &request, asked)
 }
 
 fn response_is_so(rt: &impl Abort, alloc: Global, row: &ResponseRow, asked: Asked) -> Tested {
     let response = response_of(alloc, row)?;
-    is_so(rt, alloc, &response, asked)
+    is_so_in_place(rt, alloc, &response, asked)
 }
 
 fn row_is_so(rt: &impl Abort, alloc: Global, row: &Row, asked: Asked) -> Tested {
@@ -259,8 +311,8 @@ fn bytes_without_a_meaning_are_refused(rt: HostRuntime) -> Tested {
             Row::KeyValue(_, _) => refuses::<KeyValue>(&rt, alloc, bytes, *error)?,
             Row::Any(_, _) => refuses::<Any>(&rt, alloc, bytes, *error)?,
             Row::Status(_) => refuses::<Status>(&rt, alloc, bytes, *error)?,
-            Row::Request(_) => refuses::<Request>(&rt, alloc, bytes, *error)?,
-            Row::Response(_) => refuses::<Response>(&rt, alloc, bytes, *error)?,
+            Row::Request(_) => refuses_in_place::<Request>(&rt, alloc, bytes, *error)?,
+            Row::Response(_) => refuses_in_place::<Response>(&rt, alloc, bytes, *error)?,
         }
     }
     Ok(())

@@ -2,7 +2,8 @@
 use std::alloc::Global;
 use std::process::Abort;
 use std::test::Fail;
-use ttrpc_values::{Blob, CodecError, CodecFailure, Sequence, Text, TryClone};
+use ttrpc_values::codec_error::CodecFailure;
+use ttrpc_values::{Blob, CodecError, Sequence, Text, TryClone};
 
 type Tested = Result<(), Fail>;
 
@@ -46,6 +47,30 @@ fn blobs(rt: HostRuntime) -> Tested {
     assert!(rt; Blob::new(rt.alloc()).as_slice().is_empty());
     assert!(rt; Blob::new(rt.alloc()) != blob);
     assert!(rt; Blob::from_vec(blob.into_vec()).as_slice() == bytes);
+    Ok(())
+}
+
+/// Parts of the bytes 1 to 5, by where they begin and how many bytes are asked for.
+const PARTS: &[(usize, usize, &[u8])] = &[
+    (0, 5, &[1, 2, 3, 4, 5]),
+    (0, 2, &[1, 2]),
+    (3, 1, &[4]),
+    (3, 9, &[4, 5]),
+    (5, 1, &[]),
+    (9, 1, &[]),
+    (usize::MAX, usize::MAX, &[]),
+];
+
+#[test]
+fn parts_of_a_vector_are_blobs(rt: HostRuntime) -> Tested {
+    for &(start, count, part) in PARTS {
+        let bytes = Vec::from_slice(rt.alloc(), &[1, 2, 3, 4, 5])?;
+        let blob = Blob::from_part(bytes, start, count);
+        assert!(rt; blob.as_slice() == part, "{start} {count}");
+        assert!(rt; blob.len() == part.len());
+        assert!(rt; blob.try_clone()? == Blob::from_slice(rt.alloc(), part)?);
+        assert!(rt; blob.into_vec().as_slice() == part, "{start} {count}");
+    }
     Ok(())
 }
 

@@ -7,7 +7,7 @@ use crate::under_test::{Client, Met};
 use std::alloc::Global;
 use std::test::Fail;
 use ttrpc_client::CallId;
-use ttrpc_codec::WireMessage;
+use ttrpc_codec::message::WireMessage;
 use ttrpc_error::Error;
 use ttrpc_proto::{Request, Response};
 use ttrpc_values::{Blob, Text};

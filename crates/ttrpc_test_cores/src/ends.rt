@@ -10,6 +10,7 @@ use ttrpc_client::{CallId, ClientCore, ClientKind};
 use ttrpc_error::Error;
 use ttrpc_proto::{Request, Response};
 use ttrpc_secure::{InboundTransform, OutboundTransform};
+use ttrpc_security::ConnectionContext;
 use ttrpc_server::{Job, JobId, Rules, ServerCore};
 
 /// The last id that a call may have.
@@ -68,8 +69,16 @@ impl<O: OutboundTransform + Drop, I: InboundTransform + Drop> Server for ServerC
         ServerCore::answer(self, alloc, id, answer)
     }
 
-    fn awaits_answer(&self, id: JobId) -> bool {
-        ServerCore::awaits_answer(self, id)
+    fn respond(&mut self, alloc: Global, stream_id: u32, response: &Response) -> Result<(), Error> {
+        ServerCore::respond(self, alloc, stream_id, response)
+    }
+
+    fn finish(&mut self, alloc: Global, id: JobId) -> Result<(), Error> {
+        ServerCore::finish(self, alloc, id)
+    }
+
+    fn stream_of(&self, id: JobId) -> Option<u32> {
+        ServerCore::stream_of(self, id)
     }
 
     fn jobs_waiting(&self) -> u64 {
@@ -91,7 +100,7 @@ impl<O: OutboundTransform + Half + Drop, I: InboundTransform + Half + Drop> Core
 
     fn start(alloc: Global, rules: Rules, start: Start) -> Result<Self, Fail> {
         let registry = registry(alloc)?;
-        Ok(ServerCore::new(alloc, rules, registry, O::start(start), I::start(start)))
+        Ok(ServerCore::new(alloc, rules, registry, context(alloc, start)))
     }
 
     fn refusal(&mut self, alloc: Global) -> Result<Option<Error>, Fail> {
@@ -165,11 +174,10 @@ impl<O: OutboundTransform + Half + Drop, I: InboundTransform + Half + Drop> Core
     type Kind = ClientKind;
 
     fn start(alloc: Global, kind: ClientKind, start: Start) -> Result<Self, Fail> {
-        let outbound = O::start(start);
-        let inbound = I::start(start);
+        let context = context(alloc, start);
         Ok(match start {
-            Start::AtLastId => ClientCore::starting_at(alloc, kind, outbound, inbound, LAST_ID),
-            Start::Fresh | Start::Room(_) => ClientCore::new(alloc, kind, outbound, inbound),
+            Start::AtLastId => ClientCore::starting_at(alloc, kind, context, LAST_ID),
+            Start::Fresh | Start::Room(_) => ClientCore::new(alloc, kind, context),
         })
     }
 
@@ -180,4 +188,12 @@ impl<O: OutboundTransform + Half + Drop, I: InboundTransform + Half + Drop> Core
     fn own_step(&mut self, alloc: Global, step: &Step, _cut: usize) -> Met {
         client_step(alloc, self, step)
     }
+}
+
+/// A context of halves that begin so.
+fn context<O: OutboundTransform + Half, I: InboundTransform + Half>(
+    alloc: Global,
+    start: Start,
+) -> ConnectionContext<O, I> {
+    ConnectionContext::of_halves(alloc, O::start(start), I::start(start))
 }

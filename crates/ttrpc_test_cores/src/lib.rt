@@ -12,6 +12,8 @@ mod ends;
 #[cfg(test)]
 mod halves;
 #[cfg(test)]
+mod known_tests;
+#[cfg(test)]
 mod plain_client_tests;
 #[cfg(test)]
 mod plain_server_tests;

@@ -94,17 +94,57 @@ const JOB_ROWS: &[Row] = &[
         ..FRESH
     },
     Row {
-        name: "a job that was taken awaits its answer",
+        name: "a job that was taken has a stream until it is answered",
         steps: &[
-            Step::Awaits(1, false),
+            Step::StreamOf(1, None),
             Step::Feed(ASKED),
-            Step::Awaits(1, false),
+            Step::StreamOf(1, None),
             Step::Takes(1, 1, b"\x2a"),
-            Step::Awaits(1, true),
-            Step::Awaits(2, false),
+            Step::StreamOf(1, Some(1)),
+            Step::StreamOf(2, None),
             Step::Answers(1, b"\x2a"),
-            Step::Awaits(1, false),
+            Step::StreamOf(1, None),
         ],
+        ..FRESH
+    },
+    Row {
+        name: "responses end no job, and a job that ends sends nothing",
+        steps: &[
+            Step::RefusesFinish(1, UNKNOWN_JOB),
+            Step::Feed(ASKED),
+            Step::RefusesFinish(1, UNKNOWN_JOB),
+            Step::Takes(1, 1, b"\x2a"),
+            Step::RefusesFinish(2, UNKNOWN_JOB),
+            Step::Responds(1, b"\x2a"),
+            Step::Responds(1, b"\x2b"),
+            Step::Jobs(0, 1),
+            Step::StreamOf(1, Some(1)),
+            Step::Finishes(1),
+            Step::Jobs(0, 0),
+            Step::StreamOf(1, None),
+            Step::RefusesFinish(1, UNKNOWN_JOB),
+            Step::RefusesAnswer(1, UNKNOWN_JOB),
+            Step::Writes(TWICE_ECHOED),
+            Step::HasUnsent(false),
+            Step::IsAlive,
+        ],
+        ..FRESH
+    },
+    Row {
+        name: "a job is answered after a response, too",
+        steps: &[
+            Step::Feed(ASKED),
+            Step::Takes(1, 1, b"\x2a"),
+            Step::Responds(1, b"\x2a"),
+            Step::Answers(1, b"\x2b"),
+            Step::RefusesFinish(1, UNKNOWN_JOB),
+            Step::Writes(TWICE_ECHOED),
+        ],
+        ..FRESH
+    },
+    Row {
+        name: "a response needs no job",
+        steps: &[Step::Responds(1, b"\x2a"), Step::Writes(ECHOED)],
         ..FRESH
     },
     Row {
@@ -180,6 +220,19 @@ const FAILURE_ROWS: &[Row] = &[
             Step::Answers(1, b""),
             Step::Breaks(2),
             Step::HasFailed("connection closed after a handler error"),
+        ],
+        ..FRESH
+    },
+    Row {
+        name: "nothing is responded to or ended after a failure",
+        steps: &[
+            Step::Feed(ASKED),
+            Step::Takes(1, 1, b"\x2a"),
+            Step::FailsBy("first"),
+            Step::RefusesResponse(1, Told::Socket("first")),
+            Step::RefusesFinish(1, Told::Socket("first")),
+            Step::RefusesFinish(2, Told::Socket("first")),
+            Step::Jobs(0, 1),
         ],
         ..FRESH
     },

@@ -76,9 +76,17 @@ pub enum Step {
     RefusesAnswer(u64, Told),
     /// The handler of the job of this id failed.
     Breaks(u64),
-    /// Whether the job of this id was taken and not answered.
-    Awaits(u64, bool),
-    /// How many jobs wait, and how many were taken and not answered.
+    /// A response with this payload is queued under this stream's id.
+    Responds(u32, &'static [u8]),
+    /// A response under this stream's id is refused so, and so again.
+    RefusesResponse(u32, Told),
+    /// The job of this id is ended.
+    Finishes(u64),
+    /// The end of the job of this id is refused so, and so again.
+    RefusesFinish(u64, Told),
+    /// The stream of the job of this id, which was taken and hasn't ended; none, if it wasn't or has.
+    StreamOf(u64, Option<u32>),
+    /// How many jobs wait, and how many were taken and haven't ended.
     Jobs(u64, u64),
     /// Whether anything is left to be written.
     HasUnsent(bool),

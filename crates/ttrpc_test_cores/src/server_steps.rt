@@ -5,11 +5,13 @@ use crate::steps::{drained, tells};
 use crate::under_test::{Met, Server};
 use std::alloc::Global;
 use std::test::Fail;
-use ttrpc_codec::{Codec, WireMessage};
+use ttrpc_codec::Codec;
+use ttrpc_codec::message::WireMessage;
 use ttrpc_error::Error;
 use ttrpc_proto::{Response, Status};
 use ttrpc_server::{Job, JobId, Registry};
-use ttrpc_values::{Blob, Text, behind, front};
+use ttrpc_values::slices::{behind, front};
+use ttrpc_values::{Blob, Text};
 
 /// A step that only a server knows.
 pub fn server_step<S: Server>(alloc: Global, core: &mut S, step: &Step, cut: usize) -> Met {
@@ -23,7 +25,7 @@ pub fn server_step<S: Server>(alloc: Global, core: &mut S, step: &Step, cut: usi
         ),
         Step::RefusesAnswer(id, why) => refuses_answer(alloc, core, id, why),
         Step::Breaks(id) => breaks(alloc, core, id),
-        Step::Awaits(id, awaits) => Ok(core.awaits_answer(id) == awaits),
+        Step::StreamOf(id, stream) => Ok(core.stream_of(id) == stream),
         Step::Jobs(waiting, taken) => {
             Ok(core.jobs_waiting() == waiting && core.jobs_taken() == taken)
         }
@@ -31,6 +33,10 @@ pub fn server_step<S: Server>(alloc: Global, core: &mut S, step: &Step, cut: usi
         Step::Serves(bytes, expected) => serves(alloc, core, bytes, cut, expected),
         Step::WritesStatus(code, begins) => writes_status(alloc, core, code, begins),
         Step::ServesLastFirst(count) => serves_last_first(alloc, core, count),
+        Step::Responds(stream, payload) => responds(alloc, core, stream, payload),
+        Step::RefusesResponse(stream, why) => refuses_response(alloc, core, stream, why),
+        Step::Finishes(id) => finishes(alloc, core, id),
+        Step::RefusesFinish(id, why) => refuses_finish(alloc, core, id, why),
         _ => front_step(alloc, core, step, cut),
     }
 }
@@ -201,6 +207,32 @@ fn refused_and_given<S: Server>(
     answer: &Result<Response, Error>,
 ) -> Met {
     Ok(refuses_twice(alloc, core, id, answer, why)? && gives(alloc, core, other, answer)?)
+}
+
+// ---- responses, and jobs that end without one
+
+fn responds<S: Server>(alloc: Global, core: &mut S, stream: u32, payload: &[u8]) -> Met {
+    let response = ok_response(alloc, Blob::from_slice(alloc, payload)?);
+    core.respond(alloc, stream, &response)?;
+    Ok(true)
+}
+
+/// The response is refused so, and so again.
+fn refuses_response<S: Server>(alloc: Global, core: &mut S, stream: u32, why: Told) -> Met {
+    let response = ok_response(alloc, Blob::new(alloc));
+    Ok(
+        tells(core.respond(alloc, stream, &response).err(), why)?
+            && tells(core.respond(alloc, stream, &response).err(), why)?,
+    )
+}
+
+fn finishes<S: Server>(alloc: Global, core: &mut S, id: JobId) -> Met {
+    core.finish(alloc, id)?;
+    Ok(true)
+}
+
+fn refuses_finish<S: Server>(alloc: Global, core: &mut S, id: JobId, why: Told) -> Met {
+    Ok(tells(core.finish(alloc, id).err(), why)? && tells(core.finish(alloc, id).err(), why)?)
 }
 
 // ---- whole services

@@ -6,10 +6,11 @@ use std::alloc::{AllocError, Global};
 use std::io::ErrorKind;
 use std::process::Abort;
 use std::test::Fail;
-use ttrpc_connection::{Failure, unsafe_payload_error, unsealed_error};
+use ttrpc_connection::Failure;
 use ttrpc_error::Error;
 use ttrpc_proto::Response;
-use ttrpc_server::{
+use ttrpc_security::errors::{unsafe_payload_error, unsealed_error};
+use ttrpc_server::responses::{
     limit_response, oversize_response, path_response, unknown_job_error, unopened_response,
     unreadable_response,
 };
@@ -177,7 +178,7 @@ fn refused_answers_have_their_texts(rt: HostRuntime) -> Tested {
     let alloc = rt.alloc();
     is(
         &rt,
-        unsafe_payload_error(alloc, 4194300, 4194288),
+        unsafe_payload_error(alloc, 4194300, 4194288, ""),
         ABOVE_LIMIT,
     )?;
     is(&rt, unknown_job_error(alloc), Told::Others("unknown job"))?;

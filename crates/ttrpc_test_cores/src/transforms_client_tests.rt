@@ -65,7 +65,24 @@ const STAMP_ROWS: &[Row] = &[
     },
 ];
 
-const STAMPS: &[Table<ClientKind>] = &[(&[ClientKind::Sync, ClientKind::Async], STAMP_ROWS)];
+// With eleven bytes around it, a payload of 4194293 bytes makes a request of 4194304.
+const ASYNC_STAMP_ROWS: &[Row] = &[Row {
+    name: "the greatest request leaves no room for its stamp",
+    steps: &[
+        Step::RefusesSevens(4194293, Told::Others(NO_ROOM_FOR_STAMP)),
+        Step::Calls(10, 0, 1),
+        Step::Leaves(STAMPED, 0, 35),
+    ],
+    ..FRESH
+}];
+
+const NO_ROOM_FOR_STAMP: &str =
+    "payload 4194304 bytes exceeds safe limit 4194303 bytes (MESSAGE_LENGTH_MAX - transform overhead); reduce payload size";
+
+const STAMPS: &[Table<ClientKind>] = &[
+    (&[ClientKind::Sync, ClientKind::Async], STAMP_ROWS),
+    (&[ClientKind::Async], ASYNC_STAMP_ROWS),
+];
 
 #[test]
 fn stamps_are_given_and_looked_at(rt: HostRuntime) -> Tested {

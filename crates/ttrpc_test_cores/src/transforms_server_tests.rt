@@ -89,7 +89,8 @@ const SEALED_ROWS: &[Row] = &[
             Step::Feed(ASKED),
             Step::Takes(1, 1, b"\x2a"),
             Step::RefusesAnswer(1, Told::Others("transform_outbound failed: sealed up")),
-            Step::Awaits(1, true),
+            Step::RefusesResponse(1, Told::Others("transform_outbound failed: sealed up")),
+            Step::StreamOf(1, Some(1)),
         ],
         ..FRESH
     },
@@ -100,7 +101,8 @@ const SEALED_ROWS: &[Row] = &[
             Step::Feed(ASKED),
             Step::Takes(1, 1, b"\x2a"),
             Step::RefusesAnswer(1, Told::Others(ABOVE_LIMIT)),
-            Step::Awaits(1, true),
+            Step::RefusesResponse(1, Told::Others(ABOVE_LIMIT)),
+            Step::StreamOf(1, Some(1)),
         ],
         ..FRESH
     },

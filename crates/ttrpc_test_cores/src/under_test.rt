@@ -48,7 +48,11 @@ pub trait Server: End {
         answer: &Result<Response, Error>,
     ) -> Result<(), Error>;
 
-    fn awaits_answer(&self, id: JobId) -> bool;
+    fn respond(&mut self, alloc: Global, stream_id: u32, response: &Response) -> Result<(), Error>;
+
+    fn finish(&mut self, alloc: Global, id: JobId) -> Result<(), Error>;
+
+    fn stream_of(&self, id: JobId) -> Option<u32>;
 
     fn jobs_waiting(&self) -> u64;
 

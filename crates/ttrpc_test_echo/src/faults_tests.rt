@@ -1,14 +1,15 @@
 //! Readers and writers that fail at each place, move one byte a call or are interrupted.
 use crate::fakes::{Sink, Source};
-use crate::runs::{ROOM, run_words, words_of};
+use crate::runs::{ROOM, Tester, run_words, words_of};
 use crate::vectors::*;
 use std::alloc::Global;
 use std::io::ErrorKind;
 use std::process::Abort;
 use std::test::Fail;
-use ttrpc_echo::{answer, run};
+use ttrpc_echo::answer;
 use ttrpc_error::Error;
-use ttrpc_values::front;
+use ttrpc_program::run;
+use ttrpc_values::slices::front;
 
 type Tested = Result<(), Fail>;
 
@@ -87,15 +88,17 @@ fn a_beginning_is_written_where_writing_fails(rt: HostRuntime) -> Tested {
 }
 
 /// A front of the line is written where the writer fails, and the program ends with status 1.
-fn telling_fails_at(rt: &impl Abort, alloc: Global, count: usize) -> Tested {
+fn telling_fails_at<S: Tester + 'static>(rt: &S, count: usize) -> Tested {
+    let alloc = rt.alloc();
     let words = words_of(alloc, &["loop", "2a"])?;
     let mut errors = Vec::with_capacity(alloc, ROOM)?;
     let taken = Vec::with_capacity(alloc, ROOM)?;
     let mut output = Sink::failing(taken, 1, count, Some(ErrorKind::BrokenPipe));
     let mut input = ASKED;
     let status = run(
-        alloc,
+        rt.clone()?,
         words.as_slice(),
+        true,
         &mut input,
         &mut output,
         &mut errors,
@@ -113,9 +116,9 @@ fn telling_fails_at(rt: &impl Abort, alloc: Global, count: usize) -> Tested {
 }
 
 #[test]
-fn a_failing_writer_ends_a_call_in_memory(rt: HostRuntime) -> Tested {
+fn a_failing_writer_ends_a_call(rt: HostRuntime) -> Tested {
     for count in 0..6 {
-        telling_fails_at(&rt, rt.alloc(), count)?;
+        telling_fails_at(&rt, count)?;
     }
     Ok(())
 }
@@ -124,7 +127,7 @@ fn a_failing_writer_ends_a_call_in_memory(rt: HostRuntime) -> Tested {
 fn a_failing_reader_ends_the_program_with_its_kind(rt: HostRuntime) -> Tested {
     let words = words_of(rt.alloc(), &["answer"])?;
     let mut input = Source::failing(ASKED, 4096, ErrorKind::ConnectionReset);
-    let ran = run_words(rt.alloc(), words.as_slice(), &mut input, ROOM)?;
+    let ran = run_words(&rt, words.as_slice(), &mut input, ROOM)?;
     assert_eq!(rt; ran.status, 1);
     assert!(rt; ran.output.as_slice() == ECHOED);
     let errors = ran.errors.as_slice();

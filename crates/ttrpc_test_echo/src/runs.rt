@@ -2,9 +2,15 @@
 use crate::vectors::{NO_MEMORY_LINE, NO_MEMORY_TEXT};
 use std::alloc::Global;
 use std::io::Read;
+use std::process::Abort;
 use std::test::Fail;
-use ttrpc_echo::run;
 use ttrpc_error::Error;
+use ttrpc_program::{System, run};
+
+/// What a test of runs asks of the system.
+pub trait Tester: System + Abort {}
+
+impl<R: System + Abort> Tester for R {}
 
 /// More than any of the runs of a table writes, so that no writer wants memory.
 pub const ROOM: usize = 256;
@@ -26,15 +32,22 @@ pub fn words_of(alloc: Global, words: &[&str]) -> Result<Vec<String>, Fail> {
 }
 
 /// Runs the program with room for so many bytes of output. A run that ends for want of memory is an error.
-pub fn run_words<R: Read>(
-    alloc: Global,
+pub fn run_words<S: System + 'static, R: Read>(
+    rt: &S,
     words: &[String],
     input: &mut R,
     room: usize,
 ) -> Result<Ran, Fail> {
-    let mut output = Vec::with_capacity(alloc, room)?;
-    let mut errors = Vec::with_capacity(alloc, ROOM)?;
-    let status = run(alloc, words, input, &mut output, &mut errors);
+    let mut output = Vec::with_capacity(rt.alloc(), room)?;
+    let mut errors = Vec::with_capacity(rt.alloc(), ROOM)?;
+    let status = run(
+        rt.clone()?,
+        words,
+        true,
+        input,
+        &mut output,
+        &mut errors,
+    );
     if status == 1 && (output.as_slice() == NO_MEMORY_LINE || errors.as_slice() == NO_MEMORY_TEXT) {
         return Err(Error::NoMemory.into());
     }

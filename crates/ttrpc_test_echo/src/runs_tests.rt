@@ -1,11 +1,12 @@
 //! Runs of the program: its words and its input, and then its status, its output and what it tells of errors.
 use crate::fakes::Source;
-use crate::runs::{ROOM, Ran, run_words, words_of};
+use crate::runs::{ROOM, Ran, Tester, run_words, words_of};
 use crate::vectors::*;
 use std::alloc::Global;
 use std::process::Abort;
 use std::test::Fail;
-use ttrpc_values::front;
+use ttrpc_program::System;
+use ttrpc_values::slices::front;
 
 type Tested = Result<(), Fail>;
 
@@ -29,7 +30,7 @@ const RUNS: &[Run] = &[
     (&["answer"], MIXED, true, 0, MIXED_ANSWERS, b""),
     // an input that ends inside a frame
     (&["answer"], CUT, true, 1, b"", INSIDE_TEXT),
-    // calls in memory
+    // calls of its own
     (&["loop", "2A"], ASKED, false, 0, LOOPED, b""),
     (&["loop", "2a"], ASKED, false, 0, LOOPED, b""),
     (&["loop", ""], ASKED, false, 0, LOOPED_EMPTY, b""),
@@ -44,16 +45,23 @@ const RUNS: &[Run] = &[
     (&["loop"], ASKED, false, 2, b"", USAGE_TEXT),
     (&["loop", "2a", "2a"], ASKED, false, 2, b"", USAGE_TEXT),
     (&["Loop", "2a"], ASKED, false, 2, b"", USAGE_TEXT),
-    // words of what isn't built yet
-    (&["serve", "127.0.0.1:0"], ASKED, false, 2, b"", USAGE_TEXT),
-    (
-        &["call", "127.0.0.1:1", "demo.Echo", "Echo", "2a", "0"],
-        ASKED,
-        false,
-        2,
-        b"",
-        USAGE_TEXT,
-    ),
+    (&["serve"], ASKED, false, 2, b"", USAGE_TEXT),
+    (&["Serve", "unix://@a"], ASKED, false, 2, b"", USAGE_TEXT),
+    (&["serve", "unix://@a", ""], ASKED, false, 2, b"", USAGE_TEXT),
+    (&["call", "unix://@a", "x", "y", "2a"], ASKED, false, 2, b"", USAGE_TEXT),
+    (&["Call", "unix://@a", "x", "y", "2a", "0"], ASKED, false, 2, b"", USAGE_TEXT),
+    // a limit of time that is no number of 64 bits with a sign; digits and it are read before the address
+    (&["call", "unix://@a", "x", "y", "2a", ""], ASKED, false, 2, b"", USAGE_TEXT),
+    (&["call", "unix://@a", "x", "y", "2a", "1s"], ASKED, false, 2, b"", USAGE_TEXT),
+    (&["call", "unix://@a", "x", "y", "2a", "9223372036854775808"], ASKED, false, 2, b"", USAGE_TEXT),
+    (&["call", "unix://@a", "x", "y", "2", "0"], ASKED, false, 2, b"", USAGE_TEXT),
+    // addresses that name no place
+    (&["serve", "vsock://3:1024"], ASKED, false, 1, b"", VSOCK_TEXT),
+    (&["serve", "unix://@a"], ASKED, false, 1, b"", ABSTRACT_TEXT),
+    (&["serve", "127.0.0.1:0"], ASKED, false, 1, b"", SCHEME_TEXT),
+    (&["call", "vsock://3:1024", "x", "y", "2a", "0"], ASKED, false, 1, b"", VSOCK_TEXT),
+    (&["call", "unix://@a", "x", "y", "2A", "-9223372036854775808"], ASKED, false, 1, b"", ABSTRACT_TEXT),
+    (&["call", "127.0.0.1:0", "x", "y", "", "+7"], ASKED, false, 1, b"", SCHEME_TEXT),
     // digits that are no bytes
     (&["loop", "2"], ASKED, false, 2, b"", USAGE_TEXT),
     (&["loop", "2a3"], ASKED, false, 2, b"", USAGE_TEXT),
@@ -75,11 +83,11 @@ fn left(rt: &impl Abort, ran: &Ran, row: &Run) -> Tested {
 }
 
 /// With all of the input at hand. It is read to its end, or not at all.
-fn runs_at_once(rt: &impl Abort, alloc: Global, row: &Run) -> Tested {
+fn runs_at_once<S: Tester + 'static>(rt: &S, row: &Run) -> Tested {
     let (words, bytes, reads, _, _, _) = row;
-    let given = words_of(alloc, words)?;
+    let given = words_of(rt.alloc(), words)?;
     let mut input = *bytes;
-    let ran = run_words(alloc, given.as_slice(), &mut input, ROOM)?;
+    let ran = run_words(rt, given.as_slice(), &mut input, ROOM)?;
     left(rt, &ran, row)?;
     assert!(rt;
         input.len() == if *reads { 0 } else { bytes.len() },
@@ -89,18 +97,18 @@ fn runs_at_once(rt: &impl Abort, alloc: Global, row: &Run) -> Tested {
 }
 
 /// With an input that comes one byte at a time.
-fn runs_by_bytes(rt: &impl Abort, alloc: Global, row: &Run) -> Tested {
+fn runs_by_bytes<S: Tester + 'static>(rt: &S, row: &Run) -> Tested {
     let (words, bytes, _, _, _, _) = row;
-    let given = words_of(alloc, words)?;
-    let ran = run_words(alloc, given.as_slice(), &mut Source::new(bytes, 1), ROOM)?;
+    let given = words_of(rt.alloc(), words)?;
+    let ran = run_words(rt, given.as_slice(), &mut Source::new(bytes, 1), ROOM)?;
     left(rt, &ran, row)
 }
 
 #[test]
 fn runs_of_the_program(rt: HostRuntime) -> Tested {
     for row in RUNS {
-        runs_at_once(&rt, rt.alloc(), row)?;
-        runs_by_bytes(&rt, rt.alloc(), row)?;
+        runs_at_once(&rt, row)?;
+        runs_by_bytes(&rt, row)?;
     }
     Ok(())
 }
@@ -111,25 +119,26 @@ fn a_frame_that_is_too_long_is_answered_behind_it(rt: HostRuntime) -> Tested {
     frame.resize(10 + 4194305, 0)?;
     let words = words_of(rt.alloc(), &["answer"])?;
     let mut input = Source::new(frame.as_slice(), 4096);
-    let ran = run_words(rt.alloc(), words.as_slice(), &mut input, ROOM)?;
+    let ran = run_words(&rt, words.as_slice(), &mut input, ROOM)?;
     assert_eq!(rt; ran.status, 0);
     assert!(rt; ran.output.as_slice() == OVERSIZED_ANSWER);
     Ok(())
 }
 
-/// A call in memory with so many bytes 77.
-fn sevens(alloc: Global, count: usize, room: usize) -> Result<Ran, Fail> {
+/// A call of its own with so many bytes 77.
+fn sevens<S: System + 'static>(rt: &S, count: usize, room: usize) -> Result<Ran, Fail> {
+    let alloc = rt.alloc();
     let digits = vec![in alloc; b'7'; count.saturating_mul(2)]?;
     let digits = String::from_utf8(digits).map_err(|_| Fail::from("not UTF-8"))?;
     let words = words_of(alloc, &["loop", digits.as_str()])?;
     let mut input = ASKED;
-    run_words(alloc, words.as_slice(), &mut input, room)
+    run_words(rt, words.as_slice(), &mut input, room)
 }
 
 /// With 22 bytes of the request around it, a payload of 4194282 bytes is the greatest.
 #[test]
 fn the_greatest_payload_is_echoed(rt: HostRuntime) -> Tested {
-    let ran = sevens(rt.alloc(), 4194282, 8388568)?;
+    let ran = sevens(&rt, 4194282, 8388568)?;
     assert_eq!(rt; ran.status, 0);
     assert_eq!(rt; ran.output.len(), 8388568);
     assert!(rt; front(ran.output.as_slice(), 5) == LOOPED_SEVENS);
@@ -138,7 +147,7 @@ fn the_greatest_payload_is_echoed(rt: HostRuntime) -> Tested {
 
 #[test]
 fn a_payload_above_the_greatest_is_refused(rt: HostRuntime) -> Tested {
-    let ran = sevens(rt.alloc(), 4194283, ROOM)?;
+    let ran = sevens(&rt, 4194283, ROOM)?;
     assert_eq!(rt; ran.status, 1);
     assert!(rt; ran.output.as_slice() == LOOPED_TOO_LONG);
     Ok(())

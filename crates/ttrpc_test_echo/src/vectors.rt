@@ -41,3 +41,11 @@ pub const LOOPED_TOO_LONG: &[u8] =
     b"error: ttrpc err: message length 4194305 exceed maximum message size of 4194304\n";
 
 pub const NO_MEMORY_LINE: &[u8] = b"error: out of memory\n";
+
+/// What is told of addresses that name no place.
+pub const VSOCK_TEXT: &[u8] = b"ttrpc-demo: ttrpc err: vsock is not supported\n";
+
+pub const ABSTRACT_TEXT: &[u8] = b"ttrpc-demo: ttrpc err: abstract unix names are not supported\n";
+
+pub const SCHEME_TEXT: &[u8] =
+    b"ttrpc-demo: ttrpc err: Scheme \"127.0.0.1:0\" is not supported\n";

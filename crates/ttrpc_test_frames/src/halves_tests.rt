@@ -7,9 +7,8 @@ use std::process::Abort;
 use std::test::Fail;
 use ttrpc_frame::Outgoing;
 use ttrpc_header::MESSAGE_LENGTH_MAX;
-use ttrpc_secure::{
-    InboundTransform, OutboundTransform, Plain, SendError, TransformError, associated_bytes, send,
-};
+use ttrpc_secure::sending::{SendError, associated_bytes, send};
+use ttrpc_secure::{InboundTransform, OutboundTransform, Plain, TransformError};
 
 type Tested = Result<(), Fail>;
 
@@ -25,6 +24,10 @@ fn crosses<O: OutboundTransform, I: InboundTransform>(
     let sealed = outbound.transform_outbound(alloc, data, b"header")?;
     assert!(rt; sealed.as_slice() == expected);
     let opened = inbound.transform_inbound(alloc, sealed.as_slice(), b"header")?;
+    assert!(rt; opened.as_slice() == data);
+    let sealed = outbound.transform_outbound_vec(alloc, opened, b"header")?;
+    assert!(rt; sealed.as_slice() == expected);
+    let opened = inbound.transform_inbound_vec(alloc, sealed, b"header")?;
     assert!(rt; opened.as_slice() == data);
     Ok(())
 }
@@ -76,13 +79,14 @@ fn a_payload_too_long_is_not_queued(rt: HostRuntime) -> Tested {
     let alloc = rt.alloc();
     let mut half = Plain {};
     let mut outgoing = Outgoing::new(alloc);
-    let data = vec![in alloc; 7; MESSAGE_LENGTH_MAX + 1]?;
+    let data = vec![in alloc; 7; MESSAGE_LENGTH_MAX]?;
+    let longer = vec![in alloc; 7; MESSAGE_LENGTH_MAX + 1]?;
     let frame = queued_of(alloc, &FrameRow(0, 1, 3, 0, b""), None)?;
-    let refused = send(alloc, &mut half, &mut outgoing, frame, &data);
+    let refused = send(alloc, &mut half, &mut outgoing, frame, longer);
     assert!(rt; refused == Err(SendError::TooLong));
     assert!(rt; outgoing.is_empty());
     let frame = queued_of(alloc, &FrameRow(0, 1, 3, 0, b""), None)?;
-    match send(alloc, &mut half, &mut outgoing, frame, &data[1..]) {
+    match send(alloc, &mut half, &mut outgoing, frame, data) {
         Err(SendError::Failed(error)) => return Err(error.into()),
         sent => assert!(rt; sent.is_ok()),
     }

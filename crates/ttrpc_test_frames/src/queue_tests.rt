@@ -5,7 +5,8 @@ use std::alloc::Global;
 use std::process::Abort;
 use std::test::Fail;
 use ttrpc_error::Error;
-use ttrpc_frame::{Outgoing, Owners};
+use ttrpc_frame::Outgoing;
+use ttrpc_frame::owners::Owners;
 use ttrpc_values::Blob;
 
 type Tested = Result<(), Fail>;

@@ -1,14 +1,17 @@
 //! A reader and a writer that move few bytes a call, that can be interrupted, fail, or take no more, and that tell what
 //! their last call answered, and ports in memory.
-ghost use Rattle.std.specs.Prelude.{◌≡◌, ◌+◌, ◌≤◌, length, take, drop, Some};
+ghost use Rattle.std.specs.Prelude.{◌≡◌, ◌+◌, ◌≤◌, length, take, drop, Some, OnOk, Ok};
 ghost use Rattle.std.specs.Io.{ReadsAtMost, WritesAtMost};
-ghost use Rattle.ttrpc_sync.specs.Loops.{IsOneMore, answered_kind};
+ghost use Rattle.ttrpc_streams.specs.Streams.{answered_kind};
+ghost use Rattle.ttrpc_sync.specs.Loops.{IsOneMore};
 
 use std::alloc::Global;
+use std::cell::Cell;
 use std::cmp::min;
 use std::io::{self, ErrorKind};
 use std::test::Fail;
-use ttrpc_sync::{ReadPort, Sink, Source, Word, WritePort};
+use ttrpc_streams::{Sink, Source};
+use ttrpc_sync::{ReadPort, Word, WritePort};
 
 /// What stands for the last call before the first one: neither an end nor a break.
 const NO_CALL: Result<usize, ErrorKind> = Err(ErrorKind::Interrupted);
@@ -90,10 +93,11 @@ impl Source for Giver<'_> {
     }
 }
 
-/// Takes `room` bytes.
+/// Takes `room` bytes, and is flushed `flushes` times before a flush fails.
 #[derive(Drop)]
 pub struct Receiver {
     pub taken: Vec<u8>,
+    pub flushes: usize,
     room: usize,
     manner: Manner,
     interrupted: bool,
@@ -104,6 +108,7 @@ impl Receiver {
     pub fn new(taken: Vec<u8>, room: usize, manner: Manner) -> Receiver {
         Receiver {
             taken,
+            flushes: ROOM,
             room,
             manner,
             interrupted: false,
@@ -129,6 +134,22 @@ impl Receiver {
         self.room -= count;
         Ok(count)
     }
+
+    /// Is flushed, and moves nothing.
+    fn let_go(&mut self) -> Result<usize, ErrorKind>
+        ensures { OnOk result (result ≡ Ok 0) }
+    {
+        if self.manner.interrupts && !self.interrupted {
+            self.interrupted = true;
+            return Err(ErrorKind::Interrupted);
+        }
+        self.interrupted = false;
+        if self.flushes == 0 {
+            return Err(ErrorKind::StorageFull);
+        }
+        self.flushes -= 1;
+        Ok(0)
+    }
 }
 
 impl Sink for Receiver {
@@ -138,10 +159,16 @@ impl Sink for Receiver {
         self.last = self.receive(bytes);
         Ok(self.last?)
     }
+
+    fn flush(&mut self) -> io::Result<()> {
+        self.last = self.let_go();
+        self.last?;
+        Ok(())
+    }
 }
 
 /// The count with one loop more, where it can be told.
-fn one_more(count: Option<u32>) -> Option<u32>
+pub fn one_more(count: Option<u32>) -> Option<u32>
     ensures { IsOneMore count result }
 {
     count?.checked_add(1)
@@ -211,10 +238,13 @@ impl ReadPort for Taker {
 }
 
 /// Lends these bytes, at most `step` at once. They come `batch` at a time, each time that it is asked for more. It
-/// wants to end where it is asked and all have come.
+/// wants to end where it is asked and all have come. Where it is shown how many bytes have gone through to the other
+/// side, it counts how often it was asked for more early, before all that was reported had gone through.
 #[derive(Drop)]
 pub struct Lender<'a> {
     bytes: &'a [u8],
+    pub through: Option<&'a Cell<usize>>,
+    pub early: usize,
     step: usize,
     batch: usize,
     come: usize,
@@ -233,6 +263,8 @@ impl Lender<'_> {
     {
         Lender {
             bytes,
+            through: None,
+            early: 0,
             step,
             batch,
             come: 0,
@@ -241,6 +273,16 @@ impl Lender<'_> {
             asked: 0,
             word: Word::Open,
             begun: Some(0),
+        }
+    }
+}
+
+impl Lender<'_> {
+    /// Something that was reported has not gone through.
+    fn is_early(&self) -> bool {
+        match self.through {
+            Some(through) => through.get() != self.at,
+            None => false,
         }
     }
 }
@@ -280,6 +322,7 @@ impl WritePort for Lender<'_> {
 
     fn more(&mut self) -> bool {
         self.asked = self.asked.saturating_add(1);
+        self.early = self.early.saturating_add(self.is_early() as usize);
         if self.come == self.bytes.len() {
             self.word = Word::Stopped;
             return false;

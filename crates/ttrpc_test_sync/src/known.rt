@@ -1,12 +1,16 @@
 //! What the contracts of the loops come to where all is known.
-ghost use Rattle.std.specs.Prelude.{◌≡◌, ◌⊎◌, ◌++◌, [], take, Ok, Err};
+ghost use Rattle.std.specs.Prelude.{◌≡◌, ◌⊎◌, ◌++◌, [], map, take, OnOk, Ok, Err};
 ghost use Rattle.std.specs.declared.io.ErrorKind.{ErrorKind as AKind};
 ghost use Rattle.ttrpc_sync.specs.declared.ports.Word.{Word as AWord};
 
 use crate::fakes::{BYTES, Giver, Lender, ROOM, Receiver, Taker};
+use crate::workers::{Queue, Refuser, Turnstile};
+use std::io;
+use std::process::Abort;
 use std::sync::Wait;
 use std::test::Fail;
-use ttrpc_sync::{Word, read_loop, write_loop};
+use ttrpc_streams::{Sink, write_part};
+use ttrpc_sync::{Gather, Word, read_loop, work_loop, write_loop};
 
 /// A slice that is read to its end was taken whole.
 fn slice_is_taken<X: Wait>(rt: &X, bytes: &[u8], port: &mut Taker)
@@ -41,6 +45,36 @@ pub fn writer_had_it<X: Wait>(rt: &X, writer: &mut Receiver, port: &mut Lender<'
         → (writer.new.last ≡ Err k) ⊎ ((writer.new.last ≡ Ok 0) × (k ≡ AKind.WriteZero)) }
 {
     write_loop(rt, writer, port);
+}
+
+/// What is written to a gathering writer and flushed stands in its vector, behind what stood there and what was kept.
+fn vector_gathers(gather: &mut Gather<Vec<u8>>, bytes: &[u8]) -> io::Result<()>
+    ensures { OnOk result (gather.new.writer.items ≡ (gather.old.writer.items ++ gather.old.kept) ++ bytes.now) }
+{
+    write_part(gather, bytes)?;
+    gather.flush()
+}
+
+/// What was reported stands under the keys of the jobs that were taken, in order.
+pub fn jobs_are_reported<'r, 'a, X: Wait + Abort>(
+    rt: &X,
+    queue: &mut Queue<'r, 'a, X>,
+    handler: &Refuser<'a>,
+    gate: &mut Turnstile<'r, 'a, X>,
+)
+    requires taken { queue.old.taken.items ≡ [] }
+    requires reported { queue.old.reported.items ≡ [] }
+    ensures { map (λ report. report.0) queue.new.reported.items ≡ map (λ job. job.0) queue.new.taken.items }
+{
+    work_loop(rt, queue, handler, gate);
+}
+
+#[test]
+fn a_vector_gathers(rt: HostRuntime) -> Result<(), Fail> {
+    let mut gather = Gather::new(rt.alloc(), Vec::with_capacity(rt.alloc(), ROOM)?);
+    vector_gathers(&mut gather, BYTES)?;
+    assert_eq!(rt; gather.writer().as_slice(), BYTES);
+    Ok(())
 }
 
 #[test]

@@ -8,7 +8,7 @@ use std::process::Abort;
 use std::sync::Wait;
 use std::test::Fail;
 use ttrpc_sync::Word;
-use ttrpc_values::front;
+use ttrpc_values::slices::front;
 
 type Tested = Result<(), Fail>;
 
@@ -22,8 +22,9 @@ struct Writing<'a> {
     batch: usize,
     taken: &'static [usize],
     manner: Manner,
-    /// How many bytes a writer takes at most.
+    /// How many bytes a writer takes at most, and how often it is flushed before a flush fails.
     room: usize,
+    flushes: usize,
     /// How many were written, and how often the port was asked for more.
     written: usize,
     asked: usize,
@@ -39,6 +40,7 @@ const ALL: Writing<'static> = Writing {
     taken: &[4096, 1],
     manner: AT_ONCE,
     room: ROOM,
+    flushes: ROOM,
     written: 20,
     asked: 2,
     word: Word::Stopped,
@@ -73,7 +75,7 @@ const WRITINGS: &[Writing<'static>] = &[
         ..IN_BATCHES
     },
     Writing {
-        name: "interrupted writes are tried again",
+        name: "interrupted writes and flushes are tried again",
         lent: &[9],
         taken: &[4096, 7, 1],
         manner: Manner {
@@ -98,6 +100,7 @@ fn writes_once<X: Wait + Abort>(
         ..row.manner
     };
     let mut writer = Receiver::new(Vec::with_capacity(alloc, ROOM)?, row.room, manner);
+    writer.flushes = row.flushes;
     writer_had_it(rt, &mut writer, &mut port);
     assert_eq!(rt;
         writer.taken.as_slice(),
@@ -165,6 +168,23 @@ fn a_failing_write_is_a_break(rt: HostRuntime) -> Tested {
     for count in 0..20 {
         breaks_behind(&rt, rt.alloc(), count, Some(ErrorKind::BrokenPipe))?;
         breaks_behind(&rt, rt.alloc(), count, None)?;
+    }
+    Ok(())
+}
+
+/// The bytes come by four calls for more, and the fifth ends the loop. A flush stands before each of the five.
+#[test]
+fn a_failing_flush_is_a_break(rt: HostRuntime) -> Tested {
+    for (flushes, written) in [(0, 0), (1, 6), (2, 12), (3, 18), (4, 20)] {
+        let row = Writing {
+            name: "a writer whose flush fails",
+            flushes,
+            written,
+            asked: flushes,
+            word: Word::Broke(ErrorKind::StorageFull),
+            ..IN_BATCHES
+        };
+        writes(&rt, rt.alloc(), &row)?;
     }
     Ok(())
 }

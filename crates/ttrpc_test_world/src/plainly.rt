@@ -16,7 +16,7 @@ pub enum Finding {
     IdUsedTwice,
     /// A job was handed out for an id that no call has, or for the second time.
     RunOutOfPlace,
-    /// An answer to a job was accepted for the second time.
+    /// An answer or a response to a job was accepted for the second time.
     AnsweredTwice,
     /// An outcome was given of an id that no call has, or for the second time.
     OutcomeOutOfPlace,
@@ -74,26 +74,33 @@ fn run_of(trace: &[Entry], id: CallId) -> Option<(JobId, &Request)> {
     None
 }
 
-/// How many answers to this job were accepted.
+/// Whether an answer or a response to this job was accepted here.
+fn is_answered(entry: &Entry, job: JobId) -> bool {
+    match (&entry.event, &entry.reply) {
+        (Event::Answer(id, _) | Event::Respond(id, _), Reply::Done) => *id == job,
+        _ => false,
+    }
+}
+
+/// How many answers and responses to this job were accepted.
 fn answers_of(trace: &[Entry], job: JobId) -> usize {
     let mut count = 0usize;
     for entry in trace {
-        if let (Event::Answer(id, _), Reply::Done) = (&entry.event, &entry.reply) {
-            if *id == job {
-                count = count.saturating_add(1);
-            }
+        if is_answered(entry, job) {
+            count = count.saturating_add(1);
         }
     }
     count
 }
 
-/// The first answer to this job that was accepted.
-fn answer_of(trace: &[Entry], job: JobId) -> Option<&Result<Response, Error>> {
+/// The first response that was accepted of this job, also as an answer.
+fn answer_of(trace: &[Entry], job: JobId) -> Option<&Response> {
     for entry in trace {
-        if let (Event::Answer(id, answer), Reply::Done) = (&entry.event, &entry.reply) {
-            if *id == job {
-                return Some(answer);
-            }
+        if is_answered(entry, job) {
+            return match &entry.event {
+                Event::Answer(_, Ok(response)) | Event::Respond(_, response) => Some(response),
+                _ => None,
+            };
         }
     }
     None
@@ -125,7 +132,7 @@ fn is_answer(before: &[Entry], id: CallId, response: &Response) -> bool {
     let (Some(request), Some((job, asked))) = (call_of(before, id), run_of(before, id)) else {
         return false;
     };
-    let Some(Ok(answer)) = answer_of(before, job) else {
+    let Some(answer) = answer_of(before, job) else {
         return false;
     };
     runs_of(before, id) == 1
@@ -142,8 +149,8 @@ fn step(before: &[Entry], entry: &Entry) -> Finding {
         (Event::Take, Reply::Handed(Some(job)))
             if calls_of(before, job.header.stream_id) == 0
                 || runs_of(before, job.header.stream_id) > 0 => { Finding::RunOutOfPlace }
-        (Event::Answer(job, _), Reply::Done) if answers_of(before, *job) > 0 =>
-            Finding::AnsweredTwice,
+        (Event::Answer(job, _) | Event::Respond(job, _), Reply::Done)
+            if answers_of(before, *job) > 0 => { Finding::AnsweredTwice }
         (Event::Outcome(id), Reply::Outcome(Some(outcome))) => outcome_step(before, *id, outcome),
         _ => Finding::Whole(0),
     }

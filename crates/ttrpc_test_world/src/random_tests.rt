@@ -6,7 +6,7 @@ use crate::script::{over_plain, over_stamps, put, request_of, response_of};
 use std::alloc::Global;
 use std::test::Fail;
 use ttrpc_client::ClientKind;
-use ttrpc_codec::WireMessage;
+use ttrpc_codec::message::WireMessage;
 use ttrpc_error::Error;
 use ttrpc_header::MessageHeader;
 use ttrpc_proto::{Response, Status};
@@ -103,13 +103,23 @@ fn ending(chance: &mut Chance) -> Event {
     }
 }
 
+/// A response to a job, or by chance the end of one.
+fn responding(alloc: Global, chance: &mut Chance) -> Result<Event, Fail> {
+    let payload = [chance.below(256) as u8];
+    if chance.below(4) == 0 {
+        return Ok(Event::Finish(chance.job()));
+    }
+    Ok(Event::Respond(chance.job(), response_of(alloc, &payload)?))
+}
+
 fn event_by(alloc: Global, chance: &mut Chance) -> Result<Event, Fail> {
     Ok(match chance.below(16) {
         0 => call_of(alloc, chance)?,
         1..4 => Event::Carry(Side::Client, chance.count()),
         4..6 => Event::Deliver(Side::Server, chance.count()),
         6 | 7 => Event::Take,
-        8..11 => Event::Answer(chance.job(), answer_of(alloc, chance)?),
+        8 | 9 => Event::Answer(chance.job(), answer_of(alloc, chance)?),
+        10 => responding(alloc, chance)?,
         11 | 12 => Event::Carry(Side::Server, chance.count()),
         13 | 14 => Event::Deliver(Side::Client, chance.count()),
         _ => ending(chance),
@@ -124,6 +134,10 @@ fn settle(alloc: Global, events: &mut Vec<Event>, chance: &mut Chance) -> Tested
     put(events, Event::Deliver(Side::Server, 4096))?;
     for job in 1..5 {
         put(events, Event::Take)?;
+        if chance.below(4) == 0 {
+            put(events, Event::Respond(job, response_of(alloc, b"a")?))?;
+            put(events, Event::Finish(job))?;
+        }
         put(events, Event::Answer(job, answer_of(alloc, chance)?))?;
         put(events, Event::Carry(Side::Server, 4096))?;
         put(events, Event::Carry(Side::Server, 4096))?;

@@ -50,6 +50,62 @@ const ONE_STAMPED_CALL: &[(Act, Said)] = &[
     (Act::DeliverDown(1), Said::Count(0)),
 ];
 
+/// A response in place of an answer: a second one is no step, nor is an answer, before and after the job ends.
+const ONE_RESPONSE: &[(Act, Said)] = &[
+    (Act::Call(b"\x2a", 0), Said::Named(1)),
+    (Act::CarryUp(30), Said::Count(30)),
+    (Act::DeliverUp(30), Said::Count(30)),
+    (Act::Take, Said::Job(1, 1, b"\x2a")),
+    (Act::Respond(1, b"\x2a"), Said::Done),
+    (Act::Respond(1, b"\x2a"), Said::NoStep),
+    (Act::Finish(1), Said::Done),
+    (Act::Answer(1, b"\x2a"), Said::NoStep),
+    (Act::CarryDown(15), Said::Count(15)),
+    (Act::DeliverDown(15), Said::Count(15)),
+    (Act::Outcome(1), Said::Payload(b"\x2a")),
+    (Act::Take, Said::NoJob),
+    (Act::CarryUp(1), Said::Count(0)),
+    (Act::CarryDown(1), Said::Count(0)),
+    (Act::DeliverUp(1), Said::Count(0)),
+    (Act::DeliverDown(1), Said::Count(0)),
+];
+
+/// With a stamp, and the job goes on until its call has its outcome.
+const ONE_STAMPED_RESPONSE: &[(Act, Said)] = &[
+    (Act::Call(b"\x2a", 0), Said::Named(1)),
+    (Act::CarryUp(64), Said::Count(31)),
+    (Act::DeliverUp(64), Said::Count(31)),
+    (Act::Respond(1, b"\x2a"), Said::NoStep),
+    (Act::Finish(1), Said::NoStep),
+    (Act::Take, Said::Job(1, 1, b"\x2a")),
+    (Act::Respond(1, b"\x2a"), Said::Done),
+    (Act::CarryDown(64), Said::Count(16)),
+    (Act::DeliverDown(64), Said::Count(16)),
+    (Act::Answer(1, b"\x2b"), Said::NoStep),
+    (Act::Break(1), Said::NoStep),
+    (Act::Outcome(1), Said::Payload(b"\x2a")),
+    (Act::Finish(1), Said::Done),
+    (Act::Finish(1), Said::NoStep),
+    (Act::CarryDown(1), Said::Count(0)),
+    (Act::Outcome(1), Said::Waits),
+];
+
+/// A job that ends without a response leaves its call without an outcome.
+const NO_RESPONSE: &[(Act, Said)] = &[
+    (Act::Call(b"\x2a", 0), Said::Named(1)),
+    (Act::CarryUp(30), Said::Count(30)),
+    (Act::DeliverUp(30), Said::Count(30)),
+    (Act::Take, Said::Job(1, 1, b"\x2a")),
+    (Act::Finish(1), Said::Done),
+    (Act::Respond(1, b"\x2a"), Said::NoStep),
+    (Act::Answer(1, b"\x2a"), Said::NoStep),
+    (Act::CarryDown(64), Said::Count(0)),
+    (Act::Outcome(1), Said::Waits),
+    (Act::FailServer, Said::Done),
+    (Act::Respond(1, b"\x2a"), Said::Socket("failed")),
+    (Act::Finish(1), Said::Socket("failed")),
+];
+
 /// The pipe to the server is cut inside the request's frame.
 const CUT_INSIDE: &[(Act, Said)] = &[
     (Act::Call(b"\x2a", 0), Said::Named(1)),
@@ -220,6 +276,16 @@ fn a_call_is_answered(rt: HostRuntime) -> Tested {
 }
 
 #[test]
+fn a_response_stands_for_an_answer(rt: HostRuntime) -> Tested {
+    for kind in KINDS {
+        plain(&rt, rt.alloc(), kind, ONE_RESPONSE)?;
+        stamped(&rt, rt.alloc(), kind, ONE_STAMPED_RESPONSE)?;
+        plain(&rt, rt.alloc(), kind, NO_RESPONSE)?;
+    }
+    Ok(())
+}
+
+#[test]
 fn pipes_are_cut(rt: HostRuntime) -> Tested {
     for kind in KINDS {
         plain(&rt, rt.alloc(), kind, CUT_INSIDE)?;
@@ -260,7 +326,7 @@ fn what_cannot_happen_is_no_step(rt: HostRuntime) -> Tested {
 
 /// Events of what the cores can't do yet.
 fn unbuilt(alloc: Global) -> Result<Vec<Event>, Fail> {
-    let mut events = Vec::with_capacity(alloc, 10)?;
+    let mut events = Vec::with_capacity(alloc, 8)?;
     put(
         &mut events,
         Event::Open(request_of(alloc, b"", 0)?, true, false),
@@ -273,8 +339,6 @@ fn unbuilt(alloc: Global) -> Result<Vec<Event>, Fail> {
     put(&mut events, Event::Close(1))?;
     put(&mut events, Event::DropReceiver(Side::Client, 1))?;
     put(&mut events, Event::DropSender(1))?;
-    put(&mut events, Event::Respond(1, response_of(alloc, b"")?))?;
-    put(&mut events, Event::Finish(1))?;
     put(&mut events, Event::EndStream(1, Err(Error::Eof)))?;
     put(&mut events, Event::Drain)?;
     Ok(events)
@@ -283,7 +347,7 @@ fn unbuilt(alloc: Global) -> Result<Vec<Event>, Fail> {
 #[test]
 fn events_of_streams_are_no_step_yet(rt: HostRuntime) -> Tested {
     let trace = over_plain(rt.alloc(), ClientKind::Sync, unbuilt(rt.alloc())?)?;
-    assert_eq!(rt; trace.len(), 10);
+    assert_eq!(rt; trace.len(), 8);
     assert!(rt;
         trace
             .iter()

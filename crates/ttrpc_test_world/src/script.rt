@@ -3,10 +3,11 @@ use std::alloc::Global;
 use std::test::Fail;
 use ttrpc_bench::stamps;
 use ttrpc_client::{ClientCore, ClientKind};
-use ttrpc_codec::WireMessage;
+use ttrpc_codec::message::WireMessage;
 use ttrpc_error::Error;
 use ttrpc_proto::{Request, Response, Status};
-use ttrpc_secure::{Plain, plain_is_paired};
+use ttrpc_secure::plain::plain_is_paired;
+use ttrpc_security::{ConnectionContext, plain_context};
 use ttrpc_server::{Registry, Rules, ServerCore};
 use ttrpc_values::{Blob, Text};
 use ttrpc_world::{Entry, Event, Reply, Side, Trace, World};
@@ -23,6 +24,9 @@ pub enum Act {
     Answer(u64, &'static [u8]),
     /// A handler's error.
     Break(u64),
+    /// A response with this payload.
+    Respond(u64, &'static [u8]),
+    Finish(u64),
     Tick(u64),
     CarryUp(usize),
     CarryDown(usize),
@@ -79,6 +83,8 @@ fn event_of(alloc: Global, act: Act) -> Result<Event, Fail> {
         Act::Take => Event::Take,
         Act::Answer(id, payload) => Event::Answer(id, Ok(response_of(alloc, payload)?)),
         Act::Break(id) => Event::Answer(id, Err(Error::Eof)),
+        Act::Respond(id, payload) => Event::Respond(id, response_of(alloc, payload)?),
+        Act::Finish(id) => Event::Finish(id),
         Act::Tick(now) => Event::Tick(now),
         Act::CarryUp(n) => Event::Carry(Side::Client, n),
         Act::CarryDown(n) => Event::Carry(Side::Server, n),
@@ -206,8 +212,8 @@ fn registry(alloc: Global) -> Result<Registry, Fail> {
 pub fn over_plain(alloc: Global, kind: ClientKind, events: Vec<Event>) -> Result<Trace, Fail> {
     plain_is_paired();
     let registry = registry(alloc)?;
-    let client = ClientCore::new(alloc, kind, Plain {}, Plain {});
-    let server = ServerCore::new(alloc, Rules::Sync, registry, Plain {}, Plain {});
+    let client = ClientCore::new(alloc, kind, plain_context(alloc));
+    let server = ServerCore::new(alloc, Rules::Sync, registry, plain_context(alloc));
     Ok(World::new(alloc, client, server).run(alloc, events)?)
 }
 
@@ -216,7 +222,9 @@ pub fn over_stamps(alloc: Global, kind: ClientKind, events: Vec<Event>) -> Resul
     let registry = registry(alloc)?;
     let (up_out, up_in) = stamps();
     let (down_out, down_in) = stamps();
-    let client = ClientCore::new(alloc, kind, up_out, down_in);
-    let server = ServerCore::new(alloc, Rules::Sync, registry, down_out, up_in);
+    let up = ConnectionContext::of_halves(alloc, up_out, down_in);
+    let down = ConnectionContext::of_halves(alloc, down_out, up_in);
+    let client = ClientCore::new(alloc, kind, up);
+    let server = ServerCore::new(alloc, Rules::Sync, registry, down);
     Ok(World::new(alloc, client, server).run(alloc, events)?)
 }

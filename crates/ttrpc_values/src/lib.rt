@@ -5,17 +5,15 @@
 mod blob;
 mod clones;
 mod code;
-mod codec_error;
-mod laws;
+pub mod codec_error;
+pub mod laws;
 mod sequence;
-mod slices;
+pub mod slices;
 mod text;
 
 pub use blob::Blob;
 pub use clones::TryClone;
 pub use code::Code;
-pub use codec_error::{CodecError, CodecFailure};
-pub use laws::code_is_one_to_one;
+pub use codec_error::CodecError;
 pub use sequence::Sequence;
-pub use slices::{behind, front};
 pub use text::Text;

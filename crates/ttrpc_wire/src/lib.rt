@@ -2,17 +2,13 @@
 #![tactic(auto)]
 
 mod field;
-mod laws;
+pub mod laws;
 mod number;
 mod reader;
 mod varint;
 mod writer;
 
 pub use field::{Field, FieldNumber, Tag, Value, WireType};
-pub use laws::{
-    no_varint_begins_another, one_field_at_the_front, one_list_of_fields, reading_is_exact,
-    signed_numbers_read_back, varint_is_shortest, written_reads_back,
-};
 pub use number::{int32_to_varint, int64_to_varint, varint_to_int32, varint_to_int64};
 pub use reader::Reader;
 pub use writer::{field_len, put_field, put_tag, put_varint, tag_len, varint_len};

@@ -1,38 +1,13 @@
 -- A delivery: each flight that comes in acts as it was sent, on one call. No bytes, no seals that are opened.
-use Rattle.std.proofs.Common.{◌≡◌, ◌≢◌, ℕ, ◌+◌, ◌≤◌, List, [], ◌∷◌, ◌++◌, Bool, true, false, Option, Some, None, nat_eq, if◌then◌else◌, refl, sym, ap, ◌∙◌, subst, inl, inr, arith, append_assoc}
-use Rattle.std.proofs.lemmas.Bool.{cases_eq, cond-false, cond-true, eq-eqb, ne_eqb}
-use Rattle.std.proofs.lemmas.List.{append-nil}
-use Rattle.std.proofs.lemmas.List.Elements.{filter-append}
-use Rattle.std.specs.List.{AllByRecursion}
-use Rattle.ttrpc_world.proofs.Words.{Request, OutboundTransform, Outbox, ActiveJob, Call, Entry}
-use Rattle.ttrpc_values.specs.declared.code.Code.TheVariants.{INVALID_ARGUMENT}
-use Rattle.ttrpc_frame.specs.Frames.{Held}
-use Rattle.ttrpc_frame.specs.Queue.{Queue}
-use Rattle.ttrpc_connection.specs.declared.arrived.Opening.TheVariants.{Opened}
-use Rattle.ttrpc_connection.specs.Frames.{Sent, SendsAll}
-use Rattle.ttrpc_connection.specs.Feeds.{Scene}
-use Rattle.ttrpc_server.specs.Jobs.{jobs_at, new_job}
-use Rattle.ttrpc_server.specs.Registry.{has_method}
-use Rattle.ttrpc_server.specs.Responses.{status_response}
-use Rattle.ttrpc_server.specs.Server.{Server}
-use Rattle.ttrpc_server.specs.Table.{Row, Known, Tells, path_text, request_row, sync_row}
-use Rattle.ttrpc_server.specs.Happens.{Does, serving}
-use Rattle.ttrpc_client.specs.Client.{Client, call_at}
-use Rattle.ttrpc_client.specs.Table.{Landing, LandsOn, Gives, by_status, landing_of}
-use Rattle.ttrpc_client.specs.Happens.{LandsOnce, calling}
-use Rattle.ttrpc_flight.specs.Flight.{Flying, ActsOn, AreInFlight, AreLinked, parcels}
-use Rattle.ttrpc_flight.proofs.Bytes.{placed_in_flight}
-use Rattle.ttrpc_flight.proofs.Parcels.{parcels-cons_other, parcels-cons_own, parcels-push_other, parcels-push_own}
-use Rattle.ttrpc_flight.proofs.Seals.{more_linked}
-use Rattle.ttrpc_world.specs.Net.{Halves}
-use Rattle.ttrpc_world.specs.Story.{Act, Called, acts}
+use Rattle.ttrpc_world.proofs.Words.{◌≡◌, ◌≢◌, ℕ, ◌+◌, ◌≤◌, List, [], ◌∷◌, ◌++◌, Bool, true, false, Option, Some, None, if◌then◌else◌, refl, sym, ap, ◌∙◌, subst, inl, inr, arith, append_assoc, cases_eq, append-nil, AllByRecursion, Request, OutboundTransform, Outbox, ActiveJob, Call, Entry, INVALID_ARGUMENT, Opened, Sent, SendsAll, Scene, jobs_at, new_job, has_method, status_response, Server, Row, Known, Tells, path_text, request_row, sync_row, Does, serving, Client, call_at, Landing, LandsOn, Gives, by_status, landing_of, LandsOnce, calling, Flying, ActsOn, parcels, Act, Called, acts, Connection, Halves, Pipe, all_joined, under_own, under_other, pushed_own, pushed_other, id_of, stream_id_of}
+use Rattle.ttrpc_world.proofs.OneWay.{OneWay, joins}
 use Rattle.ttrpc_world.proofs.Stages.{Story}
 use Rattle.ttrpc_world.proofs.Turns.{arrives_here, arriving, called_alone, elsewhere, lands_here, leaves_out_here, refers_here, returning}
 use Rattle.ttrpc_world.proofs.Payloads.{SendsResponse, path_refusal, request_row_is, response_landing_is, sends_response}
 
 -- THE STORIES: that of each id.
-abbrev pub Stories : (ℕ → ℕ) → List Entry → List Flying → List Flying → ℕ → List ActiveJob → (ℕ → Option Call) → Type 0
-Stories stream_of trace up down next jobs kept = (k : ℕ) → Story (next ≤ k) k (acts stream_of k trace) (parcels k up) (jobs_at jobs k) (parcels k down) (kept k)
+abbrev pub Stories : (ℕ → Bool) → (ℕ → ℕ) → List Entry → List Flying → List Flying → ℕ → List ActiveJob → (ℕ → Option Call) → Type 0
+Stories had stream_of trace up down next jobs kept = (k : ℕ) → Story had (next ≤ k) k (acts stream_of k trace) (parcels k up) (jobs_at jobs k) (parcels k down) (kept k)
 
 -- what holds at one id, and at each other
 pub at_one : (T : ℕ → Type 0) (k : ℕ) → T k → ((n : ℕ) → k ≢ n → T n) → (n : ℕ) → T n
@@ -48,93 +23,59 @@ IsKnown stream_of j = j.request ≡ None → stream_of j.id ≡ j.header.stream_
 abbrev pub AreKnown : (ℕ → ℕ) → List ActiveJob → Type 0
 AreKnown stream_of jobs = AllByRecursion (IsKnown stream_of) jobs
 
--- what holds of each job holds of one among them, if it is another one then of that, and of the others
-pub all_at : (P : ActiveJob → Type 0) (front back : List ActiveJob) (j : ActiveJob) → AllByRecursion P (front ++ j ∷ back) → P j
-all_at P [] back j h = h.0
-all_at P (i ∷ front) back j h = all_at P front back j h.1
-
-pub all_changed : (P : ActiveJob → Type 0) (front back : List ActiveJob) (j new : ActiveJob) → P new → AllByRecursion P (front ++ j ∷ back) → AllByRecursion P (front ++ new ∷ back)
-all_changed P [] back j new now h = (now, h.1)
-all_changed P (i ∷ front) back j new now h = (h.0, all_changed P front back j new now h.1)
-
-pub all_less : (P : ActiveJob → Type 0) (front back : List ActiveJob) (j : ActiveJob) → AllByRecursion P (front ++ j ∷ back) → AllByRecursion P (front ++ back)
-all_less P [] back j h = h.1
-all_less P (i ∷ front) back j h = (h.0, all_less P front back j h.1)
-
--- ---- jobs of one id
-
-pub jobs-append : (k : ℕ) (xs ys : List ActiveJob) → jobs_at (xs ++ ys) k ≡ jobs_at xs k ++ jobs_at ys k
-jobs-append k xs ys = filter-append (λ (j : ActiveJob). nat_eq j.header.stream_id k) xs ys
-
-pub jobs-cons_other : (k : ℕ) (j : ActiveJob) (js : List ActiveJob) → j.header.stream_id ≢ k → jobs_at (j ∷ js) k ≡ jobs_at js k
-jobs-cons_other k j js other = cond-false (nat_eq j.header.stream_id k) _ _ (ne_eqb j.header.stream_id k other)
-
-pub jobs-cons_own : (k : ℕ) (j : ActiveJob) (js : List ActiveJob) → j.header.stream_id ≡ k → jobs_at (j ∷ js) k ≡ j ∷ jobs_at js k
-jobs-cons_own k j js own = cond-true (nat_eq j.header.stream_id k) _ _ (eq-eqb j.header.stream_id k own)
-
-jobs-push_other : (k : ℕ) (j : ActiveJob) (js : List ActiveJob) → j.header.stream_id ≢ k → jobs_at (js ++ j ∷ []) k ≡ jobs_at js k
-jobs-push_other k j js other = jobs-append k js (j ∷ []) ∙ ap (λ ys. jobs_at js k ++ ys) (jobs-cons_other k j [] other) ∙ append-nil (jobs_at js k)
-
-jobs-push_own : (k : ℕ) (j : ActiveJob) (js : List ActiveJob) → j.header.stream_id ≡ k → jobs_at (js ++ j ∷ []) k ≡ jobs_at js k ++ j ∷ []
-jobs-push_own k j js own = jobs-append k js (j ∷ []) ∙ ap (λ ys. jobs_at js k ++ ys) (jobs-cons_own k j [] own)
-
 known_more : (stream_of : ℕ → ℕ) (js : List ActiveJob) (j : ActiveJob) (request : Request) → j.request ≡ Some request → AreKnown stream_of js → AreKnown stream_of (js ++ j ∷ [])
-known_more stream_of [] j request asked h = ((λ e. let bad : Some request ≡ None = sym asked ∙ e in cc), tt)
-known_more stream_of (i ∷ js) j request asked h = (h.0, known_more stream_of js j request asked h.1)
+known_more stream_of js j request asked h = all_joined (IsKnown stream_of) js (j ∷ []) h ((λ e. let bad : Some request ≡ None = sym asked ∙ e in cc), tt)
 
 -- ---- a frame comes to the server
 
 -- The first frames that were in flight have come, and the others still are. What the server answers itself is in flight
 -- to the client.
-pub record ComesUp {CO CI SO SI : Type 0} (c : Halves CO CI) (s : Halves SO SI) (stream_of : ℕ → ℕ) (trace : List Entry) (up down : List Flying) (next : ℕ) (kept : ℕ → Option Call) (old new : Scene Server SO SI) : Type 0 where
+pub record ComesUp {CO CI SO SI : Type 0} (c : Halves CO CI) (s : Halves SO SI) (had : ℕ → Bool) (stream_of : ℕ → ℕ) (trace : List Entry) (up down : List Flying) (next : ℕ) (kept : ℕ → Option Call) (old new : Scene Server SO SI) : Type 0 where
   pub more : List Flying
-  pub stories : Stories stream_of trace up (down ++ more) next new.state.jobs.list kept
+  pub stories : Stories had stream_of trace up (down ++ more) next new.state.jobs.list kept
   pub known : AreKnown stream_of new.state.jobs.list
-  pub placed : (held : Held) (pipe : List ℕ) (cut : Bool) (transit queued : List Flying) → AreInFlight held pipe cut old.outbox.queue transit queued → AreInFlight held pipe cut new.outbox.queue transit (queued ++ more)
-  pub sealed : (flights : List Flying) (in_ : CI) → AreLinked s.out.seals c.in_.opens c.in_.refuses flights old.outbox.half in_ → AreLinked s.out.seals c.in_.opens c.in_.refuses (flights ++ more) new.outbox.half in_
+  pub sent : (y : Connection CO CI) (pipe : Pipe) (flights : List Flying) → OneWay s.out c.in_ old.outbox y pipe flights → OneWay s.out c.in_ new.outbox y pipe (flights ++ more)
 
 none_sent : {O : Type 0} (out : OutboundTransform O) (old : Outbox O) (sent : List Sent) (new : Outbox O) → sent ≡ [] → SendsAll out old sent new → new ≡ old
 none_sent out old sent new none sends = subst (λ (xs : List Sent). SendsAll out old xs new) none sends
 
-module _ {CO CI SO SI : Type 0} (c : Halves CO CI) (s : Halves SO SI) (stream_of : ℕ → ℕ) (trace : List Entry) where
+module _ {CO CI SO SI : Type 0} (c : Halves CO CI) (s : Halves SO SI) (had : ℕ → Bool) (stream_of : ℕ → ℕ) (trace : List Entry) where
   -- nothing is queued for the client
   quiet_comes : (up down : List Flying) (next : ℕ) (kept : ℕ → Option Call) (old new : Scene Server SO SI) → new.outbox ≡ old.outbox
-      → Stories stream_of trace up down next new.state.jobs.list kept → AreKnown stream_of new.state.jobs.list → ComesUp c s stream_of trace up down next kept old new
+      → Stories had stream_of trace up down next new.state.jobs.list kept → AreKnown stream_of new.state.jobs.list → ComesUp c s had stream_of trace up down next kept old new
   quiet_comes up down next kept old new outbox stories known = record {
     more = [];
-    stories = subst (λ (d : List Flying). Stories stream_of trace up d next new.state.jobs.list kept) (sym (append-nil down)) stories;
+    stories = subst (λ (d : List Flying). Stories had stream_of trace up d next new.state.jobs.list kept) (sym (append-nil down)) stories;
     known = known;
-    placed = λ held pipe cut transit queued a. subst (λ (o : Outbox SO). AreInFlight held pipe cut o.queue transit (queued ++ [])) (sym outbox) (subst (λ (xs : List Flying). AreInFlight held pipe cut old.outbox.queue transit xs) (sym (append-nil queued)) a);
-    sealed = λ flights in_ a. subst (λ (o : Outbox SO). AreLinked s.out.seals c.in_.opens c.in_.refuses (flights ++ []) o.half in_) (sym outbox) (subst (λ (xs : List Flying). AreLinked s.out.seals c.in_.opens c.in_.refuses xs old.outbox.half in_) (sym (append-nil flights)) a);
+    sent = λ y pipe flights way. rw (outbox, append-nil) way;
   }
 
   -- a response is queued for the client
   answer_comes : (up down : List Flying) (next : ℕ) (kept : ℕ → Option Call) (old new : Scene Server SO SI) (k : ℕ) (done : List _) → (r : SendsResponse s.out old.outbox k done new.outbox)
-      → Stories stream_of trace up (down ++ r.y ∷ []) next new.state.jobs.list kept → AreKnown stream_of new.state.jobs.list → ComesUp c s stream_of trace up down next kept old new
+      → Stories had stream_of trace up (down ++ r.y ∷ []) next new.state.jobs.list kept → AreKnown stream_of new.state.jobs.list → ComesUp c s had stream_of trace up down next kept old new
   answer_comes up down next kept old new k done r stories known = record {
     more = r.y ∷ [];
     stories = stories;
     known = known;
-    placed = λ held pipe cut transit queued a. subst (λ (q : Queue). AreInFlight held pipe cut q transit (queued ++ r.y ∷ [])) (sym r.queue) (placed_in_flight held pipe cut old.outbox.queue transit queued r.y r.sound a);
-    sealed = λ flights in_ a. more_linked s.out.seals c.in_.opens c.in_.refuses flights old.outbox.half in_ r.y new.outbox.half a r.seal;
+    sent = λ y pipe flights way. joins s.out c.in_ old.outbox new.outbox y pipe flights r.y r.queue r.seal r.sound way;
   }
 
   -- the frame is gone: the story that it is of turns, and the others stay
-  turns_up : (x : Flying) (rest down down2 : List Flying) (next : ℕ) (kept : ℕ → Option Call) (old new : List ActiveJob) → Stories stream_of trace (x ∷ rest) down next old kept
-      → (let k : ℕ = x.frame.message.header.stream_id in Story (next ≤ k) k (acts stream_of k trace) (parcels k rest) (jobs_at new k) (parcels k down2) (kept k))
-      → ((i : ℕ) → x.frame.message.header.stream_id ≢ i → (jobs_at new i ≡ jobs_at old i) × (parcels i down2 ≡ parcels i down)) → Stories stream_of trace rest down2 next new kept
+  turns_up : (x : Flying) (rest down down2 : List Flying) (next : ℕ) (kept : ℕ → Option Call) (old new : List ActiveJob) → Stories had stream_of trace (x ∷ rest) down next old kept
+      → (let k : ℕ = x.frame.message.header.stream_id in Story had (next ≤ k) k (acts stream_of k trace) (parcels k rest) (jobs_at new k) (parcels k down2) (kept k))
+      → ((i : ℕ) → x.frame.message.header.stream_id ≢ i → (jobs_at new i ≡ jobs_at old i) × (parcels i down2 ≡ parcels i down)) → Stories had stream_of trace rest down2 next new kept
   turns_up x rest down down2 next kept old new story here others =
-      at_one (λ (n : ℕ). Story (next ≤ n) n (acts stream_of n trace) (parcels n rest) (jobs_at new n) (parcels n down2) (kept n)) x.frame.message.header.stream_id here
-      (λ i e. let o = others i e in elsewhere (next ≤ i) (next ≤ i) i _ _ _ _ _ _ _ _ _ _ (story i) (λ y. y) refl (sym (parcels-cons_other i x rest e)) o.0 o.1 refl)
+      at_one (λ (n : ℕ). Story had (next ≤ n) n (acts stream_of n trace) (parcels n rest) (jobs_at new n) (parcels n down2) (kept n)) x.frame.message.header.stream_id here
+      (λ i e. let o = others i e in elsewhere (next ≤ i) (next ≤ i) i _ _ _ _ _ _ _ _ _ _ (story i) (λ y. y) refl (sym (under_other id_of i x rest e)) o.0 o.1 refl)
 
   -- what a row makes of the request
   by_row : (b : Bool) (x : Flying) (rest down : List Flying) (next : ℕ) (kept : ℕ → Option Call) (old new : Scene Server SO SI) (sent : List Sent)
-      → Stories stream_of trace (x ∷ rest) down next old.state.jobs.list kept → AreKnown stream_of old.state.jobs.list → SendsAll s.out old.outbox sent new.outbox
-      → (own : Story (next ≤ x.frame.message.header.stream_id) x.frame.message.header.stream_id (acts stream_of x.frame.message.header.stream_id trace) (x ∷ parcels x.frame.message.header.stream_id rest)
+      → Stories had stream_of trace (x ∷ rest) down next old.state.jobs.list kept → AreKnown stream_of old.state.jobs.list → SendsAll s.out old.outbox sent new.outbox
+      → (own : Story had (next ≤ x.frame.message.header.stream_id) x.frame.message.header.stream_id (acts stream_of x.frame.message.header.stream_id trace) (x ∷ parcels x.frame.message.header.stream_id rest)
       (jobs_at old.state.jobs.list x.frame.message.header.stream_id) (parcels x.frame.message.header.stream_id down) (kept x.frame.message.header.stream_id))
       → Does s.out (if b then Known (arriving _ _ _ x _ _ _ _ own).request
       else Tells (status_response INVALID_ARGUMENT (path_text (arriving _ _ _ x _ _ _ _ own).request.service (arriving _ _ _ x _ _ _ _ own).request.method))) old.state old.outbox.half x.frame.message.header sent new.state
-      → ComesUp c s stream_of trace rest down next kept old new
+      → ComesUp c s had stream_of trace rest down next kept old new
   by_row true x rest down next kept old new sent stories known sends own m =
       let k : ℕ = x.frame.message.header.stream_id in
       let a = arriving _ _ _ x _ _ _ _ own in
@@ -143,8 +84,8 @@ module _ {CO CI SO SI : Type 0} (c : Halves CO CI) (s : Halves SO SI) (stream_of
       let is : new.state.jobs.list ≡ jobs ++ job ∷ [] = ap (λ (t : Server). t.jobs.list) m.0 in
       quiet_comes rest down next kept old new (none_sent s.out old.outbox sent new.outbox m.1 sends)
       (turns_up x rest down down next kept jobs new.state.jobs.list stories
-      (arrives_here _ k _ x _ _ _ _ _ job own (record { request = refl; stream = refl; within = a.is_sent.within }) (ap (λ js. jobs_at js k) is ∙ jobs-push_own k job jobs refl))
-      (λ i e. (ap (λ js. jobs_at js i) is ∙ jobs-push_other i job jobs e, refl)))
+      (arrives_here _ k _ x _ _ _ _ _ job own (record { request = refl; stream = refl; within = a.is_sent.within }) (ap (λ js. jobs_at js k) is ∙ pushed_own stream_id_of k job jobs refl))
+      (λ i e. (ap (λ js. jobs_at js i) is ∙ pushed_other stream_id_of i job jobs e, refl)))
       (subst (λ (js : List ActiveJob). AreKnown stream_of js) (sym is) (known_more stream_of jobs job a.request refl known))
   by_row false x rest down next kept old new sent stories known sends own p =
       let k : ℕ = x.frame.message.header.stream_id in
@@ -157,13 +98,13 @@ module _ {CO CI SO SI : Type 0} (c : Halves CO CI) (s : Halves SO SI) (stream_of
             let done : List Act = Called a.request ∷ [] in
             let r = sends_response s.out old.outbox k (status_response INVALID_ARGUMENT (path_text a.request.service a.request.method)) sent new.outbox done a.is_sent.within (called_alone a.request) refusal.is (λ ok. absurd (refusal.never_ok ok)) responds sends in
             answer_comes rest down next kept old new k done r
-            (subst (λ (js : List ActiveJob). Stories stream_of trace rest (down ++ r.y ∷ []) next js kept) jobs
+            (subst (λ (js : List ActiveJob). Stories had stream_of trace rest (down ++ r.y ∷ []) next js kept) jobs
             (turns_up x rest down (down ++ r.y ∷ []) next kept old.state.jobs.list old.state.jobs.list stories
-            (refers_here _ k _ x _ _ _ _ _ r.r r.y own r.is_told (parcels-push_own k r.y down r.is_told.stream))
-            (λ i e. (refl, parcels-push_other i r.y down (λ same. e (sym r.is_told.stream ∙ same))))))
+            (refers_here _ k _ x _ _ _ _ _ r.r r.y own r.is_told (pushed_own id_of k r.y down r.is_told.stream))
+            (λ i e. (refl, pushed_other id_of i r.y down (λ same. e (sym r.is_told.stream ∙ same))))))
             same
         | inr left ↦ quiet_comes rest down next kept old new (none_sent s.out old.outbox sent new.outbox left.0 sends)
-            (subst (λ (js : List ActiveJob). Stories stream_of trace rest down next js kept) jobs
+            (subst (λ (js : List ActiveJob). Stories had stream_of trace rest down next js kept) jobs
             (turns_up x rest down down next kept old.state.jobs.list old.state.jobs.list stories (leaves_out_here _ k _ x _ _ _ _ own) (λ i e. (refl, refl))))
             same
       ]
@@ -171,11 +112,11 @@ module _ {CO CI SO SI : Type 0} (c : Halves CO CI) (s : Halves SO SI) (stream_of
   -- one frame
   comes_up : (x : Flying) (rest down : List Flying) (next : ℕ) (kept : ℕ → Option Call) (old new : Scene Server SO SI) (sent : List Sent)
       → Does s.out (sync_row old.state.services x.frame.message.header (Opened x.plain)) old.state old.outbox.half x.frame.message.header sent new.state → SendsAll s.out old.outbox sent new.outbox
-      → Stories stream_of trace (x ∷ rest) down next old.state.jobs.list kept → AreKnown stream_of old.state.jobs.list
-      → ComesUp c s stream_of trace rest down next kept old new
+      → Stories had stream_of trace (x ∷ rest) down next old.state.jobs.list kept → AreKnown stream_of old.state.jobs.list
+      → ComesUp c s had stream_of trace rest down next kept old new
   comes_up x rest down next kept old new sent does sends stories known =
       let k : ℕ = x.frame.message.header.stream_id in
-      let own = subst (λ (u : List Flying). Story (next ≤ k) k (acts stream_of k trace) u (jobs_at old.state.jobs.list k) (parcels k down) (kept k)) (parcels-cons_own k x rest refl) (stories k) in
+      let own = subst (λ (u : List Flying). Story had (next ≤ k) k (acts stream_of k trace) u (jobs_at old.state.jobs.list k) (parcels k down) (kept k)) (under_own id_of k x rest refl) (stories k) in
       let request = (arriving _ _ _ x _ _ _ _ own).request in
       let is_sent = (arriving _ _ _ x _ _ _ _ own).is_sent in
       let row : sync_row old.state.services x.frame.message.header (Opened x.plain) ≡ request_row old.state.services (Some request) =
@@ -185,49 +126,48 @@ module _ {CO CI SO SI : Type 0} (c : Halves CO CI) (s : Halves SO SI) (stream_of
 
   -- frames, one after the other
   pub feeds_up : (now : ℕ) (front rest down : List Flying) (next : ℕ) (kept : ℕ → Option Call) (old new : Scene Server SO SI)
-      → ActsOn (serving s.out s.in_) now old front new → Stories stream_of trace (front ++ rest) down next old.state.jobs.list kept → AreKnown stream_of old.state.jobs.list
-      → ComesUp c s stream_of trace rest down next kept old new
+      → ActsOn (serving s.out s.in_) now old front new → Stories had stream_of trace (front ++ rest) down next old.state.jobs.list kept → AreKnown stream_of old.state.jobs.list
+      → ComesUp c s had stream_of trace rest down next kept old new
   feeds_up now [] rest down next kept old new p stories known =
-      subst (λ (x : Scene Server SO SI). ComesUp c s stream_of trace rest down next kept old x) (sym p) (quiet_comes rest down next kept old old refl stories known)
+      subst (λ (x : Scene Server SO SI). ComesUp c s had stream_of trace rest down next kept old x) (sym p) (quiet_comes rest down next kept old old refl stories known)
   feeds_up now (x ∷ front) rest down next kept old new p stories known =
       let first = comes_up x (front ++ rest) down next kept old p.0 p.1 p.2 p.3 stories known in
       let later = feeds_up now front rest (down ++ first.more) next kept p.0 new p.4 first.stories first.known in
       record {
         more = first.more ++ later.more;
-        stories = subst (λ (d : List Flying). Stories stream_of trace rest d next new.state.jobs.list kept) (append_assoc down first.more later.more) later.stories;
+        stories = subst (λ (d : List Flying). Stories had stream_of trace rest d next new.state.jobs.list kept) (append_assoc down first.more later.more) later.stories;
         known = later.known;
-        placed = λ held pipe cut transit queued a. subst (λ (xs : List Flying). AreInFlight held pipe cut new.outbox.queue transit xs) (append_assoc queued first.more later.more) (later.placed held pipe cut transit (queued ++ first.more) (first.placed held pipe cut transit queued a));
-        sealed = λ flights in_ a. subst (λ (xs : List Flying). AreLinked s.out.seals c.in_.opens c.in_.refuses xs new.outbox.half in_) (append_assoc flights first.more later.more) (later.sealed (flights ++ first.more) in_ (first.sealed flights in_ a));
+        sent = λ y pipe flights way. rw (← append_assoc) (later.sent y pipe (flights ++ first.more) (first.sent y pipe flights way));
       }
 
 -- ---- a frame comes to the client
 
-pub record ComesDown {CO CI : Type 0} (stream_of : ℕ → ℕ) (trace : List Entry) (up down : List Flying) (jobs : List ActiveJob) (old new : Scene Client CO CI) : Type 0 where
-  pub stories : Stories stream_of trace up down new.state.next jobs (call_at new.state)
+pub record ComesDown {CO CI : Type 0} (had : ℕ → Bool) (stream_of : ℕ → ℕ) (trace : List Entry) (up down : List Flying) (jobs : List ActiveJob) (old new : Scene Client CO CI) : Type 0 where
+  pub stories : Stories had stream_of trace up down new.state.next jobs (call_at new.state)
   pub outbox : new.outbox ≡ old.outbox
 
-module _ {CO CI : Type 0} (c : Halves CO CI) (stream_of : ℕ → ℕ) (trace : List Entry) where
+module _ {CO CI : Type 0} (c : Halves CO CI) (had : ℕ → Bool) (stream_of : ℕ → ℕ) (trace : List Entry) where
   comes_down : (x : Flying) (up rest : List Flying) (jobs : List ActiveJob) (old new : Client) (sent : List Sent) (now : ℕ)
-      → LandsOnce old (record { header = x.frame.message.header; opening = Opened x.plain; now = now }) sent new → Stories stream_of trace up (x ∷ rest) old.next jobs (call_at old)
-      → Stories stream_of trace up rest new.next jobs (call_at new)
+      → LandsOnce old (record { header = x.frame.message.header; opening = Opened x.plain; now = now }) sent new → Stories had stream_of trace up (x ∷ rest) old.next jobs (call_at old)
+      → Stories had stream_of trace up rest new.next jobs (call_at new)
   comes_down x up rest jobs old new sent now p stories =
       let k : ℕ = x.frame.message.header.stream_id in
-      let own = subst (λ (d : List Flying). Story (old.next ≤ k) k (acts stream_of k trace) (parcels k up) (jobs_at jobs k) d (call_at old k)) (parcels-cons_own k x rest refl) (stories k) in
+      let own = subst (λ (d : List Flying). Story had (old.next ≤ k) k (acts stream_of k trace) (parcels k up) (jobs_at jobs k) d (call_at old k)) (under_own id_of k x rest refl) (stories k) in
       let told = returning _ _ _ _ _ x _ _ own in
       let landing : landing_of x.frame.message.header (Opened x.plain) ≡ Gives (by_status told.r.status told.r) =
       ap (λ (plain : List ℕ). landing_of x.frame.message.header (Opened plain)) told.is_told.plain ∙ response_landing_is x.frame.message.header told.r told.is_told.known told.is_told.short told.is_told.type_ in
       let next : new.next ≡ old.next = ap (λ (s : Client). s.next) p.same in
       let young : (i : ℕ) → new.next ≤ i → old.next ≤ i = λ i y. omega (arith, y, next) in
-      at_one (λ (n : ℕ). Story (new.next ≤ n) n (acts stream_of n trace) (parcels n up) (jobs_at jobs n) (parcels n rest) (call_at new n)) k
+      at_one (λ (n : ℕ). Story had (new.next ≤ n) n (acts stream_of n trace) (parcels n up) (jobs_at jobs n) (parcels n rest) (call_at new n)) k
       (lands_here (old.next ≤ k) (new.next ≤ k) k (acts stream_of k trace) (parcels k up) (jobs_at jobs k) x (parcels k rest) (call_at old k) (call_at new k) own (young k)
       (subst (λ (l : Landing). LandsOn l (call_at old k) (call_at new k)) landing p.lands.own))
-      (λ i e. elsewhere (old.next ≤ i) (new.next ≤ i) i _ _ _ _ _ _ _ _ _ _ (stories i) (young i) refl refl refl (sym (parcels-cons_other i x rest e)) (p.lands.others i (λ same. e (sym same))))
+      (λ i e. elsewhere (old.next ≤ i) (new.next ≤ i) i _ _ _ _ _ _ _ _ _ _ (stories i) (young i) refl refl refl (sym (under_other id_of i x rest e)) (p.lands.others i (λ same. e (sym same))))
 
   pub feeds_down : (now : ℕ) (front up rest : List Flying) (jobs : List ActiveJob) (old new : Scene Client CO CI)
-      → ActsOn (calling c.out c.in_) now old front new → Stories stream_of trace up (front ++ rest) old.state.next jobs (call_at old.state)
-      → ComesDown stream_of trace up rest jobs old new
+      → ActsOn (calling c.out c.in_) now old front new → Stories had stream_of trace up (front ++ rest) old.state.next jobs (call_at old.state)
+      → ComesDown had stream_of trace up rest jobs old new
   feeds_down now [] up rest jobs old new p stories =
-      subst (λ (x : Scene Client CO CI). ComesDown stream_of trace up rest jobs old x) (sym p) (record { stories = stories; outbox = refl })
+      subst (λ (x : Scene Client CO CI). ComesDown had stream_of trace up rest jobs old x) (sym p) (record { stories = stories; outbox = refl })
   feeds_down now (x ∷ front) up rest jobs old new p stories =
       let first = comes_down x up (front ++ rest) jobs old.state p.0.state p.1 now p.2 stories in
       let later = feeds_down now front up rest jobs p.0 new p.4 first in

@@ -1,23 +1,15 @@
 -- THE HEADLINE, for any run from a fresh start: each step keeps the invariant, and the invariant has the headline in it.
-use Rattle.std.proofs.Common.{rules, ◌≡◌, ℕ, List, [], ◌∷◌, ◌++◌, Bool, false, Some, refl, sym, ap, subst, inl, inr, append_assoc}
-use Rattle.std.proofs.lemmas.List.{append-nil}
-use Rattle.ttrpc_world.proofs.Words.{ServerCore, ClientCore, Event, Reply, Entry}
-use Rattle.ttrpc_connection.specs.declared.failure.Failure.TheVariants.{Told}
+use Rattle.ttrpc_world.proofs.Words.{rules, ◌≡◌, ℕ, List, [], ◌∷◌, ◌++◌, Bool, false, Some, refl, sym, ap, subst, inl, inr, append_assoc, append-nil, ServerCore, ClientCore, Event, Reply, Entry, Told, Outcome, DropCall, Take, Answer, Tick, Carry, Deliver, Cut, Fail, Named, Given, Handed, Done, Count, Refused, Halves, Net, IsFresh, Runs, Steps, failed_by_hand, IsExactlyOnce, IsRightAt, IsStreamOf, act_of, acts}
 use Rattle.ttrpc_server.specs.Jobs as server
 use Rattle.ttrpc_client.specs.Client as client
-use Rattle.ttrpc_flight.proofs.Bytes.{none_in_flight}
-use Rattle.ttrpc_flight.proofs.Seals.{none_linked}
 use Rattle.ttrpc_world.specs.declared.events.Side.TheVariants as side
-use Rattle.ttrpc_world.specs.declared.events.Event.TheVariants.{Call, Outcome, DropCall, Take, Answer, Tick, Carry, Deliver, Cut, Fail}
-use Rattle.ttrpc_world.specs.declared.events.Reply.TheVariants.{Named, Outcome as Given, Handed, Done, Count, Refused}
-use Rattle.ttrpc_world.specs.Net.{Halves, Net, IsFresh}
-use Rattle.ttrpc_world.specs.Steps.{Runs, Steps, failed_by_hand}
-use Rattle.ttrpc_world.specs.Story.{IsExactlyOnce, IsRightAt, IsStreamOf, act_of, acts}
+use Rattle.ttrpc_world.specs.declared.events.Event.TheVariants.{Call, Finish, Respond}
+use Rattle.ttrpc_world.proofs.OneWay.{starts}
 use Rattle.ttrpc_world.proofs.Stages.{Ends, Unborn, exactly_once}
 use Rattle.ttrpc_world.proofs.Delivers.{AreKnown}
 use Rattle.ttrpc_world.proofs.Traces.{with_entry}
 use Rattle.ttrpc_world.proofs.Keeps.{Keeps, keeps_ask, keeps_call, keeps_drop, keeps_still, keeps_tick}
-use Rattle.ttrpc_world.proofs.Moves.{break_down, break_up, carry_down, carry_up, client_fails, cut_down, cut_up, deliver_down, deliver_up, keeps_answer, keeps_hand, server_fails}
+use Rattle.ttrpc_world.proofs.Moves.{break_down, break_up, carry_down, carry_up, client_fails, cut_down, cut_up, deliver_down, deliver_up, keeps_answer, keeps_finish, keeps_hand, keeps_respond, server_fails}
 
 module _ {CO CI SO SI : Type 0} (c : Halves CO CI) (s : Halves SO SI) (seals : Bool) (still : seals ≡ false → (from to : CO) (plain aad sealed : List ℕ) → c.out.seals from plain aad sealed to → to ≡ from)
     (stream_of : ℕ → ℕ) where
@@ -42,7 +34,9 @@ module _ {CO CI SO SI : Type 0} (c : Halves CO CI) (s : Halves SO SI) (seals : B
   keeps trace w (Outcome id) (Given outcome) v i r p = along _ _ v p.1 (keeps_ask c s seals still stream_of trace w id outcome v i p.0)
   keeps trace w (DropCall id) Done v i r p = along _ _ v p.only (keeps_drop c s seals still stream_of trace w id v i p)
   keeps trace w Take (Handed (Some job)) v i r p = along _ _ v p.1 (keeps_hand c s seals stream_of trace w job v r i p.0)
-  keeps trace w (Answer id result) Done v i r p = along _ _ v p.1 (keeps_answer c s seals stream_of trace w id result v.server i p.0)
+  keeps trace w (Answer id result) Done v i r p = along _ _ v p.1 (keeps_answer c s seals stream_of trace w id result v.server i p.0 p.2)
+  keeps trace w (Respond id response) Done v i r p = along _ _ v p.only (keeps_respond c s seals stream_of trace w id response v i p)
+  keeps trace w (Finish id) Done v i r p = along _ _ v p.1 (keeps_finish c s seals stream_of trace w id v.server i p.0)
   keeps trace w (Tick now) Done v i r p = along _ _ v p.only (keeps_tick c s seals still stream_of trace w now v i p)
   keeps trace w (Carry side.Client n) (Count k) v i r p = carry_up c s seals stream_of _ w n k v (quietly trace w (Carry side.Client n) (Count k) (λ j. refl) i) p
   keeps trace w (Carry side.Server n) (Count k) v i r p = carry_down c s seals stream_of _ w n k v (quietly trace w (Carry side.Server n) (Count k) (λ j. refl) i) p
@@ -83,11 +77,9 @@ module _ {CO CI SO SI : Type 0} (c : Halves CO CI) (s : Halves SO SI) (seals : B
     };
     known = subst (λ (x : ServerCore SO SI). AreKnown stream_of x.state.jobs.list) (sym f.server) tt;
     own = tt;
-    up_bytes = λ alive. rw (f.server, f.up, f.client) (record { transit = []; queued = []; all = refl; bytes = none_in_flight });
-    down_bytes = λ alive. rw (f.client, f.down, f.server) (record { transit = []; queued = []; all = refl; bytes = none_in_flight });
-    up_linked = λ alive. none_linked c.out.seals s.in_.opens s.in_.refuses w.client.connection.outbox.half w.server.connection.inbound f.up_paired;
-    down_linked = λ alive. none_linked s.out.seals c.in_.opens c.in_.refuses w.server.connection.outbox.half w.client.connection.inbound f.down_paired;
+    upward = starts c.out s.in_ w.client.connection w.server.connection w.up (ap (λ (x : ClientCore CO CI). x.connection.outbox.queue) f.client) (ap (λ (x : ServerCore SO SI). x.connection.decoder) f.server) f.up f.up_paired;
+    downward = starts s.out c.in_ w.server.connection w.client.connection w.down (ap (λ (x : ServerCore SO SI). x.connection.outbox.queue) f.server) (ap (λ (x : ClientCore CO CI). x.connection.decoder) f.client) f.down f.down_paired;
   }
 
   pub headline : (w : Net CO CI SO SI) (trace : List Entry) (v : Net CO CI SO SI) → IsFresh c s w → Runs c s seals w trace v → IsStreamOf stream_of trace → (k : ℕ) → IsExactlyOnce (acts stream_of k trace)
-  headline w trace v f p r k = exactly_once _ k _ _ _ _ _ ((keeps_all [] trace w v (fresh w f) r p).stories k)
+  headline w trace v f p r k = exactly_once _ _ k _ _ _ _ _ ((keeps_all [] trace w v (fresh w f) r p).stories k)

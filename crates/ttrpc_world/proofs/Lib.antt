@@ -1,4 +1,5 @@
 pub mod Words
+pub mod OneWay
 pub mod Stages
 pub mod Turns
 pub mod Payloads

@@ -1,345 +1,142 @@
 -- Each event that moves bytes, cuts a pipe or fails a side, and each of the server, keeps the invariant.
-use Rattle.std.proofs.Common.{◌≡◌, ◌≢◌, ℕ, zero, suc, ◌≤◌, List, [], ◌∷◌, ◌++◌, length, take, drop, map, min, Bool, true, false, Option, Some, None, refl, sym, ap, ◌∙◌, subst, ◌⊎◌, inl, inr, arith, append_assoc, take-append-drop, Result, Ok, Err}
-use Rattle.std.specs.List.{AllByRecursion}
-use Rattle.ttrpc_world.proofs.Words.{Error, Failure, Outbox, ServerCore, Entry, Request, Response, ActiveJob, Event, Reply}
-use Rattle.ttrpc_frame.specs.declared.frame.Incoming.{Incoming}
-use Rattle.ttrpc_frame.specs.Frames.{Fed, Held, given, nothing}
-use Rattle.ttrpc_frame.specs.Queue.{Queue, after_report, open_part, with_lent}
-use Rattle.ttrpc_connection.specs.declared.connection.Connection.{Connection}
-use Rattle.ttrpc_connection.specs.declared.failure.Failure.TheVariants.{Disconnected, DisconnectedInside, HandlerError}
-use Rattle.ttrpc_connection.specs.Failure.{kept}
-use Rattle.ttrpc_connection.specs.Feeds.{ActsAll, Scene, scene}
-use Rattle.ttrpc_server.specs.Happens.{Hands, serving, Answers, Drops}
-use Rattle.ttrpc_server.specs.Server.{Server}
-use Rattle.ttrpc_client.specs.Client.{Client, call_at}
-use Rattle.ttrpc_client.specs.Happens.{calling}
-use Rattle.ttrpc_flight.specs.Flight.{Flying, AreLinked, IsOwnRequest, arrived, AreInFlight, parcels}
-use Rattle.ttrpc_flight.proofs.Acting.{act_as_sent}
-use Rattle.ttrpc_flight.proofs.Bytes.{carried_in_flight, cut_in_flight, fed_in_flight, placed_in_flight}
-use Rattle.ttrpc_flight.proofs.Losing.{all_behind}
-use Rattle.ttrpc_world.specs.Pipes.{Pipe, is_over}
-use Rattle.ttrpc_world.specs.Net.{Halves, Net, with_client, with_server}
-use Rattle.ttrpc_world.specs.Steps.{BreaksAt, OnlyClient, OnlyServer, CarriesDown, CarriesUp, CutsDown, CutsUp, DeliversDown, DeliversUp, Hears, InputEnds, carried, cut_to, failed, after_carry, lent_of, taken_from, AnswersBy}
-use Rattle.ttrpc_world.proofs.Delivers.{AreKnown, IsKnown, Stories, all_at, all_changed, all_less, feeds_down, feeds_up, at_one, jobs-append, jobs-cons_other, jobs-cons_own}
-use Rattle.ttrpc_world.proofs.Throws.{InFlight, not_both}
-use Rattle.ttrpc_world.proofs.Keeps.{Keeps, placed}
-use Rattle.ttrpc_world.proofs.Turns.{no_cons, answers_here, elsewhere, fails_here, is_running, takes_here}
-use Rattle.ttrpc_proto.specs.Messages.{IsResponse}
-use Rattle.ttrpc_server.specs.declared.job.Job.{Job}
-use Rattle.ttrpc_server.specs.Jobs.{jobs_at}
-use Rattle.ttrpc_flight.proofs.Parcels.{parcels-push_other, parcels-push_own}
-use Rattle.ttrpc_flight.proofs.Seals.{more_linked}
-use Rattle.ttrpc_world.specs.declared.events.Event.TheVariants.{Take, Answer}
-use Rattle.ttrpc_world.specs.declared.events.Reply.TheVariants.{Handed, Done}
-use Rattle.ttrpc_world.specs.Story.{Act, Answered, Ran, acts}
+use Rattle.ttrpc_world.proofs.Words.{nat_eq, cases_Bool, eq-eqb, inl, inr, true, false, RespondsTo, ◌≡◌, ◌≢◌, ℕ, ◌≤◌, List, [], ◌∷◌, ◌++◌, length, Bool, Option, Some, None, refl, sym, ap, ◌∙◌, subst, arith, Result, Ok, Err, Error, Failure, ServerCore, Entry, Request, Response, ActiveJob, Event, Reply, Queue, open_part, Connection, HandlerError, Scene, scene, serving, Answers, Drops, Server, Client, call_at, calling, Flying, IsOwnRequest, parcels, all_behind, Pipe, is_over, Halves, Net, has_response, with_client, with_server, BreaksAt, OnlyClient, OnlyServer, CarriesDown, CarriesUp, CutsDown, CutsUp, DeliversDown, DeliversUp, carried, cut_to, failed, after_carry, lent_of, taken_from, AnswersBy, IsResponse, Job, jobs_at, Take, Answer, Handed, Done, Act, Answered, Ran, acts, all_at, all_changed, all_less, between_own, between_other, under_both, pushed_own, pushed_other, id_of, stream_id_of}
+use Rattle.ttrpc_server.specs.Happens.{Finishes, Hands}
+use Rattle.std.specs.List.{list_any}
+use Rattle.ttrpc_world.specs.Types.{Finish, Respond}
+use Rattle.ttrpc_world.proofs.Delivers.{AreKnown, IsKnown, Stories, feeds_down, feeds_up, at_one}
+use Rattle.ttrpc_world.proofs.OneWay.{Lands, OneWay, as_heard, breaks_land, carries, cuts, dead, feeds_land, goes_on, joins, kept_some, not_both}
+use Rattle.ttrpc_world.proofs.Keeps.{Keeps}
+use Rattle.ttrpc_world.proofs.Turns.{answers_here, elsewhere, fails_here, finishes_here, is_running, more_have, responds_here, takes_here}
 use Rattle.ttrpc_world.proofs.Stages.{IsAnswerOf, IsDone, Story, whole_work}
 use Rattle.ttrpc_world.proofs.Payloads.{sends_response}
-use Rattle.ttrpc_world.proofs.Traces.{heard, unheard, with_entry}
-
--- ---- bytes of one way
+use Rattle.ttrpc_world.proofs.Traces.{heard, stories_silent, unheard, with_entry}
 
 -- no more is lent than is left of the first frame
 lent_fits : (failure : Option Failure) (n k : ℕ) (q : Queue) → k ≡ lent_of failure n q → k ≤ length (open_part q)
 lent_fits None n k q e = omega (arith, e)
 lent_fits (Some x) n k q e = omega (arith, e)
 
-carries : (held : Held) (p : Pipe) (q : Queue) (flights : List Flying) (k : ℕ) → k ≤ length (open_part q) → InFlight held p q flights → InFlight held (carried p k q) (after_report (with_lent q k) k) flights
-carries held p q flights k fits b =
-    let m = carried_in_flight held p.bytes p.cut q b.transit b.queued k fits b.bytes in
-    record { transit = m.0; queued = m.1; all = m.2 ∙ b.all; bytes = m.3 }
-
-cuts : (held : Held) (p : Pipe) (q : Queue) (flights : List Flying) (keep : ℕ) → InFlight held p q flights → InFlight held (cut_to p keep) q flights
-cuts held p q flights keep b = record { transit = b.transit; queued = b.queued; all = b.all; bytes = cut_in_flight held p.bytes p.cut q b.transit b.queued keep b.bytes }
-
--- what came are the first flights, and the others still are in flight
-record Came (incoming : List Incoming) (new : Held) (later : List ℕ) (p : Pipe) (q : Queue) (flights : List Flying) : Type 0 where
-  front : List Flying
-  rest : List Flying
-  all : front ++ rest ≡ flights
-  are : incoming ≡ map arrived front
-  bytes : InFlight new (record p { bytes = later }) q rest
-
-came : (held : Held) (p : Pipe) (q : Queue) (flights : List Flying) (taken later : List ℕ) (incoming : List Incoming) (new : Held) → p.bytes ≡ taken ++ later → Fed held taken incoming new → InFlight held p q flights → Came incoming new later p q flights
-came held p q flights taken later incoming new pipe fed b =
-    let f = fed_in_flight held p.bytes p.cut q b.transit b.queued taken later incoming new pipe fed b.bytes in
-    record {
-      front = f.0;
-      rest = f.1 ++ b.queued;
-      all = sym (append_assoc f.0 f.1 b.queued) ∙ ap (λ xs. xs ++ b.queued) (sym f.2) ∙ b.all;
-      are = f.3;
-      bytes = record { transit = f.1; queued = b.queued; all = refl; bytes = f.4 };
-    }
-
--- of flights that came the first ones acted
-record Acted (frames : List Incoming) (front : List Flying) : Type 0 where
-  first : List Flying
-  others : List Flying
-  all : first ++ others ≡ front
-  are : frames ≡ map arrived first
-
-acted : (frames more : List Incoming) (front : List Flying) → frames ++ more ≡ map arrived front → Acted frames front
-acted [] more front e = record { first = []; others = front; all = refl; are = refl }
-acted (f ∷ frames) more [] e = absurd (no_cons f (frames ++ more) e)
-acted (f ∷ frames) more (x ∷ front) e =
-    let tail : frames ++ more ≡ map arrived front = cc in
-    let later = acted frames more front tail in
-    let head : f ≡ arrived x = cc in
-    record { first = x ∷ later.first; others = later.others; all = ap (λ xs. x ∷ xs) later.all; are = ap (λ g. g ∷ frames) head ∙ ap (λ gs. arrived x ∷ gs) later.are }
-
--- ---- a failure is kept
-
-kept_some : (failure : Option Failure) (why : Failure) → kept failure why ≡ None → ⊥
-kept_some None why e = cc
-kept_some (Some first) why e = cc
-
--- what is held is nothing, or isn't
-cases_of : (bytes : List ℕ) (counted : ℕ) → (record { bytes = bytes; counted = counted } ≡ nothing) ⊎ (record { bytes = bytes; counted = counted } ≢ nothing)
-cases_of [] zero = inl refl
-cases_of [] (suc n) = inr (λ e. let bad : suc n ≡ zero = ap Held.counted e in cc)
-cases_of (b ∷ bytes) counted = inr (λ e. no_cons b bytes (ap Held.bytes e))
-
-held_cases : (h : Held) → (h ≡ nothing) ⊎ (h ≢ nothing)
-held_cases h = cases_of h.bytes h.counted
-
-pub one_way : {P : Type 0} (h : Held) → (h ≡ nothing → P) → (h ≢ nothing → P) → P
-one_way h none some = elim (held_cases h) [
-  | inl e ↦ none e
-  | inr e ↦ some e
-]
-
--- an end of input is a failure
-record Stops {O I : Type 0} (old new : Connection O I) : Type 0 where
-  why : Failure
-  is : new ≡ failed old why
-
-stops : {O I : Type 0} (old new : Connection O I) → InputEnds old new → Stops old new
-stops old new e = one_way old.decoder (λ none. record { why = Disconnected; is = e.between none }) (λ some. record { why = DisconnectedInside; is = e.inside some })
-
 module _ {CO CI SO SI : Type 0} (c : Halves CO CI) (s : Halves SO SI) (seals : Bool) (stream_of : ℕ → ℕ) (trace : List Entry) where
+  abbrev Kept : Net CO CI SO SI → Type 0
+  Kept w = Keeps c s stream_of trace w
+
   -- the states of both cores stay, and what is in flight
-  rewired : (w : Net CO CI SO SI) → (i : Keeps c s stream_of trace w) → (x : Connection CO CI) (y : Connection SO SI) (p q : Pipe)
-      → (y.failure ≡ None → InFlight y.decoder p x.outbox.queue i.up) → (x.failure ≡ None → InFlight x.decoder q y.outbox.queue i.down)
-      → (y.failure ≡ None → AreLinked c.out.seals s.in_.opens s.in_.refuses i.up x.outbox.half y.inbound) → (x.failure ≡ None → AreLinked s.out.seals c.in_.opens c.in_.refuses i.down y.outbox.half x.inbound)
-      → Keeps c s stream_of trace (record { client = record w.client { connection = x }; server = record w.server { connection = y }; up = p; down = q; moment = w.moment })
-  rewired w i x y p q up_bytes down_bytes up_linked down_linked = record {
-    up = i.up;
-    down = i.down;
-    stories = i.stories;
-    known = i.known;
-    own = i.own;
-    up_bytes = up_bytes;
-    down_bytes = down_bytes;
-    up_linked = up_linked;
-    down_linked = down_linked;
-  }
+  rewired : (w : Net CO CI SO SI) (i : Kept w) (x : Connection CO CI) (y : Connection SO SI) (p q : Pipe) → OneWay c.out s.in_ x.outbox y p i.up → OneWay s.out c.in_ y.outbox x q i.down
+      → Kept (record { client = record w.client { connection = x }; server = record w.server { connection = y }; up = p; down = q; moment = w.moment; responded = w.responded })
+  rewired w i x y p q upward downward = record { up = i.up; down = i.down; stories = i.stories; known = i.known; own = i.own; upward = upward; downward = downward }
 
   -- a side fails
-  pub server_fails : (w : Net CO CI SO SI) (why : Failure) → Keeps c s stream_of trace w → Keeps c s stream_of trace (with_server w (record w.server { connection = failed w.server.connection why }))
+  pub server_fails : (w : Net CO CI SO SI) (why : Failure) → Kept w → Kept (with_server w (record w.server { connection = failed w.server.connection why }))
   server_fails w why i =
-      rewired w i w.client.connection (failed w.server.connection why) w.up w.down
-      (λ alive. absurd (kept_some w.server.connection.failure why alive)) i.down_bytes (λ alive. absurd (kept_some w.server.connection.failure why alive)) i.down_linked
+      rewired w i w.client.connection (failed w.server.connection why) w.up w.down (dead c.out s.in_ _ (failed w.server.connection why) w.up i.up (kept_some w.server.connection.failure why)) i.downward
 
-  pub client_fails : (w : Net CO CI SO SI) (why : Failure) → Keeps c s stream_of trace w → Keeps c s stream_of trace (with_client w (record w.client { connection = failed w.client.connection why }))
+  pub client_fails : (w : Net CO CI SO SI) (why : Failure) → Kept w → Kept (with_client w (record w.client { connection = failed w.client.connection why }))
   client_fails w why i =
-      rewired w i (failed w.client.connection why) w.server.connection w.up w.down
-      i.up_bytes (λ alive. absurd (kept_some w.client.connection.failure why alive)) i.up_linked (λ alive. absurd (kept_some w.client.connection.failure why alive))
-
-  -- its input ends, where its pipe is over
-  server_hears : (over : Bool) (w : Net CO CI SO SI) (x : Connection SO SI) → Keeps c s stream_of trace w → Hears over w.server.connection x → Keeps c s stream_of trace (with_server w (record w.server { connection = x }))
-  server_hears true w x i h =
-      let end = stops w.server.connection x h in
-      subst (λ (y : Connection SO SI). Keeps c s stream_of trace (with_server w (record w.server { connection = y }))) (sym end.is) (server_fails w end.why i)
-  server_hears false w x i h = subst (λ (y : Connection SO SI). Keeps c s stream_of trace (with_server w (record w.server { connection = y }))) (sym h) i
-
-  client_hears : (over : Bool) (w : Net CO CI SO SI) (x : Connection CO CI) → Keeps c s stream_of trace w → Hears over w.client.connection x → Keeps c s stream_of trace (with_client w (record w.client { connection = x }))
-  client_hears true w x i h =
-      let end = stops w.client.connection x h in
-      subst (λ (y : Connection CO CI). Keeps c s stream_of trace (with_client w (record w.client { connection = y }))) (sym end.is) (client_fails w end.why i)
-  client_hears false w x i h = subst (λ (y : Connection CO CI). Keeps c s stream_of trace (with_client w (record w.client { connection = y }))) (sym h) i
+      rewired w i (failed w.client.connection why) w.server.connection w.up w.down i.upward (dead s.out c.in_ _ (failed w.client.connection why) w.down i.down (kept_some w.client.connection.failure why))
 
   -- Bytes are carried.
-  pub carry_up : (w : Net CO CI SO SI) (n k : ℕ) (v : Net CO CI SO SI) → Keeps c s stream_of trace w → CarriesUp c s seals w n k v → Keeps c s stream_of trace v
+  pub carry_up : (w : Net CO CI SO SI) (n k : ℕ) (v : Net CO CI SO SI) → Kept w → CarriesUp c s seals w n k v → Kept v
   carry_up w n k v i p =
       let x = w.client.connection in
-      subst (λ (x : Net CO CI SO SI). Keeps c s stream_of trace x) (sym p.only)
-      (rewired w i (after_carry x k) w.server.connection (carried w.up k x.outbox.queue) w.down
-      (λ alive. carries w.server.connection.decoder w.up x.outbox.queue i.up k (lent_fits x.failure n k x.outbox.queue p.count) (i.up_bytes alive)) i.down_bytes i.up_linked i.down_linked)
+      rw p.only (rewired w i (after_carry x k) w.server.connection (carried w.up k x.outbox.queue) w.down
+      (carries c.out s.in_ x.outbox w.server.connection w.up i.up k (lent_fits x.failure n k x.outbox.queue p.count) i.upward) (record { bytes = i.downward.bytes; linked = i.downward.linked }))
 
-  pub carry_down : (w : Net CO CI SO SI) (n k : ℕ) (v : Net CO CI SO SI) → Keeps c s stream_of trace w → CarriesDown c s seals w n k v → Keeps c s stream_of trace v
+  pub carry_down : (w : Net CO CI SO SI) (n k : ℕ) (v : Net CO CI SO SI) → Kept w → CarriesDown c s seals w n k v → Kept v
   carry_down w n k v i p =
       let y = w.server.connection in
-      subst (λ (x : Net CO CI SO SI). Keeps c s stream_of trace x) (sym p.only)
-      (rewired w i w.client.connection (after_carry y k) w.up (carried w.down k y.outbox.queue)
-      i.up_bytes (λ alive. carries w.client.connection.decoder w.down y.outbox.queue i.down k (lent_fits y.failure n k y.outbox.queue p.count) (i.down_bytes alive)) i.up_linked i.down_linked)
+      rw p.only (rewired w i w.client.connection (after_carry y k) w.up (carried w.down k y.outbox.queue)
+      (record { bytes = i.upward.bytes; linked = i.upward.linked }) (carries s.out c.in_ y.outbox w.client.connection w.down i.down k (lent_fits y.failure n k y.outbox.queue p.count) i.downward))
 
-  -- WHAT FRAMES DO THAT COME TO THE SERVER: the first flights up have acted, and the others are still in flight.
-  record ServedUp (w : Net CO CI SO SI) (i : Keeps c s stream_of trace w) (rest : List Flying) (new : Scene Server SO SI) : Type 0 where
-    more : List Flying
-    stories : Stories stream_of trace rest (i.down ++ more) w.client.state.next new.state.jobs.list (call_at w.client.state)
-    known : AreKnown stream_of new.state.jobs.list
-    own : AllByRecursion IsOwnRequest rest
-    down_bytes : w.client.connection.failure ≡ None → InFlight w.client.connection.decoder w.down new.outbox.queue (i.down ++ more)
-    up_linked : AreLinked c.out.seals s.in_.opens s.in_.refuses rest w.client.connection.outbox.half new.inbound
-    down_linked : w.client.connection.failure ≡ None → AreLinked s.out.seals c.in_.opens c.in_.refuses (i.down ++ more) new.outbox.half w.client.connection.inbound
-
-  served_up : (w : Net CO CI SO SI) (i : Keeps c s stream_of trace w) → w.server.connection.failure ≡ None → (now : ℕ) (front rest : List Flying) → front ++ rest ≡ i.up → (new : Scene Server SO SI)
-      → ActsAll (serving s.out s.in_) now (scene w.server.state w.server.connection) (map arrived front) new → ServedUp w i rest new
-  served_up w i alive now front rest all new acts =
-      let linked = subst (λ (xs : List Flying). AreLinked c.out.seals s.in_.opens s.in_.refuses xs w.client.connection.outbox.half w.server.connection.inbound) (sym all) (i.up_linked alive) in
-      let acted = act_as_sent c.out.seals (serving s.out s.in_) now front rest w.client.connection.outbox.half (scene w.server.state w.server.connection) new linked acts in
-      let u = feeds_up c s stream_of trace now front rest i.down w.client.state.next (call_at w.client.state) (scene w.server.state w.server.connection) new acted.0
-      (subst (λ (xs : List Flying). Stories stream_of trace xs i.down w.client.state.next w.server.state.jobs.list (call_at w.client.state)) (sym all) i.stories) i.known in
+  -- WHAT FRAMES DO THAT COME TO A SIDE: the first flights have acted there, and the others still are in flight, unless it
+  -- failed.
+  served : (w : Net CO CI SO SI) (i : Kept w) (new : Scene Server SO SI) (l : Lands c.out (serving s.out s.in_) w.moment w.client.connection.outbox (scene w.server.state w.server.connection) new i.up)
+      (t : Server) (y : Connection SO SI) (p : Pipe) → t ≡ new.state → y.outbox ≡ new.outbox → OneWay c.out s.in_ w.client.connection.outbox y p l.rest
+      → Kept (record w { server = record { state = t; connection = y }; up = p })
+  served w i new l t y p state outbox upward =
+      let u = feeds_up c s (has_response w) stream_of trace w.moment l.front l.rest i.down w.client.state.next (call_at w.client.state) (scene w.server.state w.server.connection) new l.acts (rw l.all i.stories) i.known in
       record {
-        more = u.more;
-        stories = u.stories;
-        known = u.known;
-        own = all_behind IsOwnRequest front rest (subst (λ (xs : List Flying). AllByRecursion IsOwnRequest xs) (sym all) i.own);
-        down_bytes = λ lives. let b = i.down_bytes lives in record {
-          transit = b.transit;
-          queued = b.queued ++ u.more;
-          all = sym (append_assoc b.transit b.queued u.more) ∙ ap (λ xs. xs ++ u.more) b.all;
-          bytes = u.placed w.client.connection.decoder w.down.bytes w.down.cut b.transit b.queued b.bytes;
-        };
-        up_linked = acted.1;
-        down_linked = λ lives. u.sealed i.down w.client.connection.inbound (i.down_linked lives);
+        up = l.rest;
+        down = i.down ++ u.more;
+        stories = rw state u.stories;
+        known = rw state u.known;
+        own = all_behind IsOwnRequest l.front l.rest (rw l.all i.own);
+        upward = upward;
+        downward = rw outbox (u.sent w.client.connection w.down i.down i.downward);
+      }
+
+  landed : (w : Net CO CI SO SI) (i : Kept w) (new : Scene Client CO CI) (l : Lands s.out (calling c.out c.in_) 0 w.server.connection.outbox (scene w.client.state w.client.connection) new i.down)
+      (t : Client) (x : Connection CO CI) (q : Pipe) → t ≡ new.state → x.outbox ≡ new.outbox → OneWay s.out c.in_ w.server.connection.outbox x q l.rest
+      → Kept (record w { client = record { state = t; connection = x }; down = q })
+  landed w i new l t x q state outbox downward =
+      let d = feeds_down c (has_response w) stream_of trace 0 l.front i.up l.rest w.server.state.jobs.list (scene w.client.state w.client.connection) new l.acts (rw l.all i.stories) in
+      record {
+        up = i.up;
+        down = l.rest;
+        stories = rw state d.stories;
+        known = i.known;
+        own = i.own;
+        upward = rw (outbox, d.outbox) i.upward;
+        downward = downward;
       }
 
   -- Bytes are delivered.
-  deliver_up_mid : (w : Net CO CI SO SI) (n k : ℕ) (v : Net CO CI SO SI) → Keeps c s stream_of trace w → (p : DeliversUp c s seals w n k v)
-      → Keeps c s stream_of trace (record (with_server w (record { state = v.server.state; connection = p.does.mid })) { up = taken_from w.up k })
-  deliver_up_mid w n k v i p =
-      let f = p.does.does in
-      let came_now = came w.server.connection.decoder w.up w.client.connection.outbox.queue i.up (take k w.up.bytes) (drop k w.up.bytes) f.frames p.does.mid.decoder (sym (take-append-drop k w.up.bytes)) f.fed (i.up_bytes f.alive) in
-      let new = scene v.server.state p.does.mid in
-      let u = served_up w i f.alive w.moment came_now.front came_now.rest came_now.all new
-      (subst (λ (fs : List Incoming). ActsAll (serving s.out s.in_) w.moment (scene w.server.state w.server.connection) fs new) came_now.are f.acts) in
-      record {
-        up = came_now.rest;
-        down = i.down ++ u.more;
-        stories = u.stories;
-        known = u.known;
-        own = u.own;
-        up_bytes = λ alive. came_now.bytes;
-        down_bytes = u.down_bytes;
-        up_linked = λ alive. u.up_linked;
-        down_linked = u.down_linked;
-      }
-
-  pub deliver_up : (w : Net CO CI SO SI) (n k : ℕ) (v : Net CO CI SO SI) → Keeps c s stream_of trace w → DeliversUp c s seals w n k v → Keeps c s stream_of trace v
+  pub deliver_up : (w : Net CO CI SO SI) (n k : ℕ) (v : Net CO CI SO SI) → Kept w → DeliversUp c s seals w n k v → Kept v
   deliver_up w n k v i p =
-      subst (λ (x : Net CO CI SO SI). Keeps c s stream_of trace x) (sym p.only)
-      (server_hears (is_over (taken_from w.up k)) (record (with_server w (record { state = v.server.state; connection = p.does.mid })) { up = taken_from w.up k }) v.server.connection (deliver_up_mid w n k v i p) p.does.hears)
+      let l = feeds_land c.out (serving s.out s.in_) w.moment w.server.state w.client.connection.outbox w.server.connection w.up i.up k v.server.state p.does.mid i.upward p.does.does in
+      let is = λ (y : Connection SO SI). served w i (scene v.server.state p.does.mid) l.0 v.server.state y (taken_from w.up k) refl in
+      rw p.only (as_heard (λ y. Kept (record (with_server w (record { state = v.server.state; connection = y })) { up = taken_from w.up k })) (is_over (taken_from w.up k)) p.does.mid v.server.connection p.does.hears
+      (is p.does.mid refl (record { bytes = λ alive. l.1; linked = λ alive. l.0.linked })) (λ why. is (failed p.does.mid why) refl (dead c.out s.in_ _ _ _ _ (kept_some p.does.mid.failure why))))
 
-  -- WHAT FRAMES DO THAT COME TO THE CLIENT.
-  record LandedDown (w : Net CO CI SO SI) (i : Keeps c s stream_of trace w) (rest : List Flying) (new : Scene Client CO CI) : Type 0 where
-    stories : Stories stream_of trace i.up rest new.state.next w.server.state.jobs.list (call_at new.state)
-    outbox : new.outbox ≡ w.client.connection.outbox
-    linked : AreLinked s.out.seals c.in_.opens c.in_.refuses rest w.server.connection.outbox.half new.inbound
-
-  landed_down : (w : Net CO CI SO SI) (i : Keeps c s stream_of trace w) → w.client.connection.failure ≡ None → (now : ℕ) (front rest : List Flying) → front ++ rest ≡ i.down → (new : Scene Client CO CI)
-      → ActsAll (calling c.out c.in_) now (scene w.client.state w.client.connection) (map arrived front) new → LandedDown w i rest new
-  landed_down w i alive now front rest all new acts =
-      let linked = subst (λ (xs : List Flying). AreLinked s.out.seals c.in_.opens c.in_.refuses xs w.server.connection.outbox.half w.client.connection.inbound) (sym all) (i.down_linked alive) in
-      let acted = act_as_sent s.out.seals (calling c.out c.in_) now front rest w.server.connection.outbox.half (scene w.client.state w.client.connection) new linked acts in
-      let d = feeds_down c stream_of trace now front i.up rest w.server.state.jobs.list (scene w.client.state w.client.connection) new acted.0
-      (subst (λ (xs : List Flying). Stories stream_of trace i.up xs w.client.state.next w.server.state.jobs.list (call_at w.client.state)) (sym all) i.stories) in
-      record { stories = d.stories; outbox = d.outbox; linked = acted.1 }
-
-  deliver_down_mid : (w : Net CO CI SO SI) (n k : ℕ) (v : Net CO CI SO SI) → Keeps c s stream_of trace w → (p : DeliversDown c s seals w n k v)
-      → Keeps c s stream_of trace (record (with_client w (record { state = v.client.state; connection = p.does.mid })) { down = taken_from w.down k })
-  deliver_down_mid w n k v i p =
-      let f = p.does.does in
-      let came_now = came w.client.connection.decoder w.down w.server.connection.outbox.queue i.down (take k w.down.bytes) (drop k w.down.bytes) f.frames p.does.mid.decoder (sym (take-append-drop k w.down.bytes)) f.fed (i.down_bytes f.alive) in
-      let new = scene v.client.state p.does.mid in
-      let d = landed_down w i f.alive 0 came_now.front came_now.rest came_now.all new
-      (subst (λ (fs : List Incoming). ActsAll (calling c.out c.in_) 0 (scene w.client.state w.client.connection) fs new) came_now.are f.acts) in
-      record {
-        up = i.up;
-        down = came_now.rest;
-        stories = d.stories;
-        known = i.known;
-        own = i.own;
-        up_bytes = λ alive. subst (λ (o : Outbox CO). InFlight w.server.connection.decoder w.up o.queue i.up) (sym d.outbox) (i.up_bytes alive);
-        down_bytes = λ alive. came_now.bytes;
-        up_linked = λ alive. subst (λ (o : Outbox CO). AreLinked c.out.seals s.in_.opens s.in_.refuses i.up o.half w.server.connection.inbound) (sym d.outbox) (i.up_linked alive);
-        down_linked = λ alive. d.linked;
-      }
-
-  pub deliver_down : (w : Net CO CI SO SI) (n k : ℕ) (v : Net CO CI SO SI) → Keeps c s stream_of trace w → DeliversDown c s seals w n k v → Keeps c s stream_of trace v
+  pub deliver_down : (w : Net CO CI SO SI) (n k : ℕ) (v : Net CO CI SO SI) → Kept w → DeliversDown c s seals w n k v → Kept v
   deliver_down w n k v i p =
-      subst (λ (x : Net CO CI SO SI). Keeps c s stream_of trace x) (sym p.only)
-      (client_hears (is_over (taken_from w.down k)) (record (with_client w (record { state = v.client.state; connection = p.does.mid })) { down = taken_from w.down k }) v.client.connection (deliver_down_mid w n k v i p) p.does.hears)
+      let l = feeds_land s.out (calling c.out c.in_) 0 w.client.state w.server.connection.outbox w.client.connection w.down i.down k v.client.state p.does.mid i.downward p.does.does in
+      let is = λ (x : Connection CO CI). landed w i (scene v.client.state p.does.mid) l.0 v.client.state x (taken_from w.down k) refl in
+      rw p.only (as_heard (λ x. Kept (record (with_client w (record { state = v.client.state; connection = x })) { down = taken_from w.down k })) (is_over (taken_from w.down k)) p.does.mid v.client.connection p.does.hears
+      (is p.does.mid refl (record { bytes = λ alive. l.1; linked = λ alive. l.0.linked })) (λ why. is (failed p.does.mid why) refl (dead s.out c.in_ _ _ _ _ (kept_some p.does.mid.failure why))))
 
   -- A side fails at bytes that are delivered.
-  pub break_up : (w : Net CO CI SO SI) (n : ℕ) (told : Error) (v : Net CO CI SO SI) → Keeps c s stream_of trace w → BreaksAt (serving s.out s.in_) w.server.state w.server.connection w.up w.moment n told v.server.state v.server.connection → OnlyServer c s seals w v → Keeps c s stream_of trace v
+  pub break_up : (w : Net CO CI SO SI) (n : ℕ) (told : Error) (v : Net CO CI SO SI) → Kept w → BreaksAt (serving s.out s.in_) w.server.state w.server.connection w.up w.moment n told v.server.state v.server.connection → OnlyServer c s seals w v → Kept v
   break_up w n told v i f only =
-      let m : ℕ = min n (length w.up.bytes) in
-      let pipe : w.up.bytes ≡ f.taken ++ (f.rest ++ drop m w.up.bytes) =
-      sym (take-append-drop m w.up.bytes) ∙ ap (λ xs. xs ++ drop m w.up.bytes) f.piece_is ∙ append_assoc f.taken f.rest (drop m w.up.bytes) in
-      let came_now = came w.server.connection.decoder w.up w.client.connection.outbox.queue i.up f.taken (f.rest ++ drop m w.up.bytes) (f.frames ++ given f.last) v.server.connection.decoder pipe f.fed (i.up_bytes f.alive) in
-      let first = acted f.frames (given f.last) came_now.front came_now.are in
-      let rest : List Flying = first.others ++ came_now.rest in
-      let all : first.first ++ rest ≡ i.up = sym (append_assoc first.first first.others came_now.rest) ∙ ap (λ xs. xs ++ came_now.rest) first.all ∙ came_now.all in
-      let u = served_up w i f.alive w.moment first.first rest all f.mid
-      (subst (λ (fs : List Incoming). ActsAll (serving s.out s.in_) w.moment (scene w.server.state w.server.connection) fs f.mid) first.are f.acts) in
-      subst (λ (x : Net CO CI SO SI). Keeps c s stream_of trace x) (sym only) (record {
-        up = rest;
-        down = i.down ++ u.more;
-        stories = subst (λ (t : Server). Stories stream_of trace rest (i.down ++ u.more) w.client.state.next t.jobs.list (call_at w.client.state)) (sym f.state) u.stories;
-        known = subst (λ (t : Server). AreKnown stream_of t.jobs.list) (sym f.state) u.known;
-        own = u.own;
-        up_bytes = λ alive. absurd (not_both v.server.connection.failure f.failure f.fails alive);
-        down_bytes = λ alive. subst (λ (o : Outbox SO). InFlight w.client.connection.decoder w.down o.queue (i.down ++ u.more)) (sym f.outbox) (u.down_bytes alive);
-        up_linked = λ alive. absurd (not_both v.server.connection.failure f.failure f.fails alive);
-        down_linked = λ alive. subst (λ (o : Outbox SO). AreLinked s.out.seals c.in_.opens c.in_.refuses (i.down ++ u.more) o.half w.client.connection.inbound) (sym f.outbox) (u.down_linked alive);
-      })
+      let l = breaks_land c.out (serving s.out s.in_) w.moment w.server.state w.client.connection.outbox w.server.connection w.up i.up n told v.server.state v.server.connection i.upward f in
+      rw only (served w i f.mid l v.server.state v.server.connection w.up f.state f.outbox (dead c.out s.in_ _ _ _ _ (not_both v.server.connection.failure f.failure f.fails)))
 
-  pub break_down : (w : Net CO CI SO SI) (n : ℕ) (told : Error) (v : Net CO CI SO SI) → Keeps c s stream_of trace w → BreaksAt (calling c.out c.in_) w.client.state w.client.connection w.down 0 n told v.client.state v.client.connection → OnlyClient c s seals w v → Keeps c s stream_of trace v
+  pub break_down : (w : Net CO CI SO SI) (n : ℕ) (told : Error) (v : Net CO CI SO SI) → Kept w → BreaksAt (calling c.out c.in_) w.client.state w.client.connection w.down 0 n told v.client.state v.client.connection → OnlyClient c s seals w v → Kept v
   break_down w n told v i f only =
-      let m : ℕ = min n (length w.down.bytes) in
-      let pipe : w.down.bytes ≡ f.taken ++ (f.rest ++ drop m w.down.bytes) =
-      sym (take-append-drop m w.down.bytes) ∙ ap (λ xs. xs ++ drop m w.down.bytes) f.piece_is ∙ append_assoc f.taken f.rest (drop m w.down.bytes) in
-      let came_now = came w.client.connection.decoder w.down w.server.connection.outbox.queue i.down f.taken (f.rest ++ drop m w.down.bytes) (f.frames ++ given f.last) v.client.connection.decoder pipe f.fed (i.down_bytes f.alive) in
-      let first = acted f.frames (given f.last) came_now.front came_now.are in
-      let rest : List Flying = first.others ++ came_now.rest in
-      let all : first.first ++ rest ≡ i.down = sym (append_assoc first.first first.others came_now.rest) ∙ ap (λ xs. xs ++ came_now.rest) first.all ∙ came_now.all in
-      let d = landed_down w i f.alive 0 first.first rest all f.mid
-      (subst (λ (fs : List Incoming). ActsAll (calling c.out c.in_) 0 (scene w.client.state w.client.connection) fs f.mid) first.are f.acts) in
-      let outbox : v.client.connection.outbox ≡ w.client.connection.outbox = f.outbox ∙ d.outbox in
-      subst (λ (x : Net CO CI SO SI). Keeps c s stream_of trace x) (sym only) (record {
-        up = i.up;
-        down = rest;
-        stories = subst (λ (t : Client). Stories stream_of trace i.up rest t.next w.server.state.jobs.list (call_at t)) (sym f.state) d.stories;
-        known = i.known;
-        own = i.own;
-        up_bytes = λ alive. subst (λ (o : Outbox CO). InFlight w.server.connection.decoder w.up o.queue i.up) (sym outbox) (i.up_bytes alive);
-        down_bytes = λ alive. absurd (not_both v.client.connection.failure f.failure f.fails alive);
-        up_linked = λ alive. subst (λ (o : Outbox CO). AreLinked c.out.seals s.in_.opens s.in_.refuses i.up o.half w.server.connection.inbound) (sym outbox) (i.up_linked alive);
-        down_linked = λ alive. absurd (not_both v.client.connection.failure f.failure f.fails alive);
-      })
+      let l = breaks_land s.out (calling c.out c.in_) 0 w.client.state w.server.connection.outbox w.client.connection w.down i.down n told v.client.state v.client.connection i.downward f in
+      rw only (landed w i f.mid l v.client.state v.client.connection w.down f.state f.outbox (dead s.out c.in_ _ _ _ _ (not_both v.client.connection.failure f.failure f.fails)))
 
   -- A pipe is cut.
-  pub cut_up : (w : Net CO CI SO SI) (keep : ℕ) (v : Net CO CI SO SI) → Keeps c s stream_of trace w → CutsUp c s seals w keep v → Keeps c s stream_of trace v
+  pub cut_up : (w : Net CO CI SO SI) (keep : ℕ) (v : Net CO CI SO SI) → Kept w → CutsUp c s seals w keep v → Kept v
   cut_up w keep v i p =
-      subst (λ (x : Net CO CI SO SI). Keeps c s stream_of trace x) (sym p.only)
-      (server_hears (is_over (cut_to w.up keep)) (record w { up = cut_to w.up keep }) p.connection
-      (rewired w i w.client.connection w.server.connection (cut_to w.up keep) w.down
-      (λ alive. cuts w.server.connection.decoder w.up w.client.connection.outbox.queue i.up keep (i.up_bytes alive)) i.down_bytes i.up_linked i.down_linked) p.hears)
+      let is : Kept (record w { up = cut_to w.up keep }) = rewired w i w.client.connection w.server.connection (cut_to w.up keep) w.down (cuts c.out s.in_ _ w.server.connection w.up i.up keep i.upward) i.downward in
+      rw p.only (as_heard (λ y. Kept (record (with_server w (record w.server { connection = y })) { up = cut_to w.up keep })) (is_over (cut_to w.up keep)) w.server.connection p.connection p.hears
+      is (λ why. server_fails (record w { up = cut_to w.up keep }) why is))
 
-  pub cut_down : (w : Net CO CI SO SI) (keep : ℕ) (v : Net CO CI SO SI) → Keeps c s stream_of trace w → CutsDown c s seals w keep v → Keeps c s stream_of trace v
+  pub cut_down : (w : Net CO CI SO SI) (keep : ℕ) (v : Net CO CI SO SI) → Kept w → CutsDown c s seals w keep v → Kept v
   cut_down w keep v i p =
-      subst (λ (x : Net CO CI SO SI). Keeps c s stream_of trace x) (sym p.only)
-      (client_hears (is_over (cut_to w.down keep)) (record w { down = cut_to w.down keep }) p.connection
-      (rewired w i w.client.connection w.server.connection w.up (cut_to w.down keep)
-      i.up_bytes (λ alive. cuts w.client.connection.decoder w.down w.server.connection.outbox.queue i.down keep (i.down_bytes alive)) i.up_linked i.down_linked) p.hears)
+      let is : Kept (record w { down = cut_to w.down keep }) = rewired w i w.client.connection w.server.connection w.up (cut_to w.down keep) i.upward (cuts s.out c.in_ _ w.client.connection w.down i.down keep i.downward) in
+      rw p.only (as_heard (λ x. Kept (record (with_client w (record w.client { connection = x })) { down = cut_to w.down keep })) (is_over (cut_to w.down keep)) w.client.connection p.connection p.hears
+      is (λ why. client_fails (record w { down = cut_to w.down keep }) why is))
 
 -- ---- jobs around a job
 
-here_at : (k : ℕ) (front back : List ActiveJob) (j : ActiveJob) → j.header.stream_id ≡ k → jobs_at (front ++ j ∷ back) k ≡ jobs_at front k ++ j ∷ jobs_at back k
-here_at k front back j own = jobs-append k front (j ∷ back) ∙ ap (λ js. jobs_at front k ++ js) (jobs-cons_own k j back own)
-
 not_here : (k : ℕ) (front back : List ActiveJob) (j : ActiveJob) → j.header.stream_id ≢ k → jobs_at (front ++ j ∷ back) k ≡ jobs_at (front ++ back) k
-not_here k front back j other = jobs-append k front (j ∷ back) ∙ ap (λ js. jobs_at front k ++ js) (jobs-cons_other k j back other) ∙ sym (jobs-append k front back)
+not_here k front back j other = between_other stream_id_of k front back j other ∙ sym (under_both stream_id_of k front back)
+
+-- one more job has its response
+any_more : (p : ℕ → Bool) (xs : List ℕ) (x : ℕ) → list_any p xs ≡ true → list_any p (xs ++ x ∷ []) ≡ true
+any_more p [] x h = cc
+any_more p (y ∷ xs) x h = elim (cases_Bool (p y)) [
+  | inl e ↦ rw e refl
+  | inr e ↦ rw e (any_more p xs x (rw e at h))
+]
+
+any_last : (p : ℕ → Bool) (xs : List ℕ) (x : ℕ) → p x ≡ true → list_any p (xs ++ x ∷ []) ≡ true
+any_last p [] x h = rw h refl
+any_last p (y ∷ xs) x h = elim (cases_Bool (p y)) [
+  | inl e ↦ rw e refl
+  | inr e ↦ rw e (any_last p xs x h)
+]
 
 answered_work : (request : Request) (job : ℕ) (response : Response) → IsDone (whole_work request job response)
 answered_work request job response = record { one_call = refl; one_run = omega arith }
@@ -349,33 +146,19 @@ is_answer request job response = λ ok. (request, job, refl)
 
 module _ {CO CI SO SI : Type 0} (c : Halves CO CI) (s : Halves SO SI) (seals : Bool) (stream_of : ℕ → ℕ) (trace : List Entry) where
   -- the server's jobs change, and it may queue a response
-  server_changes : (w : Net CO CI SO SI) (event : Event) (reply : Reply) (x : ServerCore SO SI) (down : List Flying) → (i : Keeps c s stream_of trace w)
-      → Stories stream_of (with_entry trace event reply) i.up down w.client.state.next x.state.jobs.list (call_at w.client.state) → AreKnown stream_of x.state.jobs.list
+  server_changes : (w : Net CO CI SO SI) (event : Event) (reply : Reply) (x : ServerCore SO SI) (responded : List ℕ) (down : List Flying) → (i : Keeps c s stream_of trace w)
+      → Stories (λ job. list_any (λ j. nat_eq j job) responded) stream_of (with_entry trace event reply) i.up down w.client.state.next x.state.jobs.list (call_at w.client.state) → AreKnown stream_of x.state.jobs.list
       → x.connection.decoder ≡ w.server.connection.decoder → x.connection.inbound ≡ w.server.connection.inbound → (x.connection.failure ≡ None → w.server.connection.failure ≡ None)
-      → (w.client.connection.failure ≡ None → InFlight w.client.connection.decoder w.down x.connection.outbox.queue down)
-      → (w.client.connection.failure ≡ None → AreLinked s.out.seals c.in_.opens c.in_.refuses down x.connection.outbox.half w.client.connection.inbound)
-      → Keeps c s stream_of (with_entry trace event reply) (with_server w x)
-  server_changes w event reply x down i stories known held inbound lives bytes linked = record {
+      → OneWay s.out c.in_ x.connection.outbox w.client.connection w.down down → Keeps c s stream_of (with_entry trace event reply) (record (with_server w x) { responded = responded })
+  server_changes w event reply x responded down i stories known held inbound lives downward = record {
     up = i.up;
     down = down;
     stories = stories;
     known = known;
     own = i.own;
-    up_bytes = λ alive. subst (λ (h : Held). InFlight h w.up w.client.connection.outbox.queue i.up) (sym held) (i.up_bytes (lives alive));
-    down_bytes = bytes;
-    up_linked = λ alive. subst (λ (y : SI). AreLinked c.out.seals s.in_.opens s.in_.refuses i.up w.client.connection.outbox.half y) (sym inbound) (i.up_linked (lives alive));
-    down_linked = linked;
+    upward = goes_on c.out s.in_ _ _ w.server.connection x.connection w.up i.up refl held inbound lives i.upward;
+    downward = downward;
   }
-
-  -- what is queued stays
-  same_outbox : (w : Net CO CI SO SI) (event : Event) (reply : Reply) (x : ServerCore SO SI) → (i : Keeps c s stream_of trace w)
-      → Stories stream_of (with_entry trace event reply) i.up i.down w.client.state.next x.state.jobs.list (call_at w.client.state) → AreKnown stream_of x.state.jobs.list
-      → x.connection.decoder ≡ w.server.connection.decoder → x.connection.inbound ≡ w.server.connection.inbound → (x.connection.failure ≡ None → w.server.connection.failure ≡ None)
-      → x.connection.outbox ≡ w.server.connection.outbox → Keeps c s stream_of (with_entry trace event reply) (with_server w x)
-  same_outbox w event reply x i stories known held inbound lives outbox =
-      server_changes w event reply x i.down i stories known held inbound lives
-      (λ alive. subst (λ (o : Outbox SO). InFlight w.client.connection.decoder w.down o.queue i.down) (sym outbox) (i.down_bytes alive))
-      (λ alive. subst (λ (o : Outbox SO). AreLinked s.out.seals c.in_.opens c.in_.refuses i.down o.half w.client.connection.inbound) (sym outbox) (i.down_linked alive))
 
   -- A job is handed out.
   pub keeps_hand : (w : Net CO CI SO SI) (job : Job) (v : Net CO CI SO SI) → stream_of job.id ≡ job.header.stream_id → Keeps c s stream_of trace w → Hands w.server job v.server
@@ -390,64 +173,110 @@ module _ {CO CI SO SI : Type 0} (c : Halves CO CI) (s : Halves SO SI) (seals : B
       let is : (n : ℕ) → jobs_at v.server.state.jobs.list n ≡ jobs_at (t.front ++ taken ∷ t.back) n = λ n. ap (λ js. jobs_at js n) t.jobs in
       let now_known : stream_of j.id ≡ k = ap stream_of (sym t.id) ∙ right ∙ at in
       let same = p.same in
-      same_outbox w Take (Handed (Some job)) v.server i
-      (at_one (λ (m : ℕ). Story (w.client.state.next ≤ m) m (acts stream_of m (with_entry trace Take (Handed (Some job)))) (parcels m i.up) (jobs_at v.server.state.jobs.list m) (parcels m i.down) (call_at w.client.state m)) k
-      (takes_here (w.client.state.next ≤ k) k _ _ _ _ _ _ _ (jobs_at t.front k) (jobs_at t.back k) j taken job.request (i.stories k) (was k ∙ here_at k t.front t.back j refl) (is k ∙ here_at k t.front t.back taken refl) t.request refl
+      server_changes w Take (Handed (Some job)) v.server w.responded i.down i
+      (at_one (λ (m : ℕ). Story (has_response w) (w.client.state.next ≤ m) m (acts stream_of m (with_entry trace Take (Handed (Some job)))) (parcels m i.up) (jobs_at v.server.state.jobs.list m) (parcels m i.down) (call_at w.client.state m)) k
+      (takes_here (w.client.state.next ≤ k) k _ _ _ _ _ _ _ (jobs_at t.front k) (jobs_at t.back k) j taken job.request (i.stories k) (was k ∙ between_own stream_id_of k t.front t.back j refl) (is k ∙ between_own stream_id_of k t.front t.back taken refl) t.request refl
       (heard stream_of k job.header.stream_id trace Take (Handed (Some job)) (Ran job.id job.request) refl at ∙ ap (λ (m : ℕ). acts stream_of k trace ++ Ran m job.request ∷ []) t.id))
       (λ n e. elsewhere (w.client.state.next ≤ n) (w.client.state.next ≤ n) n _ _ _ _ _ _ _ _ _ _ (i.stories n) (λ y. y) (unheard stream_of n job.header.stream_id trace Take (Handed (Some job)) (Ran job.id job.request) refl (λ same. e (sym at ∙ same)))
       refl (is n ∙ not_here n t.front t.back taken e ∙ sym (was n ∙ not_here n t.front t.back j e)) refl refl))
       (subst (λ (js : List ActiveJob). AreKnown stream_of js) (sym t.jobs) (all_changed (IsKnown stream_of) t.front t.back j taken (λ e. now_known) (subst (λ (js : List ActiveJob). AreKnown stream_of js) t.was i.known)))
-      (ap (λ (x : ServerCore SO SI). x.connection.decoder) same) (ap (λ (x : ServerCore SO SI). x.connection.inbound) same) (λ alive. p.alive) (ap (λ (x : ServerCore SO SI). x.connection.outbox) same)
+      (ap (λ (x : ServerCore SO SI). x.connection.decoder) same) (ap (λ (x : ServerCore SO SI). x.connection.inbound) same) (λ alive. p.alive) (rw same i.downward)
 
   -- A job is answered by a response.
-  keeps_response : (w : Net CO CI SO SI) (id : ℕ) (response : Response) (x : ServerCore SO SI) → Keeps c s stream_of trace w → IsResponse response → Answers s.out w.server id response x
+  keeps_response : (w : Net CO CI SO SI) (id : ℕ) (response : Response) (x : ServerCore SO SI) → Keeps c s stream_of trace w → IsResponse response → Answers s.out w.server id response x → has_response w id ≡ false
       → Keeps c s stream_of (with_entry trace (Answer id (Ok response)) Done) (with_server w x)
-  keeps_response w id response x i is_response p =
+  keeps_response w id response x i is_response p none_yet =
       let t = p.ends.at in
       let j = p.job in
       let k : ℕ = j.header.stream_id in
       let was : (n : ℕ) → jobs_at w.server.state.jobs.list n ≡ jobs_at (t.front ++ j ∷ t.back) n = λ n. ap (λ js. jobs_at js n) t.is in
-      let is : (n : ℕ) → jobs_at x.state.jobs.list n ≡ jobs_at t.front n ++ jobs_at t.back n = λ n. ap (λ js. jobs_at js n) p.ends.jobs ∙ jobs-append n t.front t.back in
+      let is : (n : ℕ) → jobs_at x.state.jobs.list n ≡ jobs_at t.front n ++ jobs_at t.back n = λ n. ap (λ js. jobs_at js n) p.ends.jobs ∙ under_both stream_id_of n t.front t.back in
       let known = subst (λ (js : List ActiveJob). AreKnown stream_of js) t.is i.known in
       let at : stream_of id ≡ k = ap stream_of (sym t.is_job) ∙ all_at (IsKnown stream_of) t.front t.back j known t.taken in
-      let here : jobs_at w.server.state.jobs.list k ≡ jobs_at t.front k ++ j ∷ jobs_at t.back k = was k ∙ here_at k t.front t.back j refl in
-      let running = is_running _ k _ _ _ _ _ (jobs_at t.front k) (jobs_at t.back k) j (i.stories k) here t.taken in
+      let here : jobs_at w.server.state.jobs.list k ≡ jobs_at t.front k ++ j ∷ jobs_at t.back k = was k ∙ between_own stream_id_of k t.front t.back j refl in
+      let none : has_response w j.id ≡ false = ap (has_response w) t.is_job ∙ none_yet in
+      let running = is_running _ k _ _ _ _ _ (jobs_at t.front k) (jobs_at t.back k) j (i.stories k) here t.taken none in
       let done : List Act = whole_work running.request j.id response in
       let r = sends_response s.out w.server.connection.outbox k response p.sent x.connection.outbox done running.is_job.within (answered_work running.request j.id response) is_response (is_answer running.request j.id response) p.responds p.sends in
-      server_changes w (Answer id (Ok response)) Done x (i.down ++ r.y ∷ []) i
-      (at_one (λ (m : ℕ). Story (w.client.state.next ≤ m) m (acts stream_of m (with_entry trace (Answer id (Ok response)) Done)) (parcels m i.up) (jobs_at x.state.jobs.list m) (parcels m (i.down ++ r.y ∷ [])) (call_at w.client.state m)) k
-      (answers_here (w.client.state.next ≤ k) k _ _ _ _ _ _ _ _ (jobs_at t.front k) (jobs_at t.back k) j response r.r r.y (i.stories k) here (is k) t.taken r.is_told
-      (heard stream_of k (stream_of id) trace (Answer id (Ok response)) Done (Answered (Ok response)) refl at) (parcels-push_own k r.y i.down r.is_told.stream))
+      server_changes w (Answer id (Ok response)) Done x w.responded (i.down ++ r.y ∷ []) i
+      (at_one (λ (m : ℕ). Story (has_response w) (w.client.state.next ≤ m) m (acts stream_of m (with_entry trace (Answer id (Ok response)) Done)) (parcels m i.up) (jobs_at x.state.jobs.list m) (parcels m (i.down ++ r.y ∷ [])) (call_at w.client.state m)) k
+      (answers_here (w.client.state.next ≤ k) k _ _ _ _ _ _ _ _ (jobs_at t.front k) (jobs_at t.back k) j response r.r r.y (i.stories k) here (is k) t.taken none r.is_told
+      (heard stream_of k (stream_of id) trace (Answer id (Ok response)) Done (Answered (Ok response)) refl at) (pushed_own id_of k r.y i.down r.is_told.stream))
       (λ n e. elsewhere (w.client.state.next ≤ n) (w.client.state.next ≤ n) n _ _ _ _ _ _ _ _ _ _ (i.stories n) (λ y. y) (unheard stream_of n (stream_of id) trace (Answer id (Ok response)) Done (Answered (Ok response)) refl (λ same. e (sym at ∙ same)))
-      refl (is n ∙ sym (jobs-append n t.front t.back) ∙ sym (was n ∙ not_here n t.front t.back j e)) (parcels-push_other n r.y i.down (λ same. e (sym r.is_told.stream ∙ same))) refl))
+      refl (is n ∙ sym (under_both stream_id_of n t.front t.back) ∙ sym (was n ∙ not_here n t.front t.back j e)) (pushed_other id_of n r.y i.down (λ same. e (sym r.is_told.stream ∙ same))) refl))
       (subst (λ (js : List ActiveJob). AreKnown stream_of js) (sym p.ends.jobs) (all_less (IsKnown stream_of) t.front t.back j known))
       (ap (λ (y : ServerCore SO SI). y.connection.decoder) p.same) (ap (λ (y : ServerCore SO SI). y.connection.inbound) p.same) (λ alive. p.alive)
-      (λ alive. placed w.client.connection.decoder w.down w.server.connection.outbox.queue i.down r.y x.connection.outbox.queue (i.down_bytes alive)
-      (λ transit queued a. subst (λ (q : Queue). AreInFlight w.client.connection.decoder w.down.bytes w.down.cut q transit (queued ++ r.y ∷ [])) (sym r.queue) (placed_in_flight w.client.connection.decoder w.down.bytes w.down.cut w.server.connection.outbox.queue transit queued r.y r.sound a)))
-      (λ alive. more_linked s.out.seals c.in_.opens c.in_.refuses i.down w.server.connection.outbox.half w.client.connection.inbound r.y x.connection.outbox.half (i.down_linked alive) r.seal)
+      (joins s.out c.in_ w.server.connection.outbox x.connection.outbox w.client.connection w.down i.down r.y r.queue r.seal r.sound i.downward)
 
   -- A handler failed.
-  keeps_error : (w : Net CO CI SO SI) (id : ℕ) (error : Error) (x : ServerCore SO SI) → Keeps c s stream_of trace w → Drops w.server id x → Keeps c s stream_of (with_entry trace (Answer id (Err error)) Done) (with_server w x)
-  keeps_error w id error x i p =
+  keeps_error : (w : Net CO CI SO SI) (id : ℕ) (error : Error) (x : ServerCore SO SI) → Keeps c s stream_of trace w → Drops w.server id x → has_response w id ≡ false → Keeps c s stream_of (with_entry trace (Answer id (Err error)) Done) (with_server w x)
+  keeps_error w id error x i p none_yet =
       let t = p.ends.at in
       let j = p.job in
       let k : ℕ = j.header.stream_id in
       let was : (n : ℕ) → jobs_at w.server.state.jobs.list n ≡ jobs_at (t.front ++ j ∷ t.back) n = λ n. ap (λ js. jobs_at js n) t.is in
-      let is : (n : ℕ) → jobs_at x.state.jobs.list n ≡ jobs_at t.front n ++ jobs_at t.back n = λ n. ap (λ js. jobs_at js n) p.ends.jobs ∙ jobs-append n t.front t.back in
+      let is : (n : ℕ) → jobs_at x.state.jobs.list n ≡ jobs_at t.front n ++ jobs_at t.back n = λ n. ap (λ js. jobs_at js n) p.ends.jobs ∙ under_both stream_id_of n t.front t.back in
       let known = subst (λ (js : List ActiveJob). AreKnown stream_of js) t.is i.known in
       let at : stream_of id ≡ k = ap stream_of (sym t.is_job) ∙ all_at (IsKnown stream_of) t.front t.back j known t.taken in
-      same_outbox w (Answer id (Err error)) Done x i
-      (at_one (λ (m : ℕ). Story (w.client.state.next ≤ m) m (acts stream_of m (with_entry trace (Answer id (Err error)) Done)) (parcels m i.up) (jobs_at x.state.jobs.list m) (parcels m i.down) (call_at w.client.state m)) k
-      (fails_here (w.client.state.next ≤ k) k _ _ _ _ _ _ _ (jobs_at t.front k) (jobs_at t.back k) j error (i.stories k) (was k ∙ here_at k t.front t.back j refl) (is k) t.taken
+      server_changes w (Answer id (Err error)) Done x w.responded i.down i
+      (at_one (λ (m : ℕ). Story (has_response w) (w.client.state.next ≤ m) m (acts stream_of m (with_entry trace (Answer id (Err error)) Done)) (parcels m i.up) (jobs_at x.state.jobs.list m) (parcels m i.down) (call_at w.client.state m)) k
+      (fails_here (w.client.state.next ≤ k) k _ _ _ _ _ _ _ (jobs_at t.front k) (jobs_at t.back k) j error (i.stories k) (was k ∙ between_own stream_id_of k t.front t.back j refl) (is k) t.taken (ap (has_response w) t.is_job ∙ none_yet)
       (heard stream_of k (stream_of id) trace (Answer id (Err error)) Done (Answered (Err error)) refl at))
       (λ n e. elsewhere (w.client.state.next ≤ n) (w.client.state.next ≤ n) n _ _ _ _ _ _ _ _ _ _ (i.stories n) (λ y. y) (unheard stream_of n (stream_of id) trace (Answer id (Err error)) Done (Answered (Err error)) refl (λ same. e (sym at ∙ same)))
-      refl (is n ∙ sym (jobs-append n t.front t.back) ∙ sym (was n ∙ not_here n t.front t.back j e)) refl refl))
+      refl (is n ∙ sym (under_both stream_id_of n t.front t.back) ∙ sym (was n ∙ not_here n t.front t.back j e)) refl refl))
       (subst (λ (js : List ActiveJob). AreKnown stream_of js) (sym p.ends.jobs) (all_less (IsKnown stream_of) t.front t.back j known))
       (ap (λ (y : ServerCore SO SI). y.connection.decoder) p.same) (ap (λ (y : ServerCore SO SI). y.connection.inbound) p.same)
-      (λ alive. absurd (not_both x.connection.failure HandlerError (ap (λ (y : ServerCore SO SI). y.connection.failure) p.same) alive)) (ap (λ (y : ServerCore SO SI). y.connection.outbox) p.same)
+      (λ alive. absurd (not_both x.connection.failure HandlerError (ap (λ (y : ServerCore SO SI). y.connection.failure) p.same) alive)) (rw p.same i.downward)
 
   -- A job is answered by what its handler gave.
-  pub keeps_answer : (w : Net CO CI SO SI) (id : ℕ) (result : Result Response Error) (x : ServerCore SO SI) → Keeps c s stream_of trace w → AnswersBy c s seals w.server id result x
+  pub keeps_answer : (w : Net CO CI SO SI) (id : ℕ) (result : Result Response Error) (x : ServerCore SO SI) → Keeps c s stream_of trace w → AnswersBy c s seals w.server id result x → has_response w id ≡ false
       → Keeps c s stream_of (with_entry trace (Answer id result) Done) (with_server w x)
-  keeps_answer w id (Ok response) x i p = keeps_response w id response x i p.0 p.1
-  keeps_answer w id (Err error) x i p = keeps_error w id error x i p
+  keeps_answer w id (Ok response) x i p none_yet = keeps_response w id response x i p.0 p.1 none_yet
+  keeps_answer w id (Err error) x i p none_yet = keeps_error w id error x i p none_yet
+
+  -- A response is queued for a job, which goes on.
+  pub keeps_respond : (w : Net CO CI SO SI) (id : ℕ) (response : Response) (v : Net CO CI SO SI) → Keeps c s stream_of trace w → RespondsTo c s seals w id response v
+      → Keeps c s stream_of (with_entry trace (Respond id response) Done) (record (with_server w v.server) { responded = w.responded ++ id ∷ [] })
+  keeps_respond w id response v i p =
+      let x = v.server in
+      let t = p.awaits.at in
+      let j = p.awaits.job in
+      let k : ℕ = j.header.stream_id in
+      let had2 : ℕ → Bool = λ job. list_any (λ n. nat_eq n job) (w.responded ++ id ∷ []) in
+      let more : (n : ℕ) → has_response w n ≡ true → had2 n ≡ true = λ n h. any_more (λ m. nat_eq m n) w.responded id h in
+      let same : x.state ≡ w.server.state = ap (λ (y : ServerCore SO SI). y.state) p.does.same in
+      let is : (n : ℕ) → jobs_at x.state.jobs.list n ≡ jobs_at w.server.state.jobs.list n = λ n. ap (λ (y : Server). jobs_at y.jobs.list n) same in
+      let known = subst (λ (js : List ActiveJob). AreKnown stream_of js) t.is i.known in
+      let at : stream_of id ≡ k = ap stream_of (sym t.is_job) ∙ all_at (IsKnown stream_of) t.front t.back j known t.taken in
+      let here : jobs_at w.server.state.jobs.list k ≡ jobs_at t.front k ++ j ∷ jobs_at t.back k = ap (λ js. jobs_at js k) t.is ∙ between_own stream_id_of k t.front t.back j refl in
+      let none : has_response w j.id ≡ false = ap (has_response w) t.is_job ∙ p.awaits.none_yet in
+      let running = is_running _ k _ _ _ _ _ (jobs_at t.front k) (jobs_at t.back k) j (i.stories k) here t.taken none in
+      let done : List Act = whole_work running.request j.id response in
+      let r = sends_response s.out w.server.connection.outbox k response p.does.sent x.connection.outbox done running.is_job.within (answered_work running.request j.id response) p.is_response (is_answer running.request j.id response) p.does.responds p.does.sends in
+      server_changes w (Respond id response) Done x (w.responded ++ id ∷ []) (i.down ++ r.y ∷ []) i
+      (at_one (λ (m : ℕ). Story had2 (w.client.state.next ≤ m) m (acts stream_of m (with_entry trace (Respond id response) Done)) (parcels m i.up) (jobs_at x.state.jobs.list m) (parcels m (i.down ++ r.y ∷ [])) (call_at w.client.state m)) k
+      (subst (λ (js : List ActiveJob). Story had2 (w.client.state.next ≤ k) k (acts stream_of k (with_entry trace (Respond id response) Done)) (parcels k i.up) js (parcels k (i.down ++ r.y ∷ [])) (call_at w.client.state k)) (sym (is k))
+      (responds_here (w.client.state.next ≤ k) k _ _ _ _ _ _ _ (jobs_at t.front k) (jobs_at t.back k) j response r.r r.y (i.stories k) here t.taken none (any_last (λ m. nat_eq m j.id) w.responded id (eq-eqb id j.id (sym t.is_job))) r.is_told
+      (heard stream_of k (stream_of id) trace (Respond id response) Done (Answered (Ok response)) refl at) (pushed_own id_of k r.y i.down r.is_told.stream)))
+      (λ n e. elsewhere (w.client.state.next ≤ n) (w.client.state.next ≤ n) n _ _ _ _ _ _ _ _ _ _ (more_have _ n _ _ _ _ _ more (i.stories n)) (λ y. y) (unheard stream_of n (stream_of id) trace (Respond id response) Done (Answered (Ok response)) refl (λ h. e (sym at ∙ h)))
+      refl (is n) (pushed_other id_of n r.y i.down (λ h. e (sym r.is_told.stream ∙ h))) refl))
+      (subst (λ (y : Server). AreKnown stream_of y.jobs.list) (sym same) i.known)
+      (ap (λ (y : ServerCore SO SI). y.connection.decoder) p.does.same) (ap (λ (y : ServerCore SO SI). y.connection.inbound) p.does.same) (λ alive. p.does.alive)
+      (joins s.out c.in_ w.server.connection.outbox x.connection.outbox w.client.connection w.down i.down r.y r.queue r.seal r.sound i.downward)
+
+  -- A job ends, and nothing is queued.
+  pub keeps_finish : (w : Net CO CI SO SI) (id : ℕ) (x : ServerCore SO SI) → Keeps c s stream_of trace w → Finishes w.server id x → Keeps c s stream_of (with_entry trace (Finish id) Done) (with_server w x)
+  keeps_finish w id x i p =
+      let t = p.ends.at in
+      let j = p.job in
+      let k : ℕ = j.header.stream_id in
+      let was : (n : ℕ) → jobs_at w.server.state.jobs.list n ≡ jobs_at (t.front ++ j ∷ t.back) n = λ n. ap (λ js. jobs_at js n) t.is in
+      let is : (n : ℕ) → jobs_at x.state.jobs.list n ≡ jobs_at t.front n ++ jobs_at t.back n = λ n. ap (λ js. jobs_at js n) p.ends.jobs ∙ under_both stream_id_of n t.front t.back in
+      let known = subst (λ (js : List ActiveJob). AreKnown stream_of js) t.is i.known in
+      server_changes w (Finish id) Done x w.responded i.down i
+      (stories_silent (has_response w) stream_of trace (Finish id) Done i.up i.down w.client.state.next x.state.jobs.list (call_at w.client.state) (λ n. refl)
+      (at_one (λ (m : ℕ). Story (has_response w) (w.client.state.next ≤ m) m (acts stream_of m trace) (parcels m i.up) (jobs_at x.state.jobs.list m) (parcels m i.down) (call_at w.client.state m)) k
+      (finishes_here (w.client.state.next ≤ k) k _ _ _ _ _ _ (jobs_at t.front k) (jobs_at t.back k) j (i.stories k) (was k ∙ between_own stream_id_of k t.front t.back j refl) (is k) t.taken)
+      (λ n e. elsewhere (w.client.state.next ≤ n) (w.client.state.next ≤ n) n _ _ _ _ _ _ _ _ _ _ (i.stories n) (λ y. y) refl refl (is n ∙ sym (under_both stream_id_of n t.front t.back) ∙ sym (was n ∙ not_here n t.front t.back j e)) refl refl)))
+      (subst (λ (js : List ActiveJob). AreKnown stream_of js) (sym p.ends.jobs) (all_less (IsKnown stream_of) t.front t.back j known))
+      (ap (λ (y : ServerCore SO SI). y.connection.decoder) p.same) (ap (λ (y : ServerCore SO SI). y.connection.inbound) p.same) (λ alive. p.alive) (rw p.same i.downward)

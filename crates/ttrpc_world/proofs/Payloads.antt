@@ -1,29 +1,13 @@
 -- What is sent reads back, what a core makes of it then, and the flights that it is sent as.
-use Rattle.std.proofs.Common.{rules, ◌≡◌, ℕ, zero, suc, ◌≤◌, ◌<◌, ◌^◌, ◌-◌, List, [], ◌∷◌, ◌++◌, length, codes, nat_lt, ◌&&◌, Bool, true, false, Some, refl, sym, subst, ◌∙◌, arith}
+use Rattle.ttrpc_world.proofs.Words.{rules, ◌≡◌, ℕ, zero, suc, ◌≤◌, ◌<◌, ◌^◌, ◌-◌, List, [], ◌∷◌, ◌++◌, length, codes, nat_lt, ◌&&◌, Bool, true, false, Some, refl, sym, subst, ◌∙◌, arith, and_parts, le-ltb, ltb-true, Request, Response, OutboundTransform, Outbox, ClientCore, INVALID_ARGUMENT, MessageHeader, MESSAGE_LENGTH_MAX, MESSAGE_TYPE_REQUEST, MESSAGE_TYPE_RESPONSE, IsRequest, IsResponse, empty_request, empty_response, request_fields, request_step, response_fields, response_step, Queued, with_frame, with_payload, associated, Opened, Sent, SendsAll, SendsOne, safe_limit, Responds, fitted, response_bytes, response_size, status_response, path_text, request_row, sync_row, Gives, by_status, landing_of, last_id, request_bytes, Requests, Flying, IsOwnRequest, IsSound, Act, HasOkStatus}
 use Rattle.std.specs.Fmt.{decimal}
-use Rattle.std.proofs.lemmas.Bool.{and_parts, le-ltb, ltb-true}
 use Rattle.std.proofs.lemmas.Fmt.{IsAscii-decimal}
 use Rattle.std.proofs.lemmas.Str.{IsUtf8-append, IsUtf8-from_ascii}
 use Rattle.std.specs.Str.{IsAscii, IsUtf8}
-use Rattle.ttrpc_world.proofs.Words.{Request, Response, OutboundTransform, Outbox, ClientCore}
 use Rattle.ttrpc_wire.proofs.Folds.{reads_back}
-use Rattle.ttrpc_values.specs.declared.code.Code.TheVariants.{INVALID_ARGUMENT}
-use Rattle.ttrpc_header.specs.declared.header.MessageHeader.{MessageHeader}
-use Rattle.ttrpc_header.specs.declared.header.TheConstants.{MESSAGE_LENGTH_MAX, MESSAGE_TYPE_REQUEST, MESSAGE_TYPE_RESPONSE}
 use Rattle.ttrpc_proto.specs.Laws.{request_again, request_fits, response_again, response_fits}
-use Rattle.ttrpc_proto.specs.Messages.{IsRequest, IsResponse, empty_request, empty_response, request_fields, request_step, response_fields, response_step}
-use Rattle.ttrpc_frame.specs.declared.outgoing.Queued.{Queued}
-use Rattle.ttrpc_frame.specs.Queue.{with_frame, with_payload}
-use Rattle.ttrpc_secure.specs.Sends.{associated}
 use Rattle.ttrpc_server.specs.Registry.{Services}
-use Rattle.ttrpc_connection.specs.declared.arrived.Opening.TheVariants.{Opened}
-use Rattle.ttrpc_connection.specs.Frames.{Sent, SendsAll, SendsOne, safe_limit}
-use Rattle.ttrpc_server.specs.Responses.{Responds, fitted, limit_text, response_bytes, response_size, status_response}
-use Rattle.ttrpc_server.specs.Table.{path_text, request_row, sync_row}
-use Rattle.ttrpc_client.specs.Table.{Gives, by_status, landing_of, last_id, request_bytes}
-use Rattle.ttrpc_client.specs.Happens.{Requests}
-use Rattle.ttrpc_flight.specs.Flight.{Flying, IsOwnRequest, IsSound}
-use Rattle.ttrpc_world.specs.Story.{Act, HasOkStatus}
+use Rattle.ttrpc_server.specs.Responses.{limit_text}
 use Rattle.ttrpc_world.proofs.Stages.{IsAnswerOf, IsDone, IsSent, IsToldOf}
 
 -- ---- reading

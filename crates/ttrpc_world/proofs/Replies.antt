@@ -1,14 +1,7 @@
 -- A run goes on by one step, why a piece was refused, and what an answer comes to by what the core says of it.
-use Rattle.std.proofs.Common.{◌≡◌, List, [], ◌∷◌, ◌++◌, Bool, map, subst, refl, ap, Option, Some, None, ◌⊎◌, inl, inr, ℕ, Result, Ok, Err}
-use Rattle.ttrpc_world.proofs.Words.{Entry, Event, Reply, Error, Failure, Response, OutboundTransform, ActiveJob, ServerCore}
-use Rattle.ttrpc_world.specs.Net.{Halves, Net}
-use Rattle.ttrpc_world.specs.Steps.{Runs, Steps, AnswersBy}
-use Rattle.ttrpc_connection.specs.Failure.{IsTold, error_of}
-use Rattle.ttrpc_connection.specs.Feeds.{IsFailed}
-use Rattle.ttrpc_proto.specs.Messages.{IsResponse}
-use Rattle.ttrpc_server.specs.Jobs.{IsTaken, IsUnknown}
-use Rattle.ttrpc_server.specs.Happens.{Answers, Drops}
-use Rattle.ttrpc_server.specs.Table.{HasUnsent, RefusesAnswer}
+use Rattle.ttrpc_world.proofs.Words.{◌≡◌, List, [], ◌∷◌, ◌++◌, Bool, map, subst, refl, ap, Option, Some, None, ◌⊎◌, inl, inr, ℕ, Result, Ok, Err, Entry, Event, Reply, Error, Failure, Response, OutboundTransform, ActiveJob, ServerCore, Halves, Net, Runs, Steps, AnswersBy, IsTold, error_of, IsFailed, IsResponse, IsTaken, IsUnknown, Answers, Drops, HasUnsent, RefusesAnswer, ◌≡◌, ap, false, ◌∷◌, RespondsTo, has_response, with_server}
+use Rattle.ttrpc_server.specs.Happens.{QueuesResponse}
+use Rattle.ttrpc_server.specs.Table.{RefusesFinish}
 
 pub run_more : {CO CI SO SI : Type 0} (c : Halves CO CI) (s : Halves SO SI) (seals : Bool) (w : Net CO CI SO SI) (trace : List Entry) (x : Net CO CI SO SI) (event : Event) (reply : Reply) (v : Net CO CI SO SI)
     → Runs c s seals w trace x → Steps c s seals x event reply v → Runs c s seals w (trace ++ record { event = event; reply = reply } ∷ []) v
@@ -44,3 +37,19 @@ pub refuses_one : {O I : Type 0} (out : OutboundTransform O) (old : ServerCore O
 refuses_one out old id job given told at (inl failed) = inl failed
 refuses_one out old id job given told at (inr (inl none)) = absurd (taken_unknown old.state.jobs.list id job at none.unknown)
 refuses_one out old id job given told at (inr (inr unsent)) = inr unsent
+
+pub refuses_finish : {O I : Type 0} (old : ServerCore O I) (id : ℕ) (job : ActiveJob) (told : Error) → IsTaken old.state.jobs.list id job → RefusesFinish old id told → IsFailed old.connection.failure told
+refuses_finish old id job told at (inl failed) = failed
+refuses_finish old id job told at (inr none) = absurd (taken_unknown old.state.jobs.list id job at none.unknown)
+
+-- a response was queued for a job that awaits one
+pub responds_to : {CO CI SO SI : Type 0} (c : Halves CO CI) (s : Halves SO SI) (seals : Bool) (old : Net CO CI SO SI) (id k : ℕ) (response : Response) (job : ActiveJob) (server : ServerCore SO SI) (responded : List ℕ)
+    → IsResponse response → IsTaken old.server.state.jobs.list id job → k ≡ job.header.stream_id → has_response old id ≡ false
+    → QueuesResponse s.out old.server k response server → responded ≡ old.responded ++ id ∷ []
+    → RespondsTo c s seals old id response (record (with_server old server) { responded = responded })
+responds_to c s seals old id k response job server responded is at stream none queues more = record {
+  is_response = is;
+  awaits = record { job = job; at = at; none_yet = none };
+  does = subst (λ n. QueuesResponse s.out old.server n response server) stream queues;
+  only = ap (λ xs. record (with_server old server) { responded = xs }) more;
+}

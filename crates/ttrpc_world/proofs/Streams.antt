@@ -1,25 +1,8 @@
 -- Each job has one stream, and no two jobs the same: ids of jobs are used once, and so are streams.
-use Rattle.std.proofs.Common.{rules, ◌≡◌, ℕ, ◌+◌, ◌≤◌, List, [], ◌∷◌, ◌++◌, length, Bool, true, false, Some, None, Result, Ok, Err, nat_eq, if◌then◌else◌, refl, sym, ap, ◌∙◌, subst, ◌⊎◌, inl, inr, arith, append_assoc}
-use Rattle.std.proofs.lemmas.Bool.{cases_Bool, cond-false, cond-true, eq-eqb, eqb-true, ne_eqb}
-use Rattle.std.proofs.lemmas.List.{append-nil}
-use Rattle.std.specs.List.{AllByRecursion}
-use Rattle.ttrpc_world.proofs.Words.{Error, ActiveJob, OutboundTransform, ServerCore, Event, Reply, Entry}
-use Rattle.ttrpc_frame.specs.declared.frame.Incoming.{Incoming}
-use Rattle.ttrpc_server.specs.declared.job.Job.{Job}
-use Rattle.ttrpc_connection.specs.Feeds.{ActsAll, Scene, arrived, scene}
-use Rattle.ttrpc_connection.specs.Frames.{Sent, header_of_frame}
-use Rattle.ttrpc_server.specs.Happens.{Does, serving}
-use Rattle.ttrpc_server.specs.Jobs.{EndsOne, JobList, new_job}
-use Rattle.ttrpc_server.specs.Server.{Server}
-use Rattle.ttrpc_server.specs.Table.{Row, Known, row_of}
-use Rattle.ttrpc_header.specs.declared.header.MessageHeader.{MessageHeader}
+use Rattle.ttrpc_world.proofs.Words.{cond_both, rules, ◌≡◌, ℕ, ◌+◌, ◌≤◌, List, [], ◌∷◌, ◌++◌, length, Bool, true, false, Some, None, Result, Ok, Err, nat_eq, if◌then◌else◌, refl, sym, ap, ◌∙◌, subst, ◌⊎◌, inl, inr, arith, append_assoc, cases_Bool, cond-false, cond-true, eq-eqb, eqb-true, ne_eqb, append-nil, AllByRecursion, Error, ActiveJob, OutboundTransform, ServerCore, Event, Reply, Entry, Incoming, Job, ActsAll, Scene, scene, Sent, header_of_frame, Does, serving, EndsOne, JobList, new_job, Server, Row, Known, row_of, MessageHeader, Take, Answer, Deliver, Handed, Done, Count, Refused, Halves, Net, IsFresh, AnswersBy, Runs, Steps, Act, Ran, IsOneToOne, IsRightAt, IsStreamOf, act_of, acts, only_if, runs, all_at, all_changed, all_less}
+use Rattle.ttrpc_connection.specs.Feeds.{arrived}
 use Rattle.ttrpc_world.specs.declared.events.Side.TheVariants as side
-use Rattle.ttrpc_world.specs.declared.events.Event.TheVariants.{Take, Answer, Deliver}
-use Rattle.ttrpc_world.specs.declared.events.Reply.TheVariants.{Handed, Done, Count, Refused}
-use Rattle.ttrpc_world.specs.Net.{Halves, Net, IsFresh}
-use Rattle.ttrpc_world.specs.Steps.{AnswersBy, Runs, Steps}
-use Rattle.ttrpc_world.specs.Story.{Act, Ran, IsOneToOne, IsRightAt, IsStreamOf, act_of, acts, only_if, runs}
-use Rattle.ttrpc_world.proofs.Delivers.{all_at, all_changed, all_less}
+use Rattle.ttrpc_world.specs.Types.{Finish, Respond}
 use Rattle.ttrpc_world.proofs.Traces.{with_entry}
 use Rattle.ttrpc_world.proofs.Turns.{never_empty, only_one}
 
@@ -66,9 +49,6 @@ past_make : (f : ℕ → ℕ) (n s : ℕ) (trace : List Entry) → WasBelow f n 
 past_make f n s [] h = tt
 past_make f n s (e ∷ trace) h = (entry_make f n s e.event e.reply h.0, past_make f n s trace h.1)
 
-same_placed : (trace : List Entry) (old new : JobList) → new ≡ old → Placed trace old → Placed trace new
-same_placed trace old new same p = subst (λ (j : JobList). Placed trace j) (sym same) p
-
 -- other jobs, and none is made
 others_placed : (trace : List Entry) (f : ℕ → ℕ) (n : ℕ) (js : List ActiveJob) (new : JobList) → new.last ≡ n → new.list ≡ js → AreBelow f n js → WasBelow f n trace → Placed trace new
 others_placed trace f n js new last list below past = record {
@@ -87,11 +67,11 @@ does_placed out trace (Known request) old o header sent new d p =
       below = jobs_make p.f n job old.jobs.list refl p.below;
       past = past_make p.f n header.stream_id trace p.past;
     })
-does_placed out trace r old o header sent new d p = same_placed trace old.jobs new.jobs (ap (λ (t : Server). t.jobs) d.0) p
+does_placed out trace r old o header sent new d p = rw d.0 p
 
 acts_placed : {O I : Type 0} (h : Halves O I) (trace : List Entry) (now : ℕ) (fs : List Incoming) (old new : Scene Server O I) → ActsAll (serving h.out h.in_) now old fs new
     → Placed trace old.state.jobs → Placed trace new.state.jobs
-acts_placed h trace now [] old new a p = same_placed trace old.state.jobs new.state.jobs (ap (λ (x : Scene Server _ _). x.state.jobs) a) p
+acts_placed h trace now [] old new a p = rw a p
 acts_placed h trace now (f ∷ fs) old new a p =
     let one = a.1 in
     acts_placed h trace now fs a.0 new a.2
@@ -114,7 +94,7 @@ module _ {CO CI SO SI : Type 0} (c : Halves CO CI) (s : Halves SO SI) (seals : B
 
   -- an entry that hands nothing out, at which the jobs stay
   still : (trace : List Entry) (w v : Net CO CI SO SI) (event : Event) (reply : Reply) → jobs v ≡ jobs w → ((f : ℕ → ℕ) (n : ℕ) → IsBelow f n event reply) → Placed trace (jobs w) → Placed (with_entry trace event reply) (jobs v)
-  still trace w v event reply e r p = same_placed (with_entry trace event reply) (jobs w) (jobs v) e (entry_placed trace (jobs w) event reply p (r p.f (jobs w).last))
+  still trace w v event reply e r p = subst (λ (js : JobList). Placed (with_entry trace event reply) js) (sym e) (entry_placed trace (jobs w) event reply p (r p.f (jobs w).last))
 
   answered : (trace : List Entry) (x y : ServerCore SO SI) (id : ℕ) (result : Result _ Error) → AnswersBy c s seals x id result y → Placed trace x.state.jobs → Placed trace y.state.jobs
   answered trace x y id (Ok response) a p = ended_placed trace x.state.jobs y.state.jobs id a.1.job (ap (λ (z : ServerCore SO SI). z.state.jobs.last) a.1.same) a.1.ends p
@@ -132,6 +112,11 @@ module _ {CO CI SO SI : Type 0} (c : Halves CO CI) (s : Halves SO SI) (seals : B
   places : (trace : List Entry) (w : Net CO CI SO SI) (event : Event) (reply : Reply) (v : Net CO CI SO SI) → Placed trace (jobs w) → Steps c s seals w event reply v → Placed (with_entry trace event reply) (jobs v)
   places trace w Take (Handed (Some job)) v p q = handed trace w v job q p
   places trace w (Answer id result) Done v p q = entry_placed trace (jobs v) (Answer id result) Done (answered trace w.server v.server id result q.0 p) tt
+  places trace w (Respond id response) Done v p q =
+      still trace w v (Respond id response) Done (ap (λ (z : ServerCore SO SI). z.state.jobs) q.does.same) (λ f m. tt) p
+  places trace w (Finish id) Done v p q =
+      let t = q.0 in
+      entry_placed trace (jobs v) (Finish id) Done (ended_placed trace (jobs w) (jobs v) id t.job (ap (λ (z : ServerCore SO SI). z.state.jobs.last) t.same) t.ends p) tt
   places trace w (Deliver side.Server n) (Count k) v p q =
       entry_placed trace (jobs v) (Deliver side.Server n) (Count k) (acts_placed s trace w.moment q.does.does.frames (scene w.server.state w.server.connection) (scene v.server.state q.does.mid) q.does.does.acts p) tt
   places trace w (Deliver side.Server n) (Refused told) v p (inl q) =
@@ -142,7 +127,7 @@ module _ {CO CI SO SI : Type 0} (c : Halves CO CI) (s : Halves SO SI) (seals : B
   places trace w event reply v p q = let same : jobs v ≡ jobs w = first_of (cc, search rules) in still trace w v event reply same (λ f n. tt) p
 
   places_all : (before rest : List Entry) (w v : Net CO CI SO SI) → Placed before (jobs w) → Runs c s seals w rest v → Placed (before ++ rest) (jobs v)
-  places_all before [] w v i p = subst (λ (t : List Entry). Placed t (jobs v)) (sym (append-nil before)) (same_placed before (jobs w) (jobs v) (ap jobs p) i)
+  places_all before [] w v i p = subst (λ (t : List Entry). Placed t (jobs v)) (sym (append-nil before)) (rw p i)
   places_all before (e ∷ rest) w v i p =
       subst (λ (t : List Entry). Placed t (jobs v)) (append_assoc before (e ∷ []) rest) (places_all (before ++ e ∷ []) rest p.0 v (places before w e.event e.reply p.0 i p.1) p.2)
 
@@ -188,14 +173,6 @@ above_all (e ∷ trace) = stream_named e.event e.reply + above_all trace
 abbrev spread : (ℕ → ℕ) → List Entry → ℕ → ℕ
 spread f trace j = if was_handed_out j trace then f j else above_all trace + j
 
-either : (a b : Bool) → (if a then true else b) ≡ true → (a ≡ true) ⊎ ((a ≡ false) × (b ≡ true))
-either true b e = inl refl
-either false b e = inr (refl, e)
-
-later : (a b : Bool) → b ≡ true → (if a then true else b) ≡ true
-later true b e = refl
-later false b e = e
-
 -- its stream is right, and below all others' numbers
 named_below : (f : ℕ → ℕ) (j : ℕ) (event : Event) (reply : Reply) → IsRightAt f event reply → hands_out j event reply ≡ true → f j + 1 ≤ stream_named event reply
 named_below f j Take (Handed (Some job)) right e = omega (arith, right, ap f (eqb-true job.id j e))
@@ -203,9 +180,9 @@ named_below f j event reply right e = absurd (let no : ⊥ = cc in no)
 
 stream_below : (f : ℕ → ℕ) (j : ℕ) (trace : List Entry) → IsStreamOf f trace → was_handed_out j trace ≡ true → f j + 1 ≤ above_all trace
 stream_below f j [] right e = cc
-stream_below f j (x ∷ trace) right e = elim (either (hands_out j x.event x.reply) (was_handed_out j trace) e) [
+stream_below f j (x ∷ trace) right e = elim (cases_Bool (hands_out j x.event x.reply)) [
   | inl here ↦ omega (arith, named_below f j x.event x.reply right.0 here)
-  | inr there ↦ omega (arith, stream_below f j trace right.1 there.1)
+  | inr other ↦ omega (arith, stream_below f j trace right.1 (rw other at e))
 ]
 
 -- it is one of the runs of its stream
@@ -227,13 +204,13 @@ among_now f j k event reply right e at = absurd (let no : ⊥ = cc in no)
 
 among : (f : ℕ → ℕ) (j k : ℕ) (trace : List Entry) → IsStreamOf f trace → was_handed_out j trace ≡ true → f j ≡ k → IsAmong j (runs (acts f k trace))
 among f j k [] right e at = cc
-among f j k (x ∷ trace) right e at = elim (either (hands_out j x.event x.reply) (was_handed_out j trace) e) [
+among f j k (x ∷ trace) right e at = elim (cases_Bool (hands_out j x.event x.reply)) [
   | inl here ↦ record {
     front = [];
     back = runs (acts f k trace);
     is = runs_append (act_of f k x.event x.reply) (acts f k trace) ∙ ap (λ xs. xs ++ runs (acts f k trace)) (among_now f j k x.event x.reply right.0 here at);
   }
-  | inr there ↦ let a = among f j k trace right.1 there.1 at in record {
+  | inr other ↦ let a = among f j k trace right.1 (rw other at e) at in record {
     front = runs (act_of f k x.event x.reply) ++ a.front;
     back = a.back;
     is = runs_append (act_of f k x.event x.reply) (acts f k trace) ∙ ap (λ xs. runs (act_of f k x.event x.reply) ++ xs) a.is ∙ sym (append_assoc (runs (act_of f k x.event x.reply)) a.front (j ∷ a.back));
@@ -274,7 +251,7 @@ right_in : (f g : ℕ → ℕ) (part : List Entry) → ((j : ℕ) → was_handed
 right_in f g [] same right = tt
 right_in f g (e ∷ part) same right = (
   right_here f g e.event e.reply right.0 (λ j here. same j (ap (λ b. if b then true else was_handed_out j part) here)),
-  right_in f g part (λ j there. same j (later (hands_out j e.event e.reply) (was_handed_out j part) there)) right.1,
+  right_in f g part (λ j there. same j (cond_both (hands_out j e.event e.reply) true (was_handed_out j part) (λ b. b ≡ true) (λ _. refl) (λ _. there))) right.1,
 )
 
 pub one_to_one : (trace : List Entry) (f : ℕ → ℕ) → IsStreamOf f trace → ((k : ℕ) → length (runs (acts f k trace)) ≤ 1) → (g : ℕ → ℕ) × IsStreamOf g trace × IsOneToOne g

@@ -1,12 +1,5 @@
 -- A trace with one more entry, and what it says of one id.
-use Rattle.std.proofs.Common.{◌≡◌, ◌≢◌, ℕ, ◌≤◌, List, [], ◌∷◌, ◌++◌, Option, Some, None, Result, nat_eq, refl, sym, ap, ◌∙◌, append_assoc}
-use Rattle.std.proofs.lemmas.Bool.{eq-eqb, ne_eqb}
-use Rattle.std.proofs.lemmas.List.{append-nil}
-use Rattle.ttrpc_world.proofs.Words.{Error, Response, ActiveJob, Call, Event, Reply, Entry}
-use Rattle.ttrpc_flight.specs.Flight.{Flying}
-use Rattle.ttrpc_world.specs.declared.events.Event.TheVariants.{Outcome}
-use Rattle.ttrpc_world.specs.declared.events.Reply.TheVariants.{Outcome as Given}
-use Rattle.ttrpc_world.specs.Story.{Act, Gave, act_of, acts, only_if}
+use Rattle.ttrpc_world.proofs.Words.{Bool, ◌≡◌, ◌≢◌, ℕ, ◌≤◌, List, [], ◌∷◌, ◌++◌, Option, Some, None, Result, nat_eq, refl, sym, ap, ◌∙◌, append_assoc, eq-eqb, ne_eqb, append-nil, Error, Response, ActiveJob, Call, Event, Reply, Entry, Flying, Outcome, Given, Act, Gave, act_of, acts, only_if}
 use Rattle.ttrpc_world.proofs.Turns.{elsewhere, gave_of}
 use Rattle.ttrpc_world.proofs.Delivers.{Stories}
 
@@ -43,7 +36,7 @@ unasked stream_of k id trace None e = silent stream_of k trace (Outcome id) (Giv
 unasked stream_of k id trace (Some o) e = unheard stream_of k id trace (Outcome id) (Given (Some o)) (Gave o) refl e
 
 -- an entry that is no act of any id leaves the stories
-pub stories_silent : (stream_of : ℕ → ℕ) (trace : List Entry) (event : Event) (reply : Reply) (up down : List Flying) (next : ℕ) (jobs : List ActiveJob) (kept : ℕ → Option Call)
-    → ((k : ℕ) → act_of stream_of k event reply ≡ []) → Stories stream_of trace up down next jobs kept → Stories stream_of (with_entry trace event reply) up down next jobs kept
-stories_silent stream_of trace event reply up down next jobs kept q c = λ k.
+pub stories_silent : (had : ℕ → Bool) (stream_of : ℕ → ℕ) (trace : List Entry) (event : Event) (reply : Reply) (up down : List Flying) (next : ℕ) (jobs : List ActiveJob) (kept : ℕ → Option Call)
+    → ((k : ℕ) → act_of stream_of k event reply ≡ []) → Stories had stream_of trace up down next jobs kept → Stories had stream_of (with_entry trace event reply) up down next jobs kept
+stories_silent had stream_of trace event reply up down next jobs kept q c = λ k.
     elsewhere (next ≤ k) (next ≤ k) k _ _ _ _ _ _ _ _ _ _ (c k) (λ y. y) (silent stream_of k trace event reply (q k)) refl refl refl refl

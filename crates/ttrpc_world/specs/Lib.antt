@@ -1,3 +1,4 @@
+pub mod Types
 pub mod Pipes
 pub mod Net
 pub mod Steps

@@ -1,6 +1,7 @@
 -- One client, one server, and the bytes in flight between them.
 -- Source: this project's.
-use Rattle.std.specs.Prelude.{◌≡◌, ℕ}
+use Rattle.std.specs.Prelude.{◌≡◌, ℕ, List, [], Bool, nat_eq}
+use Rattle.std.specs.List.{list_any}
 use Rattle.ttrpc_secure.specs.declared.transform.OutboundTransform.{Ghosts as OutboundTransform}
 use Rattle.ttrpc_secure.specs.declared.transform.InboundTransform.{Ghosts as InboundTransform}
 use Rattle.ttrpc_secure.specs.Halves.{IsPaired}
@@ -29,6 +30,8 @@ pub record Net (CO CI SO SI : Type 0) : Type 0 where
   pub down : Pipe
   -- the last moment that came, in nanoseconds
   pub moment : ℕ
+  -- the jobs that go on behind their response, or went on
+  pub responded : List ℕ
 
 abbrev pub with_client : {CO CI SO SI : Type 0} → Net CO CI SO SI → ClientCore CO CI → Net CO CI SO SI
 with_client w c = record w { client = c }
@@ -36,16 +39,21 @@ with_client w c = record w { client = c }
 abbrev pub with_server : {CO CI SO SI : Type 0} → Net CO CI SO SI → ServerCore SO SI → Net CO CI SO SI
 with_server w s = record w { server = s }
 
+-- whether a job has its response already
+abbrev pub has_response : {CO CI SO SI : Type 0} → Net CO CI SO SI → ℕ → Bool
+has_response w job = list_any (λ j. nat_eq j job) w.responded
+
 -- Nothing has happened yet, and each outbound half is paired with the other side's inbound half.
 pub record IsFresh {CO CI SO SI : Type 0} (c : Halves CO CI) (s : Halves SO SI) (w : Net CO CI SO SI) : Type 0 where
   pub kind : ClientKind
   pub first : ℕ
-  pub client : w.client ≡ client.new_core kind first w.client.connection.outbox.half w.client.connection.inbound
+  pub client : w.client ≡ client.new_core kind first w.client.connection.known w.client.connection.outbox.half w.client.connection.inbound
   pub rules : Rules
   pub services : Services
-  pub server : w.server ≡ server.new_core rules services w.server.connection.outbox.half w.server.connection.inbound
+  pub server : w.server ≡ server.new_core rules services w.server.connection.known w.server.connection.outbox.half w.server.connection.inbound
   pub up : w.up ≡ empty_pipe
   pub down : w.down ≡ empty_pipe
   pub moment : w.moment ≡ 0
+  pub responded : w.responded ≡ []
   pub up_paired : IsPaired c.out.seals s.in_.opens s.in_.refuses w.client.connection.outbox.half w.server.connection.inbound
   pub down_paired : IsPaired s.out.seals c.in_.opens c.in_.refuses w.server.connection.outbox.half w.client.connection.inbound

@@ -1,6 +1,6 @@
 -- The bytes in flight to one side.
 -- Source: this project's.
-use Rattle.std.specs.Prelude.{ℕ, List, [], ◌∷◌, Bool, true, false}
+use Rattle.std.specs.Prelude.{ℕ, List, [], Bool, true, false}
 
 pub record Pipe : Type 0 where
   pub bytes : List ℕ
@@ -12,9 +12,8 @@ empty_pipe = record { bytes = []; cut = false }
 
 -- it was cut, and nothing is left to deliver
 abbrev pub is_over_of : Bool → List ℕ → Bool
-is_over_of false bytes = false
 is_over_of true [] = true
-is_over_of true (b ∷ bytes) = false
+is_over_of cut bytes = false
 
 abbrev pub is_over : Pipe → Bool
 is_over p = is_over_of p.cut p.bytes

@@ -1,32 +1,24 @@
 -- What an event and its reply may do to a client, a server and their pipes.
 -- Source: PROTOCOL.md of ttrpc, "Streaming", by the tables of both cores.
 use Rattle.std.specs.Prelude.{◌≡◌, ◌≢◌, ◌⊎◌, ◌<◌, ◌≤◌, ◌++◌, ℕ, List, [], ◌∷◌, length, take, drop, min, codes, if◌then◌else◌, Bool, true, false, Option, Some, None, Result, Ok, Err}
-use Rattle.ttrpc_error.specs.declared.error.Error.{Error}
+use Rattle.ttrpc_world.specs.Types.{Error, Response, Connection, Failure, Told, Disconnected, DisconnectedInside, Event, Call, Open, Outcome, Recv, Send, Close, DropCall, DropReceiver, DropSender, Take, Answer, Respond, Finish, EndStream, Drain, Tick, Carry, Deliver, Cut, Fail, Reply, Named, Given, Handed, Done, Count, Refused, NoMemory, NoStep, Entry}
 use Rattle.ttrpc_error.specs.declared.error.Error.TheVariants.{Socket}
-use Rattle.ttrpc_proto.specs.declared.response.Response.{Response}
 use Rattle.ttrpc_proto.specs.Messages.{IsRequest, IsResponse}
 use Rattle.ttrpc_frame.specs.Frames.{nothing}
 use Rattle.ttrpc_frame.specs.Queue.{Queue, open_part, with_lent, after_report}
-use Rattle.ttrpc_connection.specs.declared.connection.Connection.{Connection}
-use Rattle.ttrpc_connection.specs.declared.failure.Failure.{Failure}
-use Rattle.ttrpc_connection.specs.declared.failure.Failure.TheVariants.{Told, Disconnected, DisconnectedInside}
 use Rattle.ttrpc_connection.specs.Failure.{kept}
 use Rattle.ttrpc_connection.specs.Feeds.{Ways, Feeds, Breaks, IsFailed}
 use Rattle.ttrpc_server.specs.declared.server.ServerCore.{ServerCore}
-use Rattle.ttrpc_server.specs.Jobs.{IsUnknown, NoneWaits}
+use Rattle.ttrpc_server.specs.declared.job.ActiveJob.{ActiveJob}
+use Rattle.ttrpc_server.specs.Jobs.{IsTaken, IsUnknown, NoneWaits}
 use Rattle.ttrpc_server.specs.Table.{HasUnsent}
-use Rattle.ttrpc_server.specs.Happens.{Answers, Drops, Hands, serving}
+use Rattle.ttrpc_server.specs.Happens.{Answers, Drops, Finishes, Hands, QueuesResponse, serving}
 use Rattle.ttrpc_client.specs.Table.{RefusesRequest}
 use Rattle.ttrpc_client.specs.Happens.{Forgets, Requests, Tells, calling}
 use Rattle.ttrpc_client.specs.Calls.{Passes}
 use Rattle.ttrpc_world.specs.declared.events.Side.TheVariants as side
-use Rattle.ttrpc_world.specs.declared.events.Event.{Event}
-use Rattle.ttrpc_world.specs.declared.events.Event.TheVariants.{Call, Open, Outcome, Recv, Send, Close, DropCall, DropReceiver, DropSender, Take, Answer, Respond, Finish, EndStream, Drain, Tick, Carry, Deliver, Cut, Fail}
-use Rattle.ttrpc_world.specs.declared.events.Reply.{Reply}
-use Rattle.ttrpc_world.specs.declared.events.Reply.TheVariants.{Named, Outcome as Given, Handed, Done, Count, Refused, NoMemory, NoStep}
-use Rattle.ttrpc_world.specs.declared.events.Entry.{Entry}
 use Rattle.ttrpc_world.specs.Pipes.{Pipe, is_over}
-use Rattle.ttrpc_world.specs.Net.{Halves, Net, with_client, with_server}
+use Rattle.ttrpc_world.specs.Net.{Halves, Net, has_response, with_client, with_server}
 
 -- ---- one side, and the pipe to it or from it
 
@@ -107,6 +99,23 @@ module _ {CO CI SO SI : Type 0} (c : Halves CO CI) (s : Halves SO SI) (seals : B
   abbrev pub RefusesOne : ServerCore SO SI → ℕ → Result Response Error → Error → Type 0
   RefusesOne old id result told = IsFailed old.connection.failure told ⊎ HasUnsent s.out old id result told
 
+  -- No answer may come for a job: it wasn't taken, or is over, or has its response already.
+  abbrev pub AwaitsNone : Net CO CI SO SI → ℕ → Type 0
+  AwaitsNone w id = IsUnknown w.server.state.jobs.list id ⊎ (has_response w id ≡ true)
+
+  -- One may: it was taken, isn't over, and has no response.
+  pub record Awaits (w : Net CO CI SO SI) (id : ℕ) : Type 0 where
+    pub job : ActiveJob
+    pub at : IsTaken w.server.state.jobs.list id job
+    pub none_yet : has_response w id ≡ false
+
+  -- A response was queued for a job, which goes on.
+  pub record RespondsTo (old : Net CO CI SO SI) (id : ℕ) (response : Response) (new : Net CO CI SO SI) : Type 0 where
+    pub is_response : IsResponse response
+    pub awaits : Awaits old id
+    pub does : QueuesResponse s.out old.server awaits.job.header.stream_id response new.server
+    pub only : new ≡ record (with_server old new.server) { responded = old.responded ++ id ∷ [] }
+
   -- A moment came.
   pub record Ticked (old : Net CO CI SO SI) (now : ℕ) (new : Net CO CI SO SI) : Type 0 where
     pub later : old.moment ≤ now
@@ -162,9 +171,16 @@ module _ {CO CI SO SI : Type 0} (c : Halves CO CI) (s : Halves SO SI) (seals : B
   Steps old (DropCall id) Done new = Forgot old id new
   Steps old Take (Handed (Some job)) new = Hands old.server job new.server × OnlyServer old new
   Steps old Take (Handed None) new = (old.server.connection.failure ≡ None → NoneWaits old.server.state.jobs.list) × (new ≡ old)
-  Steps old (Answer id result) Done new = AnswersBy old.server id result new.server × OnlyServer old new
+  Steps old (Answer id result) Done new = AnswersBy old.server id result new.server × OnlyServer old new × (has_response old id ≡ false)
   Steps old (Answer id result) (Refused told) new = RefusesOne old.server id result told × (new ≡ old)
-  Steps old (Answer id result) NoStep new = (old.server.connection.failure ≡ None) × IsUnknown old.server.state.jobs.list id × (new ≡ old)
+  Steps old (Answer id result) NoStep new = (old.server.connection.failure ≡ None) × AwaitsNone old id × (new ≡ old)
+  Steps old (Respond id response) Done new = RespondsTo old id response new
+  Steps old (Respond id response) (Refused told) new = RefusesOne old.server id (Ok response) told × (new ≡ old)
+  Steps old (Respond id response) NoMemory new = (old.server.connection.failure ≡ None) × Awaits old id × (new ≡ old)
+  Steps old (Respond id response) NoStep new = (old.server.connection.failure ≡ None) × AwaitsNone old id × (new ≡ old)
+  Steps old (Finish id) Done new = Finishes old.server id new.server × OnlyServer old new
+  Steps old (Finish id) (Refused told) new = IsFailed old.server.connection.failure told × (new ≡ old)
+  Steps old (Finish id) NoStep new = (old.server.connection.failure ≡ None) × IsUnknown old.server.state.jobs.list id × (new ≡ old)
   Steps old (Tick now) Done new = Ticked old now new
   Steps old (Tick now) NoStep new = (now < old.moment) × (new ≡ old)
   Steps old (Carry side.Client n) (Count k) new = CarriesUp old n k new
@@ -181,15 +197,13 @@ module _ {CO CI SO SI : Type 0} (c : Halves CO CI) (s : Halves SO SI) (seals : B
   Steps old (Fail side.Server) Done new = new ≡ with_server old (record old.server { connection = failed old.server.connection (Told failed_by_hand) })
   Steps old (Fail side.Client) NoMemory new = (old.client.connection.failure ≡ None) × (new ≡ old)
   Steps old (Fail side.Server) NoMemory new = (old.server.connection.failure ≡ None) × (new ≡ old)
-  -- of streams the cores know nothing yet, and the server's ends a job by its answer alone
+  -- of streams the cores know nothing yet
   Steps old (Open request up down) NoStep new = new ≡ old
   Steps old (Recv at id) NoStep new = new ≡ old
   Steps old (Send at id bytes) NoStep new = new ≡ old
   Steps old (Close id) NoStep new = new ≡ old
   Steps old (DropReceiver at id) NoStep new = new ≡ old
   Steps old (DropSender id) NoStep new = new ≡ old
-  Steps old (Respond id response) NoStep new = new ≡ old
-  Steps old (Finish id) NoStep new = new ≡ old
   Steps old (EndStream id result) NoStep new = new ≡ old
   Steps old Drain NoStep new = new ≡ old
   Steps old event reply new = ⊥

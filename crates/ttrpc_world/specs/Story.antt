@@ -2,16 +2,10 @@
 -- Source: this project's.
 use Rattle.std.specs.Prelude.{◌≡◌, ◌≤◌, ℕ, List, [], ◌∷◌, length, nat_eq, if◌then◌else◌, Bool, true, Option, Some, None, Result, Ok}
 use Rattle.std.specs.List.{AllByRecursion, flat_map}
-use Rattle.ttrpc_error.specs.declared.error.Error.{Error}
+use Rattle.ttrpc_world.specs.Types.{Error, Response, Event, Call, Outcome, Take, Answer, Respond, Reply, Named, Given, Handed, Done, Entry}
 use Rattle.ttrpc_proto.specs.declared.request.Request.{Request}
-use Rattle.ttrpc_proto.specs.declared.response.Response.{Response}
 use Rattle.ttrpc_proto.specs.declared.status.Status.{Status}
 use Rattle.ttrpc_proto.specs.Messages.{is_ok_code}
-use Rattle.ttrpc_world.specs.declared.events.Event.{Event}
-use Rattle.ttrpc_world.specs.declared.events.Event.TheVariants.{Call, Outcome, Take, Answer}
-use Rattle.ttrpc_world.specs.declared.events.Reply.{Reply}
-use Rattle.ttrpc_world.specs.declared.events.Reply.TheVariants.{Named, Outcome as Given, Handed, Done}
-use Rattle.ttrpc_world.specs.declared.events.Entry.{Entry}
 
 -- what happened to a call
 pub data Act : Type 0 where
@@ -19,7 +13,7 @@ pub data Act : Type 0 where
   Called : (request : Request) → Act
   -- a job of it was handed out
   Ran : (job : ℕ) → (request : Request) → Act
-  -- such a job was answered
+  -- such a job was answered, or a response was queued for it
   Answered : (result : Result Response Error) → Act
   -- its outcome was given
   Gave : (outcome : Result Response Error) → Act
@@ -33,6 +27,7 @@ act_of stream_of k (Call request) (Named id) = only_if (nat_eq id k) (Called req
 act_of stream_of k (Outcome id) (Given (Some outcome)) = only_if (nat_eq id k) (Gave outcome)
 act_of stream_of k Take (Handed (Some job)) = only_if (nat_eq job.header.stream_id k) (Ran job.id job.request)
 act_of stream_of k (Answer job result) Done = only_if (nat_eq (stream_of job) k) (Answered result)
+act_of stream_of k (Respond job response) Done = only_if (nat_eq (stream_of job) k) (Answered (Ok response))
 act_of stream_of k event reply = []
 
 -- THE STORY OF ONE ID: all that a trace says of it, in order.

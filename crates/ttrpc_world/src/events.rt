@@ -15,8 +15,8 @@ pub enum Side {
 
 /// What may happen. On the server's side an id is a job's number, else it is a stream's.
 ///
-/// The cores have no streams yet, and the server's has `answer` alone to end a job: `Open`, `Recv`, `Send`, `Close`,
-/// `DropReceiver`, `DropSender`, `Respond`, `Finish`, `EndStream` and `Drain` are no step so far.
+/// The cores have no streams yet: `Open`, `Recv`, `Send`, `Close`, `DropReceiver`, `DropSender`, `EndStream` and `Drain`
+/// are no step so far.
 #[derive(Debug, Drop)]
 pub enum Event {
     /// The client makes a call of this request, at the last moment.
@@ -41,9 +41,9 @@ pub enum Event {
     Take,
     /// The server answers a job that was taken by what its handler gave.
     Answer(JobId, Result<Response, Error>),
-    /// The server responds to a job, which goes on.
+    /// The server responds to a job that was taken, which goes on. A job has one response or answer at most.
     Respond(JobId, Response),
-    /// The server ends a job that it responded to.
+    /// The server ends a job that was taken, and sends nothing.
     Finish(JobId),
     /// The server ends a stream's job by what its handler gave.
     EndStream(JobId, Result<Option<Response>, Error>),

@@ -1,15 +1,17 @@
 //! The world: a client, a server and two pipes, and one event after the other.
-ghost use Rattle.std.specs.Prelude.{◌≡◌, ◌≢◌, ◌<◌, ◌≤◌, ◌++◌, ◌∷◌, [], ℕ, List, length, take, min, codes, map, is_some, if◌then◌else◌, IfOk, OnOk, OnErr, Result, Ok, Err, IfErr};
+ghost use Rattle.std.specs.Prelude.{◌≡◌, ◌≢◌, ◌<◌, ◌≤◌, ◌++◌, ◌∷◌, [], ℕ, List, length, take, min, codes, map, is_some, if◌then◌else◌, true, false, ◌⊎◌, IfOk, OnOk, OnErr, IfSome, IfNone, Result, Ok, Err, IfErr};
 ghost use Rattle.std.specs.Vec.{vec_capacity};
 ghost use Rattle.ttrpc_error.specs.declared.error.Error.{Error as AnError};
 ghost use Rattle.ttrpc_proto.specs.declared.response.Response.{Response as AResponse};
 ghost use Rattle.ttrpc_proto.specs.Messages.{IsResponse};
 ghost use Rattle.ttrpc_connection.specs.declared.failure.Failure.{Failure as AFailure};
+ghost use Rattle.ttrpc_server.specs.declared.job.ActiveJob.{ActiveJob as AJob};
+ghost use Rattle.ttrpc_server.specs.Jobs.{IsTaken, IsUnknown};
 ghost use Rattle.ttrpc_world.specs.declared.events.Entry.{Entry as AnEntry};
 ghost use Rattle.ttrpc_world.specs.declared.events.Event.{Event as AnEvent};
 ghost use Rattle.ttrpc_world.specs.declared.events.Side.{Side as ASide};
 ghost use Rattle.ttrpc_world.specs.Pipes.{empty_pipe, is_over};
-ghost use Rattle.ttrpc_world.specs.Net.{Net, IsFresh, halves, with_client, with_server};
+ghost use Rattle.ttrpc_world.specs.Net.{Net, IsFresh, halves, has_response, with_client, with_server};
 ghost use Rattle.ttrpc_world.specs.Steps.{Hears, Runs, Steps, failed_by_hand};
 ghost use Rattle.ttrpc_world.specs.Story.{IsTold};
 
@@ -18,12 +20,13 @@ use crate::pipe::Pipe;
 use std::alloc::{AllocError, Global};
 use std::marker::Model;
 use ttrpc_client::{CallId, ClientCore};
-use ttrpc_codec::WireMessage;
+use ttrpc_codec::message::WireMessage;
 use ttrpc_error::Error;
 use ttrpc_proto::{Request, Response};
 use ttrpc_secure::{InboundTransform, OutboundTransform};
 use ttrpc_server::{JobId, ServerCore};
-use ttrpc_values::{Text, front};
+use ttrpc_values::Text;
+use ttrpc_values::slices::front;
 
 /// A client and a server, each over its two halves, and the bytes in flight between them.
 #[derive(Drop)]
@@ -33,6 +36,7 @@ pub struct World<CO, CI, SO, SI> {
     up: Pipe,
     down: Pipe,
     moment: u64,
+    responded: Vec<JobId>,
 }
 
 impl<CO, CI, SO, SI> Model for World<CO, CI, SO, SI> {
@@ -46,6 +50,7 @@ impl<CO, CI, SO, SI> Model for World<CO, CI, SO, SI> {
       up = a.up;
       down = a.down;
       moment = a.moment;
+      responded = a.responded.items;
     } };
 }
 
@@ -57,7 +62,14 @@ impl<
 > World<CO, CI, SO, SI> {
     /// A world of these two cores, with nothing in flight, at moment 0. Takes no memory.
     pub fn new(alloc: Global, client: ClientCore<CO, CI>, server: ServerCore<SO, SI>) -> Self
-        ensures { result ≡ record { client = client; server = server; up = empty_pipe; down = empty_pipe; moment = 0 } }
+        ensures { result ≡ record {
+          client = client;
+          server = server;
+          up = empty_pipe;
+          down = empty_pipe;
+          moment = 0;
+          responded = [];
+        } }
     {
         World {
             client,
@@ -65,6 +77,7 @@ impl<
             up: Pipe::new(alloc),
             down: Pipe::new(alloc),
             moment: 0,
+            responded: Vec::new(alloc),
         }
     }
 
@@ -121,6 +134,8 @@ impl<
             Event::DropCall(id) => self.drop_call(*id),
             Event::Take => self.take(),
             Event::Answer(id, result) => self.answer(alloc, *id, result),
+            Event::Respond(id, response) => self.respond(alloc, *id, response),
+            Event::Finish(id) => self.finish(alloc, *id),
             Event::Tick(now) => self.tick(*now),
             Event::Carry(Side::Client, n) => self.carry_up(alloc, *n),
             Event::Carry(Side::Server, n) => self.carry_down(alloc, *n),
@@ -184,14 +199,69 @@ impl<
         if let Some(error) = self.server.failure(alloc) {
             return Reply::Refused(error);
         }
-        if !self.server.awaits_answer(id) {
+        let Some(_) = self.awaiting(id) else {
             return Reply::NoStep;
-        }
+        };
         note_known(given);
         match self.server.answer(alloc, id, given) {
             Ok(()) => Reply::Done,
             Err(error) => Reply::Refused(error),
         }
+    }
+
+    fn respond(&mut self, alloc: Global, id: JobId, response: &Response) -> Reply
+        ensures { Steps
+            (halves CO.OutboundTransform CI.InboundTransform)
+            (halves SO.OutboundTransform SI.InboundTransform) CO.SEALS
+            self.old (AnEvent.Respond id response.now) result self.new }
+    {
+        if let Some(error) = self.server.failure(alloc) {
+            return Reply::Refused(error);
+        }
+        let Some(stream_id) = self.awaiting(id) else {
+            return Reply::NoStep;
+        };
+        if self.responded.reserve(1).is_err() {
+            return Reply::NoMemory;
+        }
+        response.known();
+        match self.server.respond(alloc, stream_id, response) {
+            Ok(()) => {
+                self.responded.push_reserved(id);
+                Reply::Done
+            }
+            Err(error) => Reply::Refused(error),
+        }
+    }
+
+    fn finish(&mut self, alloc: Global, id: JobId) -> Reply
+        ensures { Steps
+            (halves CO.OutboundTransform CI.InboundTransform)
+            (halves SO.OutboundTransform SI.InboundTransform) CO.SEALS
+            self.old (AnEvent.Finish id) result self.new }
+    {
+        if let Some(error) = self.server.failure(alloc) {
+            return Reply::Refused(error);
+        }
+        let Some(_) = self.server.stream_of(id) else {
+            return Reply::NoStep;
+        };
+        match self.server.finish(alloc, id) {
+            Ok(()) => Reply::Done,
+            Err(error) => Reply::Refused(error),
+        }
+    }
+
+    /// The stream's id of a job that may be answered: it was taken, isn't over, and has no response yet.
+    fn awaiting(&self, id: JobId) -> Option<u32>
+        ensures some { IfSome result (λ k. (job : AJob)
+            × IsTaken self.now.server.state.jobs.list id job × (k ≡ job.header.stream_id) × (has_response self.now id ≡ false)) }
+        ensures none { IfNone result (IsUnknown self.now.server.state.jobs.list id ⊎ (has_response self.now id ≡ true)) }
+    {
+        if self.responded.as_slice().contains(&id) {
+            return None;
+        }
+        self.server.stream_of(id)
     }
 
     fn tick(&mut self, now: u64) -> Reply

@@ -4,7 +4,7 @@ use std::alloc::Global;
 use std::collections::BTreeMap;
 use std::process::Abort;
 use std::test::Fail;
-use ttrpc_codec::WireMessage;
+use ttrpc_codec::message::WireMessage;
 use ttrpc_connection::Failure;
 use ttrpc_header::MessageHeader;
 use ttrpc_proto::Request;

@@ -1,4 +1,4 @@
-use Rattle.std.proofs.Common.{append_assoc, refl}
+use Rattle.ttrpc_client.proofs.Words.{append_assoc, refl}
 use Rattle.ttrpc_client.proofs.errors.malformed_error.Goals as goal
 
 -- What `format!` ensures groups its pieces otherwise than the text in specs does.

@@ -1,6 +1,6 @@
+use Rattle.ttrpc_client.proofs.Words.{ids_asked}
 use Rattle.ttrpc_client.proofs.Once.{run_gives_none, run_gives_one}
 use Rattle.ttrpc_client.proofs.Turning.{leaves_valid, run_leaves}
-use Rattle.ttrpc_client.proofs.Words.{ids_asked}
 use Rattle.ttrpc_client.proofs.laws.an_outcome_is_given_once.Goals as goal
 
 pub returns-clause-once : goal.returns-clause-once

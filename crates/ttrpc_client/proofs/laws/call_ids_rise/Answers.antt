@@ -1,6 +1,6 @@
+use Rattle.ttrpc_client.proofs.Words.{ids_asked}
 use Rattle.ttrpc_client.proofs.Rising.{rise_apart}
 use Rattle.ttrpc_client.proofs.Turning.{run_leaves}
-use Rattle.ttrpc_client.proofs.Words.{ids_asked}
 use Rattle.ttrpc_client.proofs.laws.call_ids_rise.Goals as goal
 
 pub returns-clause-rise : goal.returns-clause-rise

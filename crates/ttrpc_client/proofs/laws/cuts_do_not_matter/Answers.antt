@@ -1,5 +1,5 @@
-use Rattle.ttrpc_connection.proofs.Cuts.{any_cutting}
 use Rattle.ttrpc_client.proofs.Words.{called, calling}
+use Rattle.ttrpc_connection.proofs.Cuts.{any_cutting}
 use Rattle.ttrpc_client.proofs.Calls.{called_is_lawful}
 use Rattle.ttrpc_client.proofs.laws.cuts_do_not_matter.Goals as goal
 

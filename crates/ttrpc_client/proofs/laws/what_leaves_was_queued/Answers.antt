@@ -1,6 +1,4 @@
-use Rattle.ttrpc_frame.proofs.Departures.{all_are_accounted}
-use Rattle.ttrpc_connection.proofs.Leaving.{run_goes, run_leaves}
-use Rattle.ttrpc_client.proofs.Words.{called, calling}
+use Rattle.ttrpc_client.proofs.Words.{run_goes, run_leaves, called, calling, all_are_accounted}
 use Rattle.ttrpc_client.proofs.Calls.{called_is_lawful, does_cause}
 use Rattle.ttrpc_client.proofs.Throwing.{run_throws_not}
 use Rattle.ttrpc_client.proofs.laws.what_leaves_was_queued.Goals as goal

@@ -1,4 +1,4 @@
-use Rattle.ttrpc_flight.specs.Flight.{IsOwnRequest}
+use Rattle.ttrpc_flight.proofs.Words.{IsOwnRequest}
 use Rattle.ttrpc_flight.proofs.Losing.{all_thrown}
 use Rattle.ttrpc_flight.proofs.Parcels.{parcels_thrown, parcels_thrown_elsewhere}
 use Rattle.ttrpc_flight.proofs.laws.a_throw_takes_requests_of_its_owners.Goals as goal

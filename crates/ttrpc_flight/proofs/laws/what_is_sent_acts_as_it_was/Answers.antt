@@ -1,4 +1,4 @@
-use Rattle.ttrpc_connection.specs.Feeds.{ways}
+use Rattle.ttrpc_flight.proofs.Words.{ways}
 use Rattle.ttrpc_flight.proofs.Acting.{act_as_sent, takes_wing}
 use Rattle.ttrpc_flight.proofs.laws.what_is_sent_acts_as_it_was.Goals as goal
 

@@ -1,17 +1,24 @@
 use Rattle.std.proofs.Common.{rules, arith, ◌≡◌, ◌∙◌, ap}
-use Rattle.ttrpc_frame.specs.Queue.{with_frame, with_payload, filled}
-use Rattle.ttrpc_frame.proofs.Queues.{placed_filled}
+use Rattle.ttrpc_frame.specs.Queue.{with_frame, filled, withdrawn}
+use Rattle.ttrpc_frame.proofs.Queues.{placed_filled, placed_withdrawn}
+use Rattle.ttrpc_secure.specs.declared.sending.SendError.TheVariants.{Failed}
+use Rattle.ttrpc_secure.proofs.Settles.{settled_ok, settled_err}
 use Rattle.ttrpc_secure.proofs.sending.send.Goals as goal
 
-pub returns-in-Ok-clause-ok : goal.returns-in-Ok-clause-ok
-returns-in-Ok-clause-ok g c =
-    let placed : c.place.new.self ≡ with_frame c.args.outgoing.now c.args.frame = search rules in
-    let aad = c.associated_bytes-associated.ensures in
-    let sealed = c.in-Ok.ensures.ok in
-    let longer = g.met.O.OutboundTransform.lawful.longer _ _ _ _ _ sealed in
+pub returns-clause-ok : goal.returns-clause-ok
+returns-clause-ok g c =
+    let placed : c.make_room.new.outgoing ≡ with_frame c.args.outgoing.now c.args.frame = search rules in
+    settled_ok _ Failed c.transform_outbound_vec-sealed.result c.settle.result c.settle.ensures c.transform_outbound_vec-sealed.ensures.ok (λ sealed seal fill.
+    let longer = g.met.O.OutboundTransform.lawful.longer _ _ _ _ _ seal in
     record {
-      sealed = c.in-Ok.sealed.items;
-      seal = rw (← aad) sealed;
-      fits = omega (arith, longer, c.if-data-max_overhead.false, c.max_overhead.ensures, g.met.O.OutboundTransform.lawful.small c.args.half.now);
-      queue = c.fill.ensures.filled ∙ ap (λ q. filled q c.from_vec.result) placed ∙ placed_filled c.args.outgoing.now c.args.frame c.from_vec.result c.place.ensures.was ∙ ap (λ p. with_frame c.args.outgoing.now (with_payload c.args.frame p)) c.from_vec.ensures;
-    }
+      sealed = sealed.items;
+      seal = rw (← c.associated_bytes-associated.ensures) seal;
+      fits = omega (arith, longer, c.in_ok-check_limit.ensures.ok);
+      queue = fill ∙ ap (λ q. filled q sealed.items) placed ∙ placed_filled c.args.outgoing.now c.args.frame sealed.items c.in_ok-make_room.ensures.was;
+    })
+
+pub returns-clause-err : goal.returns-clause-err
+returns-clause-err g c =
+    let placed : c.make_room.new.outgoing ≡ with_frame c.args.outgoing.now c.args.frame = search rules in
+    settled_err _ Failed c.transform_outbound_vec-sealed.result c.settle.result c.settle.ensures c.transform_outbound_vec-sealed.ensures.err (λ error same back.
+    (same, back ∙ ap withdrawn placed ∙ placed_withdrawn c.args.outgoing.now c.args.frame c.in_ok-make_room.ensures.was))

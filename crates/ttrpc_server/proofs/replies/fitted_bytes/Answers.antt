@@ -1,6 +1,4 @@
-use Rattle.std.proofs.Common.{rules, ◌≡◌, ◌≤◌, nat_lt, true, refl}
-use Rattle.std.proofs.lemmas.Result.{IfOk-weaker}
-use Rattle.ttrpc_server.specs.Responses.{fitted, response_size}
+use Rattle.ttrpc_server.proofs.Words.{rules, ◌≡◌, ◌≤◌, nat_lt, true, refl, IfOk-weaker, fitted, response_size}
 use Rattle.ttrpc_server.proofs.replies.fitted_bytes.Goals as goal
 
 pub returns-clause-ok : goal.returns-clause-ok

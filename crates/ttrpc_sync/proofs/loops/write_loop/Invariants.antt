@@ -1,9 +1,10 @@
-use Rattle.std.proofs.Common.{◌≡◌}
+use Rattle.std.proofs.Common.{◌≡◌, All}
 use Rattle.ttrpc_sync.specs.declared.ports.Word.TheVariants.{Open}
-use Rattle.ttrpc_sync.specs.Loops.{IsOneMore, Written, reported}
+use Rattle.ttrpc_sync.specs.Loops.{GoesOn, IsOneMore, Written, reported}
+use Rattle.ttrpc_streams.specs.Streams.{Makes}
 use Rattle.ttrpc_sync.proofs.loops.write_loop.Given as goal
 
--- What the writer took was reported.
+-- What the writer took was reported, and no call of it was one to end at.
 abbrev pub invariant-loop : goal.invariant-loop
 invariant-loop g l = record {
   next : (goal.iterator-loop g).can_next l.iterator';
@@ -11,4 +12,5 @@ invariant-loop g l = record {
   word : g.P.WritePort.word l.port ≡ Open;
   begun : IsOneMore (g.P.WritePort.begun l.fn.port) (g.P.WritePort.begun l.port);
   written : Written (g.W.Sink.contents l.fn.writer) (g.W.Sink.contents l.writer) (reported (g.P.WritePort.told l.fn.port)) (reported (g.P.WritePort.told l.port));
+  calls : Makes (g.W.Sink.calls l.fn.writer) (g.W.Sink.calls l.writer) (All GoesOn);
 }

@@ -12,6 +12,7 @@ run-requires c = rw (c.new.ensures, c.new-client.ensures, c.new-server.ensures) 
   up = refl;
   down = refl;
   moment = refl;
+  responded = refl;
   up_paired = c.plain_is_paired.ensures _ _;
   down_paired = c.plain_is_paired.ensures _ _;
 })

@@ -1,4 +1,4 @@
-use Rattle.std.proofs.Common.{refl}
+use Rattle.ttrpc_client.proofs.Words.{refl}
 use Rattle.ttrpc_client.proofs.client.ClientCore.feed.Goals as goal
 
 pub returns-clause-failed : goal.returns-clause-failed

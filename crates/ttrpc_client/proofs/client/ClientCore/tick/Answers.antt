@@ -1,4 +1,4 @@
-use Rattle.std.proofs.Common.{rules}
+use Rattle.ttrpc_client.proofs.Words.{rules}
 use Rattle.ttrpc_client.proofs.Ticking.{nothing_due}
 use Rattle.ttrpc_client.proofs.client.ClientCore.tick.Goals as goal
 

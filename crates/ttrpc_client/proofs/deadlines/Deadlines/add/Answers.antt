@@ -1,4 +1,4 @@
-use Rattle.std.proofs.Common.{true}
+use Rattle.ttrpc_client.proofs.Words.{true}
 use Rattle.ttrpc_client.proofs.Soonest.{changes}
 use Rattle.ttrpc_client.proofs.deadlines.Deadlines.add.Goals as goal
 

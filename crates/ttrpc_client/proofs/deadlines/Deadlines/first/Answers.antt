@@ -1,7 +1,4 @@
-use Rattle.std.proofs.Common.{◌≡◌, ◌≤◌, ℕ, List, true, false, Option, Some, None, IfSome, IsTrue, Bor}
-use Rattle.std.specs.Option.{option_copied}
-use Rattle.std.specs.Ordering.{is_gt}
-use Rattle.ttrpc_client.proofs.Words.{has_deadline, sooner}
+use Rattle.ttrpc_client.proofs.Words.{◌≡◌, ◌≤◌, ℕ, List, true, false, Option, Some, None, IfSome, IsTrue, Bor, option_copied, is_gt, has_deadline, sooner}
 use Rattle.ttrpc_client.proofs.Soonest.{least}
 use Rattle.ttrpc_client.proofs.deadlines.Deadlines.first.Goals as goal
 

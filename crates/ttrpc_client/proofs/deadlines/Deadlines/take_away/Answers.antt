@@ -1,4 +1,4 @@
-use Rattle.std.proofs.Common.{false}
+use Rattle.ttrpc_client.proofs.Words.{false}
 use Rattle.ttrpc_client.proofs.Soonest.{changes}
 use Rattle.ttrpc_client.proofs.deadlines.Deadlines.take_away.Goals as goal
 

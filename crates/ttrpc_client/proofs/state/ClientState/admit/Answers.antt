@@ -1,8 +1,4 @@
-use Rattle.std.proofs.Common.{rules, arith, ◌≡◌, false, Result, Ok, Err, OnOk, deque_capacity}
-use Rattle.std.specs.Result.{is_err}
-use Rattle.std.specs.Ordering.{nat_cmp}
-use Rattle.std.specs.BTreeMap.{insert_entry}
-use Rattle.ttrpc_client.proofs.Words.{Waiting}
+use Rattle.ttrpc_client.proofs.Words.{rules, arith, ◌≡◌, false, Result, Ok, Err, OnOk, deque_capacity, is_err, nat_cmp, insert_entry, Waiting}
 use Rattle.ttrpc_client.proofs.Keeping.{admit_keeps, others_stay}
 use Rattle.ttrpc_client.proofs.state.ClientState.admit.Goals as goal
 

@@ -1,5 +1,4 @@
-use Rattle.std.proofs.Common.{length}
-use Rattle.ttrpc_client.proofs.Words.{due_ids}
+use Rattle.ttrpc_client.proofs.Words.{length, due_ids}
 use Rattle.ttrpc_client.proofs.Ticking.{SoFar}
 use Rattle.ttrpc_client.proofs.state.ClientState.expire.Given as goal
 

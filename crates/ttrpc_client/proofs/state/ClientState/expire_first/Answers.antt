@@ -1,5 +1,4 @@
-use Rattle.std.proofs.Common.{arith, ◌≡◌, ◌≤◌, ◌∙◌, [], refl, sym, subst, Some, true, false}
-use Rattle.ttrpc_client.proofs.Words.{Waiting, Client, call_in, due_ids}
+use Rattle.ttrpc_client.proofs.Words.{arith, ◌≡◌, ◌≤◌, ◌∙◌, [], refl, sym, subst, Some, true, false, Waiting, Client, call_in, due_ids}
 use Rattle.ttrpc_client.proofs.Expiring.{expires, found, none_due_before}
 use Rattle.ttrpc_client.proofs.state.ClientState.expire_first.Goals as goal
 

@@ -1,5 +1,4 @@
-use Rattle.std.proofs.Common.{arith, ◌≡◌, ◌∙◌, ap, true}
-use Rattle.ttrpc_client.proofs.Words.{call_in, deadline_in}
+use Rattle.ttrpc_client.proofs.Words.{arith, ◌≡◌, ◌∙◌, ap, true, call_in, deadline_in}
 use Rattle.ttrpc_client.proofs.Keeping.{forget_keeps, kept_told, others_stay}
 use Rattle.ttrpc_client.proofs.state.ClientState.forget.Goals as goal
 

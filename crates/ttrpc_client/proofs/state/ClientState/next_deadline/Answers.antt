@@ -1,6 +1,4 @@
-use Rattle.std.proofs.Common.{arith, ◌≡◌, ◌<◌, ◌≤◌, ◌∙◌, ℕ, [], sym, subst, Result, Ok, Err, IfSome, IfNone, true, false}
-use Rattle.std.specs.Result.{OkIff, result_ok}
-use Rattle.ttrpc_client.proofs.Words.{Client, IsDeadline, due_ids}
+use Rattle.ttrpc_client.proofs.Words.{arith, ◌≡◌, ◌<◌, ◌≤◌, ◌∙◌, ℕ, [], sym, subst, Result, Ok, Err, IfSome, IfNone, true, false, OkIff, result_ok, Client, IsDeadline, due_ids}
 use Rattle.ttrpc_client.proofs.Expiring.{is_deadline, none_due_before}
 use Rattle.ttrpc_client.proofs.state.ClientState.next_deadline.Goals as goal
 

@@ -1,5 +1,4 @@
-use Rattle.std.proofs.Common.{◌≡◌, ◌≤◌, ◌+◌, ◌∙◌, ap, true, deque_len, deque_capacity}
-use Rattle.ttrpc_client.proofs.Words.{call_in, waits, deadline_in}
+use Rattle.ttrpc_client.proofs.Words.{◌≡◌, ◌≤◌, ◌+◌, ◌∙◌, ap, true, deque_len, deque_capacity, call_in, waits, deadline_in}
 use Rattle.ttrpc_client.proofs.Keeping.{settle_keeps, settle_room, others_stay}
 use Rattle.ttrpc_client.proofs.state.ClientState.settle.Goals as goal
 

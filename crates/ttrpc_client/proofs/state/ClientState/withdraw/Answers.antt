@@ -1,5 +1,4 @@
-use Rattle.std.proofs.Common.{◌-◌, ◌∙◌, ap}
-use Rattle.ttrpc_client.proofs.Words.{Client}
+use Rattle.ttrpc_client.proofs.Words.{◌-◌, ◌∙◌, ap, Client}
 use Rattle.ttrpc_client.proofs.Keeping.{withdrawn}
 use Rattle.ttrpc_client.proofs.state.ClientState.withdraw.Goals as goal
 

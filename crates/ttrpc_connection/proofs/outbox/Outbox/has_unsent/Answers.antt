@@ -1,4 +1,4 @@
-use Rattle.std.proofs.Common.{rules}
+use Rattle.ttrpc_connection.proofs.Words.{rules}
 use Rattle.ttrpc_connection.proofs.Lending.{any_left}
 use Rattle.ttrpc_connection.proofs.outbox.Outbox.has_unsent.Goals as goal
 

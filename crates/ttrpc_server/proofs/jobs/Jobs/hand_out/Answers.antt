@@ -1,10 +1,4 @@
-use Rattle.std.proofs.Common.{rules, sym, ◌∙◌, ◌≡◌, ◌<◌, refl, ◌+◌, None, Some, false}
-use Rattle.std.proofs.lemmas.Option.{same_Some}
-use Rattle.std.specs.BTreeMap.{is_at}
-use Rattle.std.specs.Map.{lookup, values_of}
-use Rattle.std.specs.Ordering.{nat_cmp}
-use Rattle.ttrpc_server.specs.Inside.{AreJobs}
-use Rattle.ttrpc_server.specs.Jobs.{HandsOne}
+use Rattle.ttrpc_server.proofs.Words.{rules, sym, ◌∙◌, ◌≡◌, ◌<◌, refl, ◌+◌, None, Some, false, same_Some, is_at, lookup, values_of, nat_cmp, AreJobs, HandsOne}
 use Rattle.ttrpc_server.proofs.Keyed.{first_waits, given_out, none_waits, not_past, waits_not}
 use Rattle.ttrpc_server.proofs.jobs.Jobs.hand_out.Goals as goal
 

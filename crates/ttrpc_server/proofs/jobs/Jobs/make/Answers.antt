@@ -1,8 +1,4 @@
-use Rattle.std.proofs.Common.{rules, ◌≡◌, ◌+◌, ap, refl, List}
-use Rattle.std.specs.BTreeMap.{insert_entry}
-use Rattle.std.specs.Ordering.{nat_cmp}
-use Rattle.ttrpc_server.specs.declared.job.ActiveJob.{ActiveJob}
-use Rattle.ttrpc_server.specs.Jobs.{JobList, new_job}
+use Rattle.ttrpc_server.proofs.Words.{rules, ◌≡◌, ◌+◌, ap, refl, List, insert_entry, nat_cmp, ActiveJob, JobList, new_job}
 use Rattle.ttrpc_server.proofs.Keyed.{made}
 use Rattle.ttrpc_server.proofs.jobs.Jobs.make.Goals as goal
 

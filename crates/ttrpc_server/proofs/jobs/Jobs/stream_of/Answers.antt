@@ -1,4 +1,4 @@
-use Rattle.std.proofs.Common.{rules, refl, Some, None}
+use Rattle.ttrpc_server.proofs.Words.{rules, refl, Some, None}
 use Rattle.ttrpc_server.proofs.Keyed.{taken_found, unknown_here}
 use Rattle.ttrpc_server.proofs.jobs.Jobs.stream_of.Goals as goal
 

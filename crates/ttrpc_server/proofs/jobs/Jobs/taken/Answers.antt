@@ -1,6 +1,5 @@
-use Rattle.std.proofs.Common.{arith}
+use Rattle.ttrpc_server.proofs.Words.{arith, values_of}
 use Rattle.std.proofs.lemmas.Map.Entries.{length-values_of}
-use Rattle.std.specs.Map.{values_of}
 use Rattle.ttrpc_server.proofs.Keyed.{filter_fewer}
 use Rattle.ttrpc_server.proofs.jobs.Jobs.taken.Goals as goal
 

@@ -1,6 +1,4 @@
-use Rattle.std.proofs.Common.{rules, ◌≡◌, Some, None, string_bytes, true}
-use Rattle.std.specs.BTreeMap.{get_by_text}
-use Rattle.std.proofs.lemmas.Map.Text.{btree_set_updates_text}
+use Rattle.ttrpc_server.proofs.Words.{rules, ◌≡◌, Some, None, string_bytes, true, get_by_text, btree_set_updates_text}
 use Rattle.ttrpc_server.proofs.Names.{as_before, one_more}
 use Rattle.ttrpc_server.proofs.registry.Names.add.Goals as goal
 

@@ -1,9 +1,5 @@
-use Rattle.std.proofs.Common.{rules, ◌≡◌, refl}
-use Rattle.std.proofs.lemmas.Result.{on_ok_weaker}
+use Rattle.ttrpc_server.proofs.Words.{rules, ◌≡◌, refl, on_ok_weaker, Refused, status_response, Tells, row_of, unopened_text}
 use Rattle.ttrpc_values.specs.declared.code.Code.TheVariants.{UNKNOWN}
-use Rattle.ttrpc_connection.specs.declared.arrived.Opening.TheVariants.{Refused}
-use Rattle.ttrpc_server.specs.Responses.{status_response}
-use Rattle.ttrpc_server.specs.Table.{Tells, row_of, unopened_text}
 use Rattle.ttrpc_server.proofs.Sending.{tells}
 use Rattle.ttrpc_server.proofs.state.ServerStateReacts.react.Goals as goal
 

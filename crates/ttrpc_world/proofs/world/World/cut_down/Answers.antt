@@ -1,4 +1,4 @@
-use Rattle.std.proofs.Common.{rules}
+use Rattle.ttrpc_world.proofs.Words.{rules}
 use Rattle.ttrpc_world.proofs.world.World.cut_down.Goals as goal
 
 pub returns : goal.returns

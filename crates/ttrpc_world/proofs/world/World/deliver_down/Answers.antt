@@ -1,4 +1,4 @@
-use Rattle.std.proofs.Common.{rules, ◌≡◌, take, min, length, inl, inr}
+use Rattle.ttrpc_world.proofs.Words.{rules, ◌≡◌, take, min, length, inl, inr}
 use Rattle.ttrpc_world.proofs.Replies.{breaks_or_failed}
 use Rattle.ttrpc_world.proofs.world.World.deliver_down.Goals as goal
 

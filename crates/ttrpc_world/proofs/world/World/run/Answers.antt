@@ -1,5 +1,4 @@
-use Rattle.std.proofs.Common.{ℕ}
-use Rattle.ttrpc_world.specs.Story.{IsExactlyOnce, IsStreamOf, acts}
+use Rattle.ttrpc_world.proofs.Words.{ℕ, IsExactlyOnce, IsStreamOf, acts}
 use Rattle.ttrpc_world.proofs.Headline.{headline}
 use Rattle.ttrpc_world.proofs.Streams.{one_to_one, some_streams}
 use Rattle.ttrpc_world.proofs.world.World.run.Goals as goal

@@ -1,5 +1,4 @@
-use Rattle.std.proofs.Common.{◌≤◌, ◌++◌, ◌∷◌, [], length, ap, ◌∙◌, arith}
-use Rattle.std.specs.Vec.{vec_capacity}
+use Rattle.ttrpc_world.proofs.Words.{◌≤◌, ◌++◌, ◌∷◌, [], length, ap, ◌∙◌, arith, vec_capacity}
 use Rattle.ttrpc_world.proofs.Replies.{events_more, run_more}
 use Rattle.ttrpc_world.proofs.world.World.run_all.Goals as goal
 

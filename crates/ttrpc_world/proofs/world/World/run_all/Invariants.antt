@@ -1,8 +1,4 @@
-use Rattle.std.proofs.Common.{◌≡◌, ◌≤◌, length, map}
-use Rattle.std.specs.Vec.{vec_capacity}
-use Rattle.ttrpc_world.specs.Net.{halves}
-use Rattle.ttrpc_world.specs.declared.events.Entry.{Entry}
-use Rattle.ttrpc_world.specs.Steps.{Runs}
+use Rattle.ttrpc_world.proofs.Words.{◌≡◌, ◌≤◌, length, map, vec_capacity, halves, Entry, Runs}
 use Rattle.ttrpc_world.proofs.world.World.run_all.Given as goal
 
 -- What happened so far is a run, and there is room for the rest.

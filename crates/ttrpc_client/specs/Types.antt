@@ -1,0 +1,14 @@
+-- The types of the code that these definitions speak of, in one list.
+-- Source: this project's.
+pub use Rattle.ttrpc_proto.specs.declared.request.Request.{Request}
+pub use Rattle.ttrpc_proto.specs.declared.response.Response.{Response}
+pub use Rattle.ttrpc_error.specs.declared.error.Error.TheVariants.{NoMemory, Others, RpcStatus}
+pub use Rattle.ttrpc_connection.specs.Types.{Error, OutboundTransform, Queued}
+pub use Rattle.ttrpc_connection.specs.declared.arrived.Arrived.{Arrived}
+pub use Rattle.ttrpc_connection.specs.declared.connection.Connection.{Connection}
+pub use Rattle.ttrpc_connection.specs.declared.failure.Failure.{Failure}
+pub use Rattle.ttrpc_connection.specs.declared.failure.Failure.TheVariants.{CancelledDuringWrite, DeadlineDuringWrite}
+pub use Rattle.ttrpc_client.specs.declared.call.Call.{Call}
+pub use Rattle.ttrpc_client.specs.declared.call.Call.TheVariants.{Ended, Expired, Waiting}
+pub use Rattle.ttrpc_client.specs.declared.kind.ClientKind.{ClientKind}
+pub use Rattle.ttrpc_client.specs.declared.kind.ClientKind.TheVariants.{Async, Sync}

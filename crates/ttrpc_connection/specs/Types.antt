@@ -1,0 +1,16 @@
+-- The types of the code that these definitions speak of, in one list.
+-- Source: this project's.
+pub use Rattle.ttrpc_header.specs.declared.header.MessageHeader.{MessageHeader}
+pub use Rattle.ttrpc_header.specs.declared.header.TheConstants.{MESSAGE_LENGTH_MAX, MESSAGE_TYPE_REQUEST}
+pub use Rattle.ttrpc_error.specs.declared.error.Error.{Error}
+pub use Rattle.ttrpc_frame.specs.declared.frame.Incoming.{Incoming}
+pub use Rattle.ttrpc_frame.specs.declared.outgoing.Queued.{Queued}
+pub use Rattle.ttrpc_secure.specs.declared.transform.InboundTransform.{Ghosts as InboundTransform}
+pub use Rattle.ttrpc_secure.specs.declared.transform.OutboundTransform.{Ghosts as OutboundTransform}
+pub use Rattle.ttrpc_connection.specs.declared.arrived.Arrived.{Arrived}
+pub use Rattle.ttrpc_connection.specs.declared.arrived.Opening.{Opening}
+pub use Rattle.ttrpc_connection.specs.declared.arrived.Opening.TheVariants.{Opened, Refused, TooLong}
+pub use Rattle.ttrpc_connection.specs.declared.connection.Connection.{Connection}
+pub use Rattle.ttrpc_connection.specs.declared.failure.Failure.{Failure}
+pub use Rattle.ttrpc_connection.specs.declared.failure.Failure.TheVariants.{CancelledDuringWrite, DeadlineDuringWrite, Disconnected, DisconnectedInside, HandlerError, JobIdsUsedUp, NoMemory, NoMemory as MemoryRefused, Told}
+pub use Rattle.ttrpc_connection.specs.declared.outbox.Outbox.{Outbox}

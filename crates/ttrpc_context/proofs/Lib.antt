@@ -1,0 +1,3 @@
+mod Maps
+mod Taken
+mod Distinct

@@ -1,0 +1,77 @@
+//! A connection over a socket.
+use crate::outlet::Outlet;
+use crate::queued::Queued;
+use std::alloc::{AllocError, Global};
+use std::sync::{Arc, Mutex, Wait};
+use ttrpc_ports::{Connected, WriteEnd};
+use ttrpc_sync::{Gather, ReadPort, read_loop, write_loop};
+use ttrpc_transport::PipeConnection;
+
+/// A connection over a socket, with what its threads share. Each frame goes out by one write, where memory for that is
+/// found. No thread reads or writes while it has the lock of the core.
+#[derive(Drop)]
+pub struct Link<S: Connected> {
+    shared: Arc<S, Global>,
+    stream: Arc<PipeConnection, Global>,
+    // The bytes that are about to be written. Only who has the turn to write locks it.
+    gather: Mutex<Gather<Outlet>>,
+}
+
+impl<S: Connected> Link<S> {
+    /// The link of this connection, whose threads share this.
+    pub fn new(
+        alloc: Global,
+        shared: S,
+        stream: Arc<PipeConnection, Global>,
+    ) -> Result<Link<S>, AllocError> {
+        let outlet = Outlet::new(Arc::try_clone(&stream)?);
+        Ok(Link {
+            shared: Arc::new(alloc, shared)?,
+            stream,
+            gather: Mutex::new(Gather::new(alloc, outlet)),
+        })
+    }
+
+    /// What the threads of the connection share.
+    pub fn shared(&self) -> &Arc<S, Global> {
+        &self.shared
+    }
+
+    /// Ends the connection for both sides, and wakes each thread that reads it or writes to it.
+    pub fn close(&self) {
+        let _ = self.stream.close();
+    }
+
+    /// Reads the connection to its end, and hands what it reads to the port. Then the connection is closed.
+    pub fn read<X: Wait, P: ReadPort>(&self, rt: &X, port: &mut P) {
+        let mut stream = &*self.stream;
+        read_loop(rt, &mut stream, port);
+        self.close();
+    }
+
+    /// Writes what is queued, each time when there is something and nobody else writes, until the connection has failed.
+    pub fn write<X: Wait + Clone + Drop>(&self, rt: &X, alloc: Global) -> Result<(), AllocError> {
+        let mut gather = Gather::new(alloc, Outlet::new(Arc::try_clone(&self.stream)?));
+        let mut port = WriteEnd::staying(rt.clone()?, Arc::try_clone(&self.shared)?);
+        write_loop(rt, &mut gather, &mut port);
+        Ok(())
+    }
+
+    /// Sees to it that what was queued is written, once the lock is let go.
+    pub fn go_on<X: Wait, Y: Wait + Drop>(&self, rt: &X, port: WriteEnd<Y, S>, queued: Queued) {
+        match queued {
+            Queued::Write => {
+                let mut port = port;
+                let mut gather = self.gather.lock(rt);
+                write_loop(rt, &mut *gather, &mut port);
+            }
+            Queued::Wake => self.shared.to_write().notify_one(),
+            Queued::Leave => {}
+        }
+    }
+
+    /// The port of a thread that is about to queue a frame, and may have to write it.
+    pub fn port<X: Wait + Clone + Drop>(&self, rt: &X) -> Result<WriteEnd<X, S>, AllocError> {
+        Ok(WriteEnd::leaving(rt.clone()?, Arc::try_clone(&self.shared)?))
+    }
+}

@@ -1,0 +1,35 @@
+//! The figures of a measurement.
+ghost use Rattle.std.specs.Prelude.{◌≡◌, ◌+◌, ◌-◌, ◌*◌, ◌/◌, ◌<◌, ◌≤◌, length, slice_index, IfSome, IfNone};
+
+use std::fmt;
+
+/// What was measured. Times are in nanoseconds.
+#[derive(Clone, Copy, Debug)]
+pub struct Figures {
+    pub calls: usize,
+    pub elapsed: u64,
+    pub median: u64,
+    pub ninety_ninth: u64,
+}
+
+impl fmt::Display for Figures {
+    fn fmt<W: fmt::Write>(&self, f: &mut fmt::Formatter<W>) -> fmt::Result {
+        let nanoseconds = (self.calls as u128).saturating_mul(1_000_000_000);
+        let a_second = nanoseconds / u128::from(self.elapsed.max(1));
+        let (median, ninety_ninth) = (self.median / 1000, self.ninety_ninth / 1000);
+        write!(
+            f,
+            "{a_second} calls/s, median {median} us, 99th percentile {ninety_ninth} us"
+        )
+    }
+}
+
+/// The least of the times, in rising order, below or at which are at least so many percent of them; `None` of no times.
+pub fn percentile(times: &[u64], percent: usize) -> Option<u64>
+    ensures some { IfSome result (λ time. time ≡ slice_index times.now ((length times.now * percent + 99) / 100 - 1)) }
+    ensures none { 0 < percent → percent ≤ 100 → IfNone result (length times.now ≡ 0) }
+{
+    let rank = (times.len() as u128 * percent as u128).div_ceil(100);
+    let rank = usize::try_from(rank).ok()?;
+    times.get(rank.checked_sub(1)?).copied()
+}

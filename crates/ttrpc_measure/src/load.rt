@@ -1,0 +1,63 @@
+//! What is measured, as the words say it.
+ghost use Rattle.std.specs.Prelude.{◌≡◌, ◌+◌, ◌/◌, ◌%◌, ◌<◌, nat_lt, if◌then◌else◌, IfSome};
+
+/// Whom the calls are made to.
+#[derive(Clone, Copy, Debug)]
+pub enum Target<'a> {
+    /// A bare echo of this process, with a connection for each caller: the limit of what a server can reach.
+    Raw,
+    /// The `Echo` of the server at this address, by one client that all callers share.
+    Server(&'a str),
+}
+
+/// How many calls are made, by how many callers, with how many bytes.
+#[derive(Clone, Copy, Debug)]
+pub struct Load {
+    pub calls: usize,
+    pub callers: usize,
+    pub bytes: usize,
+}
+
+/// The load and its target that the words name: an address or `raw`, calls, callers and bytes. There are calls and
+/// callers, and the calls' payload has at least one byte.
+pub fn load_of(words: &[String]) -> Option<(Target<'_>, Load)>
+    ensures { IfSome result (λ found. (0 < found.1.calls) × (0 < found.1.callers) × (0 < found.1.bytes)) }
+{
+    let [target, calls, callers, bytes] = words else {
+        return None;
+    };
+    let load = Load {
+        calls: count_of(calls)?,
+        callers: count_of(callers)?,
+        bytes: count_of(bytes)?,
+    };
+    if target.as_str() == "raw" {
+        return Some((Target::Raw, load));
+    }
+    Some((Target::Server(target.as_str()), load))
+}
+
+fn count_of(word: &String) -> Option<usize>
+    ensures { IfSome result (λ count. 0 < count) }
+{
+    match word.as_str().parse::<usize>() {
+        Ok(0) | Err(_) => None,
+        Ok(count) => Some(count),
+    }
+}
+
+/// How many of the calls the caller of this number makes, from 0: all make as many, and the first ones one more where calls
+/// are left over.
+pub fn share(load: Load, caller: usize) -> usize
+    ensures { 0 < load.callers → result ≡ load.calls / load.callers + (if nat_lt caller (load.calls % load.callers) then 1 else 0) }
+{
+    if load.callers == 0 {
+        return 0;
+    }
+    let all = load.calls / load.callers;
+    if caller < load.calls % load.callers {
+        all + 1
+    } else {
+        all
+    }
+}

@@ -1,0 +1,81 @@
+-- What is told of frames that were read and of frames that were written, as bytes and as values.
+-- Source: PROTOCOL.md of ttrpc, "Message Frame"; what is told of cut input is this project's.
+use Rattle.std.specs.Prelude.{◌≡◌, ◌≢◌, ◌==◌, ◌≤◌, ◌^◌, ℕ, List, [], ◌++◌, codes, length, if◌then◌else◌, Option, None, Some, Result, Ok, Err, MatchResult, ⊤}
+use Rattle.std.specs.Fmt.{decimal}
+use Rattle.std.specs.Global.{Vec}
+use Rattle.std.specs.IoError.{error_kind}
+use Rattle.std.specs.declared.io.ErrorKind.TheVariants.{WriteZero}
+use Rattle.ttrpc_values.specs.declared.code.Code.TheVariants.{INVALID_ARGUMENT}
+use Rattle.ttrpc_header.specs.declared.header.MessageHeader.{MessageHeader}
+use Rattle.ttrpc_error.specs.declared.error.Error.{Error}
+use Rattle.ttrpc_error.specs.declared.error.Error.TheVariants.{Socket, RpcStatus, NoMemory}
+use Rattle.ttrpc_error.specs.ErrorText.{IsOthers, IsSocket, status_of}
+use Rattle.ttrpc_frame.specs.declared.failure.StreamFailure.{StreamFailure}
+use Rattle.ttrpc_frame.specs.declared.failure.StreamFailure.TheVariants.{Io, NoMemory as Refused}
+use Rattle.ttrpc_frame.specs.declared.frame.Incoming.TheVariants.{Frame, Oversize}
+use Rattle.ttrpc_frame.specs.declared.reading.Found.{Found}
+use Rattle.ttrpc_frame.specs.declared.reading.Found.TheVariants.{Whole, HeaderCut, BodyCut, OversizeCut}
+use Rattle.ttrpc_frame.specs.Streaming.{TellsFailure, TellsOversize}
+use Rattle.ttrpc_message.specs.declared.message.Message.{Message}
+
+-- a failure that is told by such an error
+abbrev pub Fails : {A : Type 0} → Result A Error → (Error → Type 0) → Type 0
+Fails result P = (e : Error) × (result ≡ Err e) × P e
+
+-- this error, or that memory for its text was refused
+abbrev pub IsErrorOf : Error → Error → Type 0
+IsErrorOf error e = e ≢ NoMemory → e ≡ error
+
+-- ---- As bytes
+
+-- what is told of input that was cut: with no byte the other side is gone
+abbrev pub cut_error : ℕ → List ℕ → Error
+cut_error n text = if n == 0 then Socket (codes "socket disconnected") else RpcStatus (status_of INVALID_ARGUMENT text)
+
+abbrev pub header_cut_text : ℕ → List ℕ
+header_cut_text n = codes "Message header length " ++ (decimal n ++ codes " is too small")
+
+abbrev pub body_cut_text : ℕ → ℕ → List ℕ
+body_cut_text n stated = codes "Message length " ++ (decimal n ++ (codes " is not " ++ decimal stated))
+
+-- the header of a message that is too long, with the error that tells so
+abbrev pub IsTooLong : Result (MessageHeader × Result (Vec ℕ) Error) Error → MessageHeader → Type 0
+IsTooLong result h = (e : Error) × (result ≡ Ok (h, Err e)) × TellsOversize h e
+
+-- what is told as a header and its bytes; one that is too long is told so, cut or not
+abbrev pub ArePartsOf : Result (MessageHeader × Result (Vec ℕ) Error) Error → Result Found StreamFailure → Type 0
+ArePartsOf result (Ok (Whole (Frame m))) = (bytes : Vec ℕ) × (result ≡ Ok (m.header, Ok bytes)) × (bytes.items ≡ m.payload)
+ArePartsOf result (Ok (Whole (Oversize h))) = IsTooLong result h
+ArePartsOf result (Ok (OversizeCut h)) = IsTooLong result h
+ArePartsOf result (Ok (HeaderCut n)) = Fails result (IsErrorOf (cut_error n (header_cut_text n)))
+ArePartsOf result (Ok (BodyCut h n)) = Fails result (IsErrorOf (cut_error n (body_cut_text n h.length)))
+ArePartsOf result (Err failure) = Fails result (TellsFailure failure)
+
+-- the text that tells of a writer that took nothing
+abbrev pub TellsZero : StreamFailure → Error → Type 0
+TellsZero (Io failure) e = error_kind failure ≡ WriteZero → IsErrorOf (Socket (codes "failed to write ttrpc frame: write zero")) e
+TellsZero Refused e = ⊤
+
+-- what is told of how a message went out
+abbrev pub IsSentMessage : Result (Unit {0}) Error → Result (Unit {0}) StreamFailure → Type 0
+IsSentMessage result (Ok done) = result ≡ Ok tt
+IsSentMessage result (Err failure) = Fails result (λ e. TellsFailure failure e × TellsZero failure e)
+
+-- ---- As values
+
+-- what the bytes mean, with the header; the error is `Others` that begins so, where they mean nothing, or tells that memory was refused
+abbrev pub Decodes : {C : Type 0} → (List ℕ → Option C) → Result (Message C) Error → MessageHeader → List ℕ → Type 0
+Decodes meaning result h bytes = MatchResult result
+    (λ m. (m.header ≡ h) × (meaning bytes ≡ Some m.payload))
+    (λ e. IsOthers (codes "Decode payload failed.") None e × (e ≢ NoMemory → meaning bytes ≡ None))
+
+-- what is told as a value; one that is too long is what no bytes mean
+abbrev pub IsValueOf : {C : Type 0} → (List ℕ → Option C) → Result (Message C) Error → Result Found StreamFailure → Type 0
+IsValueOf meaning result (Ok (Whole (Frame m))) = Decodes meaning result m.header m.payload
+IsValueOf meaning result (Ok (Whole (Oversize h))) = Decodes meaning result h []
+IsValueOf meaning result (Ok _) = Fails result (IsSocket None)
+IsValueOf meaning result (Err failure) = Fails result (TellsFailure failure)
+
+-- the error of a payload that has no written form: `Others` that begins so, where it is too long, or that memory was refused
+abbrev pub IsUnwritten : List ℕ → Error → Type 0
+IsUnwritten written e = IsOthers (codes "Encode payload failed.") None e × (e ≢ NoMemory → 2 ^ 32 ≤ length written)

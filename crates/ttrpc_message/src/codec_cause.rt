@@ -1,0 +1,26 @@
+//! The error that is made of a codec's.
+ghost use Rattle.std.specs.Prelude.{◌≡◌, ◌≢◌, None};
+ghost use Rattle.ttrpc_error.specs.ErrorText.{IsOthers};
+
+use std::alloc::Global;
+use std::fmt::Display;
+use ttrpc_error::Error;
+use ttrpc_error::causes::others_of;
+use ttrpc_values::codec_error::CodecFailure;
+
+/// What a codec's error tells: `NoMemory` where memory was refused, also for the text, and else `Others` of a prefix and
+/// what the error prints.
+pub fn codec_error_of<E: CodecFailure + Display + Drop>(
+    alloc: Global,
+    prefix: &str,
+    error: E,
+) -> Error
+    ensures text { IsOthers prefix.now (E.output error) result }
+    ensures begins { IsOthers prefix.now None result }
+    ensures memory { result ≢ Error.NoMemory → ¬ (E.is_no_memory error) }
+{
+    if error.is_no_memory() {
+        return Error::NoMemory;
+    }
+    others_of(alloc, prefix, &error)
+}

@@ -1,0 +1,160 @@
+//! Messages as values.
+ghost use Rattle.std.specs.Prelude.{◌≡◌, ◌≢◌, ◌<◌, ◌≤◌, ◌++◌, ◌↔◌, ◌⊎◌, ◌^◌, ◌-◌, [], false, length, min, None, Some, IfErr, IfOk, IsOk, MatchResult, OnErr, OnOk};
+ghost use Rattle.std.specs.Io.KnownBytes.{Appends};
+ghost use Rattle.ttrpc_header.specs.Header.{header_bytes};
+ghost use Rattle.ttrpc_streams.specs.Streams.{AppendsFront, Flushes, Makes, Then};
+ghost use Rattle.ttrpc_header.specs.Oversize.{oversize_error};
+ghost use Rattle.ttrpc_frame.specs.Streaming.{IsSent, Reads, Sends, WritesFrame};
+ghost use Rattle.ttrpc_message.specs.Messages.{Decodes, Fails, IsErrorOf, IsUnwritten, IsValueOf};
+
+use crate::codec_cause::codec_error_of;
+use std::alloc::{AllocError, Global};
+use std::fmt::Display;
+use ttrpc_codec::Codec;
+use ttrpc_error::{Error, Result};
+use ttrpc_frame::failure::StreamFailure;
+use ttrpc_frame::reading::{Found, cut_error, take_frame};
+use ttrpc_frame::writing::write_flushed;
+use ttrpc_frame::{GenMessage, Incoming};
+use ttrpc_header::oversize::check_oversize;
+use ttrpc_header::{MESSAGE_LENGTH_MAX, MESSAGE_TYPE_REQUEST, MessageHeader};
+use ttrpc_streams::{Sink, Source};
+use ttrpc_values::{Blob, TryClone};
+
+/// A header, and the value of its message.
+#[derive(Debug, Default, Drop, PartialEq, Eq)]
+pub struct Message<C> {
+    pub header: MessageHeader,
+    pub payload: C,
+}
+
+impl<C: TryClone> TryClone for Message<C> {
+    fn try_clone(&self) -> std::result::Result<Message<C>, AllocError> {
+        Ok(Message {
+            header: self.header,
+            payload: self.payload.try_clone()?,
+        })
+    }
+}
+
+impl<C: Codec> Message<C>
+where
+    C::E: Display + Drop,
+{
+    /// A request under this id, with the payload's length in its header. Refuses a payload that is longer than a message
+    /// may be.
+    pub fn new_request(alloc: Global, stream_id: u32, payload: C) -> Result<Message<C>>
+        ensures ok { IsOk result ↔ (length (C.written payload) ≤ MESSAGE_LENGTH_MAX) }
+        ensures header { IfOk result (λ m. m.header ≡ record {
+          length = length (C.written payload);
+          stream_id = stream_id;
+          type_ = MESSAGE_TYPE_REQUEST;
+          flags = 0;
+        }) }
+        ensures payload { IfOk result (λ m. m.payload ≡ payload) }
+        ensures err { IfErr result (IsErrorOf (oversize_error false (min (length (C.written payload)) (2 ^ 32 - 1)))) }
+    {
+        let size = payload.size();
+        match check_oversize(alloc, size as usize, false) {
+            Ok(()) => Ok(Message {
+                header: MessageHeader::new_request(stream_id, size),
+                payload,
+            }),
+            Err(error) => Err(error),
+        }
+    }
+
+    /// Reads the message of the next frame, and nothing that follows it. One that is too long is thrown away, and what
+    /// its header stands with is what no bytes mean.
+    pub fn read_from<R: Source>(alloc: Global, reader: &mut R) -> Result<Message<C>>
+        ensures { Reads (R.remaining reader.old) (R.remaining reader.new) (R.last reader.new) (IsValueOf C.meaning result) }
+    {
+        value_of(alloc, take_frame(alloc, reader))
+    }
+
+    /// Writes the message as a frame under its header as it stands, and flushes once.
+    pub fn write_to<W: Sink>(&self, alloc: Global, writer: &mut W) -> Result<()>
+        ensures ok { OnOk result (Appends (W.contents writer.old) (W.contents writer.new)
+            (header_bytes self.now.header ++ C.written self.now.payload)) }
+        ensures err { OnErr result (AppendsFront (W.contents writer.old) (W.contents writer.new)
+            (header_bytes self.now.header ++ C.written self.now.payload)) }
+        ensures calls { (Makes (W.calls writer.old) (W.calls writer.new) (λ calls. calls ≡ []) × Fails result (IsUnwritten (C.written self.now.payload)))
+            ⊎ Sends (W.calls writer.old) (W.calls writer.new) (Then (WritesFrame self.now.header (C.written self.now.payload)) Flushes) (IsSent result) }
+    {
+        let content = match encoded(alloc, &self.payload) {
+            Ok(content) => content,
+            Err(error) => return Err(error),
+        };
+        let mut prefix = Vec::new(alloc);
+        match write_flushed(writer, &self.header, content.as_slice(), &mut prefix) {
+            Ok(()) => Ok(()),
+            Err(failure) => Err(failure.into_error(alloc)),
+        }
+    }
+
+    /// The message whose payload these bytes mean.
+    pub fn from_gen(alloc: Global, message: GenMessage) -> Result<Message<C>>
+        ensures { Decodes C.meaning result message.header message.payload }
+    {
+        decoded(alloc, message.header, message.payload.as_slice())
+    }
+
+    /// The message with its payload's written form.
+    pub fn into_gen(self, alloc: Global) -> Result<GenMessage>
+        ensures ok { IfOk result (λ m. (m.header ≡ self.header) × (m.payload ≡ C.written self.payload)) }
+        ensures again { IfOk result (λ m. C.meaning m.payload ≡ Some self.payload) }
+        ensures err { IfErr result (IsUnwritten (C.written self.payload)) }
+    {
+        let Message { header, payload } = self;
+        match encoded(alloc, &payload) {
+            Ok(bytes) => Ok(GenMessage {
+                header,
+                payload: Blob::from_vec(bytes),
+            }),
+            Err(error) => Err(error),
+        }
+    }
+}
+
+// What is told of what was found, as a value.
+fn value_of<C: Codec>(
+    alloc: Global,
+    took: std::result::Result<Found, StreamFailure>,
+) -> Result<Message<C>>
+where
+    C::E: Display + Drop,
+    ensures { IsValueOf C.meaning result took }
+{
+    match took {
+        Ok(Found::Whole(Incoming::Frame(frame))) => {
+            decoded(alloc, frame.header, frame.payload.as_slice())
+        }
+        Ok(Found::Whole(Incoming::Oversize(header))) => decoded(alloc, header, &[]),
+        Ok(_) => Err(cut_error(alloc)),
+        Err(failure) => Err(failure.into_error(alloc)),
+    }
+}
+
+fn decoded<C: Codec>(alloc: Global, header: MessageHeader, bytes: &[u8]) -> Result<Message<C>>
+where
+    C::E: Display + Drop,
+    ensures { Decodes C.meaning result header bytes.now }
+{
+    match C::decode(alloc, bytes) {
+        Ok(payload) => Ok(Message { header, payload }),
+        Err(error) => Err(codec_error_of(alloc, "Decode payload failed.", error)),
+    }
+}
+
+fn encoded<C: Codec>(alloc: Global, payload: &C) -> Result<Vec<u8>>
+where
+    C::E: Display + Drop,
+    ensures ok { IfOk result (λ v. v.items ≡ C.written payload.now) }
+    ensures again { IfOk result (λ v. C.meaning v.items ≡ Some payload.now) }
+    ensures err { IfErr result (IsUnwritten (C.written payload.now)) }
+{
+    match payload.encode(alloc) {
+        Ok(bytes) => Ok(bytes),
+        Err(error) => Err(codec_error_of(alloc, "Encode payload failed.", error)),
+    }
+}

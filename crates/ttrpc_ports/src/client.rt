@@ -1,0 +1,184 @@
+//! What the threads of a client's connection share.
+ghost use Rattle.std.specs.Prelude.{◌≡◌, ◌≤◌, length, IfSome};
+ghost use Rattle.ttrpc_client.specs.Client.{IsClient};
+
+use crate::client_on::{broke_on, ended_on, lend_on, take_on, wrote_on};
+use crate::connected::{Connected, Held};
+use crate::turn::{Next, Turn};
+use crate::write_end::WriteEnd;
+use std::alloc::Global;
+use std::io::ErrorKind;
+use std::sync::{Condvar, Mutex};
+use ttrpc_client::{CallId, ClientCore};
+use ttrpc_secure::{InboundTransform, OutboundTransform};
+
+/// How many places there are at which callers wait. A caller waits at that of its id.
+const PLACES: usize = 16;
+
+/// Those of the places at which a call has ended, a bit for each.
+pub type Ended = u32;
+
+/// The port of one of a client's writers.
+pub type ClientWrite<X, O, I> = WriteEnd<X, ClientShared<O, I>>;
+
+/// What stands under the lock of a client's connection. The ids of which its core keeps something are odd, and below the
+/// next one.
+#[derive(Drop)]
+pub struct ClientHeld<O, I> {
+    pub core: ClientCore<O, I>,
+    pub turn: Turn,
+    ghost pending: { IsClient core.state.next core.state.calls },
+}
+
+impl<O: OutboundTransform + Drop, I: InboundTransform + Drop> ClientHeld<O, I> {
+    /// This core, and it is nobody's turn to write.
+    pub fn new(core: ClientCore<O, I>) -> Self
+        ensures { result.core ≡ core }
+    {
+        core.known();
+        ClientHeld {
+            core,
+            turn: Turn::new(),
+        }
+    }
+
+    /// Takes a piece, and says at which places calls have ended. None: the connection has failed.
+    pub(crate) fn take(&mut self, alloc: Global, piece: &[u8]) -> Option<(usize, Ended)>
+        ensures { IfSome result (λ taken. taken.0 ≡ length piece.now) }
+    {
+        taken(&mut self.core, alloc, piece)
+    }
+
+    pub(crate) fn ended(&mut self) {
+        ended_on(&mut self.core);
+    }
+}
+
+impl<O: OutboundTransform + Drop, I: InboundTransform + Drop> Held for ClientHeld<O, I> {
+    fn lend(&mut self, written: usize, buffer: &mut [u8]) -> usize {
+        let lent = self.core.lent();
+        wrote_on(&mut self.core, written.min(lent));
+        lend_on(&mut self.core, buffer)
+    }
+
+    fn broke(&mut self, kind: ErrorKind) {
+        broke_on(&mut self.core, kind);
+    }
+
+    fn next(&mut self, has_turn: bool, stays: bool) -> Next {
+        let bytes_wait = self.core.lendable() > 0;
+        let stays = stays && !self.core.has_failed();
+        self.turn.next(has_turn, stays, bytes_wait)
+    }
+}
+
+/// Takes a piece, and says at which places calls have ended. None: the connection has failed.
+fn taken<O: OutboundTransform + Drop, I: InboundTransform + Drop>(
+    core: &mut ClientCore<O, I>,
+    alloc: Global,
+    piece: &[u8],
+) -> Option<(usize, Ended)>
+    ensures pending { IsClient core.new.state.next core.new.state.calls }
+    ensures whole { IfSome result (λ taken. taken.0 ≡ length piece.now) }
+{
+    let taken = take_on(core, alloc, piece);
+    let ended = ended_places(core);
+    core.known();
+    match taken {
+        Ok(count) => Some((count, ended)),
+        Err(_) => None,
+    }
+}
+
+/// At which places calls have ended that weren't told of yet.
+fn ended_places<O: OutboundTransform + Drop, I: InboundTransform + Drop>(
+    core: &mut ClientCore<O, I>,
+) -> Ended {
+    let mut places = 0;
+    for _ in 0..u64::MAX {
+        match core.next_ended() {
+            Some(id) => places |= 1 << place_of(id),
+            None => break,
+        }
+    }
+    places
+}
+
+/// The place of a caller.
+fn place_of(id: CallId) -> usize
+    ensures { result ≤ 15 }
+{
+    ((id / 2) % 16) as usize
+}
+
+/// What the threads of a client's connection share. No thread reads or writes a socket while it has the lock.
+#[derive(Drop)]
+pub struct ClientShared<O, I> {
+    held: Mutex<ClientHeld<O, I>>,
+    to_write: Condvar,
+    callers: [Condvar; PLACES],
+}
+
+impl<O: OutboundTransform + Drop, I: InboundTransform + Drop> ClientShared<O, I> {
+    /// This core, shared.
+    pub fn new(core: ClientCore<O, I>) -> Self {
+        ClientShared {
+            held: Mutex::new(ClientHeld::new(core)),
+            to_write: Condvar::new(),
+            callers: [
+                Condvar::new(),
+                Condvar::new(),
+                Condvar::new(),
+                Condvar::new(),
+                Condvar::new(),
+                Condvar::new(),
+                Condvar::new(),
+                Condvar::new(),
+                Condvar::new(),
+                Condvar::new(),
+                Condvar::new(),
+                Condvar::new(),
+                Condvar::new(),
+                Condvar::new(),
+                Condvar::new(),
+                Condvar::new(),
+            ],
+        }
+    }
+
+    /// Where a caller waits for the outcome of its call.
+    pub fn caller(&self, id: CallId) -> &Condvar {
+        let callers = &self.callers[..];
+        &callers[place_of(id)]
+    }
+
+    /// Wakes the callers at these places.
+    pub(crate) fn wake(&self, places: Ended) {
+        let mut rest = places;
+        for caller in self.callers.iter() {
+            if rest % 2 == 1 {
+                caller.notify_all();
+            }
+            rest /= 2;
+        }
+    }
+}
+
+impl<O: OutboundTransform + Drop, I: InboundTransform + Drop> Connected for ClientShared<O, I> {
+    type Held = ClientHeld<O, I>;
+
+    fn held(&self) -> &Mutex<ClientHeld<O, I>> {
+        &self.held
+    }
+
+    fn to_write(&self) -> &Condvar {
+        &self.to_write
+    }
+
+    fn wake_all(&self) {
+        self.to_write.notify_all();
+        for caller in self.callers.iter() {
+            caller.notify_all();
+        }
+    }
+}

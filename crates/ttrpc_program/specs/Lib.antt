@@ -1,0 +1,4 @@
+pub mod Outcomes
+pub mod Telling
+pub mod Words
+pub mod Runs

@@ -1,0 +1,31 @@
+-- The words that the program is called by.
+-- Source: this project's.
+use Rattle.std.specs.Prelude.{◌≡◌, ℕ, ℤ, List, [], ◌∷◌, codes, Result, Ok}
+use Rattle.std.specs.Int.{w64}
+use Rattle.std.specs.Str.Parse.{ParsesSigned}
+use Rattle.hex.specs.Hex.{decode_of}
+
+-- the word at which it answers
+abbrev pub IsAnswer : List (List ℕ) → Type 0
+IsAnswer words = words ≡ codes "answer" ∷ []
+
+-- a first word, and the second behind it
+abbrev pub IsBehind : List ℕ → List (List ℕ) → List ℕ → Type 0
+IsBehind first words second = words ≡ first ∷ second ∷ []
+
+-- the words at which it calls: address, service, method, digits and timeout
+abbrev pub IsCall : List (List ℕ) → List ℕ → List ℕ → List ℕ → List ℕ → List ℕ → Type 0
+IsCall words address service method digits timeout =
+    words ≡ codes "call" ∷ address ∷ service ∷ method ∷ digits ∷ timeout ∷ []
+
+-- the digits, two for each byte, stand for bytes
+abbrev pub IsHex : List ℕ → Type 0
+IsHex digits = (payload : List ℕ) × (decode_of digits ≡ Ok payload)
+
+-- a number that was read
+abbrev pub told : ℤ → Result ℤ (Unit {0})
+told n = Ok n
+
+-- std reads the text as this number of 64 bits with a sign
+abbrev pub IsTimeout : List ℕ → ℤ → Type 0
+IsTimeout text n = ParsesSigned w64 10 text (told n)

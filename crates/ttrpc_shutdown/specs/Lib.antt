@@ -1,0 +1,3 @@
+pub mod Holding
+pub mod Rule
+pub mod ShutdownWords

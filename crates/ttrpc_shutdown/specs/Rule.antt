@@ -1,0 +1,92 @@
+-- The rule of the table of a shutdown, and what each kind of step does to its holder's seat.
+-- Source: this project's.
+use Rattle.std.specs.Prelude.{◌≡◌, ℕ, ◌%◌, ◌^◌, ◌==◌, Bool, true, false, List, [], ◌∷◌, ◌⊎◌}
+use mathlib.Core.Option.{some}
+use lib.ListN.{get_elem?}
+use Rattle.atomic_table.specs.Table.{Act, Me, State, Step, stepped}
+use Rattle.ttrpc_shutdown.specs.declared.rule.Holder.{Holder}
+use Rattle.ttrpc_shutdown.specs.ShutdownWords.{shares_of}
+
+abbrev pub holder : Bool → Bool → Bool → Holder
+holder notifies shares knows = record { notifies = notifies; shares = shares; knows = knows }
+
+-- the notifier at the start, which has no share and hasn't set the flag
+abbrev pub the_notifier : Holder
+the_notifier = holder true false false
+
+-- a waiter whose seat is new: without a share so far, it knows what its parent knows
+abbrev pub newcomer : Holder → Holder
+newcomer parent = holder false false parent.knows
+
+-- the first seat is the notifier's
+abbrev pub IsLed : List Holder → Type 0
+IsLed [] = ⊥
+IsLed (h ∷ hs) = h.notifies ≡ true
+
+-- The holder of a seat, by the flag: it knows only of a flag that is set. A notifier has the first seat and no share, and knows of a flag that is set.
+pub record Fits (flag seat : ℕ) (h : Holder) : Type 0 where
+  pub set : h.knows ≡ true → flag ≡ 1
+  pub first : h.notifies ≡ true → seat ≡ 0
+  pub no_share : h.notifies ≡ true → h.shares ≡ false
+  pub told : h.notifies ≡ true → flag ≡ 1 → h.knows ≡ true
+
+-- The rule: the flag is 0 or 1, the count is the sum of the shares as far as a word can tell it, and each seat fits the flag.
+pub record IsKept (words : List ℕ) (holders : List Holder) : Type 0 where
+  pub flag : ℕ
+  pub count : ℕ
+  pub two : words ≡ flag ∷ count ∷ []
+  pub bit : (flag ≡ 0) ⊎ (flag ≡ 1)
+  pub sum : count ≡ shares_of holders % 2 ^ 64
+  pub led : IsLed holders
+  pub each : (seat : ℕ) (h : Holder) → get_elem? holders seat ≡ some h → Fits flag seat h
+
+-- ---- the kinds of step: a step of this seat, which found the number n in its word, and the seat after it
+
+-- the table has words alone, and nothing lies in it
+abbrev pub Counted : Type 0
+Counted = State (Unit {0}) Holder
+
+abbrev pub Seated : Type 0
+Seated = Me (Unit {0}) Holder
+
+-- what a kind of step may do
+abbrev pub Kind : Type 1
+Kind = Step (Unit {0}) → Seated → ℕ → Seated → Type 0
+
+-- it has a share from now on
+abbrev pub Shares : Kind
+Shares step me n after = after ≡ (holder me.0.notifies true me.0.knows, me.1)
+
+-- it has no share from now on
+abbrev pub Leaves : Kind
+Leaves step me n after = after ≡ (holder me.0.notifies false me.0.knows, me.1)
+
+-- who sets the flag knows that it is set
+abbrev pub Sets : Kind
+Sets step me n after = after ≡ (holder me.0.notifies me.0.shares true, me.1)
+
+-- Who looks at the flag knows exactly if it is set. Who knew finds it set, and a notifier finds what it knew.
+pub record Looks (step : Step (Unit {0})) (me : Seated) (n : ℕ) (after : Seated) : Type 0 where
+  pub seat : after ≡ (holder me.0.notifies me.0.shares (n == 1), me.1)
+  pub again : me.0.knows ≡ true → n ≡ 1
+  pub same : me.0.notifies ≡ true → (n == 1) ≡ me.0.knows
+
+-- who looks at the count learns nothing of the flag
+abbrev pub Counts : Kind
+Counts step me n after = after ≡ me
+
+-- one of these
+abbrev pub IsStep : Kind
+IsStep step me n after = Shares step me n after ⊎ Leaves step me n after ⊎ Sets step me n after ⊎ Looks step me n after ⊎ Counts step me n after
+
+-- the table t is the table s after one step of a seat, whose holder was as me says and then as after says
+pub record Follows (s : Counted) (me after : Seated) (t : Counted) : Type 0 where
+  pub seat : ℕ
+  pub there : get_elem? s.views seat ≡ some me.0
+  pub step : Step (Unit {0})
+  pub found : ℕ
+  pub kind : IsStep step me found after
+  pub word : ℕ
+  pub now : ℕ
+  pub act : Act (Unit {0})
+  pub state : t ≡ stepped s word now seat me.1 after.0 act

@@ -1,0 +1,13 @@
+//! A shutdown that threads share: a flag that a notifier sets, and a count of the waiters that are left. Flag and count
+//! are two words of a table, and each notifier and waiter has a seat at it. What holds of the words and the seats between
+//! any two steps, in whatever order the threads take them, is the rule of the table.
+#![tactic(auto)]
+
+pub mod laws;
+mod notifier;
+mod post;
+pub mod rule;
+mod waiter;
+
+pub use notifier::{Notifier, new, with_timeout};
+pub use waiter::Waiter;

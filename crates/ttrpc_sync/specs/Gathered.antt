@@ -1,0 +1,25 @@
+-- A writer that keeps bytes back, to hand them on whole.
+-- Source: this project's.
+use Rattle.std.specs.Prelude.{◌≡◌, ◌⊎◌, ℕ, List, [], ◌++◌, Option, IfSome, Result, Ok, Err}
+use Rattle.std.specs.IoError.{error_kind}
+use Rattle.std.specs.declared.io.Error.{Error}
+use Rattle.std.specs.declared.io.ErrorKind.{ErrorKind}
+use Rattle.ttrpc_streams.specs.Streams.{Answered, Moved, FailsAs}
+
+-- the writer to which bytes are handed on, and those that are kept
+pub record Gathered (W : Type 0) : Type 0 where
+  pub writer : W
+  pub kept : List ℕ
+
+-- After a write of these bytes: they are kept behind what was kept, and the writer is as it was, or the writer took all that was kept, and they alone are kept, or nothing is.
+abbrev pub IsGathered : {W : Type 0} → Gathered W → Gathered W → List ℕ → Type 0
+IsGathered old new bytes = ((new.writer ≡ old.writer) × (new.kept ≡ old.kept ++ bytes)) ⊎ ((new.kept ≡ bytes) ⊎ (new.kept ≡ []))
+
+-- by its last answer its writer failed with this kind, or took nothing
+abbrev pub IsWriterFailure : Option Answered → ErrorKind → Type 0
+IsWriterFailure last kind = IfSome last (λ a. FailsAs a kind)
+
+-- by its last answer its writer was flushed, or failed as this does
+abbrev pub IsFlushOf : Option Answered → Result (Unit {0}) Error → Type 0
+IsFlushOf last (Ok _) = IfSome last (λ a. a ≡ Moved 0)
+IsFlushOf last (Err e) = IsWriterFailure last (error_kind e)

@@ -1,0 +1,145 @@
+//! A writer that keeps bytes back, so that a whole frame goes out by one write.
+ghost use Rattle.std.specs.Prelude.{◌≡◌, ◌≤◌, [], length, take, drop, IfErr, OnOk};
+ghost use Rattle.std.specs.Io.{WritesAtMost};
+ghost use Rattle.std.specs.Io.KnownBytes.{Appends, Keeps, WriteAppends, append_known};
+ghost use Rattle.std.specs.IoError.{error_kind};
+ghost use Rattle.ttrpc_sync.specs.Gathered.{IsFlushOf, IsGathered, IsWriterFailure};
+
+use std::alloc::Global;
+use std::io::{self, ErrorKind};
+use std::marker::Model;
+use ttrpc_header::{MESSAGE_HEADER_LENGTH, MESSAGE_LENGTH_MAX};
+use ttrpc_streams::Sink;
+
+/// How many bytes a gathering writer keeps at most: one frame of the greatest length, with its header.
+pub const GATHER_LIMIT: usize = MESSAGE_HEADER_LENGTH + MESSAGE_LENGTH_MAX;
+
+/// Keeps the bytes that are written to it, and writes them to its writer at a flush, or where there is no room for more.
+/// What the writer doesn't take is still kept. Bytes for which memory is refused are offered to the writer itself, once
+/// it has taken all that was kept, so nothing is lost or overtaken. Bytes that are kept when it is dropped are lost.
+#[derive(Drop)]
+pub struct Gather<W> {
+    writer: W,
+    kept: Vec<u8>,
+}
+
+impl<W> Model for Gather<W> {
+    ghost use Rattle.std.specs.Prelude.{◌≤◌, length};
+    ghost use Rattle.ttrpc_sync.specs.Gathered.{Gathered};
+    ghost use Rattle.ttrpc_sync.specs.declared.gather.TheConstants.{GATHER_LIMIT};
+
+    ghost Value = { Gathered W };
+
+    ghost view = { λ g. record {
+      writer = g.writer;
+      kept = g.kept.items;
+    } };
+
+    ghost invariant = { λ g. length g.kept.items ≤ GATHER_LIMIT };
+}
+
+impl<W> Gather<W> {
+    /// A gathering writer in front of this one, which keeps nothing yet. Takes no memory.
+    pub fn new(alloc: Global, writer: W) -> Gather<W>
+        ensures writer { result.writer ≡ writer }
+        ensures kept { result.kept ≡ [] }
+    {
+        Gather {
+            writer,
+            kept: Vec::new(alloc),
+        }
+    }
+
+    /// The writer to which bytes are handed on.
+    pub fn writer(&self) -> &W
+        ensures { result.now ≡ self.now.writer }
+    {
+        &self.writer
+    }
+
+    /// The bytes that are kept.
+    pub fn kept(&self) -> &[u8]
+        ensures bytes { result.now ≡ self.now.kept }
+        ensures bound { length result.now ≤ GATHER_LIMIT }
+    {
+        self.kept.as_slice()
+    }
+}
+
+impl<W: Sink> Gather<W> {
+    // Writes what is kept, until the writer has taken all of it, or fails.
+    fn hand_on(&mut self) -> io::Result<()>
+        ensures bytes { Keeps (append_known (W.contents self.old.writer) self.old.kept)
+            (append_known (W.contents self.new.writer) self.new.kept) }
+        ensures ok { OnOk result (self.new.kept ≡ []) }
+        ensures err { IfErr result (λ e. IsWriterFailure (W.last self.new.writer) (error_kind e)) }
+    {
+        let (taken, answer) = write_front(&mut self.writer, self.kept.as_slice());
+        remove_front(&mut self.kept, taken);
+        answer
+    }
+}
+
+impl<W: Sink> Sink for Gather<W> {
+    ghost use Rattle.std.specs.Io.KnownBytes.{append_known};
+
+    ghost contents = { λ g. append_known (W.contents g.writer) g.kept };
+
+    /// Keeps the bytes. An error is the writer's, or `WriteZero` where it took nothing, and then none of them is kept.
+    fn write(&mut self, bytes: &[u8]) -> io::Result<usize>
+        ensures bound { WritesAtMost result bytes.now }
+        ensures bytes { WriteAppends (append_known (W.contents self.old.writer) self.old.kept)
+            (append_known (W.contents self.new.writer) self.new.kept) result bytes.now }
+        ensures whole { OnOk result (IsGathered self.old self.new bytes.now) }
+        ensures err { IfErr result (λ e. IsWriterFailure (W.last self.new.writer) (error_kind e)) }
+    {
+        if bytes.len() > GATHER_LIMIT - self.kept.len() {
+            self.hand_on()?;
+        }
+        if bytes.len() <= GATHER_LIMIT && self.kept.extend_from_slice(bytes).is_ok() {
+            return Ok(bytes.len());
+        }
+        self.hand_on()?;
+        self.writer.write(bytes)
+    }
+
+    /// Writes what is kept, and flushes the writer. What an error leaves unwritten is still kept.
+    fn flush(&mut self) -> io::Result<()>
+        ensures bytes { Keeps (append_known (W.contents self.old.writer) self.old.kept)
+            (append_known (W.contents self.new.writer) self.new.kept) }
+        ensures kept { OnOk result (self.new.kept ≡ []) }
+        ensures answer { IsFlushOf (W.last self.new.writer) result }
+    {
+        self.hand_on()?;
+        self.writer.flush()
+    }
+}
+
+#[tactic(auto, using(crate::proofs::Handing::taken_further, crate::proofs::Handing::taken_fits))]
+// Writes bytes, until all are taken, or the writer fails or takes nothing. Says how many it took.
+fn write_front<W: Sink>(writer: &mut W, bytes: &[u8]) -> (usize, io::Result<()>)
+    ensures bound { result.0 ≤ length bytes.now }
+    ensures bytes { Appends (W.contents writer.old) (W.contents writer.new) (take result.0 bytes.now) }
+    ensures ok { OnOk result.1 (result.0 ≡ length bytes.now) }
+    ensures err { IfErr result.1 (λ e. IsWriterFailure (W.last writer.new) (error_kind e)) }
+{
+    let mut at = 0;
+    while at < bytes.len() {
+        match writer.write(&bytes[at..]) {
+            Ok(0) => return (at, Err(ErrorKind::WriteZero.into())),
+            Ok(taken) => at += taken,
+            Err(error) => return (at, Err(error)),
+        }
+    }
+    (at, Ok(()))
+}
+
+// Takes the first bytes away.
+fn remove_front(kept: &mut Vec<u8>, count: usize)
+    requires { count ≤ length kept.old.items }
+    ensures { kept.new.items ≡ drop count kept.old.items }
+{
+    let len = kept.len();
+    kept.as_mut_slice().copy_within(count..len, 0);
+    kept.truncate(len - count);
+}

@@ -1,0 +1,160 @@
+//! The client.
+use crate::line::Line;
+use std::alloc::Global;
+use std::io;
+use std::net::{Net, TcpStream};
+use std::sync::Arc;
+use std::thread::Builder;
+use ttrpc_client::{ClientCore, ClientKind};
+use ttrpc_error::causes::others_of;
+use ttrpc_error::{Error, Result};
+use ttrpc_hooks::{ConnectHook, ConnectionData, HookOutput};
+use ttrpc_link::{Host, Link, Runtime};
+use ttrpc_ports::{ClientRead, ClientShared};
+use ttrpc_proto::{Request, Response};
+use ttrpc_secure::{InboundTransform, OutboundTransform, Plain};
+use ttrpc_security::ConnectionContext;
+use ttrpc_transport::{ClientConnection, PipeConnection};
+
+/// A client of one connection. Its clones share the connection, and threads may call through each at the same time. The
+/// connection is closed, and its threads end, as the last of them is dropped.
+#[derive(Drop)]
+pub struct Client<R: Host, O: OutboundTransform + Drop, I: InboundTransform + Drop> {
+    rt: R,
+    line: Arc<Line<O, I>, Global>,
+}
+
+impl<R: Runtime> Client<R, Plain, Plain> {
+    /// Connects to an address, `unix://PATH` or `tcp://HOST:PORT`. Whether each write by TCP goes out at once is `nodelay`.
+    /// An address that names no place is `Others`, and a fault of the system `Nix`.
+    pub fn connect(rt: R, sockaddr: &str, nodelay: bool) -> Result<Client<R, Plain, Plain>>
+    where
+        R: Net<Stream = TcpStream>,
+    {
+        let connection = ClientConnection::client_connect(&rt, rt.alloc(), sockaddr, nodelay)?;
+        Client::new(rt, connection.get_pipe_connection()?)
+    }
+
+    /// A client of this connection. A thread that can't be started is `Nix`.
+    pub fn new(rt: R, stream: PipeConnection) -> Result<Client<R, Plain, Plain>> {
+        let alloc = rt.alloc();
+        start(rt, stream, HookOutput::of_halves(alloc, Plain {}, Plain {}))
+    }
+}
+
+impl<R, O, I> Client<R, O, I>
+where
+    R: Runtime,
+    O: OutboundTransform + Send + Drop + 'static,
+    I: InboundTransform + Send + Drop + 'static,
+{
+    /// A client of this connection, once the hook has looked at it, with the halves that it gave. What the hook refuses is
+    /// `Others`: `client connect hook failed: ` and what its error prints. A thread that can't be started is `Nix`.
+    pub fn with_hook<H>(rt: R, stream: PipeConnection, hook: &H) -> Result<Client<R, O, I>>
+    where
+        H: ConnectHook<PipeConnection, Outbound = O, Inbound = I>,
+    {
+        let alloc = rt.alloc();
+        match hook.on_connect(alloc, &stream) {
+            Ok(output) => start(rt, stream, output),
+            Err(error) => Err(others_of(alloc, "client connect hook failed: ", &error)),
+        }
+    }
+}
+
+impl<R: Host, O: OutboundTransform + Drop, I: InboundTransform + Drop> Client<R, O, I> {
+    /// What is known of the connection, as its hook told it.
+    pub fn connection_data(&self) -> &ConnectionData {
+        self.line.connection_data()
+    }
+
+    /// What a caller, and what is made for it, takes memory from.
+    pub fn alloc(&self) -> Global {
+        self.rt.alloc()
+    }
+
+    /// Calls, and waits for the response. An error is the status of one whose code isn't 0 (`RpcStatus`), a refusal of the
+    /// request, its deadline (`Others`), or what broke the connection. The request's `timeout_nano`, in nanoseconds, is
+    /// counted from here on; 0 is no limit.
+    pub fn request(&self, req: Request) -> Result<Response> {
+        self.line.call(&self.rt, &req)
+    }
+
+    /// Another client of the same connection.
+    pub fn try_clone(&self) -> Result<Client<R, O, I>> {
+        Ok(Client {
+            rt: self.rt.clone()?,
+            line: Arc::try_clone(&self.line)?,
+        })
+    }
+}
+
+/// Starts the threads of a client's connection.
+fn start<R, O, I>(
+    rt: R,
+    stream: PipeConnection,
+    output: HookOutput<O, I>,
+) -> Result<Client<R, O, I>>
+where
+    R: Runtime,
+    O: OutboundTransform + Send + Drop + 'static,
+    I: InboundTransform + Send + Drop + 'static,
+{
+    let alloc = rt.alloc();
+    let HookOutput {
+        connection_data,
+        outbound,
+        inbound,
+    } = output;
+    let context = ConnectionContext::of_halves(alloc, outbound, inbound);
+    let core = ClientCore::new(alloc, ClientKind::Sync, context);
+    let stream = Arc::new(alloc, stream)?;
+    let link = Arc::new(alloc, Link::new(alloc, ClientShared::new(core), stream)?)?;
+    let line = Line::new(Arc::try_clone(&link)?, connection_data);
+    let client = Client {
+        rt: rt.clone()?,
+        line: Arc::new(alloc, line)?,
+    };
+    start_reader(&rt, Arc::try_clone(&link)?)?;
+    start_writer(&rt, link)?;
+    Ok(client)
+}
+
+/// The error for a thread that the system refused.
+fn fault(error: io::Error) -> Error {
+    Error::Nix(error.kind())
+}
+
+fn start_reader<R, O, I>(rt: &R, link: Arc<Link<ClientShared<O, I>>, Global>) -> Result<()>
+where
+    R: Runtime,
+    O: OutboundTransform + Send + Drop + 'static,
+    I: InboundTransform + Send + Drop + 'static,
+{
+    let (mine, theirs) = (rt.clone()?, rt.clone()?);
+    let shared = Arc::try_clone(link.shared())?;
+    let alloc = rt.alloc();
+    let reader = move || {
+        let mut port = ClientRead::new(theirs, alloc, shared);
+        link.read(&mine, &mut port);
+    };
+    Builder::new().spawn(rt, reader).map_err(fault)?;
+    Ok(())
+}
+
+fn start_writer<R, O, I>(rt: &R, link: Arc<Link<ClientShared<O, I>>, Global>) -> Result<()>
+where
+    R: Runtime,
+    O: OutboundTransform + Send + Drop + 'static,
+    I: InboundTransform + Send + Drop + 'static,
+{
+    let mine = rt.clone()?;
+    let alloc = rt.alloc();
+    let writer = move || {
+        if link.write(&mine, alloc).is_err() {
+            link.close();
+        }
+    };
+    Builder::new().spawn(rt, writer).map_err(fault)?;
+    Ok(())
+}

@@ -1,0 +1,110 @@
+//! A worker: the handler of its jobs, and the gate that it waits behind.
+ghost use Rattle.std.specs.Prelude.{⊤};
+
+use crate::conn::Conn;
+use crate::context::{MethodHandler, TtrpcContext, response_error_to_channel, send_response};
+use crate::methods::Methods;
+use crate::server_on::{enter_on, leave_on};
+use std::alloc::Global;
+use std::sync::Arc;
+use ttrpc_error::{Error, Result};
+use ttrpc_link::Host;
+use ttrpc_ports::{Connected, ServerJobs};
+use ttrpc_secure::{InboundTransform, OutboundTransform};
+use ttrpc_server::Job;
+use ttrpc_server::responses::path_response;
+use ttrpc_sync::{Gate, Handler, work_loop};
+
+/// Hands each request to the handler of its method.
+#[derive(Drop)]
+struct Dispatch<R: Host, O: OutboundTransform + Drop, I: InboundTransform + Drop, H: Drop> {
+    conn: Arc<Conn<R, O, I>, Global>,
+    methods: Arc<Methods<H>, Global>,
+}
+
+impl<R, O, I, H> Handler for Dispatch<R, O, I, H>
+where
+    R: Host,
+    O: OutboundTransform + Drop,
+    I: InboundTransform + Drop,
+    H: MethodHandler<R, O, I> + Drop,
+{
+    type Request = Job;
+
+    type Outcome = Result<()>;
+
+    ghost gives = { λ _ _ _. ⊤ };
+
+    fn handle(&self, job: Job) -> Result<()> {
+        let Job {
+            id: _,
+            header,
+            stream: _,
+            request,
+        } = job;
+        let found = self
+            .methods
+            .get(request.service.as_str(), request.method.as_str());
+        let Some(handler) = found else {
+            let alloc = self.conn.alloc();
+            let unknown = path_response(alloc, &request.service, &request.method)?;
+            return send_response(header.stream_id, unknown, &*self.conn);
+        };
+        match TtrpcContext::new(&self.conn, header, &request) {
+            Ok(ctx) => handler.handler(ctx, request),
+            Err(error) => response_error_to_channel(header.stream_id, error, &*self.conn),
+        }
+    }
+}
+
+/// Lets workers wait where the pool does, and says where too few are left that wait.
+#[derive(Drop)]
+struct PoolGate<R: Host, O: OutboundTransform + Drop, I: InboundTransform + Drop> {
+    conn: Arc<Conn<R, O, I>, Global>,
+    is_shut: bool,
+}
+
+impl<R: Host, O: OutboundTransform + Drop, I: InboundTransform + Drop> Gate for PoolGate<R, O, I> {
+    ghost is_shut = { λ g. g.is_shut };
+
+    fn enter(&mut self) -> bool {
+        let shared = self.conn.link().shared();
+        let entered = enter_on(&mut shared.held().lock(self.conn.rt()).pool);
+        self.is_shut = !entered;
+        entered
+    }
+
+    fn leave(&mut self) {
+        let shared = self.conn.link().shared();
+        let is_short = leave_on(&mut shared.held().lock(self.conn.rt()).pool);
+        if is_short {
+            self.conn.crew().is_short(self.conn.rt());
+        }
+    }
+}
+
+/// Works on the connection's jobs, until the gate sends the worker away or the connection has failed.
+pub fn work<R, O, I, H>(
+    conn: &Arc<Conn<R, O, I>, Global>,
+    methods: &Arc<Methods<H>, Global>,
+) -> Result<()>
+where
+    R: Host,
+    O: OutboundTransform + Drop,
+    I: InboundTransform + Drop,
+    H: MethodHandler<R, O, I> + Drop,
+{
+    let rt = conn.rt();
+    let dispatch = Dispatch {
+        conn: Arc::try_clone(conn)?,
+        methods: Arc::try_clone(methods)?,
+    };
+    let mut gate = PoolGate {
+        conn: Arc::try_clone(conn)?,
+        is_shut: false,
+    };
+    let shared = Arc::try_clone(conn.link().shared())?;
+    let mut port = ServerJobs::new(rt.clone()?, rt.alloc(), shared);
+    work_loop(rt, &mut port, &dispatch, &mut gate);
+    Ok(())
+}

@@ -1,0 +1,2 @@
+//! The messages of the service.
+pub use ttrpc::proto::KeyValue;

@@ -1,0 +1,16 @@
+-- What tests are told of the halves that mask. Their bytes are tested.
+-- Source: this project's.
+use Rattle.std.specs.Prelude.{◌≡◌, ◌+◌, ◌≤◌, ℕ, length}
+use Rattle.ttrpc_secure.specs.Halves.{Moves, Refusals}
+
+-- A packet is at most so many bytes longer than the data, and the half stays as it is.
+abbrev pub Lengthens : ℕ → {S : Type 0} → Moves S
+Lengthens overhead s plain aad sealed t = (length sealed ≤ length plain + overhead) × (t ≡ s)
+
+-- The half that opens stays as it is.
+abbrev pub Stays : {S : Type 0} → Moves S
+Stays s sealed aad plain t = t ≡ s
+
+-- Whatever is given may be refused, for any reason.
+abbrev pub RefusesAnything : {S : Type 0} → Refusals S
+RefusesAnything s given aad why = Unit {0}

@@ -1,0 +1,61 @@
+//! Turns, and what a writer's port does that has none.
+use crate::ends::{Tested, call, client, client_failure};
+use std::io::{self, ErrorKind};
+use std::sync::Arc;
+use ttrpc_error::Error;
+use ttrpc_ports::{ClientWrite, Connected, Next, Turn};
+use ttrpc_sync::WritePort;
+use ttrpc_test_cores::server::ASKED;
+use ttrpc_values::slices::{behind, front};
+
+/// One thread at a time has the turn, and who sleeps is woken once.
+#[test]
+fn one_thread_has_the_turn(rt: HostRuntime) -> Tested {
+    let mut turn = Turn::new();
+    assert!(rt; !turn.wakes());
+    assert!(rt; turn.take());
+    assert!(rt; !turn.take());
+    assert_eq!(rt; turn.next(false, true, true), Next::Sleeps);
+    assert!(rt; !turn.wakes());
+    assert_eq!(rt; turn.next(true, true, true), Next::Writes);
+    assert_eq!(rt; turn.next(true, false, false), Next::Leaves);
+    assert!(rt; turn.wakes());
+    assert!(rt; !turn.wakes());
+    assert_eq!(rt; turn.next(false, false, true), Next::Writes);
+    Ok(())
+}
+
+/// Without the turn nothing is lent. With it a report is made by the next loan.
+#[test]
+fn a_writer_waits_for_its_turn(rt: HostRuntime) -> Tested {
+    let shared = client(rt.alloc())?;
+    call(&rt, rt.alloc(), &shared)?;
+    let mut port = ClientWrite::staying(rt, Arc::try_clone(&shared)?);
+    let mut buffer = [0; 64];
+    port.begin();
+    assert_eq!(rt; port.lend(&mut buffer), 0);
+    assert!(rt; port.more());
+    assert_eq!(rt; port.lend(&mut buffer), 30);
+    assert!(rt; front(&buffer, 30) == ASKED);
+    port.wrote(12);
+    assert_eq!(rt; port.lend(&mut buffer), 18);
+    assert!(rt; front(&buffer, 18) == behind(ASKED, 12));
+    Ok(())
+}
+
+/// A writer that broke fails the connection by its kind, and then a port wants no more.
+#[test]
+fn a_broken_writer_fails_the_client(rt: HostRuntime) -> Tested {
+    let shared = client(rt.alloc())?;
+    call(&rt, rt.alloc(), &shared)?;
+    let mut port = ClientWrite::staying(rt, Arc::try_clone(&shared)?);
+    port.begin();
+    port.broke(io::Error::from(ErrorKind::BrokenPipe));
+    let failure = client_failure(&rt, rt.alloc(), &shared);
+    assert!(rt; matches!(failure, Some(Error::Nix(ErrorKind::BrokenPipe))));
+    port.begin();
+    let mut buffer = [0; 64];
+    assert_eq!(rt; port.lend(&mut buffer), 0);
+    assert!(rt; !port.more());
+    Ok(())
+}

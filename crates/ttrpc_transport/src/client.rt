@@ -1,0 +1,149 @@
+//! A client's connection.
+ghost use Rattle.std.specs.Prelude.{◌≡◌, IfErr, IfOk, Ok};
+ghost use Rattle.std.specs.IoError.{error_kind};
+ghost use Rattle.ttrpc_transport.specs.Sockets.{IsFault, IsPassing, domain_of};
+ghost use Rattle.ttrpc_transport.specs.Opened.{IsOpenedAt, IsNotOpened, place_domain};
+
+use crate::connection::PipeConnection;
+use crate::retry::is_passing;
+use crate::stream::{Stream, fault};
+use std::alloc::Global;
+use std::io;
+use std::marker::Model;
+use std::net::{Net, TcpStream};
+use std::os::fd::OwnedFd;
+use std::os::unix::net::UnixStream;
+use std::sync::atomic::{AtomicBool, Ordering};
+use std::time::Duration;
+use ttrpc_address::{Place, socket_of};
+use ttrpc_error::Result;
+
+/// How many milliseconds `ready` waits.
+const READY_TIME: u64 = 10;
+
+/// A client's connection, which contracts see as its domain. Threads may share it: each call takes it by reference.
+#[derive(Drop)]
+pub struct ClientConnection {
+    stream: Stream,
+    // The same stream, at whose next bytes one can look. std has that of TCP alone, and the system of any stream.
+    probe: TcpStream,
+    is_closed: AtomicBool,
+}
+
+impl Model for ClientConnection {
+    ghost use Rattle.ttrpc_address.specs.declared.domain.Domain.{Domain};
+    ghost use Rattle.ttrpc_transport.specs.Sockets.{domain_of};
+
+    ghost Value = { Domain };
+
+    ghost view = { λ connection. domain_of connection.stream };
+}
+
+impl ClientConnection {
+    /// Connects to the address. Whether each write by TCP goes out at once is `nodelay`. An address that names no place is
+    /// `Others`, and a fault of the system `Nix`.
+    pub fn client_connect<R>(
+        rt: &R,
+        alloc: Global,
+        sockaddr: &str,
+        nodelay: bool,
+    ) -> Result<ClientConnection>
+    where
+        R: Net<Stream = TcpStream>,
+        ensures ok { IfOk result (IsOpenedAt sockaddr.now) }
+        ensures err { IfErr result (IsNotOpened sockaddr.now) }
+    {
+        let place = socket_of(alloc, sockaddr)?;
+        ClientConnection::new(connect(rt, place, nodelay)?)
+    }
+
+    /// The client's connection that this stream is. A fault of the system is `Nix`.
+    pub fn new(stream: Stream) -> Result<ClientConnection>
+        ensures ok { IfOk result (λ made. made ≡ domain_of stream) }
+        ensures err { IfErr result IsFault }
+    {
+        let probe = match &stream {
+            Stream::Tcp(stream) => stream.try_clone().map_err(fault)?,
+            Stream::Unix(stream) => {
+                TcpStream::from(OwnedFd::from(stream.try_clone().map_err(fault)?))
+            }
+        };
+        Ok(ClientConnection {
+            stream,
+            probe,
+            is_closed: AtomicBool::new(false),
+        })
+    }
+
+    /// Waits for bytes, or for the other side to end, 10 milliseconds at most. `None`: nothing came, or the wait was
+    /// interrupted. Once the connection or its receiver is closed the error `pipe closed` is answered.
+    pub fn ready(&self) -> io::Result<Option<()>>
+        ensures { IfErr result (λ e. ¬ (IsPassing (error_kind e))) }
+    {
+        let came = self.wait_for_bytes();
+        if self.is_closed.load(Ordering::SeqCst) {
+            return Err(io::Error::other("pipe closed"));
+        }
+        match came {
+            Ok(_) => Ok(Some(())),
+            Err(error) if is_passing(error.kind()) => Ok(None),
+            Err(error) => Err(error),
+        }
+    }
+
+    // The limit is set for this wait alone, since each read of the connection would have it.
+    fn wait_for_bytes(&self) -> io::Result<usize> {
+        self.probe
+            .set_read_timeout(Some(Duration::from_millis(READY_TIME)))?;
+        let peeked = self.probe.peek(&mut [0u8; 1]);
+        self.probe.set_read_timeout(None)?;
+        peeked
+    }
+
+    /// The connection to be read and written, which shares the stream. A fault of the system is `Nix`.
+    pub fn get_pipe_connection(&self) -> Result<PipeConnection>
+        ensures ok { IfOk result (λ connection. connection ≡ self.now) }
+        ensures err { IfErr result IsFault }
+    {
+        let stream = self.stream.try_clone().map_err(fault)?;
+        Ok(PipeConnection::new(stream))
+    }
+
+    /// From here on `ready` answers that the connection is closed. It can still be read and written.
+    pub fn close_receiver(&self) -> Result<()>
+        ensures { result ≡ Ok tt }
+    {
+        self.is_closed.store(true, Ordering::SeqCst);
+        Ok(())
+    }
+
+    /// Ends the connection for both sides, and wakes each thread that reads it or writes to it. The descriptor is closed as
+    /// the last handle of the stream is dropped. A fault of the system is `Nix`. To close it again does nothing.
+    pub fn close(&self) -> Result<()>
+        ensures { IfErr result IsFault }
+    {
+        self.is_closed.store(true, Ordering::SeqCst);
+        self.stream.close()
+    }
+}
+
+fn connect<R>(rt: &R, place: Place<'_>, nodelay: bool) -> Result<Stream>
+where
+    R: Net<Stream = TcpStream>,
+    ensures ok { IfOk result (λ stream. domain_of stream ≡ place_domain place.entry) }
+    ensures err { IfErr result IsFault }
+{
+    match place {
+        Place::Tcp(address) => {
+            let stream = TcpStream::connect(rt, address).map_err(fault)?;
+            if nodelay {
+                stream.set_nodelay(true).map_err(fault)?;
+            }
+            Ok(Stream::Tcp(stream))
+        }
+        Place::Unix(path) => {
+            let stream = UnixStream::connect(rt, path).map_err(fault)?;
+            Ok(Stream::Unix(stream))
+        }
+    }
+}

@@ -1,0 +1,100 @@
+//! One connection.
+ghost use Rattle.std.specs.Prelude.{◌≡◌, IfErr};
+ghost use Rattle.std.specs.Io.{ReadsAtMost, WritesAtMost};
+ghost use Rattle.ttrpc_transport.specs.Sockets.{IsFault, IsLastingFault, domain_of};
+
+use crate::retry::{read_again, write_again};
+use crate::stream::{Stream, fault};
+use std::io::{self, Read, Write};
+use std::marker::Model;
+use std::net::Shutdown;
+use ttrpc_error::Result;
+
+/// One connection, which contracts see as its domain. Threads may share it: each call takes it by reference.
+#[derive(Debug, Drop)]
+pub struct PipeConnection {
+    stream: Stream,
+}
+
+impl Model for PipeConnection {
+    ghost use Rattle.ttrpc_address.specs.declared.domain.Domain.{Domain};
+    ghost use Rattle.ttrpc_transport.specs.Sockets.{domain_of};
+
+    ghost Value = { Domain };
+
+    ghost view = { λ connection. domain_of connection.stream };
+}
+
+impl PipeConnection {
+    /// The connection that this stream is.
+    pub fn new(stream: Stream) -> PipeConnection
+        ensures { result ≡ domain_of stream }
+    {
+        PipeConnection { stream }
+    }
+
+    /// The stream that the connection is.
+    pub fn into_stream(self) -> Stream
+        ensures { domain_of result ≡ self }
+    {
+        let PipeConnection { stream } = self;
+        stream
+    }
+
+    /// Reads some bytes, at least one unless the buffer is empty or the other side sends no more. A read that was
+    /// interrupted or would block is tried again. A fault of the system is `Nix`.
+    pub fn read(&self, buf: &mut [u8]) -> Result<usize>
+        ensures bound { ReadsAtMost result buf.new }
+        ensures err { IfErr result IsLastingFault }
+    {
+        let mut stream = &self.stream;
+        read_again(&mut stream, buf).map_err(fault)
+    }
+
+    /// Writes some bytes of the buffer, of its front. A write that was interrupted or would block is tried again. A fault
+    /// of the system is `Nix`.
+    pub fn write(&self, buf: &[u8]) -> Result<usize>
+        ensures bound { WritesAtMost result buf.now }
+        ensures err { IfErr result IsLastingFault }
+    {
+        let mut stream = &self.stream;
+        write_again(&mut stream, buf).map_err(fault)
+    }
+
+    /// Ends the connection for both sides, and wakes each thread that reads it or writes to it. The descriptor is closed as
+    /// the connection is dropped. To close it again does nothing.
+    pub fn close(&self) -> Result<()>
+        ensures { IfErr result IsFault }
+    {
+        self.stream.close()
+    }
+
+    /// Reads no more from the connection, and wakes each thread that does. What is written still goes out.
+    pub fn shutdown(&self) -> Result<()>
+        ensures { IfErr result IsFault }
+    {
+        self.stream.shutdown(Shutdown::Read).map_err(fault)
+    }
+}
+
+/// Reads as `PipeConnection::read` does.
+impl Read for &PipeConnection {
+    fn read(&mut self, buf: &mut [u8]) -> io::Result<usize> {
+        let connection: &PipeConnection = self;
+        let mut stream = &connection.stream;
+        read_again(&mut stream, buf)
+    }
+}
+
+/// Writes as `PipeConnection::write` does.
+impl Write for &PipeConnection {
+    fn write(&mut self, buf: &[u8]) -> io::Result<usize> {
+        let connection: &PipeConnection = self;
+        let mut stream = &connection.stream;
+        write_again(&mut stream, buf)
+    }
+
+    fn flush(&mut self) -> io::Result<()> {
+        Ok(())
+    }
+}

@@ -1,0 +1,161 @@
+//! What accepts connections.
+ghost use Rattle.std.specs.Prelude.{◌≡◌, ◌↔◌, IfErr, IfOk, IfSome, IsSome};
+ghost use Rattle.ttrpc_address.specs.declared.domain.Domain.{Domain};
+ghost use Rattle.ttrpc_transport.specs.Sockets.{IsFault};
+ghost use Rattle.ttrpc_transport.specs.Opened.{IsOpenedAt, IsNotOpened, place_domain};
+
+use crate::connection::PipeConnection;
+use crate::stream::{Stream, fault};
+use std::alloc::Global;
+use std::io;
+use std::marker::Model;
+use std::net::{Net, SocketAddr, TcpListener, TcpStream};
+use std::os::fd::OwnedFd;
+use std::os::unix::net::{UnixListener, UnixStream};
+use std::rt::Files;
+use std::sync::atomic::{AtomicBool, Ordering};
+use ttrpc_address::{Place, socket_of};
+use ttrpc_error::Result;
+
+/// What accepts connections, which contracts see as its domain. Threads may share it: each call takes it by reference.
+#[derive(Drop)]
+pub struct PipeListener {
+    socket: Listening,
+    // The same socket as a stream, which can be shut down: that wakes a thread which waits for a connection.
+    waker: Stream,
+    is_closed: AtomicBool,
+    nodelay: bool,
+}
+
+// A socket that listens.
+#[derive(Drop)]
+enum Listening {
+    Tcp(TcpListener),
+    Unix(UnixListener),
+}
+
+impl Model for PipeListener {
+    ghost use Rattle.ttrpc_address.specs.declared.domain.Domain.{Domain};
+    ghost use Rattle.ttrpc_transport.specs.Listeners.{listening_domain};
+
+    ghost Value = { Domain };
+
+    ghost view = { λ listener. listening_domain listener.socket };
+}
+
+impl PipeListener {
+    /// Listens at the address. Whether each write of its connections by TCP goes out at once is `nodelay`. An address that
+    /// names no place is `Others`, and a fault of the system `Nix`: at a path where there is a file already that is
+    /// `AddrInUse`. The file that is made at a path stays.
+    pub fn new<R>(rt: &R, alloc: Global, sockaddr: &str, nodelay: bool) -> Result<PipeListener>
+    where
+        R: Files + Net<Listener = TcpListener, Stream = TcpStream>,
+        ensures ok { IfOk result (IsOpenedAt sockaddr.now) }
+        ensures err { IfErr result (IsNotOpened sockaddr.now) }
+    {
+        let place = socket_of(alloc, sockaddr)?;
+        listen(rt, place, nodelay)
+    }
+
+    /// Listens on a socket that a caller has bound. Whether its connections' writes go out at once is left to the system. A
+    /// fault of the system is `Nix`.
+    pub fn from_tcp(listener: TcpListener) -> Result<PipeListener>
+        ensures ok { IfOk result (λ made. made ≡ Domain.Tcp) }
+        ensures err { IfErr result IsFault }
+    {
+        by_tcp(listener, false)
+    }
+
+    /// The IP address and port where it listens by TCP, and `None` at a path. A fault of the system is `Nix`.
+    pub fn local_addr(&self) -> Result<Option<SocketAddr>>
+        ensures ok { IfOk result (λ address. IsSome address ↔ (self.now ≡ Domain.Tcp)) }
+        ensures err { IfErr result IsFault }
+    {
+        match &self.socket {
+            Listening::Tcp(listener) => Ok(Some(listener.local_addr().map_err(fault)?)),
+            Listening::Unix(_) => Ok(None),
+        }
+    }
+
+    /// Waits for a connection. `None`: the listener was closed.
+    pub fn accept(&self) -> io::Result<Option<PipeConnection>>
+        ensures { IfOk result (λ accepted. IfSome accepted (λ connection. connection ≡ self.now)) }
+    {
+        let accepted = self.accept_next();
+        if self.is_closed.load(Ordering::SeqCst) {
+            return Ok(None);
+        }
+        Ok(Some(accepted?))
+    }
+
+    fn accept_next(&self) -> io::Result<PipeConnection>
+        ensures { IfOk result (λ connection. connection ≡ self.now) }
+    {
+        match &self.socket {
+            Listening::Tcp(listener) => {
+                let (stream, _) = listener.accept()?;
+                if self.nodelay {
+                    stream.set_nodelay(true)?;
+                }
+                Ok(PipeConnection::new(Stream::Tcp(stream)))
+            }
+            Listening::Unix(listener) => {
+                let (stream, _) = listener.accept()?;
+                Ok(PipeConnection::new(Stream::Unix(stream)))
+            }
+        }
+    }
+
+    /// Accepts no more, and wakes each thread that waits for a connection. A file that was made at a path stays. A fault of
+    /// the system is `Nix`. To close it again does nothing.
+    pub fn close(&self) -> Result<()>
+        ensures { IfErr result IsFault }
+    {
+        self.is_closed.store(true, Ordering::SeqCst);
+        self.waker.close()
+    }
+}
+
+fn listen<R>(rt: &R, place: Place<'_>, nodelay: bool) -> Result<PipeListener>
+where
+    R: Files + Net<Listener = TcpListener, Stream = TcpStream>,
+    ensures ok { IfOk result (λ made. made ≡ place_domain place.entry) }
+    ensures err { IfErr result IsFault }
+{
+    match place {
+        Place::Tcp(address) => {
+            let listener = TcpListener::bind(rt, address).map_err(fault)?;
+            by_tcp(listener, nodelay)
+        }
+        Place::Unix(path) => {
+            let listener = UnixListener::bind(rt, path).map_err(fault)?;
+            at_path(listener)
+        }
+    }
+}
+
+fn by_tcp(listener: TcpListener, nodelay: bool) -> Result<PipeListener>
+    ensures ok { IfOk result (λ made. made ≡ Domain.Tcp) }
+    ensures err { IfErr result IsFault }
+{
+    let descriptor = OwnedFd::from(listener.try_clone().map_err(fault)?);
+    Ok(PipeListener {
+        socket: Listening::Tcp(listener),
+        waker: Stream::Tcp(TcpStream::from(descriptor)),
+        is_closed: AtomicBool::new(false),
+        nodelay,
+    })
+}
+
+fn at_path(listener: UnixListener) -> Result<PipeListener>
+    ensures ok { IfOk result (λ made. made ≡ Domain.Unix) }
+    ensures err { IfErr result IsFault }
+{
+    let descriptor = OwnedFd::from(listener.try_clone().map_err(fault)?);
+    Ok(PipeListener {
+        socket: Listening::Unix(listener),
+        waker: Stream::Unix(UnixStream::from(descriptor)),
+        is_closed: AtomicBool::new(false),
+        nodelay: false,
+    })
+}

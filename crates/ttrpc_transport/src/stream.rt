@@ -1,0 +1,101 @@
+//! A stream of bytes by TCP or at a path, and what the system refuses.
+ghost use Rattle.std.specs.Prelude.{◌≡◌, IfErr, IfOk};
+ghost use Rattle.std.specs.Io.{ReadsAtMost, WritesAtMost};
+ghost use Rattle.std.specs.IoError.{error_kind};
+ghost use Rattle.ttrpc_error.specs.declared.error.Error.{Error};
+ghost use Rattle.ttrpc_transport.specs.Sockets.{IsFault, domain_of};
+
+use std::io::{self, ErrorKind, Read, Write};
+use std::net::{Shutdown, TcpStream};
+use std::os::unix::net::UnixStream;
+use ttrpc_error::{Error, Result};
+
+/// A stream of bytes, by TCP or at a path.
+#[derive(Debug, Drop)]
+pub enum Stream {
+    Tcp(TcpStream),
+    Unix(UnixStream),
+}
+
+// The error for what the system refused.
+pub(crate) fn fault(error: io::Error) -> Error
+    ensures { result ≡ Error.Nix (error_kind error) }
+{
+    Error::Nix(error.kind())
+}
+
+impl Stream {
+    // Another handle of the same stream.
+    pub(crate) fn try_clone(&self) -> io::Result<Stream>
+        ensures { IfOk result (λ clone. domain_of clone ≡ domain_of self.now) }
+    {
+        match self {
+            Stream::Tcp(stream) => Ok(Stream::Tcp(stream.try_clone()?)),
+            Stream::Unix(stream) => Ok(Stream::Unix(stream.try_clone()?)),
+        }
+    }
+
+    fn read_once(&self, buf: &mut [u8]) -> io::Result<usize>
+        ensures { ReadsAtMost result buf.new }
+    {
+        match self {
+            Stream::Tcp(stream) => {
+                let mut stream: &TcpStream = stream;
+                stream.read(buf)
+            }
+            Stream::Unix(stream) => {
+                let mut stream: &UnixStream = stream;
+                stream.read(buf)
+            }
+        }
+    }
+
+    fn write_once(&self, buf: &[u8]) -> io::Result<usize>
+        ensures { WritesAtMost result buf.now }
+    {
+        match self {
+            Stream::Tcp(stream) => {
+                let mut stream: &TcpStream = stream;
+                stream.write(buf)
+            }
+            Stream::Unix(stream) => {
+                let mut stream: &UnixStream = stream;
+                stream.write(buf)
+            }
+        }
+    }
+
+    // Ends the halves of the stream that are named, on each of its handles: who waits there wakes.
+    pub(crate) fn shutdown(&self, how: Shutdown) -> io::Result<()> {
+        match self {
+            Stream::Tcp(stream) => stream.shutdown(how),
+            Stream::Unix(stream) => stream.shutdown(how),
+        }
+    }
+
+    // Ends both halves. Where the other side, or a call before, has ended them, there is nothing left to do.
+    pub(crate) fn close(&self) -> Result<()>
+        ensures { IfErr result IsFault }
+    {
+        match self.shutdown(Shutdown::Both) {
+            Err(error) if error.kind() != ErrorKind::NotConnected => Err(fault(error)),
+            _ => Ok(()),
+        }
+    }
+}
+
+impl Read for &Stream {
+    fn read(&mut self, buf: &mut [u8]) -> io::Result<usize> {
+        self.read_once(buf)
+    }
+}
+
+impl Write for &Stream {
+    fn write(&mut self, buf: &[u8]) -> io::Result<usize> {
+        self.write_once(buf)
+    }
+
+    fn flush(&mut self) -> io::Result<()> {
+        Ok(())
+    }
+}
