@@ -26,3 +26,12 @@ six_words f (a ∷ b ∷ c ∷ d ∷ []) x y z u v w some few e0 e1 e2 e3 e4 e5 
 six_words f (a ∷ b ∷ c ∷ d ∷ e ∷ []) x y z u v w some few e0 e1 e2 e3 e4 e5 = absurd (omega (arith, some))
 six_words f (a ∷ b ∷ c ∷ d ∷ e ∷ g ∷ []) x y z u v w some few e0 e1 e2 e3 e4 e5 = cc
 six_words f (a ∷ b ∷ c ∷ d ∷ e ∷ g ∷ h ∷ xs) x y z u v w some few e0 e1 e2 e3 e4 e5 = absurd (omega (arith, few))
+
+-- lists of two words whose first differ
+pub first_of_two : (x y z w : List ℕ) → x ∷ y ∷ [] ≡ z ∷ w ∷ [] → x ≡ z
+first_of_two x y z w e = cc
+
+-- six words, told by others that are the same
+pub same_six : {ws : List (List ℕ)} {a b c d e f a' b' c' d' e' f' : List ℕ} → ws ≡ a ∷ b ∷ c ∷ d ∷ e ∷ f ∷ [] → a ≡ a' → b ≡ b' → c ≡ c' → d ≡ d' → e ≡ e' → f ≡ f' →
+    ws ≡ a' ∷ b' ∷ c' ∷ d' ∷ e' ∷ f' ∷ []
+same_six ws a b c d e f = cc

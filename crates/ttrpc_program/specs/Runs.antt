@@ -1,6 +1,6 @@
 -- What the program does at its words.
 -- Source: this project's.
-use Rattle.std.specs.Prelude.{◌≡◌, ◌≢◌, ◌⊎◌, ℕ, ℤ, List, [], ◌∷◌, codes, Option, IfSome}
+use Rattle.std.specs.Prelude.{◌≡◌, ◌≢◌, ◌⊎◌, ℕ, List, [], ◌∷◌, codes, Option, IfSome}
 use Rattle.std.specs.Io.KnownBytes.{Appends, Keeps}
 use Rattle.ttrpc_error.specs.declared.error.Error.{Error}
 use Rattle.ttrpc_error.specs.declared.error.Error.TheVariants.{NoMemory}
@@ -9,7 +9,7 @@ use Rattle.ttrpc_echo.specs.Answered.{AnsweredAll, Fails}
 use Rattle.ttrpc_program.specs.declared.outcome.Outcome.{Outcome}
 use Rattle.ttrpc_program.specs.declared.outcome.Outcome.TheVariants.{Done, Refused, WrongWords, Failed}
 use Rattle.ttrpc_program.specs.Telling.{error_line, ok_line, IsUntold}
-use Rattle.ttrpc_program.specs.Words.{IsAnswer, IsBehind, IsCall, IsHex, IsTimeout}
+use Rattle.ttrpc_program.specs.Words.{IsAnswer, IsBehind, IsCall, IsHex, AreRight}
 
 -- it answered all, or failed
 abbrev pub Answers : Option (List ℕ) → Option (List ℕ) → Option (List ℕ) → Option (List ℕ) → Outcome → Type 0
@@ -51,5 +51,5 @@ Performs words before after held holds outcome =
     (IsAnswer words × Answers before after held holds outcome)
     ⊎ (((digits : List ℕ) × IsBehind (codes "loop") words digits × Keeps before after × Calls (IsHex digits) held holds outcome)
     ⊎ (((address : List ℕ) × IsBehind (codes "serve") words address × Keeps before after × Keeps held holds × IsFailed outcome)
-    ⊎ (((a s m d t : List ℕ) × IsCall words a s m d t × Keeps before after × Calls (IsHex d × (n : ℤ) × IsTimeout t n) held holds outcome)
+    ⊎ (((a s m d t : List ℕ) × IsCall words a s m d t × Keeps before after × Calls (AreRight d t) held holds outcome)
     ⊎ (AreWrong words × (outcome ≡ WrongWords) × Keeps before after × Keeps held holds))))

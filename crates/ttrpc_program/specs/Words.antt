@@ -29,3 +29,7 @@ told n = Ok n
 -- std reads the text as this number of 64 bits with a sign
 abbrev pub IsTimeout : List ℕ → ℤ → Type 0
 IsTimeout text n = ParsesSigned w64 10 text (told n)
+
+-- the digits stand for bytes, and the text for a number
+abbrev pub AreRight : List ℕ → List ℕ → Type 0
+AreRight digits text = IsHex digits × ((n : ℤ) × IsTimeout text n)

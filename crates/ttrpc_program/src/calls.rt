@@ -1,6 +1,6 @@
 //! Calls of a server over a socket.
-ghost use Rattle.std.specs.Prelude.{ℤ, ⊤, OnOk, IfErr};
-ghost use Rattle.ttrpc_program.specs.Words.{IsHex, IsTimeout};
+ghost use Rattle.std.specs.Prelude.{⊤, OnOk, IfErr};
+ghost use Rattle.ttrpc_program.specs.Words.{IsHex, AreRight};
 ghost use Rattle.ttrpc_program.specs.Runs.{Calls, IsMisread};
 
 use crate::asked::{payload_of, request_of, timeout_of};
@@ -21,7 +21,7 @@ pub fn call<R: System + 'static, W: Write>(
     nodelay: bool,
     output: &mut W,
 ) -> Outcome
-    ensures { Calls (IsHex words.digits.now × (n : ℤ) × IsTimeout words.timeout.now n) (W.contents output.old) (W.contents output.new) result }
+    ensures { Calls (AreRight words.entry.digits.now words.entry.timeout.now) (W.contents output.old) (W.contents output.new) result }
 {
     let alloc = rt.alloc();
     match request(alloc, words) {
@@ -43,8 +43,8 @@ pub fn call_own_with<R: System + 'static, W: Write>(rt: R, digits: &str, output:
 
 /// The request that the words ask for.
 fn request(alloc: Global, words: CallWords<'_>) -> Result<Request, Outcome>
-    ensures ok { OnOk result (IsHex words.digits.now × (n : ℤ) × IsTimeout words.timeout.now n) }
-    ensures err { IfErr result (IsMisread (IsHex words.digits.now × (n : ℤ) × IsTimeout words.timeout.now n)) }
+    ensures ok { OnOk result (AreRight words.entry.digits.now words.entry.timeout.now) }
+    ensures err { IfErr result (IsMisread (AreRight words.entry.digits.now words.entry.timeout.now)) }
 {
     let payload = payload_of(alloc, words.digits)?;
     let Some(timeout_nano) = timeout_of(words.timeout) else {

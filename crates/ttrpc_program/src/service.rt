@@ -7,7 +7,8 @@ use ttrpc_error::Result;
 use ttrpc_link::{Host, Runtime};
 use ttrpc_proto::Request;
 use ttrpc_secure::{InboundTransform, OutboundTransform};
-use ttrpc_sync_server::{MethodHandler, NoHook, Server, TtrpcContext};
+use ttrpc_serving::{MethodHandler, TtrpcContext};
+use ttrpc_sync_server::{NoHook, Server};
 
 /// What the program asks of the system.
 pub trait System: Runtime + Files + Net<Listener = TcpListener, Stream = TcpStream> {}

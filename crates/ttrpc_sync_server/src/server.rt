@@ -1,16 +1,14 @@
 //! The server.
 ghost use Rattle.std.specs.Prelude.{◌≡◌, IfErr, IfOk, OnErr, OnOk, None, Some, true, false};
 ghost use Rattle.ttrpc_error.specs.declared.error.Error.TheVariants.{NoMemory};
-ghost use Rattle.ttrpc_sync_server.specs.Settings.{IsNew, IsRefused, Refuses, bind_refusal, listen_refusal, register_refusal, start_refusal, bound, started, stopped};
+ghost use Rattle.ttrpc_settings.specs.Settings.{IsNew, IsRefused, Refuses, bind_refusal, listen_refusal, register_refusal, start_refusal, bound, started, stopped};
 
 use crate::accept::{Stop, next_connection};
 use crate::admission::NoHook;
 use crate::connections::Connections;
-use crate::context::MethodHandler;
-use crate::methods::Methods;
-use crate::refusal::Refusal;
+use ttrpc_serving::{MethodHandler, Methods};
+use ttrpc_settings::{Refusal, Settings};
 use crate::service::{Service, serve};
-use crate::settings::Settings;
 use std::alloc::Global;
 use std::collections::BTreeMap;
 use std::marker::Model;
@@ -40,7 +38,7 @@ pub struct Server<R: Host, H: Drop, A: Drop> {
 
 impl<R: Host, H: Drop, A: Drop> Model for Server<R, H, A> {
     ghost use Rattle.std.specs.Prelude.{◌≡◌, ◌↔◌, IsSome, true};
-    ghost use Rattle.ttrpc_sync_server.specs.declared.settings.Settings.{Settings};
+    ghost use Rattle.ttrpc_settings.specs.declared.settings.Settings.{Settings};
 
     ghost Value = { Settings };
 

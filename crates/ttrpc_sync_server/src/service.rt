@@ -1,11 +1,8 @@
 //! What each connection of a server is served with.
 use crate::admission::admit;
-use crate::conn::Conn;
 use crate::connections::Connections;
-use crate::context::MethodHandler;
-use crate::keeper::keep;
-use crate::methods::Methods;
-use crate::settings::Settings;
+use ttrpc_serving::{Conn, MethodHandler, Methods, keep};
+use ttrpc_settings::Settings;
 use std::alloc::Global;
 use std::sync::Arc;
 use std::thread::Builder;

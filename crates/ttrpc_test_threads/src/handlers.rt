@@ -10,7 +10,7 @@ use ttrpc_hooks::{ConnectionData, ConnectionDataExt};
 use ttrpc_link::Host;
 use ttrpc_proto::{Request, Response, Status};
 use ttrpc_secure::{InboundTransform, OutboundTransform};
-use ttrpc_sync_server::{MethodHandler, TtrpcContext};
+use ttrpc_serving::{MethodHandler, TtrpcContext};
 use ttrpc_values::Blob;
 
 /// How often a test looks at most, a millisecond after each look.

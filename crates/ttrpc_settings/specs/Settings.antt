@@ -4,9 +4,9 @@ use Rattle.std.specs.Prelude.{◌≡◌, ◌⊎◌, ℕ, List, Option, Some, Non
 use Rattle.std.specs.Duration.{as_nanos}
 use Rattle.ttrpc_error.specs.declared.error.Error.{Error}
 use Rattle.ttrpc_error.specs.declared.error.Error.TheVariants as error
-use Rattle.ttrpc_sync_server.specs.declared.settings.Settings.{Settings}
-use Rattle.ttrpc_sync_server.specs.declared.refusal.Refusal.{Refusal}
-use Rattle.ttrpc_sync_server.specs.declared.refusal.Refusal.TheVariants as refusal
+use Rattle.ttrpc_settings.specs.declared.settings.Settings.{Settings}
+use Rattle.ttrpc_settings.specs.declared.refusal.Refusal.{Refusal}
+use Rattle.ttrpc_settings.specs.declared.refusal.Refusal.TheVariants as refusal
 
 -- the text of each
 abbrev pub text_of : Refusal → List ℕ

@@ -1,7 +1,7 @@
 //! Why a server refuses what it is asked for, and what it then tells.
 ghost use Rattle.std.specs.Prelude.{◌≡◌, ◌⊎◌};
 ghost use Rattle.ttrpc_error.specs.declared.error.Error.{Error as AnError};
-ghost use Rattle.ttrpc_sync_server.specs.Settings.{text_of};
+ghost use Rattle.ttrpc_settings.specs.Settings.{text_of};
 
 use std::alloc::Global;
 use ttrpc_error::Error;

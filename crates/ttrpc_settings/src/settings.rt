@@ -1,6 +1,6 @@
 //! The settings of a server, and what it refuses by them.
 ghost use Rattle.std.specs.Prelude.{◌≡◌, None, Some, IfErr, OnOk};
-ghost use Rattle.ttrpc_sync_server.specs.Settings.{IsNew, IsRefused, bind_refusal, listen_refusal, register_refusal, start_refusal};
+ghost use Rattle.ttrpc_settings.specs.Settings.{IsNew, IsRefused, bind_refusal, listen_refusal, register_refusal, start_refusal};
 
 use crate::refusal::Refusal;
 use std::alloc::Global;

@@ -23,7 +23,7 @@ pub struct Conn<R: Host, O: OutboundTransform + Drop, I: InboundTransform + Drop
 
 impl<R: Host, O: OutboundTransform + Drop, I: InboundTransform + Drop> Conn<R, O, I> {
     /// The connection of this link, of which this is known.
-    pub(crate) fn new(
+    pub fn new(
         rt: R,
         link: Link<ServerShared<O, I>>,
         data: ConnectionData,
