@@ -9,7 +9,12 @@ use std::process::ExitCode;
 use std::rt::Env;
 use ttrpc_address::nodelay_from;
 use ttrpc_error::Error;
+use ttrpc_header::{MESSAGE_HEADER_LENGTH, MESSAGE_LENGTH_MAX};
 use ttrpc_program::{Outcome, run, tell};
+
+/// Room for any frame, so that each answer leaves in one write where it is flushed. On a socket that delays small writes the
+/// rest of a frame would wait for the other side's acknowledgement.
+const ROOM: usize = MESSAGE_HEADER_LENGTH + MESSAGE_LENGTH_MAX;
 
 /// The words behind the program's name. Words that aren't UTF-8 are wrong ones.
 fn given_words<R: Env + AllocGlobal>(rt: &R) -> Result<Vec<String>, Outcome> {
@@ -32,7 +37,7 @@ fn main(rt: HostRuntime) -> ExitCode {
         Ok(words) => words,
         Err(outcome) => return ExitCode::from(tell(&outcome, &mut rt.stderr())),
     };
-    let Ok(mut output) = BufWriter::new(rt.alloc(), rt.stdout()) else {
+    let Ok(mut output) = BufWriter::with_capacity(rt.alloc(), ROOM, rt.stdout()) else {
         return ExitCode::from(tell(&Outcome::Failed(Error::NoMemory), &mut rt.stderr()));
     };
     let setting = env::var(&rt, "TTRPC_TCP_NODELAY_ENABLED").ok();
