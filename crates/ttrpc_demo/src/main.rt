@@ -5,6 +5,7 @@
 
 use std::env;
 use std::io::{BufWriter, ErrorKind};
+use std::net::{TcpListener, TcpStream};
 use std::process::ExitCode;
 use std::rt::Env;
 use ttrpc_address::nodelay_from;
@@ -33,6 +34,8 @@ fn given_words<R: Env + AllocGlobal>(rt: &R) -> Result<Vec<String>, Outcome> {
 }
 
 fn main(rt: HostRuntime) -> ExitCode {
+    // The check of borrows covers a call whose bounds name types only where these are named here, too.
+    let _sockets: Option<(TcpListener, TcpStream)> = None;
     let words = match given_words(&rt) {
         Ok(words) => words,
         Err(outcome) => return ExitCode::from(tell(&outcome, &mut rt.stderr())),

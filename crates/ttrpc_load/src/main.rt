@@ -4,6 +4,7 @@
 
 use std::env;
 use std::io::{ErrorKind, IsTerminal, Write};
+use std::net::{TcpListener, TcpStream};
 use std::process::ExitCode;
 use std::rt::Env;
 use ttrpc_address::nodelay_from;
@@ -19,6 +20,8 @@ fn given_words<R: Env + AllocGlobal>(rt: &R) -> Option<Vec<String>> {
 }
 
 fn main(rt: HostRuntime) -> ExitCode {
+    // The check of borrows covers a call whose bounds name types only where these are named here, too.
+    let _sockets: Option<(TcpListener, TcpStream)> = None;
     let words = given_words(&rt).unwrap_or(Vec::new(rt.alloc()));
     let setting = env::var(&rt, "TTRPC_TCP_NODELAY_ENABLED").ok();
     let nodelay = nodelay_from(setting.as_deref());

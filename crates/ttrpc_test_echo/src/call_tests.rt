@@ -1,5 +1,5 @@
 //! The word `call`, beside a server of this process.
-use crate::runs::{ROOM, Tester, run_words, words_of};
+use crate::runs::{ROOM, Ran, Tester, run_words, words_of};
 use std::test::Fail;
 use ttrpc_program::{start_server, tell_address};
 
@@ -16,16 +16,25 @@ const CALLS: &[Call] = &[
     (&["demo.Echo", "", "", "0"], 1, b"error: rpc status: 3 /demo.Echo/ does not exist\n"),
 ];
 
-fn is_told<S: Tester + 'static>(rt: &S, address: &str, call: &Call) -> Tested {
-    let ([service, method, digits, timeout], status, output) = call;
-    let words = ["call", address, service, method, digits, timeout];
-    let words = words_of(rt.alloc(), &words)?;
+/// A run with the word `call`, the address and these words. It reads nothing.
+fn called<S: Tester + 'static>(rt: &S, address: &str, rest: &[&str]) -> Result<Ran, Fail> {
+    let mut words = words_of(rt.alloc(), &["call"])?;
+    words.push(String::from_str(rt.alloc(), address)?)?;
+    for word in rest {
+        words.push(String::from_str(rt.alloc(), word)?)?;
+    }
     let mut input = b"unread".as_slice();
     let ran = run_words(rt, words.as_slice(), &mut input, ROOM)?;
-    assert!(rt; ran.status == *status, "{method}");
-    assert!(rt; ran.output.as_slice() == *output, "{method}");
-    assert!(rt; ran.errors.is_empty(), "{method}");
     assert_eq!(rt; input.len(), 6);
+    Ok(ran)
+}
+
+fn is_told<S: Tester + 'static>(rt: &S, address: &str, call: &Call) -> Tested {
+    let (words, status, output) = call;
+    let ran = called(rt, address, words.as_slice())?;
+    assert!(rt; ran.status == *status, "{}", words[1]);
+    assert!(rt; ran.output.as_slice() == *output, "{}", words[1]);
+    assert!(rt; ran.errors.is_empty(), "{}", words[1]);
     Ok(())
 }
 
@@ -42,9 +51,7 @@ fn a_server_is_called(rt: HostRuntime) -> Tested {
         is_told(&rt, address, call)?;
     }
     server.shutdown();
-    let words = words_of(rt.alloc(), &["call", address, "x", "y", "2a", "0"])?;
-    let mut input = b"".as_slice();
-    let ran = run_words(&rt, words.as_slice(), &mut input, ROOM)?;
+    let ran = called(&rt, address, &["x", "y", "2a", "0"])?;
     assert_eq!(rt; ran.status, 1);
     assert!(rt; ran.output.is_empty());
     assert!(rt; ran.errors.as_slice().starts_with(b"ttrpc-demo: Nix error: "));

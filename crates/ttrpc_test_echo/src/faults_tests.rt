@@ -1,6 +1,6 @@
 //! Readers and writers that fail at each place, move one byte a call or are interrupted.
 use crate::fakes::{Sink, Source};
-use crate::runs::{ROOM, Tester, run_words, words_of};
+use crate::runs::{ROOM, Sockets, Tester, run_words, words_of};
 use crate::vectors::*;
 use std::alloc::Global;
 use std::io::ErrorKind;
@@ -117,6 +117,7 @@ fn telling_fails_at<S: Tester + 'static>(rt: &S, count: usize) -> Tested {
 
 #[test]
 fn a_failing_writer_ends_a_call(rt: HostRuntime) -> Tested {
+    let _sockets: Sockets = None;
     for count in 0..6 {
         telling_fails_at(&rt, count)?;
     }
@@ -125,6 +126,7 @@ fn a_failing_writer_ends_a_call(rt: HostRuntime) -> Tested {
 
 #[test]
 fn a_failing_reader_ends_the_program_with_its_kind(rt: HostRuntime) -> Tested {
+    let _sockets: Sockets = None;
     let words = words_of(rt.alloc(), &["answer"])?;
     let mut input = Source::failing(ASKED, 4096, ErrorKind::ConnectionReset);
     let ran = run_words(&rt, words.as_slice(), &mut input, ROOM)?;

@@ -2,6 +2,7 @@
 use crate::vectors::{NO_MEMORY_LINE, NO_MEMORY_TEXT};
 use std::alloc::Global;
 use std::io::Read;
+use std::net::{TcpListener, TcpStream};
 use std::process::Abort;
 use std::test::Fail;
 use ttrpc_error::Error;
@@ -11,6 +12,9 @@ use ttrpc_program::{System, run};
 pub trait Tester: System + Abort {}
 
 impl<R: System + Abort> Tester for R {}
+
+/// The check of borrows covers a run over a host's sockets only where the function that asks for it names their types.
+pub type Sockets = Option<(TcpListener, TcpStream)>;
 
 /// More than any of the runs of a table writes, so that no writer wants memory.
 pub const ROOM: usize = 256;

@@ -1,6 +1,6 @@
 //! Runs of the program: its words and its input, and then its status, its output and what it tells of errors.
 use crate::fakes::Source;
-use crate::runs::{ROOM, Ran, Tester, run_words, words_of};
+use crate::runs::{ROOM, Ran, Sockets, Tester, run_words, words_of};
 use crate::vectors::*;
 use std::alloc::Global;
 use std::process::Abort;
@@ -106,6 +106,7 @@ fn runs_by_bytes<S: Tester + 'static>(rt: &S, row: &Run) -> Tested {
 
 #[test]
 fn runs_of_the_program(rt: HostRuntime) -> Tested {
+    let _sockets: Sockets = None;
     for row in RUNS {
         runs_at_once(&rt, row)?;
         runs_by_bytes(&rt, row)?;
@@ -115,6 +116,7 @@ fn runs_of_the_program(rt: HostRuntime) -> Tested {
 
 #[test]
 fn a_frame_that_is_too_long_is_answered_behind_it(rt: HostRuntime) -> Tested {
+    let _sockets: Sockets = None;
     let mut frame = Vec::from_slice(rt.alloc(), OVERSIZED)?;
     frame.resize(10 + 4194305, 0)?;
     let words = words_of(rt.alloc(), &["answer"])?;
@@ -138,6 +140,7 @@ fn sevens<S: System + 'static>(rt: &S, count: usize, room: usize) -> Result<Ran,
 /// With 22 bytes of the request around it, a payload of 4194282 bytes is the greatest.
 #[test]
 fn the_greatest_payload_is_echoed(rt: HostRuntime) -> Tested {
+    let _sockets: Sockets = None;
     let ran = sevens(&rt, 4194282, 8388568)?;
     assert_eq!(rt; ran.status, 0);
     assert_eq!(rt; ran.output.len(), 8388568);
@@ -147,6 +150,7 @@ fn the_greatest_payload_is_echoed(rt: HostRuntime) -> Tested {
 
 #[test]
 fn a_payload_above_the_greatest_is_refused(rt: HostRuntime) -> Tested {
+    let _sockets: Sockets = None;
     let ran = sevens(&rt, 4194283, ROOM)?;
     assert_eq!(rt; ran.status, 1);
     assert!(rt; ran.output.as_slice() == LOOPED_TOO_LONG);

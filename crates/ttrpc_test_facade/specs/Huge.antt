@@ -1,6 +1,7 @@
 -- The written form of a value that is too long to be written.
 -- Source: this project's.
-use Rattle.std.specs.Prelude.{ℕ, List, ◌^◌, replicate}
+use Rattle.std.specs.Prelude.{ℕ, List, replicate}
 
-pub zeros : List ℕ
-zeros = replicate (2 ^ 32) 0
+-- so many zeros
+abbrev pub zeros : ℕ → List ℕ
+zeros n = replicate n 0
