@@ -6,8 +6,6 @@ ghost use Rattle.ttrpc_settings.specs.Settings.{IsNew, IsRefused, Refuses, bind_
 use crate::accept::{Stop, next_connection};
 use crate::admission::NoHook;
 use crate::connections::Connections;
-use ttrpc_serving::{MethodHandler, Methods};
-use ttrpc_settings::{Refusal, Settings};
 use crate::service::{Service, serve};
 use std::alloc::Global;
 use std::collections::BTreeMap;
@@ -21,6 +19,8 @@ use ttrpc_error::{Error, Result};
 use ttrpc_hooks::AcceptHook;
 use ttrpc_link::{Host, Runtime};
 use ttrpc_secure::{InboundTransform, OutboundTransform};
+use ttrpc_serving::{MethodHandler, Methods};
+use ttrpc_settings::{Refusal, Settings};
 use ttrpc_transport::{PipeConnection, PipeListener};
 
 /// A server with threads, which contracts see as its settings. Once it has started it serves the methods that are registered,

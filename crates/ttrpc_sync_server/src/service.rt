@@ -1,8 +1,6 @@
 //! What each connection of a server is served with.
 use crate::admission::admit;
 use crate::connections::Connections;
-use ttrpc_serving::{Conn, MethodHandler, Methods, keep};
-use ttrpc_settings::Settings;
 use std::alloc::Global;
 use std::sync::Arc;
 use std::thread::Builder;
@@ -15,6 +13,8 @@ use ttrpc_ports::ServerShared;
 use ttrpc_secure::{InboundTransform, OutboundTransform};
 use ttrpc_security::ConnectionContext;
 use ttrpc_server::{Rules, ServerCore};
+use ttrpc_serving::{Conn, MethodHandler, Methods, keep};
+use ttrpc_settings::Settings;
 use ttrpc_transport::PipeConnection;
 
 /// What each connection of a server is served with.

@@ -11,9 +11,21 @@ type Call = (&'static [&'static str; 4], u8, &'static [u8]);
 const CALLS: &[Call] = &[
     (&["demo.Echo", "Echo", "2a", "0"], 0, b"ok 2a\n"),
     (&["demo.Echo", "Echo", "", "0"], 0, b"ok\n"),
-    (&["demo.Echo", "Echo", "00FF", "60000000000"], 0, b"ok 00ff\n"),
-    (&["x", "y", "2a", "0"], 1, b"error: rpc status: 3 /x/y does not exist\n"),
-    (&["demo.Echo", "", "", "0"], 1, b"error: rpc status: 3 /demo.Echo/ does not exist\n"),
+    (
+        &["demo.Echo", "Echo", "00FF", "60000000000"],
+        0,
+        b"ok 00ff\n",
+    ),
+    (
+        &["x", "y", "2a", "0"],
+        1,
+        b"error: rpc status: 3 /x/y does not exist\n",
+    ),
+    (
+        &["demo.Echo", "", "", "0"],
+        1,
+        b"error: rpc status: 3 /demo.Echo/ does not exist\n",
+    ),
 ];
 
 /// A run with the word `call`, the address and these words. It reads nothing.
@@ -45,7 +57,10 @@ fn a_server_is_called(rt: HostRuntime) -> Tested {
     let mut line = Vec::new(rt.alloc());
     tell_address(&server, &mut line)?;
     let line = String::from_utf8(line).map_err(|_| Fail::from("not UTF-8"))?;
-    let address = line.as_str().strip_prefix("ttrpc-demo: listening at ").ok_or("no address")?;
+    let address = line
+        .as_str()
+        .strip_prefix("ttrpc-demo: listening at ")
+        .ok_or("no address")?;
     let address = address.strip_suffix('\n').ok_or("no line")?;
     for call in CALLS {
         is_told(&rt, address, call)?;
@@ -54,6 +69,10 @@ fn a_server_is_called(rt: HostRuntime) -> Tested {
     let ran = called(&rt, address, &["x", "y", "2a", "0"])?;
     assert_eq!(rt; ran.status, 1);
     assert!(rt; ran.output.is_empty());
-    assert!(rt; ran.errors.as_slice().starts_with(b"ttrpc-demo: Nix error: "));
+    assert!(rt;
+        ran.errors
+            .as_slice()
+            .starts_with(b"ttrpc-demo: Nix error: ")
+    );
     Ok(())
 }

@@ -44,14 +44,7 @@ pub fn run_words<S: System + 'static, R: Read>(
 ) -> Result<Ran, Fail> {
     let mut output = Vec::with_capacity(rt.alloc(), room)?;
     let mut errors = Vec::with_capacity(rt.alloc(), ROOM)?;
-    let status = run(
-        rt.clone()?,
-        words,
-        true,
-        input,
-        &mut output,
-        &mut errors,
-    );
+    let status = run(rt.clone()?, words, true, input, &mut output, &mut errors);
     if status == 1 && (output.as_slice() == NO_MEMORY_LINE || errors.as_slice() == NO_MEMORY_TEXT) {
         return Err(Error::NoMemory.into());
     }

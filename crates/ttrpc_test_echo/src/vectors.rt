@@ -47,5 +47,4 @@ pub const VSOCK_TEXT: &[u8] = b"ttrpc-demo: ttrpc err: vsock is not supported\n"
 
 pub const ABSTRACT_TEXT: &[u8] = b"ttrpc-demo: ttrpc err: abstract unix names are not supported\n";
 
-pub const SCHEME_TEXT: &[u8] =
-    b"ttrpc-demo: ttrpc err: Scheme \"127.0.0.1:0\" is not supported\n";
+pub const SCHEME_TEXT: &[u8] = b"ttrpc-demo: ttrpc err: Scheme \"127.0.0.1:0\" is not supported\n";

@@ -16,6 +16,6 @@ returns-else-eq-clause-none c =
     let word : string_bytes c.word-item.result ≡ c.as_str.result.now = sym c.as_str.ensures.value in
     let same : (c.eq.result ≡ true) ↔ (c.as_str.result.now ≡ c.args.first.now) = search rules in
     let two : map string_bytes c.args.words.now ≡ c.as_str.result.now ∷ string_bytes c.second-item.result ∷ [] =
-        two_words string_bytes c.args.words.now c.word-item.result c.second-item.result c.in-len2.len_at_least c.in-len2.len_below c.word-item.is c.second-item.is
-        ∙ ap (λ w. w ∷ string_bytes c.second-item.result ∷ []) word in
+    two_words string_bytes c.args.words.now c.word-item.result c.second-item.result c.in-len2.len_at_least c.in-len2.len_below c.word-item.is c.second-item.is
+    ∙ ap (λ w. w ∷ string_bytes c.second-item.result ∷ []) word in
     λ second is. search (rules, c.if-eq.false, same.1 (first_of_two _ _ _ _ (sym two ∙ is)))
