@@ -2,6 +2,7 @@
 //! all of them end. What they do to its core is in the ports.
 #![tactic(auto)]
 
+mod inlet;
 mod link;
 mod outlet;
 mod queued;

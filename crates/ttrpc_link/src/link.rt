@@ -1,11 +1,16 @@
 //! A connection over a socket.
+use crate::inlet::Inlet;
 use crate::outlet::Outlet;
 use crate::queued::Queued;
 use std::alloc::{AllocError, Global};
+use std::io::BufReader;
 use std::sync::{Arc, Mutex, Wait};
 use ttrpc_ports::{Connected, WriteEnd};
 use ttrpc_sync::{Gather, ReadPort, read_loop, write_loop};
 use ttrpc_transport::PipeConnection;
+
+/// How many bytes of a connection are read at once at most.
+const INTAKE: usize = 32768;
 
 /// A connection over a socket, with what its threads share. Each frame goes out by one write, where memory for that is
 /// found. No thread reads or writes while it has the lock of the core.
@@ -15,6 +20,8 @@ pub struct Link<S: Connected> {
     stream: Arc<PipeConnection, Global>,
     // The bytes that are about to be written. Only who has the turn to write locks it.
     gather: Mutex<Gather<Outlet>>,
+    // The bytes that were read and not handed on yet. Only who has the turn to read locks it.
+    intake: Mutex<BufReader<Inlet>>,
 }
 
 impl<S: Connected> Link<S> {
@@ -25,10 +32,15 @@ impl<S: Connected> Link<S> {
         stream: Arc<PipeConnection, Global>,
     ) -> Result<Link<S>, AllocError> {
         let outlet = Outlet::new(Arc::try_clone(&stream)?);
+        let inlet = Inlet::new(Arc::try_clone(&stream)?);
+        let Ok(intake) = BufReader::with_capacity(alloc, INTAKE, inlet) else {
+            return Err(AllocError);
+        };
         Ok(Link {
             shared: Arc::new(alloc, shared)?,
             stream,
             gather: Mutex::new(Gather::new(alloc, outlet)),
+            intake: Mutex::new(intake),
         })
     }
 
@@ -44,9 +56,14 @@ impl<S: Connected> Link<S> {
 
     /// Reads the connection to its end, and hands what it reads to the port. Then the connection is closed.
     pub fn read<X: Wait, P: ReadPort>(&self, rt: &X, port: &mut P) {
-        let mut stream = &*self.stream;
-        read_loop(rt, &mut stream, port);
+        self.read_on(rt, port);
         self.close();
+    }
+
+    /// Reads the connection as long as the port wants more, and hands what it reads to it. The connection stays open.
+    pub fn read_on<X: Wait, P: ReadPort>(&self, rt: &X, port: &mut P) {
+        let mut intake = self.intake.lock(rt);
+        read_loop(rt, &mut *intake, port);
     }
 
     /// Writes what is queued, each time when there is something and nobody else writes, until the connection has failed.

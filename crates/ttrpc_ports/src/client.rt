@@ -2,13 +2,15 @@
 ghost use Rattle.std.specs.Prelude.{◌≡◌, ◌≤◌, length, IfSome};
 ghost use Rattle.ttrpc_client.specs.Client.{IsClient};
 
-use crate::client_on::{broke_on, ended_on, lend_on, take_on, wrote_on};
+use crate::client_on::{abandon_on, broke_on, ended_on, lend_on, take_on, wrote_on};
 use crate::connected::{Connected, Held};
+use crate::read_turn::{Onward, ReadTurn};
 use crate::turn::{Next, Turn};
 use crate::write_end::WriteEnd;
 use std::alloc::Global;
+use std::hint::spin_loop;
 use std::io::ErrorKind;
-use std::sync::{Condvar, Mutex};
+use std::sync::{Condvar, Mutex, Wait};
 use ttrpc_client::{CallId, ClientCore};
 use ttrpc_secure::{InboundTransform, OutboundTransform};
 
@@ -17,6 +19,17 @@ const PLACES: usize = 16;
 
 /// Those of the places at which a call has ended, a bit for each.
 pub type Ended = u32;
+
+/// What came of a piece, once the lock is let go.
+#[derive(Clone, Copy, Debug)]
+pub(crate) struct Taken {
+    /// How many bytes of it were taken.
+    pub count: usize,
+    /// At which places calls have ended.
+    pub ended: Ended,
+    /// What who read it does.
+    pub onward: Onward,
+}
 
 /// The port of one of a client's writers.
 pub type ClientWrite<X, O, I> = WriteEnd<X, ClientShared<O, I>>;
@@ -27,11 +40,12 @@ pub type ClientWrite<X, O, I> = WriteEnd<X, ClientShared<O, I>>;
 pub struct ClientHeld<O, I> {
     pub core: ClientCore<O, I>,
     pub turn: Turn,
+    pub reading: ReadTurn,
     ghost pending: { IsClient core.state.next core.state.calls },
 }
 
 impl<O: OutboundTransform + Drop, I: InboundTransform + Drop> ClientHeld<O, I> {
-    /// This core, and it is nobody's turn to write.
+    /// This core, and it is nobody's turn to write or to read.
     pub fn new(core: ClientCore<O, I>) -> Self
         ensures { result.core ≡ core }
     {
@@ -39,18 +53,28 @@ impl<O: OutboundTransform + Drop, I: InboundTransform + Drop> ClientHeld<O, I> {
         ClientHeld {
             core,
             turn: Turn::new(),
+            reading: ReadTurn::new(),
         }
     }
 
-    /// Takes a piece, and says at which places calls have ended. None: the connection has failed.
-    pub(crate) fn take(&mut self, alloc: Global, piece: &[u8]) -> Option<(usize, Ended)>
-        ensures { IfSome result (λ taken. taken.0 ≡ length piece.now) }
+    /// Takes a piece, and says what came of it. None: the connection has failed.
+    pub(crate) fn take(&mut self, alloc: Global, piece: &[u8]) -> Option<Taken>
+        ensures { IfSome result (λ taken. taken.count ≡ length piece.now) }
     {
-        taken(&mut self.core, alloc, piece)
+        let (count, ended) = feed_piece(&mut self.core, &mut self.reading, alloc, piece)?;
+        Some(Taken {
+            count,
+            ended,
+            onward: self.reading.onward(),
+        })
     }
 
     pub(crate) fn ended(&mut self) {
         ended_on(&mut self.core);
+    }
+
+    pub(crate) fn abandon(&mut self) {
+        abandon_on(&mut self.core);
     }
 }
 
@@ -73,8 +97,9 @@ impl<O: OutboundTransform + Drop, I: InboundTransform + Drop> Held for ClientHel
 }
 
 /// Takes a piece, and says at which places calls have ended. None: the connection has failed.
-fn taken<O: OutboundTransform + Drop, I: InboundTransform + Drop>(
+fn feed_piece<O: OutboundTransform + Drop, I: InboundTransform + Drop>(
     core: &mut ClientCore<O, I>,
+    reading: &mut ReadTurn,
     alloc: Global,
     piece: &[u8],
 ) -> Option<(usize, Ended)>
@@ -82,7 +107,7 @@ fn taken<O: OutboundTransform + Drop, I: InboundTransform + Drop>(
     ensures whole { IfSome result (λ taken. taken.0 ≡ length piece.now) }
 {
     let taken = take_on(core, alloc, piece);
-    let ended = ended_places(core);
+    let ended = ended_places(core, reading);
     core.known();
     match taken {
         Ok(count) => Some((count, ended)),
@@ -93,11 +118,15 @@ fn taken<O: OutboundTransform + Drop, I: InboundTransform + Drop>(
 /// At which places calls have ended that weren't told of yet.
 fn ended_places<O: OutboundTransform + Drop, I: InboundTransform + Drop>(
     core: &mut ClientCore<O, I>,
+    reading: &mut ReadTurn,
 ) -> Ended {
     let mut places = 0;
     for _ in 0..u64::MAX {
         match core.next_ended() {
-            Some(id) => places |= 1 << place_of(id),
+            Some(id) => {
+                reading.ended(id);
+                places |= 1 << place_of(id);
+            }
             None => break,
         }
     }
@@ -116,6 +145,7 @@ fn place_of(id: CallId) -> usize
 pub struct ClientShared<O, I> {
     held: Mutex<ClientHeld<O, I>>,
     to_write: Condvar,
+    to_read: Condvar,
     callers: [Condvar; PLACES],
 }
 
@@ -125,6 +155,7 @@ impl<O: OutboundTransform + Drop, I: InboundTransform + Drop> ClientShared<O, I>
         ClientShared {
             held: Mutex::new(ClientHeld::new(core)),
             to_write: Condvar::new(),
+            to_read: Condvar::new(),
             callers: [
                 Condvar::new(),
                 Condvar::new(),
@@ -152,15 +183,54 @@ impl<O: OutboundTransform + Drop, I: InboundTransform + Drop> ClientShared<O, I>
         &callers[place_of(id)]
     }
 
-    /// Wakes the callers at these places.
-    pub(crate) fn wake(&self, places: Ended) {
-        let mut rest = places;
+    /// Waits until the thread that does nothing but read has the turn. False: the connection has failed.
+    pub fn wait_to_read<X: Wait>(&self, rt: &X) -> bool {
+        let mut guard = self.held.lock(rt);
+        for _ in rt.forever() {
+            if guard.core.has_failed() {
+                return false;
+            }
+            if guard.reading.thread_takes() {
+                return true;
+            }
+            guard = self.to_read.wait(rt, guard);
+        }
+        unreachable!()
+    }
+
+    /// Wakes the thread that does nothing but read.
+    pub fn wake_reader(&self) {
+        self.to_read.notify_one();
+    }
+
+    /// Wakes the callers whose calls have ended, and the thread that is to read on.
+    pub(crate) fn wake(&self, taken: Taken) {
+        let mut rest = taken.ended;
         for caller in self.callers.iter() {
+            if rest == 0 {
+                break;
+            }
             if rest % 2 == 1 {
                 caller.notify_all();
             }
             rest /= 2;
         }
+        if taken.onward == Onward::HandsOver {
+            self.wake_reader();
+        }
+    }
+
+    /// Fails the connection, since nobody is left who would call, and wakes its threads. They have the lock for a moment
+    /// at most, and no caller has it, so this waits for it without a handle for waiting.
+    pub fn abandon(&self) {
+        for _ in 0..u64::MAX {
+            if let Some(mut guard) = self.held.try_lock() {
+                guard.abandon();
+                break;
+            }
+            spin_loop();
+        }
+        self.wake_all();
     }
 }
 
@@ -177,6 +247,7 @@ impl<O: OutboundTransform + Drop, I: InboundTransform + Drop> Connected for Clie
 
     fn wake_all(&self) {
         self.to_write.notify_all();
+        self.to_read.notify_all();
         for caller in self.callers.iter() {
             caller.notify_all();
         }

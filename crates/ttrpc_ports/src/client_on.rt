@@ -56,6 +56,17 @@ pub fn broke_on<O: OutboundTransform + Drop, I: InboundTransform + Drop>(
     core.fail(Error::Nix(kind));
 }
 
+/// What becomes of it once nobody is left who would call. Takes no memory.
+pub fn abandon_on<O: OutboundTransform + Drop, I: InboundTransform + Drop>(
+    core: &mut ClientCore<O, I>,
+)
+    ensures { core.new ≡ record core.old {
+      connection = record core.old.connection { failure = kept core.old.connection.failure (AFailure.Told AnError.LocalClosed) };
+    } }
+{
+    core.fail(Error::LocalClosed);
+}
+
 /// What `lend` of the writer's port does. Takes no memory.
 pub fn lend_on<O: OutboundTransform + Drop, I: InboundTransform + Drop>(
     core: &mut ClientCore<O, I>,

@@ -34,6 +34,14 @@ handed_no_more a b c p q r h read taken = record {
   taken = Appends-kept p q r h.bytes h.taken taken;
 }
 
+-- The port was asked whether it wants more.
+pub handed_still : (a b p q r : Option (List ℕ)) → HandedAll a b p q → Keeps q r → HandedAll a b p r
+handed_still a b p q r h taken = record {
+  bytes = h.bytes;
+  read = h.read;
+  taken = Appends-kept p q r h.bytes h.taken taken;
+}
+
 pub handed_more : (a b c p q r : Option (List ℕ)) (piece : List ℕ) → HandedAll a b p q → Consumes b c piece → Appends q r piece → HandedAll a c p r
 handed_more a b c p q r piece h read taken = record {
   bytes = h.bytes ++ piece;

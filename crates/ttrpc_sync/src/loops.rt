@@ -12,9 +12,10 @@ use std::sync::Wait;
 use ttrpc_header::DEFAULT_PAGE_SIZE;
 use ttrpc_streams::{Sink, Source};
 
-#[tactic(auto, using(crate::proofs::Handing::handed_nothing, crate::proofs::Handing::handed_no_more, crate::proofs::Handing::handed_more, crate::proofs::Handing::handed_all, crate::proofs::Counting::one_more_still))]
+#[tactic(auto, using(crate::proofs::Handing::handed_nothing, crate::proofs::Handing::handed_still, crate::proofs::Handing::handed_no_more, crate::proofs::Handing::handed_more, crate::proofs::Handing::handed_all, crate::proofs::Counting::one_more_still))]
 /// Reads pieces and hands each to the port, until it has reported an end or a break of the reader, or the port wants no
-/// more. A rest that the port doesn't take is offered again, and an interrupted read is tried again.
+/// more, which it is asked before each read. A rest that the port doesn't take is offered again, and an interrupted read
+/// is tried again, if the port still wants more.
 pub fn read_loop<X: Wait, R: Source, P: ReadPort>(rt: &X, reader: &mut R, port: &mut P)
     ensures handed { Handed (R.remaining reader.old) (R.remaining reader.new) (P.taken port.old) (P.taken port.new) }
     ensures all { P.word port.new ≢ Word.Stopped
@@ -27,6 +28,9 @@ pub fn read_loop<X: Wait, R: Source, P: ReadPort>(rt: &X, reader: &mut R, port: 
     let mut buffer = [0u8; DEFAULT_PAGE_SIZE];
     port.begin();
     for _ in rt.forever() {
+        if !port.wants() {
+            return;
+        }
         match reader.read(&mut buffer) {
             Ok(0) => {
                 port.ended();

@@ -39,6 +39,16 @@ pub trait ReadPort {
         ensures word { word self.new ≡ Word.Open }
         ensures begun { IsOneMore (begun self.old) (begun self.new) };
 
+    /// Whether the loop is to read on, asked before each read. It may wait. False: the port wants no more.
+    fn wants(&mut self) -> bool
+        requires { word self.old ≡ Word.Open }
+        ensures taken { Keeps (taken self.old) (taken self.new) }
+        ensures word { MatchBool result (word self.new ≡ Word.Open) (word self.new ≡ Word.Stopped) }
+        ensures begun { IsSameCount (begun self.old) (begun self.new) }
+    {
+        true
+    }
+
     /// Takes a beginning of the piece, and says how many bytes. `None`: it wants no more, and took none of these.
     fn take(&mut self, piece: &[u8]) -> Option<usize>
         requires word { word self.old ≡ Word.Open }

@@ -136,10 +136,31 @@ where
     let alloc = rt.alloc();
     let reader = move || {
         let mut port = ClientRead::new(theirs, alloc, shared);
-        link.read(&mine, &mut port);
+        read_for_callers(&mine, &link, &mut port);
+        link.close();
     };
     Builder::new().spawn(rt, reader).map_err(fault)?;
     Ok(())
+}
+
+/// Reads each time when callers wait that don't read for themselves, until the connection has failed.
+fn read_for_callers<R, O, I>(
+    rt: &R,
+    link: &Link<ClientShared<O, I>>,
+    port: &mut ClientRead<R, O, I>,
+)
+where
+    R: Host,
+    O: OutboundTransform + Drop,
+    I: InboundTransform + Drop,
+{
+    for _ in rt.forever() {
+        if !link.shared().wait_to_read(rt) {
+            return;
+        }
+        link.read_on(rt, port);
+    }
+    unreachable!()
 }
 
 fn start_writer<R, O, I>(rt: &R, link: Arc<Link<ClientShared<O, I>>, Global>) -> Result<()>

@@ -1,7 +1,6 @@
 //! A client's connection, which lives as long as a client of it.
 use crate::client_on::{drop_call_on, request_on, take_outcome_on, tick_on};
 use std::alloc::Global;
-use std::sync::atomic::{AtomicU64, Ordering};
 use std::sync::{Arc, MutexGuard};
 use std::time::Duration;
 use ttrpc_client::CallId;
@@ -9,7 +8,7 @@ use ttrpc_client::call::deadline_of;
 use ttrpc_error::Result;
 use ttrpc_hooks::ConnectionData;
 use ttrpc_link::{Host, Link, Queued, after_queuing, moment};
-use ttrpc_ports::{ClientHeld, ClientShared, Connected};
+use ttrpc_ports::{ClientHeld, ClientRead, ClientShared, Connected};
 use ttrpc_proto::{Request, Response};
 use ttrpc_secure::{InboundTransform, OutboundTransform};
 
@@ -17,18 +16,13 @@ use ttrpc_secure::{InboundTransform, OutboundTransform};
 pub struct Line<O: OutboundTransform + Drop, I: InboundTransform + Drop> {
     link: Arc<Link<ClientShared<O, I>>, Global>,
     data: ConnectionData,
-    // How many callers make a call now.
-    callers: AtomicU64,
 }
 
 impl<O: OutboundTransform + Drop, I: InboundTransform + Drop> Drop for Line<O, I> {
     fn drop(self) {
-        let Line {
-            link,
-            data: _,
-            callers: _,
-        } = self;
+        let Line { link, data: _ } = self;
         link.close();
+        link.shared().abandon();
     }
 }
 
@@ -38,16 +32,23 @@ struct Waiting {
     id: CallId,
     /// The moment at which it expires, in nanoseconds.
     deadline: Option<u128>,
+    /// Whether its caller may read for itself.
+    is_alone: bool,
+}
+
+/// A call whose request was queued, once the lock is let go.
+#[derive(Clone, Copy)]
+struct Asked {
+    waiting: Waiting,
+    queued: Queued,
+    /// Whether the thread that does nothing but read is to be woken.
+    wakes: bool,
 }
 
 impl<O: OutboundTransform + Drop, I: InboundTransform + Drop> Line<O, I> {
     /// The line of this link, of whose connection this is known.
     pub fn new(link: Arc<Link<ClientShared<O, I>>, Global>, data: ConnectionData) -> Line<O, I> {
-        Line {
-            link,
-            data,
-            callers: AtomicU64::new(0),
-        }
+        Line { link, data }
     }
 
     /// What is known of the connection.
@@ -57,30 +58,36 @@ impl<O: OutboundTransform + Drop, I: InboundTransform + Drop> Line<O, I> {
 
     /// Makes a call, and waits for its outcome.
     pub fn call<R: Host>(&self, rt: &R, request: &Request) -> Result<Response> {
-        let is_alone = self.callers.fetch_add(1, Ordering::SeqCst) == 0;
-        let outcome = self.ask_and_wait(rt, request, is_alone);
-        self.callers.fetch_sub(1, Ordering::SeqCst);
-        outcome
-    }
-
-    // A caller with a deadline doesn't write, since a peer that reads nothing would hold it past that.
-    fn ask_and_wait<R: Host>(&self, rt: &R, request: &Request, is_alone: bool) -> Result<Response> {
-        let now = moment(rt)?;
-        let waiting = Waiting {
-            id: self.ask(rt, request, now, is_alone && request.timeout_nano == 0)?,
-            deadline: deadline_of(now, request.timeout_nano),
-        };
+        let shared = Arc::try_clone(self.link.shared())?;
+        let reader = ClientRead::new(rt.clone()?, rt.alloc(), shared);
+        let waiting = self.ask(rt, request, moment(rt)?)?;
+        if waiting.is_alone {
+            self.read_for(rt, reader, waiting.id);
+        }
         self.wait(rt, waiting)
     }
 
-    /// Queues the request of a call, and sees to it that it is written.
-    fn ask<R: Host>(&self, rt: &R, request: &Request, now: u64, may_write: bool) -> Result<CallId> {
+    /// Queues the request of a call, and sees to it that it is written and that somebody reads.
+    fn ask<R: Host>(&self, rt: &R, request: &Request, now: u64) -> Result<Waiting> {
         let port = self.link.port(rt)?;
-        let mut guard = self.link.shared().held().lock(rt);
-        let (id, next) = asked(&mut guard, rt.alloc(), request, now, may_write)?;
+        let shared = self.link.shared();
+        let mut guard = shared.held().lock(rt);
+        let asked = queue_request(&mut guard, rt.alloc(), request, now)?;
         drop(guard);
-        self.link.go_on(rt, port, next);
-        Ok(id)
+        self.link.go_on(rt, port, asked.queued);
+        if asked.wakes {
+            shared.wake_reader();
+        }
+        Ok(asked.waiting)
+    }
+
+    /// Reads until this call has ended, if nobody else reads.
+    fn read_for<R: Host>(&self, rt: &R, reader: ClientRead<R, O, I>, id: CallId) {
+        let mut reader = reader;
+        let may_read = self.link.shared().held().lock(rt).reading.take(id);
+        if may_read {
+            self.link.read_on(rt, &mut reader);
+        }
     }
 
     /// Waits for the outcome of a call. At each time that it wakes the core is told the moment.
@@ -89,12 +96,14 @@ impl<O: OutboundTransform + Drop, I: InboundTransform + Drop> Line<O, I> {
         let mut guard = shared.held().lock(rt);
         for _ in rt.forever() {
             if let Some(outcome) = take_outcome_on(&mut guard.core, rt.alloc(), waiting.id) {
+                guard.reading.finished();
                 return outcome;
             }
             guard = self.sleep(rt, guard, waiting);
             let has_ticked = ticked(rt, &mut guard);
             if let Err(error) = has_ticked {
                 drop_call_on(&mut guard.core, waiting.id);
+                guard.reading.finished();
                 return Err(error);
             }
         }
@@ -120,16 +129,28 @@ impl<O: OutboundTransform + Drop, I: InboundTransform + Drop> Line<O, I> {
     }
 }
 
-/// Queues the request of a call, and says what is to be done next.
-fn asked<O: OutboundTransform + Drop, I: InboundTransform + Drop>(
+/// Queues the request of a call, and says what is to be done next. Its caller writes and reads for itself where no other
+/// call is under way and it has no deadline: a peer that writes or reads nothing would hold it past that.
+fn queue_request<O: OutboundTransform + Drop, I: InboundTransform + Drop>(
     held: &mut ClientHeld<O, I>,
     alloc: Global,
     request: &Request,
     now: u64,
-    may_write: bool,
-) -> Result<(CallId, Queued)> {
+) -> Result<Asked> {
     let id = request_on(&mut held.core, alloc, request, now)?;
-    Ok((id, after_queuing(&mut held.turn, may_write)))
+    let deadline = deadline_of(now, request.timeout_nano);
+    let is_alone = held.reading.begins(id, deadline.is_some());
+    let queued = after_queuing(&mut held.turn, is_alone);
+    let wakes = !is_alone && held.reading.wakes();
+    Ok(Asked {
+        waiting: Waiting {
+            id,
+            deadline,
+            is_alone,
+        },
+        queued,
+        wakes,
+    })
 }
 
 /// Tells the core the moment, where a call may expire.

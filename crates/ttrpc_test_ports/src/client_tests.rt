@@ -3,7 +3,7 @@ use crate::ends::{Tested, call, client, client_failure, has_outcome, is_socket, 
 use std::io::{self, ErrorKind};
 use std::sync::Arc;
 use ttrpc_error::Error;
-use ttrpc_ports::{ClientRead, Connected};
+use ttrpc_ports::{ClientRead, Connected, Reader};
 use ttrpc_sync::{ReadPort, read_loop};
 use ttrpc_test_cores::server::{ASKED, ECHOED};
 
@@ -26,6 +26,7 @@ fn a_response_is_read(rt: HostRuntime) -> Tested {
     let id = call(&rt, rt.alloc(), &shared)?;
     let mut port = ClientRead::new(rt, rt.alloc(), Arc::try_clone(&shared)?);
     let mut reader = ECHOED;
+    assert!(rt; shared.wait_to_read(&rt));
     read_loop(&rt, &mut reader, &mut port);
     assert!(rt; has_outcome(&rt, rt.alloc(), &shared, id));
     assert!(rt;
@@ -34,6 +35,22 @@ fn a_response_is_read(rt: HostRuntime) -> Tested {
             "socket disconnected"
         )
     );
+    Ok(())
+}
+
+/// A caller that is alone reads until its call has ended, and no further.
+#[test]
+fn a_caller_reads_for_itself(rt: HostRuntime) -> Tested {
+    let shared = client(rt.alloc())?;
+    let id = call(&rt, rt.alloc(), &shared)?;
+    assert!(rt; shared.held().lock(&rt).reading.begins(id, false));
+    assert!(rt; shared.held().lock(&rt).reading.take(id));
+    let mut port = ClientRead::new(rt, rt.alloc(), Arc::try_clone(&shared)?);
+    let mut reader = ECHOED;
+    read_loop(&rt, &mut reader, &mut port);
+    assert!(rt; has_outcome(&rt, rt.alloc(), &shared, id));
+    assert!(rt; client_failure(&rt, rt.alloc(), &shared).is_none());
+    assert_eq!(rt; shared.held().lock(&rt).reading.reader, Reader::Nobody);
     Ok(())
 }
 

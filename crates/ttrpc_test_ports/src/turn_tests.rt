@@ -3,7 +3,7 @@ use crate::ends::{Tested, call, client, client_failure};
 use std::io::{self, ErrorKind};
 use std::sync::Arc;
 use ttrpc_error::Error;
-use ttrpc_ports::{ClientWrite, Connected, Next, Turn};
+use ttrpc_ports::{ClientWrite, Connected, Next, Onward, ReadTurn, Turn};
 use ttrpc_sync::WritePort;
 use ttrpc_test_cores::server::ASKED;
 use ttrpc_values::slices::{behind, front};
@@ -22,6 +22,53 @@ fn one_thread_has_the_turn(rt: HostRuntime) -> Tested {
     assert!(rt; turn.wakes());
     assert!(rt; !turn.wakes());
     assert_eq!(rt; turn.next(false, false, true), Next::Writes);
+    Ok(())
+}
+
+/// One thread at a time reads. Callers that are alone read for themselves; for the others the thread is woken once.
+#[test]
+fn one_thread_reads(rt: HostRuntime) -> Tested {
+    let mut turn = ReadTurn::new();
+    assert!(rt; !turn.wakes());
+    assert!(rt; turn.begins(1, false));
+    assert!(rt; turn.take(1));
+    assert!(rt; !turn.take(1));
+    assert!(rt; !turn.thread_takes());
+    assert!(rt; !turn.begins(3, false));
+    assert!(rt; !turn.wakes());
+    assert_eq!(rt; turn.onward(), Onward::Reads);
+    turn.ended(1);
+    assert!(rt; !turn.take(1));
+    assert_eq!(rt; turn.onward(), Onward::HandsOver);
+    turn.finished();
+    assert!(rt; turn.thread_takes());
+    turn.ended(3);
+    assert_eq!(rt; turn.onward(), Onward::Reads);
+    turn.finished();
+    Ok(())
+}
+
+/// The thread rests behind eight calls in a row that were alone, and not before the last one has ended.
+#[test]
+fn the_reader_rests_behind_lone_calls(rt: HostRuntime) -> Tested {
+    let mut turn = ReadTurn::new();
+    assert!(rt; !turn.begins(1, true));
+    turn.ended(1);
+    turn.finished();
+    assert!(rt; turn.thread_takes());
+    for call in 0..8 {
+        assert_eq!(rt; turn.onward(), Onward::Reads);
+        assert!(rt; turn.begins(call, false));
+        assert_eq!(rt; turn.onward(), Onward::Reads);
+        turn.ended(call);
+        turn.finished();
+    }
+    assert_eq!(rt; turn.onward(), Onward::Leaves);
+    assert!(rt; !turn.thread_takes());
+    assert!(rt; turn.begins(99, false));
+    assert!(rt; turn.take(99));
+    turn.ended(99);
+    assert_eq!(rt; turn.onward(), Onward::Leaves);
     Ok(())
 }
 

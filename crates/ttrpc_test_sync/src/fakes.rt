@@ -181,6 +181,8 @@ pub struct Taker {
     pub taken: Vec<u8>,
     pub word: Word,
     pub begun: Option<u32>,
+    /// How many reads it wants.
+    pub reads: usize,
     step: usize,
     room: usize,
     rests: bool,
@@ -193,6 +195,7 @@ impl Taker {
             taken,
             word: Word::Open,
             begun: Some(0),
+            reads: usize::MAX,
             step,
             room,
             rests,
@@ -211,6 +214,15 @@ impl ReadPort for Taker {
     fn begin(&mut self) {
         self.word = Word::Open;
         self.begun = one_more(self.begun);
+    }
+
+    fn wants(&mut self) -> bool {
+        if self.reads == 0 {
+            self.word = Word::Stopped;
+            return false;
+        }
+        self.reads -= 1;
+        true
     }
 
     fn take(&mut self, piece: &[u8]) -> Option<usize> {

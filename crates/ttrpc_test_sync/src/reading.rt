@@ -21,8 +21,9 @@ struct Reading<'a> {
     manner: Manner,
     wanted: &'static [usize],
     rests: bool,
-    /// How many bytes a port wants.
+    /// How many bytes a port wants, and how many reads.
     room: usize,
+    reads: usize,
     /// How many it took, and how many weren't read.
     taken: usize,
     left: usize,
@@ -38,6 +39,7 @@ const ALL: Reading<'static> = Reading {
     wanted: &[4096, 1],
     rests: false,
     room: ROOM,
+    reads: usize::MAX,
     taken: 20,
     left: 0,
     word: Word::Ended,
@@ -132,6 +134,20 @@ const READINGS: &[Reading<'static>] = &[
         left: 0,
         ..STOPPED
     },
+    Reading {
+        name: "a port that wants no read",
+        reads: 0,
+        taken: 0,
+        left: 20,
+        ..STOPPED
+    },
+    Reading {
+        name: "a port that wants two reads",
+        reads: 2,
+        taken: 16,
+        left: 4,
+        ..STOPPED
+    },
 ];
 
 /// One reader is read to one port, and what comes of it is what the row says.
@@ -144,6 +160,7 @@ fn reads_once<X: Wait + Abort>(
 ) -> Tested {
     let taken = Vec::with_capacity(alloc, ROOM)?;
     let mut port = Taker::new(taken, wanted, row.room, row.rests);
+    port.reads = row.reads;
     let manner = Manner {
         step: given,
         ..row.manner

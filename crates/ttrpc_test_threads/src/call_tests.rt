@@ -65,6 +65,29 @@ fn two_threads_share_a_client(rt: HostRuntime) -> Tested {
     Ok(())
 }
 
+/// Callers read for themselves while each is alone. For a call with a limit of time, and for callers that aren't alone,
+/// the client's thread reads, and then rests again.
+#[test]
+fn calls_alone_and_together_are_answered(rt: HostRuntime) -> Tested {
+    let site = serving(&rt)?;
+    let first = client(&rt, site.address.as_str())?;
+    let second = first.try_clone()?;
+    for _ in 0..3 {
+        calls_by(&rt, &first, 0)?;
+        let limited = first.request(request(rt.alloc(), "Echo", b"2", 5000000000)?)?;
+        assert!(rt; limited.payload.as_slice() == b"2".as_slice());
+        let (one, other) = thread::join(
+            &rt,
+            || calls_by(&rt, &first, 1),
+            || calls_by(&rt, &second, 2),
+        );
+        one?;
+        other?;
+    }
+    site.server.shutdown();
+    Ok(())
+}
+
 /// Calls, and opens the gate that the other call waits behind.
 fn opens<R, O, I>(rt: &R, client: &Client<R, O, I>, board: &Board) -> Answered<()>
 where

@@ -97,6 +97,20 @@ fn a_client_whose_server_dies_inside_an_answer_is_told(rt: HostRuntime) -> Teste
     )
 }
 
+/// A connection that ended while nobody read it is told to the next call.
+#[test]
+fn a_server_that_goes_away_unseen_is_told(rt: HostRuntime) -> Tested {
+    let site = serving(&rt)?;
+    let client = client(&rt, site.address.as_str())?;
+    for _ in 0..20 {
+        answers(&rt, &client, "Echo", b"2", b"2")?;
+    }
+    site.server.shutdown();
+    assert!(rt; call(&rt, &client, "Echo", b"2").is_err());
+    assert!(rt; call(&rt, &client, "Echo", b"2").is_err());
+    Ok(())
+}
+
 /// A client that goes away inside a request ends its connection, and no other.
 #[test]
 fn a_client_that_dies_inside_a_request_is_let_go(rt: HostRuntime) -> Tested {
