@@ -1,4 +1,8 @@
 //! What a handler is handed beside the request, and how it answers.
+ghost use Rattle.std.specs.Prelude.{◌≡◌, ℕ, List, IfErr, IfOk};
+ghost use Rattle.std.specs.Arc.{arc_value};
+ghost use Rattle.ttrpc_context.specs.Metadata.{seen, some_texts, texts_of, values_at};
+
 use crate::conn::Conn;
 use std::alloc::Global;
 use std::collections::BTreeMap;
@@ -27,12 +31,19 @@ pub struct TtrpcContext<R: Host, O: OutboundTransform + Drop, I: InboundTransfor
 }
 
 impl<R: Host, O: OutboundTransform + Drop, I: InboundTransform + Drop> TtrpcContext<R, O, I> {
-    /// The context of a request that came by this connection.
+    /// The context of a request that came by this connection, with this header.
     pub(crate) fn new(
         conn: &Arc<Conn<R, O, I>, Global>,
         mh: MessageHeader,
         request: &Request,
-    ) -> Result<TtrpcContext<R, O, I>> {
+    ) -> Result<TtrpcContext<R, O, I>>
+        ensures conn { IfOk result (λ context. arc_value context.conn ≡ arc_value conn.now) }
+        ensures header { IfOk result (λ context. context.mh ≡ mh) }
+        ensures metadata { IfOk result (λ context. (key : List ℕ)
+            → texts_of (seen context.metadata.entries) key ≡ some_texts (values_at request.now.metadata key)) }
+        ensures timeout { IfOk result (λ context. context.timeout_nano ≡ request.now.timeout_nano) }
+        ensures only_memory { IfErr result (λ e. e ≡ Error.NoMemory) }
+    {
         Ok(TtrpcContext {
             conn: Arc::try_clone(conn)?,
             cancelled: Arc::try_clone(conn.cancelled())?,
