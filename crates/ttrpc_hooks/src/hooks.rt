@@ -33,17 +33,25 @@ impl<O, I> HookOutput<O, I> {
 /// What looks at a connection that a server has accepted, before anything else is read from it. It is lent the stream, so
 /// that it may speak with the other side first.
 pub trait AcceptHook<S> {
+    ghost use Rattle.std.specs.Prelude.{⊤, Result};
+    ghost use Rattle.ttrpc_hooks.specs.declared.hook_error.HookError.{HookError};
+    ghost use Rattle.ttrpc_hooks.specs.declared.hooks.HookOutput.{HookOutput};
+
     /// The half that seals what the connection sends.
     type Outbound: OutboundTransform + Drop;
     /// The half that opens what the connection receives.
     type Inbound: InboundTransform + Drop;
+
+    // That it may give this for a stream, where it tells.
+    ghost gives: { Self → S → Result (HookOutput Self.Outbound Self.Inbound) HookError → Type 0 } = { λ _ _ _. ⊤ };
 
     /// What is known of the connection and what it goes through, or why it is closed.
     fn on_accept(
         &self,
         alloc: Global,
         stream: &S,
-    ) -> Result<HookOutput<Self::Outbound, Self::Inbound>, HookError>;
+    ) -> Result<HookOutput<Self::Outbound, Self::Inbound>, HookError>
+        ensures { gives self.now stream.now result };
 }
 
 /// What looks at a connection that a client has opened, before anything else is written to it. It is lent the stream, so

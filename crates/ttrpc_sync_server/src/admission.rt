@@ -1,4 +1,7 @@
 //! Whether a hook lets a connection pass, and in which time.
+ghost use Rattle.std.specs.Prelude.{◌≡◌, ◌⊎◌, IfErr};
+ghost use Rattle.std.specs.declared.io.Error.{Error as IoError};
+
 use std::alloc::Global;
 use std::io;
 use std::time::Clock;
@@ -13,28 +16,38 @@ use ttrpc_transport::PipeConnection;
 pub struct NoHook {}
 
 impl<S> AcceptHook<S> for NoHook {
+    ghost use Rattle.std.specs.Prelude.{◌≡◌, []};
+    ghost use Rattle.std.specs.Result.{IsOkAnd};
+
     type Outbound = Plain;
 
     type Inbound = Plain;
+
+    ghost gives = { λ _ _ result. IsOkAnd result (λ output. output.connection_data.entries ≡ []) };
 
     fn on_accept(&self, alloc: Global, _stream: &S) -> Result<HookOutput<Plain, Plain>, HookError> {
         Ok(HookOutput::of_halves(alloc, Plain {}, Plain {}))
     }
 }
 
-/// What the hook gives for a connection, if it does so in time, by this clock.
+/// What the hook gives for a connection, if it does so in time by this clock, or else `Timeout`. A clock that can't be read is
+/// `Io`.
 pub fn admit<C: Clock, S, A: AcceptHook<S>>(
     clock: &C,
     alloc: Global,
     hook: &A,
     stream: &S,
-) -> Result<HookOutput<A::Outbound, A::Inbound>, HookError> {
+) -> Result<HookOutput<A::Outbound, A::Inbound>, HookError>
+    ensures { A.gives hook.now stream.now result ⊎ (result ≡ Err HookError.Timeout) ⊎ ((e : IoError) × (result ≡ Err (HookError.Io e))) }
+{
     let started = read_clock(clock)?;
     let hooked = hook.on_accept(alloc, stream);
     hook_result(started, read_clock(clock)?, hooked)
 }
 
-fn read_clock<C: Clock>(clock: &C) -> Result<u64, HookError> {
+fn read_clock<C: Clock>(clock: &C) -> Result<u64, HookError>
+    ensures { IfErr result (λ error. (error ≡ HookError.Timeout) ⊎ ((e : IoError) × (error ≡ HookError.Io e))) }
+{
     match moment(clock) {
         Ok(now) => Ok(now),
         Err(Error::Nix(kind)) => Err(HookError::Io(io::Error::from(kind))),
