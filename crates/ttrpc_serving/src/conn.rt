@@ -1,4 +1,7 @@
 //! A server's connection, as its handlers see it.
+ghost use Rattle.std.specs.Prelude.{◌≡◌, IfErr, IfOk};
+ghost use Rattle.ttrpc_error.specs.declared.error.Error.TheVariants.{NoMemory};
+
 use crate::crew::Crew;
 use crate::server_on::respond_on;
 use std::alloc::Global;
@@ -16,7 +19,7 @@ use ttrpc_secure::{InboundTransform, OutboundTransform};
 pub struct Conn<R: Host, O: OutboundTransform + Drop, I: InboundTransform + Drop> {
     rt: R,
     link: Link<ServerShared<O, I>>,
-    data: ConnectionData,
+    known: ConnectionData,
     cancelled: Arc<AtomicBool, Global>,
     crew: Crew,
 }
@@ -26,21 +29,26 @@ impl<R: Host, O: OutboundTransform + Drop, I: InboundTransform + Drop> Conn<R, O
     pub fn new(
         rt: R,
         link: Link<ServerShared<O, I>>,
-        data: ConnectionData,
-    ) -> Result<Conn<R, O, I>> {
+        known: ConnectionData,
+    ) -> Result<Conn<R, O, I>>
+        ensures known { IfOk result (λ conn. conn.known ≡ known) }
+        ensures err { IfErr result (λ e. e ≡ NoMemory) }
+    {
         let cancelled = Arc::new(rt.alloc(), AtomicBool::new(false))?;
         Ok(Conn {
             rt,
             link,
-            data,
+            known,
             cancelled,
             crew: Crew::new(),
         })
     }
 
     /// What is known of the connection, as its hook told it.
-    pub fn connection_data(&self) -> &ConnectionData {
-        &self.data
+    pub fn connection_data(&self) -> &ConnectionData
+        ensures { result.now ≡ self.now.known }
+    {
+        &self.known
     }
 
     /// What handlers, and what is made for them, take memory from.

@@ -1,4 +1,7 @@
 //! What each connection of a server is served with.
+ghost use Rattle.std.specs.Prelude.{◌≡◌, IfOk};
+ghost use Rattle.std.specs.Arc.{arc_value};
+
 use crate::admission::admit;
 use crate::connections::Connections;
 use std::alloc::Global;
@@ -104,7 +107,7 @@ where
     Ok(())
 }
 
-/// The connection that a hook let pass.
+/// The connection that a hook let pass, of which is known what the hook told.
 fn open<R, O, I, H>(
     rt: R,
     methods: &Methods<H>,
@@ -117,6 +120,7 @@ where
     O: OutboundTransform + Drop,
     I: InboundTransform + Drop,
     H: Drop,
+    ensures { IfOk result (λ conn. (arc_value conn).known ≡ output.connection_data) }
 {
     let alloc = rt.alloc();
     let HookOutput {
