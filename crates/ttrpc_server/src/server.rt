@@ -150,10 +150,11 @@ impl<O: OutboundTransform + Drop, I: InboundTransform + Drop> ServerCore<O, I> {
         ensures refused { IfErr result (RefusesResponse O.OutboundTransform self.old stream_id response.now) }
         ensures err { OnErr result (self.new ≡ self.old) }
     {
-        self.connection.check_alive(alloc)?;
-        match send_response(alloc, &mut self.connection.outbox, stream_id, response) {
+        let connection = &mut self.connection;
+        connection.check_alive(alloc)?;
+        match send_response(alloc, &mut connection.outbox, stream_id, response) {
             Ok(()) => Ok(()),
-            Err(unsent) => Err(unsent.error(alloc, self.connection.outbox.limit())),
+            Err(unsent) => Err(unsent.error(alloc, connection.outbox.limit())),
         }
     }
 
