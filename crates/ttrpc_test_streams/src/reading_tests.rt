@@ -58,6 +58,17 @@ fn are_parts(
     }
 }
 
+/// Whether memory was refused, for the message or for the text that is told with its header.
+fn is_refused(read: &Result<GenMessage, GenMessageError>) -> bool {
+    matches!(
+        read,
+        Err(
+            GenMessageError::InternalError(Error::NoMemory)
+                | GenMessageError::ReturnError(_, Error::NoMemory)
+        )
+    )
+}
+
 /// Whether what was read as a message is what the row says.
 fn is_message(row: &Row, read: &Result<GenMessage, GenMessageError>) -> bool {
     match (row.reads, read) {
@@ -95,7 +106,7 @@ fn is_value(
 fn reads_parts(rt: &impl Abort, alloc: Global, row: &Row, manner: Manner) -> Tested {
     let mut giver = giver_of(row, manner);
     let read = read_message(alloc, &mut giver);
-    if let Err(Error::NoMemory) = read {
+    if let Err(Error::NoMemory) | Ok((_, Err(Error::NoMemory))) = read {
         return Err(Error::NoMemory.into());
     }
     assert!(rt; are_parts(row, &read), "{}", row.name);
@@ -106,7 +117,7 @@ fn reads_parts(rt: &impl Abort, alloc: Global, row: &Row, manner: Manner) -> Tes
 fn reads_message(rt: &impl Abort, alloc: Global, row: &Row, manner: Manner) -> Tested {
     let mut giver = giver_of(row, manner);
     let read = GenMessage::read_from(alloc, &mut giver);
-    if let Err(GenMessageError::InternalError(Error::NoMemory)) = read {
+    if is_refused(&read) {
         return Err(Error::NoMemory.into());
     }
     assert!(rt; is_message(row, &read), "{}", row.name);
