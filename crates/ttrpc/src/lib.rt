@@ -22,4 +22,4 @@ pub use security_extension::{
     HookOutput, InboundTransform, OutboundTransform,
 };
 pub use sync::{Client, MethodHandler, Server, TtrpcContext, send_response};
-pub use ttrpc_calls as calls;
+pub use ttrpc_message::calls;

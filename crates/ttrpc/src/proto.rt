@@ -1,12 +1,11 @@
 //! The messages of an envelope, their header, and what a value is that travels in a payload.
 pub use ttrpc_codec::message::WireMessage;
 pub use ttrpc_codec::{Codec, members};
-pub use ttrpc_frame::{GenMessage, GenMessageError};
-pub use ttrpc_header::{
-    DEFAULT_PAGE_SIZE, FLAG_NO_DATA, FLAG_REMOTE_CLOSED, FLAG_REMOTE_OPEN, MESSAGE_HEADER_LENGTH,
-    MESSAGE_LENGTH_MAX, MESSAGE_TYPE_DATA, MESSAGE_TYPE_REQUEST, MESSAGE_TYPE_RESPONSE,
-    MessageHeader,
+pub use ttrpc_frame::{
+    DEFAULT_PAGE_SIZE, FLAG_NO_DATA, FLAG_REMOTE_CLOSED, FLAG_REMOTE_OPEN, GenMessage,
+    GenMessageError, MESSAGE_HEADER_LENGTH, MESSAGE_LENGTH_MAX, MESSAGE_TYPE_DATA,
+    MESSAGE_TYPE_REQUEST, MESSAGE_TYPE_RESPONSE, MessageHeader,
 };
 pub use ttrpc_message::Message;
 pub use ttrpc_proto::{Any, KeyValue, Request, RequestInit, Response, ResponseInit, Status};
-pub use ttrpc_values::{Blob, Code, Sequence, Text, TryClone};
+pub use ttrpc_wire::{Blob, Code, Sequence, Text, TryClone};

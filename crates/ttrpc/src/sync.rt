@@ -1,11 +1,9 @@
 //! Client and server with threads, and the loops that they are made of.
-pub use ttrpc_link::{Host, Runtime};
-pub use ttrpc_ports::{ClientRead, ClientWrite, ServerJobs, ServerRead, ServerWrite};
-pub use ttrpc_serving::{
-    Conn, MethodHandler, TtrpcContext, response_error_to_channel, send_response,
-};
 pub use ttrpc_sync::{
-    Gate, Handler, JobPort, ReadPort, WritePort, read_loop, work_loop, write_loop,
+    Gate, Handler, Host, JobPort, ReadPort, Runtime, WritePort, read_loop, work_loop, write_loop,
 };
-pub use ttrpc_sync_client::Client;
-pub use ttrpc_sync_server::{NoHook, Server};
+pub use ttrpc_sync_client::{Client, ClientRead, ClientWrite};
+pub use ttrpc_sync_server::{
+    Conn, MethodHandler, NoHook, Server, ServerJobs, ServerRead, ServerWrite, SharedHandler,
+    SharedHook, TtrpcContext, response_error_to_channel, send_response,
+};

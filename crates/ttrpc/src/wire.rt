@@ -1,6 +1,5 @@
 //! The fields of messages, read and written, and why bytes mean no value.
-pub use ttrpc_values::CodecError;
 pub use ttrpc_wire::{
-    Field, FieldNumber, Reader, Tag, Value, WireType, field_len, put_field, put_tag, put_varint,
-    tag_len, varint_len,
+    CodecError, Field, FieldNumber, Reader, Tag, Value, WireType, field_len, put_field, put_tag,
+    put_varint, tag_len, varint_len,
 };

@@ -3,7 +3,7 @@ ghost use Rattle.std.specs.Prelude.{◌≡◌, ◌≢◌, IfOk, IfErr, OnErr};
 
 use std::alloc::Global;
 use ttrpc_secure::{InboundTransform, OutboundTransform, TransformError};
-use ttrpc_values::Text;
+use ttrpc_wire::Text;
 
 /// A half that opens whatever it is given to one byte more than a message may have.
 #[derive(Debug, Drop)]

@@ -6,7 +6,7 @@ ghost use Rattle.ttrpc_bench.specs.Stamp.{TakesStampOff, HasWrongStamp};
 use std::alloc::Global;
 use std::marker::Model;
 use ttrpc_secure::{InboundTransform, OutboundTransform, TransformError};
-use ttrpc_values::Text;
+use ttrpc_wire::Text;
 
 /// The half that stamps, which contracts see as its next stamp.
 #[derive(Debug, Default, Drop)]

@@ -3,11 +3,10 @@ use super::*;
 use std::alloc::Global;
 use std::process::Abort;
 use std::test::Fail;
-use ttrpc_frame::{GenMessage, Outgoing, Queued};
-use ttrpc_header::MessageHeader;
+use ttrpc_frame::{GenMessage, MessageHeader, Outgoing, Queued};
 use ttrpc_secure::sending::{SendError, send};
 use ttrpc_secure::{InboundTransform, OutboundTransform, TransformError};
-use ttrpc_values::Blob;
+use ttrpc_wire::Blob;
 
 type Tested = Result<(), Fail>;
 

@@ -4,7 +4,7 @@ use Rattle.std.specs.Prelude.{◌≡◌, ◌≢◌, ◌<◌, ◌≤◌, ℕ, ◌
 use Rattle.ttrpc_client.specs.Types.{Error, Others, Request, Response, Queued, OutboundTransform, Arrived, Failure, DeadlineDuringWrite, CancelledDuringWrite, Connection, Call, Waiting, Expired, Ended, ClientKind}
 use Rattle.ttrpc_frame.specs.Queue.{has_begun, without}
 use Rattle.ttrpc_secure.specs.declared.transform.InboundTransform.{Ghosts as InboundTransform}
-use Rattle.ttrpc_hooks.specs.Facts.{Facts}
+use Rattle.ttrpc_secure.specs.Hooks.Facts.{Facts}
 use Rattle.ttrpc_connection.specs.Failure.{IsTold, error_of, kept}
 use Rattle.ttrpc_connection.specs.Feeds.{Ways, new_connection}
 use Rattle.ttrpc_connection.specs.Frames.{Sent, SendsOne, safe_limit}

@@ -4,20 +4,20 @@ use Rattle.std.specs.Prelude.{◌≡◌, ◌⊎◌, ◌<◌, ◌≤◌, ◌-◌,
 use Rattle.std.specs.Fmt.{decimal}
 use Rattle.ttrpc_wire.specs.Field.{fields_bytes}
 use Rattle.ttrpc_wire.specs.Fold.{read_from}
-use Rattle.ttrpc_values.specs.declared.code.Code.TheVariants.{INVALID_ARGUMENT}
+use Rattle.ttrpc_wire.specs.declared.values.code.Code.TheVariants.{INVALID_ARGUMENT}
 use Rattle.ttrpc_client.specs.Types.{Error, Others, RpcStatus, NoMemory, Request, Response, Queued, OutboundTransform, Call, Waiting, Ended, ClientKind, Sync, Async}
-use Rattle.ttrpc_header.specs.declared.header.MessageHeader.{MessageHeader}
-use Rattle.ttrpc_header.specs.declared.header.TheConstants.{MESSAGE_LENGTH_MAX, MESSAGE_TYPE_REQUEST, MESSAGE_TYPE_RESPONSE}
+use Rattle.ttrpc_frame.specs.declared.header.MessageHeader.{MessageHeader}
+use Rattle.ttrpc_frame.specs.declared.header.TheConstants.{MESSAGE_LENGTH_MAX, MESSAGE_TYPE_REQUEST, MESSAGE_TYPE_RESPONSE}
 use Rattle.ttrpc_proto.specs.declared.status.Status.{Status}
-use Rattle.ttrpc_error.specs.ErrorText.{status_of}
-use Rattle.ttrpc_header.specs.Oversize.{oversize_text}
+use Rattle.ttrpc_proto.specs.ErrorText.{status_of}
+use Rattle.ttrpc_frame.specs.Header.Oversize.{oversize_text}
 use Rattle.ttrpc_proto.specs.Messages.{empty_response, request_fields, response_step}
 use Rattle.ttrpc_secure.specs.Sends.{associated}
 use Rattle.ttrpc_connection.specs.declared.arrived.Opening.{Opening}
 use Rattle.ttrpc_connection.specs.declared.arrived.Opening.TheVariants.{TooLong, Opened, Refused}
 use Rattle.ttrpc_connection.specs.Failure.{IsTold}
 use Rattle.ttrpc_connection.specs.Feeds.{IsFailed}
-use Rattle.ttrpc_security.specs.Texts.{advice_text, unopened_text, unsafe_payload_text, unsealed_text}
+use Rattle.ttrpc_secure.specs.Security.Texts.{advice_text, unopened_text, unsafe_payload_text, unsealed_text}
 use Rattle.ttrpc_connection.specs.Frames.{safe_limit}
 use Rattle.ttrpc_client.specs.declared.client.ClientCore.{ClientCore}
 use Rattle.ttrpc_client.specs.Client.{OthersStay, call_in}

@@ -2,7 +2,7 @@
 -- Source: this project's.
 pub use Rattle.ttrpc_proto.specs.declared.request.Request.{Request}
 pub use Rattle.ttrpc_proto.specs.declared.response.Response.{Response}
-pub use Rattle.ttrpc_error.specs.declared.error.Error.TheVariants.{NoMemory, Others, RpcStatus}
+pub use Rattle.ttrpc_proto.specs.declared.error.Error.TheVariants.{NoMemory, Others, RpcStatus}
 pub use Rattle.ttrpc_connection.specs.Types.{Error, OutboundTransform, Queued}
 pub use Rattle.ttrpc_connection.specs.declared.arrived.Arrived.{Arrived}
 pub use Rattle.ttrpc_connection.specs.declared.connection.Connection.{Connection}

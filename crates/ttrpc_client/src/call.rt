@@ -4,8 +4,7 @@ ghost use Rattle.ttrpc_client.specs.Client.{deadline_of};
 ghost use Rattle.ttrpc_client.specs.Happens.{is_due};
 ghost use Rattle.ttrpc_client.specs.Kept.{deadline_in};
 
-use ttrpc_error::Error;
-use ttrpc_proto::Response;
+use ttrpc_proto::{Error, Response};
 use ttrpc_wire::int64_to_varint;
 
 /// The number of a call, which is the id of its stream: odd, and rising from call to call.

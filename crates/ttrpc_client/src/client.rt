@@ -2,7 +2,7 @@
 ghost use Rattle.std.specs.Prelude.{◌≡◌, ◌≢◌, ◌<◌, ◌≤◌, ◌%◌, ◌^◌, ◌+◌, ◌++◌, ◌↔◌, ◌⊎◌, ℕ, [], length, take, drop, min, is_some, if◌then◌else◌, true, option_to_list, IfOk, IfErr, OnOk, OnErr, IfSome, IfNone, Some, None};
 ghost use Rattle.ttrpc_frame.specs.Frames.{nothing};
 ghost use Rattle.ttrpc_frame.specs.Queue.{open_part, unsent, with_lent, after_report};
-ghost use Rattle.ttrpc_hooks.specs.Facts.{facts_of};
+ghost use Rattle.ttrpc_secure.specs.Hooks.Facts.{facts_of};
 ghost use Rattle.ttrpc_connection.specs.declared.failure.Failure.{Failure as AFailure};
 ghost use Rattle.ttrpc_connection.specs.Failure.{IsTold, error_of, kept};
 ghost use Rattle.ttrpc_connection.specs.Feeds.{Breaks, Feeds, IsFailed};
@@ -21,18 +21,16 @@ use std::alloc::Global;
 use ttrpc_codec::Codec;
 use ttrpc_codec::message::encode_with_room;
 use ttrpc_connection::{Connection, Failure, Outbox};
-use ttrpc_error::Error;
+use ttrpc_frame::header::oversize::oversize_error;
 use ttrpc_frame::owners::Owners;
-use ttrpc_frame::{GenMessage, Queued};
-use ttrpc_header::oversize::oversize_error;
-use ttrpc_header::{MESSAGE_LENGTH_MAX, MessageHeader};
-use ttrpc_hooks::ConnectionData;
-use ttrpc_proto::Request;
+use ttrpc_frame::{GenMessage, MESSAGE_LENGTH_MAX, MessageHeader, Queued};
+use ttrpc_proto::{Error, Request};
+use ttrpc_secure::security::errors::{told, unsealed_error};
 use ttrpc_secure::sending::SendError;
-use ttrpc_secure::{InboundTransform, OutboundTransform, TransformError};
-use ttrpc_security::ConnectionContext;
-use ttrpc_security::errors::{told, unsealed_error};
-use ttrpc_values::{Blob, CodecError};
+use ttrpc_secure::{
+    ConnectionContext, ConnectionData, InboundTransform, OutboundTransform, TransformError,
+};
+use ttrpc_wire::{Blob, CodecError};
 
 /// The core of a client, over its connection's two halves.
 #[derive(Drop)]

@@ -2,15 +2,15 @@
 ghost use Rattle.std.specs.Prelude.{◌≡◌, ◌++◌, ℕ, List, codes, IfOk};
 ghost use Rattle.ttrpc_connection.specs.Failure.{IsTold};
 ghost use Rattle.ttrpc_client.specs.Table.{advice, malformed_text};
-ghost use Rattle.ttrpc_security.specs.Texts.{unsafe_payload_text};
+ghost use Rattle.ttrpc_secure.specs.Security.Texts.{unsafe_payload_text};
 ghost use Rattle.ttrpc_client.specs.Happens.{expired_error};
 
 use crate::kind::ClientKind;
 use std::alloc::{AllocError, Global};
-use ttrpc_error::Error;
-use ttrpc_header::MessageHeader;
-use ttrpc_security::errors::{others_error, unsafe_payload_error};
-use ttrpc_values::{CodecError, Text};
+use ttrpc_frame::MessageHeader;
+use ttrpc_proto::Error;
+use ttrpc_secure::security::errors::{others_error, unsafe_payload_error};
+use ttrpc_wire::{CodecError, Text};
 
 /// The outcome of a call whose response doesn't read as one. The clause leaves the end of its text open, as it leaves
 /// the texts of `CodecError`.

@@ -6,12 +6,11 @@ use crate::errors::{malformed_error, unreadable_error};
 use std::alloc::{AllocError, Global};
 use ttrpc_codec::in_place::decode_in_place;
 use ttrpc_connection::Opening;
-use ttrpc_error::Error;
-use ttrpc_header::oversize::oversize_error;
-use ttrpc_header::{MESSAGE_LENGTH_MAX, MESSAGE_TYPE_RESPONSE, MessageHeader};
-use ttrpc_proto::Response;
-use ttrpc_security::errors::unopened_error;
-use ttrpc_values::{Blob, CodecError};
+use ttrpc_frame::header::oversize::oversize_error;
+use ttrpc_frame::{MESSAGE_LENGTH_MAX, MESSAGE_TYPE_RESPONSE, MessageHeader};
+use ttrpc_proto::{Error, Response};
+use ttrpc_secure::security::errors::unopened_error;
+use ttrpc_wire::{Blob, CodecError};
 
 /// The outcome of a call.
 pub type Outcome = Result<Response, Error>;

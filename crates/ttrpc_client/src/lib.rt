@@ -3,6 +3,7 @@
 
 pub mod call;
 mod client;
+pub mod client_on;
 mod deadlines;
 pub mod errors;
 mod kind;

@@ -2,7 +2,7 @@
 use Rattle.std.proofs.Common.{◌≡◌, ◌≤◌, ◌-◌, ◌+◌, ◌++◌, ℕ, List, length, length-append, take, drop, Option, Some, None, Bool, true, false, if◌then◌else◌, refl, sym, ap, subst, ◌∙◌, arith, append_assoc}
 use Rattle.std.proofs.lemmas.List.{drop_at, drop-drop, take_at}
 use Rattle.std.specs.Option.{option_map}
-use Rattle.ttrpc_values.specs.declared.codec_error.CodecError.{CodecError}
+use Rattle.ttrpc_wire.specs.declared.values.codec_error.CodecError.{CodecError}
 use Rattle.std.specs.Prelude.{◌==◌}
 use Rattle.ttrpc_wire.specs.Field.{Field, Fixed32, Fixed64, IsField, LengthDelimited, Value, Varint}
 use Rattle.ttrpc_wire.specs.Fold.{read_from, Refused}

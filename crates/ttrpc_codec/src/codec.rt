@@ -3,8 +3,8 @@ ghost use Rattle.std.specs.Prelude.{◌≡◌, ℕ, List, ◌<◌, ◌≤◌, �
 
 use crate::message::{WireMessage, decode, encode, merge, size};
 use std::alloc::Global;
-use ttrpc_values::CodecError;
-use ttrpc_values::codec_error::CodecFailure;
+use ttrpc_wire::CodecError;
+use ttrpc_wire::values::codec_error::CodecFailure;
 
 /// A value with a written form, and what bytes mean as such a value.
 ///

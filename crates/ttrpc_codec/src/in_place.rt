@@ -7,8 +7,7 @@ ghost use Rattle.ttrpc_codec.specs.Members.{delimited_field};
 
 use crate::message::WireMessage;
 use std::alloc::Global;
-use ttrpc_values::{Blob, CodecError};
-use ttrpc_wire::{Field, Reader, Value};
+use ttrpc_wire::{Blob, CodecError, Field, Reader, Value};
 
 /// A message with bytes that are its payload, and may be many.
 pub trait CarriesPayload: WireMessage {

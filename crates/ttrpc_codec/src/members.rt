@@ -9,9 +9,9 @@ ghost use Rattle.ttrpc_codec.specs.Members.{text_of, delimited_field, delimited_
 
 use crate::message::WireMessage;
 use std::alloc::{AllocError, Global};
-use ttrpc_values::{CodecError, Text};
 use ttrpc_wire::{
-    Field, FieldNumber, Tag, Value, WireType, field_len, put_tag, put_varint, tag_len, varint_len,
+    CodecError, Field, FieldNumber, Tag, Text, Value, WireType, field_len, put_tag, put_varint,
+    tag_len, varint_len,
 };
 
 /// The text that the bytes are, copied; an error where they aren't UTF-8.

@@ -6,8 +6,7 @@ ghost use Rattle.ttrpc_wire.specs.Seen.{seen};
 ghost use Rattle.ttrpc_wire.specs.Fold.{folded, read_from, Gives};
 
 use std::alloc::{AllocError, Global};
-use ttrpc_values::{CodecError, TryClone};
-use ttrpc_wire::Reader;
+use ttrpc_wire::{CodecError, Reader, TryClone};
 
 /// A message of fields: what it means, and how its fields are read and written.
 ///

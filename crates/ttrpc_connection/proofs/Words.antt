@@ -9,7 +9,7 @@ pub use Rattle.std.specs.Cmp.{Equal-is, nat_cmp_is}
 pub use Rattle.std.specs.List.{AllByRecursion, list_any}
 pub use Rattle.std.specs.Map.{lookup, remove_entry, values_of}
 pub use Rattle.std.specs.Ordering.{nat_cmp}
-pub use Rattle.ttrpc_values.specs.declared.code.Code.TheVariants.{INVALID_ARGUMENT}
+pub use Rattle.ttrpc_wire.specs.declared.values.code.Code.TheVariants.{INVALID_ARGUMENT}
 pub use Rattle.ttrpc_frame.proofs.Frames.{count_goes_on, count_is_frame, exact, header_front, nothing_held}
 pub use Rattle.ttrpc_frame.proofs.Pieces.{frames_append, is_frames, one_list}
 pub use Rattle.ttrpc_frame.specs.Frames.{Fed, Frames, given, Held, held_of, Holds, nothing}

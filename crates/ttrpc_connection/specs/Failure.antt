@@ -2,8 +2,8 @@
 -- Source: this project's.
 use Rattle.std.specs.Prelude.{codes, Option, None, Some}
 use Rattle.ttrpc_connection.specs.Types.{Error, Failure, Told, Disconnected, DisconnectedInside, HandlerError, JobIdsUsedUp, DeadlineDuringWrite, CancelledDuringWrite, MemoryRefused}
-use Rattle.ttrpc_error.specs.declared.error.Error.TheVariants.{Socket, Others, NoMemory}
-pub use Rattle.ttrpc_security.specs.Told.{IsTold}
+use Rattle.ttrpc_proto.specs.declared.error.Error.TheVariants.{Socket, Others, NoMemory}
+pub use Rattle.ttrpc_secure.specs.Security.Told.{IsTold}
 
 abbrev pub error_of : Failure → Error
 error_of (Told error) = error

@@ -4,7 +4,7 @@ use Rattle.std.specs.Prelude.{◌≡◌, ◌⊎◌, ℕ, List, [], ◌∷◌, �
 use Rattle.ttrpc_connection.specs.Types.{Error, Incoming, OutboundTransform, InboundTransform, Arrived, Opening, Connection, Failure, NoMemory, Outbox}
 use Rattle.ttrpc_frame.specs.Frames.{Fed, given, nothing}
 use Rattle.ttrpc_frame.specs.Queue.{empty_queue}
-use Rattle.ttrpc_hooks.specs.Facts.{Facts}
+use Rattle.ttrpc_secure.specs.Hooks.Facts.{Facts}
 use Rattle.ttrpc_connection.specs.declared.reacts.Reacts.{Ghosts as Reacts}
 use Rattle.ttrpc_connection.specs.Failure.{IsTold, error_of}
 use Rattle.ttrpc_connection.specs.Frames.{Opens, Sent, SendsAll, header_of_frame}

@@ -1,8 +1,8 @@
 -- The types of the code that these definitions speak of, in one list.
 -- Source: this project's.
-pub use Rattle.ttrpc_header.specs.declared.header.MessageHeader.{MessageHeader}
-pub use Rattle.ttrpc_header.specs.declared.header.TheConstants.{MESSAGE_LENGTH_MAX, MESSAGE_TYPE_REQUEST}
-pub use Rattle.ttrpc_error.specs.declared.error.Error.{Error}
+pub use Rattle.ttrpc_frame.specs.declared.header.MessageHeader.{MessageHeader}
+pub use Rattle.ttrpc_frame.specs.declared.header.TheConstants.{MESSAGE_LENGTH_MAX, MESSAGE_TYPE_REQUEST}
+pub use Rattle.ttrpc_proto.specs.declared.error.Error.{Error}
 pub use Rattle.ttrpc_frame.specs.declared.frame.Incoming.{Incoming}
 pub use Rattle.ttrpc_frame.specs.declared.outgoing.Queued.{Queued}
 pub use Rattle.ttrpc_secure.specs.declared.transform.InboundTransform.{Ghosts as InboundTransform}

@@ -3,11 +3,10 @@ ghost use Rattle.std.specs.Prelude.{◌≡◌, IfOk, OnErr};
 ghost use Rattle.ttrpc_connection.specs.Frames.{Opens, header_of_frame};
 
 use std::alloc::{AllocError, Global};
-use ttrpc_frame::Incoming;
-use ttrpc_header::MessageHeader;
+use ttrpc_frame::{Incoming, MessageHeader};
 use ttrpc_secure::sending::associated_bytes;
 use ttrpc_secure::{InboundTransform, TransformError};
-use ttrpc_values::{Blob, Text};
+use ttrpc_wire::{Blob, Text};
 
 /// What the inbound half made of a frame's payload.
 #[derive(Debug, Drop, PartialEq, Eq)]

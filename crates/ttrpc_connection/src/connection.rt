@@ -2,7 +2,7 @@
 ghost use Rattle.std.specs.Prelude.{ℕ, List, ◌≡◌, ◌≢◌, ◌<◌, ◌≤◌, ◌↔◌, ◌⊎◌, [], true, length, take, drop, min, is_some, if◌then◌else◌, IfOk, IfErr, OnOk, OnErr, IfSome, IfNone, Err, Some, None};
 ghost use Rattle.ttrpc_frame.specs.Frames.{Holds, nothing};
 ghost use Rattle.ttrpc_frame.specs.Queue.{open_part, unsent, with_lent, after_report};
-ghost use Rattle.ttrpc_hooks.specs.Facts.{facts_of};
+ghost use Rattle.ttrpc_secure.specs.Hooks.Facts.{facts_of};
 ghost use Rattle.ttrpc_connection.specs.declared.failure.Failure.{Failure as AFailure};
 ghost use Rattle.ttrpc_connection.specs.Failure.{IsTold, error_of, kept};
 ghost use Rattle.ttrpc_connection.specs.Feeds.{Breaks, Feeds, FeedsFront, IsFailed, new_connection, ways};
@@ -13,12 +13,10 @@ use crate::failure::Failure;
 use crate::outbox::Outbox;
 use crate::reacts::Reacts;
 use std::alloc::Global;
-use ttrpc_error::Error;
 use ttrpc_frame::FrameDecoder;
-use ttrpc_hooks::{ConnectionData, Known};
-use ttrpc_secure::{InboundTransform, OutboundTransform};
-use ttrpc_security::ConnectionContext;
-use ttrpc_values::slices::behind;
+use ttrpc_proto::Error;
+use ttrpc_secure::{ConnectionContext, ConnectionData, InboundTransform, Known, OutboundTransform};
+use ttrpc_wire::values::slices::behind;
 
 /// One end of a connection, over its two halves.
 #[derive(Drop)]

@@ -8,10 +8,10 @@ use std::io::{BufWriter, ErrorKind};
 use std::net::{TcpListener, TcpStream};
 use std::process::ExitCode;
 use std::rt::Env;
-use ttrpc_address::nodelay_from;
-use ttrpc_error::Error;
-use ttrpc_header::{MESSAGE_HEADER_LENGTH, MESSAGE_LENGTH_MAX};
-use ttrpc_program::{Outcome, run, tell};
+use ttrpc_echo::{Outcome, run, tell};
+use ttrpc_frame::{MESSAGE_HEADER_LENGTH, MESSAGE_LENGTH_MAX};
+use ttrpc_proto::Error;
+use ttrpc_transport::nodelay_from;
 
 /// Room for any frame, so that each answer leaves in one write where it is flushed. On a socket that delays small writes the
 /// rest of a frame would wait for the other side's acknowledgement.

@@ -7,22 +7,10 @@ pub keeps_same : (a : Option (List ℕ)) → Keeps a a
 keeps_same None = tt
 keeps_same (Some xs) = refl
 
-pub keeps_twice : (a b c : Option (List ℕ)) → Keeps a b → Keeps b c → Keeps a c
-keeps_twice None b c h k = tt
-keeps_twice (Some xs) None c h k = absurd h
-keeps_twice (Some xs) (Some ys) None h k = absurd k
-keeps_twice (Some xs) (Some ys) (Some zs) h k = k ∙ h
-
 pub appends_nothing : (a b : Option (List ℕ)) → Appends a b [] → Keeps a b
 appends_nothing None b h = tt
 appends_nothing (Some xs) None h = absurd h
 appends_nothing (Some xs) (Some ys) h = h ∙ append-nil xs
-
-pub kept_appends : (a b c : Option (List ℕ)) (bytes : List ℕ) → Keeps a b → Appends b c bytes → Appends a c bytes
-kept_appends None b c bytes h k = tt
-kept_appends (Some xs) None c bytes h k = absurd h
-kept_appends (Some xs) (Some ys) None bytes h k = absurd k
-kept_appends (Some xs) (Some ys) (Some zs) bytes h k = k ∙ ap (λ ws. ws ++ bytes) h
 
 pub keeps_appends_nothing : (a b : Option (List ℕ)) → Keeps a b → Appends a b []
 keeps_appends_nothing None b h = tt
@@ -34,12 +22,6 @@ appends_twice None b c x y h k = tt
 appends_twice (Some xs) None c x y h k = absurd h
 appends_twice (Some xs) (Some ys) None x y h k = absurd k
 appends_twice (Some xs) (Some ys) (Some zs) x y h k = k ∙ ap (λ ws. ws ++ y) h ∙ append_assoc xs x y
-
-pub kept_consumes : (a b c : Option (List ℕ)) (bytes : List ℕ) → Keeps a b → Consumes b c bytes → Consumes a c bytes
-kept_consumes None b c bytes h k = tt
-kept_consumes (Some xs) None c bytes h k = absurd h
-kept_consumes (Some xs) (Some ys) None bytes h k = absurd k
-kept_consumes (Some xs) (Some ys) (Some zs) bytes h k = sym h ∙ k
 
 pub consumes_nothing : (a : Option (List ℕ)) → Consumes a a []
 consumes_nothing None = tt

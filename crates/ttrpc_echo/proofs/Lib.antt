@@ -4,3 +4,4 @@ pub mod Echoing
 pub mod Writing
 pub mod Stopping
 pub mod Answering
+mod OneWord

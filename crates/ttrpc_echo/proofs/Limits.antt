@@ -9,12 +9,12 @@ use Rattle.ttrpc_wire.specs.declared.field.WireType.TheVariants as wire
 use Rattle.ttrpc_wire.specs.Varint.{digits, varint}
 use Rattle.ttrpc_wire.specs.Field.{code_of, Varint, Field, tag_bytes, field_bytes, fields_bytes}
 use Rattle.ttrpc_wire.specs.Number.{number_of}
-use Rattle.ttrpc_values.specs.declared.code.Code.{Code}
-use Rattle.ttrpc_values.specs.declared.code.Code.TheVariants.{INVALID_ARGUMENT}
-use Rattle.ttrpc_header.specs.declared.header.TheConstants.{MESSAGE_LENGTH_MAX}
+use Rattle.ttrpc_wire.specs.declared.values.code.Code.{Code}
+use Rattle.ttrpc_wire.specs.declared.values.code.Code.TheVariants.{INVALID_ARGUMENT}
+use Rattle.ttrpc_frame.specs.declared.header.TheConstants.{MESSAGE_LENGTH_MAX}
 use Rattle.ttrpc_proto.specs.declared.response.Response.{Response}
-use Rattle.ttrpc_values.specs.Code.{number_of_code}
-use Rattle.ttrpc_error.specs.ErrorText.{status_of}
+use Rattle.ttrpc_wire.specs.Code.{number_of_code}
+use Rattle.ttrpc_proto.specs.ErrorText.{status_of}
 use Rattle.ttrpc_codec.specs.Members.{delimited_field, delimited_fields, number_fields}
 use Rattle.ttrpc_proto.specs.Messages.{status_fields}
 use Rattle.ttrpc_codec.proofs.Written.{length-delimited_field, length-fields_bytes-append}

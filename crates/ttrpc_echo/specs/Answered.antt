@@ -2,8 +2,8 @@
 -- Source: this project's.
 use Rattle.std.specs.Prelude.{◌≡◌, ◌≢◌, ◌⊎◌, ℕ, ◌≤◌, ◌^◌, List, [], length, take, codes, Option, ⊤}
 use Rattle.std.specs.Io.KnownBytes.{Appends, Consumes, IsAtEnd}
-use Rattle.ttrpc_error.specs.declared.error.Error.{Error}
-use Rattle.ttrpc_error.specs.declared.error.Error.TheVariants.{Socket, Others, Nix, NoMemory}
+use Rattle.ttrpc_proto.specs.declared.error.Error.{Error}
+use Rattle.ttrpc_proto.specs.declared.error.Error.TheVariants.{Socket, Others, Nix, NoMemory}
 use Rattle.ttrpc_frame.specs.declared.frame.Incoming.{Incoming}
 use Rattle.ttrpc_frame.specs.Frames.{Frames, IsRest}
 use Rattle.ttrpc_echo.specs.Echo.{AreAnswers}

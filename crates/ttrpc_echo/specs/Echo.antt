@@ -1,10 +1,10 @@
 -- What the program answers to frames, one after the other.
 -- Source: PROTOCOL.md of ttrpc, "Request" and "Response".
 use Rattle.std.specs.Prelude.{◌≡◌, ℕ, ◌%◌, ◌^◌, List, [], ◌∷◌, ◌++◌, length, codes, Option, Some, None}
-use Rattle.ttrpc_header.specs.declared.header.TheConstants.{MESSAGE_LENGTH_MAX, MESSAGE_TYPE_RESPONSE}
+use Rattle.ttrpc_frame.specs.declared.header.TheConstants.{MESSAGE_LENGTH_MAX, MESSAGE_TYPE_RESPONSE}
 use Rattle.ttrpc_proto.specs.declared.request.Request.{Request}
 use Rattle.ttrpc_proto.specs.declared.response.Response.{Response}
-use Rattle.ttrpc_header.specs.Header.{header_bytes}
+use Rattle.ttrpc_frame.specs.Header.{header_bytes}
 use Rattle.ttrpc_proto.specs.Messages.{empty_status}
 use Rattle.ttrpc_frame.specs.declared.frame.Incoming.{Incoming}
 use Rattle.ttrpc_frame.specs.declared.frame.Incoming.TheVariants.{Frame, Oversize}

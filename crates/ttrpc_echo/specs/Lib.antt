@@ -1,3 +1,4 @@
 pub mod Echo
 pub mod Answered
 pub mod Serving
+pub mod Program

@@ -1,6 +1,6 @@
 //! The engine of `answer`: frames from a reader, and the answers of a server whose one method echoes, to a writer.
 ghost use Rattle.std.specs.Prelude.{◌≡◌, ◌≢◌, ◌<◌, ◌≤◌, ℕ, List, Option, [], None, length, take, drop, IfOk, IfErr, OnOk, OnErr, MatchResult};
-ghost use Rattle.ttrpc_error.specs.declared.error.Error.TheVariants.{NoMemory};
+ghost use Rattle.ttrpc_proto.specs.declared.error.Error.TheVariants.{NoMemory};
 ghost use Rattle.ttrpc_frame.specs.Frames.{nothing};
 ghost use Rattle.ttrpc_connection.specs.Failure.{IsTold, error_of};
 ghost use Rattle.ttrpc_connection.specs.declared.failure.Failure.TheVariants.{DisconnectedInside};
@@ -14,13 +14,12 @@ ghost use Rattle.std.specs.Io.{ReadsAtMost};
 use std::alloc::Global;
 use std::io::{ErrorKind, Read, Write};
 use ttrpc_codec::message::WireMessage;
-use ttrpc_error::Error;
-use ttrpc_proto::{Request, Response, Status};
-use ttrpc_secure::Plain;
-use ttrpc_security::plain_context;
+use ttrpc_frame::{Passing, read_again, write_again};
+use ttrpc_proto::{Error, Request, Response, Status};
+use ttrpc_secure::{Plain, plain_context};
 use ttrpc_server::{Registry, Rules, ServerCore};
-use ttrpc_values::Text;
-use ttrpc_values::slices::behind;
+use ttrpc_wire::Text;
+use ttrpc_wire::values::slices::behind;
 
 /// How many bytes are read, and written, at once.
 const PIECE: usize = 65536;
@@ -170,7 +169,7 @@ fn write_out<W: Write>(
     Err(Error::Nix(ErrorKind::Other))
 }
 
-#[tactic(auto, using(crate::proofs::Known::keeps_same, crate::proofs::Known::keeps_twice, crate::proofs::Known::appends_nothing, crate::proofs::Known::kept_appends))]
+#[tactic(auto, using(crate::proofs::Known::appends_nothing))]
 /// Writes what fits of a piece, and says how many bytes: at least one. It tries again after an interruption.
 fn write_piece<W: Write>(writer: &mut W, piece: &[u8]) -> Result<usize, Error>
     ensures count { IfOk result (λ n. n ≤ length piece.now) }
@@ -178,18 +177,11 @@ fn write_piece<W: Write>(writer: &mut W, piece: &[u8]) -> Result<usize, Error>
         (λ _. Keeps (W.contents writer.old) (W.contents writer.new)) }
     ensures err { IfErr result IsOfSystem }
 {
-    for _ in 0..u64::MAX {
-        match writer.write(piece) {
-            Ok(0) => return Err(Error::Nix(ErrorKind::WriteZero)),
-            Ok(n) => return Ok(n),
-            Err(error) => {
-                if error.kind() != ErrorKind::Interrupted {
-                    return Err(Error::Nix(error.kind()));
-                }
-            }
-        }
+    match write_again(writer, piece, Passing::Interrupted) {
+        Ok(0) => Err(Error::Nix(ErrorKind::WriteZero)),
+        Ok(n) => Ok(n),
+        Err(error) => Err(Error::Nix(error.kind())),
     }
-    Err(Error::Nix(ErrorKind::Interrupted))
 }
 
 /// Sees to it that what was written goes out, where the writer holds it back.
@@ -203,22 +195,14 @@ pub fn flush<W: Write>(writer: &mut W) -> Result<(), Error>
     }
 }
 
-#[tactic(auto, using(crate::proofs::Known::keeps_same, crate::proofs::Known::keeps_twice, crate::proofs::Known::kept_consumes))]
 /// Reads a piece, and says how many bytes: none at the end. It tries again after an interruption.
 fn read_piece<R: Read>(reader: &mut R, buffer: &mut [u8]) -> Result<usize, Error>
     ensures bound { ReadsAtMost result buffer.new }
     ensures bytes { ReadConsumes (R.remaining reader.old) (R.remaining reader.new) result buffer.new }
     ensures err { IfErr result IsOfSystem }
 {
-    for _ in 0..u64::MAX {
-        match reader.read(buffer) {
-            Ok(n) => return Ok(n),
-            Err(error) => {
-                if error.kind() != ErrorKind::Interrupted {
-                    return Err(Error::Nix(error.kind()));
-                }
-            }
-        }
+    match read_again(reader, buffer, Passing::Interrupted) {
+        Ok(n) => Ok(n),
+        Err(error) => Err(Error::Nix(error.kind())),
     }
-    Err(Error::Nix(ErrorKind::Interrupted))
 }

@@ -2,8 +2,8 @@
 use Rattle.ttrpc_flight.proofs.Words.{cases_Bool, ◌≡◌, ◌+◌, ◌-◌, ◌<◌, ◌≤◌, inl, inr, ℕ, Bool, true, false, cond, List, [], ◌∷◌, ◌++◌, length, map, take, drop, arith, refl, sym, ap, subst, ◌∙◌, append_assoc, length-append, length-drop, filter, cases_lt, append-nil, take-append-drop, length-take-le, map-append, MessageHeader, Incoming, Queued, Frames, Held, nothing, Fed, Queue, IsWithin, written, written_all, first_open, open_part, with_frame, with_lent, after_report, begun_count, frames_without, without, header_front, nothing_held, one_list, is_frames, Flying, AreInFlight, IsSound, AreSound, arrived, carried, frames_of, flying_without, all_behind, all_in_front, all_joined, flat_map-append}
 use Rattle.std.proofs.Math.Seq.{take-append-add}
 use Rattle.std.proofs.lemmas.List.{take-append-le, take-take, take_all, drop-take, drop_at, map_push, take-map, drop-map}
-use Rattle.ttrpc_header.specs.Header.{header_bytes, header_of}
-use Rattle.ttrpc_header.proofs.Headers as headers
+use Rattle.ttrpc_frame.specs.Header.{header_bytes, header_of}
+use Rattle.ttrpc_frame.proofs.Headers as headers
 use Rattle.ttrpc_frame.specs.Frames.{IsFrame, IsRest}
 use Rattle.ttrpc_frame.specs.Queue.{empty_queue}
 use Rattle.ttrpc_frame.proofs.Queues.{length-written, written_is, fresh_is_queue, with_frame_is_queue, with_lent_is_queue, after_report_is_queue, without_is_queue, report_of_a_part, report_of_all}

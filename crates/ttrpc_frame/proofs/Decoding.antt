@@ -3,9 +3,9 @@ use Rattle.std.proofs.Common.{◌≡◌, ℕ, ◌+◌, ◌-◌, ◌<◌, ◌≤�
 use Rattle.std.proofs.Math.ListN.{replicate}
 use Rattle.std.proofs.lemmas.Bool.{cases_lt}
 use Rattle.std.proofs.lemmas.List.{append-nil, take_all, length-take, length-take-le, length-replicate, take-append-le}
-use Rattle.ttrpc_header.specs.declared.header.MessageHeader.{MessageHeader}
+use Rattle.ttrpc_frame.specs.declared.header.MessageHeader.{MessageHeader}
 use Rattle.ttrpc_frame.specs.declared.frame.Incoming.TheVariants.{Frame, Oversize}
-use Rattle.ttrpc_header.specs.Header.{header_of}
+use Rattle.ttrpc_frame.specs.Header.{header_of}
 use Rattle.ttrpc_frame.specs.Frames.{Held, Holds, nothing, Fed}
 use Rattle.ttrpc_frame.specs.Decoder.{IsDecoder}
 use Rattle.ttrpc_frame.proofs.Frames.{header_front, head_goes_on, head_is_frame, body_goes_on, body_is_frame, count_goes_on, count_is_frame, held_short, held_kept, held_passed}

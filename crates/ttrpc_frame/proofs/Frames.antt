@@ -4,10 +4,10 @@ use Rattle.std.proofs.lemmas.Bool.{cases_lt}
 use Rattle.std.proofs.lemmas.Grind.{common_steps}
 use Rattle.std.proofs.lemmas.List.{take-append-drop, append-nil, length-drop}
 use Rattle.std.proofs.Math.Seq.{take-append_seam}
-use Rattle.ttrpc_header.specs.declared.header.MessageHeader.{MessageHeader}
+use Rattle.ttrpc_frame.specs.declared.header.MessageHeader.{MessageHeader}
 use Rattle.ttrpc_frame.specs.declared.frame.Incoming.{Incoming}
 use Rattle.ttrpc_frame.specs.declared.frame.Incoming.TheVariants.{Frame, Oversize}
-use Rattle.ttrpc_header.specs.Header.{header_of}
+use Rattle.ttrpc_frame.specs.Header.{header_of}
 use Rattle.ttrpc_frame.specs.Frames.{IsWhole, IsFrame, IsRest, Held, nothing, held_of, Holds, Fed}
 
 -- ---- what is held of a rest

@@ -1,3 +1,6 @@
+pub mod Calls
+pub mod Bytes
+pub mod Headers
 pub mod Frames
 pub mod Decoding
 pub mod Pieces

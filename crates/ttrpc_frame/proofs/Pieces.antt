@@ -3,10 +3,10 @@ use Rattle.std.proofs.Common.{◌≡◌, ℕ, zero, suc, ◌+◌, ◌<◌, ◌�
 use Rattle.std.proofs.lemmas.Bool.{cases_lt}
 use Rattle.std.proofs.lemmas.List.{append-nil, take-append-drop, length-drop, length-take-le, take-take}
 use Rattle.std.proofs.Math.Seq.{take-append_seam, drop-append_seam}
-use Rattle.ttrpc_header.specs.declared.header.MessageHeader.{MessageHeader}
+use Rattle.ttrpc_frame.specs.declared.header.MessageHeader.{MessageHeader}
 use Rattle.ttrpc_frame.specs.declared.frame.Incoming.{Incoming}
 use Rattle.ttrpc_frame.specs.declared.frame.Incoming.TheVariants.{Frame, Oversize}
-use Rattle.ttrpc_header.specs.Header.{header_of}
+use Rattle.ttrpc_frame.specs.Header.{header_of}
 use Rattle.ttrpc_frame.specs.Frames.{IsWhole, IsFrame, Frames, IsRest, Held, nothing, held_of, Holds, FedAll}
 use Rattle.ttrpc_frame.proofs.Frames.{header_front, nothing_held}
 

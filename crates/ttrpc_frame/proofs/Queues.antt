@@ -8,7 +8,7 @@ use Rattle.std.proofs.lemmas.List.{take_at, take_all, take_rest, append-nil, dro
 use Rattle.ttrpc_frame.specs.declared.gen_message.GenMessage.{GenMessage}
 use Rattle.ttrpc_frame.specs.declared.outgoing.Queued.{Queued}
 use Rattle.ttrpc_frame.specs.Queue.{written, Queue, IsQueue, IsWithin, first_open, open_part, with_frame, with_lent, report_first, after_report, last_may_change, with_payload, last_filled, filled, withdrawn, without, frames_without}
-use Rattle.ttrpc_header.specs.Header.{header_bytes}
+use Rattle.ttrpc_frame.specs.Header.{header_bytes}
 
 pub length-written : (m : GenMessage) → length (written m) ≡ 10 + length m.payload
 unfolding written

@@ -2,12 +2,12 @@
 use Rattle.std.proofs.Common.{◌≡◌, ℕ, List, ◌++◌, take, drop, Option, Result, Err, ap, ◌∙◌, subst, take-append-drop, append_assoc}
 use Rattle.std.specs.Io.KnownBytes.{Appends}
 use Rattle.std.specs.declared.io.ErrorKind.{ErrorKind}
-use Rattle.ttrpc_streams.specs.Streams.{AppendsFront, Called, Flushes, Makes, Then, Writes}
-use Rattle.ttrpc_streams.proofs.Calls.{then_fails}
+use Rattle.ttrpc_frame.specs.Streams.{AppendsFront, Called, Flushes, Makes, Then, Writes}
+use Rattle.ttrpc_frame.proofs.Calls.{then_fails}
 use Rattle.ttrpc_frame.specs.declared.failure.StreamFailure.{StreamFailure}
 use Rattle.ttrpc_frame.specs.declared.failure.StreamFailure.TheVariants.{Io, NoMemory as Refused}
 use Rattle.ttrpc_frame.specs.Streaming.{Went, WritesFrame}
-use Rattle.ttrpc_header.specs.declared.header.MessageHeader.{MessageHeader}
+use Rattle.ttrpc_frame.specs.declared.header.MessageHeader.{MessageHeader}
 
 -- the header and the first bytes, and then the rest, are the frame
 pub parts_of_frame : (header payload first second part : List ℕ) (n : ℕ) → part ≡ header ++ first → first ≡ take n payload → second ≡ drop n payload → part ++ second ≡ header ++ payload

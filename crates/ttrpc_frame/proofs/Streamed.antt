@@ -4,9 +4,9 @@ use Rattle.std.proofs.KnownBytes.{Consumes-trans}
 use Rattle.std.specs.Io.KnownBytes.{Consumes}
 use Rattle.std.specs.IoError.{error_kind}
 use Rattle.std.specs.declared.io.Error.{Error}
-use Rattle.ttrpc_streams.specs.Streams.{Answered, ConsumesBelow, IsFailure}
-use Rattle.ttrpc_header.specs.declared.header.MessageHeader.{MessageHeader}
-use Rattle.ttrpc_header.specs.Header.{header_of}
+use Rattle.ttrpc_frame.specs.Streams.{Answered, ConsumesBelow, IsFailure}
+use Rattle.ttrpc_frame.specs.declared.header.MessageHeader.{MessageHeader}
+use Rattle.ttrpc_frame.specs.Header.{header_of}
 use Rattle.ttrpc_frame.specs.declared.failure.StreamFailure.{StreamFailure}
 use Rattle.ttrpc_frame.specs.declared.failure.StreamFailure.TheVariants.{Io, NoMemory as Refused}
 use Rattle.ttrpc_frame.specs.declared.frame.Incoming.TheVariants.{Frame, Oversize}

@@ -1,8 +1,8 @@
 -- What a decoder's fields are between calls.
 -- Source: this project's.
 use Rattle.std.specs.Prelude.{◌≡◌, ℕ, ◌<◌, ◌≤◌, List, [], length}
-use Rattle.ttrpc_header.specs.declared.header.TheConstants.{MESSAGE_HEADER_LENGTH, MESSAGE_LENGTH_MAX}
-use Rattle.ttrpc_header.specs.Header.{header_of}
+use Rattle.ttrpc_frame.specs.declared.header.TheConstants.{MESSAGE_HEADER_LENGTH, MESSAGE_LENGTH_MAX}
+use Rattle.ttrpc_frame.specs.Header.{header_of}
 
 pub record IsDecoder (head : List ℕ) (filled : ℕ) (body : List ℕ) (counted : ℕ) : Type 0 where
   pub size : length head ≡ MESSAGE_HEADER_LENGTH

@@ -3,11 +3,11 @@
 use Rattle.std.specs.Prelude.{◌≡◌, ℕ, ◌<◌, List, length, Bool, true, false, Option, Result, Ok, Err, ⊤}
 use Rattle.std.specs.Io.KnownBytes.{Consumes}
 use Rattle.std.specs.IoError.{error_kind}
-use Rattle.ttrpc_header.specs.declared.header.MessageHeader.{MessageHeader}
+use Rattle.ttrpc_frame.specs.declared.header.MessageHeader.{MessageHeader}
 use Rattle.ttrpc_frame.specs.declared.frame.Incoming.TheVariants.{Frame}
 use Rattle.ttrpc_frame.specs.declared.reading.Found.{Found}
 use Rattle.ttrpc_frame.specs.declared.reading.Found.TheVariants.{Whole, BodyCut}
-use Rattle.ttrpc_streams.specs.Streams.{Answered, IsFailure, IsOver}
+use Rattle.ttrpc_frame.specs.Streams.{Answered, IsFailure, IsOver}
 use Rattle.ttrpc_frame.specs.declared.failure.StreamFailure.{StreamFailure}
 use Rattle.ttrpc_frame.specs.declared.failure.StreamFailure.TheVariants.{Io, NoMemory as Refused}
 

@@ -1,3 +1,5 @@
+pub mod Streams
+pub mod Header
 pub mod Frames
 pub mod Decoder
 pub mod Queue

@@ -4,7 +4,7 @@ use Rattle.std.specs.Prelude.{◌≡◌, ◌≤◌, ◌<◌, ◌+◌, ◌-◌, �
 use Rattle.std.specs.List.{flat_map}
 use Rattle.ttrpc_frame.specs.declared.gen_message.GenMessage.{GenMessage}
 use Rattle.ttrpc_frame.specs.declared.outgoing.Queued.{Queued}
-use Rattle.ttrpc_header.specs.Header.{header_bytes}
+use Rattle.ttrpc_frame.specs.Header.{header_bytes}
 
 -- a frame's bytes: the header as it stands, and the payload
 unfoldable pub written : GenMessage → List ℕ

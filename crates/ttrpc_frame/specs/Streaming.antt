@@ -4,14 +4,14 @@ use Rattle.std.specs.Prelude.{true, ◌≡◌, ◌≢◌, ℕ, ◌+◌, ◌-◌,
 use Rattle.std.specs.Io.KnownBytes.{Consumes}
 use Rattle.std.specs.IoError.{error_kind}
 use Rattle.std.specs.declared.io.ErrorKind.{ErrorKind}
-use Rattle.ttrpc_streams.specs.Streams.{Answered, Called, IsFailure, IsOver, Makes, Then, Writes}
-use Rattle.ttrpc_header.specs.declared.header.MessageHeader.{MessageHeader}
-use Rattle.ttrpc_header.specs.declared.header.TheConstants.{DEFAULT_PAGE_SIZE, MESSAGE_HEADER_LENGTH, MESSAGE_LENGTH_MAX}
-use Rattle.ttrpc_header.specs.Header.{header_bytes, header_of}
-use Rattle.ttrpc_error.specs.declared.error.Error.{Error}
-use Rattle.ttrpc_error.specs.declared.error.Error.TheVariants.{NoMemory}
-use Rattle.ttrpc_error.specs.ErrorText.{IsSocket}
-use Rattle.ttrpc_header.specs.Oversize.{oversize_error}
+use Rattle.ttrpc_frame.specs.Streams.{Answered, Called, IsFailure, IsOver, Makes, Then, Writes}
+use Rattle.ttrpc_frame.specs.declared.header.MessageHeader.{MessageHeader}
+use Rattle.ttrpc_frame.specs.declared.header.TheConstants.{DEFAULT_PAGE_SIZE, MESSAGE_HEADER_LENGTH, MESSAGE_LENGTH_MAX}
+use Rattle.ttrpc_frame.specs.Header.{header_bytes, header_of}
+use Rattle.ttrpc_proto.specs.declared.error.Error.{Error}
+use Rattle.ttrpc_proto.specs.declared.error.Error.TheVariants.{NoMemory}
+use Rattle.ttrpc_proto.specs.ErrorText.{IsSocket}
+use Rattle.ttrpc_frame.specs.Header.Oversize.{oversize_error}
 use Rattle.ttrpc_frame.specs.declared.failure.StreamFailure.{StreamFailure}
 use Rattle.ttrpc_frame.specs.declared.failure.StreamFailure.TheVariants.{Io, NoMemory as Refused}
 use Rattle.ttrpc_frame.specs.declared.frame.Incoming.TheVariants.{Frame, Oversize}

@@ -5,8 +5,8 @@ ghost use Rattle.ttrpc_frame.specs.declared.failure.StreamFailure.TheVariants.{I
 
 use std::alloc::{AllocError, Global};
 use std::io;
-use ttrpc_error::Error;
-use ttrpc_error::causes::socket_of;
+use ttrpc_proto::Error;
+use ttrpc_proto::error::causes::socket_of;
 
 /// Why a stream moved no whole frame.
 #[derive(Debug, Drop)]

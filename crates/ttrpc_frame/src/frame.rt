@@ -1,16 +1,16 @@
 //! Frames out of a stream of bytes, in whatever pieces it comes.
 ghost use Rattle.std.specs.Prelude.{ℕ, List, flat_map, ◌≡◌, ◌≤◌, ◌<◌, ◌+◌, ◌-◌, ◌*◌, ◌++◌, ◌↔◌, true, take, length, min, max, vec_capacity, Some, IfOk, OnOk, IfErr, OnErr};
 ghost use Rattle.ttrpc_frame.specs.declared.frame.Incoming.{Incoming as AnIncoming};
-ghost use Rattle.ttrpc_header.specs.Header.{header_of};
+ghost use Rattle.ttrpc_frame.specs.Header.{header_of};
 ghost use Rattle.ttrpc_frame.specs.Frames.{Frames, IsRest, Held, Holds, Fed, FedAll, Grows, given, nothing};
 
 use crate::gen_message::GenMessage;
+use crate::header::{DEFAULT_PAGE_SIZE, MESSAGE_HEADER_LENGTH, MESSAGE_LENGTH_MAX, MessageHeader};
 use std::alloc::{AllocError, Global};
 use std::marker::Model;
 use std::mem;
-use ttrpc_error::{Error, Result};
-use ttrpc_header::{DEFAULT_PAGE_SIZE, MESSAGE_HEADER_LENGTH, MESSAGE_LENGTH_MAX, MessageHeader};
-use ttrpc_values::Blob;
+use ttrpc_proto::{Error, Result};
+use ttrpc_wire::Blob;
 
 /// What came whole.
 #[derive(Debug, Drop, PartialEq, Eq)]

@@ -1,12 +1,12 @@
 //! A message as it lies in a frame, before it is read.
 ghost use Rattle.std.specs.Prelude.{◌≡◌, ◌≢◌, ◌≤◌, ◌↔◌, [], true, IsOk, IfErr};
-ghost use Rattle.ttrpc_header.specs.Oversize.{oversize_error};
+ghost use Rattle.ttrpc_frame.specs.Header.Oversize.{oversize_error};
 
+use crate::header::oversize::check_oversize;
+use crate::header::{MESSAGE_LENGTH_MAX, MessageHeader};
 use std::alloc::{AllocError, Global};
-use ttrpc_error::{Error, Result};
-use ttrpc_header::oversize::check_oversize;
-use ttrpc_header::{MESSAGE_LENGTH_MAX, MessageHeader};
-use ttrpc_values::{Blob, TryClone};
+use ttrpc_proto::{Error, Result};
+use ttrpc_wire::{Blob, TryClone};
 
 /// A header, and the bytes of its message.
 #[derive(Debug, Drop, PartialEq, Eq)]

@@ -7,13 +7,13 @@ ghost use Rattle.ttrpc_frame.specs.Queue.{Happening, Allowed, IsMerge, after_all
 ghost use Rattle.ttrpc_frame.specs.Queue.{Queue, IsQueue, written, first_open, open_part, empty_queue, with_frame, with_lent, after_report, last_may_change, filled, withdrawn, is_request_of, has_begun, without};
 
 use crate::gen_message::GenMessage;
+use crate::header::MESSAGE_HEADER_LENGTH;
 use crate::owners::Owners;
 use std::alloc::Global;
 use std::collections::VecDeque;
 use std::marker::Model;
-use ttrpc_error::{Error, Result};
-use ttrpc_header::MESSAGE_HEADER_LENGTH;
-use ttrpc_values::Blob;
+use ttrpc_proto::{Error, Result};
+use ttrpc_wire::Blob;
 
 /// How many lengths the four bytes of a header can say.
 const LENGTHS: usize = 1 << 32;

@@ -2,8 +2,8 @@
 ghost use Rattle.std.specs.Prelude.{◌≡◌, ◌<◌, ◌≤◌, ◌*◌, ◌+◌, ◌++◌, ℕ, List, [], length, take, min, max, vec_capacity, IfErr, IfOk, OnErr, OnOk};
 ghost use Rattle.std.specs.Io.KnownBytes.{Consumes};
 ghost use Rattle.std.specs.IoError.{error_kind};
-ghost use Rattle.ttrpc_streams.specs.Streams.{ConsumesBelow, IsFailure, IsOver};
-ghost use Rattle.ttrpc_error.specs.ErrorText.{IsSocket};
+ghost use Rattle.ttrpc_frame.specs.Streams.{ConsumesBelow, IsFailure, IsOver};
+ghost use Rattle.ttrpc_proto.specs.ErrorText.{IsSocket};
 ghost use Rattle.ttrpc_frame.specs.declared.reading.Found.{Found as AFound};
 ghost use Rattle.ttrpc_frame.specs.Streaming.{IsMessageOf, Reads, StandsAt, TellsOversize, Took};
 ghost use Rattle.ttrpc_frame.specs.Inside.{IsAllOr, IsBodyCause, Passed, TookBody};
@@ -11,14 +11,14 @@ ghost use Rattle.ttrpc_frame.specs.Inside.{IsAllOr, IsBodyCause, Passed, TookBod
 use crate::failure::StreamFailure;
 use crate::frame::Incoming;
 use crate::gen_message::{GenMessage, GenMessageError};
+use crate::header::oversize::oversize_message;
+use crate::header::{DEFAULT_PAGE_SIZE, MESSAGE_HEADER_LENGTH, MESSAGE_LENGTH_MAX, MessageHeader};
+use crate::streams::{Source, fill};
 use std::alloc::{AllocError, Global};
 use std::io::{self, ErrorKind};
-use ttrpc_error::causes::socket_of;
-use ttrpc_error::{Error, get_rpc_status};
-use ttrpc_header::oversize::oversize_message;
-use ttrpc_header::{DEFAULT_PAGE_SIZE, MESSAGE_HEADER_LENGTH, MESSAGE_LENGTH_MAX, MessageHeader};
-use ttrpc_streams::{Source, fill};
-use ttrpc_values::{Blob, Code};
+use ttrpc_proto::error::causes::socket_of;
+use ttrpc_proto::{Error, get_rpc_status};
+use ttrpc_wire::{Blob, Code};
 
 /// What stood at the front of a reader's bytes.
 #[derive(Debug, Drop, PartialEq, Eq)]

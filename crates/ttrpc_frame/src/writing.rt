@@ -1,18 +1,18 @@
 //! Frames to a writer.
 ghost use Rattle.std.specs.Prelude.{◌≡◌, ◌≤◌, ◌++◌, length, OnErr, OnOk};
 ghost use Rattle.std.specs.Io.KnownBytes.{Appends};
-ghost use Rattle.ttrpc_header.specs.Header.{header_bytes};
-ghost use Rattle.ttrpc_streams.specs.Streams.{AppendsFront, Flushes, Makes, Then};
+ghost use Rattle.ttrpc_frame.specs.Header.{header_bytes};
+ghost use Rattle.ttrpc_frame.specs.Streams.{AppendsFront, Flushes, Makes, Then};
 ghost use Rattle.ttrpc_frame.specs.Streaming.{IsSent, Sends, Went, WritesFrame};
 
 use crate::failure::StreamFailure;
 use crate::gen_message::GenMessage;
+use crate::header::{MESSAGE_HEADER_LENGTH, MessageHeader};
+use crate::streams::{Sink, write_both};
 use std::alloc::{AllocError, Global};
 use std::result;
-use ttrpc_error::Result;
-use ttrpc_header::{MESSAGE_HEADER_LENGTH, MessageHeader};
-use ttrpc_streams::{Sink, write_both};
-use ttrpc_values::slices::{behind, front};
+use ttrpc_proto::Result;
+use ttrpc_wire::values::slices::{behind, front};
 
 /// How many bytes of a payload are offered together with the header: a page has both.
 pub const PREFIX_PAYLOAD: usize = 4086;

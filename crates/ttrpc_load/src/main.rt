@@ -2,13 +2,19 @@
 //! calls a second were answered, and how long one took.
 #![tactic(auto)]
 
+mod calling;
+mod figures;
+mod load;
+mod measuring;
+mod raw;
+
+use crate::measuring::run;
 use std::env;
 use std::io::{ErrorKind, IsTerminal, Write};
 use std::net::{TcpListener, TcpStream};
 use std::process::ExitCode;
 use std::rt::Env;
-use ttrpc_address::nodelay_from;
-use ttrpc_measure::run;
+use ttrpc_transport::nodelay_from;
 
 /// The words behind the program's name, as far as they are UTF-8 and there is memory for them.
 fn given_words<R: Env + AllocGlobal>(rt: &R) -> Option<Vec<String>> {

@@ -1,1 +1,4 @@
 pub mod Told
+mod Maps
+mod Taken
+mod Distinct

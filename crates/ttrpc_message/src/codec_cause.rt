@@ -1,12 +1,12 @@
 //! The error that is made of a codec's.
 ghost use Rattle.std.specs.Prelude.{◌≡◌, ◌≢◌, None};
-ghost use Rattle.ttrpc_error.specs.ErrorText.{IsOthers};
+ghost use Rattle.ttrpc_proto.specs.ErrorText.{IsOthers};
 
 use std::alloc::Global;
 use std::fmt::Display;
-use ttrpc_error::Error;
-use ttrpc_error::causes::others_of;
-use ttrpc_values::codec_error::CodecFailure;
+use ttrpc_proto::Error;
+use ttrpc_proto::error::causes::others_of;
+use ttrpc_wire::values::codec_error::CodecFailure;
 
 /// What a codec's error tells: `NoMemory` where memory was refused, also for the text, and else `Others` of a prefix and
 /// what the error prints.

@@ -1,10 +1,15 @@
-//! Messages from a reader and to a writer: as bytes, and as the value that a codec makes of them.
+//! Messages from a reader and to a writer: as bytes, and as the value that a codec makes of them. In `context` what
+//! goes with a request, in `calls` what the macros of services and of their clients call.
 #![tactic(auto)]
 
+pub mod calls;
 mod codec_cause;
+pub mod context;
 mod frames;
 mod message;
 
+pub use calls::{decode_request, merge_reply, request_of, response_of};
 pub use codec_cause::codec_error_of;
+pub use context::{Context, from_pb, to_pb, with_duration, with_metadata, with_timeout};
 pub use frames::{read_message, write_message};
 pub use message::Message;

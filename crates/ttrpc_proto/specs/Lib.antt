@@ -1,3 +1,4 @@
 pub mod Messages
 pub mod Laws
 pub mod Meaning
+pub mod ErrorText

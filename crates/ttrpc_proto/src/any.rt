@@ -1,8 +1,7 @@
 use std::alloc::{AllocError, Global};
 use ttrpc_codec::members::{delimited_len, put_delimited, text_from};
 use ttrpc_codec::message::WireMessage;
-use ttrpc_values::{Blob, CodecError, Text, TryClone};
-use ttrpc_wire::{Field, FieldNumber, Value};
+use ttrpc_wire::{Blob, CodecError, Field, FieldNumber, Text, TryClone, Value};
 
 /// The bytes of some message, under the name of its type.
 #[derive(Debug, Drop, PartialEq, Eq)]

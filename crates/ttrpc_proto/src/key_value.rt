@@ -1,8 +1,7 @@
 use std::alloc::{AllocError, Global};
 use ttrpc_codec::members::{delimited_len, put_delimited, text_from};
 use ttrpc_codec::message::WireMessage;
-use ttrpc_values::{CodecError, Text, TryClone};
-use ttrpc_wire::{Field, FieldNumber, Value};
+use ttrpc_wire::{CodecError, Field, FieldNumber, Text, TryClone, Value};
 
 /// A key and its value, of a request's metadata.
 #[derive(Debug, Drop, PartialEq, Eq)]

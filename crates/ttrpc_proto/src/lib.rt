@@ -1,7 +1,9 @@
-//! The five messages of an envelope: what their bytes mean, and how they are made.
+//! The five messages of an envelope: what their bytes mean, and how they are made. In `error` why a call failed, and
+//! the statuses, the responses and the texts that are made of that.
 #![tactic(auto)]
 
 mod any;
+pub mod error;
 mod key_value;
 pub mod laws;
 mod request;
@@ -11,6 +13,7 @@ mod response_init;
 mod status;
 
 pub use any::Any;
+pub use error::{Error, Result, get_rpc_status, get_status, sock_error_msg};
 pub use key_value::KeyValue;
 pub use request::Request;
 pub use request_init::RequestInit;

@@ -10,8 +10,10 @@ use ttrpc_codec::members::{
     text_from,
 };
 use ttrpc_codec::message::{WireMessage, decode};
-use ttrpc_values::{Blob, CodecError, Sequence, Text, TryClone};
-use ttrpc_wire::{Field, FieldNumber, Value, int64_to_varint, varint_to_int64};
+use ttrpc_wire::{
+    Blob, CodecError, Field, FieldNumber, Sequence, Text, TryClone, Value, int64_to_varint,
+    varint_to_int64,
+};
 
 /// What a client asks of a service's method.
 #[derive(Debug, Drop, PartialEq, Eq)]

@@ -5,7 +5,7 @@ ghost use Rattle.ttrpc_proto.specs.declared.key_value.KeyValue.{KeyValue as APai
 use crate::key_value::KeyValue;
 use crate::request::Request;
 use std::alloc::Global;
-use ttrpc_values::{Blob, Sequence, Text};
+use ttrpc_wire::{Blob, Sequence, Text};
 
 /// What a request is made from.
 pub trait RequestInit: Sized {

@@ -3,8 +3,7 @@ use std::alloc::{AllocError, Global};
 use ttrpc_codec::in_place::CarriesPayload;
 use ttrpc_codec::members::{delimited_len, part_len, put_delimited, put_part};
 use ttrpc_codec::message::{WireMessage, decode, read_into};
-use ttrpc_values::{Blob, CodecError, TryClone};
-use ttrpc_wire::{Field, FieldNumber, Value};
+use ttrpc_wire::{Blob, CodecError, Field, FieldNumber, TryClone, Value};
 
 /// What a call gave.
 #[derive(Debug, Drop, PartialEq, Eq)]

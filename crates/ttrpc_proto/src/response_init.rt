@@ -5,7 +5,7 @@ ghost use Rattle.ttrpc_proto.specs.declared.status.Status.{Status as AStatus};
 use crate::response::Response;
 use crate::status::Status;
 use std::alloc::{AllocError, Global};
-use ttrpc_values::{Blob, TryClone};
+use ttrpc_wire::{Blob, TryClone};
 
 /// What a response is made from.
 pub trait ResponseInit: Sized {

@@ -7,8 +7,10 @@ use ttrpc_codec::members::{
     text_from,
 };
 use ttrpc_codec::message::{WireMessage, decode};
-use ttrpc_values::{Code, CodecError, Sequence, Text, TryClone};
-use ttrpc_wire::{Field, FieldNumber, Value, int32_to_varint, varint_to_int32};
+use ttrpc_wire::{
+    Code, CodecError, Field, FieldNumber, Sequence, Text, TryClone, Value, int32_to_varint,
+    varint_to_int32,
+};
 
 /// How a call ended.
 #[derive(Debug, Drop, PartialEq, Eq)]
@@ -25,7 +27,7 @@ const MESSAGE: FieldNumber = FieldNumber { value: 2 };
 const DETAILS: FieldNumber = FieldNumber { value: 3 };
 
 impl Status {
-    ghost use Rattle.ttrpc_values.specs.Code.{code_of_number};
+    ghost use Rattle.ttrpc_wire.specs.Code.{code_of_number};
 
     /// The code that the status's number stands for, and `UNKNOWN` where it stands for none.
     pub fn code(&self) -> Code

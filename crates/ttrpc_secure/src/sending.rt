@@ -7,9 +7,8 @@ ghost use Rattle.ttrpc_secure.specs.Sends.{Sends, SendsUnder, associated, safe_l
 
 use crate::transform::{OutboundTransform, TransformError};
 use std::alloc::Global;
-use ttrpc_frame::{Outgoing, Queued};
-use ttrpc_header::{MESSAGE_LENGTH_MAX, MessageHeader};
-use ttrpc_values::Blob;
+use ttrpc_frame::{MESSAGE_LENGTH_MAX, MessageHeader, Outgoing, Queued};
+use ttrpc_wire::Blob;
 
 /// Why nothing was sent.
 #[derive(Debug, Drop, PartialEq, Eq)]

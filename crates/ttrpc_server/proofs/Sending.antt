@@ -4,12 +4,12 @@ use Rattle.std.specs.Prelude.{◌⊎◌, Result, Ok}
 use Rattle.ttrpc_connection.specs.Feeds.{IsFailed}
 use Rattle.ttrpc_server.specs.Jobs.{IsTaken}
 use Rattle.ttrpc_server.specs.Table.{HasUnsent, RefusesAnswer, RefusesResponse}
-use Rattle.ttrpc_values.specs.declared.code.Code.{Code}
-use Rattle.ttrpc_error.specs.declared.error.Error.TheVariants.{Others}
+use Rattle.ttrpc_wire.specs.declared.values.code.Code.{Code}
+use Rattle.ttrpc_proto.specs.declared.error.Error.TheVariants.{Others}
 use Rattle.ttrpc_server.specs.declared.replies.Unsent.{Unsent}
 use Rattle.ttrpc_server.specs.declared.replies.Unsent.TheVariants.{AboveLimit, Unsealed, NoMemory}
 use Rattle.ttrpc_server.specs.declared.server.ServerCore.{ServerCore}
-use Rattle.ttrpc_security.specs.Texts.{unsafe_payload_text}
+use Rattle.ttrpc_secure.specs.Security.Texts.{unsafe_payload_text}
 
 -- ---- what was sent
 

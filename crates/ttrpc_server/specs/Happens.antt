@@ -3,7 +3,7 @@
 use Rattle.std.specs.Prelude.{◌≡◌, ℕ, ◌-◌, ◌^◌, List, [], Some, None}
 use Rattle.ttrpc_server.specs.Types.{MessageHeader, Request, Response, OutboundTransform, Arrived, Failure, JobIdsUsedUp, HandlerError, ActiveJob, Job, Rules}
 use Rattle.ttrpc_secure.specs.declared.transform.InboundTransform.{Ghosts as InboundTransform}
-use Rattle.ttrpc_hooks.specs.Facts.{Facts}
+use Rattle.ttrpc_secure.specs.Hooks.Facts.{Facts}
 use Rattle.ttrpc_connection.specs.Frames.{Sent, SendsAll, safe_limit}
 use Rattle.ttrpc_connection.specs.Feeds.{Ways, new_connection}
 use Rattle.ttrpc_server.specs.declared.server.ServerCore.{ServerCore}

@@ -5,7 +5,7 @@ use Rattle.std.specs.List.{AllByRecursion}
 use Rattle.ttrpc_server.specs.Types.{Error, Others, MemoryRefused, Response, OutboundTransform, Failure, JobIdsUsedUp, NoMemoryLeft, Outbox, ActiveJob}
 use Rattle.ttrpc_connection.specs.Failure.{IsTold}
 use Rattle.ttrpc_connection.specs.Frames.{Sent, SendsAll, safe_limit}
-use Rattle.ttrpc_security.specs.Texts.{unsafe_payload_text, unsealed_text}
+use Rattle.ttrpc_secure.specs.Security.Texts.{unsafe_payload_text, unsealed_text}
 use Rattle.ttrpc_server.specs.declared.replies.Unsent.{Unsent}
 use Rattle.ttrpc_server.specs.declared.replies.Unsent.TheVariants.{AboveLimit, Unsealed, NoMemory}
 use Rattle.ttrpc_server.specs.Happens.{IsUsedUp}

@@ -5,7 +5,7 @@ use Rattle.std.specs.Fmt.{decimal}
 use Rattle.ttrpc_server.specs.Types.{Code, INVALID_ARGUMENT, MESSAGE_TYPE_RESPONSE, Response, Queued, OutboundTransform}
 use Rattle.ttrpc_wire.specs.Field.{fields_bytes}
 use Rattle.ttrpc_proto.specs.Messages.{response_fields}
-use Rattle.ttrpc_error.specs.ErrorText.{status_of}
+use Rattle.ttrpc_proto.specs.ErrorText.{status_of}
 use Rattle.ttrpc_secure.specs.Sends.{associated}
 use Rattle.ttrpc_connection.specs.Frames.{Sent, safe_limit}
 

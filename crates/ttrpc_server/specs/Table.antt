@@ -5,12 +5,12 @@ use Rattle.std.specs.Prelude.{[], ◌≡◌, ◌⊎◌, ℕ, List, ◌++◌, cod
 use Rattle.ttrpc_server.specs.Types.{Code, UNKNOWN, INVALID_ARGUMENT, MessageHeader, MESSAGE_LENGTH_MAX, MESSAGE_TYPE_REQUEST, Request, Response, Error, Others, NoMemory, OutboundTransform, Arrived, TooLong, Opened, Refused, ActiveJob}
 use Rattle.ttrpc_wire.specs.Fold.{read_from}
 use Rattle.ttrpc_proto.specs.Messages.{empty_request, request_step}
-use Rattle.ttrpc_header.specs.Oversize.{oversize_text}
+use Rattle.ttrpc_frame.specs.Header.Oversize.{oversize_text}
 use Rattle.ttrpc_connection.specs.declared.arrived.Opening.{Opening}
 use Rattle.ttrpc_connection.specs.Failure.{IsTold}
 use Rattle.ttrpc_connection.specs.Feeds.{IsFailed}
 use Rattle.ttrpc_connection.specs.Frames.{safe_limit}
-use Rattle.ttrpc_security.specs.Texts.{unsafe_payload_text, unsealed_text}
+use Rattle.ttrpc_secure.specs.Security.Texts.{unsafe_payload_text, unsealed_text}
 use Rattle.ttrpc_server.specs.declared.server.ServerCore.{ServerCore}
 use Rattle.ttrpc_server.specs.Jobs.{IsTaken, IsUnknown}
 use Rattle.ttrpc_server.specs.Registry.{Services, has_method}

@@ -1,11 +1,11 @@
 -- The types of the code that these definitions speak of, in one list.
 -- Source: this project's.
-pub use Rattle.ttrpc_values.specs.declared.code.Code.{Code}
-pub use Rattle.ttrpc_values.specs.declared.code.Code.TheVariants.{INVALID_ARGUMENT, UNKNOWN}
-pub use Rattle.ttrpc_header.specs.declared.header.TheConstants.{MESSAGE_TYPE_RESPONSE}
+pub use Rattle.ttrpc_wire.specs.declared.values.code.Code.{Code}
+pub use Rattle.ttrpc_wire.specs.declared.values.code.Code.TheVariants.{INVALID_ARGUMENT, UNKNOWN}
+pub use Rattle.ttrpc_frame.specs.declared.header.TheConstants.{MESSAGE_TYPE_RESPONSE}
 pub use Rattle.ttrpc_proto.specs.declared.request.Request.{Request}
 pub use Rattle.ttrpc_proto.specs.declared.response.Response.{Response}
-pub use Rattle.ttrpc_error.specs.declared.error.Error.TheVariants.{NoMemory, NoMemory as MemoryRefused, Others}
+pub use Rattle.ttrpc_proto.specs.declared.error.Error.TheVariants.{NoMemory, NoMemory as MemoryRefused, Others}
 pub use Rattle.ttrpc_connection.specs.Types.{Error, MESSAGE_LENGTH_MAX, MESSAGE_TYPE_REQUEST, MessageHeader, OutboundTransform, Queued}
 pub use Rattle.ttrpc_connection.specs.declared.arrived.Arrived.{Arrived}
 pub use Rattle.ttrpc_connection.specs.declared.arrived.Opening.TheVariants.{Opened, Refused, TooLong}

@@ -12,7 +12,7 @@ use std::alloc::Global;
 use std::collections::BTreeMap;
 use std::marker::Model;
 use ttrpc_connection::Failure;
-use ttrpc_header::MessageHeader;
+use ttrpc_frame::MessageHeader;
 use ttrpc_proto::Request;
 
 /// The jobs of a server that weren't answered, by rising id. They are handed out in that order: those up to `handed` were

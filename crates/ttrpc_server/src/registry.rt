@@ -5,7 +5,7 @@ ghost use Rattle.ttrpc_server.specs.Registry.{AddsName, has_method, has_name, ha
 use std::alloc::{AllocError, Global};
 use std::collections::{BTreeMap, BTreeSet};
 use std::marker::Model;
-use ttrpc_values::Text;
+use ttrpc_wire::Text;
 
 /// The methods and the streams of a server's services, each found by ordered search. A service is there once it has one
 /// of either.

@@ -9,14 +9,12 @@ use std::alloc::{AllocError, Global};
 use ttrpc_codec::Codec;
 use ttrpc_codec::message::encode_with_room;
 use ttrpc_connection::{Failure, Outbox};
-use ttrpc_error::Error;
-use ttrpc_frame::{GenMessage, Queued};
-use ttrpc_header::{MESSAGE_LENGTH_MAX, MessageHeader};
-use ttrpc_proto::Response;
+use ttrpc_frame::{GenMessage, MESSAGE_LENGTH_MAX, MessageHeader, Queued};
+use ttrpc_proto::{Error, Response};
+use ttrpc_secure::security::errors::{unsafe_payload_error, unsealed_error};
 use ttrpc_secure::sending::SendError;
 use ttrpc_secure::{OutboundTransform, TransformError};
-use ttrpc_security::errors::{unsafe_payload_error, unsealed_error};
-use ttrpc_values::{Blob, CodecError, Text};
+use ttrpc_wire::{Blob, CodecError, Text};
 
 /// Why a response wasn't sent.
 #[derive(Debug, Drop)]

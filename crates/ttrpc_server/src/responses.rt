@@ -1,16 +1,15 @@
 //! The answers that a core gives by itself, and the error for an answer to no job.
 ghost use Rattle.std.specs.Prelude.{◌≡◌, codes, string_bytes, IfOk};
-ghost use Rattle.ttrpc_header.specs.Oversize.{oversize_text};
+ghost use Rattle.ttrpc_frame.specs.Header.Oversize.{oversize_text};
 ghost use Rattle.ttrpc_connection.specs.Failure.{IsTold};
 ghost use Rattle.ttrpc_server.specs.Responses.{status_response, IsStatusResponse, limit_text};
 ghost use Rattle.ttrpc_server.specs.Table.{path_text, unopened_text};
 
 use std::alloc::{AllocError, Global};
-use ttrpc_error::{Error, get_status};
-use ttrpc_header::oversize::oversize_message;
-use ttrpc_proto::{Response, ResponseInit};
-use ttrpc_security::errors::others_error;
-use ttrpc_values::{Code, CodecError, Text};
+use ttrpc_frame::header::oversize::oversize_message;
+use ttrpc_proto::{Error, Response, ResponseInit, get_status};
+use ttrpc_secure::security::errors::others_error;
+use ttrpc_wire::{Code, CodecError, Text};
 
 /// The answer to a message that is longer than a message may be.
 pub fn oversize_response(alloc: Global, length: usize) -> Result<Response, AllocError>

@@ -1,10 +1,10 @@
 //! The core of a server: frames in, jobs and responses out.
 ghost use Rattle.std.specs.Prelude.{◌≡◌, ◌≢◌, ◌<◌, ◌≤◌, ◌-◌, ◌↔◌, ◌⊎◌, ℕ, List, [], filter, true, length, take, drop, min, is_some, if◌then◌else◌, IfOk, IfErr, OnOk, OnErr, IfSome, IfNone, Ok, Err, Some, None};
-ghost use Rattle.ttrpc_error.specs.declared.error.Error.{Error as AnError};
+ghost use Rattle.ttrpc_proto.specs.declared.error.Error.{Error as AnError};
 ghost use Rattle.ttrpc_proto.specs.declared.response.Response.{Response as AResponse};
 ghost use Rattle.ttrpc_frame.specs.Frames.{Holds, nothing};
 ghost use Rattle.ttrpc_frame.specs.Queue.{open_part, unsent, with_lent, after_report};
-ghost use Rattle.ttrpc_hooks.specs.Facts.{facts_of};
+ghost use Rattle.ttrpc_secure.specs.Hooks.Facts.{facts_of};
 ghost use Rattle.ttrpc_connection.specs.declared.failure.Failure.{Failure as AFailure};
 ghost use Rattle.ttrpc_connection.specs.Failure.{IsTold, error_of, kept};
 ghost use Rattle.ttrpc_connection.specs.Feeds.{Breaks, Feeds, FeedsFront, IsFailed};
@@ -21,11 +21,8 @@ use crate::rules::Rules;
 use crate::state::ServerState;
 use std::alloc::Global;
 use ttrpc_connection::{Connection, Failure};
-use ttrpc_error::Error;
-use ttrpc_hooks::ConnectionData;
-use ttrpc_proto::Response;
-use ttrpc_secure::{InboundTransform, OutboundTransform};
-use ttrpc_security::ConnectionContext;
+use ttrpc_proto::{Error, Response};
+use ttrpc_secure::{ConnectionContext, ConnectionData, InboundTransform, OutboundTransform};
 
 /// The core of a server, over its connection's two halves.
 #[derive(Drop)]

@@ -17,10 +17,10 @@ use std::alloc::Global;
 use std::marker::Model;
 use ttrpc_codec::in_place::decode_in_place;
 use ttrpc_connection::{Arrived, Failure, Opening, Outbox, Reacts};
-use ttrpc_header::{MESSAGE_LENGTH_MAX, MESSAGE_TYPE_REQUEST, MessageHeader};
+use ttrpc_frame::{MESSAGE_LENGTH_MAX, MESSAGE_TYPE_REQUEST, MessageHeader};
 use ttrpc_proto::Request;
 use ttrpc_secure::OutboundTransform;
-use ttrpc_values::{Blob, CodecError};
+use ttrpc_wire::{Blob, CodecError};
 
 /// The jobs of a server, and what decides which frames become jobs.
 #[derive(Drop)]

@@ -3,8 +3,8 @@
 use Rattle.std.specs.Prelude.{◌≡◌, ⊤, Bool, true, false, Option, Some, codes}
 use Rattle.std.specs.declared.time.Duration.{Duration}
 use Rattle.atomic_table.specs.Seated.{TableId}
-use Rattle.ttrpc_error.specs.declared.error.Error.{Error}
-use Rattle.ttrpc_error.specs.declared.error.Error.TheVariants.{Nix, NoMemory, Others}
+use Rattle.ttrpc_proto.specs.declared.error.Error.{Error}
+use Rattle.ttrpc_proto.specs.declared.error.Error.TheVariants.{Nix, NoMemory, Others}
 use Rattle.ttrpc_shutdown.specs.declared.rule.Holder.{Holder}
 
 -- a seat at a table, and what it says of its holder

@@ -7,6 +7,8 @@ pub mod laws;
 mod notifier;
 mod post;
 pub mod rule;
+#[cfg(test)]
+mod tests;
 mod waiter;
 
 pub use notifier::{Notifier, new, with_timeout};

@@ -1,6 +1,6 @@
 //! The side that shuts down.
 ghost use Rattle.std.specs.Prelude.{◌≡◌, ◌≢◌, true, false, vec_len, All, IfOk, IfErr, OnErr, Some, None};
-ghost use Rattle.ttrpc_error.specs.declared.error.Error.{Error};
+ghost use Rattle.ttrpc_proto.specs.declared.error.Error.{Error};
 ghost use Rattle.ttrpc_shutdown.specs.Holding.{IsWaitFailure};
 
 use crate::post::Post;
@@ -10,8 +10,8 @@ use std::io;
 use std::marker::Model;
 use std::sync::Wait;
 use std::time::{Clock, Duration, Instant};
-use ttrpc_error::{Error, Result};
-use ttrpc_values::Text;
+use ttrpc_proto::{Error, Result};
+use ttrpc_wire::Text;
 
 /// Sets the flag, by `shutdown` or as it is dropped, and counts the waiters. Nothing else sets the flag, and nothing
 /// clears it.

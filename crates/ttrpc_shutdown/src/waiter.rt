@@ -1,12 +1,12 @@
 //! The side that is told of a shutdown.
 ghost use Rattle.std.specs.Prelude.{◌≡◌, true, false, IfOk, IfErr};
-ghost use Rattle.ttrpc_error.specs.declared.error.Error.{Error};
+ghost use Rattle.ttrpc_proto.specs.declared.error.Error.{Error};
 ghost use Rattle.ttrpc_shutdown.specs.Rule.{holder};
 
 use crate::post::Post;
 use std::marker::Model;
 use std::sync::Wait;
-use ttrpc_error::Result;
+use ttrpc_proto::Result;
 
 /// Looks at the flag, and has a share in the count from when it is made until it is dropped.
 pub struct Waiter {

@@ -4,7 +4,7 @@ use Rattle.std.proofs.lemmas.List.{append-nil, length-drop}
 use Rattle.std.proofs.Math.Seq.{take-add, take-length}
 use Rattle.std.proofs.KnownBytes.{Appends-nil, Appends-trans, Appends-kept, Consumes-nil, Consumes-trans, Consumes-kept}
 use Rattle.std.specs.Io.KnownBytes.{Appends, Consumes, Keeps}
-use Rattle.ttrpc_header.specs.declared.header.TheConstants.{DEFAULT_PAGE_SIZE}
+use Rattle.ttrpc_frame.specs.declared.header.TheConstants.{DEFAULT_PAGE_SIZE}
 use Rattle.ttrpc_sync.specs.Loops.{Handed, HandedAll}
 
 -- The slice of a list from a place on.

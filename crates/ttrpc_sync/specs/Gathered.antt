@@ -4,7 +4,7 @@ use Rattle.std.specs.Prelude.{◌≡◌, ◌⊎◌, ℕ, List, [], ◌++◌, Opt
 use Rattle.std.specs.IoError.{error_kind}
 use Rattle.std.specs.declared.io.Error.{Error}
 use Rattle.std.specs.declared.io.ErrorKind.{ErrorKind}
-use Rattle.ttrpc_streams.specs.Streams.{Answered, Moved, FailsAs}
+use Rattle.ttrpc_frame.specs.Streams.{Answered, Moved, FailsAs}
 
 -- the writer to which bytes are handed on, and those that are kept
 pub record Gathered (W : Type 0) : Type 0 where

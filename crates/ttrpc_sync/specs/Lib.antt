@@ -1,3 +1,5 @@
 pub mod Gathered
 pub mod Loops
 pub mod Work
+pub mod Turns
+pub mod Queuing

@@ -3,8 +3,8 @@
 use Rattle.std.specs.Prelude.{◌≡◌, ◌≢◌, ◌⊎◌, ◌+◌, ◌<◌, ◌≤◌, ℕ, List, [], ◌∷◌, length, ◌++◌, All, Option, None, Some, ⊤}
 use Rattle.std.specs.Io.KnownBytes.{Appends, Consumes}
 use Rattle.std.specs.declared.io.ErrorKind.TheVariants.{Interrupted, WriteZero}
-use Rattle.ttrpc_header.specs.declared.header.TheConstants.{DEFAULT_PAGE_SIZE}
-use Rattle.ttrpc_streams.specs.Streams.{Answered, Moved, Failed, Called, Offered, Flushed}
+use Rattle.ttrpc_frame.specs.declared.header.TheConstants.{DEFAULT_PAGE_SIZE}
+use Rattle.ttrpc_frame.specs.Streams.{Answered, Moved, Failed, Called, Offered, Flushed}
 use Rattle.ttrpc_sync.specs.declared.ports.Word.{Word}
 use Rattle.ttrpc_sync.specs.declared.ports.Word.TheVariants.{Open, Ended, Broke, Stopped}
 

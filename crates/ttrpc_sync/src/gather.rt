@@ -8,8 +8,7 @@ ghost use Rattle.ttrpc_sync.specs.Gathered.{IsFlushOf, IsGathered, IsWriterFailu
 use std::alloc::Global;
 use std::io::{self, ErrorKind};
 use std::marker::Model;
-use ttrpc_header::{MESSAGE_HEADER_LENGTH, MESSAGE_LENGTH_MAX};
-use ttrpc_streams::Sink;
+use ttrpc_frame::{MESSAGE_HEADER_LENGTH, MESSAGE_LENGTH_MAX, Sink};
 
 /// How many bytes a gathering writer keeps at most: one frame of the greatest length, with its header.
 pub const GATHER_LIMIT: usize = MESSAGE_HEADER_LENGTH + MESSAGE_LENGTH_MAX;

@@ -4,13 +4,12 @@ ghost use Rattle.std.specs.Io.KnownBytes.{Appends, IsAtEnd};
 ghost use Rattle.std.specs.declared.io.ErrorKind.{ErrorKind};
 ghost use Rattle.ttrpc_sync.specs.declared.ports.Word.{Word};
 ghost use Rattle.ttrpc_sync.specs.Loops.{EndsReading, EndsWriting, Handed, HandedAll, IsOneMore, IsSameCount, WritesUntil, Written, reported};
-ghost use Rattle.ttrpc_streams.specs.Streams.{Makes};
+ghost use Rattle.ttrpc_frame.specs.Streams.{Makes};
 
 use crate::ports::{ReadPort, WritePort};
 use std::io::ErrorKind;
 use std::sync::Wait;
-use ttrpc_header::DEFAULT_PAGE_SIZE;
-use ttrpc_streams::{Sink, Source};
+use ttrpc_frame::{DEFAULT_PAGE_SIZE, Sink, Source};
 
 #[tactic(auto, using(crate::proofs::Handing::handed_nothing, crate::proofs::Handing::handed_still, crate::proofs::Handing::handed_no_more, crate::proofs::Handing::handed_more, crate::proofs::Handing::handed_all, crate::proofs::Counting::one_more_still))]
 /// Reads pieces and hands each to the port, until it has reported an end or a break of the reader, or the port wants no

@@ -1,19 +1,19 @@
 //! The client.
 use crate::line::Line;
+use crate::ports::{ClientRead, ClientShared};
 use std::alloc::Global;
 use std::io;
 use std::net::{Net, TcpStream};
 use std::sync::Arc;
 use std::thread::Builder;
 use ttrpc_client::{ClientCore, ClientKind};
-use ttrpc_error::causes::others_of;
-use ttrpc_error::{Error, Result};
-use ttrpc_hooks::{ConnectHook, ConnectionData, HookOutput};
-use ttrpc_link::{Host, Link, Runtime};
-use ttrpc_ports::{ClientRead, ClientShared};
-use ttrpc_proto::{Request, Response};
-use ttrpc_secure::{InboundTransform, OutboundTransform, Plain};
-use ttrpc_security::ConnectionContext;
+use ttrpc_proto::error::causes::others_of;
+use ttrpc_proto::{Error, Request, Response, Result};
+use ttrpc_secure::{
+    ConnectHook, ConnectionContext, ConnectionData, HookOutput, InboundTransform,
+    OutboundTransform, Plain, SendInbound, SendOutbound,
+};
+use ttrpc_sync::{Host, Link, Runtime};
 use ttrpc_transport::{ClientConnection, PipeConnection};
 
 /// A client of one connection. Its clones share the connection, and threads may call through each at the same time. The
@@ -45,8 +45,8 @@ impl<R: Runtime> Client<R, Plain, Plain> {
 impl<R, O, I> Client<R, O, I>
 where
     R: Runtime,
-    O: OutboundTransform + Send + Drop + 'static,
-    I: InboundTransform + Send + Drop + 'static,
+    O: SendOutbound,
+    I: SendInbound,
 {
     /// A client of this connection, once the hook has looked at it, with the halves that it gave. What the hook refuses is
     /// `Others`: `client connect hook failed: ` and what its error prints. A thread that can't be started is `Nix`.
@@ -97,8 +97,8 @@ fn start<R, O, I>(
 ) -> Result<Client<R, O, I>>
 where
     R: Runtime,
-    O: OutboundTransform + Send + Drop + 'static,
-    I: InboundTransform + Send + Drop + 'static,
+    O: SendOutbound,
+    I: SendInbound,
 {
     let alloc = rt.alloc();
     let HookOutput {
@@ -128,15 +128,12 @@ fn fault(error: io::Error) -> Error {
 fn start_reader<R, O, I>(rt: &R, link: Arc<Link<ClientShared<O, I>>, Global>) -> Result<()>
 where
     R: Runtime,
-    O: OutboundTransform + Send + Drop + 'static,
-    I: InboundTransform + Send + Drop + 'static,
+    O: SendOutbound,
+    I: SendInbound,
 {
-    let (mine, theirs) = (rt.clone()?, rt.clone()?);
-    let shared = Arc::try_clone(link.shared())?;
-    let alloc = rt.alloc();
+    let mine = rt.clone()?;
     let reader = move || {
-        let mut port = ClientRead::new(theirs, alloc, shared);
-        read_for_callers(&mine, &link, &mut port);
+        read_for_callers(&mine, &link);
         link.close();
     };
     Builder::new().spawn(rt, reader).map_err(fault)?;
@@ -144,21 +141,19 @@ where
 }
 
 /// Reads each time when callers wait that don't read for themselves, until the connection has failed.
-fn read_for_callers<R, O, I>(
-    rt: &R,
-    link: &Link<ClientShared<O, I>>,
-    port: &mut ClientRead<R, O, I>,
-)
+fn read_for_callers<R, O, I>(rt: &R, link: &Link<ClientShared<O, I>>)
 where
     R: Host,
     O: OutboundTransform + Drop,
     I: InboundTransform + Drop,
 {
+    let shared = link.shared();
+    let mut port = ClientRead::new(rt, rt.alloc(), shared);
     for _ in rt.forever() {
-        if !link.shared().wait_to_read(rt) {
+        if !shared.wait_to_read(rt) {
             return;
         }
-        link.read_on(rt, port);
+        link.read_on(rt, &mut port);
     }
     unreachable!()
 }
@@ -166,8 +161,8 @@ where
 fn start_writer<R, O, I>(rt: &R, link: Arc<Link<ClientShared<O, I>>, Global>) -> Result<()>
 where
     R: Runtime,
-    O: OutboundTransform + Send + Drop + 'static,
-    I: InboundTransform + Send + Drop + 'static,
+    O: SendOutbound,
+    I: SendInbound,
 {
     let mine = rt.clone()?;
     let alloc = rt.alloc();

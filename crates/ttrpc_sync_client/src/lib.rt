@@ -1,9 +1,12 @@
-//! The client with threads: one connection that any number of callers share, a thread that reads it, and one that writes
-//! where no caller does.
+//! The client with threads: one connection that any number of callers share, a thread that reads it, and one that
+//! writes where no caller does. In `ports` what stands under its lock.
 #![tactic(auto)]
 
 mod client;
-pub mod client_on;
 mod line;
+pub mod ports;
 
 pub use client::Client;
+pub use ports::{
+    CALLS_TO_REST, ClientHeld, ClientRead, ClientShared, ClientWrite, Onward, ReadTurn, Reader,
+};

@@ -1,16 +1,13 @@
 //! A client's connection, which lives as long as a client of it.
-use crate::client_on::{drop_call_on, request_on, take_outcome_on, tick_on};
+use crate::ports::{ClientHeld, ClientRead, ClientShared};
 use std::alloc::Global;
 use std::sync::{Arc, MutexGuard};
 use std::time::Duration;
 use ttrpc_client::CallId;
 use ttrpc_client::call::deadline_of;
-use ttrpc_error::Result;
-use ttrpc_hooks::ConnectionData;
-use ttrpc_link::{Host, Link, Queued, after_queuing, moment};
-use ttrpc_ports::{ClientHeld, ClientRead, ClientShared, Connected};
-use ttrpc_proto::{Request, Response};
-use ttrpc_secure::{InboundTransform, OutboundTransform};
+use ttrpc_proto::{Request, Response, Result};
+use ttrpc_secure::{ConnectionData, InboundTransform, OutboundTransform};
+use ttrpc_sync::{Connected, Host, Link, Queued, after_queuing, moment};
 
 /// A client's connection. It is closed as the last client of it is dropped.
 pub struct Line<O: OutboundTransform + Drop, I: InboundTransform + Drop> {
@@ -58,23 +55,20 @@ impl<O: OutboundTransform + Drop, I: InboundTransform + Drop> Line<O, I> {
 
     /// Makes a call, and waits for its outcome.
     pub fn call<R: Host>(&self, rt: &R, request: &Request) -> Result<Response> {
-        let shared = Arc::try_clone(self.link.shared())?;
-        let reader = ClientRead::new(rt.clone()?, rt.alloc(), shared);
         let waiting = self.ask(rt, request, moment(rt)?)?;
         if waiting.is_alone {
-            self.read_for(rt, reader, waiting.id);
+            self.read_for(rt, waiting.id);
         }
         self.wait(rt, waiting)
     }
 
     /// Queues the request of a call, and sees to it that it is written and that somebody reads.
     fn ask<R: Host>(&self, rt: &R, request: &Request, now: u64) -> Result<Waiting> {
-        let port = self.link.port(rt)?;
         let shared = self.link.shared();
         let mut guard = shared.held().lock(rt);
         let asked = queue_request(&mut guard, rt.alloc(), request, now)?;
         drop(guard);
-        self.link.go_on(rt, port, asked.queued);
+        self.link.go_on(rt, asked.queued);
         if asked.wakes {
             shared.wake_reader();
         }
@@ -82,11 +76,12 @@ impl<O: OutboundTransform + Drop, I: InboundTransform + Drop> Line<O, I> {
     }
 
     /// Reads until this call has ended, if nobody else reads.
-    fn read_for<R: Host>(&self, rt: &R, reader: ClientRead<R, O, I>, id: CallId) {
-        let mut reader = reader;
-        let may_read = self.link.shared().held().lock(rt).reading.take(id);
+    fn read_for<R: Host>(&self, rt: &R, id: CallId) {
+        let shared = self.link.shared();
+        let may_read = shared.held().lock(rt).reading.take(id);
         if may_read {
-            self.link.read_on(rt, &mut reader);
+            let mut port = ClientRead::new(rt, rt.alloc(), shared);
+            self.link.read_on(rt, &mut port);
         }
     }
 
@@ -95,14 +90,14 @@ impl<O: OutboundTransform + Drop, I: InboundTransform + Drop> Line<O, I> {
         let shared = self.link.shared();
         let mut guard = shared.held().lock(rt);
         for _ in rt.forever() {
-            if let Some(outcome) = take_outcome_on(&mut guard.core, rt.alloc(), waiting.id) {
+            if let Some(outcome) = guard.take_outcome(rt.alloc(), waiting.id) {
                 guard.reading.finished();
                 return outcome;
             }
             guard = self.sleep(rt, guard, waiting);
             let has_ticked = ticked(rt, &mut guard);
             if let Err(error) = has_ticked {
-                drop_call_on(&mut guard.core, waiting.id);
+                guard.drop_call(waiting.id);
                 guard.reading.finished();
                 return Err(error);
             }
@@ -137,8 +132,8 @@ fn queue_request<O: OutboundTransform + Drop, I: InboundTransform + Drop>(
     request: &Request,
     now: u64,
 ) -> Result<Asked> {
-    let id = request_on(&mut held.core, alloc, request, now)?;
     let deadline = deadline_of(now, request.timeout_nano);
+    let id = held.request(alloc, request, now)?;
     let is_alone = held.reading.begins(id, deadline.is_some());
     let queued = after_queuing(&mut held.turn, is_alone);
     let wakes = !is_alone && held.reading.wakes();
@@ -159,7 +154,7 @@ fn ticked<R: Host, O: OutboundTransform + Drop, I: InboundTransform + Drop>(
     held: &mut ClientHeld<O, I>,
 ) -> Result<()> {
     if held.core.next_deadline().is_some() {
-        tick_on(&mut held.core, moment(rt)?);
+        held.tick(moment(rt)?);
     }
     Ok(())
 }

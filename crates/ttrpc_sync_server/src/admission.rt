@@ -5,10 +5,9 @@ ghost use Rattle.std.specs.declared.io.Error.{Error as IoError};
 use std::alloc::Global;
 use std::io;
 use std::time::Clock;
-use ttrpc_error::Error;
-use ttrpc_hooks::{AcceptHook, HookError, HookOutput, hook_result};
-use ttrpc_link::moment;
-use ttrpc_secure::Plain;
+use ttrpc_proto::Error;
+use ttrpc_secure::{AcceptHook, HookError, HookOutput, Plain, hook_result};
+use ttrpc_sync::moment;
 use ttrpc_transport::PipeConnection;
 
 /// The hook of a server that has none: it lets every connection pass as it is.

@@ -1,11 +1,20 @@
-//! The server with threads: what it is set to, its listener, and the connections that it has open.
+//! The server with threads: its listener, and the connections that it has open. In `settings` what it is set to, and
+//! what it refuses by that.
 #![tactic(auto)]
 
 pub mod accept;
 pub mod admission;
 mod connections;
+mod hook;
 mod server;
 mod service;
+pub mod settings;
 
 pub use admission::NoHook;
+pub use hook::SharedHook;
 pub use server::Server;
+pub use settings::{Refusal, Settings};
+pub use ttrpc_sync_connection::{
+    Conn, MethodHandler, ServerJobs, ServerRead, ServerShared, ServerWrite, SharedHandler,
+    TtrpcContext, response_error_to_channel, send_response,
+};

@@ -1,12 +1,14 @@
 //! The server.
 ghost use Rattle.std.specs.Prelude.{◌≡◌, IfErr, IfOk, OnErr, OnOk, None, Some, true, false};
-ghost use Rattle.ttrpc_error.specs.declared.error.Error.TheVariants.{NoMemory};
-ghost use Rattle.ttrpc_settings.specs.Settings.{IsNew, IsRefused, Refuses, bind_refusal, listen_refusal, register_refusal, start_refusal, bound, started, stopped};
+ghost use Rattle.ttrpc_proto.specs.declared.error.Error.TheVariants.{NoMemory};
+ghost use Rattle.ttrpc_sync_server.specs.Settings.{IsNew, IsRefused, Refuses, bind_refusal, listen_refusal, register_refusal, start_refusal, bound, started, stopped};
 
 use crate::accept::{Stop, next_connection};
 use crate::admission::NoHook;
 use crate::connections::Connections;
+use crate::hook::SharedHook;
 use crate::service::{Service, serve};
+use crate::settings::{Refusal, Settings};
 use std::alloc::Global;
 use std::collections::BTreeMap;
 use std::marker::Model;
@@ -15,12 +17,11 @@ use std::rt::Files;
 use std::sync::Arc;
 use std::thread::{Builder, JoinHandle, Threads};
 use std::time::Duration;
-use ttrpc_error::{Error, Result};
-use ttrpc_hooks::AcceptHook;
-use ttrpc_link::{Host, Runtime};
-use ttrpc_secure::{InboundTransform, OutboundTransform};
-use ttrpc_serving::{MethodHandler, Methods};
-use ttrpc_settings::{Refusal, Settings};
+use ttrpc_methods::Methods;
+use ttrpc_proto::{Error, Result};
+use ttrpc_secure::{SendInbound, SendOutbound};
+use ttrpc_sync::{Host, Runtime};
+use ttrpc_sync_connection::SharedHandler;
 use ttrpc_transport::{PipeConnection, PipeListener};
 
 /// A server with threads, which contracts see as its settings. Once it has started it serves the methods that are registered,
@@ -38,7 +39,7 @@ pub struct Server<R: Host, H: Drop, A: Drop> {
 
 impl<R: Host, H: Drop, A: Drop> Model for Server<R, H, A> {
     ghost use Rattle.std.specs.Prelude.{◌≡◌, ◌↔◌, IsSome, true};
-    ghost use Rattle.ttrpc_settings.specs.declared.settings.Settings.{Settings};
+    ghost use Rattle.ttrpc_sync_server.specs.declared.settings.Settings.{Settings};
 
     ghost Value = { Settings };
 
@@ -234,11 +235,11 @@ impl<R: Host + Threads, H: Drop, A: Drop> Server<R, H, A> {
 
 impl<R, O, I, H, A> Server<R, H, A>
 where
-    R: Runtime + 'static,
-    O: OutboundTransform + Send + Drop + 'static,
-    I: InboundTransform + Send + Drop + 'static,
-    A: AcceptHook<PipeConnection, Outbound = O, Inbound = I> + Send + Sync + Drop + 'static,
-    H: MethodHandler<R, O, I> + Send + Sync + Drop + 'static,
+    R: Runtime,
+    O: SendOutbound,
+    I: SendInbound,
+    A: SharedHook<Outbound = O, Inbound = I>,
+    H: SharedHandler<R, O, I>,
 {
     /// Begins to listen, once the counts of workers are in order: the default below the greatest, and above the least. From
     /// here on its services are fixed.
@@ -290,11 +291,11 @@ fn start_thread<R, O, I, H, A>(
     service: Arc<Service<H, A>, Global>,
 ) -> Result<JoinHandle<()>>
 where
-    R: Runtime + 'static,
-    O: OutboundTransform + Send + Drop + 'static,
-    I: InboundTransform + Send + Drop + 'static,
-    A: AcceptHook<PipeConnection, Outbound = O, Inbound = I> + Send + Sync + Drop + 'static,
-    H: MethodHandler<R, O, I> + Send + Sync + Drop + 'static,
+    R: Runtime,
+    O: SendOutbound,
+    I: SendInbound,
+    A: SharedHook<Outbound = O, Inbound = I>,
+    H: SharedHandler<R, O, I>,
 {
     let mine = rt.clone()?;
     match Builder::new().spawn(rt, move || listen(&mine, &listener, &stop, &service)) {
@@ -311,11 +312,11 @@ fn listen<R, O, I, H, A>(
     service: &Arc<Service<H, A>, Global>,
 )
 where
-    R: Runtime + 'static,
-    O: OutboundTransform + Send + Drop + 'static,
-    I: InboundTransform + Send + Drop + 'static,
-    A: AcceptHook<PipeConnection, Outbound = O, Inbound = I> + Send + Sync + Drop + 'static,
-    H: MethodHandler<R, O, I> + Send + Sync + Drop + 'static,
+    R: Runtime,
+    O: SendOutbound,
+    I: SendInbound,
+    A: SharedHook<Outbound = O, Inbound = I>,
+    H: SharedHandler<R, O, I>,
 {
     let interval = service.settings.accept_retry_interval;
     for _ in rt.forever() {

@@ -4,20 +4,21 @@ ghost use Rattle.std.specs.Arc.{arc_value};
 
 use crate::admission::admit;
 use crate::connections::Connections;
+use crate::hook::SharedHook;
+use crate::settings::Settings;
 use std::alloc::Global;
 use std::sync::Arc;
 use std::thread::Builder;
-use ttrpc_error::causes::others_of;
-use ttrpc_error::{Error, Result};
-use ttrpc_hooks::{AcceptHook, HookOutput};
-use ttrpc_link::{Host, Link, Runtime};
+use ttrpc_methods::Methods;
 use ttrpc_pool::PoolCore;
-use ttrpc_ports::ServerShared;
-use ttrpc_secure::{InboundTransform, OutboundTransform};
-use ttrpc_security::ConnectionContext;
+use ttrpc_proto::error::causes::others_of;
+use ttrpc_proto::{Error, Result};
+use ttrpc_secure::{
+    ConnectionContext, HookOutput, InboundTransform, OutboundTransform, SendInbound, SendOutbound,
+};
 use ttrpc_server::{Rules, ServerCore};
-use ttrpc_serving::{Conn, MethodHandler, Methods, keep};
-use ttrpc_settings::Settings;
+use ttrpc_sync::{Host, Link, Runtime};
+use ttrpc_sync_connection::{Conn, ServerShared, SharedHandler, keep};
 use ttrpc_transport::PipeConnection;
 
 /// What each connection of a server is served with.
@@ -36,11 +37,11 @@ pub fn serve<R, O, I, H, A>(
     stream: PipeConnection,
 ) -> Result<()>
 where
-    R: Runtime + 'static,
-    O: OutboundTransform + Send + Drop + 'static,
-    I: InboundTransform + Send + Drop + 'static,
-    A: AcceptHook<PipeConnection, Outbound = O, Inbound = I> + Send + Sync + Drop + 'static,
-    H: MethodHandler<R, O, I> + Send + Sync + Drop + 'static,
+    R: Runtime,
+    O: SendOutbound,
+    I: SendInbound,
+    A: SharedHook<Outbound = O, Inbound = I>,
+    H: SharedHandler<R, O, I>,
 {
     let stream = Arc::new(rt.alloc(), stream)?;
     let number = service.connections.add(rt, Arc::try_clone(&stream)?)?;
@@ -63,11 +64,11 @@ fn attend<R, O, I, H, A>(
     number: u64,
 )
 where
-    R: Runtime + 'static,
-    O: OutboundTransform + Send + Drop + 'static,
-    I: InboundTransform + Send + Drop + 'static,
-    A: AcceptHook<PipeConnection, Outbound = O, Inbound = I> + Send + Sync + Drop + 'static,
-    H: MethodHandler<R, O, I> + Send + Sync + Drop + 'static,
+    R: Runtime,
+    O: SendOutbound,
+    I: SendInbound,
+    A: SharedHook<Outbound = O, Inbound = I>,
+    H: SharedHandler<R, O, I>,
 {
     // A connection that the hook refuses, or for which memory is refused, is closed.
     let _ = admit_and_keep(rt, service, stream);
@@ -81,11 +82,11 @@ fn admit_and_keep<R, O, I, H, A>(
     stream: &Arc<PipeConnection, Global>,
 ) -> Result<()>
 where
-    R: Runtime + 'static,
-    O: OutboundTransform + Send + Drop + 'static,
-    I: InboundTransform + Send + Drop + 'static,
-    A: AcceptHook<PipeConnection, Outbound = O, Inbound = I> + Send + Sync + Drop + 'static,
-    H: MethodHandler<R, O, I> + Send + Sync + Drop + 'static,
+    R: Runtime,
+    O: SendOutbound,
+    I: SendInbound,
+    A: SharedHook<Outbound = O, Inbound = I>,
+    H: SharedHandler<R, O, I>,
 {
     let alloc = rt.alloc();
     let output = match admit(rt, alloc, &*service.hook, &**stream) {

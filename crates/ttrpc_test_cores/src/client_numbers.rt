@@ -6,7 +6,7 @@ use crate::steps::leaves;
 use crate::under_test::{Client, End, Met};
 use std::alloc::Global;
 use ttrpc_proto::Request;
-use ttrpc_values::slices::behind;
+use ttrpc_wire::values::slices::behind;
 
 /// So many calls are made and written before the first is answered. The last is answered first, with its own id's lowest
 /// byte, which is told in that order, and each has its own outcome.

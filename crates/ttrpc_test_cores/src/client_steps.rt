@@ -8,9 +8,8 @@ use std::alloc::Global;
 use std::test::Fail;
 use ttrpc_client::CallId;
 use ttrpc_codec::message::WireMessage;
-use ttrpc_error::Error;
-use ttrpc_proto::{Request, Response};
-use ttrpc_values::{Blob, Text};
+use ttrpc_proto::{Error, Request, Response};
+use ttrpc_wire::{Blob, Text};
 
 /// A step that only a client knows.
 pub fn client_step<C: Client>(alloc: Global, core: &mut C, step: &Step) -> Met {

@@ -7,10 +7,8 @@ use crate::under_test::{Client, Core, End, Met, Server};
 use std::alloc::Global;
 use std::test::Fail;
 use ttrpc_client::{CallId, ClientCore, ClientKind};
-use ttrpc_error::Error;
-use ttrpc_proto::{Request, Response};
-use ttrpc_secure::{InboundTransform, OutboundTransform};
-use ttrpc_security::ConnectionContext;
+use ttrpc_proto::{Error, Request, Response};
+use ttrpc_secure::{ConnectionContext, InboundTransform, OutboundTransform};
 use ttrpc_server::{Job, JobId, Rules, ServerCore};
 
 /// The last id that a call may have.

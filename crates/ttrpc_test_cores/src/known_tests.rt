@@ -5,9 +5,9 @@ use std::alloc::Global;
 use std::process::Abort;
 use std::test::Fail;
 use ttrpc_client::{ClientCore, ClientKind};
-use ttrpc_hooks::{ConnectionData, ConnectionDataExt, Datum};
-use ttrpc_secure::Plain;
-use ttrpc_security::{ConnectionContext, plain_context};
+use ttrpc_secure::{
+    ConnectionContext, ConnectionData, ConnectionDataExt, Datum, Plain, plain_context,
+};
 use ttrpc_server::{Rules, ServerCore};
 
 /// The context of a connection of which one number is known.

@@ -4,7 +4,7 @@ use crate::server_steps::answers;
 use crate::steps::leaves;
 use crate::under_test::{End, Met, Server};
 use std::alloc::Global;
-use ttrpc_values::slices::behind;
+use ttrpc_wire::values::slices::behind;
 
 /// So many requests come, of the streams from 1 on, and are taken before the first is answered. The last is answered
 /// first, with its own stream's lowest byte, and so are the answers written.

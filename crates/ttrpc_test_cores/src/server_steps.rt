@@ -7,11 +7,10 @@ use std::alloc::Global;
 use std::test::Fail;
 use ttrpc_codec::Codec;
 use ttrpc_codec::message::WireMessage;
-use ttrpc_error::Error;
-use ttrpc_proto::{Response, Status};
+use ttrpc_proto::{Error, Response, Status};
 use ttrpc_server::{Job, JobId, Registry};
-use ttrpc_values::slices::{behind, front};
-use ttrpc_values::{Blob, Text};
+use ttrpc_wire::values::slices::{behind, front};
+use ttrpc_wire::{Blob, Text};
 
 /// A step that only a server knows.
 pub fn server_step<S: Server>(alloc: Global, core: &mut S, step: &Step, cut: usize) -> Met {

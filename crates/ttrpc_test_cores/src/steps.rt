@@ -2,9 +2,9 @@
 use crate::script::{Step, Told};
 use crate::under_test::{Core, End, Met};
 use std::alloc::Global;
-use ttrpc_error::Error;
-use ttrpc_values::Text;
-use ttrpc_values::slices::{behind, front};
+use ttrpc_proto::Error;
+use ttrpc_wire::Text;
+use ttrpc_wire::values::slices::{behind, front};
 
 /// Whether the step is met.
 pub fn act<C: Core>(alloc: Global, core: &mut C, step: &Step, cut: usize) -> Met {

@@ -7,14 +7,13 @@ use std::io::ErrorKind;
 use std::process::Abort;
 use std::test::Fail;
 use ttrpc_connection::Failure;
-use ttrpc_error::Error;
-use ttrpc_proto::Response;
-use ttrpc_security::errors::{unsafe_payload_error, unsealed_error};
+use ttrpc_proto::{Error, Response};
+use ttrpc_secure::security::errors::{unsafe_payload_error, unsealed_error};
 use ttrpc_server::responses::{
     limit_response, oversize_response, path_response, unknown_job_error, unopened_response,
     unreadable_response,
 };
-use ttrpc_values::{CodecError, Text};
+use ttrpc_wire::{CodecError, Text};
 
 // ---- failures
 

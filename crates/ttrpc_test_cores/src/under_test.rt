@@ -5,8 +5,7 @@ use std::alloc::Global;
 use std::process::Abort;
 use std::test::Fail;
 use ttrpc_client::CallId;
-use ttrpc_error::Error;
-use ttrpc_proto::{Request, Response};
+use ttrpc_proto::{Error, Request, Response};
 use ttrpc_server::{Job, JobId};
 
 /// Nothing, or why a test ended.

@@ -3,10 +3,11 @@ use crate::rows::{FrameRow, message_of};
 use std::alloc::Global;
 use std::process::Abort;
 use std::test::Fail;
-use ttrpc_error::Error;
-use ttrpc_frame::{FrameDecoder, GenMessage, GenMessageError, Incoming};
-use ttrpc_header::{MESSAGE_LENGTH_MAX, MessageHeader};
-use ttrpc_values::{Blob, TryClone};
+use ttrpc_frame::{
+    FrameDecoder, GenMessage, GenMessageError, Incoming, MESSAGE_LENGTH_MAX, MessageHeader,
+};
+use ttrpc_proto::Error;
+use ttrpc_wire::{Blob, TryClone};
 
 type Tested = Result<(), Fail>;
 

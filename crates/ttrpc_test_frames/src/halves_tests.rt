@@ -5,8 +5,7 @@ use crate::rows::{FrameRow, header_of, queued_of};
 use std::alloc::{AllocError, Global};
 use std::process::Abort;
 use std::test::Fail;
-use ttrpc_frame::Outgoing;
-use ttrpc_header::MESSAGE_LENGTH_MAX;
+use ttrpc_frame::{MESSAGE_LENGTH_MAX, Outgoing};
 use ttrpc_secure::sending::{SendError, associated_bytes, send};
 use ttrpc_secure::{InboundTransform, OutboundTransform, Plain, TransformError};
 

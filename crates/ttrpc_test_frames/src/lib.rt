@@ -1,5 +1,5 @@
-//! Tests of the frames and of the transform halves: bytes cut in all ways, and scripts for the queue, which few
-//! functions run.
+//! Tests of the frames, of their readers and writers, and of the transform halves: bytes cut in all ways, scripts for the
+//! queue, and rows of what is read and written, which few functions run.
 #![tactic(auto)]
 
 #[cfg(test)]
@@ -10,3 +10,5 @@ mod halves_tests;
 mod queue_tests;
 #[cfg(test)]
 mod rows;
+#[cfg(test)]
+mod streams;

@@ -4,10 +4,10 @@ use crate::rows::{FrameRow, queued_of};
 use std::alloc::Global;
 use std::process::Abort;
 use std::test::Fail;
-use ttrpc_error::Error;
 use ttrpc_frame::Outgoing;
 use ttrpc_frame::owners::Owners;
-use ttrpc_values::Blob;
+use ttrpc_proto::Error;
+use ttrpc_wire::Blob;
 
 type Tested = Result<(), Fail>;
 

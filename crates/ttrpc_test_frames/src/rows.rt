@@ -1,9 +1,8 @@
 //! Frames as data.
 use std::alloc::Global;
 use std::test::Fail;
-use ttrpc_frame::{GenMessage, Queued};
-use ttrpc_header::MessageHeader;
-use ttrpc_values::Blob;
+use ttrpc_frame::{GenMessage, MessageHeader, Queued};
+use ttrpc_wire::Blob;
 
 /// A frame: its header's length, stream id, type and flags, and its payload.
 #[derive(Clone, Copy, Debug)]

@@ -4,7 +4,7 @@ use crate::fakes::{AT_ONCE, BYTES, Giver, Lender, Manner, ROOM, Receiver, Taker}
 use std::io::ErrorKind;
 use std::test::Fail;
 use ttrpc_sync::{Word, read_loop, write_loop};
-use ttrpc_values::slices::front;
+use ttrpc_wire::values::slices::front;
 
 const IN_FIVES: Manner = Manner { step: 5, ..AT_ONCE };
 

@@ -2,7 +2,7 @@
 //! their last call answered, and ports in memory.
 ghost use Rattle.std.specs.Prelude.{◌≡◌, ◌+◌, ◌≤◌, length, take, drop, Some, OnOk, Ok};
 ghost use Rattle.std.specs.Io.{ReadsAtMost, WritesAtMost};
-ghost use Rattle.ttrpc_streams.specs.Streams.{answered_kind};
+ghost use Rattle.ttrpc_frame.specs.Streams.{answered_kind};
 ghost use Rattle.ttrpc_sync.specs.Loops.{IsOneMore};
 
 use std::alloc::Global;
@@ -10,7 +10,7 @@ use std::cell::Cell;
 use std::cmp::min;
 use std::io::{self, ErrorKind};
 use std::test::Fail;
-use ttrpc_streams::{Sink, Source};
+use ttrpc_frame::{Sink, Source};
 use ttrpc_sync::{ReadPort, Word, WritePort};
 
 /// What stands for the last call before the first one: neither an end nor a break.

@@ -7,9 +7,9 @@ use std::io::{self, ErrorKind};
 use std::process::Abort;
 use std::sync::Wait;
 use std::test::Fail;
-use ttrpc_streams::Sink;
+use ttrpc_frame::Sink;
 use ttrpc_sync::{GATHER_LIMIT, Gather, Word, WritePort, write_loop};
-use ttrpc_values::slices::{behind, front};
+use ttrpc_wire::values::slices::{behind, front};
 
 type Tested = Result<(), Fail>;
 

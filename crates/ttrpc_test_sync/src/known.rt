@@ -9,7 +9,7 @@ use std::io;
 use std::process::Abort;
 use std::sync::Wait;
 use std::test::Fail;
-use ttrpc_streams::{Sink, write_part};
+use ttrpc_frame::{Sink, write_part};
 use ttrpc_sync::{Gather, Word, read_loop, work_loop, write_loop};
 
 /// A slice that is read to its end was taken whole.

@@ -8,7 +8,7 @@ use std::process::Abort;
 use std::sync::Wait;
 use std::test::Fail;
 use ttrpc_sync::Word;
-use ttrpc_values::slices::front;
+use ttrpc_wire::values::slices::front;
 
 type Tested = Result<(), Fail>;
 

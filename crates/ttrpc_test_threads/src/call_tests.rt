@@ -7,9 +7,9 @@ use std::sync::atomic::Ordering;
 use std::sync::{Arc, Wait};
 use std::time::{Duration, Instant};
 use std::{fs, thread};
-use ttrpc_error::Result as Answered;
-use ttrpc_link::Host;
+use ttrpc_proto::Result as Answered;
 use ttrpc_secure::{InboundTransform, OutboundTransform};
+use ttrpc_sync::Host;
 use ttrpc_sync_client::Client;
 
 /// How many calls each of two threads makes.

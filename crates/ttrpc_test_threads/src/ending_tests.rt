@@ -6,10 +6,10 @@ use crate::sites::{
 use std::process::Abort;
 use std::sync::atomic::Ordering;
 use std::thread;
-use ttrpc_error::Result as Answered;
+use ttrpc_proto::Result as Answered;
 use ttrpc_sync_server::NoHook;
 use ttrpc_transport::{PipeConnection, PipeListener};
-use ttrpc_values::slices::behind;
+use ttrpc_wire::values::slices::behind;
 
 /// A request of `Echo` of `demo.Echo` under id 1, with the payload `2a`.
 const ASKED: &[u8] = b"\0\0\0\x14\0\0\0\x01\x01\0\x0a\x09demo.Echo\x12\x04Echo\x1a\x01\x2a";

@@ -4,10 +4,10 @@ use std::io::{self, ErrorKind};
 use std::sync::atomic::{AtomicU64, Ordering};
 use std::time::{Clock, Duration};
 use ttrpc_bench::{StampIn, StampOut};
-use ttrpc_hooks::{AcceptHook, ConnectHook, Datum, HookError, HookOutput};
+use ttrpc_secure::{AcceptHook, ConnectHook, Datum, HookError, HookOutput};
 use ttrpc_sync_server::accept::Accepts;
 use ttrpc_transport::PipeConnection;
-use ttrpc_values::Text;
+use ttrpc_wire::Text;
 
 /// A clock that tells one moment, and then another.
 #[derive(Drop)]

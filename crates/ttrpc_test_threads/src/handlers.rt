@@ -5,13 +5,11 @@ use std::sync::{Arc, Mutex};
 use std::thread;
 use std::time::{Clock, Duration};
 use ttrpc_codec::message::WireMessage;
-use ttrpc_error::{Error, Result};
-use ttrpc_hooks::{ConnectionData, ConnectionDataExt};
-use ttrpc_link::Host;
-use ttrpc_proto::{Request, Response, Status};
-use ttrpc_secure::{InboundTransform, OutboundTransform};
-use ttrpc_serving::{MethodHandler, TtrpcContext};
-use ttrpc_values::Blob;
+use ttrpc_proto::{Error, Request, Response, Result, Status};
+use ttrpc_secure::{ConnectionData, ConnectionDataExt, InboundTransform, OutboundTransform};
+use ttrpc_sync::Host;
+use ttrpc_sync_server::{MethodHandler, TtrpcContext};
+use ttrpc_wire::Blob;
 
 /// How often a test looks at most, a millisecond after each look.
 pub const TURNS: u32 = 10000;

@@ -6,7 +6,7 @@ use std::process::Abort;
 use std::sync::atomic::AtomicU64;
 use std::thread;
 use std::time::{Clock, Duration, Instant};
-use ttrpc_hooks::{ConnectionDataExt, HookError};
+use ttrpc_secure::{ConnectionDataExt, HookError};
 use ttrpc_sync_client::Client;
 use ttrpc_sync_server::NoHook;
 use ttrpc_sync_server::accept::{Stop, next_connection};

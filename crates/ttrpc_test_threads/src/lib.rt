@@ -1,4 +1,4 @@
-//! Tests of the threaded client and server, over sockets of this machine.
+//! Tests of the client and the server with threads, over sockets of this machine, and of their ports, over cores in memory.
 #![tactic(auto)]
 
 #[cfg(test)]
@@ -11,6 +11,8 @@ mod fakes;
 mod handlers;
 #[cfg(test)]
 mod hook_tests;
+#[cfg(test)]
+mod ports;
 #[cfg(test)]
 mod settings_tests;
 #[cfg(test)]

@@ -9,15 +9,13 @@ use std::sync::Arc;
 use std::test::Fail;
 use std::thread;
 use std::time::{Clock, Duration};
-use ttrpc_error::{Error, Result as Answered};
-use ttrpc_hooks::AcceptHook;
-use ttrpc_link::{Host, Runtime};
-use ttrpc_proto::{Request, Response};
-use ttrpc_secure::{InboundTransform, OutboundTransform, Plain};
+use ttrpc_proto::{Error, Request, Response, Result as Answered};
+use ttrpc_secure::{InboundTransform, OutboundTransform, Plain, SendInbound, SendOutbound};
+use ttrpc_sync::{Host, Runtime};
 use ttrpc_sync_client::Client;
-use ttrpc_sync_server::{NoHook, Server};
+use ttrpc_sync_server::{NoHook, Server, SharedHook};
 use ttrpc_transport::{ClientConnection, PipeConnection};
-use ttrpc_values::{Blob, Sequence, Text};
+use ttrpc_wire::{Blob, Sequence, Text};
 
 pub type Tested = Result<(), Fail>;
 
@@ -79,9 +77,9 @@ pub fn serving<R: Machine + 'static>(rt: &R) -> Result<Site<R, NoHook>, Fail> {
 pub fn hooked<R, O, I, A>(rt: &R, hook: A) -> Result<Site<R, A>, Fail>
 where
     R: Machine + 'static,
-    O: OutboundTransform + Send + Drop + 'static,
-    I: InboundTransform + Send + Drop + 'static,
-    A: AcceptHook<PipeConnection, Outbound = O, Inbound = I> + Send + Sync + Drop + 'static,
+    O: SendOutbound,
+    I: SendInbound,
+    A: SharedHook<Outbound = O, Inbound = I>,
 {
     let board = Arc::new(rt.alloc(), Board::new(rt.alloc()))?;
     let server = unbound(rt, &board)?
@@ -97,9 +95,9 @@ fn started<R, O, I, A>(
 ) -> Result<Site<R, A>, Fail>
 where
     R: Machine + 'static,
-    O: OutboundTransform + Send + Drop + 'static,
-    I: InboundTransform + Send + Drop + 'static,
-    A: AcceptHook<PipeConnection, Outbound = O, Inbound = I> + Send + Sync + Drop + 'static,
+    O: SendOutbound,
+    I: SendInbound,
+    A: SharedHook<Outbound = O, Inbound = I>,
 {
     let mut server = server;
     server.start()?;

@@ -3,8 +3,8 @@
 use std::alloc::Global;
 use std::process::Abort;
 use std::test::Fail;
-use ttrpc_address::{Domain, Place, nodelay_from, parse_sockaddr, parse_vsock, socket_of};
-use ttrpc_error::{Error, Result as Answer};
+use ttrpc_proto::{Error, Result as Answer};
+use ttrpc_transport::{Domain, Place, nodelay_from, parse_sockaddr, parse_vsock, socket_of};
 
 type Tested = Result<(), Fail>;
 

@@ -8,7 +8,7 @@ use std::io::{ErrorKind, Read};
 use std::net::{Net, TcpListener, TcpStream};
 use std::process::Abort;
 use std::rt::Files;
-use ttrpc_error::{Error, Result as Answer};
+use ttrpc_proto::{Error, Result as Answer};
 use ttrpc_transport::{ClientConnection, PipeListener};
 
 /// Addresses that name no place, each with what refuses it, of that the beginning where the rest is std's.

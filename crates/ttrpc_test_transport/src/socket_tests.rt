@@ -9,8 +9,8 @@ use std::rt::Files;
 use std::test::Fail;
 use std::thread;
 use std::time::Clock;
-use ttrpc_error::{Error, Result as Answer};
-use ttrpc_streams::{fill, write_part};
+use ttrpc_frame::{fill, write_part};
+use ttrpc_proto::{Error, Result as Answer};
 use ttrpc_transport::{ClientConnection, PipeConnection, Stream};
 
 fn bytes_pass<R>(rt: &R, alloc: Global, site: Site) -> Tested

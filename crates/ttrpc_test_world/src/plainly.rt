@@ -2,8 +2,7 @@
 //! written from its sentences alone.
 
 use ttrpc_client::CallId;
-use ttrpc_error::Error;
-use ttrpc_proto::{Request, Response};
+use ttrpc_proto::{Error, Request, Response};
 use ttrpc_server::JobId;
 use ttrpc_world::{Entry, Event, Reply};
 

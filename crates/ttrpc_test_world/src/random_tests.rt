@@ -7,11 +7,10 @@ use std::alloc::Global;
 use std::test::Fail;
 use ttrpc_client::ClientKind;
 use ttrpc_codec::message::WireMessage;
-use ttrpc_error::Error;
-use ttrpc_header::MessageHeader;
-use ttrpc_proto::{Response, Status};
+use ttrpc_frame::MessageHeader;
+use ttrpc_proto::{Error, Response, Status};
 use ttrpc_server::Job;
-use ttrpc_values::Text;
+use ttrpc_wire::Text;
 use ttrpc_world::{Entry, Event, Reply, Side, Trace};
 
 type Tested = Result<(), Fail>;

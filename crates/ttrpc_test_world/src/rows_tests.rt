@@ -8,8 +8,8 @@ use std::alloc::Global;
 use std::process::Abort;
 use std::test::Fail;
 use ttrpc_client::ClientKind;
-use ttrpc_error::Error;
-use ttrpc_values::Blob;
+use ttrpc_proto::Error;
+use ttrpc_wire::Blob;
 use ttrpc_world::{Event, Reply, Side, Trace};
 
 type Tested = Result<(), Fail>;

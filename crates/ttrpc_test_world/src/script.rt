@@ -4,12 +4,11 @@ use std::test::Fail;
 use ttrpc_bench::stamps;
 use ttrpc_client::{ClientCore, ClientKind};
 use ttrpc_codec::message::WireMessage;
-use ttrpc_error::Error;
-use ttrpc_proto::{Request, Response, Status};
+use ttrpc_proto::{Error, Request, Response, Status};
 use ttrpc_secure::plain::plain_is_paired;
-use ttrpc_security::{ConnectionContext, plain_context};
+use ttrpc_secure::{ConnectionContext, plain_context};
 use ttrpc_server::{Registry, Rules, ServerCore};
-use ttrpc_values::{Blob, Text};
+use ttrpc_wire::{Blob, Text};
 use ttrpc_world::{Entry, Event, Reply, Side, Trace, World};
 
 /// One event of a script.

@@ -1,3 +1,4 @@
+pub mod Address
 pub mod Sockets
 pub mod Listeners
 pub mod Opened

@@ -1,7 +1,7 @@
 -- Sockets that listen.
 -- Source: this project's.
-use Rattle.ttrpc_address.specs.declared.domain.Domain.{Domain}
-use Rattle.ttrpc_address.specs.declared.domain.Domain.TheVariants.{Tcp as TcpDomain, Unix as UnixDomain}
+use Rattle.ttrpc_transport.specs.declared.address.domain.Domain.{Domain}
+use Rattle.ttrpc_transport.specs.declared.address.domain.Domain.TheVariants.{Tcp as TcpDomain, Unix as UnixDomain}
 use Rattle.ttrpc_transport.specs.declared.listener.Listening.{Listening}
 use Rattle.ttrpc_transport.specs.declared.listener.Listening.TheVariants.{Tcp, Unix}
 

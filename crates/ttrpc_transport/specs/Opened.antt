@@ -1,12 +1,12 @@
 -- What comes of an address where a socket is bound or connected.
 -- Source: this project's.
 use Rattle.std.specs.Prelude.{◌≡◌, ◌⊎◌, ℕ, List}
-use Rattle.ttrpc_address.specs.declared.domain.Domain.{Domain}
-use Rattle.ttrpc_address.specs.declared.domain.Domain.TheVariants.{Tcp as TcpDomain, Unix as UnixDomain}
-use Rattle.ttrpc_address.specs.declared.place.Place.{Place}
-use Rattle.ttrpc_address.specs.declared.place.Place.TheVariants.{Tcp, Unix}
-use Rattle.ttrpc_address.specs.Places.{IsPlace, IsNoPlace}
-use Rattle.ttrpc_error.specs.declared.error.Error.{Error}
+use Rattle.ttrpc_transport.specs.declared.address.domain.Domain.{Domain}
+use Rattle.ttrpc_transport.specs.declared.address.domain.Domain.TheVariants.{Tcp as TcpDomain, Unix as UnixDomain}
+use Rattle.ttrpc_transport.specs.declared.address.place.Place.{Place}
+use Rattle.ttrpc_transport.specs.declared.address.place.Place.TheVariants.{Tcp, Unix}
+use Rattle.ttrpc_transport.specs.Address.Places.{IsPlace, IsNoPlace}
+use Rattle.ttrpc_proto.specs.declared.error.Error.{Error}
 use Rattle.ttrpc_transport.specs.Sockets.{IsFault}
 
 -- the domain of a socket at this place

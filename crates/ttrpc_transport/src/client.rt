@@ -1,11 +1,12 @@
 //! A client's connection.
 ghost use Rattle.std.specs.Prelude.{◌≡◌, IfErr, IfOk, Ok};
 ghost use Rattle.std.specs.IoError.{error_kind};
-ghost use Rattle.ttrpc_transport.specs.Sockets.{IsFault, IsPassing, domain_of};
+ghost use Rattle.ttrpc_frame.specs.Streams.{IsPassing};
+ghost use Rattle.ttrpc_transport.specs.Sockets.{IsFault, domain_of};
 ghost use Rattle.ttrpc_transport.specs.Opened.{IsOpenedAt, IsNotOpened, place_domain};
 
+use crate::address::{Place, socket_of};
 use crate::connection::PipeConnection;
-use crate::retry::is_passing;
 use crate::stream::{Stream, fault};
 use std::alloc::Global;
 use std::io;
@@ -15,8 +16,8 @@ use std::os::fd::OwnedFd;
 use std::os::unix::net::UnixStream;
 use std::sync::atomic::{AtomicBool, Ordering};
 use std::time::Duration;
-use ttrpc_address::{Place, socket_of};
-use ttrpc_error::Result;
+use ttrpc_frame::Passing;
+use ttrpc_proto::Result;
 
 /// How many milliseconds `ready` waits.
 const READY_TIME: u64 = 10;
@@ -31,7 +32,7 @@ pub struct ClientConnection {
 }
 
 impl Model for ClientConnection {
-    ghost use Rattle.ttrpc_address.specs.declared.domain.Domain.{Domain};
+    ghost use Rattle.ttrpc_transport.specs.declared.address.domain.Domain.{Domain};
     ghost use Rattle.ttrpc_transport.specs.Sockets.{domain_of};
 
     ghost Value = { Domain };
@@ -78,7 +79,7 @@ impl ClientConnection {
     /// Waits for bytes, or for the other side to end, 10 milliseconds at most. `None`: nothing came, or the wait was
     /// interrupted. Once the connection or its receiver is closed the error `pipe closed` is answered.
     pub fn ready(&self) -> io::Result<Option<()>>
-        ensures { IfErr result (λ e. ¬ (IsPassing (error_kind e))) }
+        ensures { IfErr result (λ e. ¬ (IsPassing Passing.InterruptedOrBlocked (error_kind e))) }
     {
         let came = self.wait_for_bytes();
         if self.is_closed.load(Ordering::SeqCst) {
@@ -86,7 +87,7 @@ impl ClientConnection {
         }
         match came {
             Ok(_) => Ok(Some(())),
-            Err(error) if is_passing(error.kind()) => Ok(None),
+            Err(error) if Passing::InterruptedOrBlocked.includes(error.kind()) => Ok(None),
             Err(error) => Err(error),
         }
     }

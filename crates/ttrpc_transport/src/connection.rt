@@ -3,12 +3,11 @@ ghost use Rattle.std.specs.Prelude.{◌≡◌, IfErr};
 ghost use Rattle.std.specs.Io.{ReadsAtMost, WritesAtMost};
 ghost use Rattle.ttrpc_transport.specs.Sockets.{IsFault, IsLastingFault, domain_of};
 
-use crate::retry::{read_again, write_again};
 use crate::stream::{Stream, fault};
 use std::io::{self, Read, Write};
 use std::marker::Model;
 use std::net::Shutdown;
-use ttrpc_error::Result;
+use ttrpc_proto::Result;
 
 /// One connection, which contracts see as its domain. Threads may share it: each call takes it by reference.
 #[derive(Debug, Drop)]
@@ -17,7 +16,7 @@ pub struct PipeConnection {
 }
 
 impl Model for PipeConnection {
-    ghost use Rattle.ttrpc_address.specs.declared.domain.Domain.{Domain};
+    ghost use Rattle.ttrpc_transport.specs.declared.address.domain.Domain.{Domain};
     ghost use Rattle.ttrpc_transport.specs.Sockets.{domain_of};
 
     ghost Value = { Domain };
@@ -47,8 +46,7 @@ impl PipeConnection {
         ensures bound { ReadsAtMost result buf.new }
         ensures err { IfErr result IsLastingFault }
     {
-        let mut stream = &self.stream;
-        read_again(&mut stream, buf).map_err(fault)
+        self.stream.receive(buf).map_err(fault)
     }
 
     /// Writes some bytes of the buffer, of its front. A write that was interrupted or would block is tried again. A fault
@@ -57,8 +55,7 @@ impl PipeConnection {
         ensures bound { WritesAtMost result buf.now }
         ensures err { IfErr result IsLastingFault }
     {
-        let mut stream = &self.stream;
-        write_again(&mut stream, buf).map_err(fault)
+        self.stream.send(buf).map_err(fault)
     }
 
     /// Ends the connection for both sides, and wakes each thread that reads it or writes to it. The descriptor is closed as
@@ -81,8 +78,7 @@ impl PipeConnection {
 impl Read for &PipeConnection {
     fn read(&mut self, buf: &mut [u8]) -> io::Result<usize> {
         let connection: &PipeConnection = self;
-        let mut stream = &connection.stream;
-        read_again(&mut stream, buf)
+        connection.stream.receive(buf)
     }
 }
 
@@ -90,8 +86,7 @@ impl Read for &PipeConnection {
 impl Write for &PipeConnection {
     fn write(&mut self, buf: &[u8]) -> io::Result<usize> {
         let connection: &PipeConnection = self;
-        let mut stream = &connection.stream;
-        write_again(&mut stream, buf)
+        connection.stream.send(buf)
     }
 
     fn flush(&mut self) -> io::Result<()> {

@@ -1,13 +1,14 @@
 //! The sockets of the clients and servers with threads: a listener, the connections that it accepts, and a client's
-//! connection, by TCP or at a path.
+//! connection, by TCP or at a path. In `address` their addresses, as texts.
 #![tactic(auto)]
 
+pub mod address;
 mod client;
 mod connection;
 mod listener;
-mod retry;
 mod stream;
 
+pub use address::{Domain, Place, nodelay_from, parse_sockaddr, parse_vsock, socket_of};
 pub use client::ClientConnection;
 pub use connection::PipeConnection;
 pub use listener::PipeListener;

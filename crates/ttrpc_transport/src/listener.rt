@@ -1,9 +1,10 @@
 //! What accepts connections.
 ghost use Rattle.std.specs.Prelude.{◌≡◌, ◌↔◌, IfErr, IfOk, IfSome, IsSome};
-ghost use Rattle.ttrpc_address.specs.declared.domain.Domain.{Domain};
+ghost use Rattle.ttrpc_transport.specs.declared.address.domain.Domain.{Domain};
 ghost use Rattle.ttrpc_transport.specs.Sockets.{IsFault};
 ghost use Rattle.ttrpc_transport.specs.Opened.{IsOpenedAt, IsNotOpened, place_domain};
 
+use crate::address::{Place, socket_of};
 use crate::connection::PipeConnection;
 use crate::stream::{Stream, fault};
 use std::alloc::Global;
@@ -14,8 +15,7 @@ use std::os::fd::OwnedFd;
 use std::os::unix::net::{UnixListener, UnixStream};
 use std::rt::Files;
 use std::sync::atomic::{AtomicBool, Ordering};
-use ttrpc_address::{Place, socket_of};
-use ttrpc_error::Result;
+use ttrpc_proto::Result;
 
 /// What accepts connections, which contracts see as its domain. Threads may share it: each call takes it by reference.
 #[derive(Drop)]
@@ -35,7 +35,7 @@ enum Listening {
 }
 
 impl Model for PipeListener {
-    ghost use Rattle.ttrpc_address.specs.declared.domain.Domain.{Domain};
+    ghost use Rattle.ttrpc_transport.specs.declared.address.domain.Domain.{Domain};
     ghost use Rattle.ttrpc_transport.specs.Listeners.{listening_domain};
 
     ghost Value = { Domain };

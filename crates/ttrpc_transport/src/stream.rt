@@ -2,13 +2,18 @@
 ghost use Rattle.std.specs.Prelude.{◌≡◌, IfErr, IfOk};
 ghost use Rattle.std.specs.Io.{ReadsAtMost, WritesAtMost};
 ghost use Rattle.std.specs.IoError.{error_kind};
-ghost use Rattle.ttrpc_error.specs.declared.error.Error.{Error};
+ghost use Rattle.ttrpc_frame.specs.Streams.{IsPassing};
+ghost use Rattle.ttrpc_proto.specs.declared.error.Error.{Error};
 ghost use Rattle.ttrpc_transport.specs.Sockets.{IsFault, domain_of};
 
 use std::io::{self, ErrorKind, Read, Write};
 use std::net::{Shutdown, TcpStream};
 use std::os::unix::net::UnixStream;
-use ttrpc_error::{Error, Result};
+use ttrpc_frame::{Passing, read_again, write_again};
+use ttrpc_proto::{Error, Result};
+
+// What passes at a socket: the call is tried again.
+const PASSING: Passing = Passing::InterruptedOrBlocked;
 
 /// A stream of bytes, by TCP or at a path.
 #[derive(Debug, Drop)]
@@ -35,32 +40,36 @@ impl Stream {
         }
     }
 
-    fn read_once(&self, buf: &mut [u8]) -> io::Result<usize>
-        ensures { ReadsAtMost result buf.new }
+    // Reads some bytes. A read that was interrupted or would block is tried again.
+    pub(crate) fn receive(&self, buf: &mut [u8]) -> io::Result<usize>
+        ensures bound { ReadsAtMost result buf.new }
+        ensures err { IfErr result (λ e. ¬ (IsPassing Passing.InterruptedOrBlocked (error_kind e))) }
     {
         match self {
             Stream::Tcp(stream) => {
                 let mut stream: &TcpStream = stream;
-                stream.read(buf)
+                read_again(&mut stream, buf, PASSING)
             }
             Stream::Unix(stream) => {
                 let mut stream: &UnixStream = stream;
-                stream.read(buf)
+                read_again(&mut stream, buf, PASSING)
             }
         }
     }
 
-    fn write_once(&self, buf: &[u8]) -> io::Result<usize>
-        ensures { WritesAtMost result buf.now }
+    // Writes some bytes. A write that was interrupted or would block is tried again.
+    pub(crate) fn send(&self, buf: &[u8]) -> io::Result<usize>
+        ensures bound { WritesAtMost result buf.now }
+        ensures err { IfErr result (λ e. ¬ (IsPassing Passing.InterruptedOrBlocked (error_kind e))) }
     {
         match self {
             Stream::Tcp(stream) => {
                 let mut stream: &TcpStream = stream;
-                stream.write(buf)
+                write_again(&mut stream, buf, PASSING)
             }
             Stream::Unix(stream) => {
                 let mut stream: &UnixStream = stream;
-                stream.write(buf)
+                write_again(&mut stream, buf, PASSING)
             }
         }
     }
@@ -84,15 +93,17 @@ impl Stream {
     }
 }
 
+/// A read that was interrupted or would block is tried again.
 impl Read for &Stream {
     fn read(&mut self, buf: &mut [u8]) -> io::Result<usize> {
-        self.read_once(buf)
+        self.receive(buf)
     }
 }
 
+/// A write that was interrupted or would block is tried again.
 impl Write for &Stream {
     fn write(&mut self, buf: &[u8]) -> io::Result<usize> {
-        self.write_once(buf)
+        self.send(buf)
     }
 
     fn flush(&mut self) -> io::Result<()> {

@@ -2,8 +2,8 @@
 -- and `old` those that the reader had, which are the same.
 use Rattle.std.proofs.Common.{◌≡◌, ℕ, ◌<◌, List, length, Option, Some, None, refl, sym, ap, ◌∙◌}
 use Rattle.std.specs.Prelude.{◌≢◌}
-use Rattle.ttrpc_values.specs.declared.codec_error.CodecError.{CodecError}
-use Rattle.ttrpc_values.specs.declared.codec_error.CodecError.TheVariants.{NoMemory}
+use Rattle.ttrpc_wire.specs.declared.values.codec_error.CodecError.{CodecError}
+use Rattle.ttrpc_wire.specs.declared.values.codec_error.CodecError.TheVariants.{NoMemory}
 use Rattle.ttrpc_wire.specs.Front.{Begins, Refuses}
 use Rattle.ttrpc_wire.proofs.Agrees.{Agrees, nothing, shortens}
 

@@ -15,7 +15,7 @@ use Rattle.ttrpc_wire.specs.Front.{Begins}
 use Rattle.ttrpc_wire.specs.Reading.{varint_at, wire_type_at, split_tag, tag_at, value_at, field_at, fields_upto, fields_of}
 use Rattle.ttrpc_wire.proofs.Agrees.{Agrees, chosen, unrefused, mapped, bound, none_some}
 use Rattle.ttrpc_wire.proofs.Varints.{varint_agrees, varint_spells}
-use Rattle.ttrpc_wire.proofs.Values.{value_agrees}
+use Rattle.ttrpc_wire.proofs.WireValues.{value_agrees}
 
 -- ---- wire types and tags
 

@@ -2,8 +2,8 @@
 use Rattle.std.proofs.Common.{◌≡◌, ◌≢◌, ℕ, List, [], ◌∷◌, ◌++◌, length, Option, Some, None, refl, sym, ap, subst, ◌∙◌, arith, append_assoc, inl, inr}
 use Rattle.std.specs.List.{AllByRecursion}
 use Rattle.std.specs.Option.{option_map}
-use Rattle.ttrpc_values.specs.declared.codec_error.CodecError.{CodecError}
-use Rattle.ttrpc_values.specs.declared.codec_error.CodecError.TheVariants as errors
+use Rattle.ttrpc_wire.specs.declared.values.codec_error.CodecError.{CodecError}
+use Rattle.ttrpc_wire.specs.declared.values.codec_error.CodecError.TheVariants as errors
 use Rattle.ttrpc_wire.specs.Field.{Field, IsField, IsFields, Fits, fields_bytes}
 use Rattle.ttrpc_wire.specs.Front.{Begins, BeginsNone}
 use Rattle.ttrpc_wire.specs.Reading.{◌>>=◌, fields_of}

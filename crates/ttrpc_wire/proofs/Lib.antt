@@ -1,7 +1,7 @@
 pub mod LongVarint
 pub mod Agrees
 pub mod Varints
-pub mod Values
+pub mod WireValues
 pub mod Fields
 pub mod Calls
 pub mod Digits

@@ -1,8 +1,8 @@
 -- What the fields of some bytes mean as a message: each field is one step, from the message of no fields on.
 -- Source: the Protocol Buffers encoding guide, "Message Structure".
 use Rattle.std.specs.Prelude.{◌≡◌, ℕ, List, [], ◌∷◌, Option, Some, None, Result, Ok, Err}
-use Rattle.ttrpc_values.specs.declared.codec_error.CodecError.{CodecError}
-use Rattle.ttrpc_values.specs.declared.codec_error.CodecError.TheVariants as errors
+use Rattle.ttrpc_wire.specs.declared.values.codec_error.CodecError.{CodecError}
+use Rattle.ttrpc_wire.specs.declared.values.codec_error.CodecError.TheVariants as errors
 use Rattle.ttrpc_wire.specs.Field.{Field}
 use Rattle.ttrpc_wire.specs.Reading.{◌>>=◌, fields_of}
 

@@ -1,8 +1,8 @@
 -- What the front of some bytes is, and what a call that reads may answer.
 -- Source: the Protocol Buffers encoding guide, "Message Structure".
 use Rattle.std.specs.Prelude.{◌≡◌, ◌≢◌, ℕ, List, ◌++◌}
-use Rattle.ttrpc_values.specs.declared.codec_error.CodecError.{CodecError}
-use Rattle.ttrpc_values.specs.declared.codec_error.CodecError.TheVariants.{NoMemory}
+use Rattle.ttrpc_wire.specs.declared.values.codec_error.CodecError.{CodecError}
+use Rattle.ttrpc_wire.specs.declared.values.codec_error.CodecError.TheVariants.{NoMemory}
 
 -- The bytes begin with those of x, and the rest is what follows.
 pub record Begins {X : Type 0} (Is : List ℕ → X → Type 0) (bytes : List ℕ) (x : X) (rest : List ℕ) : Type 0 where

@@ -1,3 +1,4 @@
+pub mod Code
 pub mod Varint
 pub mod Number
 pub mod Field

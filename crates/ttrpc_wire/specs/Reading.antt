@@ -3,8 +3,8 @@
 -- Source: the Protocol Buffers encoding guide, by the law that it is the grammar.
 use Rattle.std.specs.Prelude.{◌≡◌, ◌≢◌, ℕ, zero, suc, ◌+◌, ◌*◌, ◌-◌, ◌/◌, ◌%◌, List, [], ◌∷◌, length, take, drop, Option, Some, None, Result, Ok, Err, nat_lt, ◌==◌, if◌then◌else◌}
 use Rattle.std.specs.Option.{option_map}
-use Rattle.ttrpc_values.specs.declared.codec_error.CodecError.{CodecError}
-use Rattle.ttrpc_values.specs.declared.codec_error.CodecError.TheVariants.{NoMemory}
+use Rattle.ttrpc_wire.specs.declared.values.codec_error.CodecError.{CodecError}
+use Rattle.ttrpc_wire.specs.declared.values.codec_error.CodecError.TheVariants.{NoMemory}
 use Rattle.ttrpc_wire.specs.declared.field.WireType.{WireType}
 use Rattle.ttrpc_wire.specs.declared.field.WireType.TheVariants as wire
 use Rattle.ttrpc_wire.specs.Field.{Value, Varint, Fixed64, LengthDelimited, Fixed32, Field, fixed64_of, fixed32_of}

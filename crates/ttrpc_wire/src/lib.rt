@@ -1,14 +1,17 @@
-//! The Protocol Buffers wire format: the fields of a message, read from a slice and written onto a vector.
+//! The Protocol Buffers wire format: the fields of a message, read from a slice and written onto a vector. In `values`
+//! the small types that values of all layers are made of.
 #![tactic(auto)]
 
 mod field;
 pub mod laws;
 mod number;
 mod reader;
+pub mod values;
 mod varint;
 mod writer;
 
 pub use field::{Field, FieldNumber, Tag, Value, WireType};
 pub use number::{int32_to_varint, int64_to_varint, varint_to_int32, varint_to_int64};
 pub use reader::Reader;
+pub use values::{Blob, Code, CodecError, Sequence, Text, TryClone};
 pub use writer::{field_len, put_field, put_tag, put_varint, tag_len, varint_len};

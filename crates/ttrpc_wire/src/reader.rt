@@ -7,9 +7,9 @@ ghost use Rattle.ttrpc_wire.specs.Reading.{Reads, bytes_at, wire_type_at, tag_at
 ghost use Rattle.ttrpc_wire.specs.Seen.{SpellsTag, seen, seen_value};
 
 use crate::field::{Field, FieldNumber, Tag, Value, WireType};
+use crate::values::CodecError;
 use crate::varint::varint_of;
 use std::marker::Model;
-use ttrpc_values::CodecError;
 
 #[inline]
 #[tactic(auto, unfolding(crate::specs::Reading::bytes_at))]

@@ -2,7 +2,7 @@
 ghost use Rattle.std.specs.Prelude.{◌≡◌, ◌+◌, ◌*◌, ◌<◌, ◌∷◌, [], IfSome, IfNone};
 ghost use Rattle.ttrpc_wire.specs.Reading.{Reads, varint_at, varint_upto};
 
-use ttrpc_values::CodecError;
+use crate::values::CodecError;
 
 /// The varint at the front, and the bytes after it.
 #[inline]

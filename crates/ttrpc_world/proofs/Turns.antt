@@ -1,6 +1,6 @@
 -- What each event does to the story of an id.
 use Rattle.ttrpc_world.proofs.Words.{is_some, ◌≡◌, ℕ, ◌≤◌, List, [], ◌∷◌, ◌++◌, length, Bool, true, false, if◌then◌else◌, Option, Some, None, Result, Ok, Err, refl, sym, ap, ◌∙◌, subst, ◌⊎◌, inl, inr, arith, ℤ, pos, zero, append-nil, Error, Request, Response, Failure, ActiveJob, Call, is_ok_code, error_of, Waiting, Expired, Ended, Gives, LandsOn, by_code, by_status, GivesOutcome, TellsOutcome, expired_at, expired_error, is_due, left_of, Flying, Act, Called, Ran, Answered, Gave, HasOkStatus, outcomes, work}
-use Rattle.ttrpc_error.specs.declared.error.Error.TheVariants.{RpcStatus}
+use Rattle.ttrpc_proto.specs.declared.error.Error.TheVariants.{RpcStatus}
 use Rattle.ttrpc_proto.specs.declared.status.Status.{Status}
 use Rattle.ttrpc_world.proofs.Stages.{Stage, Unborn, Sent, Made, Running, Told, Over, Ends, Given, HasLanded, IsAnswerOf, IsBorn, IsDone, IsJob, IsKept, IsSent, IsStage, IsToldOf, IsWhole, Story, all_work, downs_of, given_of, jobs_of, kept_is_born, outcomes_append, ups_of, whole_work, work_append, works_of}
 

@@ -2,7 +2,7 @@
 pub use Rattle.std.proofs.Common.{ℤ, codes, pos}
 pub use Rattle.std.proofs.lemmas.Bool.{and_parts, le-ltb}
 pub use Rattle.std.specs.Vec.{vec_capacity}
-pub use Rattle.ttrpc_header.specs.declared.header.TheConstants.{MESSAGE_TYPE_RESPONSE}
+pub use Rattle.ttrpc_frame.specs.declared.header.TheConstants.{MESSAGE_TYPE_RESPONSE}
 pub use Rattle.ttrpc_proto.specs.Messages.{empty_request, empty_response, is_ok_code, IsRequest, IsResponse, request_fields, request_step, response_fields, response_step}
 pub use Rattle.ttrpc_frame.specs.Queue.{empty_queue, has_begun}
 pub use Rattle.ttrpc_secure.specs.Halves.{IsPaired}

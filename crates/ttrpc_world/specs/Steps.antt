@@ -2,7 +2,7 @@
 -- Source: PROTOCOL.md of ttrpc, "Streaming", by the tables of both cores.
 use Rattle.std.specs.Prelude.{◌≡◌, ◌≢◌, ◌⊎◌, ◌<◌, ◌≤◌, ◌++◌, ℕ, List, [], ◌∷◌, length, take, drop, min, codes, if◌then◌else◌, Bool, true, false, Option, Some, None, Result, Ok, Err}
 use Rattle.ttrpc_world.specs.Types.{Error, Response, Connection, Failure, Told, Disconnected, DisconnectedInside, Event, Call, Open, Outcome, Recv, Send, Close, DropCall, DropReceiver, DropSender, Take, Answer, Respond, Finish, EndStream, Drain, Tick, Carry, Deliver, Cut, Fail, Reply, Named, Given, Handed, Done, Count, Refused, NoMemory, NoStep, Entry}
-use Rattle.ttrpc_error.specs.declared.error.Error.TheVariants.{Socket}
+use Rattle.ttrpc_proto.specs.declared.error.Error.TheVariants.{Socket}
 use Rattle.ttrpc_proto.specs.Messages.{IsRequest, IsResponse}
 use Rattle.ttrpc_frame.specs.Frames.{nothing}
 use Rattle.ttrpc_frame.specs.Queue.{Queue, open_part, with_lent, after_report}

@@ -1,10 +1,9 @@
 //! What may happen to a client and a server over two pipes, and what is replied.
 
 use ttrpc_client::CallId;
-use ttrpc_error::Error;
-use ttrpc_proto::{Request, Response};
+use ttrpc_proto::{Error, Request, Response};
 use ttrpc_server::{Job, JobId};
-use ttrpc_values::Blob;
+use ttrpc_wire::Blob;
 
 /// One of the two ends.
 #[derive(Clone, Copy, Debug, PartialEq, Eq)]

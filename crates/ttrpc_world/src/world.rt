@@ -1,7 +1,7 @@
 //! The world: a client, a server and two pipes, and one event after the other.
 ghost use Rattle.std.specs.Prelude.{◌≡◌, ◌≢◌, ◌<◌, ◌≤◌, ◌++◌, ◌∷◌, [], ℕ, List, length, take, min, codes, map, is_some, if◌then◌else◌, true, false, ◌⊎◌, IfOk, OnOk, OnErr, IfSome, IfNone, Result, Ok, Err, IfErr};
 ghost use Rattle.std.specs.Vec.{vec_capacity};
-ghost use Rattle.ttrpc_error.specs.declared.error.Error.{Error as AnError};
+ghost use Rattle.ttrpc_proto.specs.declared.error.Error.{Error as AnError};
 ghost use Rattle.ttrpc_proto.specs.declared.response.Response.{Response as AResponse};
 ghost use Rattle.ttrpc_proto.specs.Messages.{IsResponse};
 ghost use Rattle.ttrpc_connection.specs.declared.failure.Failure.{Failure as AFailure};
@@ -21,12 +21,11 @@ use std::alloc::{AllocError, Global};
 use std::marker::Model;
 use ttrpc_client::{CallId, ClientCore};
 use ttrpc_codec::message::WireMessage;
-use ttrpc_error::Error;
-use ttrpc_proto::{Request, Response};
+use ttrpc_proto::{Error, Request, Response};
 use ttrpc_secure::{InboundTransform, OutboundTransform};
 use ttrpc_server::{JobId, ServerCore};
-use ttrpc_values::Text;
-use ttrpc_values::slices::front;
+use ttrpc_wire::Text;
+use ttrpc_wire::values::slices::front;
 
 /// A client and a server, each over its two halves, and the bytes in flight between them.
 #[derive(Drop)]

@@ -6,7 +6,7 @@ use std::process::Abort;
 use std::test::Fail;
 use ttrpc_codec::message::WireMessage;
 use ttrpc_connection::Failure;
-use ttrpc_header::MessageHeader;
+use ttrpc_frame::MessageHeader;
 use ttrpc_proto::Request;
 
 /// No jobs, where this was the id of the last.

@@ -2,8 +2,8 @@ use Rattle.std.proofs.Common.{◌≡◌, ◌≢◌, ℕ, List, Bool, true, false
 use Rattle.std.specs.Result.{IfOk, IfErr, IsErrOf}
 use Rattle.std.specs.Str.{is_utf8, IsUtf8}
 use Rattle.std.proofs.lemmas.Str.{is_utf8-from_IsUtf8, IsUtf8-from_is_utf8}
-use Rattle.ttrpc_values.specs.declared.codec_error.CodecError.{CodecError}
-use Rattle.ttrpc_values.specs.declared.codec_error.CodecError.TheVariants.{Truncated, BadVarint, BadTag, BadWireType, BadUtf8, TooLong, NoMemory}
+use Rattle.ttrpc_wire.specs.declared.values.codec_error.CodecError.{CodecError}
+use Rattle.ttrpc_wire.specs.declared.values.codec_error.CodecError.TheVariants.{Truncated, BadVarint, BadTag, BadWireType, BadUtf8, TooLong, NoMemory}
 use Rattle.ttrpc_wire.specs.Fold.{Refused, Gives}
 use Rattle.ttrpc_codec.specs.Members.{text_of}
 use Rattle.ttrpc_codec.proofs.members.text_from.Goals as goal

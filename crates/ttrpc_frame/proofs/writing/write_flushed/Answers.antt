@@ -1,8 +1,8 @@
 use Rattle.std.proofs.Common.{None, Some}
 use Rattle.std.specs.IoError.{error_kind}
-use Rattle.ttrpc_streams.specs.Streams.{Flushes}
-use Rattle.ttrpc_streams.proofs.Bytes.{front_kept}
-use Rattle.ttrpc_streams.proofs.Calls.{then_goes}
+use Rattle.ttrpc_frame.specs.Streams.{Flushes}
+use Rattle.ttrpc_frame.proofs.Bytes.{front_kept}
+use Rattle.ttrpc_frame.proofs.Calls.{then_goes}
 use Rattle.ttrpc_frame.specs.Streaming.{WritesFrame}
 use Rattle.ttrpc_frame.proofs.Sent.{went_no_further}
 use Rattle.ttrpc_frame.proofs.writing.write_flushed.Goals as goal

@@ -1,7 +1,7 @@
 use Rattle.std.proofs.Common.{None, Some, ap, arith, length, ◌∙◌}
 use Rattle.std.proofs.lemmas.List.{length-take}
 use Rattle.std.specs.IoError.{error_kind}
-use Rattle.ttrpc_header.specs.Header.{header_bytes}
+use Rattle.ttrpc_frame.specs.Header.{header_bytes}
 use Rattle.ttrpc_frame.proofs.Sent.{appends_parts, appends_front_parts, sent_parts}
 use Rattle.ttrpc_frame.proofs.writing.write_frame.Goals as goal
 

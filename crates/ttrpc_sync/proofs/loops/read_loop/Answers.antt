@@ -1,6 +1,6 @@
 use Rattle.std.proofs.Common.{◌≤◌, length, take, arith}
 use Rattle.std.proofs.lemmas.List.{length-take}
-use Rattle.ttrpc_header.specs.declared.header.TheConstants.{DEFAULT_PAGE_SIZE}
+use Rattle.ttrpc_frame.specs.declared.header.TheConstants.{DEFAULT_PAGE_SIZE}
 use Rattle.ttrpc_sync.proofs.Handing.{handed_in_part, handed_still}
 use Rattle.ttrpc_sync.proofs.loops.read_loop.Goals as goal
 

@@ -1,7 +1,7 @@
 use Rattle.std.proofs.Common.{◌≡◌, All}
 use Rattle.ttrpc_sync.specs.declared.ports.Word.TheVariants.{Open}
 use Rattle.ttrpc_sync.specs.Loops.{GoesOn, IsOneMore, Written, reported}
-use Rattle.ttrpc_streams.specs.Streams.{Makes}
+use Rattle.ttrpc_frame.specs.Streams.{Makes}
 use Rattle.ttrpc_sync.proofs.loops.write_loop.Given as goal
 
 -- What the writer took was reported, and no call of it was one to end at.

@@ -1,5 +1,5 @@
 use Rattle.std.proofs.Common.{◌≤◌, length, sym, subst, ap, ◌∙◌}
-use Rattle.ttrpc_header.specs.Header.{header_of}
+use Rattle.ttrpc_frame.specs.Header.{header_of}
 use Rattle.ttrpc_frame.specs.Frames.{Held}
 use Rattle.ttrpc_frame.proofs.Decoding.{count_stays, count_ends}
 use Rattle.ttrpc_frame.proofs.frame.FrameDecoder.count_body.Goals as goal

@@ -1,6 +1,6 @@
 use Rattle.std.proofs.Common.{◌<◌, length, sym, subst, arith}
 use Rattle.std.proofs.lemmas.List.{length-take-le}
-use Rattle.ttrpc_header.specs.declared.header.MessageHeader.{MessageHeader}
+use Rattle.ttrpc_frame.specs.declared.header.MessageHeader.{MessageHeader}
 use Rattle.ttrpc_frame.specs.Frames.{Held}
 use Rattle.ttrpc_frame.proofs.Decoding.{head_stays, head_ends}
 use Rattle.ttrpc_frame.proofs.frame.FrameDecoder.take_head.Goals as goal

@@ -1,5 +1,5 @@
 use Rattle.ttrpc_server.proofs.Words.{rules, ◌≡◌, refl, on_ok_weaker, Refused, status_response, Tells, row_of, unopened_text}
-use Rattle.ttrpc_values.specs.declared.code.Code.TheVariants.{UNKNOWN}
+use Rattle.ttrpc_wire.specs.declared.values.code.Code.TheVariants.{UNKNOWN}
 use Rattle.ttrpc_server.proofs.Sending.{tells}
 use Rattle.ttrpc_server.proofs.state.ServerStateReacts.react.Goals as goal
 

@@ -1,5 +1,5 @@
 use Rattle.std.proofs.lemmas.Result.{err_from_is_err_and}
-use Rattle.ttrpc_wire.proofs.Values.{fixed32_agrees}
+use Rattle.ttrpc_wire.proofs.WireValues.{fixed32_agrees}
 use Rattle.ttrpc_wire.proofs.Calls.{taken, shorter, refused}
 use Rattle.ttrpc_wire.proofs.reader.Reader.fixed32.Goals as goal
 

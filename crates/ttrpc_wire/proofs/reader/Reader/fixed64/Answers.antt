@@ -1,5 +1,5 @@
 use Rattle.std.proofs.lemmas.Result.{err_from_is_err_and}
-use Rattle.ttrpc_wire.proofs.Values.{fixed64_agrees}
+use Rattle.ttrpc_wire.proofs.WireValues.{fixed64_agrees}
 use Rattle.ttrpc_wire.proofs.Calls.{taken, shorter, refused}
 use Rattle.ttrpc_wire.proofs.reader.Reader.fixed64.Goals as goal
 

@@ -1,6 +1,6 @@
 use Rattle.std.proofs.Common.{List, ℕ}
 use Rattle.std.proofs.lemmas.Result.{err_from_is_err_and}
-use Rattle.ttrpc_values.specs.declared.codec_error.CodecError.{CodecError}
+use Rattle.ttrpc_wire.specs.declared.values.codec_error.CodecError.{CodecError}
 use Rattle.ttrpc_wire.specs.declared.field.Tag.{Tag}
 use Rattle.ttrpc_wire.specs.Front.{Begins, Refuses}
 use Rattle.ttrpc_wire.specs.Seen.{SpellsTag}

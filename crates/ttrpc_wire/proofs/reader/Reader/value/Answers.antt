@@ -1,6 +1,6 @@
 use Rattle.std.proofs.lemmas.Result.{err_from_is_err_and}
 use Rattle.ttrpc_wire.specs.Seen.{seen_value}
-use Rattle.ttrpc_wire.proofs.Values.{value_agrees}
+use Rattle.ttrpc_wire.proofs.WireValues.{value_agrees}
 use Rattle.ttrpc_wire.proofs.Calls.{taken, shorter, refused}
 use Rattle.ttrpc_wire.proofs.reader.Reader.value.Goals as goal
 

@@ -1,3 +1,0 @@
-mod Maps
-mod Taken
-mod Distinct

@@ -1,6 +1,0 @@
-use Rattle.std.proofs.Common.{◌≡◌}
-use Rattle.ttrpc_context.specs.Metadata.{pairs_of, seen}
-use Rattle.ttrpc_context.proofs.pairs.all_pairs.Given as goal
-
-abbrev pub invariant-loop-key : goal.invariant-loop-key
-invariant-loop-key l = l.pairs.items ≡ pairs_of (seen l.yielded)

@@ -1,0 +1,79 @@
+//! What the program `ttrpc-demo` does at its words, over any reader and writers: it answers the frames of an input, serves
+//! `demo.Echo` at an address, calls a method of a server, or calls its own.
+
+mod asked;
+mod calls;
+mod outcome;
+mod service;
+mod serving;
+mod telling;
+mod words;
+
+ghost use Rattle.std.specs.Prelude.{◌≡◌, map, string_bytes};
+ghost use Rattle.ttrpc_echo.specs.declared.program.outcome.Outcome.{Outcome as AnOutcome};
+ghost use Rattle.ttrpc_echo.specs.Program.Outcomes.{status_of};
+ghost use Rattle.ttrpc_echo.specs.Program.Runs.{Answers, Performs};
+
+pub use self::calls::{call_at, call_own};
+pub use self::outcome::{Outcome, tell};
+pub use self::service::{Echo, EchoServer, System, start_server};
+pub use self::serving::tell_address;
+use crate::answer;
+use crate::program::calls::{call, call_own_with};
+use crate::program::serving::serve;
+use crate::program::words::{are_answer, call_words, word_behind};
+use std::alloc::Global;
+use std::io::{Read, Write};
+
+/// Does what the words say, and tells on `errors` what went wrong. Whether each write by TCP goes out at once is `nodelay`.
+/// Gives the status: 0, 1 at a failure or a refused call, and 2 at wrong words.
+pub fn run<S: System + 'static, R: Read, W: Write, X: Write>(
+    rt: S,
+    words: &[String],
+    nodelay: bool,
+    input: &mut R,
+    output: &mut W,
+    errors: &mut X,
+) -> u8
+    ensures { (outcome : AnOutcome) × (result ≡ status_of outcome) × Performs (map string_bytes words.now)
+        (R.remaining input.old) (R.remaining input.new) (W.contents output.old) (W.contents output.new) outcome }
+{
+    tell(&perform(rt, words, nodelay, input, output, errors), errors)
+}
+
+/// Does what the words say.
+fn perform<S: System + 'static, R: Read, W: Write, X: Write>(
+    rt: S,
+    words: &[String],
+    nodelay: bool,
+    input: &mut R,
+    output: &mut W,
+    errors: &mut X,
+) -> Outcome
+    ensures { Performs (map string_bytes words.now)
+        (R.remaining input.old) (R.remaining input.new) (W.contents output.old) (W.contents output.new) result }
+{
+    if are_answer(words) {
+        return answer_input(rt.alloc(), input, output);
+    }
+    if let Some(digits) = word_behind(words, "loop") {
+        return call_own_with(rt, digits, output);
+    }
+    if let Some(address) = word_behind(words, "serve") {
+        return serve(rt, address, nodelay, errors);
+    }
+    match call_words(words) {
+        Some(words) => call(rt, words, nodelay, output),
+        None => Outcome::WrongWords,
+    }
+}
+
+/// Answers the frames of the input.
+fn answer_input<R: Read, W: Write>(alloc: Global, input: &mut R, output: &mut W) -> Outcome
+    ensures { Answers (R.remaining input.old) (R.remaining input.new) (W.contents output.old) (W.contents output.new) result }
+{
+    match answer(alloc, input, output) {
+        Ok(()) => Outcome::Done,
+        Err(error) => Outcome::Failed(error),
+    }
+}

@@ -1,0 +1,55 @@
+//! How a run of the program ended.
+ghost use Rattle.std.specs.Prelude.{◌≡◌, IfSome, OnOk};
+ghost use Rattle.std.specs.Io.KnownBytes.{Appends};
+ghost use Rattle.ttrpc_echo.specs.Program.Outcomes.{report_of, status_of};
+
+use std::io;
+use std::io::Write;
+use ttrpc_proto::Error;
+
+const USAGE: &str =
+    "usage: ttrpc-demo answer | serve ADDR | call ADDR SERVICE METHOD HEX TIMEOUT | loop HEX";
+
+/// How a run of the program ended.
+#[derive(Drop)]
+pub enum Outcome {
+    /// All was answered, or the call was.
+    Done,
+    /// The call was refused, and its error told on the output.
+    Refused,
+    /// The words aren't ones that it is called by.
+    WrongWords,
+    Failed(Error),
+}
+
+impl Outcome {
+    /// The status that the program ends with.
+    fn status(&self) -> u8
+        ensures { result ≡ status_of self.now }
+    {
+        match self {
+            Outcome::Done => 0,
+            Outcome::Refused | Outcome::Failed(_) => 1,
+            Outcome::WrongWords => 2,
+        }
+    }
+
+    /// Tells what went wrong, in a line.
+    fn report<X: Write>(&self, errors: &mut X) -> io::Result<()>
+        ensures { OnOk result (IfSome (report_of self.now) (Appends (X.contents errors.old) (X.contents errors.new))) }
+    {
+        match self {
+            Outcome::Done | Outcome::Refused => Ok(()),
+            Outcome::Failed(error) => writeln!(errors, "ttrpc-demo: {error}"),
+            Outcome::WrongWords => writeln!(errors, "{USAGE}"),
+        }
+    }
+}
+
+/// Tells what went wrong, and gives the status.
+pub fn tell<X: Write>(outcome: &Outcome, errors: &mut X) -> u8
+    ensures { result ≡ status_of outcome.now }
+{
+    let _ = outcome.report(errors);
+    outcome.status()
+}

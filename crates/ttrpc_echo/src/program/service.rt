@@ -1,0 +1,48 @@
+//! The server of the service `demo.Echo`.
+use crate::echo;
+use std::collections::BTreeMap;
+use std::net::{Net, TcpListener, TcpStream};
+use std::rt::Files;
+use ttrpc_proto::{Request, Result};
+use ttrpc_secure::{InboundTransform, OutboundTransform};
+use ttrpc_sync::{Host, Runtime};
+use ttrpc_sync_server::{MethodHandler, NoHook, Server, TtrpcContext};
+
+/// What the program asks of the system.
+pub trait System: Runtime + Files + Net<Listener = TcpListener, Stream = TcpStream> {}
+
+impl<R: Runtime + Files + Net<Listener = TcpListener, Stream = TcpStream>> System for R {}
+
+/// The method `Echo`, which answers the request's payload under an OK status that is there and empty.
+#[derive(Clone, Copy, Debug)]
+pub struct Echo {}
+
+impl<R, O, I> MethodHandler<R, O, I> for Echo
+where
+    R: Host,
+    O: OutboundTransform + Drop,
+    I: InboundTransform + Drop,
+{
+    fn handler(&self, ctx: TtrpcContext<R, O, I>, req: Request) -> Result<()> {
+        ctx.respond(ctx.mh.stream_id, echo(ctx.alloc(), req))
+    }
+}
+
+/// A server of the one method `Echo` of `demo.Echo`.
+pub type EchoServer<R> = Server<R, Echo, NoHook>;
+
+/// The server, listening at this address. Whether each write by TCP goes out at once is `nodelay`.
+pub fn start_server<R: System + 'static>(
+    rt: R,
+    address: &str,
+    nodelay: bool,
+) -> Result<EchoServer<R>> {
+    let alloc = rt.alloc();
+    let mut methods = BTreeMap::new(alloc);
+    methods.insert(String::from_str(alloc, "/demo.Echo/Echo")?, Echo {})?;
+    let mut server = Server::new(rt)?
+        .register_service(methods)?
+        .bind(address, nodelay)?;
+    server.start()?;
+    Ok(server)
+}

@@ -1,0 +1,63 @@
+//! The line that tells what came of a call.
+ghost use Rattle.std.specs.Prelude.{◌≡◌, IsOk, OnOk, IfErr, IfSome};
+ghost use Rattle.std.specs.Io.KnownBytes.{Appends, Keeps};
+ghost use Rattle.ttrpc_echo.specs.Program.Telling.{error_line, ok_line, IsUntold, TellsCall};
+
+use crate::flush;
+use crate::program::outcome::Outcome;
+use std::alloc::Global;
+use std::io;
+use std::io::Write;
+use ttrpc_proto::{Error, Response};
+
+/// Tells what came of a call, in a line of the output.
+pub fn tell_call<W: Write>(
+    alloc: Global,
+    called: Result<Response, Error>,
+    output: &mut W,
+) -> Outcome
+    ensures { TellsCall called (W.contents output.old) (W.contents output.new) result }
+{
+    match called {
+        Ok(response) => match tell_payload(alloc, response.payload.as_slice(), output) {
+            Ok(()) => Outcome::Done,
+            Err(error) => Outcome::Failed(error),
+        },
+        Err(refusal) => match tell_refusal(&refusal, output) {
+            Ok(()) => Outcome::Refused,
+            Err(error) => Outcome::Failed(error),
+        },
+    }
+}
+
+/// Tells the payload of an answer, in a line.
+fn tell_payload<W: Write>(alloc: Global, payload: &[u8], output: &mut W) -> Result<(), Error>
+    ensures ok { OnOk result (Appends (W.contents output.old) (W.contents output.new) (ok_line payload.now)) }
+    ensures err { IfErr result IsUntold }
+{
+    if payload.is_empty() {
+        return end_line(writeln!(output, "ok"), output);
+    }
+    let digits = hex::encode(alloc, payload)?;
+    end_line(writeln!(output, "ok {}", digits.as_str()), output)
+}
+
+/// Tells why a call was refused, in a line.
+fn tell_refusal<W: Write>(refusal: &Error, output: &mut W) -> Result<(), Error>
+    ensures ok { OnOk result (IfSome (error_line refusal.now) (Appends (W.contents output.old) (W.contents output.new))) }
+    ensures err { IfErr result IsUntold }
+{
+    end_line(writeln!(output, "error: {refusal}"), output)
+}
+
+/// Flushes the writer of a line that was written. An error is told by its kind.
+fn end_line<W: Write>(written: io::Result<()>, output: &mut W) -> Result<(), Error>
+    ensures ok { OnOk result (IsOk written) }
+    ensures kept { Keeps (W.contents output.old) (W.contents output.new) }
+    ensures err { IfErr result IsUntold }
+{
+    match written {
+        Ok(()) => flush(output),
+        Err(error) => Err(Error::Nix(error.kind())),
+    }
+}

@@ -1,3 +1,0 @@
-pub mod Hooks
-pub mod Kinds
-pub mod Facts

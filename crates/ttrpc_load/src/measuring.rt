@@ -1,0 +1,169 @@
+//! One measurement, from its words to its line.
+use crate::calling::{EchoClient, Echoes, times_of};
+use crate::figures::{Figures, percentile};
+use crate::load::{Load, Target, load_of, share};
+use crate::raw::{connect_raw, start_raw};
+use std::alloc::Global;
+use std::io::Write;
+use std::net::{Net, TcpListener, TcpStream};
+use std::rt::Files;
+use std::sync::Arc;
+use std::sync::atomic::{AtomicU64, Ordering};
+use std::thread;
+use std::thread::{Builder, JoinHandle};
+use std::time::Duration;
+use ttrpc_proto::{Error, Result};
+use ttrpc_sync::{Runtime, moment};
+use ttrpc_sync_client::Client;
+
+const USAGE: &str = "usage: ttrpc-load ADDR CALLS CALLERS BYTES | raw CALLS CALLERS BYTES";
+
+/// What a measurement asks of the system.
+pub trait Measured: Runtime + Files + Net<Listener = TcpListener, Stream = TcpStream> {}
+
+impl<R: Runtime + Files + Net<Listener = TcpListener, Stream = TcpStream>> Measured for R {}
+
+/// A caller in a thread of its own, which gives the times of its calls.
+type Caller = JoinHandle<Result<Vec<u64>>>;
+
+/// Measures what the words say, and tells the figures in a line of `output`. Where `shows` is set, `errors` is a terminal, on
+/// which a line says how far it is. Gives the status: 0, 1 at a failure, and 2 at wrong words.
+pub fn run<R: Measured + 'static, W: Write, X: Write>(
+    rt: &R,
+    words: &[String],
+    nodelay: bool,
+    shows: bool,
+    output: &mut W,
+    errors: &mut X,
+) -> u8 {
+    let Some((target, load)) = load_of(words) else {
+        let _ = writeln!(errors, "{USAGE}");
+        return 2;
+    };
+    match measure(rt, target, load, nodelay, shows, errors) {
+        Ok(figures) => match writeln!(output, "{figures}") {
+            Ok(()) => 0,
+            Err(_) => 1,
+        },
+        Err(error) => {
+            let _ = writeln!(errors, "ttrpc-load: {error}");
+            1
+        }
+    }
+}
+
+fn measure<R: Measured + 'static, X: Write>(
+    rt: &R,
+    target: Target<'_>,
+    load: Load,
+    nodelay: bool,
+    shows: bool,
+    errors: &mut X,
+) -> Result<Figures> {
+    let done = Arc::new(rt.alloc(), AtomicU64::new(0))?;
+    let start = moment(rt)?;
+    let callers = match target {
+        Target::Raw => raw_callers(rt, load, nodelay, &done)?,
+        Target::Server(address) => client_callers(rt, address, load, nodelay, &done)?,
+    };
+    if shows {
+        show(rt, load, &*done, errors)?;
+    }
+    let times = all_times(rt, callers)?;
+    figures_of(load, moment(rt)?.saturating_sub(start), times)
+}
+
+/// Callers of one client that all of them share.
+fn client_callers<R: Measured + 'static>(
+    rt: &R,
+    address: &str,
+    load: Load,
+    nodelay: bool,
+    done: &Arc<AtomicU64, Global>,
+) -> Result<Vec<Caller>> {
+    let client = Client::connect(rt.clone()?, address, nodelay)?;
+    let mut callers = Vec::new(rt.alloc());
+    for caller in 0..load.callers {
+        let echo = EchoClient {
+            client: client.try_clone()?,
+        };
+        callers.push(start_caller(rt, echo, load, caller, done)?)?;
+    }
+    Ok(callers)
+}
+
+/// Callers that have a connection each to a bare echo.
+fn raw_callers<R: Measured + 'static>(
+    rt: &R,
+    load: Load,
+    nodelay: bool,
+    done: &Arc<AtomicU64, Global>,
+) -> Result<Vec<Caller>> {
+    let address = start_raw(rt, nodelay)?;
+    let mut callers = Vec::new(rt.alloc());
+    for caller in 0..load.callers {
+        let echo = connect_raw(rt, rt.alloc(), address.as_str(), nodelay)?;
+        callers.push(start_caller(rt, echo, load, caller, done)?)?;
+    }
+    Ok(callers)
+}
+
+fn start_caller<R: Measured + 'static, E: Echoes<R> + Send + Drop + 'static>(
+    rt: &R,
+    echo: E,
+    load: Load,
+    caller: usize,
+    done: &Arc<AtomicU64, Global>,
+) -> Result<Caller> {
+    let (mine, done) = (rt.clone()?, Arc::try_clone(done)?);
+    let count = share(load, caller);
+    let calls = move || times_of(&mine, &echo, count, load.bytes, &done);
+    match Builder::new().spawn(rt, calls) {
+        Ok(thread) => Ok(thread),
+        Err(error) => Err(Error::Nix(error.kind())),
+    }
+}
+
+/// The times of all calls, once all callers are done.
+fn all_times<R: Measured>(rt: &R, callers: Vec<Caller>) -> Result<Vec<u64>> {
+    let mut all = Vec::new(rt.alloc());
+    for caller in callers {
+        let times = caller.join(rt)?;
+        all.extend_from_slice(times.as_slice())?;
+    }
+    Ok(all)
+}
+
+fn figures_of(load: Load, elapsed: u64, times: Vec<u64>) -> Result<Figures> {
+    let mut times = times;
+    times.sort_unstable();
+    Ok(Figures {
+        calls: load.calls,
+        elapsed,
+        median: percentile(times.as_slice(), 50).unwrap_or(0),
+        ninety_ninth: percentile(times.as_slice(), 99).unwrap_or(0),
+    })
+}
+
+/// Shows how many calls are done, five times a second, until all are or for a while none was.
+fn show<R: Measured, X: Write>(rt: &R, load: Load, done: &AtomicU64, errors: &mut X) -> Result<()> {
+    let mut before = 0;
+    let mut quiet: u32 = 0;
+    for _ in rt.forever() {
+        let count = done.load(Ordering::Relaxed);
+        quiet = if count == before {
+            quiet.saturating_add(1)
+        } else {
+            0
+        };
+        before = count;
+        let _ = write!(errors, "\r{count} of {} calls", load.calls);
+        let _ = errors.flush();
+        if count >= load.calls as u64 || quiet >= 50 {
+            break;
+        }
+        thread::sleep(rt, Duration::from_millis(200));
+    }
+    let _ = writeln!(errors);
+    Ok(())
+}

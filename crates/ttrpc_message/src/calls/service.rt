@@ -1,0 +1,60 @@
+//! A service's side of a call.
+ghost use Rattle.std.specs.Prelude.{◌≡◌, ◌≢◌, codes, IfErr, IfOk, None, Some};
+ghost use Rattle.ttrpc_message.specs.Calls.{AnswersWith, IsUnanswered, TellsCause};
+
+use crate::codec_error_of;
+use std::alloc::Global;
+use std::fmt::Display;
+use ttrpc_codec::Codec;
+use ttrpc_proto::{Error, Response, ResponseInit, Result, get_status};
+use ttrpc_wire::Code;
+
+/// The value that the payload of a request means. An error is `NoMemory`, or tells that it means none: `Others` of
+/// `Unpack request error ` and what the codec's error prints.
+pub fn decode_request<M: Codec>(alloc: Global, payload: &[u8]) -> Result<M>
+where
+    M::E: Display + Drop,
+    ensures ok { IfOk result (λ message. M.meaning payload.now ≡ Some message) }
+    ensures refused { IfErr result (λ e. e ≢ Error.NoMemory → M.meaning payload.now ≡ None) }
+    ensures told { IfErr result (TellsCause (codes "Unpack request error ") M.E.is_no_memory M.E.output) }
+{
+    match M::decode(alloc, payload) {
+        Ok(message) => Ok(message),
+        Err(error) => Err(codec_error_of(alloc, "Unpack request error ", error)),
+    }
+}
+
+/// The response that tells what a service answered: a value with an OK status, or the status that the error carries or that
+/// is made of it. An error is `NoMemory`, or tells of a value that is too long to be written: `Others` of
+/// `Encoding response ` and what the codec's error prints.
+pub fn response_of<M: Codec>(alloc: Global, answer: Result<M>) -> Result<Response>
+where
+    M::E: Display + Drop,
+    ensures ok { IfOk result (AnswersWith M.written M.meaning answer) }
+    ensures err { IfErr result (IsUnanswered M.written M.E.is_no_memory M.E.output answer) }
+{
+    match answer {
+        Ok(message) => ok_response(alloc, &message),
+        Err(error) => Ok(error.try_into_response(alloc)?),
+    }
+}
+
+/// The response of an OK status that carries this value.
+fn ok_response<M: Codec>(alloc: Global, message: &M) -> Result<Response>
+where
+    M::E: Display + Drop,
+    ensures ok { IfOk result (λ response. AnswersWith M.written M.meaning (Ok message.now) response) }
+    ensures err { IfErr result (IsUnanswered M.written M.E.is_no_memory M.E.output (Ok message.now)) }
+{
+    match message.encode(alloc) {
+        Ok(payload) => {
+            let mut response = Response::init_status(
+                alloc,
+                get_status(Code::OK, String::new(alloc)),
+            );
+            response.set_payload(payload);
+            Ok(response)
+        }
+        Err(error) => Err(codec_error_of(alloc, "Encoding response ", error)),
+    }
+}

@@ -1,0 +1,43 @@
+-- The handlers of a server's methods, and the paths that they are put under.
+-- Source: this project's.
+use Rattle.std.specs.Prelude.{◌≡◌, ◌≢◌, ◌⊎◌, ◌&&◌, ℕ, List, ◌++◌, All, Option, Some, codes, if◌then◌else◌}
+use Rattle.std.specs.Map.{lookup}
+use Rattle.std.specs.Option.{option_and_then}
+use Rattle.std.specs.Str.{bytes_eq}
+use Rattle.ttrpc_proto.specs.declared.error.Error.{Error}
+use Rattle.ttrpc_proto.specs.declared.error.Error.TheVariants.{Others, NoMemory}
+
+-- handlers under the names of methods, and these under the names of services
+abbrev pub Handlers : Type 0 → Type 0
+Handlers H = List (List ℕ × List (List ℕ × H))
+
+-- the handler that stands under a service and a method
+abbrev pub handler_of : {H : Type 0} → Handlers H → List ℕ → List ℕ → Option H
+handler_of handlers service method = option_and_then (lookup (bytes_eq method)) (lookup (bytes_eq service) handlers)
+
+-- a handler stands under a service and a method, and under all others what stood there before
+abbrev pub Puts : {H : Type 0} → Handlers H → List ℕ → List ℕ → H → Handlers H → Type 0
+Puts old service method handler new = (s m : List ℕ) → handler_of new s m ≡ (if bytes_eq s service && bytes_eq m method then Some handler else handler_of old s m)
+
+-- ---- paths
+
+-- A path is `/SERVICE/METHOD`. The method has no slash, so the last slash divides the two. Either may be empty.
+pub record IsPath (path service method : List ℕ) : Type 0 where
+  pub whole : path ≡ codes "/" ++ service ++ codes "/" ++ method
+  pub plain : All (λ c. c ≢ 47) method
+
+-- no path is written so
+abbrev pub IsNoPath : List ℕ → Type 0
+IsNoPath text = (service method : List ℕ) → ¬ (IsPath text service method)
+
+-- what refuses such a text, which stands in it as it is
+abbrev pub no_path_text : List ℕ → List ℕ
+no_path_text text = codes "method path " ++ text ++ codes " is not /SERVICE/METHOD"
+
+-- a handler is put under the service and the method of this path
+abbrev pub Adds : {H : Type 0} → Handlers H → List ℕ → H → Handlers H → Type 0
+Adds old path handler new = (service : List ℕ) × (method : List ℕ) × IsPath path service method × Puts old service method handler new
+
+-- why nothing is put under a text: it is no path, or memory was refused
+abbrev pub IsNotAdded : List ℕ → Error → Type 0
+IsNotAdded text e = (IsNoPath text × (e ≡ Others (no_path_text text))) ⊎ (e ≡ NoMemory)

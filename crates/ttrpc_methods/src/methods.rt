@@ -1,0 +1,135 @@
+//! The methods of a server's services.
+ghost use Rattle.std.specs.Prelude.{◌≡◌, ◌⊎◌, ◌&&◌, ◌||◌, ℕ, List, [], codes, is_some, string_bytes, IfErr, IfOk, MatchOption, OnErr, OnOk};
+ghost use Rattle.std.specs.BTreeMap.{get_by_text};
+ghost use Rattle.std.specs.Option.{option_copied};
+ghost use Rattle.std.specs.Str.{bytes_eq};
+ghost use Rattle.ttrpc_proto.specs.declared.error.Error.{Error as AnError};
+ghost use Rattle.ttrpc_server.specs.Registry.{has_method};
+ghost use Rattle.ttrpc_methods.specs.Methods.{Adds, IsNoPath, IsNotAdded, IsPath, Puts, handler_of, no_path_text};
+
+use std::alloc::{AllocError, Global};
+use std::collections::BTreeMap;
+use std::marker::Model;
+use ttrpc_proto::{Error, Result};
+use ttrpc_server::Registry;
+use ttrpc_wire::Text;
+
+/// The handlers of methods, each under its service and its name.
+#[derive(Drop)]
+pub struct Methods<H: Drop> {
+    services: BTreeMap<String, BTreeMap<String, H>>,
+}
+
+impl<H: Drop> Model for Methods<H> {
+    ghost use Rattle.std.specs.Prelude.{map, string_bytes};
+    ghost use Rattle.ttrpc_methods.specs.Methods.{Handlers};
+
+    ghost Value = { Handlers H };
+
+    ghost view = { λ a. map (λ s. (string_bytes s.0, map (λ m. (string_bytes m.0, m.1)) s.1.entries)) a.services.entries };
+}
+
+impl<H: Drop> Methods<H> {
+    /// None. Takes no memory.
+    pub fn new(alloc: Global) -> Methods<H>
+        ensures { result ≡ [] }
+    {
+        Methods {
+            services: BTreeMap::new(alloc),
+        }
+    }
+
+    /// One more, under its path, `/SERVICE/METHOD`, which the last slash divides. It takes the place of one that stood there.
+    /// A text without two slashes is no path, and refused as `Others`. An `Err` changes nothing.
+    pub fn add(&mut self, alloc: Global, path: &str, handler: H) -> Result<()>
+        ensures ok { OnOk result (Adds self.old path.now handler self.new) }
+        ensures refused { IfErr result (IsNotAdded path.now) }
+        ensures err { OnErr result (self.new ≡ self.old) }
+    {
+        let Some((service, method)) = parts_of(path) else {
+            return Err(no_path_error(alloc, path));
+        };
+        self.put(alloc, service, method, handler)?;
+        Ok(())
+    }
+
+    /// The handler takes its place under a service and a method. An `Err` changes nothing.
+    fn put(
+        &mut self,
+        alloc: Global,
+        service: &str,
+        method: &str,
+        handler: H,
+    ) -> std::result::Result<(), AllocError>
+        ensures ok { OnOk result (Puts self.old service.now method.now handler self.new) }
+        ensures err { OnErr result (self.new ≡ self.old) }
+    {
+        let method = String::from_str(alloc, method)?;
+        if let Some(methods) = self.services.get_mut(service) {
+            methods.insert(method, handler)?;
+            return Ok(());
+        }
+        let mut methods = BTreeMap::new(alloc);
+        methods.insert(method, handler)?;
+        self.services
+            .insert(String::from_str(alloc, service)?, methods)?;
+        Ok(())
+    }
+
+    /// The handler of this method, if there is one. Takes no memory.
+    pub fn get(&self, service: &str, method: &str) -> Option<&H>
+        ensures { option_copied result ≡ handler_of self.now service.now method.now }
+    {
+        self.services.get(service)?.get(method)
+    }
+
+    /// The names of the methods, for a core.
+    pub fn registry(&self, alloc: Global) -> std::result::Result<Registry, AllocError>
+        ensures methods { IfOk result (λ registry. (s m : List ℕ) → has_method registry s m ≡ is_some (handler_of self.now s m)) }
+        ensures streams { IfOk result (λ registry. registry.streams ≡ []) }
+    {
+        let mut registry = Registry::new(alloc);
+        for (service, methods) in self.services.iter() {
+            add_names(&mut registry, alloc, service.as_str(), methods)?;
+        }
+        Ok(registry)
+    }
+}
+
+/// Gives the registry's service these methods. Streams stay as they are.
+fn add_names<H>(
+    registry: &mut Registry,
+    alloc: Global,
+    service: &str,
+    methods: &BTreeMap<String, H>,
+) -> std::result::Result<(), AllocError>
+    ensures methods { OnOk result ((s m : List ℕ) → has_method registry.new s m
+        ≡ ((bytes_eq s service.now && is_some (get_by_text methods.now m)) || has_method registry.old s m)) }
+    ensures streams { registry.new.streams ≡ registry.old.streams }
+{
+    for (method, _) in methods.iter() {
+        registry.add_method(
+            alloc,
+            Text::from_str(alloc, service)?,
+            Text::from_str(alloc, method.as_str())?,
+        )?;
+    }
+    Ok(())
+}
+
+/// The service and the method of a path. The method has no slash.
+fn parts_of(path: &str) -> Option<(&str, &str)>
+    ensures { MatchOption result (IsNoPath path.now) (λ parts. IsPath path.now parts.0.now parts.1.now) }
+{
+    path.strip_prefix('/')?.rsplit_once('/')
+}
+
+/// The error of a text that is no path, or `NoMemory` where memory for its text was refused.
+fn no_path_error(alloc: Global, path: &str) -> Error
+    ensures { (result ≡ AnError.Others (no_path_text path.now)) ⊎ (result ≡ AnError.NoMemory) }
+{
+    match format!(in alloc; "method path {path} is not /SERVICE/METHOD") {
+        Ok(text) => Error::Others(Text::from_string(text)),
+        Err(_) => Error::NoMemory,
+    }
+}

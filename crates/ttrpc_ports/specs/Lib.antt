@@ -1,2 +1,0 @@
-pub mod ReadTurns
-pub mod Turns

@@ -1,0 +1,27 @@
+-- What the error of a call that seals comes to.
+use Rattle.std.proofs.Common.{◌≡◌, ◌↔◌, ◌≤◌, ◌<◌, ◌+◌, ℕ, Bool, List, length, Result, Err, arith, inl, inr}
+use Rattle.std.proofs.lemmas.Bool.{cases_lt}
+use Rattle.ttrpc_frame.specs.declared.header.TheConstants.{MESSAGE_LENGTH_MAX}
+use Rattle.ttrpc_proto.specs.declared.error.Error.{Error}
+use Rattle.ttrpc_secure.specs.declared.sending.SendError.{SendError}
+use Rattle.ttrpc_secure.specs.declared.sending.SendError.TheVariants.{TooLong, Failed}
+use Rattle.ttrpc_secure.specs.declared.transform.OutboundTransform.{Ghosts as OutboundTransform}
+use Rattle.ttrpc_secure.specs.declared.transform.TransformError.{TransformError}
+use Rattle.ttrpc_secure.specs.declared.transform.TransformError.TheVariants.{Refused, NoMemory as Starved}
+use Rattle.ttrpc_secure.specs.Halves.{MayFail}
+use Rattle.ttrpc_secure.specs.Security.Context.{FailsToSeal, TellsUnsent}
+
+-- A half refused the bytes, so that they aren't too long for it.
+fits : {A : Type 0} (r : Result A SendError) (t : TransformError) (n overhead : ℕ) → r ≡ Err (Failed t) → (MESSAGE_LENGTH_MAX < n + overhead → r ≡ Err TooLong)
+    → n + overhead ≤ MESSAGE_LENGTH_MAX
+fits r t n overhead is long = elim (cases_lt MESSAGE_LENGTH_MAX (n + overhead)) [ inl above ↦ absurd (let e = long above in cc) | inr le ↦ le ]
+
+module _ {A O : Type 0} (half : OutboundTransform O) (rpc_error : Bool) (advice bytes aad : List ℕ) (s : O) (small : half.overhead s ≤ MESSAGE_LENGTH_MAX) where
+  pub fails_to_seal : (r : Result A SendError) (unsent : SendError) (e : Error) (t : O) → r ≡ Err unsent → t ≡ s
+      → ((r ≡ Err TooLong) ↔ (MESSAGE_LENGTH_MAX < length bytes + half.overhead s))
+      → ((t : TransformError) → r ≡ Err (Failed t) → MayFail half.refuses s bytes aad t)
+      → TellsUnsent half rpc_error advice t (length bytes) unsent e → FailsToSeal half rpc_error advice s bytes aad e
+  fails_to_seal r TooLong e t is same long refused tells = inr (inl (omega (arith, small, long.0 is), rw (← same) tells))
+  fails_to_seal r (Failed (Refused why)) e t is same long refused tells =
+      inr (inr (omega (arith, fits r (Refused why) (length bytes) (half.overhead s) is long.1), (why, refused (Refused why) is, tells)))
+  fails_to_seal r (Failed Starved) e t is same long refused tells = inl tells

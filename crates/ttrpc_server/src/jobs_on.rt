@@ -1,0 +1,41 @@
+//! What the calls of a server's port of jobs do to its core, under the lock.
+ghost use Rattle.std.specs.Prelude.{◌≡◌, ◌⊎◌, IfErr, IfSome, IfNone, OnOk, OnErr, Ok, Err, None};
+ghost use Rattle.ttrpc_proto.specs.declared.error.Error.{Error as AnError};
+ghost use Rattle.ttrpc_server.specs.Happens.{Drops, Finishes, Hands};
+ghost use Rattle.ttrpc_server.specs.Jobs.{NoneWaits};
+ghost use Rattle.ttrpc_server.specs.Table.{RefusesFinish};
+
+use crate::job::{Job, JobId};
+use crate::server::ServerCore;
+use std::alloc::Global;
+use ttrpc_proto::Error;
+use ttrpc_secure::{InboundTransform, OutboundTransform};
+
+/// What `take` does. Takes no memory.
+pub fn take_on<O: OutboundTransform + Drop, I: InboundTransform + Drop>(
+    core: &mut ServerCore<O, I>,
+) -> Option<Job>
+    ensures handed { IfSome result (λ job. Hands core.old job core.new) }
+    ensures none { IfNone result ((core.new ≡ core.old)
+        × (core.old.connection.failure ≡ None → NoneWaits core.old.state.jobs.list)) }
+{
+    core.take_job()
+}
+
+/// What `done` does. A job that was handled ends, and nothing is queued; where its handler failed, the connection fails.
+pub fn done_on<O: OutboundTransform + Drop, I: InboundTransform + Drop>(
+    core: &mut ServerCore<O, I>,
+    alloc: Global,
+    id: JobId,
+    outcome: Result<(), Error>,
+) -> Result<(), Error>
+    ensures finished { outcome ≡ Ok tt → OnOk result (Finishes core.old id core.new) }
+    ensures failed { (e : AnError) → outcome ≡ Err e → OnOk result (Drops core.old id core.new) }
+    ensures refused { IfErr result (RefusesFinish core.old id) }
+    ensures err { OnErr result (core.new ≡ core.old) }
+{
+    match outcome {
+        Ok(()) => core.finish(alloc, id),
+        Err(error) => core.answer(alloc, id, &Err(error)),
+    }
+}

@@ -1,0 +1,39 @@
+//! Threads that tell one another of shutdowns.
+
+use crate::{Waiter, new};
+use std::test::Fail;
+use std::thread;
+use std::time::{Clock, Duration};
+
+/// Looks for the flag 10000 times at most, and sleeps for 1 ms behind each look.
+fn finds<X: Clock>(rt: &X, waiter: &mut Waiter) -> bool {
+    for _ in 0..10_000u32 {
+        if waiter.is_shutdown() {
+            return true;
+        }
+        thread::sleep(rt, Duration::from_millis(1));
+    }
+    false
+}
+
+/// One thread shuts the first down and looks for the other's flag. The other looks for the first's flag, and shuts its
+/// own down then.
+#[test]
+fn threads_tell_each_other(rt: HostRuntime) -> Result<(), Fail> {
+    let (mut first, mut of_first) = new(rt.alloc())?;
+    let (mut second, mut of_second) = new(rt.alloc())?;
+    let (one, other) = thread::join(
+        &rt,
+        move || {
+            first.shutdown();
+            finds(&rt, &mut of_second)
+        },
+        move || {
+            let found = finds(&rt, &mut of_first);
+            second.shutdown();
+            found
+        },
+    );
+    assert!(rt; one && other);
+    Ok(())
+}

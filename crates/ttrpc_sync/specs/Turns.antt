@@ -1,0 +1,20 @@
+-- Whose turn it is to write.
+-- Source: this project's.
+use Rattle.std.specs.Prelude.{Bool, true, false, if◌then◌else◌}
+use Rattle.ttrpc_sync.specs.declared.ends.turn.Turn.{Turn}
+use Rattle.ttrpc_sync.specs.declared.ends.turn.Next.{Next}
+use Rattle.ttrpc_sync.specs.declared.ends.turn.Next.TheVariants.{Writes, Leaves, Sleeps}
+
+-- Bytes wait, and nobody else has the turn.
+abbrev pub may_write : (is_taken has_turn bytes_wait : Bool) → Bool
+may_write is_taken has_turn bytes_wait = if bytes_wait then (if has_turn then true else (if is_taken then false else true)) else false
+
+-- what a writer does that finds nothing lent
+abbrev pub next_of : (is_taken has_turn stays bytes_wait : Bool) → Next
+next_of is_taken has_turn stays bytes_wait = if may_write is_taken has_turn bytes_wait then Writes else (if stays then Sleeps else Leaves)
+
+-- and the turn then: it has it, or has given it back
+abbrev pub turn_after : Turn → (has_turn stays bytes_wait : Bool) → Turn
+turn_after t has_turn stays bytes_wait =
+    if may_write t.is_taken has_turn bytes_wait then record t { is_taken = true } else
+    record { is_taken = if has_turn then false else t.is_taken; sleeps = if stays then true else t.sleeps }

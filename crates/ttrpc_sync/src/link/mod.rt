@@ -1,0 +1,97 @@
+//! A connection over a socket, as the threads of a client or a server share it: who reads it, who writes to it, and how
+//! all of them end. What they do to its core is in the ports.
+
+mod inlet;
+mod outlet;
+mod queued;
+mod runtime;
+
+pub use self::outlet::Outlet;
+pub use self::queued::{Queued, after_queuing};
+pub use self::runtime::{Host, Runtime, moment};
+use crate::ends::{Connected, WriteEnd};
+use crate::link::inlet::Inlet;
+use crate::{Gather, ReadPort, read_loop, write_loop};
+use std::alloc::{AllocError, Global};
+use std::io::BufReader;
+use std::sync::{Arc, Mutex, Wait};
+use ttrpc_transport::PipeConnection;
+
+/// How many bytes of a connection are read at once at most.
+const INTAKE: usize = 32768;
+
+/// A connection over a socket, with what its threads share. Each frame goes out by one write, where memory for that is
+/// found. No thread reads or writes while it has the lock of the core.
+#[derive(Drop)]
+pub struct Link<S: Connected> {
+    shared: S,
+    stream: Arc<PipeConnection, Global>,
+    // The bytes that are about to be written. Only who has the turn to write locks it.
+    gather: Mutex<Gather<Outlet>>,
+    // The bytes that were read and not handed on yet. Only who has the turn to read locks it.
+    intake: Mutex<BufReader<Inlet>>,
+}
+
+impl<S: Connected> Link<S> {
+    /// The link of this connection, whose threads share this.
+    pub fn new(
+        alloc: Global,
+        shared: S,
+        stream: Arc<PipeConnection, Global>,
+    ) -> Result<Link<S>, AllocError> {
+        let outlet = Outlet::new(Arc::try_clone(&stream)?);
+        let inlet = Inlet::new(Arc::try_clone(&stream)?);
+        let Ok(intake) = BufReader::with_capacity(alloc, INTAKE, inlet) else {
+            return Err(AllocError);
+        };
+        Ok(Link {
+            shared,
+            stream,
+            gather: Mutex::new(Gather::new(alloc, outlet)),
+            intake: Mutex::new(intake),
+        })
+    }
+
+    /// What the threads of the connection share.
+    pub fn shared(&self) -> &S {
+        &self.shared
+    }
+
+    /// Ends the connection for both sides, and wakes each thread that reads it or writes to it.
+    pub fn close(&self) {
+        let _ = self.stream.close();
+    }
+
+    /// Reads the connection to its end, and hands what it reads to the port. Then the connection is closed.
+    pub fn read<X: Wait, P: ReadPort>(&self, rt: &X, port: &mut P) {
+        self.read_on(rt, port);
+        self.close();
+    }
+
+    /// Reads the connection as long as the port wants more, and hands what it reads to it. The connection stays open.
+    pub fn read_on<X: Wait, P: ReadPort>(&self, rt: &X, port: &mut P) {
+        let mut intake = self.intake.lock(rt);
+        read_loop(rt, &mut *intake, port);
+    }
+
+    /// Writes what is queued, each time when there is something and nobody else writes, until the connection has failed.
+    pub fn write<X: Wait>(&self, rt: &X, alloc: Global) -> Result<(), AllocError> {
+        let mut gather = Gather::new(alloc, Outlet::new(Arc::try_clone(&self.stream)?));
+        let mut port = WriteEnd::staying(rt, &self.shared);
+        write_loop(rt, &mut gather, &mut port);
+        Ok(())
+    }
+
+    /// Sees to it that what was queued is written, once the lock is let go.
+    pub fn go_on<X: Wait>(&self, rt: &X, queued: Queued) {
+        match queued {
+            Queued::Write => {
+                let mut port = WriteEnd::leaving(rt, &self.shared);
+                let mut gather = self.gather.lock(rt);
+                write_loop(rt, &mut *gather, &mut port);
+            }
+            Queued::Wake => self.shared.to_write().notify_one(),
+            Queued::Leave => {}
+        }
+    }
+}

@@ -1,0 +1,67 @@
+-- Whose turn it is to read.
+-- Source: this project's.
+use Rattle.std.specs.Prelude.{◌+◌, ◌-◌, ◌^◌, min, ℕ, Bool, true, false, Option, Some, None, if◌then◌else◌, is_some, nat_eq, nat_lt, nat_le}
+use Rattle.ttrpc_sync_client.specs.declared.ports.read_turn.TheConstants.{CALLS_TO_REST}
+use Rattle.ttrpc_sync_client.specs.declared.ports.read_turn.Reader.{Reader}
+use Rattle.ttrpc_sync_client.specs.declared.ports.read_turn.Reader.TheVariants.{Nobody, Thread, Caller}
+use Rattle.ttrpc_sync_client.specs.declared.ports.read_turn.Onward.{Onward}
+use Rattle.ttrpc_sync_client.specs.declared.ports.read_turn.Onward.TheVariants.{Reads, Leaves, HandsOver}
+use Rattle.ttrpc_sync_client.specs.declared.ports.read_turn.ReadTurn.{ReadTurn}
+
+abbrev pub is_free : Reader → Bool
+is_free Nobody = true
+is_free Thread = false
+is_free (Caller id) = false
+
+-- The caller of this call reads.
+abbrev pub reads_for : Reader → ℕ → Bool
+reads_for Nobody id = false
+reads_for Thread id = false
+reads_for (Caller other) id = nat_eq other id
+
+abbrev pub is_call : Option ℕ → ℕ → Bool
+is_call None id = false
+is_call (Some other) id = nat_eq other id
+
+-- A caller may read for itself: no other call is under way, and it has no deadline, past which a read could hold it.
+abbrev pub is_alone : ReadTurn → (has_deadline : Bool) → Bool
+is_alone turn has_deadline = if has_deadline then false else nat_eq turn.callers 0
+
+-- the turn once a call has begun
+abbrev pub begun : ReadTurn → ℕ → (is_alone : Bool) → ReadTurn
+begun turn id is_alone = record turn {
+  callers = min (turn.callers + 1) (2 ^ 64 - 1);
+  alone = if is_alone then min (turn.alone + 1) CALLS_TO_REST else 0;
+  last = Some id;
+}
+
+-- the turn once a call has ended: its caller reads no more
+abbrev pub ended : ReadTurn → ℕ → ReadTurn
+ended turn id = record turn {
+  reader = if reads_for turn.reader id then Nobody else turn.reader;
+  last = if is_call turn.last id then None else turn.last;
+}
+
+-- The caller of this call may take the turn: nobody has it, and the call is the last one and hasn't ended.
+abbrev pub may_take : ReadTurn → ℕ → Bool
+may_take turn id = if is_free turn.reader then is_call turn.last id else false
+
+-- The thread that does nothing but read may rest: enough calls in a row were alone, and the last one has ended.
+abbrev pub may_rest : ReadTurn → Bool
+may_rest turn = if is_some turn.last then false else nat_le CALLS_TO_REST turn.alone
+
+-- Callers wait, and the thread that is to read for them sleeps.
+abbrev pub leaves_others : ReadTurn → Bool
+leaves_others turn = if turn.sleeps then nat_lt 1 turn.callers else false
+
+-- what a reader does behind a piece; where nobody reads any more, the call of its caller has ended with it
+abbrev pub onward_of : Reader → ReadTurn → Onward
+onward_of Nobody turn = if leaves_others turn then HandsOver else Leaves
+onward_of Thread turn = if may_rest turn then Leaves else Reads
+onward_of (Caller id) turn = Reads
+
+-- the turn then
+abbrev pub turn_onward : Onward → ReadTurn → ReadTurn
+turn_onward Reads turn = turn
+turn_onward Leaves turn = record turn { reader = Nobody }
+turn_onward HandsOver turn = record turn { sleeps = false }

@@ -1,0 +1,306 @@
+//! What the threads of a client's connection share.
+ghost use Rattle.std.specs.Prelude.{◌≡◌, ◌≤◌, length, None, Some, IfOk, IfErr, IfSome, OnErr};
+ghost use Rattle.ttrpc_connection.specs.declared.failure.Failure.{Failure as AFailure};
+ghost use Rattle.ttrpc_connection.specs.Failure.{kept};
+ghost use Rattle.ttrpc_client.specs.Client.{IsClient};
+ghost use Rattle.ttrpc_client.specs.Happens.{Forgets, Requests, Tells, Ticks};
+ghost use Rattle.ttrpc_client.specs.Table.{RefusesRequest};
+ghost use Rattle.ttrpc_proto.specs.declared.error.Error.{Error as AnError};
+
+use crate::ports::read_turn::{Onward, ReadTurn};
+use std::alloc::Global;
+use std::hint::spin_loop;
+use std::io::ErrorKind;
+use std::sync::{Condvar, Mutex, Wait};
+use ttrpc_client::client_on::{broke_on, ended_on, lend_on, take_on, wrote_on};
+use ttrpc_client::{CallId, ClientCore};
+use ttrpc_proto::{Error, Request, Response, Result};
+use ttrpc_secure::{InboundTransform, OutboundTransform};
+use ttrpc_sync::{Connected, Held, Next, ReadEnd, Taken, Turn, WriteEnd};
+
+/// How many places there are at which callers wait. A caller waits at that of its id.
+const PLACES: usize = 16;
+
+/// Those of the places at which a call has ended, a bit for each.
+pub type Ended = u32;
+
+/// Who is to be woken for a piece.
+#[derive(Clone, Copy, Debug)]
+pub struct Woken {
+    /// The callers at these places: at them calls have ended.
+    pub callers: Ended,
+    /// The thread that does nothing but read.
+    pub reader: bool,
+}
+
+/// The port of one of a client's readers. It wakes the callers whose calls have ended.
+pub type ClientRead<'a, X, O, I> = ReadEnd<'a, X, ClientShared<O, I>>;
+
+/// The port of one of a client's writers.
+pub type ClientWrite<'a, X, O, I> = WriteEnd<'a, X, ClientShared<O, I>>;
+
+/// What stands under the lock of a client's connection. The ids of which its core keeps something are odd, and below the
+/// next one.
+#[derive(Drop)]
+pub struct ClientHeld<O, I> {
+    pub core: ClientCore<O, I>,
+    pub turn: Turn,
+    pub reading: ReadTurn,
+    ghost pending: { IsClient core.state.next core.state.calls },
+}
+
+impl<O: OutboundTransform + Drop, I: InboundTransform + Drop> ClientHeld<O, I> {
+    /// This core, and it is nobody's turn to write or to read.
+    pub fn new(core: ClientCore<O, I>) -> Self
+        ensures { result.core ≡ core }
+    {
+        core.known();
+        ClientHeld {
+            core,
+            turn: Turn::new(),
+            reading: ReadTurn::new(),
+        }
+    }
+
+    /// Makes a call at the moment `now`, in nanoseconds.
+    pub fn request(&mut self, alloc: Global, request: &Request, now: u64) -> Result<CallId>
+        ensures ok { IfOk result (λ id. Requests O.OutboundTransform self.old.core request.now now id self.new.core) }
+        ensures refused { IfErr result (RefusesRequest O.OutboundTransform self.old.core request.now) }
+        ensures err { OnErr result (self.new.core ≡ self.old.core) }
+    {
+        let asked = self.core.request(alloc, request, now);
+        self.core.known();
+        asked
+    }
+
+    /// Gives the outcome of a call, once; `None` where there is none yet.
+    pub fn take_outcome(&mut self, alloc: Global, id: CallId) -> Option<Result<Response>>
+        ensures { Tells self.old.core id result self.new.core }
+    {
+        let outcome = self.core.take_outcome(alloc, id);
+        self.core.known();
+        outcome
+    }
+
+    /// Says that the moment `now`, in nanoseconds, has come: the calls whose deadline it is or was expire.
+    pub fn tick(&mut self, now: u64)
+        ensures failed { (f : AFailure) → self.old.core.connection.failure ≡ Some f → self.new.core ≡ self.old.core }
+        ensures alive { self.old.core.connection.failure ≡ None → Ticks O.SEALS self.old.core now self.new.core }
+    {
+        self.core.tick(now);
+        self.core.known();
+    }
+
+    /// Forgets a call.
+    pub fn drop_call(&mut self, id: CallId)
+        ensures { Forgets O.SEALS self.old.core id self.new.core }
+    {
+        self.core.drop_call(id);
+        self.core.known();
+    }
+
+    /// Nobody is left who would call: the connection fails, if it hasn't. Takes no memory.
+    pub fn abandon(&mut self)
+        ensures { self.new.core ≡ record self.old.core {
+          connection = record self.old.core.connection {
+            failure = kept self.old.core.connection.failure (AFailure.Told AnError.LocalClosed);
+          };
+        } }
+    {
+        self.core.fail(Error::LocalClosed);
+    }
+}
+
+impl<O: OutboundTransform + Drop, I: InboundTransform + Drop> Held for ClientHeld<O, I> {
+    type Woken = Woken;
+
+    fn take(&mut self, alloc: Global, piece: &[u8]) -> Option<Taken<Woken>> {
+        let (count, callers) = feed_piece(&mut self.core, &mut self.reading, alloc, piece)?;
+        let onward = self.reading.onward();
+        Some(Taken {
+            count,
+            reads_on: onward == Onward::Reads,
+            woken: Woken {
+                callers,
+                reader: onward == Onward::HandsOver,
+            },
+        })
+    }
+
+    fn ended(&mut self) {
+        ended_on(&mut self.core);
+    }
+
+    fn lend(&mut self, written: usize, buffer: &mut [u8]) -> usize {
+        let lent = self.core.lent();
+        wrote_on(&mut self.core, written.min(lent));
+        lend_on(&mut self.core, buffer)
+    }
+
+    fn broke(&mut self, kind: ErrorKind) {
+        broke_on(&mut self.core, kind);
+    }
+
+    fn next(&mut self, has_turn: bool, stays: bool) -> Next {
+        let bytes_wait = self.core.lendable() > 0;
+        let stays = stays && !self.core.has_failed();
+        self.turn.next(has_turn, stays, bytes_wait)
+    }
+}
+
+/// Takes a piece, and says at which places calls have ended. None: the connection has failed.
+fn feed_piece<O: OutboundTransform + Drop, I: InboundTransform + Drop>(
+    core: &mut ClientCore<O, I>,
+    reading: &mut ReadTurn,
+    alloc: Global,
+    piece: &[u8],
+) -> Option<(usize, Ended)>
+    ensures pending { IsClient core.new.state.next core.new.state.calls }
+    ensures whole { IfSome result (λ taken. taken.0 ≡ length piece.now) }
+{
+    let taken = take_on(core, alloc, piece);
+    let ended = ended_places(core, reading);
+    core.known();
+    match taken {
+        Ok(count) => Some((count, ended)),
+        Err(_) => None,
+    }
+}
+
+/// At which places calls have ended that weren't told of yet.
+fn ended_places<O: OutboundTransform + Drop, I: InboundTransform + Drop>(
+    core: &mut ClientCore<O, I>,
+    reading: &mut ReadTurn,
+) -> Ended {
+    let mut places = 0;
+    for _ in 0..u64::MAX {
+        match core.next_ended() {
+            Some(id) => {
+                reading.ended(id);
+                places |= 1 << place_of(id);
+            }
+            None => break,
+        }
+    }
+    places
+}
+
+/// The place of a caller.
+fn place_of(id: CallId) -> usize
+    ensures { result ≤ 15 }
+{
+    ((id / 2) % 16) as usize
+}
+
+/// What the threads of a client's connection share. No thread reads or writes a socket while it has the lock.
+#[derive(Drop)]
+pub struct ClientShared<O, I> {
+    held: Mutex<ClientHeld<O, I>>,
+    to_write: Condvar,
+    to_read: Condvar,
+    callers: [Condvar; PLACES],
+}
+
+impl<O: OutboundTransform + Drop, I: InboundTransform + Drop> ClientShared<O, I> {
+    /// This core, shared.
+    pub fn new(core: ClientCore<O, I>) -> Self {
+        ClientShared {
+            held: Mutex::new(ClientHeld::new(core)),
+            to_write: Condvar::new(),
+            to_read: Condvar::new(),
+            callers: [
+                Condvar::new(),
+                Condvar::new(),
+                Condvar::new(),
+                Condvar::new(),
+                Condvar::new(),
+                Condvar::new(),
+                Condvar::new(),
+                Condvar::new(),
+                Condvar::new(),
+                Condvar::new(),
+                Condvar::new(),
+                Condvar::new(),
+                Condvar::new(),
+                Condvar::new(),
+                Condvar::new(),
+                Condvar::new(),
+            ],
+        }
+    }
+
+    /// Where a caller waits for the outcome of its call.
+    pub fn caller(&self, id: CallId) -> &Condvar {
+        let callers = &self.callers[..];
+        &callers[place_of(id)]
+    }
+
+    /// Waits until the thread that does nothing but read has the turn. False: the connection has failed.
+    pub fn wait_to_read<X: Wait>(&self, rt: &X) -> bool {
+        let mut guard = self.held.lock(rt);
+        for _ in rt.forever() {
+            if guard.core.has_failed() {
+                return false;
+            }
+            if guard.reading.thread_takes() {
+                return true;
+            }
+            guard = self.to_read.wait(rt, guard);
+        }
+        unreachable!()
+    }
+
+    /// Wakes the thread that does nothing but read.
+    pub fn wake_reader(&self) {
+        self.to_read.notify_one();
+    }
+
+    /// Fails the connection, since nobody is left who would call, and wakes its threads. They have the lock for a moment
+    /// at most, and no caller has it, so this waits for it without a handle for waiting.
+    pub fn abandon(&self) {
+        for _ in 0..u64::MAX {
+            if let Some(mut guard) = self.held.try_lock() {
+                guard.abandon();
+                break;
+            }
+            spin_loop();
+        }
+        self.wake_all();
+    }
+}
+
+impl<O: OutboundTransform + Drop, I: InboundTransform + Drop> Connected for ClientShared<O, I> {
+    type Held = ClientHeld<O, I>;
+
+    fn held(&self) -> &Mutex<ClientHeld<O, I>> {
+        &self.held
+    }
+
+    fn to_write(&self) -> &Condvar {
+        &self.to_write
+    }
+
+    fn wake(&self, woken: Woken) {
+        let mut rest = woken.callers;
+        for caller in self.callers.iter() {
+            if rest == 0 {
+                break;
+            }
+            if rest % 2 == 1 {
+                caller.notify_all();
+            }
+            rest /= 2;
+        }
+        if woken.reader {
+            self.wake_reader();
+        }
+    }
+
+    fn wake_all(&self) {
+        self.to_write.notify_all();
+        self.to_read.notify_all();
+        for caller in self.callers.iter() {
+            caller.notify_all();
+        }
+    }
+}

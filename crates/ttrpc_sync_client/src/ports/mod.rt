@@ -1,0 +1,7 @@
+//! The ports of a client's connection: what its threads share, and whose turn it is to read.
+
+mod client;
+mod read_turn;
+
+pub use self::client::{ClientHeld, ClientRead, ClientShared, ClientWrite};
+pub use self::read_turn::{CALLS_TO_REST, Onward, ReadTurn, Reader};

@@ -1,0 +1,163 @@
+//! Whose turn it is to read.
+ghost use Rattle.std.specs.Prelude.{◌≡◌, ◌-◌, None, true, false, if◌then◌else◌};
+ghost use Rattle.ttrpc_sync_client.specs.ReadTurns.{begun, ended, is_alone, is_free, may_rest, may_take, onward_of, turn_onward};
+
+use ttrpc_client::CallId;
+
+/// How many calls in a row are alone before the thread that does nothing but read rests. Then callers read for themselves,
+/// which saves a switch of threads a call.
+pub const CALLS_TO_REST: u32 = 8;
+
+/// Who reads a client's connection.
+#[derive(Clone, Copy, Debug, PartialEq, Eq)]
+pub enum Reader {
+    /// Nobody.
+    Nobody,
+    /// The thread that does nothing but read.
+    Thread,
+    /// The caller of this call, until it has ended.
+    Caller(CallId),
+}
+
+/// What a reader does behind a piece.
+#[derive(Clone, Copy, Debug, PartialEq, Eq)]
+pub enum Onward {
+    /// It reads on.
+    Reads,
+    /// It reads no more.
+    Leaves,
+    /// It reads no more, and the thread that does nothing but read is to be woken, since other callers wait.
+    HandsOver,
+}
+
+/// Which of the threads of a client's connection reads it: one at a time. It stands under the connection's lock, so who
+/// has the turn is the one reader.
+#[derive(Debug, Drop)]
+pub struct ReadTurn {
+    /// Who has it.
+    pub reader: Reader,
+    /// Whether the thread that does nothing but read sleeps, and wasn't woken yet.
+    pub sleeps: bool,
+    /// How many calls are under way, up to their callers' getting their outcomes.
+    pub callers: u64,
+    /// How many of the last calls were alone, one behind the other, as far as that matters.
+    pub alone: u32,
+    /// The call that began last, until it has ended.
+    pub last: Option<CallId>,
+}
+
+impl ReadTurn {
+    /// Nobody's, and no call is under way.
+    pub fn new() -> ReadTurn
+        ensures { result ≡ record { reader = Reader.Nobody; sleeps = false; callers = 0; alone = 0; last = None } }
+    {
+        ReadTurn {
+            reader: Reader::Nobody,
+            sleeps: false,
+            callers: 0,
+            alone: 0,
+            last: None,
+        }
+    }
+
+    /// A call has begun. True: its caller is alone, and may write and read for itself.
+    pub fn begins(&mut self, id: CallId, has_deadline: bool) -> bool
+        ensures result { result ≡ is_alone self.old has_deadline }
+        ensures turn { self.new ≡ begun self.old id (is_alone self.old has_deadline) }
+    {
+        let is_alone = !has_deadline && self.callers == 0;
+        self.callers = self.callers.saturating_add(1);
+        self.alone = if is_alone {
+            self.alone.saturating_add(1).min(CALLS_TO_REST)
+        } else {
+            0
+        };
+        self.last = Some(id);
+        is_alone
+    }
+
+    /// A call has ended.
+    pub fn ended(&mut self, id: CallId)
+        ensures { self.new ≡ ended self.old id }
+    {
+        if self.reader == Reader::Caller(id) {
+            self.reader = Reader::Nobody;
+        }
+        if self.last == Some(id) {
+            self.last = None;
+        }
+    }
+
+    /// A caller has the outcome of its call, or wants it no more.
+    pub fn finished(&mut self)
+        ensures { self.new ≡ record self.old { callers = self.old.callers - 1 } }
+    {
+        self.callers = self.callers.saturating_sub(1);
+    }
+
+    /// The caller of this call, which was alone, wants to read. False: another has the turn, its call has ended, or another
+    /// call has begun since.
+    pub fn take(&mut self, id: CallId) -> bool
+        ensures result { result ≡ may_take self.old id }
+        ensures turn { self.new ≡ (if may_take self.old id then record self.old { reader = Reader.Caller id } else self.old) }
+    {
+        if self.reader != Reader::Nobody || self.last != Some(id) {
+            return false;
+        }
+        self.reader = Reader::Caller(id);
+        true
+    }
+
+    /// The thread that does nothing but read wants to. False: it is to sleep, since a caller has the turn, or it may rest.
+    pub fn thread_takes(&mut self) -> bool
+        ensures result { result ≡ (if may_rest self.old then false else is_free self.old.reader) }
+        ensures turn { self.new ≡ (if may_rest self.old then record self.old { sleeps = true } else
+            (if is_free self.old.reader then record self.old { reader = Reader.Thread } else record self.old { sleeps = true })) }
+    {
+        if self.may_rest() || self.reader != Reader::Nobody {
+            self.sleeps = true;
+            return false;
+        }
+        self.reader = Reader::Thread;
+        true
+    }
+
+    /// What the reader does behind a piece with which calls may have ended.
+    pub fn onward(&mut self) -> Onward
+        ensures result { result ≡ onward_of self.old.reader self.old }
+        ensures turn { self.new ≡ turn_onward (onward_of self.old.reader self.old) self.old }
+    {
+        match self.reader {
+            Reader::Caller(_) => Onward::Reads,
+            Reader::Thread if !self.may_rest() => Onward::Reads,
+            Reader::Nobody if self.sleeps && self.callers > 1 => {
+                self.sleeps = false;
+                Onward::HandsOver
+            }
+            Reader::Thread | Reader::Nobody => {
+                self.reader = Reader::Nobody;
+                Onward::Leaves
+            }
+        }
+    }
+
+    /// A caller waits that doesn't read. True: the thread that does nothing but read is to be woken, which is said once for
+    /// one sleep. Where another caller reads, that one hands over.
+    pub fn wakes(&mut self) -> bool
+        ensures result { result ≡ (if is_free self.old.reader then self.old.sleeps else false) }
+        ensures turn { self.new ≡ (if is_free self.old.reader then record self.old { sleeps = false } else self.old) }
+    {
+        if self.reader != Reader::Nobody || !self.sleeps {
+            return false;
+        }
+        self.sleeps = false;
+        true
+    }
+
+    // The thread that does nothing but read may rest.
+    fn may_rest(&self) -> bool
+        ensures { result ≡ may_rest self.now }
+    {
+        self.last.is_none() && self.alone >= CALLS_TO_REST
+    }
+}

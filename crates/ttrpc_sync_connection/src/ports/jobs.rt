@@ -1,0 +1,101 @@
+//! The port from which a server's workers take jobs.
+ghost use Rattle.std.specs.Prelude.{Some, None};
+ghost use Rattle.ttrpc_sync.specs.declared.ports.Word.{Word};
+
+use crate::ports::server::ServerShared;
+use std::alloc::Global;
+use std::sync::Wait;
+use ttrpc_proto::Error;
+use ttrpc_secure::{InboundTransform, OutboundTransform};
+use ttrpc_server::{Job, JobId};
+use ttrpc_sync::{Connected, Handler, JobPort, Word};
+
+/// The port of one of a server's workers.
+#[derive(Drop)]
+pub struct ServerJobs<'a, X: Wait, O: OutboundTransform + Drop, I: InboundTransform + Drop> {
+    rt: &'a X,
+    alloc: Global,
+    shared: &'a ServerShared<O, I>,
+    current: Option<JobId>,
+    word: Word,
+}
+
+impl<X: Wait, O: OutboundTransform + Drop, I: InboundTransform + Drop> ServerJobs<'_, X, O, I> {
+    /// The port of this connection.
+    pub fn new<'a>(
+        rt: &'a X,
+        alloc: Global,
+        shared: &'a ServerShared<O, I>,
+    ) -> ServerJobs<'a, X, O, I> {
+        ServerJobs {
+            rt,
+            alloc,
+            shared,
+            current: None,
+            word: Word::Open,
+        }
+    }
+}
+
+impl<
+    X: Wait,
+    O: OutboundTransform + Drop,
+    I: InboundTransform + Drop,
+    H: Handler<Request = Job, Outcome = Result<(), Error>>,
+> JobPort<H> for ServerJobs<'_, X, O, I> {
+    type Key = JobId;
+
+    ghost current = { λ p. p.current };
+
+    ghost word = { λ p. p.word };
+
+    fn begin(&mut self) {
+        self.current = None;
+        self.word = Word::Open;
+    }
+
+    fn take(&mut self) -> Option<(JobId, Job)> {
+        match wait_for_job(self.rt, self.shared) {
+            Some(job) => {
+                let id = job.id;
+                self.current = Some(id);
+                Some((id, job))
+            }
+            None => {
+                self.word = Word::Stopped;
+                None
+            }
+        }
+    }
+
+    fn done(&mut self, key: JobId, outcome: Result<(), Error>) {
+        let has_failed = outcome.is_err();
+        self.shared
+            .held()
+            .lock(self.rt)
+            .done(self.alloc, key, outcome);
+        if has_failed {
+            self.shared.wake_all();
+        }
+        self.current = None;
+    }
+}
+
+/// Waits until there is a job. None: the connection has failed.
+fn wait_for_job<X: Wait, O: OutboundTransform + Drop, I: InboundTransform + Drop>(
+    rt: &X,
+    shared: &ServerShared<O, I>,
+) -> Option<Job> {
+    let mut guard = shared.held().lock(rt);
+    for _ in rt.forever() {
+        if let Some(job) = guard.next_job() {
+            return Some(job);
+        }
+        if guard.core.has_failed() {
+            return None;
+        }
+        guard.sleep();
+        guard = shared.to_work().wait(rt, guard);
+    }
+    unreachable!()
+}

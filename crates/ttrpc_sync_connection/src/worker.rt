@@ -1,0 +1,107 @@
+//! A worker: the handler of its jobs, and the gate that it waits behind.
+ghost use Rattle.std.specs.Prelude.{⊤};
+
+use crate::conn::Conn;
+use crate::context::{MethodHandler, TtrpcContext, response_error_to_channel, send_response};
+use crate::ports::ServerJobs;
+use std::alloc::Global;
+use std::sync::Arc;
+use ttrpc_methods::Methods;
+use ttrpc_proto::{Error, Result};
+use ttrpc_secure::{InboundTransform, OutboundTransform};
+use ttrpc_server::Job;
+use ttrpc_server::responses::path_response;
+use ttrpc_sync::{Connected, Gate, Handler, Host, work_loop};
+
+/// Hands each request to the handler of its method.
+#[derive(Drop)]
+struct Dispatch<R: Host, O: OutboundTransform + Drop, I: InboundTransform + Drop, H: Drop> {
+    conn: Arc<Conn<R, O, I>, Global>,
+    methods: Arc<Methods<H>, Global>,
+}
+
+impl<R, O, I, H> Handler for Dispatch<R, O, I, H>
+where
+    R: Host,
+    O: OutboundTransform + Drop,
+    I: InboundTransform + Drop,
+    H: MethodHandler<R, O, I> + Drop,
+{
+    type Request = Job;
+
+    type Outcome = Result<()>;
+
+    ghost gives = { λ _ _ _. ⊤ };
+
+    fn handle(&self, job: Job) -> Result<()> {
+        let Job {
+            id: _,
+            header,
+            stream: _,
+            request,
+        } = job;
+        let found = self
+            .methods
+            .get(request.service.as_str(), request.method.as_str());
+        let Some(handler) = found else {
+            let alloc = self.conn.alloc();
+            let unknown = path_response(alloc, &request.service, &request.method)?;
+            return send_response(header.stream_id, unknown, &*self.conn);
+        };
+        match TtrpcContext::new(&self.conn, header, &request) {
+            Ok(ctx) => handler.handler(ctx, request),
+            Err(error) => response_error_to_channel(header.stream_id, error, &*self.conn),
+        }
+    }
+}
+
+/// Lets workers wait where the pool does, and says where too few are left that wait.
+#[derive(Drop)]
+struct PoolGate<R: Host, O: OutboundTransform + Drop, I: InboundTransform + Drop> {
+    conn: Arc<Conn<R, O, I>, Global>,
+    is_shut: bool,
+}
+
+impl<R: Host, O: OutboundTransform + Drop, I: InboundTransform + Drop> Gate for PoolGate<R, O, I> {
+    ghost is_shut = { λ g. g.is_shut };
+
+    fn enter(&mut self) -> bool {
+        let shared = self.conn.link().shared();
+        let entered = shared.held().lock(self.conn.rt()).pool.enter();
+        self.is_shut = !entered;
+        entered
+    }
+
+    fn leave(&mut self) {
+        let shared = self.conn.link().shared();
+        let is_short = shared.held().lock(self.conn.rt()).leave();
+        if is_short {
+            self.conn.crew().is_short(self.conn.rt());
+        }
+    }
+}
+
+/// Works on the connection's jobs, until the gate sends the worker away or the connection has failed.
+pub fn work<R, O, I, H>(
+    conn: &Arc<Conn<R, O, I>, Global>,
+    methods: &Arc<Methods<H>, Global>,
+) -> Result<()>
+where
+    R: Host,
+    O: OutboundTransform + Drop,
+    I: InboundTransform + Drop,
+    H: MethodHandler<R, O, I> + Drop,
+{
+    let rt = conn.rt();
+    let dispatch = Dispatch {
+        conn: Arc::try_clone(conn)?,
+        methods: Arc::try_clone(methods)?,
+    };
+    let mut gate = PoolGate {
+        conn: Arc::try_clone(conn)?,
+        is_shut: false,
+    };
+    let mut port = ServerJobs::new(rt, rt.alloc(), conn.link().shared());
+    work_loop(rt, &mut port, &dispatch, &mut gate);
+    Ok(())
+}

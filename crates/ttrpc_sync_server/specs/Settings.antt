@@ -1,0 +1,69 @@
+-- What a server refuses by its settings, and by which text.
+-- Source: this project's, with the texts of the Rust crate `ttrpc`.
+use Rattle.std.specs.Prelude.{◌≡◌, ◌⊎◌, ℕ, List, Option, Some, None, Result, IfErr, IsErr, codes, false, nat_lt, true, if◌then◌else◌}
+use Rattle.std.specs.Duration.{as_nanos}
+use Rattle.ttrpc_proto.specs.declared.error.Error.{Error}
+use Rattle.ttrpc_proto.specs.declared.error.Error.TheVariants as error
+use Rattle.ttrpc_sync_server.specs.declared.settings.Settings.{Settings}
+use Rattle.ttrpc_sync_server.specs.declared.settings.refusal.Refusal.{Refusal}
+use Rattle.ttrpc_sync_server.specs.declared.settings.refusal.Refusal.TheVariants as refusal
+
+-- the text of each
+abbrev pub text_of : Refusal → List ℕ
+text_of refusal.NotBelowMax = codes "thread_count_default should smaller than thread_count_max"
+text_of refusal.NotAboveMin = codes "thread_count_default should bigger than thread_count_min"
+text_of refusal.SecondAddress = codes "ttrpc-rust just support 1 sockaddr now"
+text_of refusal.NotBound = codes "ttrpc-rust not bind"
+text_of refusal.Listening = codes "server is already listening"
+text_of refusal.Started = codes "services are fixed after start"
+
+-- one address, until the server listens no more
+abbrev pub bind_refusal : Settings → Option Refusal
+bind_refusal s = if s.is_bound then Some refusal.SecondAddress else None
+
+-- services, until the first start
+abbrev pub register_refusal : Settings → Option Refusal
+register_refusal s = if s.is_fixed then Some refusal.Started else None
+
+-- an address, and not twice
+abbrev pub listen_refusal : Settings → Option Refusal
+listen_refusal s = if s.is_bound then (if s.is_listening then Some refusal.Listening else None) else Some refusal.NotBound
+
+-- first the counts, in this order
+abbrev pub start_refusal : Settings → Option Refusal
+start_refusal s =
+    if nat_lt s.thread_count_default s.thread_count_max then
+    (if nat_lt s.thread_count_min s.thread_count_default then listen_refusal s else Some refusal.NotAboveMin)
+    else Some refusal.NotBelowMax
+
+-- The error is that refusal's text, or memory for it was refused.
+abbrev pub IsRefused : Option Refusal → Error → Type 0
+IsRefused why e = (r : Refusal) × (why ≡ Some r) × ((e ≡ error.Others (text_of r)) ⊎ (e ≡ error.NoMemory))
+
+-- Where there is a refusal, the result is that. (What else may stand in the way, this leaves open.)
+abbrev pub Refuses : {T : Type 0} → Option Refusal → Result T Error → Type 0
+Refuses why result = (r : Refusal) → why ≡ Some r → IsErr result × IfErr result (IsRefused why)
+
+-- ---- what calls make of the settings
+
+-- those of a new server
+pub record IsNew (s : Settings) : Type 0 where
+  pub default : s.thread_count_default ≡ 3
+  pub min : s.thread_count_min ≡ 1
+  pub max : s.thread_count_max ≡ 5
+  pub retry : as_nanos s.accept_retry_interval ≡ 10000000000
+  pub bound : s.is_bound ≡ false
+  pub listening : s.is_listening ≡ false
+  pub fixed : s.is_fixed ≡ false
+
+-- it has an address
+abbrev pub bound : Settings → Settings
+bound s = record s { is_bound = true }
+
+-- it listens, and its services are fixed
+abbrev pub started : Settings → Settings
+started s = record s { is_listening = true; is_fixed = true }
+
+-- It listens no more, and has no address. One that doesn't listen stays as it is.
+abbrev pub stopped : Settings → Settings
+stopped s = if s.is_listening then record s { is_bound = false; is_listening = false } else s

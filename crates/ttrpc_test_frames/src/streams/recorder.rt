@@ -1,0 +1,50 @@
+//! A writer that keeps every call that was made of it, with its answer, and what the contracts of the writers come to
+//! over it.
+ghost use Rattle.std.specs.Prelude.{◌≡◌, ◌++◌, [], ◌∷◌, map, Some};
+ghost use Rattle.std.specs.Option.{option_map_or};
+ghost use Rattle.ttrpc_frame.specs.Streams.{Flushed, Offered, answered_kind};
+
+use crate::streams::fakes::Taker;
+use std::alloc::Global;
+use std::io::{self, ErrorKind};
+use std::process::Abort;
+use ttrpc_frame::Sink;
+use ttrpc_wire::Blob;
+
+/// The bytes that were offered, or none for a flush, and the answer.
+pub type Kept = (Option<Blob>, Result<usize, ErrorKind>);
+
+/// Takes bytes as a taker does. Where it finds no memory to keep a call, it ends the test.
+#[derive(Drop)]
+pub struct Recorder<'a, X> {
+    pub rt: &'a X,
+    pub alloc: Global,
+    pub taker: Taker,
+    pub kept: Vec<Kept>,
+}
+
+impl<X: Abort> Recorder<'_, X> {
+    fn keep(&mut self, call: Kept)
+        ensures { self.new.kept.items ≡ self.old.kept.items ++ call ∷ [] }
+    {
+        self.kept.push(call).expect(self.rt, "room for a call");
+    }
+}
+
+impl<X: Abort> Sink for Recorder<'_, X> {
+    ghost calls = { λ r. Some (map (λ call. option_map_or
+        (λ bytes. Offered bytes (answered_kind call.1)) call.0 (Flushed (answered_kind call.1))) r.kept.items) };
+
+    #[tactic(auto, using(std::proofs::lemmas::Grind::common_steps))]
+    fn write(&mut self, bytes: &[u8]) -> io::Result<usize> {
+        let answer = self.taker.take(bytes);
+        let offered = Blob::from_slice(self.alloc, bytes).expect(self.rt, "room for bytes");
+        self.keep((Some(offered), answer));
+        Ok(answer?)
+    }
+
+    fn flush(&mut self) -> io::Result<()> {
+        self.keep((None, Ok(0)));
+        Ok(())
+    }
+}

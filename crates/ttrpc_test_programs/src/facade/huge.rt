@@ -1,0 +1,48 @@
+//! A value that may be too long to be written.
+ghost use Rattle.std.specs.Prelude.{None};
+ghost use Rattle.ttrpc_test_programs.specs.Huge.{zeros};
+
+use std::alloc::Global;
+use ttrpc::proto::Codec;
+use ttrpc::wire::CodecError;
+
+/// A value whose written form is so many bytes of 0. No bytes are read as one, and no memory is found to write one.
+#[derive(Debug, Drop, PartialEq, Eq)]
+pub struct Huge {
+    pub count: u64,
+}
+
+/// One that is too long to be written.
+pub const HUGE: Huge = Huge { count: 4294967296 };
+
+impl Codec for Huge {
+    type E = CodecError;
+
+    ghost written = { λ huge. zeros huge.count };
+
+    ghost meaning = { λ _. None };
+
+    #[tactic(auto, using(crate::proofs::Long::short_size, crate::proofs::Long::long_size))]
+    fn size(&self) -> u32 {
+        match u32::try_from(self.count) {
+            Ok(count) => count,
+            Err(_) => u32::MAX,
+        }
+    }
+
+    #[tactic(auto, using(crate::proofs::Long::long_form))]
+    fn encode(&self, _alloc: Global) -> Result<Vec<u8>, CodecError> {
+        if self.count < 4294967296 {
+            return Err(CodecError::NoMemory);
+        }
+        Err(CodecError::TooLong)
+    }
+
+    fn decode(_alloc: Global, _bytes: &[u8]) -> Result<Huge, CodecError> {
+        Err(CodecError::BadTag)
+    }
+
+    fn merge(&mut self, _alloc: Global, _bytes: &[u8]) -> Result<(), CodecError> {
+        Err(CodecError::BadTag)
+    }
+}

@@ -1,0 +1,7 @@
+//! Tests of the macros, of what they call, and of the paths of the facade: rows over values, and a service over a socket.
+
+mod calls_tests;
+mod huge;
+mod messages;
+mod pairs;
+mod socket_tests;

@@ -1,0 +1,91 @@
+//! What is known of a connection, by name and kind.
+ghost use Rattle.std.specs.Prelude.{◌≡◌, codes};
+ghost use Rattle.std.specs.BTreeMap.{get_by_text};
+ghost use Rattle.std.specs.Option.{option_and_then, option_copied};
+ghost use Rattle.ttrpc_secure.specs.Hooks.Kinds.{u32_of};
+
+use std::alloc::Global;
+use std::collections::BTreeMap;
+use std::process::Abort;
+use std::test::Fail;
+use ttrpc_secure::{ConnectionData, ConnectionDataExt, Datum, Kind};
+
+type Tested = Result<(), Fail>;
+
+/// Nothing known but one value, under this name.
+fn known(alloc: Global, name: &str, datum: Datum) -> Result<ConnectionData, Fail> {
+    let mut data = BTreeMap::new(alloc);
+    data.insert(String::from_str(alloc, name)?, datum)?;
+    Ok(data)
+}
+
+/// The value is found under its name and as its kind, and not under another name or as another kind.
+fn is_found<T: Kind + PartialEq, U: Kind>(
+    rt: &impl Abort,
+    alloc: Global,
+    datum: Datum,
+    expected: &T,
+) -> Tested {
+    let data = known(alloc, "key", datum)?;
+    match data.get_typed::<T>("key") {
+        Some(value) => assert!(rt; value == expected),
+        None => assert!(rt; false),
+    }
+    assert!(rt; data.get_typed::<T>("missing").is_none());
+    assert!(rt; data.get_typed::<T>("").is_none());
+    assert!(rt; data.get_typed::<U>("key").is_none());
+    Ok(())
+}
+
+#[test]
+fn signed_numbers_are_found(rt: HostRuntime) -> Tested {
+    let alloc = rt.alloc();
+    is_found::<i8, u8>(&rt, alloc, Datum::I8(-128), &-128)?;
+    is_found::<i16, u16>(&rt, alloc, Datum::I16(-32768), &-32768)?;
+    is_found::<i32, u32>(&rt, alloc, Datum::I32(-1), &-1)?;
+    is_found::<i64, i32>(&rt, alloc, Datum::I64(42), &42)?;
+    is_found::<i128, i64>(&rt, alloc, Datum::I128(-5), &-5)?;
+    is_found::<isize, i64>(&rt, alloc, Datum::Isize(0), &0)
+}
+
+#[test]
+fn unsigned_numbers_are_found(rt: HostRuntime) -> Tested {
+    let alloc = rt.alloc();
+    is_found::<u8, i8>(&rt, alloc, Datum::U8(255), &255)?;
+    is_found::<u16, u8>(&rt, alloc, Datum::U16(65535), &65535)?;
+    is_found::<u32, i32>(&rt, alloc, Datum::U32(1234), &1234)?;
+    is_found::<u64, bool>(&rt, alloc, Datum::U64(42), &42)?;
+    is_found::<u128, u64>(&rt, alloc, Datum::U128(7), &7)?;
+    is_found::<usize, u64>(&rt, alloc, Datum::Usize(9), &9)
+}
+
+#[test]
+fn other_values_are_found(rt: HostRuntime) -> Tested {
+    let alloc = rt.alloc();
+    is_found::<bool, u8>(&rt, alloc, Datum::Bool(true), &true)?;
+    let text = Datum::Text(String::from_str(alloc, "test")?);
+    is_found::<String, Vec<u8>>(&rt, alloc, text, &String::from_str(alloc, "test")?)?;
+    let bytes = Datum::Bytes(Vec::from_slice(alloc, b"test")?);
+    is_found::<Vec<u8>, String>(&rt, alloc, bytes, &Vec::from_slice(alloc, b"test")?)
+}
+
+// What is found is known where it is used.
+fn peer(connection_data: &ConnectionData) -> Option<&u32>
+    ensures { option_copied result ≡ option_and_then u32_of (get_by_text connection_data.now (codes "peer")) }
+{
+    connection_data.get_typed::<u32>("peer")
+}
+
+#[test]
+fn several_values_are_known(rt: HostRuntime) -> Tested {
+    let alloc = rt.alloc();
+    let mut data = known(alloc, "count", Datum::U64(42))?;
+    data.insert(String::from_str(alloc, "flag")?, Datum::Bool(true))?;
+    data.insert(String::from_str(alloc, "peer")?, Datum::U32(1234))?;
+    assert!(rt; peer(&data) == Some(&1234));
+    assert!(rt; data.get_typed::<u64>("count") == Some(&42));
+    assert!(rt; data.get_typed::<bool>("flag") == Some(&true));
+    assert!(rt; data.get_typed::<bool>("count").is_none());
+    assert!(rt; BTreeMap::new(alloc).get_typed::<u64>("count").is_none());
+    Ok(())
+}

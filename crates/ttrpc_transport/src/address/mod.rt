@@ -1,0 +1,13 @@
+//! Addresses of sockets, as texts: `unix://PATH`, `tcp://HOST:PORT` and `vsock://CID:PORT`, and what a bind or a connect
+//! reads in them. It reaches no system.
+
+mod domain;
+mod nodelay;
+mod place;
+mod refusal;
+mod vsock;
+
+pub use self::domain::{Domain, parse_sockaddr};
+pub use self::nodelay::nodelay_from;
+pub use self::place::{Place, socket_of};
+pub use self::vsock::parse_vsock;

@@ -1,0 +1,54 @@
+//! Where a socket is bound or connected.
+ghost use Rattle.std.specs.Prelude.{IfOk, IfErr};
+ghost use Rattle.std.specs.Net.Grammar.{IsSocketText};
+ghost use Rattle.ttrpc_transport.specs.Address.Places.{IsPlace, IsNoPlace, IsNoSocketAddr};
+
+use crate::address::domain::{Domain, parse_sockaddr};
+use crate::address::refusal::refusal;
+use std::alloc::Global;
+use std::net::SocketAddr;
+use ttrpc_proto::Result;
+use ttrpc_proto::error::causes::others_of;
+
+/// Where a socket is bound or connected.
+#[derive(Clone, Copy, Debug, PartialEq)]
+pub enum Place<'a> {
+    /// At an IP address and a port.
+    Tcp(SocketAddr),
+    /// At a path.
+    Unix(&'a str),
+}
+
+/// The place that the address names. Refused as `Others` is an address that `parse_sockaddr` refuses, one of vsock, a Unix
+/// name that is abstract, which begins with `@`, and a part of TCP that std doesn't read as a `SocketAddr`, a host's name
+/// among them.
+pub fn socket_of(alloc: Global, addr: &str) -> Result<Place<'_>>
+    ensures ok { IfOk result (IsPlace addr.now) }
+    ensures err { IfErr result (IsNoPlace addr.now) }
+{
+    let (domain, part) = parse_sockaddr(alloc, addr)?;
+    match domain {
+        Domain::Tcp => Ok(Place::Tcp(socket_addr_of(alloc, part)?)),
+        Domain::Unix if part.starts_with('@') => Err(refusal(String::from_str(
+            alloc,
+            "abstract unix names are not supported",
+        ))),
+        Domain::Unix => Ok(Place::Unix(part)),
+        Domain::Vsock => Err(refusal(String::from_str(alloc, "vsock is not supported"))),
+    }
+}
+
+// The IP address and port that the part of a TCP address names.
+fn socket_addr_of(alloc: Global, part: &str) -> Result<SocketAddr>
+    ensures ok { IfOk result (IsSocketText part.now) }
+    ensures err { IfErr result (IsNoSocketAddr part.now) }
+{
+    match part.parse::<SocketAddr>() {
+        Ok(address) => Ok(address),
+        Err(error) => {
+            // Of what the error prints nothing is known, so it is printed by itself, behind what is.
+            let prefix = format!(in alloc; "Failed to parse TCP address '{part}': ")?;
+            Err(others_of(alloc, prefix.as_str(), &error))
+        }
+    }
+}

@@ -1,0 +1,16 @@
+//! The error that refuses an address.
+ghost use Rattle.std.specs.Prelude.{◌≡◌, string_bytes, MatchResult};
+
+use std::alloc::AllocError;
+use ttrpc_proto::Error;
+use ttrpc_wire::Text;
+
+// The error of this text, or `NoMemory` where memory for it was refused.
+pub(crate) fn refusal(text: Result<String, AllocError>) -> Error
+    ensures { MatchResult text (λ made. result ≡ Error.Others (string_bytes made)) (λ _. result ≡ Error.NoMemory) }
+{
+    match text {
+        Ok(text) => Error::Others(Text::from_string(text)),
+        Err(refused) => refused.into(),
+    }
+}

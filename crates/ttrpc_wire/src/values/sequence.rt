@@ -1,0 +1,96 @@
+ghost use Rattle.std.specs.Prelude.{◌≡◌, List, [], ◌∷◌, ◌++◌, IfOk, OnOk, OnErr};
+
+use crate::values::clones::TryClone;
+use std::alloc::{AllocError, Global};
+use std::marker::Model;
+
+/// Items in order, which contracts see as their list.
+#[derive(Debug, Drop)]
+pub struct Sequence<T> {
+    items: Vec<T>,
+}
+
+impl<T> Model for Sequence<T> {
+    ghost Value = { List T };
+
+    ghost view = { λ sequence. sequence.items.items };
+}
+
+impl<T> Sequence<T> {
+    /// No items. Takes no memory.
+    pub fn new(alloc: Global) -> Sequence<T>
+        ensures { result ≡ [] }
+    {
+        Sequence {
+            items: Vec::new(alloc),
+        }
+    }
+
+    /// Takes the vector over, with no memory taken.
+    pub fn from_vec(items: Vec<T>) -> Sequence<T>
+        ensures { result ≡ items.items }
+    {
+        Sequence { items }
+    }
+
+    /// Gives the vector back, with no memory taken.
+    pub fn into_vec(self) -> Vec<T>
+        ensures { result.items ≡ self }
+    {
+        let Sequence { items } = self;
+        items
+    }
+
+    /// The items.
+    pub fn as_slice(&self) -> &[T]
+        ensures { result.now ≡ self.now }
+    {
+        self.items.as_slice()
+    }
+}
+
+impl<T: Drop> Sequence<T> {
+    /// One more item at the end. After an error nothing has changed, and the item is gone.
+    pub fn push(&mut self, item: T) -> Result<(), AllocError>
+        ensures ok { OnOk result (self.new ≡ self.old ++ item ∷ []) }
+        ensures err { OnErr result (self.new ≡ self.old) }
+    {
+        self.items.push(item)?;
+        Ok(())
+    }
+}
+
+impl<T: TryClone> TryClone for Sequence<T> {
+    fn try_clone(&self) -> Result<Sequence<T>, AllocError> {
+        let items = cloned(*self.items.allocator(), self.as_slice())?;
+        Ok(Sequence::from_vec(items))
+    }
+}
+
+fn cloned<T: TryClone>(alloc: Global, items: &[T]) -> Result<Vec<T>, AllocError>
+    ensures { IfOk result (λ copies. copies.items ≡ items.now) }
+{
+    let mut copies = Vec::with_capacity(alloc, items.len())?;
+    for item in items {
+        copies.push(item.try_clone()?)?;
+    }
+    Ok(copies)
+}
+
+impl<T: PartialEq> PartialEq for Sequence<T> {
+    ghost use Rattle.std.specs.Cmp.Lexicographic.{pointwise, lists_per};
+
+    ghost eq = { pointwise T.eq };
+
+    ghost laws = { lists_per T.laws };
+
+    fn eq(&self, other: &Sequence<T>) -> bool {
+        self.items == other.items
+    }
+}
+
+impl<T: Eq> Eq for Sequence<T> {
+    ghost use Rattle.std.specs.Cmp.Lexicographic.{lists_equiv};
+
+    ghost laws = { lists_equiv T.Eq.laws };
+}

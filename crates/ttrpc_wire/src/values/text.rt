@@ -1,0 +1,132 @@
+ghost use Rattle.std.specs.Prelude.{◌≡◌, ◌≢◌, ℕ, List, [], string_bytes, IfOk, IfErr, ◌↔◌};
+ghost use Rattle.std.specs.Result.{IsErrOf};
+ghost use Rattle.std.specs.Str.{IsUtf8};
+
+use crate::values::clones::TryClone;
+use crate::values::codec_error::CodecError;
+use std::alloc::{AllocError, Global};
+use std::fmt;
+use std::marker::Model;
+use std::ops::Deref;
+
+/// A text, which contracts see as the list of its bytes in UTF-8.
+#[derive(Debug, Drop)]
+pub struct Text {
+    text: String,
+}
+
+impl Model for Text {
+    ghost Value = { List ℕ };
+
+    ghost view = { λ text. string_bytes text.text };
+}
+
+impl Text {
+    /// The empty text. Takes no memory.
+    pub fn new(alloc: Global) -> Text
+        ensures { result ≡ [] }
+    {
+        Text {
+            text: String::new(alloc),
+        }
+    }
+
+    /// A copy of the text.
+    pub fn from_str(alloc: Global, text: &str) -> Result<Text, AllocError>
+        ensures { IfOk result (λ copy. copy ≡ text.now) }
+    {
+        Ok(Text {
+            text: String::from_str(alloc, text)?,
+        })
+    }
+
+    /// The text that the bytes are, copied. `BadUtf8` exactly where they aren't UTF-8.
+    pub fn from_utf8(alloc: Global, bytes: &[u8]) -> Result<Text, CodecError>
+        ensures ok { IfOk result (λ text. (text ≡ bytes.now) × IsUtf8 bytes.now) }
+        ensures not_text { IsErrOf result CodecError.BadUtf8 ↔ ¬ (IsUtf8 bytes.now) }
+        ensures else_memory { IfErr result (λ e. e ≢ CodecError.BadUtf8 → e ≡ CodecError.NoMemory) }
+    {
+        match std::str::from_utf8(bytes) {
+            Ok(text) => Ok(Text::from_str(alloc, text)?),
+            Err(_) => Err(CodecError::BadUtf8),
+        }
+    }
+
+    /// Takes the string over, with no memory taken.
+    pub fn from_string(text: String) -> Text
+        ensures { result ≡ string_bytes text }
+    {
+        Text { text }
+    }
+
+    /// Gives the string back, with no memory taken.
+    pub fn into_string(self) -> String
+        ensures { string_bytes result ≡ self }
+    {
+        let Text { text } = self;
+        text
+    }
+
+    /// The text.
+    pub fn as_str(&self) -> &str
+        ensures { result.now ≡ self.now }
+    {
+        self.text.as_str()
+    }
+
+    /// The text's bytes, which are UTF-8.
+    pub fn as_bytes(&self) -> &[u8]
+        ensures value { result.now ≡ self.now }
+        ensures utf8 { IsUtf8 self.now }
+    {
+        self.as_str().as_bytes()
+    }
+}
+
+impl fmt::Display for Text {
+    ghost use Rattle.std.specs.Prelude.{Some};
+
+    ghost output = { λ text. Some text };
+
+    fn fmt<W: fmt::Write>(&self, f: &mut fmt::Formatter<W>) -> fmt::Result {
+        fmt::Display::fmt(&self.text, f)
+    }
+}
+
+/// A text reads as std's text does.
+impl Deref for Text {
+    type Target = String;
+
+    ghost deref_gives = { λ text s. string_bytes s ≡ text };
+
+    fn deref(&self) -> &String {
+        &self.text
+    }
+}
+
+impl TryClone for Text {
+    fn try_clone(&self) -> Result<Text, AllocError> {
+        Text::from_str(*self.text.allocator(), self.as_str())
+    }
+}
+
+impl PartialEq for Text {
+    ghost use Rattle.std.specs.Prelude.{nat_eq};
+    ghost use Rattle.std.specs.Cmp.Lexicographic.{pointwise};
+    ghost use Rattle.std.proofs.lemmas.Cmp.{nat_list_eq_equiv};
+    ghost use Rattle.std.specs.Cmp.{partial_equiv_from_equiv};
+
+    ghost eq = { pointwise nat_eq };
+
+    ghost laws = { partial_equiv_from_equiv nat_list_eq_equiv };
+
+    fn eq(&self, other: &Text) -> bool {
+        self.as_bytes() == other.as_bytes()
+    }
+}
+
+impl Eq for Text {
+    ghost use Rattle.std.proofs.lemmas.Cmp.{nat_list_eq_equiv};
+
+    ghost laws = { nat_list_eq_equiv };
+}
