@@ -1,11 +1,18 @@
-//! Pairs of halves with no cipher, for programs that try out and measure a connection, and for tests.
+//! Benches nothing by itself: halves with no cipher, readers and writers, for programs that try out and measure a connection,
+//! and for tests.
 #![tactic(auto)]
 
+mod manners;
 mod odd_halves;
+mod readers;
 mod stamp;
+mod writers;
 
+pub use manners::{AT_ONCE, Manner, NO_CALL};
 pub use odd_halves::{Sealed, Swelling};
+pub use readers::{Giver, StdReader};
 pub use stamp::{StampIn, StampOut, stamps};
+pub use writers::{ROOM, Receiver, StdWriter};
 
 #[cfg(test)]
 mod tests;

@@ -1,8 +1,9 @@
 //! One loop after the other over one port.
 
-use crate::fakes::{AT_ONCE, BYTES, Giver, Lender, Manner, ROOM, Receiver, Taker};
+use crate::fakes::{BYTES, Lender, Taker};
 use std::io::ErrorKind;
 use std::test::Fail;
+use ttrpc_bench::{AT_ONCE, Giver, Manner, ROOM, Receiver};
 use ttrpc_sync::{Word, read_loop, write_loop};
 use ttrpc_wire::values::slices::front;
 
@@ -29,11 +30,15 @@ fn a_port_is_read_to_again(rt: HostRuntime) -> Result<(), Fail> {
 #[test]
 fn a_port_is_written_from_again(rt: HostRuntime) -> Result<(), Fail> {
     let mut port = Lender::new(BYTES, 9, 6);
-    let mut first = Receiver::new(Vec::with_capacity(rt.alloc(), ROOM)?, 8, IN_FIVES);
+    let ending = Manner {
+        room: 8,
+        ..IN_FIVES
+    };
+    let mut first = Receiver::new(rt.alloc(), ending)?;
     write_loop(&rt, &mut first, &mut port);
     assert!(rt; port.word == Word::Broke(ErrorKind::WriteZero));
     assert_eq!(rt; first.taken.as_slice(), front(BYTES, 8));
-    let mut second = Receiver::new(Vec::with_capacity(rt.alloc(), ROOM)?, ROOM, IN_FIVES);
+    let mut second = Receiver::new(rt.alloc(), IN_FIVES)?;
     write_loop(&rt, &mut second, &mut port);
     assert!(rt; port.word == Word::Stopped);
     assert_eq!(rt; second.taken.as_slice(), &BYTES[8..]);

@@ -1,26 +1,17 @@
-//! A reader and a writer that move few bytes a call, that can be interrupted, fail, or take no more, and that tell what
-//! their last call answered, and ports in memory.
-ghost use Rattle.std.specs.Prelude.{◌≡◌, ◌+◌, ◌≤◌, length, take, drop, Some, OnOk, Ok};
-ghost use Rattle.std.specs.Io.{ReadsAtMost, WritesAtMost};
-ghost use Rattle.ttrpc_frame.specs.Streams.{answered_kind};
+//! Ports in memory, and bytes for them.
+ghost use Rattle.std.specs.Prelude.{◌≡◌, ◌+◌, ◌≤◌, length, take, drop, Some};
 ghost use Rattle.ttrpc_sync.specs.Loops.{IsOneMore};
 
 use std::alloc::Global;
 use std::cell::Cell;
 use std::cmp::min;
-use std::io::{self, ErrorKind};
+use std::io;
 use std::test::Fail;
-use ttrpc_frame::{Sink, Source};
+use ttrpc_bench::ROOM;
 use ttrpc_sync::{ReadPort, Word, WritePort};
-
-/// What stands for the last call before the first one: neither an end nor a break.
-const NO_CALL: Result<usize, ErrorKind> = Err(ErrorKind::Interrupted);
 
 /// Twenty bytes, each another.
 pub const BYTES: &[u8] = b"ABCDEFGHIJKLMNOPQRST";
-
-/// More than any of the tests moves, so that no writer and no port wants memory.
-pub const ROOM: usize = 10000;
 
 /// More bytes than two pieces have: 0 to 250, again and again.
 pub fn long_bytes(alloc: Global) -> Result<Vec<u8>, Fail> {
@@ -29,142 +20,6 @@ pub fn long_bytes(alloc: Global) -> Result<Vec<u8>, Fail> {
         bytes.push((at % 251) as u8)?;
     }
     Ok(bytes)
-}
-
-/// How a reader or a writer moves bytes: at most `step` a call, and perhaps interrupted before each call that moves
-/// some. Where it can move no more, it fails with an error of the kind `behind`, or moves nothing.
-#[derive(Clone, Copy)]
-pub struct Manner {
-    pub step: usize,
-    pub interrupts: bool,
-    pub behind: Option<ErrorKind>,
-}
-
-/// Moves as much as it can, until there is no more.
-pub const AT_ONCE: Manner = Manner {
-    step: 4096,
-    interrupts: false,
-    behind: None,
-};
-
-/// Gives these bytes.
-#[derive(Drop)]
-pub struct Giver<'a> {
-    pub rest: &'a [u8],
-    manner: Manner,
-    interrupted: bool,
-    pub last: Result<usize, ErrorKind>,
-}
-
-impl Giver<'_> {
-    pub fn new(bytes: &[u8], manner: Manner) -> Giver<'_> {
-        Giver {
-            rest: bytes,
-            manner,
-            interrupted: false,
-            last: NO_CALL,
-        }
-    }
-
-    fn give(&mut self, buffer: &mut [u8]) -> Result<usize, ErrorKind>
-        ensures { ReadsAtMost result buffer.new }
-    {
-        if self.manner.interrupts && !self.interrupted {
-            self.interrupted = true;
-            return Err(ErrorKind::Interrupted);
-        }
-        self.interrupted = false;
-        if let (true, Some(kind)) = (self.rest.is_empty(), self.manner.behind) {
-            return Err(kind);
-        }
-        let count = min(self.manner.step, min(self.rest.len(), buffer.len()));
-        buffer[..count].copy_from_slice(&self.rest[..count]);
-        self.rest = &self.rest[count..];
-        Ok(count)
-    }
-}
-
-impl Source for Giver<'_> {
-    ghost last = { λ g. Some (answered_kind g.last) };
-
-    fn read(&mut self, buffer: &mut [u8]) -> io::Result<usize> {
-        self.last = self.give(buffer);
-        Ok(self.last?)
-    }
-}
-
-/// Takes `room` bytes, and is flushed `flushes` times before a flush fails.
-#[derive(Drop)]
-pub struct Receiver {
-    pub taken: Vec<u8>,
-    pub flushes: usize,
-    room: usize,
-    manner: Manner,
-    interrupted: bool,
-    pub last: Result<usize, ErrorKind>,
-}
-
-impl Receiver {
-    pub fn new(taken: Vec<u8>, room: usize, manner: Manner) -> Receiver {
-        Receiver {
-            taken,
-            flushes: ROOM,
-            room,
-            manner,
-            interrupted: false,
-            last: NO_CALL,
-        }
-    }
-
-    fn receive(&mut self, bytes: &[u8]) -> Result<usize, ErrorKind>
-        ensures { WritesAtMost result bytes.now }
-    {
-        if self.manner.interrupts && !self.interrupted {
-            self.interrupted = true;
-            return Err(ErrorKind::Interrupted);
-        }
-        self.interrupted = false;
-        let count = min(self.manner.step, min(self.room, bytes.len()));
-        if let (0, Some(kind)) = (count, self.manner.behind) {
-            return Err(kind);
-        }
-        if self.taken.extend_from_slice(&bytes[..count]).is_err() {
-            return Err(ErrorKind::OutOfMemory);
-        }
-        self.room -= count;
-        Ok(count)
-    }
-
-    /// Is flushed, and moves nothing.
-    fn let_go(&mut self) -> Result<usize, ErrorKind>
-        ensures { OnOk result (result ≡ Ok 0) }
-    {
-        if self.manner.interrupts && !self.interrupted {
-            self.interrupted = true;
-            return Err(ErrorKind::Interrupted);
-        }
-        self.interrupted = false;
-        if self.flushes == 0 {
-            return Err(ErrorKind::StorageFull);
-        }
-        self.flushes -= 1;
-        Ok(0)
-    }
-}
-
-impl Sink for Receiver {
-    ghost last = { λ r. Some (answered_kind r.last) };
-
-    fn write(&mut self, bytes: &[u8]) -> io::Result<usize> {
-        self.last = self.receive(bytes);
-        Ok(self.last?)
-    }
-
-    fn flush(&mut self) -> io::Result<()> {
-        self.last = self.let_go();
-        self.last?;
-        Ok(())
-    }
 }
 
 /// The count with one loop more, where it can be told.

@@ -1,19 +1,20 @@
 //! Writers that gather, behind the loop that writes and alone: whole frames go out, in time, and nothing is lost.
 
-use crate::fakes::{AT_ONCE, BYTES, Lender, Manner, ROOM, Receiver};
+use crate::fakes::{BYTES, Lender};
 use std::alloc::{AllocError, Global};
 use std::cell::Cell;
 use std::io::{self, ErrorKind};
 use std::process::Abort;
 use std::sync::Wait;
 use std::test::Fail;
+use ttrpc_bench::{AT_ONCE, Manner, Receiver};
 use ttrpc_frame::Sink;
 use ttrpc_sync::{GATHER_LIMIT, Gather, Word, WritePort, write_loop};
 use ttrpc_wire::values::slices::{behind, front};
 
 type Tested = Result<(), Fail>;
 
-/// How many bytes have gone through a writer, and by how many calls.
+/// Lets all bytes through, and keeps how many they are, and by how many calls they went.
 #[derive(Drop)]
 struct Through {
     bytes: Cell<usize>,
@@ -29,18 +30,12 @@ impl Through {
     }
 }
 
-/// Lets all bytes through.
-#[derive(Drop)]
-struct Tap<'a> {
-    through: &'a Through,
-}
-
-impl Sink for Tap<'_> {
+impl Sink for &Through {
     fn write(&mut self, bytes: &[u8]) -> io::Result<usize> {
-        let before = self.through.bytes.get();
-        self.through.bytes.set(before.saturating_add(bytes.len()));
-        let calls = self.through.calls.get();
-        self.through.calls.set(calls.saturating_add(1));
+        let before = self.bytes.get();
+        self.bytes.set(before.saturating_add(bytes.len()));
+        let calls = self.calls.get();
+        self.calls.set(calls.saturating_add(1));
         Ok(bytes.len())
     }
 
@@ -61,7 +56,7 @@ fn batch_goes_out_whole<X: Wait + Abort>(
     let through = Through::none();
     let mut port = Lender::new(BYTES, lent, batch);
     port.through = Some(&through.bytes);
-    let mut writer = Gather::new(alloc, Tap { through: &through });
+    let mut writer = Gather::new(alloc, &through);
     write_loop(rt, &mut writer, &mut port);
     assert!(rt; port.word == Word::Stopped);
     assert_eq!(rt; port.early, 0);
@@ -94,7 +89,7 @@ fn keeps<W>(gather: &Gather<W>, count: usize) -> Tested {
 #[test]
 fn a_frame_of_the_greatest_length_is_kept_whole(rt: HostRuntime) -> Tested {
     let through = Through::none();
-    let mut gather = Gather::new(rt.alloc(), Tap { through: &through });
+    let mut gather = Gather::new(rt.alloc(), &through);
     for _ in 0..1024 {
         assert!(rt; matches!(gather.write(&[7; 4096]), Ok(4096)));
     }
@@ -116,7 +111,7 @@ fn more_than_a_frame_goes_through_at_once(rt: HostRuntime) -> Tested {
     let through = Through::none();
     let mut long = Vec::new(rt.alloc());
     long.resize(GATHER_LIMIT + 1, 7)?;
-    let mut gather = Gather::new(rt.alloc(), Tap { through: &through });
+    let mut gather = Gather::new(rt.alloc(), &through);
     assert!(rt; matches!(gather.write(b"A"), Ok(1)));
     keeps(&gather, 1)?;
     assert!(rt; matches!(gather.write(long.as_slice()), Ok(4194315)));
@@ -130,12 +125,10 @@ fn more_than_a_frame_goes_through_at_once(rt: HostRuntime) -> Tested {
 fn nothing_is_lost<X: Abort>(
     rt: &X,
     alloc: Global,
-    room: usize,
     manner: Manner,
     error: Option<ErrorKind>,
 ) -> Tested {
-    let receiver = Receiver::new(Vec::with_capacity(alloc, ROOM)?, room, manner);
-    let mut gather = Gather::new(alloc, receiver);
+    let mut gather = Gather::new(alloc, Receiver::new(alloc, manner)?);
     let first = gather.write(front(BYTES, 9));
     keeps(&gather, 9)?;
     assert!(rt; matches!(first, Ok(9)));
@@ -144,8 +137,8 @@ fn nothing_is_lost<X: Abort>(
     assert!(rt; matches!(second, Ok(11)));
     assert!(rt; flush_again(&mut gather) == error);
     let taken = gather.writer().taken.as_slice();
-    assert_eq!(rt; taken, front(BYTES, room));
-    assert_eq!(rt; gather.kept(), behind(BYTES, room));
+    assert_eq!(rt; taken, front(BYTES, manner.room));
+    assert_eq!(rt; gather.kept(), behind(BYTES, manner.room));
     Ok(())
 }
 
@@ -168,19 +161,17 @@ fn flush_again(gather: &mut Gather<Receiver>) -> Option<ErrorKind> {
 fn what_a_failing_writer_leaves_is_kept(rt: HostRuntime) -> Tested {
     let in_threes = Manner {
         step: 3,
-        interrupts: true,
         behind: Some(ErrorKind::BrokenPipe),
+        interrupts: true,
+        interrupts_flushes: true,
+        ..AT_ONCE
     };
     for room in 0..20 {
-        nothing_is_lost(&rt, rt.alloc(), room, AT_ONCE, Some(ErrorKind::WriteZero))?;
-        nothing_is_lost(
-            &rt,
-            rt.alloc(),
-            room,
-            in_threes,
-            Some(ErrorKind::BrokenPipe),
-        )?;
+        let ending = Manner { room, ..AT_ONCE };
+        nothing_is_lost(&rt, rt.alloc(), ending, Some(ErrorKind::WriteZero))?;
+        let failing = Manner { room, ..in_threes };
+        nothing_is_lost(&rt, rt.alloc(), failing, Some(ErrorKind::BrokenPipe))?;
     }
-    nothing_is_lost(&rt, rt.alloc(), ROOM, AT_ONCE, None)?;
-    nothing_is_lost(&rt, rt.alloc(), ROOM, in_threes, None)
+    nothing_is_lost(&rt, rt.alloc(), AT_ONCE, None)?;
+    nothing_is_lost(&rt, rt.alloc(), in_threes, None)
 }

@@ -3,12 +3,13 @@ ghost use Rattle.std.specs.Prelude.{◌≡◌, ◌⊎◌, ◌++◌, [], map, tak
 ghost use Rattle.std.specs.declared.io.ErrorKind.{ErrorKind as AKind};
 ghost use Rattle.ttrpc_sync.specs.declared.ports.Word.{Word as AWord};
 
-use crate::fakes::{BYTES, Giver, Lender, ROOM, Receiver, Taker};
+use crate::fakes::{BYTES, Lender, Taker};
 use crate::workers::{Queue, Refuser, Turnstile};
 use std::io;
 use std::process::Abort;
 use std::sync::Wait;
 use std::test::Fail;
+use ttrpc_bench::{Giver, ROOM, Receiver};
 use ttrpc_frame::{Sink, write_part};
 use ttrpc_sync::{Gather, Word, read_loop, work_loop, write_loop};
 

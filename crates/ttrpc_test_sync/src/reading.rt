@@ -1,12 +1,13 @@
 //! The loop that reads, over rows of a reader, a port, and what comes of them.
 
-use crate::fakes::{AT_ONCE, BYTES, Giver, Manner, ROOM, Taker, long_bytes};
+use crate::fakes::{BYTES, Taker, long_bytes};
 use crate::known::reader_had_it;
 use std::alloc::Global;
 use std::io::ErrorKind;
 use std::process::Abort;
 use std::sync::Wait;
 use std::test::Fail;
+use ttrpc_bench::{AT_ONCE, Giver, Manner, ROOM};
 use ttrpc_sync::Word;
 use ttrpc_wire::values::slices::front;
 
@@ -173,7 +174,7 @@ fn reads_once<X: Wait + Abort>(
         "{}",
         row.name
     );
-    assert_eq!(rt; reader.rest.len(), row.left, "{}", row.name);
+    assert_eq!(rt; reader.left(), row.left, "{}", row.name);
     assert!(rt; port.word == row.word, "{}", row.name);
     Ok(())
 }

@@ -1,12 +1,13 @@
 //! The loop that writes, over rows of a port, a writer, and what comes of them.
 
-use crate::fakes::{AT_ONCE, BYTES, Lender, Manner, ROOM, Receiver, long_bytes};
+use crate::fakes::{BYTES, Lender, long_bytes};
 use crate::known::writer_had_it;
 use std::alloc::Global;
 use std::io::ErrorKind;
 use std::process::Abort;
 use std::sync::Wait;
 use std::test::Fail;
+use ttrpc_bench::{AT_ONCE, Manner, ROOM, Receiver};
 use ttrpc_sync::Word;
 use ttrpc_wire::values::slices::front;
 
@@ -22,9 +23,6 @@ struct Writing<'a> {
     batch: usize,
     taken: &'static [usize],
     manner: Manner,
-    /// How many bytes a writer takes at most, and how often it is flushed before a flush fails.
-    room: usize,
-    flushes: usize,
     /// How many were written, and how often the port was asked for more.
     written: usize,
     asked: usize,
@@ -39,8 +37,6 @@ const ALL: Writing<'static> = Writing {
     batch: ROOM,
     taken: &[4096, 1],
     manner: AT_ONCE,
-    room: ROOM,
-    flushes: ROOM,
     written: 20,
     asked: 2,
     word: Word::Stopped,
@@ -80,6 +76,7 @@ const WRITINGS: &[Writing<'static>] = &[
         taken: &[4096, 7, 1],
         manner: Manner {
             interrupts: true,
+            interrupts_flushes: true,
             ..AT_ONCE
         },
         ..IN_BATCHES
@@ -99,8 +96,7 @@ fn writes_once<X: Wait + Abort>(
         step: taken,
         ..row.manner
     };
-    let mut writer = Receiver::new(Vec::with_capacity(alloc, ROOM)?, row.room, manner);
-    writer.flushes = row.flushes;
+    let mut writer = Receiver::new(alloc, manner)?;
     writer_had_it(rt, &mut writer, &mut port);
     assert_eq!(rt;
         writer.taken.as_slice(),
@@ -153,8 +149,11 @@ fn breaks_behind<X: Wait + Abort>(
     let row = Writing {
         name: "a writer that fails",
         lent: &[9],
-        manner: Manner { behind, ..AT_ONCE },
-        room: count,
+        manner: Manner {
+            room: count,
+            behind,
+            ..AT_ONCE
+        },
         written: count,
         asked: (count / 6).saturating_add(1),
         word: Word::Broke(behind.unwrap_or(ErrorKind::WriteZero)),
@@ -178,7 +177,11 @@ fn a_failing_flush_is_a_break(rt: HostRuntime) -> Tested {
     for (flushes, written) in [(0, 0), (1, 6), (2, 12), (3, 18), (4, 20)] {
         let row = Writing {
             name: "a writer whose flush fails",
-            flushes,
+            manner: Manner {
+                flushes,
+                behind: Some(ErrorKind::StorageFull),
+                ..AT_ONCE
+            },
             written,
             asked: flushes,
             word: Word::Broke(ErrorKind::StorageFull),

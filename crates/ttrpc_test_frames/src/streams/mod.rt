@@ -1,7 +1,6 @@
 //! The tests of readers and writers of headers, frames and messages: rows of what is read, with what each reader tells
 //! of it, and rows of what is written, with the offers that are made.
 
-mod fakes;
 mod reading_tests;
 mod recorder;
 mod rows;

@@ -1,10 +1,10 @@
 //! Each row is read by each reader, from a source that gives it at once, byte by byte, or interrupted.
-use crate::streams::fakes::{AT_ONCE, Giver, Manner};
 use crate::streams::rows::{Parts, REQUEST, REQUEST_HEADER, ROWS, Reads, Row};
 use std::alloc::Global;
 use std::io::ErrorKind;
 use std::process::Abort;
 use std::test::Fail;
+use ttrpc_bench::{AT_ONCE, Giver, Manner};
 use ttrpc_frame::{GenMessage, GenMessageError, MessageHeader};
 use ttrpc_message::{Message, read_message};
 use ttrpc_proto::{Error, Request};
@@ -25,7 +25,7 @@ const MANNERS: &[Manner] = &[
 /// A long row comes in some thousand steps at least.
 fn giver_of(row: &Row, manner: Manner) -> Giver<'static> {
     let step = manner.step.max(row.zeros / 1000);
-    Giver::new(row.head, row.zeros, row.tail, Manner { step, ..manner })
+    Giver::with_zeros(row.head, row.zeros, row.tail, Manner { step, ..manner })
 }
 
 /// Whether the error is a status INVALID_ARGUMENT of this text.
@@ -164,6 +164,14 @@ fn rows_are_read_as_values(rt: HostRuntime) -> Tested {
     Ok(())
 }
 
+fn broken_behind(count: usize) -> Manner {
+    Manner {
+        room: count,
+        behind: Some(ErrorKind::ConnectionReset),
+        ..AT_ONCE
+    }
+}
+
 /// A request whose reader fails behind so many bytes.
 fn failing_behind(count: usize) -> Row {
     Row {
@@ -183,10 +191,7 @@ fn failing_behind(count: usize) -> Row {
 fn a_reader_fails_at_each_place(rt: HostRuntime) -> Tested {
     for count in 0..30 {
         let row = failing_behind(count);
-        let manner = Manner {
-            fails_behind: Some(count),
-            ..AT_ONCE
-        };
+        let manner = broken_behind(count);
         reads_parts(&rt, rt.alloc(), &row, manner)?;
         reads_message(&rt, rt.alloc(), &row, manner)?;
         reads_value(&rt, rt.alloc(), &row, manner)?;
@@ -204,30 +209,27 @@ fn a_reader_fails_in_what_is_thrown_away(rt: HostRuntime) -> Tested {
         left: 4184315,
         ..failing_behind(0)
     };
-    let manner = Manner {
-        fails_behind: Some(10000),
-        ..AT_ONCE
-    };
+    let manner = broken_behind(10000);
     reads_parts(&rt, rt.alloc(), &row, manner)?;
     reads_message(&rt, rt.alloc(), &row, manner)?;
     reads_value(&rt, rt.alloc(), &row, manner)
 }
 
 fn reads_header(rt: &impl Abort, count: usize, manner: Manner) -> Tested {
-    let mut giver = Giver::new(&REQUEST[..count.min(30)], 0, b"", manner);
+    let mut giver = Giver::new(&REQUEST[..count.min(30)], manner);
     match MessageHeader::read_from(&mut giver) {
         Ok(header) => {
             assert!(rt; header == REQUEST_HEADER && count >= 10);
             assert_eq!(rt; giver.left(), count.saturating_sub(10));
         }
         Err(error) => {
-            let kind = if manner.fails_behind.is_some() {
+            let kind = if manner.behind.is_some() {
                 ErrorKind::ConnectionReset
             } else {
                 ErrorKind::UnexpectedEof
             };
             assert!(rt; error.kind() == kind);
-            assert!(rt; count < 10 || manner.fails_behind.is_some());
+            assert!(rt; count < 10 || manner.behind.is_some());
         }
     }
     Ok(())
@@ -241,11 +243,7 @@ fn headers_are_read_alone(rt: HostRuntime) -> Tested {
         }
     }
     for behind in 0..10 {
-        let manner = Manner {
-            fails_behind: Some(behind),
-            ..AT_ONCE
-        };
-        reads_header(&rt, 30, manner)?;
+        reads_header(&rt, 30, broken_behind(behind))?;
     }
     Ok(())
 }

@@ -4,22 +4,22 @@ ghost use Rattle.std.specs.Prelude.{◌≡◌, ◌++◌, [], ◌∷◌, map, Som
 ghost use Rattle.std.specs.Option.{option_map_or};
 ghost use Rattle.ttrpc_frame.specs.Streams.{Flushed, Offered, answered_kind};
 
-use crate::streams::fakes::Taker;
 use std::alloc::Global;
 use std::io::{self, ErrorKind};
 use std::process::Abort;
+use ttrpc_bench::Receiver;
 use ttrpc_frame::Sink;
 use ttrpc_wire::Blob;
 
 /// The bytes that were offered, or none for a flush, and the answer.
 pub type Kept = (Option<Blob>, Result<usize, ErrorKind>);
 
-/// Takes bytes as a taker does. Where it finds no memory to keep a call, it ends the test.
+/// Takes bytes as a receiver does. Where it finds no memory to keep a call, it ends the test.
 #[derive(Drop)]
 pub struct Recorder<'a, X> {
     pub rt: &'a X,
     pub alloc: Global,
-    pub taker: Taker,
+    pub receiver: Receiver,
     pub kept: Vec<Kept>,
 }
 
@@ -37,7 +37,7 @@ impl<X: Abort> Sink for Recorder<'_, X> {
 
     #[tactic(auto, using(std::proofs::lemmas::Grind::common_steps))]
     fn write(&mut self, bytes: &[u8]) -> io::Result<usize> {
-        let answer = self.taker.take(bytes);
+        let answer = self.receiver.take(bytes);
         let offered = Blob::from_slice(self.alloc, bytes).expect(self.rt, "room for bytes");
         self.keep((Some(offered), answer));
         Ok(answer?)

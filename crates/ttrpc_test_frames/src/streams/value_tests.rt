@@ -1,8 +1,8 @@
 //! Values that become messages, and messages that become values.
-use crate::streams::fakes::{AT_ONCE, Giver};
 use crate::streams::rows::{REQUEST, REQUEST_HEADER, REQUEST_PAYLOAD};
 use std::alloc::Global;
 use std::test::Fail;
+use ttrpc_bench::{AT_ONCE, Giver};
 use ttrpc_frame::{GenMessage, MessageHeader};
 use ttrpc_message::{Message, read_message};
 use ttrpc_proto::{Error, Request};
@@ -22,8 +22,8 @@ fn is_others(answer: &ttrpc_proto::Result<Message<Request>>, told: &str) -> Resu
 #[test]
 fn a_request_goes_round(rt: HostRuntime) -> Tested {
     let alloc = rt.alloc();
-    let (header, payload) = read_message(alloc, &mut Giver::new(REQUEST, 0, b"", AT_ONCE))?;
-    let message = Message::<Request>::read_from(alloc, &mut Giver::new(REQUEST, 0, b"", AT_ONCE))?;
+    let (header, payload) = read_message(alloc, &mut Giver::new(REQUEST, AT_ONCE))?;
+    let message = Message::<Request>::read_from(alloc, &mut Giver::new(REQUEST, AT_ONCE))?;
     assert!(rt; header == REQUEST_HEADER && message.header == REQUEST_HEADER);
     assert_eq!(rt; payload?.as_slice(), REQUEST_PAYLOAD);
     assert_eq!(rt; message.payload.service.as_str(), "demo.Echo");
@@ -38,7 +38,7 @@ fn a_request_goes_round(rt: HostRuntime) -> Tested {
 #[test]
 fn a_request_has_its_length(rt: HostRuntime) -> Tested {
     let alloc = rt.alloc();
-    let message = Message::<Request>::read_from(alloc, &mut Giver::new(REQUEST, 0, b"", AT_ONCE))?;
+    let message = Message::<Request>::read_from(alloc, &mut Giver::new(REQUEST, AT_ONCE))?;
     let request = Message::new_request(alloc, 7, message.payload)?;
     assert!(rt; request.header == MessageHeader::new_request(7, 20));
     Ok(())
@@ -85,7 +85,7 @@ fn a_payload_means_nothing(rt: HostRuntime) -> Tested {
 #[test]
 fn a_greatest_message_is_read(rt: HostRuntime) -> Tested {
     let head = b"\0\x40\0\0\0\0\0\x05\x01\0";
-    let mut giver = Giver::new(head, 4194304, b"\x01", AT_ONCE);
+    let mut giver = Giver::with_zeros(head, 4194304, b"\x01", AT_ONCE);
     let (header, payload) = read_message(rt.alloc(), &mut giver)?;
     assert_eq!(rt; header.length, 4194304);
     assert_eq!(rt; payload?.len(), 4194304);

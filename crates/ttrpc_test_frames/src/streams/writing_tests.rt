@@ -1,23 +1,17 @@
 //! Each writer writes messages to a sink that takes them at once, byte by byte, interrupted, or not whole.
-use crate::streams::fakes::{AT_ONCE, End, Manner, Taker};
 use crate::streams::recorder::{Kept, Recorder};
 use crate::streams::rows::{REQUEST, REQUEST_HEADER, REQUEST_PAYLOAD};
 use std::alloc::Global;
 use std::io::ErrorKind;
 use std::process::Abort;
 use std::test::Fail;
+use ttrpc_bench::{AT_ONCE, Manner, Receiver};
 use ttrpc_frame::{GenMessage, MessageHeader};
 use ttrpc_message::{Message, write_message};
 use ttrpc_proto::{Error, Request, Result as Answer};
 use ttrpc_wire::Blob;
 
 type Tested = Result<(), Fail>;
-
-fn taker(alloc: Global, manner: Manner, end: End) -> Result<Taker, Fail> {
-    let taken = Vec::with_capacity(alloc, 5000)?;
-    let offers = Vec::with_capacity(alloc, 10000)?;
-    Ok(Taker::new(taken, offers, manner, end))
-}
 
 /// The three writers of messages, and whether each flushes.
 #[derive(Clone, Copy, PartialEq, Eq)]
@@ -30,7 +24,7 @@ enum Writer {
 const WRITERS: &[Writer] = &[Writer::Parts, Writer::Message, Writer::Value];
 
 /// The request, written by one of them.
-fn write_by(alloc: Global, writer: Writer, taker: &mut Taker) -> Result<Answer<()>, Fail> {
+fn write_by(alloc: Global, writer: Writer, receiver: &mut Receiver) -> Result<Answer<()>, Fail> {
     let message = GenMessage {
         header: REQUEST_HEADER,
         payload: Blob::from_slice(alloc, REQUEST_PAYLOAD)?,
@@ -38,10 +32,16 @@ fn write_by(alloc: Global, writer: Writer, taker: &mut Taker) -> Result<Answer<(
     Ok(match writer {
         Writer::Parts => {
             let mut prefix = Vec::new(alloc);
-            write_message(alloc, taker, REQUEST_HEADER, REQUEST_PAYLOAD, &mut prefix)
+            write_message(
+                alloc,
+                receiver,
+                REQUEST_HEADER,
+                REQUEST_PAYLOAD,
+                &mut prefix,
+            )
         }
-        Writer::Message => message.write_to(alloc, taker),
-        Writer::Value => Message::<Request>::from_gen(alloc, message)?.write_to(alloc, taker),
+        Writer::Message => message.write_to(alloc, receiver),
+        Writer::Value => Message::<Request>::from_gen(alloc, message)?.write_to(alloc, receiver),
     })
 }
 
@@ -57,11 +57,11 @@ const MANNERS: &[Manner] = &[
 ];
 
 fn writes_whole(rt: &impl Abort, alloc: Global, writer: Writer, manner: Manner) -> Tested {
-    let mut taker = taker(alloc, manner, End::Never)?;
-    write_by(alloc, writer, &mut taker)??;
-    assert_eq!(rt; taker.taken.as_slice(), REQUEST);
+    let mut receiver = Receiver::new(alloc, manner)?;
+    write_by(alloc, writer, &mut receiver)??;
+    assert_eq!(rt; receiver.taken.as_slice(), REQUEST);
     let flushes = if writer == Writer::Parts { 0 } else { 1 };
-    assert_eq!(rt; taker.flushes, flushes);
+    assert_eq!(rt; receiver.flushes, flushes);
     Ok(())
 }
 
@@ -76,15 +76,22 @@ fn a_request_is_written(rt: HostRuntime) -> Tested {
 }
 
 /// After so many bytes the writer fails or takes nothing: those went out, and nothing behind them.
-fn breaks_behind(rt: &impl Abort, alloc: Global, writer: Writer, count: usize, end: End) -> Tested {
+fn breaks_behind(
+    rt: &impl Abort,
+    alloc: Global,
+    writer: Writer,
+    count: usize,
+    behind: Option<ErrorKind>,
+) -> Tested {
     let manner = Manner {
-        fails_behind: Some(count),
+        room: count,
+        behind,
         ..AT_ONCE
     };
-    let mut taker = taker(alloc, manner, end)?;
-    match write_by(alloc, writer, &mut taker)? {
+    let mut receiver = Receiver::new(alloc, manner)?;
+    match write_by(alloc, writer, &mut receiver)? {
         Err(Error::Socket(text)) => {
-            if writer == Writer::Parts && end == End::TakesNothing {
+            if writer == Writer::Parts && behind.is_none() {
                 let told = "failed to write ttrpc frame: write zero";
                 assert_eq!(rt; text.as_str(), told);
             }
@@ -92,8 +99,8 @@ fn breaks_behind(rt: &impl Abort, alloc: Global, writer: Writer, count: usize, e
         Err(error) => return Err(error.into()),
         Ok(()) => assert!(rt; false, "written behind an error"),
     }
-    assert_eq!(rt; taker.taken.as_slice(), &REQUEST[..count.min(30)]);
-    assert_eq!(rt; taker.flushes, 0);
+    assert_eq!(rt; receiver.taken.as_slice(), &REQUEST[..count.min(30)]);
+    assert_eq!(rt; receiver.flushes, 0);
     Ok(())
 }
 
@@ -101,23 +108,30 @@ fn breaks_behind(rt: &impl Abort, alloc: Global, writer: Writer, count: usize, e
 fn a_writer_breaks_at_each_place(rt: HostRuntime) -> Tested {
     for writer in WRITERS {
         for count in 0..30 {
-            breaks_behind(&rt, rt.alloc(), *writer, count, End::Fails)?;
-            breaks_behind(&rt, rt.alloc(), *writer, count, End::TakesNothing)?;
+            breaks_behind(&rt, rt.alloc(), *writer, count, Some(ErrorKind::BrokenPipe))?;
+            breaks_behind(&rt, rt.alloc(), *writer, count, None)?;
         }
     }
     Ok(())
 }
 
+/// Each flush fails.
+const UNFLUSHED: Manner = Manner {
+    flushes: 0,
+    behind: Some(ErrorKind::BrokenPipe),
+    ..AT_ONCE
+};
+
 #[test]
 fn a_failed_flush_is_an_error(rt: HostRuntime) -> Tested {
     for writer in WRITERS {
-        let mut taker = taker(rt.alloc(), AT_ONCE, End::FlushFails)?;
-        let answer = write_by(rt.alloc(), *writer, &mut taker)?;
+        let mut receiver = Receiver::new(rt.alloc(), UNFLUSHED)?;
+        let answer = write_by(rt.alloc(), *writer, &mut receiver)?;
         if let Err(Error::NoMemory) = answer {
             return Err(Error::NoMemory.into());
         }
         assert!(rt; answer.is_err() == (*writer != Writer::Parts));
-        assert_eq!(rt; taker.taken.as_slice(), REQUEST);
+        assert_eq!(rt; receiver.taken.as_slice(), REQUEST);
     }
     Ok(())
 }
@@ -127,11 +141,17 @@ fn is_offered(rt: &impl Abort, alloc: Global, count: usize, offers: &[usize]) ->
     let mut payload = Vec::new(alloc);
     payload.resize(count, 7)?;
     let mut prefix = Vec::new(alloc);
-    let mut taker = taker(alloc, AT_ONCE, End::Never)?;
+    let mut receiver = Receiver::new(alloc, AT_ONCE)?;
     let header = MessageHeader::new_data(3, 0);
-    write_message(alloc, &mut taker, header, payload.as_slice(), &mut prefix)?;
-    assert_eq!(rt; taker.offers.as_slice(), offers, "{count} bytes");
-    assert_eq!(rt; taker.taken.len(), count.saturating_add(10));
+    write_message(
+        alloc,
+        &mut receiver,
+        header,
+        payload.as_slice(),
+        &mut prefix,
+    )?;
+    assert_eq!(rt; receiver.offers.as_slice(), offers, "{count} bytes");
+    assert_eq!(rt; receiver.taken.len(), count.saturating_add(10));
     Ok(())
 }
 
@@ -166,7 +186,7 @@ fn a_flush_comes_last(rt: HostRuntime) -> Tested {
     let mut recorder = Recorder {
         rt: &rt,
         alloc,
-        taker: taker(alloc, AT_ONCE, End::Never)?,
+        receiver: Receiver::new(alloc, AT_ONCE)?,
         kept: Vec::new(alloc),
     };
     message.write_to(alloc, &mut recorder)?;
@@ -176,11 +196,11 @@ fn a_flush_comes_last(rt: HostRuntime) -> Tested {
 }
 
 fn writes_header(rt: &impl Abort, alloc: Global, manner: Manner) -> Tested {
-    let mut taker = taker(alloc, manner, End::Never)?;
-    REQUEST_HEADER.write_to(&mut taker)?;
-    assert_eq!(rt; taker.taken.as_slice(), &REQUEST[..10]);
-    assert_eq!(rt; taker.offers.as_slice().first().copied(), Some(10));
-    assert_eq!(rt; taker.flushes, 1);
+    let mut receiver = Receiver::new(alloc, manner)?;
+    REQUEST_HEADER.write_to(&mut receiver)?;
+    assert_eq!(rt; receiver.taken.as_slice(), &REQUEST[..10]);
+    assert_eq!(rt; receiver.offers.as_slice().first().copied(), Some(10));
+    assert_eq!(rt; receiver.flushes, 1);
     Ok(())
 }
 
@@ -189,7 +209,7 @@ fn a_header_is_written_alone(rt: HostRuntime) -> Tested {
     for manner in MANNERS {
         writes_header(&rt, rt.alloc(), *manner)?;
     }
-    let mut failing = taker(rt.alloc(), AT_ONCE, End::FlushFails)?;
+    let mut failing = Receiver::new(rt.alloc(), UNFLUSHED)?;
     match REQUEST_HEADER.write_to(&mut failing) {
         Err(error) => assert!(rt; error.kind() == ErrorKind::BrokenPipe),
         Ok(()) => assert!(rt; false, "a failed flush"),

@@ -1,16 +1,22 @@
 //! Readers and writers that fail at each place, move one byte a call or are interrupted.
-use crate::echo::fakes::{Sink, Source};
 use crate::echo::runs::{ROOM, Sockets, Tester, run_words, words_of};
 use crate::echo::vectors::*;
 use std::alloc::Global;
 use std::io::ErrorKind;
 use std::process::Abort;
 use std::test::Fail;
+use ttrpc_bench::{AT_ONCE, Manner, StdReader, StdWriter};
 use ttrpc_echo::{answer, run};
 use ttrpc_proto::Error;
 use ttrpc_wire::values::slices::front;
 
 type Tested = Result<(), Fail>;
+
+/// Behind its bytes a reader fails.
+const BROKEN: Manner = Manner {
+    behind: Some(ErrorKind::ConnectionReset),
+    ..AT_ONCE
+};
 
 /// How many bytes answer the frames that are whole with the first `count` bytes of `MIXED`.
 fn answered_with(count: usize) -> usize {
@@ -38,7 +44,8 @@ fn is_of_kind(rt: &impl Abort, ended: Result<(), Error>, expected: ErrorKind) ->
 /// After `count` bytes the reader fails: what they ask for is answered.
 fn reading_fails_at(rt: &impl Abort, alloc: Global, count: usize, step: usize) -> Tested {
     let mut output = Vec::with_capacity(alloc, ROOM)?;
-    let mut input = Source::failing(front(MIXED, count), step, ErrorKind::ConnectionReset);
+    let manner = Manner { step, ..BROKEN };
+    let mut input = StdReader::new(front(MIXED, count), manner);
     let ended = answer(alloc, &mut input, &mut output);
     is_of_kind(rt, ended, ErrorKind::ConnectionReset)?;
     assert!(rt;
@@ -65,11 +72,17 @@ fn writing_fails_at(
     step: usize,
     behind: Option<ErrorKind>,
 ) -> Tested {
-    let mut output = Sink::failing(Vec::with_capacity(alloc, ROOM)?, step, count, behind);
-    let ended = answer(alloc, &mut Source::new(MIXED, 4096), &mut output);
+    let manner = Manner {
+        step,
+        room: count,
+        behind,
+        ..AT_ONCE
+    };
+    let mut output = StdWriter::new(alloc, manner)?;
+    let ended = answer(alloc, &mut StdReader::new(MIXED, AT_ONCE), &mut output);
     is_of_kind(rt, ended, behind.unwrap_or(ErrorKind::WriteZero))?;
     assert!(rt;
-        output.taken.as_slice() == front(MIXED_ANSWERS, count),
+        output.receiver.taken.as_slice() == front(MIXED_ANSWERS, count),
         "at {count}"
     );
     Ok(())
@@ -91,8 +104,13 @@ fn telling_fails_at<S: Tester + 'static>(rt: &S, count: usize) -> Tested {
     let alloc = rt.alloc();
     let words = words_of(alloc, &["loop", "2a"])?;
     let mut errors = Vec::with_capacity(alloc, ROOM)?;
-    let taken = Vec::with_capacity(alloc, ROOM)?;
-    let mut output = Sink::failing(taken, 1, count, Some(ErrorKind::BrokenPipe));
+    let manner = Manner {
+        step: 1,
+        room: count,
+        behind: Some(ErrorKind::BrokenPipe),
+        ..AT_ONCE
+    };
+    let mut output = StdWriter::new(alloc, manner)?;
     let mut input = ASKED;
     let status = run(
         rt.clone()?,
@@ -107,7 +125,7 @@ fn telling_fails_at<S: Tester + 'static>(rt: &S, count: usize) -> Tested {
     }
     assert_eq!(rt; status, 1);
     assert!(rt;
-        output.taken.as_slice() == front(LOOPED, count),
+        output.receiver.taken.as_slice() == front(LOOPED, count),
         "at {count}"
     );
     assert!(rt; errors.as_slice().starts_with(b"ttrpc-demo: Nix error: "));
@@ -127,7 +145,7 @@ fn a_failing_writer_ends_a_call(rt: HostRuntime) -> Tested {
 fn a_failing_reader_ends_the_program_with_its_kind(rt: HostRuntime) -> Tested {
     let _sockets: Sockets = None;
     let words = words_of(rt.alloc(), &["answer"])?;
-    let mut input = Source::failing(ASKED, 4096, ErrorKind::ConnectionReset);
+    let mut input = StdReader::new(ASKED, BROKEN);
     let ran = run_words(&rt, words.as_slice(), &mut input, ROOM)?;
     assert_eq!(rt; ran.status, 1);
     assert!(rt; ran.output.as_slice() == ECHOED);
@@ -139,18 +157,35 @@ fn a_failing_reader_ends_the_program_with_its_kind(rt: HostRuntime) -> Tested {
 
 #[test]
 fn a_writer_may_take_one_byte_a_call(rt: HostRuntime) -> Tested {
-    let mut output = Sink::new(Vec::with_capacity(rt.alloc(), ROOM)?, 1);
-    answer(rt.alloc(), &mut Source::new(MIXED, 1), &mut output)?;
-    assert!(rt; output.taken.as_slice() == MIXED_ANSWERS);
-    assert_eq!(rt; output.flushed, 65);
+    let bytewise = Manner { step: 1, ..AT_ONCE };
+    let mut output = StdWriter::new(rt.alloc(), bytewise)?;
+    answer(
+        rt.alloc(),
+        &mut StdReader::new(MIXED, bytewise),
+        &mut output,
+    )?;
+    assert!(rt; output.receiver.taken.as_slice() == MIXED_ANSWERS);
+    assert_eq!(rt; output.receiver.flushed, 65);
     Ok(())
 }
 
 #[test]
 fn interruptions_lose_nothing(rt: HostRuntime) -> Tested {
-    let mut output = Sink::interrupted(Vec::with_capacity(rt.alloc(), ROOM)?, 7);
-    let mut input = Source::interrupted(MIXED, 11);
+    let interrupted = Manner {
+        interrupts: true,
+        ..AT_ONCE
+    };
+    let in_sevens = Manner {
+        step: 7,
+        ..interrupted
+    };
+    let in_elevens = Manner {
+        step: 11,
+        ..interrupted
+    };
+    let mut output = StdWriter::new(rt.alloc(), in_sevens)?;
+    let mut input = StdReader::new(MIXED, in_elevens);
     answer(rt.alloc(), &mut input, &mut output)?;
-    assert!(rt; output.taken.as_slice() == MIXED_ANSWERS);
+    assert!(rt; output.receiver.taken.as_slice() == MIXED_ANSWERS);
     Ok(())
 }

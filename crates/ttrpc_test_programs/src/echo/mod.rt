@@ -2,7 +2,6 @@
 //! and readers and writers that fail at each place.
 
 mod call_tests;
-mod fakes;
 mod faults_tests;
 mod runs;
 mod runs_tests;

@@ -1,10 +1,10 @@
 //! Runs of the program: its words and its input, and then its status, its output and what it tells of errors.
-use crate::echo::fakes::Source;
 use crate::echo::runs::{ROOM, Ran, Sockets, Tester, run_words, words_of};
 use crate::echo::vectors::*;
 use std::alloc::Global;
 use std::process::Abort;
 use std::test::Fail;
+use ttrpc_bench::{AT_ONCE, Manner, StdReader};
 use ttrpc_echo::System;
 use ttrpc_wire::values::slices::front;
 
@@ -177,7 +177,8 @@ fn runs_at_once<S: Tester + 'static>(rt: &S, row: &Run) -> Tested {
 fn runs_by_bytes<S: Tester + 'static>(rt: &S, row: &Run) -> Tested {
     let (words, bytes, _, _, _, _) = row;
     let given = words_of(rt.alloc(), words)?;
-    let ran = run_words(rt, given.as_slice(), &mut Source::new(bytes, 1), ROOM)?;
+    let mut input = StdReader::new(bytes, Manner { step: 1, ..AT_ONCE });
+    let ran = run_words(rt, given.as_slice(), &mut input, ROOM)?;
     left(rt, &ran, row)
 }
 
@@ -197,7 +198,11 @@ fn a_frame_that_is_too_long_is_answered_behind_it(rt: HostRuntime) -> Tested {
     let mut frame = Vec::from_slice(rt.alloc(), OVERSIZED)?;
     frame.resize(10 + 4194305, 0)?;
     let words = words_of(rt.alloc(), &["answer"])?;
-    let mut input = Source::new(frame.as_slice(), 4096);
+    let in_pages = Manner {
+        step: 4096,
+        ..AT_ONCE
+    };
+    let mut input = StdReader::new(frame.as_slice(), in_pages);
     let ran = run_words(&rt, words.as_slice(), &mut input, ROOM)?;
     assert_eq!(rt; ran.status, 0);
     assert!(rt; ran.output.as_slice() == OVERSIZED_ANSWER);

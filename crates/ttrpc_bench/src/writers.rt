@@ -1,0 +1,118 @@
+//! A writer that moves few bytes a call, that can be interrupted, fail or take no more at each place, and that tells what
+//! its last call answered.
+ghost use Rattle.std.specs.Prelude.{◌≡◌, [], IfOk, Ok, OnOk, Some};
+ghost use Rattle.std.specs.Io.{WritesAtMost};
+ghost use Rattle.std.specs.Io.KnownBytes.{WriteAppends};
+ghost use Rattle.ttrpc_frame.specs.Streams.{answered_kind};
+
+use crate::manners::{Manner, NO_CALL, interrupt};
+use std::alloc::{AllocError, Global};
+use std::io::{self, ErrorKind, Write};
+use ttrpc_frame::Sink;
+
+/// How many bytes and offers a writer has memory for from the start.
+pub const ROOM: usize = 10000;
+
+/// Takes bytes, and keeps how many it was offered at each call.
+#[derive(Drop)]
+pub struct Receiver {
+    pub taken: Vec<u8>,
+    pub offers: Vec<usize>,
+    /// How often it was flushed, and how many bytes it had taken then.
+    pub flushes: usize,
+    pub flushed: usize,
+    manner: Manner,
+    interrupted: bool,
+    /// What the last call answered.
+    pub last: Result<usize, ErrorKind>,
+}
+
+impl Receiver {
+    /// One that has taken nothing.
+    pub fn new(alloc: Global, manner: Manner) -> Result<Receiver, AllocError>
+        ensures { IfOk result (λ r. r.taken.items ≡ []) }
+    {
+        Ok(Receiver {
+            taken: Vec::with_capacity(alloc, ROOM)?,
+            offers: Vec::with_capacity(alloc, ROOM)?,
+            flushes: 0,
+            flushed: 0,
+            manner,
+            interrupted: false,
+            last: NO_CALL,
+        })
+    }
+
+    /// Takes some of the bytes, and says how many.
+    pub fn take(&mut self, bytes: &[u8]) -> Result<usize, ErrorKind>
+        ensures bound { WritesAtMost result bytes.now }
+        ensures bytes { WriteAppends (Some self.old.taken.items) (Some self.new.taken.items) result bytes.now }
+    {
+        if self.offers.push(bytes.len()).is_err() {
+            return Err(ErrorKind::OutOfMemory);
+        }
+        interrupt(self.manner.interrupts, &mut self.interrupted)?;
+        let count = self.manner.count(self.taken.len(), bytes.len())?;
+        if self.taken.extend_from_slice(&bytes[..count]).is_err() {
+            return Err(ErrorKind::OutOfMemory);
+        }
+        Ok(count)
+    }
+
+    /// Is flushed, and moves nothing.
+    fn let_go(&mut self) -> Result<usize, ErrorKind>
+        ensures moved { OnOk result (result ≡ Ok 0) }
+        ensures bytes { self.new.taken ≡ self.old.taken }
+    {
+        interrupt(self.manner.interrupts_flushes, &mut self.interrupted)?;
+        match self.manner.behind {
+            Some(kind) if self.flushes >= self.manner.flushes => Err(kind),
+            _ => {
+                self.flushes = self.flushes.saturating_add(1);
+                self.flushed = self.taken.len();
+                Ok(0)
+            }
+        }
+    }
+}
+
+impl Sink for Receiver {
+    ghost contents = { λ r. Some r.taken.items };
+
+    ghost last = { λ r. Some (answered_kind r.last) };
+
+    fn write(&mut self, bytes: &[u8]) -> io::Result<usize> {
+        self.last = self.take(bytes);
+        Ok(self.last?)
+    }
+
+    fn flush(&mut self) -> io::Result<()> {
+        self.last = self.let_go();
+        self.last?;
+        Ok(())
+    }
+}
+
+/// The same as a writer of std.
+#[derive(Drop)]
+pub struct StdWriter {
+    pub receiver: Receiver,
+}
+
+impl StdWriter {
+    /// One that has taken nothing.
+    pub fn new(alloc: Global, manner: Manner) -> Result<StdWriter, AllocError> {
+        let receiver = Receiver::new(alloc, manner)?;
+        Ok(StdWriter { receiver })
+    }
+}
+
+impl Write for StdWriter {
+    fn write(&mut self, bytes: &[u8]) -> io::Result<usize> {
+        Sink::write(&mut self.receiver, bytes)
+    }
+
+    fn flush(&mut self) -> io::Result<()> {
+        Sink::flush(&mut self.receiver)
+    }
+}
