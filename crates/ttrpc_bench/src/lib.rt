@@ -1,13 +1,15 @@
-//! Benches nothing by itself: halves with no cipher, readers and writers, for programs that try out and measure a connection,
-//! and for tests.
+//! Benches nothing by itself: halves with no cipher, hooks, readers and writers, for programs that try out and measure a
+//! connection, and for tests.
 #![tactic(auto)]
 
+mod hooks;
 mod manners;
 mod odd_halves;
 mod readers;
 mod stamp;
 mod writers;
 
+pub use hooks::{Rejects, Stamps, knowing, no_memory, rejected};
 pub use manners::{AT_ONCE, Manner, NO_CALL};
 pub use odd_halves::{Sealed, Swelling};
 pub use readers::{Giver, StdReader};

@@ -1,47 +1,21 @@
 //! A connection whose other side has said something, and hooks that listen to it.
-ghost use Rattle.std.specs.Io.{ReadsAtMost};
-
-use std::alloc::{AllocError, Global};
-use std::collections::BTreeMap;
-use std::io::{self, ErrorKind, Read};
-use ttrpc_bench::{StampIn, StampOut};
+use std::alloc::Global;
+use std::io;
+use ttrpc_bench::{Giver, Manner, StampIn, StampOut, knowing, no_memory, rejected};
+use ttrpc_frame::Source;
 use ttrpc_secure::{AcceptHook, ConnectHook, Datum, HookError, HookOutput, Plain};
 use ttrpc_wire::Text;
 
-/// A connection whose other side has said this, or that can't be read.
+/// A connection whose other side has said this, and how it is read.
 #[derive(Drop)]
-pub enum Line {
-    Says(&'static [u8]),
-    Fails(ErrorKind),
-}
-
-impl Read for &Line {
-    fn read(&mut self, buffer: &mut [u8]) -> io::Result<usize> {
-        match *self {
-            Line::Says(words) => {
-                let mut rest = *words;
-                rest.read(buffer)
-            }
-            Line::Fails(kind) => Err(io::Error::from(*kind)),
-        }
-    }
-}
-
-fn refused(_refused: AllocError) -> HookError {
-    HookError::Io(io::Error::from(ErrorKind::OutOfMemory))
-}
+pub struct Line(pub &'static [u8], pub Manner);
 
 /// What the other side says first, at most 8 bytes of it.
 fn heard(alloc: Global, line: &Line) -> Result<Vec<u8>, HookError> {
     let mut buffer = [0; 8];
-    let mut reader = line;
-    match reader.read(&mut buffer) {
-        Ok(count) => match Vec::from_slice(alloc, &buffer[..count]) {
-            Ok(words) => Ok(words),
-            Err(error) => Err(refused(error)),
-        },
-        Err(error) => Err(HookError::Io(error)),
-    }
+    let mut giver = Giver::new(line.0, line.1);
+    let count = giver.read(&mut buffer).map_err(HookError::Io)?;
+    Vec::from_slice(alloc, &buffer[..count]).map_err(no_memory)
 }
 
 /// Lets a connection pass on which something is said, knows it as `said`, and leaves data as it is.
@@ -60,27 +34,17 @@ impl AcceptHook<Line> for Listens {
     ) -> Result<HookOutput<Plain, Plain>, HookError> {
         let said = heard(alloc, stream)?;
         if said.is_empty() {
-            let reason = Text::from_str(alloc, "nothing said").map_err(refused)?;
-            return Err(HookError::Rejected(reason));
+            return Err(rejected(alloc, "nothing said"));
         }
-        let name = String::from_str(alloc, "said").map_err(refused)?;
-        let mut connection_data = BTreeMap::new(alloc);
-        if connection_data.insert(name, Datum::Bytes(said)).is_err() {
-            return Err(refused(AllocError));
-        }
-        Ok(HookOutput {
-            connection_data,
-            outbound: Plain {},
-            inbound: Plain {},
-        })
+        knowing(alloc, "said", Datum::Bytes(said), Plain {}, Plain {})
     }
 }
 
 /// Stamps what goes through a connection on which the other side wants that.
 #[derive(Drop)]
-pub struct Stamps {}
+pub struct Agrees {}
 
-impl ConnectHook<Line> for Stamps {
+impl ConnectHook<Line> for Agrees {
     type Outbound = StampOut;
 
     type Inbound = StampIn;
@@ -93,6 +57,6 @@ impl ConnectHook<Line> for Stamps {
         if heard(alloc, stream)?.as_slice() == b"stamp".as_slice() {
             return Ok(HookOutput::of_halves(alloc, StampOut::new(), StampIn::new()));
         }
-        Err(HookError::Other(Text::from_str(alloc, "no stamps").map_err(refused)?))
+        Err(HookError::Other(Text::from_str(alloc, "no stamps").map_err(no_memory)?))
     }
 }

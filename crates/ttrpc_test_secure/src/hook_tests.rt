@@ -1,9 +1,10 @@
 //! Hooks that are run, and the limit of their time.
-use crate::fakes::{Line, Listens, Stamps};
+use crate::fakes::{Agrees, Line, Listens};
 use std::alloc::{AllocError, Global};
 use std::io::ErrorKind;
 use std::process::Abort;
 use std::test::Fail;
+use ttrpc_bench::{AT_ONCE, Manner};
 use ttrpc_secure::{
     ACCEPT_HOOK_TIMEOUT, AcceptHook, ConnectHook, ConnectionDataExt, HookError, HookOutput,
     InboundTransform, OutboundTransform, Plain, hook_result,
@@ -88,18 +89,28 @@ fn prints(rt: &impl Abort, alloc: Global, error: HookError, expected: &str) -> T
     Ok(())
 }
 
+/// It fails behind its bytes.
+const BROKEN: Manner = Manner {
+    behind: Some(ErrorKind::ConnectionReset),
+    ..AT_ONCE
+};
+
 /// What is heard from connections and when a hook that listens ends, and what is known then or what is printed.
 const ACCEPTED: &[(Line, u64, Result<&[u8], &str>)] = &[
-    (Line::Says(b"peer"), 1, Ok(b"peer")),
-    (Line::Says(b"a long speech"), 1, Ok(b"a long s")),
-    (Line::Says(b""), 1, Err("connection rejected: nothing said")),
+    (Line(b"peer", AT_ONCE), 1, Ok(b"peer")),
+    (Line(b"a long speech", AT_ONCE), 1, Ok(b"a long s")),
     (
-        Line::Fails(ErrorKind::ConnectionReset),
+        Line(b"", AT_ONCE),
         1,
-        Err("I/O error: connection reset"),
+        Err("connection rejected: nothing said"),
     ),
-    (Line::Says(b"peer"), 30000000000, Err("handshake timeout")),
-    (Line::Says(b""), 30000000000, Err("handshake timeout")),
+    (Line(b"", BROKEN), 1, Err("I/O error: connection reset")),
+    (
+        Line(b"peer", AT_ONCE),
+        30000000000,
+        Err("handshake timeout"),
+    ),
+    (Line(b"", AT_ONCE), 30000000000, Err("handshake timeout")),
 ];
 
 #[test]
@@ -131,7 +142,7 @@ fn connected<S, H: ConnectHook<S>>(
 #[test]
 fn a_client_agrees_on_stamps(rt: HostRuntime) -> Tested {
     let alloc = rt.alloc();
-    match connected(alloc, &Stamps {}, &Line::Says(b"stamp")) {
+    match connected(alloc, &Agrees {}, &Line(b"stamp", AT_ONCE)) {
         Ok(mut output) => {
             assert!(rt; output.connection_data.is_empty());
             let sealed = output.outbound.transform_outbound(alloc, b"ab", b"")?;
@@ -141,7 +152,7 @@ fn a_client_agrees_on_stamps(rt: HostRuntime) -> Tested {
         }
         Err(error) => prints(&rt, alloc, error, "memory was refused")?,
     }
-    match connected(alloc, &Stamps {}, &Line::Says(b"plain")) {
+    match connected(alloc, &Agrees {}, &Line(b"plain", AT_ONCE)) {
         Ok(_) => assert!(rt; false),
         Err(error) => prints(&rt, alloc, error, "no stamps")?,
     }

@@ -1,11 +1,12 @@
 //! Hooks of servers and clients, and connections that aren't accepted at once.
-use crate::fakes::{Failing, Moments, Rejects, Stamps};
+use crate::fakes::{Failing, Moments};
 use crate::sites::{Tested, answers, call, client, connection, hooked, is_told};
 use std::io::ErrorKind;
 use std::process::Abort;
 use std::sync::atomic::AtomicU64;
 use std::thread;
 use std::time::{Clock, Duration, Instant};
+use ttrpc_bench::{Rejects, Stamps};
 use ttrpc_secure::{ConnectionDataExt, HookError};
 use ttrpc_sync_client::Client;
 use ttrpc_sync_server::NoHook;

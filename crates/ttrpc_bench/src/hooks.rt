@@ -1,0 +1,101 @@
+//! Hooks of either side, over any stream, and what others are made of.
+use crate::stamp::{StampIn, StampOut};
+use std::alloc::Global;
+use std::io::{self, ErrorKind};
+use ttrpc_secure::{AcceptHook, ConnectHook, Datum, HookError, HookOutput};
+use ttrpc_wire::Text;
+
+type Stamped = Result<HookOutput<StampOut, StampIn>, HookError>;
+
+/// What a hook tells that was refused memory.
+pub fn no_memory<E: Drop>(_refused: E) -> HookError {
+    HookError::Io(io::Error::from(ErrorKind::OutOfMemory))
+}
+
+/// What a hook tells that refuses a connection for this reason.
+pub fn rejected(alloc: Global, reason: &str) -> HookError {
+    match Text::from_str(alloc, reason) {
+        Ok(reason) => HookError::Rejected(reason),
+        Err(error) => no_memory(error),
+    }
+}
+
+/// The halves, and this known of the connection.
+pub fn knowing<O: Drop, I: Drop>(
+    alloc: Global,
+    name: &str,
+    datum: Datum,
+    outbound: O,
+    inbound: I,
+) -> Result<HookOutput<O, I>, HookError> {
+    let mut output = HookOutput::of_halves(alloc, outbound, inbound);
+    let name = String::from_str(alloc, name).map_err(no_memory)?;
+    output
+        .connection_data
+        .insert(name, datum)
+        .map_err(no_memory)?;
+    Ok(output)
+}
+
+/// Lets no connection pass.
+#[derive(Drop)]
+pub struct Rejects {}
+
+impl<S> AcceptHook<S> for Rejects {
+    type Outbound = StampOut;
+
+    type Inbound = StampIn;
+
+    fn on_accept(&self, alloc: Global, _stream: &S) -> Stamped {
+        Err(rejected(alloc, "no"))
+    }
+}
+
+impl<S> ConnectHook<S> for Rejects {
+    type Outbound = StampOut;
+
+    type Inbound = StampIn;
+
+    fn on_connect(&self, alloc: Global, _stream: &S) -> Stamped {
+        Err(rejected(alloc, "no"))
+    }
+}
+
+/// Stamps what goes through a connection, and knows it as `name`.
+#[derive(Drop)]
+pub struct Stamps {
+    pub name: &'static str,
+}
+
+impl Stamps {
+    fn output(&self, alloc: Global) -> Stamped {
+        let name = String::from_str(alloc, self.name).map_err(no_memory)?;
+        knowing(
+            alloc,
+            "name",
+            Datum::Text(name),
+            StampOut::new(),
+            StampIn::new(),
+        )
+    }
+}
+
+impl<S> AcceptHook<S> for Stamps {
+    type Outbound = StampOut;
+
+    type Inbound = StampIn;
+
+    fn on_accept(&self, alloc: Global, _stream: &S) -> Stamped {
+        self.output(alloc)
+    }
+}
+
+impl<S> ConnectHook<S> for Stamps {
+    type Outbound = StampOut;
+
+    type Inbound = StampIn;
+
+    fn on_connect(&self, alloc: Global, _stream: &S) -> Stamped {
+        self.output(alloc)
+    }
+}
