@@ -2,7 +2,8 @@
 use crate::client_steps::{client_refusal, client_step};
 use crate::halves::Half;
 use crate::script::{Start, Step};
-use crate::server_steps::{registry, server_refusal, server_step};
+use crate::server::registry;
+use crate::server_steps::{server_refusal, server_step};
 use crate::under_test::{Client, Core, End, Met, Server};
 use std::alloc::Global;
 use std::test::Fail;

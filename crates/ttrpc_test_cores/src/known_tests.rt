@@ -1,5 +1,5 @@
 //! What is known of a connection, as both cores lend it.
-use crate::server_steps::registry;
+use crate::server::registry;
 use crate::under_test::Tested;
 use std::alloc::Global;
 use std::process::Abort;

@@ -1,5 +1,24 @@
-//! What a server with the method `Echo` and the stream `Chat` of `demo.Echo` is asked, and what it answers. Each has a
-//! name, so that a proof needn't read its bytes.
+//! A server's method `Echo` and stream `Chat` of `demo.Echo`, what it is asked and what it answers. Each string of bytes
+//! has a name, so that a proof needn't read it.
+use std::alloc::{AllocError, Global};
+use ttrpc_server::Registry;
+use ttrpc_wire::Text;
+
+/// The service `demo.Echo` with the method `Echo` and the stream `Chat`.
+pub fn registry(alloc: Global) -> Result<Registry, AllocError> {
+    let mut registry = Registry::new(alloc);
+    registry.add_method(
+        alloc,
+        Text::from_str(alloc, "demo.Echo")?,
+        Text::from_str(alloc, "Echo")?,
+    )?;
+    registry.add_stream(
+        alloc,
+        Text::from_str(alloc, "demo.Echo")?,
+        Text::from_str(alloc, "Chat")?,
+    )?;
+    Ok(registry)
+}
 
 /// A request of stream 1 to `Echo` with the payload 2a.
 pub const ASKED: &[u8] = b"\0\0\0\x14\0\0\0\x01\x01\0\x0a\x09demo.Echo\x12\x04Echo\x1a\x01\x2a";

@@ -8,9 +8,9 @@ use std::test::Fail;
 use ttrpc_codec::Codec;
 use ttrpc_codec::message::WireMessage;
 use ttrpc_proto::{Error, Response, Status};
-use ttrpc_server::{Job, JobId, Registry};
+use ttrpc_server::{Job, JobId};
+use ttrpc_wire::Blob;
 use ttrpc_wire::values::slices::{behind, front};
-use ttrpc_wire::{Blob, Text};
 
 /// A step that only a server knows.
 pub fn server_step<S: Server>(alloc: Global, core: &mut S, step: &Step, cut: usize) -> Met {
@@ -67,22 +67,6 @@ fn front_step<S: Server>(alloc: Global, core: &mut S, step: &Step, cut: usize) -
 }
 
 // ---- what a server has
-
-/// The service `demo.Echo` with the method `Echo` and the stream `Chat`.
-pub fn registry(alloc: Global) -> Result<Registry, Fail> {
-    let mut registry = Registry::new(alloc);
-    registry.add_method(
-        alloc,
-        Text::from_str(alloc, "demo.Echo")?,
-        Text::from_str(alloc, "Echo")?,
-    )?;
-    registry.add_stream(
-        alloc,
-        Text::from_str(alloc, "demo.Echo")?,
-        Text::from_str(alloc, "Chat")?,
-    )?;
-    Ok(registry)
-}
 
 /// A response with an OK status and this payload.
 pub fn ok_response(alloc: Global, payload: Blob) -> Response {

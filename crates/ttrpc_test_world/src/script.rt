@@ -7,7 +7,8 @@ use ttrpc_codec::message::WireMessage;
 use ttrpc_proto::{Error, Request, Response, Status};
 use ttrpc_secure::plain::plain_is_paired;
 use ttrpc_secure::{ConnectionContext, plain_context};
-use ttrpc_server::{Registry, Rules, ServerCore};
+use ttrpc_server::{Rules, ServerCore};
+use ttrpc_test_cores::server::registry;
 use ttrpc_wire::{Blob, Text};
 use ttrpc_world::{Entry, Event, Reply, Side, Trace, World};
 
@@ -195,17 +196,6 @@ pub fn first_fault(trace: &[Entry], script: &[(Act, Said)]) -> Option<usize> {
 }
 
 // ---- worlds
-
-/// One service, `demo.Echo`, with the method `Echo`.
-fn registry(alloc: Global) -> Result<Registry, Fail> {
-    let mut registry = Registry::new(alloc);
-    registry.add_method(
-        alloc,
-        Text::from_str(alloc, "demo.Echo")?,
-        Text::from_str(alloc, "Echo")?,
-    )?;
-    Ok(registry)
-}
 
 /// Runs events over plain halves.
 pub fn over_plain(alloc: Global, kind: ClientKind, events: Vec<Event>) -> Result<Trace, Fail> {

@@ -7,10 +7,11 @@ use ttrpc_codec::message::WireMessage;
 use ttrpc_pool::PoolCore;
 use ttrpc_proto::{Error, Request, Response, Status};
 use ttrpc_secure::{Plain, plain_context};
-use ttrpc_server::{Registry, Rules, ServerCore};
+use ttrpc_server::{Rules, ServerCore};
 use ttrpc_sync::{Connected, WriteEnd, write_loop};
 use ttrpc_sync_client::ClientShared;
 use ttrpc_sync_server::ServerShared;
+use ttrpc_test_cores::server::registry;
 use ttrpc_wire::{Blob, Text};
 
 pub type Tested = Result<(), Fail>;
@@ -25,14 +26,9 @@ pub fn client(alloc: Global) -> Result<Client, Fail> {
     Ok(Arc::new(alloc, ClientShared::new(core))?)
 }
 
-/// A server with the method `Echo` of `demo.Echo`.
+/// A server of `demo.Echo`.
 pub fn server(alloc: Global) -> Result<Server, Fail> {
-    let mut registry = Registry::new(alloc);
-    registry.add_method(
-        alloc,
-        Text::from_str(alloc, "demo.Echo")?,
-        Text::from_str(alloc, "Echo")?,
-    )?;
+    let registry = registry(alloc)?;
     let core = ServerCore::new(alloc, Rules::Sync, registry, plain_context(alloc));
     let pool = PoolCore::new(1, 0, 1);
     Ok(Arc::new(alloc, ServerShared::new(core, pool))?)
