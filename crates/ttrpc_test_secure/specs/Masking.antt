@@ -1,7 +1,12 @@
 -- What tests are told of the halves that mask. Their bytes are tested.
 -- Source: this project's.
-use Rattle.std.specs.Prelude.{◌≡◌, ◌+◌, ◌≤◌, ℕ, length}
+use Rattle.std.specs.Prelude.{◌≡◌, ◌+◌, ◌≤◌, ℕ, Bool, true, false, length}
 use Rattle.ttrpc_secure.specs.Halves.{Moves, Refusals}
+
+-- How much longer a packet is at most, of a half that binds or doesn't: its head, and a byte that makes the length even.
+abbrev pub overhead_of : Bool → ℕ
+overhead_of true = 9
+overhead_of false = 7
 
 -- A packet is at most so many bytes longer than the data, and the half stays as it is.
 abbrev pub Lengthens : ℕ → {S : Type 0} → Moves S

@@ -1,6 +1,6 @@
 //! Packets of halves that bind data to a header by a tag, as they are written, read, and refused under another header.
-use crate::binding::Binding;
 use crate::context_tests::is_others;
+use crate::masking::{Masking, masking};
 use std::alloc::Global;
 use std::process::Abort;
 use std::test::Fail;
@@ -102,7 +102,7 @@ fn message_under(alloc: Global, head: Head, payload: &[u8]) -> Result<GenMessage
     })
 }
 
-type Context = ConnectionContext<Binding, Binding>;
+type Context = ConnectionContext<Masking, Masking>;
 
 /// The packet is refused so under this header, and the message stays.
 fn is_refused(
@@ -133,7 +133,7 @@ fn is_bound(rt: &impl Abort, alloc: Global, context: &mut Context, row: &Bound) 
 #[test]
 fn packets_open_under_their_header_alone(rt: HostRuntime) -> Tested {
     let alloc = rt.alloc();
-    let mut context = ConnectionContext::of_halves(alloc, Binding {}, Binding {});
+    let mut context = masking(alloc, true);
     for row in BOUND {
         is_bound(&rt, alloc, &mut context, row)?;
     }

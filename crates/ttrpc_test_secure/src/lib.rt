@@ -3,8 +3,6 @@
 #![tactic(auto)]
 
 #[cfg(test)]
-mod binding;
-#[cfg(test)]
 mod binding_tests;
 #[cfg(test)]
 mod context_tests;

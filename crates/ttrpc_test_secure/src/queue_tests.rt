@@ -1,7 +1,6 @@
 //! What halves that seal queue, up to the limit and beyond it, and that refused memory changes nothing.
-use crate::binding::Binding;
 use crate::context_tests::{data_frame, is_others};
-use crate::masking::Masking;
+use crate::masking::masking;
 use std::alloc::Global;
 use std::process::Abort;
 use std::test::Fail;
@@ -94,10 +93,10 @@ fn is_queued<O: OutboundTransform, I: InboundTransform>(
 #[test]
 fn sealed_frames_are_queued_in_order(rt: HostRuntime) -> Tested {
     let alloc = rt.alloc();
-    let mut masking = ConnectionContext::of_halves(alloc, Masking {}, Masking {});
-    is_queued(&rt, alloc, &mut masking, MASKED)?;
-    let mut binding = ConnectionContext::of_halves(alloc, Binding {}, Binding {});
-    is_queued(&rt, alloc, &mut binding, BOUND)?;
+    let mut masked = masking(alloc, false);
+    is_queued(&rt, alloc, &mut masked, MASKED)?;
+    let mut bound = masking(alloc, true);
+    is_queued(&rt, alloc, &mut bound, BOUND)?;
     let (outbound, inbound) = stamps();
     let mut stamping = ConnectionContext::of_halves(alloc, outbound, inbound);
     is_queued(&rt, alloc, &mut stamping, STAMPED)
@@ -125,10 +124,10 @@ fn comes_back<O: OutboundTransform, I: InboundTransform>(
 #[test]
 fn messages_come_back(rt: HostRuntime) -> Tested {
     let alloc = rt.alloc();
-    let mut masking = ConnectionContext::of_halves(alloc, Masking {}, Masking {});
-    comes_back(&rt, alloc, &mut masking)?;
-    let mut binding = ConnectionContext::of_halves(alloc, Binding {}, Binding {});
-    comes_back(&rt, alloc, &mut binding)?;
+    let mut masked = masking(alloc, false);
+    comes_back(&rt, alloc, &mut masked)?;
+    let mut bound = masking(alloc, true);
+    comes_back(&rt, alloc, &mut bound)?;
     let (outbound, inbound) = stamps();
     let mut stamping = ConnectionContext::of_halves(alloc, outbound, inbound);
     comes_back(&rt, alloc, &mut stamping)
@@ -203,14 +202,14 @@ fn sevens(alloc: Global, length: usize) -> Result<Vec<u8>, Fail> {
 #[test]
 fn room_is_left_for_the_head(rt: HostRuntime) -> Tested {
     let alloc = rt.alloc();
-    let mut masking = ConnectionContext::of_halves(alloc, Masking {}, Masking {});
-    assert_eq!(rt; masking.max_raw_payload_len(), 4194297);
-    is_longest(&rt, alloc, &mut masking, &sevens(alloc, 4194297)?)?;
+    let mut masked = masking(alloc, false);
+    assert_eq!(rt; masked.max_raw_payload_len(), 4194297);
+    is_longest(&rt, alloc, &mut masked, &sevens(alloc, 4194297)?)?;
     let long = sevens(alloc, 4194298)?;
-    is_too_long(&rt, alloc, &mut masking, &long, MASKED_TOLD, MASKED_ADVISED)?;
-    let mut binding = ConnectionContext::of_halves(alloc, Binding {}, Binding {});
-    assert_eq!(rt; binding.max_raw_payload_len(), 4194295);
-    is_longest(&rt, alloc, &mut binding, &sevens(alloc, 4194295)?)?;
+    is_too_long(&rt, alloc, &mut masked, &long, MASKED_TOLD, MASKED_ADVISED)?;
+    let mut bound = masking(alloc, true);
+    assert_eq!(rt; bound.max_raw_payload_len(), 4194295);
+    is_longest(&rt, alloc, &mut bound, &sevens(alloc, 4194295)?)?;
     let long = sevens(alloc, 4194296)?;
-    is_too_long(&rt, alloc, &mut binding, &long, BOUND_TOLD, BOUND_ADVISED)
+    is_too_long(&rt, alloc, &mut bound, &long, BOUND_TOLD, BOUND_ADVISED)
 }
