@@ -1,4 +1,8 @@
 //! Hooks of either side, over any stream, and what others are made of.
+ghost use Rattle.std.specs.Prelude.{◌≡◌, ◌⊎◌, IfOk};
+ghost use Rattle.std.specs.IoError.{error_kind};
+ghost use Rattle.std.specs.declared.io.Error.{Error as IoError};
+
 use crate::stamp::{StampIn, StampOut};
 use std::alloc::Global;
 use std::io::{self, ErrorKind};
@@ -8,12 +12,16 @@ use ttrpc_wire::Text;
 type Stamped = Result<HookOutput<StampOut, StampIn>, HookError>;
 
 /// What a hook tells that was refused memory.
-pub fn no_memory<E: Drop>(_refused: E) -> HookError {
+pub fn no_memory<E: Drop>(_refused: E) -> HookError
+    ensures { (e : IoError) × (result ≡ HookError.Io e) × (error_kind e ≡ ErrorKind.OutOfMemory) }
+{
     HookError::Io(io::Error::from(ErrorKind::OutOfMemory))
 }
 
 /// What a hook tells that refuses a connection for this reason.
-pub fn rejected(alloc: Global, reason: &str) -> HookError {
+pub fn rejected(alloc: Global, reason: &str) -> HookError
+    ensures { (result ≡ HookError.Rejected reason.now) ⊎ ((e : IoError) × (result ≡ HookError.Io e)) }
+{
     match Text::from_str(alloc, reason) {
         Ok(reason) => HookError::Rejected(reason),
         Err(error) => no_memory(error),
@@ -27,7 +35,10 @@ pub fn knowing<O: Drop, I: Drop>(
     datum: Datum,
     outbound: O,
     inbound: I,
-) -> Result<HookOutput<O, I>, HookError> {
+) -> Result<HookOutput<O, I>, HookError>
+    ensures outbound { IfOk result (λ output. output.outbound ≡ outbound) }
+    ensures inbound { IfOk result (λ output. output.inbound ≡ inbound) }
+{
     let mut output = HookOutput::of_halves(alloc, outbound, inbound);
     let name = String::from_str(alloc, name).map_err(no_memory)?;
     output

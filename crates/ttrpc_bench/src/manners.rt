@@ -1,5 +1,5 @@
 //! How readers and writers answer.
-ghost use Rattle.std.specs.Prelude.{◌≤◌, IfOk};
+ghost use Rattle.std.specs.Prelude.{◌≡◌, ◌≤◌, IfOk};
 
 use std::cmp::min;
 use std::io::ErrorKind;
@@ -32,6 +32,17 @@ pub const AT_ONCE: Manner = Manner {
 pub const NO_CALL: Result<usize, ErrorKind> = Err(ErrorKind::Interrupted);
 
 impl Manner {
+    /// The same for so many bytes in all, with a failure of this kind behind them, or none.
+    pub fn ending(self, room: usize, behind: Option<ErrorKind>) -> Manner
+        ensures { result ≡ record self { room = room; behind = behind } }
+    {
+        Manner {
+            room,
+            behind,
+            ..self
+        }
+    }
+
     /// How many bytes a call moves that may move `most`, behind so many that were moved before.
     pub(crate) fn count(&self, moved: usize, most: usize) -> Result<usize, ErrorKind>
         ensures { IfOk result (λ n. n ≤ most) }

@@ -31,12 +31,7 @@ impl Giver<'_> {
     }
 
     /// One with so many zeros between a head and a tail.
-    pub fn with_zeros<'a>(
-        head: &'a [u8],
-        zeros: usize,
-        tail: &'a [u8],
-        manner: Manner,
-    ) -> Giver<'a>
+    pub fn with_zeros<'a>(head: &'a [u8], zeros: usize, tail: &'a [u8], manner: Manner) -> Giver<'a>
         ensures { result.last ≡ NO_CALL }
     {
         Giver {
@@ -103,12 +98,14 @@ impl Source for Giver<'_> {
 /// The same as a reader of std.
 #[derive(Drop)]
 pub struct StdReader<'a> {
-    giver: Giver<'a>,
+    pub giver: Giver<'a>,
 }
 
 impl StdReader<'_> {
     /// One of these bytes.
-    pub fn new(bytes: &[u8], manner: Manner) -> StdReader<'_> {
+    pub fn new(bytes: &[u8], manner: Manner) -> StdReader<'_>
+        ensures { result.giver.last ≡ NO_CALL }
+    {
         StdReader {
             giver: Giver::new(bytes, manner),
         }

@@ -101,7 +101,9 @@ pub struct StdWriter {
 
 impl StdWriter {
     /// One that has taken nothing.
-    pub fn new(alloc: Global, manner: Manner) -> Result<StdWriter, AllocError> {
+    pub fn new(alloc: Global, manner: Manner) -> Result<StdWriter, AllocError>
+        ensures { IfOk result (λ w. w.receiver.taken.items ≡ []) }
+    {
         let receiver = Receiver::new(alloc, manner)?;
         Ok(StdWriter { receiver })
     }

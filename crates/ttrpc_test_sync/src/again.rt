@@ -30,11 +30,7 @@ fn a_port_is_read_to_again(rt: HostRuntime) -> Result<(), Fail> {
 #[test]
 fn a_port_is_written_from_again(rt: HostRuntime) -> Result<(), Fail> {
     let mut port = Lender::new(BYTES, 9, 6);
-    let ending = Manner {
-        room: 8,
-        ..IN_FIVES
-    };
-    let mut first = Receiver::new(rt.alloc(), ending)?;
+    let mut first = Receiver::new(rt.alloc(), IN_FIVES.ending(8, None))?;
     write_loop(&rt, &mut first, &mut port);
     assert!(rt; port.word == Word::Broke(ErrorKind::WriteZero));
     assert_eq!(rt; first.taken.as_slice(), front(BYTES, 8));

@@ -149,11 +149,7 @@ fn breaks_behind<X: Wait + Abort>(
     let row = Writing {
         name: "a writer that fails",
         lent: &[9],
-        manner: Manner {
-            room: count,
-            behind,
-            ..AT_ONCE
-        },
+        manner: AT_ONCE.ending(count, behind),
         written: count,
         asked: (count / 6).saturating_add(1),
         word: Word::Broke(behind.unwrap_or(ErrorKind::WriteZero)),

@@ -1,5 +1,5 @@
 //! Each row is read by each reader, from a source that gives it at once, byte by byte, or interrupted.
-use crate::streams::rows::{Parts, REQUEST, REQUEST_HEADER, ROWS, Reads, Row};
+use crate::streams::rows::{MANNERS, Parts, REQUEST, REQUEST_HEADER, ROWS, Reads, Row};
 use std::alloc::Global;
 use std::io::ErrorKind;
 use std::process::Abort;
@@ -10,17 +10,6 @@ use ttrpc_message::{Message, read_message};
 use ttrpc_proto::{Error, Request};
 
 type Tested = Result<(), Fail>;
-
-const MANNERS: &[Manner] = &[
-    AT_ONCE,
-    Manner { step: 7, ..AT_ONCE },
-    Manner { step: 1, ..AT_ONCE },
-    Manner {
-        step: 1,
-        interrupts: true,
-        ..AT_ONCE
-    },
-];
 
 /// A long row comes in some thousand steps at least.
 fn giver_of(row: &Row, manner: Manner) -> Giver<'static> {
@@ -165,11 +154,7 @@ fn rows_are_read_as_values(rt: HostRuntime) -> Tested {
 }
 
 fn broken_behind(count: usize) -> Manner {
-    Manner {
-        room: count,
-        behind: Some(ErrorKind::ConnectionReset),
-        ..AT_ONCE
-    }
+    AT_ONCE.ending(count, Some(ErrorKind::ConnectionReset))
 }
 
 /// A request whose reader fails behind so many bytes.

@@ -1,5 +1,18 @@
 //! What is read, with what each reader tells of it. A frame's layout is that of PROTOCOL.md of ttrpc.
+use ttrpc_bench::{AT_ONCE, Manner};
 use ttrpc_frame::MessageHeader;
+
+/// How what is read comes, and how what is written is taken.
+pub const MANNERS: &[Manner] = &[
+    AT_ONCE,
+    Manner { step: 7, ..AT_ONCE },
+    Manner { step: 1, ..AT_ONCE },
+    Manner {
+        step: 1,
+        interrupts: true,
+        ..AT_ONCE
+    },
+];
 
 /// What `read_message` tells.
 #[derive(Clone, Copy)]

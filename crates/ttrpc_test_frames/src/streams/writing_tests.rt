@@ -1,6 +1,6 @@
 //! Each writer writes messages to a sink that takes them at once, byte by byte, interrupted, or not whole.
 use crate::streams::recorder::{Kept, Recorder};
-use crate::streams::rows::{REQUEST, REQUEST_HEADER, REQUEST_PAYLOAD};
+use crate::streams::rows::{MANNERS, REQUEST, REQUEST_HEADER, REQUEST_PAYLOAD};
 use std::alloc::Global;
 use std::io::ErrorKind;
 use std::process::Abort;
@@ -45,17 +45,6 @@ fn write_by(alloc: Global, writer: Writer, receiver: &mut Receiver) -> Result<An
     })
 }
 
-const MANNERS: &[Manner] = &[
-    AT_ONCE,
-    Manner { step: 7, ..AT_ONCE },
-    Manner { step: 1, ..AT_ONCE },
-    Manner {
-        step: 1,
-        interrupts: true,
-        ..AT_ONCE
-    },
-];
-
 fn writes_whole(rt: &impl Abort, alloc: Global, writer: Writer, manner: Manner) -> Tested {
     let mut receiver = Receiver::new(alloc, manner)?;
     write_by(alloc, writer, &mut receiver)??;
@@ -83,12 +72,7 @@ fn breaks_behind(
     count: usize,
     behind: Option<ErrorKind>,
 ) -> Tested {
-    let manner = Manner {
-        room: count,
-        behind,
-        ..AT_ONCE
-    };
-    let mut receiver = Receiver::new(alloc, manner)?;
+    let mut receiver = Receiver::new(alloc, AT_ONCE.ending(count, behind))?;
     match write_by(alloc, writer, &mut receiver)? {
         Err(Error::Socket(text)) => {
             if writer == Writer::Parts && behind.is_none() {

@@ -12,6 +12,9 @@ use ttrpc_wire::values::slices::front;
 
 type Tested = Result<(), Fail>;
 
+/// One byte a call.
+const BYTEWISE: Manner = Manner { step: 1, ..AT_ONCE };
+
 /// Behind its bytes a reader fails.
 const BROKEN: Manner = Manner {
     behind: Some(ErrorKind::ConnectionReset),
@@ -72,13 +75,8 @@ fn writing_fails_at(
     step: usize,
     behind: Option<ErrorKind>,
 ) -> Tested {
-    let manner = Manner {
-        step,
-        room: count,
-        behind,
-        ..AT_ONCE
-    };
-    let mut output = StdWriter::new(alloc, manner)?;
+    let manner = Manner { step, ..AT_ONCE };
+    let mut output = StdWriter::new(alloc, manner.ending(count, behind))?;
     let ended = answer(alloc, &mut StdReader::new(MIXED, AT_ONCE), &mut output);
     is_of_kind(rt, ended, behind.unwrap_or(ErrorKind::WriteZero))?;
     assert!(rt;
@@ -104,12 +102,7 @@ fn telling_fails_at<S: Tester + 'static>(rt: &S, count: usize) -> Tested {
     let alloc = rt.alloc();
     let words = words_of(alloc, &["loop", "2a"])?;
     let mut errors = Vec::with_capacity(alloc, ROOM)?;
-    let manner = Manner {
-        step: 1,
-        room: count,
-        behind: Some(ErrorKind::BrokenPipe),
-        ..AT_ONCE
-    };
+    let manner = BYTEWISE.ending(count, Some(ErrorKind::BrokenPipe));
     let mut output = StdWriter::new(alloc, manner)?;
     let mut input = ASKED;
     let status = run(
@@ -157,11 +150,10 @@ fn a_failing_reader_ends_the_program_with_its_kind(rt: HostRuntime) -> Tested {
 
 #[test]
 fn a_writer_may_take_one_byte_a_call(rt: HostRuntime) -> Tested {
-    let bytewise = Manner { step: 1, ..AT_ONCE };
-    let mut output = StdWriter::new(rt.alloc(), bytewise)?;
+    let mut output = StdWriter::new(rt.alloc(), BYTEWISE)?;
     answer(
         rt.alloc(),
-        &mut StdReader::new(MIXED, bytewise),
+        &mut StdReader::new(MIXED, BYTEWISE),
         &mut output,
     )?;
     assert!(rt; output.receiver.taken.as_slice() == MIXED_ANSWERS);
