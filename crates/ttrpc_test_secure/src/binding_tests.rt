@@ -1,6 +1,6 @@
 //! Packets of halves that bind data to a header by a tag, as they are written, read, and refused under another header.
 use crate::context_tests::is_others;
-use crate::masking::{Masking, masking};
+use crate::masking::{Masking, masking_context};
 use std::alloc::Global;
 use std::process::Abort;
 use std::test::Fail;
@@ -133,7 +133,7 @@ fn is_bound(rt: &impl Abort, alloc: Global, context: &mut Context, row: &Bound) 
 #[test]
 fn packets_open_under_their_header_alone(rt: HostRuntime) -> Tested {
     let alloc = rt.alloc();
-    let mut context = masking(alloc, true);
+    let mut context = masking_context(alloc, true);
     for row in BOUND {
         is_bound(&rt, alloc, &mut context, row)?;
     }

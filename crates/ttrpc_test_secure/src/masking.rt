@@ -15,7 +15,7 @@ pub struct Masking {
 }
 
 /// The context of a connection with such halves.
-pub fn masking(alloc: Global, binds: bool) -> ConnectionContext<Masking, Masking> {
+pub fn masking_context(alloc: Global, binds: bool) -> ConnectionContext<Masking, Masking> {
     ConnectionContext::of_halves(alloc, Masking { binds }, Masking { binds })
 }
 

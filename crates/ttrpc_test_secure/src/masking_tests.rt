@@ -1,6 +1,6 @@
 //! Packets of halves that mask, as they are written, read and refused through the context of a connection.
 use crate::context_tests::{data_frame, is_others};
-use crate::masking::masking;
+use crate::masking::masking_context;
 use std::alloc::Global;
 use std::process::Abort;
 use std::test::Fail;
@@ -70,7 +70,7 @@ const REFUSED: &[(&[u8], &str)] = &[
 
 /// The packet opens to the data, by each call that opens bytes.
 fn opens(rt: &impl Abort, alloc: Global, packet: &[u8], data: &[u8]) -> Tested {
-    let mut context = masking(alloc, false);
+    let mut context = masking_context(alloc, false);
     let opened = context.inbound_buf(alloc, packet, b"", false)?;
     assert_eq!(rt; opened.as_slice(), data);
     let opened = context.transform_inbound(alloc, packet, b"")?;
@@ -81,7 +81,7 @@ fn opens(rt: &impl Abort, alloc: Global, packet: &[u8], data: &[u8]) -> Tested {
 #[test]
 fn data_are_masked_and_unmasked(rt: HostRuntime) -> Tested {
     let alloc = rt.alloc();
-    let mut context = masking(alloc, false);
+    let mut context = masking_context(alloc, false);
     for (data, packet) in PACKETS {
         let masked = context.outbound_buf(alloc, data, b"", false)?;
         assert_eq!(rt; masked.as_slice(), *packet);
@@ -106,7 +106,7 @@ fn carries(message: &GenMessage, payload: &[u8]) -> bool {
 #[test]
 fn messages_are_masked_and_unmasked(rt: HostRuntime) -> Tested {
     let alloc = rt.alloc();
-    let mut context = masking(alloc, false);
+    let mut context = masking_context(alloc, false);
     for (data, packet) in PACKETS {
         let mut message = data_frame(alloc, 0, data)?;
         context.outbound(alloc, &mut message, false)?;
@@ -121,7 +121,7 @@ fn messages_are_masked_and_unmasked(rt: HostRuntime) -> Tested {
 #[test]
 fn long_data_come_back(rt: HostRuntime) -> Tested {
     let alloc = rt.alloc();
-    let mut context = masking(alloc, false);
+    let mut context = masking_context(alloc, false);
     let mut data = Vec::new(alloc);
     for number in 0..1023u16 {
         data.push((number % 256) as u8)?;
@@ -142,7 +142,7 @@ fn long_data_come_back(rt: HostRuntime) -> Tested {
 #[test]
 fn refusals_are_told(rt: HostRuntime) -> Tested {
     let alloc = rt.alloc();
-    let mut context = masking(alloc, false);
+    let mut context = masking_context(alloc, false);
     for (packet, expected) in REFUSED {
         assert!(rt; is_others(&context.inbound_buf(alloc, packet, b"", true), expected)?);
         let mut message = data_frame(alloc, 1, packet)?;

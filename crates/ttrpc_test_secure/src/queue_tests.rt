@@ -1,6 +1,6 @@
 //! What halves that seal queue, up to the limit and beyond it, and that refused memory changes nothing.
 use crate::context_tests::{data_frame, is_others};
-use crate::masking::masking;
+use crate::masking::masking_context;
 use std::alloc::Global;
 use std::process::Abort;
 use std::test::Fail;
@@ -93,9 +93,9 @@ fn is_queued<O: OutboundTransform, I: InboundTransform>(
 #[test]
 fn sealed_frames_are_queued_in_order(rt: HostRuntime) -> Tested {
     let alloc = rt.alloc();
-    let mut masked = masking(alloc, false);
+    let mut masked = masking_context(alloc, false);
     is_queued(&rt, alloc, &mut masked, MASKED)?;
-    let mut bound = masking(alloc, true);
+    let mut bound = masking_context(alloc, true);
     is_queued(&rt, alloc, &mut bound, BOUND)?;
     let (outbound, inbound) = stamps();
     let mut stamping = ConnectionContext::of_halves(alloc, outbound, inbound);
@@ -124,9 +124,9 @@ fn comes_back<O: OutboundTransform, I: InboundTransform>(
 #[test]
 fn messages_come_back(rt: HostRuntime) -> Tested {
     let alloc = rt.alloc();
-    let mut masked = masking(alloc, false);
+    let mut masked = masking_context(alloc, false);
     comes_back(&rt, alloc, &mut masked)?;
-    let mut bound = masking(alloc, true);
+    let mut bound = masking_context(alloc, true);
     comes_back(&rt, alloc, &mut bound)?;
     let (outbound, inbound) = stamps();
     let mut stamping = ConnectionContext::of_halves(alloc, outbound, inbound);
@@ -202,12 +202,12 @@ fn sevens(alloc: Global, length: usize) -> Result<Vec<u8>, Fail> {
 #[test]
 fn room_is_left_for_the_head(rt: HostRuntime) -> Tested {
     let alloc = rt.alloc();
-    let mut masked = masking(alloc, false);
+    let mut masked = masking_context(alloc, false);
     assert_eq!(rt; masked.max_raw_payload_len(), 4194297);
     is_longest(&rt, alloc, &mut masked, &sevens(alloc, 4194297)?)?;
     let long = sevens(alloc, 4194298)?;
     is_too_long(&rt, alloc, &mut masked, &long, MASKED_TOLD, MASKED_ADVISED)?;
-    let mut bound = masking(alloc, true);
+    let mut bound = masking_context(alloc, true);
     assert_eq!(rt; bound.max_raw_payload_len(), 4194295);
     is_longest(&rt, alloc, &mut bound, &sevens(alloc, 4194295)?)?;
     let long = sevens(alloc, 4194296)?;
