@@ -15,7 +15,7 @@ fn heard(alloc: Global, line: &Line) -> Result<Vec<u8>, HookError> {
     let mut buffer = [0; 8];
     let mut giver = Giver::new(line.0, line.1);
     let count = giver.read(&mut buffer).map_err(HookError::Io)?;
-    Vec::from_slice(alloc, &buffer[..count]).map_err(no_memory)
+    Vec::from_slice(alloc, &buffer[..count]).map_err(|refused| no_memory(refused))
 }
 
 /// Lets a connection pass on which something is said, knows it as `said`, and leaves data as it is.
@@ -57,6 +57,7 @@ impl ConnectHook<Line> for Agrees {
         if heard(alloc, stream)?.as_slice() == b"stamp".as_slice() {
             return Ok(HookOutput::of_halves(alloc, StampOut::new(), StampIn::new()));
         }
-        Err(HookError::Other(Text::from_str(alloc, "no stamps").map_err(no_memory)?))
+        let why = Text::from_str(alloc, "no stamps").map_err(|refused| no_memory(refused))?;
+        Err(HookError::Other(why))
     }
 }

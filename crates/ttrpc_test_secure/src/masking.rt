@@ -61,8 +61,8 @@ fn unbound(alloc: Global, packet: &[u8], aad: &[u8]) -> Result<Vec<u8>, Transfor
 }
 
 impl OutboundTransform for Masking {
-    ghost use Rattle.std.specs.Prelude.{◌≤◌, true, false, ap};
-    ghost use Rattle.std.proofs.Common.{arith};
+    ghost use Rattle.std.specs.Prelude.{◌≤◌, true, false};
+    ghost use Rattle.std.proofs.Common.{ap, arith};
     ghost use Rattle.ttrpc_test_secure.specs.Masking.{Lengthens, RefusesAnything, overhead_of};
     ghost use Rattle.ttrpc_test_secure.specs.declared.masking.Masking.{Masking as AMasking};
 
