@@ -53,7 +53,7 @@ impl WireMessage for HelloRequest {
         Ok(())
     }
 
-    fn known(&self) {
+    fn lemma_is_value(&self) {
         let _ = self.name.as_bytes();
     }
 
@@ -110,7 +110,7 @@ impl WireMessage for HelloReply {
         Ok(())
     }
 
-    fn known(&self) {
+    fn lemma_is_value(&self) {
         let _ = self.greeting.as_bytes();
     }
 

@@ -14,7 +14,7 @@ use ttrpc::{Code, MethodHandler, Request, Result, TtrpcContext, request_handler}
 struct Greeter {}
 
 impl Greeter {
-    /// Greets by name, in German where the metadata names a language. Who has no name is refused.
+    /// Greets by name, in German where the metadata names a language. An empty name is refused.
     fn hello<R: Host>(
         &self,
         ctx: &TtrpcContext<R, Plain, Plain>,

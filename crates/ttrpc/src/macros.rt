@@ -1,7 +1,7 @@
 //! The macros of services and of their clients.
 
-/// Handles a request in `MethodHandler::handler`: decodes it, calls the method of `self.service`, lent the context and handed
-/// the value, and responds. The request's type is a path, or a module beside this one and a name in it.
+/// Handles a request in `MethodHandler::handler`: decodes it, calls the method of `self.service` with the context and the
+/// value, and responds. The request's type is a path, or a module beside this one and a name in it.
 #[macro_export]
 macro_rules! request_handler {
     ($class:ident, $ctx:ident, $req:ident, $req_type:path, $req_fn:ident) => {

@@ -13,7 +13,7 @@ pub use hooks::{Rejects, Stamps, knowing, no_memory, rejected};
 pub use manners::{AT_ONCE, Manner, NO_CALL};
 pub use odd_halves::{Sealed, Swelling};
 pub use readers::{Giver, StdReader};
-pub use stamp::{StampIn, StampOut, stamps};
+pub use stamp::{StampIn, StampOut, Transformed, stamps};
 pub use writers::{ROOM, Receiver, StdWriter};
 
 #[cfg(test)]

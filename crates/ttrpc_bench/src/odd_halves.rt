@@ -1,7 +1,9 @@
 //! Halves that refuse, and that open to more than a message may have.
 ghost use Rattle.std.specs.Prelude.{◌≡◌, ◌≢◌, IfOk, IfErr, OnErr};
 
+use crate::stamp::Transformed;
 use std::alloc::Global;
+use ttrpc_frame::MESSAGE_LENGTH_MAX;
 use ttrpc_secure::{InboundTransform, OutboundTransform, TransformError};
 use ttrpc_wire::Text;
 
@@ -17,13 +19,8 @@ impl InboundTransform for Swelling {
 
     ghost refuses = { RefusesNothing };
 
-    fn transform_inbound(
-        &mut self,
-        alloc: Global,
-        _data: &[u8],
-        _aad: &[u8],
-    ) -> Result<Vec<u8>, TransformError> {
-        Ok(vec![in alloc; 7; 4194305]?)
+    fn transform_inbound(&mut self, alloc: Global, _data: &[u8], _aad: &[u8]) -> Transformed {
+        Ok(vec![in alloc; 7; MESSAGE_LENGTH_MAX + 1]?)
     }
 }
 
@@ -36,6 +33,7 @@ pub struct Sealed {
 impl OutboundTransform for Sealed {
     ghost use Rattle.std.specs.Prelude.{false, refl, min, ◌-◌};
     ghost use Rattle.std.proofs.Common.{arith};
+    ghost use Rattle.ttrpc_frame.specs.declared.header.TheConstants.{MESSAGE_LENGTH_MAX};
     ghost use Rattle.ttrpc_bench.specs.Others.{SealsNothing, RefusesAll};
     ghost use Rattle.ttrpc_bench.specs.declared.odd_halves.Sealed.{Sealed as ASealed};
 
@@ -43,23 +41,18 @@ impl OutboundTransform for Sealed {
 
     ghost SEALS = { false };
 
-    ghost overhead = { λ (s : ASealed). 4194304 - s.room };
+    ghost overhead = { λ (s : ASealed). MESSAGE_LENGTH_MAX - s.room };
 
     ghost seals = { SealsNothing };
 
     ghost refuses = { RefusesAll };
 
-    fn transform_outbound(
-        &mut self,
-        alloc: Global,
-        _data: &[u8],
-        _aad: &[u8],
-    ) -> Result<Vec<u8>, TransformError> {
+    fn transform_outbound(&mut self, alloc: Global, _data: &[u8], _aad: &[u8]) -> Transformed {
         Err(TransformError::Refused(Text::from_str(alloc, "sealed up")?))
     }
 
     fn max_overhead(&self) -> usize {
-        4194304_usize.saturating_sub(self.room)
+        MESSAGE_LENGTH_MAX.saturating_sub(self.room)
     }
 
     ghost lawful = { record {

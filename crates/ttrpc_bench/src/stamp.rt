@@ -8,6 +8,9 @@ use std::marker::Model;
 use ttrpc_secure::{InboundTransform, OutboundTransform, TransformError};
 use ttrpc_wire::Text;
 
+/// What a half makes of what it is given.
+pub type Transformed = Result<Vec<u8>, TransformError>;
+
 /// The half that stamps, which contracts see as its next stamp.
 #[derive(Debug, Default, Drop)]
 pub struct StampOut {
@@ -45,12 +48,7 @@ impl OutboundTransform for StampOut {
 
     ghost refuses = { RefusesNothing };
 
-    fn transform_outbound(
-        &mut self,
-        alloc: Global,
-        data: &[u8],
-        _aad: &[u8],
-    ) -> Result<Vec<u8>, TransformError> {
+    fn transform_outbound(&mut self, alloc: Global, data: &[u8], _aad: &[u8]) -> Transformed {
         let mut sealed = Vec::with_capacity(alloc, data.len().saturating_add(1))?;
         sealed.extend_from_slice(data)?;
         sealed.push(self.count)?;
@@ -96,12 +94,7 @@ impl InboundTransform for StampIn {
 
     ghost refuses = { HasWrongStamp };
 
-    fn transform_inbound(
-        &mut self,
-        alloc: Global,
-        data: &[u8],
-        _aad: &[u8],
-    ) -> Result<Vec<u8>, TransformError> {
+    fn transform_inbound(&mut self, alloc: Global, data: &[u8], _aad: &[u8]) -> Transformed {
         match data {
             [opened @ .., stamp] if *stamp == self.count => {
                 let opened = Vec::from_slice(alloc, opened)?;

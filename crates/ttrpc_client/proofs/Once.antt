@@ -1,5 +1,5 @@
 -- The outcome of a call is given once.
-use Rattle.ttrpc_client.proofs.Words.{cases_eq, cases_lt, eq-eqb, ne_eqb, arith, ◌≡◌, ◌≢◌, ◌⊎◌, inl, inr, ℕ, ◌<◌, ◌≤◌, List, [], ◌∷◌, ◌++◌, length, length-append, Option, Some, None, is_some, Result, Bool, refl, sym, ap, subst, ◌∙◌, Error, Happening, OutboundTransform, InboundTransform, Connection, Failure, ACall, Call, Waiting, ClientCore, Called, Told, asked_by, called, core, ids_asked, outcomes_of, told_by, Client, IsClient, call_at, GivesOutcome, Tells, calling, left_of, Did, Calls, Runs, all_in_front, all_behind}
+use Rattle.ttrpc_client.proofs.Words.{cases_eq, cases_lt, eq-eqb, ne_eqb, arith, ◌≡◌, ◌≢◌, ◌⊎◌, inl, inr, ℕ, ◌<◌, ◌≤◌, List, [], ◌∷◌, ◌++◌, length, length-append, Option, Some, None, is_some, Result, Bool, refl, sym, ap, subst, ◌∙◌, Error, Happening, OutboundTransform, InboundTransform, Connection, Failure, ACall, Call, Waiting, ClientCore, Called, Told, asked_by, called, core, ids_asked, outcomes_of, told_by, Client, IsClient, call_at, GivesOutcome, TakesOutcome, calling, left_of, Did, Calls, Runs, all_in_front, all_behind}
 use Rattle.ttrpc_proto.specs.declared.response.Response.{Response}
 use Rattle.ttrpc_client.proofs.Turning.{Leaves, call_leaves, leaves_valid, run_leaves}
 use Rattle.ttrpc_client.proofs.Rising.{Apart, never_below, rise_up}
@@ -17,7 +17,7 @@ gone_by_giving failure (Some call) outcome gives = refl
 abbrev GivesAtMostOne : ℕ → ACall Called → Client → Client → Type 0
 GivesAtMostOne k c old new = (told_by k c ≡ []) ⊎ ((length (told_by k c) ≡ 1) × (call_at old k ≢ None) × (call_at new k ≡ None))
 
-tells_at_most_one : {O I : Type 0} (k id : ℕ) (outcome : Result Response Error) (old new : ClientCore O I) → Tells old id (Some outcome) new → GivesAtMostOne k (Did (Told id (Some outcome))) old.state new.state
+tells_at_most_one : {O I : Type 0} (k id : ℕ) (outcome : Result Response Error) (old new : ClientCore O I) → TakesOutcome old id (Some outcome) new → GivesAtMostOne k (Did (Told id (Some outcome))) old.state new.state
 tells_at_most_one k id outcome old new tells = elim (cases_eq id k) [
   | inl same ↦ rw (← same) (inr (
     rw (eq-eqb id id refl) refl,

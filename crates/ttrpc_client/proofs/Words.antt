@@ -21,8 +21,7 @@ pub use Rattle.ttrpc_connection.specs.Calls.{Call as ACall}
 pub use Rattle.ttrpc_client.specs.Types.{Arrived, Call, CancelledDuringWrite, Connection, DeadlineDuringWrite, Expired, Failure, Waiting}
 pub use Rattle.ttrpc_client.specs.declared.client.ClientCore.{ClientCore}
 pub use Rattle.ttrpc_client.specs.Calls.{AreQueuedOnce, Asked, asked_by, AskedEnded, Called, called, Causes, core, Does, Dropped, ids_asked, outcomes_of, Passes, requests_in, RiseByTwo, thrown_at, thrown_if, Ticked, Told, told_by}
-pub use Rattle.ttrpc_client.specs.Client.{call_at, call_in, Client, IsClient, OthersStay, throws, told_left, waits}
-pub use Rattle.ttrpc_client.specs.Happens.{calling, due_at, due_ids, expired_at, Expires, forgotten, GivesOutcome, is_due, IsDeadline, LandsOnce, left_of, taken_back, takes_back, Tells, Ticks}
+pub use Rattle.ttrpc_client.specs.State.{call_at, call_in, Client, IsClient, OthersStay, throws, told_left, waits}
+pub use Rattle.ttrpc_client.specs.Protocol.{calling, due_at, due_ids, expired_at, Expires, forgotten, GivesOutcome, is_due, IsDeadline, LandsOnce, left_of, taken_back, takes_back, TakesOutcome, Ticks, IsRequestFrame, Landing, landing_of, LandsOn, last_id}
 pub use Rattle.ttrpc_client.specs.Inside.{Admits, ExpiresOne, Leaves, MayRefuse, Settles}
 pub use Rattle.ttrpc_client.specs.Kept.{AreDeadlines, ChangesTo, deadline_in, has_deadline, is_moment, IsKept, sooner, waiting_in, weight}
-pub use Rattle.ttrpc_client.specs.Table.{IsRequestFrame, Landing, landing_of, LandsOn, last_id}

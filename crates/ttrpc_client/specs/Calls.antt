@@ -7,9 +7,8 @@ use Rattle.ttrpc_client.specs.Types.{Error, Request, Response, Queued, OutboundT
 use Rattle.ttrpc_frame.specs.Queue.{Happening, Placed, Thrown}
 use Rattle.ttrpc_connection.specs.Calls.{Call, Did, Others, Queues}
 use Rattle.ttrpc_client.specs.declared.client.ClientCore.{ClientCore}
-use Rattle.ttrpc_client.specs.Client.{Client, call_at, throws}
-use Rattle.ttrpc_client.specs.Table.{IsRequestFrame, last_id}
-use Rattle.ttrpc_client.specs.Happens.{Forgets, Requests, Tells, Ticks, due_at, takes_back}
+use Rattle.ttrpc_client.specs.State.{Client, call_at, throws}
+use Rattle.ttrpc_client.specs.Protocol.{IsRequestFrame, last_id, Forgets, Requests, TakesOutcome, Ticks, due_at, takes_back}
 
 -- a call, with what it was given and what it gave; one that was refused changes nothing, and is none
 pub data Called : Type 0 where
@@ -24,6 +23,7 @@ pub data Called : Type 0 where
   -- it was asked which call ended, and this came
   AskedEnded : (id : Option ℕ) → Called
 
+-- the core of this state and this connection
 abbrev pub core : {O I : Type 0} → Client → Connection O I → ClientCore O I
 core state connection = record { state = state; connection = connection }
 
@@ -39,9 +39,10 @@ pub record TellsEnded {O I : Type 0} (old : ClientCore O I) (id : Option ℕ) (n
   pub first : old.state.ended ≡ option_to_list id ++ new.state.ended
   pub same : new ≡ record old { state = record old.state { ended = new.state.ended } }
 
+-- what a call does to the core
 abbrev pub Does : {O I : Type 0} → OutboundTransform O → Bool → Called → ClientCore O I → ClientCore O I → Type 0
 Does out seals (Asked request now id) old new = Requests out old request now id new
-Does out seals (Told id outcome) old new = Tells old id outcome new
+Does out seals (Told id outcome) old new = TakesOutcome old id outcome new
 Does out seals (Dropped id) old new = Forgets seals old id new
 Does out seals (Ticked now) old new = Passes seals old.connection.failure old now new
 Does out seals (AskedEnded id) old new = TellsEnded old id new
@@ -56,6 +57,7 @@ thrown_if may ids = if may then Thrown ids ∷ [] else []
 abbrev pub thrown_at : {O I : Type 0} → Bool → ClientCore O I → ℕ → List Happening
 thrown_at seals old now = thrown_if (not (is_some old.connection.failure) && throws old.state.kind seals) (λ id. due_at now (call_at old.state id))
 
+-- what the queue goes through by a call
 abbrev pub Causes : {O I : Type 0} → Called → Bool → ClientCore O I → ClientCore O I → List Happening → Type 0
 Causes (Asked request now id) seals old new happenings =
     (f : Queued) × IsRequestFrame id f × Queues old.connection (f ∷ []) new.connection × (happenings ≡ Placed f ∷ [])
@@ -64,6 +66,7 @@ Causes (Dropped id) seals old new happenings = happenings ≡ thrown_if (takes_b
 Causes (Ticked now) seals old new happenings = happenings ≡ thrown_at seals old now
 Causes (AskedEnded id) seals old new happenings = happenings ≡ []
 
+-- what such a call does, and what the queue goes through by it
 abbrev pub called : {O I : Type 0} → OutboundTransform O → Bool → Others Called Client O I
 called out seals a s old happenings t new = Does out seals a (core s old) (core t new) × Causes a seals (core s old) (core t new) happenings
 

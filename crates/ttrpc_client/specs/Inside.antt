@@ -11,9 +11,8 @@ use Rattle.ttrpc_secure.specs.declared.transform.TransformError.TheVariants.{Ref
 use Rattle.ttrpc_secure.specs.Sends.{associated}
 use Rattle.ttrpc_connection.specs.Frames.{SendsOne}
 use Rattle.ttrpc_client.specs.declared.client.ClientCore.{ClientCore}
-use Rattle.ttrpc_client.specs.Client.{Client, OthersStay, call_at, told_left, waits}
-use Rattle.ttrpc_client.specs.Happens.{due_ids, expired_at, left_of}
-use Rattle.ttrpc_client.specs.Table.{IsRequestFrame}
+use Rattle.ttrpc_client.specs.State.{Client, OthersStay, call_at, told_left, waits}
+use Rattle.ttrpc_client.specs.Protocol.{due_ids, expired_at, left_of, IsRequestFrame}
 
 -- ---- what is done to it
 

@@ -8,7 +8,7 @@ use Rattle.std.specs.List.Sorted.{IsStrictlySortedBy}
 use Rattle.std.specs.BTreeMap.{is_at}
 use Rattle.std.specs.Map.{keys_of, values_of}
 use Rattle.ttrpc_client.specs.Types.{Call, Waiting}
-use Rattle.ttrpc_client.specs.Client.{IsClient, call_in, told_left, waits}
+use Rattle.ttrpc_client.specs.State.{IsClient, call_in, told_left, waits}
 
 -- ---- deadlines, each a moment and the id of a call
 
@@ -20,6 +20,7 @@ sooner x y = ordering_then (nat_cmp x.0 y.0) (nat_cmp x.1 y.1)
 abbrev pub has_deadline : List (ℕ × ℕ) → ℕ → ℕ → Bool
 has_deadline deadlines at id = list_any (is_at (sooner (at, id))) deadlines
 
+-- whether there is a moment and it is this one
 abbrev pub is_moment : ℕ → Option ℕ → Bool
 is_moment at None = false
 is_moment at (Some moment) = nat_eq at moment
@@ -36,6 +37,7 @@ deadline_in call = None
 
 -- ---- what is kept
 
+-- 1 for a call that waits, and 0 for any other
 abbrev pub weight : Call → ℕ
 weight call = if waits (Some call) then 1 else 0
 

@@ -1,7 +1,6 @@
 pub mod Types
-pub mod Client
+pub mod State
+pub mod Protocol
 pub mod Kept
-pub mod Table
-pub mod Happens
 pub mod Inside
 pub mod Calls

@@ -1,7 +1,7 @@
 //! What a client keeps of a call.
 ghost use Rattle.std.specs.Prelude.{◌≡◌};
-ghost use Rattle.ttrpc_client.specs.Client.{deadline_of};
-ghost use Rattle.ttrpc_client.specs.Happens.{is_due};
+ghost use Rattle.ttrpc_client.specs.State.{deadline_of};
+ghost use Rattle.ttrpc_client.specs.Protocol.{is_due};
 ghost use Rattle.ttrpc_client.specs.Kept.{deadline_in};
 
 use ttrpc_proto::{Error, Response};

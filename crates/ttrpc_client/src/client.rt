@@ -1,16 +1,14 @@
 //! The core of a client: calls and frames in, requests and outcomes out.
-ghost use Rattle.std.specs.Prelude.{◌≡◌, ◌≢◌, ◌<◌, ◌≤◌, ◌%◌, ◌^◌, ◌+◌, ◌++◌, ◌↔◌, ◌⊎◌, ℕ, [], length, take, drop, min, is_some, if◌then◌else◌, true, option_to_list, IfOk, IfErr, OnOk, OnErr, IfSome, IfNone, Some, None};
-ghost use Rattle.ttrpc_frame.specs.Frames.{nothing};
-ghost use Rattle.ttrpc_frame.specs.Queue.{open_part, unsent, with_lent, after_report};
+ghost use Rattle.std.specs.Prelude.{◌≡◌, ◌≢◌, ◌<◌, ◌≤◌, ◌%◌, ◌^◌, ◌+◌, ◌++◌, ◌↔◌, ℕ, [], length, is_some, true, option_to_list, IfOk, IfErr, OnOk, OnErr, IfSome, IfNone, Some, None};
+ghost use Rattle.ttrpc_frame.specs.Queue.{unsent};
 ghost use Rattle.ttrpc_secure.specs.Hooks.Facts.{facts_of};
 ghost use Rattle.ttrpc_connection.specs.declared.failure.Failure.{Failure as AFailure};
-ghost use Rattle.ttrpc_connection.specs.Failure.{IsTold, error_of, kept};
-ghost use Rattle.ttrpc_connection.specs.Feeds.{Breaks, Feeds, IsFailed};
+ghost use Rattle.ttrpc_connection.specs.Feeds.{IsFailed};
+ghost use Rattle.ttrpc_connection.specs.OneEnd.{Ends, Lends, Takes, failing, lendable, lending, reporting};
 ghost use Rattle.ttrpc_connection.specs.Frames.{safe_limit};
-ghost use Rattle.ttrpc_client.specs.Client.{IsClient, throws};
-ghost use Rattle.ttrpc_client.specs.Happens.{Forgets, IsDeadline, Requests, Tells, Ticks, calling, due_ids, new_core, taken_back};
+ghost use Rattle.ttrpc_client.specs.State.{IsClient, throws};
+ghost use Rattle.ttrpc_client.specs.Protocol.{Forgets, IsDeadline, Requests, TakesOutcome, Ticks, calling, due_ids, new_core, taken_back, IsRequestFrame, RefusesRequest};
 ghost use Rattle.ttrpc_client.specs.Inside.{Begins, MayRefuse};
-ghost use Rattle.ttrpc_client.specs.Table.{IsRequestFrame, RefusesRequest};
 
 use crate::call::{Call, CallId, deadline_of};
 use crate::errors::{above_limit_error, deadline_error, used_up_error};
@@ -25,7 +23,7 @@ use ttrpc_frame::header::oversize::oversize_error;
 use ttrpc_frame::owners::Owners;
 use ttrpc_frame::{GenMessage, MESSAGE_LENGTH_MAX, MessageHeader, Queued};
 use ttrpc_proto::{Error, Request};
-use ttrpc_secure::security::errors::{told, unsealed_error};
+use ttrpc_secure::context::errors::{or_no_memory, unsealed_error};
 use ttrpc_secure::sending::SendError;
 use ttrpc_secure::{
     ConnectionContext, ConnectionData, InboundTransform, OutboundTransform, TransformError,
@@ -80,7 +78,7 @@ impl<O: OutboundTransform + Drop, I: InboundTransform + Drop> ClientCore<O, I> {
         self.connection.check_alive(alloc)?;
         let size = request.size() as usize;
         if size > MESSAGE_LENGTH_MAX {
-            return Err(told(oversize_error(alloc, size, false)));
+            return Err(or_no_memory(oversize_error(alloc, size, false)));
         }
         let Some(id) = self.state.next_id() else {
             return Err(used_up_error(alloc));
@@ -110,8 +108,10 @@ impl<O: OutboundTransform + Drop, I: InboundTransform + Drop> ClientCore<O, I> {
         bytes: Vec<u8>,
         deadline: Option<u128>,
     ) -> Result<(), TransformError>
+        // The id is the next one, and the request fits.
         requires next { id ≡ self.old.state.next }
         requires fits { length bytes.items ≤ safe_limit O.OutboundTransform self.old.connection.outbox.half }
+        // The call waits, and its request is queued; or memory is wanted, or the half refuses, and nothing changed.
         ensures ok { OnOk result (Begins O.OutboundTransform self.old id bytes.items deadline self.new) }
         ensures refused { IfErr result (MayRefuse O.OutboundTransform self.old id bytes.items) }
         ensures err { OnErr result (self.new ≡ self.old) }
@@ -193,13 +193,7 @@ impl<O: OutboundTransform + Drop, I: InboundTransform + Drop> ClientCore<O, I> {
     /// Takes a piece whole, and says how many bytes that are. Each frame that is whole with it acts, in order. The
     /// connection fails where memory for a frame is refused; then and from then on the answer is that failure.
     pub fn feed(&mut self, alloc: Global, piece: &[u8]) -> Result<usize, Error>
-        ensures ok { IfOk result (λ n. (n ≡ length piece.now)
-            × Feeds (calling O.OutboundTransform I.InboundTransform) self.old.state self.old.connection piece.now 0 self.new.state self.new.connection) }
-        ensures fails { self.old.connection.failure ≡ None → IfErr result (λ e.
-            Breaks (calling O.OutboundTransform I.InboundTransform) self.old.state self.old.connection piece.now 0 e self.new.state self.new.connection) }
-        ensures failed { (f : AFailure) → self.old.connection.failure ≡ Some f
-            → (self.new ≡ self.old) × IfErr result (IsTold (error_of f)) }
-        ensures known { self.new.connection.known ≡ self.old.connection.known }
+        ensures { Takes (calling O.OutboundTransform I.InboundTransform) self.old.state self.old.connection piece.now 0 result self.new.state self.new.connection }
     {
         // No rule of a client asks for the moment at which a frame came.
         self.connection.feed(alloc, &mut self.state, piece, 0)
@@ -208,7 +202,7 @@ impl<O: OutboundTransform + Drop, I: InboundTransform + Drop> ClientCore<O, I> {
     /// Gives the outcome of a call, once: none where there is no such call, or none yet. Where memory for its text was
     /// refused, it is `NoMemory`.
     pub fn take_outcome(&mut self, alloc: Global, id: CallId) -> Option<Outcome>
-        ensures { Tells self.old id result self.new }
+        ensures { TakesOutcome self.old id result self.new }
     {
         let failed = self.connection.has_failed();
         match self.state.take(id, failed)? {
@@ -230,30 +224,24 @@ impl<O: OutboundTransform + Drop, I: InboundTransform + Drop> ClientCore<O, I> {
         self.state.next_ended()
     }
 
-    /// What holds of every client: its ids are odd, and what it keeps is of ids below the next one. Does nothing.
-    pub fn known(&self)
+    /// A lemma, which does nothing when it runs: a client's ids are odd, and it keeps calls of ids below the next one only.
+    pub fn lemma_is_client(&self)
         ensures { IsClient self.now.state.next self.now.state.calls }
     {
-        self.state.known();
+        self.state.lemma_is_client();
     }
 
     /// The input ended: the connection fails, if it hasn't. Takes no memory.
     pub fn end_of_input(&mut self)
-        ensures between { self.old.connection.decoder ≡ nothing → self.new ≡ record self.old {
-          connection = record self.old.connection { failure = kept self.old.connection.failure Failure.Disconnected };
-        } }
-        ensures inside { self.old.connection.decoder ≢ nothing → self.new ≡ record self.old {
-          connection = record self.old.connection { failure = kept self.old.connection.failure Failure.DisconnectedInside };
-        } }
+        ensures ends { Ends self.old.connection self.new.connection }
+        ensures same { self.new ≡ record self.old { connection = self.new.connection } }
     {
         self.connection.end_of_input();
     }
 
     /// Fails the connection, if it hasn't failed: each call that waits has that as its outcome. Takes no memory.
     pub fn fail(&mut self, error: Error)
-        ensures { self.new ≡ record self.old {
-          connection = record self.old.connection { failure = kept self.old.connection.failure (Failure.Told error) };
-        } }
+        ensures { self.new ≡ record self.old { connection = failing self.old.connection (Failure.Told error) } }
     {
         self.connection.fail(Failure::Told(error));
     }
@@ -276,17 +264,8 @@ impl<O: OutboundTransform + Drop, I: InboundTransform + Drop> ClientCore<O, I> {
     /// Copies a front of what is left of the first unfinished frame, as much as fits, and says how many bytes: none only
     /// where none fit, nothing is left to be written, or the connection has failed. Takes no memory.
     pub fn lend(&mut self, buffer: &mut [u8]) -> usize
-        ensures count { result ≡ (if is_some self.old.connection.failure then 0
-            else min (length buffer.old) (length (open_part self.old.connection.outbox.queue))) }
-        ensures zero { (result ≡ 0) ↔ ((length buffer.old ≡ 0)
-            ⊎ (unsent self.old.connection.outbox.queue ≡ []) ⊎ (is_some self.old.connection.failure ≡ true)) }
-        ensures copied { take result buffer.new ≡ take result (open_part self.old.connection.outbox.queue) }
-        ensures rest { drop result buffer.new ≡ drop result buffer.old }
-        ensures lent { self.new ≡ record self.old {
-          connection = record self.old.connection {
-            outbox = record self.old.connection.outbox { queue = with_lent self.old.connection.outbox.queue result };
-          };
-        } }
+        ensures lends { Lends self.old.connection buffer.old result buffer.new }
+        ensures lent { self.new ≡ record self.old { connection = lending self.old.connection result } }
     {
         self.connection.lend(buffer)
     }
@@ -294,19 +273,14 @@ impl<O: OutboundTransform + Drop, I: InboundTransform + Drop> ClientCore<O, I> {
     /// Reports this many of the lent bytes as written. Takes no memory.
     pub fn wrote(&mut self, n: usize)
         requires { n ≤ self.old.connection.outbox.queue.lent }
-        ensures { self.new ≡ record self.old {
-          connection = record self.old.connection {
-            outbox = record self.old.connection.outbox { queue = after_report self.old.connection.outbox.queue n };
-          };
-        } }
+        ensures { self.new ≡ record self.old { connection = reporting self.old.connection n } }
     {
         self.connection.wrote(n)
     }
 
     /// How many bytes a `lend` gives where all fit. Takes no memory.
     pub fn lendable(&self) -> usize
-        ensures { result ≡ (if is_some self.now.connection.failure then 0
-            else length (open_part self.now.connection.outbox.queue)) }
+        ensures { result ≡ lendable self.now.connection }
     {
         self.connection.lendable()
     }
@@ -334,8 +308,8 @@ struct DueCalls<'a> {
 }
 
 impl Owners for DueCalls<'_> {
-    ghost use Rattle.ttrpc_client.specs.Client.{call_at};
-    ghost use Rattle.ttrpc_client.specs.Happens.{due_at};
+    ghost use Rattle.ttrpc_client.specs.State.{call_at};
+    ghost use Rattle.ttrpc_client.specs.Protocol.{due_at};
 
     ghost has = { λ due id. due_at due.moment (call_at due.state.now id) };
 

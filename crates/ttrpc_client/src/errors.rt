@@ -1,15 +1,14 @@
 //! The errors that a client core tells by itself.
 ghost use Rattle.std.specs.Prelude.{◌≡◌, ◌++◌, ℕ, List, codes, IfOk};
 ghost use Rattle.ttrpc_connection.specs.Failure.{IsTold};
-ghost use Rattle.ttrpc_client.specs.Table.{advice, malformed_text};
-ghost use Rattle.ttrpc_secure.specs.Security.Texts.{unsafe_payload_text};
-ghost use Rattle.ttrpc_client.specs.Happens.{expired_error};
+ghost use Rattle.ttrpc_client.specs.Protocol.{advice, malformed_text, expired_error};
+ghost use Rattle.ttrpc_secure.specs.Context.Texts.{unsafe_payload_text};
 
 use crate::kind::ClientKind;
 use std::alloc::{AllocError, Global};
 use ttrpc_frame::MessageHeader;
 use ttrpc_proto::Error;
-use ttrpc_secure::security::errors::{others_error, unsafe_payload_error};
+use ttrpc_secure::context::errors::{others_error, unsafe_payload_error};
 use ttrpc_wire::{CodecError, Text};
 
 /// The outcome of a call whose response doesn't read as one. The clause leaves the end of its text open, as it leaves

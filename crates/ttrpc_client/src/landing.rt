@@ -1,6 +1,6 @@
 //! What a frame gives a call that waits.
 ghost use Rattle.std.specs.Prelude.{◌≡◌, IfOk, Some, None};
-ghost use Rattle.ttrpc_client.specs.Table.{by_status, IsLanding, landing_of};
+ghost use Rattle.ttrpc_client.specs.Protocol.{by_status, IsLanding, landing_of};
 
 use crate::errors::{malformed_error, unreadable_error};
 use std::alloc::{AllocError, Global};
@@ -9,7 +9,7 @@ use ttrpc_connection::Opening;
 use ttrpc_frame::header::oversize::oversize_error;
 use ttrpc_frame::{MESSAGE_LENGTH_MAX, MESSAGE_TYPE_RESPONSE, MessageHeader};
 use ttrpc_proto::{Error, Response};
-use ttrpc_secure::security::errors::unopened_error;
+use ttrpc_secure::context::errors::unopened_error;
 use ttrpc_wire::{Blob, CodecError};
 
 /// The outcome of a call.

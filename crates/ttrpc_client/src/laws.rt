@@ -10,8 +10,8 @@ ghost use Rattle.ttrpc_connection.specs.declared.connection.Connection.{Connecti
 ghost use Rattle.ttrpc_connection.specs.Calls.{Call, Goes, Runs, joined};
 ghost use Rattle.ttrpc_client.specs.declared.client.ClientCore.{ClientCore as ACore};
 ghost use Rattle.ttrpc_client.specs.Calls.{AreQueuedOnce, Called, Causes, Does, RiseByTwo, called, ids_asked, outcomes_of};
-ghost use Rattle.ttrpc_client.specs.Client.{Client, IsClient, call_at, throws};
-ghost use Rattle.ttrpc_client.specs.Happens.{Ticks, calling, due_at};
+ghost use Rattle.ttrpc_client.specs.State.{Client, IsClient, call_at, throws};
+ghost use Rattle.ttrpc_client.specs.Protocol.{Ticks, calling, due_at};
 
 use ttrpc_secure::{InboundTransform, OutboundTransform};
 

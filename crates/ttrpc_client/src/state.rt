@@ -1,9 +1,8 @@
-//! What a client core is beside its connection, and how a whole frame acts on it.
+//! The state of a client core, without its connection, and how a whole frame acts on it.
 ghost use Rattle.std.specs.Prelude.{◌≡◌, ◌%◌, ◌+◌, ◌++◌, ◌<◌, ◌^◌, ℕ, [], true, false, option_to_list, IfSome, IfNone, OnOk, OnErr, Option, Some};
-ghost use Rattle.ttrpc_client.specs.Client.{Client, IsClient, call_at, new_client, waits};
-ghost use Rattle.ttrpc_client.specs.Happens.{Expires, IsDeadline, due_at, due_ids};
+ghost use Rattle.ttrpc_client.specs.State.{Client, IsClient, call_at, new_client, waits};
+ghost use Rattle.ttrpc_client.specs.Protocol.{Expires, IsDeadline, due_at, due_ids, last_id};
 ghost use Rattle.ttrpc_client.specs.Inside.{Admits, ExpiresOne, Leaves, Settles, Takes, given_of};
-ghost use Rattle.ttrpc_client.specs.Table.{last_id};
 
 use crate::call::{Call, CallId, waits_until};
 use crate::deadlines::Deadlines;
@@ -32,7 +31,7 @@ pub struct ClientState {
 
 impl Model for ClientState {
     ghost use Rattle.std.specs.VecDeque.{deque_capacity, deque_len};
-    ghost use Rattle.ttrpc_client.specs.Client.{Client};
+    ghost use Rattle.ttrpc_client.specs.State.{Client};
     ghost use Rattle.ttrpc_client.specs.Kept.{IsKept};
 
     ghost Value = { Client };
@@ -62,8 +61,8 @@ impl ClientState {
         }
     }
 
-    /// What holds of every client. Does nothing.
-    pub(crate) fn known(&self)
+    /// A lemma, which does nothing when it runs: what holds of every client.
+    pub(crate) fn lemma_is_client(&self)
         ensures { IsClient self.now.next self.now.calls }
     {
         let _next = self.next;
@@ -193,7 +192,7 @@ impl ClientState {
         matches!(self.calls.get(&id), Some(Call::Waiting(_)))
     }
 
-    /// A call that waits becomes this one, which doesn't, and is told of as ended. Takes no memory.
+    /// Ends a waiting call in this way, and lists it as ended. Takes no memory.
     fn settle(&mut self, id: CallId, call: Call)
         requires waited { waits (call_at self.old id) ≡ true }
         requires ended { waits (Some call) ≡ false }
@@ -211,7 +210,7 @@ impl ClientState {
 }
 
 impl<O: OutboundTransform> Reacts<O> for ClientState {
-    ghost use Rattle.ttrpc_client.specs.Happens.{fails_not, lands_once};
+    ghost use Rattle.ttrpc_client.specs.Protocol.{fails_not, lands_once};
 
     ghost reacts = { lands_once };
 

@@ -9,21 +9,25 @@ use Rattle.ttrpc_wire.specs.Fold.{read_from}
 
 -- ---- reading: a field of another number, or of another wire type, means nothing to a member
 
+-- what a value makes of a member that reads length-delimited values
 abbrev pub delimited : {A : Type 0} → (A → List ℕ → Option A) → A → Value → Option A
 delimited read old (LengthDelimited bytes) = read old bytes
 delimited read old (Varint n) = Some old
 delimited read old (Fixed64 n) = Some old
 delimited read old (Fixed32 n) = Some old
 
+-- what a value makes of a member that reads varints
 abbrev pub number : {A : Type 0} → (A → ℕ → Option A) → A → Value → Option A
 number read old (Varint n) = read old n
 number read old (LengthDelimited bytes) = Some old
 number read old (Fixed64 n) = Some old
 number read old (Fixed32 n) = Some old
 
+-- what a field makes of member k, which reads length-delimited values
 abbrev pub delimited_in : {A : Type 0} → ℕ → (A → List ℕ → Option A) → A → Field → Option A
 delimited_in k read old f = if f.number == k then delimited read old f.value else Some old
 
+-- what a field makes of member k, which reads varints
 abbrev pub number_in : {A : Type 0} → ℕ → (A → ℕ → Option A) → A → Field → Option A
 number_in k read old f = if f.number == k then number read old f.value else Some old
 
@@ -31,12 +35,15 @@ number_in k read old f = if f.number == k then number read old f.value else Some
 abbrev pub text_of : List ℕ → Option (List ℕ)
 text_of bytes = if is_utf8 bytes then Some bytes else None
 
+-- a text: the last one wins, and one that isn't UTF-8 is refused
 abbrev pub last_text : List ℕ → List ℕ → Option (List ℕ)
 last_text old bytes = text_of bytes
 
+-- bytes: the last ones win
 abbrev pub last_bytes : List ℕ → List ℕ → Option (List ℕ)
 last_bytes old bytes = Some bytes
 
+-- a number, seen as the member's type has it: the last one wins
 abbrev pub last_number : {A : Type 0} → (ℕ → A) → A → ℕ → Option A
 last_number seen old n = Some (seen n)
 
@@ -50,26 +57,31 @@ joined step empty old bytes = option_map (λ m. Some m) (read_from step (unwrap_
 
 -- ---- two members: each field is offered to both
 
+-- what a field makes of two members, unless one of them refuses it
 abbrev pub both : {A B : Type 0} → (A → Field → Option A) → (B → Field → Option B) → A × B → Field → Option (A × B)
 both first second m f = first m.0 f >>= λ a. second m.1 f >>= λ b. Some (a, b)
 
 -- ---- writing: a default is left out
 
+-- the field of number k with these bytes as its length-delimited value
 abbrev pub delimited_field : ℕ → List ℕ → Field
 delimited_field k bytes = record { number = k; value = LengthDelimited bytes }
 
+-- the field of a text or of bytes, or none where they are empty
 abbrev pub delimited_fields : ℕ → List ℕ → List Field
 delimited_fields k [] = []
 delimited_fields k (b ∷ bytes) = delimited_field k (b ∷ bytes) ∷ []
 
+-- the field of a number, or none where it is 0
 abbrev pub number_fields : ℕ → ℕ → List Field
 number_fields k zero = []
 number_fields k (suc n) = record { number = k; value = Varint (suc n) } ∷ []
 
--- messages of a list, and one that may be absent, are written also where they are empty
+-- messages of a list are written also where they are empty
 abbrev pub part_fields : {M : Type 0} → ℕ → (M → List Field) → List M → List Field
 part_fields k fields ms = map (λ m. delimited_field k (fields_bytes (fields m))) ms
 
+-- the field of a message that may be absent, or none where it is absent
 abbrev pub optional_fields : {M : Type 0} → ℕ → (M → List Field) → Option M → List Field
 optional_fields k fields None = []
 optional_fields k fields (Some m) = delimited_field k (fields_bytes (fields m)) ∷ []

@@ -1,4 +1,4 @@
-//! What a value that travels in a payload is: read, measured, written and merged.
+//! The trait `Codec`: values that are read, measured, written and merged.
 ghost use Rattle.std.specs.Prelude.{◌≡◌, ℕ, List, ◌<◌, ◌≤◌, ◌^◌, ◌-◌, ◌++◌, length, Option, Some, None, IfOk, OnOk, IfErr, OnErr, min, ◌⊎◌};
 
 use crate::message::{WireMessage, decode, encode, merge, size};

@@ -9,7 +9,7 @@ use crate::message::WireMessage;
 use std::alloc::Global;
 use ttrpc_wire::{Blob, CodecError, Field, Reader, Value};
 
-/// A message with bytes that are its payload, and may be many.
+/// A message with one member of bytes, its payload, which may be long.
 pub trait CarriesPayload: WireMessage {
     /// The number of the payload's field.
     ghost payload_field: { ℕ };

@@ -153,11 +153,11 @@ pub fn put_parts<M: WireMessage>(
     Ok(())
 }
 
-/// Each message is a value of its type: what a proof knows of its members.
-pub fn known_all<M: WireMessage>(parts: &[M])
+/// A lemma, which does nothing when it runs: each message is a value of its type.
+pub fn lemma_are_values<M: WireMessage>(parts: &[M])
     ensures { AllByRecursion M.is_value parts.now }
 {
     for part in parts {
-        part.known();
+        part.lemma_is_value();
     }
 }

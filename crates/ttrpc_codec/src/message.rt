@@ -43,8 +43,8 @@ pub trait WireMessage: TryClone {
         ensures too_long { IfErr result (λ e. e ≢ CodecError.NoMemory
             → (e ≡ CodecError.TooLong) × (2 ^ 32 ≤ length (fields_bytes (fields self.now)))) };
 
-    /// A value of the type is one: what a proof knows of its members.
-    fn known(&self)
+    /// A lemma, which does nothing when it runs: a value of the type is one. Its body reads each member.
+    fn lemma_is_value(&self)
         ensures { is_value self.now };
 
     /// The fields that are written mean the message.
@@ -100,7 +100,7 @@ pub fn encode<M: WireMessage>(alloc: Global, message: &M) -> Result<Vec<u8>, Cod
         → (e ≡ CodecError.TooLong) × (2 ^ 32 ≤ length (fields_bytes (M.fields message.now)))) }
     ensures short { IfOk result (λ v. length v.items < 2 ^ 32) }
 {
-    message.known();
+    message.lemma_is_value();
     let length = message.length();
     if length > u32::MAX as u64 {
         return Err(CodecError::TooLong);
@@ -134,7 +134,7 @@ pub fn merge<M: WireMessage>(alloc: Global, message: &mut M, bytes: &[u8]) -> Re
         ⊎ (read_from M.step M.empty (fields_bytes (M.fields message.old) ++ bytes.now) ≡ None)) }
     ensures err { OnErr result (message.new ≡ message.old) }
 {
-    message.known();
+    message.lemma_is_value();
     if message.length() == u64::MAX {
         return Err(CodecError::TooLong);
     }

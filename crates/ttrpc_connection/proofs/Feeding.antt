@@ -1,6 +1,6 @@
 -- A piece is fed in turns: each takes a front of what is left, and at most one frame acts.
 use Rattle.ttrpc_connection.proofs.Words.{◌≡◌, ◌⊎◌, inl, inr, ℕ, List, [], ◌∷◌, ◌++◌, take, drop, refl, sym, subst, append_assoc, Option, Some, None, IsSome, take-append-drop, append-nil, Error, Incoming, Frames, Held, Fed, given, nothing, frames_append, Arrived, Connection, Failure, NoMemory, IsTold, error_of, Opens, SendsAll, Sent, header_of_frame, Ways, Scene, ActsAll, Breaks, Feeds, FeedsFront, IsWhy, scene}
-use Rattle.ttrpc_connection.specs.Inside.{StopsAt, TakesFront}
+use Rattle.ttrpc_connection.specs.Inside.{FrontActs, StopsAt}
 
 pub nothing_taken : (held : Held) → Fed held [] [] held
 nothing_taken held = λ before h. (before, append-nil before, h)
@@ -63,7 +63,7 @@ pub took_frame : {S O I : Type 0} (w : Ways S O I) (s : S) (old : Connection O I
     → o ≡ Some f → Fed old.decoder front (given o) new.decoder → Opens w.in_ old.inbound f a.opening new.inbound
     → a.header ≡ header_of_frame f → a.now ≡ at
     → (sent : List Sent) × w.core.reacts s old.outbox.half a sent t × SendsAll w.out old.outbox sent new.outbox
-    → TakesFront w s old front at t new
+    → FrontActs w s old front at t new
 took_frame w s old front at f o a t new is fed opens header now reacts = record {
   frame = Some f;
   fed = subst (λ (x : Option Incoming). Fed old.decoder front (given x) new.decoder) is fed;
@@ -82,7 +82,7 @@ took_frame w s old front at f o a t new is fed opens header now reacts = record 
 
 -- none was whole
 pub took_part : {S O I : Type 0} (w : Ways S O I) (s : S) (old : Connection O I) (front : List ℕ) (at : ℕ) (o : Option Incoming) (held : Held)
-    → o ≡ None → Fed old.decoder front (given o) held → TakesFront w s old front at s (record old { decoder = held })
+    → o ≡ None → Fed old.decoder front (given o) held → FrontActs w s old front at s (record old { decoder = held })
 took_part w s old front at o held is fed = record {
   frame = None;
   fed = subst (λ (x : Option Incoming). Fed old.decoder front (given x) held) is fed;

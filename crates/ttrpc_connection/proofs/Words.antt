@@ -19,6 +19,6 @@ pub use Rattle.ttrpc_secure.specs.Sends.{associated}
 pub use Rattle.ttrpc_connection.specs.Types.{Arrived, Connection, Error, Failure, InboundTransform, Incoming, MESSAGE_LENGTH_MAX, MESSAGE_TYPE_REQUEST, MessageHeader, NoMemory, OutboundTransform, Outbox, Queued}
 pub use Rattle.ttrpc_connection.proofs.Lists.{all_at, all_behind, all_changed, all_in_front, all_joined, all_less, between_other, between_own, pushed_other, pushed_own, under_both, under_other, under_own}
 pub use Rattle.ttrpc_connection.specs.Calls.{AreLawful, before_others, Call, Calls, Did, Failed, Gave, Gives, Goes, joined, Lent, Others, Own, own, Queued_one, Reported, Runs}
-pub use Rattle.ttrpc_connection.specs.Failure.{error_of, IsTold, kept}
+pub use Rattle.ttrpc_connection.specs.Failure.{error_of, IsTold, first_failure}
 pub use Rattle.ttrpc_connection.specs.Feeds.{ActsAll, Breaks, Feeds, FeedsFront, IsWhy, Scene, scene, Ways, ways}
 pub use Rattle.ttrpc_connection.specs.Frames.{header_of_frame, Opens, safe_limit, SendsAll, SendsOne, Sent}

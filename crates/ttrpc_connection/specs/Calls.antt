@@ -2,11 +2,11 @@
 -- Source: this project's.
 use Rattle.std.specs.Prelude.{◌≡◌, ◌≤◌, ◌⊎◌, ℕ, List, [], ◌∷◌, ◌++◌, length, map, is_some, true, if◌then◌else◌, nat_eq}
 use Rattle.ttrpc_connection.specs.Types.{Error, Queued, Connection, Failure}
-use Rattle.ttrpc_frame.specs.Queue.{Queue, Happening, Placed, Allowed, after_all, open_part, with_payload, with_lent, after_report}
+use Rattle.ttrpc_frame.specs.Queue.{Queue, Happening, Placed, Allowed, after_all, open_part, with_payload}
 use Rattle.ttrpc_frame.specs.Queue as queue
-use Rattle.ttrpc_connection.specs.Failure.{kept}
 use Rattle.ttrpc_connection.specs.Frames.{SendsOne}
 use Rattle.ttrpc_connection.specs.Feeds.{Ways, Feeds, Breaks}
+use Rattle.ttrpc_connection.specs.OneEnd.{failing, lending, reporting}
 
 -- a call, with what it was given and what it gave
 pub data Call (A : Type 0) : Type 0 where
@@ -46,16 +46,17 @@ Gives w s old piece now t new =
 abbrev pub Queues : {O I : Type 0} → Connection O I → List Queued → Connection O I → Type 0
 Queues old queued new = new.outbox.queue.frames ≡ old.outbox.queue.frames ++ queued
 
+-- What one call does to the core's state and the connection, and what the queue goes through by it.
 abbrev pub Calls : {A S O I : Type 0} → Ways S O I → Others A S O I → S → Connection O I → Call A → List Happening → S → Connection O I → Type 0
 Calls w others s old (Gave piece now) happenings t new =
     Gives w s old piece now t new × ((queued : List Queued) × Queues old queued new × (happenings ≡ map Placed queued))
 Calls w others s old (Lent n) happenings t new =
     (t ≡ s) × (n ≤ length (open_part old.outbox.queue)) × (is_some old.failure ≡ true → n ≡ 0)
-    × (new ≡ record old { outbox = record old.outbox { queue = with_lent old.outbox.queue n } }) × (happenings ≡ queue.Lent n ∷ [])
+    × (new ≡ lending old n) × (happenings ≡ queue.Lent n ∷ [])
 Calls w others s old (Reported n) happenings t new =
     (t ≡ s) × (n ≤ old.outbox.queue.lent)
-    × (new ≡ record old { outbox = record old.outbox { queue = after_report old.outbox.queue n } }) × (happenings ≡ queue.Reported n ∷ [])
-Calls w others s old Failed happenings t new = (t ≡ s) × ((why : Failure) × (new ≡ record old { failure = kept old.failure why })) × (happenings ≡ [])
+    × (new ≡ reporting old n) × (happenings ≡ queue.Reported n ∷ [])
+Calls w others s old Failed happenings t new = (t ≡ s) × ((why : Failure) × (new ≡ failing old why)) × (happenings ≡ [])
 Calls w others s old (Did a) happenings t new = others a s old happenings t new
 
 -- Calls one after the other, and what the queue goes through by them, in order.
@@ -65,11 +66,12 @@ Runs {A} {S} {O} {I} w others s old (c ∷ cs) happenings t new =
     (u : S) × (mid : Connection O I) × (now : List Happening) × (later : List Happening)
     × Calls w others s old c now u mid × (happenings ≡ now ++ later) × Runs w others u mid cs later t new
 
--- the calls, with pieces that come one directly after the other at one moment put together
+-- a piece in front of calls whose pieces are joined: it is put together with one that comes directly after it, at the same moment
 abbrev pub before_others : {A : Type 0} → List ℕ → ℕ → List (Call A) → List (Call A)
 before_others piece now (Gave more at ∷ cs) = if nat_eq at now then Gave (piece ++ more) now ∷ cs else Gave piece now ∷ Gave more at ∷ cs
 before_others piece now cs = Gave piece now ∷ cs
 
+-- the calls, where pieces that come one directly after the other at one moment are one piece
 abbrev pub joined : {A : Type 0} → List (Call A) → List (Call A)
 joined [] = []
 joined (Gave piece now ∷ cs) = before_others piece now (joined cs)
@@ -77,10 +79,12 @@ joined (c ∷ cs) = c ∷ joined cs
 
 -- ---- the calls of a connection alone
 
+-- another call of a connection alone, with what it was given
 pub data Own : Type 0 where
   -- data were sealed and queued, and the core's state may have changed
   Queued_one : (frame : Queued) → (plain : List ℕ) → Own
 
+-- what such a call does, and what the queue goes through by it
 abbrev pub own : {S O I : Type 0} → Ways S O I → Others Own S O I
 own w (Queued_one frame plain) s old happenings t new =
     (sends : SendsOne w.out old.outbox frame plain new.outbox) × (new ≡ record old { outbox = new.outbox })

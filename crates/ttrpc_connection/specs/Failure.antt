@@ -1,10 +1,11 @@
 -- Which error tells why a connection failed.
--- Source: this project's.
+-- Source: the Rust crate, for the texts on the socket and on requests during write; the others are this project's.
 use Rattle.std.specs.Prelude.{codes, Option, None, Some}
 use Rattle.ttrpc_connection.specs.Types.{Error, Failure, Told, Disconnected, DisconnectedInside, HandlerError, JobIdsUsedUp, DeadlineDuringWrite, CancelledDuringWrite, MemoryRefused}
 use Rattle.ttrpc_proto.specs.declared.error.Error.TheVariants.{Socket, Others, NoMemory}
-pub use Rattle.ttrpc_secure.specs.Security.Told.{IsTold}
+pub use Rattle.ttrpc_secure.specs.Context.Told.{IsTold}
 
+-- the error that tells a failure
 abbrev pub error_of : Failure → Error
 error_of (Told error) = error
 error_of Disconnected = Socket (codes "socket disconnected")
@@ -16,6 +17,6 @@ error_of CancelledDuringWrite = Socket (codes "connection closed after a request
 error_of MemoryRefused = NoMemory
 
 -- the first failure is kept
-abbrev pub kept : Option Failure → Failure → Option Failure
-kept None failure = Some failure
-kept (Some first) failure = Some first
+abbrev pub first_failure : Option Failure → Failure → Option Failure
+first_failure None failure = Some failure
+first_failure (Some first) failure = Some first

@@ -25,6 +25,7 @@ pub record Ways (S O I : Type 0) : Type 1 where
   pub in_ : InboundTransform I
   pub core : Reacts S O
 
+-- these two halves and this core, as the clauses know them
 abbrev pub ways : {S O I : Type 0} → OutboundTransform O → InboundTransform I → Reacts S O → Ways S O I
 ways out in_ core = record { out = out; in_ = in_; core = core }
 
@@ -34,6 +35,7 @@ pub record Scene (S O I : Type 0) : Type 0 where
   pub outbox : Outbox O
   pub inbound : I
 
+-- what a whole frame acts on, taken from the state of a core and its connection
 abbrev pub scene : {S O I : Type 0} → S → Connection O I → Scene S O I
 scene state c = record { state = state; outbox = c.outbox; inbound = c.inbound }
 
@@ -49,6 +51,7 @@ pub record Acts {S O I : Type 0} (w : Ways S O I) (now : ℕ) (old : Scene S O I
   pub reacts : w.core.reacts old.state old.outbox.half (arrived f opening now) sent new.state
   pub sends : SendsAll w.out old.outbox sent new.outbox
 
+-- These frames act, one after the other.
 abbrev pub ActsAll : {S O I : Type 0} → Ways S O I → ℕ → Scene S O I → List Incoming → Scene S O I → Type 0
 ActsAll w now old [] new = new ≡ old
 ActsAll w now old (f ∷ fs) new = (mid : Scene _ _ _) × Acts w now old f mid × ActsAll w now mid fs new

@@ -6,6 +6,7 @@ use Rattle.ttrpc_frame.specs.declared.frame.Incoming.TheVariants.{Frame, Oversiz
 use Rattle.ttrpc_secure.specs.Sends.{Sends, associated}
 pub use Rattle.ttrpc_secure.specs.Sends.{safe_limit}
 
+-- the header of a frame, also of one that is too long
 abbrev pub header_of_frame : Incoming → MessageHeader
 header_of_frame (Frame m) = m.header
 header_of_frame (Oversize h) = h
@@ -22,6 +23,7 @@ pub record Sent : Type 0 where
   pub frame : Queued
   pub plain : List ℕ
 
+-- this frame was sent, with this data sealed for it
 abbrev pub SendsOne : {O : Type 0} → OutboundTransform O → Outbox O → Queued → List ℕ → Outbox O → Type 0
 SendsOne half old frame plain new = Sends half.seals old.half old.queue frame plain new.half new.queue
 

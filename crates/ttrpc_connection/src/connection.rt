@@ -1,12 +1,11 @@
 //! One end of a connection.
-ghost use Rattle.std.specs.Prelude.{ℕ, List, ◌≡◌, ◌≢◌, ◌<◌, ◌≤◌, ◌↔◌, ◌⊎◌, [], true, length, take, drop, min, is_some, if◌then◌else◌, IfOk, IfErr, OnOk, OnErr, IfSome, IfNone, Err, Some, None};
+ghost use Rattle.std.specs.Prelude.{ℕ, List, ◌≡◌, ◌≢◌, ◌<◌, ◌≤◌, ◌↔◌, [], true, length, take, is_some, IfOk, IfErr, OnOk, IfSome, IfNone, None};
 ghost use Rattle.ttrpc_frame.specs.Frames.{Holds, nothing};
-ghost use Rattle.ttrpc_frame.specs.Queue.{open_part, unsent, with_lent, after_report};
+ghost use Rattle.ttrpc_frame.specs.Queue.{unsent};
 ghost use Rattle.ttrpc_secure.specs.Hooks.Facts.{facts_of};
-ghost use Rattle.ttrpc_connection.specs.declared.failure.Failure.{Failure as AFailure};
-ghost use Rattle.ttrpc_connection.specs.Failure.{IsTold, error_of, kept};
-ghost use Rattle.ttrpc_connection.specs.Feeds.{Breaks, Feeds, FeedsFront, IsFailed, new_connection, ways};
-ghost use Rattle.ttrpc_connection.specs.Inside.{StopsAt, TakesFront};
+ghost use Rattle.ttrpc_connection.specs.Feeds.{IsFailed, new_connection, ways};
+ghost use Rattle.ttrpc_connection.specs.Inside.{FrontActs, StopsAt};
+ghost use Rattle.ttrpc_connection.specs.OneEnd.{Ends, Lends, Takes, TakesFront, failing, lendable, lending, reporting};
 
 use crate::arrived::open;
 use crate::failure::Failure;
@@ -15,7 +14,9 @@ use crate::reacts::Reacts;
 use std::alloc::Global;
 use ttrpc_frame::FrameDecoder;
 use ttrpc_proto::Error;
-use ttrpc_secure::{ConnectionContext, ConnectionData, InboundTransform, Known, OutboundTransform};
+use ttrpc_secure::{
+    ConnectionContext, ConnectionData, ConnectionFacts, InboundTransform, OutboundTransform,
+};
 use ttrpc_wire::values::slices::behind;
 
 /// One end of a connection, over its two halves.
@@ -27,11 +28,11 @@ pub struct Connection<O, I> {
     inbound: I,
     failure: Option<Failure>,
     /// What is known of it.
-    known: Known,
+    known: ConnectionFacts,
 }
 
 impl<O: OutboundTransform + Drop, I: InboundTransform + Drop> Connection<O, I> {
-    /// A connection of this context, whose halves its payloads go through. Takes no memory.
+    /// A connection with the halves of this context. Takes no memory.
     pub fn new(alloc: Global, context: ConnectionContext<O, I>) -> Self
         ensures { result ≡ new_connection (facts_of context.connection_data.entries) context.outbound context.inbound }
     {
@@ -40,7 +41,7 @@ impl<O: OutboundTransform + Drop, I: InboundTransform + Drop> Connection<O, I> {
             outbox: Outbox::new(alloc, context.outbound),
             inbound: context.inbound,
             failure: None,
-            known: Known::new(context.connection_data),
+            known: ConnectionFacts::new(context.connection_data),
         }
     }
 
@@ -61,13 +62,7 @@ impl<O: OutboundTransform + Drop, I: InboundTransform + Drop> Connection<O, I> {
         piece: &[u8],
         now: u64,
     ) -> Result<usize, Error>
-        ensures ok { IfOk result (λ n. (n ≡ length piece.now)
-            × Feeds (ways O.OutboundTransform I.InboundTransform R.Reacts) core.old self.old piece.now now core.new self.new) }
-        ensures fails { self.old.failure ≡ None → IfErr result (λ e.
-            Breaks (ways O.OutboundTransform I.InboundTransform R.Reacts) core.old self.old piece.now now e core.new self.new) }
-        ensures failed { (f : AFailure) → self.old.failure ≡ Some f
-            → (self.new ≡ self.old) × (core.new ≡ core.old) × IfErr result (IsTold (error_of f)) }
-        ensures known { self.new.known ≡ self.old.known }
+        ensures { Takes (ways O.OutboundTransform I.InboundTransform R.Reacts) core.old self.old piece.now now result core.new self.new }
     {
         self.check_alive(alloc)?;
         let mut rest = piece;
@@ -87,14 +82,7 @@ impl<O: OutboundTransform + Drop, I: InboundTransform + Drop> Connection<O, I> {
         piece: &[u8],
         now: u64,
     ) -> Result<usize, Error>
-        ensures count { IfOk result (λ n. (n ≤ length piece.now) × (0 < length piece.now → 0 < n)) }
-        ensures ok { IfOk result (λ n.
-            FeedsFront (ways O.OutboundTransform I.InboundTransform R.Reacts) core.old self.old (take n piece.now) now core.new self.new) }
-        ensures fails { self.old.failure ≡ None → IfErr result (λ e.
-            Breaks (ways O.OutboundTransform I.InboundTransform R.Reacts) core.old self.old piece.now now e core.new self.new) }
-        ensures failed { (f : AFailure) → self.old.failure ≡ Some f
-            → (self.new ≡ self.old) × (core.new ≡ core.old) × IfErr result (IsTold (error_of f)) }
-        ensures known { self.new.known ≡ self.old.known }
+        ensures { TakesFront (ways O.OutboundTransform I.InboundTransform R.Reacts) core.old self.old piece.now now result core.new self.new }
     {
         self.check_alive(alloc)?;
         match self.take_front(alloc, core, piece, now) {
@@ -117,10 +105,7 @@ impl<O: OutboundTransform + Drop, I: InboundTransform + Drop> Connection<O, I> {
 
     /// The input ended: the connection fails, if it hasn't. Takes no memory.
     pub fn end_of_input(&mut self)
-        ensures between { self.old.decoder ≡ nothing
-            → self.new ≡ record self.old { failure = kept self.old.failure Failure.Disconnected } }
-        ensures inside { self.old.decoder ≢ nothing
-            → self.new ≡ record self.old { failure = kept self.old.failure Failure.DisconnectedInside } }
+        ensures { Ends self.old self.new }
     {
         let failure = if self.decoder.at_boundary() {
             Failure::Disconnected
@@ -132,7 +117,7 @@ impl<O: OutboundTransform + Drop, I: InboundTransform + Drop> Connection<O, I> {
 
     /// Fails the connection, if it hasn't failed. Takes no memory.
     pub fn fail(&mut self, failure: Failure)
-        ensures { self.new ≡ record self.old { failure = kept self.old.failure failure } }
+        ensures { self.new ≡ failing self.old failure }
     {
         if self.failure.is_none() {
             self.failure = Some(failure);
@@ -171,13 +156,8 @@ impl<O: OutboundTransform + Drop, I: InboundTransform + Drop> Connection<O, I> {
     /// Copies a front of what is left of the first unfinished frame, as much as fits, and says how many bytes: none only
     /// where none fit, nothing is left to be written, or the connection has failed. Takes no memory.
     pub fn lend(&mut self, buffer: &mut [u8]) -> usize
-        ensures count { result ≡ (if is_some self.old.failure then 0
-            else min (length buffer.old) (length (open_part self.old.outbox.queue))) }
-        ensures zero { (result ≡ 0)
-            ↔ ((length buffer.old ≡ 0) ⊎ (unsent self.old.outbox.queue ≡ []) ⊎ (is_some self.old.failure ≡ true)) }
-        ensures copied { take result buffer.new ≡ take result (open_part self.old.outbox.queue) }
-        ensures rest { drop result buffer.new ≡ drop result buffer.old }
-        ensures lent { self.new ≡ record self.old { outbox = record self.old.outbox { queue = with_lent self.old.outbox.queue result } } }
+        ensures lends { Lends self.old buffer.old result buffer.new }
+        ensures lent { self.new ≡ lending self.old result }
     {
         if self.failure.is_some() {
             return self.outbox.lend(&mut []);
@@ -188,14 +168,14 @@ impl<O: OutboundTransform + Drop, I: InboundTransform + Drop> Connection<O, I> {
     /// Reports this many of the lent bytes as written. Takes no memory.
     pub fn wrote(&mut self, n: usize)
         requires { n ≤ self.old.outbox.queue.lent }
-        ensures { self.new ≡ record self.old { outbox = record self.old.outbox { queue = after_report self.old.outbox.queue n } } }
+        ensures { self.new ≡ reporting self.old n }
     {
         self.outbox.wrote(n)
     }
 
     /// How many bytes a `lend` gives where all fit. Takes no memory.
     pub fn lendable(&self) -> usize
-        ensures { result ≡ (if is_some self.now.failure then 0 else length (open_part self.now.outbox.queue)) }
+        ensures { result ≡ lendable self.now }
     {
         if self.failure.is_some() {
             return 0;
@@ -226,11 +206,14 @@ impl<O: OutboundTransform + Drop, I: InboundTransform + Drop> Connection<O, I> {
         piece: &[u8],
         now: u64,
     ) -> Result<usize, Failure>
+        // A front was taken, and the frame that is whole with it acted.
         ensures count { IfOk result (λ n. (n ≤ length piece.now) × (0 < length piece.now → 0 < n)) }
         ensures ok { IfOk result (λ n.
-            TakesFront (ways O.OutboundTransform I.InboundTransform R.Reacts) core.old self.old (take n piece.now) now core.new self.new) }
+            FrontActs (ways O.OutboundTransform I.InboundTransform R.Reacts) core.old self.old (take n piece.now) now core.new self.new) }
+        // Or the connection is to fail, and why.
         ensures err { IfErr result (λ failure.
             StopsAt (ways O.OutboundTransform I.InboundTransform R.Reacts) core.old self.old piece.now now failure core.new self.new) }
+        // It has failed no more than before, and stays the same connection.
         ensures failure { self.new.failure ≡ self.old.failure }
         ensures known { self.new.known ≡ self.old.known }
     {

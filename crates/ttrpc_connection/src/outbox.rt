@@ -51,10 +51,13 @@ impl<O: OutboundTransform + Drop> Outbox<O> {
     /// Copies a front of what is left of the first frame, as much as fits, and says how many bytes: none only where
     /// none fit or nothing is left to be written. Takes no memory.
     pub(crate) fn lend(&mut self, buffer: &mut [u8]) -> usize
+        // As much is lent as fits.
         ensures count { result ≡ min (length buffer.old) (length (open_part self.old.queue)) }
         ensures zero { (result ≡ 0) ↔ ((length buffer.old ≡ 0) ⊎ (unsent self.old.queue ≡ [])) }
+        // It stands at the front of the buffer, whose rest stays.
         ensures copied { take result buffer.new ≡ take result (open_part self.old.queue) }
         ensures rest { drop result buffer.new ≡ drop result buffer.old }
+        // The queue knows how much.
         ensures lent { self.new ≡ record self.old { queue = with_lent self.old.queue result } }
     {
         self.queue.lend(buffer)

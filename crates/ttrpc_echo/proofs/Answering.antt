@@ -15,8 +15,7 @@ use Rattle.ttrpc_connection.specs.Frames.{header_of_frame}
 use Rattle.ttrpc_connection.proofs.Feeding.{fed_twice, nothing_taken}
 use Rattle.ttrpc_connection.proofs.Holding.{fed_some}
 use Rattle.ttrpc_server.specs.declared.server.ServerCore.{ServerCore}
-use Rattle.ttrpc_server.specs.Responses.{status_response}
-use Rattle.ttrpc_server.specs.Table.{Row, Skipped, Tells, TellsOf, Known, sync_row}
+use Rattle.ttrpc_server.specs.Protocol.{status_response, Row, Ignore, SendResponse, SendCode, MakeJob, sync_row}
 use Rattle.ttrpc_echo.specs.Echo.{AreAnswers, Says, echo_of, echo_services, plainly, said_bytes}
 use Rattle.ttrpc_echo.specs.Answered.{AnsweredAll, Fails, IsCause, StopsEarly}
 use Rattle.ttrpc_echo.specs.Serving.{IsFresh, IsReady, IsStop, Serves, WritesOut}
@@ -26,10 +25,10 @@ use Rattle.ttrpc_echo.proofs.Known.{appends_twice, consumed_nothing, consumes_ke
 -- ---- each list of frames has answers
 
 says_some : (row : Row) → (said : Option Response) × Says row said
-says_some Skipped = (None, refl)
-says_some (Tells r) = (Some r, refl)
-says_some (TellsOf code) = (Some (status_response code []), (status_response code [], ([], refl), refl))
-says_some (Known request) = (Some (echo_of request), refl)
+says_some Ignore = (None, refl)
+says_some (SendResponse r) = (Some r, refl)
+says_some (SendCode code) = (Some (status_response code []), (status_response code [], ([], refl), refl))
+says_some (MakeJob request) = (Some (echo_of request), refl)
 
 answers_some : (fs : List Incoming) → (bytes : List ℕ) × AreAnswers fs bytes
 answers_some [] = ([], refl)

@@ -25,12 +25,8 @@ use Rattle.ttrpc_connection.specs.Frames.{Opens, Sent, SendsAll, SendsOne, heade
 use Rattle.ttrpc_connection.proofs.Feeding.{fed_twice, nothing_taken}
 use Rattle.ttrpc_server.specs.declared.job.ActiveJob.{ActiveJob}
 use Rattle.ttrpc_server.specs.declared.server.ServerCore.{ServerCore}
-use Rattle.ttrpc_server.specs.Happens.{Does, serving}
-use Rattle.ttrpc_server.specs.Jobs.{NoneWaits, new_job, with_job}
-use Rattle.ttrpc_server.specs.Responses.{IsResponseFrame, Refers, Responds, fitted, response_bytes}
-use Rattle.ttrpc_server.specs.Registry.{Services}
-use Rattle.ttrpc_server.specs.Server.{Server}
-use Rattle.ttrpc_server.specs.Table.{Row, Skipped, Tells, TellsOf, Known, request_row, row_of, sync_row}
+use Rattle.ttrpc_server.specs.Protocol.{Does, serving, IsResponseFrame, SendsOwnAnswer, Responds, fit_to_limit, response_bytes, Row, Ignore, SendResponse, SendCode, MakeJob, request_row, row_of, sync_row}
+use Rattle.ttrpc_server.specs.State.{NoneWaits, new_job, with_job, Services, Server}
 use Rattle.ttrpc_echo.specs.Echo.{AreAnswers, HasEcho, IsAnswer, Says, echo_of, echo_services, framed, plainly, said_bytes}
 use Rattle.ttrpc_echo.specs.Serving.{plain_in, plain_out, IsReady, Echoes, Serves}
 use Rattle.ttrpc_echo.proofs.Limits.{fitted_fits}
@@ -81,14 +77,14 @@ none_adds old new sent valid none sends =
 responds_adds : (old new : Outbox Plain) (k : ℕ) (r : Response) (sent : List Sent) → IsQueue old.queue → Responds MESSAGE_LENGTH_MAX k r sent → SendsAll plain_out old sent new
     → Adds old.queue new.queue (said_bytes k (Some r))
 responds_adds old new k r sent valid responds sends =
-    let bytes = response_bytes (fitted MESSAGE_LENGTH_MAX r) in
+    let bytes = response_bytes (fit_to_limit MESSAGE_LENGTH_MAX r) in
     let all = subst (λ (xs : List Sent). SendsAll plain_out old xs new) responds.is sends in
     let one : SendsOne plain_out old responds.frame bytes new = subst (λ (o : Outbox Plain). SendsOne plain_out old responds.frame bytes o) (sym all.2) all.1 in
     adds_frame old.queue new.queue (with_payload responds.frame one.sealed) (said_bytes k (Some r)) valid one.queue
     (written_framed k responds.frame one.sealed responds.is_frame ∙ ap (framed k) one.seal.0)
 
 -- nothing is left out
-refers_adds : (old new : Outbox Plain) (k : ℕ) (r : Response) (sent : List Sent) → IsQueue old.queue → Refers plain_out old.half k r sent → SendsAll plain_out old sent new
+refers_adds : (old new : Outbox Plain) (k : ℕ) (r : Response) (sent : List Sent) → IsQueue old.queue → SendsOwnAnswer plain_out old.half k r sent → SendsAll plain_out old sent new
     → Adds old.queue new.queue (said_bytes k (Some r))
 refers_adds old new k r sent valid (inl responds) sends = responds_adds old new k r sent valid responds sends
 refers_adds old new k r sent valid (inr out) sends = absurd (elim out.1 [
@@ -180,14 +176,14 @@ done_known f request old mid new ready says makes quiet alive (inr e) =
 
 done_row : (row : Row) (f : Incoming) (old mid new : ServerCore Plain Plain) (sent : List Sent) → IsReady old → row ≡ sync_row echo_services (header_of_frame f) (plainly f)
     → Does plain_out row old.state old.connection.outbox.half (header_of_frame f) sent mid.state → SendsAll plain_out old.connection.outbox sent mid.connection.outbox → mid.connection.failure ≡ None → Echoes mid new → Done f old mid new
-done_row Skipped f old mid new sent ready is does sends alive echoes =
+done_row Ignore f old mid new sent ready is does sends alive echoes =
     done_quiet f None old mid new ready (subst (λ (r : Row). Says r None) is refl) does.0 alive (none_adds old.connection.outbox mid.connection.outbox sent ready.queue does.1 sends) echoes
-done_row (Tells r) f old mid new sent ready is does sends alive echoes =
+done_row (SendResponse r) f old mid new sent ready is does sends alive echoes =
     done_quiet f (Some r) old mid new ready (subst (λ (x : Row). Says x (Some r)) is refl) does.0 alive (refers_adds old.connection.outbox mid.connection.outbox _ r sent ready.queue does.1 sends) echoes
-done_row (TellsOf code) f old mid new sent ready is does sends alive echoes =
+done_row (SendCode code) f old mid new sent ready is does sends alive echoes =
     let r = does.1.0 in
     done_quiet f (Some r) old mid new ready (subst (λ (x : Row). Says x (Some r)) is (r, does.1.1, refl)) does.0 alive (refers_adds old.connection.outbox mid.connection.outbox _ r sent ready.queue does.1.2 sends) echoes
-done_row (Known request) f old mid new sent ready is does sends alive echoes =
+done_row (MakeJob request) f old mid new sent ready is does sends alive echoes =
     let quiet : mid.connection.outbox ≡ old.connection.outbox = subst (λ (xs : List Sent). SendsAll plain_out old.connection.outbox xs mid.connection.outbox) does.1 sends in
     done_known f request old mid new ready (subst (λ (x : Row). Says x (Some (echo_of request))) is refl) does.0 quiet alive echoes
 

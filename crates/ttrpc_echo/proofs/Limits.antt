@@ -18,7 +18,7 @@ use Rattle.ttrpc_proto.specs.ErrorText.{status_of}
 use Rattle.ttrpc_codec.specs.Members.{delimited_field, delimited_fields, number_fields}
 use Rattle.ttrpc_proto.specs.Messages.{status_fields}
 use Rattle.ttrpc_codec.proofs.Written.{length-delimited_field, length-fields_bytes-append}
-use Rattle.ttrpc_server.specs.Responses.{fitted, limit_text, response_bytes, response_size, status_response}
+use Rattle.ttrpc_server.specs.Protocol.{fit_to_limit, limit_text, response_bytes, response_size, status_response}
 
 -- ---- varints and members
 
@@ -101,7 +101,7 @@ limit_fits n le =
     omega (arith, status_response_short INVALID_ARGUMENT text, limit_text_short n MESSAGE_LENGTH_MAX le (omega arith))
 
 -- so whatever is fitted to the limit is within it
-pub fitted_fits : (r : Response) → response_size (fitted MESSAGE_LENGTH_MAX r) ≤ MESSAGE_LENGTH_MAX
+pub fitted_fits : (r : Response) → response_size (fit_to_limit MESSAGE_LENGTH_MAX r) ≤ MESSAGE_LENGTH_MAX
 fitted_fits r =
     elim (cases_lt MESSAGE_LENGTH_MAX (response_size r)) [
       | inl above ↦ let t : nat_lt MESSAGE_LENGTH_MAX (response_size r) ≡ true = lt-ltb _ _ above in

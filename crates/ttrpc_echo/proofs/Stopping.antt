@@ -17,10 +17,8 @@ use Rattle.ttrpc_connection.proofs.Holding.{fed_some}
 use Rattle.ttrpc_server.specs.declared.job.ActiveJob.{ActiveJob}
 use Rattle.ttrpc_server.specs.declared.job.Job.{Job}
 use Rattle.ttrpc_server.specs.declared.server.ServerCore.{ServerCore}
-use Rattle.ttrpc_server.specs.Happens.{Does, Hands, serving}
-use Rattle.ttrpc_server.specs.Jobs.{IsUnknown}
-use Rattle.ttrpc_server.specs.Server.{Server}
-use Rattle.ttrpc_server.specs.Table.{IsUnsent, RefusesAnswer, Row, Skipped, Tells, TellsOf, Known, row_of}
+use Rattle.ttrpc_server.specs.Protocol.{Does, Hands, serving, IsUnsent, RefusesAnswer, Row, Ignore, SendResponse, SendCode, MakeJob, row_of}
+use Rattle.ttrpc_server.specs.State.{IsUnknown, Server}
 use Rattle.ttrpc_echo.specs.Serving.{plain_in, plain_out, IsStop, Serves, UsesUp}
 use Rattle.ttrpc_echo.proofs.Limits.{fitted_fits}
 use Rattle.ttrpc_echo.proofs.Echoing.{some_is_not_none}
@@ -31,10 +29,10 @@ same_last : (old new : Server) → new ≡ old → new.jobs.last ≤ old.jobs.la
 same_last old new same = omega (arith, ap (λ (s : Server). s.jobs.last) same)
 
 does_count : (row : Row) (old : Server) (o : Plain) (header : MessageHeader) (sent : List Sent) (new : Server) → Does plain_out row old o header sent new → new.jobs.last ≤ old.jobs.last + 1
-does_count Skipped old o header sent new does = same_last old new does.0
-does_count (Tells r) old o header sent new does = same_last old new does.0
-does_count (TellsOf code) old o header sent new does = same_last old new does.0
-does_count (Known request) old o header sent new does = omega (arith, ap (λ (s : Server). s.jobs.last) does.0)
+does_count Ignore old o header sent new does = same_last old new does.0
+does_count (SendResponse r) old o header sent new does = same_last old new does.0
+does_count (SendCode code) old o header sent new does = same_last old new does.0
+does_count (MakeJob request) old o header sent new does = omega (arith, ap (λ (s : Server). s.jobs.last) does.0)
 
 acts_count : (now : ℕ) (fs : List Incoming) (old new : Scene Server Plain Plain) → ActsAll (serving plain_out plain_in) now old fs new → new.state.jobs.last ≤ old.state.jobs.last + length fs
 acts_count now [] old new acts = omega (arith, ap (λ (c : Scene Server Plain Plain). c.state.jobs.last) acts)

@@ -57,5 +57,6 @@ pub record EndsInside (before after held holds : Option (List ℕ)) (e : Error) 
   pub all : AnsweredAll before after held holds rest
   pub told : e ≡ Socket (codes "socket disconnected inside a frame")
 
+-- a run that failed: it stopped early, or its input ended inside a frame
 abbrev pub Fails : Option (List ℕ) → Option (List ℕ) → Option (List ℕ) → Option (List ℕ) → Error → Type 0
 Fails before after held holds e = StopsEarly before after held holds e ⊎ EndsInside before after held holds e

@@ -11,9 +11,8 @@ use Rattle.ttrpc_frame.specs.declared.frame.Incoming.TheVariants.{Frame, Oversiz
 use Rattle.ttrpc_connection.specs.declared.arrived.Opening.{Opening}
 use Rattle.ttrpc_connection.specs.declared.arrived.Opening.TheVariants.{TooLong, Opened}
 use Rattle.ttrpc_connection.specs.Frames.{header_of_frame}
-use Rattle.ttrpc_server.specs.Registry.{Services, has_method}
-use Rattle.ttrpc_server.specs.Responses.{IsStatusResponse, fitted, response_bytes}
-use Rattle.ttrpc_server.specs.Table.{Row, Skipped, Tells, TellsOf, Known, sync_row}
+use Rattle.ttrpc_server.specs.State.{Services, has_method}
+use Rattle.ttrpc_server.specs.Protocol.{IsStatusResponse, fit_to_limit, response_bytes, Row, Ignore, SendResponse, SendCode, MakeJob, sync_row}
 
 -- the one service
 abbrev pub echo_services : Services
@@ -34,10 +33,10 @@ plainly (Frame m) = Opened m.payload
 
 -- the response that a row gives, if it gives one
 abbrev pub Says : Row → Option Response → Type 0
-Says Skipped said = said ≡ None
-Says (Tells r) said = said ≡ Some r
-Says (TellsOf code) said = (r : Response) × IsStatusResponse code r × (said ≡ Some r)
-Says (Known request) said = said ≡ Some (echo_of request)
+Says Ignore said = said ≡ None
+Says (SendResponse r) said = said ≡ Some r
+Says (SendCode code) said = (r : Response) × IsStatusResponse code r × (said ≡ Some r)
+Says (MakeJob request) said = said ≡ Some (echo_of request)
 
 -- a payload in a response frame of stream k
 abbrev pub framed : ℕ → List ℕ → List ℕ
@@ -46,7 +45,7 @@ framed k payload = header_bytes (record { length = length payload % 2 ^ 32; stre
 -- the response as it is written: fitted to what a message may have
 abbrev pub said_bytes : ℕ → Option Response → List ℕ
 said_bytes k None = []
-said_bytes k (Some r) = framed k (response_bytes (fitted MESSAGE_LENGTH_MAX r))
+said_bytes k (Some r) = framed k (response_bytes (fit_to_limit MESSAGE_LENGTH_MAX r))
 
 -- the bytes answer the frame, as the table and the echo have it
 pub record IsAnswer (f : Incoming) (bytes : List ℕ) : Type 0 where

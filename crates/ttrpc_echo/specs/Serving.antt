@@ -14,14 +14,15 @@ use Rattle.ttrpc_secure.specs.declared.transform.OutboundTransform.{Ghosts as Ou
 use Rattle.ttrpc_secure.specs.declared.transform.InboundTransform.{Ghosts as InboundTransform}
 use Rattle.ttrpc_server.specs.declared.job.Job.{Job}
 use Rattle.ttrpc_server.specs.declared.server.ServerCore.{ServerCore}
-use Rattle.ttrpc_server.specs.Happens.{Answers, Hands}
-use Rattle.ttrpc_server.specs.Jobs.{NoneWaits}
+use Rattle.ttrpc_server.specs.Protocol.{Answers, Hands}
+use Rattle.ttrpc_server.specs.State.{NoneWaits}
 use Rattle.ttrpc_echo.specs.Echo.{AreAnswers, HasEcho, echo_of}
 
--- the halves that leave data as it is
+-- the outbound half that leaves data as it is
 abbrev pub plain_out : OutboundTransform Plain
 plain_out = record { SEALS = false; overhead = λ _. 0; seals = Keeps; refuses = RefusesNothing }
 
+-- the inbound half that leaves data as it is
 abbrev pub plain_in : InboundTransform Plain
 plain_in = record { opens = Keeps; refuses = RefusesNothing }
 
@@ -39,13 +40,14 @@ pub record IsFresh (s : ServerCore Plain Plain) : Type 0 where
   pub last_job : s.state.jobs.last ≡ 0
   pub queue : unsent s.connection.outbox.queue ≡ []
 
--- the job that waits is echoed, if there is one
+-- the job that waits longest is handed out and echoed
 pub record EchoesOne (old new : ServerCore Plain Plain) : Type 0 where
   pub job : Job
   pub mid : ServerCore Plain Plain
   pub hands : Hands old job mid
   pub answers : Answers plain_out mid job.id (echo_of job.request) new
 
+-- the job that waits is echoed, or none waits and nothing changed
 abbrev pub Echoes : ServerCore Plain Plain → ServerCore Plain Plain → Type 0
 Echoes old new = ((new ≡ old) × NoneWaits old.state.jobs.list) ⊎ EchoesOne old new
 

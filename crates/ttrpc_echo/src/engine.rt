@@ -41,7 +41,7 @@ pub fn answer<R: Read, W: Write>(alloc: Global, reader: &mut R, writer: &mut W) 
     answer_all(alloc, &mut core, reader, writer)
 }
 
-/// The same with a new core.
+/// `answer`, over a new core that is lent.
 fn answer_all<R: Read, W: Write>(
     alloc: Global,
     core: &mut EchoCore,
@@ -152,8 +152,10 @@ fn write_out<W: Write>(
     writer: &mut W,
     buffer: &mut [u8; PIECE],
 ) -> Result<(), Error>
+    // The engine can go on, before and after.
     requires { IsReady core.old }
     ensures ready { IsReady core.new }
+    // What the writer took has left the queue, and at an `Ok` all has.
     ensures wrote { WritesOut core.old (W.contents writer.old) core.new (W.contents writer.new) }
     ensures all { OnOk result (unsent core.new.connection.outbox.queue ≡ []) }
     ensures err { IfErr result IsOfSystem }
@@ -184,7 +186,7 @@ fn write_piece<W: Write>(writer: &mut W, piece: &[u8]) -> Result<usize, Error>
     }
 }
 
-/// Sees to it that what was written goes out, where the writer holds it back.
+/// Flushes the writer.
 pub fn flush<W: Write>(writer: &mut W) -> Result<(), Error>
     ensures bytes { Keeps (W.contents writer.old) (W.contents writer.new) }
     ensures err { IfErr result IsOfSystem }

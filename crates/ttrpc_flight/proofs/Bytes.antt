@@ -1,5 +1,5 @@
 -- The bytes in flight: what is queued, what leaves, what is thrown away or cut off, and what comes in. No seals.
-use Rattle.ttrpc_flight.proofs.Words.{cases_Bool, ◌≡◌, ◌+◌, ◌-◌, ◌<◌, ◌≤◌, inl, inr, ℕ, Bool, true, false, cond, List, [], ◌∷◌, ◌++◌, length, map, take, drop, arith, refl, sym, ap, subst, ◌∙◌, append_assoc, length-append, length-drop, filter, cases_lt, append-nil, take-append-drop, length-take-le, map-append, MessageHeader, Incoming, Queued, Frames, Held, nothing, Fed, Queue, IsWithin, written, written_all, first_open, open_part, with_frame, with_lent, after_report, begun_count, frames_without, without, header_front, nothing_held, one_list, is_frames, Flying, AreInFlight, IsSound, AreSound, arrived, carried, frames_of, flying_without, all_behind, all_in_front, all_joined, flat_map-append}
+use Rattle.ttrpc_flight.proofs.Words.{cases_Bool, ◌≡◌, ◌+◌, ◌-◌, ◌<◌, ◌≤◌, inl, inr, ℕ, Bool, true, false, cond, List, [], ◌∷◌, ◌++◌, length, map, take, drop, arith, refl, sym, ap, subst, ◌∙◌, append_assoc, length-append, length-drop, filter, cases_lt, append-nil, take-append-drop, length-take-le, map-append, MessageHeader, Incoming, Queued, Frames, Held, nothing, Fed, Queue, IsWithin, written, written_all, first_open, open_part, with_frame, with_lent, after_report, begun_count, frames_without, without, header_front, nothing_held, one_list, is_frames, Flying, AreInFlight, IsSound, AreSound, arrived, bytes_after_carry, frames_of, flying_without, all_behind, all_in_front, all_joined, flat_map-append}
 use Rattle.std.proofs.Math.Seq.{take-append-add}
 use Rattle.std.proofs.lemmas.List.{take-append-le, take-take, take_all, drop-take, drop_at, map_push, take-map, drop-map}
 use Rattle.ttrpc_frame.specs.Header.{header_bytes, header_of}
@@ -101,7 +101,7 @@ one_more_written transit queued =
 carried_so : (held : Held) (pipe : List ℕ) (cut : Bool) (q : Queue) (transit queued t r : List Flying) (n : ℕ) → n ≤ length (open_part q) → AreInFlight held pipe cut q transit queued → t ++ r ≡ transit ++ queued
     → (let p : Queue = after_report (with_lent q n) n in
     frames_of r ≡ p.frames → written_all (frames_of transit) ++ (take q.reported (written_all q.frames) ++ take n (open_part q)) ≡ written_all (frames_of t) ++ take p.reported (written_all p.frames)
-    → AreInFlight held (carried cut pipe n q) cut p t r)
+    → AreInFlight held (bytes_after_carry cut pipe n q) cut p t r)
 carried_so held pipe cut q transit queued t r n le f all same bytes =
     let go = bytes_leave f.before pipe f.lost (take n (open_part q)) cut f.uncut in
     record {
@@ -118,7 +118,7 @@ carried_so held pipe cut q transit queued t r n le f all same bytes =
     }
 
 pub carried_in_flight : (held : Held) (pipe : List ℕ) (cut : Bool) (q : Queue) (transit queued : List Flying) (n : ℕ) → n ≤ length (open_part q) → AreInFlight held pipe cut q transit queued
-    → (t : List Flying) × (r : List Flying) × (t ++ r ≡ transit ++ queued) × AreInFlight held (carried cut pipe n q) cut (after_report (with_lent q n) n) t r
+    → (t : List Flying) × (r : List Flying) × (t ++ r ≡ transit ++ queued) × AreInFlight held (bytes_after_carry cut pipe n q) cut (after_report (with_lent q n) n) t r
 carried_in_flight held pipe cut q transit queued n le f =
     let p : Queue = after_report (with_lent q n) n in
     let reported = λ (r : Queue). take r.reported (written_all r.frames) in

@@ -22,6 +22,7 @@ pub record Flying : Type 0 where
   pub frame : Queued
   pub plain : List ℕ
 
+-- the frames that are in flight
 abbrev pub frames_of : List Flying → List Queued
 frames_of flights = map Flying.frame flights
 
@@ -37,12 +38,13 @@ pub record IsSound (f : Queued) : Type 0 where
   pub stated : f.message.header.length ≡ length f.message.payload
   pub short : length f.message.payload ≤ MESSAGE_LENGTH_MAX
 
+-- each of the frames in flight reads back from its written form
 abbrev pub AreSound : List Flying → Type 0
 AreSound flights = AllByRecursion (λ (x : Flying). IsSound x.frame) flights
 
 -- what is in a pipe after n more bytes of the first frame left; a pipe that was cut loses them
-abbrev pub carried : Bool → List ℕ → ℕ → Queue → List ℕ
-carried cut pipe n q = if cut then pipe else pipe ++ take n (open_part q)
+abbrev pub bytes_after_carry : Bool → List ℕ → ℕ → Queue → List ℕ
+bytes_after_carry cut pipe n q = if cut then pipe else pipe ++ take n (open_part q)
 
 -- THE BYTES IN FLIGHT. What one core holds, what is in the pipe to it and what was lost behind a cut are the written
 -- forms of the frames in transit, which were reported whole and aren't yet taken by that core, and as many bytes of the

@@ -12,7 +12,7 @@ ghost use Rattle.ttrpc_connection.specs.declared.arrived.Opening.TheVariants.{Op
 ghost use Rattle.ttrpc_connection.specs.declared.outbox.Outbox.{Outbox as AnOutbox};
 ghost use Rattle.ttrpc_connection.specs.Frames.{Opens, Sent, SendsAll};
 ghost use Rattle.ttrpc_connection.specs.Feeds.{ActsAll, Scene, ways};
-ghost use Rattle.ttrpc_flight.specs.Flight.{Flying, ActsOn, AreInFlight, AreLinked, frames_of, IsOwnRequest, IsSound, arrived, carried, flying_without, parcels};
+ghost use Rattle.ttrpc_flight.specs.Flight.{Flying, ActsOn, AreInFlight, AreLinked, frames_of, IsOwnRequest, IsSound, arrived, bytes_after_carry, flying_without, parcels};
 
 use ttrpc_connection::Reacts;
 use ttrpc_secure::{InboundTransform, OutboundTransform};
@@ -29,7 +29,7 @@ pub fn frames_arrive_as_they_were_queued()
     ensures carried { (held : Held) (pipe : List ℕ) (cut : Bool) (q : Queue) (transit queued : List Flying) (n : ℕ)
         → n ≤ length (open_part q) → AreInFlight held pipe cut q transit queued
         → (t : List Flying) × (r : List Flying) × (t ++ r ≡ transit ++ queued)
-        × AreInFlight held (carried cut pipe n q) cut (after_report (with_lent q n) n) t r }
+        × AreInFlight held (bytes_after_carry cut pipe n q) cut (after_report (with_lent q n) n) t r }
     ensures thrown { (held : Held) (pipe : List ℕ) (cut : Bool) (q : Queue) (transit queued : List Flying) (owners : ℕ → Bool)
         → AreInFlight held pipe cut q transit queued
         → AreInFlight held pipe cut (without q owners) transit (flying_without owners (begun_count q) queued) }
@@ -76,7 +76,7 @@ pub fn a_throw_takes_requests_of_its_owners()
         → AllByRecursion IsOwnRequest (transit ++ flying_without owners n queued) }
 {}
 
-/// What a connection sends takes wing, one flight a frame, in order, and linked; and where the frames that a core takes
+/// What a connection sends is in flight, one flight for each frame, in order, and linked; and where the frames that a core takes
 /// are the first flights of a linked list, each acts as opened to the data that were sealed, and the others stay linked.
 pub fn what_is_sent_acts_as_it_was<
     O: OutboundTransform,

@@ -1,5 +1,5 @@
 -- Calls of a writer, one behind the other.
-use Rattle.std.proofs.Common.{inl, inr, ◌≡◌, ◌≢◌, ℕ, ◌+◌, ◌<◌, ◌≤◌, List, [], ◌∷◌, ◌++◌, All, length, drop, Option, Some, None, refl, sym, ap, ◌∙◌, subst, append_assoc, append-nil, arith, length-append}
+use Rattle.std.proofs.Common.{inl, inr, ◌≡◌, ◌≢◌, ℕ, ◌+◌, ◌<◌, ◌≤◌, List, [], ◌∷◌, ◌++◌, All, length, drop, Option, Some, None, IfSome, ◌-◌, ◌^◌, refl, sym, ap, ◌∙◌, subst, append_assoc, append-nil, arith, length-append}
 use Rattle.std.proofs.Math.Seq.{drop-drop}
 use Rattle.std.proofs.lemmas.List.{length-drop}
 use Rattle.std.proofs.lemmas.List.Elements.{All-head, All-push, All-same, All-tail}
@@ -7,7 +7,7 @@ use Rattle.std.specs.declared.io.ErrorKind.{ErrorKind}
 use Rattle.std.specs.declared.io.ErrorKind.TheVariants.{Interrupted, TimedOut, WriteZero}
 use Rattle.ttrpc_frame.specs.declared.streams.again.Passing.{Passing}
 use Rattle.ttrpc_frame.specs.declared.streams.again.Passing.TheVariants.{Interrupted as OnlyInterrupted}
-use Rattle.ttrpc_frame.specs.Streams.{Answered, Moved, Failed, Called, Offered, Flushed, Makes, Passes, IsPassed, Tries, Offers, FailsAs, Breaks, Then}
+use Rattle.ttrpc_frame.specs.Streams.{Answered, Moved, Failed, Called, Offered, Flushed, Makes, Passes, IsPassed, Tries, Offers, FailsAs, Breaks, Then, Counts, SpendsTries}
 
 pub makes_none : (a : Option (List Called)) (P : List Called → Type 0) → P [] → Makes a a P
 makes_none None P p = tt
@@ -32,6 +32,42 @@ offers_more part [] mid after left p q = subst (λ (m : List ℕ). Offers m afte
 offers_more part (Offered bytes (Moved n) ∷ before) mid after left p q = (p.0, p.1, p.2, offers_more (drop n part) before mid after left p.3 q)
 offers_more part (Offered bytes (Failed kind) ∷ before) mid after left p q = (p.0, p.1, p.2, offers_more part before mid after left p.3 q)
 offers_more part (Flushed answer ∷ before) mid after left p q = absurd p
+
+-- ---- Reads are counted
+
+pub counts_none : (a : Option ℕ) → Counts a a 0
+counts_none None = tt
+counts_none (Some n) = omega arith
+
+pub counts_more : (a b c : Option ℕ) (n m : ℕ) → Counts a b n → Counts b c m → Counts a c (n + m)
+counts_more None b c n m p q = tt
+counts_more (Some x) None c n m p q = absurd p
+counts_more (Some x) (Some y) None n m p q = absurd q
+counts_more (Some x) (Some y) (Some z) n m p q = omega (arith, p, q)
+
+abbrev has_moved : Answered → Type 0
+has_moved (Moved n) = Unit {0}
+has_moved (Failed k) = ⊥
+
+-- an answer that moved bytes doesn't pass
+moved_stays : (passing : Passing) (k : ℕ) (l : Answered) → l ≡ Moved k → Passes passing l → 2 ^ 64 - 1 ≤ 0
+moved_stays passing k (Moved j) is passes = absurd (subst has_moved passes.1 tt)
+moved_stays passing k (Failed kind) is passes = absurd (subst has_moved (sym is) tt)
+
+pub spends_none : (passing : Passing) (a b : Option ℕ) (last : Option Answered) (k n : ℕ) → Counts a b n → IfSome last (λ l. l ≡ Moved k) → SpendsTries passing a b last
+spends_none passing a b None k n counted moved = (n, counted, tt)
+spends_none passing a b (Some l) k n counted moved = (n, counted, λ passes. let none = moved_stays passing k l moved passes in omega (arith, none))
+
+-- what was read before takes no try away
+pub spends_more : (passing : Passing) (last : Option Answered) (n m : ℕ)
+    → IfSome last (λ a. Passes passing a → 2 ^ 64 - 1 ≤ m) → IfSome last (λ a. Passes passing a → 2 ^ 64 - 1 ≤ n + m)
+spends_more passing None n m spent = tt
+spends_more passing (Some l) n m spent = λ passes. let so = spent passes in omega (arith, so)
+
+-- all tries are used up
+pub spends_all : (passing : Passing) (a b : Option ℕ) (last : Option Answered) (n : ℕ) → Counts a b n → n ≡ 2 ^ 64 - 1 → SpendsTries passing a b last
+spends_all passing a b None n counted all = (n, counted, tt)
+spends_all passing a b (Some l) n counted all = (n, counted, λ _. omega (arith, all))
 
 -- ---- A call is tried again
 

@@ -4,6 +4,7 @@ use Rattle.std.specs.Prelude.{◌≡◌, ℕ, ◌<◌, ◌≤◌, List, [], leng
 use Rattle.ttrpc_frame.specs.declared.header.TheConstants.{MESSAGE_HEADER_LENGTH, MESSAGE_LENGTH_MAX}
 use Rattle.ttrpc_frame.specs.Header.{header_of}
 
+-- What holds of every decoder between calls: its frame isn't whole, and the payload is kept, or counted where it is longer than a message may be.
 pub record IsDecoder (head : List ℕ) (filled : ℕ) (body : List ℕ) (counted : ℕ) : Type 0 where
   pub size : length head ≡ MESSAGE_HEADER_LENGTH
   pub filled_fits : filled ≤ MESSAGE_HEADER_LENGTH

@@ -37,6 +37,7 @@ pub record Held : Type 0 where
   pub bytes : List ℕ
   pub counted : ℕ
 
+-- no byte is kept, and none is counted
 abbrev pub nothing : Held
 nothing = record { bytes = []; counted = 0 }
 
@@ -47,6 +48,7 @@ held_of rest =
     if nat_lt MESSAGE_LENGTH_MAX ((header_of rest).length) then record { bytes = take MESSAGE_HEADER_LENGTH rest; counted = length rest - MESSAGE_HEADER_LENGTH } else
     record { bytes = rest; counted = 0 }
 
+-- this is held of the rest, which has no whole frame
 abbrev pub Holds : Held → List ℕ → Type 0
 Holds held rest = (held ≡ held_of rest) × IsRest rest
 
@@ -59,6 +61,7 @@ abbrev pub FedAll : Held → List (List ℕ) → List Incoming → Held → Type
 FedAll held [] frames new = (frames ≡ []) × (new ≡ held)
 FedAll held (p ∷ ps) frames new = (first : List Incoming) × (later : List Incoming) × (middle : Held) × (frames ≡ first ++ later) × Fed held p first middle × FedAll middle ps later new
 
+-- the frame as a list, which is empty where there is none
 abbrev pub given : Option Incoming → List Incoming
 given None = []
 given (Some i) = i ∷ []

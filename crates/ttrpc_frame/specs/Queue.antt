@@ -14,6 +14,7 @@ written m = header_bytes m.header ++ m.payload
 abbrev pub written_all : List Queued → List ℕ
 written_all frames = flat_map (λ f. written f.message) frames
 
+-- the frames still to be written, and how far the first of them is
 pub record Queue : Type 0 where
   pub frames : List Queued
   -- how many bytes of the first frame were reported as written
@@ -49,6 +50,7 @@ pub record IsQueue (q : Queue) : Type 0 where
   pub fresh : q.begun ≡ false → (q.reported ≡ 0) × (q.lent ≡ 0)
   pub none : q.frames ≡ [] → q.begun ≡ false
 
+-- the queue of no frames
 abbrev pub empty_queue : Queue
 empty_queue = record { frames = []; reported = 0; lent = 0; begun = false }
 
@@ -120,6 +122,7 @@ without q owners = record q { frames = take (begun_count q) q.frames ++ frames_w
 
 -- ---- What happens to a queue over time
 
+-- one thing that happens to a queue
 pub data Happening : Type 0 where
   -- a frame is queued
   Placed : Queued → Happening

@@ -1,6 +1,6 @@
 -- What readers and writers answered, which calls were made of a writer, and what it is to write a part.
 -- Source: this project's, over `Read` and `Write` of Rust's standard library.
-use Rattle.std.specs.Prelude.{◌≡◌, ◌≢◌, ◌⊎◌, ℕ, ◌-◌, ◌^◌, ◌<◌, ◌≤◌, List, [], ◌∷◌, ◌++◌, All, length, take, drop, Option, None, Some, IfSome, Result, Ok, Err, ⊤}
+use Rattle.std.specs.Prelude.{◌≡◌, ◌≢◌, ◌⊎◌, ℕ, ◌+◌, ◌-◌, ◌^◌, ◌<◌, ◌≤◌, List, [], ◌∷◌, ◌++◌, All, length, take, drop, Option, None, Some, IfSome, Result, Ok, Err, ⊤}
 use Rattle.std.specs.Io.KnownBytes.{Appends, Consumes, IsAtEnd}
 use Rattle.std.specs.IoError.{error_kind}
 use Rattle.std.specs.declared.io.Error.{Error}
@@ -14,6 +14,7 @@ pub data Answered : Type 0 where
   Moved : (count : ℕ) → Answered
   Failed : (kind : ErrorKind) → Answered
 
+-- What a call answered, by the result that it returned.
 abbrev pub answered : Result ℕ Error → Answered
 answered (Ok n) = Moved n
 answered (Err e) = Failed (error_kind e)
@@ -77,6 +78,16 @@ abbrev pub Tries : Passing → List ℕ → List Called → Answered → Type 0
 Tries passing bytes calls told =
     ((before : List Called) × (calls ≡ before ++ Offered bytes told ∷ []) × All (IsPassed passing bytes) before)
     ⊎ ((told ≡ Failed TimedOut) × (length calls ≡ 2 ^ 64 - 1) × All (IsPassed passing bytes) calls)
+
+-- a known count of reads grows by so many
+abbrev pub Counts : Option ℕ → Option ℕ → ℕ → Type 0
+Counts None new n = ⊤
+Counts (Some old) None n = ⊥
+Counts (Some old) (Some new) n = new ≡ old + n
+
+-- Some reads were made, and the last answer passes only where all tries were used up: so many reads they were.
+abbrev pub SpendsTries : Passing → Option ℕ → Option ℕ → Option Answered → Type 0
+SpendsTries passing old new last = (n : ℕ) × Counts old new n × IfSome last (λ a. Passes passing a → 2 ^ 64 - 1 ≤ n)
 
 -- ---- A buffer is filled
 

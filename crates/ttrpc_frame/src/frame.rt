@@ -72,10 +72,13 @@ impl FrameDecoder {
     /// Takes a front of the piece, at least one byte of one that isn't empty, and gives what its last byte made whole. An
     /// error is `NoMemory`, changes nothing, and comes only where bytes of a payload that is kept are to be held.
     pub fn feed(&mut self, alloc: Global, piece: &[u8]) -> Result<(usize, Option<Incoming>)>
+        // A front of the piece was taken, and at most one frame is whole with it.
         ensures takes { IfOk result (λ r. (r.0 ≤ length piece.now) × (0 < length piece.now → 0 < r.0)) }
         ensures frames { IfOk result (λ r. Fed self.old (take r.0 piece.now) (given r.1) self.new) }
         ensures at_its_end { IfOk result (λ r. (i : AnIncoming) → r.1 ≡ Some i → self.new ≡ nothing) }
+        // It never holds more than a header and a greatest message.
         ensures bound { length self.new.bytes ≤ MESSAGE_HEADER_LENGTH + MESSAGE_LENGTH_MAX }
+        // An error is want of memory for a payload that is kept, and changes nothing.
         ensures no_memory { IfErr result (λ e. e ≡ Error.NoMemory) }
         ensures grows { OnErr result (Grows self.old piece.now) }
         ensures err { OnErr result (self.new ≡ self.old) }
@@ -93,7 +96,9 @@ impl FrameDecoder {
 
     /// Bytes of the header.
     fn take_head(&mut self, alloc: Global, piece: &[u8]) -> (usize, Option<Incoming>)
+        // The header isn't whole yet.
         requires { length self.old.bytes < MESSAGE_HEADER_LENGTH }
+        // As `feed`.
         ensures takes { (result.0 ≤ length piece.now) × (0 < length piece.now → 0 < result.0) }
         ensures frames { Fed self.old (take result.0 piece.now) (given result.1) self.new }
         ensures at_its_end { (i : AnIncoming) → result.1 ≡ Some i → self.new ≡ nothing }
@@ -115,9 +120,11 @@ impl FrameDecoder {
 
     /// Bytes of a payload that is too long.
     fn count_body(&mut self, header: MessageHeader, piece: &[u8]) -> (usize, Option<Incoming>)
+        // The header is whole, and states more than a message may have.
         requires whole { MESSAGE_HEADER_LENGTH ≤ length self.old.bytes }
         requires header { header ≡ header_of self.old.bytes }
         requires long { MESSAGE_LENGTH_MAX < header.length }
+        // As `feed`.
         ensures takes { (result.0 ≤ length piece.now) × (0 < length piece.now → 0 < result.0) }
         ensures frames { Fed self.old (take result.0 piece.now) (given result.1) self.new }
         ensures at_its_end { (i : AnIncoming) → result.1 ≡ Some i → self.new ≡ nothing }
@@ -140,13 +147,16 @@ impl FrameDecoder {
         header: MessageHeader,
         piece: &[u8],
     ) -> Result<(usize, Option<Incoming>)>
+        // The header is whole, and states no more than a message may have.
         requires whole { MESSAGE_HEADER_LENGTH ≤ length self.old.bytes }
         requires header { header ≡ header_of self.old.bytes }
         requires short { header.length ≤ MESSAGE_LENGTH_MAX }
+        // As `feed`.
         ensures takes { IfOk result (λ r. (r.0 ≤ length piece.now) × (0 < length piece.now → 0 < r.0)) }
         ensures frames { IfOk result (λ r. Fed self.old (take r.0 piece.now) (given r.1) self.new) }
         ensures at_its_end { IfOk result (λ r. (i : AnIncoming) → r.1 ≡ Some i → self.new ≡ nothing) }
         ensures bound { length self.new.bytes ≤ MESSAGE_HEADER_LENGTH + MESSAGE_LENGTH_MAX }
+        // An error is want of memory, comes only where bytes came, and changes nothing.
         ensures no_memory { IfErr result (λ e. e ≡ Error.NoMemory) }
         ensures grows { OnErr result (0 < length piece.now) }
         ensures err { OnErr result (self.new ≡ self.old) }

@@ -138,9 +138,12 @@ impl Outgoing {
 
     /// Copies a front of what is left of the first frame, as much as fits, and says how many bytes. Takes no memory.
     pub fn lend(&mut self, buffer: &mut [u8]) -> usize
+        // As much is lent as fits.
         ensures count { result ≡ min (length buffer.old) (length (open_part self.old)) }
+        // It stands at the front of the buffer, whose rest stays.
         ensures copied { take result buffer.new ≡ take result (open_part self.old) }
         ensures rest { drop result buffer.new ≡ drop result buffer.old }
+        // The queue knows how much, and is a queue.
         ensures lent { self.new ≡ with_lent self.old result }
         ensures valid { IsQueue self.new }
     {

@@ -25,9 +25,9 @@ use ttrpc_wire::{Blob, Code};
 pub enum Found {
     /// A whole frame, or the header of one that is too long, whose body is gone.
     Whole(Incoming),
-    /// Fewer bytes than a header has, and then the end: so many, or none.
+    /// The input ended after this many bytes of a header, or none.
     HeaderCut(usize),
-    /// A header, so many bytes of the body that it states, and then the end.
+    /// The input ended after the header and this many bytes of the body.
     BodyCut(MessageHeader, usize),
     /// The header of a frame that is too long, some of its body, and then the end.
     OversizeCut(MessageHeader),
@@ -79,9 +79,11 @@ fn read_body<R: Source>(
     body: &mut Vec<u8>,
     stated: usize,
 ) -> Result<(), StreamFailure>
+    // What was read is the body, and it is no longer than stated.
     requires { body.old.items ≡ [] }
     ensures read { Consumes (R.remaining reader.old) (R.remaining reader.new) body.new.items }
     ensures fits { length body.new.items ≤ stated }
+    // Where it is shorter, the reader is at its end, or failed.
     ensures end { OnOk result (length body.new.items < stated → IsOver (R.remaining reader.new) (R.last reader.new)) }
     ensures err { IfErr result (λ e. (length body.new.items < stated) × IsBodyCause e (R.last reader.new)) }
 {
@@ -97,8 +99,10 @@ fn read_body<R: Source>(
 // Room for more of a body, and how many bytes it may have then: it doubles, so that each byte is moved a bounded number
 // of times, but it has at least a page and at most what the header states. So a header alone takes a page at most.
 fn make_room(body: &mut Vec<u8>, stated: usize) -> Result<usize, AllocError>
+    // The bytes stay.
     requires { length body.old.items < stated }
     ensures items { body.new.items ≡ body.old.items }
+    // There is room for more, and never for more than is stated or twice what there was.
     ensures more { IfOk result (λ room. (length body.old.items < room)
         × (room ≤ min stated (max DEFAULT_PAGE_SIZE (2 * length body.old.items)))) }
     ensures there { IfOk result (λ room. room ≤ vec_capacity body.new) }
@@ -112,10 +116,13 @@ fn make_room(body: &mut Vec<u8>, stated: usize) -> Result<usize, AllocError>
 
 // Reads until there are so many bytes. False: the reader ended before.
 fn grow<R: Source>(reader: &mut R, bytes: &mut Vec<u8>, size: usize) -> Result<bool, StreamFailure>
+    // There is room for so many.
     requires more { length bytes.old.items < size }
     requires room { size ≤ vec_capacity bytes.old }
+    // What was read stands behind the others.
     ensures read { (more : List ℕ) × Consumes (R.remaining reader.old) (R.remaining reader.new) more
         × (bytes.new.items ≡ bytes.old.items ++ more) }
+    // Where there are fewer than asked for, the reader is at its end, or failed.
     ensures ok { IfOk result (λ all. IsAllOr all (length bytes.new.items) size (IsOver (R.remaining reader.new) (R.last reader.new))) }
     ensures err { IfErr result (λ e. (length bytes.new.items < size) × IsBodyCause e (R.last reader.new)) }
 {
@@ -127,10 +134,12 @@ fn grow<R: Source>(reader: &mut R, bytes: &mut Vec<u8>, size: usize) -> Result<b
 
 // Replaces what stands behind the first bytes by what the reader gives, as far as that goes.
 fn read_behind<R: Source>(reader: &mut R, bytes: &mut Vec<u8>, held: usize) -> io::Result<()>
+    // What was read stands behind the first bytes.
     requires { held ≤ length bytes.old.items }
     ensures read { (more : List ℕ) × Consumes (R.remaining reader.old) (R.remaining reader.new) more
         × (bytes.new.items ≡ take held bytes.old.items ++ more) }
     ensures fits { length bytes.new.items ≤ length bytes.old.items }
+    // Where there are fewer than before, the reader is at its end, or failed.
     ensures end { OnOk result (length bytes.new.items < length bytes.old.items → IsOver (R.remaining reader.new) (R.last reader.new)) }
     ensures err { IfErr result (λ e. (length bytes.new.items < length bytes.old.items) × IsFailure (R.last reader.new) (error_kind e)) }
 {

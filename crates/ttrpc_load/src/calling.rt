@@ -29,7 +29,8 @@ impl<R: Host> Echoes<R> for EchoClient<R> {
     }
 }
 
-fn request_of(alloc: Global, payload: &[u8]) -> Result<Request> {
+/// A request of `Echo` with this payload.
+pub fn request_of(alloc: Global, payload: &[u8]) -> Result<Request> {
     Ok(Request {
         service: Text::from_str(alloc, "demo.Echo")?,
         method: Text::from_str(alloc, "Echo")?,
@@ -47,7 +48,7 @@ pub fn same(alloc: Global, answer: &[u8], payload: &[u8]) -> Result<()> {
     Err(Error::Others(Text::from_str(alloc, "an answer differs from what was sent")?))
 }
 
-/// Makes so many calls, and gives the time that each took, in nanoseconds. Each is counted once it is answered.
+/// Makes `count` calls, and gives the time that each took, in nanoseconds. Each is counted once it is answered.
 pub fn times_of<R: Host, E: Echoes<R>>(
     rt: &R,
     echo: &E,

@@ -24,7 +24,45 @@ impl fmt::Display for Figures {
     }
 }
 
-/// The least of the times, in rising order, below or at which are at least so many percent of them; `None` of no times.
+/// When the answers of calls came that were written at once, in nanoseconds from the first write on.
+#[derive(Clone, Copy, Debug)]
+pub struct Moments {
+    pub first: u64,
+    /// Behind a tenth of the answers, half of them and nine tenths.
+    pub tenth: u64,
+    pub half: u64,
+    pub ninety: u64,
+    pub last: u64,
+}
+
+impl fmt::Display for Moments {
+    fn fmt<W: fmt::Write>(&self, f: &mut fmt::Formatter<W>) -> fmt::Result {
+        let (first, tenth, half) = (self.first / 1000, self.tenth / 1000, self.half / 1000);
+        let (ninety, last) = (self.ninety / 1000, self.last / 1000);
+        write!(
+            f,
+            "answers came after: first {first} us, 10% {tenth} us, 50% {half} us, 90% {ninety} us, last {last} us"
+        )
+    }
+}
+
+/// What a measurement tells.
+#[derive(Clone, Copy, Debug)]
+pub enum Told {
+    Figures(Figures),
+    Moments(Moments),
+}
+
+impl fmt::Display for Told {
+    fn fmt<W: fmt::Write>(&self, f: &mut fmt::Formatter<W>) -> fmt::Result {
+        match self {
+            Told::Figures(figures) => figures.fmt(f),
+            Told::Moments(moments) => moments.fmt(f),
+        }
+    }
+}
+
+/// The given percentile of the times, which are in rising order; `None` if there are none.
 pub fn percentile(times: &[u64], percent: usize) -> Option<u64>
     ensures some { IfSome result (λ time. time ≡ slice_index times.now ((length times.now * percent + 99) / 100 - 1)) }
     ensures none { 0 < percent → percent ≤ 100 → IfNone result (length times.now ≡ 0) }

@@ -8,6 +8,8 @@ pub enum Target<'a> {
     Raw,
     /// The `Echo` of the server at this address, by one client that all callers share.
     Server(&'a str),
+    /// The same, by one connection to which all calls are written at once.
+    Burst(&'a str),
 }
 
 /// How many calls are made, by how many callers, with how many bytes.
@@ -18,23 +20,32 @@ pub struct Load {
     pub bytes: usize,
 }
 
-/// The load and its target that the words name: an address or `raw`, calls, callers and bytes. There are calls and
-/// callers, and the calls' payload has at least one byte.
+/// The load and its target that the words name: an address or `raw`, calls, callers and bytes; or `burst`, an address, calls
+/// and bytes. There are calls and callers, and the calls' payload has at least one byte.
 pub fn load_of(words: &[String]) -> Option<(Target<'_>, Load)>
     ensures { IfSome result (λ found. (0 < found.1.calls) × (0 < found.1.callers) × (0 < found.1.bytes)) }
 {
-    let [target, calls, callers, bytes] = words else {
+    let [target, second, third, bytes] = words else {
         return None;
     };
-    let load = Load {
-        calls: count_of(calls)?,
-        callers: count_of(callers)?,
-        bytes: count_of(bytes)?,
-    };
+    if target.as_str() == "burst" {
+        return Some((Target::Burst(second.as_str()), load_by(third, 1, bytes)?));
+    }
+    let load = load_by(second, count_of(third)?, bytes)?;
     if target.as_str() == "raw" {
         return Some((Target::Raw, load));
     }
     Some((Target::Server(target.as_str()), load))
+}
+
+fn load_by(calls: &String, callers: usize, bytes: &String) -> Option<Load>
+    ensures { IfSome result (λ load. (0 < load.calls) × (load.callers ≡ callers) × (0 < load.bytes)) }
+{
+    Some(Load {
+        calls: count_of(calls)?,
+        callers,
+        bytes: count_of(bytes)?,
+    })
 }
 
 fn count_of(word: &String) -> Option<usize>

@@ -2,6 +2,7 @@
 //! calls a second were answered, and how long one took.
 #![tactic(auto)]
 
+mod burst;
 mod calling;
 mod figures;
 mod load;

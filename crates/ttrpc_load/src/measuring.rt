@@ -1,6 +1,7 @@
 //! One measurement, from its words to its line.
+use crate::burst::burst;
 use crate::calling::{EchoClient, Echoes, times_of};
-use crate::figures::{Figures, percentile};
+use crate::figures::{Figures, Told, percentile};
 use crate::load::{Load, Target, load_of, share};
 use crate::raw::{connect_raw, start_raw};
 use std::alloc::Global;
@@ -16,7 +17,8 @@ use ttrpc_proto::{Error, Result};
 use ttrpc_sync::{Runtime, moment};
 use ttrpc_sync_client::Client;
 
-const USAGE: &str = "usage: ttrpc-load ADDR CALLS CALLERS BYTES | raw CALLS CALLERS BYTES";
+const USAGE: &str =
+    "usage: ttrpc-load ADDR CALLS CALLERS BYTES | raw CALLS CALLERS BYTES | burst ADDR CALLS BYTES";
 
 /// What a measurement asks of the system.
 pub trait Measured: Runtime + Files + Net<Listener = TcpListener, Stream = TcpStream> {}
@@ -41,7 +43,7 @@ pub fn run<R: Measured + 'static, W: Write, X: Write>(
         return 2;
     };
     match measure(rt, target, load, nodelay, shows, errors) {
-        Ok(figures) => match writeln!(output, "{figures}") {
+        Ok(told) => match writeln!(output, "{told}") {
             Ok(()) => 0,
             Err(_) => 1,
         },
@@ -59,18 +61,20 @@ fn measure<R: Measured + 'static, X: Write>(
     nodelay: bool,
     shows: bool,
     errors: &mut X,
-) -> Result<Figures> {
+) -> Result<Told> {
     let done = Arc::new(rt.alloc(), AtomicU64::new(0))?;
     let start = moment(rt)?;
     let callers = match target {
         Target::Raw => raw_callers(rt, load, nodelay, &done)?,
         Target::Server(address) => client_callers(rt, address, load, nodelay, &done)?,
+        Target::Burst(address) => return Ok(Told::Moments(burst(rt, address, load, nodelay)?)),
     };
     if shows {
         show(rt, load, &*done, errors)?;
     }
     let times = all_times(rt, callers)?;
-    figures_of(load, moment(rt)?.saturating_sub(start), times)
+    let elapsed = moment(rt)?.saturating_sub(start);
+    Ok(Told::Figures(figures_of(load, elapsed, times)))
 }
 
 /// Callers of one client that all of them share.
@@ -134,15 +138,15 @@ fn all_times<R: Measured>(rt: &R, callers: Vec<Caller>) -> Result<Vec<u64>> {
     Ok(all)
 }
 
-fn figures_of(load: Load, elapsed: u64, times: Vec<u64>) -> Result<Figures> {
+fn figures_of(load: Load, elapsed: u64, times: Vec<u64>) -> Figures {
     let mut times = times;
     times.sort_unstable();
-    Ok(Figures {
+    Figures {
         calls: load.calls,
         elapsed,
         median: percentile(times.as_slice(), 50).unwrap_or(0),
         ninety_ninth: percentile(times.as_slice(), 99).unwrap_or(0),
-    })
+    }
 }
 
 /// Shows how many calls are done, five times a second, until all are or for a while none was.

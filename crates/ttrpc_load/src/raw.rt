@@ -26,7 +26,8 @@ impl<R: Host> Echoes<R> for RawEcho {
     }
 }
 
-fn write_all(stream: &PipeConnection, bytes: &[u8]) -> Result<()> {
+/// Writes all of it.
+pub fn write_all(stream: &PipeConnection, bytes: &[u8]) -> Result<()> {
     let mut rest = bytes;
     for _ in 0..bytes.len() {
         if rest.is_empty() {

@@ -32,9 +32,11 @@ IsErrorOf error e = e ≢ NoMemory → e ≡ error
 abbrev pub cut_error : ℕ → List ℕ → Error
 cut_error n text = if n == 0 then Socket (codes "socket disconnected") else RpcStatus (status_of INVALID_ARGUMENT text)
 
+-- a header was cut after n bytes
 abbrev pub header_cut_text : ℕ → List ℕ
 header_cut_text n = codes "Message header length " ++ (decimal n ++ codes " is too small")
 
+-- a body was cut after n bytes of those that its header states
 abbrev pub body_cut_text : ℕ → ℕ → List ℕ
 body_cut_text n stated = codes "Message length " ++ (decimal n ++ (codes " is not " ++ decimal stated))
 

@@ -39,9 +39,11 @@ lower key = map to_ascii_lowercase key
 
 -- ---- what a map of the code is
 
+-- the texts of a vector, as bytes
 abbrev pub texts : {Y : Type 0} → Vec (String Y) Y → List (List ℕ)
 texts vec = map string_bytes vec.items
 
+-- the entries of a map, as keys with their texts
 abbrev pub seen : {Y : Type 0} → List (String Y × Vec (String Y) Y) → Metadata
 seen entries = map (λ e. (string_bytes e.0, texts e.1)) entries
 

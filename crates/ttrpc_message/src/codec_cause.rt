@@ -8,7 +8,7 @@ use ttrpc_proto::Error;
 use ttrpc_proto::error::causes::others_of;
 use ttrpc_wire::values::codec_error::CodecFailure;
 
-/// What a codec's error tells: `NoMemory` where memory was refused, also for the text, and else `Others` of a prefix and
+/// The error for a codec's error: `NoMemory` where memory was refused, also for the text, and else `Others` of a prefix and
 /// what the error prints.
 pub fn codec_error_of<E: CodecFailure + Display + Drop>(
     alloc: Global,

@@ -1,6 +1,6 @@
 -- The handlers of a server's methods, and the paths that they are put under.
 -- Source: this project's.
-use Rattle.std.specs.Prelude.{◌≡◌, ◌≢◌, ◌⊎◌, ◌&&◌, ℕ, List, ◌++◌, All, Option, Some, codes, if◌then◌else◌}
+use Rattle.std.specs.Prelude.{◌≡◌, ◌≢◌, ◌⊎◌, ◌&&◌, ℕ, List, [], ◌∷◌, ◌++◌, All, Option, Some, String, string_bytes, codes, if◌then◌else◌}
 use Rattle.std.specs.Map.{lookup}
 use Rattle.std.specs.Option.{option_and_then}
 use Rattle.std.specs.Str.{bytes_eq}
@@ -41,3 +41,8 @@ Adds old path handler new = (service : List ℕ) × (method : List ℕ) × IsPat
 -- why nothing is put under a text: it is no path, or memory was refused
 abbrev pub IsNotAdded : List ℕ → Error → Type 0
 IsNotAdded text e = (IsNoPath text × (e ≡ Others (no_path_text text))) ⊎ (e ≡ NoMemory)
+
+-- handlers are added one after the other, each under its path
+abbrev pub AddsAll : {A H : Type 0} → Handlers H → List (String A × H) → Handlers H → Type 0
+AddsAll {A} {H} old [] new = new ≡ old
+AddsAll {A} {H} old (more ∷ rest) new = (mid : Handlers H) × Adds old (string_bytes more.0) more.1 mid × AddsAll mid rest new

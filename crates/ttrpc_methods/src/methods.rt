@@ -4,8 +4,8 @@ ghost use Rattle.std.specs.BTreeMap.{get_by_text};
 ghost use Rattle.std.specs.Option.{option_copied};
 ghost use Rattle.std.specs.Str.{bytes_eq};
 ghost use Rattle.ttrpc_proto.specs.declared.error.Error.{Error as AnError};
-ghost use Rattle.ttrpc_server.specs.Registry.{has_method};
-ghost use Rattle.ttrpc_methods.specs.Methods.{Adds, IsNoPath, IsNotAdded, IsPath, Puts, handler_of, no_path_text};
+ghost use Rattle.ttrpc_server.specs.State.{has_method};
+ghost use Rattle.ttrpc_methods.specs.Methods.{Adds, AddsAll, IsNoPath, IsNotAdded, IsPath, Puts, handler_of, no_path_text};
 
 use std::alloc::{AllocError, Global};
 use std::collections::BTreeMap;
@@ -30,7 +30,7 @@ impl<H: Drop> Model for Methods<H> {
 }
 
 impl<H: Drop> Methods<H> {
-    /// None. Takes no memory.
+    /// No handlers. Takes no memory.
     pub fn new(alloc: Global) -> Methods<H>
         ensures { result ≡ [] }
     {
@@ -39,7 +39,7 @@ impl<H: Drop> Methods<H> {
         }
     }
 
-    /// One more, under its path, `/SERVICE/METHOD`, which the last slash divides. It takes the place of one that stood there.
+    /// Adds a handler under its path, `/SERVICE/METHOD`, which the last slash divides. It replaces an earlier handler.
     /// A text without two slashes is no path, and refused as `Others`. An `Err` changes nothing.
     pub fn add(&mut self, alloc: Global, path: &str, handler: H) -> Result<()>
         ensures ok { OnOk result (Adds self.old path.now handler self.new) }
@@ -50,6 +50,17 @@ impl<H: Drop> Methods<H> {
             return Err(no_path_error(alloc, path));
         };
         self.put(alloc, service, method, handler)?;
+        Ok(())
+    }
+
+    /// Adds these handlers, each under its path, as `add` does. At an `Err` some of them may have been added.
+    pub fn add_all(&mut self, alloc: Global, handlers: BTreeMap<String, H>) -> Result<()>
+        ensures ok { OnOk result (AddsAll self.old handlers.entries self.new) }
+        ensures refused { IfErr result (λ e. (path : List ℕ) × IsNotAdded path e) }
+    {
+        for (path, handler) in handlers {
+            self.add(alloc, path.as_str(), handler)?;
+        }
         Ok(())
     }
 

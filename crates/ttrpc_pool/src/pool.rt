@@ -46,7 +46,7 @@ impl PoolCore {
         }
     }
 
-    /// A worker wants to wait for a job. False: as many wait as may, and it isn't counted.
+    /// A worker wants to wait for a job. False: the limit is reached, and the worker isn't counted.
     pub fn enter(&mut self) -> bool
         ensures room { IsTrue result ↔ (self.old.waiting < self.old.max) }
         ensures entered { IsTrue result → self.new ≡ with_waiting self.old (self.old.waiting + 1) }

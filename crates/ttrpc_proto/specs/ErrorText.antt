@@ -1,5 +1,5 @@
 -- What an error prints, and which status stands for it in a response.
--- Source: this project's.
+-- Source: the Rust crate; the texts on memory and on the ring are this project's.
 use Rattle.std.specs.Prelude.{◌≡◌, ◌≢◌, ⊤, ℕ, List, [], ◌++◌, codes, Option, Some, None, IfSome}
 use Rattle.std.specs.Fmt.{signed_decimal}
 use Rattle.ttrpc_wire.specs.declared.values.code.Code.{Code}

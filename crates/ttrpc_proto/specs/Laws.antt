@@ -24,9 +24,11 @@ use Rattle.ttrpc_codec.proofs.Written.{length-fields_bytes-append, fit_then, fol
 
 -- ---- KeyValue
 
+-- Each field that is written for a `KeyValue` has a written form, if together they have fewer than 2 ^ 64 - 1 bytes.
 pub key_value_fits : (m : KeyValue) → length (fields_bytes (key_value_fields m)) < 2 ^ 64 - 1 → AllByRecursion Fits (key_value_fields m)
 key_value_fits m short = fit_then (delimited_fields 1 m.key) (delimited_fields 2 m.value) short (delimited_fit 1 m.key (omega arith) (omega arith)) (delimited_fit 2 m.value (omega arith) (omega arith))
 
+-- The fields that are written for a valid `KeyValue` mean that `KeyValue`, if together they have fewer than 2 ^ 64 - 1 bytes.
 pub key_value_again : (m : KeyValue) → IsKeyValue m → length (fields_bytes (key_value_fields m)) < 2 ^ 64 - 1 → folded key_value_step empty_key_value (key_value_fields m) ≡ Some m
 key_value_again m h short =
     let key = is_utf8-from_IsUtf8 m.key h.key in
@@ -38,9 +40,11 @@ key_value_again m h short =
 
 -- ---- Any
 
+-- Each field that is written for an `Any` has a written form, if together they have fewer than 2 ^ 64 - 1 bytes.
 pub any_fits : (m : Any) → length (fields_bytes (any_fields m)) < 2 ^ 64 - 1 → AllByRecursion Fits (any_fields m)
 any_fits m short = fit_then (delimited_fields 1 m.type_url) (delimited_fields 2 m.value) short (delimited_fit 1 m.type_url (omega arith) (omega arith)) (delimited_fit 2 m.value (omega arith) (omega arith))
 
+-- The fields that are written for a valid `Any` mean that `Any`, if together they have fewer than 2 ^ 64 - 1 bytes.
 pub any_again : (m : Any) → IsAny m → length (fields_bytes (any_fields m)) < 2 ^ 64 - 1 → folded any_step empty_any (any_fields m) ≡ Some m
 any_again m h short =
     let type_url = is_utf8-from_IsUtf8 m.type_url h.type_url in
@@ -56,12 +60,14 @@ status_details : (m : Status) (xs : List Any) → AllByRecursion (λ x. read_fro
 status_details m [] all = tt
 status_details m (x ∷ xs) all = ((λ old. let e = all.0 in rw e refl), status_details m xs all.1)
 
+-- Each field that is written for a valid status has a written form, if together they have fewer than 2 ^ 64 - 1 bytes.
 pub status_fits : (m : Status) → IsStatus m → length (fields_bytes (status_fields m)) < 2 ^ 64 - 1 → AllByRecursion Fits (status_fields m)
 status_fits m h short =
     fit_then (number_fields 1 (number_of m.code)) (delimited_fields 2 m.message ++ part_fields 3 any_fields m.details) short
     (λ _. number_fit 1 (number_of m.code) (omega arith) (omega arith) (int32_small m.code h.code))
     (λ rest. fit_then (delimited_fields 2 m.message) (part_fields 3 any_fields m.details) rest (delimited_fit 2 m.message (omega arith) (omega arith)) (parts_fit 3 any_fields m.details (omega arith) (omega arith)))
 
+-- The fields that are written for a valid status mean that status, if together they have fewer than 2 ^ 64 - 1 bytes.
 pub status_again : (m : Status) → IsStatus m → length (fields_bytes (status_fields m)) < 2 ^ 64 - 1 → folded status_step empty_status (status_fields m) ≡ Some m
 status_again m h short =
     let message = is_utf8-from_IsUtf8 m.message h.message in
@@ -87,6 +93,7 @@ request_metadata m (x ∷ xs) all = ((λ old. let e = all.0 in rw e refl), reque
 abbrev request_names : Request → List Field
 request_names m = delimited_fields 2 m.method ++ delimited_fields 3 m.payload
 
+-- Each field that is written for a valid request has a written form, if together they have fewer than 2 ^ 64 - 1 bytes.
 pub request_fits : (m : Request) → IsRequest m → length (fields_bytes (request_fields m)) < 2 ^ 64 - 1 → AllByRecursion Fits (request_fields m)
 request_fits m h short =
     fit_then (request_head m) (request_tail m) short
@@ -96,6 +103,7 @@ request_fits m h short =
     (λ _. number_fit 4 (number_of m.timeout_nano) (omega arith) (omega arith) (int64_small m.timeout_nano h.timeout_nano))
     (parts_fit 5 key_value_fields m.metadata (omega arith) (omega arith)))
 
+-- The fields that are written for a valid request mean that request, if together they have fewer than 2 ^ 64 - 1 bytes.
 pub request_again : (m : Request) → IsRequest m → length (fields_bytes (request_fields m)) < 2 ^ 64 - 1 → folded request_step empty_request (request_fields m) ≡ Some m
 request_again m h short =
     let service = is_utf8-from_IsUtf8 m.service h.service in
@@ -128,9 +136,11 @@ response_status (Some m) h short =
     let back : read_from status_step empty_status (fields_bytes (status_fields m)) ≡ Some m = reads_back status_step empty_status m (status_fields m) (status_fits m h one) (status_again m h one) in
     rw back refl
 
+-- Each field that is written for a valid response has a written form, if together they have fewer than 2 ^ 64 - 1 bytes.
 pub response_fits : (m : Response) → IsResponse m → length (fields_bytes (response_fields m)) < 2 ^ 64 - 1 → AllByRecursion Fits (response_fields m)
 response_fits m h short = fit_then (optional_fields 1 status_fields m.status) (delimited_fields 2 m.payload) short (optional_fit 1 status_fields m.status (omega arith) (omega arith)) (delimited_fit 2 m.payload (omega arith) (omega arith))
 
+-- The fields that are written for a valid response mean that response, if together they have fewer than 2 ^ 64 - 1 bytes.
 pub response_again : (m : Response) → IsResponse m → length (fields_bytes (response_fields m)) < 2 ^ 64 - 1 → folded response_step empty_response (response_fields m) ≡ Some m
 response_again m h short =
     let a : Response = record { status = m.status; payload = [] } in
@@ -152,6 +162,7 @@ request_around m p (Some a) (Some b) None e = refl
 request_around m p (Some a) (Some b) (Some d) None = refl
 request_around m p (Some a) (Some b) (Some d) (Some e) = refl
 
+-- The payload of a request is its field 3: such a field replaces it, and no other looks at it or changes it.
 pub request_carries : HasPayload request_step empty_request 3 (λ m p. record m { payload = p })
 request_carries = record {
   first = refl;
@@ -168,6 +179,7 @@ response_around : (m : Response) (p : List ℕ) (a : Option (Option Status))
 response_around m p None = refl
 response_around m p (Some a) = refl
 
+-- The payload of a response is its field 2: such a field replaces it, and no other looks at it or changes it.
 pub response_carries : HasPayload response_step empty_response 2 (λ m p. record m { payload = p })
 response_carries = record {
   first = refl;

@@ -15,24 +15,26 @@ use Rattle.ttrpc_proto.specs.declared.status.Status.{Status}
 
 -- ---- the values of one number, in order
 
+-- the bytes of a length-delimited value; of any other none
 abbrev pub delimited_value : Value → List (List ℕ)
 delimited_value (LengthDelimited bytes) = bytes ∷ []
 delimited_value (Varint n) = []
 delimited_value (Fixed64 n) = []
 delimited_value (Fixed32 n) = []
 
+-- the number of a varint; of any other value none
 abbrev pub number_value : Value → List ℕ
 number_value (Varint n) = n ∷ []
 number_value (LengthDelimited bytes) = []
 number_value (Fixed64 n) = []
 number_value (Fixed32 n) = []
 
--- those with a length
+-- the values with a length of the fields of this number
 abbrev pub delimited_values : ℕ → List Field → List (List ℕ)
 delimited_values k [] = []
 delimited_values k (f ∷ fs) = (if f.number == k then delimited_value f.value else []) ++ delimited_values k fs
 
--- those that are varints
+-- the values that are varints of the fields of this number
 abbrev pub number_values : ℕ → List Field → List ℕ
 number_values k [] = []
 number_values k (f ∷ fs) = (if f.number == k then number_value f.value else []) ++ number_values k fs
@@ -44,6 +46,7 @@ last_or d (x ∷ xs) = last_or x xs
 
 -- ---- the kinds of members
 
+-- the text is the last of the values, or empty where there are none, and each of them is UTF-8
 pub record IsLastText (values : List (List ℕ)) (text : List ℕ) : Type 0 where
   pub texts : AllByRecursion IsUtf8 values
   pub last : text ≡ last_or [] values
@@ -67,19 +70,23 @@ AreJoined {M = M} Is (b ∷ bs) (Some m) = Is (flat_map (λ x. x) (b ∷ bs)) m 
 
 -- ---- the five messages
 
+-- the fields mean this `KeyValue`
 pub record OfKeyValue (fs : List Field) (m : KeyValue) : Type 0 where
   pub key : IsLastText (delimited_values 1 fs) m.key
   pub value : IsLastText (delimited_values 2 fs) m.value
 
+-- the fields mean this `Any`
 pub record OfAny (fs : List Field) (m : Any) : Type 0 where
   pub type_url : IsLastText (delimited_values 1 fs) m.type_url
   pub value : m.value ≡ last_or [] (delimited_values 2 fs)
 
+-- the fields mean this status
 pub record OfStatus (fs : List Field) (m : Status) : Type 0 where
   pub code : m.code ≡ last_or (pos 0) (map int32_of (number_values 1 fs))
   pub message : IsLastText (delimited_values 2 fs) m.message
   pub details : AreEach (Means OfAny) (delimited_values 3 fs) m.details
 
+-- the fields mean this request
 pub record OfRequest (fs : List Field) (m : Request) : Type 0 where
   pub service : IsLastText (delimited_values 1 fs) m.service
   pub method : IsLastText (delimited_values 2 fs) m.method
@@ -87,6 +94,7 @@ pub record OfRequest (fs : List Field) (m : Request) : Type 0 where
   pub timeout_nano : m.timeout_nano ≡ last_or (pos 0) (map int64_of (number_values 4 fs))
   pub metadata : AreEach (Means OfKeyValue) (delimited_values 5 fs) m.metadata
 
+-- the fields mean this response
 pub record OfResponse (fs : List Field) (m : Response) : Type 0 where
   pub status : AreJoined (Means OfStatus) (delimited_values 1 fs) m.status
   pub payload : m.payload ≡ last_or [] (delimited_values 2 fs)

@@ -64,7 +64,7 @@ impl WireMessage for Any {
         Ok(())
     }
 
-    fn known(&self) {
+    fn lemma_is_value(&self) {
         let _ = self.type_url.as_bytes();
     }
 

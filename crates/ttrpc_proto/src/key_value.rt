@@ -66,7 +66,7 @@ impl WireMessage for KeyValue {
         Ok(())
     }
 
-    fn known(&self) {
+    fn lemma_is_value(&self) {
         let _ = self.key.as_bytes();
         let _ = self.value.as_bytes();
     }

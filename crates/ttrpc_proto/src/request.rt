@@ -6,7 +6,7 @@ use crate::key_value::KeyValue;
 use std::alloc::{AllocError, Global};
 use ttrpc_codec::in_place::CarriesPayload;
 use ttrpc_codec::members::{
-    delimited_len, known_all, number_len, parts_len, put_delimited, put_number, put_parts,
+    delimited_len, lemma_are_values, number_len, parts_len, put_delimited, put_number, put_parts,
     text_from,
 };
 use ttrpc_codec::message::{WireMessage, decode};
@@ -121,11 +121,11 @@ impl WireMessage for Request {
         put_tail(out, self)
     }
 
-    fn known(&self) {
+    fn lemma_is_value(&self) {
         let _ = self.service.as_bytes();
         let _ = self.method.as_bytes();
         let _timeout_nano = self.timeout_nano;
-        known_all(self.metadata.as_slice());
+        lemma_are_values(self.metadata.as_slice());
     }
 
     ghost again = { request_again };

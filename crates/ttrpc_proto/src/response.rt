@@ -79,9 +79,9 @@ impl WireMessage for Response {
         Ok(())
     }
 
-    fn known(&self) {
+    fn lemma_is_value(&self) {
         match &self.status {
-            Some(status) => status.known(),
+            Some(status) => status.lemma_is_value(),
             None => {}
         }
     }

@@ -3,7 +3,7 @@ ghost use Rattle.std.specs.Prelude.{◌≡◌};
 use crate::any::Any;
 use std::alloc::{AllocError, Global};
 use ttrpc_codec::members::{
-    delimited_len, known_all, number_len, parts_len, put_delimited, put_number, put_parts,
+    delimited_len, lemma_are_values, number_len, parts_len, put_delimited, put_number, put_parts,
     text_from,
 };
 use ttrpc_codec::message::{WireMessage, decode};
@@ -113,10 +113,10 @@ impl WireMessage for Status {
         put_parts(out, DETAILS, self.details.as_slice())
     }
 
-    fn known(&self) {
+    fn lemma_is_value(&self) {
         let _code = self.code;
         let _ = self.message.as_bytes();
-        known_all(self.details.as_slice());
+        lemma_are_values(self.details.as_slice());
     }
 
     ghost again = { status_again };

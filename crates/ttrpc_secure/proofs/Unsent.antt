@@ -9,7 +9,7 @@ use Rattle.ttrpc_secure.specs.declared.transform.OutboundTransform.{Ghosts as Ou
 use Rattle.ttrpc_secure.specs.declared.transform.TransformError.{TransformError}
 use Rattle.ttrpc_secure.specs.declared.transform.TransformError.TheVariants.{Refused, NoMemory as Starved}
 use Rattle.ttrpc_secure.specs.Halves.{MayFail}
-use Rattle.ttrpc_secure.specs.Security.Context.{FailsToSeal, TellsUnsent}
+use Rattle.ttrpc_secure.specs.Context.Calls.{FailsToSeal, TellsUnsent}
 
 -- A half refused the bytes, so that they aren't too long for it.
 fits : {A : Type 0} (r : Result A SendError) (t : TransformError) (n overhead : ℕ) → r ≡ Err (Failed t) → (MESSAGE_LENGTH_MAX < n + overhead → r ≡ Err TooLong)

@@ -1,4 +1,4 @@
-//! What it comes to that two halves are paired.
+//! What pairing of two halves implies.
 ghost use Rattle.std.specs.Prelude.{◌≡◌, ℕ, List};
 ghost use Rattle.ttrpc_secure.specs.Halves.{IsPaired};
 

@@ -85,8 +85,10 @@ pub fn seal<O: OutboundTransform>(
     data: &[u8],
     aad: &[u8],
 ) -> Result<Vec<u8>, SendError>
+    // What was sealed is no longer than a message may be.
     ensures ok { IfOk result (λ sealed. O.seals half.old «data».now aad.now sealed.items half.new) }
     ensures fits { IfOk result (λ sealed. length sealed.items ≤ MESSAGE_LENGTH_MAX) }
+    // Or it may become longer, or the half fails, and nothing changed.
     ensures too_long { (result ≡ Err SendError.TooLong) ↔ (MESSAGE_LENGTH_MAX < length «data».now + O.overhead half.old) }
     ensures refused { (t : AnError) → result ≡ Err (SendError.Failed t)
         → MayFail O.refuses half.old «data».now aad.now t }

@@ -4,7 +4,7 @@ use Rattle.std.specs.Prelude.{Ok, Err}
 use Rattle.ttrpc_proto.specs.declared.error.Error.{Error}
 use Rattle.ttrpc_secure.specs.declared.transform.OutboundTransform.{Ghosts as OutboundTransform}
 use Rattle.ttrpc_server.specs.declared.server.ServerCore.{ServerCore}
-use Rattle.ttrpc_server.specs.Table.{RefusesAnswer, RefusesFinish}
+use Rattle.ttrpc_server.specs.Protocol.{RefusesAnswer, RefusesFinish}
 
 -- It queues nothing, so it is refused just as the end of its job is.
 pub refused_as_an_end : {O I : Type 0} (out : OutboundTransform O) (old : ServerCore O I) (id : ℕ) (error told : Error) → RefusesAnswer out old id (Err error) told → RefusesFinish old id told

@@ -1,5 +1,5 @@
 -- The ids of jobs rise through every call.
-use Rattle.ttrpc_server.proofs.Words.{◌≡◌, ℕ, ◌≤◌, List, [], ◌∷◌, ◌++◌, Some, None, refl, arith, AllByRecursion, MessageHeader, Request, OutboundTransform, Arrived, Sent, ActiveJob, Job, EndsOne, HandsOne, NoneWaits, Rising, Server, Row, Known, row_of, Does, serves}
+use Rattle.ttrpc_server.proofs.Words.{◌≡◌, ℕ, ◌≤◌, List, [], ◌∷◌, ◌++◌, Some, None, refl, arith, AllByRecursion, MessageHeader, Request, OutboundTransform, Arrived, Sent, ActiveJob, Job, EndsOne, HandsOne, NoneWaits, Rising, Server, Row, MakeJob, row_of, Does, serves}
 use Rattle.ttrpc_server.proofs.Keyed.{one_less, rising_more}
 
 -- ---- lists of jobs
@@ -12,7 +12,7 @@ with_one_taken low high (j ∷ front) back job rising = (rising.0, with_one_take
 
 row_keeps : {O : Type 0} (out : OutboundTransform O) (row : Row) (old : Server) (o : O) (header : MessageHeader) (sent : List Sent) (new : Server) → Does out row old o header sent new
     → Rising 0 old.jobs.list old.jobs.last → Rising 0 new.jobs.list new.jobs.last
-row_keeps out (Known request) old o header sent new does rising = rw does.0 (rising_more 0 old.jobs.last old.jobs.list _ refl rising)
+row_keeps out (MakeJob request) old o header sent new does rising = rw does.0 (rising_more 0 old.jobs.last old.jobs.list _ refl rising)
 row_keeps out row old o header sent new does rising = rw does.0 rising
 
 pub frame_keeps : {O : Type 0} (out : OutboundTransform O) (old : Server) (o : O) (a : Arrived) (sent : List Sent) (new : Server) → serves out old o a sent new

@@ -1,5 +1,5 @@
 -- What a frame, a job that is handed out, and an answer do to each stream id by itself.
-use Rattle.ttrpc_server.proofs.Words.{cond_both, ◌≡◌, ℕ, nat_eq, ◌≢◌, inl, inr, refl, arith, List, [], ◌∷◌, None, sym, ap, ◌∙◌, ActiveJob, Job, MessageHeader, Response, OutboundTransform, Sent, EndsOne, HandsOne, NoneWaits, jobs_at, Refers, Server, Row, Tells, TellsOf, Known, Does, between_own, between_other, pushed_own, pushed_other, under_both}
+use Rattle.ttrpc_server.proofs.Words.{cond_both, ◌≡◌, ℕ, nat_eq, ◌≢◌, inl, inr, refl, arith, List, [], ◌∷◌, None, sym, ap, ◌∙◌, ActiveJob, Job, MessageHeader, Response, OutboundTransform, Sent, EndsOne, HandsOne, NoneWaits, jobs_at, SendsOwnAnswer, Server, Row, SendResponse, SendCode, MakeJob, Does, between_own, between_other, pushed_own, pushed_other, under_both}
 use Rattle.ttrpc_server.specs.Streams.{IsAnswered, made_by}
 
 none_waits_at : (js : List ActiveJob) (k : ℕ) → NoneWaits js → NoneWaits (jobs_at js k)
@@ -51,23 +51,23 @@ ended_elsewhere old new id job k h apart =
 
 pub row_elsewhere : {O : Type 0} (out : OutboundTransform O) (row : Row) (old : Server) (o : O) (header : MessageHeader) (sent : List Sent) (new : Server) (k : ℕ) → Does out row old o header sent new
     → k ≢ header.stream_id → jobs_at new.jobs.list k ≡ jobs_at old.jobs.list k
-row_elsewhere out (Known request) old o header sent new k does apart = rw does.0 (pushed_other stream_id_of k _ old.jobs.list (λ same. apart (sym same)))
+row_elsewhere out (MakeJob request) old o header sent new k does apart = rw does.0 (pushed_other stream_id_of k _ old.jobs.list (λ same. apart (sym same)))
 row_elsewhere out row old o header sent new k does apart = rw does.0 refl
 
 pub row_made : {O : Type 0} (out : OutboundTransform O) (row : Row) (old : Server) (o : O) (header : MessageHeader) (sent : List Sent) (new : Server) → Does out row old o header sent new
     → jobs_at new.jobs.list header.stream_id ≡ made_by row header old.jobs.last (jobs_at old.jobs.list header.stream_id)
-row_made out (Known request) old o header sent new does = rw does.0 (pushed_own stream_id_of header.stream_id _ old.jobs.list refl)
+row_made out (MakeJob request) old o header sent new does = rw does.0 (pushed_own stream_id_of header.stream_id _ old.jobs.list refl)
 row_made out row old o header sent new does = rw does.0 refl
 
 none_sent : (k : ℕ) (sent : List Sent) → sent ≡ [] → IsAnswered k sent
 none_sent k sent none = rw none (record { own = tt; at_most_one = omega arith })
 
-referred : {O : Type 0} (out : OutboundTransform O) (o : O) (k : ℕ) (r : Response) (sent : List Sent) → Refers out o k r sent → IsAnswered k sent
+referred : {O : Type 0} (out : OutboundTransform O) (o : O) (k : ℕ) (r : Response) (sent : List Sent) → SendsOwnAnswer out o k r sent → IsAnswered k sent
 referred out o k r sent (inl one) = rw one.is (record { own = (one.is_frame.stream_id, tt); at_most_one = omega arith })
 referred out o k r sent (inr none) = none_sent k sent none.0
 
 pub row_answers : {O : Type 0} (out : OutboundTransform O) (row : Row) (old : Server) (o : O) (header : MessageHeader) (sent : List Sent) (new : Server) → Does out row old o header sent new
     → IsAnswered header.stream_id sent
-row_answers out (Tells r) old o header sent new does = referred out o header.stream_id r sent does.1
-row_answers out (TellsOf code) old o header sent new does = referred out o header.stream_id does.1.0 sent does.1.2
+row_answers out (SendResponse r) old o header sent new does = referred out o header.stream_id r sent does.1
+row_answers out (SendCode code) old o header sent new does = referred out o header.stream_id does.1.0 sent does.1.2
 row_answers out row old o header sent new does = none_sent header.stream_id sent does.1

@@ -5,9 +5,10 @@ use Rattle.ttrpc_server.specs.Types.{Response, Queued, OutboundTransform, Connec
 use Rattle.ttrpc_frame.specs.Queue.{Placed}
 use Rattle.ttrpc_connection.specs.Calls.{Others, Queues}
 use Rattle.ttrpc_server.specs.declared.server.ServerCore.{ServerCore}
-use Rattle.ttrpc_server.specs.Server.{Server}
-use Rattle.ttrpc_server.specs.Happens.{Answers, Drops, Finishes, Hands, QueuesResponse}
+use Rattle.ttrpc_server.specs.State.{Server}
+use Rattle.ttrpc_server.specs.Protocol.{Answers, Drops, Finishes, Hands, QueuesResponse}
 
+-- a call, with what it was given and what it gave
 pub data Served : Type 0 where
   -- a job was asked for, and this came
   Took : (job : Option Job) → Served
@@ -20,9 +21,11 @@ pub data Served : Type 0 where
   -- a job was ended
   Finished : (id : ℕ) → Served
 
+-- the core of this state and this connection
 abbrev pub core : {O I : Type 0} → Server → Connection O I → ServerCore O I
 core state connection = record { state = state; connection = connection }
 
+-- what such a call does, and what the queue goes through by it
 abbrev pub served : {O I : Type 0} → OutboundTransform O → Others Served Server O I
 served out (Took (Some job)) s old happenings t new = Hands (core s old) job (core t new) × (happenings ≡ [])
 served out (Took None) s old happenings t new = (t ≡ s) × (new ≡ old) × (happenings ≡ [])

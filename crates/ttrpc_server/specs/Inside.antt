@@ -5,14 +5,11 @@ use Rattle.std.specs.List.{AllByRecursion}
 use Rattle.ttrpc_server.specs.Types.{Error, Others, MemoryRefused, Response, OutboundTransform, Failure, JobIdsUsedUp, NoMemoryLeft, Outbox, ActiveJob}
 use Rattle.ttrpc_connection.specs.Failure.{IsTold}
 use Rattle.ttrpc_connection.specs.Frames.{Sent, SendsAll, safe_limit}
-use Rattle.ttrpc_secure.specs.Security.Texts.{unsafe_payload_text, unsealed_text}
+use Rattle.ttrpc_secure.specs.Context.Texts.{unsafe_payload_text, unsealed_text}
 use Rattle.ttrpc_server.specs.declared.replies.Unsent.{Unsent}
 use Rattle.ttrpc_server.specs.declared.replies.Unsent.TheVariants.{AboveLimit, Unsealed, NoMemory}
-use Rattle.ttrpc_server.specs.Happens.{IsUsedUp}
-use Rattle.ttrpc_server.specs.Jobs.{JobList, Rising}
-use Rattle.ttrpc_server.specs.Responses.{IsAboveLimit, IsUnsealed, fitted, response_size}
-use Rattle.ttrpc_server.specs.Server.{Server}
-use Rattle.ttrpc_server.specs.Table.{Row}
+use Rattle.ttrpc_server.specs.Protocol.{IsUsedUp, IsAboveLimit, IsUnsealed, fit_to_limit, response_size, Row}
+use Rattle.ttrpc_server.specs.State.{JobList, Rising, Server}
 
 -- ---- jobs in their map
 
@@ -47,13 +44,13 @@ SendsSome out old P new = (sent : List Sent) × P sent × SendsAll out old sent 
 
 -- why a response isn't sent
 abbrev pub IsUnsentFor : {O : Type 0} → OutboundTransform O → O → ℕ → Response → Unsent → Type 0
-IsUnsentFor out o k r (AboveLimit n) = (n ≡ response_size (fitted (safe_limit out o) r)) × IsAboveLimit (safe_limit out o) r
+IsUnsentFor out o k r (AboveLimit n) = (n ≡ response_size (fit_to_limit (safe_limit out o) r)) × IsAboveLimit (safe_limit out o) r
 IsUnsentFor out o k r (Unsealed why) = IsUnsealed out o k r why
 IsUnsentFor out o k r NoMemory = Unit {0}
 
 -- why it isn't written
 abbrev pub IsUnfit : ℕ → Response → Unsent → Type 0
-IsUnfit limit r (AboveLimit n) = (n ≡ response_size (fitted limit r)) × IsAboveLimit limit r
+IsUnfit limit r (AboveLimit n) = (n ≡ response_size (fit_to_limit limit r)) × IsAboveLimit limit r
 IsUnfit limit r (Unsealed why) = ⊥
 IsUnfit limit r NoMemory = Unit {0}
 

@@ -4,13 +4,13 @@ use Rattle.std.specs.Prelude.{◌≡◌, ◌≤◌, ℕ, ◌+◌, List, [], ◌�
 use Rattle.std.specs.List.{AllByRecursion}
 use Rattle.ttrpc_server.specs.Types.{MessageHeader, ActiveJob}
 use Rattle.ttrpc_connection.specs.Frames.{Sent}
-use Rattle.ttrpc_server.specs.Jobs.{new_job}
-use Rattle.ttrpc_server.specs.Table.{Row, Known}
+use Rattle.ttrpc_server.specs.State.{new_job}
+use Rattle.ttrpc_server.specs.Protocol.{Row, MakeJob}
 
 -- The jobs of the frame's own stream id after it: those of before, and behind them the one that its row makes, whose id
 -- comes next.
 abbrev pub made_by : Row → MessageHeader → ℕ → List ActiveJob → List ActiveJob
-made_by (Known request) header last before = before ++ new_job (last + 1) header request ∷ []
+made_by (MakeJob request) header last before = before ++ new_job (last + 1) header request ∷ []
 made_by row header last before = before
 
 -- at most one frame was sent, under this stream id

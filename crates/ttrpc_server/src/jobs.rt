@@ -1,7 +1,7 @@
 //! The jobs of a server that weren't answered, found by their ids.
 ghost use Rattle.std.specs.Prelude.{◌≡◌, ◌-◌, IfErr, IfSome, IfNone, OnOk, filter, length};
 ghost use Rattle.ttrpc_server.specs.declared.job.ActiveJob.{ActiveJob as AJob};
-ghost use Rattle.ttrpc_server.specs.Jobs.{EndsOne, HandsOne, IsTaken, IsUnknown, NoneWaits, Rising, no_jobs, waits, with_job};
+ghost use Rattle.ttrpc_server.specs.State.{EndsOne, HandsOne, IsTaken, IsUnknown, NoneWaits, Rising, no_jobs, waits, with_job};
 ghost use Rattle.ttrpc_server.specs.Inside.{FailsToMake};
 
 #[cfg(test)]
@@ -26,7 +26,7 @@ pub(crate) struct Jobs {
 
 impl Model for Jobs {
     ghost use Rattle.std.specs.Map.{values_of};
-    ghost use Rattle.ttrpc_server.specs.Jobs.{JobList};
+    ghost use Rattle.ttrpc_server.specs.State.{JobList};
     ghost use Rattle.ttrpc_server.specs.Inside.{AreJobs};
 
     ghost Value = { JobList };

@@ -1,9 +1,8 @@
 //! What the calls of a server's port of jobs do to its core, under the lock.
 ghost use Rattle.std.specs.Prelude.{◌≡◌, ◌⊎◌, IfErr, IfSome, IfNone, OnOk, OnErr, Ok, Err, None};
 ghost use Rattle.ttrpc_proto.specs.declared.error.Error.{Error as AnError};
-ghost use Rattle.ttrpc_server.specs.Happens.{Drops, Finishes, Hands};
-ghost use Rattle.ttrpc_server.specs.Jobs.{NoneWaits};
-ghost use Rattle.ttrpc_server.specs.Table.{RefusesFinish};
+ghost use Rattle.ttrpc_server.specs.Protocol.{Drops, Finishes, Hands, RefusesFinish};
+ghost use Rattle.ttrpc_server.specs.State.{NoneWaits};
 
 use crate::job::{Job, JobId};
 use crate::server::ServerCore;
@@ -11,7 +10,7 @@ use std::alloc::Global;
 use ttrpc_proto::Error;
 use ttrpc_secure::{InboundTransform, OutboundTransform};
 
-/// What `take` does. Takes no memory.
+/// Takes a job, for the port. Takes no memory.
 pub fn take_on<O: OutboundTransform + Drop, I: InboundTransform + Drop>(
     core: &mut ServerCore<O, I>,
 ) -> Option<Job>
@@ -22,7 +21,7 @@ pub fn take_on<O: OutboundTransform + Drop, I: InboundTransform + Drop>(
     core.take_job()
 }
 
-/// What `done` does. A job that was handled ends, and nothing is queued; where its handler failed, the connection fails.
+/// Ends a handled job, and queues nothing; where its handler failed, the connection fails.
 pub fn done_on<O: OutboundTransform + Drop, I: InboundTransform + Drop>(
     core: &mut ServerCore<O, I>,
     alloc: Global,

@@ -11,11 +11,9 @@ ghost use Rattle.ttrpc_connection.specs.Frames.{Sent};
 ghost use Rattle.ttrpc_server.specs.declared.job.ActiveJob.{ActiveJob as AJob};
 ghost use Rattle.ttrpc_server.specs.declared.job.Job.{Job as AHandedJob};
 ghost use Rattle.ttrpc_server.specs.Calls.{Served, served};
-ghost use Rattle.ttrpc_server.specs.Happens.{serves, serving};
-ghost use Rattle.ttrpc_server.specs.Jobs.{EndsOne, HandsOne, Rising, jobs_at};
-ghost use Rattle.ttrpc_server.specs.Server.{Server};
+ghost use Rattle.ttrpc_server.specs.Protocol.{serves, serving, row_of};
+ghost use Rattle.ttrpc_server.specs.State.{EndsOne, HandsOne, Rising, jobs_at, Server};
 ghost use Rattle.ttrpc_server.specs.Streams.{IsAnswered, made_by};
-ghost use Rattle.ttrpc_server.specs.Table.{row_of};
 
 use ttrpc_secure::{InboundTransform, OutboundTransform};
 

@@ -1,6 +1,6 @@
 //! Which methods and streams a server has.
 ghost use Rattle.std.specs.Prelude.{◌≡◌, [], string_bytes, OnOk, OnErr};
-ghost use Rattle.ttrpc_server.specs.Registry.{AddsName, has_method, has_name, has_stream, no_services};
+ghost use Rattle.ttrpc_server.specs.State.{AddsName, has_method, has_name, has_stream, no_services};
 
 use std::alloc::{AllocError, Global};
 use std::collections::{BTreeMap, BTreeSet};
@@ -16,7 +16,7 @@ pub struct Registry {
 }
 
 impl Model for Registry {
-    ghost use Rattle.ttrpc_server.specs.Registry.{Services};
+    ghost use Rattle.ttrpc_server.specs.State.{Services};
 
     ghost Value = { Services };
 
@@ -87,7 +87,7 @@ struct Names {
 
 impl Model for Names {
     ghost use Rattle.std.specs.Prelude.{map, string_bytes};
-    ghost use Rattle.ttrpc_server.specs.Registry.{Names as TheNames};
+    ghost use Rattle.ttrpc_server.specs.State.{Names as TheNames};
 
     ghost Value = { TheNames };
 

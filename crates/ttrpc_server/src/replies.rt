@@ -1,7 +1,7 @@
 //! How a response is sent: fitted to the limit, in a frame of its own; and why it isn't.
 ghost use Rattle.std.specs.Prelude.{◌≡◌, ◌≤◌, IfOk, IfErr, OnOk};
 ghost use Rattle.ttrpc_connection.specs.Frames.{safe_limit};
-ghost use Rattle.ttrpc_server.specs.Responses.{fitted, IsResponseFrame, Refers, Responds, response_bytes, response_size};
+ghost use Rattle.ttrpc_server.specs.Protocol.{fit_to_limit, IsResponseFrame, SendsOwnAnswer, Responds, response_bytes, response_size};
 ghost use Rattle.ttrpc_server.specs.Inside.{IsUnfit, IsUnsentFor, SendsSome, TellsUnsent};
 
 use crate::responses::limit_response;
@@ -11,7 +11,7 @@ use ttrpc_codec::message::encode_with_room;
 use ttrpc_connection::{Failure, Outbox};
 use ttrpc_frame::{GenMessage, MESSAGE_LENGTH_MAX, MessageHeader, Queued};
 use ttrpc_proto::{Error, Response};
-use ttrpc_secure::security::errors::{unsafe_payload_error, unsealed_error};
+use ttrpc_secure::context::errors::{unsafe_payload_error, unsealed_error};
 use ttrpc_secure::sending::SendError;
 use ttrpc_secure::{OutboundTransform, TransformError};
 use ttrpc_wire::{Blob, CodecError, Text};
@@ -39,7 +39,7 @@ impl From<AllocError> for Unsent {
 }
 
 impl Unsent {
-    /// What is told of it, where payloads have this limit.
+    /// The error for it, where payloads have this limit.
     pub(crate) fn error(self, alloc: Global, limit: usize) -> Error
         ensures { TellsUnsent limit self result }
     {
@@ -54,8 +54,8 @@ impl Unsent {
 /// The written form of the response, or of one that says that it has more bytes than the limit.
 fn fitted_bytes(alloc: Global, limit: usize, response: &Response) -> Result<Vec<u8>, Unsent>
     requires { limit ≤ MESSAGE_LENGTH_MAX }
-    ensures ok { IfOk result (λ bytes. (bytes.items ≡ response_bytes (fitted limit response.now))
-        × (response_size (fitted limit response.now) ≤ limit)) }
+    ensures ok { IfOk result (λ bytes. (bytes.items ≡ response_bytes (fit_to_limit limit response.now))
+        × (response_size (fit_to_limit limit response.now) ≤ limit)) }
     ensures err { IfErr result (IsUnfit limit response.now) }
 {
     let size = response.size() as usize;
@@ -121,14 +121,14 @@ pub(crate) fn send_response<O: OutboundTransform + Drop>(
 }
 
 /// Sends the core's own answer, or leaves it out where it can't be sent. An `Err` changes nothing.
-pub(crate) fn refer<O: OutboundTransform + Drop>(
+pub(crate) fn send_own_answer<O: OutboundTransform + Drop>(
     alloc: Global,
     outbox: &mut Outbox<O>,
     stream_id: u32,
     response: &Response,
 ) -> Result<(), Failure>
     ensures ok { OnOk result (SendsSome O.OutboundTransform outbox.old
-        (Refers O.OutboundTransform outbox.old.half stream_id response.now) outbox.new) }
+        (SendsOwnAnswer O.OutboundTransform outbox.old.half stream_id response.now) outbox.new) }
     ensures err { IfErr result (λ failure. (outbox.new ≡ outbox.old) × (failure ≡ Failure.NoMemory)) }
 {
     match send_response(alloc, outbox, stream_id, response) {

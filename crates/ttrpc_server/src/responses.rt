@@ -2,13 +2,12 @@
 ghost use Rattle.std.specs.Prelude.{◌≡◌, codes, string_bytes, IfOk};
 ghost use Rattle.ttrpc_frame.specs.Header.Oversize.{oversize_text};
 ghost use Rattle.ttrpc_connection.specs.Failure.{IsTold};
-ghost use Rattle.ttrpc_server.specs.Responses.{status_response, IsStatusResponse, limit_text};
-ghost use Rattle.ttrpc_server.specs.Table.{path_text, unopened_text};
+ghost use Rattle.ttrpc_server.specs.Protocol.{status_response, IsStatusResponse, limit_text, path_text, unopened_response_text};
 
 use std::alloc::{AllocError, Global};
 use ttrpc_frame::header::oversize::oversize_message;
 use ttrpc_proto::{Error, Response, ResponseInit, get_status};
-use ttrpc_secure::security::errors::others_error;
+use ttrpc_secure::context::errors::others_error;
 use ttrpc_wire::{Code, CodecError, Text};
 
 /// The answer to a message that is longer than a message may be.
@@ -32,7 +31,7 @@ pub fn path_response(alloc: Global, service: &Text, method: &Text) -> Result<Res
 /// The answer to a request whose payload the inbound half didn't open, for this reason.
 pub fn unopened_response(alloc: Global, why: &Text) -> Result<Response, AllocError>
     ensures { IfOk result (λ response.
-        response ≡ status_response Code.UNKNOWN (unopened_text why.now)) }
+        response ≡ status_response Code.UNKNOWN (unopened_response_text why.now)) }
 {
     let text = format!(in alloc; "ttrpc err: transform_inbound failed: {}", why.as_str())?;
     Ok(response_of(alloc, Code::UNKNOWN, text))

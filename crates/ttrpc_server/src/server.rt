@@ -1,17 +1,15 @@
 //! The core of a server: frames in, jobs and responses out.
-ghost use Rattle.std.specs.Prelude.{◌≡◌, ◌≢◌, ◌<◌, ◌≤◌, ◌-◌, ◌↔◌, ◌⊎◌, ℕ, List, [], filter, true, length, take, drop, min, is_some, if◌then◌else◌, IfOk, IfErr, OnOk, OnErr, IfSome, IfNone, Ok, Err, Some, None};
+ghost use Rattle.std.specs.Prelude.{◌≡◌, ◌≢◌, ◌<◌, ◌≤◌, ◌-◌, ◌↔◌, ℕ, List, [], filter, true, length, is_some, IfOk, IfErr, OnOk, OnErr, IfSome, IfNone, Ok, Err, Some, None};
 ghost use Rattle.ttrpc_proto.specs.declared.error.Error.{Error as AnError};
 ghost use Rattle.ttrpc_proto.specs.declared.response.Response.{Response as AResponse};
 ghost use Rattle.ttrpc_frame.specs.Frames.{Holds, nothing};
-ghost use Rattle.ttrpc_frame.specs.Queue.{open_part, unsent, with_lent, after_report};
+ghost use Rattle.ttrpc_frame.specs.Queue.{unsent};
 ghost use Rattle.ttrpc_secure.specs.Hooks.Facts.{facts_of};
-ghost use Rattle.ttrpc_connection.specs.declared.failure.Failure.{Failure as AFailure};
-ghost use Rattle.ttrpc_connection.specs.Failure.{IsTold, error_of, kept};
-ghost use Rattle.ttrpc_connection.specs.Feeds.{Breaks, Feeds, FeedsFront, IsFailed};
+ghost use Rattle.ttrpc_connection.specs.Feeds.{IsFailed};
+ghost use Rattle.ttrpc_connection.specs.OneEnd.{Ends, Lends, Takes, TakesFront, failing, lendable, lending, reporting};
 ghost use Rattle.ttrpc_server.specs.declared.job.ActiveJob.{ActiveJob as AJob};
-ghost use Rattle.ttrpc_server.specs.Happens.{Answers, Drops, Finishes, Hands, QueuesResponse, new_core, serving};
-ghost use Rattle.ttrpc_server.specs.Jobs.{IsTaken, IsUnknown, NoneWaits, Rising, waits};
-ghost use Rattle.ttrpc_server.specs.Table.{RefusesAnswer, RefusesFinish, RefusesResponse};
+ghost use Rattle.ttrpc_server.specs.Protocol.{Answers, Drops, Finishes, Hands, QueuesResponse, new_core, serving, RefusesAnswer, RefusesFinish, RefusesResponse};
+ghost use Rattle.ttrpc_server.specs.State.{IsTaken, IsUnknown, NoneWaits, Rising, waits};
 
 use crate::job::{Job, JobId};
 use crate::registry::Registry;
@@ -58,13 +56,7 @@ impl<O: OutboundTransform + Drop, I: InboundTransform + Drop> ServerCore<O, I> {
     /// connection fails where memory for a frame is refused or job ids are used up; then and from then on the answer is
     /// that failure. Under sync rules the moment `now`, in nanoseconds, plays no part.
     pub fn feed(&mut self, alloc: Global, piece: &[u8], now: u64) -> Result<usize, Error>
-        ensures ok { IfOk result (λ n. (n ≡ length piece.now)
-            × Feeds (serving O.OutboundTransform I.InboundTransform) self.old.state self.old.connection piece.now now self.new.state self.new.connection) }
-        ensures fails { self.old.connection.failure ≡ None → IfErr result (λ e.
-            Breaks (serving O.OutboundTransform I.InboundTransform) self.old.state self.old.connection piece.now now e self.new.state self.new.connection) }
-        ensures failed { (f : AFailure) → self.old.connection.failure ≡ Some f
-            → (self.new ≡ self.old) × IfErr result (IsTold (error_of f)) }
-        ensures known { self.new.connection.known ≡ self.old.connection.known }
+        ensures { Takes (serving O.OutboundTransform I.InboundTransform) self.old.state self.old.connection piece.now now result self.new.state self.new.connection }
     {
         self.connection.feed(alloc, &mut self.state, piece, now)
     }
@@ -72,14 +64,7 @@ impl<O: OutboundTransform + Drop, I: InboundTransform + Drop> ServerCore<O, I> {
     /// Takes a front of the piece, and says how many bytes: at least one of a piece that isn't empty, and none behind the
     /// first frame that is whole with it. That frame acts. Otherwise as `feed`.
     pub fn feed_front(&mut self, alloc: Global, piece: &[u8], now: u64) -> Result<usize, Error>
-        ensures count { IfOk result (λ n. (n ≤ length piece.now) × (0 < length piece.now → 0 < n)) }
-        ensures ok { IfOk result (λ n.
-            FeedsFront (serving O.OutboundTransform I.InboundTransform) self.old.state self.old.connection (take n piece.now) now self.new.state self.new.connection) }
-        ensures fails { self.old.connection.failure ≡ None → IfErr result (λ e.
-            Breaks (serving O.OutboundTransform I.InboundTransform) self.old.state self.old.connection piece.now now e self.new.state self.new.connection) }
-        ensures failed { (f : AFailure) → self.old.connection.failure ≡ Some f
-            → (self.new ≡ self.old) × IfErr result (IsTold (error_of f)) }
-        ensures known { self.new.connection.known ≡ self.old.connection.known }
+        ensures { TakesFront (serving O.OutboundTransform I.InboundTransform) self.old.state self.old.connection piece.now now result self.new.state self.new.connection }
     {
         self.connection
             .feed_front(alloc, &mut self.state, piece, now)
@@ -192,21 +177,15 @@ impl<O: OutboundTransform + Drop, I: InboundTransform + Drop> ServerCore<O, I> {
 
     /// The input ended: the connection fails, if it hasn't. Takes no memory.
     pub fn end_of_input(&mut self)
-        ensures between { self.old.connection.decoder ≡ nothing → self.new ≡ record self.old {
-          connection = record self.old.connection { failure = kept self.old.connection.failure Failure.Disconnected };
-        } }
-        ensures inside { self.old.connection.decoder ≢ nothing → self.new ≡ record self.old {
-          connection = record self.old.connection { failure = kept self.old.connection.failure Failure.DisconnectedInside };
-        } }
+        ensures ends { Ends self.old.connection self.new.connection }
+        ensures same { self.new ≡ record self.old { connection = self.new.connection } }
     {
         self.connection.end_of_input();
     }
 
     /// Fails the connection, if it hasn't failed. Takes no memory.
     pub fn fail(&mut self, error: Error)
-        ensures { self.new ≡ record self.old {
-          connection = record self.old.connection { failure = kept self.old.connection.failure (Failure.Told error) };
-        } }
+        ensures { self.new ≡ record self.old { connection = failing self.old.connection (Failure.Told error) } }
     {
         self.connection.fail(Failure::Told(error));
     }
@@ -229,17 +208,8 @@ impl<O: OutboundTransform + Drop, I: InboundTransform + Drop> ServerCore<O, I> {
     /// Copies a front of what is left of the first unfinished frame, as much as fits, and says how many bytes: none only
     /// where none fit, nothing is left to be written, or the connection has failed. Takes no memory.
     pub fn lend(&mut self, buffer: &mut [u8]) -> usize
-        ensures count { result ≡ (if is_some self.old.connection.failure then 0
-            else min (length buffer.old) (length (open_part self.old.connection.outbox.queue))) }
-        ensures zero { (result ≡ 0) ↔ ((length buffer.old ≡ 0)
-            ⊎ (unsent self.old.connection.outbox.queue ≡ []) ⊎ (is_some self.old.connection.failure ≡ true)) }
-        ensures copied { take result buffer.new ≡ take result (open_part self.old.connection.outbox.queue) }
-        ensures rest { drop result buffer.new ≡ drop result buffer.old }
-        ensures lent { self.new ≡ record self.old {
-          connection = record self.old.connection {
-            outbox = record self.old.connection.outbox { queue = with_lent self.old.connection.outbox.queue result };
-          };
-        } }
+        ensures lends { Lends self.old.connection buffer.old result buffer.new }
+        ensures lent { self.new ≡ record self.old { connection = lending self.old.connection result } }
     {
         self.connection.lend(buffer)
     }
@@ -247,19 +217,14 @@ impl<O: OutboundTransform + Drop, I: InboundTransform + Drop> ServerCore<O, I> {
     /// Reports this many of the lent bytes as written. Takes no memory.
     pub fn wrote(&mut self, n: usize)
         requires { n ≤ self.old.connection.outbox.queue.lent }
-        ensures { self.new ≡ record self.old {
-          connection = record self.old.connection {
-            outbox = record self.old.connection.outbox { queue = after_report self.old.connection.outbox.queue n };
-          };
-        } }
+        ensures { self.new ≡ record self.old { connection = reporting self.old.connection n } }
     {
         self.connection.wrote(n)
     }
 
     /// How many bytes a `lend` gives where all fit. Takes no memory.
     pub fn lendable(&self) -> usize
-        ensures { result ≡ (if is_some self.now.connection.failure then 0
-            else length (open_part self.now.connection.outbox.queue)) }
+        ensures { result ≡ lendable self.now.connection }
     {
         self.connection.lendable()
     }

@@ -1,16 +1,14 @@
-//! What a server core is beside its connection, and how a whole frame acts on it.
+//! The state of a server core, without its connection, and how a whole frame acts on it.
 ghost use Rattle.std.specs.Prelude.{◌≡◌, IfErr, IfSome, IfNone, OnOk, Some};
 ghost use Rattle.ttrpc_server.specs.declared.job.ActiveJob.{ActiveJob as AJob};
-ghost use Rattle.ttrpc_server.specs.Happens.{Does};
+ghost use Rattle.ttrpc_server.specs.Protocol.{Does, request_row, sync_row};
 ghost use Rattle.ttrpc_server.specs.Inside.{FailsOn, SendsSome};
-ghost use Rattle.ttrpc_server.specs.Jobs.{EndsOne, HandsOne, IsTaken, NoneWaits};
-ghost use Rattle.ttrpc_server.specs.Server.{new_server, with_list};
-ghost use Rattle.ttrpc_server.specs.Table.{request_row, sync_row};
+ghost use Rattle.ttrpc_server.specs.State.{EndsOne, HandsOne, IsTaken, NoneWaits, new_server, with_list};
 
 use crate::job::{Job, JobId};
 use crate::jobs::Jobs;
 use crate::registry::Registry;
-use crate::replies::refer;
+use crate::replies::send_own_answer;
 use crate::responses::{oversize_response, path_response, unopened_response, unreadable_response};
 use crate::rules::Rules;
 use std::alloc::Global;
@@ -31,7 +29,7 @@ pub struct ServerState {
 }
 
 impl Model for ServerState {
-    ghost use Rattle.ttrpc_server.specs.Server.{Server};
+    ghost use Rattle.ttrpc_server.specs.State.{Server};
 
     ghost Value = { Server };
 
@@ -91,7 +89,7 @@ impl ServerState {
     {
         if plain.len() > MESSAGE_LENGTH_MAX {
             let response = oversize_response(alloc, plain.len())?;
-            return refer(alloc, outbox, header.stream_id, &response);
+            return send_own_answer(alloc, outbox, header.stream_id, &response);
         }
         if header.type_ != MESSAGE_TYPE_REQUEST {
             return Ok(());
@@ -101,7 +99,7 @@ impl ServerState {
             Err(CodecError::NoMemory) => Err(Failure::NoMemory),
             Err(error) => {
                 let response = unreadable_response(alloc, &error)?;
-                refer(alloc, outbox, header.stream_id, &response)
+                send_own_answer(alloc, outbox, header.stream_id, &response)
             }
         }
     }
@@ -124,12 +122,12 @@ impl ServerState {
             return self.jobs.make(header, request);
         }
         let response = path_response(alloc, &request.service, &request.method)?;
-        refer(alloc, outbox, header.stream_id, &response)
+        send_own_answer(alloc, outbox, header.stream_id, &response)
     }
 }
 
 impl<O: OutboundTransform + Drop> Reacts<O> for ServerState {
-    ghost use Rattle.ttrpc_server.specs.Happens.{serves, stops_serving};
+    ghost use Rattle.ttrpc_server.specs.Protocol.{serves, stops_serving};
 
     ghost reacts = { serves O.OutboundTransform };
 
@@ -145,11 +143,11 @@ impl<O: OutboundTransform + Drop> Reacts<O> for ServerState {
         match arrived.opening {
             Opening::TooLong => {
                 let response = oversize_response(alloc, header.length as usize)?;
-                refer(alloc, outbox, header.stream_id, &response)
+                send_own_answer(alloc, outbox, header.stream_id, &response)
             }
             Opening::Refused(why) => {
                 let response = unopened_response(alloc, &why)?;
-                refer(alloc, outbox, header.stream_id, &response)
+                send_own_answer(alloc, outbox, header.stream_id, &response)
             }
             Opening::Opened(plain) => self.act(alloc, outbox, header, plain),
         }

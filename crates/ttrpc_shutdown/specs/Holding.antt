@@ -12,6 +12,7 @@ pub record Place : Type 0 where
   pub table : TableId
   pub holder : Holder
 
+-- a seat at this table, which says this of its holder
 abbrev pub place : TableId → Holder → Place
 place table holder = record { table = table; holder = holder }
 

@@ -7,6 +7,7 @@ use Rattle.atomic_table.specs.Table.{Act, Me, State, Step, stepped}
 use Rattle.ttrpc_shutdown.specs.declared.rule.Holder.{Holder}
 use Rattle.ttrpc_shutdown.specs.ShutdownWords.{shares_of}
 
+-- a holder: whether it is the notifier, has a share, and knows that the flag is set
 abbrev pub holder : Bool → Bool → Bool → Holder
 holder notifies shares knows = record { notifies = notifies; shares = shares; knows = knows }
 
@@ -46,6 +47,7 @@ pub record IsKept (words : List ℕ) (holders : List Holder) : Type 0 where
 abbrev pub Counted : Type 0
 Counted = State (Unit {0}) Holder
 
+-- a seat at such a table: what it says of its holder, and the slots that it has taken
 abbrev pub Seated : Type 0
 Seated = Me (Unit {0}) Holder
 

@@ -6,6 +6,7 @@ use mathlib.Core.Option.{some}
 use lib.ListN.{get_elem?}
 use Rattle.ttrpc_shutdown.specs.declared.rule.Holder.{Holder}
 
+-- 1 where it is true, and 0 where it is false
 abbrev pub one_if : Bool → ℕ
 one_if true = 1
 one_if false = 0

@@ -5,7 +5,7 @@ use Rattle.std.specs.Io.KnownBytes.{Appends, Keeps}
 use Rattle.std.proofs.lemmas.List.Elements.{All-push}
 use Rattle.ttrpc_frame.proofs.Calls.{makes_more, makes_none}
 use Rattle.ttrpc_frame.specs.Streams.{Called, Makes}
-use Rattle.ttrpc_sync.specs.declared.ports.Word.{Word}
+use Rattle.ttrpc_sync.specs.declared.ports.PortState.{PortState}
 use Rattle.ttrpc_sync.specs.Loops.{EndsAt, GoesOn, Told, WritesUntil, Written, reported, waiting}
 
 pub written_nothing : (a p : Option (List ℕ)) → Written a a p p
@@ -45,9 +45,9 @@ pub goes_on : (a b c : Option (List Called)) (call : Called) → Makes a b (All 
 goes_on a b c call before now goes =
     makes_more a b c (All GoesOn) (λ calls. calls ≡ call ∷ []) (All GoesOn) (λ xs ys all is. subst (λ l. All GoesOn (xs ++ l)) (sym is) (All-push GoesOn xs call all goes)) before now
 
-pub ends_here : (a b c : Option (List Called)) (call : Called) (word : Word) → Makes a b (All GoesOn) → Makes b c (λ calls. calls ≡ call ∷ []) → EndsAt call word → Makes a c (WritesUntil word)
-ends_here a b c call word before now ends =
-    makes_more a b c (All GoesOn) (λ calls. calls ≡ call ∷ []) (WritesUntil word) (λ xs ys goes is. record {
+pub ends_here : (a b c : Option (List Called)) (call : Called) (state : PortState) → Makes a b (All GoesOn) → Makes b c (λ calls. calls ≡ call ∷ []) → EndsAt call state → Makes a c (WritesUntil state)
+ends_here a b c call state before now ends =
+    makes_more a b c (All GoesOn) (λ calls. calls ≡ call ∷ []) (WritesUntil state) (λ xs ys goes is. record {
       before = xs;
       last = call;
       all = ap (λ l. xs ++ l) is;

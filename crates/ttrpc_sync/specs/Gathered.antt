@@ -1,19 +1,27 @@
 -- A writer that keeps bytes back, to hand them on whole.
 -- Source: this project's.
-use Rattle.std.specs.Prelude.{◌≡◌, ◌⊎◌, ℕ, List, [], ◌++◌, Option, IfSome, Result, Ok, Err}
+use Rattle.std.specs.Prelude.{◌≡◌, ◌<◌, ◌+◌, ◌-◌, ◌^◌, ◌⊎◌, min, ℕ, List, [], ◌++◌, length, Option, IfSome, Result, Ok, Err}
 use Rattle.std.specs.IoError.{error_kind}
 use Rattle.std.specs.declared.io.Error.{Error}
 use Rattle.std.specs.declared.io.ErrorKind.{ErrorKind}
 use Rattle.ttrpc_frame.specs.Streams.{Answered, Moved, FailsAs}
+use Rattle.ttrpc_sync.specs.declared.gather.TheConstants.{GATHER_LIMIT}
 
--- the writer to which bytes are handed on, and those that are kept
+-- the writer to which bytes are handed on, those that are kept, for how many there is room, and how often memory was refused
 pub record Gathered (W : Type 0) : Type 0 where
   pub writer : W
   pub kept : List ℕ
+  pub room : ℕ
+  pub refusals : ℕ
 
--- After a write of these bytes: they are kept behind what was kept, and the writer is as it was, or the writer took all that was kept, and they alone are kept, or nothing is.
+-- Bytes aren't kept: they are more than a frame, or memory for them was refused.
+abbrev pub IsUnkept : {W : Type 0} → Gathered W → Gathered W → List ℕ → Type 0
+IsUnkept old new bytes = (GATHER_LIMIT < length bytes) ⊎ (new.refusals ≡ min (old.refusals + 1) (2 ^ 64 - 1))
+
+-- After a write of these bytes: they are kept behind what was kept, and the writer is as it was, or the writer took all that was kept, and they alone are kept, or nothing is since they can't be.
 abbrev pub IsGathered : {W : Type 0} → Gathered W → Gathered W → List ℕ → Type 0
-IsGathered old new bytes = ((new.writer ≡ old.writer) × (new.kept ≡ old.kept ++ bytes)) ⊎ ((new.kept ≡ bytes) ⊎ (new.kept ≡ []))
+IsGathered old new bytes =
+    ((new.writer ≡ old.writer) × (new.kept ≡ old.kept ++ bytes)) ⊎ ((new.kept ≡ bytes) ⊎ ((new.kept ≡ []) × IsUnkept old new bytes))
 
 -- by its last answer its writer failed with this kind, or took nothing
 abbrev pub IsWriterFailure : Option Answered → ErrorKind → Type 0

@@ -5,8 +5,8 @@ use Rattle.std.specs.Io.KnownBytes.{Appends, Consumes}
 use Rattle.std.specs.declared.io.ErrorKind.TheVariants.{Interrupted, WriteZero}
 use Rattle.ttrpc_frame.specs.declared.header.TheConstants.{DEFAULT_PAGE_SIZE}
 use Rattle.ttrpc_frame.specs.Streams.{Answered, Moved, Failed, Called, Offered, Flushed}
-use Rattle.ttrpc_sync.specs.declared.ports.Word.{Word}
-use Rattle.ttrpc_sync.specs.declared.ports.Word.TheVariants.{Open, Ended, Broke, Stopped}
+use Rattle.ttrpc_sync.specs.declared.ports.PortState.{PortState}
+use Rattle.ttrpc_sync.specs.declared.ports.PortState.TheVariants.{Open, Ended, Broke, Stopped}
 
 -- The port took what the reader gave, in order, but for a rest that is no longer than one piece.
 pub record Handed (before after old new : Option (List ℕ)) : Type 0 where
@@ -33,23 +33,25 @@ pub record Told : Type 0 where
   pub reported : List ℕ
   pub waiting : List ℕ
 
+-- The bytes that were reported to a port, where it tells them.
 abbrev pub reported : Option Told → Option (List ℕ)
 reported None = None
 reported (Some t) = Some t.reported
 
+-- The bytes that wait at a port, and none where it doesn't tell them.
 abbrev pub waiting : Option Told → List ℕ
 waiting None = []
 waiting (Some t) = t.waiting
 
--- By this last answer of its reader a loop ends with this word: the end where it gave nothing, and a break where it failed, with the error's kind.
-abbrev pub EndsReading : Answered → Word → Type 0
+-- By this last answer of its reader a loop ends with this state: the end where it gave nothing, and a break where it failed, with the error's kind.
+abbrev pub EndsReading : Answered → PortState → Type 0
 EndsReading a Open = ⊥
 EndsReading a Ended = a ≡ Moved 0
 EndsReading a (Broke k) = a ≡ Failed k
 EndsReading a Stopped = ⊤
 
--- By this last answer of its writer a loop ends with this word: a break where it failed, with the error's kind, or where it took nothing, and at its port's word where it was flushed just before.
-abbrev pub EndsWriting : Answered → Word → Type 0
+-- By this last answer of its writer a loop ends with this state: a break where it failed, with the error's kind, or where it took nothing, and at its port's state where it was flushed just before.
+abbrev pub EndsWriting : Answered → PortState → Type 0
 EndsWriting a Open = ⊥
 EndsWriting a Ended = ⊥
 EndsWriting a (Broke k) = (a ≡ Failed k) ⊎ ((a ≡ Moved 0) × (k ≡ WriteZero))
@@ -62,20 +64,20 @@ GoesOn (Offered bytes (Failed k)) = k ≡ Interrupted
 GoesOn (Flushed (Moved n)) = ⊤
 GoesOn (Flushed (Failed k)) = k ≡ Interrupted
 
--- A call of a writer behind which a loop ends with this word: a break where it failed or took nothing, and at its port's word where it was flushed.
-abbrev pub EndsAt : Called → Word → Type 0
-EndsAt (Offered bytes (Moved n)) word = (n ≡ 0) × (word ≡ Broke WriteZero)
-EndsAt (Offered bytes (Failed k)) word = (k ≢ Interrupted) × (word ≡ Broke k)
-EndsAt (Flushed (Moved n)) word = word ≡ Stopped
-EndsAt (Flushed (Failed k)) word = (k ≢ Interrupted) × (word ≡ Broke k)
+-- A call of a writer behind which a loop ends with this state: a break where it failed or took nothing, and at its port's state where it was flushed.
+abbrev pub EndsAt : Called → PortState → Type 0
+EndsAt (Offered bytes (Moved n)) state = (n ≡ 0) × (state ≡ Broke WriteZero)
+EndsAt (Offered bytes (Failed k)) state = (k ≢ Interrupted) × (state ≡ Broke k)
+EndsAt (Flushed (Moved n)) state = state ≡ Stopped
+EndsAt (Flushed (Failed k)) state = (k ≢ Interrupted) × (state ≡ Broke k)
 
--- These are the calls of a writer by a loop that ended with this word: it ended at the last one, and at none before.
-pub record WritesUntil (word : Word) (calls : List Called) : Type 0 where
+-- These are the calls of a writer by a loop that ended with this state: it ended at the last one, and at none before.
+pub record WritesUntil (state : PortState) (calls : List Called) : Type 0 where
   pub before : List Called
   pub last : Called
   pub all : calls ≡ before ++ last ∷ []
   pub goes : All GoesOn before
-  pub ends : EndsAt last word
+  pub ends : EndsAt last state
 
 -- A count that is known in the end stayed as it was.
 abbrev pub IsSameCount : Option ℕ → Option ℕ → Type 0

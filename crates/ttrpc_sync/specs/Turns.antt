@@ -18,3 +18,11 @@ abbrev pub turn_after : Turn → (has_turn stays bytes_wait : Bool) → Turn
 turn_after t has_turn stays bytes_wait =
     if may_write t.is_taken has_turn bytes_wait then record t { is_taken = true } else
     record { is_taken = if has_turn then false else t.is_taken; sleeps = if stays then true else t.sleeps }
+
+-- Who gives the turn back wakes the writer thread where bytes wait and it sleeps.
+abbrev pub wakes_behind : Turn → (bytes_wait : Bool) → Bool
+wakes_behind t bytes_wait = if bytes_wait then t.sleeps else false
+
+-- and the turn then: nobody's, and of the thread that is woken known that it was
+abbrev pub given_back : Turn → (bytes_wait : Bool) → Turn
+given_back t bytes_wait = record { is_taken = false; sleeps = if bytes_wait then false else t.sleeps }

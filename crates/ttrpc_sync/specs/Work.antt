@@ -1,8 +1,8 @@
 -- What a worker does: the jobs that it took, what it reported of each, and how it passed its gate.
 -- Source: this project's; where the gate is passed, the Rust crate ttrpc, the worker threads of its server.
 use Rattle.std.specs.Prelude.{◌≡◌, ℕ, zero, suc, List, [], ◌∷◌, ◌++◌, length, Option, None, Some, Bool, true, false, ⊤}
-use Rattle.ttrpc_sync.specs.declared.ports.Word.{Word}
-use Rattle.ttrpc_sync.specs.declared.ports.Word.TheVariants.{Open, Stopped}
+use Rattle.ttrpc_sync.specs.declared.ports.PortState.{PortState}
+use Rattle.ttrpc_sync.specs.declared.ports.PortState.TheVariants.{Open, Stopped}
 
 -- a list that is told in the end has grown by these
 abbrev pub Grows : {A : Type 0} → Option (List A) → Option (List A) → List A → Type 0
@@ -49,12 +49,12 @@ pub record Worked {Key Request Outcome : Type 0} (gives : Request → Outcome �
   pub passed : Grows passages_old passages_new (rounds (length jobs) ++ last)
 
 -- How the last round at the gate went: where the port gave no more jobs, the worker was let in and went out again; else it was sent away.
-abbrev pub last_round : Word → List Passage
+abbrev pub last_round : PortState → List Passage
 last_round Stopped = Entered ∷ Left ∷ []
 last_round _ = Refused ∷ []
 
 -- A worker ends where its port gives no more jobs, or where its gate sent it away.
-abbrev pub EndsWorking : Word → Bool → Type 0
+abbrev pub EndsWorking : PortState → Bool → Type 0
 EndsWorking Stopped is_shut = is_shut ≡ false
 EndsWorking Open is_shut = is_shut ≡ true
 EndsWorking _ is_shut = ⊥

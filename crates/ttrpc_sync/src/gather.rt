@@ -1,5 +1,5 @@
-//! A writer that keeps bytes back, so that a whole frame goes out by one write.
-ghost use Rattle.std.specs.Prelude.{◌≡◌, ◌≤◌, [], length, take, drop, IfErr, OnOk};
+//! A writer that keeps bytes back, so that a whole frame, or a batch of short ones, goes out by one write.
+ghost use Rattle.std.specs.Prelude.{◌≡◌, ◌+◌, ◌-◌, ◌^◌, ◌≤◌, [], length, take, drop, min, IfErr, OnOk};
 ghost use Rattle.std.specs.Io.{WritesAtMost};
 ghost use Rattle.std.specs.Io.KnownBytes.{Appends, Keeps, WriteAppends, append_known};
 ghost use Rattle.std.specs.IoError.{error_kind};
@@ -13,17 +13,23 @@ use ttrpc_frame::{MESSAGE_HEADER_LENGTH, MESSAGE_LENGTH_MAX, Sink};
 /// How many bytes a gathering writer keeps at most: one frame of the greatest length, with its header.
 pub const GATHER_LIMIT: usize = MESSAGE_HEADER_LENGTH + MESSAGE_LENGTH_MAX;
 
+/// How many bytes' room it has at most behind a flush, so that a connection at rest doesn't hold the room of its longest
+/// frame.
+pub const ROOM_AT_REST: usize = 65536;
+
 /// Keeps the bytes that are written to it, and writes them to its writer at a flush, or where there is no room for more.
 /// What the writer doesn't take is still kept. Bytes for which memory is refused are offered to the writer itself, once
 /// it has taken all that was kept, so nothing is lost or overtaken. Bytes that are kept when it is dropped are lost.
 #[derive(Drop)]
 pub struct Gather<W> {
+    alloc: Global,
     writer: W,
     kept: Vec<u8>,
+    refusals: u64,
 }
 
 impl<W> Model for Gather<W> {
-    ghost use Rattle.std.specs.Prelude.{◌≤◌, length};
+    ghost use Rattle.std.specs.Prelude.{◌≤◌, length, vec_capacity};
     ghost use Rattle.ttrpc_sync.specs.Gathered.{Gathered};
     ghost use Rattle.ttrpc_sync.specs.declared.gather.TheConstants.{GATHER_LIMIT};
 
@@ -32,6 +38,8 @@ impl<W> Model for Gather<W> {
     ghost view = { λ g. record {
       writer = g.writer;
       kept = g.kept.items;
+      room = vec_capacity g.kept;
+      refusals = g.refusals;
     } };
 
     ghost invariant = { λ g. length g.kept.items ≤ GATHER_LIMIT };
@@ -42,10 +50,13 @@ impl<W> Gather<W> {
     pub fn new(alloc: Global, writer: W) -> Gather<W>
         ensures writer { result.writer ≡ writer }
         ensures kept { result.kept ≡ [] }
+        ensures refusals { result.refusals ≡ 0 }
     {
         Gather {
+            alloc,
             writer,
             kept: Vec::new(alloc),
+            refusals: 0,
         }
     }
 
@@ -63,6 +74,13 @@ impl<W> Gather<W> {
     {
         self.kept.as_slice()
     }
+
+    /// How often memory for bytes was refused, so that they were offered to the writer itself.
+    pub fn refusals(&self) -> u64
+        ensures { result ≡ self.now.refusals }
+    {
+        self.refusals
+    }
 }
 
 impl<W: Sink> Gather<W> {
@@ -72,6 +90,7 @@ impl<W: Sink> Gather<W> {
             (append_known (W.contents self.new.writer) self.new.kept) }
         ensures ok { OnOk result (self.new.kept ≡ []) }
         ensures err { IfErr result (λ e. IsWriterFailure (W.last self.new.writer) (error_kind e)) }
+        ensures refusals { self.new.refusals ≡ self.old.refusals }
     {
         let (taken, answer) = write_front(&mut self.writer, self.kept.as_slice());
         remove_front(&mut self.kept, taken);
@@ -95,21 +114,29 @@ impl<W: Sink> Sink for Gather<W> {
         if bytes.len() > GATHER_LIMIT - self.kept.len() {
             self.hand_on()?;
         }
-        if bytes.len() <= GATHER_LIMIT && self.kept.extend_from_slice(bytes).is_ok() {
-            return Ok(bytes.len());
+        if bytes.len() <= GATHER_LIMIT {
+            if self.kept.extend_from_slice(bytes).is_ok() {
+                return Ok(bytes.len());
+            }
+            self.refusals = self.refusals.saturating_add(1);
         }
         self.hand_on()?;
         self.writer.write(bytes)
     }
 
-    /// Writes what is kept, and flushes the writer. What an error leaves unwritten is still kept.
+    /// Writes what is kept, and flushes the writer. What an error leaves unwritten is still kept. Memory above `ROOM_AT_REST`
+    /// is let go.
     fn flush(&mut self) -> io::Result<()>
         ensures bytes { Keeps (append_known (W.contents self.old.writer) self.old.kept)
             (append_known (W.contents self.new.writer) self.new.kept) }
         ensures kept { OnOk result (self.new.kept ≡ []) }
+        ensures room { OnOk result (self.new.room ≤ ROOM_AT_REST) }
         ensures answer { IsFlushOf (W.last self.new.writer) result }
     {
         self.hand_on()?;
+        if self.kept.capacity() > ROOM_AT_REST {
+            self.kept = Vec::new(self.alloc);
+        }
         self.writer.flush()
     }
 }

@@ -1,7 +1,7 @@
 //! The loops between a stream of bytes and a port: one hands on what a reader gives, the other writes what is lent and
-//! reports what the writer took, a third takes jobs, has each handled and reports what came of it. They add nothing,
-//! lose nothing, and end only for a reason that they told or were told. In `ends` the ports of a connection that
-//! threads share, and whose turn it is to write; in `link` that connection over a socket. Neither core is known here.
+//! reports what the writer took, a third takes jobs, hands each to its handler and reports the outcome. They add nothing,
+//! and end only for a reason that they told or were told. In `ends` the ports of a connection that threads share, and whose
+//! turn it is to write; in `link` that connection over a socket. This crate knows neither core.
 #![tactic(auto)]
 
 pub mod ends;
@@ -11,9 +11,11 @@ mod loops;
 mod ports;
 mod work;
 
-pub use ends::{Connected, Held, Next, ReadEnd, Taken, Turn, WriteEnd};
-pub use gather::{GATHER_LIMIT, Gather};
-pub use link::{Host, Link, Outlet, Queued, Runtime, after_queuing, moment};
+pub use ends::{
+    BATCH_BYTES, BATCH_LOANS, Batch, Connected, Held, Loan, Next, ReadEnd, Taken, Turn, WriteEnd,
+};
+pub use gather::{GATHER_LIMIT, Gather, ROOM_AT_REST};
+pub use link::{AfterQueuing, Host, Link, Outlet, Runtime, after_queuing, moment};
 pub use loops::{read_loop, write_loop};
-pub use ports::{ReadPort, Word, WritePort};
+pub use ports::{PortState, ReadPort, WritePort};
 pub use work::{Gate, Handler, JobPort, work_loop};

@@ -1,13 +1,14 @@
 //! The two loops, over any reader, any writer and any port.
-ghost use Rattle.std.specs.Prelude.{◌≡◌, ◌≢◌, ◌⊎◌, ℕ, take, IfSome, MatchBool};
-ghost use Rattle.std.specs.Io.KnownBytes.{Appends, IsAtEnd};
+ghost use Rattle.std.specs.Prelude.{◌≡◌, ◌≢◌, ◌⊎◌, ℕ, true, take, IfSome, MatchBool};
+ghost use Rattle.std.specs.Io.{ReadsAtMost};
+ghost use Rattle.std.specs.Io.KnownBytes.{Appends, IsAtEnd, ReadConsumes};
 ghost use Rattle.std.specs.declared.io.ErrorKind.{ErrorKind};
-ghost use Rattle.ttrpc_sync.specs.declared.ports.Word.{Word};
+ghost use Rattle.ttrpc_sync.specs.declared.ports.PortState.{PortState};
 ghost use Rattle.ttrpc_sync.specs.Loops.{EndsReading, EndsWriting, Handed, HandedAll, IsOneMore, IsSameCount, WritesUntil, Written, reported};
-ghost use Rattle.ttrpc_frame.specs.Streams.{Makes};
+ghost use Rattle.ttrpc_frame.specs.Streams.{Makes, answered};
 
 use crate::ports::{ReadPort, WritePort};
-use std::io::ErrorKind;
+use std::io::{self, ErrorKind};
 use std::sync::Wait;
 use ttrpc_frame::{DEFAULT_PAGE_SIZE, Sink, Source};
 
@@ -16,13 +17,16 @@ use ttrpc_frame::{DEFAULT_PAGE_SIZE, Sink, Source};
 /// more, which it is asked before each read. A rest that the port doesn't take is offered again, and an interrupted read
 /// is tried again, if the port still wants more.
 pub fn read_loop<X: Wait, R: Source, P: ReadPort>(rt: &X, reader: &mut R, port: &mut P)
+    // What the port took was read, in order, and all of it unless the port stopped.
     ensures handed { Handed (R.remaining reader.old) (R.remaining reader.new) (P.taken port.old) (P.taken port.new) }
-    ensures all { P.word port.new ≢ Word.Stopped
+    ensures all { P.state port.new ≢ PortState.Stopped
         → HandedAll (R.remaining reader.old) (R.remaining reader.new) (P.taken port.old) (P.taken port.new) }
-    ensures end { P.word port.new ≡ Word.Ended → IsAtEnd (R.remaining reader.new) }
-    ensures last { IfSome (R.last reader.new) (λ a. EndsReading a (P.word port.new)) }
+    // The port is told an end where the reader is at its end, and a break where it failed.
+    ensures end { P.state port.new ≡ PortState.Ended → IsAtEnd (R.remaining reader.new) }
+    ensures last { IfSome (R.last reader.new) (λ a. EndsReading a (P.state port.new)) }
+    // It was one loop, and it is over.
     ensures once { IsOneMore (P.begun port.old) (P.begun port.new) }
-    ensures over { P.word port.new ≢ Word.Open }
+    ensures over { P.state port.new ≢ PortState.Open }
 {
     let mut buffer = [0u8; DEFAULT_PAGE_SIZE];
     port.begin();
@@ -30,7 +34,7 @@ pub fn read_loop<X: Wait, R: Source, P: ReadPort>(rt: &X, reader: &mut R, port: 
         if !port.wants() {
             return;
         }
-        match reader.read(&mut buffer) {
+        match read_wanted(reader, port, &mut buffer) {
             Ok(0) => {
                 port.ended();
                 return;
@@ -51,14 +55,28 @@ pub fn read_loop<X: Wait, R: Source, P: ReadPort>(rt: &X, reader: &mut R, port: 
     unreachable!()
 }
 
+/// Reads for a port that said that it wants more.
+fn read_wanted<R: Source, P: ReadPort>(
+    reader: &mut R,
+    _port: &P,
+    buffer: &mut [u8],
+) -> io::Result<usize>
+    requires { P.wants_more _port.now ≡ true }
+    ensures bound { ReadsAtMost result buffer.new }
+    ensures bytes { ReadConsumes (R.remaining reader.old) (R.remaining reader.new) result buffer.new }
+    ensures last { IfSome (R.last reader.new) (λ a. a ≡ answered result) }
+{
+    reader.read(buffer)
+}
+
 #[tactic(auto, using(crate::proofs::Handing::taken_in_part, crate::proofs::Handing::taken_further, crate::proofs::Handing::taken_fits, crate::proofs::Counting::same_count, crate::proofs::Counting::same_count_again))]
 /// Offers the piece, and each rest that is left of it, until the port has taken all. False: it wants no more.
 fn offer<X: Wait, P: ReadPort>(rt: &X, port: &mut P, piece: &[u8]) -> bool
-    requires { P.word port.old ≡ Word.Open }
+    requires { P.state port.old ≡ PortState.Open }
     ensures begun { IsSameCount (P.begun port.old) (P.begun port.new) }
     ensures taken { MatchBool result
-        (Appends (P.taken port.old) (P.taken port.new) piece.now × (P.word port.new ≡ Word.Open))
-        (((n : ℕ) × Appends (P.taken port.old) (P.taken port.new) (take n piece.now)) × (P.word port.new ≡ Word.Stopped)) }
+        (Appends (P.taken port.old) (P.taken port.new) piece.now × (P.state port.new ≡ PortState.Open))
+        (((n : ℕ) × Appends (P.taken port.old) (P.taken port.new) (take n piece.now)) × (P.state port.new ≡ PortState.Stopped)) }
 {
     let mut at = 0;
     for _ in rt.forever() {
@@ -78,12 +96,15 @@ fn offer<X: Wait, P: ReadPort>(rt: &X, port: &mut P, piece: &[u8]) -> bool
 /// port lends nothing, the writer is flushed, and then the port is asked for more. An interrupted flush is tried again,
 /// unless the port lends something by then.
 pub fn write_loop<X: Wait, W: Sink, P: WritePort>(rt: &X, writer: &mut W, port: &mut P)
+    // What was reported was written, in order.
     ensures written { Written (W.contents writer.old) (W.contents writer.new)
         (reported (P.told port.old)) (reported (P.told port.new)) }
-    ensures last { IfSome (W.last writer.new) (λ a. EndsWriting a (P.word port.new)) }
-    ensures calls { Makes (W.calls writer.old) (W.calls writer.new) (WritesUntil (P.word port.new)) }
+    // The port is told a break where the writer failed or took nothing.
+    ensures last { IfSome (W.last writer.new) (λ a. EndsWriting a (P.state port.new)) }
+    ensures calls { Makes (W.calls writer.old) (W.calls writer.new) (WritesUntil (P.state port.new)) }
+    // It was one loop, and it is over.
     ensures once { IsOneMore (P.begun port.old) (P.begun port.new) }
-    ensures over { (P.word port.new ≡ Word.Stopped) ⊎ ((k : ErrorKind) × (P.word port.new ≡ Word.Broke k)) }
+    ensures over { (P.state port.new ≡ PortState.Stopped) ⊎ ((k : ErrorKind) × (P.state port.new ≡ PortState.Broke k)) }
 {
     let mut buffer = [0u8; DEFAULT_PAGE_SIZE];
     port.begin();

@@ -6,8 +6,10 @@ use Rattle.ttrpc_sync_client.specs.declared.ports.read_turn.Reader.{Reader}
 use Rattle.ttrpc_sync_client.specs.declared.ports.read_turn.Reader.TheVariants.{Nobody, Thread, Caller}
 use Rattle.ttrpc_sync_client.specs.declared.ports.read_turn.Onward.{Onward}
 use Rattle.ttrpc_sync_client.specs.declared.ports.read_turn.Onward.TheVariants.{Reads, Leaves, HandsOver}
+use Rattle.ttrpc_sync_client.specs.declared.ports.read_turn.Manner.{Manner}
 use Rattle.ttrpc_sync_client.specs.declared.ports.read_turn.ReadTurn.{ReadTurn}
 
+-- Nobody reads.
 abbrev pub is_free : Reader → Bool
 is_free Nobody = true
 is_free Thread = false
@@ -19,13 +21,15 @@ reads_for Nobody id = false
 reads_for Thread id = false
 reads_for (Caller other) id = nat_eq other id
 
+-- There is a call, and it is this one.
 abbrev pub is_call : Option ℕ → ℕ → Bool
 is_call None id = false
 is_call (Some other) id = nat_eq other id
 
--- A caller may read for itself: no other call is under way, and it has no deadline, past which a read could hold it.
-abbrev pub is_alone : ReadTurn → (has_deadline : Bool) → Bool
-is_alone turn has_deadline = if has_deadline then false else nat_eq turn.callers 0
+-- A caller may write and read for itself: its frame is short, it has no deadline, past which a read could hold it, no other call is under way, and the peer has read all that was written, since it answered the last call.
+abbrev pub is_alone : ReadTurn → Manner → Bool
+is_alone turn manner =
+    if manner.is_short then (if manner.has_deadline then false else (if is_some turn.unread then false else nat_eq turn.callers 0)) else false
 
 -- the turn once a call has begun
 abbrev pub begun : ReadTurn → ℕ → (is_alone : Bool) → ReadTurn
@@ -33,6 +37,7 @@ begun turn id is_alone = record turn {
   callers = min (turn.callers + 1) (2 ^ 64 - 1);
   alone = if is_alone then min (turn.alone + 1) CALLS_TO_REST else 0;
   last = Some id;
+  unread = Some id;
 }
 
 -- the turn once a call has ended: its caller reads no more
@@ -42,11 +47,18 @@ ended turn id = record turn {
   last = if is_call turn.last id then None else turn.last;
 }
 
+-- the turn once a caller has its outcome: where the call that began last was answered, the peer has read all requests
+abbrev pub finished : ReadTurn → ℕ → (is_answered : Bool) → ReadTurn
+finished turn id is_answered = record turn {
+  callers = turn.callers - 1;
+  unread = if (if is_answered then is_call turn.unread id else false) then None else turn.unread;
+}
+
 -- The caller of this call may take the turn: nobody has it, and the call is the last one and hasn't ended.
 abbrev pub may_take : ReadTurn → ℕ → Bool
 may_take turn id = if is_free turn.reader then is_call turn.last id else false
 
--- The thread that does nothing but read may rest: enough calls in a row were alone, and the last one has ended.
+-- The reader thread may rest: enough calls in a row were alone, and the last one has ended.
 abbrev pub may_rest : ReadTurn → Bool
 may_rest turn = if is_some turn.last then false else nat_le CALLS_TO_REST turn.alone
 

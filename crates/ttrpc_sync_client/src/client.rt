@@ -1,5 +1,5 @@
 //! The client.
-use crate::line::Line;
+use crate::connection::ClientConn;
 use crate::ports::{ClientRead, ClientShared};
 use std::alloc::Global;
 use std::io;
@@ -21,11 +21,11 @@ use ttrpc_transport::{ClientConnection, PipeConnection};
 #[derive(Drop)]
 pub struct Client<R: Host, O: OutboundTransform + Drop, I: InboundTransform + Drop> {
     rt: R,
-    line: Arc<Line<O, I>, Global>,
+    connection: Arc<ClientConn<O, I>, Global>,
 }
 
 impl<R: Runtime> Client<R, Plain, Plain> {
-    /// Connects to an address, `unix://PATH` or `tcp://HOST:PORT`. Whether each write by TCP goes out at once is `nodelay`.
+    /// Connects to an address, `unix://PATH` or `tcp://IP:PORT`. Whether each write by TCP goes out at once is `nodelay`.
     /// An address that names no place is `Others`, and a fault of the system `Nix`.
     pub fn connect(rt: R, sockaddr: &str, nodelay: bool) -> Result<Client<R, Plain, Plain>>
     where
@@ -65,10 +65,10 @@ where
 impl<R: Host, O: OutboundTransform + Drop, I: InboundTransform + Drop> Client<R, O, I> {
     /// What is known of the connection, as its hook told it.
     pub fn connection_data(&self) -> &ConnectionData {
-        self.line.connection_data()
+        self.connection.connection_data()
     }
 
-    /// What a caller, and what is made for it, takes memory from.
+    /// The allocator of its calls.
     pub fn alloc(&self) -> Global {
         self.rt.alloc()
     }
@@ -77,14 +77,14 @@ impl<R: Host, O: OutboundTransform + Drop, I: InboundTransform + Drop> Client<R,
     /// request, its deadline (`Others`), or what broke the connection. The request's `timeout_nano`, in nanoseconds, is
     /// counted from here on; 0 is no limit.
     pub fn request(&self, req: Request) -> Result<Response> {
-        self.line.call(&self.rt, &req)
+        self.connection.call(&self.rt, &req)
     }
 
     /// Another client of the same connection.
     pub fn try_clone(&self) -> Result<Client<R, O, I>> {
         Ok(Client {
             rt: self.rt.clone()?,
-            line: Arc::try_clone(&self.line)?,
+            connection: Arc::try_clone(&self.connection)?,
         })
     }
 }
@@ -110,10 +110,10 @@ where
     let core = ClientCore::new(alloc, ClientKind::Sync, context);
     let stream = Arc::new(alloc, stream)?;
     let link = Arc::new(alloc, Link::new(alloc, ClientShared::new(core), stream)?)?;
-    let line = Line::new(Arc::try_clone(&link)?, connection_data);
+    let connection = ClientConn::new(Arc::try_clone(&link)?, connection_data);
     let client = Client {
         rt: rt.clone()?,
-        line: Arc::new(alloc, line)?,
+        connection: Arc::new(alloc, connection)?,
     };
     start_reader(&rt, Arc::try_clone(&link)?)?;
     start_writer(&rt, link)?;
@@ -140,7 +140,7 @@ where
     Ok(())
 }
 
-/// Reads each time when callers wait that don't read for themselves, until the connection has failed.
+/// Reads for callers that don't read themselves, until the connection has failed.
 fn read_for_callers<R, O, I>(rt: &R, link: &Link<ClientShared<O, I>>)
 where
     R: Host,

@@ -3,10 +3,11 @@
 #![tactic(auto)]
 
 mod client;
-mod line;
+mod connection;
 pub mod ports;
 
 pub use client::Client;
 pub use ports::{
-    CALLS_TO_REST, ClientHeld, ClientRead, ClientShared, ClientWrite, Onward, ReadTurn, Reader,
+    CALLS_TO_REST, ClientHeld, ClientRead, ClientShared, ClientWrite, LONE_FRAME, Manner, Onward,
+    ReadTurn, Reader,
 };

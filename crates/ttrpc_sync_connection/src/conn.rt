@@ -9,7 +9,7 @@ use std::sync::Arc;
 use std::sync::atomic::{AtomicBool, Ordering};
 use ttrpc_proto::{Response, Result};
 use ttrpc_secure::{ConnectionData, InboundTransform, OutboundTransform};
-use ttrpc_sync::{Connected, Host, Link, Queued, after_queuing};
+use ttrpc_sync::{AfterQueuing, Connected, Host, Link, after_queuing};
 
 /// A server's connection: its core under a lock, what is known of it, and the threads that serve it.
 #[derive(Drop)]
@@ -18,15 +18,16 @@ pub struct Conn<R: Host, O: OutboundTransform + Drop, I: InboundTransform + Drop
     link: Link<ServerShared<O, I>>,
     known: ConnectionData,
     cancelled: Arc<AtomicBool, Global>,
-    crew: Crew,
+    crew: Arc<Crew, Global>,
 }
 
 impl<R: Host, O: OutboundTransform + Drop, I: InboundTransform + Drop> Conn<R, O, I> {
-    /// The connection of this link, of which this is known.
+    /// A connection over `link`, with what is known of it, and the crew that is to serve it.
     pub fn new(
         rt: R,
         link: Link<ServerShared<O, I>>,
         known: ConnectionData,
+        crew: Arc<Crew, Global>,
     ) -> Result<Conn<R, O, I>>
         ensures known { IfOk result (λ conn. conn.known ≡ known) }
         ensures err { IfErr result (λ e. e ≡ NoMemory) }
@@ -37,7 +38,7 @@ impl<R: Host, O: OutboundTransform + Drop, I: InboundTransform + Drop> Conn<R, O
             link,
             known,
             cancelled,
-            crew: Crew::new(),
+            crew,
         })
     }
 
@@ -48,7 +49,7 @@ impl<R: Host, O: OutboundTransform + Drop, I: InboundTransform + Drop> Conn<R, O
         &self.known
     }
 
-    /// What handlers, and what is made for them, take memory from.
+    /// The allocator of handlers.
     pub fn alloc(&self) -> Global {
         self.rt.alloc()
     }
@@ -65,15 +66,29 @@ impl<R: Host, O: OutboundTransform + Drop, I: InboundTransform + Drop> Conn<R, O
         &self.cancelled
     }
 
-    pub(crate) fn crew(&self) -> &Crew {
+    pub(crate) fn crew(&self) -> &Arc<Crew, Global> {
         &self.crew
+    }
+
+    /// Nothing comes from the client any more: its handlers may give up.
+    pub(crate) fn cancel(&self) {
+        self.cancelled.store(true, Ordering::SeqCst);
     }
 
     /// The connection has failed, or is to end: each of its threads ends.
     pub(crate) fn end(&self) {
-        self.cancelled.store(true, Ordering::SeqCst);
+        self.cancel();
+        self.link.shared().end(&self.rt);
         self.link.close();
         self.crew.end(&self.rt);
+    }
+
+    /// Ends it, if it has failed.
+    pub(crate) fn end_if_failed(&self) {
+        let has_failed = self.link.shared().held().lock(&self.rt).core.has_failed();
+        if has_failed {
+            self.end();
+        }
     }
 
     /// Queues a response under a stream's id, and sees to it that it is written.
@@ -86,14 +101,16 @@ impl<R: Host, O: OutboundTransform + Drop, I: InboundTransform + Drop> Conn<R, O
     }
 }
 
-/// Queues a response, and says what is to be done next. A worker writes it itself where no other job is under way.
+/// Queues a response, and says what is to be done next. A worker writes it itself where no other job is under way, and
+/// nothing else waits to be written.
 fn responded<O: OutboundTransform + Drop, I: InboundTransform + Drop>(
     held: &mut ServerHeld<O, I>,
     alloc: Global,
     stream_id: u32,
     response: &Response,
-) -> Result<Queued> {
+) -> Result<AfterQueuing> {
+    let nothing_waits = held.core.lendable() == 0;
     held.core.respond(alloc, stream_id, response)?;
     let is_alone = held.core.jobs_taken() < 2 && held.core.jobs_waiting() == 0;
-    Ok(after_queuing(&mut held.turn, is_alone))
+    Ok(after_queuing(&mut held.turn, nothing_waits && is_alone))
 }

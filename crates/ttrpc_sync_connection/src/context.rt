@@ -1,4 +1,4 @@
-//! What a handler is handed beside the request, and how it answers.
+//! The context that a handler gets with the request, and how it answers.
 ghost use Rattle.std.specs.Prelude.{◌≡◌, ℕ, List, IfErr, IfOk};
 ghost use Rattle.std.specs.Arc.{arc_value};
 ghost use Rattle.ttrpc_message.specs.Metadata.{seen, some_texts, texts_of, values_at};
@@ -14,12 +14,12 @@ use ttrpc_proto::{Error, Request, Response, Result};
 use ttrpc_secure::{InboundTransform, OutboundTransform};
 use ttrpc_sync::Host;
 
-/// What a handler is handed beside the request.
+/// The context that a handler gets with the request.
 #[derive(Drop)]
 pub struct TtrpcContext<R: Host, O: OutboundTransform + Drop, I: InboundTransform + Drop> {
     /// The connection that the request came by.
     pub conn: Arc<Conn<R, O, I>, Global>,
-    /// Set once the connection has failed: nobody waits for the response any more.
+    /// Set once the client sends nothing more, or the connection has failed: perhaps nobody waits for the response any more.
     pub cancelled: Arc<AtomicBool, Global>,
     /// The header of the request's frame.
     pub mh: MessageHeader,
@@ -36,11 +36,13 @@ impl<R: Host, O: OutboundTransform + Drop, I: InboundTransform + Drop> TtrpcCont
         mh: MessageHeader,
         request: &Request,
     ) -> Result<TtrpcContext<R, O, I>>
+        // It has the connection, the header and what the request says.
         ensures conn { IfOk result (λ context. arc_value context.conn ≡ arc_value conn.now) }
         ensures header { IfOk result (λ context. context.mh ≡ mh) }
         ensures metadata { IfOk result (λ context. (key : List ℕ)
             → texts_of (seen context.metadata.entries) key ≡ some_texts (values_at request.now.metadata key)) }
         ensures timeout { IfOk result (λ context. context.timeout_nano ≡ request.now.timeout_nano) }
+        // An error is want of memory.
         ensures only_memory { IfErr result (λ e. e ≡ Error.NoMemory) }
     {
         Ok(TtrpcContext {
@@ -52,7 +54,7 @@ impl<R: Host, O: OutboundTransform + Drop, I: InboundTransform + Drop> TtrpcCont
         })
     }
 
-    /// What a handler takes memory from.
+    /// The allocator of handlers.
     pub fn alloc(&self) -> Global {
         self.conn.alloc()
     }

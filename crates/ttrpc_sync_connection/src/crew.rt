@@ -27,7 +27,7 @@ pub enum Order {
 }
 
 impl Crew {
-    /// Nobody.
+    /// No threads.
     pub fn new() -> Crew {
         Crew {
             held: Mutex::new(Count {
@@ -53,8 +53,8 @@ impl Crew {
         self.changed.notify_all();
     }
 
-    /// A worker left too few behind that wait.
-    pub fn is_short<X: Wait>(&self, rt: &X) {
+    /// Reports that too few workers wait.
+    pub fn report_shortage<X: Wait>(&self, rt: &X) {
         let mut count = self.held.lock(rt);
         count.shortages = count.shortages.saturating_add(1);
         drop(count);

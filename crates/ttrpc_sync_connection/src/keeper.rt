@@ -1,7 +1,7 @@
 //! The threads of one connection, from its first to its last.
 use crate::conn::Conn;
 use crate::context::MethodHandler;
-use crate::crew::Order;
+use crate::crew::{Crew, Order};
 use crate::ports::ServerRead;
 use crate::shared::SharedHandler;
 use crate::worker::work;
@@ -14,8 +14,8 @@ use ttrpc_proto::{Error, Result};
 use ttrpc_secure::{InboundTransform, OutboundTransform, SendInbound, SendOutbound};
 use ttrpc_sync::{Connected, Host, Runtime};
 
-/// Serves the connection until it ends: starts the threads that read it and write to it, so many workers, and more where
-/// too few wait. Then it waits until all of them have ended.
+/// Serves the connection until it ends: starts the threads that read it and write to it and `workers` workers, and starts
+/// more when too few wait. Then it waits until all of them have ended.
 pub fn keep<R, O, I, H>(
     conn: &Arc<Conn<R, O, I>, Global>,
     methods: &Arc<Methods<H>, Global>,
@@ -35,13 +35,39 @@ where
         match conn.crew().next_order(rt) {
             Order::End => break,
             Order::Fill => {
-                let missing = conn.link().shared().held().lock(rt).pool.to_start();
+                let missing = conn.link().shared().held().lock(rt).to_start();
                 // Where the system has no more threads, those that are there go on.
                 let _ = start_workers(conn, methods, missing);
             }
         }
     }
+    conn.end();
     conn.crew().wait_for_all(rt);
+}
+
+/// What a thread of a connection has: the connection, and the crew that counts it until it has let that go.
+#[derive(Drop)]
+struct Seat<R: Host, O: OutboundTransform + Drop, I: InboundTransform + Drop> {
+    conn: Arc<Conn<R, O, I>, Global>,
+    crew: Arc<Crew, Global>,
+    rt: R,
+}
+
+impl<R: Host, O: OutboundTransform + Drop, I: InboundTransform + Drop> Seat<R, O, I> {
+    fn new(conn: &Arc<Conn<R, O, I>, Global>) -> Result<Seat<R, O, I>> {
+        Ok(Seat {
+            conn: Arc::try_clone(conn)?,
+            crew: Arc::try_clone(conn.crew())?,
+            rt: conn.rt().clone()?,
+        })
+    }
+
+    // The thread has done its work. So the descriptor is free once all of them have left.
+    fn leave(self) {
+        let Seat { conn, crew, rt } = self;
+        drop(conn);
+        crew.leaves(&rt);
+    }
 }
 
 fn start_all<R, O, I, H>(
@@ -60,7 +86,7 @@ where
     start_workers(conn, methods, workers)
 }
 
-/// A thread that was started, or wasn't and so leaves.
+/// Passes the result of a start on, and counts the thread out if it failed.
 fn started<R, O, I, T>(conn: &Conn<R, O, I>, thread: io::Result<T>) -> Result<()>
 where
     R: Host,
@@ -83,11 +109,14 @@ where
     O: SendOutbound,
     I: SendInbound,
 {
-    let theirs = Arc::try_clone(conn)?;
+    let seat = Seat::new(conn)?;
     conn.crew().joins(conn.rt());
     started(
         &**conn,
-        Builder::new().spawn(conn.rt(), move || read(&*theirs)),
+        Builder::new().spawn(conn.rt(), move || {
+            read(&*seat.conn);
+            seat.leave();
+        }),
     )
 }
 
@@ -97,14 +126,18 @@ where
     O: SendOutbound,
     I: SendInbound,
 {
-    let theirs = Arc::try_clone(conn)?;
+    let seat = Seat::new(conn)?;
     conn.crew().joins(conn.rt());
     started(
         &**conn,
-        Builder::new().spawn(conn.rt(), move || write(&*theirs)),
+        Builder::new().spawn(conn.rt(), move || {
+            write(&*seat.conn);
+            seat.leave();
+        }),
     )
 }
 
+/// Starts so many workers, or as many as can be started.
 fn start_workers<R, O, I, H>(
     conn: &Arc<Conn<R, O, I>, Global>,
     methods: &Arc<Methods<H>, Global>,
@@ -116,18 +149,41 @@ where
     I: SendInbound,
     H: SharedHandler<R, O, I>,
 {
-    for _ in 0..count {
-        let theirs = Arc::try_clone(conn)?;
-        let methods = Arc::try_clone(methods)?;
-        conn.crew().joins(conn.rt());
-        started(
-            &**conn,
-            Builder::new().spawn(conn.rt(), move || work_on(&theirs, &methods)),
-        )?;
+    let shared = conn.link().shared();
+    shared.held().lock(conn.rt()).starts(count);
+    for begun in 0..count {
+        let worker = start_worker(conn, methods);
+        if worker.is_err() {
+            shared.held().lock(conn.rt()).gives_up(count - begun);
+            return worker;
+        }
     }
     Ok(())
 }
 
+fn start_worker<R, O, I, H>(
+    conn: &Arc<Conn<R, O, I>, Global>,
+    methods: &Arc<Methods<H>, Global>,
+) -> Result<()>
+where
+    R: Runtime,
+    O: SendOutbound,
+    I: SendInbound,
+    H: SharedHandler<R, O, I>,
+{
+    let seat = Seat::new(conn)?;
+    let methods = Arc::try_clone(methods)?;
+    conn.crew().joins(conn.rt());
+    started(
+        &**conn,
+        Builder::new().spawn(conn.rt(), move || {
+            work_on(&seat.conn, &methods);
+            seat.leave();
+        }),
+    )
+}
+
+/// Reads until the client sends nothing more, or the connection has failed. What was asked is still answered.
 fn read<R, O, I>(conn: &Conn<R, O, I>)
 where
     R: Host,
@@ -136,9 +192,9 @@ where
 {
     let rt = conn.rt();
     let mut port = ServerRead::new(rt, rt.alloc(), conn.link().shared());
-    conn.link().read(rt, &mut port);
-    conn.end();
-    conn.crew().leaves(rt);
+    conn.link().read_on(rt, &mut port);
+    conn.cancel();
+    conn.end_if_failed();
 }
 
 fn write<R, O, I>(conn: &Conn<R, O, I>)
@@ -151,7 +207,6 @@ where
     // The writer ends by itself only once the connection has failed.
     let _ = conn.link().write(rt, rt.alloc());
     conn.end();
-    conn.crew().leaves(rt);
 }
 
 fn work_on<R, O, I, H>(conn: &Arc<Conn<R, O, I>, Global>, methods: &Arc<Methods<H>, Global>)
@@ -161,11 +216,8 @@ where
     I: InboundTransform + Drop,
     H: MethodHandler<R, O, I> + Drop,
 {
-    let rt = conn.rt();
-    let worked = work(conn, methods);
-    let has_failed = conn.link().shared().held().lock(rt).core.has_failed();
-    if has_failed || worked.is_err() {
+    if work(conn, methods).is_err() {
         conn.end();
     }
-    conn.crew().leaves(rt);
+    conn.end_if_failed();
 }

@@ -12,6 +12,7 @@ mod worker;
 
 pub use conn::Conn;
 pub use context::{MethodHandler, TtrpcContext, response_error_to_channel, send_response};
+pub use crew::Crew;
 pub use keeper::keep;
 pub use ports::{ServerHeld, ServerJobs, ServerRead, ServerShared, ServerWrite};
 pub use shared::SharedHandler;

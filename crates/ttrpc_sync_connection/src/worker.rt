@@ -55,10 +55,11 @@ where
     }
 }
 
-/// Lets workers wait where the pool does, and says where too few are left that wait.
+/// Lets workers wait as far as the pool allows, and reports when too few wait.
 #[derive(Drop)]
 struct PoolGate<R: Host, O: OutboundTransform + Drop, I: InboundTransform + Drop> {
     conn: Arc<Conn<R, O, I>, Global>,
+    is_new: bool,
     is_shut: bool,
 }
 
@@ -67,7 +68,8 @@ impl<R: Host, O: OutboundTransform + Drop, I: InboundTransform + Drop> Gate for 
 
     fn enter(&mut self) -> bool {
         let shared = self.conn.link().shared();
-        let entered = shared.held().lock(self.conn.rt()).pool.enter();
+        let entered = shared.held().lock(self.conn.rt()).enter(self.is_new);
+        self.is_new = false;
         self.is_shut = !entered;
         entered
     }
@@ -76,7 +78,7 @@ impl<R: Host, O: OutboundTransform + Drop, I: InboundTransform + Drop> Gate for 
         let shared = self.conn.link().shared();
         let is_short = shared.held().lock(self.conn.rt()).leave();
         if is_short {
-            self.conn.crew().is_short(self.conn.rt());
+            self.conn.crew().report_shortage(self.conn.rt());
         }
     }
 }
@@ -99,6 +101,7 @@ where
     };
     let mut gate = PoolGate {
         conn: Arc::try_clone(conn)?,
+        is_new: true,
         is_shut: false,
     };
     let mut port = ServerJobs::new(rt, rt.alloc(), conn.link().shared());

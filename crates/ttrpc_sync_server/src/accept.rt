@@ -16,40 +16,70 @@ impl Accepts for PipeListener {
     }
 }
 
-/// Whether a server is to stop listening.
+/// What a server that waits to accept again is told: to listen no more, or that one of its connections has ended, so that
+/// its descriptor is free.
 #[derive(Drop)]
 pub struct Stop {
-    is_asked: Mutex<bool>,
-    asked: Condvar,
+    told: Mutex<Told>,
+    changed: Condvar,
+}
+
+#[derive(Drop)]
+struct Told {
+    stops: bool,
+    // How many connections have ended.
+    ends: u64,
 }
 
 impl Stop {
-    /// It isn't.
+    /// Not asked to stop, and no connection has ended.
     pub fn new() -> Stop {
         Stop {
-            is_asked: Mutex::new(false),
-            asked: Condvar::new(),
+            told: Mutex::new(Told {
+                stops: false,
+                ends: 0,
+            }),
+            changed: Condvar::new(),
         }
     }
 
-    /// It is.
-    pub fn ask<X: Wait>(&self, rt: &X) {
-        *self.is_asked.lock(rt) = true;
-        self.asked.notify_all();
+    /// The server begins to listen.
+    pub fn begin<X: Wait>(&self, rt: &X) {
+        self.told.lock(rt).stops = false;
     }
 
-    /// Waits so long, or until it is, and says whether it is.
-    pub fn wait<X: Wait + Clock>(&self, rt: &X, limit: Duration) -> bool {
-        let guard = self.is_asked.lock(rt);
-        let (guard, _) = self
-            .asked
-            .wait_timeout_while(rt, guard, limit, |is_asked| !*is_asked);
-        *guard
+    /// Asks it to stop.
+    pub fn ask<X: Wait>(&self, rt: &X) {
+        self.told.lock(rt).stops = true;
+        self.changed.notify_all();
+    }
+
+    /// A connection of the server has ended.
+    pub fn note_end<X: Wait>(&self, rt: &X) {
+        let mut told = self.told.lock(rt);
+        told.ends = told.ends.wrapping_add(1);
+        drop(told);
+        self.changed.notify_all();
+    }
+
+    /// How many connections have ended.
+    pub fn ends<X: Wait>(&self, rt: &X) -> u64 {
+        self.told.lock(rt).ends
+    }
+
+    /// Waits until the limit, another end than these, or the request to stop, and says whether it was asked.
+    pub fn wait<X: Wait + Clock>(&self, rt: &X, ends: u64, limit: Duration) -> bool {
+        let told = self.told.lock(rt);
+        let (told, _) = self.changed.wait_timeout_while(rt, told, limit, |told| {
+            !told.stops && told.ends == ends
+        });
+        told.stops
     }
 }
 
-/// The next connection. Where the system gives none it waits for the interval, or until it is to stop, and tries again. At
-/// once it tries again where only a signal came, or the other side went away. `None`: the server listens no more.
+/// The next connection. Where the system gives none it waits for the interval, until a connection of the server has ended,
+/// or until it is to stop, and tries again. At once it tries again where only a signal came, or the other side went away.
+/// `None`: the server listens no more.
 pub fn next_connection<X: Wait + Clock, L: Accepts>(
     rt: &X,
     listener: &L,
@@ -57,11 +87,12 @@ pub fn next_connection<X: Wait + Clock, L: Accepts>(
     interval: Duration,
 ) -> Option<PipeConnection> {
     for _ in rt.forever() {
+        let ends = stop.ends(rt);
         match listener.accept() {
             Ok(accepted) => return accepted,
             Err(error) if is_passing(error.kind()) => {}
             Err(_) => {
-                if stop.wait(rt, interval) {
+                if stop.wait(rt, ends, interval) {
                     return None;
                 }
             }

@@ -1,4 +1,4 @@
-//! Whether a hook lets a connection pass, and in which time.
+//! Whether a hook accepts a connection, and its time limit.
 ghost use Rattle.std.specs.Prelude.{◌≡◌, ◌⊎◌, IfErr};
 ghost use Rattle.std.specs.declared.io.Error.{Error as IoError};
 

@@ -2,7 +2,15 @@
 use std::alloc::{AllocError, Global};
 use std::collections::BTreeMap;
 use std::sync::{Arc, Condvar, Mutex, Wait};
+use ttrpc_sync_connection::Crew;
 use ttrpc_transport::PipeConnection;
+
+/// A connection that a server has open, and the threads that serve it.
+#[derive(Drop)]
+pub struct OpenConnection {
+    pub stream: Arc<PipeConnection, Global>,
+    pub crew: Arc<Crew, Global>,
+}
 
 /// The connections that a server has open, under their numbers.
 #[derive(Drop)]
@@ -13,39 +21,35 @@ pub struct Connections {
 
 #[derive(Drop)]
 struct Open {
-    streams: BTreeMap<u64, Arc<PipeConnection, Global>>,
+    connections: BTreeMap<u64, OpenConnection>,
     next: u64,
 }
 
 impl Connections {
-    /// None. Takes no memory.
+    /// No connections. Takes no memory.
     pub fn new(alloc: Global) -> Connections {
         Connections {
             held: Mutex::new(Open {
-                streams: BTreeMap::new(alloc),
+                connections: BTreeMap::new(alloc),
                 next: 0,
             }),
             changed: Condvar::new(),
         }
     }
 
-    /// One more. Gives its number.
-    pub fn add<X: Wait>(
-        &self,
-        rt: &X,
-        stream: Arc<PipeConnection, Global>,
-    ) -> Result<u64, AllocError> {
+    /// Adds a connection, and gives its number.
+    pub fn add<X: Wait>(&self, rt: &X, connection: OpenConnection) -> Result<u64, AllocError> {
         let mut open = self.held.lock(rt);
         let number = open.next;
-        open.streams.insert(number, stream)?;
+        open.connections.insert(number, connection)?;
         open.next = number.saturating_add(1);
         Ok(number)
     }
 
-    /// The one of this number has ended.
+    /// Removes the connection of this number.
     pub fn remove<X: Wait>(&self, rt: &X, number: u64) {
         let mut open = self.held.lock(rt);
-        let removed = open.streams.remove(&number);
+        let removed = open.connections.remove(&number);
         drop(open);
         drop(removed);
         self.changed.notify_all();
@@ -53,17 +57,18 @@ impl Connections {
 
     /// How many there are.
     pub fn count<X: Wait>(&self, rt: &X) -> usize {
-        self.held.lock(rt).streams.len()
+        self.held.lock(rt).connections.len()
     }
 
     /// Closes all of them, and waits until they have ended.
     pub fn close_all<X: Wait>(&self, rt: &X) {
         let mut open = self.held.lock(rt);
-        for (_, stream) in open.streams.iter() {
-            let _ = stream.close();
+        for (_, connection) in open.connections.iter() {
+            let _ = connection.stream.close();
+            connection.crew.end(rt);
         }
         for _ in rt.forever() {
-            if open.streams.is_empty() {
+            if open.connections.is_empty() {
                 return;
             }
             open = self.changed.wait(rt, open);

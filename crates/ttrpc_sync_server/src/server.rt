@@ -34,7 +34,8 @@ pub struct Server<R: Host, H: Drop, A: Drop> {
     methods: Arc<Methods<H>, Global>,
     hook: Arc<A, Global>,
     connections: Arc<Connections, Global>,
-    listening: Option<Listening>,
+    stop: Arc<Stop, Global>,
+    listening: Option<JoinHandle<()>>,
 }
 
 impl<R: Host, H: Drop, A: Drop> Model for Server<R, H, A> {
@@ -50,13 +51,6 @@ impl<R: Host, H: Drop, A: Drop> Model for Server<R, H, A> {
         × (IsSome server.listening ↔ (server.settings.is_listening ≡ true)) };
 }
 
-/// The thread that accepts connections.
-#[derive(Drop)]
-struct Listening {
-    stop: Arc<Stop, Global>,
-    thread: JoinHandle<()>,
-}
-
 impl<R: Host, H: Drop> Server<R, H, NoHook> {
     /// A server without services and without an address.
     pub fn new(rt: R) -> Result<Server<R, H, NoHook>>
@@ -70,6 +64,7 @@ impl<R: Host, H: Drop> Server<R, H, NoHook> {
             methods: Arc::new(alloc, Methods::new(alloc))?,
             hook: Arc::new(alloc, NoHook {})?,
             connections: Arc::new(alloc, Connections::new(alloc))?,
+            stop: Arc::new(alloc, Stop::new())?,
             listening: None,
             rt,
         })
@@ -84,7 +79,7 @@ impl<R: Host, H: Drop, A: Drop> Server<R, H, A> {
         &self.settings
     }
 
-    /// Listens at an address, `unix://PATH` or `tcp://HOST:PORT`. Whether each write by TCP goes out at once is `nodelay`. A
+    /// Listens at an address, `unix://PATH` or `tcp://IP:PORT`. Whether each write by TCP goes out at once is `nodelay`. A
     /// second address is refused. An address that names no place is `Others`, and a fault of the system `Nix`.
     pub fn bind(self, sockaddr: &str, nodelay: bool) -> Result<Server<R, H, A>>
     where
@@ -169,7 +164,8 @@ impl<R: Host, H: Drop, A: Drop> Server<R, H, A> {
         self
     }
 
-    /// Lets this hook look at each connection first, for 30 seconds at most.
+    /// Lets this hook look at each connection first. What it gives after 30 seconds comes too late, and the connection is
+    /// closed; one that never returns holds its connection, and `disconnect`, for ever.
     pub fn set_accept_hook<B: Drop>(self, hook: B) -> Result<Server<R, H, B>>
         ensures ok { IfOk result (λ server. server ≡ self) }
         ensures err { IfErr result (λ e. e ≡ NoMemory) }
@@ -181,6 +177,7 @@ impl<R: Host, H: Drop, A: Drop> Server<R, H, A> {
             methods,
             hook: _,
             connections,
+            stop,
             listening,
         } = self;
         Ok(Server {
@@ -190,6 +187,7 @@ impl<R: Host, H: Drop, A: Drop> Server<R, H, A> {
             listener,
             methods,
             connections,
+            stop,
             listening,
         })
     }
@@ -201,16 +199,15 @@ impl<R: Host, H: Drop, A: Drop> Server<R, H, A> {
 }
 
 impl<R: Host + Threads, H: Drop, A: Drop> Server<R, H, A> {
-    /// Accepts no more connections; those that are open are served on. The server has no address then. Where it doesn't
+    /// Accepts no more connections; it goes on serving open ones. The server has no address then. Where it doesn't
     /// listen nothing happens.
     pub fn stop_listen(mut self) -> Server<R, H, A>
         ensures { result ≡ stopped self }
     {
-        let Some(listening) = self.listening.take() else {
+        let Some(thread) = self.listening.take() else {
             return self;
         };
-        let Listening { stop, thread } = listening;
-        stop.ask(&self.rt);
+        self.stop.ask(&self.rt);
         if let Some(listener) = self.listener.take() {
             let _ = listener.close();
         }
@@ -220,8 +217,8 @@ impl<R: Host + Threads, H: Drop, A: Drop> Server<R, H, A> {
         self
     }
 
-    /// Ends all connections, and waits for the threads that serve them, and so for the handlers that run in these. A server
-    /// that listens stops first.
+    /// Ends all connections, and waits for the threads that serve them, and so for the handlers and the hooks that run in
+    /// these: one that never returns holds it for ever. A server that listens stops first.
     pub fn disconnect(self) {
         let server = self.stop_listen();
         server.connections.close_all(&server.rt);
@@ -267,16 +264,16 @@ where
             unreachable!();
         };
         let listener = Arc::try_clone(bound)?;
-        let stop = Arc::new(alloc, Stop::new())?;
         let service = Service {
             methods: Arc::try_clone(&self.methods)?,
             hook: Arc::try_clone(&self.hook)?,
             connections: Arc::try_clone(&self.connections)?,
+            stop: Arc::try_clone(&self.stop)?,
             settings: self.settings,
         };
         let service = Arc::new(alloc, service)?;
-        let thread = start_thread(&self.rt, listener, Arc::try_clone(&stop)?, service)?;
-        self.listening = Some(Listening { stop, thread });
+        self.stop.begin(&self.rt);
+        self.listening = Some(start_thread(&self.rt, listener, service)?);
         self.settings.is_listening = true;
         self.settings.is_fixed = true;
         Ok(())
@@ -287,7 +284,6 @@ where
 fn start_thread<R, O, I, H, A>(
     rt: &R,
     listener: Arc<PipeListener, Global>,
-    stop: Arc<Stop, Global>,
     service: Arc<Service<H, A>, Global>,
 ) -> Result<JoinHandle<()>>
 where
@@ -298,7 +294,7 @@ where
     H: SharedHandler<R, O, I>,
 {
     let mine = rt.clone()?;
-    match Builder::new().spawn(rt, move || listen(&mine, &listener, &stop, &service)) {
+    match Builder::new().spawn(rt, move || listen(&mine, &listener, &service)) {
         Ok(thread) => Ok(thread),
         Err(error) => Err(Error::Nix(error.kind())),
     }
@@ -308,7 +304,6 @@ where
 fn listen<R, O, I, H, A>(
     rt: &R,
     listener: &Arc<PipeListener, Global>,
-    stop: &Arc<Stop, Global>,
     service: &Arc<Service<H, A>, Global>,
 )
 where
@@ -320,7 +315,7 @@ where
 {
     let interval = service.settings.accept_retry_interval;
     for _ in rt.forever() {
-        let Some(stream) = next_connection(rt, &**listener, &**stop, interval) else {
+        let Some(stream) = next_connection(rt, &**listener, &*service.stop, interval) else {
             return;
         };
         // Where there is no memory or no thread for it, a connection is closed.

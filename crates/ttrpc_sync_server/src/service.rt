@@ -1,9 +1,10 @@
-//! What each connection of a server is served with.
+//! What a server uses for each connection.
 ghost use Rattle.std.specs.Prelude.{◌≡◌, IfOk};
 ghost use Rattle.std.specs.Arc.{arc_value};
 
+use crate::accept::Stop;
 use crate::admission::admit;
-use crate::connections::Connections;
+use crate::connections::{Connections, OpenConnection};
 use crate::hook::SharedHook;
 use crate::settings::Settings;
 use std::alloc::Global;
@@ -18,16 +19,33 @@ use ttrpc_secure::{
 };
 use ttrpc_server::{Rules, ServerCore};
 use ttrpc_sync::{Host, Link, Runtime};
-use ttrpc_sync_connection::{Conn, ServerShared, SharedHandler, keep};
+use ttrpc_sync_connection::{Conn, Crew, ServerShared, SharedHandler, keep};
 use ttrpc_transport::PipeConnection;
 
-/// What each connection of a server is served with.
+/// What a server uses for each connection.
 #[derive(Drop)]
 pub struct Service<H: Drop, A: Drop> {
     pub methods: Arc<Methods<H>, Global>,
     pub hook: Arc<A, Global>,
     pub connections: Arc<Connections, Global>,
+    pub stop: Arc<Stop, Global>,
     pub settings: Settings,
+}
+
+impl<H: Drop, A: Drop> Service<H, A> {
+    /// The connection of this number has ended, and its descriptor is free.
+    fn remove<R: Host>(&self, rt: &R, number: u64) {
+        self.connections.remove(rt, number);
+        self.stop.note_end(rt);
+    }
+}
+
+/// A connection to be served, under its number.
+#[derive(Drop)]
+struct Numbered {
+    number: u64,
+    stream: Arc<PipeConnection, Global>,
+    crew: Arc<Crew, Global>,
 }
 
 /// Serves this connection, in threads of its own.
@@ -43,26 +61,36 @@ where
     A: SharedHook<Outbound = O, Inbound = I>,
     H: SharedHandler<R, O, I>,
 {
-    let stream = Arc::new(rt.alloc(), stream)?;
-    let number = service.connections.add(rt, Arc::try_clone(&stream)?)?;
     let (mine, theirs) = (rt.clone()?, Arc::try_clone(service)?);
-    let started = Builder::new().spawn(rt, move || attend(&mine, &theirs, &stream, number));
-    match started {
+    let numbered = add(rt, &*service.connections, stream)?;
+    let number = numbered.number;
+    match Builder::new().spawn(rt, move || attend(&mine, &theirs, numbered)) {
         Ok(_) => Ok(()),
         Err(error) => {
-            service.connections.remove(rt, number);
+            service.remove(rt, number);
             Err(Error::Nix(error.kind()))
         }
     }
 }
 
-/// Serves this connection, of this number, until it has ended.
-fn attend<R, O, I, H, A>(
-    rt: &R,
-    service: &Arc<Service<H, A>, Global>,
-    stream: &Arc<PipeConnection, Global>,
-    number: u64,
-)
+/// Adds this connection, which has no threads yet, to those that are open.
+fn add<R: Host>(rt: &R, connections: &Connections, stream: PipeConnection) -> Result<Numbered> {
+    let alloc = rt.alloc();
+    let stream = Arc::new(alloc, stream)?;
+    let crew = Arc::new(alloc, Crew::new())?;
+    let open = OpenConnection {
+        stream: Arc::try_clone(&stream)?,
+        crew: Arc::try_clone(&crew)?,
+    };
+    Ok(Numbered {
+        number: connections.add(rt, open)?,
+        stream,
+        crew,
+    })
+}
+
+/// Serves this connection until it has ended.
+fn attend<R, O, I, H, A>(rt: &R, service: &Arc<Service<H, A>, Global>, numbered: Numbered)
 where
     R: Runtime,
     O: SendOutbound,
@@ -70,16 +98,23 @@ where
     A: SharedHook<Outbound = O, Inbound = I>,
     H: SharedHandler<R, O, I>,
 {
+    let Numbered {
+        number,
+        stream,
+        crew,
+    } = numbered;
     // A connection that the hook refuses, or for which memory is refused, is closed.
-    let _ = admit_and_keep(rt, service, stream);
+    let _ = admit_and_keep(rt, service, &stream, crew);
     let _ = stream.close();
-    service.connections.remove(rt, number);
+    drop(stream);
+    service.remove(rt, number);
 }
 
 fn admit_and_keep<R, O, I, H, A>(
     rt: &R,
     service: &Arc<Service<H, A>, Global>,
     stream: &Arc<PipeConnection, Global>,
+    crew: Arc<Crew, Global>,
 ) -> Result<()>
 where
     R: Runtime,
@@ -98,6 +133,7 @@ where
         &*service.methods,
         &service.settings,
         Arc::try_clone(stream)?,
+        crew,
         output,
     )?;
     keep(
@@ -108,12 +144,13 @@ where
     Ok(())
 }
 
-/// The connection that a hook let pass, of which is known what the hook told.
+/// Opens a connection that its hook accepted, with what the hook told of it.
 fn open<R, O, I, H>(
     rt: R,
     methods: &Methods<H>,
     settings: &Settings,
     stream: Arc<PipeConnection, Global>,
+    crew: Arc<Crew, Global>,
     output: HookOutput<O, I>,
 ) -> Result<Arc<Conn<R, O, I>, Global>>
 where
@@ -138,6 +175,6 @@ where
         settings.thread_count_max,
     );
     let link = Link::new(alloc, ServerShared::new(core, pool), stream)?;
-    let conn = Conn::new(rt, link, connection_data)?;
+    let conn = Conn::new(rt, link, connection_data, crew)?;
     Ok(Arc::new(alloc, conn)?)
 }

@@ -3,12 +3,4 @@
 #![tactic(auto)]
 
 #[cfg(test)]
-mod decoder_tests;
-#[cfg(test)]
-mod halves_tests;
-#[cfg(test)]
-mod queue_tests;
-#[cfg(test)]
-mod rows;
-#[cfg(test)]
-mod streams;
+mod tests;

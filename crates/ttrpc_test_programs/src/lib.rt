@@ -3,6 +3,4 @@
 #![tactic(auto)]
 
 #[cfg(test)]
-mod echo;
-#[cfg(test)]
-mod facade;
+mod tests;

@@ -5,6 +5,7 @@ use Rattle.ttrpc_sync.specs.Work as work
 use Rattle.ttrpc_test_sync.specs.declared.passes.Pass.{Pass}
 use Rattle.ttrpc_test_sync.specs.declared.passes.Pass.TheVariants as pass
 
+-- What a worker did, by what the gate wrote down.
 abbrev pub passage_of : Pass → Passage
 passage_of pass.Entered = work.Entered
 passage_of pass.Left = work.Left

@@ -2,12 +2,4 @@
 #![tactic(auto)]
 
 #[cfg(test)]
-mod address_tests;
-#[cfg(test)]
-mod closing_tests;
-#[cfg(test)]
-mod pairs;
-#[cfg(test)]
-mod refusal_tests;
-#[cfg(test)]
-mod socket_tests;
+mod tests;

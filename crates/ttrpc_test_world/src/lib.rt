@@ -3,10 +3,4 @@
 #![tactic(auto)]
 
 #[cfg(test)]
-mod plainly;
-#[cfg(test)]
-mod random_tests;
-#[cfg(test)]
-mod rows_tests;
-#[cfg(test)]
-mod script;
+mod tests;

@@ -9,11 +9,13 @@ use crate::address::{Place, socket_of};
 use crate::connection::PipeConnection;
 use crate::stream::{Stream, fault};
 use std::alloc::Global;
-use std::io;
+use std::hint::spin_loop;
+use std::io::{self, ErrorKind};
 use std::marker::Model;
 use std::net::{Net, TcpStream};
 use std::os::fd::OwnedFd;
 use std::os::unix::net::UnixStream;
+use std::sync::Mutex;
 use std::sync::atomic::{AtomicBool, Ordering};
 use std::time::Duration;
 use ttrpc_frame::Passing;
@@ -26,8 +28,9 @@ const READY_TIME: u64 = 10;
 #[derive(Drop)]
 pub struct ClientConnection {
     stream: Stream,
-    // The same stream, at whose next bytes one can look. std has that of TCP alone, and the system of any stream.
-    probe: TcpStream,
+    // The same stream, at whose next bytes one can look. std has that of TCP alone, and the system of any stream. One
+    // thread looks at a time, since the limit of its wait is that of each look.
+    probe: Mutex<TcpStream>,
     is_closed: AtomicBool,
 }
 
@@ -71,12 +74,12 @@ impl ClientConnection {
         };
         Ok(ClientConnection {
             stream,
-            probe,
+            probe: Mutex::new(probe),
             is_closed: AtomicBool::new(false),
         })
     }
 
-    /// Waits for bytes, or for the other side to end, 10 milliseconds at most. `None`: nothing came, or the wait was
+    /// Waits for bytes, or for the other side to end, 10 milliseconds at most once no other thread does. `None`: nothing came, or the wait was
     /// interrupted. Once the connection or its receiver is closed the error `pipe closed` is answered.
     pub fn ready(&self) -> io::Result<Option<()>>
         ensures { IfErr result (λ e. ¬ (IsPassing Passing.InterruptedOrBlocked (error_kind e))) }
@@ -92,13 +95,15 @@ impl ClientConnection {
         }
     }
 
-    // The limit is set for this wait alone, since each read of the connection would have it.
+    // A thread that looks beside another waits for it, without a handle for waiting: that takes 10 milliseconds at most.
     fn wait_for_bytes(&self) -> io::Result<usize> {
-        self.probe
-            .set_read_timeout(Some(Duration::from_millis(READY_TIME)))?;
-        let peeked = self.probe.peek(&mut [0u8; 1]);
-        self.probe.set_read_timeout(None)?;
-        peeked
+        for _ in 0..u64::MAX {
+            if let Some(probe) = self.probe.try_lock() {
+                return look(&probe);
+            }
+            spin_loop();
+        }
+        Err(ErrorKind::WouldBlock.into())
     }
 
     /// The connection to be read and written, which shares the stream. A fault of the system is `Nix`.
@@ -126,6 +131,14 @@ impl ClientConnection {
         self.is_closed.store(true, Ordering::SeqCst);
         self.stream.close()
     }
+}
+
+// Waits for bytes. The limit is set for this wait alone, since each read of the connection would have it.
+fn look(probe: &TcpStream) -> io::Result<usize> {
+    probe.set_read_timeout(Some(Duration::from_millis(READY_TIME)))?;
+    let peeked = probe.peek(&mut [0u8; 1]);
+    probe.set_read_timeout(None)?;
+    peeked
 }
 
 fn connect<R>(rt: &R, place: Place<'_>, nodelay: bool) -> Result<Stream>

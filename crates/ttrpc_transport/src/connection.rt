@@ -58,6 +58,13 @@ impl PipeConnection {
         self.stream.send(buf).map_err(fault)
     }
 
+    /// Whether each write goes out at once: by TCP as it was set, and at a path always. A fault of the system is `Nix`.
+    pub fn nodelay(&self) -> Result<bool>
+        ensures { IfErr result IsFault }
+    {
+        self.stream.nodelay().map_err(fault)
+    }
+
     /// Ends the connection for both sides, and wakes each thread that reads it or writes to it. The descriptor is closed as
     /// the connection is dropped. To close it again does nothing.
     pub fn close(&self) -> Result<()>

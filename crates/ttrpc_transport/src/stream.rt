@@ -74,6 +74,14 @@ impl Stream {
         }
     }
 
+    // Whether each write goes out at once. At a path it always does.
+    pub(crate) fn nodelay(&self) -> io::Result<bool> {
+        match self {
+            Stream::Tcp(stream) => stream.nodelay(),
+            Stream::Unix(_) => Ok(true),
+        }
+    }
+
     // Ends the halves of the stream that are named, on each of its handles: who waits there wakes.
     pub(crate) fn shutdown(&self, how: Shutdown) -> io::Result<()> {
         match self {

@@ -21,12 +21,14 @@ pub data Value : Type 0 where
   LengthDelimited : (bytes : List ℕ) → Value
   Fixed32 : (n : ℕ) → Value
 
+-- the wire type of a value
 abbrev pub wire_type_of : Value → WireType
 wire_type_of (Varint n) = wire.Varint
 wire_type_of (Fixed64 n) = wire.Fixed64
 wire_type_of (LengthDelimited bytes) = wire.LengthDelimited
 wire_type_of (Fixed32 n) = wire.Fixed32
 
+-- a field: its number and its value
 pub record Field : Type 0 where
   pub number : ℕ
   pub value : Value
@@ -39,17 +41,20 @@ pub record IsTag (bytes : List ℕ) (number : ℕ) (type : WireType) : Type 0 wh
   pub low : 1 ≤ number
   pub high : number < 2 ^ 29
 
--- the number of eight or four bytes, the lowest first
+-- the number of eight bytes, the lowest first
 unfoldable pub fixed64_of : List ℕ → ℕ
 fixed64_of bytes = from_le_bytes w64 bytes
 
+-- the number of four bytes, the lowest first
 unfoldable pub fixed32_of : List ℕ → ℕ
 fixed32_of bytes = from_le_bytes w32 bytes
 
+-- The bytes are eight, the lowest first, and stand for n.
 pub record IsFixed64 (bytes : List ℕ) (n : ℕ) : Type 0 where
   pub size : length bytes ≡ 8
   pub value : n ≡ fixed64_of bytes
 
+-- The bytes are four, the lowest first, and stand for n.
 pub record IsFixed32 (bytes : List ℕ) (n : ℕ) : Type 0 where
   pub size : length bytes ≡ 4
   pub value : n ≡ fixed32_of bytes
@@ -60,6 +65,7 @@ pub record IsLengthDelimited (bytes delimited : List ℕ) : Type 0 where
   pub whole : bytes ≡ len ++ delimited
   pub counts : IsVarint len (length delimited)
 
+-- The bytes are this value.
 abbrev pub IsValue : List ℕ → Value → Type 0
 IsValue bytes (Varint n) = IsVarint bytes n
 IsValue bytes (Fixed64 n) = IsFixed64 bytes n
@@ -71,6 +77,7 @@ pub record IsValueOf (type : WireType) (bytes : List ℕ) (value : Value) : Type
   pub is : IsValue bytes value
   pub typed : wire_type_of value ≡ type
 
+-- The bytes are this field: its tag, and behind it its value.
 pub record IsField (bytes : List ℕ) (f : Field) : Type 0 where
   pub tag : List ℕ
   pub rest : List ℕ
@@ -85,24 +92,30 @@ IsFields bytes (f ∷ fs) = (front : List ℕ) × (rest : List ℕ) × (bytes �
 
 -- ---- the written form
 
+-- the eight bytes of a number, the lowest first
 unfoldable pub fixed64 : ℕ → List ℕ
 fixed64 n = to_le_bytes w64 n
 
+-- the four bytes of a number, the lowest first
 unfoldable pub fixed32 : ℕ → List ℕ
 fixed32 n = to_le_bytes w32 n
 
+-- the tag that is written for a field's number and a wire type
 abbrev pub tag_bytes : ℕ → WireType → List ℕ
 tag_bytes number type = varint (number * 8 + code_of type)
 
+-- the bytes that are written for a value
 abbrev pub value_bytes : Value → List ℕ
 value_bytes (Varint n) = varint n
 value_bytes (Fixed64 n) = fixed64 n
 value_bytes (LengthDelimited bytes) = varint (length bytes) ++ bytes
 value_bytes (Fixed32 n) = fixed32 n
 
+-- the bytes that are written for a field: its tag, and behind it its value
 abbrev pub field_bytes : Field → List ℕ
 field_bytes f = tag_bytes f.number (wire_type_of f.value) ++ value_bytes f.value
 
+-- the bytes that are written for fields, one behind the other
 abbrev pub fields_bytes : List Field → List ℕ
 fields_bytes fs = flat_map field_bytes fs
 
@@ -113,6 +126,7 @@ ValueFits (Fixed64 n) = n < 2 ^ 64
 ValueFits (LengthDelimited bytes) = length bytes < 2 ^ 64
 ValueFits (Fixed32 n) = n < 2 ^ 32
 
+-- a field that has a written form: its number is from 1 to 2 ^ 29 - 1, and its value has one
 pub record Fits (f : Field) : Type 0 where
   pub low : 1 ≤ f.number
   pub high : f.number < 2 ^ 29

@@ -1,5 +1,5 @@
 -- A delivery: each flight that comes in acts as it was sent, on one call. No bytes, no seals that are opened.
-use Rattle.ttrpc_world.proofs.Words.{◌≡◌, ◌≢◌, ℕ, ◌+◌, ◌≤◌, List, [], ◌∷◌, ◌++◌, Bool, true, false, Option, Some, None, if◌then◌else◌, refl, sym, ap, ◌∙◌, subst, inl, inr, arith, append_assoc, cases_eq, append-nil, AllByRecursion, Request, OutboundTransform, Outbox, ActiveJob, Call, Entry, INVALID_ARGUMENT, Opened, Sent, SendsAll, Scene, jobs_at, new_job, has_method, status_response, Server, Row, Known, Tells, path_text, request_row, sync_row, Does, serving, Client, call_at, Landing, LandsOn, Gives, by_status, landing_of, LandsOnce, calling, Flying, ActsOn, parcels, Act, Called, acts, Connection, Halves, Pipe, all_joined, under_own, under_other, pushed_own, pushed_other, id_of, stream_id_of}
+use Rattle.ttrpc_world.proofs.Words.{◌≡◌, ◌≢◌, ℕ, ◌+◌, ◌≤◌, List, [], ◌∷◌, ◌++◌, Bool, true, false, Option, Some, None, if◌then◌else◌, refl, sym, ap, ◌∙◌, subst, inl, inr, arith, append_assoc, cases_eq, append-nil, AllByRecursion, Request, OutboundTransform, Outbox, ActiveJob, Call, Entry, INVALID_ARGUMENT, Opened, Sent, SendsAll, Scene, jobs_at, new_job, has_method, status_response, Server, Row, MakeJob, SendResponse, path_text, request_row, sync_row, Does, serving, Client, call_at, Landing, LandsOn, Gives, by_status, landing_of, LandsOnce, calling, Flying, ActsOn, parcels, Act, Called, acts, Connection, Halves, Pipe, all_joined, under_own, under_other, pushed_own, pushed_other, id_of, stream_id_of}
 use Rattle.ttrpc_world.proofs.OneWay.{OneWay, joins}
 use Rattle.ttrpc_world.proofs.Stages.{Story}
 use Rattle.ttrpc_world.proofs.Turns.{arrives_here, arriving, called_alone, elsewhere, lands_here, leaves_out_here, refers_here, returning}
@@ -73,8 +73,8 @@ module _ {CO CI SO SI : Type 0} (c : Halves CO CI) (s : Halves SO SI) (had : ℕ
       → Stories had stream_of trace (x ∷ rest) down next old.state.jobs.list kept → AreKnown stream_of old.state.jobs.list → SendsAll s.out old.outbox sent new.outbox
       → (own : Story had (next ≤ x.frame.message.header.stream_id) x.frame.message.header.stream_id (acts stream_of x.frame.message.header.stream_id trace) (x ∷ parcels x.frame.message.header.stream_id rest)
       (jobs_at old.state.jobs.list x.frame.message.header.stream_id) (parcels x.frame.message.header.stream_id down) (kept x.frame.message.header.stream_id))
-      → Does s.out (if b then Known (arriving _ _ _ x _ _ _ _ own).request
-      else Tells (status_response INVALID_ARGUMENT (path_text (arriving _ _ _ x _ _ _ _ own).request.service (arriving _ _ _ x _ _ _ _ own).request.method))) old.state old.outbox.half x.frame.message.header sent new.state
+      → Does s.out (if b then MakeJob (arriving _ _ _ x _ _ _ _ own).request
+      else SendResponse (status_response INVALID_ARGUMENT (path_text (arriving _ _ _ x _ _ _ _ own).request.service (arriving _ _ _ x _ _ _ _ own).request.method))) old.state old.outbox.half x.frame.message.header sent new.state
       → ComesUp c s had stream_of trace rest down next kept old new
   by_row true x rest down next kept old new sent stories known sends own m =
       let k : ℕ = x.frame.message.header.stream_id in

@@ -1,7 +1,7 @@
 -- THE HEADLINE, for any run from a fresh start: each step keeps the invariant, and the invariant has the headline in it.
 use Rattle.ttrpc_world.proofs.Words.{rules, ◌≡◌, ℕ, List, [], ◌∷◌, ◌++◌, Bool, false, Some, refl, sym, ap, subst, inl, inr, append_assoc, append-nil, ServerCore, ClientCore, Event, Reply, Entry, Told, Outcome, DropCall, Take, Answer, Tick, Carry, Deliver, Cut, Fail, Named, Given, Handed, Done, Count, Refused, Halves, Net, IsFresh, Runs, Steps, failed_by_hand, IsExactlyOnce, IsRightAt, IsStreamOf, act_of, acts}
-use Rattle.ttrpc_server.specs.Jobs as server
-use Rattle.ttrpc_client.specs.Client as client
+use Rattle.ttrpc_server.specs.State as server
+use Rattle.ttrpc_client.specs.State as client
 use Rattle.ttrpc_world.specs.declared.events.Side.TheVariants as side
 use Rattle.ttrpc_world.specs.declared.events.Event.TheVariants.{Call, Finish, Respond}
 use Rattle.ttrpc_world.proofs.OneWay.{starts}

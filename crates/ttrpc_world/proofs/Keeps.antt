@@ -1,11 +1,11 @@
 -- What holds of a client, a server and their pipes after any run, and that each event of the client keeps it.
 use Rattle.ttrpc_world.proofs.Words.{◌≡◌, ℕ, nat_eq, ◌+◌, ◌≤◌, List, [], ◌∷◌, ◌++◌, Bool, true, false, if◌then◌else◌, is_some, Option, Some, None, Result, refl, sym, ap, ◌∙◌, subst, inl, inr, arith, cases_eq, AllByRecursion, Error, Request, Response, IsRequest, Outbox, Connection, Failure, CancelledDuringWrite, DeadlineDuringWrite, ClientCore, Client, throws, Requests, Ticks, due_at, taken_back, takes_back, Passes, Flying, IsOwnRequest, parcels, all_joined, Event, CallEvent, Outcome, DropCall, Tick, Reply, Named, Given, Done, Entry, Halves, Net, has_response, with_client, Forgot, Ticked, Called, act_of, acts, pushed_own, pushed_other, id_of}
-use Rattle.ttrpc_server.specs.Jobs as server
+use Rattle.ttrpc_server.specs.State as server
 use Rattle.ttrpc_client.specs.declared.kind.ClientKind.{ClientKind}
 use Rattle.ttrpc_client.specs.declared.kind.ClientKind.TheVariants.{Sync, Async}
-use Rattle.ttrpc_client.specs.Client.{deadline_of}
-use Rattle.ttrpc_client.specs.Client as client
-use Rattle.ttrpc_client.specs.Happens.{Tells}
+use Rattle.ttrpc_client.specs.State.{deadline_of}
+use Rattle.ttrpc_client.specs.State as client
+use Rattle.ttrpc_client.specs.Protocol.{TakesOutcome}
 use Rattle.ttrpc_world.proofs.Stages.{Story}
 use Rattle.ttrpc_world.proofs.Turns.{asks_here, calls_here, drops_here, elsewhere, expires_here, one_up, thrown_here}
 use Rattle.ttrpc_world.proofs.Payloads.{sends_request}
@@ -96,7 +96,7 @@ module _ {CO CI SO SI : Type 0} (c : Halves CO CI) (s : Halves SO SI) (seals : B
   single w i = λ k. one_up (w.client.state.next ≤ k) k (acts stream_of k trace) (parcels k i.up) (server.jobs_at w.server.state.jobs.list k) (parcels k i.down) (client.call_at w.client.state k) (i.stories k)
 
   -- An outcome is asked for.
-  pub keeps_ask : (w : Net CO CI SO SI) (id : ℕ) (given : Option (Result Response Error)) (v : Net CO CI SO SI) → Keeps c s stream_of trace w → Tells w.client id given v.client → Keeps c s stream_of (with_entry trace (Outcome id) (Given given)) (with_client w v.client)
+  pub keeps_ask : (w : Net CO CI SO SI) (id : ℕ) (given : Option (Result Response Error)) (v : Net CO CI SO SI) → Keeps c s stream_of trace w → TakesOutcome w.client id given v.client → Keeps c s stream_of (with_entry trace (Outcome id) (Given given)) (with_client w v.client)
   unfolding nothing_thrown
   keeps_ask w id given v i p =
       let connection : v.client.connection ≡ w.client.connection = ap (λ (x : ClientCore CO CI). x.connection) p.same in

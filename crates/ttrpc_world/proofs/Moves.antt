@@ -1,6 +1,6 @@
 -- Each event that moves bytes, cuts a pipe or fails a side, and each of the server, keeps the invariant.
-use Rattle.ttrpc_world.proofs.Words.{nat_eq, cases_Bool, eq-eqb, inl, inr, true, false, RespondsTo, ◌≡◌, ◌≢◌, ℕ, ◌≤◌, List, [], ◌∷◌, ◌++◌, length, Bool, Option, Some, None, refl, sym, ap, ◌∙◌, subst, arith, Result, Ok, Err, Error, Failure, ServerCore, Entry, Request, Response, ActiveJob, Event, Reply, Queue, open_part, Connection, HandlerError, Scene, scene, serving, Answers, Drops, Server, Client, call_at, calling, Flying, IsOwnRequest, parcels, all_behind, Pipe, is_over, Halves, Net, has_response, with_client, with_server, BreaksAt, OnlyClient, OnlyServer, CarriesDown, CarriesUp, CutsDown, CutsUp, DeliversDown, DeliversUp, carried, cut_to, failed, after_carry, lent_of, taken_from, AnswersBy, IsResponse, Job, jobs_at, Take, Answer, Handed, Done, Act, Answered, Ran, acts, all_at, all_changed, all_less, between_own, between_other, under_both, pushed_own, pushed_other, id_of, stream_id_of}
-use Rattle.ttrpc_server.specs.Happens.{Finishes, Hands}
+use Rattle.ttrpc_world.proofs.Words.{nat_eq, cases_Bool, eq-eqb, inl, inr, true, false, RespondsTo, ◌≡◌, ◌≢◌, ℕ, ◌≤◌, List, [], ◌∷◌, ◌++◌, length, Bool, Option, Some, None, refl, sym, ap, ◌∙◌, subst, arith, Result, Ok, Err, Error, Failure, ServerCore, Entry, Request, Response, ActiveJob, Event, Reply, Queue, open_part, Connection, HandlerError, Scene, scene, serving, Answers, Drops, Server, Client, call_at, calling, Flying, IsOwnRequest, parcels, all_behind, Pipe, is_over, Halves, Net, has_response, with_client, with_server, BreaksAt, OnlyClient, OnlyServer, CarriesDown, CarriesUp, CutsDown, CutsUp, DeliversDown, DeliversUp, pipe_after_carry, cut_to, failing, after_carry, lent_of, taken_from, AnswersBy, IsResponse, Job, jobs_at, Take, Answer, Handed, Done, Act, Answered, Ran, acts, all_at, all_changed, all_less, between_own, between_other, under_both, pushed_own, pushed_other, id_of, stream_id_of}
+use Rattle.ttrpc_server.specs.Protocol.{Finishes, Hands}
 use Rattle.std.specs.List.{list_any}
 use Rattle.ttrpc_world.specs.Types.{Finish, Respond}
 use Rattle.ttrpc_world.proofs.Delivers.{AreKnown, IsKnown, Stories, feeds_down, feeds_up, at_one}
@@ -26,25 +26,25 @@ module _ {CO CI SO SI : Type 0} (c : Halves CO CI) (s : Halves SO SI) (seals : B
   rewired w i x y p q upward downward = record { up = i.up; down = i.down; stories = i.stories; known = i.known; own = i.own; upward = upward; downward = downward }
 
   -- a side fails
-  pub server_fails : (w : Net CO CI SO SI) (why : Failure) → Kept w → Kept (with_server w (record w.server { connection = failed w.server.connection why }))
+  pub server_fails : (w : Net CO CI SO SI) (why : Failure) → Kept w → Kept (with_server w (record w.server { connection = failing w.server.connection why }))
   server_fails w why i =
-      rewired w i w.client.connection (failed w.server.connection why) w.up w.down (dead c.out s.in_ _ (failed w.server.connection why) w.up i.up (kept_some w.server.connection.failure why)) i.downward
+      rewired w i w.client.connection (failing w.server.connection why) w.up w.down (dead c.out s.in_ _ (failing w.server.connection why) w.up i.up (kept_some w.server.connection.failure why)) i.downward
 
-  pub client_fails : (w : Net CO CI SO SI) (why : Failure) → Kept w → Kept (with_client w (record w.client { connection = failed w.client.connection why }))
+  pub client_fails : (w : Net CO CI SO SI) (why : Failure) → Kept w → Kept (with_client w (record w.client { connection = failing w.client.connection why }))
   client_fails w why i =
-      rewired w i (failed w.client.connection why) w.server.connection w.up w.down i.upward (dead s.out c.in_ _ (failed w.client.connection why) w.down i.down (kept_some w.client.connection.failure why))
+      rewired w i (failing w.client.connection why) w.server.connection w.up w.down i.upward (dead s.out c.in_ _ (failing w.client.connection why) w.down i.down (kept_some w.client.connection.failure why))
 
   -- Bytes are carried.
   pub carry_up : (w : Net CO CI SO SI) (n k : ℕ) (v : Net CO CI SO SI) → Kept w → CarriesUp c s seals w n k v → Kept v
   carry_up w n k v i p =
       let x = w.client.connection in
-      rw p.only (rewired w i (after_carry x k) w.server.connection (carried w.up k x.outbox.queue) w.down
+      rw p.only (rewired w i (after_carry x k) w.server.connection (pipe_after_carry w.up k x.outbox.queue) w.down
       (carries c.out s.in_ x.outbox w.server.connection w.up i.up k (lent_fits x.failure n k x.outbox.queue p.count) i.upward) (record { bytes = i.downward.bytes; linked = i.downward.linked }))
 
   pub carry_down : (w : Net CO CI SO SI) (n k : ℕ) (v : Net CO CI SO SI) → Kept w → CarriesDown c s seals w n k v → Kept v
   carry_down w n k v i p =
       let y = w.server.connection in
-      rw p.only (rewired w i w.client.connection (after_carry y k) w.up (carried w.down k y.outbox.queue)
+      rw p.only (rewired w i w.client.connection (after_carry y k) w.up (pipe_after_carry w.down k y.outbox.queue)
       (record { bytes = i.upward.bytes; linked = i.upward.linked }) (carries s.out c.in_ y.outbox w.client.connection w.down i.down k (lent_fits y.failure n k y.outbox.queue p.count) i.downward))
 
   -- WHAT FRAMES DO THAT COME TO A SIDE: the first flights have acted there, and the others still are in flight, unless it
@@ -85,14 +85,14 @@ module _ {CO CI SO SI : Type 0} (c : Halves CO CI) (s : Halves SO SI) (seals : B
       let l = feeds_land c.out (serving s.out s.in_) w.moment w.server.state w.client.connection.outbox w.server.connection w.up i.up k v.server.state p.does.mid i.upward p.does.does in
       let is = λ (y : Connection SO SI). served w i (scene v.server.state p.does.mid) l.0 v.server.state y (taken_from w.up k) refl in
       rw p.only (as_heard (λ y. Kept (record (with_server w (record { state = v.server.state; connection = y })) { up = taken_from w.up k })) (is_over (taken_from w.up k)) p.does.mid v.server.connection p.does.hears
-      (is p.does.mid refl (record { bytes = λ alive. l.1; linked = λ alive. l.0.linked })) (λ why. is (failed p.does.mid why) refl (dead c.out s.in_ _ _ _ _ (kept_some p.does.mid.failure why))))
+      (is p.does.mid refl (record { bytes = λ alive. l.1; linked = λ alive. l.0.linked })) (λ why. is (failing p.does.mid why) refl (dead c.out s.in_ _ _ _ _ (kept_some p.does.mid.failure why))))
 
   pub deliver_down : (w : Net CO CI SO SI) (n k : ℕ) (v : Net CO CI SO SI) → Kept w → DeliversDown c s seals w n k v → Kept v
   deliver_down w n k v i p =
       let l = feeds_land s.out (calling c.out c.in_) 0 w.client.state w.server.connection.outbox w.client.connection w.down i.down k v.client.state p.does.mid i.downward p.does.does in
       let is = λ (x : Connection CO CI). landed w i (scene v.client.state p.does.mid) l.0 v.client.state x (taken_from w.down k) refl in
       rw p.only (as_heard (λ x. Kept (record (with_client w (record { state = v.client.state; connection = x })) { down = taken_from w.down k })) (is_over (taken_from w.down k)) p.does.mid v.client.connection p.does.hears
-      (is p.does.mid refl (record { bytes = λ alive. l.1; linked = λ alive. l.0.linked })) (λ why. is (failed p.does.mid why) refl (dead s.out c.in_ _ _ _ _ (kept_some p.does.mid.failure why))))
+      (is p.does.mid refl (record { bytes = λ alive. l.1; linked = λ alive. l.0.linked })) (λ why. is (failing p.does.mid why) refl (dead s.out c.in_ _ _ _ _ (kept_some p.does.mid.failure why))))
 
   -- A side fails at bytes that are delivered.
   pub break_up : (w : Net CO CI SO SI) (n : ℕ) (told : Error) (v : Net CO CI SO SI) → Kept w → BreaksAt (serving s.out s.in_) w.server.state w.server.connection w.up w.moment n told v.server.state v.server.connection → OnlyServer c s seals w v → Kept v

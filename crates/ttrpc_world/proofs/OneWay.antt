@@ -1,5 +1,5 @@
 -- What is in flight one way, from an outbox to a connection, as bytes and as seals, and what becomes of it.
-use Rattle.ttrpc_world.proofs.Words.{◌≡◌, ◌≢◌, ℕ, zero, suc, ◌≤◌, List, [], ◌∷◌, ◌++◌, length, take, drop, map, min, Bool, true, false, Option, Some, None, refl, sym, ap, ◌∙◌, ◌⊎◌, inl, inr, append_assoc, take-append-drop, Error, Incoming, OutboundTransform, InboundTransform, associated, Fed, Held, given, nothing, Queue, after_report, open_part, with_frame, with_lent, Connection, Failure, Disconnected, DisconnectedInside, Outbox, kept, ActsAll, Feeds, Scene, Ways, scene, Flying, AreInFlight, AreLinked, IsSound, ActsOn, arrived, carried_in_flight, cut_in_flight, fed_in_flight, placed_in_flight, none_in_flight, more_linked, none_linked, empty_queue, IsPaired, Pipe, empty_pipe, BreaksAt, Hears, carried, cut_to, failed, taken_from}
+use Rattle.ttrpc_world.proofs.Words.{◌≡◌, ◌≢◌, ℕ, zero, suc, ◌≤◌, List, [], ◌∷◌, ◌++◌, length, take, drop, map, min, Bool, true, false, Option, Some, None, refl, sym, ap, ◌∙◌, ◌⊎◌, inl, inr, append_assoc, take-append-drop, Error, Incoming, OutboundTransform, InboundTransform, associated, Fed, Held, given, nothing, Queue, after_report, open_part, with_frame, with_lent, Connection, Failure, Disconnected, DisconnectedInside, Outbox, first_failure, ActsAll, Feeds, Scene, Ways, scene, Flying, AreInFlight, AreLinked, IsSound, ActsOn, arrived, carried_in_flight, cut_in_flight, fed_in_flight, placed_in_flight, none_in_flight, more_linked, none_linked, empty_queue, IsPaired, Pipe, empty_pipe, BreaksAt, Hears, pipe_after_carry, cut_to, failing, taken_from}
 use Rattle.std.proofs.lemmas.List.{take_at, take-map}
 use Rattle.ttrpc_flight.proofs.Acting.{act_as_sent}
 
@@ -107,7 +107,7 @@ module _ {XO YO YI : Type 0} (out : OutboundTransform XO) (in_ : InboundTransfor
 
   -- bytes are carried
   pub carries : (x : Outbox XO) (y : Connection YO YI) (p : Pipe) (flights : List Flying) (k : ℕ) → k ≤ length (open_part x.queue) → OneWay out in_ x y p flights
-      → OneWay out in_ (record x { queue = after_report (with_lent x.queue k) k }) y (carried p k x.queue) flights
+      → OneWay out in_ (record x { queue = after_report (with_lent x.queue k) k }) y (pipe_after_carry p k x.queue) flights
   carries x y p flights k fits way = record {
     bytes = λ alive.
         let b = way.bytes alive in
@@ -128,7 +128,7 @@ module _ {XO YO YI : Type 0} (out : OutboundTransform XO) (in_ : InboundTransfor
 pub not_both : {X : Type 0} (failure : Option X) (x : X) → failure ≡ Some x → failure ≡ None → ⊥
 not_both failure x a b = let bad : Some x ≡ None = sym a ∙ b in cc
 
-pub kept_some : (failure : Option Failure) (why : Failure) → kept failure why ≡ None → ⊥
+pub kept_some : (failure : Option Failure) (why : Failure) → first_failure failure why ≡ None → ⊥
 kept_some None why e = cc
 kept_some (Some first) why e = cc
 
@@ -145,6 +145,6 @@ either_way h none some = elim (cases_of h.bytes h.counted) [
 ]
 
 -- a side whose pipe may be over is as it was, or has failed
-pub as_heard : {O I : Type 0} (P : Connection O I → Type 0) (over : Bool) (old new : Connection O I) → Hears over old new → P old → ((why : Failure) → P (failed old why)) → P new
+pub as_heard : {O I : Type 0} (P : Connection O I → Type 0) (over : Bool) (old new : Connection O I) → Hears over old new → P old → ((why : Failure) → P (failing old why)) → P new
 as_heard P true old new h same fails = either_way old.decoder (λ none. rw (h.between none) (fails Disconnected)) (λ some. rw (h.inside some) (fails DisconnectedInside))
 as_heard P false old new h same fails = rw h same

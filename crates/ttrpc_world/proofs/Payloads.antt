@@ -1,13 +1,13 @@
 -- What is sent reads back, what a core makes of it then, and the flights that it is sent as.
-use Rattle.ttrpc_world.proofs.Words.{rules, ◌≡◌, ℕ, zero, suc, ◌≤◌, ◌<◌, ◌^◌, ◌-◌, List, [], ◌∷◌, ◌++◌, length, codes, nat_lt, ◌&&◌, Bool, true, false, Some, refl, sym, subst, ◌∙◌, arith, and_parts, le-ltb, ltb-true, Request, Response, OutboundTransform, Outbox, ClientCore, INVALID_ARGUMENT, MessageHeader, MESSAGE_LENGTH_MAX, MESSAGE_TYPE_REQUEST, MESSAGE_TYPE_RESPONSE, IsRequest, IsResponse, empty_request, empty_response, request_fields, request_step, response_fields, response_step, Queued, with_frame, with_payload, associated, Opened, Sent, SendsAll, SendsOne, safe_limit, Responds, fitted, response_bytes, response_size, status_response, path_text, request_row, sync_row, Gives, by_status, landing_of, last_id, request_bytes, Requests, Flying, IsOwnRequest, IsSound, Act, HasOkStatus}
+use Rattle.ttrpc_world.proofs.Words.{rules, ◌≡◌, ℕ, zero, suc, ◌≤◌, ◌<◌, ◌^◌, ◌-◌, List, [], ◌∷◌, ◌++◌, length, codes, nat_lt, ◌&&◌, Bool, true, false, Some, refl, sym, subst, ◌∙◌, arith, and_parts, le-ltb, ltb-true, Request, Response, OutboundTransform, Outbox, ClientCore, INVALID_ARGUMENT, MessageHeader, MESSAGE_LENGTH_MAX, MESSAGE_TYPE_REQUEST, MESSAGE_TYPE_RESPONSE, IsRequest, IsResponse, empty_request, empty_response, request_fields, request_step, response_fields, response_step, Queued, with_frame, with_payload, associated, Opened, Sent, SendsAll, SendsOne, safe_limit, Responds, fit_to_limit, response_bytes, response_size, status_response, path_text, request_row, sync_row, Gives, by_status, landing_of, last_id, request_bytes, Requests, Flying, IsOwnRequest, IsSound, Act, HasOkStatus}
 use Rattle.std.specs.Fmt.{decimal}
 use Rattle.std.proofs.lemmas.Fmt.{IsAscii-decimal}
 use Rattle.std.proofs.lemmas.Str.{IsUtf8-append, IsUtf8-from_ascii}
 use Rattle.std.specs.Str.{IsAscii, IsUtf8}
 use Rattle.ttrpc_wire.proofs.Folds.{reads_back}
 use Rattle.ttrpc_proto.specs.Laws.{request_again, request_fits, response_again, response_fits}
-use Rattle.ttrpc_server.specs.Registry.{Services}
-use Rattle.ttrpc_server.specs.Responses.{limit_text}
+use Rattle.ttrpc_server.specs.State.{Services}
+use Rattle.ttrpc_server.specs.Protocol.{limit_text}
 use Rattle.ttrpc_world.proofs.Stages.{IsAnswerOf, IsDone, IsSent, IsToldOf}
 
 -- ---- reading
@@ -79,12 +79,12 @@ pub path_refusal : (r : Request) → IsRequest r → IsRefusal (status_response 
 path_refusal r is = record { is = refusal_is_response (path_text r.service r.method) (path_is_utf8 r is); never_ok = not_ok (path_text r.service r.method) }
 
 fitted_at : (b : Bool) (limit : ℕ) (r : Response) → nat_lt limit (response_size r) ≡ b → limit ≤ MESSAGE_LENGTH_MAX → IsResponse r → (done : List Act) → IsAnswerOf done r
-    → IsResponse (fitted limit r) × IsAnswerOf done (fitted limit r)
+    → IsResponse (fit_to_limit limit r) × IsAnswerOf done (fit_to_limit limit r)
 fitted_at true limit r e low is done answer = rw e (refusal_is_response (limit_text (response_size r) limit) (limit_is_utf8 (response_size r) limit (omega arith) (omega (arith, low))), refusal_answers done (limit_text (response_size r) limit))
 fitted_at false limit r e low is done answer = rw e (is, answer)
 
 -- What a response is sent as is a response, and an outcome that is Ok only if the response was.
-fitted_is : (limit : ℕ) (r : Response) → limit ≤ MESSAGE_LENGTH_MAX → IsResponse r → (done : List Act) → IsAnswerOf done r → IsResponse (fitted limit r) × IsAnswerOf done (fitted limit r)
+fitted_is : (limit : ℕ) (r : Response) → limit ≤ MESSAGE_LENGTH_MAX → IsResponse r → (done : List Act) → IsAnswerOf done r → IsResponse (fit_to_limit limit r) × IsAnswerOf done (fit_to_limit limit r)
 fitted_is limit r low is done answer = fitted_at (nat_lt limit (response_size r)) limit r refl low is done answer
 
 -- ---- flights
@@ -143,12 +143,12 @@ sends_response out old k r sent new done within is_done is answer p q =
     let g = p.is_frame in
     let limit = safe_limit out old.half in
     let all = subst (λ (xs : List Sent). SendsAll out old xs new) p.is q in
-    let one : SendsOne out old f (response_bytes (fitted limit r)) new = subst (λ (o : Outbox _). SendsOne out old f (response_bytes (fitted limit r)) o) (sym all.2) all.1 in
+    let one : SendsOne out old f (response_bytes (fit_to_limit limit r)) new = subst (λ (o : Outbox _). SendsOne out old f (response_bytes (fit_to_limit limit r)) o) (sym all.2) all.1 in
     let sealed = one.sealed in
     let s = fitted_is limit r (omega arith) is done answer in
     record {
-      r = fitted limit r;
-      y = record { frame = with_payload f sealed; plain = response_bytes (fitted limit r) };
+      r = fit_to_limit limit r;
+      y = record { frame = with_payload f sealed; plain = response_bytes (fit_to_limit limit r) };
       queue = one.queue;
       seal = one.seal;
       sound = sealed_is_sound f sealed one.fits (omega (arith, g.stream_id, within)) (omega (arith, g.type_)) (omega (arith, g.flags));

@@ -1,7 +1,6 @@
 -- A run goes on by one step, why a piece was refused, and what an answer comes to by what the core says of it.
 use Rattle.ttrpc_world.proofs.Words.{◌≡◌, List, [], ◌∷◌, ◌++◌, Bool, map, subst, refl, ap, Option, Some, None, ◌⊎◌, inl, inr, ℕ, Result, Ok, Err, Entry, Event, Reply, Error, Failure, Response, OutboundTransform, ActiveJob, ServerCore, Halves, Net, Runs, Steps, AnswersBy, IsTold, error_of, IsFailed, IsResponse, IsTaken, IsUnknown, Answers, Drops, HasUnsent, RefusesAnswer, ◌≡◌, ap, false, ◌∷◌, RespondsTo, has_response, with_server}
-use Rattle.ttrpc_server.specs.Happens.{QueuesResponse}
-use Rattle.ttrpc_server.specs.Table.{RefusesFinish}
+use Rattle.ttrpc_server.specs.Protocol.{QueuesResponse, RefusesFinish}
 
 pub run_more : {CO CI SO SI : Type 0} (c : Halves CO CI) (s : Halves SO SI) (seals : Bool) (w : Net CO CI SO SI) (trace : List Entry) (x : Net CO CI SO SI) (event : Event) (reply : Reply) (v : Net CO CI SO SI)
     → Runs c s seals w trace x → Steps c s seals x event reply v → Runs c s seals w (trace ++ record { event = event; reply = reply } ∷ []) v
@@ -13,10 +12,10 @@ pub events_more : (trace : List Entry) (event : Event) (reply : Reply) → map E
 events_more [] event reply = refl
 events_more (e ∷ trace) event reply = ap (λ xs. e.event ∷ xs) (events_more trace event reply)
 
-pub breaks_or_failed : (Breaks Same : Type 0) (failure : Option Failure) (told : Error) → (failure ≡ None → Breaks) → ((f : Failure) → failure ≡ Some f → Same × IsTold (error_of f) told)
+pub breaks_or_failed : (Breaks Same : Type 0) (failure : Option Failure) (told : Error) → (failure ≡ None → Breaks) → ((f : Failure) → failure ≡ Some f → IsTold (error_of f) told × Same)
     → Breaks ⊎ (IsFailed failure told × Same)
 breaks_or_failed Breaks Same None told fails failed = inl (fails refl)
-breaks_or_failed Breaks Same (Some why) told fails failed = let f = failed why refl in inr (record { why = why; is = refl; is_told = f.1 }, f.0)
+breaks_or_failed Breaks Same (Some why) told fails failed = let f = failed why refl in inr (record { why = why; is = refl; is_told = f.0 }, f.1)
 
 unknown_between : (front back : List ActiveJob) (id : ℕ) (job : ActiveJob) → job.id ≡ id → job.request ≡ None → IsUnknown (front ++ job ∷ back) id → ⊥
 unknown_between [] back id job is taken none = none.0 is taken

@@ -1,5 +1,5 @@
 -- Each job has one stream, and no two jobs the same: ids of jobs are used once, and so are streams.
-use Rattle.ttrpc_world.proofs.Words.{cond_both, rules, ◌≡◌, ℕ, ◌+◌, ◌≤◌, List, [], ◌∷◌, ◌++◌, length, Bool, true, false, Some, None, Result, Ok, Err, nat_eq, if◌then◌else◌, refl, sym, ap, ◌∙◌, subst, ◌⊎◌, inl, inr, arith, append_assoc, cases_Bool, cond-false, cond-true, eq-eqb, eqb-true, ne_eqb, append-nil, AllByRecursion, Error, ActiveJob, OutboundTransform, ServerCore, Event, Reply, Entry, Incoming, Job, ActsAll, Scene, scene, Sent, header_of_frame, Does, serving, EndsOne, JobList, new_job, Server, Row, Known, row_of, MessageHeader, Take, Answer, Deliver, Handed, Done, Count, Refused, Halves, Net, IsFresh, AnswersBy, Runs, Steps, Act, Ran, IsOneToOne, IsRightAt, IsStreamOf, act_of, acts, only_if, runs, all_at, all_changed, all_less}
+use Rattle.ttrpc_world.proofs.Words.{cond_both, rules, ◌≡◌, ℕ, ◌+◌, ◌≤◌, List, [], ◌∷◌, ◌++◌, length, Bool, true, false, Some, None, Result, Ok, Err, nat_eq, if◌then◌else◌, refl, sym, ap, ◌∙◌, subst, ◌⊎◌, inl, inr, arith, append_assoc, cases_Bool, cond-false, cond-true, eq-eqb, eqb-true, ne_eqb, append-nil, AllByRecursion, Error, ActiveJob, OutboundTransform, ServerCore, Event, Reply, Entry, Incoming, Job, ActsAll, Scene, scene, Sent, header_of_frame, Does, serving, EndsOne, JobList, new_job, Server, Row, MakeJob, row_of, MessageHeader, Take, Answer, Deliver, Handed, Done, Count, Refused, Halves, Net, IsFresh, AnswersBy, Runs, Steps, Act, Ran, IsOneToOne, IsRightAt, IsStreamOf, act_of, acts, only_if, runs, all_at, all_changed, all_less}
 use Rattle.ttrpc_connection.specs.Feeds.{arrived}
 use Rattle.ttrpc_world.specs.declared.events.Side.TheVariants as side
 use Rattle.ttrpc_world.specs.Types.{Finish, Respond}
@@ -59,7 +59,7 @@ others_placed trace f n js new last list below past = record {
 
 does_placed : {O : Type 0} (out : OutboundTransform O) (trace : List Entry) (r : Row) (old : Server) (o : O) (header : MessageHeader) (sent : List Sent) (new : Server) → Does out r old o header sent new
     → Placed trace old.jobs → Placed trace new.jobs
-does_placed out trace (Known request) old o header sent new d p =
+does_placed out trace (MakeJob request) old o header sent new d p =
     let n : ℕ = old.jobs.last in
     let job = new_job (n + 1) header request in
     subst (λ (t : Server). Placed trace t.jobs) (sym d.0) (record {

@@ -1,5 +1,5 @@
 -- Requests are thrown away: what stays in flight to the server.
-use Rattle.ttrpc_world.proofs.Words.{◌≡◌, ℕ, ◌≤◌, Bool, true, false, if◌then◌else◌, List, [], ◌++◌, length, Option, Some, None, refl, subst, ◌⊎◌, inl, AllByRecursion, OutboundTransform, InboundTransform, begun_count, without, Connection, Failure, Outbox, kept, taken_back, Flying, AreLinked, IsOwnRequest, flying_without, parcels, thrown_in_flight, all_thrown, parcels_thrown, thrown_linked, Pipe, has_begun}
+use Rattle.ttrpc_world.proofs.Words.{◌≡◌, ℕ, ◌≤◌, Bool, true, false, if◌then◌else◌, List, [], ◌++◌, length, Option, Some, None, refl, subst, ◌⊎◌, inl, AllByRecursion, OutboundTransform, InboundTransform, begun_count, without, Connection, Failure, Outbox, first_failure, taken_back, Flying, AreLinked, IsOwnRequest, flying_without, parcels, thrown_in_flight, all_thrown, parcels_thrown, thrown_linked, Pipe, has_begun}
 use Rattle.ttrpc_world.proofs.OneWay.{InFlight, OneWay, dead, not_both}
 
 -- What is left of the flights still is in flight over the outbox that is left; of each id they are the same, or none.
@@ -58,7 +58,7 @@ pub record Stays {O I : Type 0} (old new : Connection O I) : Type 0 where
   pub inbound : new.inbound ≡ old.inbound
   pub lives : new.failure ≡ None → old.failure ≡ None
 
-kept_lives : (begun : Bool) (failure : Option Failure) (why : Failure) → (if begun then kept failure why else failure) ≡ None → failure ≡ None
+kept_lives : (begun : Bool) (failure : Option Failure) (why : Failure) → (if begun then first_failure failure why else failure) ≡ None → failure ≡ None
 kept_lives false failure why e = e
 kept_lives true None why e = refl
 kept_lives true (Some first) why e = e

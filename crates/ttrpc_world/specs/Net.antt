@@ -7,11 +7,11 @@ use Rattle.ttrpc_secure.specs.declared.transform.InboundTransform.{Ghosts as Inb
 use Rattle.ttrpc_secure.specs.Halves.{IsPaired}
 use Rattle.ttrpc_server.specs.declared.rules.Rules.{Rules}
 use Rattle.ttrpc_server.specs.declared.server.ServerCore.{ServerCore}
-use Rattle.ttrpc_server.specs.Happens as server
-use Rattle.ttrpc_server.specs.Registry.{Services}
+use Rattle.ttrpc_server.specs.Protocol as server
+use Rattle.ttrpc_server.specs.State.{Services}
 use Rattle.ttrpc_client.specs.declared.client.ClientCore.{ClientCore}
 use Rattle.ttrpc_client.specs.declared.kind.ClientKind.{ClientKind}
-use Rattle.ttrpc_client.specs.Happens as client
+use Rattle.ttrpc_client.specs.Protocol as client
 use Rattle.ttrpc_world.specs.Pipes.{Pipe, empty_pipe}
 
 -- what the clauses know of the two halves of a side
@@ -19,23 +19,28 @@ pub record Halves (O I : Type 0) : Type 1 where
   pub out : OutboundTransform O
   pub in_ : InboundTransform I
 
+-- these two halves, as the clauses know them
 abbrev pub halves : {O I : Type 0} → OutboundTransform O → InboundTransform I → Halves O I
 halves out in_ = record { out = out; in_ = in_ }
 
+-- a client, a server, and the bytes in flight between them
 pub record Net (CO CI SO SI : Type 0) : Type 0 where
   pub client : ClientCore CO CI
   pub server : ServerCore SO SI
-  -- in flight to the server, and to the client
+  -- the bytes in flight to the server
   pub up : Pipe
+  -- the bytes in flight to the client
   pub down : Pipe
   -- the last moment that came, in nanoseconds
   pub moment : ℕ
   -- the jobs that go on behind their response, or went on
   pub responded : List ℕ
 
+-- all as it is, but with this client
 abbrev pub with_client : {CO CI SO SI : Type 0} → Net CO CI SO SI → ClientCore CO CI → Net CO CI SO SI
 with_client w c = record w { client = c }
 
+-- all as it is, but with this server
 abbrev pub with_server : {CO CI SO SI : Type 0} → Net CO CI SO SI → ServerCore SO SI → Net CO CI SO SI
 with_server w s = record w { server = s }
 

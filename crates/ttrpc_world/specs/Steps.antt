@@ -1,21 +1,19 @@
 -- What an event and its reply may do to a client, a server and their pipes.
 -- Source: PROTOCOL.md of ttrpc, "Streaming", by the tables of both cores.
-use Rattle.std.specs.Prelude.{◌≡◌, ◌≢◌, ◌⊎◌, ◌<◌, ◌≤◌, ◌++◌, ℕ, List, [], ◌∷◌, length, take, drop, min, codes, if◌then◌else◌, Bool, true, false, Option, Some, None, Result, Ok, Err}
-use Rattle.ttrpc_world.specs.Types.{Error, Response, Connection, Failure, Told, Disconnected, DisconnectedInside, Event, Call, Open, Outcome, Recv, Send, Close, DropCall, DropReceiver, DropSender, Take, Answer, Respond, Finish, EndStream, Drain, Tick, Carry, Deliver, Cut, Fail, Reply, Named, Given, Handed, Done, Count, Refused, NoMemory, NoStep, Entry}
+use Rattle.std.specs.Prelude.{◌≡◌, ◌⊎◌, ◌<◌, ◌≤◌, ◌++◌, ℕ, List, [], ◌∷◌, length, take, drop, min, codes, Bool, true, false, Option, Some, None, Result, Ok, Err}
+use Rattle.ttrpc_world.specs.Types.{Error, Response, Connection, Failure, Told, Event, Call, Open, Outcome, Recv, Send, Close, DropCall, DropReceiver, DropSender, Take, Answer, Respond, Finish, EndStream, Drain, Tick, Carry, Deliver, Cut, Fail, Reply, Named, Given, Handed, Done, Count, Refused, NoMemory, NoStep, Entry}
 use Rattle.ttrpc_proto.specs.declared.error.Error.TheVariants.{Socket}
 use Rattle.ttrpc_proto.specs.Messages.{IsRequest, IsResponse}
-use Rattle.ttrpc_frame.specs.Frames.{nothing}
-use Rattle.ttrpc_frame.specs.Queue.{Queue, open_part, with_lent, after_report}
-use Rattle.ttrpc_connection.specs.Failure.{kept}
+use Rattle.ttrpc_frame.specs.Queue.{Queue, open_part}
 use Rattle.ttrpc_connection.specs.Feeds.{Ways, Feeds, Breaks, IsFailed}
+use Rattle.ttrpc_connection.specs.OneEnd.{Ends, failing, lending, reporting}
 use Rattle.ttrpc_server.specs.declared.server.ServerCore.{ServerCore}
 use Rattle.ttrpc_server.specs.declared.job.ActiveJob.{ActiveJob}
-use Rattle.ttrpc_server.specs.Jobs.{IsTaken, IsUnknown, NoneWaits}
-use Rattle.ttrpc_server.specs.Table.{HasUnsent}
-use Rattle.ttrpc_server.specs.Happens.{Answers, Drops, Finishes, Hands, QueuesResponse, serving}
-use Rattle.ttrpc_client.specs.Table.{RefusesRequest}
-use Rattle.ttrpc_client.specs.Happens.{Forgets, Requests, Tells, calling}
+use Rattle.ttrpc_server.specs.State.{IsTaken, IsUnknown, NoneWaits}
+use Rattle.ttrpc_server.specs.Protocol.{HasUnsent, Answers, Drops, Finishes, Hands, QueuesResponse, serving}
+use Rattle.ttrpc_client.specs.Protocol.{RefusesRequest, Forgets, Requests, TakesOutcome, calling}
 use Rattle.ttrpc_client.specs.Calls.{Passes}
+use Rattle.ttrpc_flight.specs.Flight.{bytes_after_carry}
 use Rattle.ttrpc_world.specs.declared.events.Side.TheVariants as side
 use Rattle.ttrpc_world.specs.Pipes.{Pipe, is_over}
 use Rattle.ttrpc_world.specs.Net.{Halves, Net, has_response, with_client, with_server}
@@ -23,8 +21,8 @@ use Rattle.ttrpc_world.specs.Net.{Halves, Net, has_response, with_client, with_s
 -- ---- one side, and the pipe to it or from it
 
 -- n bytes of the first unfinished frame move into the pipe, or are lost behind its cut
-abbrev pub carried : Pipe → ℕ → Queue → Pipe
-carried p n q = record p { bytes = if p.cut then p.bytes else p.bytes ++ take n (open_part q) }
+abbrev pub pipe_after_carry : Pipe → ℕ → Queue → Pipe
+pipe_after_carry p n q = record p { bytes = bytes_after_carry p.cut p.bytes n q }
 
 -- how many bytes a lend of at most n gives: none after a failure
 abbrev pub lent_of : Option Failure → ℕ → Queue → ℕ
@@ -37,7 +35,7 @@ HasToLend c n = 0 < lent_of c.failure n c.outbox.queue
 
 -- they were lent, and reported as written
 abbrev pub after_carry : {O I : Type 0} → Connection O I → ℕ → Connection O I
-after_carry c k = record c { outbox = record c.outbox { queue = after_report (with_lent c.outbox.queue k) k } }
+after_carry c k = reporting (lending c k) k
 
 -- the first n bytes were taken
 abbrev pub taken_from : Pipe → ℕ → Pipe
@@ -47,18 +45,9 @@ taken_from p n = record p { bytes = drop n p.bytes }
 abbrev pub cut_to : Pipe → ℕ → Pipe
 cut_to p keep = record { bytes = take keep p.bytes; cut = true }
 
--- the connection failed, if it hadn't
-abbrev pub failed : {O I : Type 0} → Connection O I → Failure → Connection O I
-failed c why = record c { failure = kept c.failure why }
-
--- its input ends
-pub record InputEnds {O I : Type 0} (old new : Connection O I) : Type 0 where
-  pub between : old.decoder ≡ nothing → new ≡ failed old Disconnected
-  pub inside : old.decoder ≢ nothing → new ≡ failed old DisconnectedInside
-
--- it ends where all was delivered that a cut left
+-- its input ends where all was delivered that a cut left
 abbrev pub Hears : {O I : Type 0} → Bool → Connection O I → Connection O I → Type 0
-Hears true old new = InputEnds old new
+Hears true old new = Ends old new
 Hears false old new = new ≡ old
 
 -- Bytes moved from a pipe to its side at a moment. Where they were the last before a cut, the input ends.
@@ -72,16 +61,18 @@ pub record Delivers {S O I : Type 0} (w : Ways S O I) (s : S) (old : Connection 
 abbrev pub BreaksAt : {S O I : Type 0} → Ways S O I → S → Connection O I → Pipe → ℕ → ℕ → Error → S → Connection O I → Type 0
 BreaksAt w s old pipe now n told t new = Breaks w s old (take (min n (length pipe.bytes)) pipe.bytes) now told t new
 
+-- the error by which the event `Fail` fails a side
 abbrev pub failed_by_hand : Error
 failed_by_hand = Socket (codes "failed")
 
 -- ---- the events, each with its reply
 
 module _ {CO CI SO SI : Type 0} (c : Halves CO CI) (s : Halves SO SI) (seals : Bool) where
-  -- Only the client changed, or the server.
+  -- Only the client changed.
   abbrev pub OnlyClient : Net CO CI SO SI → Net CO CI SO SI → Type 0
   OnlyClient old new = new ≡ with_client old new.client
 
+  -- Only the server changed.
   abbrev pub OnlyServer : Net CO CI SO SI → Net CO CI SO SI → Type 0
   OnlyServer old new = new ≡ with_server old new.server
 
@@ -122,41 +113,45 @@ module _ {CO CI SO SI : Type 0} (c : Halves CO CI) (s : Halves SO SI) (seals : B
     pub does : Passes seals old.client.connection.failure old.client now new.client
     pub only : new ≡ record (with_client old new.client) { moment = now }
 
-  -- Bytes moved from a side into its pipe, and were reported.
+  -- Bytes moved from the client into the pipe to the server, and were reported.
   pub record CarriesUp (old : Net CO CI SO SI) (n k : ℕ) (new : Net CO CI SO SI) : Type 0 where
     pub count : k ≡ lent_of old.client.connection.failure n old.client.connection.outbox.queue
-    pub only : new ≡ record (with_client old (record old.client { connection = after_carry old.client.connection k })) { up = carried old.up k old.client.connection.outbox.queue }
+    pub only : new ≡ record (with_client old (record old.client { connection = after_carry old.client.connection k })) { up = pipe_after_carry old.up k old.client.connection.outbox.queue }
 
+  -- Bytes moved from the server into the pipe to the client, and were reported.
   pub record CarriesDown (old : Net CO CI SO SI) (n k : ℕ) (new : Net CO CI SO SI) : Type 0 where
     pub count : k ≡ lent_of old.server.connection.failure n old.server.connection.outbox.queue
-    pub only : new ≡ record (with_server old (record old.server { connection = after_carry old.server.connection k })) { down = carried old.down k old.server.connection.outbox.queue }
+    pub only : new ≡ record (with_server old (record old.server { connection = after_carry old.server.connection k })) { down = pipe_after_carry old.down k old.server.connection.outbox.queue }
 
-  -- Bytes were delivered to a side, at the last moment. The client has none.
+  -- Bytes were delivered to the server, at the last moment.
   pub record DeliversUp (old : Net CO CI SO SI) (n k : ℕ) (new : Net CO CI SO SI) : Type 0 where
     pub does : Delivers (serving s.out s.in_) old.server.state old.server.connection old.up old.moment n k new.server.state new.server.connection
     pub only : new ≡ record (with_server old new.server) { up = taken_from old.up k }
 
+  -- Bytes were delivered to the client, which is told no moment.
   pub record DeliversDown (old : Net CO CI SO SI) (n k : ℕ) (new : Net CO CI SO SI) : Type 0 where
     pub does : Delivers (calling c.out c.in_) old.client.state old.client.connection old.down 0 n k new.client.state new.client.connection
     pub only : new ≡ record (with_client old new.client) { down = taken_from old.down k }
 
-  -- Bytes were refused: the side fails at them, or had failed.
+  -- The server refused bytes: it fails at them, or had failed.
   abbrev pub RefusesUp : Net CO CI SO SI → ℕ → Error → Net CO CI SO SI → Type 0
   RefusesUp old n told new =
       (BreaksAt (serving s.out s.in_) old.server.state old.server.connection old.up old.moment n told new.server.state new.server.connection × OnlyServer old new)
       ⊎ (IsFailed old.server.connection.failure told × (new ≡ old))
 
+  -- Bytes were refused: the client fails at them, or had failed.
   abbrev pub RefusesDown : Net CO CI SO SI → ℕ → Error → Net CO CI SO SI → Type 0
   RefusesDown old n told new =
       (BreaksAt (calling c.out c.in_) old.client.state old.client.connection old.down 0 n told new.client.state new.client.connection × OnlyClient old new)
       ⊎ (IsFailed old.client.connection.failure told × (new ≡ old))
 
-  -- A pipe was cut; where nothing is left to deliver, the input ends at once.
+  -- The pipe to the server was cut; where nothing is left to deliver, the server's input ends at once.
   pub record CutsUp (old : Net CO CI SO SI) (keep : ℕ) (new : Net CO CI SO SI) : Type 0 where
     pub connection : Connection SO SI
     pub hears : Hears (is_over (cut_to old.up keep)) old.server.connection connection
     pub only : new ≡ record (with_server old (record old.server { connection = connection })) { up = cut_to old.up keep }
 
+  -- The pipe to the client was cut; where nothing is left to deliver, the client's input ends at once.
   pub record CutsDown (old : Net CO CI SO SI) (keep : ℕ) (new : Net CO CI SO SI) : Type 0 where
     pub connection : Connection CO CI
     pub hears : Hears (is_over (cut_to old.down keep)) old.client.connection connection
@@ -167,7 +162,7 @@ module _ {CO CI SO SI : Type 0} (c : Halves CO CI) (s : Halves SO SI) (seals : B
   abbrev pub Steps : Net CO CI SO SI → Event → Reply → Net CO CI SO SI → Type 0
   Steps old (Call request) (Named id) new = IsRequest request × Requests c.out old.client request old.moment id new.client × OnlyClient old new
   Steps old (Call request) (Refused told) new = RefusesRequest c.out old.client request told × (new ≡ old)
-  Steps old (Outcome id) (Given outcome) new = Tells old.client id outcome new.client × OnlyClient old new
+  Steps old (Outcome id) (Given outcome) new = TakesOutcome old.client id outcome new.client × OnlyClient old new
   Steps old (DropCall id) Done new = Forgot old id new
   Steps old Take (Handed (Some job)) new = Hands old.server job new.server × OnlyServer old new
   Steps old Take (Handed None) new = (old.server.connection.failure ≡ None → NoneWaits old.server.state.jobs.list) × (new ≡ old)
@@ -193,8 +188,8 @@ module _ {CO CI SO SI : Type 0} (c : Halves CO CI) (s : Halves SO SI) (seals : B
   Steps old (Deliver side.Client n) (Refused told) new = RefusesDown old n told new
   Steps old (Cut side.Server keep) Done new = CutsUp old keep new
   Steps old (Cut side.Client keep) Done new = CutsDown old keep new
-  Steps old (Fail side.Client) Done new = new ≡ with_client old (record old.client { connection = failed old.client.connection (Told failed_by_hand) })
-  Steps old (Fail side.Server) Done new = new ≡ with_server old (record old.server { connection = failed old.server.connection (Told failed_by_hand) })
+  Steps old (Fail side.Client) Done new = new ≡ with_client old (record old.client { connection = failing old.client.connection (Told failed_by_hand) })
+  Steps old (Fail side.Server) Done new = new ≡ with_server old (record old.server { connection = failing old.server.connection (Told failed_by_hand) })
   Steps old (Fail side.Client) NoMemory new = (old.client.connection.failure ≡ None) × (new ≡ old)
   Steps old (Fail side.Server) NoMemory new = (old.server.connection.failure ≡ None) × (new ≡ old)
   -- of streams the cores know nothing yet

@@ -18,6 +18,7 @@ pub data Act : Type 0 where
   -- its outcome was given
   Gave : (outcome : Result Response Error) → Act
 
+-- this act, or none where the condition is false
 abbrev pub only_if : Bool → Act → List Act
 only_if b act = if b then act ∷ [] else []
 
@@ -34,15 +35,16 @@ act_of stream_of k event reply = []
 abbrev pub acts : (stream_of : ℕ → ℕ) → ℕ → List Entry → List Act
 acts stream_of k trace = flat_map (λ (e : Entry). act_of stream_of k e.event e.reply) trace
 
--- `stream_of` is right for each job that was handed out
+-- `stream_of` is right for the job that was handed out at this event, if one was
 abbrev pub IsRightAt : (ℕ → ℕ) → Event → Reply → Type 0
 IsRightAt stream_of Take (Handed (Some job)) = stream_of job.id ≡ job.header.stream_id
 IsRightAt stream_of event reply = Unit {0}
 
+-- `stream_of` is right for each job that was handed out in a trace
 abbrev pub IsStreamOf : (ℕ → ℕ) → List Entry → Type 0
 IsStreamOf stream_of trace = AllByRecursion (λ (e : Entry). IsRightAt stream_of e.event e.reply) trace
 
--- no two jobs have the same
+-- no two numbers have the same value: as `stream_of`, no two jobs have the same stream id
 abbrev pub IsOneToOne : (ℕ → ℕ) → Type 0
 IsOneToOne f = (i j : ℕ) → f i ≡ f j → i ≡ j
 

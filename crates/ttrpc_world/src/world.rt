@@ -6,7 +6,7 @@ ghost use Rattle.ttrpc_proto.specs.declared.response.Response.{Response as AResp
 ghost use Rattle.ttrpc_proto.specs.Messages.{IsResponse};
 ghost use Rattle.ttrpc_connection.specs.declared.failure.Failure.{Failure as AFailure};
 ghost use Rattle.ttrpc_server.specs.declared.job.ActiveJob.{ActiveJob as AJob};
-ghost use Rattle.ttrpc_server.specs.Jobs.{IsTaken, IsUnknown};
+ghost use Rattle.ttrpc_server.specs.State.{IsTaken, IsUnknown};
 ghost use Rattle.ttrpc_world.specs.declared.events.Entry.{Entry as AnEntry};
 ghost use Rattle.ttrpc_world.specs.declared.events.Event.{Event as AnEvent};
 ghost use Rattle.ttrpc_world.specs.declared.events.Side.{Side as ASide};
@@ -154,7 +154,7 @@ impl<
             (halves SO.OutboundTransform SI.InboundTransform) CO.SEALS
             self.old (AnEvent.Call request.now) result self.new }
     {
-        request.known();
+        request.lemma_is_value();
         match self.client.request(alloc, request, self.moment) {
             Ok(id) => Reply::Named(id),
             Err(error) => Reply::Refused(error),
@@ -201,7 +201,7 @@ impl<
         let Some(_) = self.awaiting(id) else {
             return Reply::NoStep;
         };
-        note_known(given);
+        lemma_answer_is_value(given);
         match self.server.answer(alloc, id, given) {
             Ok(()) => Reply::Done,
             Err(error) => Reply::Refused(error),
@@ -223,7 +223,7 @@ impl<
         if self.responded.reserve(1).is_err() {
             return Reply::NoMemory;
         }
-        response.known();
+        response.lemma_is_value();
         match self.server.respond(alloc, stream_id, response) {
             Ok(()) => {
                 self.responded.push_reserved(id);
@@ -436,12 +436,12 @@ fn failed_by_hand(alloc: Global) -> Result<Error, AllocError>
     Ok(Error::Socket(Text::from_string(String::from_str(alloc, "failed")?)))
 }
 
-/// What a proof knows of the response that a handler gave. Does nothing.
-fn note_known(given: &Result<Response, Error>)
+/// A lemma, which does nothing when it runs: the response that a handler gave is a value of its type.
+fn lemma_answer_is_value(given: &Result<Response, Error>)
     ensures { (r : AResponse) → given.now ≡ Ok r → IsResponse r }
 {
     if let Ok(response) = given {
-        response.known();
+        response.lemma_is_value();
     }
 }
 

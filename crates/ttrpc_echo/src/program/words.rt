@@ -39,7 +39,7 @@ pub fn word_behind<'a>(words: &'a [String], first: &str) -> Option<&'a str>
     }
 }
 
-/// The words behind `call`, where they are as many.
+/// The words behind `call`, if there are five.
 pub fn call_words(words: &[String]) -> Option<CallWords<'_>>
     ensures some { IfSome result (λ call. IsCall (map string_bytes words.now)
         call.address.now call.service.now call.method.now call.digits.now call.timeout.now) }

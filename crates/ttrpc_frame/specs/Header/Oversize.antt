@@ -1,5 +1,5 @@
 -- What is said of a message that is too long.
--- Source: this project's.
+-- Source: the Rust crate.
 use Rattle.std.specs.Prelude.{ℕ, List, ◌++◌, codes, Bool, true, false}
 use Rattle.std.specs.Fmt.{decimal}
 use Rattle.ttrpc_wire.specs.declared.values.code.Code.TheVariants.{INVALID_ARGUMENT}
@@ -7,6 +7,7 @@ use Rattle.ttrpc_proto.specs.declared.error.Error.{Error}
 use Rattle.ttrpc_proto.specs.declared.error.Error.TheVariants.{RpcStatus, Others}
 use Rattle.ttrpc_proto.specs.ErrorText.{status_of}
 
+-- the text for a message of this length, which is too long
 abbrev pub oversize_text : ℕ → List ℕ
 oversize_text n = codes "message length " ++ decimal n ++ codes " exceed maximum message size of 4194304"
 

@@ -7,13 +7,16 @@ ghost use Rattle.ttrpc_frame.specs.Header.{FitsHeader, header_bytes, header_of};
 /// A header that is written reads back, and ten bytes that are read are those written for their header. So no
 /// two headers have the same bytes, and no two lists of ten bytes are one header.
 pub fn header_is_one_to_one()
+    // Either form gives the other back.
     ensures reads_back { (h : MessageHeader) → FitsHeader h → header_of (header_bytes h) ≡ h }
     ensures writes_back { (bytes : List ℕ) → length bytes ≡ 10 → AllByRecursion (λ b. b < 256) bytes
         → header_bytes (header_of bytes) ≡ bytes }
+    // So neither two headers nor two spellings are taken for one another.
     ensures one_header { (g h : MessageHeader) → FitsHeader g → FitsHeader h
         → header_bytes g ≡ header_bytes h → g ≡ h }
     ensures one_spelling { (xs ys : List ℕ) → length xs ≡ 10 → length ys ≡ 10
         → AllByRecursion (λ b. b < 256) xs → AllByRecursion (λ b. b < 256) ys
         → header_of xs ≡ header_of ys → xs ≡ ys }
+    // Ten bytes never state more than fits.
     ensures fits { (bytes : List ℕ) → AllByRecursion (λ b. b < 256) bytes → FitsHeader (header_of bytes) }
 {}

@@ -1,4 +1,4 @@
-//! What is said of a message that is longer than a message may be.
+//! The error text for a message that is longer than a message may be.
 ghost use Rattle.std.specs.Prelude.{◌≡◌, ◌≢◌, ◌≤◌, ◌↔◌, string_bytes, IsOk, IfOk, IfErr};
 ghost use Rattle.ttrpc_frame.specs.Header.Oversize.{oversize_error, oversize_text};
 
@@ -37,7 +37,7 @@ pub fn oversize_error(
     }
 }
 
-/// What is said of a message of this length, which is longer than a message may be.
+/// The error text for a message of this length, which is longer than a message may be.
 pub fn oversize_message(alloc: Global, length: usize) -> std::result::Result<String, AllocError>
     ensures { IfOk result (λ text. string_bytes text ≡ oversize_text length) }
 {

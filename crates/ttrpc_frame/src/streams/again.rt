@@ -4,7 +4,7 @@ ghost use Rattle.std.specs.Prelude.{◌↔◌, IfErr, IfSome, IsTrue};
 ghost use Rattle.std.specs.Io.{ReadsAtMost, WritesAtMost};
 ghost use Rattle.std.specs.Io.KnownBytes.{ReadConsumes, WriteAppends};
 ghost use Rattle.std.specs.IoError.{error_kind};
-ghost use Rattle.ttrpc_frame.specs.Streams.{IsPassing, IsOutcome, Makes, Tries, answered};
+ghost use Rattle.ttrpc_frame.specs.Streams.{IsPassing, IsOutcome, Makes, SpendsTries, Tries, answered};
 
 use crate::streams::{Sink, Source};
 use std::io::{self, ErrorKind};
@@ -32,6 +32,7 @@ impl Passing {
     }
 }
 
+#[tactic(auto, using(crate::proofs::Calls::counts_none, crate::proofs::Calls::counts_more, crate::proofs::Calls::spends_all))]
 /// One read, tried again while it fails in a way that passes.
 pub fn read_again<R: Source>(
     reader: &mut R,
@@ -41,12 +42,17 @@ pub fn read_again<R: Source>(
     ensures bound { ReadsAtMost result buffer.new }
     ensures bytes { ReadConsumes (R.remaining reader.old) (R.remaining reader.new) result buffer.new }
     ensures last { IfSome (R.last reader.new) (λ a. IsOutcome passing a (answered result)) }
+    ensures spent { SpendsTries passing (R.reads reader.old) (R.reads reader.new) (R.last reader.new) }
     ensures err { IfErr result (λ e. ¬ (IsPassing passing (error_kind e))) }
 {
     for _tries in 0..u64::MAX {
         match reader.read(buffer) {
-            Err(error) if passing.includes(error.kind()) => {}
-            answer => return answer,
+            Ok(count) => return Ok(count),
+            Err(error) => {
+                if !passing.includes(error.kind()) {
+                    return Err(error);
+                }
+            }
         }
     }
     Err(ErrorKind::TimedOut.into())
@@ -54,11 +60,14 @@ pub fn read_again<R: Source>(
 
 /// One write, tried again in the same way.
 pub fn write_again<W: Sink>(writer: &mut W, bytes: &[u8], passing: Passing) -> io::Result<usize>
+    // What the writer took is a front of the bytes, and nothing where there is an error.
     ensures bound { WritesAtMost result bytes.now }
     ensures bytes { WriteAppends (W.contents writer.old) (W.contents writer.new) result bytes.now }
+    // The answer is that of its last call, and all calls before were interrupted.
     ensures last { IfSome (W.last writer.new) (λ a. IsOutcome passing a (answered result)) }
     ensures calls { Makes (W.calls writer.old) (W.calls writer.new)
         (λ calls. Tries passing bytes.now calls (answered result)) }
+    // An error is no interruption.
     ensures err { IfErr result (λ e. ¬ (IsPassing passing (error_kind e))) }
 {
     for _tries in 0..u64::MAX {

@@ -1,4 +1,4 @@
-//! What bytes are read from and written to: each reader and writer of std, and those that also tell what their last call
+//! Readers and writers: those of std, and those that also tell what their last call
 //! answered, or which calls were made of them. In `again` how a call is tried again, in `moving` how a buffer is filled and
 //! a part is written whole.
 
@@ -8,7 +8,7 @@ mod moving;
 ghost use Rattle.std.specs.Prelude.{◌≡◌, ℕ, List, [], ◌∷◌, Option, None, IfSome};
 ghost use Rattle.std.specs.Io.{ReadsAtMost, WritesAtMost};
 ghost use Rattle.std.specs.Io.KnownBytes.{Keeps, ReadConsumes, WriteAppends};
-ghost use Rattle.ttrpc_frame.specs.Streams.{Answered, Called, Flushes, Makes, Offered, answered, failure, flush_answer};
+ghost use Rattle.ttrpc_frame.specs.Streams.{Answered, Called, Counts, Flushes, Makes, Offered, answered, failure, flush_answer};
 
 pub use self::again::{Passing, read_again, write_again};
 pub use self::moving::{fill, write_both, write_part};
@@ -22,11 +22,15 @@ pub trait Source {
     // What the last call answered, where it tells.
     ghost last: { Self → Option Answered } = { λ _. None };
 
+    // How many reads were made, where it counts them.
+    ghost reads: { Self → Option ℕ } = { λ _. None };
+
     /// As `read` of std's `Read`.
     fn read(&mut self, buffer: &mut [u8]) -> io::Result<usize>
         ensures bound { ReadsAtMost result buffer.new }
         ensures bytes { ReadConsumes (remaining self.old) (remaining self.new) result buffer.new }
-        ensures last { IfSome (last self.new) (λ a. a ≡ answered result) };
+        ensures last { IfSome (last self.new) (λ a. a ≡ answered result) }
+        ensures reads { Counts (reads self.old) (reads self.new) 1 };
 }
 
 /// Where bytes are written to.

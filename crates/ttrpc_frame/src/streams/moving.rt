@@ -2,17 +2,21 @@
 ghost use Rattle.std.specs.Prelude.{◌≢◌, ◌++◌, ◌<◌, ◌≤◌, length, take, IfErr, OnErr, OnOk};
 ghost use Rattle.std.specs.Io.KnownBytes.{Appends, Consumes};
 ghost use Rattle.std.specs.IoError.{error_kind};
-ghost use Rattle.ttrpc_frame.specs.Streams.{AppendsFront, IsFailure, IsOver, Makes, Then, Writes, failure};
+ghost use Rattle.ttrpc_frame.specs.Streams.{AppendsFront, IsFailure, IsOver, Makes, SpendsTries, Then, Writes, failure};
 
 use crate::streams::{Passing, Sink, Source, read_again, write_again};
 use std::io::{self, ErrorKind};
 
+#[tactic(auto, using(crate::proofs::Calls::counts_none))]
 /// Reads until the buffer is full, the reader is at its end, or it failed. Says how many bytes of the buffer came.
 pub fn fill<R: Source>(reader: &mut R, buffer: &mut [u8]) -> (usize, io::Result<()>)
+    // So many bytes came, and stand in the buffer.
     ensures bound { result.0 ≤ length buffer.new }
     ensures bytes { Consumes (R.remaining reader.old) (R.remaining reader.new) (take result.0 buffer.new) }
+    // Where they are fewer than fit, the reader is at its end, or failed.
     ensures end { OnOk result.1 (result.0 < length buffer.new → IsOver (R.remaining reader.new) (R.last reader.new)) }
     ensures err { IfErr result.1 (λ e. IsFailure (R.last reader.new) (error_kind e)) }
+    ensures spent { IfErr result.1 (λ _. SpendsTries Passing.Interrupted (R.reads reader.old) (R.reads reader.new) (R.last reader.new)) }
     ensures short { OnErr result.1 (result.0 < length buffer.new) }
 {
     let mut at = 0;

@@ -1,4 +1,4 @@
-//! What goes with a request beside its payload: metadata, and how long it may take.
+//! The context of a request: its metadata and its time limit.
 
 mod pairs;
 
@@ -51,7 +51,7 @@ impl Context {
         push(alloc, &mut self.metadata, lowered(key), value)
     }
 
-    /// These texts for a key, whose ASCII capitals are turned into small letters first, in the place of those that it had;
+    /// These texts for a key, whose ASCII capitals are turned into small letters first, replacing those that it had;
     /// with none the key is gone. After an error nothing has changed.
     pub fn set(&mut self, key: String, values: Vec<String>) -> Result<()>
         ensures ok { OnOk result (Sets self.old.metadata (lower (string_bytes key)) (some_texts (texts values)) self.new.metadata) }

@@ -15,6 +15,7 @@ pub data Fact : Type 0 where
   Word : (value : ℕ) → Fact
   Bytes : (bytes : List ℕ) → Fact
 
+-- what a datum is
 abbrev pub fact_of : Datum → Fact
 fact_of (datum.Text text) = Text (string_bytes text)
 fact_of (datum.Bool value) = Truth value

@@ -1,10 +1,10 @@
-//! Why a hook doesn't let a connection pass.
+//! Why a hook rejects a connection.
 ghost use Rattle.ttrpc_secure.specs.Hooks.{hook_error_debug, hook_error_text};
 
 use std::{fmt, io};
 use ttrpc_wire::Text;
 
-/// Why a hook doesn't let a connection pass.
+/// Why a hook rejects a connection.
 #[derive(Drop)]
 pub enum HookError {
     /// The hook refuses the connection, for this reason.

@@ -1,21 +1,21 @@
-//! What looks at a connection before it is used, and what it says of it.
+//! Hooks: they inspect a connection before it is used, and say what is known of it.
 
 mod datum;
+mod facts;
 mod hook_error;
 mod kinds;
-mod known;
 
 ghost use Rattle.std.specs.Prelude.{◌≡◌, ◌+◌, ◌<◌, ◌≤◌, []};
 
 pub use self::datum::{ConnectionData, ConnectionDataExt, Datum};
+pub use self::facts::ConnectionFacts;
 pub use self::hook_error::HookError;
 pub use self::kinds::Kind;
-pub use self::known::Known;
 use crate::{InboundTransform, OutboundTransform};
 use std::alloc::Global;
 use std::collections::BTreeMap;
 
-/// What a hook gives for a connection that it lets pass: what is known of it, and the two halves of what it goes through.
+/// What a hook returns for a connection that it accepts: what is known of it, and its two halves.
 #[derive(Drop)]
 pub struct HookOutput<O, I> {
     pub connection_data: ConnectionData,
@@ -38,7 +38,7 @@ impl<O, I> HookOutput<O, I> {
     }
 }
 
-/// What looks at a connection that a server has accepted, before anything else is read from it. It is lent the stream, so
+/// Inspects a connection that a server has accepted, before anything else is read from it. It is lent the stream, so
 /// that it may speak with the other side first.
 pub trait AcceptHook<S> {
     ghost use Rattle.std.specs.Prelude.{⊤, Result};
@@ -62,7 +62,7 @@ pub trait AcceptHook<S> {
         ensures { gives self.now stream.now result };
 }
 
-/// What looks at a connection that a client has opened, before anything else is written to it. It is lent the stream, so
+/// Inspects a connection that a client has opened, before anything else is written to it. It is lent the stream, so
 /// that it may speak with the other side first.
 pub trait ConnectHook<S> {
     /// The half that seals what the connection sends.

@@ -24,7 +24,7 @@ fn all_waiters_that_are_left_are_gathered(rt: HostRuntime) -> Result<(), Fail> {
     Ok(())
 }
 
-/// With no waiter left none is gathered. That the flag is set is told.
+/// With no waiter left none is gathered. The result says that the flag is set.
 #[test]
 fn no_waiter_is_gathered_where_none_is_left(rt: HostRuntime) -> Result<(), Fail> {
     let (mut notifier, first) = new(rt.alloc())?;

@@ -11,15 +11,24 @@ use std::sync::{Condvar, Mutex};
 pub struct Taken<W> {
     /// How many bytes of it were taken.
     pub count: usize,
-    /// Whether who read it reads on.
+    /// Whether its reader goes on reading.
     pub reads_on: bool,
-    /// Who is to be woken, once the lock is let go.
+    /// The threads to wake, once the lock is let go.
     pub woken: W,
+}
+
+/// What was lent.
+#[derive(Clone, Copy, Debug)]
+pub struct Loan {
+    /// How many bytes.
+    pub count: usize,
+    /// Whether they end a frame.
+    pub ends_frame: bool,
 }
 
 /// What stands under the lock of a connection, to its reader and its writers.
 pub trait Held: Drop {
-    /// Who is to be woken for a piece.
+    /// The threads to wake for a piece.
     type Woken: Drop;
 
     /// Takes a piece, whole. `None`: the connection has failed.
@@ -32,12 +41,18 @@ pub trait Held: Drop {
     /// A reader or a writer failed, by an error of this kind.
     fn broke(&mut self, kind: ErrorKind);
 
-    /// Reports what was written since the last loan, and lends more.
-    fn lend(&mut self, written: usize, buffer: &mut [u8]) -> usize
-        ensures { result ≤ length buffer.new };
+    /// Reports so many bytes of the last loan as written.
+    fn wrote(&mut self, count: usize);
 
-    /// What a writer does that finds nothing lent.
-    fn next(&mut self, has_turn: bool, stays: bool) -> Next;
+    /// Lends bytes of the first frame that waits.
+    fn lend(&mut self, buffer: &mut [u8]) -> Loan
+        ensures { result.count ≤ length buffer.new };
+
+    /// The next action of the writer thread when nothing is lent, and all that it wrote is flushed.
+    fn next(&mut self, has_turn: bool) -> Next;
+
+    /// A thread that wrote for itself gives the turn back. True: the writer thread is to be woken.
+    fn give_back(&mut self) -> bool;
 }
 
 /// What the threads of a connection share.
@@ -47,7 +62,7 @@ pub trait Connected: Drop {
 
     fn held(&self) -> &Mutex<Self::Held>;
 
-    /// Where the thread waits that does nothing but write.
+    /// Where the writer thread waits.
     fn to_write(&self) -> &Condvar;
 
     /// Wakes these, for a piece.

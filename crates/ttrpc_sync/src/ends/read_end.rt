@@ -1,8 +1,8 @@
 //! The port to which a connection's reader hands what it read.
-ghost use Rattle.ttrpc_sync.specs.declared.ports.Word.{Word};
+ghost use Rattle.ttrpc_sync.specs.declared.ports.PortState.{PortState};
 
 use crate::ends::connected::{Connected, Held, Taken};
-use crate::{ReadPort, Word};
+use crate::{PortState, ReadPort};
 use std::alloc::Global;
 use std::io;
 use std::sync::Wait;
@@ -14,33 +14,33 @@ pub struct ReadEnd<'a, X: Wait, S: Connected> {
     alloc: Global,
     shared: &'a S,
     has_turn: bool,
-    word: Word,
+    state: PortState,
 }
 
 impl<X: Wait, S: Connected> ReadEnd<'_, X, S> {
-    /// The port of this connection, for who has the turn to read as a loop begins.
+    /// The port for the thread that has the turn to read when a loop begins.
     pub fn new<'a>(rt: &'a X, alloc: Global, shared: &'a S) -> ReadEnd<'a, X, S> {
         ReadEnd {
             rt,
             alloc,
             shared,
             has_turn: true,
-            word: Word::Open,
+            state: PortState::Open,
         }
     }
 }
 
 impl<X: Wait, S: Connected> ReadPort for ReadEnd<'_, X, S> {
-    ghost word = { λ p. p.word };
+    ghost state = { λ p. p.state };
 
     fn begin(&mut self) {
         self.has_turn = true;
-        self.word = Word::Open;
+        self.state = PortState::Open;
     }
 
     fn wants(&mut self) -> bool {
         if !self.has_turn {
-            self.word = Word::Stopped;
+            self.state = PortState::Stopped;
         }
         self.has_turn
     }
@@ -62,7 +62,7 @@ impl<X: Wait, S: Connected> ReadPort for ReadEnd<'_, X, S> {
             }
             None => {
                 self.shared.wake_all();
-                self.word = Word::Stopped;
+                self.state = PortState::Stopped;
                 None
             }
         }
@@ -71,13 +71,13 @@ impl<X: Wait, S: Connected> ReadPort for ReadEnd<'_, X, S> {
     fn ended(&mut self) {
         self.shared.held().lock(self.rt).ended();
         self.shared.wake_all();
-        self.word = Word::Ended;
+        self.state = PortState::Ended;
     }
 
     fn broke(&mut self, error: io::Error) {
         let kind = error.kind();
         self.shared.held().lock(self.rt).broke(kind);
         self.shared.wake_all();
-        self.word = Word::Broke(kind);
+        self.state = PortState::Broke(kind);
     }
 }

@@ -1,6 +1,6 @@
 //! Whose turn it is to write.
 ghost use Rattle.std.specs.Prelude.{◌≡◌, true, false, if◌then◌else◌};
-ghost use Rattle.ttrpc_sync.specs.Turns.{next_of, turn_after};
+ghost use Rattle.ttrpc_sync.specs.Turns.{given_back, next_of, turn_after, wakes_behind};
 
 /// Which of a connection's threads writes: one at a time. It stands under the connection's lock, so who has the turn is
 /// the one writer.
@@ -8,11 +8,11 @@ ghost use Rattle.ttrpc_sync.specs.Turns.{next_of, turn_after};
 pub struct Turn {
     /// Whether a thread has it.
     pub is_taken: bool,
-    /// Whether the thread that does nothing but write sleeps, and wasn't woken yet.
+    /// Whether the writer thread sleeps and wasn't woken yet.
     pub sleeps: bool,
 }
 
-/// What a writer does that finds nothing lent.
+/// The next action of a writer when nothing is lent.
 #[derive(Clone, Copy, Debug, PartialEq, Eq)]
 pub enum Next {
     /// It writes: it has the turn, and bytes wait.
@@ -24,7 +24,7 @@ pub enum Next {
 }
 
 impl Turn {
-    /// Nobody's.
+    /// A turn that nobody has.
     pub fn new() -> Turn
         ensures { result ≡ record { is_taken = false; sleeps = false } }
     {
@@ -46,7 +46,7 @@ impl Turn {
         true
     }
 
-    /// What a writer does that finds nothing lent, and has the turn or hasn't: it writes where bytes wait and nobody else
+    /// The next action of a writer when nothing is lent, who has the turn or hasn't: it writes where bytes wait and nobody else
     /// has the turn. Otherwise it gives the turn back, and sleeps if it is to stay.
     pub fn next(&mut self, has_turn: bool, stays: bool, bytes_wait: bool) -> Next
         ensures result { result ≡ next_of self.old.is_taken has_turn stays bytes_wait }
@@ -64,6 +64,15 @@ impl Turn {
         }
         self.sleeps = true;
         Next::Sleeps
+    }
+
+    /// Who wrote for itself gives it back. True: the writer thread is to be woken, since it is to write what is left.
+    pub fn give_back(&mut self, bytes_wait: bool) -> bool
+        ensures result { result ≡ wakes_behind self.old bytes_wait }
+        ensures turn { self.new ≡ given_back self.old bytes_wait }
+    {
+        self.is_taken = false;
+        bytes_wait && self.wakes()
     }
 
     /// Something was queued. True: that thread is to be woken, which is said once for one sleep. Whoever has the turn

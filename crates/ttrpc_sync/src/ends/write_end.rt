@@ -1,75 +1,128 @@
 //! The port from which a connection's bytes are written.
-ghost use Rattle.ttrpc_sync.specs.declared.ports.Word.{Word};
+ghost use Rattle.std.specs.Prelude.{◌≡◌};
+ghost use Rattle.ttrpc_sync.specs.declared.ports.PortState.{PortState};
 
-use crate::ends::connected::{Connected, Held};
+use crate::ends::batch::{BATCH_LOANS, Batch};
+use crate::ends::connected::{Connected, Held, Loan};
 use crate::ends::turn::Next;
-use crate::{Word, WritePort};
+use crate::{PortState, WritePort};
 use std::io;
 use std::sync::Wait;
 
-/// The port of a writer. A report is made with the next loan, under one lock.
+/// No bytes.
+const NOTHING: Loan = Loan {
+    count: 0,
+    ends_frame: false,
+};
+
+/// The port of a writer. A report is made with the next loan, under one lock. It lends nothing where a batch is due, so
+/// that what was written leaves first, whatever else waits.
 #[derive(Drop)]
 pub struct WriteEnd<'a, X: Wait, S: Connected> {
     rt: &'a X,
     shared: &'a S,
-    lent: usize,
+    loan: Loan,
     written: usize,
+    batch: Batch,
     has_turn: bool,
     stays: bool,
-    word: Word,
+    state: PortState,
 }
 
 impl<X: Wait, S: Connected> WriteEnd<'_, X, S> {
-    /// The port of the thread that does nothing but write: it sleeps while there is nothing, or another has the turn.
+    /// The port of the writer thread: it sleeps while there is nothing, or another has the turn. A batch leaves behind a
+    /// frame, once it has `BATCH_BYTES` bytes or `BATCH_LOANS` loans.
     pub fn staying<'a>(rt: &'a X, shared: &'a S) -> WriteEnd<'a, X, S> {
+        WriteEnd::new(rt, shared, true)
+    }
+
+    /// The port of a thread that took the turn, to write what it queued where nothing else waited: one frame. Then it
+    /// gives the turn back, and wakes the writer thread if others have queued more.
+    pub fn leaving<'a>(rt: &'a X, shared: &'a S) -> WriteEnd<'a, X, S> {
+        WriteEnd::new(rt, shared, false)
+    }
+
+    fn new<'a>(rt: &'a X, shared: &'a S, stays: bool) -> WriteEnd<'a, X, S> {
         WriteEnd {
             rt,
             shared,
-            lent: 0,
+            loan: NOTHING,
             written: 0,
-            has_turn: false,
-            stays: true,
-            word: Word::Open,
+            batch: Batch::new(),
+            has_turn: !stays,
+            stays,
+            state: PortState::Open,
         }
     }
 
-    /// The port of a thread that took the turn, to write what it queued: it ends where nothing is left.
-    pub fn leaving<'a>(rt: &'a X, shared: &'a S) -> WriteEnd<'a, X, S> {
-        WriteEnd {
-            rt,
-            shared,
-            lent: 0,
-            written: 0,
-            has_turn: true,
-            stays: false,
-            word: Word::Open,
+    // Whether what was written is to leave before more is lent.
+    fn is_due(&self) -> bool {
+        self.batch.is_due(if self.stays { BATCH_LOANS } else { 1 })
+    }
+
+    // Gives the turn back.
+    fn give_back(&mut self) {
+        let mut guard = self.shared.held().lock(self.rt);
+        guard.wrote(self.written);
+        let wakes = guard.give_back();
+        drop(guard);
+        self.written = 0;
+        if wakes {
+            self.shared.to_write().notify_one();
         }
+    }
+
+    // Waits until it has the turn and bytes wait. False: it is to end, and has no turn any more.
+    fn wait_for_bytes(&mut self) -> bool
+        ensures { self.new.state ≡ self.old.state }
+    {
+        let mut guard = self.shared.held().lock(self.rt);
+        let mut has_turn = self.has_turn;
+        // Without the turn, what is lent is another's.
+        if has_turn {
+            guard.wrote(self.written);
+        }
+        self.written = 0;
+        for _ in self.rt.forever() {
+            match guard.next(has_turn) {
+                Next::Writes => return true,
+                Next::Leaves => return false,
+                Next::Sleeps => {
+                    has_turn = false;
+                    guard = self.shared.to_write().wait(self.rt, guard);
+                }
+            }
+        }
+        unreachable!()
     }
 }
 
 impl<X: Wait, S: Connected> WritePort for WriteEnd<'_, X, S> {
-    ghost lent = { λ p. p.lent };
+    ghost lent = { λ p. p.loan.count };
 
-    ghost word = { λ p. p.word };
+    ghost state = { λ p. p.state };
 
     fn begin(&mut self) {
-        self.word = Word::Open;
+        self.state = PortState::Open;
     }
 
     fn lend(&mut self, buffer: &mut [u8]) -> usize {
-        if !self.has_turn {
-            self.lent = 0;
+        if !self.has_turn || self.is_due() {
+            self.loan = NOTHING;
             return 0;
         }
         let mut guard = self.shared.held().lock(self.rt);
-        let count = guard.lend(self.written, buffer);
+        guard.wrote(self.written);
+        let loan = guard.lend(buffer);
         drop(guard);
         self.written = 0;
-        self.lent = count;
-        count
+        self.loan = loan;
+        loan.count
     }
 
     fn wrote(&mut self, count: usize) {
+        let ends_frame = self.loan.ends_frame && count == self.loan.count;
+        self.batch.add(count, ends_frame);
         self.written = count;
     }
 
@@ -77,33 +130,23 @@ impl<X: Wait, S: Connected> WritePort for WriteEnd<'_, X, S> {
         let kind = error.kind();
         self.shared.held().lock(self.rt).broke(kind);
         self.shared.wake_all();
-        self.word = Word::Broke(kind);
+        self.state = PortState::Broke(kind);
     }
 
     fn more(&mut self) -> bool {
-        if wait_for_bytes(self.rt, self.shared, self.has_turn, self.stays) {
+        let is_due = self.is_due();
+        self.batch = Batch::new();
+        if self.stays && is_due {
+            return true;
+        }
+        if !self.stays {
+            self.give_back();
+        } else if self.wait_for_bytes() {
             self.has_turn = true;
             return true;
         }
         self.has_turn = false;
-        self.word = Word::Stopped;
+        self.state = PortState::Stopped;
         false
     }
-}
-
-/// Waits until this writer has the turn and bytes wait. False: it is to end, and has no turn any more.
-fn wait_for_bytes<X: Wait, S: Connected>(rt: &X, shared: &S, has_turn: bool, stays: bool) -> bool {
-    let mut guard = shared.held().lock(rt);
-    let mut has_turn = has_turn;
-    for _ in rt.forever() {
-        match guard.next(has_turn, stays) {
-            Next::Writes => return true,
-            Next::Leaves => return false,
-            Next::Sleeps => {
-                has_turn = false;
-                guard = shared.to_write().wait(rt, guard);
-            }
-        }
-    }
-    unreachable!()
 }

@@ -3,11 +3,11 @@
 
 mod inlet;
 mod outlet;
-mod queued;
+mod queuing;
 mod runtime;
 
 pub use self::outlet::Outlet;
-pub use self::queued::{Queued, after_queuing};
+pub use self::queuing::{AfterQueuing, after_queuing};
 pub use self::runtime::{Host, Runtime, moment};
 use crate::ends::{Connected, WriteEnd};
 use crate::link::inlet::Inlet;
@@ -20,8 +20,8 @@ use ttrpc_transport::PipeConnection;
 /// How many bytes of a connection are read at once at most.
 const INTAKE: usize = 32768;
 
-/// A connection over a socket, with what its threads share. Each frame goes out by one write, where memory for that is
-/// found. No thread reads or writes while it has the lock of the core.
+/// A connection over a socket, with what its threads share. Each frame goes out by one write, or a batch of short ones does,
+/// where memory for that is found. No thread reads or writes while it has the lock of the core.
 #[derive(Drop)]
 pub struct Link<S: Connected> {
     shared: S,
@@ -33,7 +33,7 @@ pub struct Link<S: Connected> {
 }
 
 impl<S: Connected> Link<S> {
-    /// The link of this connection, whose threads share this.
+    /// Wraps `stream`; its threads share `shared`.
     pub fn new(
         alloc: Global,
         shared: S,
@@ -62,12 +62,6 @@ impl<S: Connected> Link<S> {
         let _ = self.stream.close();
     }
 
-    /// Reads the connection to its end, and hands what it reads to the port. Then the connection is closed.
-    pub fn read<X: Wait, P: ReadPort>(&self, rt: &X, port: &mut P) {
-        self.read_on(rt, port);
-        self.close();
-    }
-
     /// Reads the connection as long as the port wants more, and hands what it reads to it. The connection stays open.
     pub fn read_on<X: Wait, P: ReadPort>(&self, rt: &X, port: &mut P) {
         let mut intake = self.intake.lock(rt);
@@ -82,16 +76,16 @@ impl<S: Connected> Link<S> {
         Ok(())
     }
 
-    /// Sees to it that what was queued is written, once the lock is let go.
-    pub fn go_on<X: Wait>(&self, rt: &X, queued: Queued) {
+    /// Writes the frame that was queued, or wakes the writer thread. Call it without the lock.
+    pub fn go_on<X: Wait>(&self, rt: &X, queued: AfterQueuing) {
         match queued {
-            Queued::Write => {
+            AfterQueuing::Write => {
                 let mut port = WriteEnd::leaving(rt, &self.shared);
                 let mut gather = self.gather.lock(rt);
                 write_loop(rt, &mut *gather, &mut port);
             }
-            Queued::Wake => self.shared.to_write().notify_one(),
-            Queued::Leave => {}
+            AfterQueuing::Wake => self.shared.to_write().notify_one(),
+            AfterQueuing::Leave => {}
         }
     }
 }

@@ -14,7 +14,7 @@ pub trait Runtime: Host + Threads + Send + Sync + 'static {}
 
 impl<R: Host + Threads + Send + Sync + 'static> Runtime for R {}
 
-/// The moment that it is, in nanoseconds since some start, the same for all moments. A clock that can't be read is `Nix`.
+/// The current time, in nanoseconds since some start, the same for all moments. A clock that can't be read is `Nix`.
 pub fn moment<R: Clock>(rt: &R) -> Result<u64> {
     match rt.monotonic() {
         Ok(time) => Ok(u64::try_from(time.as_nanos()).unwrap_or(u64::MAX)),

@@ -1,10 +1,9 @@
 //! What the threads of a client's connection share.
 ghost use Rattle.std.specs.Prelude.{◌≡◌, ◌≤◌, length, None, Some, IfOk, IfErr, IfSome, OnErr};
 ghost use Rattle.ttrpc_connection.specs.declared.failure.Failure.{Failure as AFailure};
-ghost use Rattle.ttrpc_connection.specs.Failure.{kept};
-ghost use Rattle.ttrpc_client.specs.Client.{IsClient};
-ghost use Rattle.ttrpc_client.specs.Happens.{Forgets, Requests, Tells, Ticks};
-ghost use Rattle.ttrpc_client.specs.Table.{RefusesRequest};
+ghost use Rattle.ttrpc_connection.specs.OneEnd.{failing};
+ghost use Rattle.ttrpc_client.specs.State.{IsClient};
+ghost use Rattle.ttrpc_client.specs.Protocol.{Forgets, Requests, TakesOutcome, Ticks, RefusesRequest};
 ghost use Rattle.ttrpc_proto.specs.declared.error.Error.{Error as AnError};
 
 use crate::ports::read_turn::{Onward, ReadTurn};
@@ -16,12 +15,12 @@ use ttrpc_client::client_on::{broke_on, ended_on, lend_on, take_on, wrote_on};
 use ttrpc_client::{CallId, ClientCore};
 use ttrpc_proto::{Error, Request, Response, Result};
 use ttrpc_secure::{InboundTransform, OutboundTransform};
-use ttrpc_sync::{Connected, Held, Next, ReadEnd, Taken, Turn, WriteEnd};
+use ttrpc_sync::{Connected, Held, Loan, Next, ReadEnd, Taken, Turn, WriteEnd};
 
 /// How many places there are at which callers wait. A caller waits at that of its id.
 const PLACES: usize = 16;
 
-/// Those of the places at which a call has ended, a bit for each.
+/// The places at which a call has ended, one bit each.
 pub type Ended = u32;
 
 /// Who is to be woken for a piece.
@@ -29,7 +28,7 @@ pub type Ended = u32;
 pub struct Woken {
     /// The callers at these places: at them calls have ended.
     pub callers: Ended,
-    /// The thread that does nothing but read.
+    /// The reader thread.
     pub reader: bool,
 }
 
@@ -54,7 +53,7 @@ impl<O: OutboundTransform + Drop, I: InboundTransform + Drop> ClientHeld<O, I> {
     pub fn new(core: ClientCore<O, I>) -> Self
         ensures { result.core ≡ core }
     {
-        core.known();
+        core.lemma_is_client();
         ClientHeld {
             core,
             turn: Turn::new(),
@@ -69,16 +68,16 @@ impl<O: OutboundTransform + Drop, I: InboundTransform + Drop> ClientHeld<O, I> {
         ensures err { OnErr result (self.new.core ≡ self.old.core) }
     {
         let asked = self.core.request(alloc, request, now);
-        self.core.known();
+        self.core.lemma_is_client();
         asked
     }
 
     /// Gives the outcome of a call, once; `None` where there is none yet.
     pub fn take_outcome(&mut self, alloc: Global, id: CallId) -> Option<Result<Response>>
-        ensures { Tells self.old.core id result self.new.core }
+        ensures { TakesOutcome self.old.core id result self.new.core }
     {
         let outcome = self.core.take_outcome(alloc, id);
-        self.core.known();
+        self.core.lemma_is_client();
         outcome
     }
 
@@ -88,7 +87,7 @@ impl<O: OutboundTransform + Drop, I: InboundTransform + Drop> ClientHeld<O, I> {
         ensures alive { self.old.core.connection.failure ≡ None → Ticks O.SEALS self.old.core now self.new.core }
     {
         self.core.tick(now);
-        self.core.known();
+        self.core.lemma_is_client();
     }
 
     /// Forgets a call.
@@ -96,16 +95,17 @@ impl<O: OutboundTransform + Drop, I: InboundTransform + Drop> ClientHeld<O, I> {
         ensures { Forgets O.SEALS self.old.core id self.new.core }
     {
         self.core.drop_call(id);
-        self.core.known();
+        self.core.lemma_is_client();
     }
 
-    /// Nobody is left who would call: the connection fails, if it hasn't. Takes no memory.
+    /// Tells the turn to read of the calls that have ended, and says at which places their callers wait.
+    pub fn note_ended(&mut self) -> Ended {
+        ended_places(&mut self.core, &mut self.reading)
+    }
+
+    /// No client is left: the connection fails, if it hasn't. Takes no memory.
     pub fn abandon(&mut self)
-        ensures { self.new.core ≡ record self.old.core {
-          connection = record self.old.core.connection {
-            failure = kept self.old.core.connection.failure (AFailure.Told AnError.LocalClosed);
-          };
-        } }
+        ensures { self.new.core ≡ record self.old.core { connection = failing self.old.core.connection (AFailure.Told AnError.LocalClosed) } }
     {
         self.core.fail(Error::LocalClosed);
     }
@@ -131,20 +131,33 @@ impl<O: OutboundTransform + Drop, I: InboundTransform + Drop> Held for ClientHel
         ended_on(&mut self.core);
     }
 
-    fn lend(&mut self, written: usize, buffer: &mut [u8]) -> usize {
+    fn wrote(&mut self, count: usize) {
         let lent = self.core.lent();
-        wrote_on(&mut self.core, written.min(lent));
-        lend_on(&mut self.core, buffer)
+        wrote_on(&mut self.core, count.min(lent));
+    }
+
+    fn lend(&mut self, buffer: &mut [u8]) -> Loan {
+        let open = self.core.lendable();
+        let count = lend_on(&mut self.core, buffer);
+        Loan {
+            count,
+            ends_frame: count == open,
+        }
     }
 
     fn broke(&mut self, kind: ErrorKind) {
         broke_on(&mut self.core, kind);
     }
 
-    fn next(&mut self, has_turn: bool, stays: bool) -> Next {
+    fn next(&mut self, has_turn: bool) -> Next {
         let bytes_wait = self.core.lendable() > 0;
-        let stays = stays && !self.core.has_failed();
+        let stays = !self.core.has_failed();
         self.turn.next(has_turn, stays, bytes_wait)
+    }
+
+    fn give_back(&mut self) -> bool {
+        let bytes_wait = self.core.lendable() > 0;
+        self.turn.give_back(bytes_wait)
     }
 }
 
@@ -160,7 +173,6 @@ fn feed_piece<O: OutboundTransform + Drop, I: InboundTransform + Drop>(
 {
     let taken = take_on(core, alloc, piece);
     let ended = ended_places(core, reading);
-    core.known();
     match taken {
         Ok(count) => Some((count, ended)),
         Err(_) => None,
@@ -171,7 +183,9 @@ fn feed_piece<O: OutboundTransform + Drop, I: InboundTransform + Drop>(
 fn ended_places<O: OutboundTransform + Drop, I: InboundTransform + Drop>(
     core: &mut ClientCore<O, I>,
     reading: &mut ReadTurn,
-) -> Ended {
+) -> Ended
+    ensures { IsClient core.new.state.next core.new.state.calls }
+{
     let mut places = 0;
     for _ in 0..u64::MAX {
         match core.next_ended() {
@@ -182,6 +196,7 @@ fn ended_places<O: OutboundTransform + Drop, I: InboundTransform + Drop>(
             None => break,
         }
     }
+    core.lemma_is_client();
     places
 }
 
@@ -235,7 +250,7 @@ impl<O: OutboundTransform + Drop, I: InboundTransform + Drop> ClientShared<O, I>
         &callers[place_of(id)]
     }
 
-    /// Waits until the thread that does nothing but read has the turn. False: the connection has failed.
+    /// Waits until the reader thread has the turn. False: the connection has failed.
     pub fn wait_to_read<X: Wait>(&self, rt: &X) -> bool {
         let mut guard = self.held.lock(rt);
         for _ in rt.forever() {
@@ -250,7 +265,7 @@ impl<O: OutboundTransform + Drop, I: InboundTransform + Drop> ClientShared<O, I>
         unreachable!()
     }
 
-    /// Wakes the thread that does nothing but read.
+    /// Wakes the reader thread.
     pub fn wake_reader(&self) {
         self.to_read.notify_one();
     }

@@ -4,4 +4,4 @@ mod client;
 mod read_turn;
 
 pub use self::client::{ClientHeld, ClientRead, ClientShared, ClientWrite};
-pub use self::read_turn::{CALLS_TO_REST, Onward, ReadTurn, Reader};
+pub use self::read_turn::{CALLS_TO_REST, LONE_FRAME, Manner, Onward, ReadTurn, Reader};

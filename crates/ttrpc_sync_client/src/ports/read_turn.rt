@@ -1,10 +1,14 @@
 //! Whose turn it is to read.
 ghost use Rattle.std.specs.Prelude.{◌≡◌, ◌-◌, None, true, false, if◌then◌else◌};
-ghost use Rattle.ttrpc_sync_client.specs.ReadTurns.{begun, ended, is_alone, is_free, may_rest, may_take, onward_of, turn_onward};
+ghost use Rattle.ttrpc_sync_client.specs.ReadTurns.{begun, ended, finished, is_alone, is_free, may_rest, may_take, onward_of, turn_onward};
 
 use ttrpc_client::CallId;
 
-/// How many calls in a row are alone before the thread that does nothing but read rests. Then callers read for themselves,
+/// The longest frame that a caller writes for itself. Each socket's buffer has room for it, so the write doesn't wait for a
+/// peer that writes before it reads.
+pub const LONE_FRAME: usize = 4096;
+
+/// How many calls in a row are alone before the reader thread rests. Then callers read for themselves,
 /// which saves a switch of threads a call.
 pub const CALLS_TO_REST: u32 = 8;
 
@@ -13,20 +17,20 @@ pub const CALLS_TO_REST: u32 = 8;
 pub enum Reader {
     /// Nobody.
     Nobody,
-    /// The thread that does nothing but read.
+    /// The reader thread.
     Thread,
     /// The caller of this call, until it has ended.
     Caller(CallId),
 }
 
-/// What a reader does behind a piece.
+/// The next action of a reader after a piece.
 #[derive(Clone, Copy, Debug, PartialEq, Eq)]
 pub enum Onward {
     /// It reads on.
     Reads,
     /// It reads no more.
     Leaves,
-    /// It reads no more, and the thread that does nothing but read is to be woken, since other callers wait.
+    /// It reads no more, and the reader thread is to be woken, since other callers wait.
     HandsOver,
 }
 
@@ -36,20 +40,32 @@ pub enum Onward {
 pub struct ReadTurn {
     /// Who has it.
     pub reader: Reader,
-    /// Whether the thread that does nothing but read sleeps, and wasn't woken yet.
+    /// Whether the reader thread sleeps, and wasn't woken yet.
     pub sleeps: bool,
     /// How many calls are under way, up to their callers' getting their outcomes.
     pub callers: u64,
-    /// How many of the last calls were alone, one behind the other, as far as that matters.
+    /// How many of the last calls were alone, in a row, counted up to `CALLS_TO_REST`.
     pub alone: u32,
     /// The call that began last, until it has ended.
     pub last: Option<CallId>,
+    /// The call that began last, until it was answered. While there is one, the peer may not have read all that was
+    /// written.
+    pub unread: Option<CallId>,
+}
+
+/// How a call is made.
+#[derive(Clone, Copy, Debug, PartialEq, Eq)]
+pub struct Manner {
+    /// Whether it may expire.
+    pub has_deadline: bool,
+    /// Whether its frame is at most `LONE_FRAME` bytes long.
+    pub is_short: bool,
 }
 
 impl ReadTurn {
     /// Nobody's, and no call is under way.
     pub fn new() -> ReadTurn
-        ensures { result ≡ record { reader = Reader.Nobody; sleeps = false; callers = 0; alone = 0; last = None } }
+        ensures { result ≡ record { reader = Reader.Nobody; sleeps = false; callers = 0; alone = 0; last = None; unread = None } }
     {
         ReadTurn {
             reader: Reader::Nobody,
@@ -57,15 +73,20 @@ impl ReadTurn {
             callers: 0,
             alone: 0,
             last: None,
+            unread: None,
         }
     }
 
-    /// A call has begun. True: its caller is alone, and may write and read for itself.
-    pub fn begins(&mut self, id: CallId, has_deadline: bool) -> bool
-        ensures result { result ≡ is_alone self.old has_deadline }
-        ensures turn { self.new ≡ begun self.old id (is_alone self.old has_deadline) }
+    /// A call has begun. True: its caller is alone, and may write and read for itself. Neither can hold it: the peer has
+    /// read all that was written before, so the socket has room for its short frame, and it has no deadline.
+    pub fn begins(&mut self, id: CallId, manner: Manner) -> bool
+        ensures result { result ≡ is_alone self.old manner }
+        ensures turn { self.new ≡ begun self.old id (is_alone self.old manner) }
     {
-        let is_alone = !has_deadline && self.callers == 0;
+        let is_alone = manner.is_short
+            && !manner.has_deadline
+            && self.callers == 0
+            && self.unread.is_none();
         self.callers = self.callers.saturating_add(1);
         self.alone = if is_alone {
             self.alone.saturating_add(1).min(CALLS_TO_REST)
@@ -73,6 +94,7 @@ impl ReadTurn {
             0
         };
         self.last = Some(id);
+        self.unread = Some(id);
         is_alone
     }
 
@@ -88,11 +110,14 @@ impl ReadTurn {
         }
     }
 
-    /// A caller has the outcome of its call, or wants it no more.
-    pub fn finished(&mut self)
-        ensures { self.new ≡ record self.old { callers = self.old.callers - 1 } }
+    /// The caller of this call has its outcome, and whether that is the peer's answer.
+    pub fn finished(&mut self, id: CallId, is_answered: bool)
+        ensures { self.new ≡ finished self.old id is_answered }
     {
         self.callers = self.callers.saturating_sub(1);
+        if is_answered && self.unread == Some(id) {
+            self.unread = None;
+        }
     }
 
     /// The caller of this call, which was alone, wants to read. False: another has the turn, its call has ended, or another
@@ -108,7 +133,7 @@ impl ReadTurn {
         true
     }
 
-    /// The thread that does nothing but read wants to. False: it is to sleep, since a caller has the turn, or it may rest.
+    /// The reader thread wants to. False: it is to sleep, since a caller has the turn, or it may rest.
     pub fn thread_takes(&mut self) -> bool
         ensures result { result ≡ (if may_rest self.old then false else is_free self.old.reader) }
         ensures turn { self.new ≡ (if may_rest self.old then record self.old { sleeps = true } else
@@ -141,7 +166,7 @@ impl ReadTurn {
         }
     }
 
-    /// A caller waits that doesn't read. True: the thread that does nothing but read is to be woken, which is said once for
+    /// A caller waits that doesn't read. True: the reader thread is to be woken, which is said once for
     /// one sleep. Where another caller reads, that one hands over.
     pub fn wakes(&mut self) -> bool
         ensures result { result ≡ (if is_free self.old.reader then self.old.sleeps else false) }
@@ -154,7 +179,7 @@ impl ReadTurn {
         true
     }
 
-    // The thread that does nothing but read may rest.
+    // The reader thread may rest.
     fn may_rest(&self) -> bool
         ensures { result ≡ may_rest self.now }
     {

@@ -1,6 +1,6 @@
 //! The port from which a server's workers take jobs.
 ghost use Rattle.std.specs.Prelude.{Some, None};
-ghost use Rattle.ttrpc_sync.specs.declared.ports.Word.{Word};
+ghost use Rattle.ttrpc_sync.specs.declared.ports.PortState.{PortState};
 
 use crate::ports::server::ServerShared;
 use std::alloc::Global;
@@ -8,7 +8,7 @@ use std::sync::Wait;
 use ttrpc_proto::Error;
 use ttrpc_secure::{InboundTransform, OutboundTransform};
 use ttrpc_server::{Job, JobId};
-use ttrpc_sync::{Connected, Handler, JobPort, Word};
+use ttrpc_sync::{Connected, Handler, JobPort, PortState};
 
 /// The port of one of a server's workers.
 #[derive(Drop)]
@@ -17,7 +17,7 @@ pub struct ServerJobs<'a, X: Wait, O: OutboundTransform + Drop, I: InboundTransf
     alloc: Global,
     shared: &'a ServerShared<O, I>,
     current: Option<JobId>,
-    word: Word,
+    state: PortState,
 }
 
 impl<X: Wait, O: OutboundTransform + Drop, I: InboundTransform + Drop> ServerJobs<'_, X, O, I> {
@@ -32,7 +32,7 @@ impl<X: Wait, O: OutboundTransform + Drop, I: InboundTransform + Drop> ServerJob
             alloc,
             shared,
             current: None,
-            word: Word::Open,
+            state: PortState::Open,
         }
     }
 }
@@ -47,11 +47,11 @@ impl<
 
     ghost current = { λ p. p.current };
 
-    ghost word = { λ p. p.word };
+    ghost state = { λ p. p.state };
 
     fn begin(&mut self) {
         self.current = None;
-        self.word = Word::Open;
+        self.state = PortState::Open;
     }
 
     fn take(&mut self) -> Option<(JobId, Job)> {
@@ -62,20 +62,21 @@ impl<
                 Some((id, job))
             }
             None => {
-                self.word = Word::Stopped;
+                self.state = PortState::Stopped;
                 None
             }
         }
     }
 
     fn done(&mut self, key: JobId, outcome: Result<(), Error>) {
-        let has_failed = outcome.is_err();
-        self.shared
-            .held()
-            .lock(self.rt)
-            .done(self.alloc, key, outcome);
+        let mut guard = self.shared.held().lock(self.rt);
+        let wakes = guard.done(self.alloc, key, outcome);
+        let has_failed = guard.core.has_failed();
+        drop(guard);
         if has_failed {
             self.shared.wake_all();
+        } else if wakes {
+            self.shared.to_write().notify_one();
         }
         self.current = None;
     }

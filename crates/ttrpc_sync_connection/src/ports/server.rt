@@ -1,16 +1,16 @@
 //! What the threads of a server's connection share.
-ghost use Rattle.std.specs.Prelude.{◌≡◌, ◌↔◌, ◌-◌, ◌<◌, ◌≤◌, length, IfSome, IsFalse, IsTrue};
+ghost use Rattle.std.specs.Prelude.{◌≡◌, ◌↔◌, ◌+◌, ◌-◌, ◌^◌, ◌<◌, ◌≤◌, min, length, if◌then◌else◌, IfSome, IsFalse, IsTrue};
 ghost use Rattle.ttrpc_pool.specs.Pool.{with_waiting};
 
 use std::alloc::Global;
 use std::io::ErrorKind;
-use std::sync::{Condvar, Mutex};
+use std::sync::{Condvar, Mutex, Wait};
 use ttrpc_pool::PoolCore;
 use ttrpc_proto::Error;
 use ttrpc_secure::{InboundTransform, OutboundTransform};
 use ttrpc_server::server_on::{broke_on, ended_on, lend_on, take_on, wrote_on};
 use ttrpc_server::{Job, JobId, ServerCore, jobs_on};
-use ttrpc_sync::{Connected, Held, Next, ReadEnd, Taken, Turn, WriteEnd};
+use ttrpc_sync::{Connected, Held, Loan, Next, ReadEnd, Taken, Turn, WriteEnd};
 
 /// The port of a server's reader. It wakes workers and the writer.
 pub type ServerRead<'a, X, O, I> = ReadEnd<'a, X, ServerShared<O, I>>;
@@ -23,7 +23,7 @@ pub type ServerWrite<'a, X, O, I> = WriteEnd<'a, X, ServerShared<O, I>>;
 pub struct Woken {
     /// So many of the workers that sleep.
     pub workers: u64,
-    /// The thread that does nothing but write.
+    /// The writer thread.
     pub writer: bool,
 }
 
@@ -33,8 +33,12 @@ pub struct ServerHeld<O, I> {
     pub core: ServerCore<O, I>,
     pub turn: Turn,
     pub pool: PoolCore,
+    /// Workers that were started, and haven't come to wait yet.
+    pub starting: usize,
     // Workers that sleep, and weren't woken yet.
     sleeping: u64,
+    // Whether the reader is at its end. The core isn't told before all jobs have ended and all answers have left.
+    has_ended: bool,
 }
 
 impl<O: OutboundTransform + Drop, I: InboundTransform + Drop> ServerHeld<O, I> {
@@ -42,12 +46,15 @@ impl<O: OutboundTransform + Drop, I: InboundTransform + Drop> ServerHeld<O, I> {
     pub fn new(core: ServerCore<O, I>, pool: PoolCore) -> Self
         ensures core { result.core ≡ core }
         ensures pool { result.pool ≡ pool }
+        ensures starting { result.starting ≡ 0 }
     {
         ServerHeld {
             core,
             turn: Turn::new(),
             pool,
+            starting: 0,
             sleeping: 0,
+            has_ended: false,
         }
     }
 
@@ -61,9 +68,55 @@ impl<O: OutboundTransform + Drop, I: InboundTransform + Drop> ServerHeld<O, I> {
         self.sleeping = self.sleeping.saturating_add(1);
     }
 
-    /// A handler is done with a job. One that wasn't answered since the connection has failed needs nothing more.
-    pub(crate) fn done(&mut self, alloc: Global, id: JobId, outcome: Result<(), Error>) {
+    /// Ends a job after its handler. If the connection has failed, nothing needs to be done. True: the writer thread is to
+    /// be woken, since this may be the last job of an input that has ended.
+    pub(crate) fn done(&mut self, alloc: Global, id: JobId, outcome: Result<(), Error>) -> bool {
         let _ = jobs_on::done_on(&mut self.core, alloc, id, outcome);
+        self.has_ended && self.turn.wakes()
+    }
+
+    // No job is under way, and all that was queued was written.
+    fn is_quiet(&self) -> bool {
+        self.core.jobs_taken() == 0 && self.core.jobs_waiting() == 0 && self.core.lendable() == 0
+    }
+
+    /// How many workers are to be started: as many as the pool says, but for those that were started already and haven't
+    /// come to wait yet.
+    pub fn to_start(&self) -> usize
+        ensures few { self.now.pool.waiting < self.now.pool.min
+            → result ≡ (self.now.pool.default - self.now.pool.waiting) - self.now.starting }
+        ensures enough { self.now.pool.min ≤ self.now.pool.waiting → result ≡ 0 }
+    {
+        self.pool.to_start().saturating_sub(self.starting)
+    }
+
+    /// So many workers are started.
+    pub fn starts(&mut self, count: usize)
+        ensures pool { self.new.pool ≡ self.old.pool }
+        ensures starting { self.new.starting ≡ min (self.old.starting + count) (2 ^ 64 - 1) }
+    {
+        self.starting = self.starting.saturating_add(count);
+    }
+
+    /// So many workers that were to be started don't come.
+    pub fn gives_up(&mut self, count: usize)
+        ensures pool { self.new.pool ≡ self.old.pool }
+        ensures starting { self.new.starting ≡ self.old.starting - count }
+    {
+        self.starting = self.starting.saturating_sub(count);
+    }
+
+    /// A worker wants to wait for a job, for the first time or not. False: enough wait.
+    pub fn enter(&mut self, is_new: bool) -> bool
+        ensures room { IsTrue result ↔ (self.old.pool.waiting < self.old.pool.max) }
+        ensures entered { IsTrue result → self.new.pool ≡ with_waiting self.old.pool (self.old.pool.waiting + 1) }
+        ensures refused { IsFalse result → self.new.pool ≡ self.old.pool }
+        ensures starting { self.new.starting ≡ self.old.starting - (if is_new then 1 else 0) }
+    {
+        if is_new {
+            self.gives_up(1);
+        }
+        self.pool.enter()
     }
 
     /// A worker waits for a job no longer. True: fewer than the least count are left that wait. Where nobody waits nothing
@@ -80,7 +133,7 @@ impl<O: OutboundTransform + Drop, I: InboundTransform + Drop> ServerHeld<O, I> {
         self.pool.leave()
     }
 
-    /// Who is to be woken for what came: as many of the workers that sleep as jobs wait, and the writer.
+    /// The threads to wake: one sleeping worker for each waiting job, and the writer.
     fn woken(&mut self) -> Woken {
         let workers = self.core.jobs_waiting().min(self.sleeping);
         self.sleeping -= workers;
@@ -105,23 +158,42 @@ impl<O: OutboundTransform + Drop, I: InboundTransform + Drop> Held for ServerHel
     }
 
     fn ended(&mut self) {
-        ended_on(&mut self.core);
+        self.has_ended = true;
     }
 
-    fn lend(&mut self, written: usize, buffer: &mut [u8]) -> usize {
+    fn wrote(&mut self, count: usize) {
         let lent = self.core.lent();
-        wrote_on(&mut self.core, written.min(lent));
-        lend_on(&mut self.core, buffer)
+        wrote_on(&mut self.core, count.min(lent));
+    }
+
+    fn lend(&mut self, buffer: &mut [u8]) -> Loan {
+        let open = self.core.lendable();
+        let count = lend_on(&mut self.core, buffer);
+        Loan {
+            count,
+            ends_frame: count == open,
+        }
     }
 
     fn broke(&mut self, kind: ErrorKind) {
         broke_on(&mut self.core, kind);
     }
 
-    fn next(&mut self, has_turn: bool, stays: bool) -> Next {
+    // Where nobody writes for himself, all that was written is flushed, too. So behind an end of the input the core is told
+    // of it here.
+    fn next(&mut self, has_turn: bool) -> Next {
+        let others_write = self.turn.is_taken && !has_turn;
+        if self.has_ended && !others_write && self.is_quiet() {
+            ended_on(&mut self.core);
+        }
         let bytes_wait = self.core.lendable() > 0;
-        let stays = stays && !self.core.has_failed();
+        let stays = !self.core.has_failed();
         self.turn.next(has_turn, stays, bytes_wait)
+    }
+
+    fn give_back(&mut self) -> bool {
+        let bytes_wait = self.core.lendable() > 0;
+        self.turn.give_back(bytes_wait || self.has_ended)
     }
 }
 
@@ -141,6 +213,12 @@ impl<O: OutboundTransform + Drop, I: InboundTransform + Drop> ServerShared<O, I>
             to_write: Condvar::new(),
             to_work: Condvar::new(),
         }
+    }
+
+    /// Fails the connection, if it hasn't failed, and wakes its threads.
+    pub(crate) fn end<X: Wait>(&self, rt: &X) {
+        self.held.lock(rt).core.fail(Error::LocalClosed);
+        self.wake_all();
     }
 
     /// Where workers wait for a job.

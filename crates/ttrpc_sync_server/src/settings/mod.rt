@@ -1,6 +1,4 @@
 //! The settings of a server: what they are, what each call makes of them, and what the server refuses by them.
-//!
-//! The settings of a server, and what it refuses by them.
 
 mod refusal;
 

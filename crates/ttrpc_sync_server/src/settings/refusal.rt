@@ -1,4 +1,4 @@
-//! Why a server refuses what it is asked for, and what it then tells.
+//! Why a server refuses a call, and the text of the refusal.
 ghost use Rattle.std.specs.Prelude.{◌≡◌, ◌⊎◌};
 ghost use Rattle.ttrpc_proto.specs.declared.error.Error.{Error as AnError};
 ghost use Rattle.ttrpc_sync_server.specs.Settings.{text_of};

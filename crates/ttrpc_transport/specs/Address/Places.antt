@@ -1,6 +1,6 @@
 -- Where a socket is bound or connected, by its address, and why nowhere.
 -- Source: this project's; which texts are an IP address and a port is std's, by `SocketAddr`'s `parse`.
-use Rattle.std.specs.Prelude.{◌≡◌, ◌⊎◌, ℕ, List, ◌∷◌, ◌++◌, codes, None}
+use Rattle.std.specs.Prelude.{◌≡◌, ◌⊎◌, ℕ, List, [], ◌∷◌, ◌++◌, codes, None}
 use Rattle.std.specs.Net.Grammar.{IsSocketText}
 use Rattle.std.specs.declared.net.SocketAddr.{SocketAddr}
 use Rattle.ttrpc_proto.specs.declared.error.Error.{Error}
@@ -10,9 +10,9 @@ use Rattle.ttrpc_transport.specs.declared.address.place.Place.{Place}
 use Rattle.ttrpc_transport.specs.declared.address.place.Place.TheVariants.{Unix, Tcp}
 use Rattle.ttrpc_transport.specs.Address.Addresses.{IsAddress, IsRefusal, IsUnknown, unknown_text}
 
--- the name is abstract: it begins with `@`
+-- the name is abstract: it is empty, for which the system picks an abstract one, or it begins with `@`
 abbrev pub IsAbstract : List ℕ → Type 0
-IsAbstract name = (rest : List ℕ) × (name ≡ 64 ∷ rest)
+IsAbstract name = (name ≡ []) ⊎ ((rest : List ℕ) × (name ≡ 64 ∷ rest))
 
 -- the address names this place
 abbrev pub IsPlace : List ℕ → Place → Type 0

@@ -1,4 +1,4 @@
-//! Addresses of sockets, as texts: `unix://PATH`, `tcp://HOST:PORT` and `vsock://CID:PORT`, and what a bind or a connect
+//! Addresses of sockets, as texts: `unix://PATH`, `tcp://IP:PORT` and `vsock://CID:PORT`, and what a bind or a connect
 //! reads in them. It reaches no system.
 
 mod domain;

@@ -20,7 +20,7 @@ pub enum Place<'a> {
 }
 
 /// The place that the address names. Refused as `Others` is an address that `parse_sockaddr` refuses, one of vsock, a Unix
-/// name that is abstract, which begins with `@`, and a part of TCP that std doesn't read as a `SocketAddr`, a host's name
+/// name that is abstract, which begins with `@` or is empty (the system picks one then), and a part of TCP that std doesn't read as a `SocketAddr`, a host's name
 /// among them.
 pub fn socket_of(alloc: Global, addr: &str) -> Result<Place<'_>>
     ensures ok { IfOk result (IsPlace addr.now) }
@@ -29,7 +29,7 @@ pub fn socket_of(alloc: Global, addr: &str) -> Result<Place<'_>>
     let (domain, part) = parse_sockaddr(alloc, addr)?;
     match domain {
         Domain::Tcp => Ok(Place::Tcp(socket_addr_of(alloc, part)?)),
-        Domain::Unix if part.starts_with('@') => Err(refusal(String::from_str(
+        Domain::Unix if part.is_empty() || part.starts_with('@') => Err(refusal(String::from_str(
             alloc,
             "abstract unix names are not supported",
         ))),

@@ -29,7 +29,7 @@ pub fn parse_vsock(alloc: Global, addr: &str) -> Result<(u32, u32)>
     Ok((cid, port))
 }
 
-// What stands in front of the one colon and behind it, and `None` of a text with none or more.
+// What stands in front of the colon and behind it; `None` unless there is exactly one.
 fn two_parts(text: &str) -> Option<(&str, &str)>
     ensures { MatchOption result ((first second : List ℕ) → ¬ (IsTwoParts text.now first second))
         (λ parts. IsTwoParts text.now parts.0.now parts.1.now) }

@@ -11,6 +11,6 @@ returns-clause-again g c =
     let fs = g.M.WireMessage.fields m in
     let step = g.M.WireMessage.step in
     let short : length (fields_bytes fs) < 2 ^ 64 - 1 = omega (arith, c.length-length.ensures, c.if-length.false) in
-    let back = reads_back step g.M.WireMessage.empty m fs (g.met.M.WireMessage.fits m c.known.ensures short) (g.met.M.WireMessage.again m c.known.ensures short) in
+    let back = reads_back step g.M.WireMessage.empty m fs (g.met.M.WireMessage.fits m c.lemma_is_value.ensures short) (g.met.M.WireMessage.again m c.lemma_is_value.ensures short) in
     IfOk-weaker c.encode_with_room.result (λ v. v.items ≡ fields_bytes fs) (λ v. read_from step g.M.WireMessage.empty v.items ≡ Some m)
     (λ v is. ap (read_from step g.M.WireMessage.empty) is ∙ back) c.encode_with_room.ensures.ok

@@ -11,7 +11,7 @@ loop-preserved g c =
     let ready = c.loop.invariant.ready in
     let n = c.lend-lent.result in
     let k = c.in_ok-taken.taken in
-    let count = rw ready.alive at c.lend-lent.ensures.count in
+    let count = rw ready.alive at c.lend-lent.ensures.lends.count in
     let within : n ≤ length (open_part c.loop.core.connection.outbox.queue) = omega (arith, count) in
     let less : k ≤ n = omega (arith, c.in_ok-taken.ensures.count, length-take n c.lend-lent.new.buffer) in
     let is : c.wrote.new.self ≡ lent_and_reported c.loop.core n k =
@@ -19,5 +19,5 @@ loop-preserved g c =
     rw is
     (record {
       ready = still_ready c.loop.core n k ready within less;
-      out = writes_more c.args.core.now c.loop.core n k _ _ _ _ ready c.loop.invariant.out within less (ap (λ xs. take k xs) c.lend-lent.ensures.copied ∙ take-take k n (open_part c.loop.core.connection.outbox.queue) less) c.in_ok-taken.ensures.bytes;
+      out = writes_more c.args.core.now c.loop.core n k _ _ _ _ ready c.loop.invariant.out within less (ap (λ xs. take k xs) c.lend-lent.ensures.lends.copied ∙ take-take k n (open_part c.loop.core.connection.outbox.queue) less) c.in_ok-taken.ensures.bytes;
     })

@@ -1,6 +1,6 @@
 use Rattle.std.proofs.Common.{◌≡◌, ◌≤◌, length, take}
 use Rattle.std.specs.Io.KnownBytes.{Appends}
-use Rattle.ttrpc_sync.specs.declared.ports.Word.TheVariants.{Open}
+use Rattle.ttrpc_sync.specs.declared.ports.PortState.TheVariants.{Open}
 use Rattle.ttrpc_sync.specs.Loops.{IsSameCount}
 use Rattle.ttrpc_sync.proofs.loops.offer.Given as goal
 
@@ -9,7 +9,7 @@ abbrev pub invariant-loop : goal.invariant-loop
 invariant-loop g l = record {
   next : (goal.iterator-loop g).can_next l.iterator';
   finite : (goal.iterator-loop g).is_finite l.iterator';
-  word : g.P.ReadPort.word l.port ≡ Open;
+  state : g.P.ReadPort.state l.port ≡ Open;
   begun : IsSameCount (g.P.ReadPort.begun l.fn.port) (g.P.ReadPort.begun l.port);
   inside : l.at ≤ length l.fn.piece;
   taken : Appends (g.P.ReadPort.taken l.fn.port) (g.P.ReadPort.taken l.port) (take l.at l.fn.piece);

@@ -6,5 +6,5 @@ use Rattle.ttrpc_sync.proofs.loops.read_loop.Goals as goal
 
 pub returns-then-not-offer-clause-handed : goal.returns-then-not-offer-clause-handed
 returns-then-not-offer-clause-handed g c =
-    let fits : length (take c.in-Ok.n c.read.new.buffer) ≤ DEFAULT_PAGE_SIZE = omega (arith, length-take c.in-Ok.n c.read.new.buffer) in
+    let fits : length (take c.in-Ok.n c.read_wanted.new.buffer) ≤ DEFAULT_PAGE_SIZE = omega (arith, length-take c.in-Ok.n c.read_wanted.new.buffer) in
     handed_in_part _ _ _ _ _ _ _ fits (handed_still _ _ _ _ _ c.loop.invariant.handed c.wants.ensures.taken) c.in-Ok.ensures.bytes.0 c.if-not-offer.ensures.taken.0

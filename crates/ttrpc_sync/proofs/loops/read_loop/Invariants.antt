@@ -1,5 +1,5 @@
 use Rattle.std.proofs.Common.{◌≡◌}
-use Rattle.ttrpc_sync.specs.declared.ports.Word.TheVariants.{Open}
+use Rattle.ttrpc_sync.specs.declared.ports.PortState.TheVariants.{Open}
 use Rattle.ttrpc_sync.specs.Loops.{HandedAll, IsOneMore}
 use Rattle.ttrpc_sync.proofs.loops.read_loop.Given as goal
 
@@ -8,7 +8,7 @@ abbrev pub invariant-loop : goal.invariant-loop
 invariant-loop g l = record {
   next : (goal.iterator-loop g).can_next l.iterator';
   finite : (goal.iterator-loop g).is_finite l.iterator';
-  word : g.P.ReadPort.word l.port ≡ Open;
+  state : g.P.ReadPort.state l.port ≡ Open;
   begun : IsOneMore (g.P.ReadPort.begun l.fn.port) (g.P.ReadPort.begun l.port);
   handed : HandedAll (g.R.Source.remaining l.fn.reader) (g.R.Source.remaining l.reader) (g.P.ReadPort.taken l.fn.port) (g.P.ReadPort.taken l.port);
 }

@@ -14,7 +14,7 @@ loop-preserved-else-not-more g c =
     record {
       next = tt;
       finite = tt;
-      word = more.word;
+      state = more.state;
       begun = one_more_still _ _ _ (one_more_still _ _ _ so.begun c.lend-lent.ensures.begun) more.begun;
       written = written_no_more _ _ _ _ _ _ (written_no_more _ _ _ _ _ _ so.written c.in-Ok.ensures.bytes c.lend-lent.ensures.reported) (Keeps-refl _) more.reported;
       calls = goes_on _ _ _ _ so.calls c.in-Ok.ensures.calls tt;
@@ -27,7 +27,7 @@ loop-preserved-else-ne g c =
     record {
       next = tt;
       finite = tt;
-      word = c.lend-lent.ensures.word;
+      state = c.lend-lent.ensures.state;
       begun = one_more_still _ _ _ so.begun c.lend-lent.ensures.begun;
       written = written_no_more _ _ _ _ _ _ so.written c.in-Err.ensures.bytes c.lend-lent.ensures.reported;
       calls = goes_on _ _ _ _ so.calls c.in-Err.ensures.calls kind;
@@ -36,7 +36,7 @@ loop-preserved-else-ne g c =
 pub returns-then-ne-clause-calls : goal.returns-then-ne-clause-calls
 returns-then-ne-clause-calls g c =
     let kind : error_kind c.in-Err.error ≢ Interrupted = search rules in
-    ends_here _ _ _ _ _ c.loop.invariant.calls c.in-Err.ensures.calls (kind, c.broke.ensures.word)
+    ends_here _ _ _ _ _ c.loop.invariant.calls c.in-Err.ensures.calls (kind, c.broke.ensures.state)
 
 pub loop-preserved-in-Ok-write : goal.loop-preserved-in-Ok-write
 loop-preserved-in-Ok-write g c =
@@ -49,7 +49,7 @@ loop-preserved-in-Ok-write g c =
     record {
       next = tt;
       finite = tt;
-      word = c.wrote.ensures.word;
+      state = c.wrote.ensures.state;
       begun = one_more_still _ _ _ (one_more_still _ _ _ so.begun c.lend-lent.ensures.begun) c.wrote.ensures.begun;
       written = written_more _ _ _ _ _ _ _ lent c.in-Ok-write.ensures.bytes told;
       calls = goes_on _ _ _ _ so.calls c.in-Ok-write.ensures.calls some;
@@ -58,7 +58,7 @@ loop-preserved-in-Ok-write g c =
 pub returns-then-ne-2-clause-calls : goal.returns-then-ne-2-clause-calls
 returns-then-ne-2-clause-calls g c =
     let kind : error_kind c.in-Err-write.error ≢ Interrupted = search rules in
-    ends_here _ _ _ _ _ c.loop.invariant.calls c.in-Err-write.ensures.calls (kind, c.broke-then-ne-2.ensures.word)
+    ends_here _ _ _ _ _ c.loop.invariant.calls c.in-Err-write.ensures.calls (kind, c.broke-then-ne-2.ensures.state)
 
 pub loop-preserved : goal.loop-preserved
 loop-preserved g c =
@@ -67,7 +67,7 @@ loop-preserved g c =
     record {
       next = tt;
       finite = tt;
-      word = c.lend-lent.ensures.word;
+      state = c.lend-lent.ensures.state;
       begun = one_more_still _ _ _ so.begun c.lend-lent.ensures.begun;
       written = written_no_more _ _ _ _ _ _ so.written c.in-Err-write.ensures.bytes c.lend-lent.ensures.reported;
       calls = goes_on _ _ _ _ so.calls c.in-Err-write.ensures.calls kind;

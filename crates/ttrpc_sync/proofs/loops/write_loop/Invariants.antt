@@ -1,5 +1,5 @@
 use Rattle.std.proofs.Common.{◌≡◌, All}
-use Rattle.ttrpc_sync.specs.declared.ports.Word.TheVariants.{Open}
+use Rattle.ttrpc_sync.specs.declared.ports.PortState.TheVariants.{Open}
 use Rattle.ttrpc_sync.specs.Loops.{GoesOn, IsOneMore, Written, reported}
 use Rattle.ttrpc_frame.specs.Streams.{Makes}
 use Rattle.ttrpc_sync.proofs.loops.write_loop.Given as goal
@@ -9,7 +9,7 @@ abbrev pub invariant-loop : goal.invariant-loop
 invariant-loop g l = record {
   next : (goal.iterator-loop g).can_next l.iterator';
   finite : (goal.iterator-loop g).is_finite l.iterator';
-  word : g.P.WritePort.word l.port ≡ Open;
+  state : g.P.WritePort.state l.port ≡ Open;
   begun : IsOneMore (g.P.WritePort.begun l.fn.port) (g.P.WritePort.begun l.port);
   written : Written (g.W.Sink.contents l.fn.writer) (g.W.Sink.contents l.writer) (reported (g.P.WritePort.told l.fn.port)) (reported (g.P.WritePort.told l.port));
   calls : Makes (g.W.Sink.calls l.fn.writer) (g.W.Sink.calls l.writer) (All GoesOn);

@@ -11,8 +11,8 @@ loop-preserved g c =
     record {
       next = tt;
       finite = tt;
-      word = c.done.ensures.word;
+      state = c.done.ensures.state;
       current = c.done.ensures.current;
       begun = one_more_still first (g.P.JobPort.begun c.take-job.new.self) (g.P.JobPort.begun c.done.new.self) counted c.done.ensures.begun;
-      worked = worked_more _ _ _ _ _ _ _ _ _ _ _ _ _ _ _ _ so.worked c.if-not-enter.ensures.passages job.taken job.reported c.leave.ensures.passages c.handle.ensures c.done.ensures.taken c.done.ensures.reported;
+      worked = worked_more _ _ _ _ _ _ _ _ _ _ _ _ _ _ _ _ so.worked c.if-not-enter.ensures.passages job.taken job.reported c.leave.ensures.passages c.handle_outside-outcome.ensures c.done.ensures.taken c.done.ensures.reported;
     }

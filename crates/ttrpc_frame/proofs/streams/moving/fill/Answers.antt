@@ -1,6 +1,14 @@
-use Rattle.std.proofs.Common.{◌-◌, length, rules}
+use Rattle.std.proofs.Common.{◌-◌, ◌+◌, length, rules}
 use Rattle.ttrpc_frame.proofs.Bytes.{consumes_on, front_with}
+use Rattle.ttrpc_frame.proofs.Calls.{counts_more, spends_more}
+use Rattle.ttrpc_frame.specs.declared.streams.again.Passing.TheVariants.{Interrupted as OnlyInterrupted}
 use Rattle.ttrpc_frame.proofs.streams.moving.fill.Goals as goal
+
+pub returns-in-Err-clause-spent : goal.returns-in-Err-clause-spent
+returns-in-Err-clause-spent g c =
+    let spent = c.in-Err.ensures.spent in
+    let before = c.loop-at.invariant.counted in
+    (before.0 + spent.0, counts_more _ _ _ _ _ before.1 spent.1, spends_more OnlyInterrupted (g.R.Source.last c.read_again.new.reader) before.0 spent.0 spent.2)
 
 pub loop-at-preserved : goal.loop-at-preserved
 loop-at-preserved g c =
@@ -9,4 +17,5 @@ loop-at-preserved g c =
       size = search rules;
       inside = search rules;
       read = consumes_on _ _ _ _ _ _ front c.loop-at.invariant.read c.in-Ok.ensures.bytes.0;
+      counted = (_, counts_more _ _ _ _ _ c.loop-at.invariant.counted.1 c.in-Ok.ensures.spent.1);
     }

@@ -1,5 +1,6 @@
-use Rattle.std.proofs.Common.{◌≡◌, ◌≤◌, ◌-◌, length, take}
+use Rattle.std.proofs.Common.{◌≡◌, ◌≤◌, ◌-◌, ℕ, length, take}
 use Rattle.std.specs.Io.KnownBytes.{Consumes}
+use Rattle.ttrpc_frame.specs.Streams.{Counts}
 use Rattle.ttrpc_frame.proofs.streams.moving.fill.Given as goal
 
 -- what was consumed is the front of the buffer
@@ -8,6 +9,7 @@ invariant-loop-at g l = record {
   size : length l.buffer ≡ length l.fn.buffer;
   inside : l.at ≤ length l.buffer;
   read : Consumes (g.R.Source.remaining l.fn.reader) (g.R.Source.remaining l.reader) (take l.at l.buffer);
+  counted : (n : ℕ) × Counts (g.R.Source.reads l.fn.reader) (g.R.Source.reads l.reader) n;
 }
 
 abbrev pub decreases-loop-at : goal.decreases-loop-at

@@ -11,7 +11,7 @@ returns g c =
     let taken = rw (← c.self.view_is) at c.in-Some-awaiting.ensures.some in
     rw (← c.self.view_is) (elim c.match-answer.branch [
       | in-Ok w ↦ rw w.result-is (
-        answers_by client server g.CO.OutboundTransform.SEALS old c.args.id c.args.given.now c.answer.new.self c.note_known.ensures w.in-Ok.ensures.answered w.in-Ok.ensures.handler_failed,
+        answers_by client server g.CO.OutboundTransform.SEALS old c.args.id c.args.given.now c.answer.new.self c.lemma_answer_is_value.ensures w.in-Ok.ensures.answered w.in-Ok.ensures.handler_failed,
         refl,
         taken.3,
       )

@@ -17,7 +17,7 @@ pub returns-in-Err : goal.returns-in-Err
 returns-in-Err g c =
     let w = c.self.inside in
     let piece : c.front.result.now ≡ take (min c.args.n (length w.up.bytes)) w.up.bytes = search rules in
-    rw (← c.self.view_is) (elim (breaks_or_failed _ _ w.server.connection.failure c.in-Err.error c.in-Err.ensures.fails c.in-Err.ensures.failed) [
+    rw (← c.self.view_is) (elim (breaks_or_failed _ ((c.feed.new.self.state ≡ w.server.state) × (c.feed.new.self.connection ≡ w.server.connection)) w.server.connection.failure c.in-Err.error c.in-Err.ensures.fails (λ k e. let x = c.in-Err.ensures.failed k e in (x.0, (x.1, x.2)))) [
       | inl b ↦ inl (rw (← piece) b, search rules)
       | inr f ↦ inr (f.0, search rules)
     ])

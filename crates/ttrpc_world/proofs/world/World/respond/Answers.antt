@@ -10,7 +10,7 @@ returns-in-Ok g c =
     let taken = rw (← c.self.view_is) at c.in-Some-awaiting.ensures.some in
     let items = c.push_reserved.ensures.items ∙ ap (λ xs. xs ++ c.args.id ∷ []) c.reserve.ensures.items in
     rw (← c.self.view_is) (responds_to client server g.CO.OutboundTransform.SEALS _ c.args.id c.in-Some-awaiting.stream_id c.args.response.now taken.0 c.respond.new.self _
-    c.known.ensures taken.1 taken.2 taken.3 c.in-Ok.ensures.queued items)
+    c.lemma_is_value.ensures taken.1 taken.2 taken.3 c.in-Ok.ensures.queued items)
 
 pub returns-in-Err : goal.returns-in-Err
 returns-in-Err g c =

@@ -1,0 +1,302 @@
+-- The protocol of a client, from top to bottom: what a frame gives the call of its id, what each call of the core does,
+-- and for what a request is refused. Calls of one request and one response are the only ones so far; streams get rows here.
+-- That a response ends the call of its stream's id, and that ids are odd and rise, are PROTOCOL.md's. What it leaves open,
+-- which is errors and their texts, is as the Rust crate has it. Deadlines, what dropping a call does and the order of
+-- refusals are this project's.
+-- Source: PROTOCOL.md of ttrpc, "Request", "Response", "Data" and "Streaming"; the Rust crate; this project's.
+use Rattle.std.specs.Prelude.{◌≡◌, ◌≢◌, ◌⊎◌, ◌<◌, ◌≤◌, ◌-◌, ◌^◌, ℕ, ◌+◌, ◌&&◌, not, List, [], ◌∷◌, ◌++◌, length, min, codes, map, filter, Option, Some, None, Bool, true, false, Result, Ok, Err, is_some, nat_eq, nat_le, nat_lt, if◌then◌else◌, ℤ, pos, zero, IsPermutation}
+use Rattle.std.specs.Fmt.{decimal}
+use Rattle.ttrpc_wire.specs.Field.{fields_bytes}
+use Rattle.ttrpc_wire.specs.Fold.{read_from}
+use Rattle.ttrpc_wire.specs.declared.values.code.Code.TheVariants.{INVALID_ARGUMENT}
+use Rattle.ttrpc_client.specs.Types.{Error, Others, RpcStatus, NoMemory, Request, Response, Queued, OutboundTransform, Arrived, Failure, DeadlineDuringWrite, CancelledDuringWrite, Connection, Call, Waiting, Expired, Ended, ClientKind, Sync, Async}
+use Rattle.ttrpc_proto.specs.declared.status.Status.{Status}
+use Rattle.ttrpc_proto.specs.ErrorText.{status_of}
+use Rattle.ttrpc_proto.specs.Messages.{empty_response, request_fields, response_step}
+use Rattle.ttrpc_frame.specs.declared.header.MessageHeader.{MessageHeader}
+use Rattle.ttrpc_frame.specs.declared.header.TheConstants.{MESSAGE_LENGTH_MAX, MESSAGE_TYPE_REQUEST, MESSAGE_TYPE_RESPONSE}
+use Rattle.ttrpc_frame.specs.Header.Oversize.{oversize_text}
+use Rattle.ttrpc_frame.specs.Queue.{has_begun, without}
+use Rattle.ttrpc_secure.specs.declared.transform.InboundTransform.{Ghosts as InboundTransform}
+use Rattle.ttrpc_secure.specs.Hooks.Facts.{Facts}
+use Rattle.ttrpc_secure.specs.Context.Texts.{advice_text, unopened_text, unsafe_payload_text, unsealed_text}
+use Rattle.ttrpc_secure.specs.Sends.{associated}
+use Rattle.ttrpc_connection.specs.declared.arrived.Opening.{Opening}
+use Rattle.ttrpc_connection.specs.declared.arrived.Opening.TheVariants.{TooLong, Opened, Refused}
+use Rattle.ttrpc_connection.specs.Failure.{IsTold, error_of, first_failure}
+use Rattle.ttrpc_connection.specs.Feeds.{IsFailed, Ways, new_connection}
+use Rattle.ttrpc_connection.specs.Frames.{Sent, SendsOne, safe_limit}
+use Rattle.ttrpc_client.specs.declared.client.ClientCore.{ClientCore}
+use Rattle.ttrpc_client.specs.State.{Client, OthersStay, call_at, call_in, deadline_of, new_client, throws, told_left, waits}
+
+-- ---- what a frame gives the call of its id
+-- Source: PROTOCOL.md of ttrpc, "Response" and "Data"; errors and texts: the Rust crate.
+
+-- what a frame gives a call that waits
+pub data Landing : Type 0 where
+  -- this outcome
+  Gives : (outcome : Result Response Error) → Landing
+  -- an error whose text begins so, and is otherwise left open
+  GivesBeginning : (text : List ℕ) → Landing
+
+-- a status of another code than OK is a refusal
+abbrev pub by_code : ℤ → Status → Response → Result Response Error
+by_code (pos zero) s r = Ok r
+by_code code s r = Err (RpcStatus s)
+
+-- the outcome that a response gives: the response, or its status as an error where that is a refusal
+abbrev pub by_status : Option Status → Response → Result Response Error
+by_status None r = Ok r
+by_status (Some s) r = by_code s.code s r
+
+-- what a response gives, and what bytes give that mean none
+abbrev pub read_landing : Option Response → Landing
+read_landing None = GivesBeginning (codes "Unpack response error ")
+read_landing (Some r) = Gives (by_status r.status r)
+
+-- a frame of this header ends no call well
+abbrev pub malformed_text : MessageHeader → List ℕ
+malformed_text h = codes "Receiver got malformed packet: type " ++ decimal h.type_ ++ codes ", flags " ++ decimal h.flags ++ codes ", stream " ++ decimal h.stream_id
+
+-- from top to bottom
+abbrev pub landing_of : MessageHeader → Opening → Landing
+landing_of h TooLong = Gives (Err (RpcStatus (status_of INVALID_ARGUMENT (oversize_text h.length))))
+landing_of h (Refused why) = Gives (Err (Others (unopened_text why)))
+landing_of h (Opened plain) =
+    if nat_lt MESSAGE_LENGTH_MAX (length plain) then Gives (Err (Others (oversize_text (length plain)))) else
+    if nat_eq h.type_ MESSAGE_TYPE_RESPONSE then read_landing (read_from response_step empty_response plain) else
+    Gives (Err (Others (malformed_text h)))
+
+-- the outcome is what the frame gives
+abbrev pub IsLanding : Landing → Result Response Error → Type 0
+IsLanding (Gives given) outcome = outcome ≡ given
+IsLanding (GivesBeginning text) outcome = (rest : List ℕ) × (outcome ≡ Err (Others (text ++ rest)))
+
+-- what it makes of the call: one that waits ends with the outcome, and any other stays as it is
+abbrev pub LandsOn : Landing → Option Call → Option Call → Type 0
+LandsOn landing (Some (Waiting deadline)) new = (outcome : Result Response Error) × IsLanding landing outcome × (new ≡ Some (Ended outcome))
+LandsOn landing old new = new ≡ old
+
+-- it lands on the call of this id, and on no other
+pub record Lands (landing : Landing) (id : ℕ) (old new : List (ℕ × Call)) : Type 0 where
+  pub own : LandsOn landing (call_in old id) (call_in new id)
+  pub others : OthersStay old id new
+
+-- ---- what it does
+-- Source: PROTOCOL.md of ttrpc, "Response".
+
+-- what is told of a call that a frame lands on: its id, if it waited and so has ended
+abbrev pub ended_by : Option Call → ℕ → List ℕ
+ended_by call id = if waits call then id ∷ [] else []
+
+-- A frame lands on the call of its id, and nothing is sent.
+pub record LandsOnce (old : Client) (a : Arrived) (sent : List Sent) (new : Client) : Type 0 where
+  pub lands : Lands (landing_of a.header a.opening) a.header.stream_id old.calls new.calls
+  pub same : new ≡ record old { calls = new.calls; ended = old.ended ++ ended_by (call_at old a.header.stream_id) a.header.stream_id }
+  pub sent_is : sent ≡ []
+
+-- the same, whatever the state of the outbound half
+abbrev pub lands_once : {O : Type 0} → Client → O → Arrived → List Sent → Client → Type 0
+lands_once old o a sent new = LandsOnce old a sent new
+
+-- A client's table fails at no frame: while a frame is handled, want of memory alone fails a client.
+abbrev pub fails_not : Client → Arrived → Failure → Type 0
+fails_not old a failure = ⊥
+
+-- what the clauses know of a client core over these halves
+abbrev pub calling : {O I : Type 0} → OutboundTransform O → InboundTransform I → Ways Client O I
+calling out in_ = record { out = out; in_ = in_; core = record { reacts = lands_once; fails = fails_not } }
+
+-- ---- a request and its frame
+-- Source: PROTOCOL.md of ttrpc, "Request" and "Streaming".
+
+-- the written form of a request
+abbrev pub request_bytes : Request → List ℕ
+request_bytes r = fields_bytes (request_fields r)
+
+-- how long a request is, as far as 32 bits can say it
+abbrev pub request_size : Request → ℕ
+request_size r = min (length (request_bytes r)) (2 ^ 32 - 1)
+
+-- the greatest id
+abbrev pub last_id : ℕ
+last_id = 2 ^ 32 - 1
+
+-- a frame that carries the request of a call
+pub record IsRequestFrame (id : ℕ) (f : Queued) : Type 0 where
+  pub stream_id : f.message.header.stream_id ≡ id
+  pub type_ : f.message.header.type_ ≡ MESSAGE_TYPE_REQUEST
+  pub flags : f.message.header.flags ≡ 0
+  pub ticket : f.ticket ≡ None
+  pub is_unary_request : f.is_unary_request ≡ true
+  pub owner : f.owner ≡ id
+
+-- a core that has made no call, with a new connection
+abbrev pub new_core : {O I : Type 0} → ClientKind → ℕ → Facts → O → I → ClientCore O I
+new_core kind next known outbound inbound = record { state = new_client kind next; connection = new_connection known outbound inbound }
+
+-- A request was accepted at a moment: its call waits, and it is sealed and queued.
+pub record Requests {O I : Type 0} (out : OutboundTransform O) (old : ClientCore O I) (request : Request) (now id : ℕ) (new : ClientCore O I) : Type 0 where
+  pub alive : old.connection.failure ≡ None
+  pub id_is : id ≡ old.state.next
+  pub in_range : id ≤ last_id
+  pub fits : request_size request ≤ safe_limit out old.connection.outbox.half
+  pub own : call_at new.state id ≡ Some (Waiting (deadline_of now request.timeout_nano))
+  pub others : OthersStay old.state.calls id new.state.calls
+  pub frame : Queued
+  pub is_frame : IsRequestFrame id frame
+  pub sends : SendsOne out old.connection.outbox frame (request_bytes request) new.connection.outbox
+  pub same : new ≡ record old {
+    state = record old.state { next = id + 2; calls = new.state.calls };
+    connection = record old.connection { outbox = new.connection.outbox };
+  }
+
+-- ---- outcomes
+-- Source: this project's; the text: the Rust crate.
+
+-- an error that is told as an outcome
+abbrev pub TellsOutcome : Error → Option (Result Response Error) → Type 0
+TellsOutcome error given = (told : Error) × IsTold error told × (given ≡ Some (Err told))
+
+-- the error for a call that has expired
+abbrev pub expired_error : Error
+expired_error = Others (codes "Request deadline elapsed")
+
+-- what asking for the outcome of a call gives; after a failure each call that waits has it as its outcome
+abbrev pub GivesOutcome : Option Failure → Option Call → Option (Result Response Error) → Type 0
+GivesOutcome failure None given = given ≡ None
+GivesOutcome None (Some (Waiting deadline)) given = given ≡ None
+GivesOutcome (Some why) (Some (Waiting deadline)) given = TellsOutcome (error_of why) given
+GivesOutcome failure (Some Expired) given = TellsOutcome expired_error given
+GivesOutcome failure (Some (Ended outcome)) given = given ≡ Some outcome
+
+-- and what it leaves of the call, by whether the connection has failed: nothing, unless the call goes on to wait
+abbrev pub left_of : Bool → Option Call → Option Call
+left_of failed call = if waits call && not failed then call else None
+
+-- the core with these calls, and with the ended ones of which it is still to be told
+abbrev pub with_calls : {O I : Type 0} → ClientCore O I → List (ℕ × Call) → ClientCore O I
+with_calls c calls = record c { state = record c.state { calls = calls; ended = told_left calls c.state.ended } }
+
+-- the outcome of a call was asked for, and given if there was one
+pub record TakesOutcome {O I : Type 0} (old : ClientCore O I) (id : ℕ) (given : Option (Result Response Error)) (new : ClientCore O I) : Type 0 where
+  pub gives : GivesOutcome old.connection.failure (call_at old.state id) given
+  pub own : call_at new.state id ≡ left_of (is_some old.connection.failure) (call_at old.state id)
+  pub others : OthersStay old.state.calls id new.state.calls
+  pub same : new ≡ with_calls old new.state.calls
+
+-- ---- calls that expire
+-- Source: this project's.
+
+-- whether the call's deadline has passed at a moment
+abbrev pub is_due : ℕ → Call → Bool
+is_due now (Waiting (Some deadline)) = nat_le deadline now
+is_due now call = false
+
+-- the same of what is kept of an id
+abbrev pub due_at : ℕ → Option Call → Bool
+due_at now None = false
+due_at now (Some call) = is_due now call
+
+-- what is kept of an id once a moment has come: a call that is due has expired, and any other stays as it is
+abbrev pub expired_at : ℕ → Option Call → Option Call
+expired_at now None = None
+expired_at now (Some call) = Some (if is_due now call then Expired else call)
+
+-- the ids of the calls that are due, by rising id
+abbrev pub due_ids : ℕ → List (ℕ × Call) → List ℕ
+due_ids now calls = map (λ c. c.0) (filter (λ c. is_due now c.1) calls)
+
+-- the calls that are due have expired, in some order
+pub record Expires (old : Client) (now : ℕ) (new : Client) : Type 0 where
+  pub due : List ℕ
+  pub is_due : IsPermutation due (due_ids now old.calls)
+  pub calls : (k : ℕ) → call_at new k ≡ expired_at now (call_at old k)
+  pub same : new ≡ record old { calls = new.calls; ended = old.ended ++ due }
+
+-- the requests of these calls are taken back: those that haven't begun are thrown away, and where one has, the
+-- connection fails for this
+abbrev pub taken_back : {O I : Type 0} → Connection O I → (ℕ → Bool) → Failure → Connection O I
+taken_back c ids why = record c {
+  outbox = record c.outbox { queue = without c.outbox.queue ids };
+  failure = if has_begun c.outbox.queue ids then first_failure c.failure why else c.failure;
+}
+
+-- A moment passed: the calls that are due have expired. Where requests may be thrown away, theirs are taken back.
+pub record Ticks {O I : Type 0} (seals : Bool) (old : ClientCore O I) (now : ℕ) (new : ClientCore O I) : Type 0 where
+  pub expires : Expires old.state now new.state
+  pub connection : new.connection ≡ (if throws old.state.kind seals
+      then taken_back old.connection (λ id. due_at now (call_at old.state id)) DeadlineDuringWrite else old.connection)
+
+-- the least moment at which a call expires
+pub record IsDeadline (calls : List (ℕ × Call)) (at : ℕ) : Type 0 where
+  pub some : due_ids at calls ≢ []
+  pub earlier : (now : ℕ) → now < at → due_ids now calls ≡ []
+
+-- ---- calls that are dropped
+-- Source: this project's.
+
+-- what dropping leaves of a call
+abbrev pub forgotten : Option Call → Option Call
+forgotten call = None
+
+-- whether dropping the call takes its request back: it still waits, and the connection lives
+abbrev pub takes_back : {O I : Type 0} → Bool → ClientCore O I → ℕ → Bool
+takes_back seals old id = if is_some old.connection.failure then false else if throws old.state.kind seals then waits (call_at old.state id) else false
+
+-- a call was forgotten
+pub record Forgets {O I : Type 0} (seals : Bool) (old : ClientCore O I) (id : ℕ) (new : ClientCore O I) : Type 0 where
+  pub own : call_at new.state id ≡ forgotten (call_at old.state id)
+  pub others : OthersStay old.state.calls id new.state.calls
+  pub same : new ≡ record (with_calls old new.state.calls) {
+    connection = if takes_back seals old id then taken_back old.connection (λ k. nat_eq k id) CancelledDuringWrite else old.connection;
+  }
+
+-- ---- for what a request is refused, from top to bottom; first, where the connection has failed, for that
+-- Source: the Rust crate; the order: this project's.
+
+-- the connection lives, and the request is longer than a message may be
+pub record IsTooLong {O I : Type 0} (old : ClientCore O I) (r : Request) (told : Error) : Type 0 where
+  pub alive : old.connection.failure ≡ None
+  pub above : MESSAGE_LENGTH_MAX < request_size r
+  pub is_told : IsTold (Others (oversize_text (request_size r))) told
+
+-- the connection lives, and the request is no longer than a message may be
+pub record IsSendable {O I : Type 0} (old : ClientCore O I) (r : Request) : Type 0 where
+  pub alive : old.connection.failure ≡ None
+  pub short : request_size r ≤ MESSAGE_LENGTH_MAX
+
+-- and no id is left
+pub record HasNoId {O I : Type 0} (old : ClientCore O I) (r : Request) (told : Error) : Type 0 where
+  pub sendable : IsSendable old r
+  pub used_up : last_id < old.state.next
+  pub is_told : IsTold (Others (codes "stream ids are used up")) told
+
+-- what a client of a kind adds to the text on the safe limit
+abbrev pub advice : ClientKind → List ℕ
+advice Sync = []
+advice Async = advice_text
+
+-- or an id is left, and the request is above the safe limit
+pub record IsAboveLimit {O I : Type 0} (out : OutboundTransform O) (old : ClientCore O I) (r : Request) (told : Error) : Type 0 where
+  pub sendable : IsSendable old r
+  pub in_range : old.state.next ≤ last_id
+  pub above : safe_limit out old.connection.outbox.half < request_size r
+  pub is_told : IsTold (Others (unsafe_payload_text (request_size r) (safe_limit out old.connection.outbox.half) (advice old.state.kind))) told
+
+-- or it isn't, and the half refuses it, for this reason
+pub record IsUnsealed {O I : Type 0} (out : OutboundTransform O) (old : ClientCore O I) (r : Request) (told : Error) : Type 0 where
+  pub sendable : IsSendable old r
+  pub in_range : old.state.next ≤ last_id
+  pub fits : request_size r ≤ safe_limit out old.connection.outbox.half
+  pub frame : Queued
+  pub is_frame : IsRequestFrame old.state.next frame
+  pub why : List ℕ
+  pub refuses : out.refuses old.connection.outbox.half (request_bytes r) (associated frame.message.header) why
+  pub is_told : IsTold (Others (unsealed_text why)) told
+
+-- or memory is wanted
+abbrev pub RefusesRequest : {O I : Type 0} → OutboundTransform O → ClientCore O I → Request → Error → Type 0
+RefusesRequest out old r told =
+    IsFailed old.connection.failure told ⊎ IsTooLong old r told ⊎ HasNoId old r told ⊎ IsAboveLimit out old r told ⊎ IsUnsealed out old r told
+    ⊎ ((told ≡ NoMemory) × (old.connection.failure ≡ None))

@@ -1,0 +1,62 @@
+-- What a client core is, beside its connection: the calls that it keeps, by their ids.
+-- Source: PROTOCOL.md of ttrpc, "Request", "Response" and "Streaming".
+use Rattle.std.specs.Prelude.{◌≡◌, ◌≢◌, ◌≤◌, ◌%◌, ◌^◌, ℕ, ◌+◌, List, [], ◌∷◌, Option, None, Some, Bool, false, ℤ, pos, negsuc, zero, suc}
+use Rattle.std.specs.Map.{lookup}
+use Rattle.std.specs.BTreeMap.{is_at}
+use Rattle.std.specs.Ordering.{nat_cmp}
+use Rattle.ttrpc_wire.specs.Number.{number_of}
+use Rattle.ttrpc_client.specs.Types.{Call, Waiting, ClientKind, Async}
+
+-- all but the connection
+pub record Client : Type 0 where
+  pub kind : ClientKind
+  -- the id of the next call; above 4294967295 there is none
+  pub next : ℕ
+  -- what is kept of each call, by rising id
+  pub calls : List (ℕ × Call)
+  -- the ids of calls that ended since it was last asked which have, in the order in which they ended
+  pub ended : List ℕ
+
+-- no call was made
+abbrev pub new_client : ClientKind → ℕ → Client
+new_client kind next = record { kind = kind; next = next; calls = []; ended = [] }
+
+-- the state of one id: nothing, if it was never used or is gone
+abbrev pub call_in : List (ℕ × Call) → ℕ → Option Call
+call_in calls id = lookup (is_at (nat_cmp id)) calls
+
+-- the state of one id in this client
+abbrev pub call_at : Client → ℕ → Option Call
+call_at c id = call_in c.calls id
+
+-- the calls of all other ids stay as they are
+abbrev pub OthersStay : List (ℕ × Call) → ℕ → List (ℕ × Call) → Type 0
+OthersStay old id new = (k : ℕ) → k ≢ id → call_in new k ≡ call_in old k
+
+-- what holds of every client: ids are odd, none is above 2^32 - 1, and those that were not given have no call
+pub record IsClient (next : ℕ) (calls : List (ℕ × Call)) : Type 0 where
+  pub odd : next % 2 ≡ 1
+  pub in_range : next ≤ 2 ^ 32 + 1
+  pub fresh : (k : ℕ) → next ≤ k → call_in calls k ≡ None
+  pub odd_calls : (k : ℕ) → call_in calls k ≢ None → k % 2 ≡ 1
+
+-- whether the call waits
+abbrev pub waits : Option Call → Bool
+waits (Some (Waiting deadline)) = Bool.true
+waits call = false
+
+-- the moment by which a call must have ended: none where its timeout is 0
+abbrev pub deadline_of : ℕ → ℤ → Option ℕ
+deadline_of now (pos zero) = None
+deadline_of now (pos (suc n)) = Some (now + number_of (pos (suc n)))
+deadline_of now (negsuc n) = Some (now + number_of (negsuc n))
+
+-- whether a request may be thrown away before it begins: its frame must not be sealed
+abbrev pub throws : ClientKind → Bool → Bool
+throws Async false = Bool.true
+throws kind seals = false
+
+-- which ended calls are still to be told, where these calls are left: none if no call is
+abbrev pub told_left : List (ℕ × Call) → List ℕ → List ℕ
+told_left [] ended = []
+told_left (c ∷ cs) ended = ended

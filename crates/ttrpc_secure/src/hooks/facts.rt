@@ -1,0 +1,36 @@
+//! What is known of a connection, kept as it is.
+ghost use Rattle.std.specs.Prelude.{◌≡◌};
+ghost use Rattle.ttrpc_secure.specs.Hooks.Facts.{facts_of};
+
+use crate::hooks::datum::ConnectionData;
+use std::marker::Model;
+
+/// What is known of a connection, kept as it is.
+#[derive(Drop)]
+pub struct ConnectionFacts {
+    data: ConnectionData,
+}
+
+impl Model for ConnectionFacts {
+    ghost use Rattle.ttrpc_secure.specs.Hooks.Facts.{Facts, facts_of};
+
+    ghost Value = { Facts };
+
+    ghost view = { λ a. facts_of a.data.entries };
+}
+
+impl ConnectionFacts {
+    /// Keeps this. Takes no memory.
+    pub fn new(given: ConnectionData) -> ConnectionFacts
+        ensures { result ≡ facts_of given.entries }
+    {
+        ConnectionFacts { data: given }
+    }
+
+    /// What is kept. Takes no memory.
+    pub fn data(&self) -> &ConnectionData
+        ensures { facts_of result.now.entries ≡ self.now }
+    {
+        &self.data
+    }
+}

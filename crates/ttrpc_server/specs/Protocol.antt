@@ -1,0 +1,246 @@
+-- The protocol of a server, from top to bottom: which row of the table a frame has, what the row does, what each call of
+-- the core does, and for what it is refused. Sync rules are the only ones so far; others, and streams, get columns here.
+-- The kinds of frames, and that a request is answered by one response under its stream's id, are PROTOCOL.md's. What it
+-- leaves open, which is codes, texts and which frames are passed over, is as the Rust crate has it. Jobs and the order of
+-- refusals are this project's.
+-- Source: PROTOCOL.md of ttrpc, "Request" and "Response"; the Rust crate; this project's.
+use Rattle.std.specs.Prelude.{◌≡◌, ◌⊎◌, ℕ, ◌<◌, ◌≤◌, ◌-◌, ◌^◌, List, [], ◌∷◌, ◌++◌, length, codes, min, Option, None, Some, Result, Ok, Bool, nat_eq, nat_lt, if◌then◌else◌}
+use Rattle.std.specs.Fmt.{decimal}
+use Rattle.ttrpc_server.specs.Types.{Code, UNKNOWN, INVALID_ARGUMENT, MessageHeader, MESSAGE_LENGTH_MAX, MESSAGE_TYPE_REQUEST, MESSAGE_TYPE_RESPONSE, Request, Response, Error, Others, NoMemory, Queued, OutboundTransform, Arrived, TooLong, Opened, Refused, Failure, JobIdsUsedUp, HandlerError, ActiveJob, Job, Rules}
+use Rattle.ttrpc_wire.specs.Field.{fields_bytes}
+use Rattle.ttrpc_wire.specs.Fold.{read_from}
+use Rattle.ttrpc_proto.specs.ErrorText.{status_of}
+use Rattle.ttrpc_proto.specs.Messages.{empty_request, request_step, response_fields}
+use Rattle.ttrpc_frame.specs.Header.Oversize.{oversize_text}
+use Rattle.ttrpc_secure.specs.declared.transform.InboundTransform.{Ghosts as InboundTransform}
+use Rattle.ttrpc_secure.specs.Hooks.Facts.{Facts}
+use Rattle.ttrpc_secure.specs.Context.Texts.{unopened_text, unsafe_payload_text, unsealed_text}
+use Rattle.ttrpc_secure.specs.Sends.{associated}
+use Rattle.ttrpc_connection.specs.declared.arrived.Opening.{Opening}
+use Rattle.ttrpc_connection.specs.Failure.{IsTold}
+use Rattle.ttrpc_connection.specs.Feeds.{IsFailed, Ways, new_connection}
+use Rattle.ttrpc_connection.specs.Frames.{Sent, SendsAll, safe_limit}
+use Rattle.ttrpc_server.specs.declared.server.ServerCore.{ServerCore}
+use Rattle.ttrpc_server.specs.State.{EndsOne, HandsOne, IsTaken, IsUnknown, Server, Services, has_method, new_server, with_job, with_list}
+
+-- ---- which row a frame has
+-- Source: PROTOCOL.md of ttrpc, "Request"; codes and texts: the Rust crate.
+
+-- the response with the status of this code and message, and no payload
+abbrev pub status_response : Code → List ℕ → Response
+status_response code message = record { status = Some (status_of code message); payload = [] }
+
+-- the inbound half didn't open a payload
+abbrev pub unopened_response_text : List ℕ → List ℕ
+unopened_response_text why = codes "ttrpc err: " ++ unopened_text why
+
+-- no handler has this path
+abbrev pub path_text : List ℕ → List ℕ → List ℕ
+path_text service method = codes "/" ++ service ++ codes "/" ++ method ++ codes " does not exist"
+
+-- what a frame does
+pub data Row : Type 0 where
+  -- nothing
+  Ignore : Row
+  -- this response is sent
+  SendResponse : (response : Response) → Row
+  -- a response of this code is sent, whose text is left open
+  SendCode : (code : Code) → Row
+  -- a job is made of the request
+  MakeJob : (request : Request) → Row
+
+-- the row of a request, and of bytes that mean none
+abbrev pub request_row : Services → Option Request → Row
+request_row services None = SendCode INVALID_ARGUMENT
+request_row services (Some r) =
+    if has_method services r.service r.method then MakeJob r else
+    SendResponse (status_response INVALID_ARGUMENT (path_text r.service r.method))
+
+-- the rows under sync rules, from top to bottom
+abbrev pub sync_row : Services → MessageHeader → Opening → Row
+sync_row services h TooLong = SendResponse (status_response INVALID_ARGUMENT (oversize_text h.length))
+sync_row services h (Refused why) = SendResponse (status_response UNKNOWN (unopened_response_text why))
+sync_row services h (Opened plain) =
+    if nat_lt MESSAGE_LENGTH_MAX (length plain) then SendResponse (status_response INVALID_ARGUMENT (oversize_text (length plain))) else
+    if nat_eq h.type_ MESSAGE_TYPE_REQUEST then request_row services (read_from request_step empty_request plain) else
+    Ignore
+
+-- the row of a frame in the state of a core
+abbrev pub row_of : Server → Arrived → Row
+row_of s a = sync_row s.services a.header a.opening
+
+-- ---- how a response is sent: fitted to the limit, sealed, in a frame of its own
+-- Source: PROTOCOL.md of ttrpc, "Response"; limit and texts: the Rust crate.
+
+-- such a response, whatever its message is
+abbrev pub IsStatusResponse : Code → Response → Type 0
+IsStatusResponse code response = (message : List ℕ) × (response ≡ status_response code message)
+
+-- the written form of a response
+abbrev pub response_bytes : Response → List ℕ
+response_bytes r = fields_bytes (response_fields r)
+
+-- how long a response is, as far as 32 bits can say it
+abbrev pub response_size : Response → ℕ
+response_size r = min (length (response_bytes r)) (2 ^ 32 - 1)
+
+-- an answer may become longer than a message may be, as its caller is told
+abbrev pub limit_text : ℕ → ℕ → List ℕ
+limit_text length limit = codes "response payload " ++ decimal length ++ codes " bytes exceeds safe limit " ++ decimal limit ++ codes " bytes (after transform overhead)"
+
+-- the response, or one that says that it is above the limit
+abbrev pub fit_to_limit : ℕ → Response → Response
+fit_to_limit limit r = if nat_lt limit (response_size r) then status_response INVALID_ARGUMENT (limit_text (response_size r) limit) else r
+
+-- a frame that carries a response under a stream's id
+pub record IsResponseFrame (k : ℕ) (f : Queued) : Type 0 where
+  pub stream_id : f.message.header.stream_id ≡ k
+  pub type_ : f.message.header.type_ ≡ MESSAGE_TYPE_RESPONSE
+  pub flags : f.message.header.flags ≡ 0
+  pub ticket : f.ticket ≡ None
+  pub is_unary_request : f.is_unary_request ≡ Bool.false
+  pub owner : f.owner ≡ 0
+
+-- the response, as it is fitted to the limit, is what was sent, under a stream's id
+pub record Responds (limit k : ℕ) (r : Response) (sent : List Sent) : Type 0 where
+  pub frame : Queued
+  pub is_frame : IsResponseFrame k frame
+  pub fits : response_size (fit_to_limit limit r) ≤ limit
+  pub is : sent ≡ record { frame = frame; plain = response_bytes (fit_to_limit limit r) } ∷ []
+
+-- it is above the limit even so
+abbrev pub IsAboveLimit : ℕ → Response → Type 0
+IsAboveLimit limit r = limit < response_size (fit_to_limit limit r)
+
+-- the half may refuse it, for this reason
+pub record IsUnsealed {O : Type 0} (out : OutboundTransform O) (o : O) (k : ℕ) (r : Response) (why : List ℕ) : Type 0 where
+  pub frame : Queued
+  pub is_frame : IsResponseFrame k frame
+  pub fits : response_size (fit_to_limit (safe_limit out o) r) ≤ safe_limit out o
+  pub refuses : out.refuses o (response_bytes (fit_to_limit (safe_limit out o) r)) (associated frame.message.header) why
+
+-- the core's own answer is sent, or left out where it can't be
+abbrev pub SendsOwnAnswer : {O : Type 0} → OutboundTransform O → O → ℕ → Response → List Sent → Type 0
+SendsOwnAnswer out o k r sent =
+    Responds (safe_limit out o) k r sent
+    ⊎ ((sent ≡ []) × (IsAboveLimit (safe_limit out o) r ⊎ ((why : List ℕ) × IsUnsealed out o k r why)))
+
+-- ---- what a row does
+-- Source: PROTOCOL.md of ttrpc, "Request" and "Response".
+
+-- what a row does with a frame of this header
+abbrev pub Does : {O : Type 0} → OutboundTransform O → Row → Server → O → MessageHeader → List Sent → Server → Type 0
+Does out Ignore old o header sent new = (new ≡ old) × (sent ≡ [])
+Does out (SendResponse r) old o header sent new = (new ≡ old) × SendsOwnAnswer out o header.stream_id r sent
+Does out (SendCode code) old o header sent new = (new ≡ old) × ((r : Response) × IsStatusResponse code r × SendsOwnAnswer out o header.stream_id r sent)
+Does out (MakeJob request) old o header sent new = (new ≡ record old { jobs = with_job old.jobs header request }) × (sent ≡ [])
+
+-- what its row does with a frame that arrived
+abbrev pub serves : {O : Type 0} → OutboundTransform O → Server → O → Arrived → List Sent → Server → Type 0
+serves out old o a sent new = Does out (row_of old a) old o a.header sent new
+
+-- the row makes a job, and no job can get an id
+pub record IsUsedUp (row : Row) (old : Server) (failure : Failure) : Type 0 where
+  pub request : Request
+  pub is_row : row ≡ MakeJob request
+  pub last : old.jobs.last ≡ 2 ^ 64 - 1
+  pub failure_is : failure ≡ JobIdsUsedUp
+
+-- the row of a frame that arrived makes a job, and no job can get an id
+abbrev pub stops_serving : Server → Arrived → Failure → Type 0
+stops_serving old a failure = IsUsedUp (row_of old a) old failure
+
+-- what the clauses know of a server core over these halves
+abbrev pub serving : {O I : Type 0} → OutboundTransform O → InboundTransform I → Ways Server O I
+serving out in_ = record { out = out; in_ = in_; core = record { reacts = serves out; fails = stops_serving } }
+
+-- ---- what the calls do: taking, answering and ending a job
+-- Source: this project's.
+
+-- a core that has made no job, with a new connection
+abbrev pub new_core : {O I : Type 0} → Rules → Services → Facts → O → I → ServerCore O I
+new_core rules services known outbound inbound = record { state = new_server rules services; connection = new_connection known outbound inbound }
+
+-- the core with these jobs
+abbrev pub with_jobs : {O I : Type 0} → ServerCore O I → List ActiveJob → ServerCore O I
+with_jobs c jobs = record c { state = with_list c.state jobs }
+
+-- the connection lives, and the first of the jobs that wait was handed out
+pub record Hands {O I : Type 0} (old : ServerCore O I) (handed : Job) (new : ServerCore O I) : Type 0 where
+  pub alive : old.connection.failure ≡ None
+  pub hands : HandsOne old.state.jobs.list handed new.state.jobs.list
+  pub same : new ≡ with_jobs old new.state.jobs.list
+
+-- a response is queued under a stream's id, and no job ends
+pub record QueuesResponse {O I : Type 0} (out : OutboundTransform O) (old : ServerCore O I) (k : ℕ) (response : Response) (new : ServerCore O I) : Type 0 where
+  pub alive : old.connection.failure ≡ None
+  pub sent : List Sent
+  pub responds : Responds (safe_limit out old.connection.outbox.half) k response sent
+  pub sends : SendsAll out old.connection.outbox sent new.connection.outbox
+  pub same : new ≡ record old { connection = record old.connection { outbox = new.connection.outbox } }
+
+-- a job that was taken ends, and nothing is queued
+pub record Finishes {O I : Type 0} (old : ServerCore O I) (id : ℕ) (new : ServerCore O I) : Type 0 where
+  pub alive : old.connection.failure ≡ None
+  pub job : ActiveJob
+  pub ends : EndsOne old.state.jobs.list id job new.state.jobs.list
+  pub same : new ≡ with_jobs old new.state.jobs.list
+
+-- a job that was taken is answered
+pub record Answers {O I : Type 0} (out : OutboundTransform O) (old : ServerCore O I) (id : ℕ) (response : Response) (new : ServerCore O I) : Type 0 where
+  pub alive : old.connection.failure ≡ None
+  pub job : ActiveJob
+  pub ends : EndsOne old.state.jobs.list id job new.state.jobs.list
+  pub sent : List Sent
+  pub responds : Responds (safe_limit out old.connection.outbox.half) job.header.stream_id response sent
+  pub sends : SendsAll out old.connection.outbox sent new.connection.outbox
+  pub same : new ≡ record (with_jobs old new.state.jobs.list) { connection = record old.connection { outbox = new.connection.outbox } }
+
+-- a handler failed: its job is gone, and the connection fails
+pub record Drops {O I : Type 0} (old : ServerCore O I) (id : ℕ) (new : ServerCore O I) : Type 0 where
+  pub alive : old.connection.failure ≡ None
+  pub job : ActiveJob
+  pub ends : EndsOne old.state.jobs.list id job new.state.jobs.list
+  pub same : new ≡ record (with_jobs old new.state.jobs.list) { connection = record old.connection { failure = Some HandlerError } }
+
+-- ---- for what an answer, a response and a job's end are refused, in the order of the tests
+-- Source: this project's; texts: the Rust crate.
+
+-- the connection lives, and no such job waits for its answer
+pub record HasNoJob {O I : Type 0} (old : ServerCore O I) (id : ℕ) (told : Error) : Type 0 where
+  pub alive : old.connection.failure ≡ None
+  pub unknown : IsUnknown old.state.jobs.list id
+  pub is_told : IsTold (Others (codes "unknown job")) told
+
+-- a response can't be sent: it is above the limit, the half refuses it, or memory is wanted
+abbrev pub IsUnsent : {O : Type 0} → OutboundTransform O → O → ℕ → Response → Error → Type 0
+IsUnsent out o k r told =
+    (IsAboveLimit (safe_limit out o) r × IsTold (Others (unsafe_payload_text (response_size (fit_to_limit (safe_limit out o) r)) (safe_limit out o) [])) told)
+    ⊎ ((why : List ℕ) × IsUnsealed out o k r why × IsTold (Others (unsealed_text why)) told)
+    ⊎ (told ≡ NoMemory)
+
+-- the connection lives, the job was taken, and the response to it can't be sent
+pub record HasUnsent {O I : Type 0} (out : OutboundTransform O) (old : ServerCore O I) (id : ℕ) (response : Result Response Error) (told : Error) : Type 0 where
+  pub alive : old.connection.failure ≡ None
+  pub job : ActiveJob
+  pub at : IsTaken old.state.jobs.list id job
+  pub answer : Response
+  pub is_answer : response ≡ Ok answer
+  pub unsent : IsUnsent out old.connection.outbox.half job.header.stream_id answer told
+
+-- for what an answer is refused: the connection has failed, or there is no such job, or the response can't be sent
+abbrev pub RefusesAnswer : {O I : Type 0} → OutboundTransform O → ServerCore O I → ℕ → Result Response Error → Error → Type 0
+RefusesAnswer out old id response told = IsFailed old.connection.failure told ⊎ HasNoJob old id told ⊎ HasUnsent out old id response told
+
+-- the connection lives, and the response can't be sent
+pub record HasUnsentResponse {O I : Type 0} (out : OutboundTransform O) (old : ServerCore O I) (k : ℕ) (response : Response) (told : Error) : Type 0 where
+  pub alive : old.connection.failure ≡ None
+  pub unsent : IsUnsent out old.connection.outbox.half k response told
+
+-- for what a response is refused: the connection has failed, or the response can't be sent
+abbrev pub RefusesResponse : {O I : Type 0} → OutboundTransform O → ServerCore O I → ℕ → Response → Error → Type 0
+RefusesResponse out old k response told = IsFailed old.connection.failure told ⊎ HasUnsentResponse out old k response told
+
+-- for what a job's end is refused: the connection has failed, or there is no such job
+abbrev pub RefusesFinish : {O I : Type 0} → ServerCore O I → ℕ → Error → Type 0
+RefusesFinish old id told = IsFailed old.connection.failure told ⊎ HasNoJob old id told

@@ -1,0 +1,123 @@
+-- What a server core is, beside its connection: the methods and streams that it has, and its jobs that weren't answered.
+-- Source: PROTOCOL.md of ttrpc, "RPC", "Request" and "Response".
+use Rattle.std.specs.Prelude.{◌≡◌, ◌≢◌, ◌<◌, ◌≤◌, ℕ, ◌+◌, ◌&&◌, ◌||◌, List, [], ◌∷◌, ◌++◌, filter, nat_eq, None, Some, is_some, Bool, false}
+use Rattle.std.specs.List.{list_any, AllByRecursion}
+use Rattle.std.specs.Map.{lookup}
+use Rattle.std.specs.Option.{option_map_or}
+use Rattle.std.specs.Str.{bytes_eq}
+use Rattle.ttrpc_server.specs.Types.{MessageHeader, Request, ActiveJob, Job, Rules}
+
+-- ---- methods and streams
+
+-- names under the names of services
+abbrev pub Names : Type 0
+Names = List (List ℕ × List (List ℕ))
+
+-- a service of the first name has one of the second
+abbrev pub has_name : Names → List ℕ → List ℕ → Bool
+has_name services service name = option_map_or (λ names. list_any (bytes_eq name) names) (lookup (bytes_eq service) services) false
+
+-- there is one more, if it wasn't there, and nothing else changed
+abbrev pub AddsName : Names → List ℕ → List ℕ → Names → Type 0
+AddsName old service name new = (s n : List ℕ) → has_name new s n ≡ ((bytes_eq s service && bytes_eq n name) || has_name old s n)
+
+-- what a server has
+pub record Services : Type 0 where
+  pub methods : Names
+  pub streams : Names
+
+-- no method and no stream
+abbrev pub no_services : Services
+no_services = record { methods = []; streams = [] }
+
+-- whether a service has this method
+abbrev pub has_method : Services → List ℕ → List ℕ → Bool
+has_method services service method = has_name services.methods service method
+
+-- whether a service has this stream
+abbrev pub has_stream : Services → List ℕ → List ℕ → Bool
+has_stream services service stream = has_name services.streams service stream
+
+-- ---- jobs
+
+-- the jobs of a server
+pub record JobList : Type 0 where
+  -- the id of the last job that was made, 0 before the first
+  pub last : ℕ
+  -- the jobs that weren't answered, by rising id; one that was taken has its request no more
+  pub list : List ActiveJob
+
+-- no job was made
+abbrev pub no_jobs : JobList
+no_jobs = record { last = 0; list = [] }
+
+-- the ids rise, from above the lower number to at most the upper one
+abbrev pub Rising : ℕ → List ActiveJob → ℕ → Type 0
+Rising low [] high = low ≤ high
+Rising low (j ∷ js) high = (low < j.id) × Rising j.id js high
+
+-- the state of one stream id: its jobs that weren't answered
+abbrev pub jobs_at : List ActiveJob → ℕ → List ActiveJob
+jobs_at jobs k = filter (λ j. nat_eq j.header.stream_id k) jobs
+
+-- whether a job waits to be handed out
+abbrev pub waits : ActiveJob → Bool
+waits j = is_some j.request
+
+-- no job waits
+abbrev pub NoneWaits : List ActiveJob → Type 0
+NoneWaits jobs = AllByRecursion (λ (j : ActiveJob). j.request ≡ None) jobs
+
+-- a job as it is made
+abbrev pub new_job : ℕ → MessageHeader → Request → ActiveJob
+new_job id header request = record { id = id; header = header; request = Some request }
+
+-- a job was made, and waits
+abbrev pub with_job : JobList → MessageHeader → Request → JobList
+with_job s header request = record { last = s.last + 1; list = s.list ++ new_job (s.last + 1) header request ∷ [] }
+
+-- the first of the jobs that wait was handed out
+pub record HandsOne (old : List ActiveJob) (handed : Job) (new : List ActiveJob) : Type 0 where
+  pub job : ActiveJob
+  pub front : List ActiveJob
+  pub back : List ActiveJob
+  pub was : old ≡ front ++ job ∷ back
+  pub id : handed.id ≡ job.id
+  pub header : handed.header ≡ job.header
+  pub stream : handed.stream ≡ Bool.false
+  pub request : job.request ≡ Some handed.request
+  pub first : NoneWaits front
+  pub jobs : new ≡ front ++ record job { request = None } ∷ back
+
+-- the job has this id and was taken
+pub record IsTaken (jobs : List ActiveJob) (id : ℕ) (job : ActiveJob) : Type 0 where
+  pub front : List ActiveJob
+  pub back : List ActiveJob
+  pub is : jobs ≡ front ++ job ∷ back
+  pub is_job : job.id ≡ id
+  pub taken : job.request ≡ None
+
+-- no job of this id was taken and waits for its answer
+abbrev pub IsUnknown : List ActiveJob → ℕ → Type 0
+IsUnknown jobs id = AllByRecursion (λ (j : ActiveJob). j.id ≡ id → j.request ≢ None) jobs
+
+-- a job that was taken is gone
+pub record EndsOne (old : List ActiveJob) (id : ℕ) (job : ActiveJob) (new : List ActiveJob) : Type 0 where
+  pub at : IsTaken old id job
+  pub jobs : new ≡ at.front ++ at.back
+
+-- ---- all of it
+
+-- all but the connection
+pub record Server : Type 0 where
+  pub rules : Rules
+  pub services : Services
+  pub jobs : JobList
+
+-- a server that has made no job
+abbrev pub new_server : Rules → Services → Server
+new_server rules services = record { rules = rules; services = services; jobs = no_jobs }
+
+-- the server with this list of jobs
+abbrev pub with_list : Server → List ActiveJob → Server
+with_list s list = record s { jobs = record s.jobs { list = list } }

@@ -1,0 +1,17 @@
+-- When what was written is to leave.
+-- Source: this project's.
+use Rattle.std.specs.Prelude.{◌+◌, ◌-◌, ◌^◌, min, ℕ, Bool, true, false, if◌then◌else◌, nat_le}
+use Rattle.ttrpc_sync.specs.declared.ends.batch.Batch.{Batch}
+use Rattle.ttrpc_sync.specs.declared.ends.batch.TheConstants.{BATCH_BYTES}
+
+-- the batch with so many bytes more, by one loan
+abbrev pub with_loan : Batch → (count : ℕ) → (ends_frame : Bool) → Batch
+with_loan batch count ends_frame = record {
+  bytes = min (batch.bytes + count) (2 ^ 64 - 1);
+  loans = min (batch.loans + 1) (2 ^ 32 - 1);
+  ends_frame = ends_frame;
+}
+
+-- It ends with a frame, and has enough bytes, or so many loans.
+abbrev pub is_due : Batch → (loans : ℕ) → Bool
+is_due batch loans = if batch.ends_frame then (if nat_le BATCH_BYTES batch.bytes then true else nat_le loans batch.loans) else false

@@ -1,0 +1,31 @@
+//! The next action of a thread that has queued a frame.
+ghost use Rattle.std.specs.Prelude.{◌≡◌};
+ghost use Rattle.ttrpc_sync.specs.Queuing.{queuing_of, turn_after_queuing};
+
+use crate::ends::Turn;
+
+/// The next action of a thread that has queued a frame, once the lock is let go.
+#[derive(Clone, Copy, Debug, PartialEq, Eq)]
+pub enum AfterQueuing {
+    /// It writes the frame that is queued: it has the turn.
+    Write,
+    /// It wakes the writer thread.
+    Wake,
+    /// Nothing: the thread that has the turn, or was woken, looks again.
+    Leave,
+}
+
+/// Decides, under the lock, what the thread does next: it writes itself if it may and nobody else does.
+pub fn after_queuing(turn: &mut Turn, may_write: bool) -> AfterQueuing
+    ensures result { result ≡ queuing_of turn.old may_write }
+    ensures turn { turn.new ≡ turn_after_queuing turn.old may_write }
+{
+    if may_write && turn.take() {
+        return AfterQueuing::Write;
+    }
+    if turn.wakes() {
+        AfterQueuing::Wake
+    } else {
+        AfterQueuing::Leave
+    }
+}

@@ -1,0 +1,176 @@
+//! A client's connection, which lives as long as a client of it.
+use crate::ports::{ClientHeld, ClientRead, ClientShared, LONE_FRAME, Manner};
+use std::alloc::Global;
+use std::sync::{Arc, MutexGuard};
+use std::time::Duration;
+use ttrpc_client::CallId;
+use ttrpc_client::call::deadline_of;
+use ttrpc_proto::{Error, Request, Response, Result};
+use ttrpc_secure::{ConnectionData, InboundTransform, OutboundTransform};
+use ttrpc_sync::{AfterQueuing, Connected, Host, Link, after_queuing, moment};
+
+/// A client's connection. It is closed as the last client of it is dropped.
+pub struct ClientConn<O: OutboundTransform + Drop, I: InboundTransform + Drop> {
+    link: Arc<Link<ClientShared<O, I>>, Global>,
+    data: ConnectionData,
+}
+
+impl<O: OutboundTransform + Drop, I: InboundTransform + Drop> Drop for ClientConn<O, I> {
+    fn drop(self) {
+        let ClientConn { link, data: _ } = self;
+        link.close();
+        link.shared().abandon();
+    }
+}
+
+/// A call that waits for its outcome.
+#[derive(Clone, Copy)]
+struct Waiting {
+    id: CallId,
+    /// The moment at which it expires, in nanoseconds.
+    deadline: Option<u128>,
+    /// Whether its caller may read for itself.
+    is_alone: bool,
+}
+
+/// A call whose request was queued, once the lock is let go.
+#[derive(Clone, Copy)]
+struct Asked {
+    waiting: Waiting,
+    queued: AfterQueuing,
+    /// Whether the reader thread is to be woken.
+    wakes: bool,
+}
+
+impl<O: OutboundTransform + Drop, I: InboundTransform + Drop> ClientConn<O, I> {
+    /// A connection over `link`, with its data.
+    pub fn new(
+        link: Arc<Link<ClientShared<O, I>>, Global>,
+        data: ConnectionData,
+    ) -> ClientConn<O, I> {
+        ClientConn { link, data }
+    }
+
+    /// What is known of the connection.
+    pub fn connection_data(&self) -> &ConnectionData {
+        &self.data
+    }
+
+    /// Makes a call, and waits for its outcome.
+    pub fn call<R: Host>(&self, rt: &R, request: &Request) -> Result<Response> {
+        let waiting = self.ask(rt, request, moment(rt)?)?;
+        if waiting.is_alone {
+            self.read_for(rt, waiting.id);
+        }
+        self.wait(rt, waiting)
+    }
+
+    /// Queues the request of a call, has it written, and has a thread read.
+    fn ask<R: Host>(&self, rt: &R, request: &Request, now: u64) -> Result<Waiting> {
+        let shared = self.link.shared();
+        let mut guard = shared.held().lock(rt);
+        let asked = queue_request(&mut guard, rt.alloc(), request, now)?;
+        drop(guard);
+        self.link.go_on(rt, asked.queued);
+        if asked.wakes {
+            shared.wake_reader();
+        }
+        Ok(asked.waiting)
+    }
+
+    /// Reads until this call has ended, if nobody else reads.
+    fn read_for<R: Host>(&self, rt: &R, id: CallId) {
+        let shared = self.link.shared();
+        let may_read = shared.held().lock(rt).reading.take(id);
+        if may_read {
+            let mut port = ClientRead::new(rt, rt.alloc(), shared);
+            self.link.read_on(rt, &mut port);
+        }
+    }
+
+    /// Waits for the outcome of a call. It tells the core the time whenever it wakes.
+    fn wait<R: Host>(&self, rt: &R, waiting: Waiting) -> Result<Response> {
+        let shared = self.link.shared();
+        let mut guard = shared.held().lock(rt);
+        for _ in rt.forever() {
+            if let Some(outcome) = guard.take_outcome(rt.alloc(), waiting.id) {
+                guard.reading.finished(waiting.id, is_answer(&outcome));
+                return outcome;
+            }
+            guard = self.sleep(rt, guard, waiting);
+            let has_ticked = ticked(rt, &mut guard);
+            if let Err(error) = has_ticked {
+                guard.drop_call(waiting.id);
+                guard.reading.finished(waiting.id, false);
+                return Err(error);
+            }
+        }
+        unreachable!()
+    }
+
+    /// Waits until something happens to the call, or its deadline has come.
+    fn sleep<'a, R: Host>(
+        &self,
+        rt: &R,
+        guard: MutexGuard<'a, ClientHeld<O, I>>,
+        waiting: Waiting,
+    ) -> MutexGuard<'a, ClientHeld<O, I>> {
+        let caller = self.link.shared().caller(waiting.id);
+        match waiting.deadline {
+            None => caller.wait(rt, guard),
+            Some(deadline) => {
+                let now = u128::from(moment(rt).unwrap_or(u64::MAX));
+                let left = u64::try_from(deadline.saturating_sub(now)).unwrap_or(u64::MAX);
+                caller.wait_timeout(rt, guard, Duration::from_nanos(left)).0
+            }
+        }
+    }
+}
+
+/// Whether the peer has answered the call, and so has read its request.
+fn is_answer(outcome: &Result<Response>) -> bool {
+    matches!(outcome, Ok(_) | Err(Error::RpcStatus(_)))
+}
+
+/// Queues the request of a call, and says what is to be done next. Its caller writes and reads for itself where no other
+/// call is under way, it has no deadline, and the socket surely has room for its frame: a peer that writes or reads
+/// nothing would hold it.
+fn queue_request<O: OutboundTransform + Drop, I: InboundTransform + Drop>(
+    held: &mut ClientHeld<O, I>,
+    alloc: Global,
+    request: &Request,
+    now: u64,
+) -> Result<Asked> {
+    let deadline = deadline_of(now, request.timeout_nano);
+    let nothing_waits = held.core.lendable() == 0;
+    let id = held.request(alloc, request, now)?;
+    let manner = Manner {
+        has_deadline: deadline.is_some(),
+        is_short: nothing_waits && held.core.lendable() <= LONE_FRAME,
+    };
+    let is_alone = held.reading.begins(id, manner);
+    let queued = after_queuing(&mut held.turn, is_alone);
+    let wakes = !is_alone && held.reading.wakes();
+    Ok(Asked {
+        waiting: Waiting {
+            id,
+            deadline,
+            is_alone,
+        },
+        queued,
+        wakes,
+    })
+}
+
+/// Tells the core the moment, where a call may expire.
+fn ticked<R: Host, O: OutboundTransform + Drop, I: InboundTransform + Drop>(
+    rt: &R,
+    held: &mut ClientHeld<O, I>,
+) -> Result<()> {
+    if held.core.next_deadline().is_some() {
+        held.tick(moment(rt)?);
+        // Those that expired wake by themselves.
+        let _ = held.note_ended();
+    }
+    Ok(())
+}

@@ -1,0 +1,112 @@
+//! Many calls of a client at once.
+use crate::tests::client::ASKED;
+use crate::tests::client_steps::{ends, gives, usual_request};
+use crate::tests::script::Told;
+use crate::tests::steps::leaves;
+use crate::tests::under_test::{Client, End, Met};
+use std::alloc::Global;
+use ttrpc_proto::Request;
+use ttrpc_wire::values::slices::behind;
+
+/// So many calls are made and written before the first is answered. The last is answered first, with its own id's lowest
+/// byte, which is told in that order, and each has its own outcome.
+pub fn calls_last_first<C: Client>(alloc: Global, core: &mut C, count: u32) -> Met {
+    let request = usual_request(alloc, 10)?;
+    Ok(
+        calls(alloc, core, &request, count)?
+            && writes(core, count)
+            && answers_last_first(alloc, core, count)?
+            && tells_last_first(core, count)
+            && gives_each(alloc, core, count)?,
+    )
+}
+
+/// So many calls are made, each due a nanosecond behind the one before, and all expire by the tick at which the last is
+/// due: each is told of and has its outcome, and no request leaves.
+pub fn calls_expire_at_once<C: Client>(alloc: Global, core: &mut C, count: u32) -> Met {
+    let request = usual_request(alloc, 10)?;
+    if !calls(alloc, core, &request, count)? {
+        return Ok(false);
+    }
+    core.tick(u64::from(count).wrapping_add(9));
+    Ok(leaves(core, b"") && tells_all(core, count) && expires_each(alloc, core, count)?)
+}
+
+/// The id of this call, of those from 0 on.
+fn id_of(number: u32) -> u32 {
+    number.wrapping_mul(2).wrapping_add(1)
+}
+
+/// Each is made a nanosecond behind the one before.
+fn calls<C: Client>(alloc: Global, core: &mut C, request: &Request, count: u32) -> Met {
+    for number in 0..count {
+        if core.request(alloc, request, u64::from(number))? != id_of(number) {
+            return Ok(false);
+        }
+    }
+    Ok(true)
+}
+
+/// The usual request leaves under each id.
+fn writes<C: End>(core: &mut C, count: u32) -> bool {
+    for number in 0..count {
+        let [a, b, c, d] = id_of(number).to_be_bytes();
+        let is_written = leaves(core, &[0, 0, 0, 0x18, a, b, c, d, 1, 0])
+            && leaves(core, behind(ASKED, 10));
+        if !is_written {
+            return false;
+        }
+    }
+    true
+}
+
+fn answers_last_first<C: End>(alloc: Global, core: &mut C, count: u32) -> Met {
+    for number in (0..count).rev() {
+        let [a, b, c, d] = id_of(number).to_be_bytes();
+        core.feed(alloc, &[0, 0, 0, 5, a, b, c, d, 2, 0, 0x0a, 0, 0x12, 1, d])?;
+    }
+    Ok(true)
+}
+
+fn tells_last_first<C: Client>(core: &mut C, count: u32) -> bool {
+    for number in (0..count).rev() {
+        if core.next_ended() != Some(id_of(number)) {
+            return false;
+        }
+    }
+    core.next_ended().is_none()
+}
+
+fn gives_each<C: Client>(alloc: Global, core: &mut C, count: u32) -> Met {
+    for number in 0..count {
+        let id = id_of(number);
+        let [_, _, _, d] = id.to_be_bytes();
+        if !gives(alloc, core, id, true, d)? {
+            return Ok(false);
+        }
+    }
+    Ok(true)
+}
+
+fn tells_all<C: Client>(core: &mut C, count: u32) -> bool {
+    for _ in 0..count {
+        if core.next_ended().is_none() {
+            return false;
+        }
+    }
+    core.next_ended().is_none()
+}
+
+fn expires_each<C: Client>(alloc: Global, core: &mut C, count: u32) -> Met {
+    for number in 0..count {
+        if !ends(
+            alloc,
+            core,
+            id_of(number),
+            Told::Others("Request deadline elapsed"),
+        )? {
+            return Ok(false);
+        }
+    }
+    Ok(true)
+}

@@ -1,0 +1,198 @@
+//! Both cores over any halves, as scripts see them.
+use crate::server::registry;
+use crate::tests::client_steps::{client_refusal, client_step};
+use crate::tests::halves::Half;
+use crate::tests::script::{Start, Step};
+use crate::tests::server_steps::{server_refusal, server_step};
+use crate::tests::under_test::{Client, Core, End, Met, Server};
+use std::alloc::Global;
+use std::test::Fail;
+use ttrpc_client::{CallId, ClientCore, ClientKind};
+use ttrpc_proto::{Error, Request, Response};
+use ttrpc_secure::{ConnectionContext, InboundTransform, OutboundTransform};
+use ttrpc_server::{Job, JobId, Rules, ServerCore};
+
+/// The last id that a call may have.
+const LAST_ID: CallId = 4294967295;
+
+impl<O: OutboundTransform + Drop, I: InboundTransform + Drop> End for ServerCore<O, I> {
+    fn feed(&mut self, alloc: Global, piece: &[u8]) -> Result<usize, Error> {
+        ServerCore::feed(self, alloc, piece, 0)
+    }
+
+    fn lend(&mut self, buffer: &mut [u8]) -> usize {
+        ServerCore::lend(self, buffer)
+    }
+
+    fn lent(&self) -> usize {
+        ServerCore::lent(self)
+    }
+
+    fn report(&mut self) {
+        let lent = ServerCore::lent(self);
+        self.wrote(lent);
+    }
+
+    fn end_of_input(&mut self) {
+        ServerCore::end_of_input(self);
+    }
+
+    fn fail(&mut self, error: Error) {
+        ServerCore::fail(self, error);
+    }
+
+    fn failure(&self, alloc: Global) -> Option<Error> {
+        ServerCore::failure(self, alloc)
+    }
+}
+
+impl<O: OutboundTransform + Drop, I: InboundTransform + Drop> Server for ServerCore<O, I> {
+    fn feed_front(&mut self, alloc: Global, piece: &[u8]) -> Result<usize, Error> {
+        ServerCore::feed_front(self, alloc, piece, 0)
+    }
+
+    fn at_boundary(&self) -> bool {
+        ServerCore::at_boundary(self)
+    }
+
+    fn take_job(&mut self) -> Option<Job> {
+        ServerCore::take_job(self)
+    }
+
+    fn answer(
+        &mut self,
+        alloc: Global,
+        id: JobId,
+        answer: &Result<Response, Error>,
+    ) -> Result<(), Error> {
+        ServerCore::answer(self, alloc, id, answer)
+    }
+
+    fn respond(&mut self, alloc: Global, stream_id: u32, response: &Response) -> Result<(), Error> {
+        ServerCore::respond(self, alloc, stream_id, response)
+    }
+
+    fn finish(&mut self, alloc: Global, id: JobId) -> Result<(), Error> {
+        ServerCore::finish(self, alloc, id)
+    }
+
+    fn stream_of(&self, id: JobId) -> Option<u32> {
+        ServerCore::stream_of(self, id)
+    }
+
+    fn jobs_waiting(&self) -> u64 {
+        ServerCore::jobs_waiting(self)
+    }
+
+    fn jobs_taken(&self) -> u64 {
+        ServerCore::jobs_taken(self)
+    }
+
+    fn has_unsent(&self) -> bool {
+        ServerCore::has_unsent(self)
+    }
+}
+
+impl<O: OutboundTransform + Half + Drop, I: InboundTransform + Half + Drop> Core
+    for ServerCore<O, I> {
+    type Kind = Rules;
+
+    fn start(alloc: Global, rules: Rules, start: Start) -> Result<Self, Fail> {
+        let registry = registry(alloc)?;
+        Ok(ServerCore::new(alloc, rules, registry, context(alloc, start)))
+    }
+
+    fn refusal(&mut self, alloc: Global) -> Result<Option<Error>, Fail> {
+        Ok(server_refusal(alloc, self))
+    }
+
+    fn own_step(&mut self, alloc: Global, step: &Step, cut: usize) -> Met {
+        server_step(alloc, self, step, cut)
+    }
+}
+
+impl<O: OutboundTransform + Drop, I: InboundTransform + Drop> End for ClientCore<O, I> {
+    fn feed(&mut self, alloc: Global, piece: &[u8]) -> Result<usize, Error> {
+        ClientCore::feed(self, alloc, piece)
+    }
+
+    fn lend(&mut self, buffer: &mut [u8]) -> usize {
+        ClientCore::lend(self, buffer)
+    }
+
+    fn lent(&self) -> usize {
+        ClientCore::lent(self)
+    }
+
+    fn report(&mut self) {
+        let lent = ClientCore::lent(self);
+        self.wrote(lent);
+    }
+
+    fn end_of_input(&mut self) {
+        ClientCore::end_of_input(self);
+    }
+
+    fn fail(&mut self, error: Error) {
+        ClientCore::fail(self, error);
+    }
+
+    fn failure(&self, alloc: Global) -> Option<Error> {
+        ClientCore::failure(self, alloc)
+    }
+}
+
+impl<O: OutboundTransform + Drop, I: InboundTransform + Drop> Client for ClientCore<O, I> {
+    fn request(&mut self, alloc: Global, request: &Request, now: u64) -> Result<CallId, Error> {
+        ClientCore::request(self, alloc, request, now)
+    }
+
+    fn take_outcome(&mut self, alloc: Global, id: CallId) -> Option<Result<Response, Error>> {
+        ClientCore::take_outcome(self, alloc, id)
+    }
+
+    fn drop_call(&mut self, id: CallId) {
+        ClientCore::drop_call(self, id);
+    }
+
+    fn tick(&mut self, now: u64) {
+        ClientCore::tick(self, now);
+    }
+
+    fn next_ended(&mut self) -> Option<CallId> {
+        ClientCore::next_ended(self)
+    }
+
+    fn next_deadline(&self) -> Option<u64> {
+        ClientCore::next_deadline(self)
+    }
+}
+
+impl<O: OutboundTransform + Half + Drop, I: InboundTransform + Half + Drop> Core
+    for ClientCore<O, I> {
+    type Kind = ClientKind;
+
+    fn start(alloc: Global, kind: ClientKind, start: Start) -> Result<Self, Fail> {
+        let context = context(alloc, start);
+        Ok(match start {
+            Start::AtLastId => ClientCore::starting_at(alloc, kind, context, LAST_ID),
+            Start::Fresh | Start::Room(_) => ClientCore::new(alloc, kind, context),
+        })
+    }
+
+    fn refusal(&mut self, alloc: Global) -> Result<Option<Error>, Fail> {
+        client_refusal(alloc, self)
+    }
+
+    fn own_step(&mut self, alloc: Global, step: &Step, _cut: usize) -> Met {
+        client_step(alloc, self, step)
+    }
+}
+
+/// A context of halves that begin so.
+fn context<O: OutboundTransform + Half, I: InboundTransform + Half>(
+    alloc: Global,
+    start: Start,
+) -> ConnectionContext<O, I> {
+    ConnectionContext::of_halves(alloc, O::start(start), I::start(start))
+}

@@ -1,0 +1,16 @@
+mod client;
+mod client_numbers;
+mod client_steps;
+mod ends;
+mod halves;
+mod known_tests;
+mod plain_client_tests;
+mod plain_server_tests;
+mod script;
+mod server_numbers;
+mod server_steps;
+mod steps;
+mod texts_tests;
+mod transforms_client_tests;
+mod transforms_server_tests;
+mod under_test;

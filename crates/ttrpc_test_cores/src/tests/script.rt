@@ -1,0 +1,167 @@
+//! What scripts are written in.
+
+/// How an error is told.
+#[derive(Clone, Copy)]
+pub enum Told {
+    /// `Error::Others` of this text.
+    Others(&'static str),
+    /// `Error::Others` of a text that begins so.
+    Begins(&'static str),
+    /// `Error::Socket` of this text.
+    Socket(&'static str),
+    /// `Error::RpcStatus` of this code and message.
+    Status(i32, &'static str),
+}
+
+/// What is done to a core, and what is looked for. A step that a core doesn't know isn't met.
+#[derive(Clone, Copy)]
+pub enum Step {
+    // ---- of either core
+    /// Takes these bytes, in the run's pieces.
+    Feed(&'static [u8]),
+    /// Takes so many bytes 7, in the run's pieces.
+    FeedSevens(usize),
+    /// Takes the front of these bytes up to the run's cut, as one piece.
+    FeedToCut(&'static [u8]),
+    /// Takes what stands behind the run's cut, as one piece.
+    FeedFromCut(&'static [u8]),
+    /// All that is left to be written is this, and it leaves.
+    Writes(&'static [u8]),
+    /// The same of what stands behind so many bytes of these.
+    WritesBehind(&'static [u8], usize),
+    /// A buffer of so many bytes, at most 64, gets those of these bytes from the second number up to the third.
+    Lends(usize, &'static [u8], usize, usize),
+    /// So many bytes are lent.
+    Lent(usize),
+    /// What was lent is reported as written.
+    Reports,
+    /// The bytes from the first number up to the second leave.
+    Leaves(&'static [u8], usize, usize),
+    /// The input ends.
+    EndsInput,
+    /// The connection is failed, with a text for a socket's error.
+    FailsBy(&'static str),
+    /// The connection hasn't failed.
+    IsAlive,
+    /// The connection has failed, with this text: nothing is taken, lent or asked any more.
+    HasFailed(&'static str),
+
+    // ---- of a server
+    /// Takes the first bytes, in the run's pieces. Behind each piece each job is answered with its own payload, and what
+    /// is written then is the second bytes.
+    Serves(&'static [u8], &'static [u8]),
+    /// One front of these bytes has so many.
+    Front(&'static [u8], usize),
+    /// Fronts of what stands behind the first number of bytes end a frame after the second.
+    Frame(&'static [u8], usize, usize),
+    /// Fronts of these bytes up to the run's cut take all of them.
+    FrameToCut(&'static [u8]),
+    /// Fronts of what stands behind the run's cut take all of it.
+    FrameFromCut(&'static [u8]),
+    /// No front is taken of what stands behind so many of these bytes.
+    RefusesFront(&'static [u8], usize, Told),
+    /// Whether no frame has begun.
+    AtBoundary(bool),
+    /// The job that is handed out has this id, this stream and this payload.
+    Takes(u64, u32, &'static [u8]),
+    /// No job is handed out.
+    TakesNone,
+    /// The job of this id is answered with this payload.
+    Answers(u64, &'static [u8]),
+    /// The same with so many bytes 7.
+    AnswersSevens(u64, usize),
+    /// An answer to the first job is refused so, twice, and the same answer is given to the second.
+    AnswersAgain(u64, Told, u64, &'static [u8]),
+    /// An answer to the job of this id is refused so, and so again.
+    RefusesAnswer(u64, Told),
+    /// The handler of the job of this id failed.
+    Breaks(u64),
+    /// A response with this payload is queued under this stream's id.
+    Responds(u32, &'static [u8]),
+    /// A response under this stream's id is refused so, and so again.
+    RefusesResponse(u32, Told),
+    /// The job of this id is ended.
+    Finishes(u64),
+    /// The end of the job of this id is refused so, and so again.
+    RefusesFinish(u64, Told),
+    /// The stream of the job of this id, which was taken and hasn't ended; none, if it wasn't or has.
+    StreamOf(u64, Option<u32>),
+    /// How many jobs wait, and how many were taken and haven't ended.
+    Jobs(u64, u64),
+    /// Whether anything is left to be written.
+    HasUnsent(bool),
+    /// All that is left to be written is a response of stream 1 with this code, and a message that begins so.
+    WritesStatus(i32, &'static str),
+    /// So many requests wait, each of a stream of its own, and are answered, the last first.
+    ServesLastFirst(u32),
+
+    // ---- of a client
+    /// A call with the payload 01 02 03, this timeout and at this moment gets this id.
+    Calls(i64, u64, u32),
+    /// A call with so many bytes 7 gets this id.
+    CallsSevens(usize, u32),
+    /// A call is refused so, and so again.
+    RefusesCall(Told),
+    /// The same of one with so many bytes 7.
+    RefusesSevens(usize, Told),
+    /// The first call is refused so, and so again: it uses no id and queues nothing, and the connection lives.
+    RefusesFirstCall(Told),
+    /// There is no outcome under this id.
+    Waits(u32),
+    /// The first call has no outcome any more, and no frame finds it again.
+    IsGone,
+    /// The outcome under this id is a response: whether it has a status, which is OK, and its payload of one byte.
+    Gives(u32, bool, u8),
+    /// The outcome under this id is this error.
+    Ends(u32, Told),
+    /// The call of this id is dropped.
+    DropsCall(u32),
+    /// This moment comes.
+    Ticks(u64),
+    /// The next call that ended is this one.
+    NextEnded(Option<u32>),
+    /// The next deadline is this one.
+    NextDeadline(Option<u64>),
+    /// So many calls are made and answered, the last first.
+    CallsLastFirst(u32),
+    /// So many calls are made, and all expire by one tick.
+    CallsExpireAtOnce(u32),
+}
+
+/// How a core starts.
+#[derive(Clone, Copy)]
+pub enum Start {
+    /// As it is new.
+    Fresh,
+    /// With the last id as that of the first call.
+    AtLastId,
+    /// With an outbound half that leaves room for so many bytes, where it seals nothing.
+    Room(usize),
+}
+
+/// How the pieces of a script are cut.
+#[derive(Clone, Copy)]
+pub enum Cuts {
+    /// Once whole, and once one byte at a time.
+    WholeAndBytes,
+    /// At each place inside a frame of so many bytes, in turn.
+    Inside(usize),
+}
+
+/// A script, run on a new core for each way of cutting.
+#[derive(Clone, Copy)]
+pub struct Row {
+    /// What it shows.
+    pub name: &'static str,
+    pub start: Start,
+    pub cuts: Cuts,
+    pub steps: &'static [Step],
+}
+
+/// What most rows have.
+pub const FRESH: Row = Row {
+    name: "",
+    start: Start::Fresh,
+    cuts: Cuts::WholeAndBytes,
+    steps: &[],
+};

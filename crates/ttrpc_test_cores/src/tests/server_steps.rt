@@ -1,0 +1,279 @@
+//! The steps of a server.
+use crate::tests::script::{Step, Told};
+use crate::tests::server_numbers::serves_last_first;
+use crate::tests::steps::{drained, tells};
+use crate::tests::under_test::{Met, Server};
+use std::alloc::Global;
+use std::test::Fail;
+use ttrpc_codec::Codec;
+use ttrpc_codec::message::WireMessage;
+use ttrpc_proto::{Error, Response, Status};
+use ttrpc_server::{Job, JobId};
+use ttrpc_wire::Blob;
+use ttrpc_wire::values::slices::{behind, front};
+
+/// A step that only a server knows.
+pub fn server_step<S: Server>(alloc: Global, core: &mut S, step: &Step, cut: usize) -> Met {
+    match *step {
+        Step::Takes(id, stream, payload) => Ok(takes(core, id, stream, payload)),
+        Step::TakesNone => Ok(core.take_job().is_none()),
+        Step::Answers(id, payload) => answers(alloc, core, id, payload),
+        Step::AnswersSevens(id, length) => answers_sevens(alloc, core, id, length),
+        Step::AnswersAgain(id, why, other, payload) => answers_again(
+            alloc, core, id, why, other, payload,
+        ),
+        Step::RefusesAnswer(id, why) => refuses_answer(alloc, core, id, why),
+        Step::Breaks(id) => breaks(alloc, core, id),
+        Step::StreamOf(id, stream) => Ok(core.stream_of(id) == stream),
+        Step::Jobs(waiting, taken) => {
+            Ok(core.jobs_waiting() == waiting && core.jobs_taken() == taken)
+        }
+        Step::HasUnsent(unsent) => Ok(core.has_unsent() == unsent),
+        Step::Serves(bytes, expected) => serves(alloc, core, bytes, cut, expected),
+        Step::WritesStatus(code, begins) => writes_status(alloc, core, code, begins),
+        Step::ServesLastFirst(count) => serves_last_first(alloc, core, count),
+        Step::Responds(stream, payload) => responds(alloc, core, stream, payload),
+        Step::RefusesResponse(stream, why) => refuses_response(alloc, core, stream, why),
+        Step::Finishes(id) => finishes(alloc, core, id),
+        Step::RefusesFinish(id, why) => refuses_finish(alloc, core, id, why),
+        _ => front_step(alloc, core, step, cut),
+    }
+}
+
+/// How a server refuses an answer, where no job is handed out: none where it doesn't.
+pub fn server_refusal<S: Server>(alloc: Global, core: &mut S) -> Option<Error> {
+    if core.take_job().is_some() {
+        return None;
+    }
+    let answer = Ok(ok_response(alloc, Blob::new(alloc)));
+    core.answer(alloc, 1, &answer).err()
+}
+
+/// A step that takes fronts of a piece.
+fn front_step<S: Server>(alloc: Global, core: &mut S, step: &Step, cut: usize) -> Met {
+    match *step {
+        Step::Front(bytes, count) => Ok(core.feed_front(alloc, bytes)? == count),
+        Step::Frame(bytes, from, count) => {
+            Ok(frame_taken(alloc, core, behind(bytes, from))? == count)
+        }
+        Step::FrameToCut(bytes) => takes_all(alloc, core, front(bytes, cut)),
+        Step::FrameFromCut(bytes) => takes_all(alloc, core, behind(bytes, cut)),
+        Step::RefusesFront(bytes, from, why) => {
+            tells(core.feed_front(alloc, behind(bytes, from)).err(), why)
+        }
+        Step::AtBoundary(at_boundary) => Ok(core.at_boundary() == at_boundary),
+        _ => Ok(false),
+    }
+}
+
+// ---- what a server has
+
+/// A response with an OK status and this payload.
+pub fn ok_response(alloc: Global, payload: Blob) -> Response {
+    Response {
+        status: Some(Status::new(alloc)),
+        payload,
+    }
+}
+
+// ---- fronts
+
+/// Takes fronts of a piece until one ends a frame, and says how many bytes that are.
+fn frame_taken<S: Server>(alloc: Global, core: &mut S, piece: &[u8]) -> Result<usize, Fail> {
+    let mut taken: usize = 0;
+    for _ in 0..piece.len() {
+        let count = core.feed_front(alloc, behind(piece, taken))?;
+        taken = taken.saturating_add(count);
+        if core.at_boundary() {
+            break;
+        }
+    }
+    Ok(taken)
+}
+
+fn takes_all<S: Server>(alloc: Global, core: &mut S, piece: &[u8]) -> Met {
+    Ok(frame_taken(alloc, core, piece)? == piece.len())
+}
+
+// ---- jobs
+
+fn is_job(job: &Job, id: JobId, stream: u32, payload: &[u8]) -> bool {
+    job.id == id
+        && job.header.stream_id == stream
+        && !job.stream
+        && job.request.payload.as_slice() == payload
+}
+
+fn takes<S: Server>(core: &mut S, id: JobId, stream: u32, payload: &[u8]) -> bool {
+    match core.take_job() {
+        Some(job) => is_job(&job, id, stream, payload),
+        None => false,
+    }
+}
+
+/// The job is answered with these bytes.
+pub fn answers<S: Server>(alloc: Global, core: &mut S, id: JobId, payload: &[u8]) -> Met {
+    let payload = Blob::from_slice(alloc, payload)?;
+    gives(alloc, core, id, &Ok(ok_response(alloc, payload)))
+}
+
+fn answers_sevens<S: Server>(alloc: Global, core: &mut S, id: JobId, length: usize) -> Met {
+    let payload = Blob::from_vec(vec![in alloc; 7; length]?);
+    gives(alloc, core, id, &Ok(ok_response(alloc, payload)))
+}
+
+fn breaks<S: Server>(alloc: Global, core: &mut S, id: JobId) -> Met {
+    gives(alloc, core, id, &Err(Error::Eof))
+}
+
+/// The answer is given.
+fn gives<S: Server>(
+    alloc: Global,
+    core: &mut S,
+    id: JobId,
+    answer: &Result<Response, Error>,
+) -> Met {
+    core.answer(alloc, id, answer)?;
+    Ok(true)
+}
+
+/// The answer is refused so, and so again.
+fn refuses_twice<S: Server>(
+    alloc: Global,
+    core: &mut S,
+    id: JobId,
+    answer: &Result<Response, Error>,
+    why: Told,
+) -> Met {
+    Ok(
+        tells(core.answer(alloc, id, answer).err(), why)?
+            && tells(core.answer(alloc, id, answer).err(), why)?,
+    )
+}
+
+fn refuses_answer<S: Server>(alloc: Global, core: &mut S, id: JobId, why: Told) -> Met {
+    refuses_twice(
+        alloc,
+        core,
+        id,
+        &Ok(ok_response(alloc, Blob::new(alloc))),
+        why,
+    )
+}
+
+/// An answer that was refused is still its caller's, who gives it to another job.
+fn answers_again<S: Server>(
+    alloc: Global,
+    core: &mut S,
+    id: JobId,
+    why: Told,
+    other: JobId,
+    payload: &[u8],
+) -> Met {
+    let payload = Blob::from_slice(alloc, payload)?;
+    refused_and_given(
+        alloc,
+        core,
+        id,
+        why,
+        other,
+        &Ok(ok_response(alloc, payload)),
+    )
+}
+
+fn refused_and_given<S: Server>(
+    alloc: Global,
+    core: &mut S,
+    id: JobId,
+    why: Told,
+    other: JobId,
+    answer: &Result<Response, Error>,
+) -> Met {
+    Ok(refuses_twice(alloc, core, id, answer, why)? && gives(alloc, core, other, answer)?)
+}
+
+// ---- responses, and jobs that end without one
+
+fn responds<S: Server>(alloc: Global, core: &mut S, stream: u32, payload: &[u8]) -> Met {
+    let response = ok_response(alloc, Blob::from_slice(alloc, payload)?);
+    core.respond(alloc, stream, &response)?;
+    Ok(true)
+}
+
+/// The response is refused so, and so again.
+fn refuses_response<S: Server>(alloc: Global, core: &mut S, stream: u32, why: Told) -> Met {
+    let response = ok_response(alloc, Blob::new(alloc));
+    Ok(
+        tells(core.respond(alloc, stream, &response).err(), why)?
+            && tells(core.respond(alloc, stream, &response).err(), why)?,
+    )
+}
+
+fn finishes<S: Server>(alloc: Global, core: &mut S, id: JobId) -> Met {
+    core.finish(alloc, id)?;
+    Ok(true)
+}
+
+fn refuses_finish<S: Server>(alloc: Global, core: &mut S, id: JobId, why: Told) -> Met {
+    Ok(tells(core.finish(alloc, id).err(), why)? && tells(core.finish(alloc, id).err(), why)?)
+}
+
+// ---- whole services
+
+/// Answers the job that is handed out with its own payload. Says whether there was one.
+fn echoes<S: Server>(alloc: Global, core: &mut S) -> Met {
+    match core.take_job() {
+        None => Ok(false),
+        Some(job) => answers(alloc, core, job.id, job.request.payload.as_slice()),
+    }
+}
+
+/// Answers each job that waits, of which there are at most so many, with its own payload.
+fn echoes_all<S: Server>(alloc: Global, core: &mut S, at_most: usize) -> Met {
+    for _ in 0..at_most {
+        if !echoes(alloc, core)? {
+            break;
+        }
+    }
+    Ok(true)
+}
+
+fn serves<S: Server>(
+    alloc: Global,
+    core: &mut S,
+    bytes: &[u8],
+    size: usize,
+    expected: &[u8],
+) -> Met {
+    let mut rest = expected;
+    for piece in bytes.chunks(size.max(1)) {
+        core.feed(alloc, piece)?;
+        echoes_all(alloc, core, piece.len())?;
+        match drained(core, rest) {
+            Some(left) => rest = left,
+            None => return Ok(false),
+        }
+    }
+    Ok(rest.is_empty())
+}
+
+// ---- responses that are read
+
+fn writes_status<S: Server>(alloc: Global, core: &mut S, code: i32, begins: &str) -> Met {
+    let mut buffer = [0; 256];
+    let count = core.lend(&mut buffer);
+    core.report();
+    Ok(!core.has_unsent() && is_status(alloc, front(&buffer, count), code, begins)?)
+}
+
+/// The frame is a response of stream 1, with this code and a message that begins so.
+fn is_status(alloc: Global, frame: &[u8], code: i32, begins: &str) -> Met {
+    let [_, _, _, _, 0, 0, 0, 1, 2, 0, payload @ ..] = frame else {
+        return Ok(false);
+    };
+    let response = Response::decode(alloc, payload)?;
+    Ok(match &response.status {
+        Some(status) => status.code == code && status.message.as_str().starts_with(begins),
+        None => false,
+    })
+}

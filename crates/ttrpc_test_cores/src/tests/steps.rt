@@ -1,0 +1,140 @@
+//! The steps of either core.
+use crate::tests::script::{Step, Told};
+use crate::tests::under_test::{Core, End, Met};
+use std::alloc::Global;
+use ttrpc_proto::Error;
+use ttrpc_wire::Text;
+use ttrpc_wire::values::slices::{behind, front};
+
+/// Whether the step is met.
+pub fn act<C: Core>(alloc: Global, core: &mut C, step: &Step, cut: usize) -> Met {
+    match *step {
+        Step::Feed(bytes) => feeds(alloc, core, bytes, cut),
+        Step::FeedSevens(length) => feeds_sevens(alloc, core, length, cut),
+        Step::FeedToCut(bytes) => feeds(alloc, core, front(bytes, cut), usize::MAX),
+        Step::FeedFromCut(bytes) => feeds(alloc, core, behind(bytes, cut), usize::MAX),
+        Step::Writes(expected) => Ok(writes(core, expected)),
+        Step::WritesBehind(expected, n) => Ok(writes(core, behind(expected, n))),
+        Step::Lends(room, bytes, from, to) => Ok(lends(core, room, behind(front(bytes, to), from))),
+        Step::Lent(count) => Ok(core.lent() == count),
+        Step::Leaves(bytes, from, to) => Ok(leaves(core, behind(front(bytes, to), from))),
+        Step::FailsBy(text) => fails_by(alloc, core, text),
+        Step::IsAlive => Ok(core.failure(alloc).is_none()),
+        Step::HasFailed(text) => has_failed(alloc, core, text),
+        Step::Reports => {
+            core.report();
+            Ok(true)
+        }
+        Step::EndsInput => {
+            core.end_of_input();
+            Ok(true)
+        }
+        _ => core.own_step(alloc, step, cut),
+    }
+}
+
+/// Bytes are taken whole, in pieces of this size.
+pub fn feeds<C: End>(alloc: Global, core: &mut C, bytes: &[u8], size: usize) -> Met {
+    for piece in bytes.chunks(size.max(1)) {
+        if core.feed(alloc, piece)? != piece.len() {
+            return Ok(false);
+        }
+    }
+    Ok(true)
+}
+
+fn feeds_sevens<C: End>(alloc: Global, core: &mut C, length: usize, size: usize) -> Met {
+    let sevens = vec![in alloc; 7; length]?;
+    feeds(alloc, core, sevens.as_slice(), size)
+}
+
+/// What is still expected behind all that the core has to write, or none where it has other bytes to write.
+pub fn drained<'a, C: End>(core: &mut C, expected: &'a [u8]) -> Option<&'a [u8]> {
+    let mut buffer = [0; 64];
+    let mut rest = expected;
+    for _ in 0..=expected.len() {
+        let count = core.lend(&mut buffer);
+        if count == 0 {
+            break;
+        }
+        if front(&buffer, count) != front(rest, count) {
+            return None;
+        }
+        rest = behind(rest, count);
+        core.report();
+    }
+    Some(rest)
+}
+
+/// All that is left to be written is this.
+fn writes<C: End>(core: &mut C, expected: &[u8]) -> bool {
+    match drained(core, expected) {
+        Some(rest) => rest.is_empty(),
+        None => false,
+    }
+}
+
+/// A buffer with this room gets these bytes.
+pub fn lends<C: End>(core: &mut C, room: usize, expected: &[u8]) -> bool {
+    let mut buffer = [0; 64];
+    let room = room.min(buffer.len());
+    let count = core.lend(&mut buffer[..room]);
+    count == expected.len() && front(&buffer, count) == expected
+}
+
+/// These bytes leave.
+pub fn leaves<C: End>(core: &mut C, expected: &[u8]) -> bool {
+    let lent = lends(core, expected.len(), expected);
+    core.report();
+    lent
+}
+
+fn fails_by<C: End>(alloc: Global, core: &mut C, text: &str) -> Met {
+    core.fail(Error::Socket(Text::from_str(alloc, text)?));
+    Ok(true)
+}
+
+/// The core tells its failure, takes nothing, lends nothing, and is of no use.
+fn has_failed<C: Core>(alloc: Global, core: &mut C, text: &'static str) -> Met {
+    let why = Told::Socket(text);
+    Ok(
+        tells(core.failure(alloc), why)?
+            && tells(core.feed(alloc, &[]).err(), why)?
+            && tells(core.refusal(alloc)?, why)?
+            && lends(core, 8, &[])
+            && core.lent() == 0,
+    )
+}
+
+/// There is an error, and it is told so, where memory for it wasn't refused: then the test ends with that error.
+pub fn tells(error: Option<Error>, why: Told) -> Met {
+    match error {
+        Some(error) => is_told(error, why),
+        None => Ok(false),
+    }
+}
+
+fn is_told(error: Error, why: Told) -> Met {
+    if error == Error::NoMemory {
+        return Err(error.into());
+    }
+    Ok(is(&error, why))
+}
+
+fn is(error: &Error, why: Told) -> bool {
+    match why {
+        Told::Others(told) => matches!(error, Error::Others(text) if text.as_str() == told),
+        Told::Begins(told) => {
+            matches!(error, Error::Others(text) if text.as_str().starts_with(told))
+        }
+        Told::Socket(told) => matches!(error, Error::Socket(text) if text.as_str() == told),
+        Told::Status(code, told) => is_status(error, code, told),
+    }
+}
+
+fn is_status(error: &Error, code: i32, message: &str) -> bool {
+    match error {
+        Error::RpcStatus(status) => status.code == code && status.message.as_str() == message,
+        _ => false,
+    }
+}

@@ -1,0 +1,142 @@
+//! Either core, as scripts see it, and how scripts are run.
+use crate::tests::script::{Cuts, Row, Start, Step};
+use crate::tests::steps::act;
+use std::alloc::Global;
+use std::process::Abort;
+use std::test::Fail;
+use ttrpc_client::CallId;
+use ttrpc_proto::{Error, Request, Response};
+use ttrpc_server::{Job, JobId};
+
+/// Nothing, or why a test ended.
+pub type Tested = Result<(), Fail>;
+
+/// Whether a step was met, or why a test ended before.
+pub type Met = Result<bool, Fail>;
+
+/// What either core does as one end of a connection.
+pub trait End {
+    fn feed(&mut self, alloc: Global, piece: &[u8]) -> Result<usize, Error>;
+
+    fn lend(&mut self, buffer: &mut [u8]) -> usize;
+
+    fn lent(&self) -> usize;
+
+    /// All that was lent was written.
+    fn report(&mut self);
+
+    fn end_of_input(&mut self);
+
+    fn fail(&mut self, error: Error);
+
+    fn failure(&self, alloc: Global) -> Option<Error>;
+}
+
+/// What a server does beside.
+pub trait Server: End {
+    fn feed_front(&mut self, alloc: Global, piece: &[u8]) -> Result<usize, Error>;
+
+    fn at_boundary(&self) -> bool;
+
+    fn take_job(&mut self) -> Option<Job>;
+
+    fn answer(
+        &mut self,
+        alloc: Global,
+        id: JobId,
+        answer: &Result<Response, Error>,
+    ) -> Result<(), Error>;
+
+    fn respond(&mut self, alloc: Global, stream_id: u32, response: &Response) -> Result<(), Error>;
+
+    fn finish(&mut self, alloc: Global, id: JobId) -> Result<(), Error>;
+
+    fn stream_of(&self, id: JobId) -> Option<u32>;
+
+    fn jobs_waiting(&self) -> u64;
+
+    fn jobs_taken(&self) -> u64;
+
+    fn has_unsent(&self) -> bool;
+}
+
+/// What a client does beside.
+pub trait Client: End {
+    fn request(&mut self, alloc: Global, request: &Request, now: u64) -> Result<CallId, Error>;
+
+    fn take_outcome(&mut self, alloc: Global, id: CallId) -> Option<Result<Response, Error>>;
+
+    fn drop_call(&mut self, id: CallId);
+
+    fn tick(&mut self, now: u64);
+
+    fn next_ended(&mut self) -> Option<CallId>;
+
+    fn next_deadline(&self) -> Option<u64>;
+}
+
+/// Either core.
+pub trait Core: End + Sized + Drop {
+    /// In which kinds there is such a core.
+    type Kind: Copy;
+
+    fn start(alloc: Global, kind: Self::Kind, start: Start) -> Result<Self, Fail>;
+
+    /// How the core refuses to be used, where it does: none where it doesn't.
+    fn refusal(&mut self, alloc: Global) -> Result<Option<Error>, Fail>;
+
+    /// A step that only this core knows.
+    fn own_step(&mut self, alloc: Global, step: &Step, cut: usize) -> Met;
+}
+
+/// Kinds of a core, and what holds of each of them.
+pub type Table<K> = (&'static [K], &'static [Row]);
+
+/// Each table holds.
+pub fn hold<C: Core>(rt: &impl Abort, alloc: Global, tables: &[Table<C::Kind>]) -> Tested {
+    for (kinds, rows) in tables {
+        for kind in *kinds {
+            for row in *rows {
+                holds::<C>(rt, alloc, *kind, row)?;
+            }
+        }
+    }
+    Ok(())
+}
+
+/// The row holds in all its cuts.
+fn holds<C: Core>(rt: &impl Abort, alloc: Global, kind: C::Kind, row: &Row) -> Tested {
+    match row.cuts {
+        Cuts::WholeAndBytes => {
+            holds_at::<C>(rt, alloc, kind, row, usize::MAX)?;
+            holds_at::<C>(rt, alloc, kind, row, 1)
+        }
+        Cuts::Inside(length) => {
+            for cut in 1..length {
+                holds_at::<C>(rt, alloc, kind, row, cut)?;
+            }
+            Ok(())
+        }
+    }
+}
+
+/// The row holds of a new core, at this cut.
+fn holds_at<C: Core>(
+    rt: &impl Abort,
+    alloc: Global,
+    kind: C::Kind,
+    row: &Row,
+    cut: usize,
+) -> Tested {
+    let mut core = C::start(alloc, kind, row.start)?;
+    run(rt, alloc, &mut core, row, cut)
+}
+
+/// Each step of the row is met.
+fn run<C: Core>(rt: &impl Abort, alloc: Global, core: &mut C, row: &Row, cut: usize) -> Tested {
+    for (number, step) in row.steps.iter().enumerate() {
+        let met = act(alloc, core, step, cut)?;
+        assert!(rt; met, "{}: step {number}, cut at {cut}", row.name);
+    }
+    Ok(())
+}

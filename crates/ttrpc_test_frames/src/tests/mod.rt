@@ -1,0 +1,5 @@
+mod decoder_tests;
+mod halves_tests;
+mod queue_tests;
+mod rows;
+mod streams;

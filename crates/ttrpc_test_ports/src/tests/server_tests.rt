@@ -1,0 +1,191 @@
+//! A server's ports in one thread.
+ghost use Rattle.std.specs.Prelude.{⊤};
+
+use crate::tests::ends::{Server, Tested, echo, is_socket, server, server_failure, written};
+use std::alloc::Global;
+use std::io::{self, ErrorKind};
+use std::sync::{Arc, Wait};
+use ttrpc_pool::PoolCore;
+use ttrpc_proto::Error;
+use ttrpc_secure::plain_context;
+use ttrpc_server::{Job, Rules, ServerCore};
+use ttrpc_sync::{Connected, Gate, Handler, Held, Next, ReadPort, read_loop, work_loop};
+use ttrpc_sync_connection::{ServerHeld, ServerJobs, ServerRead};
+use ttrpc_test_cores::server::{ASKED, ECHOED, NO_METHOD, NO_METHOD_ANSWER, registry};
+use ttrpc_wire::values::slices::front;
+
+/// A handler that responds with the payload 2a, or fails.
+#[derive(Drop)]
+pub struct Echo<X: Wait + Drop> {
+    rt: X,
+    alloc: Global,
+    server: Server,
+    fails: bool,
+}
+
+impl<X: Wait + Drop> Handler for Echo<X> {
+    type Request = Job;
+
+    type Outcome = Result<(), Error>;
+
+    ghost gives = { λ _ _ _. ⊤ };
+
+    fn handle(&self, job: Job) -> Result<(), Error> {
+        if self.fails {
+            return Err(Error::Eof);
+        }
+        let response = echo(self.alloc)?;
+        self.server
+            .held()
+            .lock(&self.rt)
+            .core
+            .respond(self.alloc, job.header.stream_id, &response)
+    }
+}
+
+/// Lets a worker in once.
+#[derive(Drop)]
+struct Once {
+    was_entered: bool,
+    is_shut: bool,
+}
+
+impl Gate for Once {
+    ghost is_shut = { λ g. g.is_shut };
+
+    fn enter(&mut self) -> bool {
+        self.is_shut = self.was_entered;
+        self.was_entered = true;
+        !self.is_shut
+    }
+
+    fn leave(&mut self) {}
+}
+
+/// The server takes these bytes.
+pub fn feed<X: Wait>(rt: &X, alloc: Global, server: &Server, bytes: &[u8]) -> Option<usize> {
+    let mut port = ServerRead::new(rt, alloc, &**server);
+    port.begin();
+    if bytes.is_empty() {
+        return None;
+    }
+    port.take(bytes)
+}
+
+/// A worker handles one job.
+fn work<X: Wait + Copy + Drop>(rt: X, alloc: Global, server: &Server, fails: bool) -> Tested {
+    let mut port = ServerJobs::new(&rt, alloc, &**server);
+    let handler = Echo {
+        rt,
+        alloc,
+        server: Arc::try_clone(server)?,
+        fails,
+    };
+    let mut gate = Once {
+        was_entered: false,
+        is_shut: false,
+    };
+    work_loop(&rt, &mut port, &handler, &mut gate);
+    Ok(())
+}
+
+/// A job goes to a handler, which responds, and ends.
+#[test]
+fn a_job_is_handled(rt: HostRuntime) -> Tested {
+    let shared = server(rt.alloc())?;
+    assert_eq!(rt; feed(&rt, rt.alloc(), &shared, ASKED), Some(30));
+    work(rt, rt.alloc(), &shared, false)?;
+    assert_eq!(rt; shared.held().lock(&rt).core.jobs_taken(), 0);
+    let bytes = written(&rt, rt.alloc(), &*shared);
+    assert!(rt; bytes.as_slice() == ECHOED);
+    Ok(())
+}
+
+/// A handler that fails fails the connection, and then no job is given.
+#[test]
+fn a_failed_handler_fails_the_server(rt: HostRuntime) -> Tested {
+    let shared = server(rt.alloc())?;
+    feed(&rt, rt.alloc(), &shared, ASKED);
+    work(rt, rt.alloc(), &shared, true)?;
+    let failure = server_failure(&rt, rt.alloc(), &shared);
+    assert!(rt; is_socket(&failure, "connection closed after a handler error"));
+    work(rt, rt.alloc(), &shared, false)?;
+    let bytes = written(&rt, rt.alloc(), &*shared);
+    assert!(rt; bytes.is_empty());
+    Ok(())
+}
+
+/// What the core answers itself is written.
+#[test]
+fn an_unknown_method_is_answered(rt: HostRuntime) -> Tested {
+    let shared = server(rt.alloc())?;
+    feed(&rt, rt.alloc(), &shared, NO_METHOD);
+    let bytes = written(&rt, rt.alloc(), &*shared);
+    assert!(rt; bytes.as_slice() == NO_METHOD_ANSWER);
+    Ok(())
+}
+
+/// At the end of its input the connection fails, between two frames and inside one, once nothing is left to be written.
+#[test]
+fn a_reader_ends(rt: HostRuntime) -> Tested {
+    for (length, text) in [
+        (27, "socket disconnected"),
+        (26, "socket disconnected inside a frame"),
+    ] {
+        let shared = server(rt.alloc())?;
+        let mut port = ServerRead::new(&rt, rt.alloc(), &*shared);
+        let mut reader = front(NO_METHOD, length);
+        read_loop(&rt, &mut reader, &mut port);
+        assert!(rt; server_failure(&rt, rt.alloc(), &shared).is_none());
+        let _ = written(&rt, rt.alloc(), &*shared);
+        assert_eq!(rt; shared.held().lock(&rt).next(false), Next::Leaves);
+        assert!(rt; is_socket(&server_failure(&rt, rt.alloc(), &shared), text));
+    }
+    Ok(())
+}
+
+/// A job that was read before the input ended is handled, and its answer is written, before the connection fails.
+#[test]
+fn an_end_of_input_waits_for_jobs(rt: HostRuntime) -> Tested {
+    let shared = server(rt.alloc())?;
+    let mut port = ServerRead::new(&rt, rt.alloc(), &*shared);
+    let mut reader = ASKED;
+    read_loop(&rt, &mut reader, &mut port);
+    assert_eq!(rt; shared.held().lock(&rt).next(false), Next::Sleeps);
+    work(rt, rt.alloc(), &shared, false)?;
+    assert!(rt; server_failure(&rt, rt.alloc(), &shared).is_none());
+    assert!(rt; shared.held().lock(&rt).turn.take());
+    assert_eq!(rt; shared.held().lock(&rt).next(false), Next::Sleeps);
+    let bytes = written(&rt, rt.alloc(), &*shared);
+    assert!(rt; bytes.as_slice() == ECHOED);
+    assert_eq!(rt; shared.held().lock(&rt).next(false), Next::Leaves);
+    let failure = server_failure(&rt, rt.alloc(), &shared);
+    assert!(rt; is_socket(&failure, "socket disconnected"));
+    Ok(())
+}
+
+/// Workers that were started and haven't come are not started again.
+#[test]
+fn workers_are_started_once(rt: HostRuntime) -> Tested {
+    let registry = registry(rt.alloc())?;
+    let core = ServerCore::new(rt.alloc(), Rules::Sync, registry, plain_context(rt.alloc()));
+    let mut held = ServerHeld::new(core, PoolCore::new(3, 1, 5));
+    assert_eq!(rt; held.to_start(), 3);
+    held.starts(3);
+    assert_eq!(rt; held.to_start(), 0);
+    assert!(rt; held.enter(true));
+    assert!(rt; held.leave());
+    assert_eq!(rt; held.to_start(), 1);
+    Ok(())
+}
+
+#[test]
+fn a_broken_reader_fails_the_server(rt: HostRuntime) -> Tested {
+    let shared = server(rt.alloc())?;
+    let mut port = ServerRead::new(&rt, rt.alloc(), &*shared);
+    port.begin();
+    port.broke(io::Error::from(ErrorKind::ConnectionReset));
+    let failure = server_failure(&rt, rt.alloc(), &shared);
+    assert!(rt; matches!(failure, Some(Error::Nix(ErrorKind::ConnectionReset))));
+    Ok(())
+}

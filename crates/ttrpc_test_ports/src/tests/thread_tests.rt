@@ -1,0 +1,119 @@
+//! Ports of one connection in two threads.
+use crate::tests::ends::{Client, Server, Tested, client, client_failure, server};
+use crate::tests::server_tests::Echo;
+use std::alloc::Global;
+use std::sync::{Arc, Wait};
+use std::thread;
+use std::time::{Clock, Duration};
+use ttrpc_proto::Error;
+use ttrpc_server::JobId;
+use ttrpc_sync::{Connected, JobPort, ReadPort};
+use ttrpc_sync_client::{CALLS_TO_REST, Manner};
+use ttrpc_sync_connection::{ServerJobs, ServerRead};
+use ttrpc_test_cores::server::ASKED;
+
+fn a_while() -> Duration {
+    Duration::from_millis(20)
+}
+
+/// The id of the job for which a worker waits.
+fn waited_for<X: Wait + Drop>(rt: &X, alloc: Global, shared: &Server) -> Option<JobId> {
+    let mut port = ServerJobs::new(rt, alloc, &**shared);
+    JobPort::<Echo<X>>::begin(&mut port);
+    match JobPort::<Echo<X>>::take(&mut port) {
+        Some((id, _)) => Some(id),
+        None => None,
+    }
+}
+
+/// The server takes these bytes, after a while.
+fn fed<X: Wait + Clock>(rt: &X, alloc: Global, shared: &Server, bytes: &[u8]) -> Option<usize> {
+    thread::sleep(rt, a_while());
+    let mut port = ServerRead::new(rt, alloc, &**shared);
+    port.begin();
+    if bytes.is_empty() {
+        return None;
+    }
+    port.take(bytes)
+}
+
+/// Makes as many calls as let the thread rest that does nothing but read, each alone, and ends them.
+fn make_lone_calls(rt: &impl Wait, shared: &Client) {
+    let mut held = shared.held().lock(rt);
+    for id in 0..CALLS_TO_REST {
+        let short = Manner {
+            has_deadline: false,
+            is_short: true,
+        };
+        let _ = held.reading.begins(id, short);
+        held.reading.ended(id);
+        held.reading.finished(id, true);
+    }
+}
+
+/// A call with a deadline begins, after a while.
+fn call_later<X: Wait + Clock>(rt: &X, shared: &Client) -> bool {
+    thread::sleep(rt, a_while());
+    let mut held = shared.held().lock(rt);
+    let limited = Manner {
+        has_deadline: true,
+        is_short: true,
+    };
+    let is_alone = held.reading.begins(99, limited);
+    let wakes = held.reading.wakes();
+    drop(held);
+    shared.wake_reader();
+    wakes && !is_alone
+}
+
+/// Nobody calls any more, after a while.
+fn abandon_later<X: Wait + Clock>(rt: &X, shared: &Client) {
+    thread::sleep(rt, a_while());
+    shared.abandon();
+}
+
+/// The thread that rests is woken by a call whose caller doesn't read.
+#[test]
+fn a_call_wakes_the_reader(rt: HostRuntime) -> Tested {
+    let shared = client(rt.alloc())?;
+    make_lone_calls(&rt, &shared);
+    let (reader, caller) = (Arc::try_clone(&shared)?, shared);
+    let (reads, wakes) = thread::join(
+        &rt,
+        move || reader.wait_to_read(&rt),
+        move || call_later(&rt, &caller),
+    );
+    assert_eq!(rt; (reads, wakes), (true, true));
+    Ok(())
+}
+
+/// The thread that rests ends once no client is left.
+#[test]
+fn the_reader_ends_with_its_client(rt: HostRuntime) -> Tested {
+    let shared = client(rt.alloc())?;
+    make_lone_calls(&rt, &shared);
+    let (reader, last) = (Arc::try_clone(&shared)?, Arc::try_clone(&shared)?);
+    let (reads, _) = thread::join(
+        &rt,
+        move || reader.wait_to_read(&rt),
+        move || abandon_later(&rt, &last),
+    );
+    assert!(rt; !reads);
+    let failure = client_failure(&rt, rt.alloc(), &shared);
+    assert!(rt; matches!(failure, Some(Error::LocalClosed)));
+    Ok(())
+}
+
+/// A worker that sleeps is woken by a request.
+#[test]
+fn a_request_wakes_a_worker(rt: HostRuntime) -> Tested {
+    let shared = server(rt.alloc())?;
+    let (worker, reader) = (Arc::try_clone(&shared)?, shared);
+    let (id, count) = thread::join(
+        &rt,
+        move || waited_for(&rt, rt.alloc(), &worker),
+        move || fed(&rt, rt.alloc(), &reader, ASKED),
+    );
+    assert_eq!(rt; (id, count), (Some(1), Some(30)));
+    Ok(())
+}

@@ -1,0 +1,172 @@
+//! What writers do while others queue: a frame of one's own leaves, and no more, and what is ready leaves in time.
+use crate::tests::ends::{Client, Server, Tested, call, client, request, server};
+use crate::tests::server_tests::feed;
+use std::alloc::Global;
+use std::io::{self, ErrorKind, Write};
+use std::sync::{Arc, Wait};
+use std::thread;
+use std::time::{Clock, Duration};
+use ttrpc_proto::Request;
+use ttrpc_sync::{Connected, Gather, Held, Next, WriteEnd, write_loop};
+use ttrpc_test_cores::server::{ASKED, NO_METHOD};
+
+/// Keeps what it takes. Before it takes anything another caller queues a request.
+#[derive(Drop)]
+struct Crowded<'a, X: Wait> {
+    rt: &'a X,
+    alloc: Global,
+    client: &'a Client,
+    request: &'a Request,
+    taken: Vec<u8>,
+}
+
+impl<X: Wait> Crowded<'_, X> {
+    // Another caller queues a request.
+    fn is_joined(&self) -> bool {
+        let mut held = self.client.held().lock(self.rt);
+        held.core.request(self.alloc, self.request, 0).is_ok()
+    }
+}
+
+impl<X: Wait> Write for Crowded<'_, X> {
+    fn write(&mut self, buf: &[u8]) -> io::Result<usize> {
+        if self.taken.is_empty() && !self.is_joined() {
+            return Err(ErrorKind::OutOfMemory.into());
+        }
+        match self.taken.extend_from_slice(buf) {
+            Ok(()) => Ok(buf.len()),
+            Err(_) => Err(ErrorKind::OutOfMemory.into()),
+        }
+    }
+
+    fn flush(&mut self) -> io::Result<()> {
+        Ok(())
+    }
+}
+
+/// Who writes for himself leaves behind his own frame, and has the writer thread write what others queued meanwhile.
+#[test]
+fn a_caller_writes_its_own_frame_alone(rt: HostRuntime) -> Tested {
+    let shared = client(rt.alloc())?;
+    assert_eq!(rt; shared.held().lock(&rt).next(false), Next::Sleeps);
+    call(&rt, rt.alloc(), &shared)?;
+    assert!(rt; shared.held().lock(&rt).turn.take());
+    let request = request(rt.alloc(), 0)?;
+    let mut crowded = Crowded {
+        rt: &rt,
+        alloc: rt.alloc(),
+        client: &shared,
+        request: &request,
+        taken: Vec::new(rt.alloc()),
+    };
+    let mut port = WriteEnd::leaving(&rt, &*shared);
+    write_loop(&rt, &mut crowded, &mut port);
+    assert!(rt; crowded.taken.as_slice() == ASKED);
+    let held = shared.held().lock(&rt);
+    assert_eq!(rt; held.core.lendable(), 30);
+    assert!(rt; !held.turn.is_taken);
+    assert!(rt; !held.turn.sleeps);
+    Ok(())
+}
+
+/// Takes all bytes, each time after a while.
+#[derive(Drop)]
+struct Slow<'a, X> {
+    clock: &'a X,
+}
+
+impl<X: Clock> Write for Slow<'_, X> {
+    fn write(&mut self, buf: &[u8]) -> io::Result<usize> {
+        thread::sleep(self.clock, Duration::from_millis(20));
+        Ok(buf.len())
+    }
+
+    fn flush(&mut self) -> io::Result<()> {
+        Ok(())
+    }
+}
+
+/// Writes what a writer without the turn gets to write, until the connection has failed, and says how much that was.
+fn writes_beside<X: Wait>(rt: &X, alloc: Global, client: &Client) -> usize {
+    let mut bytes = Vec::new(alloc);
+    let mut port = WriteEnd::staying(rt, &**client);
+    write_loop(rt, &mut bytes, &mut port);
+    bytes.len()
+}
+
+/// Writes a frame slowly, and says how much is left then. It ends the connection.
+fn writes_slowly<X: Wait + Clock>(rt: &X, client: &Client) -> usize {
+    let mut port = WriteEnd::leaving(rt, &**client);
+    write_loop(rt, &mut Slow { clock: rt }, &mut port);
+    let left = client.held().lock(rt).core.lendable();
+    client.abandon();
+    left
+}
+
+/// A writer that waits for its turn doesn't touch what another has on loan: no byte is written twice.
+#[test]
+fn a_writer_without_the_turn_reports_nothing(rt: HostRuntime) -> Tested {
+    let waiting = client(rt.alloc())?;
+    call(&rt, rt.alloc(), &waiting)?;
+    assert!(rt; waiting.held().lock(&rt).turn.take());
+    let writing = Arc::try_clone(&waiting)?;
+    let written = thread::join(
+        &rt,
+        move || writes_beside(&rt, rt.alloc(), &waiting),
+        move || writes_slowly(&rt, &writing),
+    );
+    assert_eq!(rt; written, (0, 0));
+    Ok(())
+}
+
+/// Takes so many bytes, counts its calls, and then breaks. It keeps the length of the first part that it took.
+#[derive(Drop)]
+struct Counting {
+    room: usize,
+    first: usize,
+    calls: usize,
+}
+
+impl Write for Counting {
+    fn write(&mut self, buf: &[u8]) -> io::Result<usize> {
+        if self.room == 0 {
+            return Err(ErrorKind::BrokenPipe.into());
+        }
+        let count = buf.len().min(self.room);
+        if self.calls == 0 {
+            self.first = count;
+        }
+        self.room -= count;
+        self.calls = self.calls.saturating_add(1);
+        Ok(count)
+    }
+
+    fn flush(&mut self) -> io::Result<()> {
+        Ok(())
+    }
+}
+
+/// So many requests, which the core answers itself, each with 46 bytes.
+fn ask_often<X: Wait>(rt: &X, alloc: Global, server: &Server, count: usize) {
+    for _ in 0..count {
+        let _ = feed(rt, alloc, server, NO_METHOD);
+    }
+}
+
+/// Where a thousand answers wait, batches leave behind 64 loans of one answer each, and not all at the end.
+#[test]
+fn ready_answers_leave_in_batches(rt: HostRuntime) -> Tested {
+    let shared = server(rt.alloc())?;
+    ask_often(&rt, rt.alloc(), &shared, 1000);
+    let counting = Counting {
+        room: 45000,
+        first: 0,
+        calls: 0,
+    };
+    let mut gather = Gather::new(rt.alloc(), counting);
+    let mut port = WriteEnd::staying(&rt, &*shared);
+    write_loop(&rt, &mut gather, &mut port);
+    assert_eq!(rt; gather.writer().first, 2944);
+    assert_eq!(rt; gather.writer().calls, 16);
+    Ok(())
+}

@@ -1,0 +1,58 @@
+//! A connection whose other side has said something, and hooks that listen to it.
+use std::alloc::Global;
+use std::io;
+use ttrpc_bench::{Giver, Manner, StampIn, StampOut, knowing, no_memory, rejected};
+use ttrpc_frame::Source;
+use ttrpc_secure::{AcceptHook, ConnectHook, Datum, HookError, HookOutput, Plain};
+use ttrpc_wire::Text;
+
+/// What a hook gives.
+type Hooked<O, I> = Result<HookOutput<O, I>, HookError>;
+
+/// A connection whose other side has said this, and how it is read.
+#[derive(Drop)]
+pub struct Line(pub &'static [u8], pub Manner);
+
+/// What the other side says first, at most 8 bytes of it.
+fn heard(alloc: Global, line: &Line) -> Result<Vec<u8>, HookError> {
+    let mut buffer = [0; 8];
+    let mut giver = Giver::new(line.0, line.1);
+    let count = giver.read(&mut buffer).map_err(HookError::Io)?;
+    Vec::from_slice(alloc, &buffer[..count]).map_err(|refused| no_memory(refused))
+}
+
+/// Lets a connection pass on which something is said, knows it as `said`, and leaves data as it is.
+#[derive(Drop)]
+pub struct Listens {}
+
+/// Stamps what goes through a connection on which the other side wants that.
+#[derive(Drop)]
+pub struct Agrees {}
+
+impl AcceptHook<Line> for Listens {
+    type Outbound = Plain;
+
+    type Inbound = Plain;
+
+    fn on_accept(&self, alloc: Global, stream: &Line) -> Hooked<Plain, Plain> {
+        let said = heard(alloc, stream)?;
+        if said.is_empty() {
+            return Err(rejected(alloc, "nothing said"));
+        }
+        knowing(alloc, "said", Datum::Bytes(said), Plain {}, Plain {})
+    }
+}
+
+impl ConnectHook<Line> for Agrees {
+    type Outbound = StampOut;
+
+    type Inbound = StampIn;
+
+    fn on_connect(&self, alloc: Global, stream: &Line) -> Hooked<StampOut, StampIn> {
+        if heard(alloc, stream)?.as_slice() == b"stamp".as_slice() {
+            return Ok(HookOutput::of_halves(alloc, StampOut::new(), StampIn::new()));
+        }
+        let why = Text::from_str(alloc, "no stamps").map_err(|refused| no_memory(refused))?;
+        Err(HookError::Other(why))
+    }
+}

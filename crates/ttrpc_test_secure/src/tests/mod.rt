@@ -1,0 +1,10 @@
+mod binding_tests;
+mod context_tests;
+mod data_tests;
+mod error_tests;
+mod fakes;
+mod hook_tests;
+mod masking;
+mod masking_tests;
+mod packet;
+mod queue_tests;

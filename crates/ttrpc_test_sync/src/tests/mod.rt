@@ -1,0 +1,9 @@
+mod again;
+mod fakes;
+mod gathering;
+mod known;
+mod pooling;
+mod reading;
+mod workers;
+mod working;
+mod writing;

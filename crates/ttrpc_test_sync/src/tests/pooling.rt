@@ -1,0 +1,158 @@
+//! The pool of workers, over rows of calls and their answers, and behind the gate of a worker.
+
+use crate::tests::workers::{Queue, Refuser, Seen};
+use std::process::Abort;
+use std::test::Fail;
+use ttrpc_pool::PoolCore;
+use ttrpc_sync::{Gate, PortState, work_loop};
+
+type Tested = Result<(), Fail>;
+
+/// A call of a pool, with its answer.
+#[derive(Clone, Copy)]
+enum Call {
+    Starts(usize),
+    Enters(bool),
+    Leaves(bool),
+    Waiting(usize),
+}
+
+/// A pool of these limits, `default`, `min` and `max`, and calls of it one after the other.
+struct Pooling {
+    limits: (usize, usize, usize),
+    calls: &'static [Call],
+}
+
+const LET_IN: Call = Call::Enters(true);
+
+const POOLINGS: &[Pooling] = &[
+    Pooling {
+        limits: (3, 1, 5),
+        calls: &[
+            Call::Starts(3),
+            LET_IN,
+            LET_IN,
+            LET_IN,
+            Call::Waiting(3),
+            Call::Starts(0),
+            Call::Leaves(false),
+            Call::Leaves(false),
+            Call::Starts(0),
+            Call::Leaves(true),
+            Call::Starts(3),
+        ],
+    },
+    Pooling {
+        limits: (3, 1, 5),
+        calls: &[
+            LET_IN,
+            LET_IN,
+            LET_IN,
+            LET_IN,
+            LET_IN,
+            Call::Waiting(5),
+            Call::Enters(false),
+            Call::Waiting(5),
+        ],
+    },
+    Pooling {
+        limits: (2, 4, 5),
+        calls: &[
+            Call::Starts(2),
+            LET_IN,
+            Call::Starts(1),
+            LET_IN,
+            LET_IN,
+            Call::Starts(0),
+            Call::Leaves(true),
+        ],
+    },
+    Pooling {
+        limits: (3, 1, 0),
+        calls: &[Call::Starts(3), Call::Enters(false), Call::Waiting(0)],
+    },
+];
+
+fn pools<X: Abort>(rt: &X, row: &Pooling) -> Tested {
+    let (default, min, max) = row.limits;
+    let mut pool = PoolCore::new(default, min, max);
+    for call in row.calls {
+        match *call {
+            Call::Starts(count) => assert_eq!(rt; pool.to_start(), count),
+            Call::Enters(answer) => assert!(rt; pool.enter() == answer),
+            Call::Leaves(answer) => {
+                assert!(rt; pool.waiting() > 0);
+                assert!(rt; pool.leave() == answer);
+            }
+            Call::Waiting(count) => assert_eq!(rt; pool.waiting(), count),
+        }
+    }
+    Ok(())
+}
+
+#[test]
+fn workers_wait_within_limits(rt: HostRuntime) -> Tested {
+    for row in POOLINGS {
+        pools(&rt, row)?;
+    }
+    Ok(())
+}
+
+/// The gate of a pool, which counts how many workers were to be started.
+#[derive(Drop)]
+struct PoolGate {
+    pool: PoolCore,
+    started: usize,
+    is_shut: bool,
+}
+
+impl Gate for PoolGate {
+    ghost is_shut = { λ g. g.is_shut };
+
+    fn enter(&mut self) -> bool {
+        self.is_shut = !self.pool.enter();
+        !self.is_shut
+    }
+
+    fn leave(&mut self) {
+        if self.pool.waiting() > 0 && self.pool.leave() {
+            self.started = self.started.saturating_add(self.pool.to_start());
+        }
+    }
+}
+
+/// The one worker of a pool leaves it for each of two jobs, and where no more come. Nobody is left waiting each time.
+#[test]
+fn worker_leaves_its_pool_each_time(rt: HostRuntime) -> Tested {
+    let seen = Seen::nothing();
+    let mut queue = Queue {
+        rt: &rt,
+        seen: &seen,
+        requests: &[1, 2],
+        key: 1,
+        taken: Vec::with_capacity(rt.alloc(), 9)?,
+        reported: Vec::with_capacity(rt.alloc(), 9)?,
+        current: None,
+        state: PortState::Open,
+        begun: None,
+    };
+    let mut gate = PoolGate {
+        pool: PoolCore::new(3, 1, 5),
+        started: 0,
+        is_shut: false,
+    };
+    work_loop(
+        &rt,
+        &mut queue,
+        &Refuser {
+            seen: &seen,
+            from: 7,
+        },
+        &mut gate,
+    );
+    assert!(rt; queue.reported.as_slice() == [(1, Ok(())), (3, Ok(()))].as_slice());
+    assert_eq!(rt; gate.pool.waiting(), 0);
+    assert_eq!(rt; gate.started, 9);
+    assert!(rt; !gate.is_shut);
+    Ok(())
+}

@@ -1,0 +1,189 @@
+//! The loop that writes, over rows of a port, a writer, and what comes of them.
+
+use crate::tests::fakes::{BYTES, Lender, long_bytes};
+use crate::tests::known::writer_had_it;
+use std::alloc::Global;
+use std::io::ErrorKind;
+use std::process::Abort;
+use std::sync::Wait;
+use std::test::Fail;
+use ttrpc_bench::{AT_ONCE, Manner, ROOM, Receiver};
+use ttrpc_sync::PortState;
+use ttrpc_wire::values::slices::front;
+
+type Tested = Result<(), Fail>;
+
+/// Ports that lend so many of these bytes at once, and writers that take so many a call: each writes for each.
+#[derive(Clone, Copy)]
+struct Writing<'a> {
+    name: &'static str,
+    bytes: &'a [u8],
+    lent: &'static [usize],
+    /// How many bytes come at a time.
+    batch: usize,
+    taken: &'static [usize],
+    manner: Manner,
+    /// How many were written, and how often the port was asked for more.
+    written: usize,
+    asked: usize,
+    state: PortState,
+}
+
+/// All twenty come at once, and are written.
+const ALL: Writing<'static> = Writing {
+    name: "twenty bytes",
+    bytes: BYTES,
+    lent: &[4096, 1],
+    batch: ROOM,
+    taken: &[4096, 1],
+    manner: AT_ONCE,
+    written: 20,
+    asked: 2,
+    state: PortState::Stopped,
+};
+
+/// They come by four calls, and the fifth says that there are no more.
+const IN_BATCHES: Writing<'static> = Writing {
+    batch: 6,
+    asked: 5,
+    ..ALL
+};
+
+const WRITINGS: &[Writing<'static>] = &[
+    ALL,
+    Writing {
+        name: "one byte",
+        bytes: b"A",
+        written: 1,
+        ..ALL
+    },
+    Writing {
+        name: "nothing to lend",
+        bytes: b"",
+        written: 0,
+        asked: 1,
+        ..ALL
+    },
+    Writing {
+        name: "more is asked where nothing is lent",
+        lent: &[4096, 4, 1],
+        taken: &[5],
+        ..IN_BATCHES
+    },
+    Writing {
+        name: "interrupted writes and flushes are tried again",
+        lent: &[9],
+        taken: &[4096, 7, 1],
+        manner: Manner {
+            interrupts: true,
+            interrupts_flushes: true,
+            ..AT_ONCE
+        },
+        ..IN_BATCHES
+    },
+];
+
+/// One writer writes for one port, and what comes of it is what the row says.
+fn writes_once<X: Wait + Abort>(
+    rt: &X,
+    alloc: Global,
+    row: &Writing<'_>,
+    lent: usize,
+    taken: usize,
+) -> Tested {
+    let mut port = Lender::new(row.bytes, lent, row.batch);
+    let manner = Manner {
+        step: taken,
+        ..row.manner
+    };
+    let mut writer = Receiver::new(alloc, manner)?;
+    writer_had_it(rt, &mut writer, &mut port);
+    assert_eq!(rt;
+        writer.taken.as_slice(),
+        front(row.bytes, row.written),
+        "{}",
+        row.name
+    );
+    assert_eq!(rt; port.at, row.written, "{}", row.name);
+    assert_eq!(rt; port.asked, row.asked, "{}", row.name);
+    assert!(rt; port.state == row.state, "{}", row.name);
+    Ok(())
+}
+
+/// Each writer of each row writes for each of the row's ports.
+fn writes<X: Wait + Abort>(rt: &X, alloc: Global, rows: &[Writing<'_>]) -> Tested {
+    for row in rows {
+        for lent in row.lent {
+            for taken in row.taken {
+                writes_once(rt, alloc, row, *lent, *taken)?;
+            }
+        }
+    }
+    Ok(())
+}
+
+#[test]
+fn what_is_lent_is_written(rt: HostRuntime) -> Tested {
+    writes(&rt, rt.alloc(), WRITINGS)
+}
+
+#[test]
+fn more_than_a_piece_is_written(rt: HostRuntime) -> Tested {
+    let bytes = long_bytes(rt.alloc())?;
+    let row = Writing {
+        name: "more than a piece",
+        bytes: bytes.as_slice(),
+        written: ROOM,
+        ..ALL
+    };
+    writes(&rt, rt.alloc(), &[row])
+}
+
+/// After so many bytes the writer fails, or takes no more: those were written and reported.
+fn breaks_behind<X: Wait + Abort>(
+    rt: &X,
+    alloc: Global,
+    count: usize,
+    behind: Option<ErrorKind>,
+) -> Tested {
+    let row = Writing {
+        name: "a writer that fails",
+        lent: &[9],
+        manner: AT_ONCE.ending(count, behind),
+        written: count,
+        asked: (count / 6).saturating_add(1),
+        state: PortState::Broke(behind.unwrap_or(ErrorKind::WriteZero)),
+        ..IN_BATCHES
+    };
+    writes(rt, alloc, &[row])
+}
+
+#[test]
+fn a_failing_write_is_a_break(rt: HostRuntime) -> Tested {
+    for count in 0..20 {
+        breaks_behind(&rt, rt.alloc(), count, Some(ErrorKind::BrokenPipe))?;
+        breaks_behind(&rt, rt.alloc(), count, None)?;
+    }
+    Ok(())
+}
+
+/// The bytes come by four calls for more, and the fifth ends the loop. A flush stands before each of the five.
+#[test]
+fn a_failing_flush_is_a_break(rt: HostRuntime) -> Tested {
+    for (flushes, written) in [(0, 0), (1, 6), (2, 12), (3, 18), (4, 20)] {
+        let row = Writing {
+            name: "a writer whose flush fails",
+            manner: Manner {
+                flushes,
+                behind: Some(ErrorKind::StorageFull),
+                ..AT_ONCE
+            },
+            written,
+            asked: flushes,
+            state: PortState::Broke(ErrorKind::StorageFull),
+            ..IN_BATCHES
+        };
+        writes(&rt, rt.alloc(), &[row])?;
+    }
+    Ok(())
+}

@@ -1,0 +1,230 @@
+//! The threads of a connection: how many there are, which jobs they take, and what a server's settings are to them.
+use crate::tests::fakes::Failing;
+use crate::tests::handlers::{Board, Method, comes};
+use crate::tests::peers::{read_frame, requests, write_all};
+use crate::tests::sites::{
+    Machine, PlainClient, Site, Tested, a_while, answers, client, connection, serving, serving_one,
+    started, unbound,
+};
+use std::alloc::Global;
+use std::io::ErrorKind;
+use std::net::TcpListener;
+use std::process::Abort;
+use std::rt::Files;
+use std::sync::atomic::{AtomicBool, AtomicU64, Ordering};
+use std::sync::{Arc, Wait};
+use std::test::Fail;
+use std::time::{Clock, Duration, Instant};
+use std::{fs, thread};
+use ttrpc_proto::Result as Answered;
+use ttrpc_secure::{AcceptHook, HookError, HookOutput, Plain};
+use ttrpc_sync::{Connected, Host};
+use ttrpc_sync_server::accept::{Stop, next_connection};
+use ttrpc_sync_server::{NoHook, Server};
+use ttrpc_transport::{PipeConnection, PipeListener};
+
+/// How many threads this process has.
+fn threads<R: Files + Host>(rt: &R) -> Option<usize> {
+    let mut count: usize = 0;
+    for _ in fs::read_dir(rt, "/proc/self/task").ok()? {
+        count = count.saturating_add(1);
+    }
+    Some(count)
+}
+
+/// It comes to have so many threads more than before.
+fn has_more_threads<R: Machine>(rt: &R, before: usize, more: usize) -> bool {
+    let count = before.saturating_add(more);
+    comes(rt, || threads(rt) == Some(count))
+}
+
+/// Waits behind the gate.
+fn gated<R: Host + Abort>(rt: &R, client: &PlainClient<R>) -> Answered<()> {
+    answers(rt, client, "Gate", b"", b"open")
+}
+
+/// Opens the gate once so many handlers wait behind it.
+fn opens_behind<C: Clock>(rt: &C, board: &Board, count: u64) -> bool {
+    let came = comes(rt, || board.gated.load(Ordering::SeqCst) == count);
+    board.is_open.store(true, Ordering::SeqCst);
+    came
+}
+
+/// Four slow calls of one connection run at once, though it begins with three workers.
+#[test]
+fn more_workers_are_started(rt: HostRuntime) -> Tested {
+    let (site, client) = serving_one(&rt)?;
+    let (two, (other, came)) = thread::join(
+        &rt,
+        || thread::join(&rt, || gated(&rt, &client), || gated(&rt, &client)),
+        || {
+            thread::join(
+                &rt,
+                || thread::join(&rt, || gated(&rt, &client), || gated(&rt, &client)),
+                || opens_behind(&rt, &*site.board, 4),
+            )
+        },
+    );
+    assert!(rt; came);
+    two.0?;
+    two.1?;
+    other.0?;
+    other.1?;
+    site.server.shutdown();
+    Ok(())
+}
+
+/// Two requests come in one piece: the second is answered while the first one's handler waits.
+#[test]
+fn each_job_of_a_piece_has_a_worker(rt: HostRuntime) -> Tested {
+    let site = serving(&rt)?;
+    let bare = connection(&rt, site.address.as_str())?;
+    let mut asked = requests(rt.alloc(), "Gate", 1)?;
+    let both = requests(rt.alloc(), "Echo", 2)?;
+    asked.extend_from_slice(ttrpc_wire::values::slices::behind(both.as_slice(), both.len() / 2))?;
+    a_while(&rt);
+    write_all(&bare, asked.as_slice())?;
+    let mut reader = &bare;
+    let first = read_frame(rt.alloc(), &mut reader)?;
+    site.board.is_open.store(true, Ordering::SeqCst);
+    let second = read_frame(rt.alloc(), &mut reader)?;
+    assert_eq!(rt; (first.header.stream_id, second.header.stream_id), (3, 1));
+    site.server.shutdown();
+    Ok(())
+}
+
+/// A client that is dropped at rest leaves no thread behind.
+#[test]
+fn a_client_at_rest_leaves_no_threads(rt: HostRuntime) -> Tested {
+    let site = serving(&rt)?;
+    let before = threads(&rt).ok_or("no threads")?;
+    let client = client(&rt, site.address.as_str())?;
+    for _ in 0..20 {
+        answers(&rt, &client, "Echo", b"2", b"2")?;
+    }
+    drop(client);
+    assert!(rt; has_more_threads(&rt, before, 0));
+    site.server.shutdown();
+    Ok(())
+}
+
+/// A server whose connections begin with so many workers, and one connection of it.
+fn crowd<R: Machine + 'static>(
+    rt: &R,
+    counts: (usize, usize, usize),
+) -> Result<(Site<R, NoHook>, PipeConnection), Fail> {
+    let board = Arc::new(rt.alloc(), Board::new(rt.alloc()))?;
+    let server = unbound(rt, &board)?
+        .set_thread_count_default(counts.0)
+        .set_thread_count_min(counts.1)
+        .set_thread_count_max(counts.2)
+        .bind("tcp://127.0.0.1:0", true)?;
+    let site = started(rt, server, board)?;
+    let bare = connection(rt, site.address.as_str())?;
+    Ok((site, bare))
+}
+
+/// Beside its workers a connection has a thread that keeps it, one that reads and one that writes; and the server one that
+/// accepts.
+#[test]
+fn a_connection_begins_with_its_workers(rt: HostRuntime) -> Tested {
+    let before = threads(&rt).ok_or("no threads")?;
+    let (site, bare) = crowd(&rt, (6, 2, 9))?;
+    assert!(rt; has_more_threads(&rt, before, 10));
+    a_while(&rt);
+    a_while(&rt);
+    assert!(rt; has_more_threads(&rt, before, 10));
+    bare.close()?;
+    assert!(rt; has_more_threads(&rt, before, 1));
+    site.server.shutdown();
+    Ok(())
+}
+
+/// Where the system gives no connection, the server looks again behind its own interval, and not only behind 10 seconds.
+#[test]
+fn the_interval_of_a_server_is_its_own(rt: HostRuntime) -> Tested {
+    let listener = TcpListener::bind(&rt, "127.0.0.1:0")?;
+    listener.set_nonblocking(true)?;
+    let address = listener.local_addr()?;
+    let address = format!(in rt.alloc(); "tcp://{address}")?;
+    let board = Arc::new(rt.alloc(), Board::new(rt.alloc()))?;
+    let mut server = unbound(&rt, &board)?
+        .set_accept_retry_interval(Duration::from_millis(5))
+        .add_listener(PipeListener::from_tcp(listener)?)?;
+    server.start()?;
+    a_while(&rt);
+    let start = Instant::now(&rt)?;
+    let client = client(&rt, address.as_str())?;
+    answers(&rt, &client, "Echo", b"2", b"2")?;
+    assert!(rt; start.elapsed(&rt)? < Duration::from_secs(5));
+    server.shutdown();
+    Ok(())
+}
+
+/// Keeps whether the last connection's writes go out at once.
+#[derive(Drop)]
+struct SeesNodelay {
+    nodelay: Arc<AtomicBool, Global>,
+}
+
+impl AcceptHook<PipeConnection> for SeesNodelay {
+    type Outbound = Plain;
+
+    type Inbound = Plain;
+
+    fn on_accept(
+        &self,
+        alloc: Global,
+        stream: &PipeConnection,
+    ) -> Result<HookOutput<Plain, Plain>, HookError> {
+        let nodelay = matches!(stream.nodelay(), Ok(true));
+        self.nodelay.store(nodelay, Ordering::SeqCst);
+        Ok(HookOutput::of_halves(alloc, Plain {}, Plain {}))
+    }
+}
+
+/// Each connection's writes go out at once where the server was bound so, and not otherwise.
+#[test]
+fn nodelay_is_handed_on(rt: HostRuntime) -> Tested {
+    for nodelay in [true, false] {
+        let seen = Arc::new(rt.alloc(), AtomicBool::new(!nodelay))?;
+        let board = Arc::new(rt.alloc(), Board::new(rt.alloc()))?;
+        let hook = SeesNodelay {
+            nodelay: Arc::try_clone(&seen)?,
+        };
+        let server = unbound(&rt, &board)?
+            .set_accept_hook(hook)?
+            .bind("tcp://127.0.0.1:0", nodelay)?;
+        let site = started(&rt, server, board)?;
+        let client = client(&rt, site.address.as_str())?;
+        answers(&rt, &client, "Echo", b"2", b"2")?;
+        assert_eq!(rt; seen.load(Ordering::SeqCst), nodelay);
+        site.server.shutdown();
+    }
+    Ok(())
+}
+
+/// Says that a connection of the server has ended, after a while.
+fn ends_later<X: Wait + Clock>(rt: &X, stop: &Stop) {
+    a_while(rt);
+    stop.note_end(rt);
+}
+
+/// A server that waits to accept again looks as soon as one of its connections has ended.
+#[test]
+fn an_end_lets_a_server_accept_again(rt: HostRuntime) -> Tested {
+    let failing = Failing {
+        kind: ErrorKind::Other,
+        left: AtomicU64::new(1),
+    };
+    let stop = Stop::new();
+    let start = Instant::now(&rt)?;
+    let (accepted, _) = thread::join(
+        &rt,
+        || next_connection(&rt, &failing, &stop, Duration::from_secs(3600)),
+        || ends_later(&rt, &stop),
+    );
+    assert!(rt; accepted.is_none());
+    assert!(rt; start.elapsed(&rt)? < Duration::from_secs(5));
+    Ok(())
+}

@@ -1,0 +1,147 @@
+//! What the methods of a test's server do.
+use std::alloc::Global;
+use std::sync::atomic::{AtomicBool, AtomicU64, Ordering};
+use std::sync::{Arc, Mutex};
+use std::thread;
+use std::time::{Clock, Duration};
+use ttrpc_codec::message::WireMessage;
+use ttrpc_proto::{Error, Request, Response, Result, Status};
+use ttrpc_secure::{ConnectionData, ConnectionDataExt, InboundTransform, OutboundTransform};
+use ttrpc_sync::Host;
+use ttrpc_sync_server::{MethodHandler, TtrpcContext};
+use ttrpc_wire::Blob;
+
+/// How often a test looks at most, a millisecond after each look.
+pub const TURNS: u32 = 10000;
+
+/// Looks until it is so, and says whether it was in time.
+pub fn comes<C: Clock, F: Fn() -> bool>(clock: &C, is_so: F) -> bool
+    requires { F.IsAlwaysCallable is_so }
+{
+    for _ in 0..TURNS {
+        if is_so() {
+            return true;
+        }
+        thread::sleep(clock, Duration::from_millis(1));
+    }
+    false
+}
+
+/// What handlers have seen, and what they look for.
+#[derive(Drop)]
+pub struct Board {
+    /// The stream id and the payload of each request.
+    pub seen: Mutex<Vec<(u32, Vec<u8>)>>,
+    /// Whether a second call was answered.
+    pub is_open: AtomicBool,
+    /// How many handlers run that wait for the end of their connection.
+    pub waiting: AtomicU64,
+    /// How many of them saw that it was told.
+    pub cancelled: AtomicU64,
+    /// How many handlers run that wait for the gate.
+    pub gated: AtomicU64,
+}
+
+impl Board {
+    pub fn new(alloc: Global) -> Board {
+        Board {
+            seen: Mutex::new(Vec::new(alloc)),
+            is_open: AtomicBool::new(false),
+            waiting: AtomicU64::new(0),
+            cancelled: AtomicU64::new(0),
+            gated: AtomicU64::new(0),
+        }
+    }
+
+    fn note<R: Host>(&self, rt: &R, stream_id: u32, payload: &[u8]) -> Result<()> {
+        let payload = Vec::from_slice(rt.alloc(), payload)?;
+        Ok(self.seen.lock(rt).push((stream_id, payload))?)
+    }
+}
+
+/// What a method does.
+#[derive(Clone, Copy)]
+pub enum Way {
+    /// It notes the request, and answers its payload.
+    Echo,
+    /// It looks whether the second call was answered, and answers `open` or `shut`.
+    Gate,
+    /// It waits for the end of its connection.
+    Waits,
+    /// It answers nothing, and fails.
+    Fails,
+    /// It answers what is known of its connection as `name`.
+    Name,
+}
+
+/// A method of a test's server.
+#[derive(Drop)]
+pub struct Method<R: Host> {
+    pub rt: R,
+    pub board: Arc<Board, Global>,
+    pub way: Way,
+}
+
+impl<R: Host> Method<R> {
+    fn waits(&self, cancelled: &AtomicBool) {
+        self.board.waiting.fetch_add(1, Ordering::SeqCst);
+        if comes(&self.rt, || cancelled.load(Ordering::SeqCst)) {
+            self.board.cancelled.fetch_add(1, Ordering::SeqCst);
+        }
+        self.board.waiting.fetch_sub(1, Ordering::SeqCst);
+    }
+
+    fn gate(&self) -> &'static [u8] {
+        self.board.gated.fetch_add(1, Ordering::SeqCst);
+        if comes(&self.rt, || self.board.is_open.load(Ordering::SeqCst)) {
+            b"open"
+        } else {
+            b"shut"
+        }
+    }
+}
+
+/// The text that is known as `name`.
+fn name_in(data: &ConnectionData) -> &[u8] {
+    match data.get_typed::<String>("name") {
+        Some(name) => name.as_bytes(),
+        None => b"",
+    }
+}
+
+/// An OK status and this payload.
+fn response_of(alloc: Global, payload: &[u8]) -> Result<Response> {
+    Ok(Response {
+        status: Some(Status::new(alloc)),
+        payload: Blob::from_vec(Vec::from_slice(alloc, payload)?),
+    })
+}
+
+impl<R, O, I> MethodHandler<R, O, I> for Method<R>
+where
+    R: Host,
+    O: OutboundTransform + Drop,
+    I: InboundTransform + Drop,
+{
+    fn handler(&self, ctx: TtrpcContext<R, O, I>, req: Request) -> Result<()> {
+        let alloc = ctx.alloc();
+        let id = ctx.mh.stream_id;
+        let payload = req.payload.as_slice();
+        match self.way {
+            Way::Echo => {
+                self.board.note(&self.rt, id, payload)?;
+                ctx.respond(id, response_of(alloc, payload)?)
+            }
+            Way::Gate => ctx.respond(id, response_of(alloc, self.gate())?),
+            Way::Waits => {
+                self.waits(&*ctx.cancelled);
+                Ok(())
+            }
+            Way::Fails => Err(Error::Eof),
+            Way::Name => {
+                let name = name_in(ctx.conn.connection_data());
+                ctx.respond(id, response_of(alloc, name)?)
+            }
+        }
+    }
+}

@@ -1,0 +1,10 @@
+mod attack_tests;
+mod call_tests;
+mod crew_tests;
+mod ending_tests;
+mod fakes;
+mod handlers;
+mod hook_tests;
+mod peers;
+mod settings_tests;
+mod sites;

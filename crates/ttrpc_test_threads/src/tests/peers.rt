@@ -1,0 +1,68 @@
+//! Peers that read and write frames as a test has them do, one after the other.
+use crate::tests::sites::request;
+use std::alloc::Global;
+use std::io::{Read, Write};
+use ttrpc_codec::message::{WireMessage, encode};
+use ttrpc_frame::{GenMessage, GenMessageError, MessageHeader};
+use ttrpc_proto::{Error, Response, Result as Answered, Status};
+use ttrpc_transport::PipeConnection;
+use ttrpc_wire::Blob;
+use ttrpc_wire::values::slices::behind;
+
+/// Writes all of it.
+pub fn write_all(connection: &PipeConnection, bytes: &[u8]) -> Answered<()> {
+    let mut rest = bytes;
+    for _ in 0..bytes.len() {
+        if rest.is_empty() {
+            return Ok(());
+        }
+        rest = behind(rest, connection.write(rest)?);
+    }
+    Ok(())
+}
+
+/// Reads a frame.
+pub fn read_frame<R: Read>(alloc: Global, reader: &mut R) -> Answered<GenMessage> {
+    match GenMessage::read_from(alloc, reader) {
+        Ok(message) => Ok(message),
+        Err(GenMessageError::InternalError(error) | GenMessageError::ReturnError(_, error)) => {
+            Err(error)
+        }
+    }
+}
+
+/// The bytes of a message, of which nothing but memory may be wanting.
+fn encoded<M: WireMessage>(alloc: Global, message: &M) -> Answered<Vec<u8>> {
+    match encode(alloc, message) {
+        Ok(bytes) => Ok(bytes),
+        Err(_) => Err(Error::NoMemory),
+    }
+}
+
+/// Answers a call with so many bytes.
+pub fn answer<W: Write>(alloc: Global, writer: &mut W, id: u32, length: usize) -> Answered<()> {
+    let response = Response {
+        status: Some(Status::new(alloc)),
+        payload: Blob::from_vec(Vec::from_elem(alloc, 7u8, length)?),
+    };
+    let payload = encoded(alloc, &response)?;
+    let message = GenMessage {
+        header: MessageHeader::new_response(id, payload.len() as u32),
+        payload: Blob::from_vec(payload),
+    };
+    message.write_to(alloc, writer)
+}
+
+/// The bytes of so many requests of a method of `demo.Echo` without a payload, under the odd ids from 1 on.
+pub fn requests(alloc: Global, method: &str, count: u32) -> Answered<Vec<u8>> {
+    let payload = encoded(alloc, &request(alloc, method, b"", 0)?)?;
+    let mut bytes = Vec::new(alloc);
+    let mut id: u32 = 1;
+    for _ in 0..count {
+        let header = MessageHeader::new_request(id, payload.len() as u32);
+        bytes.extend_from_slice(&header.to_bytes())?;
+        bytes.extend_from_slice(payload.as_slice())?;
+        id = id.wrapping_add(2);
+    }
+    Ok(bytes)
+}

@@ -1,0 +1,218 @@
+//! Servers of a test's process, and their clients.
+use crate::tests::handlers::{Board, Method, Way};
+use std::alloc::Global;
+use std::collections::BTreeMap;
+use std::net::{Net, TcpListener, TcpStream};
+use std::process::Abort;
+use std::rt::Files;
+use std::sync::Arc;
+use std::test::Fail;
+use std::thread;
+use std::time::{Clock, Duration};
+use ttrpc_proto::{Error, Request, Response, Result as Answered};
+use ttrpc_secure::{InboundTransform, OutboundTransform, Plain, SendInbound, SendOutbound};
+use ttrpc_sync::{Host, Runtime};
+use ttrpc_sync_client::Client;
+use ttrpc_sync_server::{NoHook, Server, SharedHook};
+use ttrpc_transport::{ClientConnection, PipeConnection, PipeListener};
+use ttrpc_wire::{Blob, Sequence, Text};
+
+pub type Tested = Result<(), Fail>;
+
+/// What the tests ask of the system.
+pub trait Machine: Runtime + Files + Net<Listener = TcpListener, Stream = TcpStream> + Abort {}
+
+impl<R: Runtime + Files + Net<Listener = TcpListener, Stream = TcpStream> + Abort> Machine for R {}
+
+/// A server that listens, its address, and what its handlers see.
+#[derive(Drop)]
+pub struct Site<R: Host, A: Drop> {
+    pub server: Server<R, Method<R>, A>,
+    pub address: String,
+    pub board: Arc<Board, Global>,
+}
+
+/// A client over no transform.
+pub type PlainClient<R> = Client<R, Plain, Plain>;
+
+/// The methods of a test's server, and what each does.
+const METHODS: &[(&str, Way)] = &[
+    ("/demo.Echo/Echo", Way::Echo),
+    ("/demo.Echo/Gate", Way::Gate),
+    ("/demo.Echo/Waits", Way::Waits),
+    ("/demo.Echo/Fails", Way::Fails),
+    ("/demo.Echo/Name", Way::Name),
+];
+
+fn methods<R: Host>(
+    rt: &R,
+    board: &Arc<Board, Global>,
+) -> Result<BTreeMap<String, Method<R>>, Fail> {
+    let mut methods = BTreeMap::new(rt.alloc());
+    for &(path, way) in METHODS {
+        let method = Method {
+            rt: rt.clone()?,
+            board: Arc::try_clone(board)?,
+            way,
+        };
+        methods.insert(String::from_str(rt.alloc(), path)?, method)?;
+    }
+    Ok(methods)
+}
+
+/// A server that has all of the methods, and neither an address nor a hook.
+pub fn unbound<R: Host>(
+    rt: &R,
+    board: &Arc<Board, Global>,
+) -> Result<Server<R, Method<R>, NoHook>, Fail> {
+    Ok(Server::new(rt.clone()?)?.register_service(methods(rt, board)?)?)
+}
+
+/// A server that listens at a free port.
+pub fn serving<R: Machine + 'static>(rt: &R) -> Result<Site<R, NoHook>, Fail> {
+    hooked(rt, NoHook {})
+}
+
+/// The same, where this hook looks at each connection.
+pub fn hooked<R, O, I, A>(rt: &R, hook: A) -> Result<Site<R, A>, Fail>
+where
+    R: Machine + 'static,
+    O: SendOutbound,
+    I: SendInbound,
+    A: SharedHook<Outbound = O, Inbound = I>,
+{
+    let board = Arc::new(rt.alloc(), Board::new(rt.alloc()))?;
+    let server = unbound(rt, &board)?
+        .set_accept_hook(hook)?
+        .bind("tcp://127.0.0.1:0", true)?;
+    started(rt, server, board)
+}
+
+/// The same, of a server that has an address and what it is to serve.
+pub fn started<R, O, I, A>(
+    rt: &R,
+    server: Server<R, Method<R>, A>,
+    board: Arc<Board, Global>,
+) -> Result<Site<R, A>, Fail>
+where
+    R: Machine + 'static,
+    O: SendOutbound,
+    I: SendInbound,
+    A: SharedHook<Outbound = O, Inbound = I>,
+{
+    let mut server = server;
+    server.start()?;
+    let address = server.local_addr()?.ok_or("no port")?;
+    Ok(Site {
+        server,
+        address: format!(in rt.alloc(); "tcp://{address}")?,
+        board,
+    })
+}
+
+/// A client of the server at this address.
+pub fn client<R: Machine + 'static>(rt: &R, address: &str) -> Result<PlainClient<R>, Fail> {
+    Ok(Client::connect(rt.clone()?, address, true)?)
+}
+
+/// A server that listens at a free port, and a client of it.
+pub fn serving_one<R: Machine + 'static>(
+    rt: &R,
+) -> Result<(Site<R, NoHook>, PlainClient<R>), Fail> {
+    let site = serving(rt)?;
+    let client = client(rt, site.address.as_str())?;
+    Ok((site, client))
+}
+
+/// The same, with two handles of the client, so that two threads share its connection.
+pub fn serving_two<R: Machine + 'static>(
+    rt: &R,
+) -> Result<(Site<R, NoHook>, PlainClient<R>, PlainClient<R>), Fail> {
+    let (site, first) = serving_one(rt)?;
+    let second = first.try_clone()?;
+    Ok((site, first, second))
+}
+
+/// A listener at a free port that no server stands behind, and its address.
+pub fn listening<R: Machine>(rt: &R) -> Result<(PipeListener, String), Fail> {
+    let listener = PipeListener::new(rt, rt.alloc(), "tcp://127.0.0.1:0", true)?;
+    let address = listener.local_addr()?.ok_or("no port")?;
+    let address = format!(in rt.alloc(); "tcp://{address}")?;
+    Ok((listener, address))
+}
+
+/// A bare connection to the server at this address.
+pub fn connection<R: Machine>(rt: &R, address: &str) -> Answered<PipeConnection> {
+    ClientConnection::client_connect(rt, rt.alloc(), address, true)?.get_pipe_connection()
+}
+
+/// A request of a method of `demo.Echo`.
+pub fn request(
+    alloc: Global,
+    method: &str,
+    payload: &[u8],
+    timeout_nano: i64,
+) -> Answered<Request> {
+    Ok(Request {
+        service: Text::from_str(alloc, "demo.Echo")?,
+        method: Text::from_str(alloc, method)?,
+        payload: Blob::from_slice(alloc, payload)?,
+        timeout_nano,
+        metadata: Sequence::new(alloc),
+    })
+}
+
+/// Calls a method of `demo.Echo` without a limit of time.
+pub fn call<R, O, I>(
+    rt: &R,
+    client: &Client<R, O, I>,
+    method: &str,
+    payload: &[u8],
+) -> Answered<Response>
+where
+    R: Host,
+    O: OutboundTransform + Drop,
+    I: InboundTransform + Drop,
+{
+    client.request(request(rt.alloc(), method, payload, 0)?)
+}
+
+/// The method answers this.
+pub fn answers<R, O, I>(
+    rt: &R,
+    client: &Client<R, O, I>,
+    method: &str,
+    payload: &[u8],
+    expected: &[u8],
+) -> Answered<()>
+where
+    R: Host + Abort,
+    O: OutboundTransform + Drop,
+    I: InboundTransform + Drop,
+{
+    let response = call(rt, client, method, payload)?;
+    assert!(rt; response.payload.as_slice() == expected, "{method}");
+    Ok(())
+}
+
+/// A refusal has this text.
+pub fn is_told<R: Abort + AllocGlobal, T: Drop>(
+    rt: &R,
+    told: Answered<T>,
+    expected: &str,
+) -> Tested {
+    match told {
+        Ok(_) => panic!(rt; "it isn't refused: {expected}"),
+        Err(Error::NoMemory) => Err(Error::NoMemory.into()),
+        Err(error) => {
+            let text = error.to_string(rt.alloc())?;
+            assert_eq!(rt; text.as_str(), expected);
+            Ok(())
+        }
+    }
+}
+
+/// A while in which another thread comes to wait.
+pub fn a_while<C: Clock>(clock: &C) {
+    thread::sleep(clock, Duration::from_millis(20));
+}

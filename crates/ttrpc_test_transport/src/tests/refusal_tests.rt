@@ -1,0 +1,101 @@
+//! Addresses at which nothing is bound or connected.
+
+use crate::tests::address_tests::is_refused;
+use crate::tests::pairs::{Site, Tested, address_of, clean_behind};
+use std::alloc::Global;
+use std::fs;
+use std::io::{ErrorKind, Read};
+use std::net::{Net, TcpListener, TcpStream};
+use std::process::Abort;
+use std::rt::Files;
+use ttrpc_proto::{Error, Result as Answer};
+use ttrpc_transport::{ClientConnection, PipeListener};
+
+/// Addresses that name no place, each with what refuses it, of that the beginning where the rest is std's.
+const REFUSED: &[(&str, &str)] = &[
+    ("vsock://3:1024", "vsock is not supported"),
+    ("unix://@a", "abstract unix names are not supported"),
+    (
+        "Tcp://127.0.0.1:1",
+        "Scheme \"Tcp://127.0.0.1:1\" is not supported",
+    ),
+    (
+        "tcp://localhost:1",
+        "Failed to parse TCP address 'localhost:1': ",
+    ),
+];
+
+#[test]
+fn no_places_are_refused(rt: HostRuntime) -> Tested {
+    let alloc = rt.alloc();
+    for (address, text) in REFUSED {
+        is_refused(&rt, PipeListener::new(&rt, alloc, address, false), text)?;
+        let connected = ClientConnection::client_connect(&rt, alloc, address, false);
+        is_refused(&rt, connected, text)?;
+    }
+    Ok(())
+}
+
+/// The answer is the system's refusal of this kind.
+fn is_fault<T: Drop>(rt: &impl Abort, answer: Answer<T>, expected: ErrorKind) -> Tested {
+    match answer {
+        Err(Error::Nix(kind)) => assert!(rt; kind == expected, "{kind}"),
+        Err(other) => return Err(other.into()),
+        Ok(_) => return Err("not refused".into()),
+    }
+    Ok(())
+}
+
+/// Nobody can listen at the address.
+fn is_in_use<R>(rt: &R, alloc: Global, address: &str) -> Tested
+where
+    R: Files + Net<Listener = TcpListener, Stream = TcpStream> + Abort,
+{
+    let bound = PipeListener::new(rt, alloc, address, false);
+    is_fault(rt, bound, ErrorKind::AddrInUse)
+}
+
+/// Nobody listens at the address.
+fn is_alone<R>(rt: &R, alloc: Global, address: &str, expected: ErrorKind) -> Tested
+where
+    R: Net<Stream = TcpStream> + Abort,
+{
+    let connected = ClientConnection::client_connect(rt, alloc, address, false);
+    is_fault(rt, connected, expected)
+}
+
+/// A file that is there is left as it is.
+#[test]
+fn a_file_is_not_replaced(rt: HostRuntime) -> Tested {
+    fs::write(&rt, "file.sock", "a file")?;
+    is_in_use(&rt, rt.alloc(), "unix://file.sock")?;
+    let mut text = [0u8; 8];
+    let count = fs::open(&rt, "file.sock")?.read(&mut text)?;
+    assert_eq!(rt; &text[..count], b"a file".as_slice());
+    Ok(fs::remove_file(&rt, "file.sock")?)
+}
+
+/// So is the file of a listener, also once the listener is closed.
+#[test]
+fn a_listeners_file_stays(rt: HostRuntime) -> Tested {
+    let alloc = rt.alloc();
+    let address = "unix://stays.sock";
+    let _ = fs::remove_file(&rt, "stays.sock");
+    let listener = PipeListener::new(&rt, alloc, address, false)?;
+    is_in_use(&rt, alloc, address)?;
+    listener.close()?;
+    let after = is_in_use(&rt, alloc, address);
+    clean_behind(&rt, Site::Path("stays.sock"), after)
+}
+
+/// Nobody listens at a path where there is nothing, nor at a port whose listener is gone.
+#[test]
+fn nobody_listens(rt: HostRuntime) -> Tested {
+    let alloc = rt.alloc();
+    is_alone(&rt, alloc, "unix://nobody.sock", ErrorKind::NotFound)?;
+    let listener = PipeListener::new(&rt, alloc, "tcp://127.0.0.1:0", false)?;
+    let address = address_of(alloc, &listener)?;
+    is_in_use(&rt, alloc, address.as_str())?;
+    drop(listener);
+    is_alone(&rt, alloc, address.as_str(), ErrorKind::ConnectionRefused)
+}

@@ -1,0 +1,166 @@
+//! Bytes between the two ends of a connection.
+
+use crate::tests::pairs::{Pair, Site, Tested, a_while, connect, is_ended, passes};
+use std::alloc::Global;
+use std::net::{Net, TcpListener, TcpStream};
+use std::os::unix::net::UnixStream;
+use std::process::Abort;
+use std::rt::Files;
+use std::test::Fail;
+use std::thread;
+use std::time::Clock;
+use ttrpc_frame::{fill, write_part};
+use ttrpc_proto::{Error, Result as Answer};
+use ttrpc_transport::{ClientConnection, PipeConnection, Stream};
+
+fn bytes_pass<R>(rt: &R, alloc: Global, site: Site) -> Tested
+where
+    R: Files + Net<Listener = TcpListener, Stream = TcpStream> + Abort,
+{
+    let pair = connect(rt, alloc, site)?;
+    passes(rt, &pair.connection, &pair.accepted, b"ping")?;
+    passes(rt, &pair.accepted, &pair.connection, b"answer")?;
+    pair.client.close()?;
+    is_ended(rt, &pair.accepted)
+}
+
+#[test]
+fn bytes_pass_both_ways(rt: HostRuntime) -> Tested {
+    bytes_pass(&rt, rt.alloc(), Site::Port)?;
+    bytes_pass(&rt, rt.alloc(), Site::Path("both_ways.sock"))
+}
+
+/// Two ends at no address, of which the first doesn't wait: where it would, its calls answer so at once.
+fn hasty<R: Net>(rt: &R) -> Result<(PipeConnection, PipeConnection), Fail> {
+    let (one, other) = UnixStream::pair(rt)?;
+    one.set_nonblocking(true)?;
+    Ok((
+        PipeConnection::new(Stream::Unix(one)),
+        PipeConnection::new(Stream::Unix(other)),
+    ))
+}
+
+/// A read for which nothing is there yet is tried again, also where the connection is a reader like any other.
+#[test]
+fn reads_that_would_block_are_tried_again(rt: HostRuntime) -> Tested {
+    let ends = hasty(&rt)?;
+    let mut buffer = [0u8; 4];
+    let (read, wrote) = thread::join(
+        &rt,
+        || fill(&mut &ends.0, &mut buffer),
+        || {
+            thread::sleep(&rt, a_while());
+            ends.1.write(b"late")
+        },
+    );
+    assert_eq!(rt; wrote?, 4);
+    read.1?;
+    assert_eq!(rt; &buffer, b"late");
+    Ok(())
+}
+
+/// The same of writes, of more bytes than the socket holds.
+#[test]
+fn writes_that_would_block_are_tried_again(rt: HostRuntime) -> Tested {
+    let ends = hasty(&rt)?;
+    let (wrote, read) = thread::join(
+        &rt,
+        || write_part(&mut &ends.0, &[7u8; 400_000]),
+        || {
+            thread::sleep(&rt, a_while());
+            count_of(&ends.1, 7, 400_000)
+        },
+    );
+    wrote?;
+    assert_eq!(rt; read?, 400_000);
+    Ok(())
+}
+
+/// How many of the next bytes are this one, of so many that come.
+fn count_of(reader: &PipeConnection, byte: u8, all: usize) -> Answer<usize> {
+    let mut count = 0usize;
+    let mut buffer = [0u8; 4096];
+    for _ in 0..all {
+        if count >= all {
+            break;
+        }
+        let read = reader.read(&mut buffer)?;
+        let found = buffer[..read].iter().filter(|b| **b == byte).count();
+        count = count.saturating_add(found);
+    }
+    Ok(count)
+}
+
+/// Each end by TCP sends its writes at once where it is told to.
+#[test]
+fn delay_is_off_where_it_is_told(rt: HostRuntime) -> Tested {
+    let Pair {
+        client: _client,
+        connection,
+        accepted,
+    } = connect(&rt, rt.alloc(), Site::Port)?;
+    for end in [connection, accepted] {
+        if let Stream::Tcp(stream) = end.into_stream() {
+            assert!(rt; stream.nodelay()?);
+        }
+    }
+    Ok(())
+}
+
+/// Whether something is there to be read: before bytes came, once they did, and once they were read.
+fn readiness(rt: &impl Clock, pair: &Pair) -> Answer<[bool; 3]> {
+    let before = is_ready(&pair.client)?;
+    pair.accepted.write(b"ping")?;
+    thread::sleep(rt, a_while());
+    let then = is_ready(&pair.client)?;
+    pair.connection.read(&mut [0u8; 8])?;
+    Ok([before, then, is_ready(&pair.client)?])
+}
+
+fn is_ready(client: &ClientConnection) -> Answer<bool> {
+    match client.ready() {
+        Ok(came) => Ok(came.is_some()),
+        Err(error) => Err(Error::Nix(error.kind())),
+    }
+}
+
+/// Its receiver is closed then, which ends nothing else.
+fn ready_tells<R>(rt: &R, alloc: Global, site: Site) -> Tested
+where
+    R: Files + Net<Listener = TcpListener, Stream = TcpStream> + Abort + Clock,
+{
+    let pair = connect(rt, alloc, site)?;
+    assert_eq!(rt; readiness(rt, &pair)?, [false, true, false]);
+    pair.client.close_receiver()?;
+    is_closed(rt, alloc, &pair.client)?;
+    passes(rt, &pair.connection, &pair.accepted, b"pong")
+}
+
+#[test]
+fn ready_tells_what_came(rt: HostRuntime) -> Tested {
+    ready_tells(&rt, rt.alloc(), Site::Port)?;
+    ready_tells(&rt, rt.alloc(), Site::Path("ready.sock"))
+}
+
+fn is_closed(rt: &impl Abort, alloc: Global, client: &ClientConnection) -> Tested {
+    match client.ready() {
+        Err(error) => {
+            let text = error.to_string(alloc)?;
+            assert_eq!(rt; text.as_str(), "pipe closed");
+            Ok(())
+        }
+        Ok(_) => Err("not closed".into()),
+    }
+}
+
+/// The other side's end is told as something that came.
+#[test]
+fn ready_tells_the_end(rt: HostRuntime) -> Tested {
+    let (one, other) = UnixStream::pair(&rt)?;
+    let client = ClientConnection::new(Stream::Unix(one))?;
+    assert!(rt; !is_ready(&client)?);
+    drop(other);
+    assert!(rt; is_ready(&client)?);
+    client.close()?;
+    is_closed(&rt, rt.alloc(), &client)
+}

@@ -1,0 +1,9 @@
+mod bounds_tests;
+mod context_tests;
+mod error_tests;
+mod header_tests;
+mod message_tests;
+mod random_tests;
+mod rows;
+mod values_tests;
+mod wire_tests;

@@ -1,0 +1,18 @@
+use Rattle.std.proofs.Common.{refl}
+use Rattle.ttrpc_test_world.proofs.tests.script.over_plain.Goals as goal
+
+pub run-requires : goal.run-requires
+run-requires c = rw (c.new.ensures, c.new-client.ensures, c.new-server.ensures) (record {
+  kind = c.args.kind;
+  first = 1;
+  client = refl;
+  rules = _;
+  services = _;
+  server = refl;
+  up = refl;
+  down = refl;
+  moment = refl;
+  responded = refl;
+  up_paired = c.plain_is_paired.ensures _ _;
+  down_paired = c.plain_is_paired.ensures _ _;
+})

@@ -1,0 +1,4 @@
+mod plainly;
+mod random_tests;
+mod rows_tests;
+mod script;

@@ -1,0 +1,262 @@
+//! Lists of events by chance, from a fixed seed: the headline holds of each trace, as the plain program reads it.
+ghost use Rattle.std.specs.Prelude.{◌<◌};
+
+use crate::tests::plainly::{Finding, read_headline};
+use crate::tests::script::{over_plain, over_stamps, put, request_of, response_of};
+use std::alloc::Global;
+use std::test::Fail;
+use ttrpc_client::ClientKind;
+use ttrpc_codec::message::WireMessage;
+use ttrpc_frame::MessageHeader;
+use ttrpc_proto::{Error, Response, Status};
+use ttrpc_server::Job;
+use ttrpc_wire::Text;
+use ttrpc_world::{Entry, Event, Reply, Side, Trace};
+
+type Tested = Result<(), Fail>;
+
+const SEED: u64 = 20260101;
+
+const LISTS: usize = 2000;
+
+const EVENTS: usize = 64;
+
+/// Numbers by chance, by shifts and exclusive ors.
+#[derive(Drop)]
+struct Chance {
+    state: u64,
+}
+
+impl Chance {
+    /// A number below `n`; 0 where there is none.
+    fn below(&mut self, n: u64) -> u64
+        ensures { 0 < n → result < n }
+    {
+        self.state ^= self.state << 13;
+        self.state ^= self.state >> 7;
+        self.state ^= self.state << 17;
+        if n == 0 {
+            return 0;
+        }
+        self.state % n
+    }
+
+    /// An odd id of one of the first calls.
+    fn id(&mut self) -> u32 {
+        (self.below(4) as u32).saturating_mul(2).saturating_add(1)
+    }
+
+    fn job(&mut self) -> u64 {
+        self.below(4).saturating_add(1)
+    }
+
+    fn count(&mut self) -> usize {
+        self.below(96) as usize
+    }
+
+    fn side(&mut self) -> Side {
+        if self.below(2) == 0 {
+            Side::Client
+        } else {
+            Side::Server
+        }
+    }
+}
+
+/// What a handler gives: mostly a response that is OK.
+fn answer_of(alloc: Global, chance: &mut Chance) -> Result<Result<Response, Error>, Fail> {
+    let payload = [chance.below(256) as u8];
+    let mut response = response_of(alloc, &payload)?;
+    match chance.below(40) {
+        0 => return Ok(Err(Error::Eof)),
+        1 => response.status = None,
+        2 => {
+            let mut status = Status::new(alloc);
+            status.code = 5;
+            response.status = Some(status);
+        }
+        _ => {}
+    }
+    Ok(Ok(response))
+}
+
+/// A call of a method that there is, or by chance of one that isn't.
+fn call_of(alloc: Global, chance: &mut Chance) -> Result<Event, Fail> {
+    let payload = [chance.below(256) as u8];
+    let timeout = if chance.below(4) == 0 { 20 } else { 0 };
+    let mut request = request_of(alloc, &payload, timeout)?;
+    if chance.below(10) == 0 {
+        request.method = Text::from_str(alloc, "Nope")?;
+    }
+    Ok(Event::Call(request))
+}
+
+/// An event that ends something: rare, so that most lists come far.
+fn ending(chance: &mut Chance) -> Event {
+    match chance.below(64) {
+        0 | 1 => Event::Cut(chance.side(), chance.count()),
+        2 => Event::Fail(chance.side()),
+        3 | 4 => Event::DropCall(chance.id()),
+        5..9 => Event::Tick(chance.below(40)),
+        _ => Event::Outcome(chance.id()),
+    }
+}
+
+/// A response to a job, or by chance the end of one.
+fn responding(alloc: Global, chance: &mut Chance) -> Result<Event, Fail> {
+    let payload = [chance.below(256) as u8];
+    if chance.below(4) == 0 {
+        return Ok(Event::Finish(chance.job()));
+    }
+    Ok(Event::Respond(chance.job(), response_of(alloc, &payload)?))
+}
+
+fn event_by(alloc: Global, chance: &mut Chance) -> Result<Event, Fail> {
+    Ok(match chance.below(16) {
+        0 => call_of(alloc, chance)?,
+        1..4 => Event::Carry(Side::Client, chance.count()),
+        4..6 => Event::Deliver(Side::Server, chance.count()),
+        6 | 7 => Event::Take,
+        8 | 9 => Event::Answer(chance.job(), answer_of(alloc, chance)?),
+        10 => responding(alloc, chance)?,
+        11 | 12 => Event::Carry(Side::Server, chance.count()),
+        13 | 14 => Event::Deliver(Side::Client, chance.count()),
+        _ => ending(chance),
+    })
+}
+
+/// What is under way is brought to its end.
+fn settle(alloc: Global, events: &mut Vec<Event>, chance: &mut Chance) -> Tested {
+    for _ in 0..4 {
+        put(events, Event::Carry(Side::Client, 4096))?;
+    }
+    put(events, Event::Deliver(Side::Server, 4096))?;
+    for job in 1..5 {
+        put(events, Event::Take)?;
+        if chance.below(4) == 0 {
+            put(events, Event::Respond(job, response_of(alloc, b"a")?))?;
+            put(events, Event::Finish(job))?;
+        }
+        put(events, Event::Answer(job, answer_of(alloc, chance)?))?;
+        put(events, Event::Carry(Side::Server, 4096))?;
+        put(events, Event::Carry(Side::Server, 4096))?;
+    }
+    put(events, Event::Deliver(Side::Client, 4096))?;
+    for id in [1, 3, 5, 7] {
+        put(events, Event::Outcome(id))?;
+    }
+    Ok(())
+}
+
+/// Events by chance; in every second list what is under way is then brought to its end.
+fn events_by(alloc: Global, chance: &mut Chance) -> Result<Vec<Event>, Fail> {
+    let mut events = Vec::with_capacity(alloc, EVENTS)?;
+    for _ in 0..EVENTS {
+        put(&mut events, event_by(alloc, chance)?)?;
+    }
+    if chance.below(2) == 0 {
+        settle(alloc, &mut events, chance)?;
+    }
+    Ok(events)
+}
+
+fn trace_by(alloc: Global, chance: &mut Chance) -> Result<Trace, Fail> {
+    let events = events_by(alloc, chance)?;
+    let kind = if chance.below(2) == 0 {
+        ClientKind::Sync
+    } else {
+        ClientKind::Async
+    };
+    if chance.below(2) == 0 {
+        over_plain(alloc, kind, events)
+    } else {
+        over_stamps(alloc, kind, events)
+    }
+}
+
+/// Over 2000 lists the headline holds, and hundreds of calls end well.
+#[test]
+fn the_headline_holds_by_chance(rt: HostRuntime) -> Tested {
+    let mut chance = Chance { state: SEED };
+    let mut good = 0usize;
+    for _ in 0..LISTS {
+        let trace = trace_by(rt.alloc(), &mut chance)?;
+        match read_headline(trace.as_slice()) {
+            Finding::Whole(more) => good = good.saturating_add(more),
+            _ => return Err("the headline doesn't hold".into()),
+        }
+    }
+    assert!(rt; good > 500);
+    Ok(())
+}
+
+fn call_entry(alloc: Global) -> Result<Entry, Fail> {
+    let request = request_of(alloc, b"a", 0)?;
+    Ok(Entry {
+        event: Event::Call(request),
+        reply: Reply::Named(1),
+    })
+}
+
+fn outcome_entry(alloc: Global) -> Result<Entry, Fail> {
+    let response = response_of(alloc, b"a")?;
+    Ok(Entry {
+        event: Event::Outcome(1),
+        reply: Reply::Outcome(Some(Ok(response))),
+    })
+}
+
+/// A job of call 1 was handed out.
+fn run_entry(alloc: Global) -> Result<Entry, Fail> {
+    let request = request_of(alloc, b"a", 0)?;
+    let job = Job {
+        id: 1,
+        header: MessageHeader::new_request(1, 0),
+        stream: false,
+        request,
+    };
+    Ok(Entry {
+        event: Event::Take,
+        reply: Reply::Handed(Some(job)),
+    })
+}
+
+fn answer_entry() -> Entry {
+    Entry {
+        event: Event::Answer(1, Err(Error::Eof)),
+        reply: Reply::Done,
+    }
+}
+
+fn one(alloc: Global, entry: Entry) -> Result<Trace, Fail> {
+    let mut trace = Vec::with_capacity(alloc, 1)?;
+    trace.push_reserved(entry);
+    Ok(trace)
+}
+
+fn two(alloc: Global, first: Entry, second: Entry) -> Result<Trace, Fail> {
+    let mut trace = Vec::with_capacity(alloc, 2)?;
+    trace.push_reserved(first);
+    trace.push_reserved(second);
+    Ok(trace)
+}
+
+/// The plain program sees each fault.
+#[test]
+fn faults_are_found(rt: HostRuntime) -> Tested {
+    let alloc = rt.alloc();
+    let used = two(alloc, call_entry(alloc)?, call_entry(alloc)?)?;
+    assert_eq!(rt; read_headline(used.as_slice()), Finding::IdUsedTwice);
+    let run = one(alloc, run_entry(alloc)?)?;
+    assert_eq!(rt; read_headline(run.as_slice()), Finding::RunOutOfPlace);
+    let answered = two(alloc, answer_entry(), answer_entry())?;
+    assert_eq!(rt; read_headline(answered.as_slice()), Finding::AnsweredTwice);
+    let uncalled = one(alloc, outcome_entry(alloc)?)?;
+    assert_eq!(rt;
+        read_headline(uncalled.as_slice()),
+        Finding::OutcomeOutOfPlace
+    );
+    let other = two(alloc, call_entry(alloc)?, outcome_entry(alloc)?)?;
+    assert_eq!(rt; read_headline(other.as_slice()), Finding::OtherAnswer);
+    Ok(())
+}
