@@ -8,4 +8,5 @@ pub use ttrpc_frame::{
 };
 pub use ttrpc_message::Message;
 pub use ttrpc_proto::{Any, KeyValue, Request, RequestInit, Response, ResponseInit, Status};
+pub use ttrpc_wire::values::codec_error::CodecFailure;
 pub use ttrpc_wire::{Blob, Code, Sequence, Text, TryClone};

@@ -2,5 +2,5 @@
 pub use ttrpc_secure::{
     ACCEPT_HOOK_TIMEOUT, AcceptHook, ConnectHook, ConnectionContext, ConnectionData,
     ConnectionDataExt, Datum, HookError, HookOutput, InboundTransform, Kind, OutboundTransform,
-    Plain, SendInbound, SendOutbound, TransformError, plain_context,
+    Plain, SendInbound, SendOutbound, TransformError, hook_result, plain_context,
 };

@@ -1,9 +1,10 @@
 //! Client and server with threads, and the loops that they are made of.
 pub use ttrpc_sync::{
-    Gate, Handler, Host, JobPort, ReadPort, Runtime, WritePort, read_loop, work_loop, write_loop,
+    Gate, Handler, Host, JobPort, PortState, ReadPort, Runtime, WritePort, read_loop, work_loop,
+    write_loop,
 };
 pub use ttrpc_sync_client::{Client, ClientRead, ClientWrite};
 pub use ttrpc_sync_server::{
-    Conn, MethodHandler, NoHook, Server, ServerJobs, ServerRead, ServerWrite, SharedHandler,
-    SharedHook, TtrpcContext, response_error_to_channel, send_response,
+    Conn, MethodHandler, NoHook, Refusal, Server, ServerJobs, ServerRead, ServerWrite, Settings,
+    SharedHandler, SharedHook, Stopper, TtrpcContext, response_error_to_channel, send_response,
 };

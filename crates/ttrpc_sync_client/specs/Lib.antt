@@ -1,1 +1,2 @@
 pub mod ReadTurns
+pub mod Making

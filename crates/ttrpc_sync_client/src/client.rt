@@ -1,8 +1,15 @@
 //! The client.
+ghost use Rattle.std.specs.Prelude.{◌≡◌, ◌⊎◌, [], IfErr, IfOk};
+ghost use Rattle.ttrpc_proto.specs.declared.error.Error.{Error as AnError};
+ghost use Rattle.ttrpc_secure.specs.Hooks.Facts.{facts_of};
+ghost use Rattle.ttrpc_sync_client.specs.Making.{IsNotConnected, IsNotMade, IsRefusedByHook};
+ghost use Rattle.ttrpc_transport.specs.Sockets.{IsFault};
+
 use crate::connection::ClientConn;
 use crate::ports::{ClientRead, ClientShared};
 use std::alloc::Global;
 use std::io;
+use std::marker::Model;
 use std::net::{Net, TcpStream};
 use std::sync::Arc;
 use std::thread::Builder;
@@ -16,12 +23,21 @@ use ttrpc_secure::{
 use ttrpc_sync::{Host, Link, Runtime};
 use ttrpc_transport::{ClientConnection, PipeConnection};
 
-/// A client of one connection. Its clones share the connection, and threads may call through each at the same time. The
-/// connection is closed, and its threads end, as the last of them is dropped.
+/// A client of one connection, which contracts see as what is known of that. Its clones share the connection, and threads
+/// may call through each at the same time. The connection is closed, and its threads end, as the last of them is dropped.
 #[derive(Drop)]
 pub struct Client<R: Host, O: OutboundTransform + Drop, I: InboundTransform + Drop> {
     rt: R,
     connection: Arc<ClientConn<O, I>, Global>,
+}
+
+impl<R: Host, O: OutboundTransform + Drop, I: InboundTransform + Drop> Model for Client<R, O, I> {
+    ghost use Rattle.std.specs.Arc.{arc_value};
+    ghost use Rattle.ttrpc_secure.specs.Hooks.Facts.{Facts};
+
+    ghost Value = { Facts };
+
+    ghost view = { λ client. arc_value client.connection };
 }
 
 impl<R: Runtime> Client<R, Plain, Plain> {
@@ -30,13 +46,18 @@ impl<R: Runtime> Client<R, Plain, Plain> {
     pub fn connect(rt: R, sockaddr: &str, nodelay: bool) -> Result<Client<R, Plain, Plain>>
     where
         R: Net<Stream = TcpStream>,
+        ensures known { IfOk result (λ client. client ≡ []) }
+        ensures err { IfErr result (IsNotConnected sockaddr.now) }
     {
         let connection = ClientConnection::client_connect(&rt, rt.alloc(), sockaddr, nodelay)?;
         Client::new(rt, connection.get_pipe_connection()?)
     }
 
     /// A client of this connection. A thread that can't be started is `Nix`.
-    pub fn new(rt: R, stream: PipeConnection) -> Result<Client<R, Plain, Plain>> {
+    pub fn new(rt: R, stream: PipeConnection) -> Result<Client<R, Plain, Plain>>
+        ensures known { IfOk result (λ client. client ≡ []) }
+        ensures err { IfErr result IsNotMade }
+    {
         let alloc = rt.alloc();
         start(rt, stream, HookOutput::of_halves(alloc, Plain {}, Plain {}))
     }
@@ -53,6 +74,7 @@ where
     pub fn with_hook<H>(rt: R, stream: PipeConnection, hook: &H) -> Result<Client<R, O, I>>
     where
         H: ConnectHook<PipeConnection, Outbound = O, Inbound = I>,
+        ensures err { IfErr result (λ e. IsRefusedByHook e ⊎ IsNotMade e) }
     {
         let alloc = rt.alloc();
         match hook.on_connect(alloc, &stream) {
@@ -64,7 +86,9 @@ where
 
 impl<R: Host, O: OutboundTransform + Drop, I: InboundTransform + Drop> Client<R, O, I> {
     /// What is known of the connection, as its hook told it.
-    pub fn connection_data(&self) -> &ConnectionData {
+    pub fn connection_data(&self) -> &ConnectionData
+        ensures { facts_of result.now.entries ≡ self.now }
+    {
         self.connection.connection_data()
     }
 
@@ -81,7 +105,10 @@ impl<R: Host, O: OutboundTransform + Drop, I: InboundTransform + Drop> Client<R,
     }
 
     /// Another client of the same connection.
-    pub fn try_clone(&self) -> Result<Client<R, O, I>> {
+    pub fn try_clone(&self) -> Result<Client<R, O, I>>
+        ensures ok { IfOk result (λ client. client ≡ self.now) }
+        ensures err { IfErr result (λ e. e ≡ AnError.NoMemory) }
+    {
         Ok(Client {
             rt: self.rt.clone()?,
             connection: Arc::try_clone(&self.connection)?,
@@ -99,6 +126,8 @@ where
     R: Runtime,
     O: SendOutbound,
     I: SendInbound,
+    ensures known { IfOk result (λ client. client ≡ facts_of output.connection_data.entries) }
+    ensures err { IfErr result IsNotMade }
 {
     let alloc = rt.alloc();
     let HookOutput {
@@ -121,7 +150,9 @@ where
 }
 
 /// The error for a thread that the system refused.
-fn fault(error: io::Error) -> Error {
+fn fault(error: io::Error) -> Error
+    ensures { IsFault result }
+{
     Error::Nix(error.kind())
 }
 
@@ -130,6 +161,7 @@ where
     R: Runtime,
     O: SendOutbound,
     I: SendInbound,
+    ensures { IfErr result IsNotMade }
 {
     let mine = rt.clone()?;
     let reader = move || {
@@ -163,6 +195,7 @@ where
     R: Runtime,
     O: SendOutbound,
     I: SendInbound,
+    ensures { IfErr result IsNotMade }
 {
     let mine = rt.clone()?;
     let alloc = rt.alloc();

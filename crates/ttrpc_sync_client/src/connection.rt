@@ -1,6 +1,10 @@
 //! A client's connection, which lives as long as a client of it.
+ghost use Rattle.std.specs.Prelude.{◌≡◌};
+ghost use Rattle.ttrpc_secure.specs.Hooks.Facts.{facts_of};
+
 use crate::ports::{ClientHeld, ClientRead, ClientShared, LONE_FRAME, Manner};
 use std::alloc::Global;
+use std::marker::Model;
 use std::sync::{Arc, MutexGuard};
 use std::time::Duration;
 use ttrpc_client::CallId;
@@ -9,10 +13,18 @@ use ttrpc_proto::{Error, Request, Response, Result};
 use ttrpc_secure::{ConnectionData, InboundTransform, OutboundTransform};
 use ttrpc_sync::{AfterQueuing, Connected, Host, Link, after_queuing, moment};
 
-/// A client's connection. It is closed as the last client of it is dropped.
+/// A client's connection, which contracts see as what is known of it. It is closed as the last client of it is dropped.
 pub struct ClientConn<O: OutboundTransform + Drop, I: InboundTransform + Drop> {
     link: Arc<Link<ClientShared<O, I>>, Global>,
     data: ConnectionData,
+}
+
+impl<O: OutboundTransform + Drop, I: InboundTransform + Drop> Model for ClientConn<O, I> {
+    ghost use Rattle.ttrpc_secure.specs.Hooks.Facts.{Facts, facts_of};
+
+    ghost Value = { Facts };
+
+    ghost view = { λ connection. facts_of connection.data.entries };
 }
 
 impl<O: OutboundTransform + Drop, I: InboundTransform + Drop> Drop for ClientConn<O, I> {
@@ -47,12 +59,16 @@ impl<O: OutboundTransform + Drop, I: InboundTransform + Drop> ClientConn<O, I> {
     pub fn new(
         link: Arc<Link<ClientShared<O, I>>, Global>,
         data: ConnectionData,
-    ) -> ClientConn<O, I> {
+    ) -> ClientConn<O, I>
+        ensures { result ≡ facts_of data.entries }
+    {
         ClientConn { link, data }
     }
 
     /// What is known of the connection.
-    pub fn connection_data(&self) -> &ConnectionData {
+    pub fn connection_data(&self) -> &ConnectionData
+        ensures { facts_of result.now.entries ≡ self.now }
+    {
         &self.data
     }
 

@@ -62,7 +62,9 @@ impl<R: Host, O: OutboundTransform + Drop, I: InboundTransform + Drop> Conn<R, O
         &self.link
     }
 
-    pub(crate) fn cancelled(&self) -> &Arc<AtomicBool, Global> {
+    pub(crate) fn cancelled(&self) -> &Arc<AtomicBool, Global>
+        ensures { result.now ≡ self.now.cancelled }
+    {
         &self.cancelled
     }
 

@@ -38,6 +38,7 @@ impl<R: Host, O: OutboundTransform + Drop, I: InboundTransform + Drop> TtrpcCont
     ) -> Result<TtrpcContext<R, O, I>>
         // It has the connection, the header and what the request says.
         ensures conn { IfOk result (λ context. arc_value context.conn ≡ arc_value conn.now) }
+        ensures cancelled { IfOk result (λ context. arc_value context.cancelled ≡ arc_value (arc_value conn.now).cancelled) }
         ensures header { IfOk result (λ context. context.mh ≡ mh) }
         ensures metadata { IfOk result (λ context. (key : List ℕ)
             → texts_of (seen context.metadata.entries) key ≡ some_texts (values_at request.now.metadata key)) }
@@ -57,6 +58,11 @@ impl<R: Host, O: OutboundTransform + Drop, I: InboundTransform + Drop> TtrpcCont
     /// The allocator of handlers.
     pub fn alloc(&self) -> Global {
         self.conn.alloc()
+    }
+
+    /// What handlers ask the system by: its locks, its clock and its threads.
+    pub fn rt(&self) -> &R {
+        self.conn.rt()
     }
 
     /// Answers the request of this stream's id, as `send_response` does.

@@ -40,9 +40,9 @@ start_refusal s =
 abbrev pub IsRefused : Option Refusal → Error → Type 0
 IsRefused why e = (r : Refusal) × (why ≡ Some r) × ((e ≡ error.Others (text_of r)) ⊎ (e ≡ error.NoMemory))
 
--- Where there is a refusal, the result is that. (What else may stand in the way, this leaves open.)
-abbrev pub Refuses : {T : Type 0} → Option Refusal → Result T Error → Type 0
-Refuses why result = (r : Refusal) → why ≡ Some r → IsErr result × IfErr result (IsRefused why)
+-- Where there is a refusal, the result is that; else a failure is one of these.
+abbrev pub Refuses : {T : Type 0} → Option Refusal → (Error → Type 0) → Result T Error → Type 0
+Refuses why Fails result = ((r : Refusal) → why ≡ Some r → IsErr result × IfErr result (IsRefused why)) × (why ≡ None → IfErr result Fails)
 
 -- ---- what calls make of the settings
 
@@ -57,13 +57,13 @@ pub record IsNew (s : Settings) : Type 0 where
   pub fixed : s.is_fixed ≡ false
 
 -- it has an address
-abbrev pub bound : Settings → Settings
-bound s = record s { is_bound = true }
+abbrev pub bound_settings : Settings → Settings
+bound_settings s = record s { is_bound = true }
 
 -- it listens, and its services are fixed
-abbrev pub started : Settings → Settings
-started s = record s { is_listening = true; is_fixed = true }
+abbrev pub started_settings : Settings → Settings
+started_settings s = record s { is_listening = true; is_fixed = true }
 
--- It listens no more, and has no address. One that doesn't listen stays as it is.
-abbrev pub stopped : Settings → Settings
-stopped s = if s.is_listening then record s { is_bound = false; is_listening = false } else s
+-- it listens no more, and has no address
+abbrev pub stopped_settings : Settings → Settings
+stopped_settings s = record s { is_bound = false; is_listening = false }

@@ -17,7 +17,7 @@ impl Accepts for PipeListener {
 }
 
 /// What a server that waits to accept again is told: to listen no more, or that one of its connections has ended, so that
-/// its descriptor is free.
+/// its descriptor is free. And what its owner waits for, the request to shut it down.
 #[derive(Drop)]
 pub struct Stop {
     told: Mutex<Told>,
@@ -29,6 +29,8 @@ struct Told {
     stops: bool,
     // How many connections have ended.
     ends: u64,
+    // Whether the server is to be shut down.
+    shuts_down: bool,
 }
 
 impl Stop {
@@ -38,6 +40,7 @@ impl Stop {
             told: Mutex::new(Told {
                 stops: false,
                 ends: 0,
+                shuts_down: false,
             }),
             changed: Condvar::new(),
         }
@@ -52,6 +55,18 @@ impl Stop {
     pub fn ask<X: Wait>(&self, rt: &X) {
         self.told.lock(rt).stops = true;
         self.changed.notify_all();
+    }
+
+    /// Asks its owner to shut it down.
+    pub fn ask_to_shut_down<X: Wait>(&self, rt: &X) {
+        self.told.lock(rt).shuts_down = true;
+        self.changed.notify_all();
+    }
+
+    /// Waits until its owner was asked to shut it down.
+    pub fn wait_to_shut_down<X: Wait>(&self, rt: &X) {
+        let told = self.told.lock(rt);
+        let _ = self.changed.wait_while(rt, told, |told| !told.shuts_down);
     }
 
     /// A connection of the server has ended.

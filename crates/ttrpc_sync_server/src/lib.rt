@@ -9,11 +9,13 @@ mod hook;
 mod server;
 mod service;
 pub mod settings;
+mod stopper;
 
 pub use admission::NoHook;
 pub use hook::SharedHook;
 pub use server::Server;
 pub use settings::{Refusal, Settings};
+pub use stopper::Stopper;
 pub use ttrpc_sync_connection::{
     Conn, MethodHandler, ServerJobs, ServerRead, ServerShared, ServerWrite, SharedHandler,
     TtrpcContext, response_error_to_channel, send_response,

@@ -1,14 +1,20 @@
 //! The server.
-ghost use Rattle.std.specs.Prelude.{◌≡◌, IfErr, IfOk, OnErr, OnOk, None, Some, true, false};
+ghost use Rattle.std.specs.Prelude.{◌≡◌, ◌↔◌, IfErr, IfOk, IsNone, IsSome, OnErr, OnOk, None, Some};
+ghost use Rattle.std.specs.Arc.{arc_value};
 ghost use Rattle.ttrpc_proto.specs.declared.error.Error.TheVariants.{NoMemory};
-ghost use Rattle.ttrpc_sync_server.specs.Settings.{IsNew, IsRefused, Refuses, bind_refusal, listen_refusal, register_refusal, start_refusal, bound, started, stopped};
+ghost use Rattle.ttrpc_sync_server.specs.Built.{IsNewServer, IsNotBound, IsNotRegistered, IsNotStarted, Registers, bound, started, stopped};
+ghost use Rattle.ttrpc_sync_server.specs.Settings.{Refuses, bind_refusal, listen_refusal, register_refusal, start_refusal};
+ghost use Rattle.ttrpc_transport.specs.Opened.{IsOpenedAt};
+ghost use Rattle.ttrpc_transport.specs.Sockets.{IsFault};
+ghost use Rattle.ttrpc_transport.specs.declared.address.domain.Domain.{Domain as ADomain};
 
 use crate::accept::{Stop, next_connection};
 use crate::admission::NoHook;
 use crate::connections::Connections;
 use crate::hook::SharedHook;
 use crate::service::{Service, serve};
-use crate::settings::{Refusal, Settings};
+use crate::settings::Settings;
+use crate::stopper::Stopper;
 use std::alloc::Global;
 use std::collections::BTreeMap;
 use std::marker::Model;
@@ -24,8 +30,8 @@ use ttrpc_sync::{Host, Runtime};
 use ttrpc_sync_connection::SharedHandler;
 use ttrpc_transport::{PipeConnection, PipeListener};
 
-/// A server with threads, which contracts see as its settings. Once it has started it serves the methods that are registered,
-/// at one address.
+/// A server with threads, which contracts see as what it was built with: its settings, the domain of its listener, its
+/// handlers and its hook. Once it has started it serves the methods that are registered, at one address.
 #[derive(Drop)]
 pub struct Server<R: Host, H: Drop, A: Drop> {
     rt: R,
@@ -39,12 +45,18 @@ pub struct Server<R: Host, H: Drop, A: Drop> {
 }
 
 impl<R: Host, H: Drop, A: Drop> Model for Server<R, H, A> {
-    ghost use Rattle.std.specs.Prelude.{◌≡◌, ◌↔◌, IsSome, true};
-    ghost use Rattle.ttrpc_sync_server.specs.declared.settings.Settings.{Settings};
+    ghost use Rattle.std.specs.Arc.{arc_value};
+    ghost use Rattle.std.specs.Prelude.{◌≡◌, ◌↔◌, IsSome, option_map, true};
+    ghost use Rattle.ttrpc_sync_server.specs.Built.{Built};
 
-    ghost Value = { Settings };
+    ghost Value = { Built H A };
 
-    ghost view = { λ server. server.settings };
+    ghost view = { λ server. record {
+      settings = server.settings;
+      listener = option_map arc_value server.listener;
+      handlers = arc_value server.methods;
+      hook = arc_value server.hook;
+    } };
 
     // It has a listener exactly where it is bound, and a thread that accepts connections exactly where it listens.
     ghost invariant = { λ server. (IsSome server.listener ↔ (server.settings.is_bound ≡ true))
@@ -54,7 +66,7 @@ impl<R: Host, H: Drop, A: Drop> Model for Server<R, H, A> {
 impl<R: Host, H: Drop> Server<R, H, NoHook> {
     /// A server without services and without an address.
     pub fn new(rt: R) -> Result<Server<R, H, NoHook>>
-        ensures new { IfOk result IsNew }
+        ensures new { IfOk result IsNewServer }
         ensures err { IfErr result (λ e. e ≡ NoMemory) }
     {
         let alloc = rt.alloc();
@@ -74,7 +86,7 @@ impl<R: Host, H: Drop> Server<R, H, NoHook> {
 impl<R: Host, H: Drop, A: Drop> Server<R, H, A> {
     /// Its settings.
     pub fn settings(&self) -> &Settings
-        ensures { result.now ≡ self.now }
+        ensures { result.now ≡ self.now.settings }
     {
         &self.settings
     }
@@ -84,9 +96,8 @@ impl<R: Host, H: Drop, A: Drop> Server<R, H, A> {
     pub fn bind(self, sockaddr: &str, nodelay: bool) -> Result<Server<R, H, A>>
     where
         R: Files + Net<Listener = TcpListener, Stream = TcpStream>,
-        ensures ok { IfOk result (λ server. server ≡ bound self) }
-        ensures free { OnOk result (bind_refusal self ≡ None) }
-        ensures refused { Refuses (bind_refusal self) result }
+        ensures ok { IfOk result (λ server. (domain : ADomain) × IsOpenedAt sockaddr.now domain × (server ≡ bound self domain)) }
+        ensures refused { Refuses (bind_refusal self.settings) (IsNotBound sockaddr.now) result }
     {
         self.settings.check_bind(self.rt.alloc())?;
         let listener = PipeListener::new(&self.rt, self.rt.alloc(), sockaddr, nodelay)?;
@@ -95,9 +106,8 @@ impl<R: Host, H: Drop, A: Drop> Server<R, H, A> {
 
     /// Accepts the connections of this listener. A second one is refused.
     pub fn add_listener(mut self, listener: PipeListener) -> Result<Server<R, H, A>>
-        ensures ok { IfOk result (λ server. server ≡ bound self) }
-        ensures free { OnOk result (bind_refusal self ≡ None) }
-        ensures refused { Refuses (bind_refusal self) result }
+        ensures ok { IfOk result (λ server. server ≡ bound self listener) }
+        ensures refused { Refuses (bind_refusal self.settings) (λ e. e ≡ NoMemory) result }
     {
         let alloc = self.rt.alloc();
         self.settings.check_bind(alloc)?;
@@ -106,35 +116,36 @@ impl<R: Host, H: Drop, A: Drop> Server<R, H, A> {
         Ok(self)
     }
 
-    /// Where it listens by TCP, and `None` at a path or without an address.
-    pub fn local_addr(&self) -> Result<Option<SocketAddr>> {
+    /// Where it listens by TCP, and `None` at a path or without an address. A fault of the system is `Nix`.
+    pub fn local_addr(&self) -> Result<Option<SocketAddr>>
+        ensures ok { IfOk result (λ address. IsSome address ↔ (self.now.listener ≡ Some ADomain.Tcp)) }
+        ensures err { IfErr result IsFault }
+    {
         match &self.listener {
             Some(listener) => listener.local_addr(),
             None => Ok(None),
         }
     }
 
-    /// Serves these methods too, each under its path, `/SERVICE/METHOD`. Once the server has started its services are
-    /// fixed, and more are refused.
+    /// Serves these methods too, each under its path, `/SERVICE/METHOD`. A text that is no path is refused, as `Methods::add`
+    /// does it. Once the server has started its services are fixed, and more are refused.
     pub fn register_service(mut self, methods: BTreeMap<String, H>) -> Result<Server<R, H, A>>
-        ensures ok { IfOk result (λ server. server ≡ self) }
-        ensures open { OnOk result (register_refusal self ≡ None) }
-        ensures refused { Refuses (register_refusal self) result }
+        ensures ok { IfOk result (Registers self methods.entries) }
+        ensures refused { Refuses (register_refusal self.settings) IsNotRegistered result }
     {
         let alloc = self.rt.alloc();
         self.settings.check_register(alloc)?;
+        // Nobody shares them before the first start.
         let Some(open) = Arc::get_mut(&mut self.methods) else {
-            return Err(Refusal::Started.error(alloc));
+            return Err(Error::NoMemory);
         };
-        for (path, handler) in methods {
-            open.add(alloc, path.as_str(), handler)?;
-        }
+        open.add_all(alloc, methods)?;
         Ok(self)
     }
 
     /// How many workers a connection starts with, and is filled up to: 3, where nothing is set.
     pub fn set_thread_count_default(mut self, count: usize) -> Server<R, H, A>
-        ensures { result ≡ record self { thread_count_default = count } }
+        ensures { result ≡ record self { settings = record self.settings { thread_count_default = count } } }
     {
         self.settings.thread_count_default = count;
         self
@@ -142,7 +153,7 @@ impl<R: Host, H: Drop, A: Drop> Server<R, H, A> {
 
     /// A connection is filled up where fewer workers wait for a job: 1, where nothing is set.
     pub fn set_thread_count_min(mut self, count: usize) -> Server<R, H, A>
-        ensures { result ≡ record self { thread_count_min = count } }
+        ensures { result ≡ record self { settings = record self.settings { thread_count_min = count } } }
     {
         self.settings.thread_count_min = count;
         self
@@ -150,7 +161,7 @@ impl<R: Host, H: Drop, A: Drop> Server<R, H, A> {
 
     /// More workers of a connection don't wait for a job: 5, where nothing is set.
     pub fn set_thread_count_max(mut self, count: usize) -> Server<R, H, A>
-        ensures { result ≡ record self { thread_count_max = count } }
+        ensures { result ≡ record self { settings = record self.settings { thread_count_max = count } } }
     {
         self.settings.thread_count_max = count;
         self
@@ -158,7 +169,7 @@ impl<R: Host, H: Drop, A: Drop> Server<R, H, A> {
 
     /// How long it waits to accept again, where the system gives no connection: 10 seconds, where nothing is set.
     pub fn set_accept_retry_interval(mut self, interval: Duration) -> Server<R, H, A>
-        ensures { result ≡ record self { accept_retry_interval = interval } }
+        ensures { result ≡ record self { settings = record self.settings { accept_retry_interval = interval } } }
     {
         self.settings.accept_retry_interval = interval;
         self
@@ -167,7 +178,7 @@ impl<R: Host, H: Drop, A: Drop> Server<R, H, A> {
     /// Lets this hook look at each connection first. What it gives after 30 seconds comes too late, and the connection is
     /// closed; one that never returns holds its connection, and `disconnect`, for ever.
     pub fn set_accept_hook<B: Drop>(self, hook: B) -> Result<Server<R, H, B>>
-        ensures ok { IfOk result (λ server. server ≡ self) }
+        ensures ok { IfOk result (λ server. server ≡ record { settings = self.settings; listener = self.listener; handlers = self.handlers; hook = hook }) }
         ensures err { IfErr result (λ e. e ≡ NoMemory) }
     {
         let Server {
@@ -195,6 +206,36 @@ impl<R: Host, H: Drop, A: Drop> Server<R, H, A> {
     /// How many connections it has open.
     pub fn connection_count(&self) -> usize {
         self.connections.count(&self.rt)
+    }
+
+    /// Waits until a `Stopper` of it has asked. A program that serves until then shuts it down afterwards.
+    pub fn wait(&self) {
+        self.stop.wait_to_shut_down(&self.rt);
+    }
+
+    /// What ends its `wait`, for another thread or a handler.
+    pub fn stopper(&self) -> Result<Stopper<R>>
+        ensures err { IfErr result (λ e. e ≡ NoMemory) }
+    {
+        Stopper::new(&self.rt, &self.stop)
+    }
+
+    /// What each of its connections is served with: all that it was built with.
+    fn service(&self) -> Result<Service<H, A>>
+        // its settings, its handlers and its hook
+        ensures settings { IfOk result (λ service. service.settings ≡ self.now.settings) }
+        ensures handlers { IfOk result (λ service. arc_value service.methods ≡ self.now.handlers) }
+        ensures hook { IfOk result (λ service. arc_value service.hook ≡ self.now.hook) }
+        // An error is want of memory.
+        ensures err { IfErr result (λ e. e ≡ NoMemory) }
+    {
+        Ok(Service {
+            methods: Arc::try_clone(&self.methods)?,
+            hook: Arc::try_clone(&self.hook)?,
+            connections: Arc::try_clone(&self.connections)?,
+            stop: Arc::try_clone(&self.stop)?,
+            settings: self.settings,
+        })
     }
 }
 
@@ -242,8 +283,7 @@ where
     /// here on its services are fixed.
     pub fn start(&mut self) -> Result<()>
         ensures ok { OnOk result (self.new ≡ started self.old) }
-        ensures free { OnOk result (start_refusal self.old ≡ None) }
-        ensures refused { Refuses (start_refusal self.old) result }
+        ensures refused { Refuses (start_refusal self.old.settings) IsNotStarted result }
         ensures err { OnErr result (self.new ≡ self.old) }
     {
         self.settings.check_start(self.rt.alloc())?;
@@ -254,8 +294,7 @@ where
     /// are fixed.
     pub fn start_listen(&mut self) -> Result<()>
         ensures ok { OnOk result (self.new ≡ started self.old) }
-        ensures free { OnOk result (listen_refusal self.old ≡ None) }
-        ensures refused { Refuses (listen_refusal self.old) result }
+        ensures refused { Refuses (listen_refusal self.old.settings) IsNotStarted result }
         ensures err { OnErr result (self.new ≡ self.old) }
     {
         let alloc = self.rt.alloc();
@@ -264,14 +303,7 @@ where
             unreachable!();
         };
         let listener = Arc::try_clone(bound)?;
-        let service = Service {
-            methods: Arc::try_clone(&self.methods)?,
-            hook: Arc::try_clone(&self.hook)?,
-            connections: Arc::try_clone(&self.connections)?,
-            stop: Arc::try_clone(&self.stop)?,
-            settings: self.settings,
-        };
-        let service = Arc::new(alloc, service)?;
+        let service = Arc::new(alloc, self.service()?)?;
         self.stop.begin(&self.rt);
         self.listening = Some(start_thread(&self.rt, listener, service)?);
         self.settings.is_listening = true;
@@ -292,6 +324,7 @@ where
     I: SendInbound,
     A: SharedHook<Outbound = O, Inbound = I>,
     H: SharedHandler<R, O, I>,
+    ensures { IfErr result IsNotStarted }
 {
     let mine = rt.clone()?;
     match Builder::new().spawn(rt, move || listen(&mine, &listener, &service)) {

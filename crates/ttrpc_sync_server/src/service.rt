@@ -169,12 +169,23 @@ where
     let registry = methods.registry(alloc)?;
     let context = ConnectionContext::of_halves(alloc, outbound, inbound);
     let core = ServerCore::new(alloc, Rules::Sync, registry, context);
-    let pool = PoolCore::new(
+    let link = Link::new(alloc, ServerShared::new(core, pool_of(settings)), stream)?;
+    let conn = Conn::new(rt, link, connection_data, crew)?;
+    Ok(Arc::new(alloc, conn)?)
+}
+
+/// The workers of a connection, of whom none waits yet, by the server's three counts.
+fn pool_of(settings: &Settings) -> PoolCore
+    ensures { result ≡ record {
+      default = settings.now.thread_count_default;
+      min = settings.now.thread_count_min;
+      max = settings.now.thread_count_max;
+      waiting = 0;
+    } }
+{
+    PoolCore::new(
         settings.thread_count_default,
         settings.thread_count_min,
         settings.thread_count_max,
-    );
-    let link = Link::new(alloc, ServerShared::new(core, pool), stream)?;
-    let conn = Conn::new(rt, link, connection_data, crew)?;
-    Ok(Arc::new(alloc, conn)?)
+    )
 }

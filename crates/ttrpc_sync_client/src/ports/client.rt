@@ -1,7 +1,7 @@
 //! What the threads of a client's connection share.
-ghost use Rattle.std.specs.Prelude.{◌≡◌, ◌≤◌, length, None, Some, IfOk, IfErr, IfSome, OnErr};
+ghost use Rattle.std.specs.Prelude.{◌≡◌, ◌≤◌, length, min, nat_eq, None, Some, IfOk, IfErr, IfSome, OnErr};
 ghost use Rattle.ttrpc_connection.specs.declared.failure.Failure.{Failure as AFailure};
-ghost use Rattle.ttrpc_connection.specs.OneEnd.{failing};
+ghost use Rattle.ttrpc_connection.specs.OneEnd.{Ends, Lends, failing, lendable, lending, reporting};
 ghost use Rattle.ttrpc_client.specs.State.{IsClient};
 ghost use Rattle.ttrpc_client.specs.Protocol.{Forgets, Requests, TakesOutcome, Ticks, RefusesRequest};
 ghost use Rattle.ttrpc_proto.specs.declared.error.Error.{Error as AnError};
@@ -127,16 +127,27 @@ impl<O: OutboundTransform + Drop, I: InboundTransform + Drop> Held for ClientHel
         })
     }
 
-    fn ended(&mut self) {
+    fn ended(&mut self)
+        ensures ends { Ends self.old.core.connection self.new.core.connection }
+        ensures same { self.new.core ≡ record self.old.core { connection = self.new.core.connection } }
+    {
         ended_on(&mut self.core);
     }
 
-    fn wrote(&mut self, count: usize) {
+    fn wrote(&mut self, count: usize)
+        ensures { self.new.core ≡ record self.old.core {
+          connection = reporting self.old.core.connection (min count self.old.core.connection.outbox.queue.lent);
+        } }
+    {
         let lent = self.core.lent();
         wrote_on(&mut self.core, count.min(lent));
     }
 
-    fn lend(&mut self, buffer: &mut [u8]) -> Loan {
+    fn lend(&mut self, buffer: &mut [u8]) -> Loan
+        ensures lends { Lends self.old.core.connection buffer.old result.count buffer.new }
+        ensures lent { self.new.core ≡ record self.old.core { connection = lending self.old.core.connection result.count } }
+        ensures frame { result.ends_frame ≡ nat_eq result.count (lendable self.old.core.connection) }
+    {
         let open = self.core.lendable();
         let count = lend_on(&mut self.core, buffer);
         Loan {
@@ -145,7 +156,9 @@ impl<O: OutboundTransform + Drop, I: InboundTransform + Drop> Held for ClientHel
         }
     }
 
-    fn broke(&mut self, kind: ErrorKind) {
+    fn broke(&mut self, kind: ErrorKind)
+        ensures { self.new.core ≡ record self.old.core { connection = failing self.old.core.connection (AFailure.Told (AnError.Nix kind)) } }
+    {
         broke_on(&mut self.core, kind);
     }
 

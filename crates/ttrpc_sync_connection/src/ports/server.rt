@@ -1,5 +1,9 @@
 //! What the threads of a server's connection share.
-ghost use Rattle.std.specs.Prelude.{◌≡◌, ◌↔◌, ◌+◌, ◌-◌, ◌^◌, ◌<◌, ◌≤◌, min, length, if◌then◌else◌, IfSome, IsFalse, IsTrue};
+ghost use Rattle.std.specs.Prelude.{◌≡◌, ◌↔◌, ◌+◌, ◌-◌, ◌^◌, ◌<◌, ◌≤◌, min, length, if◌then◌else◌, Err, IfNone, IfSome, IsFalse, IsTrue, None, Ok};
+ghost use Rattle.ttrpc_proto.specs.declared.error.Error.{Error as AnError};
+ghost use Rattle.ttrpc_server.specs.Protocol.{Hands};
+ghost use Rattle.ttrpc_server.specs.State.{NoneWaits};
+ghost use Rattle.ttrpc_sync_connection.specs.Held.{IsDropped, IsFinished, LendsFrame, reported_to};
 ghost use Rattle.ttrpc_pool.specs.Pool.{with_waiting};
 
 use std::alloc::Global;
@@ -59,7 +63,12 @@ impl<O: OutboundTransform + Drop, I: InboundTransform + Drop> ServerHeld<O, I> {
     }
 
     /// The job that waits longest.
-    pub(crate) fn next_job(&mut self) -> Option<Job> {
+    pub(crate) fn next_job(&mut self) -> Option<Job>
+        ensures handed { IfSome result (λ job. Hands self.old.core job self.new.core) }
+        ensures none { IfNone result ((self.new.core ≡ self.old.core)
+            × (self.old.core.connection.failure ≡ None → NoneWaits self.old.core.state.jobs.list)) }
+        ensures pool { self.new.pool ≡ self.old.pool }
+    {
         jobs_on::take_on(&mut self.core)
     }
 
@@ -70,7 +79,11 @@ impl<O: OutboundTransform + Drop, I: InboundTransform + Drop> ServerHeld<O, I> {
 
     /// Ends a job after its handler. If the connection has failed, nothing needs to be done. True: the writer thread is to
     /// be woken, since this may be the last job of an input that has ended.
-    pub(crate) fn done(&mut self, alloc: Global, id: JobId, outcome: Result<(), Error>) -> bool {
+    pub(crate) fn done(&mut self, alloc: Global, id: JobId, outcome: Result<(), Error>) -> bool
+        ensures finished { outcome ≡ Ok tt → IsFinished self.old.core id self.new.core }
+        ensures failed { (e : AnError) → outcome ≡ Err e → IsDropped self.old.core id self.new.core }
+        ensures pool { self.new.pool ≡ self.old.pool }
+    {
         let _ = jobs_on::done_on(&mut self.core, alloc, id, outcome);
         self.has_ended && self.turn.wakes()
     }
@@ -161,12 +174,16 @@ impl<O: OutboundTransform + Drop, I: InboundTransform + Drop> Held for ServerHel
         self.has_ended = true;
     }
 
-    fn wrote(&mut self, count: usize) {
+    fn wrote(&mut self, count: usize)
+        ensures { self.new.core ≡ reported_to self.old.core count }
+    {
         let lent = self.core.lent();
         wrote_on(&mut self.core, count.min(lent));
     }
 
-    fn lend(&mut self, buffer: &mut [u8]) -> Loan {
+    fn lend(&mut self, buffer: &mut [u8]) -> Loan
+        ensures lent { LendsFrame self.old.core buffer.old result.count result.ends_frame buffer.new self.new.core }
+    {
         let open = self.core.lendable();
         let count = lend_on(&mut self.core, buffer);
         Loan {

@@ -6,7 +6,7 @@ use crate::tests::sites::{
     serving_one,
 };
 use std::process::Abort;
-use std::sync::atomic::Ordering;
+use std::sync::atomic::{AtomicBool, Ordering};
 use std::thread;
 use ttrpc_proto::Result as Answered;
 use ttrpc_sync_server::NoHook;
@@ -51,6 +51,33 @@ fn a_stalled_peer_is_alone_with_that(rt: HostRuntime) -> Tested {
     has_connections(&rt, &site, 2)?;
     drop(stalled);
     has_connections(&rt, &site, 1)?;
+    site.server.shutdown();
+    Ok(())
+}
+
+/// The `wait` of a server returns once its stopper asks, and not before. It serves until it is shut down.
+#[test]
+fn a_server_waits_for_its_stop(rt: HostRuntime) -> Tested {
+    let site = serving(&rt)?;
+    let stopper = site.server.stopper()?;
+    let client = client(&rt, site.address.as_str())?;
+    let has_waited = AtomicBool::new(false);
+    let (early, ()) = thread::join(
+        &rt,
+        || {
+            a_while(&rt);
+            let early = has_waited.load(Ordering::SeqCst);
+            stopper.stop();
+            early
+        },
+        || {
+            site.server.wait();
+            has_waited.store(true, Ordering::SeqCst);
+        },
+    );
+    assert!(&rt; !early);
+    site.server.wait();
+    answers(&rt, &client, "Echo", b"2", b"2")?;
     site.server.shutdown();
     Ok(())
 }

@@ -3,5 +3,6 @@
 mod calls_tests;
 mod huge;
 mod messages;
+mod names;
 mod pairs;
 mod socket_tests;

@@ -1,0 +1,22 @@
+-- Why a client isn't made.
+-- Source: this project's, with the text of the Rust crate `ttrpc`.
+use Rattle.std.specs.Prelude.{◌≡◌, ◌⊎◌, ℕ, List, codes}
+use Rattle.ttrpc_proto.specs.ErrorText.{IsOthers}
+use Rattle.ttrpc_proto.specs.declared.error.Error.{Error}
+use Rattle.ttrpc_proto.specs.declared.error.Error.TheVariants.{NoMemory}
+use Rattle.ttrpc_secure.specs.Hooks.{hook_error_text}
+use Rattle.ttrpc_secure.specs.declared.hooks.hook_error.HookError.{HookError}
+use Rattle.ttrpc_transport.specs.Opened.{IsNotOpened}
+use Rattle.ttrpc_transport.specs.Sockets.{IsFault}
+
+-- the system refused a thread, or memory was refused
+abbrev pub IsNotMade : Error → Type 0
+IsNotMade e = IsFault e ⊎ (e ≡ NoMemory)
+
+-- the address wasn't opened, or the client of its connection wasn't made
+abbrev pub IsNotConnected : List ℕ → Error → Type 0
+IsNotConnected addr e = IsNotOpened addr e ⊎ IsNotMade e
+
+-- the hook refused the connection, for this reason
+abbrev pub IsRefusedByHook : Error → Type 0
+IsRefusedByHook e = (why : HookError) × IsOthers (codes "client connect hook failed: ") (hook_error_text why) e

@@ -1,0 +1,56 @@
+-- A server as it was built: what it is set to, where it listens, its handlers and its hook.
+-- Source: this project's.
+use Rattle.std.specs.Prelude.{◌≡◌, ◌⊎◌, ℕ, List, [], Option, Some, None, String, if◌then◌else◌}
+use Rattle.ttrpc_methods.specs.Methods.{AddsAll, Handlers, IsNotAdded}
+use Rattle.ttrpc_proto.specs.declared.error.Error.{Error}
+use Rattle.ttrpc_proto.specs.declared.error.Error.TheVariants.{NoMemory}
+use Rattle.ttrpc_sync_server.specs.Settings.{IsNew, started_settings, bound_settings, stopped_settings}
+use Rattle.ttrpc_sync_server.specs.declared.settings.Settings.{Settings}
+use Rattle.ttrpc_transport.specs.Opened.{IsNotOpened}
+use Rattle.ttrpc_transport.specs.Sockets.{IsFault}
+use Rattle.ttrpc_transport.specs.declared.address.domain.Domain.{Domain}
+
+-- a server: its settings, the domain of its listener, the handlers of its methods, and its hook
+pub record Built (H A : Type 0) : Type 0 where
+  pub settings : Settings
+  pub listener : Option Domain
+  pub handlers : Handlers H
+  pub hook : A
+
+-- it is set to what a new server is set to, and has no listener and no handlers
+pub record IsNewServer {H A : Type 0} (server : Built H A) : Type 0 where
+  pub settings : IsNew server.settings
+  pub listener : server.listener ≡ None
+  pub handlers : server.handlers ≡ []
+
+-- ---- what calls make of it
+
+-- it has a listener of this domain
+abbrev pub bound : {H A : Type 0} → Built H A → Domain → Built H A
+bound server domain = record server { settings = bound_settings server.settings; listener = Some domain }
+
+-- it has these handlers too, added one after the other, each under its path; all else stays
+abbrev pub Registers : {Z H A : Type 0} → Built H A → List (String Z × H) → Built H A → Type 0
+Registers server handlers new = AddsAll server.handlers handlers new.handlers × (new ≡ record server { handlers = new.handlers })
+
+-- it listens
+abbrev pub started : {H A : Type 0} → Built H A → Built H A
+started server = record server { settings = started_settings server.settings }
+
+-- it listens no more, and has no listener; one that doesn't listen stays as it is
+abbrev pub stopped : {H A : Type 0} → Built H A → Built H A
+stopped server = if server.settings.is_listening then record server { settings = stopped_settings server.settings; listener = None } else server
+
+-- ---- why a call fails, where its settings don't refuse it
+
+-- the address names no place, the system refused it, or memory was refused
+abbrev pub IsNotBound : List ℕ → Error → Type 0
+IsNotBound addr e = IsNotOpened addr e ⊎ (e ≡ NoMemory)
+
+-- a text is no path, or memory was refused
+abbrev pub IsNotRegistered : Error → Type 0
+IsNotRegistered e = (path : List ℕ) × IsNotAdded path e
+
+-- the system refused a thread, or memory was refused
+abbrev pub IsNotStarted : Error → Type 0
+IsNotStarted e = IsFault e ⊎ (e ≡ NoMemory)

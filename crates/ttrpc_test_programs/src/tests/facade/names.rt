@@ -1,0 +1,71 @@
+//! What the facade names, each item under its path: that this is compiled is the test. Where it was made doesn't matter to a
+//! user, so each is named by its path below `ttrpc` alone.
+
+/// The root.
+pub mod root {
+    pub use ttrpc::{
+        AcceptHook, Client, Code, ConnectHook, ConnectionContext, ConnectionData,
+        ConnectionDataExt, Error, HookError, HookOutput, InboundTransform, MessageHeader,
+        MethodHandler, OutboundTransform, Request, Response, Result, Server, Status, TtrpcContext,
+        calls, client_request, err_to_others, get_status, request_handler, send_response,
+    };
+}
+
+/// Values, and what they travel in.
+pub mod values {
+    pub use ttrpc::error::{
+        Error, Result, err_to_others, get_rpc_status, get_status, sock_error_msg,
+    };
+    pub use ttrpc::proto::{
+        Any, Blob, Code, Codec, CodecFailure, DEFAULT_PAGE_SIZE, FLAG_NO_DATA, FLAG_REMOTE_CLOSED,
+        FLAG_REMOTE_OPEN, GenMessage, GenMessageError, KeyValue, MESSAGE_HEADER_LENGTH,
+        MESSAGE_LENGTH_MAX, MESSAGE_TYPE_DATA, MESSAGE_TYPE_REQUEST, MESSAGE_TYPE_RESPONSE,
+        Message, MessageHeader, Request, RequestInit, Response, ResponseInit, Sequence, Status,
+        Text, TryClone, WireMessage, members,
+    };
+    pub use ttrpc::wire::{
+        CodecError, Field, FieldNumber, Reader, Tag, Value, WireType, field_len, int32_to_varint,
+        int64_to_varint, put_field, put_tag, put_varint, tag_len, varint_len, varint_to_int32,
+        varint_to_int64,
+    };
+}
+
+/// Frames, and what is in a request beside its payload.
+pub mod requests {
+    pub use ttrpc::context::{Context, from_pb, to_pb, with_duration, with_metadata, with_timeout};
+    pub use ttrpc::frame::{
+        FrameDecoder, Incoming, Outgoing, Queued, Sink, Source, read_message, write_message,
+    };
+}
+
+/// What a connection goes through.
+pub mod security {
+    pub use ttrpc::security_extension::{
+        ACCEPT_HOOK_TIMEOUT, AcceptHook, ConnectHook, ConnectionContext, ConnectionData,
+        ConnectionDataExt, Datum, HookError, HookOutput, InboundTransform, Kind, OutboundTransform,
+        Plain, SendInbound, SendOutbound, TransformError, hook_result, plain_context,
+    };
+}
+
+/// The cores.
+pub mod cores {
+    pub use ttrpc::cores::client::{CallId, ClientCore, ClientKind};
+    pub use ttrpc::cores::pool::PoolCore;
+    pub use ttrpc::cores::server::{Job, JobId, Registry, Rules, ServerCore};
+    pub use ttrpc::cores::world::{Entry, Event, Reply, Side, Trace, World};
+}
+
+/// Client and server with threads, addresses and sockets, and a shutdown that threads share.
+pub mod drivers {
+    pub use ttrpc::asynchronous::shutdown::{Notifier, Waiter, new, with_timeout};
+    pub use ttrpc::sync::{
+        Client, ClientRead, ClientWrite, Conn, Gate, Handler, Host, JobPort, MethodHandler, NoHook,
+        PortState, ReadPort, Refusal, Runtime, Server, ServerJobs, ServerRead, ServerWrite,
+        Settings, SharedHandler, SharedHook, Stopper, TtrpcContext, WritePort, read_loop,
+        response_error_to_channel, send_response, work_loop, write_loop,
+    };
+    pub use ttrpc::transport::{
+        ClientConnection, Domain, PipeConnection, PipeListener, Stream, nodelay_from,
+        parse_sockaddr, parse_vsock,
+    };
+}
