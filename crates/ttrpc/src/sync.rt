@@ -5,6 +5,7 @@ pub use ttrpc_sync::{
 };
 pub use ttrpc_sync_client::{Client, ClientRead, ClientWrite};
 pub use ttrpc_sync_server::{
-    Conn, MethodHandler, NoHook, Refusal, Server, ServerJobs, ServerRead, ServerWrite, Settings,
-    SharedHandler, SharedHook, Stopper, TtrpcContext, response_error_to_channel, send_response,
+    Conn, MethodHandler, NoHook, NoWatch, Refusal, Server, ServerJobs, ServerRead, ServerWrite,
+    Settings, SharedHandler, SharedHook, SharedWatch, Stopper, TtrpcContext, Watch,
+    response_error_to_channel, send_response,
 };

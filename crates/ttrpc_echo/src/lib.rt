@@ -7,5 +7,6 @@ pub mod program;
 
 pub use engine::{answer, echo, flush};
 pub use program::{
-    Echo, EchoServer, Outcome, System, call_at, call_own, run, start_server, tell, tell_address,
+    Echo, EchoServer, FaultKeeper, Faults, Outcome, System, call_at, call_own, run, start_server,
+    tell, tell_address,
 };

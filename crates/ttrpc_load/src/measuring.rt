@@ -5,7 +5,7 @@ use crate::figures::{Figures, Told, percentile};
 use crate::load::{Load, Target, load_of, share};
 use crate::raw::{connect_raw, start_raw};
 use std::alloc::Global;
-use std::io::Write;
+use std::io::{self, Write};
 use std::net::{Net, TcpListener, TcpStream};
 use std::rt::Files;
 use std::sync::Arc;
@@ -19,6 +19,18 @@ use ttrpc_sync_client::Client;
 
 const USAGE: &str =
     "usage: ttrpc-load ADDR CALLS CALLERS BYTES | raw CALLS CALLERS BYTES | burst ADDR CALLS BYTES";
+
+/// What `--help` tells behind the usage.
+const HELP: &str = "
+Calls Echo of demo.Echo, and tells in a line how it went.
+
+  ADDR CALLS CALLERS BYTES   so many calls of the server at the address, unix://PATH or tcp://IP:PORT, by so many callers
+                             of one client, each with a payload of so many bytes
+  raw CALLS CALLERS BYTES    the same of a bare echo of this process, with a connection for each caller: the system's limit
+  burst ADDR CALLS BYTES     all requests in one write over one connection, and when their answers came
+
+Told are calls a second, and of the times of single calls the median and the 99th percentile, in microseconds. Where
+TTRPC_TCP_NODELAY_ENABLED is 1 or true, small writes by TCP go out at once.";
 
 /// What a measurement asks of the system.
 pub trait Measured: Runtime + Files + Net<Listener = TcpListener, Stream = TcpStream> {}
@@ -38,19 +50,27 @@ pub fn run<R: Measured + 'static, W: Write, X: Write>(
     output: &mut W,
     errors: &mut X,
 ) -> u8 {
+    if matches!(words, [word] if word.as_str() == "--help") {
+        return status_of(writeln!(output, "{USAGE}\n{HELP}"));
+    }
     let Some((target, load)) = load_of(words) else {
         let _ = writeln!(errors, "{USAGE}");
         return 2;
     };
     match measure(rt, target, load, nodelay, shows, errors) {
-        Ok(told) => match writeln!(output, "{told}") {
-            Ok(()) => 0,
-            Err(_) => 1,
-        },
+        Ok(told) => status_of(writeln!(output, "{told}")),
         Err(error) => {
             let _ = writeln!(errors, "ttrpc-load: {error}");
             1
         }
+    }
+}
+
+/// The status of a run that told what it had to.
+fn status_of(written: io::Result<()>) -> u8 {
+    match written {
+        Ok(()) => 0,
+        Err(_) => 1,
     }
 }
 

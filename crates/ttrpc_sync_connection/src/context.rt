@@ -6,6 +6,7 @@ ghost use Rattle.ttrpc_message.specs.Metadata.{seen, some_texts, texts_of, value
 use crate::conn::Conn;
 use std::alloc::Global;
 use std::collections::BTreeMap;
+use std::fmt;
 use std::sync::Arc;
 use std::sync::atomic::AtomicBool;
 use ttrpc_frame::MessageHeader;
@@ -68,6 +69,18 @@ impl<R: Host, O: OutboundTransform + Drop, I: InboundTransform + Drop> TtrpcCont
     /// Answers the request of this stream's id, as `send_response` does.
     pub fn respond(&self, stream_id: u32, res: Response) -> Result<()> {
         send_response(stream_id, res, &*self.conn)
+    }
+}
+
+/// What the request says; its connection isn't shown.
+impl<R: Host, O: OutboundTransform + Drop, I: InboundTransform + Drop> fmt::Debug
+    for TtrpcContext<R, O, I> {
+    fn fmt<W: fmt::Write>(&self, f: &mut fmt::Formatter<W>) -> fmt::Result {
+        f.debug_struct("TtrpcContext")
+            .field("mh", &self.mh)
+            .field("metadata", &self.metadata)
+            .field("timeout_nano", &self.timeout_nano)
+            .finish_non_exhaustive()
     }
 }
 

@@ -3,22 +3,23 @@ use crate::conn::Conn;
 use crate::context::MethodHandler;
 use crate::crew::{Crew, Order};
 use crate::ports::ServerRead;
+use crate::serving::Serving;
 use crate::shared::SharedHandler;
+use crate::watch::{SharedWatch, Watch};
 use crate::worker::work;
 use std::alloc::Global;
 use std::io;
 use std::sync::Arc;
 use std::thread::Builder;
-use ttrpc_methods::Methods;
 use ttrpc_proto::{Error, Result};
 use ttrpc_secure::{InboundTransform, OutboundTransform, SendInbound, SendOutbound};
 use ttrpc_sync::{Connected, Host, Runtime};
 
 /// Serves the connection until it ends: starts the threads that read it and write to it and `workers` workers, and starts
 /// more when too few wait. Then it waits until all of them have ended.
-pub fn keep<R, O, I, H>(
+pub fn keep<R, O, I, H, W>(
     conn: &Arc<Conn<R, O, I>, Global>,
-    methods: &Arc<Methods<H>, Global>,
+    serving: &Serving<H, W>,
     workers: usize,
 )
 where
@@ -26,9 +27,11 @@ where
     O: SendOutbound,
     I: SendInbound,
     H: SharedHandler<R, O, I>,
+    W: SharedWatch,
 {
     let rt = conn.rt();
-    if start_all(conn, methods, workers).is_err() {
+    if let Err(error) = start_all(conn, serving, workers) {
+        serving.watch.connection_dropped(&error);
         conn.end();
     }
     for _ in rt.forever() {
@@ -37,7 +40,9 @@ where
             Order::Fill => {
                 let missing = conn.link().shared().held().lock(rt).to_start();
                 // Where the system has no more threads, those that are there go on.
-                let _ = start_workers(conn, methods, missing);
+                if let Err(error) = start_workers(conn, serving, missing) {
+                    serving.watch.worker_missing(&error);
+                }
             }
         }
     }
@@ -70,9 +75,9 @@ impl<R: Host, O: OutboundTransform + Drop, I: InboundTransform + Drop> Seat<R, O
     }
 }
 
-fn start_all<R, O, I, H>(
+fn start_all<R, O, I, H, W>(
     conn: &Arc<Conn<R, O, I>, Global>,
-    methods: &Arc<Methods<H>, Global>,
+    serving: &Serving<H, W>,
     workers: usize,
 ) -> Result<()>
 where
@@ -80,10 +85,11 @@ where
     O: SendOutbound,
     I: SendInbound,
     H: SharedHandler<R, O, I>,
+    W: SharedWatch,
 {
     start_reader(conn)?;
     start_writer(conn)?;
-    start_workers(conn, methods, workers)
+    start_workers(conn, serving, workers)
 }
 
 /// Passes the result of a start on, and counts the thread out if it failed.
@@ -138,9 +144,9 @@ where
 }
 
 /// Starts so many workers, or as many as can be started.
-fn start_workers<R, O, I, H>(
+fn start_workers<R, O, I, H, W>(
     conn: &Arc<Conn<R, O, I>, Global>,
-    methods: &Arc<Methods<H>, Global>,
+    serving: &Serving<H, W>,
     count: usize,
 ) -> Result<()>
 where
@@ -148,11 +154,12 @@ where
     O: SendOutbound,
     I: SendInbound,
     H: SharedHandler<R, O, I>,
+    W: SharedWatch,
 {
     let shared = conn.link().shared();
     shared.held().lock(conn.rt()).starts(count);
     for begun in 0..count {
-        let worker = start_worker(conn, methods);
+        let worker = start_worker(conn, serving);
         if worker.is_err() {
             shared.held().lock(conn.rt()).gives_up(count - begun);
             return worker;
@@ -161,23 +168,24 @@ where
     Ok(())
 }
 
-fn start_worker<R, O, I, H>(
+fn start_worker<R, O, I, H, W>(
     conn: &Arc<Conn<R, O, I>, Global>,
-    methods: &Arc<Methods<H>, Global>,
+    serving: &Serving<H, W>,
 ) -> Result<()>
 where
     R: Runtime,
     O: SendOutbound,
     I: SendInbound,
     H: SharedHandler<R, O, I>,
+    W: SharedWatch,
 {
     let seat = Seat::new(conn)?;
-    let methods = Arc::try_clone(methods)?;
+    let serving = serving.try_clone()?;
     conn.crew().joins(conn.rt());
     started(
         &**conn,
         Builder::new().spawn(conn.rt(), move || {
-            work_on(&seat.conn, &methods);
+            work_on(&seat.conn, serving);
             seat.leave();
         }),
     )
@@ -209,14 +217,15 @@ where
     conn.end();
 }
 
-fn work_on<R, O, I, H>(conn: &Arc<Conn<R, O, I>, Global>, methods: &Arc<Methods<H>, Global>)
+fn work_on<R, O, I, H, W>(conn: &Arc<Conn<R, O, I>, Global>, serving: Serving<H, W>)
 where
     R: Host,
     O: OutboundTransform + Drop,
     I: InboundTransform + Drop,
     H: MethodHandler<R, O, I> + Drop,
+    W: Watch + Drop,
 {
-    if work(conn, methods).is_err() {
+    if work(conn, serving).is_err() {
         conn.end();
     }
     conn.end_if_failed();

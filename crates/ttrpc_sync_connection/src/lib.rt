@@ -7,7 +7,9 @@ mod context;
 mod crew;
 mod keeper;
 pub mod ports;
+mod serving;
 mod shared;
+mod watch;
 mod worker;
 
 pub use conn::Conn;
@@ -15,4 +17,6 @@ pub use context::{MethodHandler, TtrpcContext, response_error_to_channel, send_r
 pub use crew::Crew;
 pub use keeper::keep;
 pub use ports::{ServerHeld, ServerJobs, ServerRead, ServerShared, ServerWrite};
+pub use serving::Serving;
 pub use shared::SharedHandler;
+pub use watch::{NoWatch, SharedWatch, Watch};

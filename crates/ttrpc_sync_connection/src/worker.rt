@@ -4,9 +4,10 @@ ghost use Rattle.std.specs.Prelude.{⊤};
 use crate::conn::Conn;
 use crate::context::{MethodHandler, TtrpcContext, response_error_to_channel, send_response};
 use crate::ports::ServerJobs;
+use crate::serving::Serving;
+use crate::watch::Watch;
 use std::alloc::Global;
 use std::sync::Arc;
-use ttrpc_methods::Methods;
 use ttrpc_proto::{Error, Result};
 use ttrpc_secure::{InboundTransform, OutboundTransform};
 use ttrpc_server::Job;
@@ -15,17 +16,24 @@ use ttrpc_sync::{Connected, Gate, Handler, Host, work_loop};
 
 /// Hands each request to the handler of its method.
 #[derive(Drop)]
-struct Dispatch<R: Host, O: OutboundTransform + Drop, I: InboundTransform + Drop, H: Drop> {
+struct Dispatch<
+    R: Host,
+    O: OutboundTransform + Drop,
+    I: InboundTransform + Drop,
+    H: Drop,
+    W: Drop,
+> {
     conn: Arc<Conn<R, O, I>, Global>,
-    methods: Arc<Methods<H>, Global>,
+    serving: Serving<H, W>,
 }
 
-impl<R, O, I, H> Handler for Dispatch<R, O, I, H>
+impl<R, O, I, H, W> Handler for Dispatch<R, O, I, H, W>
 where
     R: Host,
     O: OutboundTransform + Drop,
     I: InboundTransform + Drop,
     H: MethodHandler<R, O, I> + Drop,
+    W: Watch + Drop,
 {
     type Request = Job;
 
@@ -41,6 +49,7 @@ where
             request,
         } = job;
         let found = self
+            .serving
             .methods
             .get(request.service.as_str(), request.method.as_str());
         let Some(handler) = found else {
@@ -48,10 +57,17 @@ where
             let unknown = path_response(alloc, &request.service, &request.method)?;
             return send_response(header.stream_id, unknown, &*self.conn);
         };
-        match TtrpcContext::new(&self.conn, header, &request) {
-            Ok(ctx) => handler.handler(ctx, request),
-            Err(error) => response_error_to_channel(header.stream_id, error, &*self.conn),
+        let ctx = match TtrpcContext::new(&self.conn, header, &request) {
+            Ok(ctx) => ctx,
+            Err(error) => {
+                return response_error_to_channel(header.stream_id, error, &*self.conn);
+            }
+        };
+        let handled = handler.handler(ctx, request);
+        if let Err(error) = &handled {
+            self.serving.watch.handler_failed(error);
         }
+        handled
     }
 }
 
@@ -84,20 +100,18 @@ impl<R: Host, O: OutboundTransform + Drop, I: InboundTransform + Drop> Gate for 
 }
 
 /// Works on the connection's jobs, until the gate sends the worker away or the connection has failed.
-pub fn work<R, O, I, H>(
-    conn: &Arc<Conn<R, O, I>, Global>,
-    methods: &Arc<Methods<H>, Global>,
-) -> Result<()>
+pub fn work<R, O, I, H, W>(conn: &Arc<Conn<R, O, I>, Global>, serving: Serving<H, W>) -> Result<()>
 where
     R: Host,
     O: OutboundTransform + Drop,
     I: InboundTransform + Drop,
     H: MethodHandler<R, O, I> + Drop,
+    W: Watch + Drop,
 {
     let rt = conn.rt();
     let dispatch = Dispatch {
         conn: Arc::try_clone(conn)?,
-        methods: Arc::try_clone(methods)?,
+        serving,
     };
     let mut gate = PoolGate {
         conn: Arc::try_clone(conn)?,

@@ -1,4 +1,4 @@
--- A server as it was built: what it is set to, where it listens, its handlers and its hook.
+-- A server as it was built: what it is set to, where it listens, its handlers, its hook and its watch.
 -- Source: this project's.
 use Rattle.std.specs.Prelude.{◌≡◌, ◌⊎◌, ℕ, List, [], Option, Some, None, String, if◌then◌else◌}
 use Rattle.ttrpc_methods.specs.Methods.{AddsAll, Handlers, IsNotAdded}
@@ -10,15 +10,16 @@ use Rattle.ttrpc_transport.specs.Opened.{IsNotOpened}
 use Rattle.ttrpc_transport.specs.Sockets.{IsFault}
 use Rattle.ttrpc_transport.specs.declared.address.domain.Domain.{Domain}
 
--- a server: its settings, the domain of its listener, the handlers of its methods, and its hook
-pub record Built (H A : Type 0) : Type 0 where
+-- a server: its settings, the domain of its listener, the handlers of its methods, its hook, and who is told of its faults
+pub record Built (H A W : Type 0) : Type 0 where
   pub settings : Settings
   pub listener : Option Domain
   pub handlers : Handlers H
   pub hook : A
+  pub watch : W
 
 -- it is set to what a new server is set to, and has no listener and no handlers
-pub record IsNewServer {H A : Type 0} (server : Built H A) : Type 0 where
+pub record IsNewServer {H A W : Type 0} (server : Built H A W) : Type 0 where
   pub settings : IsNew server.settings
   pub listener : server.listener ≡ None
   pub handlers : server.handlers ≡ []
@@ -26,19 +27,19 @@ pub record IsNewServer {H A : Type 0} (server : Built H A) : Type 0 where
 -- ---- what calls make of it
 
 -- it has a listener of this domain
-abbrev pub bound : {H A : Type 0} → Built H A → Domain → Built H A
+abbrev pub bound : {H A W : Type 0} → Built H A W → Domain → Built H A W
 bound server domain = record server { settings = bound_settings server.settings; listener = Some domain }
 
 -- it has these handlers too, added one after the other, each under its path; all else stays
-abbrev pub Registers : {Z H A : Type 0} → Built H A → List (String Z × H) → Built H A → Type 0
+abbrev pub Registers : {Z H A W : Type 0} → Built H A W → List (String Z × H) → Built H A W → Type 0
 Registers server handlers new = AddsAll server.handlers handlers new.handlers × (new ≡ record server { handlers = new.handlers })
 
 -- it listens
-abbrev pub started : {H A : Type 0} → Built H A → Built H A
+abbrev pub started : {H A W : Type 0} → Built H A W → Built H A W
 started server = record server { settings = started_settings server.settings }
 
 -- it listens no more, and has no listener; one that doesn't listen stays as it is
-abbrev pub stopped : {H A : Type 0} → Built H A → Built H A
+abbrev pub stopped : {H A W : Type 0} → Built H A W → Built H A W
 stopped server = if server.settings.is_listening then record server { settings = stopped_settings server.settings; listener = None } else server
 
 -- ---- why a call fails, where its settings don't refuse it

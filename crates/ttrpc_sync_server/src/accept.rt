@@ -2,6 +2,8 @@
 use std::io::{self, ErrorKind};
 use std::sync::{Condvar, Mutex, Wait};
 use std::time::{Clock, Duration};
+use ttrpc_proto::Error;
+use ttrpc_sync_connection::Watch;
 use ttrpc_transport::{PipeConnection, PipeListener};
 
 /// Where connections come from.
@@ -93,12 +95,13 @@ impl Stop {
 }
 
 /// The next connection. Where the system gives none it waits for the interval, until a connection of the server has ended,
-/// or until it is to stop, and tries again. At once it tries again where only a signal came, or the other side went away.
-/// `None`: the server listens no more.
-pub fn next_connection<X: Wait + Clock, L: Accepts>(
+/// or until it is to stop, and tries again, and its watch is told. At once it tries again where only a signal came, or the
+/// other side went away. `None`: the server listens no more.
+pub fn next_connection<X: Wait + Clock, L: Accepts, W: Watch>(
     rt: &X,
     listener: &L,
     stop: &Stop,
+    watch: &W,
     interval: Duration,
 ) -> Option<PipeConnection> {
     for _ in rt.forever() {
@@ -106,7 +109,8 @@ pub fn next_connection<X: Wait + Clock, L: Accepts>(
         match listener.accept() {
             Ok(accepted) => return accepted,
             Err(error) if is_passing(error.kind()) => {}
-            Err(_) => {
+            Err(error) => {
+                watch.accept_failed(&Error::Nix(error.kind()));
                 if stop.wait(rt, ends, interval) {
                     return None;
                 }

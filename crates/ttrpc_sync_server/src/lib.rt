@@ -17,6 +17,6 @@ pub use server::Server;
 pub use settings::{Refusal, Settings};
 pub use stopper::Stopper;
 pub use ttrpc_sync_connection::{
-    Conn, MethodHandler, ServerJobs, ServerRead, ServerShared, ServerWrite, SharedHandler,
-    TtrpcContext, response_error_to_channel, send_response,
+    Conn, MethodHandler, NoWatch, ServerJobs, ServerRead, ServerShared, ServerWrite, SharedHandler,
+    SharedWatch, TtrpcContext, Watch, response_error_to_channel, send_response,
 };

@@ -27,35 +27,37 @@ use ttrpc_methods::Methods;
 use ttrpc_proto::{Error, Result};
 use ttrpc_secure::{SendInbound, SendOutbound};
 use ttrpc_sync::{Host, Runtime};
-use ttrpc_sync_connection::SharedHandler;
+use ttrpc_sync_connection::{NoWatch, Serving, SharedHandler, SharedWatch, Watch};
 use ttrpc_transport::{PipeConnection, PipeListener};
 
 /// A server with threads, which contracts see as what it was built with: its settings, the domain of its listener, its
-/// handlers and its hook. Once it has started it serves the methods that are registered, at one address.
+/// handlers, its hook and its watch. Once it has started it serves the methods that are registered, at one address.
 #[derive(Drop)]
-pub struct Server<R: Host, H: Drop, A: Drop> {
+pub struct Server<R: Host, H: Drop, A: Drop, W: Drop = NoWatch> {
     rt: R,
     settings: Settings,
     listener: Option<Arc<PipeListener, Global>>,
     methods: Arc<Methods<H>, Global>,
     hook: Arc<A, Global>,
+    watch: Arc<W, Global>,
     connections: Arc<Connections, Global>,
     stop: Arc<Stop, Global>,
     listening: Option<JoinHandle<()>>,
 }
 
-impl<R: Host, H: Drop, A: Drop> Model for Server<R, H, A> {
+impl<R: Host, H: Drop, A: Drop, W: Drop> Model for Server<R, H, A, W> {
     ghost use Rattle.std.specs.Arc.{arc_value};
     ghost use Rattle.std.specs.Prelude.{◌≡◌, ◌↔◌, IsSome, option_map, true};
     ghost use Rattle.ttrpc_sync_server.specs.Built.{Built};
 
-    ghost Value = { Built H A };
+    ghost Value = { Built H A W };
 
     ghost view = { λ server. record {
       settings = server.settings;
       listener = option_map arc_value server.listener;
       handlers = arc_value server.methods;
       hook = arc_value server.hook;
+      watch = arc_value server.watch;
     } };
 
     // It has a listener exactly where it is bound, and a thread that accepts connections exactly where it listens.
@@ -63,9 +65,9 @@ impl<R: Host, H: Drop, A: Drop> Model for Server<R, H, A> {
         × (IsSome server.listening ↔ (server.settings.is_listening ≡ true)) };
 }
 
-impl<R: Host, H: Drop> Server<R, H, NoHook> {
+impl<R: Host, H: Drop> Server<R, H, NoHook, NoWatch> {
     /// A server without services and without an address.
-    pub fn new(rt: R) -> Result<Server<R, H, NoHook>>
+    pub fn new(rt: R) -> Result<Server<R, H, NoHook, NoWatch>>
         ensures new { IfOk result IsNewServer }
         ensures err { IfErr result (λ e. e ≡ NoMemory) }
     {
@@ -75,6 +77,7 @@ impl<R: Host, H: Drop> Server<R, H, NoHook> {
             listener: None,
             methods: Arc::new(alloc, Methods::new(alloc))?,
             hook: Arc::new(alloc, NoHook {})?,
+            watch: Arc::new(alloc, NoWatch {})?,
             connections: Arc::new(alloc, Connections::new(alloc))?,
             stop: Arc::new(alloc, Stop::new())?,
             listening: None,
@@ -83,7 +86,7 @@ impl<R: Host, H: Drop> Server<R, H, NoHook> {
     }
 }
 
-impl<R: Host, H: Drop, A: Drop> Server<R, H, A> {
+impl<R: Host, H: Drop, A: Drop, W: Drop> Server<R, H, A, W> {
     /// Its settings.
     pub fn settings(&self) -> &Settings
         ensures { result.now ≡ self.now.settings }
@@ -93,7 +96,7 @@ impl<R: Host, H: Drop, A: Drop> Server<R, H, A> {
 
     /// Listens at an address, `unix://PATH` or `tcp://IP:PORT`. Whether each write by TCP goes out at once is `nodelay`. A
     /// second address is refused. An address that names no place is `Others`, and a fault of the system `Nix`.
-    pub fn bind(self, sockaddr: &str, nodelay: bool) -> Result<Server<R, H, A>>
+    pub fn bind(self, sockaddr: &str, nodelay: bool) -> Result<Server<R, H, A, W>>
     where
         R: Files + Net<Listener = TcpListener, Stream = TcpStream>,
         ensures ok { IfOk result (λ server. (domain : ADomain) × IsOpenedAt sockaddr.now domain × (server ≡ bound self domain)) }
@@ -105,7 +108,7 @@ impl<R: Host, H: Drop, A: Drop> Server<R, H, A> {
     }
 
     /// Accepts the connections of this listener. A second one is refused.
-    pub fn add_listener(mut self, listener: PipeListener) -> Result<Server<R, H, A>>
+    pub fn add_listener(mut self, listener: PipeListener) -> Result<Server<R, H, A, W>>
         ensures ok { IfOk result (λ server. server ≡ bound self listener) }
         ensures refused { Refuses (bind_refusal self.settings) (λ e. e ≡ NoMemory) result }
     {
@@ -129,7 +132,7 @@ impl<R: Host, H: Drop, A: Drop> Server<R, H, A> {
 
     /// Serves these methods too, each under its path, `/SERVICE/METHOD`. A text that is no path is refused, as `Methods::add`
     /// does it. Once the server has started its services are fixed, and more are refused.
-    pub fn register_service(mut self, methods: BTreeMap<String, H>) -> Result<Server<R, H, A>>
+    pub fn register_service(mut self, methods: BTreeMap<String, H>) -> Result<Server<R, H, A, W>>
         ensures ok { IfOk result (Registers self methods.entries) }
         ensures refused { Refuses (register_refusal self.settings) IsNotRegistered result }
     {
@@ -144,7 +147,7 @@ impl<R: Host, H: Drop, A: Drop> Server<R, H, A> {
     }
 
     /// How many workers a connection starts with, and is filled up to: 3, where nothing is set.
-    pub fn set_thread_count_default(mut self, count: usize) -> Server<R, H, A>
+    pub fn set_thread_count_default(mut self, count: usize) -> Server<R, H, A, W>
         ensures { result ≡ record self { settings = record self.settings { thread_count_default = count } } }
     {
         self.settings.thread_count_default = count;
@@ -152,7 +155,7 @@ impl<R: Host, H: Drop, A: Drop> Server<R, H, A> {
     }
 
     /// A connection is filled up where fewer workers wait for a job: 1, where nothing is set.
-    pub fn set_thread_count_min(mut self, count: usize) -> Server<R, H, A>
+    pub fn set_thread_count_min(mut self, count: usize) -> Server<R, H, A, W>
         ensures { result ≡ record self { settings = record self.settings { thread_count_min = count } } }
     {
         self.settings.thread_count_min = count;
@@ -160,7 +163,7 @@ impl<R: Host, H: Drop, A: Drop> Server<R, H, A> {
     }
 
     /// More workers of a connection don't wait for a job: 5, where nothing is set.
-    pub fn set_thread_count_max(mut self, count: usize) -> Server<R, H, A>
+    pub fn set_thread_count_max(mut self, count: usize) -> Server<R, H, A, W>
         ensures { result ≡ record self { settings = record self.settings { thread_count_max = count } } }
     {
         self.settings.thread_count_max = count;
@@ -168,7 +171,7 @@ impl<R: Host, H: Drop, A: Drop> Server<R, H, A> {
     }
 
     /// How long it waits to accept again, where the system gives no connection: 10 seconds, where nothing is set.
-    pub fn set_accept_retry_interval(mut self, interval: Duration) -> Server<R, H, A>
+    pub fn set_accept_retry_interval(mut self, interval: Duration) -> Server<R, H, A, W>
         ensures { result ≡ record self { settings = record self.settings { accept_retry_interval = interval } } }
     {
         self.settings.accept_retry_interval = interval;
@@ -177,8 +180,8 @@ impl<R: Host, H: Drop, A: Drop> Server<R, H, A> {
 
     /// Lets this hook look at each connection first. What it gives after 30 seconds comes too late, and the connection is
     /// closed; one that never returns holds its connection, and `disconnect`, for ever.
-    pub fn set_accept_hook<B: Drop>(self, hook: B) -> Result<Server<R, H, B>>
-        ensures ok { IfOk result (λ server. server ≡ record { settings = self.settings; listener = self.listener; handlers = self.handlers; hook = hook }) }
+    pub fn set_accept_hook<B: Drop>(self, hook: B) -> Result<Server<R, H, B, W>>
+        ensures ok { IfOk result (λ server. server ≡ record { settings = self.settings; listener = self.listener; handlers = self.handlers; hook = hook; watch = self.watch }) }
         ensures err { IfErr result (λ e. e ≡ NoMemory) }
     {
         let Server {
@@ -187,6 +190,7 @@ impl<R: Host, H: Drop, A: Drop> Server<R, H, A> {
             listener,
             methods,
             hook: _,
+            watch,
             connections,
             stop,
             listening,
@@ -197,6 +201,36 @@ impl<R: Host, H: Drop, A: Drop> Server<R, H, A> {
             settings,
             listener,
             methods,
+            watch,
+            connections,
+            stop,
+            listening,
+        })
+    }
+
+    /// Has this watch told of faults that callers can't see, of the connections that it accepts from the next start on.
+    pub fn set_watch<B: Drop>(self, watch: B) -> Result<Server<R, H, A, B>>
+        ensures ok { IfOk result (λ server. server ≡ record { settings = self.settings; listener = self.listener; handlers = self.handlers; hook = self.hook; watch = watch }) }
+        ensures err { IfErr result (λ e. e ≡ NoMemory) }
+    {
+        let Server {
+            rt,
+            settings,
+            listener,
+            methods,
+            hook,
+            watch: _,
+            connections,
+            stop,
+            listening,
+        } = self;
+        Ok(Server {
+            watch: Arc::new(rt.alloc(), watch)?,
+            rt,
+            settings,
+            listener,
+            methods,
+            hook,
             connections,
             stop,
             listening,
@@ -221,16 +255,21 @@ impl<R: Host, H: Drop, A: Drop> Server<R, H, A> {
     }
 
     /// What each of its connections is served with: all that it was built with.
-    fn service(&self) -> Result<Service<H, A>>
-        // its settings, its handlers and its hook
+    fn service(&self) -> Result<Service<H, A, W>>
+        // its settings, its handlers, its hook and its watch
         ensures settings { IfOk result (λ service. service.settings ≡ self.now.settings) }
-        ensures handlers { IfOk result (λ service. arc_value service.methods ≡ self.now.handlers) }
+        ensures handlers { IfOk result (λ service. arc_value service.serving.methods ≡ self.now.handlers) }
         ensures hook { IfOk result (λ service. arc_value service.hook ≡ self.now.hook) }
+        ensures watch { IfOk result (λ service. arc_value service.serving.watch ≡ self.now.watch) }
         // An error is want of memory.
         ensures err { IfErr result (λ e. e ≡ NoMemory) }
     {
-        Ok(Service {
+        let serving = Serving {
             methods: Arc::try_clone(&self.methods)?,
+            watch: Arc::try_clone(&self.watch)?,
+        };
+        Ok(Service {
+            serving,
             hook: Arc::try_clone(&self.hook)?,
             connections: Arc::try_clone(&self.connections)?,
             stop: Arc::try_clone(&self.stop)?,
@@ -239,10 +278,10 @@ impl<R: Host, H: Drop, A: Drop> Server<R, H, A> {
     }
 }
 
-impl<R: Host + Threads, H: Drop, A: Drop> Server<R, H, A> {
+impl<R: Host + Threads, H: Drop, A: Drop, W: Drop> Server<R, H, A, W> {
     /// Accepts no more connections; it goes on serving open ones. The server has no address then. Where it doesn't
     /// listen nothing happens.
-    pub fn stop_listen(mut self) -> Server<R, H, A>
+    pub fn stop_listen(mut self) -> Server<R, H, A, W>
         ensures { result ≡ stopped self }
     {
         let Some(thread) = self.listening.take() else {
@@ -271,13 +310,14 @@ impl<R: Host + Threads, H: Drop, A: Drop> Server<R, H, A> {
     }
 }
 
-impl<R, O, I, H, A> Server<R, H, A>
+impl<R, O, I, H, A, W> Server<R, H, A, W>
 where
     R: Runtime,
     O: SendOutbound,
     I: SendInbound,
     A: SharedHook<Outbound = O, Inbound = I>,
     H: SharedHandler<R, O, I>,
+    W: SharedWatch,
 {
     /// Begins to listen, once the counts of workers are in order: the default below the greatest, and above the least. From
     /// here on its services are fixed.
@@ -313,10 +353,10 @@ where
 }
 
 /// Starts the thread that accepts connections.
-fn start_thread<R, O, I, H, A>(
+fn start_thread<R, O, I, H, A, W>(
     rt: &R,
     listener: Arc<PipeListener, Global>,
-    service: Arc<Service<H, A>, Global>,
+    service: Arc<Service<H, A, W>, Global>,
 ) -> Result<JoinHandle<()>>
 where
     R: Runtime,
@@ -324,6 +364,7 @@ where
     I: SendInbound,
     A: SharedHook<Outbound = O, Inbound = I>,
     H: SharedHandler<R, O, I>,
+    W: SharedWatch,
     ensures { IfErr result IsNotStarted }
 {
     let mine = rt.clone()?;
@@ -334,10 +375,10 @@ where
 }
 
 /// Serves each connection that is accepted, until the server is to listen no more.
-fn listen<R, O, I, H, A>(
+fn listen<R, O, I, H, A, W>(
     rt: &R,
     listener: &Arc<PipeListener, Global>,
-    service: &Arc<Service<H, A>, Global>,
+    service: &Arc<Service<H, A, W>, Global>,
 )
 where
     R: Runtime,
@@ -345,14 +386,19 @@ where
     I: SendInbound,
     A: SharedHook<Outbound = O, Inbound = I>,
     H: SharedHandler<R, O, I>,
+    W: SharedWatch,
 {
     let interval = service.settings.accept_retry_interval;
     for _ in rt.forever() {
-        let Some(stream) = next_connection(rt, &**listener, &*service.stop, interval) else {
+        let watch = &*service.serving.watch;
+        let next = next_connection(rt, &**listener, &*service.stop, watch, interval);
+        let Some(stream) = next else {
             return;
         };
         // Where there is no memory or no thread for it, a connection is closed.
-        let _ = serve(rt, service, stream);
+        if let Err(error) = serve(rt, service, stream) {
+            watch.connection_dropped(&error);
+        }
     }
     unreachable!()
 }

@@ -19,20 +19,22 @@ use ttrpc_secure::{
 };
 use ttrpc_server::{Rules, ServerCore};
 use ttrpc_sync::{Host, Link, Runtime};
-use ttrpc_sync_connection::{Conn, Crew, ServerShared, SharedHandler, keep};
+use ttrpc_sync_connection::{
+    Conn, Crew, ServerShared, Serving, SharedHandler, SharedWatch, Watch, keep,
+};
 use ttrpc_transport::PipeConnection;
 
 /// What a server uses for each connection.
 #[derive(Drop)]
-pub struct Service<H: Drop, A: Drop> {
-    pub methods: Arc<Methods<H>, Global>,
+pub struct Service<H: Drop, A: Drop, W: Drop> {
+    pub serving: Serving<H, W>,
     pub hook: Arc<A, Global>,
     pub connections: Arc<Connections, Global>,
     pub stop: Arc<Stop, Global>,
     pub settings: Settings,
 }
 
-impl<H: Drop, A: Drop> Service<H, A> {
+impl<H: Drop, A: Drop, W: Drop> Service<H, A, W> {
     /// The connection of this number has ended, and its descriptor is free.
     fn remove<R: Host>(&self, rt: &R, number: u64) {
         self.connections.remove(rt, number);
@@ -49,9 +51,9 @@ struct Numbered {
 }
 
 /// Serves this connection, in threads of its own.
-pub fn serve<R, O, I, H, A>(
+pub fn serve<R, O, I, H, A, W>(
     rt: &R,
-    service: &Arc<Service<H, A>, Global>,
+    service: &Arc<Service<H, A, W>, Global>,
     stream: PipeConnection,
 ) -> Result<()>
 where
@@ -60,6 +62,7 @@ where
     I: SendInbound,
     A: SharedHook<Outbound = O, Inbound = I>,
     H: SharedHandler<R, O, I>,
+    W: SharedWatch,
 {
     let (mine, theirs) = (rt.clone()?, Arc::try_clone(service)?);
     let numbered = add(rt, &*service.connections, stream)?;
@@ -90,66 +93,62 @@ fn add<R: Host>(rt: &R, connections: &Connections, stream: PipeConnection) -> Re
 }
 
 /// Serves this connection until it has ended.
-fn attend<R, O, I, H, A>(rt: &R, service: &Arc<Service<H, A>, Global>, numbered: Numbered)
+fn attend<R, O, I, H, A, W>(rt: &R, service: &Arc<Service<H, A, W>, Global>, numbered: Numbered)
 where
     R: Runtime,
     O: SendOutbound,
     I: SendInbound,
     A: SharedHook<Outbound = O, Inbound = I>,
     H: SharedHandler<R, O, I>,
+    W: SharedWatch,
 {
     let Numbered {
         number,
         stream,
         crew,
     } = numbered;
-    // A connection that the hook refuses, or for which memory is refused, is closed.
-    let _ = admit_and_keep(rt, service, &stream, crew);
+    admit_and_keep(rt, service, &stream, crew);
     let _ = stream.close();
     drop(stream);
     service.remove(rt, number);
 }
 
-fn admit_and_keep<R, O, I, H, A>(
+/// Serves this connection, where the hook accepts it and memory is found.
+fn admit_and_keep<R, O, I, H, A, W>(
     rt: &R,
-    service: &Arc<Service<H, A>, Global>,
+    service: &Arc<Service<H, A, W>, Global>,
     stream: &Arc<PipeConnection, Global>,
     crew: Arc<Crew, Global>,
-) -> Result<()>
+)
 where
     R: Runtime,
     O: SendOutbound,
     I: SendInbound,
     A: SharedHook<Outbound = O, Inbound = I>,
     H: SharedHandler<R, O, I>,
+    W: SharedWatch,
 {
     let alloc = rt.alloc();
+    let serving = &service.serving;
     let output = match admit(rt, alloc, &*service.hook, &**stream) {
         Ok(output) => output,
-        Err(error) => return Err(others_of(alloc, "accept hook failed: ", &error)),
+        Err(error) => {
+            let told = others_of(alloc, "accept hook failed: ", &error);
+            serving.watch.hook_refused(&told);
+            return;
+        }
     };
-    let conn = open(
-        rt.clone()?,
-        &*service.methods,
-        &service.settings,
-        Arc::try_clone(stream)?,
-        crew,
-        output,
-    )?;
-    keep(
-        &conn,
-        &service.methods,
-        service.settings.thread_count_default,
-    );
-    Ok(())
+    match open(rt, service, stream, crew, output) {
+        Ok(conn) => keep(&conn, serving, service.settings.thread_count_default),
+        Err(error) => serving.watch.connection_dropped(&error),
+    }
 }
 
 /// Opens a connection that its hook accepted, with what the hook told of it.
-fn open<R, O, I, H>(
-    rt: R,
-    methods: &Methods<H>,
-    settings: &Settings,
-    stream: Arc<PipeConnection, Global>,
+fn open<R, O, I, H, A, W>(
+    rt: &R,
+    service: &Service<H, A, W>,
+    stream: &Arc<PipeConnection, Global>,
     crew: Arc<Crew, Global>,
     output: HookOutput<O, I>,
 ) -> Result<Arc<Conn<R, O, I>, Global>>
@@ -158,6 +157,8 @@ where
     O: OutboundTransform + Drop,
     I: InboundTransform + Drop,
     H: Drop,
+    A: Drop,
+    W: Drop,
     ensures { IfOk result (λ conn. (arc_value conn).known ≡ output.connection_data) }
 {
     let alloc = rt.alloc();
@@ -166,11 +167,12 @@ where
         outbound,
         inbound,
     } = output;
-    let registry = methods.registry(alloc)?;
+    let registry = service.serving.methods.registry(alloc)?;
     let context = ConnectionContext::of_halves(alloc, outbound, inbound);
     let core = ServerCore::new(alloc, Rules::Sync, registry, context);
-    let link = Link::new(alloc, ServerShared::new(core, pool_of(settings)), stream)?;
-    let conn = Conn::new(rt, link, connection_data, crew)?;
+    let shared = ServerShared::new(core, pool_of(&service.settings));
+    let link = Link::new(alloc, shared, Arc::try_clone(stream)?)?;
+    let conn = Conn::new(rt.clone()?, link, connection_data, crew)?;
     Ok(Arc::new(alloc, conn)?)
 }
 

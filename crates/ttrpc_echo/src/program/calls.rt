@@ -12,6 +12,7 @@ use std::alloc::Global;
 use std::io::Write;
 use ttrpc_proto::{Error, Request, Response, Result as Answered};
 use ttrpc_sync_client::Client;
+use ttrpc_sync_server::NoWatch;
 
 /// Calls what the words say, and tells what came of it.
 pub fn call<R: System + 'static, W: Write>(
@@ -79,7 +80,7 @@ pub fn call_at<R: System + 'static>(
 /// Starts a server of this process at a free port, and calls its `Echo` with this payload.
 pub fn call_own<R: System + 'static>(rt: R, payload: Vec<u8>) -> Answered<Answered<Response>> {
     let request = request_of(rt.alloc(), "demo.Echo", "Echo", payload, 0)?;
-    let server = start_server(rt.clone()?, "tcp://127.0.0.1:0", true)?;
+    let server = start_server(rt.clone()?, "tcp://127.0.0.1:0", true, NoWatch {})?;
     let called = call_server(rt, &server, request);
     server.shutdown();
     called
@@ -87,7 +88,7 @@ pub fn call_own<R: System + 'static>(rt: R, payload: Vec<u8>) -> Answered<Answer
 
 fn call_server<R: System + 'static>(
     rt: R,
-    server: &EchoServer<R>,
+    server: &EchoServer<R, NoWatch>,
     request: Request,
 ) -> Answered<Answered<Response>> {
     let Some(address) = server.local_addr()? else {

@@ -3,6 +3,7 @@
 
 mod asked;
 mod calls;
+mod faults;
 mod outcome;
 mod service;
 mod serving;
@@ -15,6 +16,7 @@ ghost use Rattle.ttrpc_echo.specs.Program.Outcomes.{status_of};
 ghost use Rattle.ttrpc_echo.specs.Program.Runs.{Answers, Performs};
 
 pub use self::calls::{call_at, call_own};
+pub use self::faults::{FaultKeeper, Faults};
 pub use self::outcome::{Outcome, tell};
 pub use self::service::{Echo, EchoServer, System, start_server};
 pub use self::serving::tell_address;

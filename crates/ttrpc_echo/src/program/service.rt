@@ -6,7 +6,7 @@ use std::rt::Files;
 use ttrpc_proto::{Request, Result};
 use ttrpc_secure::{InboundTransform, OutboundTransform};
 use ttrpc_sync::{Host, Runtime};
-use ttrpc_sync_server::{MethodHandler, NoHook, Server, TtrpcContext};
+use ttrpc_sync_server::{MethodHandler, NoHook, Server, SharedWatch, TtrpcContext};
 
 /// What the program asks of the system.
 pub trait System: Runtime + Files + Net<Listener = TcpListener, Stream = TcpStream> {}
@@ -28,19 +28,21 @@ where
     }
 }
 
-/// A server of the one method `Echo` of `demo.Echo`.
-pub type EchoServer<R> = Server<R, Echo, NoHook>;
+/// A server of the one method `Echo` of `demo.Echo`, and its watch.
+pub type EchoServer<R, W> = Server<R, Echo, NoHook, W>;
 
 /// The server, listening at this address. Whether each write by TCP goes out at once is `nodelay`.
-pub fn start_server<R: System + 'static>(
+pub fn start_server<R: System + 'static, W: SharedWatch>(
     rt: R,
     address: &str,
     nodelay: bool,
-) -> Result<EchoServer<R>> {
+    watch: W,
+) -> Result<EchoServer<R, W>> {
     let alloc = rt.alloc();
     let mut methods = BTreeMap::new(alloc);
     methods.insert(String::from_str(alloc, "/demo.Echo/Echo")?, Echo {})?;
     let mut server = Server::new(rt)?
+        .set_watch(watch)?
         .register_service(methods)?
         .bind(address, nodelay)?;
     server.start()?;

@@ -1,13 +1,18 @@
 //! Serving at an address, until the program is killed.
 ghost use Rattle.ttrpc_echo.specs.Program.Runs.{IsFailed};
 
+use crate::program::faults::{FaultKeeper, Faults};
 use crate::program::outcome::Outcome;
 use crate::program::service::{EchoServer, System, start_server};
-use std::io::Write;
-use std::sync::{Condvar, Mutex};
+use std::alloc::Global;
+use std::io::{self, Write};
+use std::sync::Arc;
 use ttrpc_proto::{Error, Result};
 
-/// Serves at this address until the program is killed. At port 0 it tells on `errors` which port it got.
+/// A server whose faults are told.
+type WatchedServer<R> = EchoServer<R, FaultKeeper<R>>;
+
+/// Serves at this address until the program is killed. It tells on `errors` where it listens, and then each of its faults.
 pub fn serve<R: System + 'static, X: Write>(
     rt: R,
     address: &str,
@@ -16,42 +21,47 @@ pub fn serve<R: System + 'static, X: Write>(
 ) -> Outcome
     ensures { IsFailed result }
 {
-    let (waiter, server) = match begin(rt, address, nodelay, errors) {
+    let (waiter, faults, server) = match begin(rt, address, nodelay, errors) {
         Ok(begun) => begun,
         Err(error) => return Outcome::Failed(error),
     };
-    let held = Mutex::new(());
-    let never = Condvar::new();
-    let mut guard = held.lock(&waiter);
     for _ in waiter.forever() {
-        guard = never.wait(&waiter, guard);
+        let fault = faults.next(&waiter);
+        // Where nobody reads what it tells, it serves all the same.
+        let _ = writeln!(errors, "ttrpc-demo: {fault}");
     }
     drop(server);
     unreachable!()
 }
 
-/// The server, listening, and what its process waits by.
+/// The server, listening, its faults, and what its process waits by.
 fn begin<R: System + 'static, X: Write>(
     rt: R,
     address: &str,
     nodelay: bool,
     errors: &mut X,
-) -> Result<(R, EchoServer<R>)> {
+) -> Result<(R, Arc<Faults, Global>, WatchedServer<R>)> {
     let waiter = rt.clone()?;
-    let server = start_server(rt, address, nodelay)?;
-    if address.ends_with(":0") {
-        tell_address(&server, errors)?;
-    }
-    Ok((waiter, server))
+    let faults = Arc::new(rt.alloc(), Faults::new(rt.alloc()))?;
+    let watch = FaultKeeper::new(&rt, &faults)?;
+    let server = start_server(rt, address, nodelay, watch)?;
+    tell_address(&server, address, errors)?;
+    Ok((waiter, faults, server))
 }
 
-/// Tells where the server listens by TCP, in a line.
-pub fn tell_address<R: System, X: Write>(server: &EchoServer<R>, errors: &mut X) -> Result<()> {
-    let Some(address) = server.local_addr()? else {
-        return Ok(());
+/// Tells in a line where the server listens: its address, with the port that the system chose where that was 0.
+pub fn tell_address<R: System, W: Drop, X: Write>(
+    server: &EchoServer<R, W>,
+    address: &str,
+    errors: &mut X,
+) -> Result<()> {
+    let told = match server.local_addr()? {
+        Some(place) => writeln!(errors, "ttrpc-demo: listening at tcp://{place}"),
+        None => writeln!(errors, "ttrpc-demo: listening at {address}"),
     };
-    match writeln!(errors, "ttrpc-demo: listening at tcp://{address}") {
-        Ok(()) => Ok(()),
-        Err(error) => Err(Error::Nix(error.kind())),
-    }
+    told.map_err(fault)
+}
+
+fn fault(error: io::Error) -> Error {
+    Error::Nix(error.kind())
 }

@@ -20,7 +20,7 @@ use ttrpc_proto::Result as Answered;
 use ttrpc_secure::{AcceptHook, HookError, HookOutput, Plain};
 use ttrpc_sync::{Connected, Host};
 use ttrpc_sync_server::accept::{Stop, next_connection};
-use ttrpc_sync_server::{NoHook, Server};
+use ttrpc_sync_server::{NoHook, NoWatch, Server};
 use ttrpc_transport::{PipeConnection, PipeListener};
 
 /// How many threads this process has.
@@ -221,7 +221,7 @@ fn an_end_lets_a_server_accept_again(rt: HostRuntime) -> Tested {
     let start = Instant::now(&rt)?;
     let (accepted, _) = thread::join(
         &rt,
-        || next_connection(&rt, &failing, &stop, Duration::from_secs(3600)),
+        || next_connection(&rt, &failing, &stop, &NoWatch {}, Duration::from_secs(3600)),
         || ends_later(&rt, &stop),
     );
     assert!(rt; accepted.is_none());

@@ -9,9 +9,9 @@ use std::time::{Clock, Duration, Instant};
 use ttrpc_bench::{Rejects, Stamps};
 use ttrpc_secure::{ConnectionDataExt, HookError};
 use ttrpc_sync_client::Client;
-use ttrpc_sync_server::NoHook;
 use ttrpc_sync_server::accept::{Stop, next_connection};
 use ttrpc_sync_server::admission::admit;
+use ttrpc_sync_server::{NoHook, NoWatch};
 
 /// Moments at which a hook begins and ends, and whether that is in time.
 const MOMENTS: &[(u64, u64, bool)] = &[
@@ -101,7 +101,7 @@ fn accept_is_tried_again(rt: HostRuntime) -> Tested {
             left: AtomicU64::new(count),
         };
         let start = Instant::now(&rt)?;
-        assert!(rt; next_connection(&rt, &failing, &Stop::new(), interval).is_none());
+        assert!(rt; next_connection(&rt, &failing, &Stop::new(), &NoWatch {}, interval).is_none());
         let passed = start.elapsed(&rt)?;
         assert!(rt; at_once || passed >= Duration::from_millis(30), "{count}");
         assert_eq!(rt; failing.left.into_inner(), 0);
@@ -120,7 +120,7 @@ fn a_stop_ends_the_wait(rt: HostRuntime) -> Tested {
     let interval = Duration::from_secs(50);
     let (next, ()) = thread::join(
         &rt,
-        || next_connection(&rt, &failing, &stop, interval),
+        || next_connection(&rt, &failing, &stop, &NoWatch {}, interval),
         || {
             crate::tests::sites::a_while(&rt);
             stop.ask(&rt);

@@ -8,3 +8,4 @@ mod hook_tests;
 mod peers;
 mod settings_tests;
 mod sites;
+mod watch_tests;

@@ -1,7 +1,13 @@
 //! The word `call`, beside a server of this process.
 use crate::tests::echo::runs::{ROOM, Ran, Tester, run_words, words_of};
+use std::process::Abort;
+use std::sync::Arc;
 use std::test::Fail;
-use ttrpc_echo::{start_server, tell_address};
+use std::time::Duration;
+use std::{fs, thread};
+use ttrpc::sync::{NoWatch, Watch};
+use ttrpc_echo::{FaultKeeper, Faults, start_server, tell_address};
+use ttrpc_proto::Error;
 
 type Tested = Result<(), Fail>;
 
@@ -50,12 +56,65 @@ fn is_told<S: Tester + 'static>(rt: &S, address: &str, call: &Call) -> Tested {
     Ok(())
 }
 
+/// A server at a path tells it in a line.
+#[test]
+fn a_path_is_told(rt: HostRuntime) -> Tested {
+    let _ = fs::remove_file(&rt, "told.sock");
+    let server = start_server(rt, "unix://told.sock", true, NoWatch {})?;
+    let mut line = Vec::new(rt.alloc());
+    tell_address(&server, "unix://told.sock", &mut line)?;
+    let line = String::from_utf8(line).map_err(|_| Fail::from("not UTF-8"))?;
+    assert_eq!(rt;
+        line.as_str(),
+        "ttrpc-demo: listening at unix://told.sock\n"
+    );
+    server.shutdown();
+    fs::remove_file(&rt, "told.sock")?;
+    Ok(())
+}
+
+/// Faults are kept in order until they are told, up to 64; who is to tell them waits for the next.
+#[test]
+fn faults_are_kept_until_they_are_told(rt: HostRuntime) -> Tested {
+    let faults = Arc::new(rt.alloc(), Faults::new(rt.alloc()))?;
+    let keeper = FaultKeeper::new(&rt, &faults)?;
+    keeper.accept_failed(&Error::Eof);
+    keeper.worker_missing(&Error::LocalClosed);
+    for _ in 2..70 {
+        keeper.handler_failed(&Error::RemoteClosed);
+    }
+    let (first, second) = (faults.next(&rt), faults.next(&rt));
+    assert_eq!(rt; first.as_str(), "no connection was accepted: eof");
+    assert_eq!(rt;
+        second.as_str(),
+        "a worker is missing: ttrpc err: local stream closed"
+    );
+    for _ in 2..64 {
+        let next = faults.next(&rt);
+        assert_eq!(rt;
+            next.as_str(),
+            "a handler failed: ttrpc err: remote stream closed"
+        );
+    }
+    let (last, ()) = thread::join(
+        &rt,
+        || faults.next(&rt),
+        || {
+            thread::sleep(&rt, Duration::from_millis(20));
+            keeper.connection_dropped(&Error::Eof);
+        },
+    );
+    assert_eq!(rt; last.as_str(), "a connection was closed: eof");
+    Ok(())
+}
+
 /// A server with port 0 tells its address in a line, and is called there. Once it is shut down, nobody is.
 #[test]
 fn a_server_is_called(rt: HostRuntime) -> Tested {
-    let server = start_server(rt, "tcp://127.0.0.1:0", true)?;
+    let free = "tcp://127.0.0.1:0";
+    let server = start_server(rt, free, true, NoWatch {})?;
     let mut line = Vec::new(rt.alloc());
-    tell_address(&server, &mut line)?;
+    tell_address(&server, free, &mut line)?;
     let line = String::from_utf8(line).map_err(|_| Fail::from("not UTF-8"))?;
     let address = line
         .as_str()
