@@ -1,5 +1,6 @@
 //! Tests of the macros, of what they call, and of the paths of the facade: rows over values, and a service over a socket.
 
+mod caller;
 mod calls_tests;
 mod huge;
 mod messages;
