@@ -28,11 +28,11 @@ open_of core = if is_some core.connection.failure then 0 else length (open_part 
 
 -- So many bytes were lent into a buffer that held other bytes: a front of what can be lent, as much as fits. The rest of
 -- the buffer is as it was, and it is said whether they end a frame.
-pub record LendsFrame {O I : Type 0} (old : ServerCore O I) (before : List ℕ) (n : ℕ) (ends : Bool) (after : List ℕ) (new : ServerCore O I) : Type 0 where
+pub record LendsFrame {O I : Type 0} (old : ServerCore O I) (before : List ℕ) (n : ℕ) (ends_frame : Bool) (after : List ℕ) (new : ServerCore O I) : Type 0 where
   pub count : n ≡ min (length before) (open_of old)
   pub copied : take n after ≡ take n (open_part old.connection.outbox.queue)
   pub rest : drop n after ≡ drop n before
-  pub ends : ends ≡ nat_eq n (open_of old)
+  pub ends : ends_frame ≡ nat_eq n (open_of old)
   pub same : new ≡ record old { connection = record old.connection { outbox = record old.connection.outbox { queue = with_lent old.connection.outbox.queue n } } }
 
 -- the core, after a report that so many of the lent bytes were written, and at most all of these
