@@ -1,4 +1,4 @@
--- The two messages: what one more field means, the fields that are written, and that these mean the message.
+-- The messages of the method `Hello`: what one more field means, the fields that are written, and that these mean the message.
 -- Source: this project's.
 use Rattle.std.specs.Prelude.{◌≡◌, ℕ, ◌<◌, ◌^◌, ◌-◌, List, [], length, Option, Some, refl}
 use Rattle.std.specs.List.{AllByRecursion}

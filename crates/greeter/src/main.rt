@@ -1,19 +1,21 @@
-//! A service of one method, and a client that calls it: both in this process, with a socket at a path between them.
+//! A service of two methods, and a client that calls it: both in this process, with a socket at a path between them.
 #![tactic(auto)]
 
 mod client;
 mod messages;
 mod service;
+mod visits;
 
 use crate::client::GreeterClient;
-use crate::messages::HelloRequest;
+use crate::messages::{HelloReply, HelloRequest};
 use crate::service::methods;
+use crate::visits::VisitsRequest;
 use std::alloc::Global;
-use std::fs;
 use std::time::Duration;
+use std::{fs, io, thread};
 use ttrpc::context::{Context, with_duration};
 use ttrpc::proto::Text;
-use ttrpc::sync::Host;
+use ttrpc::sync::{Host, Runtime};
 use ttrpc::{Client, Error, Result, Server};
 
 const PATH: &str = "greeter.sock";
@@ -29,6 +31,12 @@ fn german(alloc: Global) -> Result<Context> {
     Ok(context)
 }
 
+/// A request with this name.
+fn request_of(alloc: Global, name: &str) -> Result<HelloRequest> {
+    let name = Text::from_str(alloc, name)?;
+    Ok(HelloRequest { name })
+}
+
 /// Calls the service with this name, and prints what came of it.
 fn greet<R: Host + Print>(
     rt: &R,
@@ -36,8 +44,13 @@ fn greet<R: Host + Print>(
     context: Context,
     name: &str,
 ) -> Result<()> {
-    let name = Text::from_str(rt.alloc(), name)?;
-    let printed = match client.hello(context, &HelloRequest { name }) {
+    let request = request_of(rt.alloc(), name)?;
+    tell(rt, client.hello(context, &request))
+}
+
+/// Prints what came of a call.
+fn tell<R: Print>(rt: &R, answer: Result<HelloReply>) -> Result<()> {
+    let printed = match answer {
         Ok(reply) => println!(rt; "{}", reply.greeting),
         Err(Error::RpcStatus(status)) => {
             let (code, message) = (status.code, status.message);
@@ -45,7 +58,35 @@ fn greet<R: Host + Print>(
         }
         Err(error) => println!(rt; "failed: {error}"),
     };
-    printed.map_err(|error| Error::Nix(error.kind()))
+    printed.map_err(fault)
+}
+
+/// Output that fails.
+fn fault(error: io::Error) -> Error {
+    Error::Nix(error.kind())
+}
+
+/// Greets two at the same time, in two threads, and prints what came of it.
+fn greet_two<R: Runtime + Print>(rt: &R, client: &GreeterClient<R>) -> Result<()> {
+    let alloc = rt.alloc();
+    let (ada, bob) = (request_of(alloc, "Ada")?, request_of(alloc, "Bob")?);
+    let other = client.try_clone()?;
+    let (first, second) = thread::join(
+        rt,
+        || client.hello(Context::new(alloc), &ada),
+        || other.hello(Context::new(alloc), &bob),
+    );
+    tell(rt, first)?;
+    tell(rt, second)
+}
+
+/// Prints who was greeted so far.
+fn tell_visits<R: Host + Print>(rt: &R, client: &GreeterClient<R>) -> Result<()> {
+    let visits = client.visits(Context::new(rt.alloc()), &VisitsRequest {})?;
+    for visit in visits.languages.as_slice() {
+        println!(rt; "{} in {}", visit.key, visit.value).map_err(fault)?;
+    }
+    println!(rt; "{} greetings", visits.count).map_err(fault)
 }
 
 fn main(rt: HostRuntime) -> Result<()> {
@@ -63,6 +104,8 @@ fn main(rt: HostRuntime) -> Result<()> {
     greet(&rt, &client, Context::new(alloc), "world")?;
     greet(&rt, &client, german(alloc)?, "Welt")?;
     greet(&rt, &client, Context::new(alloc), "")?;
+    tell_visits(&rt, &client)?;
+    greet_two(&rt, &client)?;
 
     drop(client);
     server.shutdown();

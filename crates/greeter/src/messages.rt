@@ -1,4 +1,4 @@
-//! The messages of the service `example.Greeter`. Each has one field, a text of number 1.
+//! The messages of the method `Hello`. Each has one field, a text of number 1.
 
 use std::alloc::{AllocError, Global};
 use ttrpc::proto::members::{delimited_len, put_delimited, text_from};
