@@ -1,4 +1,6 @@
 //! Peers that read and write frames as a test has them do, one after the other.
+ghost use Rattle.std.specs.Prelude.{◌<◌, ◌^◌, length, IfOk};
+
 use crate::tests::sites::request;
 use std::alloc::Global;
 use std::io::{Read, Write};
@@ -32,7 +34,9 @@ pub fn read_frame<R: Read>(alloc: Global, reader: &mut R) -> Answered<GenMessage
 }
 
 /// The bytes of a message, of which nothing but memory may be wanting.
-fn encoded<M: WireMessage>(alloc: Global, message: &M) -> Answered<Vec<u8>> {
+fn encoded<M: WireMessage>(alloc: Global, message: &M) -> Answered<Vec<u8>>
+    ensures { IfOk result (λ bytes. length bytes.items < 2 ^ 32) }
+{
     match encode(alloc, message) {
         Ok(bytes) => Ok(bytes),
         Err(_) => Err(Error::NoMemory),
