@@ -12,6 +12,8 @@ import time
 import types
 
 PATIENCE = 10  # seconds that a step may take: a connect, an answer, the end of a program
+# what a server under attack tells of itself, a line each
+FAULTS = re.compile(r"ttrpc-demo: (no connection was accepted|a connection was closed|a worker is missing|a handler failed): .*\n")
 NEXT_CALL = 5000  # milliseconds that another client's call may take
 LET_GO = 5  # seconds until threads and descriptors are back
 DEADLINE = 50  # milliseconds that a call has, where it has a deadline
@@ -270,7 +272,10 @@ class Server:
             if self.is_judged and self.program.poll() is not None:
                 self.row.say(f"the server ended with status {self.program.returncode}", False)
             end(self.program)
-            if told := re.sub(r".*listening at.*\n", "", self.told()):
+            told, faults = FAULTS.subn("", re.sub(r".*listening at.*\n", "", self.told()))
+            if faults:
+                self.row.say(f"{faults} faults told")
+            if told:
                 self.row.say(f"the server told: {told[:200]!r}", False)
             self.errors.close()
 
