@@ -18,6 +18,27 @@ macro_rules! request_handler {
     };
 }
 
+/// Handles a request as `request_handler!` does, but answers a payload that means no value with the status
+/// INVALID_ARGUMENT, so that the connection goes on.
+#[macro_export]
+macro_rules! checked_request_handler {
+    ($class:ident, $ctx:ident, $req:ident, $req_type:path, $req_fn:ident) => {
+        let alloc = $ctx.alloc();
+        let payload = $req.payload.as_slice();
+        let answer = match $crate::calls::checked_request::<$req_type>(alloc, payload) {
+            Ok(message) => $class.service.$req_fn(&$ctx, message),
+            Err(error) => Err(error),
+        };
+        $ctx.respond(
+            $ctx.mh.stream_id,
+            $crate::calls::response_of(alloc, answer)?,
+        )?
+    };
+    ($class:ident, $ctx:ident, $req:ident, $server:ident, $req_type:ident, $req_fn:ident) => {
+        $crate::checked_request_handler!($class, $ctx, $req, super::$server::$req_type, $req_fn)
+    };
+}
+
 /// Makes a request of `self.client` with the value that is lent as `$req`, and takes the payload of its response into the
 /// value `$cres`. The context is used up.
 #[macro_export]

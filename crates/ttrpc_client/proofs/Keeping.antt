@@ -76,6 +76,10 @@ some_told : (calls : List (ℕ × Call)) (ended : List ℕ) (id : ℕ) (call : C
 some_told [] ended id call is = cc
 some_told (c ∷ cs) ended id call is = refl
 
+pub none_told : (calls : List (ℕ × Call)) (ended : List ℕ) → told_left calls ended ≡ ended → calls ≡ [] → ended ≡ []
+none_told [] ended told none = sym told
+none_told (c ∷ cs) ended told none = cc
+
 told_twice : (calls : List (ℕ × Call)) (ended : List ℕ) → told_left calls (told_left calls ended) ≡ told_left calls ended
 told_twice [] ended = refl
 told_twice (c ∷ cs) ended = refl

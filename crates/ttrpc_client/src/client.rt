@@ -1,5 +1,6 @@
 //! The core of a client: calls and frames in, requests and outcomes out.
-ghost use Rattle.std.specs.Prelude.{◌≡◌, ◌≢◌, ◌<◌, ◌≤◌, ◌%◌, ◌^◌, ◌+◌, ◌++◌, ◌↔◌, ℕ, [], length, is_some, true, option_to_list, IfOk, IfErr, OnOk, OnErr, IfSome, IfNone, Some, None};
+ghost use Rattle.std.specs.Prelude.{◌≡◌, ◌≢◌, ◌<◌, ◌≤◌, ◌%◌, ◌^◌, ◌+◌, ◌++◌, ◌↔◌, ℕ, List, [], length, is_some, true, option_to_list, IfOk, IfErr, OnOk, OnErr, IfSome, IfNone, Some, None};
+ghost use Rattle.ttrpc_frame.specs.Frames.{Holds, nothing};
 ghost use Rattle.ttrpc_frame.specs.Queue.{unsent};
 ghost use Rattle.ttrpc_secure.specs.Hooks.Facts.{facts_of};
 ghost use Rattle.ttrpc_connection.specs.declared.failure.Failure.{Failure as AFailure};
@@ -199,6 +200,14 @@ impl<O: OutboundTransform + Drop, I: InboundTransform + Drop> ClientCore<O, I> {
         self.connection.feed(alloc, &mut self.state, piece, 0)
     }
 
+    /// Whether nothing of a frame has come that isn't whole. Takes no memory.
+    pub fn at_boundary(&self) -> bool
+        ensures nothing { (result ≡ true) ↔ (self.now.connection.decoder ≡ nothing) }
+        ensures held { (rest : List ℕ) × Holds self.now.connection.decoder rest }
+    {
+        self.connection.at_boundary()
+    }
+
     /// Gives the outcome of a call, once: none where there is no such call, or none yet. Where memory for its text was
     /// refused, it is `NoMemory`.
     pub fn take_outcome(&mut self, alloc: Global, id: CallId) -> Option<Outcome>
@@ -215,10 +224,13 @@ impl<O: OutboundTransform + Drop, I: InboundTransform + Drop> ClientCore<O, I> {
         }
     }
 
-    /// The first of the calls that ended, by a frame or their deadline, and weren't told of yet. Takes no memory.
+    /// The first of the calls that ended, by a frame or their deadline, and weren't told of yet. Takes no memory. The id of
+    /// each call that ended is kept until it is told here, also once its outcome was taken, or until no call is kept at
+    /// all. So a caller who never asks, while at least one call is always kept, makes it keep ever more of them.
     pub fn next_ended(&mut self) -> Option<CallId>
         ensures first { self.old.state.ended ≡ option_to_list result ++ self.new.state.ended }
         ensures none { IfNone result (self.old.state.ended ≡ []) }
+        ensures let_go { self.old.state.calls ≡ [] → self.old.state.ended ≡ [] }
         ensures same { self.new ≡ record self.old { state = record self.old.state { ended = self.new.state.ended } } }
     {
         self.state.next_ended()

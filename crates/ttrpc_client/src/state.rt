@@ -176,10 +176,11 @@ impl ClientState {
         u64::try_from(deadline).ok()
     }
 
-    /// The first of the calls that ended and weren't told of yet. Takes no memory.
+    /// The first of the calls that ended and weren't told of yet: none where no call is kept. Takes no memory.
     pub(crate) fn next_ended(&mut self) -> Option<CallId>
         ensures first { self.old.ended ≡ option_to_list result ++ self.new.ended }
         ensures none { IfNone result (self.old.ended ≡ []) }
+        ensures let_go { self.old.calls ≡ [] → self.old.ended ≡ [] }
         ensures same { self.new ≡ record self.old { ended = self.new.ended } }
     {
         self.ended.pop_front()

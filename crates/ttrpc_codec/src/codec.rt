@@ -1,15 +1,15 @@
 //! The trait `Codec`: values that are read, measured, written and merged.
 ghost use Rattle.std.specs.Prelude.{◌≡◌, ℕ, List, ◌<◌, ◌≤◌, ◌^◌, ◌-◌, ◌++◌, length, Option, Some, None, IfOk, OnOk, IfErr, OnErr, min, ◌⊎◌};
 
-use crate::message::{WireMessage, decode, encode, merge, size};
+use crate::message::{WireMessage, decode, encode, merge, saturated, size};
 use std::alloc::Global;
-use ttrpc_wire::CodecError;
 use ttrpc_wire::values::codec_error::CodecFailure;
+use ttrpc_wire::{Blob, CodecError};
 
 /// A value with a written form, and what bytes mean as such a value.
 ///
-/// A type that implements `WireMessage` implements it by the calls of that module; any other format may
-/// implement it, too.
+/// A type that implements `WireMessage` implements it by the calls of that module, and `Blob` is its own written form; any
+/// other format may implement it, too.
 pub trait Codec: Sized + Drop {
     type E: CodecFailure;
 
@@ -71,5 +71,39 @@ impl<M: WireMessage> Codec for M {
 
     fn merge(&mut self, alloc: Global, bytes: &[u8]) -> Result<(), CodecError> {
         merge(alloc, self, bytes)
+    }
+}
+
+/// Bytes as they are: a call that takes or gives them needs no message. Any bytes mean themselves, so only memory or, to
+/// `encode`, a length of 2^32 bytes or more is a reason to refuse.
+impl Codec for Blob {
+    type E = CodecError;
+
+    ghost use Rattle.std.specs.Prelude.{Some};
+
+    ghost written = { λ blob. blob };
+
+    ghost meaning = { λ bytes. Some bytes };
+
+    fn size(&self) -> u32 {
+        saturated(self.len() as u64)
+    }
+
+    fn encode(&self, alloc: Global) -> Result<Vec<u8>, CodecError> {
+        if self.len() > u32::MAX as usize {
+            return Err(CodecError::TooLong);
+        }
+        Ok(Vec::from_slice(alloc, self.as_slice())?)
+    }
+
+    fn decode(alloc: Global, bytes: &[u8]) -> Result<Blob, CodecError> {
+        Ok(Blob::from_slice(alloc, bytes)?)
+    }
+
+    fn merge(&mut self, alloc: Global, bytes: &[u8]) -> Result<(), CodecError> {
+        let mut whole = Vec::from_slice(alloc, self.as_slice())?;
+        whole.extend_from_slice(bytes)?;
+        *self = Blob::from_vec(whole);
+        Ok(())
     }
 }

@@ -86,7 +86,8 @@ pub fn size<M: WireMessage>(message: &M) -> u32
     saturated(message.length())
 }
 
-fn saturated(length: u64) -> u32
+/// A length, or 4294967295 where it is greater.
+pub(crate) fn saturated(length: u64) -> u32
     ensures { result ≡ min length (2 ^ 32 - 1) }
 {
     length.min(u32::MAX as u64) as u32

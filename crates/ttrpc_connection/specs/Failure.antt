@@ -1,6 +1,6 @@
 -- Which error tells why a connection failed.
 -- Source: the Rust crate, for the texts on the socket and on requests during write; the others are this project's.
-use Rattle.std.specs.Prelude.{codes, Option, None, Some}
+use Rattle.std.specs.Prelude.{◌≡◌, codes, Bool, true, false, Option, None, Some, Result, Ok, Err}
 use Rattle.ttrpc_connection.specs.Types.{Error, Failure, Told, Disconnected, DisconnectedInside, HandlerError, JobIdsUsedUp, DeadlineDuringWrite, CancelledDuringWrite, MemoryRefused}
 use Rattle.ttrpc_proto.specs.declared.error.Error.TheVariants.{Socket, Others, NoMemory}
 pub use Rattle.ttrpc_secure.specs.Context.Told.{IsTold}
@@ -20,3 +20,9 @@ error_of MemoryRefused = NoMemory
 abbrev pub first_failure : Option Failure → Failure → Option Failure
 first_failure None failure = Some failure
 first_failure (Some first) failure = Some first
+
+-- What asking whether a frame was sent tells: that it was, or else the failure, if the connection has failed.
+abbrev pub TellsSent : Bool → Option Failure → Option (Result (Unit {0}) Error) → Type 0
+TellsSent true failure told = told ≡ Some (Ok tt)
+TellsSent false None told = told ≡ None
+TellsSent false (Some failure) told = (error : Error) × IsTold (error_of failure) error × (told ≡ Some (Err error))

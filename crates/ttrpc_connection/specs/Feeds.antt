@@ -13,7 +13,7 @@ use Rattle.ttrpc_connection.specs.Frames.{Opens, Sent, SendsAll, header_of_frame
 abbrev pub new_connection : {O I : Type 0} → Facts → O → I → Connection O I
 new_connection known outbound inbound = record {
   decoder = nothing;
-  outbox = record { half = outbound; queue = empty_queue };
+  outbox = record { half = outbound; queue = empty_queue; tickets = 0 };
   inbound = inbound;
   failure = None;
   known = known;

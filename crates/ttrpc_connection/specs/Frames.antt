@@ -1,9 +1,10 @@
 -- What a whole frame does.
 -- Source: this project's.
-use Rattle.std.specs.Prelude.{◌≡◌, ℕ, List, [], ◌∷◌}
-use Rattle.ttrpc_connection.specs.Types.{MessageHeader, Incoming, Queued, OutboundTransform, InboundTransform, Opening, TooLong, Opened, Refused, Outbox}
+use Rattle.std.specs.Prelude.{◌≡◌, ◌≤◌, ℕ, List, [], ◌∷◌, length}
+use Rattle.ttrpc_connection.specs.Types.{MESSAGE_LENGTH_MAX, MessageHeader, Incoming, Queued, OutboundTransform, InboundTransform, Opening, TooLong, Opened, Refused, Outbox}
 use Rattle.ttrpc_frame.specs.declared.frame.Incoming.TheVariants.{Frame, Oversize}
-use Rattle.ttrpc_secure.specs.Sends.{Sends, associated}
+use Rattle.ttrpc_frame.specs.Queue.{ticket_after, with_frame, with_payload}
+use Rattle.ttrpc_secure.specs.Sends.{associated}
 pub use Rattle.ttrpc_secure.specs.Sends.{safe_limit}
 
 -- the header of a frame, also of one that is too long
@@ -23,9 +24,14 @@ pub record Sent : Type 0 where
   pub frame : Queued
   pub plain : List ℕ
 
--- this frame was sent, with this data sealed for it
-abbrev pub SendsOne : {O : Type 0} → OutboundTransform O → Outbox O → Queued → List ℕ → Outbox O → Type 0
-SendsOne half old frame plain new = Sends half.seals old.half old.queue frame plain new.half new.queue
+-- This frame was sent: the half sealed the data, and the frame with what is sealed is behind the others; if it has a
+-- ticket, that is the last that was given.
+pub record SendsOne {O : Type 0} (half : OutboundTransform O) (old : Outbox O) (frame : Queued) (plain : List ℕ) (new : Outbox O) : Type 0 where
+  pub sealed : List ℕ
+  pub seal : half.seals old.half plain (associated frame.message.header) sealed new.half
+  pub fits : length sealed ≤ MESSAGE_LENGTH_MAX
+  pub queue : new.queue ≡ with_frame old.queue (with_payload frame sealed)
+  pub tickets : new.tickets ≡ ticket_after frame.ticket old.tickets
 
 -- these were sent, in order
 abbrev pub SendsAll : {O : Type 0} → OutboundTransform O → Outbox O → List Sent → Outbox O → Type 0

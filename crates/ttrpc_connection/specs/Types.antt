@@ -13,4 +13,4 @@ pub use Rattle.ttrpc_connection.specs.declared.arrived.Opening.TheVariants.{Open
 pub use Rattle.ttrpc_connection.specs.declared.connection.Connection.{Connection}
 pub use Rattle.ttrpc_connection.specs.declared.failure.Failure.{Failure}
 pub use Rattle.ttrpc_connection.specs.declared.failure.Failure.TheVariants.{CancelledDuringWrite, DeadlineDuringWrite, Disconnected, DisconnectedInside, HandlerError, JobIdsUsedUp, NoMemory, NoMemory as MemoryRefused, Told}
-pub use Rattle.ttrpc_connection.specs.declared.outbox.Outbox.{Outbox}
+pub use Rattle.ttrpc_connection.specs.Outbox.{Outbox}

@@ -3,9 +3,11 @@ ghost use Rattle.std.specs.Prelude.{ℕ, List, ◌≡◌, ◌≢◌, ◌<◌, �
 ghost use Rattle.ttrpc_frame.specs.Frames.{Holds, nothing};
 ghost use Rattle.ttrpc_frame.specs.Queue.{unsent};
 ghost use Rattle.ttrpc_secure.specs.Hooks.Facts.{facts_of};
+ghost use Rattle.ttrpc_connection.specs.Failure.{TellsSent};
 ghost use Rattle.ttrpc_connection.specs.Feeds.{IsFailed, new_connection, ways};
 ghost use Rattle.ttrpc_connection.specs.Inside.{FrontActs, StopsAt};
 ghost use Rattle.ttrpc_connection.specs.OneEnd.{Ends, Lends, Takes, TakesFront, failing, lendable, lending, reporting};
+ghost use Rattle.ttrpc_connection.specs.Outbox.{is_sent};
 
 use crate::arrived::open;
 use crate::failure::Failure;
@@ -150,6 +152,19 @@ impl<O: OutboundTransform + Drop, I: InboundTransform + Drop> Connection<O, I> {
         match &self.failure {
             None => Ok(()),
             Some(failure) => Err(failure.error(alloc)),
+        }
+    }
+
+    /// `Ok` once the frame of this ticket was reported whole; until then the failure, where the connection has failed.
+    pub fn sent(&self, alloc: Global, ticket: u64) -> Option<Result<(), Error>>
+        ensures { TellsSent (is_sent self.now.outbox.queue ticket) self.now.failure result }
+    {
+        if self.outbox.is_sent(ticket) {
+            return Some(Ok(()));
+        }
+        match &self.failure {
+            None => None,
+            Some(failure) => Some(Err(failure.error(alloc))),
         }
     }
 

@@ -1,12 +1,14 @@
 //! What goes out: frames that are sealed and wait to be written.
-ghost use Rattle.std.specs.Prelude.{◌≡◌, ◌≢◌, true, ◌<◌, ◌≤◌, ◌+◌, ◌⊎◌, ◌↔◌, [], length, take, drop, min, Err, OnOk, OnErr};
-ghost use Rattle.ttrpc_frame.specs.Queue.{Queue, open_part, unsent, with_lent, after_report, empty_queue, without, has_begun};
+ghost use Rattle.std.specs.Prelude.{◌≡◌, ◌≢◌, ◌^◌, ◌-◌, true, ◌<◌, ◌≤◌, ◌+◌, ◌⊎◌, ◌↔◌, [], length, take, drop, min, Err, OnOk, OnErr, IfSome, IfNone};
+ghost use Rattle.ttrpc_frame.specs.Queue.{AreNumbered, IsNext, open_part, unsent, with_lent, after_report, empty_queue, without, has_begun};
 ghost use Rattle.ttrpc_secure.specs.declared.transform.TransformError.{TransformError as AnError};
 ghost use Rattle.ttrpc_secure.specs.Halves.{MayFail};
 ghost use Rattle.ttrpc_secure.specs.Sends.{associated};
 ghost use Rattle.ttrpc_connection.specs.Frames.{SendsOne, safe_limit};
+ghost use Rattle.ttrpc_connection.specs.Outbox.{is_sent};
 
 use std::alloc::Global;
+use std::marker::Model;
 use ttrpc_frame::owners::Owners;
 use ttrpc_frame::{Outgoing, Queued};
 use ttrpc_secure::OutboundTransform;
@@ -17,16 +19,30 @@ use ttrpc_secure::sending::{SendError, limit_of, send};
 pub struct Outbox<O> {
     half: O,
     queue: Outgoing,
+    // The last ticket that was given, 0 before the first.
+    tickets: u64,
+}
+
+impl<O> Model for Outbox<O> {
+    ghost use Rattle.ttrpc_frame.specs.Queue.{AreNumbered};
+    ghost use Rattle.ttrpc_connection.specs.Outbox.{Outbox as TheOutbox};
+
+    ghost Value = { TheOutbox O };
+
+    ghost view = { λ a. record { half = a.half; queue = a.queue; tickets = a.tickets } };
+
+    ghost invariant = { λ a. AreNumbered a.queue.sent a.queue.frames a.tickets };
 }
 
 impl<O: OutboundTransform + Drop> Outbox<O> {
     /// Nothing waits. Takes no memory.
     pub fn new(alloc: Global, half: O) -> Self
-        ensures { result ≡ record { half = half; queue = empty_queue } }
+        ensures { result ≡ record { half = half; queue = empty_queue; tickets = 0 } }
     {
         Outbox {
             half,
             queue: Outgoing::new(alloc),
+            tickets: 0,
         }
     }
 
@@ -37,15 +53,35 @@ impl<O: OutboundTransform + Drop> Outbox<O> {
         limit_of(&self.half)
     }
 
+    /// The ticket for the next frame that gets one, if one is left. Takes no memory.
+    pub fn next_ticket(&self) -> Option<u64>
+        ensures some { IfSome result (λ ticket. ticket ≡ self.now.tickets + 1) }
+        ensures none { IfNone result (self.now.tickets ≡ 2 ^ 64 - 1) }
+    {
+        self.tickets.checked_add(1)
+    }
+
+    /// Whether the frame of this ticket was reported whole. Takes no memory.
+    pub fn is_sent(&self, ticket: u64) -> bool
+        ensures sent { result ≡ is_sent self.now.queue ticket }
+        ensures numbered { AreNumbered self.now.queue.sent self.now.queue.frames self.now.tickets }
+    {
+        0 < ticket && ticket <= self.queue.sent()
+    }
+
     /// Seals the data and queues the frame with it, whose payload it takes the place of. An error changes nothing.
     pub fn send(&mut self, alloc: Global, frame: Queued, data: Vec<u8>) -> Result<(), SendError>
+        requires { IsNext frame.ticket frame.is_unary_request self.old.tickets }
         ensures ok { OnOk result (SendsOne O.OutboundTransform self.old frame «data».items self.new) }
         ensures too_long { (result ≡ Err SendError.TooLong) ↔ (safe_limit O.OutboundTransform self.old.half < length «data».items) }
         ensures refused { (t : AnError) → result ≡ Err (SendError.Failed t)
             → MayFail O.refuses self.old.half «data».items (associated frame.message.header) t }
         ensures err { OnErr result (self.new ≡ self.old) }
     {
-        send(alloc, &mut self.half, &mut self.queue, frame, data)
+        let ticket = frame.ticket;
+        send(alloc, &mut self.half, &mut self.queue, frame, data)?;
+        self.tickets = ticket.unwrap_or(self.tickets);
+        Ok(())
     }
 
     /// Copies a front of what is left of the first frame, as much as fits, and says how many bytes: none only where

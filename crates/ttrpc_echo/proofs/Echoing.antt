@@ -19,7 +19,7 @@ use Rattle.ttrpc_frame.proofs.Queues.{with_frame_is_queue, written_is}
 use Rattle.ttrpc_secure.specs.declared.plain.Plain.{Plain}
 use Rattle.ttrpc_connection.specs.declared.arrived.Opening.{Opening}
 use Rattle.ttrpc_connection.specs.declared.arrived.Opening.TheVariants.{TooLong, Opened, Refused}
-use Rattle.ttrpc_connection.specs.declared.outbox.Outbox.{Outbox}
+use Rattle.ttrpc_connection.specs.Outbox.{Outbox}
 use Rattle.ttrpc_connection.specs.Feeds.{Acts, ActsAll, Scene, arrived, scene}
 use Rattle.ttrpc_connection.specs.Frames.{Opens, Sent, SendsAll, SendsOne, header_of_frame}
 use Rattle.ttrpc_connection.proofs.Feeding.{fed_twice, nothing_taken}

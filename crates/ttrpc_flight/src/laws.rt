@@ -9,7 +9,7 @@ ghost use Rattle.ttrpc_secure.specs.Halves.{IsPaired};
 ghost use Rattle.ttrpc_secure.specs.Sends.{associated};
 ghost use Rattle.ttrpc_connection.specs.declared.arrived.Opening.{Opening};
 ghost use Rattle.ttrpc_connection.specs.declared.arrived.Opening.TheVariants.{Opened};
-ghost use Rattle.ttrpc_connection.specs.declared.outbox.Outbox.{Outbox as AnOutbox};
+ghost use Rattle.ttrpc_connection.specs.Outbox.{Outbox as AnOutbox};
 ghost use Rattle.ttrpc_connection.specs.Frames.{Opens, Sent, SendsAll};
 ghost use Rattle.ttrpc_connection.specs.Feeds.{ActsAll, Scene, ways};
 ghost use Rattle.ttrpc_flight.specs.Flight.{Flying, ActsOn, AreInFlight, AreLinked, frames_of, IsOwnRequest, IsSound, arrived, bytes_after_carry, flying_without, parcels};

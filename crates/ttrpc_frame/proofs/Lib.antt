@@ -9,3 +9,4 @@ pub mod Departures
 pub mod Streamed
 pub mod Sent
 pub mod Fronts
+pub mod Tickets

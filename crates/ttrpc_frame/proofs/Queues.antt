@@ -7,7 +7,7 @@ use Rattle.std.proofs.lemmas.Bool.Decides.{nat_tests}
 use Rattle.std.proofs.lemmas.List.{take_at, take_all, take_rest, append-nil, drop_at, take-append-le, drop-append-le, drop_all, drop-drop}
 use Rattle.ttrpc_frame.specs.declared.gen_message.GenMessage.{GenMessage}
 use Rattle.ttrpc_frame.specs.declared.outgoing.Queued.{Queued}
-use Rattle.ttrpc_frame.specs.Queue.{written, Queue, IsQueue, IsWithin, first_open, open_part, with_frame, with_lent, report_first, after_report, last_may_change, with_payload, last_filled, filled, withdrawn, without, frames_without}
+use Rattle.ttrpc_frame.specs.Queue.{written, Queue, IsQueue, IsWithin, first_open, open_part, with_frame, with_lent, report_first, first_ticket, after_report, last_may_change, with_payload, last_filled, filled, withdrawn, without, frames_without}
 use Rattle.ttrpc_frame.specs.Header.{header_bytes}
 
 pub length-written : (m : GenMessage) → length (written m) ≡ 10 + length m.payload
@@ -169,30 +169,30 @@ first_within : (fs : List Queued) → IsWithin fs 0
 first_within [] = refl
 first_within (f ∷ fs) = omega (arith, length-written f.message)
 
-report_first_is_queue : (fs : List Queued) (n : ℕ) (begun : Bool) → (begun ≡ false → n ≡ 0) → IsQueue (report_first fs n begun)
-report_first_is_queue [] n begun h = record { within = refl; lent = omega arith; fresh = λ _. (refl, refl); none = λ _. refl }
-report_first_is_queue (f ∷ fs) n begun h =
+report_first_is_queue : (fs : List Queued) (n : ℕ) (begun : Bool) (sent : ℕ) → (begun ≡ false → n ≡ 0) → IsQueue (report_first fs n begun sent)
+report_first_is_queue [] n begun sent h = record { within = refl; lent = omega arith; fresh = λ _. (refl, refl); none = λ _. refl }
+report_first_is_queue (f ∷ fs) n begun sent h =
     cond_both (nat_lt n (length (written f.message))) _ _ IsQueue
     (λ lt. record { within = ltb-true n (length (written f.message)) lt; lent = omega arith; fresh = λ e. (h e, refl); none = λ e. absurd (cc) })
     (λ _. record { within = first_within fs; lent = omega arith; fresh = λ _. (refl, refl); none = λ _. refl })
 
 pub after_report_is_queue : (q : Queue) (n : ℕ) → IsQueue q → n ≤ q.lent → IsQueue (after_report q n)
-after_report_is_queue q n h le = report_first_is_queue q.frames (q.reported + n) q.begun (λ e. let f = h.fresh e in omega (arith, f.0, f.1))
+after_report_is_queue q n h le = report_first_is_queue q.frames (q.reported + n) q.begun q.sent (λ e. let f = h.fresh e in omega (arith, f.0, f.1))
 
 -- a report of a part of the first frame, and one of all of it
-pub report_of_a_part : (q : Queue) (n : ℕ) → q.reported + n < length (first_open q.frames 0) → after_report q n ≡ record { frames = q.frames; reported = q.reported + n; lent = 0; begun = q.begun }
-report_of_a_part q n lt = part q.frames (q.reported + n) q.begun lt
+pub report_of_a_part : (q : Queue) (n : ℕ) → q.reported + n < length (first_open q.frames 0) → after_report q n ≡ record { frames = q.frames; reported = q.reported + n; lent = 0; begun = q.begun; sent = q.sent }
+report_of_a_part q n lt = part q.frames (q.reported + n) q.begun q.sent lt
   where
-    part : (fs : List Queued) (n : ℕ) (begun : Bool) → n < length (first_open fs 0) → report_first fs n begun ≡ record { frames = fs; reported = n; lent = 0; begun = begun }
-    part [] n begun lt = absurd (omega arith)
-    part (f ∷ fs) n begun lt = cond-true _ _ _ (lt-ltb _ _ lt)
+    part : (fs : List Queued) (n : ℕ) (begun : Bool) (sent : ℕ) → n < length (first_open fs 0) → report_first fs n begun sent ≡ record { frames = fs; reported = n; lent = 0; begun = begun; sent = sent }
+    part [] n begun sent lt = absurd (omega arith)
+    part (f ∷ fs) n begun sent lt = cond-true _ _ _ (lt-ltb _ _ lt)
 
-pub report_of_all : (q : Queue) (n : ℕ) → length (first_open q.frames 0) ≤ q.reported + n → after_report q n ≡ record { frames = drop 1 q.frames; reported = 0; lent = 0; begun = false }
-report_of_all q n le = all q.frames (q.reported + n) q.begun le
+pub report_of_all : (q : Queue) (n : ℕ) → length (first_open q.frames 0) ≤ q.reported + n → after_report q n ≡ record { frames = drop 1 q.frames; reported = 0; lent = 0; begun = false; sent = first_ticket q.frames q.sent }
+report_of_all q n le = all q.frames (q.reported + n) q.begun q.sent le
   where
-    all : (fs : List Queued) (n : ℕ) (begun : Bool) → length (first_open fs 0) ≤ n → report_first fs n begun ≡ record { frames = drop 1 fs; reported = 0; lent = 0; begun = false }
-    all [] n begun le = refl
-    all (f ∷ fs) n begun le = cond-false _ _ _ (le-ltb _ _ le)
+    all : (fs : List Queued) (n : ℕ) (begun : Bool) (sent : ℕ) → length (first_open fs 0) ≤ n → report_first fs n begun sent ≡ record { frames = drop 1 fs; reported = 0; lent = 0; begun = false; sent = first_ticket fs sent }
+    all [] n begun sent le = refl
+    all (f ∷ fs) n begun sent le = cond-false _ _ _ (le-ltb _ _ le)
 
 -- no more is lent than is left of the first frame
 pub report_fits : (q : Queue) (n : ℕ) → IsQueue q → n ≤ q.lent → q.reported + n ≤ length (first_open q.frames 0)
@@ -203,36 +203,36 @@ report_fits q n h le = fits q.frames q.reported q.lent n h.within h.lent le
     fits (f ∷ fs) r l n within lent le = omega (arith, length-drop r (written f.message))
 
 -- other frames, where none has begun, and where the first has and stays
-pub fresh_is_queue : (fs : List Queued) (r l : ℕ) → (r ≡ 0) × (l ≡ 0) → IsQueue (record { frames = fs; reported = r; lent = l; begun = false })
-fresh_is_queue fs r l h = record {
+pub fresh_is_queue : (fs : List Queued) (r l s : ℕ) → (r ≡ 0) × (l ≡ 0) → IsQueue (record { frames = fs; reported = r; lent = l; begun = false; sent = s })
+fresh_is_queue fs r l s h = record {
   within = subst (IsWithin fs) (sym h.0) (first_within fs);
   lent = let e = h.1 in omega arith;
   fresh = λ _. h;
   none = λ _. refl;
 }
 
-begun_is_queue : (f : Queued) (fs gs : List Queued) (r l : ℕ) (b : Bool) → IsQueue (record { frames = f ∷ fs; reported = r; lent = l; begun = b }) → IsQueue (record { frames = f ∷ gs; reported = r; lent = l; begun = b })
-begun_is_queue f fs gs r l b h = record { within = h.within; lent = h.lent; fresh = h.fresh; none = λ e. absurd (cc) }
+begun_is_queue : (f : Queued) (fs gs : List Queued) (r l s : ℕ) (b : Bool) → IsQueue (record { frames = f ∷ fs; reported = r; lent = l; begun = b; sent = s }) → IsQueue (record { frames = f ∷ gs; reported = r; lent = l; begun = b; sent = s })
+begun_is_queue f fs gs r l s b h = record { within = h.within; lent = h.lent; fresh = h.fresh; none = λ e. absurd (cc) }
 
-abbrev pub queue_of : Bool → List Queued → ℕ → ℕ → Queue
-queue_of b fs r l = record { frames = fs; reported = r; lent = l; begun = b }
+abbrev pub queue_of : Bool → List Queued → ℕ → ℕ → ℕ → Queue
+queue_of b fs r l s = record { frames = fs; reported = r; lent = l; begun = b; sent = s }
 
-filled_queue : (b : Bool) (fs : List Queued) (r l : ℕ) (payload : List ℕ) → IsQueue (queue_of b fs r l) → IsQueue (filled (queue_of b fs r l) payload)
-filled_queue false fs r l payload h = cond_both (last_may_change (queue_of false fs r l)) _ _ IsQueue (λ _. fresh_is_queue (last_filled fs payload) r l (h.fresh refl)) (λ _. h)
-filled_queue true [] r l payload h = h
-filled_queue true (f ∷ []) r l payload h = h
-filled_queue true (f ∷ g ∷ fs) r l payload h = cond_both (last_may_change (queue_of true (f ∷ g ∷ fs) r l)) _ _ IsQueue (λ _. begun_is_queue f (g ∷ fs) (last_filled (g ∷ fs) payload) r l true h) (λ _. h)
+filled_queue : (b : Bool) (fs : List Queued) (r l s : ℕ) (payload : List ℕ) → IsQueue (queue_of b fs r l s) → IsQueue (filled (queue_of b fs r l s) payload)
+filled_queue false fs r l s payload h = cond_both (last_may_change (queue_of false fs r l s)) _ _ IsQueue (λ _. fresh_is_queue (last_filled fs payload) r l s (h.fresh refl)) (λ _. h)
+filled_queue true [] r l s payload h = h
+filled_queue true (f ∷ []) r l s payload h = h
+filled_queue true (f ∷ g ∷ fs) r l s payload h = cond_both (last_may_change (queue_of true (f ∷ g ∷ fs) r l s)) _ _ IsQueue (λ _. begun_is_queue f (g ∷ fs) (last_filled (g ∷ fs) payload) r l s true h) (λ _. h)
 
 pub filled_is_queue : (q : Queue) (payload : List ℕ) → IsQueue q → IsQueue (filled q payload)
-filled_is_queue q payload h = filled_queue q.begun q.frames q.reported q.lent payload h
+filled_is_queue q payload h = filled_queue q.begun q.frames q.reported q.lent q.sent payload h
 
-without_queue : (b : Bool) (fs : List Queued) (r l : ℕ) (owners : ℕ → Bool) → IsQueue (queue_of b fs r l) → IsQueue (without (queue_of b fs r l) owners)
-without_queue false fs r l owners h = fresh_is_queue _ r l (h.fresh refl)
-without_queue true [] r l owners h = h
-without_queue true (f ∷ fs) r l owners h = begun_is_queue f fs (frames_without owners fs) r l true h
+without_queue : (b : Bool) (fs : List Queued) (r l s : ℕ) (owners : ℕ → Bool) → IsQueue (queue_of b fs r l s) → IsQueue (without (queue_of b fs r l s) owners)
+without_queue false fs r l s owners h = fresh_is_queue _ r l s (h.fresh refl)
+without_queue true [] r l s owners h = h
+without_queue true (f ∷ fs) r l s owners h = begun_is_queue f fs (frames_without owners fs) r l s true h
 
 pub without_is_queue : (q : Queue) (owners : ℕ → Bool) → IsQueue q → IsQueue (without q owners)
-without_is_queue q owners h = without_queue q.begun q.frames q.reported q.lent owners h
+without_is_queue q owners h = without_queue q.begun q.frames q.reported q.lent q.sent owners h
 
 -- ---- The last frame
 
@@ -248,15 +248,15 @@ pub last_written : (q : Queue) (payload shown : List ℕ) (f : Queued) → last_
 last_written q payload shown f may same is =
     let last = length q.frames - 1 in
     cond-true (last_may_change q) _ _ may
-    ∙ ap (λ fs. queue_of q.begun fs q.reported q.lent) (
+    ∙ ap (λ fs. queue_of q.begun fs q.reported q.lent q.sent) (
     last_filled_is q.frames payload f
     ∙ ap (λ g. set q.frames last (with_payload g payload)) (sym is)
     ∙ ap (λ (l : List ℕ). set q.frames last (record f { message = record { header = record f.message.header { length = length l % 2 ^ 32 }; payload = payload } })) (sym same))
 
-placed_may_change : (b : Bool) (fs : List Queued) (r l : ℕ) (f : Queued) → IsQueue (queue_of b fs r l) → last_may_change (with_frame (queue_of b fs r l) f) ≡ true
-placed_may_change false fs r l f h = lt-ltb 0 (length (fs ++ f ∷ [])) (omega (arith, length-append fs (f ∷ [])))
-placed_may_change true [] r l f h = absurd (let e = h.none refl in cc)
-placed_may_change true (g ∷ fs) r l f h = lt-ltb 1 (length (g ∷ fs ++ f ∷ [])) (omega (arith, length-append fs (f ∷ [])))
+placed_may_change : (b : Bool) (fs : List Queued) (r l s : ℕ) (f : Queued) → IsQueue (queue_of b fs r l s) → last_may_change (with_frame (queue_of b fs r l s) f) ≡ true
+placed_may_change false fs r l s f h = lt-ltb 0 (length (fs ++ f ∷ [])) (omega (arith, length-append fs (f ∷ [])))
+placed_may_change true [] r l s f h = absurd (let e = h.none refl in cc)
+placed_may_change true (g ∷ fs) r l s f h = lt-ltb 1 (length (g ∷ fs ++ f ∷ [])) (omega (arith, length-append fs (f ∷ [])))
 
 last_of_more : (fs : List Queued) (f : Queued) (payload : List ℕ) → last_filled (fs ++ f ∷ []) payload ≡ fs ++ with_payload f payload ∷ []
 last_of_more [] f payload = refl
@@ -266,15 +266,15 @@ last_of_more (g ∷ h ∷ fs) f payload = ap (λ l. g ∷ l) (last_of_more (h �
 -- a frame that was queued and filled is queued with its payload
 pub placed_filled : (q : Queue) (f : Queued) (payload : List ℕ) → IsQueue q → filled (with_frame q f) payload ≡ with_frame q (with_payload f payload)
 placed_filled q f payload h =
-    cond-true (last_may_change (with_frame q f)) _ _ (placed_may_change q.begun q.frames q.reported q.lent f h)
-    ∙ ap (λ fs. queue_of q.begun fs q.reported q.lent) (last_of_more q.frames f payload)
+    cond-true (last_may_change (with_frame q f)) _ _ (placed_may_change q.begun q.frames q.reported q.lent q.sent f h)
+    ∙ ap (λ fs. queue_of q.begun fs q.reported q.lent q.sent) (last_of_more q.frames f payload)
 
 -- a frame that was queued and withdrawn was never queued
 pub placed_withdrawn : (q : Queue) (f : Queued) → IsQueue q → withdrawn (with_frame q f) ≡ q
 placed_withdrawn q f h =
     let size = length-append q.frames (f ∷ []) in
-    cond-true (last_may_change (with_frame q f)) _ _ (placed_may_change q.begun q.frames q.reported q.lent f h)
-    ∙ ap (λ fs. queue_of q.begun fs q.reported q.lent) (take_at q.frames (f ∷ []) (length (q.frames ++ f ∷ []) - 1) (omega arith))
+    cond-true (last_may_change (with_frame q f)) _ _ (placed_may_change q.begun q.frames q.reported q.lent q.sent f h)
+    ∙ ap (λ fs. queue_of q.begun fs q.reported q.lent q.sent) (take_at q.frames (f ∷ []) (length (q.frames ++ f ∷ []) - 1) (omega arith))
 
 -- ---- The first frame
 

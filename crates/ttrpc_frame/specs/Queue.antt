@@ -1,6 +1,6 @@
 -- The frames still to be written, in order, how far the first of them is, and what becomes of them over time.
 -- Source: PROTOCOL.md of ttrpc, "Message Frame".
-use Rattle.std.specs.Prelude.{◌≡◌, ◌≤◌, ◌<◌, ◌+◌, ◌-◌, ◌%◌, ◌^◌, ◌&&◌, ◌||◌, ◌⊎◌, not, ℕ, Bool, false, if◌then◌else◌, nat_lt, List, [], ◌∷◌, ◌++◌, length, take, drop, filter}
+use Rattle.std.specs.Prelude.{◌≡◌, ◌≤◌, ◌<◌, ◌+◌, ◌-◌, ◌%◌, ◌^◌, ◌&&◌, ◌||◌, ◌⊎◌, not, ℕ, Bool, false, if◌then◌else◌, nat_lt, nat_eq, List, [], ◌∷◌, ◌++◌, length, take, drop, filter, Option, None, Some}
 use Rattle.std.specs.List.{flat_map}
 use Rattle.ttrpc_frame.specs.declared.gen_message.GenMessage.{GenMessage}
 use Rattle.ttrpc_frame.specs.declared.outgoing.Queued.{Queued}
@@ -23,6 +23,8 @@ pub record Queue : Type 0 where
   pub lent : ℕ
   -- whether a byte of the first frame was ever lent
   pub begun : Bool
+  -- the ticket of the last frame with one that was reported whole, 0 before the first
+  pub sent : ℕ
 
 -- the first frame's bytes from a place on
 abbrev pub first_open : List Queued → ℕ → List ℕ
@@ -52,7 +54,7 @@ pub record IsQueue (q : Queue) : Type 0 where
 
 -- the queue of no frames
 abbrev pub empty_queue : Queue
-empty_queue = record { frames = []; reported = 0; lent = 0; begun = false }
+empty_queue = record { frames = []; reported = 0; lent = 0; begun = false; sent = 0 }
 
 -- the frame is behind the others
 abbrev pub with_frame : Queue → Queued → Queue
@@ -62,14 +64,24 @@ with_frame q f = record q { frames = q.frames ++ f ∷ [] }
 abbrev pub with_lent : Queue → ℕ → Queue
 with_lent q n = record q { lent = n; begun = q.begun || nat_lt 0 n }
 
+-- the last ticket, with that of one more frame
+abbrev pub ticket_after : Option ℕ → ℕ → ℕ
+ticket_after None last = last
+ticket_after (Some ticket) last = ticket
+
+-- the same with that of the first frame, if there is one
+abbrev pub first_ticket : List Queued → ℕ → ℕ
+first_ticket [] last = last
+first_ticket (f ∷ fs) last = ticket_after f.ticket last
+
 -- n bytes of the first frame are reported by now
-abbrev pub report_first : List Queued → ℕ → Bool → Queue
-report_first [] n begun = empty_queue
-report_first (f ∷ fs) n begun = if nat_lt n (length (written f.message)) then record { frames = f ∷ fs; reported = n; lent = 0; begun = begun } else record { frames = fs; reported = 0; lent = 0; begun = false }
+abbrev pub report_first : List Queued → ℕ → Bool → ℕ → Queue
+report_first [] n begun sent = record { frames = []; reported = 0; lent = 0; begun = false; sent = sent }
+report_first (f ∷ fs) n begun sent = if nat_lt n (length (written f.message)) then record { frames = f ∷ fs; reported = n; lent = 0; begun = begun; sent = sent } else record { frames = fs; reported = 0; lent = 0; begun = false; sent = ticket_after f.ticket sent }
 
 -- n more bytes of the first frame were reported; a frame that was reported whole is gone, and the next hasn't begun
 abbrev pub after_report : Queue → ℕ → Queue
-after_report q n = report_first q.frames (q.reported + n) q.begun
+after_report q n = report_first q.frames (q.reported + n) q.begun q.sent
 
 -- how many frames have begun: the first one, or none
 abbrev pub begun_count : Queue → ℕ
@@ -119,6 +131,33 @@ frames_without owners frames = filter (λ f. not (is_request_of owners f)) frame
 -- the unary requests of these owners that haven't begun are gone, and the others keep their order
 abbrev pub without : Queue → (ℕ → Bool) → Queue
 without q owners = record q { frames = take (begun_count q) q.frames ++ frames_without owners (drop (begun_count q) q.frames) }
+
+-- ---- Tickets
+
+-- a frame has no ticket, or the one behind this and isn't thrown away
+abbrev pub IsNext : Option ℕ → Bool → ℕ → Type 0
+IsNext None is_unary_request last = Unit {0}
+IsNext (Some ticket) is_unary_request last = (ticket ≡ last + 1) × (is_unary_request ≡ false)
+
+-- the tickets of frames are, in order, those behind the first number up to the second
+abbrev pub AreNumbered : ℕ → List Queued → ℕ → Type 0
+AreNumbered from [] to = from ≡ to
+AreNumbered from (f ∷ fs) to = IsNext f.ticket f.is_unary_request from × AreNumbered (ticket_after f.ticket from) fs to
+
+-- whether this is the ticket that a frame has
+abbrev pub is_ticket : ℕ → Option ℕ → Bool
+is_ticket t None = false
+is_ticket t (Some ticket) = nat_eq ticket t
+
+-- whether one of the frames has this ticket
+abbrev pub has_ticket : ℕ → List Queued → Bool
+has_ticket t [] = false
+has_ticket t (f ∷ fs) = is_ticket t f.ticket || has_ticket t fs
+
+-- the last ticket, with those of these frames
+abbrev pub last_ticket : List Queued → ℕ → ℕ
+last_ticket [] last = last
+last_ticket (f ∷ fs) last = last_ticket fs (ticket_after f.ticket last)
 
 -- ---- What happens to a queue over time
 
@@ -194,6 +233,11 @@ after_all q (h ∷ hs) = after_all (after q h) hs
 abbrev pub all_bytes_left : Queue → List Happening → List ℕ
 all_bytes_left q [] = []
 all_bytes_left q (h ∷ hs) = bytes_left q h ++ all_bytes_left (after q h) hs
+
+-- the frames that were reported whole, in order
+abbrev pub finished : Queue → List Happening → List Queued
+finished q [] = []
+finished q (h ∷ hs) = finished_by q h ++ finished (after q h) hs
 
 -- the frames that go out: each as it is whole, and at the end those that are still queued
 abbrev pub departing : Queue → List Happening → List Queued

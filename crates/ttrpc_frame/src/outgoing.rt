@@ -1,10 +1,10 @@
 //! The frames still to be written, in order.
-ghost use Rattle.std.specs.Prelude.{◌≡◌, ◌-◌, ◌≤◌, ◌<◌, ◌↔◌, ◌++◌, [], List, IsTrue, IsPermutation, length, take, drop, min, if◌then◌else◌, option_to_list, IfSome, OnOk, OnErr, IfErr};
+ghost use Rattle.std.specs.Prelude.{◌≡◌, ◌&&◌, ℕ, nat_lt, nat_le, ◌-◌, ◌≤◌, ◌<◌, ◌↔◌, ◌++◌, [], List, IsTrue, IsPermutation, length, take, drop, min, if◌then◌else◌, option_to_list, IfSome, OnOk, OnErr, IfErr};
 ghost use Rattle.std.specs.VecDeque.{deque_len, deque_capacity};
 ghost use Rattle.std.specs.List.{AllByRecursion};
 ghost use Rattle.ttrpc_frame.specs.declared.outgoing.Queued.{Queued as AFrame};
-ghost use Rattle.ttrpc_frame.specs.Queue.{Happening, Allowed, IsMerge, after_all, all_bytes_left, departing, placed, thrown, unsent, written_all};
-ghost use Rattle.ttrpc_frame.specs.Queue.{Queue, IsQueue, written, first_open, open_part, empty_queue, with_frame, with_lent, after_report, last_may_change, filled, withdrawn, is_request_of, has_begun, without};
+ghost use Rattle.ttrpc_frame.specs.Queue.{AreNumbered, finished, has_ticket, last_ticket, Happening, Allowed, IsMerge, after_all, all_bytes_left, departing, placed, thrown, unsent, written_all};
+ghost use Rattle.ttrpc_frame.specs.Queue.{Queue, IsQueue, written, first_open, open_part, empty_queue, with_frame, with_lent, after_report, first_ticket, last_may_change, filled, withdrawn, is_request_of, has_begun, without};
 
 use crate::gen_message::GenMessage;
 use crate::header::MESSAGE_HEADER_LENGTH;
@@ -46,6 +46,7 @@ pub struct Outgoing {
     reported: usize,
     lent: usize,
     begun: bool,
+    sent: u64,
 }
 
 impl Model for Outgoing {
@@ -58,6 +59,7 @@ impl Model for Outgoing {
       reported = a.reported;
       lent = a.lent;
       begun = a.begun;
+      sent = a.sent;
     } };
 
     ghost invariant = { λ a. IsQueue (record {
@@ -65,6 +67,7 @@ impl Model for Outgoing {
       reported = a.reported;
       lent = a.lent;
       begun = a.begun;
+      sent = a.sent;
     }) };
 }
 
@@ -78,6 +81,7 @@ impl Outgoing {
             reported: 0,
             lent: 0,
             begun: false,
+            sent: 0,
         }
     }
 
@@ -180,10 +184,17 @@ impl Outgoing {
         self.lent = 0;
         self.reported += n;
         if self.reported >= length {
-            let _ = self.frames.pop_front();
+            self.sent = take_first(&mut self.frames, self.sent);
             self.reported = 0;
             self.begun = false;
         }
+    }
+
+    /// The ticket of the last frame with one that was reported whole, or 0 before the first. Takes no memory.
+    pub fn sent(&self) -> u64
+        ensures { result ≡ self.now.sent }
+    {
+        self.sent
     }
 
     /// Whether the first frame is a unary request of one of these owners and has begun.
@@ -225,6 +236,15 @@ pub fn departing_frames_are_written()
         → AllByRecursion (λ f. IsTrue f.is_unary_request) (thrown q hs) }
 {}
 
+/// Where the tickets of queued frames are, in order, those behind the last that was sent up to the last that was given, a
+/// ticket that was given is sent exactly once its frame isn't queued any more. The last that was sent is that of the last
+/// frame with one that was reported whole.
+pub fn tickets_are_sent_in_order()
+    ensures queued { (q : Queue) (given t : ℕ) → AreNumbered q.sent q.frames given
+        → has_ticket t q.frames ≡ (nat_lt q.sent t && nat_le t given) }
+    ensures finished { (q : Queue) (hs : List Happening) → (after_all q hs).sent ≡ last_ticket (finished q hs) q.sent }
+{}
+
 // Copies what stands in a frame's bytes from a place on, as much as fits, and says how many bytes.
 fn copy_written(message: &GenMessage, start: usize, buffer: &mut [u8]) -> usize
     requires { start ≤ length (written message.now) }
@@ -260,6 +280,17 @@ fn take_begun(frames: &mut VecDeque<Queued>, begun: bool) -> Option<Queued>
         return None;
     }
     frames.pop_front()
+}
+
+// Takes the first frame out, if there is one, and gives the last ticket, with its.
+fn take_first(frames: &mut VecDeque<Queued>, last: u64) -> u64
+    ensures ticket { result ≡ first_ticket frames.old.items last }
+    ensures rest { frames.new.items ≡ drop 1 frames.old.items }
+{
+    match frames.pop_front() {
+        Some(frame) => frame.ticket.unwrap_or(last),
+        None => last,
+    }
 }
 
 // How many bytes the first frame has, or 0 where there is none.

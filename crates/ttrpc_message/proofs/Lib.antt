@@ -2,3 +2,4 @@ pub mod Told
 mod Maps
 mod Taken
 mod Distinct
+mod Copies

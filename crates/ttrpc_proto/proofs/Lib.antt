@@ -1,3 +1,4 @@
 pub mod Means
 pub mod Lists
 pub mod Five
+pub mod KindTexts

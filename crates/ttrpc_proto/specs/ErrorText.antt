@@ -7,13 +7,14 @@ use Rattle.ttrpc_wire.specs.declared.values.code.Code.TheVariants.{UNKNOWN}
 use Rattle.ttrpc_proto.specs.declared.error.Error.{Error}
 use Rattle.ttrpc_proto.specs.declared.error.Error.TheVariants.{Socket, RpcStatus, Nix, LocalClosed, RemoteClosed, Eof, Others, NoMemory, NoRoom}
 use Rattle.ttrpc_proto.specs.declared.status.Status.{Status}
+use Rattle.ttrpc_proto.specs.KindText.{kind_text}
 use Rattle.ttrpc_wire.specs.Code.{number_of_code}
 
--- what `{}` writes for an error. The text of an errno's kind is the standard library's, which doesn't state it.
+-- what `{}` writes for an error
 abbrev pub error_text : Error → Option (List ℕ)
 error_text (Socket text) = Some (codes "socket err: " ++ text)
 error_text (RpcStatus s) = Some (codes "rpc status: " ++ signed_decimal s.code ++ codes " " ++ s.message)
-error_text (Nix _) = None
+error_text (Nix kind) = Some (codes "Nix error: " ++ kind_text kind)
 error_text LocalClosed = Some (codes "ttrpc err: local stream closed")
 error_text RemoteClosed = Some (codes "ttrpc err: remote stream closed")
 error_text Eof = Some (codes "eof")
@@ -25,9 +26,8 @@ error_text NoRoom = Some (codes "no room in the outgoing ring")
 abbrev pub status_of : Code → List ℕ → Status
 status_of code message = record { code = number_of_code code; message = message; details = [] }
 
--- such a text; that of an errno's kind at least begins so
+-- such a text
 abbrev pub IsTextOf : Error → List ℕ → Type 0
-IsTextOf (Nix _) text = (rest : List ℕ) × (text ≡ codes "Nix error: " ++ rest)
 IsTextOf error text = IfSome (error_text error) (λ bs. text ≡ bs)
 
 -- a status of code UNKNOWN with no details

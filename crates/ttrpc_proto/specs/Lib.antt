@@ -1,3 +1,4 @@
+pub mod KindText
 pub mod Messages
 pub mod Laws
 pub mod Meaning

@@ -6,13 +6,13 @@ pub use Rattle.ttrpc_frame.specs.declared.header.TheConstants.{MESSAGE_TYPE_RESP
 pub use Rattle.ttrpc_proto.specs.declared.request.Request.{Request}
 pub use Rattle.ttrpc_proto.specs.declared.response.Response.{Response}
 pub use Rattle.ttrpc_proto.specs.declared.error.Error.TheVariants.{NoMemory, NoMemory as MemoryRefused, Others}
-pub use Rattle.ttrpc_connection.specs.Types.{Error, MESSAGE_LENGTH_MAX, MESSAGE_TYPE_REQUEST, MessageHeader, OutboundTransform, Queued}
+pub use Rattle.ttrpc_connection.specs.Types.{Error, Incoming, MESSAGE_LENGTH_MAX, MESSAGE_TYPE_REQUEST, MessageHeader, OutboundTransform, Queued}
 pub use Rattle.ttrpc_connection.specs.declared.arrived.Arrived.{Arrived}
 pub use Rattle.ttrpc_connection.specs.declared.arrived.Opening.TheVariants.{Opened, Refused, TooLong}
 pub use Rattle.ttrpc_connection.specs.declared.connection.Connection.{Connection}
 pub use Rattle.ttrpc_connection.specs.declared.failure.Failure.{Failure}
 pub use Rattle.ttrpc_connection.specs.declared.failure.Failure.TheVariants.{HandlerError, JobIdsUsedUp, NoMemory as NoMemoryLeft}
-pub use Rattle.ttrpc_connection.specs.declared.outbox.Outbox.{Outbox}
+pub use Rattle.ttrpc_connection.specs.Outbox.{Outbox}
 pub use Rattle.ttrpc_server.specs.declared.job.ActiveJob.{ActiveJob}
 pub use Rattle.ttrpc_server.specs.declared.job.Job.{Job}
 pub use Rattle.ttrpc_server.specs.declared.rules.Rules.{Rules}

@@ -1,16 +1,18 @@
 //! Laws over the definitions: what the contracts of single calls come to.
-ghost use Rattle.std.specs.Prelude.{◌≡◌, ◌≢◌, ◌≤◌, ◌++◌, ℕ, List, Some, drop};
+ghost use Rattle.std.specs.Prelude.{◌≡◌, ◌≢◌, ◌≤◌, ◌++◌, ℕ, List, [], Some, drop};
 ghost use Rattle.std.specs.List.{AllByRecursion};
 ghost use Rattle.ttrpc_proto.specs.declared.request.Request.{Request as ARequest};
+ghost use Rattle.ttrpc_frame.specs.declared.outgoing.Queued.{Queued as AQueued};
 ghost use Rattle.ttrpc_frame.specs.Frames.{nothing};
-ghost use Rattle.ttrpc_frame.specs.Queue.{Happening, IsQueue, all_bytes_left, departing, unsent, written_all};
+ghost use Rattle.ttrpc_frame.specs.Queue.{Happening, IsQueue, all_bytes_left, departing, placed, thrown, unsent, written_all};
 ghost use Rattle.ttrpc_connection.specs.declared.arrived.Arrived.{Arrived as AFrame};
 ghost use Rattle.ttrpc_connection.specs.declared.connection.Connection.{Connection as AConnection};
-ghost use Rattle.ttrpc_connection.specs.Calls.{Call, Runs, joined};
+ghost use Rattle.ttrpc_connection.specs.Calls.{Call, Gives, Goes, Queues, Runs, joined};
 ghost use Rattle.ttrpc_connection.specs.Frames.{Sent};
 ghost use Rattle.ttrpc_server.specs.declared.job.ActiveJob.{ActiveJob as AJob};
 ghost use Rattle.ttrpc_server.specs.declared.job.Job.{Job as AHandedJob};
-ghost use Rattle.ttrpc_server.specs.Calls.{Served, served};
+ghost use Rattle.ttrpc_server.specs.declared.server.ServerCore.{ServerCore as ACore};
+ghost use Rattle.ttrpc_server.specs.Calls.{AnswersPiece, Causes, Performs, Served, served};
 ghost use Rattle.ttrpc_server.specs.Protocol.{serves, serving, row_of};
 ghost use Rattle.ttrpc_server.specs.State.{EndsOne, HandsOne, Rising, jobs_at, Server};
 ghost use Rattle.ttrpc_server.specs.Streams.{IsAnswered, made_by};
@@ -49,13 +51,30 @@ pub fn job_ids_rise<O: OutboundTransform>()
         → AllByRecursion (λ (j : AJob). (request : ARequest) → j.request ≡ Some request → handed.id ≤ j.id) old }
 {}
 
-/// Over any list of calls, also past a failure, the bytes that left and those still to be written are the written forms
-/// of the frames that depart, in order.
+/// Each call has its part in what the queue goes through: an answer and a response queue one frame, under their stream's
+/// id, and the others none. A piece that is fed queues, in order, at most one frame for each that is whole with it,
+/// under its id. Over any run, also past a failure, that is a history which is allowed and leads to the queue after it. So
+/// the bytes that left and those still to be written are the written forms of the frames that depart, in order; and those
+/// are all the frames that were queued, in order: a server throws none away.
 pub fn what_leaves_was_queued<O: OutboundTransform, I: InboundTransform>()
-    ensures { (s t : Server) (old new : AConnection O I) (calls : List (Call Served)) (happenings : List Happening) → IsQueue old.outbox.queue
+    ensures caused { (old new : ACore O I) (call : Served) → Performs O.OutboundTransform call old new
+        → (happenings : List Happening) × Causes call old new happenings }
+    ensures caused_by_rows { (s t : Server) (old new : AConnection O I) (piece : List ℕ) (now : ℕ)
+        → Gives (serving O.OutboundTransform I.InboundTransform) s old piece now t new
+        → (queued : List AQueued) × Queues old queued new × AnswersPiece old piece queued new }
+    ensures goes { (s t : Server) (old new : AConnection O I) (calls : List (Call Served)) (happenings : List Happening)
+        → Runs (serving O.OutboundTransform I.InboundTransform) (served O.OutboundTransform) s old calls happenings t new
+        → Goes old.outbox.queue happenings new.outbox.queue }
+    ensures written { (s t : Server) (old new : AConnection O I) (calls : List (Call Served)) (happenings : List Happening) → IsQueue old.outbox.queue
         → Runs (serving O.OutboundTransform I.InboundTransform) (served O.OutboundTransform) s old calls happenings t new
         → all_bytes_left old.outbox.queue happenings ++ unsent new.outbox.queue
         ≡ drop old.outbox.queue.reported (written_all (departing old.outbox.queue happenings)) }
+    ensures in_order { (s t : Server) (old new : AConnection O I) (calls : List (Call Served)) (happenings : List Happening)
+        → Runs (serving O.OutboundTransform I.InboundTransform) (served O.OutboundTransform) s old calls happenings t new
+        → departing old.outbox.queue happenings ≡ old.outbox.queue.frames ++ placed happenings }
+    ensures nothing_thrown { (s t : Server) (old new : AConnection O I) (calls : List (Call Served)) (happenings : List Happening)
+        → Runs (serving O.OutboundTransform I.InboundTransform) (served O.OutboundTransform) s old calls happenings t new
+        → thrown old.outbox.queue happenings ≡ [] }
 {}
 
 /// Over any list of calls, also past a failure, it depends on the bytes, and not on how they were cut, what the queue

@@ -1,5 +1,5 @@
 -- Each step keeps the rule.
-use Rattle.std.proofs.Common.{◌≡◌, ◌≢◌, ◌⊎◌, ℕ, zero, suc, ◌+◌, ◌-◌, ◌%◌, ◌^◌, ◌==◌, List, [], ◌∷◌, ◌++◌, set, Bool, true, false, true≢false, refl, sym, ap, ◌∙◌, subst, ⊎_elim, inl, inr, arith}
+use Rattle.std.proofs.Common.{◌≡◌, ◌≢◌, ◌⊎◌, ℕ, zero, suc, ◌+◌, ◌-◌, ◌%◌, ◌^◌, ◌==◌, List, [], ◌∷◌, ◌++◌, set, Bool, true, false, true≢false, Option, Some, refl, sym, ap, ◌∙◌, subst, ⊎_elim, inl, inr, arith}
 use Rattle.std.specs.Prelude.{slice_index, slice_set}
 use Rattle.std.proofs.Math.Nat.{mod-add-mod, add-mod_right}
 use Rattle.std.proofs.lemmas.Bool.{eqb-true}
@@ -78,10 +78,10 @@ parts id h s kept at =
 
 -- the count changes with one waiter's share, and what it knows stays
 counts : (words : List ℕ) (hs : List Holder) (id : ℕ) (h : Holder) (shares : Bool) (f : ℕ → ℕ) → IsKept words hs → get_elem? hs id ≡ some h → h.notifies ≡ false
-    → f (shares_of hs % 2 ^ 64) ≡ shares_of (set hs id (holder h.notifies shares h.knows)) % 2 ^ 64
-    → IsKept (slice_set words 1 (f (slice_index words 1))) (set hs id (holder h.notifies shares h.knows))
+    → f (shares_of hs % 2 ^ 64) ≡ shares_of (set hs id (holder h.notifies shares h.knows h.saw)) % 2 ^ 64
+    → IsKept (slice_set words 1 (f (slice_index words 1))) (set hs id (holder h.notifies shares h.knows h.saw))
 counts words hs id h shares f kept at waits sum =
-    let k = holder h.notifies shares h.knows in
+    let k = holder h.notifies shares h.knows h.saw in
     subst
     (λ ws. IsKept (slice_set ws 1 (f (slice_index ws 1))) (set hs id k))
     (sym kept.two)
@@ -99,7 +99,7 @@ counts words hs id h shares f kept at waits sum =
 pub adds : (slots id : ℕ) (me : Seated) → me.0.notifies ≡ false → me.0.shares ≡ false → Allows Rule slots id me 1 (λ n. (n + 1) % 2 ^ 64) (Shares (step slots 1 1 0 none) me)
 adds slots id me waits no_share s kept len at fits =
     let h = me.0 in
-    let w = holder h.notifies true h.knows in
+    let w = holder h.notifies true h.knows h.saw in
     let k = shares-set s.views id h w at in
     let zero_share : one_if h.shares ≡ 0 = ap one_if no_share in
     let sum : shares_of s.views + 1 ≡ shares_of (set s.views id w) = omega (arith, k, zero_share) in
@@ -109,7 +109,7 @@ pub leaves : (slots id : ℕ) (me : Seated) → me.0.notifies ≡ false → me.0
     → Allows Rule slots id me 1 (λ n. (n + (2 ^ 64 - 1)) % 2 ^ 64) (Leaves (step slots 1 1 0 none) me)
 leaves slots id me waits share s kept len at fits =
     let h = me.0 in
-    let w = holder h.notifies false h.knows in
+    let w = holder h.notifies false h.knows h.saw in
     let k = shares-set s.views id h w at in
     let one_share : one_if h.shares ≡ 1 = ap one_if share in
     let sum : shares_of s.views + (2 ^ 64 - 1) ≡ shares_of (set s.views id w) + 2 ^ 64 = omega (arith, k, one_share) in (
@@ -124,7 +124,7 @@ leaves slots id me waits share s kept len at fits =
 pub sets : (slots id : ℕ) (me : Seated) → me.0.notifies ≡ true → Allows Rule slots id me 0 (λ n. 1) (Sets (step slots 0 1 0 none) me)
 sets slots id me notifies s kept len at fits =
     let h = me.0 in
-    let w = holder h.notifies h.shares true in
+    let w = holder h.notifies h.shares true h.saw in
     let mine = kept.each id h at in
     let k = shares-set s.views id h w at in
     let sum : shares_of (set s.views id w) ≡ shares_of s.views = omega (arith, k) in
@@ -164,15 +164,15 @@ pair x xs = (x, xs)
 -- the seat of this holder looks at a flag, and is then that of another
 record Found (words : List ℕ) (hs : List Holder) (id : ℕ) (h w : Holder) : Type 0 where
   pub kept : IsKept (slice_set words 0 (slice_index words 0)) (set hs id w)
-  pub now : w ≡ holder h.notifies h.shares (slice_index words 0 == 1)
+  pub now : w ≡ holder h.notifies h.shares (slice_index words 0 == 1) h.saw
   pub again : h.knows ≡ true → slice_index words 0 ≡ 1
   pub same : h.notifies ≡ true → (slice_index words 0 == 1) ≡ h.knows
 
 found : (words : List ℕ) (hs : List Holder) (id : ℕ) (h : Holder) (kept : IsKept words hs) → get_elem? hs id ≡ some h
-    → Found words hs id h (holder h.notifies h.shares (kept.flag == 1))
+    → Found words hs id h (holder h.notifies h.shares (kept.flag == 1) h.saw)
 found words hs id h kept at =
     let flag = kept.flag in
-    let w = holder h.notifies h.shares (flag == 1) in
+    let w = holder h.notifies h.shares (flag == 1) h.saw in
     let mine = kept.each id h at in
     let k = shares-set hs id h w at in
     let sum : shares_of (set hs id w) ≡ shares_of hs = omega (arith, k) in
@@ -198,15 +198,30 @@ found words hs id h kept at =
 pub looks : (slots id : ℕ) (me : Seated) → Allows Rule slots id me 0 (λ n. n) (Looks (step slots 0 0 0 none) me)
 looks slots id me s kept len at fits =
     let it = found s.words s.views id me.0 kept at in
-    (holder me.0.notifies me.0.shares (kept.flag == 1), keeps, tt, it.kept, record { seat = ap (λ (y : Holder). pair y me.1) it.now; again = it.again; same = it.same })
+    (holder me.0.notifies me.0.shares (kept.flag == 1) me.0.saw, keeps, tt, it.kept, record { seat = ap (λ (y : Holder). pair y me.1) it.now; again = it.again; same = it.same })
 
--- a look at the count changes nothing
+-- a look at the count changes what its holder has read, and no more
+looked : (words : List ℕ) (hs : List Holder) (id : ℕ) (h : Holder) (saw : Option ℕ) → IsKept words hs → get_elem? hs id ≡ some h
+    → IsKept (slice_set words 1 (slice_index words 1)) (set hs id (holder h.notifies h.shares h.knows saw))
+looked words hs id h saw kept at =
+    let w = holder h.notifies h.shares h.knows saw in
+    let mine = kept.each id h at in
+    let k = shares-set hs id h w at in
+    let sum : shares_of (set hs id w) ≡ shares_of hs = omega (arith, k) in
+    subst
+    (λ ws. IsKept (slice_set ws 1 (slice_index ws 1)) (set hs id w))
+    (sym kept.two)
+    (record {
+      flag = kept.flag;
+      count = kept.count;
+      two = refl;
+      bit = kept.bit;
+      sum = kept.sum ∙ ap (λ n. n % 2 ^ 64) (sym sum);
+      led = led-set hs id h w at refl kept.led;
+      each = fits-set kept.flag hs id w (λ seat u apart e. kept.each seat u e) (record { set = mine.set; first = mine.first; no_share = mine.no_share; told = mine.told });
+    })
+
 pub stays : (slots id : ℕ) (me : Seated) → Allows Rule slots id me 1 (λ n. n) (Counts (step slots 1 0 0 none) me)
-stays slots id me s kept len at fits = (
-  me.0,
-  keeps,
-  tt,
-  subst (λ hs. IsKept (slice_set s.words 1 (slice_index s.words 1)) hs) (sym (set_again s.views id me.0 at))
-      (subst (λ ws. IsKept (slice_set ws 1 (slice_index ws 1)) s.views) (sym kept.two) (record { flag = kept.flag; count = kept.count; two = refl; bit = kept.bit; sum = kept.sum; led = kept.led; each = kept.each })),
-  refl,
-)
+stays slots id me s kept len at fits =
+    let saw = Some (slice_index s.words 1) in
+    (holder me.0.notifies me.0.shares me.0.knows saw, keeps, tt, looked s.words s.views id me.0 saw kept at, refl)

@@ -1,11 +1,12 @@
 -- What contracts see of a notifier and of a waiter.
 -- Source: this project's.
-use Rattle.std.specs.Prelude.{◌≡◌, ⊤, Bool, true, false, Option, Some, codes}
+use Rattle.std.specs.Prelude.{◌≡◌, ◌≢◌, ⊤, ℕ, Bool, true, false, Option, Some, codes}
 use Rattle.std.specs.declared.time.Duration.{Duration}
 use Rattle.atomic_table.specs.Seated.{TableId}
 use Rattle.ttrpc_proto.specs.declared.error.Error.{Error}
 use Rattle.ttrpc_proto.specs.declared.error.Error.TheVariants.{Nix, NoMemory, Others}
 use Rattle.ttrpc_shutdown.specs.declared.rule.Holder.{Holder}
+use Rattle.ttrpc_shutdown.specs.Rule.{holder}
 
 -- a seat at a table, and what it says of its holder
 pub record Place : Type 0 where
@@ -16,11 +17,16 @@ pub record Place : Type 0 where
 abbrev pub place : TableId → Holder → Place
 place table holder = record { table = table; holder = holder }
 
--- a notifier: its table, whether it knows that the flag is set, and how long it waits at most
+-- the same seat, whose holder read this count last
+abbrev pub having_read : Place → Option ℕ → Place
+having_read p saw = place p.table (holder p.holder.notifies p.holder.shares p.holder.knows saw)
+
+-- a notifier: its table, whether it knows that the flag is set, how long it waits at most, and the number of waiters that it read last
 pub record Notifying : Type 0 where
   pub table : TableId
   pub knows : Bool
   pub wait_time : Option Duration
+  pub saw : Option ℕ
 
 -- a waiter: its table, and whether it knows that the flag is set
 pub record Waiting : Type 0 where
@@ -32,9 +38,13 @@ pub record MayLeave (h : Holder) : Type 0 where
   pub no_share : h.shares ≡ false
   pub set : h.notifies ≡ true → h.knows ≡ true
 
--- Why a wait for all waiters failed, which it does only where it has a limit: that is over, or memory for the text of that was refused, or the clock couldn't be read.
-abbrev pub IsWaitFailure : Option Duration → Error → Type 0
-IsWaitFailure (Some _) (Others text) = text ≡ codes "waiters are left"
-IsWaitFailure (Some _) (Nix _) = ⊤
-IsWaitFailure (Some _) NoMemory = ⊤
-IsWaitFailure _ _ = ⊥
+-- the count was read, and waiters were left
+abbrev pub SawWaiters : Option ℕ → Type 0
+SawWaiters saw = (n : ℕ) × (saw ≡ Some n) × (n ≢ 0)
+
+-- Why a wait for all waiters failed, which it does only where it has a limit: that is over and waiters were left where the count was read last, or memory for the text of that was refused, or the clock couldn't be read.
+abbrev pub IsWaitFailure : Option Duration → Option ℕ → Error → Type 0
+IsWaitFailure (Some _) saw (Others text) = (text ≡ codes "waiters are left") × SawWaiters saw
+IsWaitFailure (Some _) saw (Nix _) = ⊤
+IsWaitFailure (Some _) saw NoMemory = SawWaiters saw
+IsWaitFailure _ saw _ = ⊥

@@ -1,23 +1,23 @@
 -- The rule of the table of a shutdown, and what each kind of step does to its holder's seat.
 -- Source: this project's.
-use Rattle.std.specs.Prelude.{◌≡◌, ℕ, ◌%◌, ◌^◌, ◌==◌, Bool, true, false, List, [], ◌∷◌, ◌⊎◌}
+use Rattle.std.specs.Prelude.{◌≡◌, ℕ, ◌%◌, ◌^◌, ◌==◌, Bool, true, false, List, [], ◌∷◌, ◌⊎◌, Option, Some, None}
 use mathlib.Core.Option.{some}
 use lib.ListN.{get_elem?}
 use Rattle.atomic_table.specs.Table.{Act, Me, State, Step, stepped}
 use Rattle.ttrpc_shutdown.specs.declared.rule.Holder.{Holder}
 use Rattle.ttrpc_shutdown.specs.ShutdownWords.{shares_of}
 
--- a holder: whether it is the notifier, has a share, and knows that the flag is set
-abbrev pub holder : Bool → Bool → Bool → Holder
-holder notifies shares knows = record { notifies = notifies; shares = shares; knows = knows }
+-- a holder: whether it is the notifier, has a share, and knows that the flag is set, and the count that it read last
+abbrev pub holder : Bool → Bool → Bool → Option ℕ → Holder
+holder notifies shares knows saw = record { notifies = notifies; shares = shares; knows = knows; saw = saw }
 
--- the notifier at the start, which has no share and hasn't set the flag
+-- the notifier at the start, which has no share, hasn't set the flag and has read nothing
 abbrev pub the_notifier : Holder
-the_notifier = holder true false false
+the_notifier = holder true false false None
 
--- a waiter whose seat is new: without a share so far, it knows what its parent knows
+-- a waiter whose seat is new: without a share so far, it knows what its parent knows, and has read no count
 abbrev pub newcomer : Holder → Holder
-newcomer parent = holder false false parent.knows
+newcomer parent = holder false false parent.knows None
 
 -- the first seat is the notifier's
 abbrev pub IsLed : List Holder → Type 0
@@ -57,25 +57,25 @@ Kind = Step (Unit {0}) → Seated → ℕ → Seated → Type 0
 
 -- it has a share from now on
 abbrev pub Shares : Kind
-Shares step me n after = after ≡ (holder me.0.notifies true me.0.knows, me.1)
+Shares step me n after = after ≡ (holder me.0.notifies true me.0.knows me.0.saw, me.1)
 
 -- it has no share from now on
 abbrev pub Leaves : Kind
-Leaves step me n after = after ≡ (holder me.0.notifies false me.0.knows, me.1)
+Leaves step me n after = after ≡ (holder me.0.notifies false me.0.knows me.0.saw, me.1)
 
 -- who sets the flag knows that it is set
 abbrev pub Sets : Kind
-Sets step me n after = after ≡ (holder me.0.notifies me.0.shares true, me.1)
+Sets step me n after = after ≡ (holder me.0.notifies me.0.shares true me.0.saw, me.1)
 
 -- Who looks at the flag knows exactly if it is set. Who knew finds it set, and a notifier finds what it knew.
 pub record Looks (step : Step (Unit {0})) (me : Seated) (n : ℕ) (after : Seated) : Type 0 where
-  pub seat : after ≡ (holder me.0.notifies me.0.shares (n == 1), me.1)
+  pub seat : after ≡ (holder me.0.notifies me.0.shares (n == 1) me.0.saw, me.1)
   pub again : me.0.knows ≡ true → n ≡ 1
   pub same : me.0.notifies ≡ true → (n == 1) ≡ me.0.knows
 
--- who looks at the count learns nothing of the flag
+-- who looks at the count has read this number, and learns nothing of the flag
 abbrev pub Counts : Kind
-Counts step me n after = after ≡ me
+Counts step me n after = after ≡ (holder me.0.notifies me.0.shares me.0.knows (Some n), me.1)
 
 -- one of these
 abbrev pub IsStep : Kind

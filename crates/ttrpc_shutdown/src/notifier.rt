@@ -1,7 +1,7 @@
 //! The side that shuts down.
-ghost use Rattle.std.specs.Prelude.{◌≡◌, ◌≢◌, true, false, vec_len, All, IfOk, IfErr, OnErr, Some, None};
+ghost use Rattle.std.specs.Prelude.{◌≡◌, ◌≢◌, true, false, vec_len, All, IfOk, IfErr, MatchBool, OnErr, OnOk, Some, None};
 ghost use Rattle.ttrpc_proto.specs.declared.error.Error.{Error};
-ghost use Rattle.ttrpc_shutdown.specs.Holding.{IsWaitFailure};
+ghost use Rattle.ttrpc_shutdown.specs.Holding.{IsWaitFailure, SawWaiters, having_read};
 
 use crate::post::Post;
 use crate::waiter::Waiter;
@@ -26,7 +26,7 @@ impl Model for Notifier {
 
     ghost Value = { Notifying };
 
-    ghost view = { λ n. record { table = n.post.table; knows = n.post.holder.knows; wait_time = n.wait_time } };
+    ghost view = { λ n. record { table = n.post.table; knows = n.post.holder.knows; wait_time = n.wait_time; saw = n.post.holder.saw } };
 
     ghost invariant = { λ n. (n.post.holder.notifies ≡ true) × (n.post.holder.shares ≡ false) };
 }
@@ -74,14 +74,14 @@ impl Notifier {
 
     /// Sets the flag, and wakes the waiters that wait for it.
     pub fn shutdown(&mut self)
-        ensures { self.new ≡ record { table = self.old.table; knows = true; wait_time = self.old.wait_time } }
+        ensures { self.new ≡ record self.old { knows = true } }
     {
         self.post.set();
     }
 
     /// The number of waiters at this moment. It is exact below 2^64 waiters.
     pub fn waiters(&mut self) -> u64
-        ensures { self.new ≡ self.old }
+        ensures { self.new ≡ record self.old { saw = Some result } }
     {
         self.post.count()
     }
@@ -100,8 +100,10 @@ impl Notifier {
     /// answers `Others("waiters are left")`. Other errors are that of a clock that can't be read, and `NoMemory` where
     /// memory for that text was refused.
     pub fn wait_all_exit<X: Wait + Clock>(&mut self, rt: &X, alloc: Global) -> Result<()>
-        ensures same { self.new ≡ self.old }
-        ensures err { IfErr result (λ e. IsWaitFailure self.old.wait_time e) }
+        // What it read last decides: no waiter, or waiters that are left.
+        ensures ok { OnOk result (self.new.saw ≡ Some 0) }
+        ensures err { IfErr result (λ e. IsWaitFailure self.old.wait_time self.new.saw e) }
+        ensures rest { self.new ≡ record self.old { saw = self.new.saw } }
     {
         let Some(limit) = self.wait_time else {
             wait_for_ever(rt, &mut self.post);
@@ -123,7 +125,7 @@ impl Notifier {
     ) -> std::result::Result<(u64, bool), (u64, Notifier, Vec<Waiter>)>
         requires theirs { All (λ w. w.table ≡ self.table) waiters.items }
         ensures ok { IfOk result (λ r. (r.0 ≡ vec_len waiters) × (r.1 ≡ self.knows)) }
-        ensures err { IfErr result (λ r. (r.0 ≢ vec_len waiters) × (r.1 ≡ self) × (r.2 ≡ waiters)) }
+        ensures err { IfErr result (λ r. (r.0 ≢ vec_len waiters) × (r.1 ≡ record self { saw = Some r.0 }) × (r.2 ≡ waiters)) }
     {
         let count = self.waiters();
         if count == waiters.len() as u64 {
@@ -147,7 +149,7 @@ impl Drop for Notifier {
 
 // Waits until the count is 0.
 fn wait_for_ever<X: Wait>(rt: &X, post: &mut Post)
-    ensures { post.new ≡ post.old }
+    ensures { post.new ≡ having_read post.old (Some 0) }
 {
     for _ in rt.forever() {
         let count = post.count();
@@ -159,9 +161,12 @@ fn wait_for_ever<X: Wait>(rt: &X, post: &mut Post)
     unreachable!()
 }
 
-// Waits until the count is 0, for no longer than this. True if it was 0.
+// Waits until the count is 0, for no longer than this. True if it was 0, and else it was more when it was read last.
 fn wait_for<X: Wait + Clock>(rt: &X, post: &mut Post, limit: Duration) -> io::Result<bool>
-    ensures { post.new ≡ post.old }
+    ensures saw { IfOk result (λ none_left. MatchBool none_left
+        (post.new.holder.saw ≡ Some 0)
+        (SawWaiters post.new.holder.saw)) }
+    ensures rest { post.new ≡ having_read post.old post.new.holder.saw }
 {
     let start = Instant::now(rt)?;
     for _ in rt.forever() {

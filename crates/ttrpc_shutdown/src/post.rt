@@ -1,6 +1,6 @@
 //! A holder's seat at the table of its shutdown, and the steps that it takes.
-ghost use Rattle.std.specs.Prelude.{◌≡◌, ◌==◌, true, false, IfOk};
-ghost use Rattle.ttrpc_shutdown.specs.Holding.{MayLeave, place};
+ghost use Rattle.std.specs.Prelude.{◌≡◌, ◌==◌, true, false, IfOk, None, Some};
+ghost use Rattle.ttrpc_shutdown.specs.Holding.{MayLeave, having_read, place};
 ghost use Rattle.ttrpc_shutdown.specs.Rule.{holder, the_notifier};
 
 use crate::rule::{
@@ -45,7 +45,7 @@ impl Post {
 
     /// A waiter's seat beside this one, with a share. It knows what this one knows.
     pub(crate) fn beside(&mut self) -> Result<Post, AllocError>
-        ensures waiter { IfOk result (λ p. p ≡ place self.old.table (holder false true self.old.holder.knows)) }
+        ensures waiter { IfOk result (λ p. p ≡ place self.old.table (holder false true self.old.holder.knows None)) }
         ensures same { self.new ≡ self.old }
     {
         let table = Arc::try_clone(&self.table)?;
@@ -56,16 +56,16 @@ impl Post {
 
     /// Whether the flag is set.
     pub(crate) fn is_set(&mut self) -> bool
-        ensures answer { self.new ≡ place self.old.table (holder self.old.holder.notifies self.old.holder.shares result) }
+        ensures answer { self.new ≡ place self.old.table (holder self.old.holder.notifies self.old.holder.shares result self.old.holder.saw) }
         ensures again { self.old.holder.knows ≡ true → result ≡ true }
         ensures notifier { self.old.holder.notifies ≡ true → result ≡ self.old.holder.knows }
     {
         self.table.shared.load::<Looking>(&mut self.seat, FLAG) == 1
     }
 
-    /// The number of shares.
+    /// The number of shares. The seat says from now on that its holder has read it.
     pub(crate) fn count(&mut self) -> u64
-        ensures { self.new ≡ self.old }
+        ensures { self.new ≡ having_read self.old (Some result) }
     {
         self.table.shared.load::<Counting>(&mut self.seat, COUNT)
     }
@@ -73,7 +73,7 @@ impl Post {
     /// The notifier sets the flag. Whoever sleeps until it is set wakes.
     pub(crate) fn set(&mut self)
         requires { self.old.holder.notifies ≡ true }
-        ensures { self.new ≡ place self.old.table (holder true self.old.holder.shares true) }
+        ensures { self.new ≡ place self.old.table (holder true self.old.holder.shares true self.old.holder.saw) }
     {
         let words = &self.table.shared;
         if words.swap::<Setting>(&mut self.seat, FLAG, 1) == 0 {
@@ -84,7 +84,7 @@ impl Post {
     /// A waiter gives its share back. If it was the last one, whoever sleeps until none is left wakes.
     pub(crate) fn give_back(&mut self)
         requires { (self.old.holder.notifies ≡ false) × (self.old.holder.shares ≡ true) }
-        ensures { self.new ≡ place self.old.table (holder false false self.old.holder.knows) }
+        ensures { self.new ≡ place self.old.table (holder false false self.old.holder.knows self.old.holder.saw) }
     {
         let words = &self.table.shared;
         if words.fetch_sub::<Leaving>(&mut self.seat, COUNT, 1) == 1 {

@@ -10,6 +10,8 @@ pub struct Holder {
     pub shares: bool,
     /// It knows that the flag is set.
     pub knows: bool,
+    /// The count that it read last, where it has read it.
+    pub saw: Option<u64>,
 }
 
 /// The rule: the words are those of a shutdown with these holders.

@@ -16,7 +16,7 @@ use ttrpc_sync::{AfterQueuing, Connected, Host, Link, after_queuing, moment};
 /// A client's connection, which contracts see as what is known of it. It is closed as the last client of it is dropped.
 pub struct ClientConn<O: OutboundTransform + Drop, I: InboundTransform + Drop> {
     link: Arc<Link<ClientShared<O, I>>, Global>,
-    data: ConnectionData,
+    known: ConnectionData,
 }
 
 impl<O: OutboundTransform + Drop, I: InboundTransform + Drop> Model for ClientConn<O, I> {
@@ -24,12 +24,12 @@ impl<O: OutboundTransform + Drop, I: InboundTransform + Drop> Model for ClientCo
 
     ghost Value = { Facts };
 
-    ghost view = { λ connection. facts_of connection.data.entries };
+    ghost view = { λ connection. facts_of connection.known.entries };
 }
 
 impl<O: OutboundTransform + Drop, I: InboundTransform + Drop> Drop for ClientConn<O, I> {
     fn drop(self) {
-        let ClientConn { link, data: _ } = self;
+        let ClientConn { link, known: _ } = self;
         link.close();
         link.shared().abandon();
     }
@@ -55,21 +55,21 @@ struct Asked {
 }
 
 impl<O: OutboundTransform + Drop, I: InboundTransform + Drop> ClientConn<O, I> {
-    /// A connection over `link`, with its data.
+    /// A connection over `link`, with what is known of it.
     pub fn new(
         link: Arc<Link<ClientShared<O, I>>, Global>,
-        data: ConnectionData,
+        known: ConnectionData,
     ) -> ClientConn<O, I>
-        ensures { result ≡ facts_of data.entries }
+        ensures { result ≡ facts_of known.entries }
     {
-        ClientConn { link, data }
+        ClientConn { link, known }
     }
 
     /// What is known of the connection.
     pub fn connection_data(&self) -> &ConnectionData
         ensures { facts_of result.now.entries ≡ self.now }
     {
-        &self.data
+        &self.known
     }
 
     /// Makes a call, and waits for its outcome.

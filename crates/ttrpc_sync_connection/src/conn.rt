@@ -62,9 +62,7 @@ impl<R: Host, O: OutboundTransform + Drop, I: InboundTransform + Drop> Conn<R, O
         &self.link
     }
 
-    pub(crate) fn cancelled(&self) -> &Arc<AtomicBool, Global>
-        ensures { result.now ≡ self.now.cancelled }
-    {
+    pub(crate) fn cancelled(&self) -> &Arc<AtomicBool, Global> {
         &self.cancelled
     }
 

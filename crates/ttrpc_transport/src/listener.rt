@@ -1,6 +1,7 @@
 //! What accepts connections.
-ghost use Rattle.std.specs.Prelude.{◌≡◌, ◌↔◌, IfErr, IfOk, IfSome, IsSome};
+ghost use Rattle.std.specs.Prelude.{◌≡◌, ◌↔◌, IfErr, IfOk, IfSome, IsSome, false};
 ghost use Rattle.ttrpc_transport.specs.declared.address.domain.Domain.{Domain};
+ghost use Rattle.ttrpc_transport.specs.Listeners.{listens};
 ghost use Rattle.ttrpc_transport.specs.Sockets.{IsFault};
 ghost use Rattle.ttrpc_transport.specs.Opened.{IsOpenedAt, IsNotOpened, place_domain};
 
@@ -17,13 +18,15 @@ use std::rt::Files;
 use std::sync::atomic::{AtomicBool, Ordering};
 use ttrpc_proto::Result;
 
-/// What accepts connections, which contracts see as its domain. Threads may share it: each call takes it by reference.
+/// What accepts connections, which contracts see as its domain and what it was told of delays. Threads may share it: each
+/// call takes it by reference.
 #[derive(Drop)]
 pub struct PipeListener {
     socket: Listening,
     // The same socket as a stream, which can be shut down: that wakes a thread which waits for a connection.
     waker: Stream,
     is_closed: AtomicBool,
+    // Whether each write of its connections by TCP is to go out at once.
     nodelay: bool,
 }
 
@@ -35,12 +38,11 @@ enum Listening {
 }
 
 impl Model for PipeListener {
-    ghost use Rattle.ttrpc_transport.specs.declared.address.domain.Domain.{Domain};
-    ghost use Rattle.ttrpc_transport.specs.Listeners.{listening_domain};
+    ghost use Rattle.ttrpc_transport.specs.Listeners.{Listens, listening_domain, listens};
 
-    ghost Value = { Domain };
+    ghost Value = { Listens };
 
-    ghost view = { λ listener. listening_domain listener.socket };
+    ghost view = { λ listener. listens (listening_domain listener.socket) listener.nodelay };
 }
 
 impl PipeListener {
@@ -50,25 +52,34 @@ impl PipeListener {
     pub fn new<R>(rt: &R, alloc: Global, sockaddr: &str, nodelay: bool) -> Result<PipeListener>
     where
         R: Files + Net<Listener = TcpListener, Stream = TcpStream>,
-        ensures ok { IfOk result (IsOpenedAt sockaddr.now) }
+        ensures ok { IfOk result (λ made. IsOpenedAt sockaddr.now made.domain) }
+        ensures nodelay { IfOk result (λ made. made.nodelay ≡ nodelay) }
         ensures err { IfErr result (IsNotOpened sockaddr.now) }
     {
         let place = socket_of(alloc, sockaddr)?;
         listen(rt, place, nodelay)
     }
 
-    /// Listens on a socket that a caller has bound. Whether its connections' writes go out at once is left to the system. A
+    /// Listens on a socket that a caller has bound by TCP. Whether its connections' writes go out at once is left to the system. A
     /// fault of the system is `Nix`.
     pub fn from_tcp(listener: TcpListener) -> Result<PipeListener>
-        ensures ok { IfOk result (λ made. made ≡ Domain.Tcp) }
+        ensures ok { IfOk result (λ made. made ≡ listens Domain.Tcp false) }
         ensures err { IfErr result IsFault }
     {
         by_tcp(listener, false)
     }
 
+    /// Listens on a socket that a caller has bound at a path, as one that it was handed. A fault of the system is `Nix`.
+    pub fn from_unix(listener: UnixListener) -> Result<PipeListener>
+        ensures ok { IfOk result (λ made. made ≡ listens Domain.Unix false) }
+        ensures err { IfErr result IsFault }
+    {
+        at_path(listener, false)
+    }
+
     /// The IP address and port where it listens by TCP, and `None` at a path. A fault of the system is `Nix`.
     pub fn local_addr(&self) -> Result<Option<SocketAddr>>
-        ensures ok { IfOk result (λ address. IsSome address ↔ (self.now ≡ Domain.Tcp)) }
+        ensures ok { IfOk result (λ address. IsSome address ↔ (self.now.domain ≡ Domain.Tcp)) }
         ensures err { IfErr result IsFault }
     {
         match &self.socket {
@@ -79,7 +90,7 @@ impl PipeListener {
 
     /// Waits for a connection. `None`: the listener was closed.
     pub fn accept(&self) -> io::Result<Option<PipeConnection>>
-        ensures { IfOk result (λ accepted. IfSome accepted (λ connection. connection ≡ self.now)) }
+        ensures { IfOk result (λ accepted. IfSome accepted (λ connection. connection ≡ self.now.domain)) }
     {
         let accepted = self.accept_next();
         if self.is_closed.load(Ordering::SeqCst) {
@@ -89,7 +100,7 @@ impl PipeListener {
     }
 
     fn accept_next(&self) -> io::Result<PipeConnection>
-        ensures { IfOk result (λ connection. connection ≡ self.now) }
+        ensures { IfOk result (λ connection. connection ≡ self.now.domain) }
     {
         match &self.socket {
             Listening::Tcp(listener) => {
@@ -119,7 +130,7 @@ impl PipeListener {
 fn listen<R>(rt: &R, place: Place<'_>, nodelay: bool) -> Result<PipeListener>
 where
     R: Files + Net<Listener = TcpListener, Stream = TcpStream>,
-    ensures ok { IfOk result (λ made. made ≡ place_domain place.entry) }
+    ensures ok { IfOk result (λ made. made ≡ listens (place_domain place.entry) nodelay) }
     ensures err { IfErr result IsFault }
 {
     match place {
@@ -129,13 +140,13 @@ where
         }
         Place::Unix(path) => {
             let listener = UnixListener::bind(rt, path).map_err(fault)?;
-            at_path(listener)
+            at_path(listener, nodelay)
         }
     }
 }
 
 fn by_tcp(listener: TcpListener, nodelay: bool) -> Result<PipeListener>
-    ensures ok { IfOk result (λ made. made ≡ Domain.Tcp) }
+    ensures ok { IfOk result (λ made. made ≡ listens Domain.Tcp nodelay) }
     ensures err { IfErr result IsFault }
 {
     let descriptor = OwnedFd::from(listener.try_clone().map_err(fault)?);
@@ -147,8 +158,8 @@ fn by_tcp(listener: TcpListener, nodelay: bool) -> Result<PipeListener>
     })
 }
 
-fn at_path(listener: UnixListener) -> Result<PipeListener>
-    ensures ok { IfOk result (λ made. made ≡ Domain.Unix) }
+fn at_path(listener: UnixListener, nodelay: bool) -> Result<PipeListener>
+    ensures ok { IfOk result (λ made. made ≡ listens Domain.Unix nodelay) }
     ensures err { IfErr result IsFault }
 {
     let descriptor = OwnedFd::from(listener.try_clone().map_err(fault)?);
@@ -156,6 +167,6 @@ fn at_path(listener: UnixListener) -> Result<PipeListener>
         socket: Listening::Unix(listener),
         waker: Stream::Unix(UnixStream::from(descriptor)),
         is_closed: AtomicBool::new(false),
-        nodelay: false,
+        nodelay,
     })
 }

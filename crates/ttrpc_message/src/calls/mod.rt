@@ -5,4 +5,4 @@ mod client;
 mod service;
 
 pub use self::client::{merge_reply, request_of};
-pub use self::service::{decode_request, response_of};
+pub use self::service::{checked_request, decode_request, response_of};

@@ -1,12 +1,12 @@
 //! A service's side of a call.
 ghost use Rattle.std.specs.Prelude.{◌≡◌, ◌≢◌, codes, IfErr, IfOk, None, Some};
-ghost use Rattle.ttrpc_message.specs.Calls.{AnswersWith, IsUnanswered, TellsCause};
+ghost use Rattle.ttrpc_message.specs.Calls.{AnswersWith, IsUnanswered, RefusesCause, TellsCause};
 
 use crate::codec_error_of;
 use std::alloc::Global;
 use std::fmt::Display;
 use ttrpc_codec::Codec;
-use ttrpc_proto::{Error, Response, ResponseInit, Result, get_status};
+use ttrpc_proto::{Error, Response, ResponseInit, Result, get_rpc_status, get_status};
 use ttrpc_wire::Code;
 
 /// The value that the payload of a request means. An error is `NoMemory`, or tells that it means none: `Others` of
@@ -21,6 +21,22 @@ where
     match M::decode(alloc, payload) {
         Ok(message) => Ok(message),
         Err(error) => Err(codec_error_of(alloc, "Unpack request error ", error)),
+    }
+}
+
+/// The same, for a service that answers a payload which means no value: the error is `NoMemory`, or the status of code
+/// INVALID_ARGUMENT (`RpcStatus`) whose message is that text.
+pub fn checked_request<M: Codec>(alloc: Global, payload: &[u8]) -> Result<M>
+where
+    M::E: Display + Drop,
+    ensures ok { IfOk result (λ message. M.meaning payload.now ≡ Some message) }
+    ensures refused { IfErr result (λ e. e ≢ Error.NoMemory → M.meaning payload.now ≡ None) }
+    ensures told { IfErr result (RefusesCause (codes "Unpack request error ") M.E.is_no_memory M.E.output) }
+{
+    match decode_request(alloc, payload) {
+        Ok(message) => Ok(message),
+        Err(Error::Others(text)) => Err(get_rpc_status(Code::INVALID_ARGUMENT, text.into_string())),
+        Err(_) => Err(Error::NoMemory),
     }
 }
 

@@ -8,15 +8,15 @@ ghost use Rattle.ttrpc_message.specs.Metadata.{Adds, Sets, lower, seen, some_tex
 
 pub use self::pairs::{from_pb, to_pb};
 use crate::context::pairs::push;
-use std::alloc::Global;
+use std::alloc::{AllocError, Global};
 use std::collections::BTreeMap;
 use std::marker::Model;
 use std::time::Duration;
 use ttrpc_proto::{Error, Result};
-use ttrpc_wire::Text;
+use ttrpc_wire::{Text, TryClone};
 
 /// What goes with a request: texts under keys, and how long it may take.
-#[derive(Drop)]
+#[derive(Debug, Drop)]
 pub struct Context {
     /// The texts of each key, in order.
     pub metadata: BTreeMap<String, Vec<String>>,
@@ -52,11 +52,12 @@ impl Context {
     }
 
     /// These texts for a key, whose ASCII capitals are turned into small letters first, replacing those that it had;
-    /// with none the key is gone. After an error nothing has changed.
+    /// with none the key is gone, and no memory is asked for. After an error nothing has changed.
     pub fn set(&mut self, key: String, values: Vec<String>) -> Result<()>
         ensures ok { OnOk result (Sets self.old.metadata (lower (string_bytes key)) (some_texts (texts values)) self.new.metadata) }
         ensures timeout { self.new.timeout_nano ≡ self.old.timeout_nano }
         ensures only_memory { IfErr result (λ e. e ≡ Error.NoMemory) }
+        ensures some_texts { OnErr result (values.items ≢ []) }
         ensures err { OnErr result (self.new ≡ self.old) }
     {
         let key = lowered(key);
@@ -66,6 +67,15 @@ impl Context {
         }
         self.metadata.insert(key, values)?;
         Ok(())
+    }
+}
+
+impl TryClone for Context {
+    fn try_clone(&self) -> std::result::Result<Context, AllocError> {
+        Ok(Context {
+            metadata: self.metadata.clone()?,
+            timeout_nano: self.timeout_nano,
+        })
     }
 }
 
@@ -88,11 +98,12 @@ pub fn with_timeout(alloc: Global, i: i64) -> Context
 }
 
 /// A context that says how long the request may take, and no more. A duration of more nanoseconds than an `i64` holds is
-/// refused.
+/// refused, and no other: one that fits takes no memory.
 pub fn with_duration(alloc: Global, du: Duration) -> Result<Context>
     ensures ok { IfOk result (λ context. (context.metadata ≡ []) × (context.timeout_nano ≡ pos (as_nanos du)) × (as_nanos du < 2 ^ 63)) }
-    ensures refused { IfErr result (λ e. e ≢ Error.NoMemory
-        → (e ≡ Error.Others (codes "timeout does not fit")) × (2 ^ 63 ≤ as_nanos du)) }
+    ensures too_long { OnErr result (2 ^ 63 ≤ as_nanos du) }
+    // Memory for the text of that may be refused.
+    ensures told { IfErr result (λ e. e ≢ Error.NoMemory → e ≡ Error.Others (codes "timeout does not fit")) }
 {
     let nanos = du.as_nanos();
     if nanos > i64::MAX as u128 {

@@ -2,10 +2,12 @@
 //! another error.
 
 pub mod causes;
+mod kinds;
 
 ghost use Rattle.std.specs.Prelude.{◌≡◌, ◌≢◌, [], codes, string_bytes, IfOk, IsSomeAnd, Some};
 ghost use Rattle.ttrpc_proto.specs.ErrorText.{error_text, status_of, IsTextOf, StandsFor, Tells};
 
+use self::kinds::kind_text;
 use crate::{Response, Status};
 use std::alloc::{AllocError, AllocFailed, Global};
 use std::fmt;
@@ -67,7 +69,7 @@ impl fmt::Display for Error {
             Error::RpcStatus(status) => {
                 write!(f, "rpc status: {} {}", status.code, status.message.as_str())
             }
-            Error::Nix(kind) => write!(f, "Nix error: {kind}"),
+            Error::Nix(kind) => write!(f, "Nix error: {}", kind_text(*kind)),
             Error::LocalClosed => write!(f, "ttrpc err: local stream closed"),
             Error::RemoteClosed => write!(f, "ttrpc err: remote stream closed"),
             Error::Eof => write!(f, "eof"),
@@ -101,14 +103,7 @@ impl Error {
     pub fn text(&self, alloc: Global) -> std::result::Result<String, AllocError>
         ensures { IfOk result (λ text. IsTextOf self.now (string_bytes text)) }
     {
-        match self {
-            Error::Nix(kind) => {
-                // Of what the kind prints nothing is known, so it is printed by itself, behind what is.
-                let kind = kind.to_string(alloc)?;
-                format!(in alloc; "Nix error: {kind}")
-            }
-            other => other.to_string(alloc),
-        }
+        self.to_string(alloc)
     }
 
     /// The response that tells the other side of the error. Its message is empty where memory for the error's text

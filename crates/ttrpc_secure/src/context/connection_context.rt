@@ -13,6 +13,7 @@ use crate::sending::{SendError, associated_bytes, limit_of, seal, send_copy};
 use crate::{InboundTransform, OutboundTransform, Plain, TransformError};
 use std::alloc::Global;
 use std::collections::BTreeMap;
+use std::fmt;
 use ttrpc_frame::header::oversize::{check_oversize, oversize_error};
 use ttrpc_frame::{GenMessage, MessageHeader, Outgoing, Queued};
 use ttrpc_proto::{Error, Result};
@@ -27,6 +28,15 @@ pub struct ConnectionContext<O, I> {
     pub outbound: O,
     /// The half that opens.
     pub inbound: I,
+}
+
+/// Prints what is known of the connection, and neither half: a half may hold a key.
+impl<O, I> fmt::Debug for ConnectionContext<O, I> {
+    fn fmt<W: fmt::Write>(&self, f: &mut fmt::Formatter<W>) -> fmt::Result {
+        f.debug_struct("ConnectionContext")
+            .field("connection_data", &self.connection_data)
+            .finish_non_exhaustive()
+    }
 }
 
 /// The context of a connection that has no hook: nothing is known of it, and its payloads stay as they are. Takes no

@@ -1,6 +1,10 @@
 //! Why a hook rejects a connection.
-ghost use Rattle.ttrpc_secure.specs.Hooks.{hook_error_debug, hook_error_text};
+ghost use Rattle.std.specs.Prelude.{None};
+ghost use Rattle.std.specs.Fmt.{DisplaysOnOk, DisplaysStyledOnOk};
+ghost use Rattle.ttrpc_secure.specs.Hooks.{IsHookErrorDebug, IsHookErrorText, WritesSuch, hook_error_debug, hook_error_text};
 
+use std::alloc::{AllocError, AllocFailed};
+use std::fmt::InlineText;
 use std::{fmt, io};
 use ttrpc_wire::Text;
 
@@ -17,14 +21,46 @@ pub enum HookError {
     Other(Text),
 }
 
+/// Refused memory is told as a failure of that kind, which takes none.
+impl From<AllocError> for HookError {
+    ghost use Rattle.ttrpc_secure.specs.Hooks.{IsRefusedMemory};
+
+    ghost from_gives = { λ _ e. IsRefusedMemory e };
+
+    fn from(refused: AllocError) -> HookError {
+        HookError::Io(io::Error::from(refused))
+    }
+}
+
+impl<T: Drop> From<AllocFailed<T>> for HookError {
+    ghost use Rattle.ttrpc_secure.specs.Hooks.{IsRefusedMemory};
+
+    ghost from_gives = { λ _ e. IsRefusedMemory e };
+
+    fn from(refused: AllocFailed<T>) -> HookError {
+        HookError::Io(io::Error::from(refused))
+    }
+}
+
+// The most bytes of the text of a failed read or write. A longer one ends in dots.
+const TEXT_ROOM: usize = 512;
+
 impl fmt::Display for HookError {
     ghost output = { hook_error_text };
 
-    fn fmt<W: fmt::Write>(&self, f: &mut fmt::Formatter<W>) -> fmt::Result {
+    fn fmt<W: fmt::Write>(&self, f: &mut fmt::Formatter<W>) -> fmt::Result
+        ensures writes { DisplaysOnOk W.write_str_gives f.old result (hook_error_text self.now) f.new }
+        ensures styled { DisplaysStyledOnOk W.write_str_gives f.old result None f.new }
+        ensures such { WritesSuch W.write_str_gives (IsHookErrorText self.now) f.old result f.new }
+    {
         match self {
             HookError::Rejected(reason) => write!(f, "connection rejected: {}", reason.as_str()),
             HookError::Timeout => write!(f, "handshake timeout"),
-            HookError::Io(error) => write!(f, "I/O error: {error}"),
+            HookError::Io(error) => {
+                // std states no text of it, so it is printed by itself, and what stands before it is known.
+                let text = InlineText::<TEXT_ROOM>::of(error);
+                write!(f, "I/O error: {}", text.as_str())
+            }
             HookError::Other(text) => write!(f, "{}", text.as_str()),
         }
     }
@@ -34,11 +70,17 @@ impl fmt::Display for HookError {
 impl fmt::Debug for HookError {
     ghost debug_output = { hook_error_debug };
 
-    fn fmt<W: fmt::Write>(&self, f: &mut fmt::Formatter<W>) -> fmt::Result {
+    fn fmt<W: fmt::Write>(&self, f: &mut fmt::Formatter<W>) -> fmt::Result
+        ensures writes { DisplaysOnOk W.write_str_gives f.old result (hook_error_debug self.now) f.new }
+        ensures such { WritesSuch W.write_str_gives (IsHookErrorDebug self.now) f.old result f.new }
+    {
         match self {
             HookError::Rejected(reason) => write!(f, "Rejected({})", reason.as_str()),
             HookError::Timeout => write!(f, "Timeout"),
-            HookError::Io(error) => write!(f, "Io({error:?})"),
+            HookError::Io(error) => {
+                let text = InlineText::<TEXT_ROOM>::of(format_args!("{error:?}"));
+                write!(f, "Io({})", text.as_str())
+            }
             HookError::Other(text) => write!(f, "Other({})", text.as_str()),
         }
     }

@@ -44,15 +44,15 @@ impl<O: OutboundTransform + Drop, I: InboundTransform + Drop> End for ServerCore
     fn failure(&self, alloc: Global) -> Option<Error> {
         ServerCore::failure(self, alloc)
     }
+
+    fn at_boundary(&self) -> bool {
+        ServerCore::at_boundary(self)
+    }
 }
 
 impl<O: OutboundTransform + Drop, I: InboundTransform + Drop> Server for ServerCore<O, I> {
     fn feed_front(&mut self, alloc: Global, piece: &[u8]) -> Result<usize, Error> {
         ServerCore::feed_front(self, alloc, piece, 0)
-    }
-
-    fn at_boundary(&self) -> bool {
-        ServerCore::at_boundary(self)
     }
 
     fn take_job(&mut self) -> Option<Job> {
@@ -139,6 +139,10 @@ impl<O: OutboundTransform + Drop, I: InboundTransform + Drop> End for ClientCore
 
     fn failure(&self, alloc: Global) -> Option<Error> {
         ClientCore::failure(self, alloc)
+    }
+
+    fn at_boundary(&self) -> bool {
+        ClientCore::at_boundary(self)
     }
 }
 

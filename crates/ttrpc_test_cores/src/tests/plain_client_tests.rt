@@ -590,6 +590,20 @@ const END_ROWS: &[Row] = &[
         ..FRESH
     },
     Row {
+        name: "a boundary is where no frame has begun",
+        cuts: Cuts::Inside(15),
+        steps: &[
+            Step::AtBoundary(true),
+            Step::Calls(10, 0, 1),
+            Step::FeedToCut(ANSWERED),
+            Step::AtBoundary(false),
+            Step::FeedFromCut(ANSWERED),
+            Step::AtBoundary(true),
+            Step::Gives(1, true, 0x2a),
+        ],
+        ..FRESH
+    },
+    Row {
         name: "the input ends inside a frame",
         cuts: Cuts::Inside(15),
         steps: &[

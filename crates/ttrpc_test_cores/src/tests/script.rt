@@ -25,6 +25,8 @@ pub enum Step {
     FeedToCut(&'static [u8]),
     /// Takes what stands behind the run's cut, as one piece.
     FeedFromCut(&'static [u8]),
+    /// Whether no frame has begun.
+    AtBoundary(bool),
     /// All that is left to be written is this, and it leaves.
     Writes(&'static [u8]),
     /// The same of what stands behind so many bytes of these.
@@ -60,8 +62,6 @@ pub enum Step {
     FrameFromCut(&'static [u8]),
     /// No front is taken of what stands behind so many of these bytes.
     RefusesFront(&'static [u8], usize, Told),
-    /// Whether no frame has begun.
-    AtBoundary(bool),
     /// The job that is handed out has this id, this stream and this payload.
     Takes(u64, u32, &'static [u8]),
     /// No job is handed out.

@@ -61,7 +61,6 @@ fn front_step<S: Server>(alloc: Global, core: &mut S, step: &Step, cut: usize) -
         Step::RefusesFront(bytes, from, why) => {
             tells(core.feed_front(alloc, behind(bytes, from)).err(), why)
         }
-        Step::AtBoundary(at_boundary) => Ok(core.at_boundary() == at_boundary),
         _ => Ok(false),
     }
 }

@@ -20,6 +20,7 @@ pub fn act<C: Core>(alloc: Global, core: &mut C, step: &Step, cut: usize) -> Met
         Step::Leaves(bytes, from, to) => Ok(leaves(core, behind(front(bytes, to), from))),
         Step::FailsBy(text) => fails_by(alloc, core, text),
         Step::IsAlive => Ok(core.failure(alloc).is_none()),
+        Step::AtBoundary(at_boundary) => Ok(core.at_boundary() == at_boundary),
         Step::HasFailed(text) => has_failed(alloc, core, text),
         Step::Reports => {
             core.report();

@@ -30,13 +30,13 @@ pub trait End {
     fn fail(&mut self, error: Error);
 
     fn failure(&self, alloc: Global) -> Option<Error>;
+
+    fn at_boundary(&self) -> bool;
 }
 
 /// What a server does beside.
 pub trait Server: End {
     fn feed_front(&mut self, alloc: Global, piece: &[u8]) -> Result<usize, Error>;
-
-    fn at_boundary(&self) -> bool;
 
     fn take_job(&mut self) -> Option<Job>;
 

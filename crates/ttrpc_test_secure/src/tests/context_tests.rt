@@ -72,6 +72,14 @@ fn bytes_go_out_and_come_in(rt: HostRuntime) -> Tested {
 }
 
 #[test]
+fn contexts_print_what_is_known(rt: HostRuntime) -> Tested {
+    let printed = format!(in rt.alloc(); "{:?}", stamped(rt.alloc()))?;
+    let expected = "ConnectionContext { connection_data: {}, .. }";
+    assert!(rt; printed.as_str() == expected, "{printed}");
+    Ok(())
+}
+
+#[test]
 fn messages_are_sealed_and_opened(rt: HostRuntime) -> Tested {
     let alloc = rt.alloc();
     let mut context = stamped(alloc);

@@ -1,4 +1,7 @@
 //! What an error of a hook prints.
+ghost use Rattle.std.specs.Prelude.{IfErr};
+ghost use Rattle.ttrpc_secure.specs.Hooks.{IsRefusedMemory};
+
 use std::alloc::{AllocError, Global};
 use std::io::{self, ErrorKind};
 use std::test::Fail;
@@ -57,5 +60,28 @@ fn failed_reads_print_their_cause(rt: HostRuntime) -> Result<(), Fail> {
     assert_eq!(rt; printed.as_str(), "I/O error: broken pipe");
     let debugged = format!(in alloc; "{error:?}")?;
     assert!(rt; debugged.as_str().starts_with("Io("), "{debugged}");
+    let error = HookError::Io(io::Error::other("no such peer"));
+    assert_eq!(rt; error.to_string(alloc)?.as_str(), "I/O error: no such peer");
+    Ok(())
+}
+
+// What a hook that asks for memory answers by `?`.
+fn reserved(alloc: Global, room: usize) -> Result<Vec<u8>, HookError>
+    ensures { IfErr result IsRefusedMemory }
+{
+    let mut out = Vec::new(alloc);
+    out.reserve(room)?;
+    out.push(7)?;
+    Ok(out)
+}
+
+#[test]
+fn refused_memory_is_a_failure_of_that_kind(rt: HostRuntime) -> Result<(), Fail> {
+    let alloc = rt.alloc();
+    assert_eq!(rt; reserved(alloc, 1)?.len(), 1);
+    match reserved(alloc, usize::MAX) {
+        Err(HookError::Io(cause)) => assert!(rt; cause.kind() == ErrorKind::OutOfMemory),
+        _ => assert!(rt; false, "memory was refused"),
+    }
     Ok(())
 }

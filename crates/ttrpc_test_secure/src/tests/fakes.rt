@@ -1,7 +1,7 @@
 //! A connection whose other side has said something, and hooks that listen to it.
 use std::alloc::Global;
 use std::io;
-use ttrpc_bench::{Giver, Manner, StampIn, StampOut, knowing, no_memory, rejected};
+use ttrpc_bench::{Giver, Manner, StampIn, StampOut, knowing, rejected};
 use ttrpc_frame::Source;
 use ttrpc_secure::{AcceptHook, ConnectHook, Datum, HookError, HookOutput, Plain};
 use ttrpc_wire::Text;
@@ -18,7 +18,7 @@ fn heard(alloc: Global, line: &Line) -> Result<Vec<u8>, HookError> {
     let mut buffer = [0; 8];
     let mut giver = Giver::new(line.0, line.1);
     let count = giver.read(&mut buffer).map_err(HookError::Io)?;
-    Vec::from_slice(alloc, &buffer[..count]).map_err(|refused| no_memory(refused))
+    Ok(Vec::from_slice(alloc, &buffer[..count])?)
 }
 
 /// Lets a connection pass on which something is said, knows it as `said`, and leaves data as it is.
@@ -52,7 +52,6 @@ impl ConnectHook<Line> for Agrees {
         if heard(alloc, stream)?.as_slice() == b"stamp".as_slice() {
             return Ok(HookOutput::of_halves(alloc, StampOut::new(), StampIn::new()));
         }
-        let why = Text::from_str(alloc, "no stamps").map_err(|refused| no_memory(refused))?;
-        Err(HookError::Other(why))
+        Err(HookError::Other(Text::from_str(alloc, "no stamps")?))
     }
 }

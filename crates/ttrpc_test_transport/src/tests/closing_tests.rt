@@ -5,12 +5,13 @@ use crate::tests::pairs::{
 };
 use std::alloc::Global;
 use std::net::{Net, TcpListener, TcpStream};
+use std::os::unix::net::UnixListener;
 use std::process::Abort;
 use std::rt::Files;
 use std::test::Fail;
-use std::thread;
 use std::thread::Threads;
 use std::time::Clock;
+use std::{fs, thread};
 use ttrpc_transport::{PipeConnection, PipeListener};
 
 /// A thread that reads is at the end once another thread closes the connection, or ends its reads.
@@ -114,5 +115,17 @@ fn listeners_of_std_are_taken_over(rt: HostRuntime) -> Tested {
     let listener = PipeListener::from_tcp(TcpListener::bind(&rt, "127.0.0.1:0")?)?;
     let address = address_of(rt.alloc(), &listener)?;
     let pair = join(&rt, rt.alloc(), &listener, address.as_str())?;
+    passes(&rt, &pair.accepted, &pair.connection, b"hello")
+}
+
+/// The same at a path.
+#[test]
+fn listeners_of_std_at_a_path_are_taken_over(rt: HostRuntime) -> Tested {
+    let path = "handed.sock";
+    let _ = fs::remove_file(&rt, path);
+    let listener = PipeListener::from_unix(UnixListener::bind(&rt, path)?)?;
+    assert!(rt; listener.local_addr()?.is_none());
+    let joined = join(&rt, rt.alloc(), &listener, "unix://handed.sock");
+    let pair = clean_behind(&rt, Site::Path(path), joined)?;
     passes(&rt, &pair.accepted, &pair.connection, b"hello")
 }

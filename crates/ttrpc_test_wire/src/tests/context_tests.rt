@@ -6,7 +6,7 @@ use std::test::Fail;
 use std::time::Duration;
 use ttrpc_message::{Context, from_pb, to_pb, with_duration, with_metadata, with_timeout};
 use ttrpc_proto::{Error, KeyValue};
-use ttrpc_wire::Text;
+use ttrpc_wire::{Text, TryClone};
 
 type Tested = Result<(), Fail>;
 
@@ -92,10 +92,23 @@ fn keys_have_their_texts(rt: HostRuntime) -> Tested {
         }
         has(&rt, &context.metadata, expected);
         assert!(rt; context.timeout_nano == 5);
+        let copy = context.try_clone()?;
+        has(&rt, &copy.metadata, expected);
+        assert!(rt; copy.timeout_nano == 5);
         let same = with_metadata(context.metadata);
         has(&rt, &same.metadata, expected);
         assert!(rt; same.timeout_nano == 0);
     }
+    Ok(())
+}
+
+#[test]
+fn contexts_print_what_they_carry(rt: HostRuntime) -> Tested {
+    let mut context = with_timeout(rt.alloc(), 5);
+    take(rt.alloc(), &mut context, &Step::Add("Key", "a"))?;
+    let printed = format!(in rt.alloc(); "{context:?}")?;
+    let expected = r#"Context { metadata: {"key": ["a"]}, timeout_nano: 5 }"#;
+    assert!(rt; printed.as_str() == expected, "{printed}");
     Ok(())
 }
 

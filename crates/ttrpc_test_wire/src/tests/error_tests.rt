@@ -142,6 +142,63 @@ fn errors_are_told(rt: HostRuntime) -> Tested {
     Ok(())
 }
 
+/// The kinds of the system's errors, in the order in which std declares them.
+const KINDS: [ErrorKind; 42] = [
+    ErrorKind::NotFound,
+    ErrorKind::PermissionDenied,
+    ErrorKind::ConnectionRefused,
+    ErrorKind::ConnectionReset,
+    ErrorKind::HostUnreachable,
+    ErrorKind::NetworkUnreachable,
+    ErrorKind::ConnectionAborted,
+    ErrorKind::NotConnected,
+    ErrorKind::AddrInUse,
+    ErrorKind::AddrNotAvailable,
+    ErrorKind::NetworkDown,
+    ErrorKind::BrokenPipe,
+    ErrorKind::AlreadyExists,
+    ErrorKind::WouldBlock,
+    ErrorKind::NotADirectory,
+    ErrorKind::IsADirectory,
+    ErrorKind::DirectoryNotEmpty,
+    ErrorKind::ReadOnlyFilesystem,
+    ErrorKind::FilesystemLoop,
+    ErrorKind::StaleNetworkFileHandle,
+    ErrorKind::InvalidInput,
+    ErrorKind::InvalidData,
+    ErrorKind::TimedOut,
+    ErrorKind::WriteZero,
+    ErrorKind::StorageFull,
+    ErrorKind::NotSeekable,
+    ErrorKind::QuotaExceeded,
+    ErrorKind::FileTooLarge,
+    ErrorKind::ResourceBusy,
+    ErrorKind::ExecutableFileBusy,
+    ErrorKind::Deadlock,
+    ErrorKind::CrossesDevices,
+    ErrorKind::TooManyLinks,
+    ErrorKind::InvalidFilename,
+    ErrorKind::ArgumentListTooLong,
+    ErrorKind::Interrupted,
+    ErrorKind::Unsupported,
+    ErrorKind::UnexpectedEof,
+    ErrorKind::OutOfMemory,
+    ErrorKind::InProgress,
+    ErrorKind::Other,
+    ErrorKind::Uncategorized,
+];
+
+/// An error of the system prints its kind as std does.
+#[test]
+fn kinds_print_as_std_prints_them(rt: HostRuntime) -> Tested {
+    for kind in KINDS {
+        let printed = Error::Nix(kind).text(rt.alloc())?;
+        let expected = format!(in rt.alloc(); "Nix error: {kind}")?;
+        assert!(rt; printed == expected, "{kind:?}");
+    }
+    Ok(())
+}
+
 // Only memory is an error here, and the clause sees which error the `?` makes of it.
 fn pushed(items: &mut Vec<u8>, item: u8) -> Result<()>
     ensures { IfErr result (λ e. e ≡ Error.NoMemory) }

@@ -9,8 +9,9 @@ use std::process::Abort;
 use std::test::Fail;
 use ttrpc_codec::Codec;
 use ttrpc_codec::in_place::{CarriesPayload, decode_in_place};
+use ttrpc_message::decode_request;
 use ttrpc_proto::{Any, KeyValue, Request, Response, Status};
-use ttrpc_wire::{CodecError, TryClone};
+use ttrpc_wire::{Blob, CodecError, TryClone};
 
 type Tested = Result<(), Fail>;
 
@@ -315,6 +316,19 @@ fn bytes_without_a_meaning_are_refused(rt: HostRuntime) -> Tested {
             Row::Response(_) => refuses_in_place::<Response>(&rt, alloc, bytes, *error)?,
         }
     }
+    Ok(())
+}
+
+/// Bytes travel as they are, with no message of their own.
+#[test]
+fn raw_bytes_travel(rt: HostRuntime) -> Tested {
+    let alloc = rt.alloc();
+    let mut raw = decode_request::<Blob>(alloc, b"\xff\x00")?;
+    assert!(rt; raw.is_equal(b"\xff\x00") && raw.size() == 2);
+    let response = ttrpc_message::response_of(alloc, Ok(raw.try_clone()?))?;
+    assert!(rt; response.payload == raw);
+    raw.merge(alloc, b"\x2a")?;
+    assert!(rt; raw.encode(alloc)?.as_slice() == b"\xff\x00\x2a".as_slice());
     Ok(())
 }
 

@@ -12,7 +12,10 @@ fn is_kept(rt: &impl Abort, alloc: Global, text: Text, expected: &str) -> Tested
     assert!(rt; text.as_str() == expected);
     assert!(rt; text.as_bytes() == expected.as_bytes());
     assert!(rt; text.to_string(alloc)?.as_str() == expected);
-    assert!(rt; text.len() == expected.len(), "a text reads as std's does");
+    assert!(rt; text.len() == expected.len());
+    assert!(rt; text.is_equal(expected) && !text.is_equal("green"));
+    assert!(rt; !text.is_empty() && Text::new(alloc).is_empty());
+    assert!(rt; text.starts_with("gr"), "a text reads as std's does");
     assert!(rt; text.try_clone()? == text);
     assert!(rt; Text::new(alloc) != text);
     let back = Text::from_string(text.into_string());
@@ -43,8 +46,11 @@ fn blobs(rt: HostRuntime) -> Tested {
     let bytes = b"\xff\x00".as_slice();
     let blob = Blob::from_slice(rt.alloc(), bytes)?;
     assert!(rt; blob.as_slice() == bytes);
+    assert!(rt; blob.is_equal(bytes) && !blob.is_equal(b"\xff"));
+    assert!(rt; blob.iter().copied().max() == Some(255));
+    assert!(rt; blob.first() == Some(&255), "bytes read as a slice does");
     assert!(rt; blob.try_clone()? == blob);
-    assert!(rt; Blob::new(rt.alloc()).as_slice().is_empty());
+    assert!(rt; Blob::new(rt.alloc()).is_empty() && !blob.is_empty());
     assert!(rt; Blob::new(rt.alloc()) != blob);
     assert!(rt; Blob::from_vec(blob.into_vec()).as_slice() == bytes);
     Ok(())
@@ -86,8 +92,13 @@ fn listed(alloc: Global, texts: &[&str]) -> Result<Sequence<Text>, Fail> {
 #[test]
 fn sequences(rt: HostRuntime) -> Tested {
     let texts = listed(rt.alloc(), &["a", "b"])?;
-    assert!(rt; texts.as_slice().len() == 2);
-    assert!(rt; texts.as_slice()[1].as_str() == "b");
+    assert!(rt; texts.len() == 2);
+    assert!(rt; !texts.is_empty());
+    assert!(rt; texts.iter().all(|text| text.len() == 1));
+    assert!(rt; texts.as_slice()[1].is_equal("b"));
+    assert!(rt; texts.last().is_some_and(|text| text.is_equal("b")));
+    assert!(rt; texts.is_equal(texts.as_slice()) && !texts.is_equal(&[]));
+    assert!(rt; listed(rt.alloc(), &[])?.is_empty());
     assert!(rt; texts.try_clone()? == texts);
     assert!(rt; listed(rt.alloc(), &["a", "b", ""])? != texts);
     let back = Sequence::from_vec(texts.into_vec());

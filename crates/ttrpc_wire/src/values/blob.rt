@@ -1,8 +1,12 @@
-ghost use Rattle.std.specs.Prelude.{◌≡◌, ℕ, [], length, take, drop, IfOk};
+ghost use Rattle.std.specs.Prelude.{◌≡◌, ◌↔◌, ◌<◌, ◌^◌, ℕ, [], length, take, drop, IfOk, IsTrue};
+ghost use Rattle.std.specs.Iterator.Adapters.{IterYieldsInOrder};
+ghost use Rattle.std.specs.Slice.Iter.{iter_rest};
 
 use crate::values::clones::TryClone;
 use std::alloc::{AllocError, Global};
 use std::marker::Model;
+use std::ops::DerefSlice;
+use std::slice::Iter;
 
 /// Bytes, which contracts see as their list. They are a part of a vector, so that they can stay where they lie in a
 /// larger one.
@@ -88,11 +92,45 @@ impl Blob {
         self.count
     }
 
+    /// Whether there are none.
+    pub fn is_empty(&self) -> bool
+        ensures { IsTrue result ↔ (self.now ≡ []) }
+    {
+        self.as_slice().is_empty()
+    }
+
+    /// The bytes in order, each lent.
+    pub fn iter(&self) -> Iter<'_, u8>
+        ensures rest { iter_rest result ≡ self.now }
+        ensures bound { length (iter_rest result) < 2 ^ 64 }
+        ensures runs { IterYieldsInOrder ℕ }
+    {
+        self.as_slice().iter()
+    }
+
+    /// Whether these are its bytes. std's `==` compares values of one type alone.
+    pub fn is_equal(&self, bytes: &[u8]) -> bool
+        ensures { IsTrue result ↔ (self.now ≡ bytes.now) }
+    {
+        self.as_slice() == bytes
+    }
+
     /// The bytes.
     pub fn as_slice(&self) -> &[u8]
         ensures { result.now ≡ self.now }
     {
         &self.bytes[self.start..self.start + self.count]
+    }
+}
+
+/// Bytes read as a slice does.
+impl DerefSlice for Blob {
+    type Elem = u8;
+
+    ghost deref_gives = { λ blob bytes. bytes ≡ blob };
+
+    fn deref(&self) -> &[u8] {
+        self.as_slice()
     }
 }
 

@@ -1,8 +1,13 @@
-ghost use Rattle.std.specs.Prelude.{◌≡◌, List, [], ◌∷◌, ◌++◌, IfOk, OnOk, OnErr};
+ghost use Rattle.std.specs.Prelude.{◌≡◌, ◌↔◌, ◌<◌, ◌^◌, List, [], ◌∷◌, ◌++◌, length, IfOk, OnOk, OnErr, IsTrue};
+ghost use Rattle.std.specs.Cmp.Lexicographic.{pointwise};
+ghost use Rattle.std.specs.Iterator.Adapters.{IterYieldsInOrder};
+ghost use Rattle.std.specs.Slice.Iter.{iter_rest};
 
 use crate::values::clones::TryClone;
 use std::alloc::{AllocError, Global};
 use std::marker::Model;
+use std::ops::DerefSlice;
+use std::slice::Iter;
 
 /// Items in order, which contracts see as their list.
 #[derive(Debug, Drop)]
@@ -41,11 +46,45 @@ impl<T> Sequence<T> {
         items
     }
 
+    /// How many items there are.
+    pub fn len(&self) -> usize
+        ensures { result ≡ length self.now }
+    {
+        self.items.len()
+    }
+
+    /// Whether there are none.
+    pub fn is_empty(&self) -> bool
+        ensures { IsTrue result ↔ (self.now ≡ []) }
+    {
+        self.items.is_empty()
+    }
+
+    /// The items in order, each lent.
+    pub fn iter(&self) -> Iter<'_, T>
+        ensures rest { iter_rest result ≡ self.now }
+        ensures bound { length (iter_rest result) < 2 ^ 64 }
+        ensures runs { IterYieldsInOrder T }
+    {
+        self.items.as_slice().iter()
+    }
+
     /// The items.
     pub fn as_slice(&self) -> &[T]
         ensures { result.now ≡ self.now }
     {
         self.items.as_slice()
+    }
+}
+
+/// Items read as a slice does.
+impl<T> DerefSlice for Sequence<T> {
+    type Elem = T;
+
+    ghost deref_gives = { λ sequence items. items ≡ sequence };
+
+    fn deref(&self) -> &[T] {
+        self.as_slice()
     }
 }
 
@@ -57,6 +96,15 @@ impl<T: Drop> Sequence<T> {
     {
         self.items.push(item)?;
         Ok(())
+    }
+}
+
+impl<T: PartialEq> Sequence<T> {
+    /// Whether these are its items, each compared by its own `==`. std's `==` compares values of one type alone.
+    pub fn is_equal(&self, items: &[T]) -> bool
+        ensures { result ≡ pointwise T.eq self.now items.now }
+    {
+        self.as_slice() == items
     }
 }
 

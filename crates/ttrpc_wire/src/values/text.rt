@@ -1,4 +1,4 @@
-ghost use Rattle.std.specs.Prelude.{◌≡◌, ◌≢◌, ℕ, List, [], string_bytes, IfOk, IfErr, ◌↔◌};
+ghost use Rattle.std.specs.Prelude.{◌≡◌, ◌≢◌, ℕ, List, [], length, string_bytes, IfOk, IfErr, IsTrue, ◌↔◌};
 ghost use Rattle.std.specs.Result.{IsErrOf};
 ghost use Rattle.std.specs.Str.{IsUtf8};
 
@@ -65,6 +65,27 @@ impl Text {
     {
         let Text { text } = self;
         text
+    }
+
+    /// How many bytes it has in UTF-8.
+    pub fn len(&self) -> usize
+        ensures { result ≡ length self.now }
+    {
+        self.as_bytes().len()
+    }
+
+    /// Whether it has none.
+    pub fn is_empty(&self) -> bool
+        ensures { IsTrue result ↔ (self.now ≡ []) }
+    {
+        self.as_bytes().is_empty()
+    }
+
+    /// Whether it is this text. std's `==` compares values of one type alone.
+    pub fn is_equal(&self, text: &str) -> bool
+        ensures { IsTrue result ↔ (self.now ≡ text.now) }
+    {
+        self.as_str() == text
     }
 
     /// The text.

@@ -1,6 +1,6 @@
 use Rattle.ttrpc_client.proofs.Words.{run_goes, run_leaves, called, calling, all_are_accounted}
 use Rattle.ttrpc_client.proofs.Calls.{called_is_lawful, does_cause}
-use Rattle.ttrpc_client.proofs.Throwing.{run_throws_not}
+use Rattle.ttrpc_client.proofs.Throwing.{run_throws_nothing}
 use Rattle.ttrpc_client.proofs.laws.what_leaves_was_queued.Goals as goal
 
 pub returns-clause-caused : goal.returns-clause-caused
@@ -19,4 +19,4 @@ returns-clause-in_order g c = λ s t old new calls happenings run. all_are_accou
 
 pub returns-clause-nothing_thrown : goal.returns-clause-nothing_thrown
 returns-clause-nothing_thrown g c = λ s t old new calls happenings not run.
-    run_throws_not g.O.OutboundTransform g.I.InboundTransform g.O.OutboundTransform.SEALS calls s old happenings t new not run
+    run_throws_nothing g.O.OutboundTransform g.I.InboundTransform g.O.OutboundTransform.SEALS calls s old happenings t new not run

@@ -21,3 +21,6 @@ returns-in-Err-Failed-Refused-clause-err g c =
         refuses = rw (← fit.0) (c.send.ensures.refused (Refused c.in-Err-Failed-Refused.why) (search rules));
       },
     )
+
+pub send-requires : goal.send-requires
+send-requires g c = rw c.response_frame-frame.ensures.ticket tt

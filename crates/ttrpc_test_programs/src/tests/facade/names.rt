@@ -7,7 +7,8 @@ pub mod root {
         AcceptHook, Client, Code, ConnectHook, ConnectionContext, ConnectionData,
         ConnectionDataExt, Error, HookError, HookOutput, InboundTransform, MessageHeader,
         MethodHandler, OutboundTransform, Request, Response, Result, Server, Status, TtrpcContext,
-        calls, client_request, err_to_others, get_status, request_handler, send_response,
+        calls, checked_request_handler, client_request, err_to_others, get_status, request_handler,
+        send_response,
     };
 }
 

@@ -8,8 +8,8 @@ use ttrpc::proto::{Codec, KeyValue, Text};
 use ttrpc::security_extension::Plain;
 use ttrpc::sync::Host;
 use ttrpc::{
-    Client, Code, Error, MethodHandler, Request, Result, TtrpcContext, client_request, get_status,
-    request_handler,
+    Client, Code, Error, MethodHandler, Request, Result, TtrpcContext, checked_request_handler,
+    client_request, get_status, request_handler,
 };
 
 /// What a handler knows of a request over no transform.
@@ -56,6 +56,8 @@ impl Pairs {
 enum Method {
     Turn,
     Find,
+    /// As `Turn`, but a payload that is no pair is refused.
+    Checked,
 }
 
 /// The handler of a method of the service.
@@ -74,6 +76,9 @@ impl<R: Host> MethodHandler<R, Plain, Plain> for Handler {
             Method::Find => {
                 request_handler!(self, ctx, req, messages, KeyValue, find);
             }
+            Method::Checked => {
+                checked_request_handler!(self, ctx, req, messages, KeyValue, turn);
+            }
         }
         Ok(())
     }
@@ -82,17 +87,18 @@ impl<R: Host> MethodHandler<R, Plain, Plain> for Handler {
 /// The methods of the service, each under its path.
 pub fn methods(alloc: Global) -> Result<BTreeMap<String, Handler>> {
     let service = Arc::new(alloc, Pairs {})?;
-    let turn = Handler {
-        service: Arc::try_clone(&service)?,
-        method: Method::Turn,
-    };
-    let find = Handler {
-        service,
-        method: Method::Find,
-    };
     let mut methods = BTreeMap::new(alloc);
-    methods.insert(String::from_str(alloc, "/test.Pairs/Turn")?, turn)?;
-    methods.insert(String::from_str(alloc, "/test.Pairs/Find")?, find)?;
+    for (path, method) in [
+        ("/test.Pairs/Turn", Method::Turn),
+        ("/test.Pairs/Find", Method::Find),
+        ("/test.Pairs/Checked", Method::Checked),
+    ] {
+        let handler = Handler {
+            service: Arc::try_clone(&service)?,
+            method,
+        };
+        methods.insert(String::from_str(alloc, path)?, handler)?;
+    }
     Ok(methods)
 }
 
@@ -106,6 +112,12 @@ impl<R: Host> PairsClient<R> {
     pub fn turn(&self, ctx: Context, req: &KeyValue) -> Result<KeyValue> {
         let mut res = nothing(self.client.alloc());
         client_request!(self, ctx, req, "test.Pairs", "Turn", res);
+        Ok(res)
+    }
+
+    pub fn checked(&self, ctx: Context, req: &KeyValue) -> Result<KeyValue> {
+        let mut res = nothing(self.client.alloc());
+        client_request!(self, ctx, req, "test.Pairs", "Checked", res);
         Ok(res)
     }
 

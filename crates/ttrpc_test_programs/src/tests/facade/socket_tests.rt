@@ -63,6 +63,7 @@ fn pairs_turn<R: Host + Abort>(rt: &R, client: &PairsClient<R>) -> Tested {
     for (texts, said) in TURNED {
         let pair = pair_of(alloc, *texts)?;
         is_as_said(rt, client.turn(Context::new(alloc), &pair), said)?;
+        is_as_said(rt, client.checked(Context::new(alloc), &pair), said)?;
     }
     Ok(())
 }
@@ -82,16 +83,33 @@ fn metadata_comes_along<R: Host + Abort>(rt: &R, client: &PairsClient<R>) -> Tes
     is_as_said(rt, missing, &Comes::Pair(("tone", "none")))
 }
 
-/// Bytes that are no pair are an error of the handler, which ends the connection.
-fn other_bytes_end_the_connection<R: Host + Abort>(rt: &R, client: &PairsClient<R>) -> Tested {
-    let alloc = rt.alloc();
-    let request = Request {
+/// A request of a method with bytes that are no pair.
+fn other_bytes(alloc: Global, method: &str) -> Result<Request, Fail> {
+    Ok(Request {
         service: Text::from_str(alloc, "test.Pairs")?,
-        method: Text::from_str(alloc, "Turn")?,
+        method: Text::from_str(alloc, method)?,
         payload: Blob::from_slice(alloc, b"\x0a\x05a")?,
         timeout_nano: 0,
         metadata: Sequence::new(alloc),
-    };
+    })
+}
+
+/// A handler that checks them answers such bytes with a status, and the connection goes on.
+fn other_bytes_are_refused<R: Host + Abort>(rt: &R, client: &PairsClient<R>) -> Tested {
+    let request = other_bytes(rt.alloc(), "Checked")?;
+    match error_of(client.client.request(request))? {
+        Error::RpcStatus(status) => {
+            assert_eq!(rt; status.code, 3);
+            assert!(rt; status.message.as_str().starts_with("Unpack request error "));
+            Ok(())
+        }
+        error => Err(Fail::from(error)),
+    }
+}
+
+/// Bytes that are no pair are an error of the handler, which ends the connection.
+fn other_bytes_end_the_connection<R: Host + Abort>(rt: &R, client: &PairsClient<R>) -> Tested {
+    let request = other_bytes(rt.alloc(), "Turn")?;
     match error_of(client.client.request(request))? {
         Error::Socket(text) => assert_eq!(rt; text.as_str(), "socket disconnected"),
         error => return Err(Fail::from(error)),
@@ -110,6 +128,7 @@ fn service_is_called_by_macros(rt: HostRuntime) -> Tested {
     let client = PairsClient {
         client: Client::connect(rt.clone()?, ADDRESS, true)?,
     };
+    other_bytes_are_refused(&rt, &client)?;
     pairs_turn(&rt, &client)?;
     metadata_comes_along(&rt, &client)?;
     other_bytes_end_the_connection(&rt, &client)?;

@@ -13,3 +13,6 @@ pub returns-in-Err-Failed-clause-refused : goal.returns-in-Err-Failed-clause-ref
 returns-in-Err-Failed-clause-refused g c =
     may_refuse g.O.OutboundTransform c.args.self.now c.args.id c.args.bytes.items c.request_frame-frame.result c.in-Err-Failed.error c.request_frame-frame.ensures
     (c.send.ensures.refused c.in-Err-Failed.error (search rules))
+
+pub send-requires : goal.send-requires
+send-requires g c = rw c.request_frame-frame.ensures.ticket tt

@@ -2,8 +2,8 @@ use Rattle.std.proofs.Common.{rules, ◌≡◌, Err, IfOk, None, inl}
 use Rattle.std.proofs.lemmas.Result.{IfOk-weaker}
 use Rattle.ttrpc_sync_server.specs.Built.{bound}
 use Rattle.ttrpc_sync_server.specs.Settings.{bind_refusal}
+use Rattle.ttrpc_transport.specs.Listeners.{Listens}
 use Rattle.ttrpc_transport.specs.Opened.{IsOpenedAt}
-use Rattle.ttrpc_transport.specs.declared.address.domain.Domain.{Domain as ADomain}
 use Rattle.ttrpc_sync_server.proofs.server.Server.bind.Goals as goal
 
 pub returns-in_err-listener-clause-refused : goal.returns-in_err-listener-clause-refused
@@ -14,8 +14,8 @@ returns-in_err-listener-clause-refused g c =
 
 pub returns-clause-ok : goal.returns-clause-ok
 returns-clause-ok g c =
-    let domain = c.in_ok-listener.listener in
-    let added : IfOk c.add_listener.result (λ server. server ≡ bound c.args.self domain) = search rules in
-    IfOk-weaker c.add_listener.result (λ server. server ≡ bound c.args.self domain)
-    (λ server. (x : ADomain) × IsOpenedAt c.args.sockaddr.now x × server ≡ bound c.args.self x)
-    (λ server is. (domain, c.in_ok-listener.ensures.ok, is)) added
+    let listener = c.in_ok-listener.listener in
+    let added : IfOk c.add_listener.result (λ server. server ≡ bound c.args.self listener) = search rules in
+    IfOk-weaker c.add_listener.result (λ server. server ≡ bound c.args.self listener)
+    (λ server. (x : Listens) × IsOpenedAt c.args.sockaddr.now x.domain × (x.nodelay ≡ c.args.nodelay) × server ≡ bound c.args.self x)
+    (λ server is. (listener, c.in_ok-listener.ensures.ok, c.in_ok-listener.ensures.nodelay, is)) added
