@@ -2,7 +2,7 @@
 
 /// The core of a client.
 pub mod client {
-    pub use ttrpc_client::{CallId, ClientCore, ClientKind};
+    pub use ttrpc_client::{CallId, ClientCore, ClientKind, StreamId, Ticket};
 }
 
 /// The core of a server.

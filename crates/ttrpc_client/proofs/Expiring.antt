@@ -1,5 +1,5 @@
 -- Calls that expire: which are due, and what is left of those that are.
-use Rattle.ttrpc_client.proofs.Words.{rules, arith, ◌≡◌, ◌<◌, ◌≤◌, ℕ, List, [], ◌∷◌, length, Option, Some, None, true, false, refl, sym, ap, subst, ◌∙◌, IsPermutation-cons, IsPermutation-middle, IsPermutation-refl, IsPermutation-trans, length_permutation, insert_entry, is_at, ranked, AllByRecursion, IsPermutation, IsStrictlySortedBy, keys_of, nat_cmp, Call, Waiting, Expired, Client, OthersStay, call_in, IsDeadline, due_at, due_ids, expired_at, is_due, ExpiresOne, Settles, AreDeadlines, deadline_in, has_deadline, is_moment, cases_Bool, inl, inr, IfSome, values_of, nat_cmp_total, by_ranked, same_Some, eq_by_cmp_equiv, none_below_head}
+use Rattle.ttrpc_client.proofs.Words.{rules, arith, ◌≡◌, ◌≢◌, ◌<◌, ◌≤◌, ◌%◌, ◌^◌, cases_lt, IsClient, ℕ, List, [], ◌∷◌, length, Option, Some, None, true, false, refl, sym, ap, subst, ◌∙◌, IsPermutation-cons, IsPermutation-middle, IsPermutation-refl, IsPermutation-trans, length_permutation, insert_entry, is_at, ranked, AllByRecursion, IsPermutation, IsStrictlySortedBy, keys_of, nat_cmp, Call, Waiting, Expired, Client, OthersStay, call_in, IsDeadline, due_at, due_ids, expired_at, is_due, ExpiresOne, Settles, AreDeadlines, deadline_in, has_deadline, is_moment, cases_Bool, inl, inr, IfSome, values_of, nat_cmp_total, by_ranked, same_Some, eq_by_cmp_equiv, none_below_head}
 use Rattle.std.proofs.lemmas.List.Elements.{recursion_from_All}
 use Rattle.std.proofs.lemmas.Map.{lookup-none}
 use Rattle.std.proofs.lemmas.Map.Keys.{IsDistinct-from_sorted, sorted_tail}
@@ -17,6 +17,16 @@ waiting_at at call h = cc
 
 pub found : (ds : List (ℕ × ℕ)) (calls : List (ℕ × Call)) (at id : ℕ) → AreDeadlines ds calls → has_deadline ds at id ≡ true → call_in calls id ≡ Some (Waiting (Some at))
 found ds calls at id are there = waiting_at at (call_in calls id) (sym (are at id) ∙ there)
+
+-- a call that is kept has an id of 32 bits
+pub id_fits : (next : ℕ) (calls : List (ℕ × Call)) (id : ℕ) (call : Call) → IsClient next calls → call_in calls id ≡ Some call → id < 2 ^ 32
+id_fits next calls id call valid is =
+    let some : call_in calls id ≢ None = λ none. let bad : Some call ≡ None = sym is ∙ none in cc in
+    let odd : id % 2 ≡ 1 = valid.odd_calls id some in
+    elim (cases_lt id next) [
+      | inl less ↦ omega (arith, odd, less, valid.in_range)
+      | inr not ↦ absurd (some (valid.fresh id (omega (arith, not))))
+    ]
 
 -- ---- none is due
 

@@ -1,5 +1,5 @@
 -- What the state of every client keeps, through each change.
-use Rattle.ttrpc_client.proofs.Words.{rules, arith, length, ◌≡◌, ◌≢◌, ◌<◌, ◌≤◌, ◌%◌, ◌^◌, ◌+◌, ◌-◌, ◌++◌, ℕ, nat_eq, List, [], ◌∷◌, Option, Some, None, Bool, true, false, if◌then◌else◌, refl, sym, ap, subst, ◌∙◌, nat_cmp_total, IsStrictlySortedBy, keys_of, values_of, remove_entry, option_map, unwrap_or, insert_entry, is_at, nat_cmp, Call, Waiting, Client, IsClient, OthersStay, call_in, told_left, waits, Admits, Leaves, AreDeadlines, ChangesTo, IsKept, deadline_in, has_deadline, is_moment, waiting_in, weight, cond_both, sum_by-insert_entry, sum_by-remove_entry}
+use Rattle.ttrpc_client.proofs.Words.{rules, arith, length, ◌≡◌, ◌≢◌, ◌<◌, ◌≤◌, ◌%◌, ◌^◌, ◌+◌, ◌-◌, ◌++◌, ℕ, nat_eq, List, [], ◌∷◌, Option, Some, None, Bool, true, false, if◌then◌else◌, refl, sym, ap, subst, ◌∙◌, nat_cmp_total, IsStrictlySortedBy, keys_of, values_of, remove_entry, option_map, unwrap_or, insert_entry, is_at, nat_cmp, Call, Stream, Waiting, Client, IsClient, OthersStay, call_in, told_left, waits, Admits, Leaves, AreDeadlines, ChangesTo, IsKept, deadline_in, has_deadline, is_moment, waiting_in, weight, cond_both, sum_by-insert_entry, sum_by-remove_entry}
 use Rattle.std.proofs.lemmas.List.Sums.{sum_by-cons}
 use Rattle.ttrpc_client.specs.declared.kind.ClientKind.{ClientKind}
 use Rattle.ttrpc_client.proofs.Entries.{apart_place, at_or_apart, undone}
@@ -173,9 +173,10 @@ module _ (next : ℕ) (old : List (ℕ × Call)) (ds : List (ℕ × ℕ)) (ended
 
 -- ---- a call that is admitted and withdrawn
 
-same_client : (c : Client) (kind : ClientKind) (next : ℕ) (calls : List (ℕ × Call)) (ended : List ℕ) → kind ≡ c.kind → next ≡ c.next → calls ≡ c.calls → ended ≡ c.ended
-    → (let d : Client = record { kind = kind; next = next; calls = calls; ended = ended } in d ≡ c)
-same_client c kind next calls ended p q r s = rw (p, q, r, s) refl
+same_client : (c : Client) (kind : ClientKind) (next : ℕ) (calls : List (ℕ × Call)) (ended : List ℕ) (streams : List (ℕ × Stream)) (heard : List ℕ)
+    → kind ≡ c.kind → next ≡ c.next → calls ≡ c.calls → ended ≡ c.ended → streams ≡ c.streams → heard ≡ c.heard
+    → (let d : Client = record { kind = kind; next = next; calls = calls; ended = ended; streams = streams; heard = heard } in d ≡ c)
+same_client c kind next calls ended streams heard p q r s t u = rw (p, q, r, s, t, u) refl
 
 pub withdrawn : (old mid new : Client) (id : ℕ) (deadline : Option ℕ) → Admits old id deadline mid → Leaves mid id new → record new { next = new.next - 2 } ≡ old
 withdrawn old mid new id deadline admits leaves =
@@ -183,8 +184,10 @@ withdrawn old mid new id deadline admits leaves =
     let next_is : new.next ≡ mid.next = ap (λ (c : Client). c.next) leaves.same in
     let id_is = admits.id_is in
     let calls : new.calls ≡ old.calls = leaves.calls ∙ ap (remove_entry (is_at (nat_cmp id))) admits.calls ∙ undone id (Waiting deadline) old.calls admits.fresh in
-    same_client old new.kind (new.next - 2) new.calls new.ended
+    same_client old new.kind (new.next - 2) new.calls new.ended new.streams new.heard
     (ap (λ (c : Client). c.kind) leaves.same ∙ ap (λ (c : Client). c.kind) admits.same)
     (omega (arith, next_was, next_is, id_is))
     calls
     (ap (λ (c : Client). c.ended) leaves.same ∙ ap (λ cs. told_left cs mid.ended) calls ∙ ap (λ (c : Client). told_left old.calls c.ended) admits.same ∙ admits.told)
+    (ap (λ (c : Client). c.streams) leaves.same ∙ ap (λ (c : Client). c.streams) admits.same)
+    (ap (λ (c : Client). c.heard) leaves.same ∙ ap (λ (c : Client). c.heard) admits.same)

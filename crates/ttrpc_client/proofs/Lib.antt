@@ -1,11 +1,12 @@
 pub mod Words
 pub mod Entries
-pub mod Soonest
 pub mod Keeping
 pub mod Expiring
 pub mod Ticking
 pub mod Rising
 pub mod Calls
+pub mod Entered
+pub mod Reacting
 pub mod Turning
 pub mod Once
 pub mod Throwing

@@ -1,8 +1,8 @@
 -- The outcome of a call is given once.
-use Rattle.ttrpc_client.proofs.Words.{cases_eq, cases_lt, eq-eqb, ne_eqb, arith, ◌≡◌, ◌≢◌, ◌⊎◌, inl, inr, ℕ, ◌<◌, ◌≤◌, List, [], ◌∷◌, ◌++◌, length, length-append, Option, Some, None, is_some, Result, Bool, refl, sym, ap, subst, ◌∙◌, Error, Happening, OutboundTransform, InboundTransform, Connection, Failure, ACall, Call, Waiting, ClientCore, Called, Told, asked_by, called, core, ids_asked, outcomes_of, told_by, Client, IsClient, call_at, GivesOutcome, TakesOutcome, calling, left_of, Did, Calls, Runs, all_in_front, all_behind}
+use Rattle.ttrpc_client.proofs.Words.{cases_eq, cases_lt, eq-eqb, ne_eqb, arith, ◌≡◌, ◌≢◌, ◌⊎◌, inl, inr, ℕ, ◌<◌, ◌≤◌, List, [], ◌∷◌, ◌++◌, length, length-append, Option, Some, None, is_some, Result, Bool, refl, sym, ap, subst, ◌∙◌, Error, Happening, OutboundTransform, InboundTransform, Connection, Failure, ACall, Call, Waiting, ClientCore, Called, Told, asked_by, called, core, ids_asked, ids_used, used_by, outcomes_of, told_by, Client, IsClient, call_at, GivesOutcome, TakesOutcome, calling, left_of, Did, Calls, Runs, all_in_front, all_behind}
 use Rattle.ttrpc_proto.specs.declared.response.Response.{Response}
 use Rattle.ttrpc_client.proofs.Turning.{Leaves, call_leaves, leaves_valid, run_leaves}
-use Rattle.ttrpc_client.proofs.Rising.{Apart, never_below, rise_up}
+use Rattle.ttrpc_client.proofs.Rising.{Apart, all_within, never_below, rise_up}
 
 -- nothing is kept of a call whose outcome was given
 gone_by_giving : (failure : Option Failure) (call : Option Call) (outcome : Result Response Error) → GivesOutcome failure call (Some outcome) → left_of (is_some failure) call ≡ None
@@ -50,7 +50,7 @@ module _ {O I : Type 0} (out : OutboundTransform O) (in_ : InboundTransform I) (
   run_gives_none k [] s old hs t new run none apart = refl
   run_gives_none k (c ∷ cs) s old hs t new run none apart =
       let mid = run.0 in
-      let leaves : Leaves (asked_by c) s mid = call_leaves out in_ seals c s old run.2 mid run.1 run.4 in
+      let leaves : Leaves (used_by c) (asked_by c) s mid = call_leaves out in_ seals c s old run.2 mid run.1 run.4 in
       let still : call_at mid k ≡ None = leaves.none k (all_in_front (λ id. k ≢ id) (asked_by c) (ids_asked cs) apart) none in
       ap (λ os. os ++ outcomes_of k cs) (none_of_none k c s mid (call_gives k c s old run.2 mid run.1 run.4) none)
       ∙ run_gives_none k cs mid run.1 run.3 t new run.6 still (all_behind (λ id. k ≢ id) (asked_by c) (ids_asked cs) apart)
@@ -60,13 +60,13 @@ module _ {O I : Type 0} (out : OutboundTransform O) (in_ : InboundTransform I) (
   run_gives_one k [] s old hs t new valid run = omega arith
   run_gives_one k (c ∷ cs) s old hs t new valid run =
       let mid = run.0 in
-      let leaves : Leaves (asked_by c) s mid = call_leaves out in_ seals c s old run.2 mid run.1 run.4 in
+      let leaves : Leaves (used_by c) (asked_by c) s mid = call_leaves out in_ seals c s old run.2 mid run.1 run.4 in
       elim (call_gives k c s old run.2 mid run.1 run.4) [
-        | inl none ↦ subst (λ os. AtMostOne (os ++ outcomes_of k cs)) (sym none) (run_gives_one k cs mid run.1 run.3 t new (leaves_valid (asked_by c) s mid leaves valid) run.6)
+        | inl none ↦ subst (λ os. AtMostOne (os ++ outcomes_of k cs)) (sym none) (run_gives_one k cs mid run.1 run.3 t new (leaves_valid (used_by c) (asked_by c) s mid leaves valid) run.6)
         | inr one ↦
             let before : k < s.next = elim (cases_lt k s.next) [ inl less ↦ less | inr le ↦ absurd (one.1 (valid.fresh k le)) ] in
-            let up = rise_up s.next (asked_by c) mid.next leaves.rises in
+            let up = rise_up s.next (used_by c) mid.next leaves.rises in
             let later = run_leaves out in_ seals cs mid run.1 run.3 t new run.6 in
             then_none (told_by k c) (outcomes_of k cs) one.0
-            (run_gives_none k cs mid run.1 run.3 t new run.6 one.2 (never_below k mid.next (ids_asked cs) t.next (omega (arith, before, up)) later.rises))
+            (run_gives_none k cs mid run.1 run.3 t new run.6 one.2 (all_within (λ id. k ≢ id) (ids_asked cs) (ids_used cs) later.within (never_below k mid.next (ids_used cs) t.next (omega (arith, before, up)) later.rises)))
       ]

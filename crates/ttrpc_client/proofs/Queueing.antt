@@ -1,30 +1,9 @@
 -- The requests that are queued: none twice.
-use Rattle.ttrpc_client.proofs.Words.{arith, ◌≡◌, ◌⊎◌, inl, inr, ℕ, ◌<◌, List, [], ◌∷◌, ◌++◌, Bool, true, false, refl, sym, ap, ◌∙◌, append_cancel_left, append-nil, cases_Bool, flat_map-append, AllByRecursion, IsDistinct, nat_eq, Incoming, Queued, Queue, Happening, after_all, departing, IsMerge, placed, OutboundTransform, InboundTransform, Connection, ACall, AreQueuedOnce, Called, Asked, Told, Dropped, Ticked, AskedEnded, asked_by, called, ids_asked, requests_in, RiseByTwo, thrown_if, Client, calling, Outbox, Gave, Lent, Reported, Failed, Did, Calls, Gives, Runs, ActsAll, Scene, scene, Sent, SendsAll, run_goes, all_joined, all_are_accounted}
+use Rattle.ttrpc_client.proofs.Words.{arith, ◌≡◌, ◌≢◌, inl, inr, ℕ, ◌<◌, List, [], ◌∷◌, ◌++◌, Bool, true, false, refl, sym, ap, ◌∙◌, append_cancel_left, append-nil, cases_Bool, flat_map-append, AllByRecursion, IsDistinct, nat_eq, Incoming, Queued, Queue, Happening, after_all, departing, IsMerge, placed, OutboundTransform, InboundTransform, Connection, ACall, AreQueuedOnce, Called, Asked, Told, Dropped, Ticked, AskedEnded, Opened, SentOn, Received, ReceiverDropped, SenderDropped, AskedHeard, asked_by, called, ids_asked, ids_used, requests_in, RiseByTwo, thrown_if, Client, calling, Outbox, Gave, Lent, Reported, Failed, Did, Calls, Gives, Runs, ActsAll, Scene, scene, Sent, SendsAll, run_goes, all_joined, all_are_accounted}
 use Rattle.ttrpc_frame.specs.Queue as queue
 use Rattle.ttrpc_client.proofs.Calls.{called_is_lawful}
-use Rattle.ttrpc_client.proofs.Rising.{Apart, differ, never_below, rise_apart, rise_below, rise_up}
+use Rattle.ttrpc_client.proofs.Rising.{Apart, Within, all_within, differ, distinct_within, never_below, rise_apart, rise_below, rise_up, within_itself}
 use Rattle.ttrpc_client.proofs.Turning.{run_leaves}
-
--- ---- lists from which some items are gone
-
-abbrev Within : List ℕ → List ℕ → Type 0
-Within xs [] = xs ≡ []
-Within xs (y ∷ ys) = Within xs ys ⊎ ((zs : List ℕ) × (xs ≡ y ∷ zs) × Within zs ys)
-
-within_itself : (xs : List ℕ) → Within xs xs
-within_itself [] = refl
-within_itself (x ∷ xs) = inr (xs, refl, within_itself xs)
-
-all_within : (P : ℕ → Type 0) (xs ys : List ℕ) → Within xs ys → AllByRecursion P ys → AllByRecursion P xs
-all_within P xs [] same all = rw same tt
-all_within P xs (y ∷ ys) (inl w) all = all_within P xs ys w all.1
-all_within P xs (y ∷ ys) (inr w) all = rw w.1 (all.0, all_within P w.0 ys w.2 all.1)
-
-distinct_within : (xs ys : List ℕ) → Within xs ys → IsDistinct nat_eq ys → IsDistinct nat_eq xs
-unfolding IsDistinct
-distinct_within xs [] same d = rw same tt
-distinct_within xs (y ∷ ys) (inl w) d = distinct_within xs ys w d.1
-distinct_within xs (y ∷ ys) (inr w) d = rw w.1 (all_within (λ z. nat_eq y z ≡ false) w.0 ys w.2 d.0, distinct_within w.0 ys w.2 d.1)
 
 -- ---- frames that are gone
 
@@ -69,14 +48,14 @@ requests_behind : (fs gs : List Queued) → requests_in (fs ++ gs) ≡ requests_
 requests_behind [] gs = refl
 requests_behind (f ∷ fs) gs = let later = requests_behind fs gs in elim (cases_Bool f.is_unary_request) [ inl e ↦ rw (e, later) refl | inr e ↦ rw (e, later) refl ]
 
-once_behind : (first next : ℕ) (fs gs : List Queued) (ids : List ℕ) → requests_in gs ≡ ids → RiseByTwo first ids next → AreQueuedOnce first fs → AreQueuedOnce next (fs ++ gs)
-once_behind first next fs gs ids are rises once =
-    let up = rise_up first ids next rises in
+once_behind : (first next : ℕ) (fs gs : List Queued) (ids used : List ℕ) → requests_in gs ≡ ids → Within ids used → RiseByTwo first used next → AreQueuedOnce first fs → AreQueuedOnce next (fs ++ gs)
+once_behind first next fs gs ids used are within rises once =
+    let up = rise_up first used next rises in
     let is : requests_in (fs ++ gs) ≡ requests_in fs ++ ids = requests_behind fs gs ∙ ap (λ l. requests_in fs ++ l) are in
     record {
-      distinct = rw is (distinct_both (requests_in fs) ids once.distinct (rise_apart first ids next rises)
-          (all_so (λ k. k < first) (λ k. Apart k ids) (λ k less. never_below k first ids next less rises) (requests_in fs) once.below));
-      below = rw is (all_joined (λ k. k < next) (requests_in fs) ids (all_so (λ k. k < first) (λ k. k < next) (λ k less. omega (arith, less, up)) (requests_in fs) once.below) (rise_below first ids next rises));
+      distinct = rw is (distinct_both (requests_in fs) ids once.distinct (distinct_within ids used within (rise_apart first used next rises))
+          (all_so (λ k. k < first) (λ k. Apart k ids) (λ k less. all_within (λ id. k ≢ id) ids used within (never_below k first used next less rises)) (requests_in fs) once.below));
+      below = rw is (all_joined (λ k. k < next) (requests_in fs) ids (all_so (λ k. k < first) (λ k. k < next) (λ k less. omega (arith, less, up)) (requests_in fs) once.below) (all_within (λ id. id < next) ids used within (rise_below first used next rises)));
     }
 
 -- ---- each call queues the request that it makes, if it makes one, and nothing else
@@ -112,6 +91,12 @@ module _ {O I : Type 0} (out : OutboundTransform O) (in_ : InboundTransform I) (
   call_places (Did (Dropped id)) s old hs t new call = ap (λ l. requests_in (placed l)) call.1 ∙ ap requests_in (none_placed _ _)
   call_places (Did (Ticked now)) s old hs t new call = ap (λ l. requests_in (placed l)) call.1 ∙ ap requests_in (none_placed _ _)
   call_places (Did (AskedEnded id)) s old hs t new call = rw call.1 refl
+  call_places (Did (Opened request streaming_client streaming_server id)) s old hs t new call = let f = call.1.1 in rw (call.1.3, f.is_unary_request) refl
+  call_places (Did (SentOn id flags plain sender ticket)) s old hs t new call = let f = call.1.1 in rw (call.1.3, f.is_unary_request) refl
+  call_places (Did (Received id given)) s old hs t new call = rw call.1 refl
+  call_places (Did (ReceiverDropped id)) s old hs t new call = rw call.1 refl
+  call_places (Did (SenderDropped id)) s old hs t new call = rw call.1 refl
+  call_places (Did (AskedHeard id)) s old hs t new call = rw call.1 refl
 
   run_places : (cs : List (ACall Called)) (s : Client) (old : Connection O I) (hs : List Happening) (t : Client) (new : Connection O I) → Runs (calling out in_) (called out seals) s old cs hs t new
       → requests_in (placed hs) ≡ ids_asked cs
@@ -124,7 +109,8 @@ module _ {O I : Type 0} (out : OutboundTransform O) (in_ : InboundTransform I) (
       → AreQueuedOnce s.next old.outbox.queue.frames → Runs (calling out in_) (called out seals) s old cs hs t new → AreQueuedOnce t.next new.outbox.queue.frames
   run_once cs s old hs t new once run =
       let q = old.outbox.queue in
-      let all = once_behind s.next t.next q.frames (placed hs) (ids_asked cs) (run_places cs s old hs t new run) (run_leaves out in_ seals cs s old hs t new run).rises once in
+      let leaves = run_leaves out in_ seals cs s old hs t new run in
+      let all = once_behind s.next t.next q.frames (placed hs) (ids_asked cs) (ids_used cs) (run_places cs s old hs t new run) leaves.within leaves.rises once in
       let merge = all_are_accounted hs q in
       rw (run_goes (calling out in_) (called out seals) (called_is_lawful out seals) cs s old hs t new run).after
       (once_within t.next (departing q hs) (after_all q hs).frames (still_queued hs q) (once_within t.next (q.frames ++ placed hs) (departing q hs) (merge_within _ merge.0 _ merge.1) all))

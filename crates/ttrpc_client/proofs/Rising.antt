@@ -1,5 +1,5 @@
 -- Ids that rise by two.
-use Rattle.ttrpc_client.proofs.Words.{arith, ◌≡◌, ◌≢◌, ℕ, ◌+◌, ◌<◌, ◌≤◌, ◌%◌, nat_eq, List, [], ◌∷◌, ◌++◌, false, sym, subst, ◌∙◌, AllByRecursion, IsDistinct, RiseByTwo, last_id}
+use Rattle.ttrpc_client.proofs.Words.{arith, ◌≡◌, ◌≢◌, ◌⊎◌, inl, inr, refl, ℕ, ◌+◌, ◌<◌, ◌≤◌, ◌%◌, nat_eq, List, [], ◌∷◌, ◌++◌, false, sym, subst, ◌∙◌, AllByRecursion, IsDistinct, RiseByTwo, last_id}
 
 pub rise_both : (xs ys : List ℕ) (first mid next : ℕ) → RiseByTwo first xs mid → RiseByTwo mid ys next → RiseByTwo first (xs ++ ys) next
 rise_both [] ys first mid next one two = subst (λ n. RiseByTwo n ys next) one two
@@ -20,6 +20,36 @@ rise_range first (id ∷ ids) next rises le = let is = rises.0 in let below = ri
 pub rise_below : (first : ℕ) (ids : List ℕ) (next : ℕ) → RiseByTwo first ids next → AllByRecursion (λ id. id < next) ids
 rise_below first [] next rises = tt
 rise_below first (id ∷ ids) next rises = let up = rise_up (first + 2) ids next rises.2 in (omega (arith, up, rises.0), rise_below (first + 2) ids next rises.2)
+
+-- ---- lists from which some items are gone
+
+abbrev pub Within : List ℕ → List ℕ → Type 0
+Within xs [] = xs ≡ []
+Within xs (y ∷ ys) = Within xs ys ⊎ ((zs : List ℕ) × (xs ≡ y ∷ zs) × Within zs ys)
+
+pub within_itself : (xs : List ℕ) → Within xs xs
+within_itself [] = refl
+within_itself (x ∷ xs) = inr (xs, refl, within_itself xs)
+
+pub none_within : (xs : List ℕ) → Within [] xs
+none_within [] = refl
+none_within (x ∷ xs) = inl (none_within xs)
+
+pub within_both : (xs us ys vs : List ℕ) → Within xs us → Within ys vs → Within (xs ++ ys) (us ++ vs)
+within_both xs [] ys vs one two = rw one two
+within_both xs (u ∷ us) ys vs (inl w) two = inl (within_both xs us ys vs w two)
+within_both xs (u ∷ us) ys vs (inr w) two = rw w.1 (inr (w.0 ++ ys, refl, within_both w.0 us ys vs w.2 two))
+
+pub all_within : (P : ℕ → Type 0) (xs ys : List ℕ) → Within xs ys → AllByRecursion P ys → AllByRecursion P xs
+all_within P xs [] same all = rw same tt
+all_within P xs (y ∷ ys) (inl w) all = all_within P xs ys w all.1
+all_within P xs (y ∷ ys) (inr w) all = rw w.1 (all.0, all_within P w.0 ys w.2 all.1)
+
+pub distinct_within : (xs ys : List ℕ) → Within xs ys → IsDistinct nat_eq ys → IsDistinct nat_eq xs
+unfolding IsDistinct
+distinct_within xs [] same d = rw same tt
+distinct_within xs (y ∷ ys) (inl w) d = distinct_within xs ys w d.1
+distinct_within xs (y ∷ ys) (inr w) d = rw w.1 (all_within (λ z. nat_eq y z ≡ false) w.0 ys w.2 d.0, distinct_within w.0 ys w.2 d.1)
 
 -- ---- ids that are not among others
 

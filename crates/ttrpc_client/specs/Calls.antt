@@ -3,12 +3,12 @@
 -- Source: this project's.
 use Rattle.std.specs.Prelude.{◌≡◌, ◌<◌, ◌≤◌, ◌&&◌, not, ℕ, ◌+◌, List, [], ◌∷◌, ◌++◌, nat_eq, option_to_list, Option, Some, None, is_some, Bool, if◌then◌else◌, Result}
 use Rattle.std.specs.List.{AllByRecursion, IsDistinct, flat_map}
-use Rattle.ttrpc_client.specs.Types.{Error, Request, Response, Queued, OutboundTransform, Connection, Failure}
+use Rattle.ttrpc_client.specs.Types.{Error, Request, Response, Queued, OutboundTransform, Connection, Failure, Sender}
 use Rattle.ttrpc_frame.specs.Queue.{Happening, Placed, Thrown}
 use Rattle.ttrpc_connection.specs.Calls.{Call, Did, Others, Queues}
 use Rattle.ttrpc_client.specs.declared.client.ClientCore.{ClientCore}
 use Rattle.ttrpc_client.specs.State.{Client, call_at, throws}
-use Rattle.ttrpc_client.specs.Protocol.{IsRequestFrame, last_id, Forgets, Requests, TakesOutcome, Ticks, due_at, takes_back}
+use Rattle.ttrpc_client.specs.Protocol.{DropsReceiver, DropsSender, IsDataFrame, IsOpeningFrame, IsRequestFrame, last_id, Forgets, OpensStream, ReceivesOne, Requests, SendsOn, TakesOutcome, Ticks, due_at, takes_back}
 
 -- a call, with what it was given and what it gave; one that was refused changes nothing, and is none
 pub data Called : Type 0 where
@@ -22,6 +22,18 @@ pub data Called : Type 0 where
   Ticked : (now : ℕ) → Called
   -- it was asked which call ended, and this came
   AskedEnded : (id : Option ℕ) → Called
+  -- a stream was opened by a request, to send items or not, and to receive them or not, and got this id
+  Opened : (request : Request) → (streaming_client streaming_server : Bool) → (id : ℕ) → Called
+  -- data were sent on a stream in a frame of these flags, after which its sender was in this state, and got this ticket
+  SentOn : (id flags : ℕ) → (plain : List ℕ) → (sender : Sender) → (ticket : ℕ) → Called
+  -- the next item of a stream was asked for, and this came
+  Received : (id : ℕ) → (given : Option (Result (List ℕ) Error)) → Called
+  -- the receiver of a stream was dropped
+  ReceiverDropped : (id : ℕ) → Called
+  -- its sender was
+  SenderDropped : (id : ℕ) → Called
+  -- it was asked for which stream something came, and this came
+  AskedHeard : (id : Option ℕ) → Called
 
 -- the core of this state and this connection
 abbrev pub core : {O I : Type 0} → Client → Connection O I → ClientCore O I
@@ -39,6 +51,11 @@ pub record TellsEnded {O I : Type 0} (old : ClientCore O I) (id : Option ℕ) (n
   pub first : old.state.ended ≡ option_to_list id ++ new.state.ended
   pub same : new ≡ record old { state = record old.state { ended = new.state.ended } }
 
+-- the first of the streams for which something came was told of, if there was one
+pub record TellsHeard {O I : Type 0} (old : ClientCore O I) (id : Option ℕ) (new : ClientCore O I) : Type 0 where
+  pub first : old.state.heard ≡ option_to_list id ++ new.state.heard
+  pub same : new ≡ record old { state = record old.state { heard = new.state.heard } }
+
 -- what a call does to the core
 abbrev pub Does : {O I : Type 0} → OutboundTransform O → Bool → Called → ClientCore O I → ClientCore O I → Type 0
 Does out seals (Asked request now id) old new = Requests out old request now id new
@@ -46,6 +63,12 @@ Does out seals (Told id outcome) old new = TakesOutcome old id outcome new
 Does out seals (Dropped id) old new = Forgets seals old id new
 Does out seals (Ticked now) old new = Passes seals old.connection.failure old now new
 Does out seals (AskedEnded id) old new = TellsEnded old id new
+Does out seals (Opened request streaming_client streaming_server id) old new = OpensStream out old request streaming_client streaming_server id new
+Does out seals (SentOn id flags plain sender ticket) old new = SendsOn out old id flags plain sender ticket new
+Does out seals (Received id given) old new = ReceivesOne old id given new
+Does out seals (ReceiverDropped id) old new = DropsReceiver old id new
+Does out seals (SenderDropped id) old new = DropsSender old id new
+Does out seals (AskedHeard id) old new = TellsHeard old id new
 
 -- ---- what the queue goes through by it
 
@@ -57,14 +80,18 @@ thrown_if may ids = if may then Thrown ids ∷ [] else []
 abbrev pub thrown_at : {O I : Type 0} → Bool → ClientCore O I → ℕ → List Happening
 thrown_at seals old now = thrown_if (not (is_some old.connection.failure) && throws old.state.kind seals) (λ id. due_at now (call_at old.state id))
 
+-- a frame such as this was queued
+abbrev pub QueuesOne : {O I : Type 0} → (Queued → Type 0) → ClientCore O I → ClientCore O I → List Happening → Type 0
+QueuesOne is_such old new happenings = (f : Queued) × is_such f × Queues old.connection (f ∷ []) new.connection × (happenings ≡ Placed f ∷ [])
+
 -- what the queue goes through by a call
 abbrev pub Causes : {O I : Type 0} → Called → Bool → ClientCore O I → ClientCore O I → List Happening → Type 0
-Causes (Asked request now id) seals old new happenings =
-    (f : Queued) × IsRequestFrame id f × Queues old.connection (f ∷ []) new.connection × (happenings ≡ Placed f ∷ [])
-Causes (Told id outcome) seals old new happenings = happenings ≡ []
+Causes (Asked request now id) seals old new happenings = QueuesOne (IsRequestFrame id) old new happenings
 Causes (Dropped id) seals old new happenings = happenings ≡ thrown_if (takes_back seals old id) (λ k. nat_eq k id)
 Causes (Ticked now) seals old new happenings = happenings ≡ thrown_at seals old now
-Causes (AskedEnded id) seals old new happenings = happenings ≡ []
+Causes (Opened request streaming_client streaming_server id) seals old new happenings = QueuesOne (IsOpeningFrame streaming_client id) old new happenings
+Causes (SentOn id flags plain sender ticket) seals old new happenings = QueuesOne (IsDataFrame id flags ticket) old new happenings
+Causes call seals old new happenings = happenings ≡ []
 
 -- what such a call does, and what the queue goes through by it
 abbrev pub called : {O I : Type 0} → OutboundTransform O → Bool → Others Called Client O I
@@ -80,6 +107,16 @@ asked_by call = []
 -- the ids of the requests that were accepted, in order
 abbrev pub ids_asked : List (Call Called) → List ℕ
 ids_asked calls = flat_map asked_by calls
+
+-- the id that was used by it: that of a request, or of a stream that was opened
+abbrev pub used_by : Call Called → List ℕ
+used_by (Did (Asked request now id)) = id ∷ []
+used_by (Did (Opened request streaming_client streaming_server id)) = id ∷ []
+used_by call = []
+
+-- the ids that were used, in order
+abbrev pub ids_used : List (Call Called) → List ℕ
+ids_used calls = flat_map used_by calls
 
 -- From this id on each is two more than the one before, and none is above the greatest; the next is then the last one.
 abbrev pub RiseByTwo : ℕ → List ℕ → ℕ → Type 0

@@ -1,18 +1,21 @@
 -- What the parts of a call do, which its users need not read.
 -- Source: this project's.
-use Rattle.std.specs.Prelude.{◌≡◌, ℕ, ◌+◌, ◌++◌, List, [], ◌∷◌, ◌&&◌, not, if◌then◌else◌, Option, None, Some, Bool, IsPermutation}
+use Rattle.std.specs.Prelude.{◌≡◌, ◌⊎◌, ◌≤◌, ℕ, ◌+◌, ◌++◌, List, [], ◌∷◌, ◌&&◌, not, if◌then◌else◌, Option, None, Some, Bool, IsPermutation}
 use Rattle.std.specs.Ordering.{nat_cmp}
 use Rattle.std.specs.List.Sorted.{IsStrictlySortedBy}
 use Rattle.std.specs.BTreeMap.{insert_entry, is_at}
 use Rattle.std.specs.Map.{keys_of, remove_entry}
-use Rattle.ttrpc_client.specs.Types.{Queued, OutboundTransform, Call, Waiting}
+use Rattle.ttrpc_client.specs.Types.{Error, NoMemory as MemoryRefused, Others, Queued, OutboundTransform, Request, Call, Waiting, Stream}
 use Rattle.ttrpc_secure.specs.declared.transform.TransformError.{TransformError}
 use Rattle.ttrpc_secure.specs.declared.transform.TransformError.TheVariants.{Refused, NoMemory}
+use Rattle.ttrpc_secure.specs.Context.Texts.{unsealed_text}
 use Rattle.ttrpc_secure.specs.Sends.{associated}
-use Rattle.ttrpc_connection.specs.Frames.{SendsOne}
+use Rattle.ttrpc_connection.specs.Failure.{IsTold}
+use Rattle.ttrpc_connection.specs.Frames.{SendsOne, safe_limit}
 use Rattle.ttrpc_client.specs.declared.client.ClientCore.{ClientCore}
-use Rattle.ttrpc_client.specs.State.{Client, OthersStay, call_at, told_left, waits}
-use Rattle.ttrpc_client.specs.Protocol.{due_ids, expired_at, left_of, IsRequestFrame}
+use Rattle.ttrpc_client.specs.State.{Client, OthersStay, call_at, stream_at, told_left, waits}
+use Rattle.ttrpc_client.specs.Streams.{StreamsStay, new_stream}
+use Rattle.ttrpc_client.specs.Protocol.{due_ids, expired_at, left_of, HasNoId, IsAboveLimit, IsOpeningFrame, IsRequestFrame, last_id, request_bytes, request_size}
 
 -- ---- what is done to it
 
@@ -23,8 +26,19 @@ pub record Admits (old : Client) (id : ℕ) (deadline : Option ℕ) (new : Clien
   pub calls : new.calls ≡ insert_entry nat_cmp old.calls id (Waiting deadline)
   pub own : call_at new id ≡ Some (Waiting deadline)
   pub others : OthersStay old.calls id new.calls
+  pub no_stream : stream_at new id ≡ None
   pub id_is : id ≡ old.next
   pub same : new ≡ record old { next = id + 2; calls = new.calls }
+
+-- a new stream is kept
+pub record AdmitsStream (old : Client) (id : ℕ) (stream : Stream) (new : Client) : Type 0 where
+  pub fresh : stream_at old id ≡ None
+  pub streams : new.streams ≡ insert_entry nat_cmp old.streams id stream
+  pub own : stream_at new id ≡ Some stream
+  pub others : StreamsStay old.streams id new.streams
+  pub no_call : call_at new id ≡ None
+  pub id_is : id ≡ old.next
+  pub same : new ≡ record old { next = id + 2; streams = new.streams }
 
 -- one that waited has ended in some way
 pub record Settles (old : Client) (id : ℕ) (call : Call) (new : Client) : Type 0 where
@@ -69,13 +83,41 @@ pub record Begins {O I : Type 0} (out : OutboundTransform O) (old : ClientCore O
     connection = record old.connection { outbox = new.connection.outbox };
   }
 
--- the half refuses to seal a request, for this reason
-pub record RefusesSealing {O I : Type 0} (out : OutboundTransform O) (old : ClientCore O I) (id : ℕ) (plain why : List ℕ) : Type 0 where
+-- A stream was opened: it is kept, and its request is sealed and queued.
+pub record BeginsStream {O I : Type 0} (out : OutboundTransform O) (old : ClientCore O I) (streaming_client streaming_server : Bool) (id : ℕ) (plain : List ℕ) (new : ClientCore O I) : Type 0 where
+  pub own : stream_at new.state id ≡ Some (new_stream streaming_client streaming_server)
+  pub others : StreamsStay old.state.streams id new.state.streams
   pub frame : Queued
-  pub is_frame : IsRequestFrame id frame
+  pub is_frame : IsOpeningFrame streaming_client id frame
+  pub sends : SendsOne out old.connection.outbox frame plain new.connection.outbox
+  pub same : new ≡ record old {
+    state = record old.state { next = id + 2; streams = new.state.streams };
+    connection = record old.connection { outbox = new.connection.outbox };
+  }
+
+-- the half refuses to seal data in such a frame, for this reason
+pub record RefusesSealing {O I : Type 0} (out : OutboundTransform O) (old : ClientCore O I) (is_such : Queued → Type 0) (plain why : List ℕ) : Type 0 where
+  pub frame : Queued
+  pub is_frame : is_such frame
   pub refuses : out.refuses old.connection.outbox.half plain (associated frame.message.header) why
 
--- it may fail so at a request
-abbrev pub MayRefuse : {O I : Type 0} → OutboundTransform O → ClientCore O I → ℕ → List ℕ → TransformError → Type 0
-MayRefuse out old id plain (Refused why) = RefusesSealing out old id plain why
-MayRefuse out old id plain NoMemory = Unit {0}
+-- it may fail so
+abbrev pub MayRefuse : {O I : Type 0} → OutboundTransform O → ClientCore O I → (Queued → Type 0) → List ℕ → TransformError → Type 0
+MayRefuse out old is_such plain (Refused why) = RefusesSealing out old is_such plain why
+MayRefuse out old is_such plain NoMemory = Unit {0}
+
+-- the error that tells why data weren't sealed
+abbrev pub IsUnsentBy : TransformError → Error → Type 0
+IsUnsentBy (Refused why) told = IsTold (Others (unsealed_text why)) told
+IsUnsentBy NoMemory told = told ≡ MemoryRefused
+
+-- what is written for a request: the next id, and its bytes, which fit
+pub record IsWritten {O I : Type 0} (out : OutboundTransform O) (old : ClientCore O I) (r : Request) (id : ℕ) (bytes : List ℕ) : Type 0 where
+  pub id_is : id ≡ old.state.next
+  pub in_range : id ≤ last_id
+  pub fits : request_size r ≤ safe_limit out old.connection.outbox.half
+  pub bytes_are : bytes ≡ request_bytes r
+
+-- or why nothing is
+abbrev pub IsUnwritten : {O I : Type 0} → OutboundTransform O → ClientCore O I → Request → Error → Type 0
+IsUnwritten out old r told = HasNoId old r told ⊎ IsAboveLimit out old r told ⊎ ((told ≡ MemoryRefused) × (old.connection.failure ≡ None))

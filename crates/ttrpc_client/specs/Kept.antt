@@ -1,34 +1,12 @@
 -- What the state of a client keeps beside what is seen of it.
 -- Source: this project's.
-use Rattle.std.specs.Prelude.{◌≡◌, ◌≤◌, ◌&&◌, ℕ, ◌+◌, List, Option, None, Some, Bool, false, if◌then◌else◌, nat_eq, sum_by}
-use Rattle.std.specs.declared.cmp.Ordering.{Ordering}
-use Rattle.std.specs.Ordering.{nat_cmp, ordering_then}
-use Rattle.std.specs.List.{list_any}
+use Rattle.std.specs.Prelude.{◌≡◌, ◌≤◌, ℕ, ◌+◌, List, Option, None, Some, if◌then◌else◌, sum_by}
+use Rattle.std.specs.Ordering.{nat_cmp}
 use Rattle.std.specs.List.Sorted.{IsStrictlySortedBy}
-use Rattle.std.specs.BTreeMap.{is_at}
 use Rattle.std.specs.Map.{keys_of, values_of}
+use Rattle.ttrpc_connection.specs.Deadlines.{has_deadline, is_moment}
 use Rattle.ttrpc_client.specs.Types.{Call, Waiting}
 use Rattle.ttrpc_client.specs.State.{IsClient, call_in, told_left, waits}
-
--- ---- deadlines, each a moment and the id of a call
-
--- by rising moment
-abbrev pub sooner : ℕ × ℕ → ℕ × ℕ → Ordering
-sooner x y = ordering_then (nat_cmp x.0 y.0) (nat_cmp x.1 y.1)
-
--- whether it is among them
-abbrev pub has_deadline : List (ℕ × ℕ) → ℕ → ℕ → Bool
-has_deadline deadlines at id = list_any (is_at (sooner (at, id))) deadlines
-
--- whether there is a moment and it is this one
-abbrev pub is_moment : ℕ → Option ℕ → Bool
-is_moment at None = false
-is_moment at (Some moment) = nat_eq at moment
-
--- this call's deadline, if it has one, is there or not, and the others are as they were
-abbrev pub ChangesTo : Bool → List (ℕ × ℕ) → ℕ → Option ℕ → List (ℕ × ℕ) → Type 0
-ChangesTo there old id deadline new =
-    (at k : ℕ) → has_deadline new at k ≡ (if nat_eq k id && is_moment at deadline then there else has_deadline old at k)
 
 -- the moment until which a call waits, if it waits and there is one
 abbrev pub deadline_in : Option Call → Option ℕ

@@ -1,4 +1,5 @@
 pub mod Types
+pub mod Streams
 pub mod State
 pub mod Protocol
 pub mod Kept

@@ -1,20 +1,23 @@
--- The protocol of a client, from top to bottom: what a frame gives the call of its id, what each call of the core does,
--- and for what a request is refused. Calls of one request and one response are the only ones so far; streams get rows here.
--- That a response ends the call of its stream's id, and that ids are odd and rise, are PROTOCOL.md's. What it leaves open,
--- which is errors and their texts, is as the Rust crate has it. Deadlines, what dropping a call does and the order of
--- refusals are this project's.
+-- The protocol of a client, from top to bottom: what a frame gives the call or the stream of its id, what each call of the
+-- core does, and for what it is refused. That a response ends the call or stream of its id, what the flags of data mean,
+-- and that ids are odd and rise, are PROTOCOL.md's. What it leaves open, which is errors and their texts, is as the Rust
+-- crate has it. Deadlines, what dropping does and the order of refusals are this project's.
 -- Source: PROTOCOL.md of ttrpc, "Request", "Response", "Data" and "Streaming"; the Rust crate; this project's.
 use Rattle.std.specs.Prelude.{◌≡◌, ◌≢◌, ◌⊎◌, ◌<◌, ◌≤◌, ◌-◌, ◌^◌, ℕ, ◌+◌, ◌&&◌, not, List, [], ◌∷◌, ◌++◌, length, min, codes, map, filter, Option, Some, None, Bool, true, false, Result, Ok, Err, is_some, nat_eq, nat_le, nat_lt, if◌then◌else◌, ℤ, pos, zero, IsPermutation}
+use Rattle.std.specs.BTreeMap.{is_at}
+use Rattle.std.specs.BTreeSet.{insert_key}
 use Rattle.std.specs.Fmt.{decimal}
+use Rattle.std.specs.Ordering.{nat_cmp}
+use Rattle.std.specs.Set.{remove_key}
 use Rattle.ttrpc_wire.specs.Field.{fields_bytes}
 use Rattle.ttrpc_wire.specs.Fold.{read_from}
 use Rattle.ttrpc_wire.specs.declared.values.code.Code.TheVariants.{INVALID_ARGUMENT}
-use Rattle.ttrpc_client.specs.Types.{Error, Others, RpcStatus, NoMemory, Request, Response, Queued, OutboundTransform, Arrived, Failure, DeadlineDuringWrite, CancelledDuringWrite, Connection, Call, Waiting, Expired, Ended, ClientKind, Sync, Async}
+use Rattle.ttrpc_client.specs.Types.{Error, LocalClosed, Others, RpcStatus, NoMemory, Request, Response, Queued, OutboundTransform, Arrived, Failure, DeadlineDuringWrite, CancelledDuringWrite, Connection, Thing, Breaking, Closing, Last, Call, Waiting, Expired, Ended, ClientKind, Sync, Async, Stream, Sender, Open, Closed, Dropped}
 use Rattle.ttrpc_proto.specs.declared.status.Status.{Status}
 use Rattle.ttrpc_proto.specs.ErrorText.{status_of}
 use Rattle.ttrpc_proto.specs.Messages.{empty_response, request_fields, response_step}
 use Rattle.ttrpc_frame.specs.declared.header.MessageHeader.{MessageHeader}
-use Rattle.ttrpc_frame.specs.declared.header.TheConstants.{MESSAGE_LENGTH_MAX, MESSAGE_TYPE_REQUEST, MESSAGE_TYPE_RESPONSE}
+use Rattle.ttrpc_frame.specs.declared.header.TheConstants.{FLAG_NO_DATA, FLAG_REMOTE_CLOSED, FLAG_REMOTE_OPEN, MESSAGE_LENGTH_MAX, MESSAGE_TYPE_DATA, MESSAGE_TYPE_REQUEST, MESSAGE_TYPE_RESPONSE}
 use Rattle.ttrpc_frame.specs.Header.Oversize.{oversize_text}
 use Rattle.ttrpc_frame.specs.Queue.{has_begun, without}
 use Rattle.ttrpc_secure.specs.declared.transform.InboundTransform.{Ghosts as InboundTransform}
@@ -23,11 +26,15 @@ use Rattle.ttrpc_secure.specs.Context.Texts.{advice_text, unopened_text, unsafe_
 use Rattle.ttrpc_secure.specs.Sends.{associated}
 use Rattle.ttrpc_connection.specs.declared.arrived.Opening.{Opening}
 use Rattle.ttrpc_connection.specs.declared.arrived.Opening.TheVariants.{TooLong, Opened, Refused}
+use Rattle.ttrpc_connection.specs.Deadlines.{deadline_of}
 use Rattle.ttrpc_connection.specs.Failure.{IsTold, error_of, first_failure}
 use Rattle.ttrpc_connection.specs.Feeds.{IsFailed, Ways, new_connection}
 use Rattle.ttrpc_connection.specs.Frames.{Sent, SendsOne, safe_limit}
+use Rattle.ttrpc_connection.specs.Mail.{Mail, Receives}
+use Rattle.ttrpc_connection.specs.Things.{data_thing, has_flag}
 use Rattle.ttrpc_client.specs.declared.client.ClientCore.{ClientCore}
-use Rattle.ttrpc_client.specs.State.{Client, OthersStay, call_at, call_in, deadline_of, new_client, throws, told_left, waits}
+use Rattle.ttrpc_client.specs.State.{Client, OthersStay, call_at, call_in, new_client, stream_at, throws, told_left, waits}
+use Rattle.ttrpc_client.specs.Streams.{StreamsStay, hears, is_entered, new_stream, stream_in, with_news, with_sender, without_reader, without_sender}
 
 -- ---- what a frame gives the call of its id
 -- Source: PROTOCOL.md of ttrpc, "Response" and "Data"; errors and texts: the Rust crate.
@@ -82,6 +89,62 @@ pub record Lands (landing : Landing) (id : ℕ) (old new : List (ℕ × Call)) :
   pub own : LandsOn landing (call_in old id) (call_in new id)
   pub others : OthersStay old id new
 
+-- ---- what a frame brings a stream
+-- Source: PROTOCOL.md of ttrpc, "Response", "Data" and "Streaming"; errors and texts: the Rust crate.
+
+-- what a frame brings a stream that no frame has ended
+pub data News : Type 0 where
+  -- this thing, and whether it ends the stream
+  Brings : (thing : Thing) → (ends : Bool) → News
+  -- an error that ends it, whose text begins so, and is otherwise left open
+  BringsBeginning : (text : List ℕ) → News
+
+-- an error behind which nothing is received
+abbrev pub breaks_with : Error → News
+breaks_with error = Brings (Breaking error) true
+
+-- the response closes the stream: with its payload as an item, or with its status as an error
+abbrev pub closing_news : Result Response Error → News
+closing_news (Ok r) = Brings (Last r.payload) true
+closing_news (Err error) = Brings (Closing error) true
+
+-- the same of a response, and what bytes give that mean none
+abbrev pub response_news : Option Response → News
+response_news None = BringsBeginning (codes "Decode message failed. ")
+response_news (Some r) = closing_news (by_status r.status r)
+
+-- data bring an item, unless the stream was opened without them; what closes, ends
+abbrev pub data_news : Bool → MessageHeader → List ℕ → News
+data_news true h plain = Brings (data_thing h.stream_id h.flags plain) (has_flag FLAG_REMOTE_CLOSED h.flags)
+data_news false h plain = Brings (Closing (Others (codes "received data from non-streaming server."))) (has_flag FLAG_REMOTE_CLOSED h.flags)
+
+-- from top to bottom, by whether the stream was opened to receive items
+abbrev pub news_of : Bool → MessageHeader → Opening → News
+news_of streaming_server h TooLong = breaks_with (RpcStatus (status_of INVALID_ARGUMENT (oversize_text h.length)))
+news_of streaming_server h (Refused why) = breaks_with (Others (unopened_text why))
+news_of streaming_server h (Opened plain) =
+    if nat_lt MESSAGE_LENGTH_MAX (length plain) then breaks_with (Others (oversize_text (length plain))) else
+    if nat_eq h.type_ MESSAGE_TYPE_RESPONSE then response_news (read_from response_step empty_response plain) else
+    if nat_eq h.type_ MESSAGE_TYPE_DATA then data_news streaming_server h plain else
+    breaks_with (Others (malformed_text h))
+
+-- this is what the frame brings
+abbrev pub IsNews : News → Thing → Bool → Type 0
+IsNews (Brings x end) thing ends = (thing ≡ x) × (ends ≡ end)
+IsNews (BringsBeginning text) thing ends = ((rest : List ℕ) × (thing ≡ Closing (Others (text ++ rest)))) × (ends ≡ true)
+
+-- what it makes of the stream: its mailbox has the news, unless there is no such stream, or a frame has ended it
+abbrev pub Reaches : Bool → MessageHeader → Opening → Option Stream → Option Stream → Type 0
+Reaches false h opening old new = new ≡ old
+Reaches true h opening None new = new ≡ None
+Reaches true h opening (Some s) new =
+    (thing : Thing) × (ends : Bool) × IsNews (news_of s.streaming_server h opening) thing ends × (new ≡ Some (with_news thing ends s))
+
+-- it reaches the stream of this id, and no other
+pub record ReachesOne (h : MessageHeader) (opening : Opening) (old new : List (ℕ × Stream)) : Type 0 where
+  pub own : Reaches (is_entered (stream_in old h.stream_id)) h opening (stream_in old h.stream_id) (stream_in new h.stream_id)
+  pub others : StreamsStay old h.stream_id new
+
 -- ---- what it does
 -- Source: PROTOCOL.md of ttrpc, "Response".
 
@@ -89,10 +152,20 @@ pub record Lands (landing : Landing) (id : ℕ) (old new : List (ℕ × Call)) :
 abbrev pub ended_by : Option Call → ℕ → List ℕ
 ended_by call id = if waits call then id ∷ [] else []
 
--- A frame lands on the call of its id, and nothing is sent.
+-- the ids of streams for which something came, with this one if a frame under it brings somebody something
+abbrev pub heard_with : Option Stream → ℕ → List ℕ → List ℕ
+heard_with stream id heard = if hears stream then insert_key nat_cmp heard id else heard
+
+-- A frame lands on the call of its id, or reaches the stream, and nothing is sent.
 pub record LandsOnce (old : Client) (a : Arrived) (sent : List Sent) (new : Client) : Type 0 where
   pub lands : Lands (landing_of a.header a.opening) a.header.stream_id old.calls new.calls
-  pub same : new ≡ record old { calls = new.calls; ended = old.ended ++ ended_by (call_at old a.header.stream_id) a.header.stream_id }
+  pub reaches : ReachesOne a.header a.opening old.streams new.streams
+  pub same : new ≡ record old {
+    calls = new.calls;
+    ended = old.ended ++ ended_by (call_at old a.header.stream_id) a.header.stream_id;
+    streams = new.streams;
+    heard = heard_with (stream_at old a.header.stream_id) a.header.stream_id old.heard;
+  }
   pub sent_is : sent ≡ []
 
 -- the same, whatever the state of the outbound half
@@ -284,13 +357,13 @@ pub record IsAboveLimit {O I : Type 0} (out : OutboundTransform O) (old : Client
   pub above : safe_limit out old.connection.outbox.half < request_size r
   pub is_told : IsTold (Others (unsafe_payload_text (request_size r) (safe_limit out old.connection.outbox.half) (advice old.state.kind))) told
 
--- or it isn't, and the half refuses it, for this reason
-pub record IsUnsealed {O I : Type 0} (out : OutboundTransform O) (old : ClientCore O I) (r : Request) (told : Error) : Type 0 where
+-- or it isn't, and the half refuses it in such a frame, for this reason
+pub record IsUnsealed {O I : Type 0} (out : OutboundTransform O) (old : ClientCore O I) (r : Request) (is_such : Queued → Type 0) (told : Error) : Type 0 where
   pub sendable : IsSendable old r
   pub in_range : old.state.next ≤ last_id
   pub fits : request_size r ≤ safe_limit out old.connection.outbox.half
   pub frame : Queued
-  pub is_frame : IsRequestFrame old.state.next frame
+  pub is_frame : is_such frame
   pub why : List ℕ
   pub refuses : out.refuses old.connection.outbox.half (request_bytes r) (associated frame.message.header) why
   pub is_told : IsTold (Others (unsealed_text why)) told
@@ -298,5 +371,188 @@ pub record IsUnsealed {O I : Type 0} (out : OutboundTransform O) (old : ClientCo
 -- or memory is wanted
 abbrev pub RefusesRequest : {O I : Type 0} → OutboundTransform O → ClientCore O I → Request → Error → Type 0
 RefusesRequest out old r told =
-    IsFailed old.connection.failure told ⊎ IsTooLong old r told ⊎ HasNoId old r told ⊎ IsAboveLimit out old r told ⊎ IsUnsealed out old r told
+    IsFailed old.connection.failure told ⊎ IsTooLong old r told ⊎ HasNoId old r told ⊎ IsAboveLimit out old r told
+    ⊎ IsUnsealed out old r (IsRequestFrame old.state.next) told ⊎ ((told ≡ NoMemory) × (old.connection.failure ≡ None))
+
+-- ---- streams that are opened
+-- Source: PROTOCOL.md of ttrpc, "Streaming"; the order of refusals: this project's.
+
+-- the flags of the request that opens a stream: to send items, when it has none itself, or not to
+abbrev pub opening_flags : Bool → ℕ
+opening_flags true = FLAG_REMOTE_OPEN + FLAG_NO_DATA
+opening_flags false = FLAG_REMOTE_CLOSED
+
+-- a frame that carries the request of a stream
+pub record IsOpeningFrame (streaming_client : Bool) (id : ℕ) (f : Queued) : Type 0 where
+  pub stream_id : f.message.header.stream_id ≡ id
+  pub type_ : f.message.header.type_ ≡ MESSAGE_TYPE_REQUEST
+  pub flags : f.message.header.flags ≡ opening_flags streaming_client
+  pub ticket : f.ticket ≡ None
+  pub is_unary_request : f.is_unary_request ≡ false
+  pub owner : f.owner ≡ id
+
+-- A stream was opened: its request is sealed and queued.
+pub record OpensStream {O I : Type 0} (out : OutboundTransform O) (old : ClientCore O I) (request : Request) (streaming_client streaming_server : Bool) (id : ℕ) (new : ClientCore O I) : Type 0 where
+  pub alive : old.connection.failure ≡ None
+  pub id_is : id ≡ old.state.next
+  pub in_range : id ≤ last_id
+  pub empty : streaming_client ≡ true → request.payload ≡ []
+  pub fits : request_size request ≤ safe_limit out old.connection.outbox.half
+  pub own : stream_at new.state id ≡ Some (new_stream streaming_client streaming_server)
+  pub others : StreamsStay old.state.streams id new.state.streams
+  pub frame : Queued
+  pub is_frame : IsOpeningFrame streaming_client id frame
+  pub sends : SendsOne out old.connection.outbox frame (request_bytes request) new.connection.outbox
+  pub same : new ≡ record old {
+    state = record old.state { next = id + 2; streams = new.state.streams };
+    connection = record old.connection { outbox = new.connection.outbox };
+  }
+
+-- a stream that sends items is to be opened by a request that has one itself
+pub record HasPayload {O I : Type 0} (old : ClientCore O I) (r : Request) (streaming_client : Bool) (told : Error) : Type 0 where
+  pub sendable : IsSendable old r
+  pub streaming : streaming_client ≡ true
+  pub payload : r.payload ≢ []
+  pub is_told : IsTold (RpcStatus (status_of INVALID_ARGUMENT (codes "Creating a ClientStream and sending payload at the same time is not allowed"))) told
+
+-- For what a stream isn't opened: what a request is refused for, in its order, and, behind its length, its payload. Or
+-- memory is wanted.
+abbrev pub RefusesStream : {O I : Type 0} → OutboundTransform O → ClientCore O I → Request → Bool → Error → Type 0
+RefusesStream out old r streaming_client told =
+    IsFailed old.connection.failure told ⊎ IsTooLong old r told ⊎ HasPayload old r streaming_client told
+    ⊎ ((streaming_client ≡ true → r.payload ≡ [])
+    × (HasNoId old r told ⊎ IsAboveLimit out old r told ⊎ IsUnsealed out old r (IsOpeningFrame streaming_client old.state.next) told))
     ⊎ ((told ≡ NoMemory) × (old.connection.failure ≡ None))
+
+-- ---- items that are sent, and the close behind them
+-- Source: PROTOCOL.md of ttrpc, "Data" and "Streaming"; errors and texts: the Rust crate; their order: this project's.
+
+-- the flags of a frame that says that no more items come
+abbrev pub close_flags : ℕ
+close_flags = FLAG_REMOTE_CLOSED + FLAG_NO_DATA
+
+-- a data frame of a stream
+pub record IsDataFrame (id flags ticket : ℕ) (f : Queued) : Type 0 where
+  pub stream_id : f.message.header.stream_id ≡ id
+  pub type_ : f.message.header.type_ ≡ MESSAGE_TYPE_DATA
+  pub flags_are : f.message.header.flags ≡ flags
+  pub ticket_is : f.ticket ≡ Some ticket
+  pub is_unary_request : f.is_unary_request ≡ false
+  pub owner : f.owner ≡ id
+
+-- there is no such stream
+abbrev pub unknown_error : Error
+unknown_error = Others (codes "unknown stream")
+
+-- it was opened without items to send
+abbrev pub unsendable_error : Error
+unsendable_error = Others (codes "stream is not sendable")
+
+-- its sender has closed, or was dropped
+abbrev pub closed_error : Sender → Option Error
+closed_error Open = None
+closed_error Closed = Some LocalClosed
+closed_error Dropped = Some LocalClosed
+
+-- why nothing may be sent on a stream, from top to bottom
+abbrev pub unsendable : Option Stream → Option Error
+unsendable None = Some unknown_error
+unsendable (Some s) = if s.streaming_client then closed_error s.sender else Some unsendable_error
+
+-- the greatest ticket
+abbrev pub last_ticket : ℕ
+last_ticket = 2 ^ 64 - 1
+
+-- Data were sent on a stream in a frame of these flags, and got this ticket; its sender is in this state then.
+pub record SendsOn {O I : Type 0} (out : OutboundTransform O) (old : ClientCore O I) (id flags : ℕ) (plain : List ℕ) (sender : Sender) (ticket : ℕ) (new : ClientCore O I) : Type 0 where
+  pub alive : old.connection.failure ≡ None
+  pub sendable : unsendable (stream_at old.state id) ≡ None
+  pub ticket_is : ticket ≡ old.connection.outbox.tickets + 1
+  pub in_range : ticket ≤ last_ticket
+  pub fits : length plain ≤ safe_limit out old.connection.outbox.half
+  pub own : stream_at new.state id ≡ with_sender sender (stream_at old.state id)
+  pub others : StreamsStay old.state.streams id new.state.streams
+  pub frame : Queued
+  pub is_frame : IsDataFrame id flags ticket frame
+  pub sends : SendsOne out old.connection.outbox frame plain new.connection.outbox
+  pub same : new ≡ record old {
+    state = record old.state { streams = new.state.streams };
+    connection = record old.connection { outbox = new.connection.outbox };
+  }
+
+-- the connection lives, and nothing may be sent on the stream
+pub record IsUnsendable {O I : Type 0} (old : ClientCore O I) (id : ℕ) (told : Error) : Type 0 where
+  pub alive : old.connection.failure ≡ None
+  pub error : Error
+  pub is : unsendable (stream_at old.state id) ≡ Some error
+  pub is_told : IsTold error told
+
+-- something may be sent on it, but these data are longer than a message may be
+pub record IsItemTooLong {O I : Type 0} (old : ClientCore O I) (id : ℕ) (plain : List ℕ) (told : Error) : Type 0 where
+  pub alive : old.connection.failure ≡ None
+  pub sendable : unsendable (stream_at old.state id) ≡ None
+  pub above : MESSAGE_LENGTH_MAX < length plain
+  pub is_told : IsTold (Others (oversize_text (length plain))) told
+
+-- something may be sent on it, and the data are no longer than a message may be
+pub record MaySend {O I : Type 0} (old : ClientCore O I) (id : ℕ) (plain : List ℕ) : Type 0 where
+  pub alive : old.connection.failure ≡ None
+  pub sendable : unsendable (stream_at old.state id) ≡ None
+  pub short : length plain ≤ MESSAGE_LENGTH_MAX
+
+-- and no ticket is left
+pub record HasNoTicket {O I : Type 0} (old : ClientCore O I) (id : ℕ) (plain : List ℕ) (told : Error) : Type 0 where
+  pub may : MaySend old id plain
+  pub used_up : old.connection.outbox.tickets ≡ last_ticket
+  pub is_told : IsTold (Others (codes "tickets are used up")) told
+
+-- or one is left, and the data are above the safe limit
+pub record IsItemAboveLimit {O I : Type 0} (out : OutboundTransform O) (old : ClientCore O I) (id : ℕ) (plain : List ℕ) (told : Error) : Type 0 where
+  pub may : MaySend old id plain
+  pub has_ticket : old.connection.outbox.tickets < last_ticket
+  pub above : safe_limit out old.connection.outbox.half < length plain
+  pub is_told : IsTold (Others (unsafe_payload_text (length plain) (safe_limit out old.connection.outbox.half) (advice old.state.kind))) told
+
+-- or they aren't, and the half refuses them, for this reason
+pub record IsItemUnsealed {O I : Type 0} (out : OutboundTransform O) (old : ClientCore O I) (id flags : ℕ) (plain : List ℕ) (told : Error) : Type 0 where
+  pub may : MaySend old id plain
+  pub has_ticket : old.connection.outbox.tickets < last_ticket
+  pub fits : length plain ≤ safe_limit out old.connection.outbox.half
+  pub frame : Queued
+  pub is_frame : IsDataFrame id flags (old.connection.outbox.tickets + 1) frame
+  pub why : List ℕ
+  pub refuses : out.refuses old.connection.outbox.half plain (associated frame.message.header) why
+  pub is_told : IsTold (Others (unsealed_text why)) told
+
+-- For what sending is refused, from top to bottom; or memory is wanted.
+abbrev pub RefusesSending : {O I : Type 0} → OutboundTransform O → ClientCore O I → ℕ → ℕ → List ℕ → Error → Type 0
+RefusesSending out old id flags plain told =
+    IsFailed old.connection.failure told ⊎ IsUnsendable old id told ⊎ IsItemTooLong old id plain told ⊎ HasNoTicket old id plain told
+    ⊎ IsItemAboveLimit out old id plain told ⊎ IsItemUnsealed out old id flags plain told
+    ⊎ ((told ≡ NoMemory) × (old.connection.failure ≡ None))
+
+-- ---- items that are received, and halves that are dropped
+-- Source: PROTOCOL.md of ttrpc, "Streaming"; the table of a mailbox is `Mail` of the connection's specs.
+
+-- the next item of a stream was asked for; the connection's failure stands behind all that came
+abbrev pub ReceivesAt : Option Failure → Option Stream → Option (Result (List ℕ) Error) → Option Stream → Type 0
+ReceivesAt failure None given new = ((told : Error) × IsTold unknown_error told × (given ≡ Some (Err told))) × (new ≡ None)
+ReceivesAt failure (Some s) given new = (m : Mail) × Receives failure s.mailbox given m × (new ≡ Some (record s { mailbox = m }))
+
+-- and this was given
+pub record ReceivesOne {O I : Type 0} (old : ClientCore O I) (id : ℕ) (given : Option (Result (List ℕ) Error)) (new : ClientCore O I) : Type 0 where
+  pub own : ReceivesAt old.connection.failure (stream_at old.state id) given (stream_at new.state id)
+  pub others : StreamsStay old.state.streams id new.state.streams
+  pub same : new ≡ record old { state = record old.state { streams = new.state.streams } }
+
+-- nobody receives any more, and nobody is told that something came
+pub record DropsReceiver {O I : Type 0} (old : ClientCore O I) (id : ℕ) (new : ClientCore O I) : Type 0 where
+  pub own : stream_at new.state id ≡ without_reader (stream_at old.state id)
+  pub others : StreamsStay old.state.streams id new.state.streams
+  pub same : new ≡ record old { state = record old.state { streams = new.state.streams; heard = remove_key (is_at (nat_cmp id)) old.state.heard } }
+
+-- nobody sends any more
+pub record DropsSender {O I : Type 0} (old : ClientCore O I) (id : ℕ) (new : ClientCore O I) : Type 0 where
+  pub own : stream_at new.state id ≡ without_sender (stream_at old.state id)
+  pub others : StreamsStay old.state.streams id new.state.streams
+  pub same : new ≡ record old { state = record old.state { streams = new.state.streams } }

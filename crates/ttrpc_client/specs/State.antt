@@ -1,11 +1,11 @@
--- What a client core is, beside its connection: the calls that it keeps, by their ids.
+-- What a client core is, beside its connection: the calls and streams that it keeps, by their ids.
 -- Source: PROTOCOL.md of ttrpc, "Request", "Response" and "Streaming".
-use Rattle.std.specs.Prelude.{◌≡◌, ◌≢◌, ◌≤◌, ◌%◌, ◌^◌, ℕ, ◌+◌, List, [], ◌∷◌, Option, None, Some, Bool, false, ℤ, pos, negsuc, zero, suc}
+use Rattle.std.specs.Prelude.{◌≡◌, ◌≢◌, ◌≤◌, ◌%◌, ◌^◌, ℕ, ◌+◌, List, [], ◌∷◌, Option, None, Some, Bool, false}
 use Rattle.std.specs.Map.{lookup}
 use Rattle.std.specs.BTreeMap.{is_at}
 use Rattle.std.specs.Ordering.{nat_cmp}
-use Rattle.ttrpc_wire.specs.Number.{number_of}
-use Rattle.ttrpc_client.specs.Types.{Call, Waiting, ClientKind, Async}
+use Rattle.ttrpc_client.specs.Types.{Call, Waiting, ClientKind, Async, Stream}
+use Rattle.ttrpc_client.specs.Streams.{stream_in}
 
 -- all but the connection
 pub record Client : Type 0 where
@@ -16,10 +16,14 @@ pub record Client : Type 0 where
   pub calls : List (ℕ × Call)
   -- the ids of calls that ended since it was last asked which have, in the order in which they ended
   pub ended : List ℕ
+  -- what is kept of each stream, by rising id
+  pub streams : List (ℕ × Stream)
+  -- the ids of streams for which something came since it was last asked for which it has, by rising id
+  pub heard : List ℕ
 
--- no call was made
+-- no call was made, and no stream opened
 abbrev pub new_client : ClientKind → ℕ → Client
-new_client kind next = record { kind = kind; next = next; calls = []; ended = [] }
+new_client kind next = record { kind = kind; next = next; calls = []; ended = []; streams = []; heard = [] }
 
 -- the state of one id: nothing, if it was never used or is gone
 abbrev pub call_in : List (ℕ × Call) → ℕ → Option Call
@@ -28,6 +32,10 @@ call_in calls id = lookup (is_at (nat_cmp id)) calls
 -- the state of one id in this client
 abbrev pub call_at : Client → ℕ → Option Call
 call_at c id = call_in c.calls id
+
+-- the stream of one id in this client
+abbrev pub stream_at : Client → ℕ → Option Stream
+stream_at c id = stream_in c.streams id
 
 -- the calls of all other ids stay as they are
 abbrev pub OthersStay : List (ℕ × Call) → ℕ → List (ℕ × Call) → Type 0
@@ -44,12 +52,6 @@ pub record IsClient (next : ℕ) (calls : List (ℕ × Call)) : Type 0 where
 abbrev pub waits : Option Call → Bool
 waits (Some (Waiting deadline)) = Bool.true
 waits call = false
-
--- the moment by which a call must have ended: none where its timeout is 0
-abbrev pub deadline_of : ℕ → ℤ → Option ℕ
-deadline_of now (pos zero) = None
-deadline_of now (pos (suc n)) = Some (now + number_of (pos (suc n)))
-deadline_of now (negsuc n) = Some (now + number_of (negsuc n))
 
 -- whether a request may be thrown away before it begins: its frame must not be sealed
 abbrev pub throws : ClientKind → Bool → Bool

@@ -2,13 +2,20 @@
 -- Source: this project's.
 pub use Rattle.ttrpc_proto.specs.declared.request.Request.{Request}
 pub use Rattle.ttrpc_proto.specs.declared.response.Response.{Response}
-pub use Rattle.ttrpc_proto.specs.declared.error.Error.TheVariants.{NoMemory, Others, RpcStatus}
+pub use Rattle.ttrpc_proto.specs.declared.error.Error.TheVariants.{LocalClosed, NoMemory, Others, RpcStatus}
 pub use Rattle.ttrpc_connection.specs.Types.{Error, OutboundTransform, Queued}
 pub use Rattle.ttrpc_connection.specs.declared.arrived.Arrived.{Arrived}
 pub use Rattle.ttrpc_connection.specs.declared.connection.Connection.{Connection}
 pub use Rattle.ttrpc_connection.specs.declared.failure.Failure.{Failure}
 pub use Rattle.ttrpc_connection.specs.declared.failure.Failure.TheVariants.{CancelledDuringWrite, DeadlineDuringWrite}
+pub use Rattle.ttrpc_connection.specs.declared.thing.Thing.{Thing}
+pub use Rattle.ttrpc_connection.specs.declared.thing.Thing.TheVariants.{Breaking, Closing, Last}
+pub use Rattle.ttrpc_connection.specs.declared.mailbox.Receiver.{Receiver}
+pub use Rattle.ttrpc_connection.specs.declared.mailbox.Receiver.TheVariants.{Open as ReceiverOpen, Closed as ReceiverClosed, Broken as ReceiverBroken, Dropped as ReceiverDropped}
 pub use Rattle.ttrpc_client.specs.declared.call.Call.{Call}
 pub use Rattle.ttrpc_client.specs.declared.call.Call.TheVariants.{Ended, Expired, Waiting}
 pub use Rattle.ttrpc_client.specs.declared.kind.ClientKind.{ClientKind}
 pub use Rattle.ttrpc_client.specs.declared.kind.ClientKind.TheVariants.{Async, Sync}
+pub use Rattle.ttrpc_client.specs.declared.streams.Stream.{Stream}
+pub use Rattle.ttrpc_client.specs.declared.streams.Sender.{Sender}
+pub use Rattle.ttrpc_client.specs.declared.streams.Sender.TheVariants.{Closed, Dropped, Open}

@@ -1,11 +1,9 @@
 //! What a client keeps of a call.
 ghost use Rattle.std.specs.Prelude.{◌≡◌};
-ghost use Rattle.ttrpc_client.specs.State.{deadline_of};
 ghost use Rattle.ttrpc_client.specs.Protocol.{is_due};
 ghost use Rattle.ttrpc_client.specs.Kept.{deadline_in};
 
 use ttrpc_proto::{Error, Response};
-use ttrpc_wire::int64_to_varint;
 
 /// The number of a call, which is the id of its stream: odd, and rising from call to call.
 pub type CallId = u32;
@@ -38,15 +36,4 @@ pub fn waits_until(call: &Option<Call>) -> Option<u128>
         Some(Call::Waiting(deadline)) => *deadline,
         None | Some(Call::Expired | Call::Ended(_)) => None,
     }
-}
-
-/// The moment by which a call that is made now must have ended: none where its timeout, in nanoseconds, is 0. A negative
-/// one is read as the `u64` of the same bits.
-pub fn deadline_of(now: u64, timeout_nano: i64) -> Option<u128>
-    ensures { result ≡ deadline_of now timeout_nano }
-{
-    if timeout_nano == 0 {
-        return None;
-    }
-    Some(u128::from(now) + u128::from(int64_to_varint(timeout_nano)))
 }

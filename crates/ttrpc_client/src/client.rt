@@ -1,5 +1,5 @@
 //! The core of a client: calls and frames in, requests and outcomes out.
-ghost use Rattle.std.specs.Prelude.{◌≡◌, ◌≢◌, ◌<◌, ◌≤◌, ◌%◌, ◌^◌, ◌+◌, ◌++◌, ◌↔◌, ℕ, List, [], length, is_some, true, option_to_list, IfOk, IfErr, OnOk, OnErr, IfSome, IfNone, Some, None};
+ghost use Rattle.std.specs.Prelude.{◌≡◌, ◌≢◌, ◌⊎◌, ◌<◌, ◌≤◌, ◌%◌, ◌^◌, ◌+◌, ◌++◌, ◌↔◌, ℕ, List, [], length, is_some, true, option_to_list, IfOk, IfErr, OnOk, OnErr, IfSome, IfNone, Some, None};
 ghost use Rattle.ttrpc_frame.specs.Frames.{Holds, nothing};
 ghost use Rattle.ttrpc_frame.specs.Queue.{unsent};
 ghost use Rattle.ttrpc_secure.specs.Hooks.Facts.{facts_of};
@@ -8,23 +8,25 @@ ghost use Rattle.ttrpc_connection.specs.Feeds.{IsFailed};
 ghost use Rattle.ttrpc_connection.specs.OneEnd.{Ends, Lends, Takes, failing, lendable, lending, reporting};
 ghost use Rattle.ttrpc_connection.specs.Frames.{safe_limit};
 ghost use Rattle.ttrpc_client.specs.State.{IsClient, throws};
-ghost use Rattle.ttrpc_client.specs.Protocol.{Forgets, IsDeadline, Requests, TakesOutcome, Ticks, calling, due_ids, new_core, taken_back, IsRequestFrame, RefusesRequest};
-ghost use Rattle.ttrpc_client.specs.Inside.{Begins, MayRefuse};
+ghost use Rattle.ttrpc_client.specs.Protocol.{Forgets, IsDeadline, Requests, TakesOutcome, Ticks, calling, due_ids, new_core, taken_back, IsRequestFrame, IsSendable, IsTooLong, RefusesRequest, request_size};
+ghost use Rattle.ttrpc_client.specs.Inside.{Begins, IsUnwritten, IsWritten, MayRefuse};
+ghost use Rattle.ttrpc_client.specs.Streams.{AreStreams};
 
-use crate::call::{Call, CallId, deadline_of};
-use crate::errors::{above_limit_error, deadline_error, used_up_error};
+use crate::call::{Call, CallId};
+use crate::errors::{above_limit_error, deadline_error, unsent_error, used_up_error};
 use crate::kind::ClientKind;
 use crate::landing::Outcome;
 use crate::state::ClientState;
 use std::alloc::Global;
 use ttrpc_codec::Codec;
 use ttrpc_codec::message::encode_with_room;
+use ttrpc_connection::deadlines::deadline_of;
 use ttrpc_connection::{Connection, Failure, Outbox};
 use ttrpc_frame::header::oversize::oversize_error;
 use ttrpc_frame::owners::Owners;
 use ttrpc_frame::{GenMessage, MESSAGE_LENGTH_MAX, MessageHeader, Queued};
 use ttrpc_proto::{Error, Request};
-use ttrpc_secure::context::errors::{or_no_memory, unsealed_error};
+use ttrpc_secure::context::errors::or_no_memory;
 use ttrpc_secure::sending::SendError;
 use ttrpc_secure::{
     ConnectionContext, ConnectionData, InboundTransform, OutboundTransform, TransformError,
@@ -34,8 +36,8 @@ use ttrpc_wire::{Blob, CodecError};
 /// The core of a client, over its connection's two halves.
 #[derive(Drop)]
 pub struct ClientCore<O, I> {
-    state: ClientState,
-    connection: Connection<O, I>,
+    pub(crate) state: ClientState,
+    pub(crate) connection: Connection<O, I>,
 }
 
 impl<O: OutboundTransform + Drop, I: InboundTransform + Drop> ClientCore<O, I> {
@@ -76,11 +78,41 @@ impl<O: OutboundTransform + Drop, I: InboundTransform + Drop> ClientCore<O, I> {
         ensures refused { IfErr result (RefusesRequest O.OutboundTransform self.old request.now) }
         ensures err { OnErr result (self.new ≡ self.old) }
     {
+        let size = self.check_request(alloc, request)?;
+        let (id, bytes) = self.write_request(alloc, request, size)?;
+        let deadline = deadline_of(now, request.timeout_nano);
+        match self.begin(alloc, id, bytes, deadline) {
+            Ok(()) => Ok(id),
+            Err(refused) => Err(unsent_error(alloc, &refused)),
+        }
+    }
+
+    /// The size of a request, where the connection lives and it is no longer than a message may be.
+    pub(crate) fn check_request(&self, alloc: Global, request: &Request) -> Result<usize, Error>
+        ensures size { IfOk result (λ size. size ≡ request_size request.now) }
+        ensures ok { OnOk result (IsSendable self.now request.now) }
+        ensures err { IfErr result (λ told. IsFailed self.now.connection.failure told ⊎ IsTooLong self.now request.now told) }
+    {
         self.connection.check_alive(alloc)?;
         let size = request.size() as usize;
         if size > MESSAGE_LENGTH_MAX {
             return Err(or_no_memory(oversize_error(alloc, size, false)));
         }
+        Ok(size)
+    }
+
+    /// The next id, and the bytes of a request of this size, which is no longer than a message may be.
+    pub(crate) fn write_request(
+        &self,
+        alloc: Global,
+        request: &Request,
+        size: usize,
+    ) -> Result<(CallId, Vec<u8>), Error>
+        requires size { size ≡ request_size request.now }
+        requires sendable { IsSendable self.now request.now }
+        ensures ok { IfOk result (λ written. IsWritten O.OutboundTransform self.now request.now written.0 written.1.items) }
+        ensures err { IfErr result (IsUnwritten O.OutboundTransform self.now request.now) }
+    {
         let Some(id) = self.state.next_id() else {
             return Err(used_up_error(alloc));
         };
@@ -88,16 +120,10 @@ impl<O: OutboundTransform + Drop, I: InboundTransform + Drop> ClientCore<O, I> {
         if size > limit {
             return Err(above_limit_error(alloc, self.state.kind(), size, limit));
         }
-        let bytes = match encode_with_room(alloc, request, size) {
-            Ok(bytes) => bytes,
-            Err(CodecError::NoMemory) => return Err(Error::NoMemory),
+        match encode_with_room(alloc, request, size) {
+            Ok(bytes) => Ok((id, bytes)),
+            Err(CodecError::NoMemory) => Err(Error::NoMemory),
             Err(_) => unreachable!(),
-        };
-        let deadline = deadline_of(now, request.timeout_nano);
-        match self.begin(alloc, id, bytes, deadline) {
-            Ok(()) => Ok(id),
-            Err(TransformError::Refused(why)) => Err(unsealed_error(alloc, &why)),
-            Err(TransformError::NoMemory) => Err(Error::NoMemory),
         }
     }
 
@@ -114,7 +140,7 @@ impl<O: OutboundTransform + Drop, I: InboundTransform + Drop> ClientCore<O, I> {
         requires fits { length bytes.items ≤ safe_limit O.OutboundTransform self.old.connection.outbox.half }
         // The call waits, and its request is queued; or memory is wanted, or the half refuses, and nothing changed.
         ensures ok { OnOk result (Begins O.OutboundTransform self.old id bytes.items deadline self.new) }
-        ensures refused { IfErr result (MayRefuse O.OutboundTransform self.old id bytes.items) }
+        ensures refused { IfErr result (MayRefuse O.OutboundTransform self.old (IsRequestFrame id) bytes.items) }
         ensures err { OnErr result (self.new ≡ self.old) }
     {
         if self.state.admit(id, deadline).is_err() {
@@ -236,9 +262,11 @@ impl<O: OutboundTransform + Drop, I: InboundTransform + Drop> ClientCore<O, I> {
         self.state.next_ended()
     }
 
-    /// A lemma, which does nothing when it runs: a client's ids are odd, and it keeps calls of ids below the next one only.
+    /// A lemma, which does nothing when it runs: a client's ids are odd, it keeps calls and streams of ids below the next
+    /// one only, and none is that of both.
     pub fn lemma_is_client(&self)
-        ensures { IsClient self.now.state.next self.now.state.calls }
+        ensures calls { IsClient self.now.state.next self.now.state.calls }
+        ensures streams { AreStreams self.now.state.next self.now.state.calls self.now.state.streams }
     {
         self.state.lemma_is_client();
     }

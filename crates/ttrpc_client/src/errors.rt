@@ -1,15 +1,19 @@
 //! The errors that a client core tells by itself.
 ghost use Rattle.std.specs.Prelude.{◌≡◌, ◌++◌, ℕ, List, codes, IfOk};
+ghost use Rattle.ttrpc_proto.specs.ErrorText.{status_of};
 ghost use Rattle.ttrpc_connection.specs.Failure.{IsTold};
-ghost use Rattle.ttrpc_client.specs.Protocol.{advice, malformed_text, expired_error};
+ghost use Rattle.ttrpc_client.specs.Protocol.{advice, malformed_text, expired_error, unknown_error, unsendable_error};
+ghost use Rattle.ttrpc_client.specs.Inside.{IsUnsentBy};
 ghost use Rattle.ttrpc_secure.specs.Context.Texts.{unsafe_payload_text};
 
 use crate::kind::ClientKind;
 use std::alloc::{AllocError, Global};
 use ttrpc_frame::MessageHeader;
 use ttrpc_proto::Error;
-use ttrpc_secure::context::errors::{others_error, unsafe_payload_error};
-use ttrpc_wire::{CodecError, Text};
+use ttrpc_proto::error::get_rpc_status;
+use ttrpc_secure::TransformError;
+use ttrpc_secure::context::errors::{others_error, unsafe_payload_error, unsealed_error};
+use ttrpc_wire::{Code, CodecError, Text};
 
 /// The outcome of a call whose response doesn't read as one. The clause leaves the end of its text open, as it leaves
 /// the texts of `CodecError`.
@@ -62,4 +66,64 @@ pub fn deadline_error(alloc: Global) -> Error
     ensures { IsTold expired_error result }
 {
     others_error(String::from_str(alloc, "Request deadline elapsed"))
+}
+
+/// What an unreadable response brings a stream. The clause leaves the end of its text open, as it leaves the texts of
+/// `CodecError`.
+pub fn undecoded_error(alloc: Global, error: &CodecError) -> Result<Error, AllocError>
+    ensures { IfOk result (λ made. (rest : List ℕ) × (made ≡ Error.Others (codes "Decode message failed. " ++ rest))) }
+{
+    let cause = format!(in alloc; "{error}")?;
+    let text = format!(in alloc; "Decode message failed. {}", cause.as_str())?;
+    Ok(Error::Others(Text::from_string(text)))
+}
+
+/// What data bring a stream that was opened to receive none.
+pub fn unexpected_error(alloc: Global) -> Result<Error, AllocError>
+    ensures { IfOk result (λ error. error ≡ Error.Others (codes "received data from non-streaming server.")) }
+{
+    Ok(Error::Others(Text::from_str(alloc, "received data from non-streaming server.")?))
+}
+
+/// The refusal of a stream that sends items by a request that has one itself, or `NoMemory` where memory for its text was
+/// refused.
+pub fn payload_error(alloc: Global) -> Error
+    ensures { IsTold (Error.RpcStatus (status_of Code.INVALID_ARGUMENT (codes "Creating a ClientStream and sending payload at the same time is not allowed"))) result }
+{
+    let text = "Creating a ClientStream and sending payload at the same time is not allowed";
+    match String::from_str(alloc, text) {
+        Ok(text) => get_rpc_status(Code::INVALID_ARGUMENT, text),
+        Err(refused) => refused.into(),
+    }
+}
+
+/// The refusal of a call on a stream that isn't there, or `NoMemory` where memory for its text was refused.
+pub fn unknown_error(alloc: Global) -> Error
+    ensures { IsTold unknown_error result }
+{
+    others_error(String::from_str(alloc, "unknown stream"))
+}
+
+/// The refusal of sending on a stream that was opened without, or `NoMemory` where memory for its text was refused.
+pub fn unsendable_error(alloc: Global) -> Error
+    ensures { IsTold unsendable_error result }
+{
+    others_error(String::from_str(alloc, "stream is not sendable"))
+}
+
+/// The refusal of sending where no ticket is left, or `NoMemory` where memory for its text was refused.
+pub fn tickets_error(alloc: Global) -> Error
+    ensures { IsTold (Error.Others (codes "tickets are used up")) result }
+{
+    others_error(String::from_str(alloc, "tickets are used up"))
+}
+
+/// The refusal of what the outbound half didn't seal, or `NoMemory` where memory was refused.
+pub fn unsent_error(alloc: Global, refused: &TransformError) -> Error
+    ensures { IsUnsentBy refused.now result }
+{
+    match refused {
+        TransformError::Refused(why) => unsealed_error(alloc, why),
+        TransformError::NoMemory => Error::NoMemory,
+    }
 }

@@ -1,13 +1,16 @@
-//! What a frame gives a call that waits.
-ghost use Rattle.std.specs.Prelude.{◌≡◌, IfOk, Some, None};
-ghost use Rattle.ttrpc_client.specs.Protocol.{by_status, IsLanding, landing_of};
+//! What a frame gives a call that waits, and what it brings a stream.
+ghost use Rattle.std.specs.Prelude.{◌≡◌, IfOk, Some, None, true};
+ghost use Rattle.ttrpc_wire.specs.Fold.{read_from};
+ghost use Rattle.ttrpc_proto.specs.Messages.{empty_response, response_step};
+ghost use Rattle.ttrpc_client.specs.Protocol.{IsLanding, IsNews, by_status, data_news, landing_of, news_of, response_news};
 
-use crate::errors::{malformed_error, unreadable_error};
+use crate::errors::{malformed_error, undecoded_error, unexpected_error, unreadable_error};
 use std::alloc::{AllocError, Global};
 use ttrpc_codec::in_place::decode_in_place;
-use ttrpc_connection::Opening;
+use ttrpc_connection::thing::{closes, of_data};
+use ttrpc_connection::{Opening, Thing};
 use ttrpc_frame::header::oversize::oversize_error;
-use ttrpc_frame::{MESSAGE_LENGTH_MAX, MESSAGE_TYPE_RESPONSE, MessageHeader};
+use ttrpc_frame::{MESSAGE_LENGTH_MAX, MESSAGE_TYPE_DATA, MESSAGE_TYPE_RESPONSE, MessageHeader};
 use ttrpc_proto::{Error, Response};
 use ttrpc_secure::context::errors::unopened_error;
 use ttrpc_wire::{Blob, CodecError};
@@ -56,4 +59,98 @@ fn answered(response: Response) -> Outcome
         Some(status) if status.code != 0 => Err(Error::RpcStatus(status)),
         status => Ok(Response { status, payload }),
     }
+}
+
+/// What a frame brings a stream: a thing, and whether it ends the stream.
+#[derive(Drop)]
+pub struct News {
+    pub thing: Thing,
+    pub ends: bool,
+}
+
+impl News {
+    /// An error behind which nothing is received.
+    fn breaking(error: Error) -> News
+        ensures { result ≡ record { thing = Thing.Breaking error; ends = true } }
+    {
+        News {
+            thing: Thing::Breaking(error),
+            ends: true,
+        }
+    }
+}
+
+/// What a frame of this header brings a stream, by what the inbound half made of it, and by whether the stream was opened to
+/// receive items.
+pub fn news_of(
+    alloc: Global,
+    header: &MessageHeader,
+    opening: Opening,
+    streaming_server: bool,
+) -> Result<News, AllocError>
+    ensures { IfOk result (λ news. IsNews (news_of streaming_server header.now opening) news.thing news.ends) }
+{
+    match opening {
+        Opening::TooLong => {
+            let error = oversize_error(alloc, header.length as usize, true)?;
+            Ok(News::breaking(error))
+        }
+        Opening::Refused(why) => Ok(News::breaking(unopened_error(alloc, &why)?)),
+        Opening::Opened(plain) => opened_news(alloc, header, plain, streaming_server),
+    }
+}
+
+/// What a frame of this header brings, whose payload was opened.
+fn opened_news(
+    alloc: Global,
+    header: &MessageHeader,
+    plain: Blob,
+    streaming_server: bool,
+) -> Result<News, AllocError>
+    ensures { IfOk result (λ news. IsNews (news_of streaming_server header.now (Opening.Opened plain)) news.thing news.ends) }
+{
+    if plain.len() > MESSAGE_LENGTH_MAX {
+        let error = oversize_error(alloc, plain.len(), false)?;
+        return Ok(News::breaking(error));
+    }
+    match header.type_ {
+        MESSAGE_TYPE_RESPONSE => response_news(alloc, plain),
+        MESSAGE_TYPE_DATA => data_news(alloc, header, plain, streaming_server),
+        _ => Ok(News::breaking(malformed_error(alloc, header)?)),
+    }
+}
+
+/// What a response of these bytes brings: it ends the stream.
+fn response_news(alloc: Global, bytes: Blob) -> Result<News, AllocError>
+    ensures { IfOk result (λ news. IsNews (response_news (read_from response_step empty_response bytes)) news.thing news.ends) }
+{
+    let thing = match decode_in_place(alloc, bytes.into_vec()) {
+        Ok(response) => match answered(response) {
+            Ok(response) => Thing::Last(response.payload),
+            Err(error) => Thing::Closing(error),
+        },
+        Err(CodecError::NoMemory) => return Err(AllocError),
+        Err(error) => Thing::Closing(undecoded_error(alloc, &error)?),
+    };
+    Ok(News { thing, ends: true })
+}
+
+/// What data bring: an item, unless the stream was opened to receive none.
+fn data_news(
+    alloc: Global,
+    header: &MessageHeader,
+    plain: Blob,
+    streaming_server: bool,
+) -> Result<News, AllocError>
+    ensures { IfOk result (λ news. IsNews (data_news streaming_server header.now plain) news.thing news.ends) }
+{
+    let thing = if streaming_server {
+        of_data(alloc, header.stream_id, header.flags, plain)?
+    } else {
+        Thing::Closing(unexpected_error(alloc)?)
+    };
+    Ok(News {
+        thing,
+        ends: closes(header.flags),
+    })
 }

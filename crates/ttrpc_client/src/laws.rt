@@ -1,17 +1,21 @@
 //! Laws over the definitions: what the contracts of single calls come to over whole runs. A run is any list of calls
 //! that were accepted, one after the other, over a connection that may fail at any of them; with it stands what its
 //! queue goes through.
-ghost use Rattle.std.specs.Prelude.{◌≡◌, ◌≢◌, ◌≤◌, ◌++◌, ℕ, List, [], None, true, false, not, ◌&&◌, length, take, drop, filter, nat_eq, IsPermutation};
+ghost use Rattle.std.specs.Prelude.{◌≡◌, ◌≢◌, ◌<◌, ◌≤◌, ◌++◌, ℕ, List, [], IsTrue, None, Option, Result, true, false, not, ◌&&◌, length, take, drop, filter, nat_eq, nat_le, nat_lt, IsPermutation};
 ghost use Rattle.std.specs.List.{AllByRecursion, IsDistinct};
 ghost use Rattle.ttrpc_frame.specs.declared.outgoing.Queued.{Queued as AFrame};
 ghost use Rattle.ttrpc_frame.specs.Frames.{nothing};
-ghost use Rattle.ttrpc_frame.specs.Queue.{Happening, IsMerge, IsQueue, all_bytes_left, begun_count, departing, placed, thrown, unsent, written_all};
+ghost use Rattle.ttrpc_frame.specs.Queue.{AreNumbered, Happening, IsMerge, IsQueue, all_bytes_left, begun_count, departing, finished, has_ticket, last_ticket, placed, thrown, unsent, written_all};
+ghost use Rattle.ttrpc_proto.specs.declared.error.Error.{Error as AnError};
+ghost use Rattle.ttrpc_connection.specs.declared.arrived.Arrived.{Arrived as AnArrival};
 ghost use Rattle.ttrpc_connection.specs.declared.connection.Connection.{Connection as AConnection};
 ghost use Rattle.ttrpc_connection.specs.Calls.{Call, Goes, Runs, joined};
+ghost use Rattle.ttrpc_connection.specs.Frames.{Sent};
+ghost use Rattle.ttrpc_connection.specs.Outbox.{is_sent};
 ghost use Rattle.ttrpc_client.specs.declared.client.ClientCore.{ClientCore as ACore};
-ghost use Rattle.ttrpc_client.specs.Calls.{AreQueuedOnce, Called, Causes, Does, RiseByTwo, called, ids_asked, outcomes_of};
-ghost use Rattle.ttrpc_client.specs.State.{Client, IsClient, call_at, throws};
-ghost use Rattle.ttrpc_client.specs.Protocol.{Ticks, calling, due_at};
+ghost use Rattle.ttrpc_client.specs.Calls.{AreQueuedOnce, Called, Causes, Does, RiseByTwo, called, ids_asked, ids_used, outcomes_of};
+ghost use Rattle.ttrpc_client.specs.State.{Client, IsClient, call_at, stream_at, throws};
+ghost use Rattle.ttrpc_client.specs.Protocol.{LandsOnce, ReceivesAt, ReceivesOne, Ticks, calling, due_at};
 
 use ttrpc_secure::{InboundTransform, OutboundTransform};
 
@@ -49,15 +53,15 @@ pub fn cuts_do_not_matter<O: OutboundTransform, I: InboundTransform>()
         → Runs (calling O.OutboundTransform I.InboundTransform) (called O.OutboundTransform O.SEALS) s old cut happenings t new }
 {}
 
-/// Over any run the ids of the requests that were accepted are, in order, the next id and those that are two, four and
-/// so on more, none of them above the greatest; so no two are equal.
+/// Over any run the ids of the requests that were accepted and of the streams that were opened are, in order, the next id
+/// and those that are two, four and so on more, none of them above the greatest; so no two are equal.
 pub fn call_ids_rise<O: OutboundTransform, I: InboundTransform>()
     ensures rise { (s t : Client) (old new : AConnection O I) (calls : List (Call Called)) (happenings : List Happening)
         → Runs (calling O.OutboundTransform I.InboundTransform) (called O.OutboundTransform O.SEALS) s old calls happenings t new
-        → RiseByTwo s.next (ids_asked calls) t.next }
+        → RiseByTwo s.next (ids_used calls) t.next }
     ensures apart { (s t : Client) (old new : AConnection O I) (calls : List (Call Called)) (happenings : List Happening)
         → Runs (calling O.OutboundTransform I.InboundTransform) (called O.OutboundTransform O.SEALS) s old calls happenings t new
-        → IsDistinct nat_eq (ids_asked calls) }
+        → IsDistinct nat_eq (ids_used calls) }
 {}
 
 /// Over any run at most one outcome is given of an id, however often it is asked for; and none of an id of which nothing
@@ -93,4 +97,29 @@ pub fn a_tick_leaves_no_due_request<O: OutboundTransform, I: InboundTransform>()
         → new.connection.outbox.queue.frames
         ≡ take (begun_count old.connection.outbox.queue) old.connection.outbox.queue.frames
         ++ filter (λ f. not (f.is_unary_request && due_at now (call_at old.state f.owner))) (drop (begun_count old.connection.outbox.queue) old.connection.outbox.queue.frames) }
+{}
+
+/// Each stream id stands by itself. A frame changes the stream of its own id alone; and what a receiver is given, and what
+/// is left for it, doesn't depend on whether another was asked before.
+pub fn streams_stand_by_themselves<O: OutboundTransform, I: InboundTransform>()
+    ensures frame_elsewhere { (old new : Client) (a : AnArrival) (sent : List Sent) (k : ℕ) → LandsOnce old a sent new
+        → k ≢ a.header.stream_id → stream_at new k ≡ stream_at old k }
+    ensures received { (old mid new : ACore O I) (j k : ℕ) (other given : Option (Result (List ℕ) AnError)) → k ≢ j
+        → ReceivesOne old j other mid → ReceivesOne mid k given new
+        → ReceivesAt old.connection.failure (stream_at old.state k) given (stream_at new.state k) }
+{}
+
+/// Over any run a ticket is sent once the frame that has it, or one behind it, was reported whole; while the tickets of
+/// queued frames are those behind the last that was sent, that is once its frame isn't queued any more. No frame of a stream
+/// is thrown away.
+pub fn a_ticket_is_sent_once_reported<O: OutboundTransform, I: InboundTransform>()
+    ensures sent { (s t : Client) (old new : AConnection O I) (calls : List (Call Called)) (happenings : List Happening) (ticket : ℕ)
+        → Runs (calling O.OutboundTransform I.InboundTransform) (called O.OutboundTransform O.SEALS) s old calls happenings t new
+        → is_sent new.outbox.queue ticket
+        ≡ (nat_lt 0 ticket && nat_le ticket (last_ticket (finished old.outbox.queue happenings) old.outbox.queue.sent)) }
+    ensures queued { (c : AConnection O I) (ticket : ℕ) → AreNumbered c.outbox.queue.sent c.outbox.queue.frames c.outbox.tickets
+        → 0 < ticket → ticket ≤ c.outbox.tickets → is_sent c.outbox.queue ticket ≡ not (has_ticket ticket c.outbox.queue.frames) }
+    ensures kept { (s t : Client) (old new : AConnection O I) (calls : List (Call Called)) (happenings : List Happening)
+        → Runs (calling O.OutboundTransform I.InboundTransform) (called O.OutboundTransform O.SEALS) s old calls happenings t new
+        → AllByRecursion (λ f. IsTrue f.is_unary_request) (thrown old.outbox.queue happenings) }
 {}

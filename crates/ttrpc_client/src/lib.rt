@@ -4,13 +4,16 @@
 pub mod call;
 mod client;
 pub mod client_on;
-mod deadlines;
 pub mod errors;
 mod kind;
 mod landing;
 pub mod laws;
 pub mod state;
+mod streaming;
+mod streams;
 
 pub use call::CallId;
 pub use client::ClientCore;
 pub use kind::ClientKind;
+pub use streaming::Ticket;
+pub use streams::{Sender, Stream, StreamId, Streams};

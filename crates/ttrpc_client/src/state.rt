@@ -1,23 +1,35 @@
 //! The state of a client core, without its connection, and how a whole frame acts on it.
-ghost use Rattle.std.specs.Prelude.{◌≡◌, ◌%◌, ◌+◌, ◌++◌, ◌<◌, ◌^◌, ℕ, [], true, false, option_to_list, IfSome, IfNone, OnOk, OnErr, Option, Some};
-ghost use Rattle.ttrpc_client.specs.State.{Client, IsClient, call_at, new_client, waits};
-ghost use Rattle.ttrpc_client.specs.Protocol.{Expires, IsDeadline, due_at, due_ids, last_id};
-ghost use Rattle.ttrpc_client.specs.Inside.{Admits, ExpiresOne, Leaves, Settles, Takes, given_of};
+ghost use Rattle.std.specs.Prelude.{◌≡◌, ◌%◌, ◌+◌, ◌++◌, ◌<◌, ◌^◌, ℕ, [], true, false, option_to_list, IfErr, IfSome, IfNone, OnOk, OnErr, None, Option, Some};
+ghost use Rattle.std.specs.BTreeMap.{is_at};
+ghost use Rattle.std.specs.Option.{option_map};
+ghost use Rattle.std.specs.Ordering.{nat_cmp};
+ghost use Rattle.std.specs.Set.{remove_key};
+ghost use Rattle.ttrpc_proto.specs.declared.error.Error.{Error as AnError};
+ghost use Rattle.ttrpc_connection.specs.Failure.{IsTold};
+ghost use Rattle.ttrpc_client.specs.State.{Client, IsClient, call_at, new_client, stream_at, waits};
+ghost use Rattle.ttrpc_client.specs.Streams.{AreStreams, StreamsStay, with_news, with_sender, without_reader, without_sender};
+ghost use Rattle.ttrpc_client.specs.Protocol.{Expires, IsDeadline, ReceivesAt, due_at, due_ids, heard_with, last_id, unsendable};
+ghost use Rattle.ttrpc_client.specs.Inside.{Admits, AdmitsStream, ExpiresOne, Leaves, Settles, Takes, given_of};
+ghost use Rattle.ttrpc_client.specs.declared.streams.Sender.{Sender as ASender};
+ghost use Rattle.ttrpc_client.specs.declared.streams.Stream.{Stream as AStream};
 
 use crate::call::{Call, CallId, waits_until};
-use crate::deadlines::Deadlines;
 use crate::kind::ClientKind;
-use crate::landing::{Outcome, outcome_of};
+use crate::landing::{News, Outcome, news_of, outcome_of};
+use crate::streams::{Stream, StreamId, Streams};
 use std::alloc::{AllocError, Global};
-use std::collections::{BTreeMap, VecDeque};
+use std::collections::{BTreeMap, BTreeSet, VecDeque};
 use std::marker::Model;
+use ttrpc_connection::deadlines::Deadlines;
 use ttrpc_connection::{Arrived, Failure, Outbox, Reacts};
+use ttrpc_proto::Error;
 use ttrpc_secure::OutboundTransform;
+use ttrpc_wire::Blob;
 
 /// How far ids go.
 const LAST_ID: u64 = 4294967295;
 
-/// The calls of a client.
+/// The calls and streams of a client.
 #[derive(Drop)]
 pub struct ClientState {
     kind: ClientKind,
@@ -27,12 +39,16 @@ pub struct ClientState {
     deadlines: Deadlines,
     // Has room for each call that waits, too, so that one can always end.
     ended: VecDeque<CallId>,
+    streams: Streams,
+    // Those for which something came since it was last asked for which it has. Each still has its receiver.
+    heard: BTreeSet<StreamId>,
 }
 
 impl Model for ClientState {
     ghost use Rattle.std.specs.VecDeque.{deque_capacity, deque_len};
     ghost use Rattle.ttrpc_client.specs.State.{Client};
     ghost use Rattle.ttrpc_client.specs.Kept.{IsKept};
+    ghost use Rattle.ttrpc_client.specs.Streams.{AreStreams};
 
     ghost Value = { Client };
 
@@ -41,9 +57,12 @@ impl Model for ClientState {
       next = a.next;
       calls = a.calls.entries;
       ended = a.ended.items;
+      streams = a.streams;
+      heard = a.heard.keys;
     } };
 
-    ghost invariant = { λ a. IsKept a.next a.calls.entries a.deadlines a.ended.items (deque_len a.ended) (deque_capacity a.ended) };
+    ghost invariant = { λ a. IsKept a.next a.calls.entries a.deadlines a.ended.items (deque_len a.ended) (deque_capacity a.ended)
+        × AreStreams a.next a.calls.entries a.streams };
 }
 
 impl ClientState {
@@ -58,12 +77,15 @@ impl ClientState {
             calls: BTreeMap::new(alloc),
             deadlines: Deadlines::new(alloc),
             ended: VecDeque::new(alloc),
+            streams: Streams::new(alloc),
+            heard: BTreeSet::new(alloc),
         }
     }
 
     /// A lemma, which does nothing when it runs: what holds of every client.
     pub(crate) fn lemma_is_client(&self)
-        ensures { IsClient self.now.next self.now.calls }
+        ensures calls { IsClient self.now.next self.now.calls }
+        ensures streams { AreStreams self.now.next self.now.calls self.now.streams }
     {
         let _next = self.next;
     }
@@ -92,9 +114,9 @@ impl ClientState {
         ensures err { OnErr result (self.new ≡ self.old) }
     {
         self.ended.reserve(self.calls.len() + 1)?;
-        self.deadlines.add(id, deadline)?;
+        self.deadlines.add(u64::from(id), deadline)?;
         if self.calls.insert(id, Call::Waiting(deadline)).is_err() {
-            self.deadlines.take_away(id, deadline);
+            self.deadlines.take_away(u64::from(id), deadline);
             return Err(AllocError);
         }
         self.next += 2;
@@ -103,7 +125,8 @@ impl ClientState {
 
     /// Takes back the call that was admitted last. Takes no memory.
     pub(crate) fn withdraw(&mut self, id: CallId)
-        requires { self.old.next ≡ id + 2 }
+        requires last { self.old.next ≡ id + 2 }
+        requires call { stream_at self.old id ≡ None }
         ensures { (old : Client) → (deadline : Option ℕ) → Admits old id deadline self.old → self.new ≡ old }
     {
         let _ = self.forget(id);
@@ -116,7 +139,7 @@ impl ClientState {
         ensures leaves { Leaves self.old id self.new }
     {
         let call = self.calls.remove(&id);
-        self.deadlines.take_away(id, waits_until(&call));
+        self.deadlines.take_away(u64::from(id), waits_until(&call));
         if self.calls.is_empty() {
             self.ended.clear();
         }
@@ -163,6 +186,7 @@ impl ClientState {
         if deadline > u128::from(now) {
             return None;
         }
+        let id = id as u32;
         self.settle(id, Call::Expired);
         Some(id)
     }
@@ -202,11 +226,113 @@ impl ClientState {
         let Ok(was) = self.calls.insert(id, call) else {
             unreachable!();
         };
-        self.deadlines.take_away(id, waits_until(&was));
+        self.deadlines.take_away(u64::from(id), waits_until(&was));
         match self.ended.push_back(id) {
             Ok(()) => {}
             Err(_) => unreachable!(),
         }
+    }
+}
+
+/// Streams.
+impl ClientState {
+    /// Keeps a new stream. An `Err` changes nothing.
+    pub(crate) fn admit_stream(&mut self, id: StreamId, stream: Stream) -> Result<(), AllocError>
+        requires { id ≡ self.old.next }
+        ensures ok { OnOk result (AdmitsStream self.old id stream self.new) }
+        ensures err { OnErr result (self.new ≡ self.old) }
+    {
+        self.streams.open(id, stream)?;
+        self.next += 2;
+        Ok(())
+    }
+
+    /// Takes back the stream that was admitted last. Takes no memory.
+    pub(crate) fn withdraw_stream(&mut self, id: StreamId)
+        requires last { self.old.next ≡ id + 2 }
+        requires stream { call_at self.old id ≡ None }
+        ensures { (old : Client) → (stream : AStream) → AdmitsStream old id stream self.old → self.new ≡ old }
+    {
+        self.streams.forget(id);
+        self.next -= 2;
+    }
+
+    /// Refuses what isn't to be sent on a stream.
+    pub(crate) fn check_sendable(&self, alloc: Global, id: StreamId) -> Result<(), Error>
+        ensures ok { OnOk result (unsendable (stream_at self.now id) ≡ None) }
+        ensures err { IfErr result (λ told. (error : AnError) × (unsendable (stream_at self.now id) ≡ Some error) × IsTold error told) }
+    {
+        self.streams.check_sendable(alloc, id)
+    }
+
+    /// The sender of a stream has closed. Takes no memory.
+    pub(crate) fn close(&mut self, id: StreamId)
+        ensures own { stream_at self.new id ≡ with_sender ASender.Closed (stream_at self.old id) }
+        ensures others { StreamsStay self.old.streams id self.new.streams }
+        ensures same { self.new ≡ record self.old { streams = self.new.streams } }
+    {
+        self.streams.close(id);
+    }
+
+    /// Gives the next item of a stream, or why there is none.
+    pub(crate) fn recv(
+        &mut self,
+        alloc: Global,
+        id: StreamId,
+        failure: &Option<Failure>,
+    ) -> Option<Result<Blob, Error>>
+        ensures own { ReceivesAt failure.now (stream_at self.old id) result (stream_at self.new id) }
+        ensures others { StreamsStay self.old.streams id self.new.streams }
+        ensures same { self.new ≡ record self.old { streams = self.new.streams } }
+    {
+        self.streams.recv(alloc, id, failure)
+    }
+
+    /// Nobody receives from a stream any more. Takes no memory.
+    pub(crate) fn drop_receiver(&mut self, id: StreamId)
+        ensures own { stream_at self.new id ≡ without_reader (stream_at self.old id) }
+        ensures others { StreamsStay self.old.streams id self.new.streams }
+        ensures same { self.new ≡ record self.old { streams = self.new.streams; heard = remove_key (is_at (nat_cmp id)) self.old.heard } }
+    {
+        self.streams.drop_receiver(id);
+        self.heard.remove(&id);
+    }
+
+    /// Nobody sends on a stream any more. Takes no memory.
+    pub(crate) fn drop_sender(&mut self, id: StreamId)
+        ensures own { stream_at self.new id ≡ without_sender (stream_at self.old id) }
+        ensures others { StreamsStay self.old.streams id self.new.streams }
+        ensures same { self.new ≡ record self.old { streams = self.new.streams } }
+    {
+        self.streams.drop_sender(id);
+    }
+
+    /// The first of the streams for which something came, and which weren't told of yet. Takes no memory.
+    pub(crate) fn next_heard(&mut self) -> Option<StreamId>
+        ensures first { self.old.heard ≡ option_to_list result ++ self.new.heard }
+        ensures none { IfNone result (self.old.heard ≡ []) }
+        ensures same { self.new ≡ record self.old { heard = self.new.heard } }
+    {
+        self.heard.pop_first()
+    }
+
+    /// Puts a thing into the mailbox of a stream, and lists the stream as one for which something came. An `Err` changes
+    /// nothing.
+    fn bring(&mut self, id: StreamId, news: News) -> Result<(), AllocError>
+        ensures own { OnOk result (stream_at self.new id ≡ option_map (with_news news.thing news.ends) (stream_at self.old id)) }
+        ensures others { OnOk result (StreamsStay self.old.streams id self.new.streams) }
+        ensures same { OnOk result (self.new ≡ record self.old { streams = self.new.streams; heard = heard_with (stream_at self.old id) id self.old.heard }) }
+        ensures err { OnErr result (self.new ≡ self.old) }
+    {
+        if !self.streams.hears(id) {
+            return self.streams.put(id, news.thing, news.ends);
+        }
+        let is_new = self.heard.insert(id)?;
+        let put = self.streams.put(id, news.thing, news.ends);
+        if put.is_err() && is_new {
+            self.heard.remove(&id);
+        }
+        put
     }
 }
 
@@ -224,9 +350,13 @@ impl<O: OutboundTransform> Reacts<O> for ClientState {
         arrived: Arrived,
     ) -> Result<(), Failure> {
         let header = arrived.header;
-        if self.waits(header.stream_id) {
+        let id = header.stream_id;
+        if self.waits(id) {
             let outcome = outcome_of(alloc, &header, arrived.opening)?;
-            self.settle(header.stream_id, Call::Ended(outcome));
+            self.settle(id, Call::Ended(outcome));
+        } else if let Some(streaming_server) = self.streams.entered(id) {
+            let news = news_of(alloc, &header, arrived.opening, streaming_server)?;
+            self.bring(id, news)?;
         }
         Ok(())
     }

@@ -14,3 +14,7 @@ pub use Rattle.ttrpc_connection.specs.declared.connection.Connection.{Connection
 pub use Rattle.ttrpc_connection.specs.declared.failure.Failure.{Failure}
 pub use Rattle.ttrpc_connection.specs.declared.failure.Failure.TheVariants.{CancelledDuringWrite, DeadlineDuringWrite, Disconnected, DisconnectedInside, HandlerError, JobIdsUsedUp, NoMemory, NoMemory as MemoryRefused, Told}
 pub use Rattle.ttrpc_connection.specs.Outbox.{Outbox}
+pub use Rattle.ttrpc_connection.specs.declared.thing.Thing.{Thing}
+pub use Rattle.ttrpc_connection.specs.declared.thing.Thing.TheVariants.{Item, Last, End, Closing, Breaking}
+pub use Rattle.ttrpc_connection.specs.declared.mailbox.Receiver.{Receiver}
+pub use Rattle.ttrpc_connection.specs.declared.mailbox.Receiver.TheVariants.{Open, Closed, Broken, Dropped}

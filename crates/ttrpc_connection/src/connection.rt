@@ -144,6 +144,13 @@ impl<O: OutboundTransform + Drop, I: InboundTransform + Drop> Connection<O, I> {
         }
     }
 
+    /// Why the connection failed, if it has. Takes no memory.
+    pub fn why(&self) -> &Option<Failure>
+        ensures { result.now ≡ self.now.failure }
+    {
+        &self.failure
+    }
+
     /// The failure is an `Err`, where the connection has failed.
     pub fn check_alive(&self, alloc: Global) -> Result<(), Error>
         ensures ok { OnOk result (self.now.failure ≡ None) }

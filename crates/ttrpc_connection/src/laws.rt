@@ -1,10 +1,12 @@
 //! Laws over whatever a core does at a whole frame. A core with calls of its own cites the same proofs for these.
-ghost use Rattle.std.specs.Prelude.{◌≡◌, ◌++◌, ℕ, List, drop};
+ghost use Rattle.std.specs.Prelude.{◌≡◌, ◌++◌, ℕ, List, Option, drop};
 ghost use Rattle.ttrpc_frame.specs.Frames.{Holds, nothing};
 ghost use Rattle.ttrpc_frame.specs.Queue.{Happening, IsQueue, all_bytes_left, departing, unsent, written_all};
 ghost use Rattle.ttrpc_connection.specs.declared.connection.Connection.{Connection as AConnection};
+ghost use Rattle.ttrpc_connection.specs.declared.failure.Failure.{Failure as AFailure};
 ghost use Rattle.ttrpc_connection.specs.Feeds.{ways};
 ghost use Rattle.ttrpc_connection.specs.Calls.{Call, Gives, Own, Runs, joined, own};
+ghost use Rattle.ttrpc_connection.specs.Mail.{Mail, broken, left_by, taken};
 
 use crate::reacts::Reacts;
 use ttrpc_secure::{InboundTransform, OutboundTransform};
@@ -37,4 +39,9 @@ pub fn what_leaves_was_queued<O: OutboundTransform, I: InboundTransform, R: Reac
         → IsQueue old.outbox.queue → Runs w (own w) s old calls happenings t new
         → all_bytes_left old.outbox.queue happenings ++ unsent new.outbox.queue
         ≡ drop old.outbox.queue.reported (written_all (departing old.outbox.queue happenings)) }
+{}
+
+/// Reading a mailbox as it is, and seeing the failure then, is reading it as it is seen after the failure.
+pub fn a_failure_is_seen_last()
+    ensures { (failure : Option AFailure) (m : Mail) → broken failure (taken failure m) ≡ left_by (broken failure m) }
 {}

@@ -8,7 +8,7 @@ use std::marker::Model;
 use std::sync::{Arc, MutexGuard};
 use std::time::Duration;
 use ttrpc_client::CallId;
-use ttrpc_client::call::deadline_of;
+use ttrpc_connection::deadlines::deadline_of;
 use ttrpc_proto::{Error, Request, Response, Result};
 use ttrpc_secure::{ConnectionData, InboundTransform, OutboundTransform};
 use ttrpc_sync::{AfterQueuing, Connected, Host, Link, after_queuing, moment};

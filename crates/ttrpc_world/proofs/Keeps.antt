@@ -3,7 +3,7 @@ use Rattle.ttrpc_world.proofs.Words.{◌≡◌, ℕ, nat_eq, ◌+◌, ◌≤◌,
 use Rattle.ttrpc_server.specs.State as server
 use Rattle.ttrpc_client.specs.declared.kind.ClientKind.{ClientKind}
 use Rattle.ttrpc_client.specs.declared.kind.ClientKind.TheVariants.{Sync, Async}
-use Rattle.ttrpc_client.specs.State.{deadline_of}
+use Rattle.ttrpc_connection.specs.Deadlines.{deadline_of}
 use Rattle.ttrpc_client.specs.State as client
 use Rattle.ttrpc_client.specs.Protocol.{TakesOutcome}
 use Rattle.ttrpc_world.proofs.Stages.{Story}

@@ -3,7 +3,8 @@ use crate::tests::client::{ANSWERED, CLOSE};
 use crate::tests::client_numbers::{calls_expire_at_once, calls_last_first};
 use crate::tests::script::{Step, Told};
 use crate::tests::steps::{feeds, lends, tells};
-use crate::tests::under_test::{Client, Met};
+use crate::tests::stream_steps::stream_step;
+use crate::tests::under_test::{Client, Met, Streaming};
 use std::alloc::Global;
 use std::test::Fail;
 use ttrpc_client::CallId;
@@ -12,7 +13,7 @@ use ttrpc_proto::{Error, Request, Response};
 use ttrpc_wire::{Blob, Text};
 
 /// A step that only a client knows.
-pub fn client_step<C: Client>(alloc: Global, core: &mut C, step: &Step) -> Met {
+pub fn client_step<C: Streaming>(alloc: Global, core: &mut C, step: &Step) -> Met {
     match *step {
         Step::Calls(timeout, now, id) => calls(alloc, core, timeout, now, id),
         Step::CallsSevens(length, id) => calls_sevens(alloc, core, length, id),
@@ -35,7 +36,7 @@ pub fn client_step<C: Client>(alloc: Global, core: &mut C, step: &Step) -> Met {
             core.tick(now);
             Ok(true)
         }
-        _ => Ok(false),
+        _ => stream_step(alloc, core, step),
     }
 }
 
@@ -56,8 +57,16 @@ pub fn usual_request(alloc: Global, timeout_nano: i64) -> Result<Request, Fail> 
     Ok(request)
 }
 
+/// A request to `Chat` of `demo.Echo` with this payload.
+pub fn stream_request(alloc: Global, payload: &[u8]) -> Result<Request, Fail> {
+    let mut request = Request::new(alloc);
+    address(alloc, &mut request, "demo.Echo", "Chat")?;
+    pay(&mut request, Blob::from_slice(alloc, payload)?);
+    Ok(request)
+}
+
 /// A request to `m` of `s` with so many bytes of payload.
-fn request_of_sevens(alloc: Global, length: usize) -> Result<Request, Fail> {
+pub fn request_of_sevens(alloc: Global, length: usize) -> Result<Request, Fail> {
     let mut request = Request::new(alloc);
     address(alloc, &mut request, "s", "m")?;
     pay(&mut request, Blob::from_vec(vec![in alloc; 7; length]?));

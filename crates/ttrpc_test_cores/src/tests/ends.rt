@@ -4,13 +4,14 @@ use crate::tests::client_steps::{client_refusal, client_step};
 use crate::tests::halves::Half;
 use crate::tests::script::{Start, Step};
 use crate::tests::server_steps::{server_refusal, server_step};
-use crate::tests::under_test::{Client, Core, End, Met, Server};
+use crate::tests::under_test::{Client, Core, End, Met, Server, Streaming};
 use std::alloc::Global;
 use std::test::Fail;
-use ttrpc_client::{CallId, ClientCore, ClientKind};
+use ttrpc_client::{CallId, ClientCore, ClientKind, StreamId, Ticket};
 use ttrpc_proto::{Error, Request, Response};
 use ttrpc_secure::{ConnectionContext, InboundTransform, OutboundTransform};
 use ttrpc_server::{Job, JobId, Rules, ServerCore};
+use ttrpc_wire::Blob;
 
 /// The last id that a call may have.
 const LAST_ID: CallId = 4294967295;
@@ -169,6 +170,46 @@ impl<O: OutboundTransform + Drop, I: InboundTransform + Drop> Client for ClientC
 
     fn next_deadline(&self) -> Option<u64> {
         ClientCore::next_deadline(self)
+    }
+}
+
+impl<O: OutboundTransform + Drop, I: InboundTransform + Drop> Streaming for ClientCore<O, I> {
+    fn new_stream(
+        &mut self,
+        alloc: Global,
+        request: &Request,
+        streaming_client: bool,
+        streaming_server: bool,
+    ) -> Result<StreamId, Error> {
+        ClientCore::new_stream(self, alloc, request, streaming_client, streaming_server)
+    }
+
+    fn send(&mut self, alloc: Global, id: StreamId, item: &[u8]) -> Result<Ticket, Error> {
+        ClientCore::send(self, alloc, id, item)
+    }
+
+    fn close_send(&mut self, alloc: Global, id: StreamId) -> Result<Ticket, Error> {
+        ClientCore::close_send(self, alloc, id)
+    }
+
+    fn recv(&mut self, alloc: Global, id: StreamId) -> Option<Result<Blob, Error>> {
+        ClientCore::recv(self, alloc, id)
+    }
+
+    fn drop_receiver(&mut self, id: StreamId) {
+        ClientCore::drop_receiver(self, id);
+    }
+
+    fn drop_sender(&mut self, id: StreamId) {
+        ClientCore::drop_sender(self, id);
+    }
+
+    fn sent(&self, alloc: Global, ticket: Ticket) -> Option<Result<(), Error>> {
+        ClientCore::sent(self, alloc, ticket)
+    }
+
+    fn next_heard(&mut self) -> Option<StreamId> {
+        ClientCore::next_heard(self)
     }
 }
 

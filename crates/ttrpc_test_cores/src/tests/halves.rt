@@ -1,7 +1,9 @@
 //! How the halves of a connection start.
 use crate::tests::script::Start;
-use ttrpc_bench::{Sealed, StampIn, StampOut, Swelling};
-use ttrpc_secure::Plain;
+use std::alloc::Global;
+use ttrpc_bench::{Sealed, StampIn, StampOut, Swelling, Transformed};
+use ttrpc_secure::{OutboundTransform, Plain, TransformError};
+use ttrpc_wire::Text;
 
 /// A half that scripts run over.
 pub trait Half {
@@ -39,5 +41,57 @@ impl Half for Sealed {
             Start::Fresh | Start::AtLastId => 0,
         };
         Sealed { room }
+    }
+}
+
+/// How long the request is that opens the stream `Chat` of `demo.Echo`.
+const OPENING: usize = 17;
+
+/// What is left of the greatest payload.
+const OVERHEAD: usize = 4194304 - OPENING;
+
+/// A half that leaves what is as long as that request as it is, refuses all else, and has no room for more.
+#[derive(Debug, Drop)]
+pub struct OpensOnly {}
+
+impl OutboundTransform for OpensOnly {
+    ghost use Rattle.std.specs.Prelude.{false, refl, ◌-◌};
+    ghost use Rattle.std.proofs.Common.{arith};
+    ghost use Rattle.ttrpc_secure.specs.Plain.{Keeps};
+    ghost use Rattle.ttrpc_bench.specs.Others.{RefusesAll};
+
+    const SEALS: bool = false;
+
+    ghost SEALS = { false };
+
+    ghost overhead = { λ _. 4194304 - 17 };
+
+    ghost seals = { Keeps };
+
+    ghost refuses = { RefusesAll };
+
+    fn transform_outbound(&mut self, alloc: Global, data: &[u8], _aad: &[u8]) -> Transformed {
+        if data.len() != OPENING {
+            return Err(TransformError::Refused(Text::from_str(alloc, "sealed up")?));
+        }
+        let sealed = Vec::from_slice(alloc, data)?;
+        Ok(sealed)
+    }
+
+    fn max_overhead(&self) -> usize {
+        OVERHEAD
+    }
+
+    ghost lawful = { record {
+      longer = λ s t plain aad sealed h. Prim.rw h.0 (Prim.omega arith);
+      fixed = λ s t plain aad sealed h. refl;
+      small = λ s. Prim.omega arith;
+      still = λ e s t plain aad sealed h. h.1;
+    } };
+}
+
+impl Half for OpensOnly {
+    fn start(_start: Start) -> OpensOnly {
+        OpensOnly {}
     }
 }

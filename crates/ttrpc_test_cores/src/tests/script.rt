@@ -11,6 +11,12 @@ pub enum Told {
     Socket(&'static str),
     /// `Error::RpcStatus` of this code and message.
     Status(i32, &'static str),
+    /// `Error::LocalClosed`.
+    LocalClosed,
+    /// `Error::RemoteClosed`.
+    RemoteClosed,
+    /// `Error::Eof`.
+    Eof,
 }
 
 /// What is done to a core, and what is looked for. A step that a core doesn't know isn't met.
@@ -126,6 +132,50 @@ pub enum Step {
     CallsLastFirst(u32),
     /// So many calls are made, and all expire by one tick.
     CallsExpireAtOnce(u32),
+
+    // ---- of a client's streams
+    /// A stream is opened, by whether it is to send items and to receive them, with this payload, and gets this id.
+    Opens(bool, bool, &'static [u8], u32),
+    /// A stream that is to send items, or not, with this payload is refused so, and so again.
+    RefusesStream(bool, &'static [u8], Told),
+    /// The same of a stream that sends none, with so many bytes 7.
+    RefusesStreamOfSevens(usize, Told),
+    /// An item is sent on the stream of this id, and gets this ticket.
+    Sends(u32, &'static [u8], u64),
+    /// The same of one of so many bytes 7.
+    SendsSevens(u32, usize, u64),
+    /// The stream of this id is closed, by a frame of this ticket.
+    Closes(u32, u64),
+    /// To send an item on the stream of this id, and to close it, is refused so, and so again.
+    RefusesSending(u32, Told),
+    /// To send an item of so many bytes 7 is refused so, and so again.
+    RefusesSevensOn(u32, usize, Told),
+    /// The next item of the stream of this id is this one.
+    Receives(u32, &'static [u8]),
+    /// None has come yet.
+    ReceivesNone(u32),
+    /// In place of one this error comes.
+    ReceivesError(u32, Told),
+    /// The receiver of the stream of this id is dropped.
+    DropsReceiver(u32),
+    /// Its sender is.
+    DropsSender(u32),
+    /// The frame of this ticket was sent.
+    IsSent(u64),
+    /// It wasn't yet.
+    IsUnsent(u64),
+    /// It wasn't, and won't be, for this.
+    IsNeverSent(u64, Told),
+    /// The next stream for which something came is this one.
+    NextHeard(Option<u32>),
+    /// So many items come for the stream of this id, and nobody asks.
+    ItemsCome(u32, u32),
+    /// They are received.
+    ReceivesEach(u32, u32),
+    /// So many streams are opened, an item comes for each, and they are received, the last first.
+    StreamsLastFirst(u32),
+    /// So many items are sent on the stream of this id, each is asked about, and all leave.
+    SendsEach(u32, u32),
 }
 
 /// How a core starts.

@@ -130,6 +130,9 @@ fn is(error: &Error, why: Told) -> bool {
         }
         Told::Socket(told) => matches!(error, Error::Socket(text) if text.as_str() == told),
         Told::Status(code, told) => is_status(error, code, told),
+        Told::LocalClosed => matches!(error, Error::LocalClosed),
+        Told::RemoteClosed => matches!(error, Error::RemoteClosed),
+        Told::Eof => matches!(error, Error::Eof),
     }
 }
 

@@ -4,9 +4,10 @@ use crate::tests::steps::act;
 use std::alloc::Global;
 use std::process::Abort;
 use std::test::Fail;
-use ttrpc_client::CallId;
+use ttrpc_client::{CallId, StreamId, Ticket};
 use ttrpc_proto::{Error, Request, Response};
 use ttrpc_server::{Job, JobId};
+use ttrpc_wire::Blob;
 
 /// Nothing, or why a test ended.
 pub type Tested = Result<(), Fail>;
@@ -73,6 +74,31 @@ pub trait Client: End {
     fn next_ended(&mut self) -> Option<CallId>;
 
     fn next_deadline(&self) -> Option<u64>;
+}
+
+/// What it does on streams.
+pub trait Streaming: Client {
+    fn new_stream(
+        &mut self,
+        alloc: Global,
+        request: &Request,
+        streaming_client: bool,
+        streaming_server: bool,
+    ) -> Result<StreamId, Error>;
+
+    fn send(&mut self, alloc: Global, id: StreamId, item: &[u8]) -> Result<Ticket, Error>;
+
+    fn close_send(&mut self, alloc: Global, id: StreamId) -> Result<Ticket, Error>;
+
+    fn recv(&mut self, alloc: Global, id: StreamId) -> Option<Result<Blob, Error>>;
+
+    fn drop_receiver(&mut self, id: StreamId);
+
+    fn drop_sender(&mut self, id: StreamId);
+
+    fn sent(&self, alloc: Global, ticket: Ticket) -> Option<Result<(), Error>>;
+
+    fn next_heard(&mut self) -> Option<StreamId>;
 }
 
 /// Either core.

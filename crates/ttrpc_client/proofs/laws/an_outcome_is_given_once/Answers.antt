@@ -1,4 +1,4 @@
-use Rattle.ttrpc_client.proofs.Words.{ids_asked}
+use Rattle.ttrpc_client.proofs.Words.{ids_asked, ids_used}
 use Rattle.ttrpc_client.proofs.Once.{run_gives_none, run_gives_one}
 use Rattle.ttrpc_client.proofs.Turning.{leaves_valid, run_leaves}
 use Rattle.ttrpc_client.proofs.laws.an_outcome_is_given_once.Goals as goal
@@ -13,4 +13,4 @@ returns-clause-never g c = λ s t old new calls happenings id run none apart.
 
 pub returns-clause-valid : goal.returns-clause-valid
 returns-clause-valid g c = λ s t old new calls happenings valid run.
-    leaves_valid (ids_asked calls) s t (run_leaves g.O.OutboundTransform g.I.InboundTransform g.O.OutboundTransform.SEALS calls s old happenings t new run) valid
+    leaves_valid (ids_used calls) (ids_asked calls) s t (run_leaves g.O.OutboundTransform g.I.InboundTransform g.O.OutboundTransform.SEALS calls s old happenings t new run) valid

@@ -50,7 +50,7 @@ pub mod security {
 
 /// The cores.
 pub mod cores {
-    pub use ttrpc::cores::client::{CallId, ClientCore, ClientKind};
+    pub use ttrpc::cores::client::{CallId, ClientCore, ClientKind, StreamId, Ticket};
     pub use ttrpc::cores::pool::PoolCore;
     pub use ttrpc::cores::server::{Job, JobId, Registry, Rules, ServerCore};
     pub use ttrpc::cores::world::{Entry, Event, Reply, Side, Trace, World};

@@ -12,14 +12,14 @@ when_not at n (Err e) fits h = h (omega (arith, fits))
 
 pub returns-in_err-deadline-clause-none : goal.returns-in_err-deadline-clause-none
 returns-in_err-deadline-clause-none c =
-    let kept = c.self.invariant in
+    let kept = c.self.invariant.0 in
     rw c.from_residual.ensures (λ now fits. subst (λ (s : Client). due_ids now s.calls ≡ []) c.self.view_is
     (none_due_before c.self.inside.deadlines c.self.inside.calls.entries now kept.ordered kept.deadlines_are
     (λ at id there. let not = c.in_err-deadline.ensures.none at id in let no : true ≡ false = sym there ∙ not in cc)))
 
 pub returns-clause-some : goal.returns-clause-some
 returns-clause-some c =
-    let kept = c.self.invariant in
+    let kept = c.self.invariant.0 in
     let at = c.in_ok-deadline.deadline in
     rw (c.ok.ensures.value, ← c.self.view_is)
     (when_fits at 18446744073709551616 (IsDeadline c.self.inside.calls.entries) c.try_from.result c.try_from.ensures
@@ -27,7 +27,7 @@ returns-clause-some c =
 
 pub returns-clause-none : goal.returns-clause-none
 returns-clause-none c =
-    let kept = c.self.invariant in
+    let kept = c.self.invariant.0 in
     let at = c.in_ok-deadline.deadline in
     rw (c.ok.ensures.value, ← c.self.view_is)
     (when_not at 18446744073709551616 c.try_from.result c.try_from.ensures

@@ -1,0 +1,242 @@
+//! The calls of a client core on its streams.
+ghost use Rattle.std.specs.Prelude.{◌≡◌, ◌≤◌, ◌++◌, ◌⊎◌, [], length, false, option_to_list, IfOk, IfErr, OnOk, OnErr, IfNone};
+ghost use Rattle.ttrpc_connection.specs.Failure.{TellsSent};
+ghost use Rattle.ttrpc_connection.specs.Feeds.{IsFailed};
+ghost use Rattle.ttrpc_connection.specs.Frames.{safe_limit};
+ghost use Rattle.ttrpc_connection.specs.Outbox.{is_sent};
+ghost use Rattle.ttrpc_client.specs.Protocol.{DropsReceiver, DropsSender, IsDataFrame, IsItemTooLong, IsOpeningFrame, IsUnsendable, MaySend, OpensStream, ReceivesOne, RefusesSending, RefusesStream, SendsOn, close_flags, opening_flags};
+ghost use Rattle.ttrpc_client.specs.Inside.{BeginsStream, MayRefuse};
+ghost use Rattle.ttrpc_client.specs.declared.streams.Sender.{Sender as ASender};
+
+use crate::client::ClientCore;
+use crate::errors::{above_limit_error, payload_error, tickets_error, unsent_error};
+use crate::streams::{Stream, StreamId};
+use std::alloc::Global;
+use ttrpc_connection::Outbox;
+use ttrpc_frame::header::oversize::oversize_error;
+use ttrpc_frame::{
+    FLAG_NO_DATA, FLAG_REMOTE_CLOSED, FLAG_REMOTE_OPEN, GenMessage, MESSAGE_LENGTH_MAX,
+    MESSAGE_TYPE_DATA, MESSAGE_TYPE_REQUEST, MessageHeader, Queued,
+};
+use ttrpc_proto::{Error, Request};
+use ttrpc_secure::context::errors::or_no_memory;
+use ttrpc_secure::sending::SendError;
+use ttrpc_secure::{InboundTransform, OutboundTransform, TransformError};
+use ttrpc_wire::Blob;
+
+/// The number of a frame that was sent on a stream, by which it is asked about: 1, and rising with each.
+pub type Ticket = u64;
+
+/// The flags of a frame that closes a stream without an item.
+const CLOSE_FLAGS: u8 = FLAG_REMOTE_CLOSED | FLAG_NO_DATA;
+
+impl<O: OutboundTransform + Drop, I: InboundTransform + Drop> ClientCore<O, I> {
+    /// Opens a stream, to send items, to receive them, or both: its request is sealed and queued under the next id. Where
+    /// it is to send items the request has no payload; else its payload is the one item. It has no deadline. A refusal
+    /// changes nothing.
+    pub fn new_stream(
+        &mut self,
+        alloc: Global,
+        request: &Request,
+        streaming_client: bool,
+        streaming_server: bool,
+    ) -> Result<StreamId, Error>
+        ensures ok { IfOk result (λ id. OpensStream O.OutboundTransform self.old request.now streaming_client streaming_server id self.new) }
+        ensures refused { IfErr result (RefusesStream O.OutboundTransform self.old request.now streaming_client) }
+        ensures err { OnErr result (self.new ≡ self.old) }
+    {
+        let size = self.check_request(alloc, request)?;
+        if streaming_client && !request.payload.is_empty() {
+            return Err(payload_error(alloc));
+        }
+        let (id, bytes) = self.write_request(alloc, request, size)?;
+        match self.begin_stream(alloc, id, bytes, streaming_client, streaming_server) {
+            Ok(()) => Ok(id),
+            Err(refused) => Err(unsent_error(alloc, &refused)),
+        }
+    }
+
+    /// Keeps a new stream, and seals and queues its request, which is no longer than the limit. An `Err` changes nothing.
+    fn begin_stream(
+        &mut self,
+        alloc: Global,
+        id: StreamId,
+        bytes: Vec<u8>,
+        streaming_client: bool,
+        streaming_server: bool,
+    ) -> Result<(), TransformError>
+        // The id is the next one, and the request fits.
+        requires next { id ≡ self.old.state.next }
+        requires fits { length bytes.items ≤ safe_limit O.OutboundTransform self.old.connection.outbox.half }
+        // The stream is kept, and its request is queued; or memory is wanted, or the half refuses, and nothing changed.
+        ensures ok { OnOk result (BeginsStream O.OutboundTransform self.old streaming_client streaming_server id bytes.items self.new) }
+        ensures refused { IfErr result (MayRefuse O.OutboundTransform self.old (IsOpeningFrame streaming_client id) bytes.items) }
+        ensures err { OnErr result (self.new ≡ self.old) }
+    {
+        let stream = Stream::new(alloc, streaming_client, streaming_server);
+        if self.state.admit_stream(id, stream).is_err() {
+            return Err(TransformError::NoMemory);
+        }
+        let frame = opening_frame(alloc, id, streaming_client);
+        match self.connection.outbox.send(alloc, frame, bytes) {
+            Ok(()) => Ok(()),
+            Err(SendError::Failed(error)) => {
+                self.state.withdraw_stream(id);
+                Err(error)
+            }
+            Err(SendError::TooLong) => unreachable!(),
+        }
+    }
+
+    /// Sends an item on a stream that was opened for that: it is sealed and queued, and has this ticket. A refusal changes
+    /// nothing.
+    pub fn send(&mut self, alloc: Global, id: StreamId, item: &[u8]) -> Result<Ticket, Error>
+        ensures ok { IfOk result (λ ticket. SendsOn O.OutboundTransform self.old id 0 item.now ASender.Open ticket self.new) }
+        ensures refused { IfErr result (RefusesSending O.OutboundTransform self.old id 0 item.now) }
+        ensures err { OnErr result (self.new ≡ self.old) }
+    {
+        self.send_frame(alloc, id, 0, item)
+    }
+
+    /// Says that no more items are sent on a stream: a frame that closes it is sealed and queued, and has this ticket. A
+    /// refusal changes nothing.
+    pub fn close_send(&mut self, alloc: Global, id: StreamId) -> Result<Ticket, Error>
+        ensures ok { IfOk result (λ ticket. SendsOn O.OutboundTransform self.old id close_flags [] ASender.Closed ticket self.new) }
+        ensures refused { IfErr result (RefusesSending O.OutboundTransform self.old id close_flags []) }
+        ensures err { OnErr result (self.new ≡ self.old) }
+    {
+        let ticket = self.send_frame(alloc, id, CLOSE_FLAGS, &[])?;
+        self.state.close(id);
+        Ok(ticket)
+    }
+
+    /// Seals and queues data in a frame of these flags. A refusal changes nothing.
+    fn send_frame(
+        &mut self,
+        alloc: Global,
+        id: StreamId,
+        flags: u8,
+        plain: &[u8],
+    ) -> Result<Ticket, Error>
+        ensures ok { IfOk result (λ ticket. SendsOn O.OutboundTransform self.old id flags plain.now ASender.Open ticket self.new) }
+        ensures refused { IfErr result (RefusesSending O.OutboundTransform self.old id flags plain.now) }
+        ensures err { OnErr result (self.new ≡ self.old) }
+    {
+        self.check_item(alloc, id, plain)?;
+        let Some(ticket) = self.connection.outbox.next_ticket() else {
+            return Err(tickets_error(alloc));
+        };
+        let limit = self.connection.outbox.limit();
+        if plain.len() > limit {
+            return Err(above_limit_error(alloc, self.state.kind(), plain.len(), limit));
+        }
+        let bytes = plain.to_vec(alloc)?;
+        let frame = data_frame(alloc, id, flags, ticket);
+        match self.connection.outbox.send(alloc, frame, bytes) {
+            Ok(()) => Ok(ticket),
+            Err(SendError::Failed(refused)) => Err(unsent_error(alloc, &refused)),
+            Err(SendError::TooLong) => unreachable!(),
+        }
+    }
+
+    /// Refuses to send where the connection has failed, nothing may be sent on the stream, or the data are longer than a
+    /// message may be.
+    fn check_item(&self, alloc: Global, id: StreamId, plain: &[u8]) -> Result<(), Error>
+        ensures ok { OnOk result (MaySend self.now id plain.now) }
+        ensures err { IfErr result (λ told. IsFailed self.now.connection.failure told ⊎ IsUnsendable self.now id told
+            ⊎ IsItemTooLong self.now id plain.now told) }
+    {
+        self.connection.check_alive(alloc)?;
+        self.state.check_sendable(alloc, id)?;
+        if plain.len() > MESSAGE_LENGTH_MAX {
+            return Err(or_no_memory(oversize_error(alloc, plain.len(), false)));
+        }
+        Ok(())
+    }
+
+    /// Gives the next item of a stream, or why there is none: nothing where none came yet. After a failure that stands
+    /// behind all that came. Where memory for an error's text was refused it is `NoMemory`, and nothing changed.
+    pub fn recv(&mut self, alloc: Global, id: StreamId) -> Option<Result<Blob, Error>>
+        ensures { ReceivesOne self.old id result self.new }
+    {
+        self.state.recv(alloc, id, self.connection.why())
+    }
+
+    /// Nobody receives from a stream any more: what comes for it is thrown away. With both halves dropped its id is
+    /// unknown. Takes no memory.
+    pub fn drop_receiver(&mut self, id: StreamId)
+        ensures { DropsReceiver self.old id self.new }
+    {
+        self.state.drop_receiver(id);
+    }
+
+    /// Nobody sends on a stream any more, which tells the other side nothing. With both halves dropped its id is unknown.
+    /// Takes no memory.
+    pub fn drop_sender(&mut self, id: StreamId)
+        ensures { DropsSender self.old id self.new }
+    {
+        self.state.drop_sender(id);
+    }
+
+    /// Whether a frame was sent: `Ok` once it was reported whole, and until then the failure, if the connection has failed;
+    /// or `NoMemory` where memory for its text was refused. A ticket that was never given is that of no frame.
+    pub fn sent(&self, alloc: Global, ticket: Ticket) -> Option<Result<(), Error>>
+        ensures { TellsSent (is_sent self.now.connection.outbox.queue ticket) self.now.connection.failure result }
+    {
+        self.connection.sent(alloc, ticket)
+    }
+
+    /// The first of the streams for which something came, for somebody who receives, since this was last asked and told of
+    /// it. A failure isn't told here. Takes no memory, and no more ids are kept than there are such streams.
+    pub fn next_heard(&mut self) -> Option<StreamId>
+        ensures first { self.old.state.heard ≡ option_to_list result ++ self.new.state.heard }
+        ensures none { IfNone result (self.old.state.heard ≡ []) }
+        ensures same { self.new ≡ record self.old { state = record self.old.state { heard = self.new.state.heard } } }
+    {
+        self.state.next_heard()
+    }
+}
+
+/// The frame that carries the request of a stream, without its payload.
+fn opening_frame(alloc: Global, id: StreamId, streaming_client: bool) -> Queued
+    ensures { IsOpeningFrame streaming_client id result }
+{
+    let flags = if streaming_client {
+        FLAG_REMOTE_OPEN | FLAG_NO_DATA
+    } else {
+        FLAG_REMOTE_CLOSED
+    };
+    stream_frame(alloc, id, MESSAGE_TYPE_REQUEST, flags, None)
+}
+
+/// A data frame of a stream, without its payload.
+fn data_frame(alloc: Global, id: StreamId, flags: u8, ticket: Ticket) -> Queued
+    ensures { IsDataFrame id flags ticket result }
+{
+    stream_frame(alloc, id, MESSAGE_TYPE_DATA, flags, Some(ticket))
+}
+
+/// A frame of a stream, without its payload.
+fn stream_frame(alloc: Global, id: StreamId, type_: u8, flags: u8, ticket: Option<Ticket>) -> Queued
+    ensures { result ≡ record {
+      message = record { header = record { length = 0; stream_id = id; type_ = type_; flags = flags }; payload = [] };
+      ticket = ticket;
+      is_unary_request = false;
+      owner = id;
+    } }
+{
+    Queued {
+        message: GenMessage {
+            header: MessageHeader {
+                length: 0,
+                stream_id: id,
+                type_,
+                flags,
+            },
+            payload: Blob::new(alloc),
+        },
+        ticket,
+        is_unary_request: false,
+        owner: u64::from(id),
+    }
+}

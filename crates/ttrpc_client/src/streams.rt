@@ -1,0 +1,217 @@
+//! The streams of a client, found by their ids.
+ghost use Rattle.std.specs.Prelude.{◌≡◌, [], IfErr, IfSome, IfNone, OnOk, OnErr, None, Some, true, false};
+ghost use Rattle.std.specs.Map.{remove_entry};
+ghost use Rattle.std.specs.BTreeMap.{insert_entry, is_at};
+ghost use Rattle.std.specs.Option.{option_map};
+ghost use Rattle.std.specs.Ordering.{nat_cmp};
+ghost use Rattle.ttrpc_proto.specs.declared.error.Error.{Error as AnError};
+ghost use Rattle.ttrpc_connection.specs.Failure.{IsTold};
+ghost use Rattle.ttrpc_client.specs.Streams.{StreamsStay, hears, is_entered, new_stream, stream_in, with_news, with_sender, without_reader, without_sender};
+ghost use Rattle.ttrpc_client.specs.Protocol.{ReceivesAt, unsendable};
+
+use crate::errors::{unknown_error, unsendable_error};
+use std::alloc::{AllocError, Global};
+use std::collections::BTreeMap;
+use std::marker::Model;
+use ttrpc_connection::{Failure, Mailbox, Receiver, Thing};
+use ttrpc_proto::Error;
+use ttrpc_wire::Blob;
+
+/// The number of a stream: odd, and rising with those of calls.
+pub type StreamId = u32;
+
+/// What the sender of a stream may do.
+#[derive(Clone, Copy, Debug, Drop, PartialEq, Eq)]
+pub enum Sender {
+    /// Send, where the stream was opened for that.
+    Open,
+    /// Nothing: it has closed.
+    Closed,
+    /// Nothing: nobody sends any more.
+    Dropped,
+}
+
+/// What is kept of a stream.
+#[derive(Debug, Drop)]
+pub struct Stream {
+    /// Whether it was opened to send items.
+    pub streaming_client: bool,
+    /// Whether it was opened to receive them.
+    pub streaming_server: bool,
+    /// What its sender may do.
+    pub sender: Sender,
+    /// What came for its receiver.
+    pub mailbox: Mailbox,
+}
+
+impl Stream {
+    /// A stream that was just opened. Takes no memory.
+    pub fn new(alloc: Global, streaming_client: bool, streaming_server: bool) -> Self
+        ensures { result ≡ new_stream streaming_client streaming_server }
+    {
+        Stream {
+            streaming_client,
+            streaming_server,
+            sender: Sender::Open,
+            mailbox: Mailbox::new(alloc),
+        }
+    }
+}
+
+/// The streams of a client that aren't dropped by both halves.
+#[derive(Drop)]
+pub struct Streams {
+    streams: BTreeMap<StreamId, Stream>,
+}
+
+impl Model for Streams {
+    ghost use Rattle.std.specs.Prelude.{ℕ, List};
+    ghost use Rattle.ttrpc_client.specs.Types.{Stream};
+
+    ghost Value = { List (ℕ × Stream) };
+
+    ghost view = { λ a. a.streams.entries };
+}
+
+impl Streams {
+    /// No streams. Takes no memory.
+    pub fn new(alloc: Global) -> Self
+        ensures { result ≡ [] }
+    {
+        Streams {
+            streams: BTreeMap::new(alloc),
+        }
+    }
+
+    /// Keeps a stream. An `Err` changes nothing.
+    pub fn open(&mut self, id: StreamId, stream: Stream) -> Result<(), AllocError>
+        ensures own { OnOk result (stream_in self.new id ≡ Some stream) }
+        ensures others { StreamsStay self.old id self.new }
+        ensures entries { OnOk result (self.new ≡ insert_entry nat_cmp self.old id stream) }
+        ensures err { OnErr result (self.new ≡ self.old) }
+    {
+        if self.streams.insert(id, stream).is_err() {
+            return Err(AllocError);
+        }
+        Ok(())
+    }
+
+    /// Keeps nothing of a stream any more. Takes no memory.
+    pub fn forget(&mut self, id: StreamId)
+        ensures entries { self.new ≡ remove_entry (is_at (nat_cmp id)) self.old }
+        ensures own { stream_in self.new id ≡ None }
+        ensures others { StreamsStay self.old id self.new }
+    {
+        let _ = self.streams.remove(&id);
+    }
+
+    /// Whether a stream that frames find was opened to receive items: none where they find none. Takes no memory.
+    pub fn entered(&self, id: StreamId) -> Option<bool>
+        ensures some { IfSome result (λ streaming_server. is_entered (stream_in self.now id) ≡ true) }
+        ensures is { IfSome result (λ streaming_server. IfSome (stream_in self.now id) (λ s. s.streaming_server ≡ streaming_server)) }
+        ensures none { IfNone result (is_entered (stream_in self.now id) ≡ false) }
+    {
+        let stream = self.streams.get(&id)?;
+        if stream.mailbox.is_ended() {
+            return None;
+        }
+        Some(stream.streaming_server)
+    }
+
+    /// Whether a frame under this id brings somebody something. Takes no memory.
+    pub fn hears(&self, id: StreamId) -> bool
+        ensures { result ≡ hears (stream_in self.now id) }
+    {
+        match self.streams.get(&id) {
+            Some(stream) => {
+                !stream.mailbox.is_ended() && stream.mailbox.receiver() == Receiver::Open
+            }
+            None => false,
+        }
+    }
+
+    /// The error with which the stream of this id isn't to be sent on, or `NoMemory` where memory for its text was refused.
+    pub fn check_sendable(&self, alloc: Global, id: StreamId) -> Result<(), Error>
+        ensures ok { OnOk result (unsendable (stream_in self.now id) ≡ None) }
+        ensures err { IfErr result (λ told. (error : AnError) × (unsendable (stream_in self.now id) ≡ Some error) × IsTold error told) }
+    {
+        let Some(stream) = self.streams.get(&id) else {
+            return Err(unknown_error(alloc));
+        };
+        if !stream.streaming_client {
+            return Err(unsendable_error(alloc));
+        }
+        match stream.sender {
+            Sender::Open => Ok(()),
+            Sender::Closed | Sender::Dropped => Err(Error::LocalClosed),
+        }
+    }
+
+    /// Puts a thing into the mailbox of a stream; `ends` says that it is the last. An `Err` changes nothing.
+    pub fn put(&mut self, id: StreamId, thing: Thing, ends: bool) -> Result<(), AllocError>
+        ensures own { OnOk result (stream_in self.new id ≡ option_map (with_news thing ends) (stream_in self.old id)) }
+        ensures others { StreamsStay self.old id self.new }
+        ensures err { OnErr result (self.new ≡ self.old) }
+    {
+        let Some(stream) = self.streams.get_mut(&id) else {
+            return Ok(());
+        };
+        stream.mailbox.put(thing, ends)
+    }
+
+    /// Gives the next item of a stream, or why there is none.
+    pub fn recv(
+        &mut self,
+        alloc: Global,
+        id: StreamId,
+        failure: &Option<Failure>,
+    ) -> Option<Result<Blob, Error>>
+        ensures own { ReceivesAt failure.now (stream_in self.old id) result (stream_in self.new id) }
+        ensures others { StreamsStay self.old id self.new }
+    {
+        match self.streams.get_mut(&id) {
+            Some(stream) => stream.mailbox.recv(alloc, failure),
+            None => Some(Err(unknown_error(alloc))),
+        }
+    }
+
+    /// The sender has closed. Takes no memory.
+    pub fn close(&mut self, id: StreamId)
+        ensures own { stream_in self.new id ≡ with_sender Sender.Closed (stream_in self.old id) }
+        ensures others { StreamsStay self.old id self.new }
+    {
+        if let Some(stream) = self.streams.get_mut(&id) {
+            stream.sender = Sender::Closed;
+        }
+    }
+
+    /// Nobody receives any more. Takes no memory.
+    pub fn drop_receiver(&mut self, id: StreamId)
+        ensures own { stream_in self.new id ≡ without_reader (stream_in self.old id) }
+        ensures others { StreamsStay self.old id self.new }
+    {
+        let Some(stream) = self.streams.get_mut(&id) else {
+            return;
+        };
+        if stream.sender == Sender::Dropped {
+            let _ = self.streams.remove(&id);
+            return;
+        }
+        stream.mailbox.drop_receiver();
+    }
+
+    /// Nobody sends any more. Takes no memory.
+    pub fn drop_sender(&mut self, id: StreamId)
+        ensures own { stream_in self.new id ≡ without_sender (stream_in self.old id) }
+        ensures others { StreamsStay self.old id self.new }
+    {
+        let Some(stream) = self.streams.get_mut(&id) else {
+            return;
+        };
+        if stream.mailbox.receiver() == Receiver::Dropped {
+            let _ = self.streams.remove(&id);
+            return;
+        }
+        stream.sender = Sender::Dropped;
+    }
+}

@@ -1,0 +1,73 @@
+//! The deadlines of what waits, soonest first.
+ghost use Rattle.std.specs.Prelude.{◌≡◌, ◌≤◌, ℕ, [], true, false, IfSome, IfNone, OnOk, OnErr};
+ghost use Rattle.ttrpc_connection.specs.Deadlines.{ChangesTo, deadline_of, has_deadline};
+
+use std::alloc::{AllocError, Global};
+use std::collections::BTreeSet;
+use std::marker::Model;
+use ttrpc_wire::int64_to_varint;
+
+/// Moments, in nanoseconds, each with the id of what waits until then.
+#[derive(Drop)]
+pub struct Deadlines {
+    pairs: BTreeSet<(u128, u64)>,
+}
+
+impl Model for Deadlines {
+    ghost use Rattle.std.specs.Prelude.{ℕ, List};
+
+    ghost Value = { List (ℕ × ℕ) };
+
+    ghost view = { λ a. a.pairs.keys };
+}
+
+impl Deadlines {
+    /// No deadlines. Takes no memory.
+    pub fn new(alloc: Global) -> Self
+        ensures { result ≡ [] }
+    {
+        Deadlines {
+            pairs: BTreeSet::new(alloc),
+        }
+    }
+
+    /// Adds the deadline of this id, if it has one. An `Err` changes nothing.
+    pub fn add(&mut self, id: u64, deadline: Option<u128>) -> Result<(), AllocError>
+        ensures ok { OnOk result (ChangesTo true self.old id deadline self.new) }
+        ensures err { OnErr result (self.new ≡ self.old) }
+    {
+        if let Some(deadline) = deadline {
+            self.pairs.insert((deadline, id))?;
+        }
+        Ok(())
+    }
+
+    /// Takes the deadline of this id away, if it has one. Takes no memory.
+    pub fn take_away(&mut self, id: u64, deadline: Option<u128>)
+        ensures { ChangesTo false self.old id deadline self.new }
+    {
+        if let Some(deadline) = deadline {
+            self.pairs.remove(&(deadline, id));
+        }
+    }
+
+    /// The soonest, with the least id of those that have it. Takes no memory.
+    pub fn first(&self) -> Option<(u128, u64)>
+        ensures some { IfSome result (λ p. has_deadline self.now p.0 p.1 ≡ true) }
+        ensures least { IfSome result (λ p. (at id : ℕ) → has_deadline self.now at id ≡ true → p.0 ≤ at) }
+        ensures none { IfNone result ((at id : ℕ) → has_deadline self.now at id ≡ false) }
+    {
+        self.pairs.first().copied()
+    }
+}
+
+/// The moment by which something that begins now must have ended: none where its timeout, in nanoseconds, is 0. A
+/// negative one is read as the `u64` of the same bits.
+pub fn deadline_of(now: u64, timeout_nano: i64) -> Option<u128>
+    ensures { result ≡ deadline_of now timeout_nano }
+{
+    if timeout_nano == 0 {
+        return None;
+    }
+    Some(u128::from(now) + u128::from(int64_to_varint(timeout_nano)))
+}

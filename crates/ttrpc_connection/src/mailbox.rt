@@ -1,0 +1,164 @@
+//! The things that came in for one receiver.
+ghost use Rattle.std.specs.Prelude.{◌≡◌, [], OnOk, OnErr};
+ghost use Rattle.ttrpc_connection.specs.Failure.{IsTold};
+ghost use Rattle.ttrpc_connection.specs.Mail.{Receives, empty_mail, past_error, with_thing, without_receiver};
+
+use crate::failure::Failure;
+use crate::thing::Thing;
+use std::alloc::{AllocError, Global};
+use std::collections::VecDeque;
+use std::marker::Model;
+use ttrpc_proto::Error;
+use ttrpc_wire::{Blob, Text};
+
+/// What a receiver goes on to be told.
+#[derive(Clone, Copy, Debug, PartialEq, Eq)]
+pub enum Receiver {
+    /// What comes in.
+    Open,
+    /// That the other side has closed.
+    Closed,
+    /// That nothing is received any more.
+    Broken,
+    /// The same: nobody asks any more.
+    Dropped,
+}
+
+/// What came in for one receiver and wasn't received yet. Nothing is kept for one that isn't open.
+#[derive(Debug, Drop)]
+pub struct Mailbox {
+    things: VecDeque<Thing>,
+    receiver: Receiver,
+    ended: bool,
+}
+
+impl Model for Mailbox {
+    ghost use Rattle.ttrpc_connection.specs.Mail.{Mail};
+
+    ghost Value = { Mail };
+
+    ghost view = { λ a. record { things = a.things.items; receiver = a.receiver; ended = a.ended } };
+}
+
+impl Mailbox {
+    /// Nothing came in yet. Takes no memory.
+    pub fn new(alloc: Global) -> Self
+        ensures { result ≡ empty_mail }
+    {
+        Mailbox {
+            things: VecDeque::new(alloc),
+            receiver: Receiver::Open,
+            ended: false,
+        }
+    }
+
+    /// Whether nothing more is put in. Takes no memory.
+    pub fn is_ended(&self) -> bool
+        ensures { result ≡ self.now.ended }
+    {
+        self.ended
+    }
+
+    /// What the receiver goes on to be told. Takes no memory.
+    pub fn receiver(&self) -> Receiver
+        ensures { result ≡ self.now.receiver }
+    {
+        self.receiver
+    }
+
+    /// Puts a thing in behind the others; `ends` says that it is the last. An `Err` changes nothing.
+    pub fn put(&mut self, thing: Thing, ends: bool) -> Result<(), AllocError>
+        ensures ok { OnOk result (self.new ≡ with_thing self.old thing ends) }
+        ensures err { OnErr result (self.new ≡ self.old) }
+    {
+        if self.receiver == Receiver::Open {
+            self.things.push_back(thing)?;
+        }
+        self.ended = self.ended || ends;
+        Ok(())
+    }
+
+    /// Gives the next item, or why there is none: nothing where nothing came yet. Where the connection has failed, and
+    /// the mailbox hasn't ended, that stands behind all else. Where memory for a text was refused the answer is
+    /// `NoMemory`, and nothing changed.
+    pub fn recv(&mut self, alloc: Global, failure: &Option<Failure>) -> Option<Result<Blob, Error>>
+        ensures { Receives failure.now self.old result self.new }
+    {
+        match self.receiver {
+            Receiver::Open => {}
+            Receiver::Closed => return Some(Err(Error::RemoteClosed)),
+            Receiver::Broken | Receiver::Dropped => return Some(Err(past(alloc))),
+        }
+        match self.things.pop_front() {
+            None => self.recv_failure(alloc, failure),
+            Some(Thing::Item(item)) => Some(Ok(item)),
+            Some(Thing::Last(item)) => {
+                self.stop(Receiver::Closed);
+                Some(Ok(item))
+            }
+            Some(Thing::End) => {
+                self.stop(Receiver::Closed);
+                Some(Err(Error::Eof))
+            }
+            Some(Thing::Closing(error)) => {
+                self.stop(Receiver::Closed);
+                Some(Err(error))
+            }
+            Some(Thing::Breaking(error)) => {
+                self.stop(Receiver::Broken);
+                Some(Err(error))
+            }
+        }
+    }
+
+    /// Gives the failure that stands behind all else, if there is one and the mailbox hasn't ended.
+    fn recv_failure(
+        &mut self,
+        alloc: Global,
+        failure: &Option<Failure>,
+    ) -> Option<Result<Blob, Error>>
+        requires open { self.old.receiver ≡ Receiver.Open }
+        requires empty { self.old.things ≡ [] }
+        ensures { Receives failure.now self.old result self.new }
+    {
+        if self.ended {
+            return None;
+        }
+        match failure {
+            None => None,
+            Some(failure) => match failure.made(alloc) {
+                Ok(error) => {
+                    self.receiver = Receiver::Broken;
+                    self.ended = true;
+                    Some(Err(error))
+                }
+                Err(refused) => Some(Err(refused.into())),
+            },
+        }
+    }
+
+    /// Nobody receives any more. Takes no memory.
+    pub fn drop_receiver(&mut self)
+        ensures { self.new ≡ without_receiver self.old }
+    {
+        self.stop(Receiver::Dropped);
+    }
+
+    /// Nothing is kept any more, and this is told from now on.
+    fn stop(&mut self, receiver: Receiver)
+        ensures { self.new ≡ record { things = []; receiver = receiver; ended = self.old.ended } }
+    {
+        self.things.clear();
+        self.receiver = receiver;
+    }
+}
+
+/// The error that is told where nothing is received any more.
+fn past(alloc: Global) -> Error
+    ensures { IsTold past_error result }
+{
+    match Text::from_str(alloc, "Receive packet from Receiver error") {
+        Ok(text) => Error::Others(text),
+        Err(refused) => refused.into(),
+    }
+}

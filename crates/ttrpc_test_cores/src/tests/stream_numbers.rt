@@ -1,0 +1,117 @@
+//! Many streams, items and frames of a client at once.
+use crate::tests::client_steps::stream_request;
+use crate::tests::steps::leaves;
+use crate::tests::stream_steps::receives;
+use crate::tests::under_test::{Met, Streaming};
+use std::alloc::Global;
+use ttrpc_client::StreamId;
+use ttrpc_wire::values::slices::behind;
+
+/// The request of a stream that sends and receives, without its stream's id.
+const CHAT: &[u8] = b"\0\0\0\x11\0\0\0\0\x01\x06\x0a\x09demo.Echo\x12\x04Chat";
+
+/// The id of this stream, of those from 0 on.
+fn id_of(number: u32) -> StreamId {
+    number.wrapping_mul(2).wrapping_add(1)
+}
+
+/// So many items come for the stream of this id, each one byte, which rises and starts again. Nobody asks.
+pub fn items_come<C: Streaming>(alloc: Global, core: &mut C, id: StreamId, count: u32) -> Met {
+    let [a, b, c, d] = id.to_be_bytes();
+    for number in 0..count {
+        let [_, _, _, item] = number.to_be_bytes();
+        core.feed(alloc, &[0, 0, 0, 1, a, b, c, d, 3, 0, item])?;
+    }
+    Ok(true)
+}
+
+/// So many items are received of those that came, in order.
+pub fn receives_each<C: Streaming>(alloc: Global, core: &mut C, id: StreamId, count: u32) -> Met {
+    for number in 0..count {
+        let [_, _, _, item] = number.to_be_bytes();
+        if !receives(alloc, core, id, &[item])? {
+            return Ok(false);
+        }
+    }
+    Ok(true)
+}
+
+/// So many streams are opened, and their requests leave. An item comes for each, the last first, which is told, and they
+/// are received, the last first.
+pub fn streams_last_first<C: Streaming>(alloc: Global, core: &mut C, count: u32) -> Met {
+    Ok(
+        opens_each(alloc, core, count)?
+            && writes_each(core, count)
+            && answers_last_first(alloc, core, count)?
+            && hears_each(core, count)
+            && receives_last_first(alloc, core, count)?,
+    )
+}
+
+fn opens_each<C: Streaming>(alloc: Global, core: &mut C, count: u32) -> Met {
+    let request = stream_request(alloc, b"")?;
+    for number in 0..count {
+        if core.new_stream(alloc, &request, true, true)? != id_of(number) {
+            return Ok(false);
+        }
+    }
+    Ok(true)
+}
+
+fn writes_each<C: Streaming>(core: &mut C, count: u32) -> bool {
+    for number in 0..count {
+        let [a, b, c, d] = id_of(number).to_be_bytes();
+        let is_written = leaves(core, &[0, 0, 0, 0x11, a, b, c, d, 1, 6])
+            && leaves(core, behind(CHAT, 10));
+        if !is_written {
+            return false;
+        }
+    }
+    true
+}
+
+fn answers_last_first<C: Streaming>(alloc: Global, core: &mut C, count: u32) -> Met {
+    for number in (0..count).rev() {
+        let [a, b, c, d] = id_of(number).to_be_bytes();
+        core.feed(alloc, &[0, 0, 0, 1, a, b, c, d, 3, 0, d])?;
+    }
+    Ok(true)
+}
+
+/// They are told of by rising id.
+fn hears_each<C: Streaming>(core: &mut C, count: u32) -> bool {
+    for number in 0..count {
+        if core.next_heard() != Some(id_of(number)) {
+            return false;
+        }
+    }
+    core.next_heard().is_none()
+}
+
+fn receives_last_first<C: Streaming>(alloc: Global, core: &mut C, count: u32) -> Met {
+    for number in (0..count).rev() {
+        let id = id_of(number);
+        let [_, _, _, d] = id.to_be_bytes();
+        if !receives(alloc, core, id, &[d])? {
+            return Ok(false);
+        }
+    }
+    Ok(true)
+}
+
+/// So many items are sent on the stream of this id, and each is asked about before and after it leaves.
+pub fn sends_each<C: Streaming>(alloc: Global, core: &mut C, id: StreamId, count: u32) -> Met {
+    let [a, b, c, d] = id.to_be_bytes();
+    for _ in 0..count {
+        let ticket = core.send(alloc, id, b"i")?;
+        let is_sent = core.sent(alloc, ticket).is_none()
+            && leaves(core, &[0, 0, 0, 1, a, b, c, d, 3, 0])
+            && core.sent(alloc, ticket).is_none()
+            && leaves(core, b"i")
+            && matches!(core.sent(alloc, ticket), Some(Ok(())));
+        if !is_sent {
+            return Ok(false);
+        }
+    }
+    Ok(true)
+}

@@ -1,0 +1,138 @@
+//! The steps of a client's streams.
+use crate::tests::client_steps::{request_of_sevens, stream_request};
+use crate::tests::script::{Step, Told};
+use crate::tests::steps::tells;
+use crate::tests::stream_numbers::{items_come, receives_each, sends_each, streams_last_first};
+use crate::tests::under_test::{Met, Streaming};
+use std::alloc::Global;
+use ttrpc_client::{StreamId, Ticket};
+use ttrpc_proto::Request;
+
+/// A step that only a client with streams knows.
+pub fn stream_step<C: Streaming>(alloc: Global, core: &mut C, step: &Step) -> Met {
+    match *step {
+        Step::Opens(sends, receives, payload, id) => {
+            let request = stream_request(alloc, payload)?;
+            Ok(core.new_stream(alloc, &request, sends, receives)? == id)
+        }
+        Step::RefusesStream(sends, payload, why) => {
+            let request = stream_request(alloc, payload)?;
+            refuses_stream(alloc, core, &request, sends, why)
+        }
+        Step::RefusesStreamOfSevens(length, why) => {
+            let request = request_of_sevens(alloc, length)?;
+            refuses_stream(alloc, core, &request, false, why)
+        }
+        Step::NextHeard(id) => Ok(core.next_heard() == id),
+        Step::StreamsLastFirst(count) => streams_last_first(alloc, core, count),
+        Step::DropsReceiver(id) => {
+            core.drop_receiver(id);
+            Ok(true)
+        }
+        Step::DropsSender(id) => {
+            core.drop_sender(id);
+            Ok(true)
+        }
+        _ => send_step(alloc, core, step),
+    }
+}
+
+/// A step that sends.
+fn send_step<C: Streaming>(alloc: Global, core: &mut C, step: &Step) -> Met {
+    match *step {
+        Step::Sends(id, item, ticket) => Ok(core.send(alloc, id, item)? == ticket),
+        Step::SendsSevens(id, length, ticket) => sends_sevens(alloc, core, id, length, ticket),
+        Step::Closes(id, ticket) => Ok(core.close_send(alloc, id)? == ticket),
+        Step::RefusesSending(id, why) => refuses_sending(alloc, core, id, why),
+        Step::RefusesSevensOn(id, length, why) => refuses_sevens_on(alloc, core, id, length, why),
+        Step::IsSent(ticket) => Ok(matches!(core.sent(alloc, ticket), Some(Ok(())))),
+        Step::IsUnsent(ticket) => Ok(core.sent(alloc, ticket).is_none()),
+        Step::IsNeverSent(ticket, why) => is_never_sent(alloc, core, ticket, why),
+        Step::SendsEach(id, count) => sends_each(alloc, core, id, count),
+        _ => receive_step(alloc, core, step),
+    }
+}
+
+/// A step that receives.
+fn receive_step<C: Streaming>(alloc: Global, core: &mut C, step: &Step) -> Met {
+    match *step {
+        Step::Receives(id, item) => receives(alloc, core, id, item),
+        Step::ReceivesNone(id) => Ok(core.recv(alloc, id).is_none()),
+        Step::ReceivesError(id, why) => receives_error(alloc, core, id, why),
+        Step::ItemsCome(id, count) => items_come(alloc, core, id, count),
+        Step::ReceivesEach(id, count) => receives_each(alloc, core, id, count),
+        _ => Ok(false),
+    }
+}
+
+/// The stream is refused so, and so again.
+fn refuses_stream<C: Streaming>(
+    alloc: Global,
+    core: &mut C,
+    request: &Request,
+    sends: bool,
+    why: Told,
+) -> Met {
+    Ok(
+        tells(core.new_stream(alloc, request, sends, true).err(), why)?
+            && tells(core.new_stream(alloc, request, sends, true).err(), why)?,
+    )
+}
+
+fn sends_sevens<C: Streaming>(
+    alloc: Global,
+    core: &mut C,
+    id: StreamId,
+    length: usize,
+    ticket: Ticket,
+) -> Met {
+    let sevens = vec![in alloc; 7; length]?;
+    Ok(core.send(alloc, id, sevens.as_slice())? == ticket)
+}
+
+/// To send an item, and to close the stream, is refused so, and so again.
+fn refuses_sending<C: Streaming>(alloc: Global, core: &mut C, id: StreamId, why: Told) -> Met {
+    Ok(
+        tells(core.send(alloc, id, &[1]).err(), why)?
+            && tells(core.close_send(alloc, id).err(), why)?
+            && tells(core.send(alloc, id, &[1]).err(), why)?,
+    )
+}
+
+fn refuses_sevens_on<C: Streaming>(
+    alloc: Global,
+    core: &mut C,
+    id: StreamId,
+    length: usize,
+    why: Told,
+) -> Met {
+    let sevens = vec![in alloc; 7; length]?;
+    Ok(
+        tells(core.send(alloc, id, sevens.as_slice()).err(), why)?
+            && tells(core.send(alloc, id, sevens.as_slice()).err(), why)?,
+    )
+}
+
+fn is_never_sent<C: Streaming>(alloc: Global, core: &mut C, ticket: Ticket, why: Told) -> Met {
+    match core.sent(alloc, ticket) {
+        None | Some(Ok(())) => Ok(false),
+        Some(Err(error)) => tells(Some(error), why),
+    }
+}
+
+/// The next item is this one. Where memory was refused, the test ends with that error.
+pub fn receives<C: Streaming>(alloc: Global, core: &mut C, id: StreamId, item: &[u8]) -> Met {
+    match core.recv(alloc, id) {
+        None => Ok(false),
+        Some(Ok(received)) => Ok(received.as_slice() == item),
+        Some(Err(error)) => Err(error.into()),
+    }
+}
+
+/// In place of an item this error comes.
+fn receives_error<C: Streaming>(alloc: Global, core: &mut C, id: StreamId, why: Told) -> Met {
+    match core.recv(alloc, id) {
+        None | Some(Ok(_)) => Ok(false),
+        Some(Err(error)) => tells(Some(error), why),
+    }
+}
