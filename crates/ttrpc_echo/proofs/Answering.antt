@@ -15,7 +15,7 @@ use Rattle.ttrpc_connection.specs.Frames.{header_of_frame}
 use Rattle.ttrpc_connection.proofs.Feeding.{fed_twice, nothing_taken}
 use Rattle.ttrpc_connection.proofs.Holding.{fed_some}
 use Rattle.ttrpc_server.specs.declared.server.ServerCore.{ServerCore}
-use Rattle.ttrpc_server.specs.Protocol.{status_response, Row, Ignore, SendResponse, SendCode, MakeJob, sync_row}
+use Rattle.ttrpc_server.specs.Table.{status_response, Row, Ignore, SendResponse, SendCode, MakeJob, sync_row}
 use Rattle.ttrpc_echo.specs.Echo.{AreAnswers, Says, echo_of, echo_services, plainly, said_bytes}
 use Rattle.ttrpc_echo.specs.Answered.{AnsweredAll, Fails, IsCause, StopsEarly}
 use Rattle.ttrpc_echo.specs.Serving.{IsFresh, IsReady, IsStop, Serves, WritesOut}

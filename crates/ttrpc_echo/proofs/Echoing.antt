@@ -25,8 +25,15 @@ use Rattle.ttrpc_connection.specs.Frames.{Opens, Sent, SendsAll, SendsOne, heade
 use Rattle.ttrpc_connection.proofs.Feeding.{fed_twice, nothing_taken}
 use Rattle.ttrpc_server.specs.declared.job.ActiveJob.{ActiveJob}
 use Rattle.ttrpc_server.specs.declared.server.ServerCore.{ServerCore}
-use Rattle.ttrpc_server.specs.Protocol.{Does, serving, IsResponseFrame, SendsOwnAnswer, Responds, fit_to_limit, response_bytes, Row, Ignore, SendResponse, SendCode, MakeJob, request_row, row_of, sync_row}
-use Rattle.ttrpc_server.specs.State.{NoneWaits, new_job, with_job, Services, Server}
+use Rattle.ttrpc_server.specs.Protocol.{Does, serving, IsResponseFrame, SendsOwnAnswer, Responds, fit_to_limit, response_bytes, row_of}
+use Rattle.ttrpc_server.specs.Table.{Row, Ignore, SendResponse, SendCode, MakeJob, case_of, case_row, request_row, sync_row}
+use Rattle.ttrpc_server.specs.declared.rows.Case.{Case}
+use Rattle.ttrpc_server.specs.declared.rows.Case.TheVariants.{Asks}
+use Rattle.ttrpc_server.specs.declared.rows.Inlet.TheVariants.{Absent}
+use Rattle.ttrpc_server.specs.declared.rules.Rules.{Rules}
+use Rattle.ttrpc_server.specs.declared.rules.Rules.TheVariants.{Sync}
+use Rattle.ttrpc_server.proofs.Streams.{row_of_sync}
+use Rattle.ttrpc_server.specs.State.{NoneWaits, new_job, unary_body, with_job, Services, Server}
 use Rattle.ttrpc_echo.specs.Echo.{AreAnswers, HasEcho, IsAnswer, Says, echo_of, echo_services, framed, plainly, said_bytes}
 use Rattle.ttrpc_echo.specs.Serving.{plain_in, plain_out, IsReady, Echoes, Serves}
 use Rattle.ttrpc_echo.proofs.Limits.{fitted_fits}
@@ -74,7 +81,7 @@ none_adds old new sent valid none sends =
     let same : new ≡ old = subst (λ (xs : List Sent). SendsAll plain_out old xs new) none sends in
     adds_nothing old.queue new.queue valid (ap (λ (o : Outbox Plain). o.queue) same)
 
-responds_adds : (old new : Outbox Plain) (k : ℕ) (r : Response) (sent : List Sent) → IsQueue old.queue → Responds MESSAGE_LENGTH_MAX k r sent → SendsAll plain_out old sent new
+responds_adds : (old new : Outbox Plain) (k : ℕ) (r : Response) (sent : List Sent) → IsQueue old.queue → Responds Sync MESSAGE_LENGTH_MAX k r sent → SendsAll plain_out old sent new
     → Adds old.queue new.queue (said_bytes k (Some r))
 responds_adds old new k r sent valid responds sends =
     let bytes = response_bytes (fit_to_limit MESSAGE_LENGTH_MAX r) in
@@ -84,7 +91,7 @@ responds_adds old new k r sent valid responds sends =
     (written_framed k responds.frame one.sealed responds.is_frame ∙ ap (framed k) one.seal.0)
 
 -- nothing is left out
-refers_adds : (old new : Outbox Plain) (k : ℕ) (r : Response) (sent : List Sent) → IsQueue old.queue → SendsOwnAnswer plain_out old.half k r sent → SendsAll plain_out old sent new
+refers_adds : (old new : Outbox Plain) (k : ℕ) (r : Response) (sent : List Sent) → IsQueue old.queue → SendsOwnAnswer Sync plain_out old.half k r sent → SendsAll plain_out old sent new
     → Adds old.queue new.queue (said_bytes k (Some r))
 refers_adds old new k r sent valid (inl responds) sends = responds_adds old new k r sent valid responds sends
 refers_adds old new k r sent valid (inr out) sends = absurd (elim out.1 [
@@ -117,6 +124,7 @@ record Done (f : Incoming) (old mid new : ServerCore Plain Plain) : Type 0 where
   is_answer : IsAnswer f answers
   adds : Adds old.connection.outbox.queue new.connection.outbox.queue answers
   jobs : new.state.jobs.list ≡ []
+  rules : new.state.rules ≡ Sync
   services : HasEcho new.state.services
   alive : new.connection.failure ≡ None
   held : new.connection.decoder ≡ mid.connection.decoder
@@ -133,21 +141,22 @@ done_quiet f said old mid new ready says state alive adds echoes =
       is_answer = record { said = said; says = says; bytes_are = refl };
       adds = subst (λ (x : ServerCore Plain Plain). Adds old.connection.outbox.queue x.connection.outbox.queue (said_bytes ((header_of_frame f).stream_id) said)) (sym same) adds;
       jobs = ap (λ (x : ServerCore Plain Plain). x.state.jobs.list) same ∙ jobs;
+      rules = ap (λ (x : ServerCore Plain Plain). x.state.rules) same ∙ ap (λ (s : Server). s.rules) state ∙ ready.rules;
       services = subst HasEcho (sym (ap (λ (x : ServerCore Plain Plain). x.state.services) same ∙ ap (λ (s : Server). s.services) state)) ready.services;
       alive = ap (λ (x : ServerCore Plain Plain). x.connection.failure) same ∙ alive;
       held = ap (λ (x : ServerCore Plain Plain). x.connection.decoder) same;
       last_job = omega (arith, ap (λ (x : ServerCore Plain Plain). x.state.jobs.last) same ∙ ap (λ (s : Server). s.jobs.last) state);
     }
 
-done_known : (f : Incoming) (request : Request) (old mid new : ServerCore Plain Plain) → IsReady old → Says (sync_row echo_services (header_of_frame f) (plainly f)) (Some (echo_of request))
-    → mid.state ≡ record old.state { jobs = with_job old.state.jobs (header_of_frame f) request } → mid.connection.outbox ≡ old.connection.outbox → mid.connection.failure ≡ None → Echoes mid new → Done f old mid new
-done_known f request old mid new ready says makes quiet alive (inl same) =
-    let job = new_job (old.state.jobs.last + 1) (header_of_frame f) request in
+done_known : (now : ℕ) (f : Incoming) (request : Request) (old mid new : ServerCore Plain Plain) → IsReady old → Says (sync_row echo_services (header_of_frame f) (plainly f)) (Some (echo_of request))
+    → mid.state ≡ record old.state { jobs = with_job old.state.jobs (header_of_frame f) request (unary_body old.state.rules now request) } → mid.connection.outbox ≡ old.connection.outbox → mid.connection.failure ≡ None → Echoes mid new → Done f old mid new
+done_known now f request old mid new ready says makes quiet alive (inl same) =
+    let job = new_job (old.state.jobs.last + 1) (header_of_frame f) request (unary_body old.state.rules now request) in
     let jobs : mid.state.jobs.list ≡ job ∷ [] = ap (λ (s : Server). s.jobs.list) makes ∙ ap (λ js. js ++ job ∷ []) ready.jobs in
     let waits = subst NoneWaits jobs same.1 in
     absurd (some_is_not_none request waits.0)
-done_known f request old mid new ready says makes quiet alive (inr e) =
-    let job = new_job (old.state.jobs.last + 1) (header_of_frame f) request in
+done_known now f request old mid new ready says makes quiet alive (inr e) =
+    let job = new_job (old.state.jobs.last + 1) (header_of_frame f) request (unary_body old.state.rules now request) in
     let jobs : mid.state.jobs.list ≡ job ∷ [] = ap (λ (s : Server). s.jobs.list) makes ∙ ap (λ js. js ++ job ∷ []) ready.jobs in
     let hands = e.hands.hands in
     let one = first_of_one job hands.front hands.back hands.job (sym jobs ∙ hands.was) in
@@ -159,7 +168,9 @@ done_known f request old mid new ready says makes quiet alive (inr e) =
     let stream : e.answers.job.header.stream_id ≡ (header_of_frame f).stream_id = ap (λ (j : ActiveJob). j.header.stream_id) gone.1 ∙ ap (λ (j : ActiveJob). j.header.stream_id) one.1 in
     let same : e.mid.connection.outbox ≡ old.connection.outbox = ap (λ (x : ServerCore Plain Plain). x.connection.outbox) e.hands.same ∙ quiet in
     let queue : e.mid.connection.outbox.queue ≡ old.connection.outbox.queue = ap (λ (o : Outbox Plain). o.queue) same in
-    let adds = responds_adds e.mid.connection.outbox new.connection.outbox e.answers.job.header.stream_id (echo_of e.job.request) e.answers.sent (subst IsQueue (sym queue) ready.queue) e.answers.responds e.answers.sends in
+    let rules : e.mid.state.rules ≡ Sync = ap (λ (x : ServerCore Plain Plain). x.state.rules) e.hands.same ∙ ap (λ (s : Server). s.rules) makes ∙ ready.rules in
+    let responds = subst (λ (x : Rules). Responds x MESSAGE_LENGTH_MAX e.answers.job.header.stream_id (echo_of e.job.request) e.answers.sent) rules e.answers.responds in
+    let adds = responds_adds e.mid.connection.outbox new.connection.outbox e.answers.job.header.stream_id (echo_of e.job.request) e.answers.sent (subst IsQueue (sym queue) ready.queue) responds e.answers.sends in
     let k = (header_of_frame f).stream_id in
     record {
       answers = said_bytes k (Some (echo_of request));
@@ -168,42 +179,45 @@ done_known f request old mid new ready says makes quiet alive (inr e) =
           (subst (λ (n : ℕ). Adds e.mid.connection.outbox.queue new.connection.outbox.queue (said_bytes n (Some (echo_of request)))) stream
           (subst (λ (r : Request). Adds e.mid.connection.outbox.queue new.connection.outbox.queue (said_bytes e.answers.job.header.stream_id (Some (echo_of r)))) asked adds));
       jobs = e.answers.ends.jobs ∙ ap (λ js. js ++ at.back) gone.0 ∙ gone.2;
+      rules = ap (λ (x : ServerCore Plain Plain). x.state.rules) e.answers.same ∙ rules;
       services = subst HasEcho (sym (ap (λ (x : ServerCore Plain Plain). x.state.services) e.answers.same ∙ ap (λ (x : ServerCore Plain Plain). x.state.services) e.hands.same ∙ ap (λ (s : Server). s.services) makes)) ready.services;
       alive = ap (λ (x : ServerCore Plain Plain). x.connection.failure) e.answers.same ∙ e.answers.alive;
       held = ap (λ (x : ServerCore Plain Plain). x.connection.decoder) e.answers.same ∙ ap (λ (x : ServerCore Plain Plain). x.connection.decoder) e.hands.same;
       last_job = omega (arith, ap (λ (x : ServerCore Plain Plain). x.state.jobs.last) e.answers.same ∙ ap (λ (x : ServerCore Plain Plain). x.state.jobs.last) e.hands.same ∙ ap (λ (s : Server). s.jobs.last) makes);
     }
 
-done_row : (row : Row) (f : Incoming) (old mid new : ServerCore Plain Plain) (sent : List Sent) → IsReady old → row ≡ sync_row echo_services (header_of_frame f) (plainly f)
-    → Does plain_out row old.state old.connection.outbox.half (header_of_frame f) sent mid.state → SendsAll plain_out old.connection.outbox sent mid.connection.outbox → mid.connection.failure ≡ None → Echoes mid new → Done f old mid new
-done_row Ignore f old mid new sent ready is does sends alive echoes =
+done_row : (now : ℕ) (row : Row) (f : Incoming) (old mid new : ServerCore Plain Plain) (sent : List Sent) → IsReady old → row ≡ sync_row echo_services (header_of_frame f) (plainly f)
+    → Does plain_out row old.state old.connection.outbox.half (header_of_frame f) now sent mid.state → SendsAll plain_out old.connection.outbox sent mid.connection.outbox → mid.connection.failure ≡ None → Echoes mid new → Done f old mid new
+done_row now Ignore f old mid new sent ready is does sends alive echoes =
     done_quiet f None old mid new ready (subst (λ (r : Row). Says r None) is refl) does.0 alive (none_adds old.connection.outbox mid.connection.outbox sent ready.queue does.1 sends) echoes
-done_row (SendResponse r) f old mid new sent ready is does sends alive echoes =
-    done_quiet f (Some r) old mid new ready (subst (λ (x : Row). Says x (Some r)) is refl) does.0 alive (refers_adds old.connection.outbox mid.connection.outbox _ r sent ready.queue does.1 sends) echoes
-done_row (SendCode code) f old mid new sent ready is does sends alive echoes =
+done_row now (SendResponse r) f old mid new sent ready is does sends alive echoes =
+    done_quiet f (Some r) old mid new ready (subst (λ (x : Row). Says x (Some r)) is refl) does.0 alive (refers_adds old.connection.outbox mid.connection.outbox _ r sent ready.queue (subst (λ (x : Rules). SendsOwnAnswer x plain_out old.connection.outbox.half (header_of_frame f).stream_id r sent) ready.rules does.1) sends) echoes
+done_row now (SendCode code) f old mid new sent ready is does sends alive echoes =
     let r = does.1.0 in
-    done_quiet f (Some r) old mid new ready (subst (λ (x : Row). Says x (Some r)) is (r, does.1.1, refl)) does.0 alive (refers_adds old.connection.outbox mid.connection.outbox _ r sent ready.queue does.1.2 sends) echoes
-done_row (MakeJob request) f old mid new sent ready is does sends alive echoes =
+    done_quiet f (Some r) old mid new ready (subst (λ (x : Row). Says x (Some r)) is (r, does.1.1, refl)) does.0 alive (refers_adds old.connection.outbox mid.connection.outbox _ r sent ready.queue (subst (λ (x : Rules). SendsOwnAnswer x plain_out old.connection.outbox.half (header_of_frame f).stream_id r sent) ready.rules does.1.2) sends) echoes
+done_row now (MakeJob request) f old mid new sent ready is does sends alive echoes =
     let quiet : mid.connection.outbox ≡ old.connection.outbox = subst (λ (xs : List Sent). SendsAll plain_out old.connection.outbox xs mid.connection.outbox) does.1 sends in
-    done_known f request old mid new ready (subst (λ (x : Row). Says x (Some (echo_of request))) is refl) does.0 quiet alive echoes
+    done_known now f request old mid new ready (subst (λ (x : Row). Says x (Some (echo_of request))) is refl) does.0 quiet alive echoes
 
 -- the table asks of services for their methods alone
-same_request : (s : Services) (r : Option Request) → HasEcho s → request_row s r ≡ request_row echo_services r
+same_request : (s : Services) (r : Option Request) → HasEcho s → request_row Sync s r ≡ request_row Sync echo_services r
 same_request s None has = refl
 same_request s (Some r) has = rw (has r.service r.method) refl
 
+same_case_row : (s : Services) (h : MessageHeader) (case : Case) → HasEcho s → case_row Sync s h case ≡ case_row Sync echo_services h case
+same_case_row s h (Asks plain) has = same_request s (read_from request_step empty_request plain) has
+same_case_row s h case has = refl
+
 same_row : (s : Services) (h : MessageHeader) (o : Opening) → HasEcho s → sync_row s h o ≡ sync_row echo_services h o
-same_row s h TooLong has = refl
-same_row s h (Refused why) has = refl
-same_row s h (Opened plain) has = rw (same_request s (read_from request_step empty_request plain) has) refl
+same_row s h o has = same_case_row s h (case_of Sync h o Absent) has
 
 done_frame : (now : ℕ) (f : Incoming) (old mid new : ServerCore Plain Plain) → IsReady old → mid.connection.failure ≡ None
     → Acts (serving plain_out plain_in) now (scene old.state old.connection) f (scene mid.state mid.connection) → Echoes mid new → Done f old mid new
 done_frame now f old mid new ready alive acts echoes =
     let opening : acts.opening ≡ plainly f = opened_plainly old.connection.inbound mid.connection.inbound f acts.opening acts.opens in
     let row : row_of old.state (arrived f acts.opening now) ≡ sync_row echo_services (header_of_frame f) (plainly f) =
-    ap (λ o. sync_row old.state.services (header_of_frame f) o) opening ∙ same_row old.state.services (header_of_frame f) (plainly f) ready.services in
-    done_row (row_of old.state (arrived f acts.opening now)) f old mid new acts.sent ready row acts.reacts acts.sends alive echoes
+    row_of_sync old.state (arrived f acts.opening now) ready.rules ∙ ap (λ o. sync_row old.state.services (header_of_frame f) o) opening ∙ same_row old.state.services (header_of_frame f) (plainly f) ready.services in
+    done_row now (row_of old.state (arrived f acts.opening now)) f old mid new acts.sent ready row acts.reacts acts.sends alive echoes
 
 -- a front was fed, and the job that it made is echoed
 pub one_front : (now : ℕ) (o : Option Incoming) (old mid new : ServerCore Plain Plain) (front : List ℕ) → IsReady old → mid.connection.failure ≡ None → Fed old.connection.decoder front (given o) mid.connection.decoder
@@ -222,6 +236,7 @@ one_front now None old mid new front ready still fed acts echoes =
         jobs = omega (arith, ap (λ (s : Server). s.jobs.last) left);
       },
       record {
+        rules = ap (λ (s : Server). s.rules) left ∙ ready.rules;
         services = subst HasEcho (sym (ap (λ (s : Server). s.services) left)) ready.services;
         jobs = ap (λ (s : Server). s.jobs.list) left ∙ ready.jobs;
         alive = ap (λ (x : ServerCore Plain Plain). x.connection.failure) same ∙ still;
@@ -238,7 +253,7 @@ one_front now (Some f) old mid new front ready still fed acts echoes =
         more = done.adds.more;
         jobs = done.last_job;
       },
-      record { services = done.services; jobs = done.jobs; alive = done.alive; queue = done.adds.valid },
+      record { rules = done.rules; services = done.services; jobs = done.jobs; alive = done.alive; queue = done.adds.valid },
     )
 
 -- ---- one front after the other

@@ -18,7 +18,8 @@ use Rattle.ttrpc_proto.specs.ErrorText.{status_of}
 use Rattle.ttrpc_codec.specs.Members.{delimited_field, delimited_fields, number_fields}
 use Rattle.ttrpc_proto.specs.Messages.{status_fields}
 use Rattle.ttrpc_codec.proofs.Written.{length-delimited_field, length-fields_bytes-append}
-use Rattle.ttrpc_server.specs.Protocol.{fit_to_limit, limit_text, response_bytes, response_size, status_response}
+use Rattle.ttrpc_server.specs.Protocol.{fit_to_limit, limit_text, response_bytes, response_size}
+use Rattle.ttrpc_server.specs.Table.{status_response}
 
 -- ---- varints and members
 

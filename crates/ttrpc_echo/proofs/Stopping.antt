@@ -17,7 +17,9 @@ use Rattle.ttrpc_connection.proofs.Holding.{fed_some}
 use Rattle.ttrpc_server.specs.declared.job.ActiveJob.{ActiveJob}
 use Rattle.ttrpc_server.specs.declared.job.Job.{Job}
 use Rattle.ttrpc_server.specs.declared.server.ServerCore.{ServerCore}
-use Rattle.ttrpc_server.specs.Protocol.{Does, Hands, serving, IsUnsent, RefusesAnswer, Row, Ignore, SendResponse, SendCode, MakeJob, row_of}
+use Rattle.ttrpc_server.specs.Protocol.{Does, Hands, serving, IsUnsent, RefusesAnswer, fit_to_message, row_of}
+use Rattle.ttrpc_server.specs.Table.{Row, Ignore, SendResponse, SendCode, MakeJob}
+use Rattle.ttrpc_server.specs.declared.rules.Rules.{Rules}
 use Rattle.ttrpc_server.specs.State.{IsUnknown, Server}
 use Rattle.ttrpc_echo.specs.Serving.{plain_in, plain_out, IsStop, Serves, UsesUp}
 use Rattle.ttrpc_echo.proofs.Limits.{fitted_fits}
@@ -28,17 +30,17 @@ use Rattle.ttrpc_echo.proofs.Echoing.{some_is_not_none}
 same_last : (old new : Server) → new ≡ old → new.jobs.last ≤ old.jobs.last + 1
 same_last old new same = omega (arith, ap (λ (s : Server). s.jobs.last) same)
 
-does_count : (row : Row) (old : Server) (o : Plain) (header : MessageHeader) (sent : List Sent) (new : Server) → Does plain_out row old o header sent new → new.jobs.last ≤ old.jobs.last + 1
-does_count Ignore old o header sent new does = same_last old new does.0
-does_count (SendResponse r) old o header sent new does = same_last old new does.0
-does_count (SendCode code) old o header sent new does = same_last old new does.0
-does_count (MakeJob request) old o header sent new does = omega (arith, ap (λ (s : Server). s.jobs.last) does.0)
+does_count : (row : Row) (old : Server) (o : Plain) (header : MessageHeader) (now : ℕ) (sent : List Sent) (new : Server) → Does plain_out row old o header now sent new → new.jobs.last ≤ old.jobs.last + 1
+does_count Ignore old o header now sent new does = same_last old new does.0
+does_count (SendResponse r) old o header now sent new does = same_last old new does.0
+does_count (SendCode code) old o header now sent new does = same_last old new does.0
+does_count (MakeJob request) old o header now sent new does = omega (arith, ap (λ (s : Server). s.jobs.last) does.0)
 
 acts_count : (now : ℕ) (fs : List Incoming) (old new : Scene Server Plain Plain) → ActsAll (serving plain_out plain_in) now old fs new → new.state.jobs.last ≤ old.state.jobs.last + length fs
 acts_count now [] old new acts = omega (arith, ap (λ (c : Scene Server Plain Plain). c.state.jobs.last) acts)
 acts_count now (f ∷ fs) old new acts =
     let one = acts.1 in
-    let count = does_count (row_of old.state (arrived f one.opening now)) old.state old.outbox.half (header_of_frame f) one.sent acts.0.state one.reacts in
+    let count = does_count (row_of old.state (arrived f one.opening now)) old.state old.outbox.half (header_of_frame f) now one.sent acts.0.state one.reacts in
     omega (arith, count, acts_count now fs acts.0 new acts.2)
 
 -- ---- feeding breaks
@@ -105,10 +107,10 @@ handed_is_known old mid job hands unknown =
     at_middle (λ (j : ActiveJob). j.id ≡ job.id → j.request ≡ None → ⊥) one.front one.back taken
     (subst (λ (js : List ActiveJob). IsUnknown js job.id) one.jobs unknown) (sym one.id) refl
 
-unsent_is_memory : (s : Plain) (k : ℕ) (r : Response) (told : Error) → IsUnsent plain_out s k r told → told ≡ NoMemory
-unsent_is_memory s k r told (inl above) = absurd (omega (arith, fitted_fits r, above.0))
-unsent_is_memory s k r told (inr (inl unsealed)) = absurd unsealed.1.refuses
-unsent_is_memory s k r told (inr (inr memory)) = memory
+unsent_is_memory : (rules : Rules) (s : Plain) (k : ℕ) (r : Response) (told : Error) → IsUnsent rules plain_out s k r told → told ≡ NoMemory
+unsent_is_memory rules s k r told (inl above) = absurd (omega (arith, fitted_fits (fit_to_message rules r), above.0))
+unsent_is_memory rules s k r told (inr (inl unsealed)) = absurd unsealed.1.refuses
+unsent_is_memory rules s k r told (inr (inr memory)) = memory
 
 -- the echo of a job that was just handed out is refused for want of memory alone
 pub refused_is_memory : (old mid : ServerCore Plain Plain) (job : Job) (response : Result Response Error) (told : Error) → Hands old job mid
@@ -117,4 +119,4 @@ refused_is_memory old mid job response told hands (inl failed) =
     let alive : mid.connection.failure ≡ None = ap (λ (c : ServerCore Plain Plain). c.connection.failure) hands.same ∙ hands.alive in
     absurd (some_is_not_none failed.why (sym failed.is ∙ alive))
 refused_is_memory old mid job response told hands (inr (inl gone)) = absurd (handed_is_known old mid job hands gone.unknown)
-refused_is_memory old mid job response told hands (inr (inr unsent)) = unsent_is_memory mid.connection.outbox.half unsent.job.header.stream_id unsent.answer told unsent.unsent
+refused_is_memory old mid job response told hands (inr (inr unsent)) = unsent_is_memory mid.state.rules mid.connection.outbox.half unsent.job.header.stream_id unsent.answer told unsent.unsent

@@ -12,7 +12,8 @@ use Rattle.ttrpc_connection.specs.declared.arrived.Opening.{Opening}
 use Rattle.ttrpc_connection.specs.declared.arrived.Opening.TheVariants.{TooLong, Opened}
 use Rattle.ttrpc_connection.specs.Frames.{header_of_frame}
 use Rattle.ttrpc_server.specs.State.{Services, has_method}
-use Rattle.ttrpc_server.specs.Protocol.{IsStatusResponse, fit_to_limit, response_bytes, Row, Ignore, SendResponse, SendCode, MakeJob, sync_row}
+use Rattle.ttrpc_server.specs.Protocol.{IsStatusResponse, fit_to_limit, response_bytes}
+use Rattle.ttrpc_server.specs.Table.{Row, Ignore, SendResponse, SendCode, MakeJob, sync_row}
 
 -- the one service
 abbrev pub echo_services : Services

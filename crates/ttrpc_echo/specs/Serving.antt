@@ -13,6 +13,7 @@ use Rattle.ttrpc_secure.specs.Plain.{Keeps}
 use Rattle.ttrpc_secure.specs.declared.transform.OutboundTransform.{Ghosts as OutboundTransform}
 use Rattle.ttrpc_secure.specs.declared.transform.InboundTransform.{Ghosts as InboundTransform}
 use Rattle.ttrpc_server.specs.declared.job.Job.{Job}
+use Rattle.ttrpc_server.specs.declared.rules.Rules.TheVariants.{Sync}
 use Rattle.ttrpc_server.specs.declared.server.ServerCore.{ServerCore}
 use Rattle.ttrpc_server.specs.Protocol.{Answers, Hands}
 use Rattle.ttrpc_server.specs.State.{NoneWaits}
@@ -28,6 +29,7 @@ plain_in = record { opens = Keeps; refuses = RefusesNothing }
 
 -- between two fronts: nothing waits or is at work, and the connection lives
 pub record IsReady (s : ServerCore Plain Plain) : Type 0 where
+  pub rules : s.state.rules ≡ Sync
   pub services : HasEcho s.state.services
   pub jobs : s.state.jobs.list ≡ []
   pub alive : s.connection.failure ≡ None

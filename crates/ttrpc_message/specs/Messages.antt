@@ -16,6 +16,7 @@ use Rattle.ttrpc_frame.specs.declared.frame.Incoming.TheVariants.{Frame, Oversiz
 use Rattle.ttrpc_frame.specs.declared.reading.Found.{Found}
 use Rattle.ttrpc_frame.specs.declared.reading.Found.TheVariants.{Whole, HeaderCut, BodyCut, OversizeCut}
 use Rattle.ttrpc_frame.specs.Streaming.{TellsFailure, TellsOversize}
+use Rattle.ttrpc_message.specs.Calls.{TellsCause}
 use Rattle.ttrpc_message.specs.declared.message.Message.{Message}
 
 -- a failure that is told by such an error
@@ -65,19 +66,19 @@ IsSentMessage result (Err failure) = Fails result (λ e. TellsFailure failure e 
 
 -- ---- As values
 
--- what the bytes mean, with the header; the error is `Others` that begins so, where they mean nothing, or tells that memory was refused
-abbrev pub Decodes : {C : Type 0} → (List ℕ → Option C) → Result (Message C) Error → MessageHeader → List ℕ → Type 0
-Decodes meaning result h bytes = MatchResult result
+-- what the bytes mean, with the header; the error is `Others` of this beginning and what an error of the codec prints, where they mean nothing, or tells that memory was refused
+abbrev pub Decodes : {C E : Type 0} → (List ℕ → Option C) → (E → Type 0) → (E → Option (List ℕ)) → Result (Message C) Error → MessageHeader → List ℕ → Type 0
+Decodes meaning is_no_memory output result h bytes = MatchResult result
     (λ m. (m.header ≡ h) × (meaning bytes ≡ Some m.payload))
-    (λ e. IsOthers (codes "Decode payload failed.") None e × (e ≢ NoMemory → meaning bytes ≡ None))
+    (λ e. IsOthers (codes "Decode payload failed.") None e × TellsCause (codes "Decode payload failed.") is_no_memory output e × (e ≢ NoMemory → meaning bytes ≡ None))
 
 -- what is told as a value; one that is too long is what no bytes mean
-abbrev pub IsValueOf : {C : Type 0} → (List ℕ → Option C) → Result (Message C) Error → Result Found StreamFailure → Type 0
-IsValueOf meaning result (Ok (Whole (Frame m))) = Decodes meaning result m.header m.payload
-IsValueOf meaning result (Ok (Whole (Oversize h))) = Decodes meaning result h []
-IsValueOf meaning result (Ok _) = Fails result (IsSocket None)
-IsValueOf meaning result (Err failure) = Fails result (TellsFailure failure)
+abbrev pub IsValueOf : {C E : Type 0} → (List ℕ → Option C) → (E → Type 0) → (E → Option (List ℕ)) → Result (Message C) Error → Result Found StreamFailure → Type 0
+IsValueOf meaning is_no_memory output result (Ok (Whole (Frame m))) = Decodes meaning is_no_memory output result m.header m.payload
+IsValueOf meaning is_no_memory output result (Ok (Whole (Oversize h))) = Decodes meaning is_no_memory output result h []
+IsValueOf meaning is_no_memory output result (Ok _) = Fails result (IsSocket None)
+IsValueOf meaning is_no_memory output result (Err failure) = Fails result (TellsFailure failure)
 
--- the error of a payload that has no written form: `Others` that begins so, where it is too long, or that memory was refused
-abbrev pub IsUnwritten : List ℕ → Error → Type 0
-IsUnwritten written e = IsOthers (codes "Encode payload failed.") None e × (e ≢ NoMemory → 2 ^ 32 ≤ length written)
+-- the error of a payload that has no written form: `Others` of this beginning and what an error of the codec prints, where it is too long, or that memory was refused
+abbrev pub IsUnwritten : {E : Type 0} → (E → Type 0) → (E → Option (List ℕ)) → List ℕ → Error → Type 0
+IsUnwritten is_no_memory output written e = IsOthers (codes "Encode payload failed.") None e × TellsCause (codes "Encode payload failed.") is_no_memory output e × (e ≢ NoMemory → 2 ^ 32 ≤ length written)

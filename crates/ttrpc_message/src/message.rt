@@ -67,7 +67,7 @@ where
     /// Reads the message of the next frame, and nothing that follows it. One that is too long is thrown away, and what
     /// its header stands with is what no bytes mean.
     pub fn read_from<R: Source>(alloc: Global, reader: &mut R) -> Result<Message<C>>
-        ensures { Reads (R.remaining reader.old) (R.remaining reader.new) (R.last reader.new) (IsValueOf C.meaning result) }
+        ensures { Reads (R.remaining reader.old) (R.remaining reader.new) (R.last reader.new) (IsValueOf C.meaning C.E.is_no_memory C.E.output result) }
     {
         value_of(alloc, take_frame(alloc, reader))
     }
@@ -78,7 +78,7 @@ where
             (header_bytes self.now.header ++ C.written self.now.payload)) }
         ensures err { OnErr result (AppendsFront (W.contents writer.old) (W.contents writer.new)
             (header_bytes self.now.header ++ C.written self.now.payload)) }
-        ensures calls { (Makes (W.calls writer.old) (W.calls writer.new) (λ calls. calls ≡ []) × Fails result (IsUnwritten (C.written self.now.payload)))
+        ensures calls { (Makes (W.calls writer.old) (W.calls writer.new) (λ calls. calls ≡ []) × Fails result (IsUnwritten C.E.is_no_memory C.E.output (C.written self.now.payload)))
             ⊎ Sends (W.calls writer.old) (W.calls writer.new) (Then (WritesFrame self.now.header (C.written self.now.payload)) Flushes) (IsSent result) }
     {
         let content = match encoded(alloc, &self.payload) {
@@ -94,7 +94,7 @@ where
 
     /// The message whose payload these bytes mean.
     pub fn from_gen(alloc: Global, message: GenMessage) -> Result<Message<C>>
-        ensures { Decodes C.meaning result message.header message.payload }
+        ensures { Decodes C.meaning C.E.is_no_memory C.E.output result message.header message.payload }
     {
         decoded(alloc, message.header, message.payload.as_slice())
     }
@@ -103,7 +103,7 @@ where
     pub fn into_gen(self, alloc: Global) -> Result<GenMessage>
         ensures ok { IfOk result (λ m. (m.header ≡ self.header) × (m.payload ≡ C.written self.payload)) }
         ensures again { IfOk result (λ m. C.meaning m.payload ≡ Some self.payload) }
-        ensures err { IfErr result (IsUnwritten (C.written self.payload)) }
+        ensures err { IfErr result (IsUnwritten C.E.is_no_memory C.E.output (C.written self.payload)) }
     {
         let Message { header, payload } = self;
         match encoded(alloc, &payload) {
@@ -123,7 +123,7 @@ fn value_of<C: Codec>(
 ) -> Result<Message<C>>
 where
     C::E: Display + Drop,
-    ensures { IsValueOf C.meaning result took }
+    ensures { IsValueOf C.meaning C.E.is_no_memory C.E.output result took }
 {
     match took {
         Ok(Found::Whole(Incoming::Frame(frame))) => {
@@ -138,7 +138,7 @@ where
 fn decoded<C: Codec>(alloc: Global, header: MessageHeader, bytes: &[u8]) -> Result<Message<C>>
 where
     C::E: Display + Drop,
-    ensures { Decodes C.meaning result header bytes.now }
+    ensures { Decodes C.meaning C.E.is_no_memory C.E.output result header bytes.now }
 {
     match C::decode(alloc, bytes) {
         Ok(payload) => Ok(Message { header, payload }),
@@ -151,7 +151,7 @@ where
     C::E: Display + Drop,
     ensures ok { IfOk result (λ v. v.items ≡ C.written payload.now) }
     ensures again { IfOk result (λ v. C.meaning v.items ≡ Some payload.now) }
-    ensures err { IfErr result (IsUnwritten (C.written payload.now)) }
+    ensures err { IfErr result (IsUnwritten C.E.is_no_memory C.E.output (C.written payload.now)) }
 {
     match payload.encode(alloc) {
         Ok(bytes) => Ok(bytes),

@@ -42,6 +42,15 @@ Adds old path handler new = (service : List ℕ) × (method : List ℕ) × IsPat
 abbrev pub IsNotAdded : List ℕ → Error → Type 0
 IsNotAdded text e = (IsNoPath text × (e ≡ Others (no_path_text text))) ⊎ (e ≡ NoMemory)
 
+-- Handlers aren't all added: one of them isn't, by this error.
+pub record IsNotAllAdded {A H : Type 0} (handlers : List (String A × H)) (e : Error) : Type 0 where
+  pub before : List (String A × H)
+  pub path : String A
+  pub handler : H
+  pub after : List (String A × H)
+  pub all : handlers ≡ before ++ (path, handler) ∷ after
+  pub refused : IsNotAdded (string_bytes path) e
+
 -- handlers are added one after the other, each under its path
 abbrev pub AddsAll : {A H : Type 0} → Handlers H → List (String A × H) → Handlers H → Type 0
 AddsAll {A} {H} old [] new = new ≡ old

@@ -5,7 +5,7 @@ ghost use Rattle.std.specs.Option.{option_copied};
 ghost use Rattle.std.specs.Str.{bytes_eq};
 ghost use Rattle.ttrpc_proto.specs.declared.error.Error.{Error as AnError};
 ghost use Rattle.ttrpc_server.specs.State.{has_method};
-ghost use Rattle.ttrpc_methods.specs.Methods.{Adds, AddsAll, IsNoPath, IsNotAdded, IsPath, Puts, handler_of, no_path_text};
+ghost use Rattle.ttrpc_methods.specs.Methods.{Adds, AddsAll, IsNoPath, IsNotAdded, IsNotAllAdded, IsPath, Puts, handler_of, no_path_text};
 
 use std::alloc::{AllocError, Global};
 use std::collections::BTreeMap;
@@ -56,7 +56,7 @@ impl<H: Drop> Methods<H> {
     /// Adds these handlers, each under its path, as `add` does. At an `Err` some of them may have been added.
     pub fn add_all(&mut self, alloc: Global, handlers: BTreeMap<String, H>) -> Result<()>
         ensures ok { OnOk result (AddsAll self.old handlers.entries self.new) }
-        ensures refused { IfErr result (λ e. (path : List ℕ) × IsNotAdded path e) }
+        ensures refused { IfErr result (IsNotAllAdded handlers.entries) }
     {
         for (path, handler) in handlers {
             self.add(alloc, path.as_str(), handler)?;

@@ -20,3 +20,5 @@ pub use request_init::RequestInit;
 pub use response::Response;
 pub use response_init::ResponseInit;
 pub use status::Status;
+// Of these are the members of messages; a crate that has no other use for `ttrpc_wire` takes them from here.
+pub use ttrpc_wire::{Blob, Text};

@@ -8,7 +8,7 @@ ghost use Rattle.ttrpc_secure.specs.Sends.{Sends, SendsUnder, associated, safe_l
 use crate::transform::{OutboundTransform, TransformError};
 use std::alloc::Global;
 use ttrpc_frame::{MESSAGE_LENGTH_MAX, MessageHeader, Outgoing, Queued};
-use ttrpc_wire::Blob;
+use ttrpc_proto::Blob;
 
 /// Why nothing was sent.
 #[derive(Debug, Drop, PartialEq, Eq)]

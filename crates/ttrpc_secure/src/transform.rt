@@ -3,7 +3,7 @@ ghost use Rattle.std.specs.Prelude.{◌≡◌, ℕ, Bool, IfOk, IfErr, OnErr};
 ghost use Rattle.ttrpc_secure.specs.Halves.{Moves, Refusals, MayFail, IsLawful};
 
 use std::alloc::{AllocError, AllocFailed, Global};
-use ttrpc_wire::Text;
+use ttrpc_proto::Text;
 
 /// Why a half gave nothing.
 #[derive(Debug, Drop, PartialEq, Eq)]

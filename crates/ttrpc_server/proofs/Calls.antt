@@ -1,5 +1,5 @@
 -- The calls of a server core take nothing of what comes in, and the queue goes through what they say.
-use Rattle.ttrpc_server.proofs.Words.{◌≡◌, ◌∙◌, ℕ, List, [], ◌∷◌, ◌++◌, None, refl, ap, subst, Queued, Queue, Happening, Placed, with_payload, OutboundTransform, Connection, Outbox, AreLawful, Goes, Sent, SendsAll, goes_not, queued_goes, sends_grow, Server, Response, Served, Took, Answered, Responded, served, fit_to_limit, IsResponseFrame, Responds, response_bytes}
+use Rattle.ttrpc_server.proofs.Words.{◌≡◌, ◌∙◌, ℕ, List, [], ◌∷◌, ◌++◌, None, refl, ap, subst, Queued, Queue, Happening, Placed, with_payload, OutboundTransform, Connection, Outbox, AreLawful, Goes, Sent, SendsAll, goes_not, queued_goes, sends_grow, Server, Response, Served, Took, Answered, Responded, served, fitted, IsResponseFrame, Responds, Rules, response_bytes}
 use Rattle.ttrpc_server.specs.declared.server.ServerCore.{ServerCore}
 use Rattle.ttrpc_server.specs.Calls.{Causes, Performs, PlacesResponse}
 
@@ -34,17 +34,17 @@ one_is_queued out k old new one is sends = (
   ap (λ (b : Outbox _). b.queue.frames) sends.2 ∙ ap (λ (q : Queue). q.frames) sends.1.queue,
 )
 
-places : {O I : Type 0} (out : OutboundTransform O) (old new : ServerCore O I) (limit k : ℕ) (r : Response) (sent : List Sent) → Responds limit k r sent
+places : {O I : Type 0} (rules : Rules) (out : OutboundTransform O) (old new : ServerCore O I) (limit k : ℕ) (r : Response) (sent : List Sent) → Responds rules limit k r sent
     → SendsAll out old.connection.outbox sent new.connection.outbox → (hs : List Happening) × PlacesResponse k old new hs
-places out old new limit k r sent responds sends =
-    let one : Sent = record { frame = responds.frame; plain = response_bytes (fit_to_limit limit r) } in
+places rules out old new limit k r sent responds sends =
+    let one : Sent = record { frame = responds.frame; plain = response_bytes (fitted rules limit r) } in
     let alone = subst (λ (xs : List Sent). SendsAll out old.connection.outbox xs new.connection.outbox) responds.is sends in
     let queued = one_is_queued out k old.connection.outbox new.connection.outbox one responds.is_frame alone in
     (Placed queued.0 ∷ [], (queued.0, queued.1, queued.2, refl))
 
 pub performs_cause : {O I : Type 0} (out : OutboundTransform O) (a : Served) (old new : ServerCore O I) → Performs out a old new → (hs : List Happening) × Causes a old new hs
 performs_cause out (Answered id response) old new did =
-    let placed = places out old new _ did.job.header.stream_id response did.sent did.responds did.sends in
+    let placed = places old.state.rules out old new _ did.job.header.stream_id response did.sent did.responds did.sends in
     (placed.0, (did.job, did.ends.at, placed.1))
-performs_cause out (Responded k response) old new did = places out old new _ k response did.sent did.responds did.sends
+performs_cause out (Responded k response) old new did = places old.state.rules out old new _ k response did.sent did.responds did.sends
 performs_cause out a old new did = ([], refl)

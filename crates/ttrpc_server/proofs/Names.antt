@@ -1,5 +1,5 @@
 -- The names of a registry, as its maps have them.
-use Rattle.ttrpc_server.proofs.Words.{rules, ◌≡◌, ℕ, Bool, true, false, cond, ◌&&◌, List, [], ◌∷◌, map, Option, Some, String, string_bytes, refl, sym, ap, ◌∙◌, BTreeMap, get_by_text, is_at, list_any, lookup, set_value, update, btree_map_updates_text, is_eq-slice_cmp, text_cmp, AddsName, Names, has_name}
+use Rattle.ttrpc_server.proofs.Words.{rules, ◌≡◌, ℕ, Bool, true, false, cond, ◌&&◌, List, [], ◌∷◌, map, Option, Some, None, String, string_bytes, refl, sym, ap, ◌∙◌, BTreeMap, get_by_text, is_at, list_any, lookup, set_value, update, btree_map_updates_text, is_eq-slice_cmp, text_cmp, AddsName, AddsService, Names, has_name, is_some, knows}
 use Rattle.std.proofs.Common.{◌||◌}
 use Rattle.std.specs.BTreeSet.{BTreeSet, contains_text}
 use Rattle.std.specs.BTreeMap as tree
@@ -18,6 +18,15 @@ either f g false x z o p one more = more
 or_is : (a b : Bool) → cond a true b ≡ (a || b)
 or_is true b = refl
 or_is false b = refl
+
+some_of : {X Z : Type 0} (b : Bool) (x : X) (z : Z) (o : Option X) (p : Option Z) → is_some o ≡ is_some p → is_some (cond b (Some x) o) ≡ is_some (cond b (Some z) p)
+some_of true x z o p more = refl
+some_of false x z o p more = more
+
+-- a service that is there was there before
+known_twice : (b : Bool) (s service : List ℕ) (known : List ℕ → Bool) → bytes_eq s service ≡ b → known service ≡ true → known s ≡ (b || known s)
+known_twice true s service known e there = let same : s ≡ service = search (rules, bytes_eq-Decides) in rw same there
+known_twice false s service known e there = refl
 
 module _ {Y : Type 0} where
   -- the names that a map has
@@ -51,3 +60,34 @@ module _ {Y : Type 0} where
   pub as_before : (old new : BTreeMap (String Y) (BTreeSet (String Y))) (service : List ℕ) (names same : BTreeSet (String Y)) → get_by_text old service ≡ Some names → same.keys ≡ names.keys
       → new.entries ≡ set_value (is_at (text_cmp service)) old.entries same → seen new.entries ≡ seen old.entries
   as_before old new service names same at keys set = ap seen (set ∙ set_value_same (is_at (text_cmp service)) old.entries same (at ∙ ap (λ (k : List (String Y)). Some (record { keys = k })) (sym keys)))
+
+  -- the same for services
+  pub stored_service : (s : List ℕ) (entries : List (String Y × BTreeSet (String Y))) → knows (seen entries) s ≡ is_some (lookup (is_at (text_cmp s)) entries)
+  stored_service s [] = refl
+  stored_service s (e ∷ es) = rw (is_eq-slice_cmp s (string_bytes e.0))
+      (some_of (bytes_eq s (string_bytes e.0)) (map string_bytes e.1.keys) e.1 _ _ (stored_service s es))
+
+  known_more : (b : Bool) (names : BTreeSet (String Y)) (o : Option (BTreeSet (String Y))) → is_some (cond b (Some names) o) ≡ (b || is_some o)
+  known_more true names o = refl
+  known_more false names o = refl
+
+  pub one_service : (old new : BTreeMap (String Y) (BTreeSet (String Y))) (service : List ℕ) (names : BTreeSet (String Y)) → tree.UpdatesBy string_cmp (text_cmp service) old new (Some names)
+      → AddsService (seen old.entries) service (seen new.entries)
+  one_service old new service names updates s =
+      let at : get_by_text new s ≡ update bytes_eq (get_by_text old) service (Some names) s = btree_map_updates_text service old new (Some names) updates s in
+      rw (nat_list_eq_equiv.symm s service, stored_service s new.entries, stored_service s old.entries, at) (known_more (bytes_eq service s) names (get_by_text old s))
+
+  pub same_service : (old : BTreeMap (String Y) (BTreeSet (String Y))) (service : List ℕ) → is_some (get_by_text old service) ≡ true → AddsService (seen old.entries) service (seen old.entries)
+  same_service old service there s = known_twice (bytes_eq s service) s service (knows (seen old.entries)) refl (stored_service service old.entries ∙ there)
+
+  -- a service without names has none
+  no_more : (b : Bool) (n : List ℕ) (names : BTreeSet (String Y)) (o : Option (BTreeSet (String Y))) → contains_text names n ≡ false → (b ≡ true → o ≡ None) → found (cond b (Some names) o) n ≡ found o n
+  no_more true n names o none fresh = rw (fresh refl) none
+  no_more false n names o none fresh = refl
+
+  pub no_names : (old new : BTreeMap (String Y) (BTreeSet (String Y))) (service : List ℕ) (names : BTreeSet (String Y)) → tree.UpdatesBy string_cmp (text_cmp service) old new (Some names) → names.keys ≡ []
+      → get_by_text old service ≡ None → (s n : List ℕ) → has_name (seen new.entries) s n ≡ has_name (seen old.entries) s n
+  no_names old new service names updates empty none s n =
+      let at : get_by_text new s ≡ update bytes_eq (get_by_text old) service (Some names) s = btree_map_updates_text service old new (Some names) updates s in
+      rw (stored s n new.entries, stored s n old.entries, at) (no_more (bytes_eq service s) n names (get_by_text old s) (rw empty refl)
+      (λ e. let same : service ≡ s = search (rules, bytes_eq-Decides) in rw (← same) none))

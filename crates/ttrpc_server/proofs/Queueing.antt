@@ -1,5 +1,5 @@
 -- What is queued while a piece is fed: for each frame that is whole at most one response, under its id.
-use Rattle.ttrpc_server.proofs.Words.{◌≡◌, inl, inr, ◌∙◌, ℕ, List, [], ◌∷◌, ◌++◌, append_assoc, Option, Some, None, refl, sym, ap, subst, Queued, OutboundTransform, Connection, Outbox, MessageHeader, Response, Sent, SendsAll, Server, serving, row_of, Row, SendResponse, SendCode, Does, SendsOwnAnswer, fit_to_limit, IsResponseFrame, response_bytes, safe_limit}
+use Rattle.ttrpc_server.proofs.Words.{◌≡◌, inl, inr, ◌∙◌, ℕ, List, [], ◌∷◌, ◌++◌, append_assoc, Option, Some, None, refl, sym, ap, subst, Queued, OutboundTransform, Connection, Outbox, MessageHeader, Response, Sent, SendsAll, Server, serving, row_of, Row, Rules, SendResponse, SendCode, Does, SendsOwnAnswer, fitted, IsResponseFrame, response_bytes, safe_limit}
 use Rattle.std.specs.Prelude.{◌⊎◌}
 use Rattle.ttrpc_connection.specs.Calls.{Queues}
 use Rattle.ttrpc_connection.specs.Feeds.{arrived}
@@ -14,16 +14,16 @@ use Rattle.ttrpc_server.proofs.Calls.{one_is_queued}
 abbrev SendsAtMostOne : ℕ → List Sent → Type 0
 SendsAtMostOne k sent = (sent ≡ []) ⊎ ((one : Sent) × IsResponseFrame k one.frame × (sent ≡ one ∷ []))
 
-own_sends : {O : Type 0} (out : OutboundTransform O) (o : O) (k : ℕ) (r : Response) (sent : List Sent) → SendsOwnAnswer out o k r sent → SendsAtMostOne k sent
-own_sends out o k r sent (inl one) =
-    let first : Sent = record { frame = one.frame; plain = response_bytes (fit_to_limit (safe_limit out o) r) } in inr (first, one.is_frame, one.is)
-own_sends out o k r sent (inr none) = inl none.0
+own_sends : {O : Type 0} (rules : Rules) (out : OutboundTransform O) (o : O) (k : ℕ) (r : Response) (sent : List Sent) → SendsOwnAnswer rules out o k r sent → SendsAtMostOne k sent
+own_sends rules out o k r sent (inl one) =
+    let first : Sent = record { frame = one.frame; plain = response_bytes (fitted rules (safe_limit out o) r) } in inr (first, one.is_frame, one.is)
+own_sends rules out o k r sent (inr none) = inl none.0
 
-row_sends : {O : Type 0} (out : OutboundTransform O) (row : Row) (old : Server) (o : O) (header : MessageHeader) (sent : List Sent) (new : Server) → Does out row old o header sent new
+row_sends : {O : Type 0} (out : OutboundTransform O) (row : Row) (old : Server) (o : O) (header : MessageHeader) (now : ℕ) (sent : List Sent) (new : Server) → Does out row old o header now sent new
     → SendsAtMostOne header.stream_id sent
-row_sends out (SendResponse r) old o header sent new does = own_sends out o header.stream_id r sent does.1
-row_sends out (SendCode code) old o header sent new does = own_sends out o header.stream_id does.1.0 sent does.1.2
-row_sends out row old o header sent new does = inl does.1
+row_sends out (SendResponse r) old o header now sent new does = own_sends old.rules out o header.stream_id r sent does.1
+row_sends out (SendCode code) old o header now sent new does = own_sends old.rules out o header.stream_id does.1.0 sent does.1.2
+row_sends out row old o header now sent new does = inl does.1
 
 -- nothing was queued, or one response under this id
 abbrev QueuesAtMostOne : {O : Type 0} → ℕ → Outbox O → Outbox O → Type 0
@@ -59,7 +59,7 @@ module _ {O I : Type 0} (out : OutboundTransform O) (in_ : InboundTransform I) w
   acts_answer at (f ∷ fs) old new acts =
       let a = acts.1 in
       let row = row_of old.state (arrived f a.opening at) in
-      let sends = row_sends out row old.state old.outbox.half (header_of_frame f) a.sent acts.0.state a.reacts in
+      let sends = row_sends out row old.state old.outbox.half (header_of_frame f) at a.sent acts.0.state a.reacts in
       one_more f fs old.outbox acts.0.outbox new.outbox (sent_is_queued out (header_of_frame f).stream_id old.outbox acts.0.outbox a.sent sends a.sends) (acts_answer at fs acts.0 new acts.2)
 
   pub gives_answers : (s : Server) (old : Connection O I) (piece : List ℕ) (at : ℕ) (t : Server) (new : Connection O I) → Gives (serving out in_) s old piece at t new

@@ -10,14 +10,14 @@ with_one_taken low high (j ∷ front) back job rising = (rising.0, with_one_take
 
 -- ---- calls
 
-row_keeps : {O : Type 0} (out : OutboundTransform O) (row : Row) (old : Server) (o : O) (header : MessageHeader) (sent : List Sent) (new : Server) → Does out row old o header sent new
+row_keeps : {O : Type 0} (out : OutboundTransform O) (row : Row) (old : Server) (o : O) (header : MessageHeader) (now : ℕ) (sent : List Sent) (new : Server) → Does out row old o header now sent new
     → Rising 0 old.jobs.list old.jobs.last → Rising 0 new.jobs.list new.jobs.last
-row_keeps out (MakeJob request) old o header sent new does rising = rw does.0 (rising_more 0 old.jobs.last old.jobs.list _ refl rising)
-row_keeps out row old o header sent new does rising = rw does.0 rising
+row_keeps out (MakeJob request) old o header now sent new does rising = rw does.0 (rising_more 0 old.jobs.last old.jobs.list _ refl rising)
+row_keeps out row old o header now sent new does rising = rw does.0 rising
 
 pub frame_keeps : {O : Type 0} (out : OutboundTransform O) (old : Server) (o : O) (a : Arrived) (sent : List Sent) (new : Server) → serves out old o a sent new
     → Rising 0 old.jobs.list old.jobs.last → Rising 0 new.jobs.list new.jobs.last
-frame_keeps out old o a sent new does rising = row_keeps out (row_of old a) old o a.header sent new does rising
+frame_keeps out old o a sent new does rising = row_keeps out (row_of old a) old o a.header a.now sent new does rising
 
 pub taking_keeps : (old new : List ActiveJob) (high : ℕ) (handed : Job) → HandsOne old handed new → Rising 0 old high → Rising 0 new high
 taking_keeps old new high handed one rising = rw one.jobs (with_one_taken 0 high one.front one.back one.job (rw one.was at rising))

@@ -1,11 +1,14 @@
 -- What was sent, why a response wasn't, and how an answer ends its job.
-use Rattle.ttrpc_server.proofs.Words.{◌≡◌, ◌≤◌, ◌∙◌, ℕ, List, [], ◌∷◌, refl, ap, subst, Option, inl, inr, None, Error, MessageHeader, Response, Queued, OutboundTransform, Outbox, Failure, HandlerError, IsTold, first_failure, SendsOne, safe_limit, ActiveJob, EndsOne, fit_to_limit, response_size, response_bytes, IsResponseFrame, IsStatusResponse, SendsOwnAnswer, Responds, Server, with_list, IsUnsent, Row, SendResponse, SendCode, Answers, Does, Drops, Finishes, QueuesResponse, with_jobs, IsUnsentFor, SendsSome, TellsUnsent}
-use Rattle.std.specs.Prelude.{◌⊎◌, Result, Ok}
+use Rattle.ttrpc_server.proofs.Words.{◌≡◌, ◌<◌, ◌≤◌, ◌∙◌, ℕ, List, [], ◌∷◌, refl, sym, ap, subst, Option, inl, inr, None, Error, MessageHeader, Response, Queued, OutboundTransform, Outbox, Failure, HandlerError, IsTold, first_failure, SendsOne, safe_limit, ActiveJob, EndsOne, fit_to_limit, fitted, response_size, response_bytes, IsResponseFrame, IsStatusResponse, SendsOwnAnswer, Responds, Server, with_list, IsUnsent, Row, SendResponse, SendCode, Rules, Answers, Does, Drops, Finishes, QueuesResponse, with_jobs, IsUnsentFor, SendsAnswer, SendsSome, TellsUnsent, IsErrorResponse, Async, Sync, IsTaken}
+use Rattle.std.specs.Prelude.{◌⊎◌, Result, Ok, Err, Some}
 use Rattle.ttrpc_connection.specs.Feeds.{IsFailed}
-use Rattle.ttrpc_server.specs.State.{IsTaken}
-use Rattle.ttrpc_server.specs.Protocol.{HasUnsent, RefusesAnswer, RefusesResponse}
+use Rattle.ttrpc_server.specs.Protocol.{AnswersError, HasNoJob, HasUnsent, HasUnsentResponse, IsSentFor, RefusesAnswer, advice, fit_to_message}
+use Rattle.ttrpc_server.specs.Inside.{IsUnfit}
+use Rattle.ttrpc_server.specs.Table.{answer_row, status_response}
+use Rattle.ttrpc_proto.specs.ErrorText.{error_text}
+use Rattle.ttrpc_wire.specs.declared.values.code.Code.TheVariants.{UNKNOWN}
 use Rattle.ttrpc_wire.specs.declared.values.code.Code.{Code}
-use Rattle.ttrpc_proto.specs.declared.error.Error.TheVariants.{Others}
+use Rattle.ttrpc_proto.specs.declared.error.Error.TheVariants.{NoMemory as NoMemoryError, Others}
 use Rattle.ttrpc_server.specs.declared.replies.Unsent.{Unsent}
 use Rattle.ttrpc_server.specs.declared.replies.Unsent.TheVariants.{AboveLimit, Unsealed, NoMemory}
 use Rattle.ttrpc_server.specs.declared.server.ServerCore.{ServerCore}
@@ -13,60 +16,101 @@ use Rattle.ttrpc_secure.specs.Context.Texts.{unsafe_payload_text}
 
 -- ---- what was sent
 
-pub sent_one : {O : Type 0} (out : OutboundTransform O) (old : Outbox O) (k : ℕ) (r : Response) (f : Queued) (bytes : List ℕ) (new : Outbox O)
-    → bytes ≡ response_bytes (fit_to_limit (safe_limit out old.half) r) → response_size (fit_to_limit (safe_limit out old.half) r) ≤ safe_limit out old.half → IsResponseFrame k f
-    → SendsOne out old f bytes new → SendsSome out old (Responds (safe_limit out old.half) k r) new
-sent_one out old k r f bytes new written small framed sends = (
-  record { frame = f; plain = response_bytes (fit_to_limit (safe_limit out old.half) r) } ∷ [],
+pub sent_one : {O : Type 0} (rules : Rules) (out : OutboundTransform O) (old : Outbox O) (k : ℕ) (r : Response) (f : Queued) (bytes : List ℕ) (new : Outbox O)
+    → bytes ≡ response_bytes (fitted rules (safe_limit out old.half) r) → response_size (fitted rules (safe_limit out old.half) r) ≤ safe_limit out old.half → IsResponseFrame k f
+    → SendsOne out old f bytes new → SendsSome out old (Responds rules (safe_limit out old.half) k r) new
+sent_one rules out old k r f bytes new written small framed sends = (
+  record { frame = f; plain = response_bytes (fitted rules (safe_limit out old.half) r) } ∷ [],
   record { frame = f; is_frame = framed; fits = small; is = refl },
   (new, rw (← written) sends, refl),
 )
 
-pub refers_none : {O : Type 0} (out : OutboundTransform O) (old : Outbox O) (k : ℕ) (r : Response) (u : Unsent) (new : Outbox O)
-    → new ≡ old → IsUnsentFor out old.half k r u → (u ≡ NoMemory → ⊥) → SendsSome out old (SendsOwnAnswer out old.half k r) new
-refers_none out old k r (AboveLimit n) new same why other = ([], inr (refl, inl why.1), same)
-refers_none out old k r (Unsealed text) new same why other = ([], inr (refl, inr (text, why)), same)
-refers_none out old k r NoMemory new same why other = absurd (other refl)
+pub refers_none : {O : Type 0} (rules : Rules) (out : OutboundTransform O) (old : Outbox O) (k : ℕ) (r : Response) (u : Unsent) (new : Outbox O)
+    → new ≡ old → IsUnsentFor rules out old.half k r u → (u ≡ NoMemory → ⊥) → SendsSome out old (SendsOwnAnswer rules out old.half k r) new
+refers_none rules out old k r (AboveLimit n) new same why other = ([], inr (refl, inl why.1), same)
+refers_none rules out old k r (Unsealed text) new same why other = ([], inr (refl, inr (text, why)), same)
+refers_none rules out old k r NoMemory new same why other = absurd (other refl)
 
--- a row that tells a response
-pub tells : {O : Type 0} (out : OutboundTransform O) (row : Row) (s : Server) (header : MessageHeader) (r : Response) (old new : Outbox O) → row ≡ SendResponse r
-    → SendsSome out old (SendsOwnAnswer out old.half header.stream_id r) new → SendsSome out old (λ sent. Does out row s old.half header sent s) new
-tells out row s header r old new is some = (some.0, rw is (refl, some.1), some.2)
+-- a row that answers, or doesn't
+pub answers : {O : Type 0} (out : OutboundTransform O) (row : Row) (s : Server) (header : MessageHeader) (now : ℕ) (r : Option Response) (old new : Outbox O) → row ≡ answer_row r
+    → SendsSome out old (SendsAnswer s.rules out old.half header.stream_id r) new → SendsSome out old (λ sent. Does out row s old.half header now sent s) new
+answers out row s header now None old new is some = (some.0, rw is (refl, some.1), some.2)
+answers out row s header now (Some r) old new is some = (some.0, rw is (refl, some.1), some.2)
 
-pub tells_of : {O : Type 0} (out : OutboundTransform O) (row : Row) (s : Server) (header : MessageHeader) (code : Code) (r : Response) (old new : Outbox O) → row ≡ SendCode code → IsStatusResponse code r
-    → SendsSome out old (SendsOwnAnswer out old.half header.stream_id r) new → SendsSome out old (λ sent. Does out row s old.half header sent s) new
-tells_of out row s header code r old new is status some = (some.0, rw is (refl, (r, status, some.1)), some.2)
+pub tells_of : {O : Type 0} (out : OutboundTransform O) (row : Row) (s : Server) (header : MessageHeader) (now : ℕ) (code : Code) (r : Response) (old new : Outbox O) → row ≡ SendCode code → IsStatusResponse code r
+    → SendsSome out old (SendsOwnAnswer s.rules out old.half header.stream_id r) new → SendsSome out old (λ sent. Does out row s old.half header now sent s) new
+tells_of out row s header now code r old new is status some = (some.0, rw is (refl, (r, status, some.1)), some.2)
 
 -- ---- why a response wasn't sent
 
--- what is told of a response that wasn't sent
-pub told_unsent : {O : Type 0} (out : OutboundTransform O) (o : O) (k : ℕ) (r : Response) (u : Unsent) (limit : ℕ) (told : Error)
-    → IsUnsentFor out o k r u → limit ≡ safe_limit out o → TellsUnsent limit u told → IsUnsent out o k r told
-told_unsent out o k r (AboveLimit n) limit told why is tells = inl (
-  why.1,
-  subst (λ (m : ℕ). IsTold (Others (unsafe_payload_text (response_size (fit_to_limit (safe_limit out o) r)) m [])) told) is
-      (subst (λ (m : ℕ). IsTold (Others (unsafe_payload_text m limit [])) told) why.0 tells),
-)
-told_unsent out o k r (Unsealed text) limit told why is tells = inr (inl (text, why, tells))
-told_unsent out o k r NoMemory limit told why is tells = inr (inr tells)
+-- a response that stands for another, as it is longer than a message may be, isn't written for the same reason
+pub unfit_as : (limit : ℕ) (r x : Response) (u : Unsent) → x ≡ fit_to_message Async r → IsUnfit Sync limit x u → IsUnfit Async limit r u
+unfit_as limit r x (AboveLimit n) is h = subst (λ (y : Response). (n ≡ response_size (fit_to_limit limit y)) × (limit < response_size (fit_to_limit limit y))) is h
+unfit_as limit r x (Unsealed why) is h = h
+unfit_as limit r x NoMemory is h = h
 
--- a response that can't be sent is no answer to its job
-pub unsent_answer : {O I : Type 0} (out : OutboundTransform O) (old : ServerCore O I) (id k : ℕ) (job : ActiveJob) (r : Response) (response : Result Response Error) (told : Error)
-    → IsTaken old.state.jobs.list id job → k ≡ job.header.stream_id → response ≡ Ok r → RefusesResponse out old k r told → IsFailed old.connection.failure told ⊎ HasUnsent out old id response told
-unsent_answer out old id k job r response told at stream is (inl failed) = inl failed
-unsent_answer out old id k job r response told at stream is (inr unsent) = inr (record {
+-- what is told of a response that wasn't sent
+pub told_unsent : {O : Type 0} (rules : Rules) (out : OutboundTransform O) (o : O) (k : ℕ) (r : Response) (u : Unsent) (limit : ℕ) (told : Error)
+    → IsUnsentFor rules out o k r u → limit ≡ safe_limit out o → TellsUnsent rules limit u told → IsUnsent rules out o k r told
+told_unsent rules out o k r (AboveLimit n) limit told why is tells = inl (
+  why.1,
+  subst (λ (m : ℕ). IsTold (Others (unsafe_payload_text (response_size (fitted rules (safe_limit out o) r)) m (advice rules))) told) is
+      (subst (λ (m : ℕ). IsTold (Others (unsafe_payload_text m limit (advice rules))) told) why.0 tells),
+)
+told_unsent rules out o k r (Unsealed text) limit told why is tells = inr (inl (text, why, tells))
+told_unsent rules out o k r NoMemory limit told why is tells = inr (inr tells)
+
+-- a response that can't be queued is no answer to its job
+pub unsent_answer : {O I : Type 0} (out : OutboundTransform O) (old : ServerCore O I) (id k : ℕ) (job : ActiveJob) (r : Response) (told : Error)
+    → IsTaken old.state.jobs.list id job → k ≡ job.header.stream_id → IsFailed old.connection.failure told ⊎ HasUnsentResponse out old k r told
+    → IsFailed old.connection.failure told ⊎ HasUnsent out old id (Ok r) told
+unsent_answer out old id k job r told at stream (inl failed) = inl failed
+unsent_answer out old id k job r told at stream (inr unsent) = inr (record {
   alive = unsent.alive;
   job = job;
   at = at;
   answer = r;
-  is_answer = is;
-  unsent = subst (λ n. IsUnsent out old.connection.outbox.half n r told) stream unsent.unsent;
+  is_answer = refl;
+  unsent = subst (λ n. IsUnsent old.state.rules out old.connection.outbox.half n r told) stream unsent.unsent;
 })
+
+-- nor is the response to a handler's error
+pub unsent_error : {O I : Type 0} (out : OutboundTransform O) (old : ServerCore O I) (id : ℕ) (error : Error) (r : Response) (told : Error) → old.state.rules ≡ Async → IsErrorResponse error r
+    → IsFailed old.connection.failure told ⊎ HasUnsent out old id (Ok r) told → IsFailed old.connection.failure told ⊎ HasUnsent out old id (Err error) told
+unsent_error out old id error r told rules is (inl failed) = inl failed
+unsent_error out old id error r told rules is (inr unsent) = inr (record {
+  alive = unsent.alive;
+  job = unsent.job;
+  at = unsent.at;
+  answer = unsent.answer;
+  is_answer = rw (rules, unsent.is_answer) is;
+  unsent = unsent.unsent;
+})
+
+-- an error has a text
+some_text : (error : Error) → (r : Response) × IsErrorResponse error r
+some_text error = by (error_text error) refl
+  where
+    by : (text : Option (List ℕ)) → error_text error ≡ text → (r : Response) × IsErrorResponse error r
+    by None is = (status_response UNKNOWN [], ([], rw is tt, refl))
+    by (Some text) is = (status_response UNKNOWN text, (text, rw is refl, refl))
+
+-- there was no memory for it
+pub textless : {O I : Type 0} (out : OutboundTransform O) (old : ServerCore O I) (id : ℕ) (job : ActiveJob) (error told : Error) → old.connection.failure ≡ None → old.state.rules ≡ Async
+    → IsTaken old.state.jobs.list id job → told ≡ NoMemoryError → HasUnsent out old id (Err error) told
+textless out old id job error told alive rules at is =
+    let some = some_text error in
+    record { alive = alive; job = job; at = at; answer = some.0; is_answer = rw rules some.1; unsent = inr (inr is) }
 
 pub refuses_answer : {O I : Type 0} (out : OutboundTransform O) (old : ServerCore O I) (id : ℕ) (response : Result Response Error) (told : Error)
     → IsFailed old.connection.failure told ⊎ HasUnsent out old id response told → RefusesAnswer out old id response told
 refuses_answer out old id response told (inl failed) = inl failed
 refuses_answer out old id response told (inr unsent) = inr (inr unsent)
+
+pub refuses_none : {O I : Type 0} (out : OutboundTransform O) (old : ServerCore O I) (id : ℕ) (response : Result Response Error) (told : Error)
+    → IsFailed old.connection.failure told ⊎ HasNoJob old id told → RefusesAnswer out old id response told
+refuses_none out old id response told (inl failed) = inl failed
+refuses_none out old id response told (inr none) = inr (inl none)
 
 -- ---- an answer ends its job
 
@@ -91,11 +135,15 @@ answers_at out old id k job r mid t queues at ends same =
       job = job;
       ends = subst (λ (s : Server). EndsOne s.jobs.list id job t.jobs.list) state ends;
       sent = queues.sent;
-      responds = subst (λ n. Responds (safe_limit out old.connection.outbox.half) n r queues.sent) at queues.responds;
+      responds = subst (λ n. Responds old.state.rules (safe_limit out old.connection.outbox.half) n r queues.sent) at queues.responds;
       sends = queues.sends;
       same = ap (λ s. record { state = s; connection = mid.connection }) (same ∙ ap (λ (s : Server). with_list s t.jobs.list) state)
           ∙ ap (λ c. record { state = with_list old.state t.jobs.list; connection = c }) (ap (λ (c : ServerCore _ _). c.connection) queues.same);
     }
+
+-- under sync rules a handler's error ends its job so
+pub error_drops : {O I : Type 0} (out : OutboundTransform O) (old : ServerCore O I) (id : ℕ) (error : Error) (new : ServerCore O I) → old.state.rules ≡ Sync → Drops old id new → AnswersError out old.state.rules old id error new
+error_drops out old id error new sync drops = subst (λ (r : Rules). AnswersError out r old id error new) (sym sync) drops
 
 -- a handler's error: the job forgotten, and the connection failed
 pub drops_at : {O I : Type 0} (old : ServerCore O I) (id : ℕ) (job : ActiveJob) (t : Server) (failure : Option Failure)

@@ -1,5 +1,8 @@
 -- What a frame, a job that is handed out, and an answer do to each stream id by itself.
-use Rattle.ttrpc_server.proofs.Words.{cond_both, ◌≡◌, ℕ, nat_eq, ◌≢◌, inl, inr, refl, arith, List, [], ◌∷◌, None, sym, ap, ◌∙◌, ActiveJob, Job, MessageHeader, Response, OutboundTransform, Sent, EndsOne, HandsOne, NoneWaits, jobs_at, SendsOwnAnswer, Server, Row, SendResponse, SendCode, MakeJob, Does, between_own, between_other, pushed_own, pushed_other, under_both}
+use Rattle.ttrpc_server.proofs.Words.{cond_both, ◌≡◌, ℕ, nat_eq, ◌≢◌, inl, inr, refl, arith, List, [], ◌∷◌, None, sym, ap, ◌∙◌, ActiveJob, Job, MessageHeader, Response, OutboundTransform, Sent, EndsOne, HandsOne, NoneWaits, jobs_at, SendsOwnAnswer, Server, Arrived, Async, Row, Rules, Sync, row_of, sync_row, Opened, Refused, SendResponse, SendCode, MakeJob, Does, between_own, between_other, pushed_own, pushed_other, under_both}
+use Rattle.ttrpc_connection.specs.declared.arrived.Opening.{Opening}
+use Rattle.ttrpc_server.specs.Types.{TooLong, Inlet, Absent}
+use Rattle.ttrpc_server.specs.Table.{case_of, case_row, inlet_of}
 use Rattle.ttrpc_server.specs.Streams.{IsAnswered, made_by}
 
 none_waits_at : (js : List ActiveJob) (k : ℕ) → NoneWaits js → NoneWaits (jobs_at js k)
@@ -49,25 +52,42 @@ ended_elsewhere old new id job k h apart =
     ap (λ jobs. jobs_at jobs k) h.jobs ∙ under_both stream_id_of k h.at.front h.at.back
     ∙ sym (ap (λ jobs. jobs_at jobs k) h.at.is ∙ between_other stream_id_of k h.at.front h.at.back job (λ same. apart (sym same)))
 
-pub row_elsewhere : {O : Type 0} (out : OutboundTransform O) (row : Row) (old : Server) (o : O) (header : MessageHeader) (sent : List Sent) (new : Server) (k : ℕ) → Does out row old o header sent new
+pub row_elsewhere : {O : Type 0} (out : OutboundTransform O) (row : Row) (old : Server) (o : O) (header : MessageHeader) (now : ℕ) (sent : List Sent) (new : Server) (k : ℕ) → Does out row old o header now sent new
     → k ≢ header.stream_id → jobs_at new.jobs.list k ≡ jobs_at old.jobs.list k
-row_elsewhere out (MakeJob request) old o header sent new k does apart = rw does.0 (pushed_other stream_id_of k _ old.jobs.list (λ same. apart (sym same)))
-row_elsewhere out row old o header sent new k does apart = rw does.0 refl
+row_elsewhere out (MakeJob request) old o header now sent new k does apart = rw does.0 (pushed_other stream_id_of k _ old.jobs.list (λ same. apart (sym same)))
+row_elsewhere out row old o header now sent new k does apart = rw does.0 refl
 
-pub row_made : {O : Type 0} (out : OutboundTransform O) (row : Row) (old : Server) (o : O) (header : MessageHeader) (sent : List Sent) (new : Server) → Does out row old o header sent new
-    → jobs_at new.jobs.list header.stream_id ≡ made_by row header old.jobs.last (jobs_at old.jobs.list header.stream_id)
-row_made out (MakeJob request) old o header sent new does = rw does.0 (pushed_own stream_id_of header.stream_id _ old.jobs.list refl)
-row_made out row old o header sent new does = rw does.0 refl
+pub row_made : {O : Type 0} (out : OutboundTransform O) (row : Row) (old : Server) (o : O) (header : MessageHeader) (now : ℕ) (sent : List Sent) (new : Server) → Does out row old o header now sent new
+    → jobs_at new.jobs.list header.stream_id ≡ made_by row old.rules header now old.jobs.last (jobs_at old.jobs.list header.stream_id)
+row_made out (MakeJob request) old o header now sent new does = rw does.0 (pushed_own stream_id_of header.stream_id _ old.jobs.list refl)
+row_made out row old o header now sent new does = rw does.0 refl
 
 none_sent : (k : ℕ) (sent : List Sent) → sent ≡ [] → IsAnswered k sent
 none_sent k sent none = rw none (record { own = tt; at_most_one = omega arith })
 
-referred : {O : Type 0} (out : OutboundTransform O) (o : O) (k : ℕ) (r : Response) (sent : List Sent) → SendsOwnAnswer out o k r sent → IsAnswered k sent
-referred out o k r sent (inl one) = rw one.is (record { own = (one.is_frame.stream_id, tt); at_most_one = omega arith })
-referred out o k r sent (inr none) = none_sent k sent none.0
+referred : {O : Type 0} (rules : Rules) (out : OutboundTransform O) (o : O) (k : ℕ) (r : Response) (sent : List Sent) → SendsOwnAnswer rules out o k r sent → IsAnswered k sent
+referred rules out o k r sent (inl one) = rw one.is (record { own = (one.is_frame.stream_id, tt); at_most_one = omega arith })
+referred rules out o k r sent (inr none) = none_sent k sent none.0
 
-pub row_answers : {O : Type 0} (out : OutboundTransform O) (row : Row) (old : Server) (o : O) (header : MessageHeader) (sent : List Sent) (new : Server) → Does out row old o header sent new
+pub row_answers : {O : Type 0} (out : OutboundTransform O) (row : Row) (old : Server) (o : O) (header : MessageHeader) (now : ℕ) (sent : List Sent) (new : Server) → Does out row old o header now sent new
     → IsAnswered header.stream_id sent
-row_answers out (SendResponse r) old o header sent new does = referred out o header.stream_id r sent does.1
-row_answers out (SendCode code) old o header sent new does = referred out o header.stream_id does.1.0 sent does.1.2
-row_answers out row old o header sent new does = none_sent header.stream_id sent does.1
+row_answers out (SendResponse r) old o header now sent new does = referred old.rules out o header.stream_id r sent does.1
+row_answers out (SendCode code) old o header now sent new does = referred old.rules out o header.stream_id does.1.0 sent does.1.2
+row_answers out row old o header now sent new does = none_sent header.stream_id sent does.1
+
+-- ---- the rules
+
+pub rules_stay : {O : Type 0} (out : OutboundTransform O) (row : Row) (old : Server) (o : O) (header : MessageHeader) (now : ℕ) (sent : List Sent) (new : Server) → Does out row old o header now sent new
+    → new.rules ≡ old.rules
+rules_stay out (MakeJob request) old o header now sent new does = ap (λ (s : Server). s.rules) does.0
+rules_stay out row old o header now sent new does = ap (λ (s : Server). s.rules) does.0
+
+-- sync rules don't ask what an id has
+pub same_case : (r : Rules) (h : MessageHeader) (opening : Opening) (x y : Inlet) → (r ≡ Async → x ≡ y) → case_of r h opening x ≡ case_of r h opening y
+same_case Sync h TooLong x y same = refl
+same_case Sync h (Refused why) x y same = refl
+same_case Sync h (Opened plain) x y same = refl
+same_case Async h opening x y same = ap (case_of Async h opening) (same refl)
+
+pub row_of_sync : (s : Server) (a : Arrived) → s.rules ≡ Sync → row_of s a ≡ sync_row s.services a.header a.opening
+row_of_sync s a sync = rw sync (ap (case_row Sync s.services a.header) (same_case Sync a.header a.opening (inlet_of (jobs_at s.jobs.list a.header.stream_id)) Absent (λ bad. cc)))

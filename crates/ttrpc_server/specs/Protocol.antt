@@ -1,73 +1,32 @@
 -- The protocol of a server, from top to bottom: which row of the table a frame has, what the row does, what each call of
--- the core does, and for what it is refused. Sync rules are the only ones so far; others, and streams, get columns here.
+-- the core does, and for what it is refused. Which case a frame is and what each case does stands in `Table.antt`.
 -- The kinds of frames, and that a request is answered by one response under its stream's id, are PROTOCOL.md's. What it
 -- leaves open, which is codes, texts and which frames are passed over, is as the Rust crate has it. Jobs and the order of
 -- refusals are this project's.
 -- Source: PROTOCOL.md of ttrpc, "Request" and "Response"; the Rust crate; this project's.
-use Rattle.std.specs.Prelude.{◌≡◌, ◌⊎◌, ℕ, ◌<◌, ◌≤◌, ◌-◌, ◌^◌, List, [], ◌∷◌, ◌++◌, length, codes, min, Option, None, Some, Result, Ok, Bool, nat_eq, nat_lt, if◌then◌else◌}
+use Rattle.std.specs.Prelude.{◌≡◌, ◌⊎◌, ℕ, ◌<◌, ◌≤◌, ◌-◌, ◌^◌, List, [], ◌∷◌, ◌++◌, length, codes, min, Option, None, Some, Result, Ok, Err, Bool, nat_lt, if◌then◌else◌}
 use Rattle.std.specs.Fmt.{decimal}
-use Rattle.ttrpc_server.specs.Types.{Code, UNKNOWN, INVALID_ARGUMENT, MessageHeader, MESSAGE_LENGTH_MAX, MESSAGE_TYPE_REQUEST, MESSAGE_TYPE_RESPONSE, Request, Response, Error, Others, NoMemory, Queued, OutboundTransform, Arrived, TooLong, Opened, Refused, Failure, JobIdsUsedUp, HandlerError, ActiveJob, Job, Rules}
+use Rattle.ttrpc_server.specs.Types.{Code, UNKNOWN, INVALID_ARGUMENT, MessageHeader, MESSAGE_LENGTH_MAX, MESSAGE_TYPE_RESPONSE, Request, Response, Error, Others, NoMemory, Queued, OutboundTransform, Arrived, Failure, JobIdsUsedUp, HandlerError, ActiveJob, Job, Rules, Sync, Async}
 use Rattle.ttrpc_wire.specs.Field.{fields_bytes}
-use Rattle.ttrpc_wire.specs.Fold.{read_from}
-use Rattle.ttrpc_proto.specs.ErrorText.{status_of}
-use Rattle.ttrpc_proto.specs.Messages.{empty_request, request_step, response_fields}
+use Rattle.ttrpc_proto.specs.ErrorText.{IsTextOf}
+use Rattle.ttrpc_proto.specs.Messages.{response_fields}
 use Rattle.ttrpc_frame.specs.Header.Oversize.{oversize_text}
 use Rattle.ttrpc_secure.specs.declared.transform.InboundTransform.{Ghosts as InboundTransform}
 use Rattle.ttrpc_secure.specs.Hooks.Facts.{Facts}
-use Rattle.ttrpc_secure.specs.Context.Texts.{unopened_text, unsafe_payload_text, unsealed_text}
+use Rattle.ttrpc_secure.specs.Context.Texts.{advice_text, unsafe_payload_text, unsealed_text}
 use Rattle.ttrpc_secure.specs.Sends.{associated}
-use Rattle.ttrpc_connection.specs.declared.arrived.Opening.{Opening}
 use Rattle.ttrpc_connection.specs.Failure.{IsTold}
 use Rattle.ttrpc_connection.specs.Feeds.{IsFailed, Ways, new_connection}
 use Rattle.ttrpc_connection.specs.Frames.{Sent, SendsAll, safe_limit}
 use Rattle.ttrpc_server.specs.declared.server.ServerCore.{ServerCore}
-use Rattle.ttrpc_server.specs.State.{EndsOne, HandsOne, IsTaken, IsUnknown, Server, Services, has_method, new_server, with_job, with_list}
+use Rattle.ttrpc_server.specs.State.{EndsOne, HandsOne, IsTaken, IsUnknown, Server, Services, jobs_at, new_server, unary_body, with_job, with_list}
+use Rattle.ttrpc_server.specs.Table.{Row, Ignore, MakeJob, SendCode, SendResponse, case_of, case_row, inlet_of, status_response}
 
 -- ---- which row a frame has
--- Source: PROTOCOL.md of ttrpc, "Request"; codes and texts: the Rust crate.
-
--- the response with the status of this code and message, and no payload
-abbrev pub status_response : Code → List ℕ → Response
-status_response code message = record { status = Some (status_of code message); payload = [] }
-
--- the inbound half didn't open a payload
-abbrev pub unopened_response_text : List ℕ → List ℕ
-unopened_response_text why = codes "ttrpc err: " ++ unopened_text why
-
--- no handler has this path
-abbrev pub path_text : List ℕ → List ℕ → List ℕ
-path_text service method = codes "/" ++ service ++ codes "/" ++ method ++ codes " does not exist"
-
--- what a frame does
-pub data Row : Type 0 where
-  -- nothing
-  Ignore : Row
-  -- this response is sent
-  SendResponse : (response : Response) → Row
-  -- a response of this code is sent, whose text is left open
-  SendCode : (code : Code) → Row
-  -- a job is made of the request
-  MakeJob : (request : Request) → Row
-
--- the row of a request, and of bytes that mean none
-abbrev pub request_row : Services → Option Request → Row
-request_row services None = SendCode INVALID_ARGUMENT
-request_row services (Some r) =
-    if has_method services r.service r.method then MakeJob r else
-    SendResponse (status_response INVALID_ARGUMENT (path_text r.service r.method))
-
--- the rows under sync rules, from top to bottom
-abbrev pub sync_row : Services → MessageHeader → Opening → Row
-sync_row services h TooLong = SendResponse (status_response INVALID_ARGUMENT (oversize_text h.length))
-sync_row services h (Refused why) = SendResponse (status_response UNKNOWN (unopened_response_text why))
-sync_row services h (Opened plain) =
-    if nat_lt MESSAGE_LENGTH_MAX (length plain) then SendResponse (status_response INVALID_ARGUMENT (oversize_text (length plain))) else
-    if nat_eq h.type_ MESSAGE_TYPE_REQUEST then request_row services (read_from request_step empty_request plain) else
-    Ignore
 
 -- the row of a frame in the state of a core
 abbrev pub row_of : Server → Arrived → Row
-row_of s a = sync_row s.services a.header a.opening
+row_of s a = case_row s.rules s.services a.header (case_of s.rules a.header a.opening (inlet_of (jobs_at s.jobs.list a.header.stream_id)))
 
 -- ---- how a response is sent: fitted to the limit, sealed, in a frame of its own
 -- Source: PROTOCOL.md of ttrpc, "Response"; limit and texts: the Rust crate.
@@ -92,6 +51,20 @@ limit_text length limit = codes "response payload " ++ decimal length ++ codes "
 abbrev pub fit_to_limit : ℕ → Response → Response
 fit_to_limit limit r = if nat_lt limit (response_size r) then status_response INVALID_ARGUMENT (limit_text (response_size r) limit) else r
 
+-- the response, or under async rules one that says that it is longer than a message may be
+abbrev pub fit_to_message : Rules → Response → Response
+fit_to_message Sync r = r
+fit_to_message Async r = if nat_lt MESSAGE_LENGTH_MAX (response_size r) then status_response INVALID_ARGUMENT (oversize_text (response_size r)) else r
+
+-- the response, or one that stands for it where it is too long
+abbrev pub fitted : Rules → ℕ → Response → Response
+fitted rules limit r = fit_to_limit limit (fit_to_message rules r)
+
+-- what a server adds to the text about the safe limit
+abbrev pub advice : Rules → List ℕ
+advice Sync = []
+advice Async = advice_text
+
 -- a frame that carries a response under a stream's id
 pub record IsResponseFrame (k : ℕ) (f : Queued) : Type 0 where
   pub stream_id : f.message.header.stream_id ≡ k
@@ -102,42 +75,42 @@ pub record IsResponseFrame (k : ℕ) (f : Queued) : Type 0 where
   pub owner : f.owner ≡ 0
 
 -- the response, as it is fitted to the limit, is what was sent, under a stream's id
-pub record Responds (limit k : ℕ) (r : Response) (sent : List Sent) : Type 0 where
+pub record Responds (rules : Rules) (limit k : ℕ) (r : Response) (sent : List Sent) : Type 0 where
   pub frame : Queued
   pub is_frame : IsResponseFrame k frame
-  pub fits : response_size (fit_to_limit limit r) ≤ limit
-  pub is : sent ≡ record { frame = frame; plain = response_bytes (fit_to_limit limit r) } ∷ []
+  pub fits : response_size (fitted rules limit r) ≤ limit
+  pub is : sent ≡ record { frame = frame; plain = response_bytes (fitted rules limit r) } ∷ []
 
 -- it is above the limit even so
-abbrev pub IsAboveLimit : ℕ → Response → Type 0
-IsAboveLimit limit r = limit < response_size (fit_to_limit limit r)
+abbrev pub IsAboveLimit : Rules → ℕ → Response → Type 0
+IsAboveLimit rules limit r = limit < response_size (fitted rules limit r)
 
 -- the half may refuse it, for this reason
-pub record IsUnsealed {O : Type 0} (out : OutboundTransform O) (o : O) (k : ℕ) (r : Response) (why : List ℕ) : Type 0 where
+pub record IsUnsealed {O : Type 0} (rules : Rules) (out : OutboundTransform O) (o : O) (k : ℕ) (r : Response) (why : List ℕ) : Type 0 where
   pub frame : Queued
   pub is_frame : IsResponseFrame k frame
-  pub fits : response_size (fit_to_limit (safe_limit out o) r) ≤ safe_limit out o
-  pub refuses : out.refuses o (response_bytes (fit_to_limit (safe_limit out o) r)) (associated frame.message.header) why
+  pub fits : response_size (fitted rules (safe_limit out o) r) ≤ safe_limit out o
+  pub refuses : out.refuses o (response_bytes (fitted rules (safe_limit out o) r)) (associated frame.message.header) why
 
 -- the core's own answer is sent, or left out where it can't be
-abbrev pub SendsOwnAnswer : {O : Type 0} → OutboundTransform O → O → ℕ → Response → List Sent → Type 0
-SendsOwnAnswer out o k r sent =
-    Responds (safe_limit out o) k r sent
-    ⊎ ((sent ≡ []) × (IsAboveLimit (safe_limit out o) r ⊎ ((why : List ℕ) × IsUnsealed out o k r why)))
+abbrev pub SendsOwnAnswer : {O : Type 0} → Rules → OutboundTransform O → O → ℕ → Response → List Sent → Type 0
+SendsOwnAnswer rules out o k r sent =
+    Responds rules (safe_limit out o) k r sent
+    ⊎ ((sent ≡ []) × (IsAboveLimit rules (safe_limit out o) r ⊎ ((why : List ℕ) × IsUnsealed rules out o k r why)))
 
 -- ---- what a row does
 -- Source: PROTOCOL.md of ttrpc, "Request" and "Response".
 
--- what a row does with a frame of this header
-abbrev pub Does : {O : Type 0} → OutboundTransform O → Row → Server → O → MessageHeader → List Sent → Server → Type 0
-Does out Ignore old o header sent new = (new ≡ old) × (sent ≡ [])
-Does out (SendResponse r) old o header sent new = (new ≡ old) × SendsOwnAnswer out o header.stream_id r sent
-Does out (SendCode code) old o header sent new = (new ≡ old) × ((r : Response) × IsStatusResponse code r × SendsOwnAnswer out o header.stream_id r sent)
-Does out (MakeJob request) old o header sent new = (new ≡ record old { jobs = with_job old.jobs header request }) × (sent ≡ [])
+-- what a row does with a frame of this header that came at this moment
+abbrev pub Does : {O : Type 0} → OutboundTransform O → Row → Server → O → MessageHeader → ℕ → List Sent → Server → Type 0
+Does out Ignore old o header now sent new = (new ≡ old) × (sent ≡ [])
+Does out (SendResponse r) old o header now sent new = (new ≡ old) × SendsOwnAnswer old.rules out o header.stream_id r sent
+Does out (SendCode code) old o header now sent new = (new ≡ old) × ((r : Response) × IsStatusResponse code r × SendsOwnAnswer old.rules out o header.stream_id r sent)
+Does out (MakeJob request) old o header now sent new = (new ≡ record old { jobs = with_job old.jobs header request (unary_body old.rules now request) }) × (sent ≡ [])
 
 -- what its row does with a frame that arrived
 abbrev pub serves : {O : Type 0} → OutboundTransform O → Server → O → Arrived → List Sent → Server → Type 0
-serves out old o a sent new = Does out (row_of old a) old o a.header sent new
+serves out old o a sent new = Does out (row_of old a) old o a.header a.now sent new
 
 -- the row makes a job, and no job can get an id
 pub record IsUsedUp (row : Row) (old : Server) (failure : Failure) : Type 0 where
@@ -175,7 +148,7 @@ pub record Hands {O I : Type 0} (old : ServerCore O I) (handed : Job) (new : Ser
 pub record QueuesResponse {O I : Type 0} (out : OutboundTransform O) (old : ServerCore O I) (k : ℕ) (response : Response) (new : ServerCore O I) : Type 0 where
   pub alive : old.connection.failure ≡ None
   pub sent : List Sent
-  pub responds : Responds (safe_limit out old.connection.outbox.half) k response sent
+  pub responds : Responds old.state.rules (safe_limit out old.connection.outbox.half) k response sent
   pub sends : SendsAll out old.connection.outbox sent new.connection.outbox
   pub same : new ≡ record old { connection = record old.connection { outbox = new.connection.outbox } }
 
@@ -192,7 +165,7 @@ pub record Answers {O I : Type 0} (out : OutboundTransform O) (old : ServerCore 
   pub job : ActiveJob
   pub ends : EndsOne old.state.jobs.list id job new.state.jobs.list
   pub sent : List Sent
-  pub responds : Responds (safe_limit out old.connection.outbox.half) job.header.stream_id response sent
+  pub responds : Responds old.state.rules (safe_limit out old.connection.outbox.half) job.header.stream_id response sent
   pub sends : SendsAll out old.connection.outbox sent new.connection.outbox
   pub same : new ≡ record (with_jobs old new.state.jobs.list) { connection = record old.connection { outbox = new.connection.outbox } }
 
@@ -203,8 +176,23 @@ pub record Drops {O I : Type 0} (old : ServerCore O I) (id : ℕ) (new : ServerC
   pub ends : EndsOne old.state.jobs.list id job new.state.jobs.list
   pub same : new ≡ record (with_jobs old new.state.jobs.list) { connection = record old.connection { failure = Some HandlerError } }
 
+-- under async rules the response to an error that a handler gave: a status of code UNKNOWN with the error's text
+abbrev pub IsErrorResponse : Error → Response → Type 0
+IsErrorResponse error r = (text : List ℕ) × IsTextOf error text × (r ≡ status_response UNKNOWN text)
+
+-- a handler gave an error: under sync rules its job is gone and the connection fails, under async rules it is answered
+abbrev pub AnswersError : {O I : Type 0} → OutboundTransform O → Rules → ServerCore O I → ℕ → Error → ServerCore O I → Type 0
+AnswersError out Sync old id error new = Drops old id new
+AnswersError out Async old id error new = (r : Response) × IsErrorResponse error r × Answers out old id r new
+
 -- ---- for what an answer, a response and a job's end are refused, in the order of the tests
 -- Source: this project's; texts: the Rust crate.
+
+-- the connection lives, and the server keeps the rules that have no such call
+pub record HasOtherRules {O I : Type 0} (old : ServerCore O I) (told : Error) : Type 0 where
+  pub alive : old.connection.failure ≡ None
+  pub rules : old.state.rules ≡ Async
+  pub is_told : IsTold (Others (codes "wrong rules for this call")) told
 
 -- the connection lives, and no such job waits for its answer
 pub record HasNoJob {O I : Type 0} (old : ServerCore O I) (id : ℕ) (told : Error) : Type 0 where
@@ -213,11 +201,17 @@ pub record HasNoJob {O I : Type 0} (old : ServerCore O I) (id : ℕ) (told : Err
   pub is_told : IsTold (Others (codes "unknown job")) told
 
 -- a response can't be sent: it is above the limit, the half refuses it, or memory is wanted
-abbrev pub IsUnsent : {O : Type 0} → OutboundTransform O → O → ℕ → Response → Error → Type 0
-IsUnsent out o k r told =
-    (IsAboveLimit (safe_limit out o) r × IsTold (Others (unsafe_payload_text (response_size (fit_to_limit (safe_limit out o) r)) (safe_limit out o) [])) told)
-    ⊎ ((why : List ℕ) × IsUnsealed out o k r why × IsTold (Others (unsealed_text why)) told)
+abbrev pub IsUnsent : {O : Type 0} → Rules → OutboundTransform O → O → ℕ → Response → Error → Type 0
+IsUnsent rules out o k r told =
+    (IsAboveLimit rules (safe_limit out o) r × IsTold (Others (unsafe_payload_text (response_size (fitted rules (safe_limit out o) r)) (safe_limit out o) (advice rules))) told)
+    ⊎ ((why : List ℕ) × IsUnsealed rules out o k r why × IsTold (Others (unsealed_text why)) told)
     ⊎ (told ≡ NoMemory)
+
+-- what is sent for what a handler gave: its response, or under async rules one to its error
+abbrev pub IsSentFor : Rules → Result Response Error → Response → Type 0
+IsSentFor rules (Ok r) answer = answer ≡ r
+IsSentFor Sync (Err e) answer = ⊥
+IsSentFor Async (Err e) answer = IsErrorResponse e answer
 
 -- the connection lives, the job was taken, and the response to it can't be sent
 pub record HasUnsent {O I : Type 0} (out : OutboundTransform O) (old : ServerCore O I) (id : ℕ) (response : Result Response Error) (told : Error) : Type 0 where
@@ -225,8 +219,8 @@ pub record HasUnsent {O I : Type 0} (out : OutboundTransform O) (old : ServerCor
   pub job : ActiveJob
   pub at : IsTaken old.state.jobs.list id job
   pub answer : Response
-  pub is_answer : response ≡ Ok answer
-  pub unsent : IsUnsent out old.connection.outbox.half job.header.stream_id answer told
+  pub is_answer : IsSentFor old.state.rules response answer
+  pub unsent : IsUnsent old.state.rules out old.connection.outbox.half job.header.stream_id answer told
 
 -- for what an answer is refused: the connection has failed, or there is no such job, or the response can't be sent
 abbrev pub RefusesAnswer : {O I : Type 0} → OutboundTransform O → ServerCore O I → ℕ → Result Response Error → Error → Type 0
@@ -235,12 +229,12 @@ RefusesAnswer out old id response told = IsFailed old.connection.failure told �
 -- the connection lives, and the response can't be sent
 pub record HasUnsentResponse {O I : Type 0} (out : OutboundTransform O) (old : ServerCore O I) (k : ℕ) (response : Response) (told : Error) : Type 0 where
   pub alive : old.connection.failure ≡ None
-  pub unsent : IsUnsent out old.connection.outbox.half k response told
+  pub unsent : IsUnsent old.state.rules out old.connection.outbox.half k response told
 
--- for what a response is refused: the connection has failed, or the response can't be sent
+-- for what a response is refused: the connection has failed, or async rules have no such call, or it can't be sent
 abbrev pub RefusesResponse : {O I : Type 0} → OutboundTransform O → ServerCore O I → ℕ → Response → Error → Type 0
-RefusesResponse out old k response told = IsFailed old.connection.failure told ⊎ HasUnsentResponse out old k response told
+RefusesResponse out old k response told = IsFailed old.connection.failure told ⊎ HasOtherRules old told ⊎ HasUnsentResponse out old k response told
 
--- for what a job's end is refused: the connection has failed, or there is no such job
+-- for what a job's end is refused: the connection has failed, or async rules have no such call, or there is no such job
 abbrev pub RefusesFinish : {O I : Type 0} → ServerCore O I → ℕ → Error → Type 0
-RefusesFinish old id told = IsFailed old.connection.failure told ⊎ HasNoJob old id told
+RefusesFinish old id told = IsFailed old.connection.failure told ⊎ HasOtherRules old told ⊎ HasNoJob old id told

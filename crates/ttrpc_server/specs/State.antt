@@ -1,11 +1,12 @@
 -- What a server core is, beside its connection: the methods and streams that it has, and its jobs that weren't answered.
 -- Source: PROTOCOL.md of ttrpc, "RPC", "Request" and "Response".
-use Rattle.std.specs.Prelude.{◌≡◌, ◌≢◌, ◌<◌, ◌≤◌, ℕ, ◌+◌, ◌&&◌, ◌||◌, List, [], ◌∷◌, ◌++◌, filter, nat_eq, None, Some, is_some, Bool, false}
+use Rattle.std.specs.Prelude.{◌≡◌, ◌≢◌, ◌<◌, ◌≤◌, ℕ, ◌+◌, ◌&&◌, ◌||◌, List, [], ◌∷◌, ◌++◌, filter, nat_eq, Option, None, Some, is_some, Bool, false}
 use Rattle.std.specs.List.{list_any, AllByRecursion}
 use Rattle.std.specs.Map.{lookup}
 use Rattle.std.specs.Option.{option_map_or}
 use Rattle.std.specs.Str.{bytes_eq}
-use Rattle.ttrpc_server.specs.Types.{MessageHeader, Request, ActiveJob, Job, Rules}
+use Rattle.ttrpc_server.specs.Types.{MessageHeader, Request, ActiveJob, Body, Unary, Job, Rules, Sync, Async}
+use Rattle.ttrpc_connection.specs.Deadlines.{deadline_of}
 
 -- ---- methods and streams
 
@@ -20,6 +21,14 @@ has_name services service name = option_map_or (λ names. list_any (bytes_eq nam
 -- there is one more, if it wasn't there, and nothing else changed
 abbrev pub AddsName : Names → List ℕ → List ℕ → Names → Type 0
 AddsName old service name new = (s n : List ℕ) → has_name new s n ≡ ((bytes_eq s service && bytes_eq n name) || has_name old s n)
+
+-- a service of this name is there, with names or without
+abbrev pub knows : Names → List ℕ → Bool
+knows services service = is_some (lookup (bytes_eq service) services)
+
+-- there is one more service, if it wasn't there, and the others are as they were
+abbrev pub AddsService : Names → List ℕ → Names → Type 0
+AddsService old service new = (s : List ℕ) → knows new s ≡ (bytes_eq s service || knows old s)
 
 -- what a server has
 pub record Services : Type 0 where
@@ -38,7 +47,24 @@ has_method services service method = has_name services.methods service method
 abbrev pub has_stream : Services → List ℕ → List ℕ → Bool
 has_stream services service stream = has_name services.streams service stream
 
+-- whether a server has this service
+abbrev pub has_service : Services → List ℕ → Bool
+has_service services service = knows services.methods service || knows services.streams service
+
 -- ---- jobs
+
+-- the moment until which a job waits to be answered, if there is one
+abbrev pub deadline_in : Body → Option ℕ
+deadline_in (Unary deadline) = deadline
+
+-- whether a job is a stream's
+abbrev pub is_stream : Body → Bool
+is_stream (Unary deadline) = false
+
+-- what a unary job is that is made at this moment: under sync rules it has no deadline
+abbrev pub unary_body : Rules → ℕ → Request → Body
+unary_body Sync now request = Unary None
+unary_body Async now request = Unary (deadline_of now request.timeout_nano)
 
 -- the jobs of a server
 pub record JobList : Type 0 where
@@ -69,12 +95,12 @@ abbrev pub NoneWaits : List ActiveJob → Type 0
 NoneWaits jobs = AllByRecursion (λ (j : ActiveJob). j.request ≡ None) jobs
 
 -- a job as it is made
-abbrev pub new_job : ℕ → MessageHeader → Request → ActiveJob
-new_job id header request = record { id = id; header = header; request = Some request }
+abbrev pub new_job : ℕ → MessageHeader → Request → Body → ActiveJob
+new_job id header request body = record { id = id; header = header; request = Some request; body = body }
 
 -- a job was made, and waits
-abbrev pub with_job : JobList → MessageHeader → Request → JobList
-with_job s header request = record { last = s.last + 1; list = s.list ++ new_job (s.last + 1) header request ∷ [] }
+abbrev pub with_job : JobList → MessageHeader → Request → Body → JobList
+with_job s header request body = record { last = s.last + 1; list = s.list ++ new_job (s.last + 1) header request body ∷ [] }
 
 -- the first of the jobs that wait was handed out
 pub record HandsOne (old : List ActiveJob) (handed : Job) (new : List ActiveJob) : Type 0 where
@@ -84,10 +110,17 @@ pub record HandsOne (old : List ActiveJob) (handed : Job) (new : List ActiveJob)
   pub was : old ≡ front ++ job ∷ back
   pub id : handed.id ≡ job.id
   pub header : handed.header ≡ job.header
-  pub stream : handed.stream ≡ Bool.false
+  pub stream : handed.stream ≡ is_stream job.body
   pub request : job.request ≡ Some handed.request
   pub first : NoneWaits front
   pub jobs : new ≡ front ++ record job { request = None } ∷ back
+
+-- the job has this id
+pub record IsJob (jobs : List ActiveJob) (id : ℕ) (job : ActiveJob) : Type 0 where
+  pub front : List ActiveJob
+  pub back : List ActiveJob
+  pub is : jobs ≡ front ++ job ∷ back
+  pub is_job : job.id ≡ id
 
 -- the job has this id and was taken
 pub record IsTaken (jobs : List ActiveJob) (id : ℕ) (job : ActiveJob) : Type 0 where

@@ -1,8 +1,8 @@
 -- The types of the code that these definitions speak of, in one list.
 -- Source: this project's.
 pub use Rattle.ttrpc_wire.specs.declared.values.code.Code.{Code}
-pub use Rattle.ttrpc_wire.specs.declared.values.code.Code.TheVariants.{INVALID_ARGUMENT, UNKNOWN}
-pub use Rattle.ttrpc_frame.specs.declared.header.TheConstants.{MESSAGE_TYPE_RESPONSE}
+pub use Rattle.ttrpc_wire.specs.declared.values.code.Code.TheVariants.{INVALID_ARGUMENT, UNIMPLEMENTED, UNKNOWN}
+pub use Rattle.ttrpc_frame.specs.declared.header.TheConstants.{MESSAGE_TYPE_DATA, MESSAGE_TYPE_RESPONSE}
 pub use Rattle.ttrpc_proto.specs.declared.request.Request.{Request}
 pub use Rattle.ttrpc_proto.specs.declared.response.Response.{Response}
 pub use Rattle.ttrpc_proto.specs.declared.error.Error.TheVariants.{NoMemory, NoMemory as MemoryRefused, Others}
@@ -14,5 +14,15 @@ pub use Rattle.ttrpc_connection.specs.declared.failure.Failure.{Failure}
 pub use Rattle.ttrpc_connection.specs.declared.failure.Failure.TheVariants.{HandlerError, JobIdsUsedUp, NoMemory as NoMemoryLeft}
 pub use Rattle.ttrpc_connection.specs.Outbox.{Outbox}
 pub use Rattle.ttrpc_server.specs.declared.job.ActiveJob.{ActiveJob}
+pub use Rattle.ttrpc_server.specs.declared.job.Body.{Body}
+pub use Rattle.ttrpc_server.specs.declared.job.Body.TheVariants.{Unary}
 pub use Rattle.ttrpc_server.specs.declared.job.Job.{Job}
+pub use Rattle.ttrpc_server.specs.declared.rows.Asked.{Asked}
+pub use Rattle.ttrpc_server.specs.declared.rows.Asked.TheVariants.{Call, NoMethod, NoPath, NoService}
+pub use Rattle.ttrpc_server.specs.declared.rows.Case.{Case}
+pub use Rattle.ttrpc_server.specs.declared.rows.Case.TheVariants.{Asks, EvenId, Inactive, InUse, Oversize, Skipped, Unopened}
+pub use Rattle.ttrpc_server.specs.declared.rows.Inlet.{Inlet}
+pub use Rattle.ttrpc_server.specs.declared.rows.Inlet.TheVariants.{Absent, Busy}
 pub use Rattle.ttrpc_server.specs.declared.rules.Rules.{Rules}
+pub use Rattle.ttrpc_server.specs.declared.rules.Rules.TheVariants.{Async, Sync}
+pub use Rattle.ttrpc_connection.specs.OneEnd.{Ends, failing, Takes}

@@ -1,26 +1,26 @@
 //! The jobs of a server that weren't answered, found by their ids.
-ghost use Rattle.std.specs.Prelude.{◌≡◌, ◌-◌, IfErr, IfSome, IfNone, OnOk, filter, length};
+ghost use Rattle.std.specs.Prelude.{◌≡◌, ◌-◌, ◌+◌, ◌^◌, ◌++◌, IfErr, IfSome, IfNone, OnOk, Some, filter, length};
 ghost use Rattle.ttrpc_server.specs.declared.job.ActiveJob.{ActiveJob as AJob};
-ghost use Rattle.ttrpc_server.specs.State.{EndsOne, HandsOne, IsTaken, IsUnknown, NoneWaits, Rising, no_jobs, waits, with_job};
+ghost use Rattle.ttrpc_server.specs.State.{HandsOne, deadline_in, IsJob, IsTaken, IsUnknown, NoneWaits, Rising, no_jobs, waits, with_job};
 ghost use Rattle.ttrpc_server.specs.Inside.{FailsToMake};
 
 #[cfg(test)]
 mod used_up_tests;
 
-use crate::job::{ActiveJob, Job, JobId};
+use crate::job::{ActiveJob, Body, Job, JobId};
 use std::alloc::Global;
-use std::collections::BTreeMap;
+use std::collections::{BTreeMap, BTreeSet};
 use std::marker::Model;
 use ttrpc_connection::Failure;
 use ttrpc_frame::MessageHeader;
 use ttrpc_proto::Request;
 
-/// The jobs of a server that weren't answered, by rising id. They are handed out in that order: those up to `handed` were
-/// taken, and each from there to `last`, the id of the last job that was made, waits.
+/// The jobs of a server that weren't answered, by rising id, and the ids of those that wait to be handed out.
 #[derive(Drop)]
 pub(crate) struct Jobs {
     jobs: BTreeMap<JobId, ActiveJob>,
-    handed: JobId,
+    waiting: BTreeSet<JobId>,
+    // The id of the last job that was made.
     last: JobId,
 }
 
@@ -33,7 +33,7 @@ impl Model for Jobs {
 
     ghost view = { λ a. record { last = a.last; list = values_of a.jobs.entries } };
 
-    ghost invariant = { λ a. AreJobs a.handed a.last a.jobs.entries };
+    ghost invariant = { λ a. AreJobs a.last a.jobs.entries a.waiting.keys };
 }
 
 impl Jobs {
@@ -43,14 +43,28 @@ impl Jobs {
     {
         Jobs {
             jobs: BTreeMap::new(alloc),
-            handed: 0,
+            waiting: BTreeSet::new(alloc),
             last: 0,
         }
     }
 
+    /// The id of the next job, if one is left. Takes no memory.
+    pub(crate) fn next_id(&self) -> Option<JobId>
+        ensures some { IfSome result (λ id. id ≡ self.now.last + 1) }
+        ensures none { IfNone result (self.now.last ≡ 2 ^ 64 - 1) }
+        ensures rise { Rising 0 self.now.list self.now.last }
+    {
+        self.last.checked_add(1)
+    }
+
     /// Makes a job that waits. An `Err` changes nothing: no id is left, or no memory.
-    pub(crate) fn make(&mut self, header: MessageHeader, request: Request) -> Result<(), Failure>
-        ensures ok { OnOk result (self.new ≡ with_job self.old header request) }
+    pub(crate) fn make(
+        &mut self,
+        header: MessageHeader,
+        request: Request,
+        body: Body,
+    ) -> Result<(), Failure>
+        ensures ok { OnOk result (self.new ≡ with_job self.old header request body) }
         ensures err { IfErr result (λ failure. (self.new ≡ self.old) × FailsToMake self.old failure) }
     {
         if self.last == u64::MAX {
@@ -61,8 +75,13 @@ impl Jobs {
             id,
             header,
             request: Some(request),
+            body,
         };
         if self.jobs.insert(id, job).is_err() {
+            return Err(Failure::NoMemory);
+        }
+        if self.waiting.insert(id).is_err() {
+            let _ = self.jobs.remove(&id);
             return Err(Failure::NoMemory);
         }
         self.last = id;
@@ -75,15 +94,13 @@ impl Jobs {
         ensures none { IfNone result ((self.new ≡ self.old) × NoneWaits self.old.list) }
         ensures last { self.new.last ≡ self.old.last }
     {
-        if self.handed == self.last {
+        let Some(id) = self.waiting.pop_first() else {
             return None;
-        }
-        let id = self.handed + 1;
+        };
         match self.jobs.get_mut(&id) {
             Some(job) => {
                 let header = job.header;
                 let request = job.request.take();
-                self.handed = id;
                 match request {
                     Some(request) => Some(Job {
                         id,
@@ -109,12 +126,24 @@ impl Jobs {
         }
     }
 
-    /// Forgets the job of this id, which was taken. Takes no memory.
-    pub(crate) fn end(&mut self, id: JobId)
-        requires { (job : AJob) × IsTaken self.old.list id job }
-        ensures ended { (job : AJob) → IsTaken self.old.list id job → EndsOne self.old.list id job self.new.list }
-        ensures last { self.new.last ≡ self.old.last }
+    /// The stream's id and the deadline of the job of this id, whether it was taken or waits. Takes no memory.
+    pub(crate) fn place_of(&self, id: JobId) -> Option<(u32, Option<u128>)>
+        ensures { (job : AJob) → IsJob self.now.list id job → result ≡ Some (job.header.stream_id, deadline_in job.body) }
     {
+        match self.jobs.get(&id) {
+            Some(job) => Some((job.header.stream_id, job.body.deadline())),
+            None => None,
+        }
+    }
+
+    /// Forgets the job of this id, whether it was taken or waits. Takes no memory.
+    pub(crate) fn end(&mut self, id: JobId)
+        requires { (job : AJob) × IsJob self.old.list id job }
+        ensures ended { (job : AJob) → (at : IsJob self.old.list id job) → self.new.list ≡ at.front ++ at.back }
+        ensures last { self.new.last ≡ self.old.last }
+        ensures rise { Rising 0 self.old.list self.old.last }
+    {
+        let _ = self.waiting.remove(&id);
         let _ = self.jobs.remove(&id);
     }
 
@@ -125,7 +154,7 @@ impl Jobs {
         // The ids of jobs rise, and none is above the last that was made.
         ensures rise { Rising 0 self.now.list self.now.last }
     {
-        self.last - self.handed
+        self.waiting.len() as u64
     }
 
     /// How many jobs were taken and not answered yet. Takes no memory.

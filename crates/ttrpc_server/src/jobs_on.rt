@@ -1,7 +1,7 @@
 //! What the calls of a server's port of jobs do to its core, under the lock.
 ghost use Rattle.std.specs.Prelude.{◌≡◌, ◌⊎◌, IfErr, IfSome, IfNone, OnOk, OnErr, Ok, Err, None};
 ghost use Rattle.ttrpc_proto.specs.declared.error.Error.{Error as AnError};
-ghost use Rattle.ttrpc_server.specs.Protocol.{Drops, Finishes, Hands, RefusesFinish};
+ghost use Rattle.ttrpc_server.specs.Protocol.{AnswersError, Finishes, Hands, RefusesAnswer, RefusesFinish};
 ghost use Rattle.ttrpc_server.specs.State.{NoneWaits};
 
 use crate::job::{Job, JobId};
@@ -21,7 +21,7 @@ pub fn take_on<O: OutboundTransform + Drop, I: InboundTransform + Drop>(
     core.take_job()
 }
 
-/// Ends a handled job, and queues nothing; where its handler failed, the connection fails.
+/// Ends a handled job, and queues nothing; where its handler failed, under sync rules the connection fails.
 pub fn done_on<O: OutboundTransform + Drop, I: InboundTransform + Drop>(
     core: &mut ServerCore<O, I>,
     alloc: Global,
@@ -29,8 +29,9 @@ pub fn done_on<O: OutboundTransform + Drop, I: InboundTransform + Drop>(
     outcome: Result<(), Error>,
 ) -> Result<(), Error>
     ensures finished { outcome ≡ Ok tt → OnOk result (Finishes core.old id core.new) }
-    ensures failed { (e : AnError) → outcome ≡ Err e → OnOk result (Drops core.old id core.new) }
-    ensures refused { IfErr result (RefusesFinish core.old id) }
+    ensures failed { (e : AnError) → outcome ≡ Err e → OnOk result (AnswersError O.OutboundTransform core.old.state.rules core.old id e core.new) }
+    ensures refused { outcome ≡ Ok tt → IfErr result (RefusesFinish core.old id) }
+    ensures unsent { (e : AnError) → outcome ≡ Err e → IfErr result (RefusesAnswer O.OutboundTransform core.old id (Err e)) }
     ensures err { OnErr result (core.new ≡ core.old) }
 {
     match outcome {

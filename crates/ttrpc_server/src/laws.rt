@@ -27,7 +27,7 @@ pub fn streams_stand_by_themselves<O: OutboundTransform>()
         → k ≢ a.header.stream_id → jobs_at new.jobs.list k ≡ jobs_at old.jobs.list k }
     ensures frame { (old new : Server) (o : O) (a : AFrame) (sent : List Sent) → serves O.OutboundTransform old o a sent new
         → jobs_at new.jobs.list a.header.stream_id
-        ≡ made_by (row_of old a) a.header old.jobs.last (jobs_at old.jobs.list a.header.stream_id) }
+        ≡ made_by (row_of old a) old.rules a.header a.now old.jobs.last (jobs_at old.jobs.list a.header.stream_id) }
     ensures own_answer { (old new : Server) (o : O) (a : AFrame) (sent : List Sent) → serves O.OutboundTransform old o a sent new
         → IsAnswered a.header.stream_id sent }
     ensures taken_elsewhere { (old new : List AJob) (handed : AHandedJob) (k : ℕ) → HandsOne old handed new

@@ -1,6 +1,6 @@
 //! Which methods and streams a server has.
-ghost use Rattle.std.specs.Prelude.{◌≡◌, [], string_bytes, OnOk, OnErr};
-ghost use Rattle.ttrpc_server.specs.State.{AddsName, has_method, has_name, has_stream, no_services};
+ghost use Rattle.std.specs.Prelude.{◌≡◌, ℕ, List, [], string_bytes, OnOk, OnErr};
+ghost use Rattle.ttrpc_server.specs.State.{AddsName, AddsService, has_method, has_name, has_service, has_stream, knows, no_services};
 
 use std::alloc::{AllocError, Global};
 use std::collections::{BTreeMap, BTreeSet};
@@ -8,7 +8,7 @@ use std::marker::Model;
 use ttrpc_wire::Text;
 
 /// The methods and the streams of a server's services, each found by ordered search. A service is there once it has one
-/// of either.
+/// of either, or was added by itself.
 #[derive(Drop)]
 pub struct Registry {
     methods: Names,
@@ -34,6 +34,16 @@ impl Registry {
         }
     }
 
+    /// Adds a service, which may stay without methods and streams. An `Err` changes nothing.
+    pub fn add_service(&mut self, alloc: Global, service: Text) -> Result<(), AllocError>
+        ensures ok { OnOk result (AddsService self.old.methods service self.new.methods) }
+        ensures names { (s n : List ℕ) → has_name self.new.methods s n ≡ has_name self.old.methods s n }
+        ensures others { self.new.streams ≡ self.old.streams }
+        ensures err { OnErr result (self.new ≡ self.old) }
+    {
+        self.methods.add_service(alloc, service.into_string())
+    }
+
     /// Gives this service this method. An `Err` changes nothing.
     pub fn add_method(
         &mut self,
@@ -42,6 +52,7 @@ impl Registry {
         method: Text,
     ) -> Result<(), AllocError>
         ensures ok { OnOk result (AddsName self.old.methods service method self.new.methods) }
+        ensures service { OnOk result (AddsService self.old.methods service self.new.methods) }
         ensures others { self.new.streams ≡ self.old.streams }
         ensures err { OnErr result (self.new ≡ self.old) }
     {
@@ -57,6 +68,7 @@ impl Registry {
         stream: Text,
     ) -> Result<(), AllocError>
         ensures ok { OnOk result (AddsName self.old.streams service stream self.new.streams) }
+        ensures service { OnOk result (AddsService self.old.streams service self.new.streams) }
         ensures others { self.new.methods ≡ self.old.methods }
         ensures err { OnErr result (self.new ≡ self.old) }
     {
@@ -69,6 +81,13 @@ impl Registry {
         ensures { result ≡ has_method self.now service.now method.now }
     {
         self.methods.has(service.as_str(), method.as_str())
+    }
+
+    /// Whether this service is there. Takes no memory.
+    pub fn has_service(&self, service: &Text) -> bool
+        ensures { result ≡ has_service self.now service.now }
+    {
+        self.methods.knows(service.as_str()) || self.streams.knows(service.as_str())
     }
 
     /// Whether this service has this stream. Takes no memory.
@@ -104,9 +123,30 @@ impl Names {
         }
     }
 
+    /// One more service, without names if it wasn't there. An `Err` changes nothing.
+    fn add_service(&mut self, alloc: Global, service: String) -> Result<(), AllocError>
+        ensures ok { OnOk result (AddsService self.old (string_bytes service) self.new) }
+        ensures names { (s n : List ℕ) → has_name self.new s n ≡ has_name self.old s n }
+        ensures err { OnErr result (self.new ≡ self.old) }
+    {
+        if self.services.contains_key(service.as_str()) {
+            return Ok(());
+        }
+        self.services.insert(service, BTreeSet::new(alloc))?;
+        Ok(())
+    }
+
+    /// Whether this service is there. Takes no memory.
+    fn knows(&self, service: &str) -> bool
+        ensures { result ≡ knows self.now service.now }
+    {
+        self.services.contains_key(service)
+    }
+
     /// One more. An `Err` changes nothing.
     fn add(&mut self, alloc: Global, service: String, name: String) -> Result<(), AllocError>
         ensures ok { OnOk result (AddsName self.old (string_bytes service) (string_bytes name) self.new) }
+        ensures service { OnOk result (AddsService self.old (string_bytes service) self.new) }
         ensures err { OnErr result (self.new ≡ self.old) }
     {
         if let Some(names) = self.services.get_mut(service.as_str()) {

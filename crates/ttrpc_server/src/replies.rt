@@ -1,10 +1,11 @@
 //! How a response is sent: fitted to the limit, in a frame of its own; and why it isn't.
 ghost use Rattle.std.specs.Prelude.{◌≡◌, ◌≤◌, IfOk, IfErr, OnOk};
 ghost use Rattle.ttrpc_connection.specs.Frames.{safe_limit};
-ghost use Rattle.ttrpc_server.specs.Protocol.{fit_to_limit, IsResponseFrame, SendsOwnAnswer, Responds, response_bytes, response_size};
-ghost use Rattle.ttrpc_server.specs.Inside.{IsUnfit, IsUnsentFor, SendsSome, TellsUnsent};
+ghost use Rattle.ttrpc_server.specs.Protocol.{advice, fit_to_limit, fitted, IsResponseFrame, SendsOwnAnswer, Responds, response_bytes, response_size};
+ghost use Rattle.ttrpc_server.specs.Inside.{IsUnfit, IsUnsentFor, SendsAnswer, SendsSome, TellsUnsent};
 
-use crate::responses::limit_response;
+use crate::responses::{limit_response, oversize_response};
+use crate::rules::Rules;
 use std::alloc::{AllocError, Global};
 use ttrpc_codec::Codec;
 use ttrpc_codec::message::encode_with_room;
@@ -40,23 +41,66 @@ impl From<AllocError> for Unsent {
 
 impl Unsent {
     /// The error for it, where payloads have this limit.
-    pub(crate) fn error(self, alloc: Global, limit: usize) -> Error
-        ensures { TellsUnsent limit self result }
+    pub(crate) fn error(self, alloc: Global, rules: Rules, limit: usize) -> Error
+        ensures { TellsUnsent rules limit self result }
     {
         match self {
-            Unsent::AboveLimit(size) => unsafe_payload_error(alloc, size, limit, ""),
+            Unsent::AboveLimit(size) => { unsafe_payload_error(alloc, size, limit, advice(rules)) }
             Unsent::Unsealed(why) => unsealed_error(alloc, &why),
             Unsent::NoMemory => Error::NoMemory,
         }
     }
 }
 
+/// What a server adds to the text about the safe limit.
+fn advice(rules: Rules) -> &'static str
+    ensures { result.now ≡ advice rules }
+{
+    match rules {
+        Rules::Sync => "",
+        Rules::Async => "; reduce payload size",
+    }
+}
+
+/// The written form of the response, or of one that stands for it where it is too long.
+fn fitted_bytes(
+    alloc: Global,
+    rules: Rules,
+    limit: usize,
+    response: &Response,
+) -> Result<Vec<u8>, Unsent>
+    requires { limit ≤ MESSAGE_LENGTH_MAX }
+    ensures ok { IfOk result (λ bytes. (bytes.items ≡ response_bytes (fitted rules limit response.now))
+        × (response_size (fitted rules limit response.now) ≤ limit)) }
+    ensures err { IfErr result (IsUnfit rules limit response.now) }
+{
+    match rules {
+        Rules::Sync => limited_bytes(alloc, limit, response),
+        Rules::Async => short_bytes(alloc, limit, response),
+    }
+}
+
+/// The same under async rules: of the response, or of one that says that it is longer than a message may be.
+fn short_bytes(alloc: Global, limit: usize, response: &Response) -> Result<Vec<u8>, Unsent>
+    requires { limit ≤ MESSAGE_LENGTH_MAX }
+    ensures ok { IfOk result (λ bytes. (bytes.items ≡ response_bytes (fitted Rules.Async limit response.now))
+        × (response_size (fitted Rules.Async limit response.now) ≤ limit)) }
+    ensures err { IfErr result (IsUnfit Rules.Async limit response.now) }
+{
+    let size = response.size() as usize;
+    if size <= MESSAGE_LENGTH_MAX {
+        return limited_bytes(alloc, limit, response);
+    }
+    let instead = oversize_response(alloc, size)?;
+    limited_bytes(alloc, limit, &instead)
+}
+
 /// The written form of the response, or of one that says that it has more bytes than the limit.
-fn fitted_bytes(alloc: Global, limit: usize, response: &Response) -> Result<Vec<u8>, Unsent>
+fn limited_bytes(alloc: Global, limit: usize, response: &Response) -> Result<Vec<u8>, Unsent>
     requires { limit ≤ MESSAGE_LENGTH_MAX }
     ensures ok { IfOk result (λ bytes. (bytes.items ≡ response_bytes (fit_to_limit limit response.now))
         × (response_size (fit_to_limit limit response.now) ≤ limit)) }
-    ensures err { IfErr result (IsUnfit limit response.now) }
+    ensures err { IfErr result (IsUnfit Rules.Sync limit response.now) }
 {
     let size = response.size() as usize;
     if size <= limit {
@@ -98,19 +142,20 @@ pub(crate) fn response_frame(alloc: Global, stream_id: u32) -> Queued
     }
 }
 
-/// Sends a response, or one that says that it is above the limit. An `Err` changes nothing.
+/// Sends a response, or one that stands for it where it is too long. An `Err` changes nothing.
 pub(crate) fn send_response<O: OutboundTransform + Drop>(
     alloc: Global,
     outbox: &mut Outbox<O>,
+    rules: Rules,
     stream_id: u32,
     response: &Response,
 ) -> Result<(), Unsent>
     ensures ok { OnOk result (SendsSome O.OutboundTransform outbox.old
-        (Responds (safe_limit O.OutboundTransform outbox.old.half) stream_id response.now) outbox.new) }
+        (Responds rules (safe_limit O.OutboundTransform outbox.old.half) stream_id response.now) outbox.new) }
     ensures err { IfErr result (λ unsent. (outbox.new ≡ outbox.old)
-        × IsUnsentFor O.OutboundTransform outbox.old.half stream_id response.now unsent) }
+        × IsUnsentFor rules O.OutboundTransform outbox.old.half stream_id response.now unsent) }
 {
-    let bytes = fitted_bytes(alloc, outbox.limit(), response)?;
+    let bytes = fitted_bytes(alloc, rules, outbox.limit(), response)?;
     let frame = response_frame(alloc, stream_id);
     match outbox.send(alloc, frame, bytes) {
         Ok(()) => Ok(()),
@@ -124,17 +169,36 @@ pub(crate) fn send_response<O: OutboundTransform + Drop>(
 pub(crate) fn send_own_answer<O: OutboundTransform + Drop>(
     alloc: Global,
     outbox: &mut Outbox<O>,
+    rules: Rules,
     stream_id: u32,
     response: &Response,
 ) -> Result<(), Failure>
     ensures ok { OnOk result (SendsSome O.OutboundTransform outbox.old
-        (SendsOwnAnswer O.OutboundTransform outbox.old.half stream_id response.now) outbox.new) }
+        (SendsOwnAnswer rules O.OutboundTransform outbox.old.half stream_id response.now) outbox.new) }
     ensures err { IfErr result (λ failure. (outbox.new ≡ outbox.old) × (failure ≡ Failure.NoMemory)) }
 {
-    match send_response(alloc, outbox, stream_id, response) {
+    match send_response(alloc, outbox, rules, stream_id, response) {
         Ok(()) => Ok(()),
         Err(Unsent::NoMemory) => Err(Failure::NoMemory),
         Err(Unsent::AboveLimit(_)) => Ok(()),
         Err(Unsent::Unsealed(_)) => Ok(()),
+    }
+}
+
+/// Sends what is answered, if anything is. An `Err` changes nothing.
+pub(crate) fn send_answer<O: OutboundTransform + Drop>(
+    alloc: Global,
+    outbox: &mut Outbox<O>,
+    rules: Rules,
+    stream_id: u32,
+    answer: &Option<Response>,
+) -> Result<(), Failure>
+    ensures ok { OnOk result (SendsSome O.OutboundTransform outbox.old
+        (SendsAnswer rules O.OutboundTransform outbox.old.half stream_id answer.now) outbox.new) }
+    ensures err { IfErr result (λ failure. (outbox.new ≡ outbox.old) × (failure ≡ Failure.NoMemory)) }
+{
+    match answer {
+        None => Ok(()),
+        Some(response) => send_own_answer(alloc, outbox, rules, stream_id, response),
     }
 }

@@ -2,7 +2,8 @@
 ghost use Rattle.std.specs.Prelude.{◌≡◌, codes, string_bytes, IfOk};
 ghost use Rattle.ttrpc_frame.specs.Header.Oversize.{oversize_text};
 ghost use Rattle.ttrpc_connection.specs.Failure.{IsTold};
-ghost use Rattle.ttrpc_server.specs.Protocol.{status_response, IsStatusResponse, limit_text, path_text, unopened_response_text};
+ghost use Rattle.ttrpc_server.specs.Protocol.{IsErrorResponse, IsStatusResponse, limit_text};
+ghost use Rattle.ttrpc_server.specs.Table.{even_id_text, in_use_text, inactive_text, method_text, path_text, service_text, status_response, unopened_response_text};
 
 use std::alloc::{AllocError, Global};
 use ttrpc_frame::header::oversize::oversize_message;
@@ -26,6 +27,57 @@ pub fn path_response(alloc: Global, service: &Text, method: &Text) -> Result<Res
 {
     let text = format!(in alloc; "/{}/{} does not exist", service.as_str(), method.as_str())?;
     Ok(response_of(alloc, Code::INVALID_ARGUMENT, text))
+}
+
+/// The answer to a request whose service isn't there.
+pub fn service_response(alloc: Global, service: &Text) -> Result<Response, AllocError>
+    ensures { IfOk result (λ response.
+        response ≡ status_response Code.INVALID_ARGUMENT (service_text service.now)) }
+{
+    let text = format!(in alloc; "{} service does not exist", service.as_str())?;
+    Ok(response_of(alloc, Code::INVALID_ARGUMENT, text))
+}
+
+/// The answer to a request whose service has no such method.
+pub fn method_response(alloc: Global, method: &Text) -> Result<Response, AllocError>
+    ensures { IfOk result (λ response.
+        response ≡ status_response Code.UNIMPLEMENTED (method_text method.now)) }
+{
+    let text = format!(in alloc; "{} method", method.as_str())?;
+    Ok(response_of(alloc, Code::UNIMPLEMENTED, text))
+}
+
+/// The answer to a frame under an even id.
+pub fn even_id_response(alloc: Global) -> Result<Response, AllocError>
+    ensures { IfOk result (λ response. response ≡ status_response Code.INVALID_ARGUMENT even_id_text) }
+{
+    let text = String::from_str(alloc, "stream id must be odd")?;
+    Ok(response_of(alloc, Code::INVALID_ARGUMENT, text))
+}
+
+/// The answer to data that no active stream takes.
+pub fn inactive_response(alloc: Global) -> Result<Response, AllocError>
+    ensures { IfOk result (λ response. response ≡ status_response Code.INVALID_ARGUMENT inactive_text) }
+{
+    let text = String::from_str(alloc, "Stream is no longer active")?;
+    Ok(response_of(alloc, Code::INVALID_ARGUMENT, text))
+}
+
+/// The answer to a request under an id that has an active job.
+pub fn in_use_response(alloc: Global, stream_id: u32) -> Result<Response, AllocError>
+    ensures { IfOk result (λ response.
+        response ≡ status_response Code.INVALID_ARGUMENT (in_use_text stream_id)) }
+{
+    let text = format!(in alloc; "stream id {stream_id} is in use")?;
+    Ok(response_of(alloc, Code::INVALID_ARGUMENT, text))
+}
+
+/// The answer to a request whose handler gave an error. It is never without its text.
+pub fn error_response(alloc: Global, error: &Error) -> Result<Response, AllocError>
+    ensures { IfOk result (IsErrorResponse error.now) }
+{
+    let text = error.text(alloc)?;
+    Ok(response_of(alloc, Code::UNKNOWN, text))
 }
 
 /// The answer to a request whose payload the inbound half didn't open, for this reason.
@@ -62,6 +114,13 @@ pub fn unknown_job_error(alloc: Global) -> Error
     ensures { IsTold (Error.Others (codes "unknown job")) result }
 {
     others_error(String::from_str(alloc, "unknown job"))
+}
+
+/// The error for a call that the server's rules don't have, or `NoMemory` where memory for its text was refused.
+pub fn other_rules_error(alloc: Global) -> Error
+    ensures { IsTold (Error.Others (codes "wrong rules for this call")) result }
+{
+    others_error(String::from_str(alloc, "wrong rules for this call"))
 }
 
 fn response_of(alloc: Global, code: Code, text: String) -> Response

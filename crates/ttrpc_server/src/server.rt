@@ -1,5 +1,5 @@
 //! The core of a server: frames in, jobs and responses out.
-ghost use Rattle.std.specs.Prelude.{◌≡◌, ◌≢◌, ◌<◌, ◌≤◌, ◌-◌, ◌↔◌, ℕ, List, [], filter, true, length, is_some, IfOk, IfErr, OnOk, OnErr, IfSome, IfNone, Ok, Err, Some, None};
+ghost use Rattle.std.specs.Prelude.{◌≡◌, ◌≢◌, ◌⊎◌, ◌<◌, ◌≤◌, ◌-◌, ◌↔◌, ℕ, List, [], filter, true, length, is_some, IfOk, IfErr, OnOk, OnErr, IfSome, IfNone, Ok, Err, Some, None};
 ghost use Rattle.ttrpc_proto.specs.declared.error.Error.{Error as AnError};
 ghost use Rattle.ttrpc_proto.specs.declared.response.Response.{Response as AResponse};
 ghost use Rattle.ttrpc_frame.specs.Frames.{Holds, nothing};
@@ -8,13 +8,13 @@ ghost use Rattle.ttrpc_secure.specs.Hooks.Facts.{facts_of};
 ghost use Rattle.ttrpc_connection.specs.Feeds.{IsFailed};
 ghost use Rattle.ttrpc_connection.specs.OneEnd.{Ends, Lends, Takes, TakesFront, failing, lendable, lending, reporting};
 ghost use Rattle.ttrpc_server.specs.declared.job.ActiveJob.{ActiveJob as AJob};
-ghost use Rattle.ttrpc_server.specs.Protocol.{Answers, Drops, Finishes, Hands, QueuesResponse, new_core, serving, RefusesAnswer, RefusesFinish, RefusesResponse};
+ghost use Rattle.ttrpc_server.specs.Protocol.{Answers, AnswersError, Finishes, Hands, HasNoJob, HasOtherRules, HasUnsent, HasUnsentResponse, QueuesResponse, new_core, serving, RefusesAnswer, RefusesFinish, RefusesResponse};
 ghost use Rattle.ttrpc_server.specs.State.{IsTaken, IsUnknown, NoneWaits, Rising, waits};
 
 use crate::job::{Job, JobId};
 use crate::registry::Registry;
 use crate::replies::send_response;
-use crate::responses::unknown_job_error;
+use crate::responses::{error_response, other_rules_error, unknown_job_error};
 use crate::rules::Rules;
 use crate::state::ServerState;
 use std::alloc::Global;
@@ -91,9 +91,10 @@ impl<O: OutboundTransform + Drop, I: InboundTransform + Drop> ServerCore<O, I> {
         self.state.hand_out()
     }
 
-    /// Answers a job that was taken: its response is queued, and it is gone. One whose response is above the half's
-    /// limit is answered by a status that says so. A handler's error ends its job and fails the connection. A refusal
-    /// changes nothing, and its caller still has the response.
+    /// Answers a job that was taken: its response is queued, and it is gone. One whose response is too long is answered
+    /// by a status that says so. A handler's error ends its job, too: under sync rules it fails the connection, and under
+    /// async rules it is answered by a status of its text. A refusal changes nothing, and its caller still has the
+    /// response.
     pub fn answer(
         &mut self,
         alloc: Global,
@@ -101,27 +102,21 @@ impl<O: OutboundTransform + Drop, I: InboundTransform + Drop> ServerCore<O, I> {
         response: &Result<Response, Error>,
     ) -> Result<(), Error>
         ensures answered { (r : AResponse) → response.now ≡ Ok r → OnOk result (Answers O.OutboundTransform self.old id r self.new) }
-        ensures handler_failed { (e : AnError) → response.now ≡ Err e → OnOk result (Drops self.old id self.new) }
+        ensures handler_failed { (e : AnError) → response.now ≡ Err e
+            → OnOk result (AnswersError O.OutboundTransform self.old.state.rules self.old id e self.new) }
         ensures refused { IfErr result (RefusesAnswer O.OutboundTransform self.old id response.now) }
         ensures err { OnErr result (self.new ≡ self.old) }
     {
         let stream_id = self.active(alloc, id)?;
         match response {
-            Ok(response) => {
-                self.respond(alloc, stream_id, response)?;
-                self.state.end(id);
-                Ok(())
-            }
-            Err(_) => {
-                self.state.end(id);
-                self.connection.fail(Failure::HandlerError);
-                Ok(())
-            }
+            Ok(response) => self.answer_with(alloc, id, stream_id, response),
+            Err(error) => self.answer_error(alloc, id, stream_id, error),
         }
     }
 
-    /// Queues a response under a stream's id, and ends no job: `finish` does that. One above the half's limit is
-    /// replaced by a status that says so. A refusal changes nothing, and its caller still has the response.
+    /// Queues a response under a stream's id, and ends no job: `finish` does that. It is a call of sync rules. A response
+    /// that is too long is replaced by a status that says so. A refusal changes nothing, and its caller still has the
+    /// response.
     pub fn respond(
         &mut self,
         alloc: Global,
@@ -129,24 +124,24 @@ impl<O: OutboundTransform + Drop, I: InboundTransform + Drop> ServerCore<O, I> {
         response: &Response,
     ) -> Result<(), Error>
         ensures queued { OnOk result (QueuesResponse O.OutboundTransform self.old stream_id response.now self.new) }
+        ensures rules { OnOk result (self.old.state.rules ≡ Rules.Sync) }
         ensures refused { IfErr result (RefusesResponse O.OutboundTransform self.old stream_id response.now) }
         ensures err { OnErr result (self.new ≡ self.old) }
     {
-        let connection = &mut self.connection;
-        connection.check_alive(alloc)?;
-        match send_response(alloc, &mut connection.outbox, stream_id, response) {
-            Ok(()) => Ok(()),
-            Err(unsent) => Err(unsent.error(alloc, connection.outbox.limit())),
-        }
+        self.check_rules(alloc)?;
+        self.queue(alloc, stream_id, response)
     }
 
-    /// Ends a job that was taken, and queues nothing. It is refused only for a job that wasn't taken or has ended, or
-    /// once the connection has failed; memory is taken for the text of a refusal alone. A refusal changes nothing.
+    /// Ends a job that was taken, and queues nothing. It is a call of sync rules. It is refused only under others, for a
+    /// job that wasn't taken or has ended, or once the connection has failed; memory is taken for the text of a refusal
+    /// alone. A refusal changes nothing.
     pub fn finish(&mut self, alloc: Global, id: JobId) -> Result<(), Error>
         ensures finished { OnOk result (Finishes self.old id self.new) }
+        ensures rules { OnOk result (self.old.state.rules ≡ Rules.Sync) }
         ensures refused { IfErr result (RefusesFinish self.old id) }
         ensures err { OnErr result (self.new ≡ self.old) }
     {
+        self.check_rules(alloc)?;
         self.active(alloc, id)?;
         self.state.end(id);
         Ok(())
@@ -247,12 +242,87 @@ impl<O: OutboundTransform + Drop, I: InboundTransform + Drop> ServerCore<O, I> {
     fn active(&self, alloc: Global, id: JobId) -> Result<u32, Error>
         ensures ok { IfOk result (λ k. (self.now.connection.failure ≡ None)
             × ((job : AJob) × IsTaken self.now.state.jobs.list id job × (k ≡ job.header.stream_id))) }
-        ensures err { IfErr result (RefusesFinish self.now id) }
+        ensures err { IfErr result (λ told. IsFailed self.now.connection.failure told ⊎ HasNoJob self.now id told) }
     {
         self.connection.check_alive(alloc)?;
         match self.stream_of(id) {
             Some(stream_id) => Ok(stream_id),
             None => Err(unknown_job_error(alloc)),
+        }
+    }
+
+    /// Sync rules have the call, and the connection lives; or why not.
+    fn check_rules(&self, alloc: Global) -> Result<(), Error>
+        ensures ok { OnOk result ((self.now.connection.failure ≡ None) × (self.now.state.rules ≡ Rules.Sync)) }
+        ensures err { IfErr result (λ told. IsFailed self.now.connection.failure told ⊎ HasOtherRules self.now told) }
+    {
+        self.connection.check_alive(alloc)?;
+        match self.state.rules() {
+            Rules::Sync => Ok(()),
+            Rules::Async => Err(other_rules_error(alloc)),
+        }
+    }
+
+    /// Queues a response under a stream's id. An `Err` changes nothing.
+    fn queue(&mut self, alloc: Global, stream_id: u32, response: &Response) -> Result<(), Error>
+        ensures queued { OnOk result (QueuesResponse O.OutboundTransform self.old stream_id response.now self.new) }
+        ensures refused { IfErr result (λ told. IsFailed self.old.connection.failure told
+            ⊎ HasUnsentResponse O.OutboundTransform self.old stream_id response.now told) }
+        ensures err { OnErr result (self.new ≡ self.old) }
+    {
+        let rules = self.state.rules();
+        let connection = &mut self.connection;
+        connection.check_alive(alloc)?;
+        match send_response(alloc, &mut connection.outbox, rules, stream_id, response) {
+            Ok(()) => Ok(()),
+            Err(unsent) => Err(unsent.error(alloc, rules, connection.outbox.limit())),
+        }
+    }
+
+    /// Queues the response to a job that was taken, and ends the job. An `Err` changes nothing.
+    fn answer_with(
+        &mut self,
+        alloc: Global,
+        id: JobId,
+        stream_id: u32,
+        response: &Response,
+    ) -> Result<(), Error>
+        requires { (job : AJob) × IsTaken self.old.state.jobs.list id job × (stream_id ≡ job.header.stream_id) }
+        ensures answered { OnOk result (Answers O.OutboundTransform self.old id response.now self.new) }
+        ensures refused { IfErr result (λ told. IsFailed self.old.connection.failure told
+            ⊎ HasUnsent O.OutboundTransform self.old id (Ok response.now) told) }
+        ensures err { OnErr result (self.new ≡ self.old) }
+    {
+        self.queue(alloc, stream_id, response)?;
+        self.state.end(id);
+        Ok(())
+    }
+
+    /// A handler gave this error for a job that was taken. An `Err` changes nothing.
+    fn answer_error(
+        &mut self,
+        alloc: Global,
+        id: JobId,
+        stream_id: u32,
+        error: &Error,
+    ) -> Result<(), Error>
+        requires alive { self.old.connection.failure ≡ None }
+        requires taken { (job : AJob) × IsTaken self.old.state.jobs.list id job × (stream_id ≡ job.header.stream_id) }
+        ensures answered { OnOk result (AnswersError O.OutboundTransform self.old.state.rules self.old id error.now self.new) }
+        ensures refused { IfErr result (λ told. IsFailed self.old.connection.failure told
+            ⊎ HasUnsent O.OutboundTransform self.old id (Err error.now) told) }
+        ensures err { OnErr result (self.new ≡ self.old) }
+    {
+        match self.state.rules() {
+            Rules::Sync => {
+                self.state.end(id);
+                self.connection.fail(Failure::HandlerError);
+                Ok(())
+            }
+            Rules::Async => {
+                let response = error_response(alloc, error)?;
+                self.answer_with(alloc, id, stream_id, &response)
+            }
         }
     }
 }

@@ -1,21 +1,27 @@
 //! The state of a server core, without its connection, and how a whole frame acts on it.
-ghost use Rattle.std.specs.Prelude.{◌≡◌, IfErr, IfSome, IfNone, OnOk, Some};
+ghost use Rattle.std.specs.Prelude.{◌≡◌, [], IfErr, IfSome, IfNone, OnOk, Some};
+ghost use Rattle.ttrpc_proto.specs.Messages.{empty_request, request_step};
+ghost use Rattle.ttrpc_wire.specs.Fold.{read_from};
 ghost use Rattle.ttrpc_server.specs.declared.job.ActiveJob.{ActiveJob as AJob};
-ghost use Rattle.ttrpc_server.specs.Protocol.{Does, request_row, sync_row};
-ghost use Rattle.ttrpc_server.specs.Inside.{FailsOn, SendsSome};
-ghost use Rattle.ttrpc_server.specs.State.{EndsOne, HandsOne, IsTaken, NoneWaits, new_server, with_list};
+ghost use Rattle.ttrpc_server.specs.Protocol.{Does};
+ghost use Rattle.ttrpc_server.specs.Inside.{FailsOn, FailsToMake, SendsSome};
+ghost use Rattle.ttrpc_server.specs.State.{EndsOne, HandsOne, IsTaken, NoneWaits, jobs_at, new_server, unary_body, with_job, with_list};
+ghost use Rattle.ttrpc_server.specs.Table.{inlet_of, request_row};
 
-use crate::job::{Job, JobId};
+use crate::index::Index;
+use crate::job::{Body, Job, JobId};
 use crate::jobs::Jobs;
 use crate::registry::Registry;
-use crate::replies::send_own_answer;
-use crate::responses::{oversize_response, path_response, unopened_response, unreadable_response};
+use crate::replies::{send_answer, send_own_answer};
+use crate::responses::unreadable_response;
+use crate::rows::{Asked, Case, Inlet, asked_of, asked_response, case_of, case_response};
 use crate::rules::Rules;
 use std::alloc::Global;
 use std::marker::Model;
 use ttrpc_codec::in_place::decode_in_place;
-use ttrpc_connection::{Arrived, Failure, Opening, Outbox, Reacts};
-use ttrpc_frame::{MESSAGE_LENGTH_MAX, MESSAGE_TYPE_REQUEST, MessageHeader};
+use ttrpc_connection::deadlines::deadline_of;
+use ttrpc_connection::{Arrived, Failure, Outbox, Reacts};
+use ttrpc_frame::MessageHeader;
 use ttrpc_proto::Request;
 use ttrpc_secure::OutboundTransform;
 use ttrpc_wire::{Blob, CodecError};
@@ -26,14 +32,19 @@ pub struct ServerState {
     rules: Rules,
     registry: Registry,
     jobs: Jobs,
+    // Under sync rules it has none.
+    index: Index,
 }
 
 impl Model for ServerState {
+    ghost use Rattle.ttrpc_server.specs.Kept.{IsKept};
     ghost use Rattle.ttrpc_server.specs.State.{Server};
 
     ghost Value = { Server };
 
     ghost view = { λ a. record { rules = a.rules; services = a.registry; jobs = a.jobs } };
+
+    ghost invariant = { λ a. IsKept a.rules a.jobs.list a.index };
 }
 
 impl ServerState {
@@ -45,7 +56,15 @@ impl ServerState {
             rules,
             registry,
             jobs: Jobs::new(alloc),
+            index: Index::new(alloc),
         }
+    }
+
+    /// The rules that it keeps.
+    pub(crate) fn rules(&self) -> Rules
+        ensures { result ≡ self.now.rules }
+    {
+        self.rules
     }
 
     /// The jobs that weren't answered.
@@ -70,36 +89,47 @@ impl ServerState {
         ensures ended { (job : AJob) → IsTaken self.old.jobs.list id job → EndsOne self.old.jobs.list id job self.new.jobs.list }
         ensures same { self.new ≡ with_list self.old self.new.jobs.list }
     {
+        let Some((stream_id, deadline)) = self.jobs.place_of(id) else {
+            unreachable!();
+        };
         self.jobs.end(id);
+        self.index.take_away(stream_id, id, deadline);
     }
 
-    /// A frame that was opened acts. An `Err` changes nothing.
-    fn act<O: OutboundTransform + Drop>(
+    /// What an id has for a frame under it, which async rules ask. Takes no memory.
+    fn inlet(&self, stream_id: u32) -> Inlet
+        ensures { self.now.rules ≡ Rules.Async → result ≡ inlet_of (jobs_at self.now.jobs.list stream_id) }
+    {
+        match self.index.job_of(stream_id) {
+            None => Inlet::Absent,
+            Some(_) => Inlet::Busy,
+        }
+    }
+
+    /// A payload is read as a request, which acts. An `Err` changes nothing.
+    fn ask<O: OutboundTransform + Drop>(
         &mut self,
         alloc: Global,
         outbox: &mut Outbox<O>,
         header: MessageHeader,
         plain: Blob,
+        now: u64,
     ) -> Result<(), Failure>
+        requires { self.old.rules ≡ Rules.Async → jobs_at self.old.jobs.list header.stream_id ≡ [] }
         ensures does { OnOk result (SendsSome O.OutboundTransform outbox.old
-            (λ sent. Does O.OutboundTransform (sync_row self.old.services header (Opening.Opened plain)) self.old outbox.old.half header sent self.new)
+            (λ sent. Does O.OutboundTransform (request_row self.old.rules self.old.services (read_from request_step empty_request plain))
+            self.old outbox.old.half header now sent self.new)
             outbox.new) }
         ensures err { IfErr result (λ failure. (self.new ≡ self.old) × (outbox.new ≡ outbox.old)
-            × FailsOn (sync_row self.old.services header (Opening.Opened plain)) self.old failure) }
+            × FailsOn (request_row self.old.rules self.old.services (read_from request_step empty_request plain)) self.old failure) }
     {
-        if plain.len() > MESSAGE_LENGTH_MAX {
-            let response = oversize_response(alloc, plain.len())?;
-            return send_own_answer(alloc, outbox, header.stream_id, &response);
-        }
-        if header.type_ != MESSAGE_TYPE_REQUEST {
-            return Ok(());
-        }
+        let rules = self.rules;
         match decode_in_place(alloc, plain.into_vec()) {
-            Ok(request) => self.begin(alloc, outbox, header, request),
+            Ok(request) => self.begin(alloc, outbox, header, request, now),
             Err(CodecError::NoMemory) => Err(Failure::NoMemory),
             Err(error) => {
                 let response = unreadable_response(alloc, &error)?;
-                send_own_answer(alloc, outbox, header.stream_id, &response)
+                send_own_answer(alloc, outbox, rules, header.stream_id, &response)
             }
         }
     }
@@ -111,18 +141,50 @@ impl ServerState {
         outbox: &mut Outbox<O>,
         header: MessageHeader,
         request: Request,
+        now: u64,
     ) -> Result<(), Failure>
+        requires { self.old.rules ≡ Rules.Async → jobs_at self.old.jobs.list header.stream_id ≡ [] }
         ensures does { OnOk result (SendsSome O.OutboundTransform outbox.old
-            (λ sent. Does O.OutboundTransform (request_row self.old.services (Some request)) self.old outbox.old.half header sent self.new)
+            (λ sent. Does O.OutboundTransform (request_row self.old.rules self.old.services (Some request))
+            self.old outbox.old.half header now sent self.new)
             outbox.new) }
         ensures err { IfErr result (λ failure. (self.new ≡ self.old) × (outbox.new ≡ outbox.old)
-            × FailsOn (request_row self.old.services (Some request)) self.old failure) }
+            × FailsOn (request_row self.old.rules self.old.services (Some request)) self.old failure) }
     {
-        if self.registry.has_method(&request.service, &request.method) {
-            return self.jobs.make(header, request);
+        match asked_of(self.rules, &self.registry, &request) {
+            Asked::Call => self.make(header, request, now),
+            asked => {
+                let answer = asked_response(alloc, &request, asked)?;
+                send_answer(alloc, outbox, self.rules, header.stream_id, &answer)
+            }
         }
-        let response = path_response(alloc, &request.service, &request.method)?;
-        send_own_answer(alloc, outbox, header.stream_id, &response)
+    }
+
+    /// Makes a job of a request that came at this moment. An `Err` changes nothing: no id is left, or no memory.
+    fn make(&mut self, header: MessageHeader, request: Request, now: u64) -> Result<(), Failure>
+        requires { self.old.rules ≡ Rules.Async → jobs_at self.old.jobs.list header.stream_id ≡ [] }
+        ensures ok { OnOk result (self.new ≡ record self.old {
+          jobs = with_job self.old.jobs header request (unary_body self.old.rules now request);
+        }) }
+        ensures err { IfErr result (λ failure. (self.new ≡ self.old) × FailsToMake self.old.jobs failure) }
+    {
+        match self.rules {
+            Rules::Sync => self.jobs.make(header, request, Body::Unary(None)),
+            Rules::Async => {
+                let deadline = deadline_of(now, request.timeout_nano);
+                let Some(id) = self.jobs.next_id() else {
+                    return Err(Failure::JobIdsUsedUp);
+                };
+                if self.index.add(header.stream_id, id, deadline).is_err() {
+                    return Err(Failure::NoMemory);
+                }
+                let made = self.jobs.make(header, request, Body::Unary(deadline));
+                if made.is_err() {
+                    self.index.take_away(header.stream_id, id, deadline);
+                }
+                made
+            }
+        }
     }
 }
 
@@ -140,16 +202,13 @@ impl<O: OutboundTransform + Drop> Reacts<O> for ServerState {
         arrived: Arrived,
     ) -> Result<(), Failure> {
         let header = arrived.header;
-        match arrived.opening {
-            Opening::TooLong => {
-                let response = oversize_response(alloc, header.length as usize)?;
-                send_own_answer(alloc, outbox, header.stream_id, &response)
+        let inlet = self.inlet(header.stream_id);
+        match case_of(self.rules, &header, arrived.opening, inlet) {
+            Case::Asks(plain) => self.ask(alloc, outbox, header, plain, arrived.now),
+            case => {
+                let answer = case_response(alloc, &header, &case)?;
+                send_answer(alloc, outbox, self.rules, header.stream_id, &answer)
             }
-            Opening::Refused(why) => {
-                let response = unopened_response(alloc, &why)?;
-                send_own_answer(alloc, outbox, header.stream_id, &response)
-            }
-            Opening::Opened(plain) => self.act(alloc, outbox, header, plain),
         }
     }
 }

@@ -1,14 +1,18 @@
 -- What the calls of a server's ports do to its core, under the lock.
 -- Source: this project's.
-use Rattle.std.specs.Prelude.{◌≡◌, ◌⊎◌, ℕ, List, length, take, drop, min, is_some, if◌then◌else◌, Bool, nat_eq}
+use Rattle.std.specs.Prelude.{◌≡◌, ◌⊎◌, ℕ, List, length, take, drop, min, is_some, if◌then◌else◌, Bool, true, false, nat_eq, nat_lt, Err, Result, is_ok}
 use Rattle.ttrpc_frame.specs.Queue.{after_report, open_part, with_lent}
 use Rattle.ttrpc_proto.specs.declared.error.Error.{Error}
-use Rattle.ttrpc_server.specs.Protocol.{Drops, Finishes, RefusesFinish}
+use Rattle.ttrpc_secure.specs.declared.transform.InboundTransform.{Ghosts as InboundTransform}
+use Rattle.ttrpc_secure.specs.declared.transform.OutboundTransform.{Ghosts as OutboundTransform}
+use Rattle.ttrpc_server.specs.Protocol.{AnswersError, Finishes, RefusesAnswer, RefusesFinish, serving}
+use Rattle.ttrpc_server.specs.Types.{Ends, Takes}
 use Rattle.ttrpc_server.specs.declared.server.ServerCore.{ServerCore}
 
 -- ---- jobs
 
--- the job may not end, since the connection has failed, or there is none under this id; nothing changed
+-- the job may not end, since the connection has failed, the rules are others, or there is none under this id; nothing
+-- changed
 abbrev pub IsKept : {O I : Type 0} → ServerCore O I → ℕ → ServerCore O I → Type 0
 IsKept old id new = ((e : Error) × RefusesFinish old id e) × (new ≡ old)
 
@@ -16,9 +20,18 @@ IsKept old id new = ((e : Error) × RefusesFinish old id e) × (new ≡ old)
 abbrev pub IsFinished : {O I : Type 0} → ServerCore O I → ℕ → ServerCore O I → Type 0
 IsFinished old id new = Finishes old id new ⊎ IsKept old id new
 
--- the job has ended by an error, and so has the connection
-abbrev pub IsDropped : {O I : Type 0} → ServerCore O I → ℕ → ServerCore O I → Type 0
-IsDropped old id new = Drops old id new ⊎ IsKept old id new
+-- the job has ended by an error, and under sync rules so has the connection; or its answer was refused, and nothing
+-- changed
+abbrev pub IsDropped : {O I : Type 0} → OutboundTransform O → ServerCore O I → ℕ → Error → ServerCore O I → Type 0
+IsDropped out old id error new = AnswersError out old.state.rules old id error new ⊎ (((e : Error) × RefusesAnswer out old id (Err error) e) × (new ≡ old))
+
+-- ---- bytes in
+
+-- A piece was fed to the core, and taken where that is said.
+pub record IsFed {O I : Type 0} (seals : OutboundTransform O) (opens : InboundTransform I) (old : ServerCore O I) (piece : List ℕ) (is_taken : Bool) (new : ServerCore O I) : Type 0 where
+  pub answer : Result ℕ Error
+  pub fed : Takes (serving seals opens) old.state old.connection piece 0 answer new.state new.connection
+  pub taken : is_ok answer ≡ is_taken
 
 -- ---- bytes out
 
@@ -34,6 +47,23 @@ pub record LendsFrame {O I : Type 0} (old : ServerCore O I) (before : List ℕ) 
   pub rest : drop n after ≡ drop n before
   pub ends : ends_frame ≡ nat_eq n (open_of old)
   pub same : new ≡ record old { connection = record old.connection { outbox = record old.connection.outbox { queue = with_lent old.connection.outbox.queue n } } }
+
+-- no job is under way, none waits, and nothing can be lent
+pub record IsQuiet {O I : Type 0} (core : ServerCore O I) : Type 0 where
+  pub jobs : length core.state.jobs.list ≡ 0
+  pub bytes : open_of core ≡ 0
+
+-- the core is as it was, or it was told of the end of the input, which has come, while it was quiet
+abbrev pub MayTellEnd : {O I : Type 0} → Bool → ServerCore O I → ServerCore O I → Type 0
+MayTellEnd has_ended old new = (new ≡ old) ⊎ ((has_ended ≡ true) × IsQuiet old × Ends old.connection new.connection × (new ≡ record old { connection = new.connection }))
+
+-- whether bytes can be lent
+abbrev pub has_bytes : {O I : Type 0} → ServerCore O I → Bool
+has_bytes core = nat_lt 0 (open_of core)
+
+-- whether the connection hasn't failed
+abbrev pub is_alive : {O I : Type 0} → ServerCore O I → Bool
+is_alive core = if is_some core.connection.failure then false else true
 
 -- the core, after a report that so many of the lent bytes were written, and at most all of these
 abbrev pub reported_to : {O I : Type 0} → ServerCore O I → ℕ → ServerCore O I

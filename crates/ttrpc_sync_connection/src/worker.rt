@@ -1,5 +1,6 @@
 //! A worker: the handler of its jobs, and the gate that it waits behind.
-ghost use Rattle.std.specs.Prelude.{⊤};
+ghost use Rattle.std.specs.Prelude.{◌≡◌, ⊤, IfErr};
+ghost use Rattle.ttrpc_proto.specs.declared.error.Error.TheVariants.{NoMemory};
 
 use crate::conn::Conn;
 use crate::context::{MethodHandler, TtrpcContext, response_error_to_channel, send_response};
@@ -107,6 +108,7 @@ where
     I: InboundTransform + Drop,
     H: MethodHandler<R, O, I> + Drop,
     W: Watch + Drop,
+    ensures { IfErr result (λ e. e ≡ NoMemory) }
 {
     let rt = conn.rt();
     let dispatch = Dispatch {

@@ -1,7 +1,7 @@
 -- A server as it was built: what it is set to, where it listens, its handlers, its hook and its watch.
 -- Source: this project's.
 use Rattle.std.specs.Prelude.{◌≡◌, ◌⊎◌, ℕ, List, [], Option, Some, None, option_map, String, if◌then◌else◌}
-use Rattle.ttrpc_methods.specs.Methods.{AddsAll, Handlers, IsNotAdded}
+use Rattle.ttrpc_methods.specs.Methods.{AddsAll, Handlers, IsNotAllAdded}
 use Rattle.ttrpc_proto.specs.declared.error.Error.{Error}
 use Rattle.ttrpc_proto.specs.declared.error.Error.TheVariants.{NoMemory}
 use Rattle.ttrpc_sync_server.specs.Settings.{IsNew, started_settings, bound_settings, stopped_settings}
@@ -53,9 +53,9 @@ stopped server = if server.settings.is_listening then record server { settings =
 abbrev pub IsNotBound : List ℕ → Error → Type 0
 IsNotBound addr e = IsNotOpened addr e ⊎ (e ≡ NoMemory)
 
--- a text is no path, or memory was refused
-abbrev pub IsNotRegistered : Error → Type 0
-IsNotRegistered e = (path : List ℕ) × IsNotAdded path e
+-- one of the handlers isn't added, since its text is no path, or memory was refused
+abbrev pub IsNotRegistered : {Z H : Type 0} → List (String Z × H) → Error → Type 0
+IsNotRegistered handlers e = IsNotAllAdded handlers e ⊎ (e ≡ NoMemory)
 
 -- the system refused a thread, or memory was refused
 abbrev pub IsNotStarted : Error → Type 0

@@ -45,11 +45,11 @@ pub fn admit<C: Clock, S, A: AcceptHook<S>>(
 }
 
 fn read_clock<C: Clock>(clock: &C) -> Result<u64, HookError>
-    ensures { IfErr result (λ error. (error ≡ HookError.Timeout) ⊎ ((e : IoError) × (error ≡ HookError.Io e))) }
+    ensures { IfErr result (λ error. (e : IoError) × (error ≡ HookError.Io e)) }
 {
     match moment(clock) {
         Ok(now) => Ok(now),
         Err(Error::Nix(kind)) => Err(HookError::Io(io::Error::from(kind))),
-        Err(_) => Err(HookError::Timeout),
+        Err(_) => unreachable!(),
     }
 }

@@ -135,7 +135,7 @@ impl<R: Host, H: Drop, A: Drop, W: Drop> Server<R, H, A, W> {
     /// does it. Once the server has started its services are fixed, and more are refused.
     pub fn register_service(mut self, methods: BTreeMap<String, H>) -> Result<Server<R, H, A, W>>
         ensures ok { IfOk result (Registers self methods.entries) }
-        ensures refused { Refuses (register_refusal self.settings) IsNotRegistered result }
+        ensures refused { Refuses (register_refusal self.settings) (IsNotRegistered methods.entries) result }
     {
         let alloc = self.rt.alloc();
         self.settings.check_register(alloc)?;

@@ -1,5 +1,12 @@
 -- A delivery: each flight that comes in acts as it was sent, on one call. No bytes, no seals that are opened.
 use Rattle.ttrpc_world.proofs.Words.{◌≡◌, ◌≢◌, ℕ, ◌+◌, ◌≤◌, List, [], ◌∷◌, ◌++◌, Bool, true, false, Option, Some, None, if◌then◌else◌, refl, sym, ap, ◌∙◌, subst, inl, inr, arith, append_assoc, cases_eq, append-nil, AllByRecursion, Request, OutboundTransform, Outbox, ActiveJob, Call, Entry, INVALID_ARGUMENT, Opened, Sent, SendsAll, Scene, jobs_at, new_job, has_method, status_response, Server, Row, MakeJob, SendResponse, path_text, request_row, sync_row, Does, serving, Client, call_at, Landing, LandsOn, Gives, by_status, landing_of, LandsOnce, calling, Flying, ActsOn, parcels, Act, Called, acts, Connection, Halves, Pipe, all_joined, under_own, under_other, pushed_own, pushed_other, id_of, stream_id_of}
+use Rattle.ttrpc_server.specs.Protocol.{SendsOwnAnswer}
+use Rattle.ttrpc_server.specs.State.{unary_body}
+use Rattle.ttrpc_server.specs.Table.{asked_row}
+use Rattle.ttrpc_server.specs.declared.rows.Asked.TheVariants.{Call as AskedCall, NoPath}
+use Rattle.ttrpc_server.specs.declared.rules.Rules.{Rules}
+use Rattle.ttrpc_server.specs.declared.rules.Rules.TheVariants.{Sync}
+use Rattle.ttrpc_server.proofs.Streams.{row_of_sync, rules_stay}
 use Rattle.ttrpc_world.proofs.OneWay.{OneWay, joins}
 use Rattle.ttrpc_world.proofs.Stages.{Story}
 use Rattle.ttrpc_world.proofs.Turns.{arrives_here, arriving, called_alone, elsewhere, lands_here, leaves_out_here, refers_here, returning}
@@ -27,6 +34,11 @@ known_more : (stream_of : ℕ → ℕ) (js : List ActiveJob) (j : ActiveJob) (re
 known_more stream_of js j request asked h = all_joined (IsKnown stream_of) js (j ∷ []) h ((λ e. let bad : Some request ≡ None = sym asked ∙ e in cc), tt)
 
 -- ---- a frame comes to the server
+
+-- what a request does that was read, by whether there is such a method
+asked_by : (b : Bool) (r : Request) → asked_row r (if b then AskedCall else NoPath) ≡ (if b then MakeJob r else SendResponse (status_response INVALID_ARGUMENT (path_text r.service r.method)))
+asked_by true r = refl
+asked_by false r = refl
 
 -- The first frames that were in flight have come, and the others still are. What the server answers itself is in flight
 -- to the client.
@@ -69,31 +81,31 @@ module _ {CO CI SO SI : Type 0} (c : Halves CO CI) (s : Halves SO SI) (had : ℕ
       (λ i e. let o = others i e in elsewhere (next ≤ i) (next ≤ i) i _ _ _ _ _ _ _ _ _ _ (story i) (λ y. y) refl (sym (under_other id_of i x rest e)) o.0 o.1 refl)
 
   -- what a row makes of the request
-  by_row : (b : Bool) (x : Flying) (rest down : List Flying) (next : ℕ) (kept : ℕ → Option Call) (old new : Scene Server SO SI) (sent : List Sent)
+  by_row : (b : Bool) (now : ℕ) (x : Flying) (rest down : List Flying) (next : ℕ) (kept : ℕ → Option Call) (old new : Scene Server SO SI) (sent : List Sent) → old.state.rules ≡ Sync
       → Stories had stream_of trace (x ∷ rest) down next old.state.jobs.list kept → AreKnown stream_of old.state.jobs.list → SendsAll s.out old.outbox sent new.outbox
       → (own : Story had (next ≤ x.frame.message.header.stream_id) x.frame.message.header.stream_id (acts stream_of x.frame.message.header.stream_id trace) (x ∷ parcels x.frame.message.header.stream_id rest)
       (jobs_at old.state.jobs.list x.frame.message.header.stream_id) (parcels x.frame.message.header.stream_id down) (kept x.frame.message.header.stream_id))
       → Does s.out (if b then MakeJob (arriving _ _ _ x _ _ _ _ own).request
-      else SendResponse (status_response INVALID_ARGUMENT (path_text (arriving _ _ _ x _ _ _ _ own).request.service (arriving _ _ _ x _ _ _ _ own).request.method))) old.state old.outbox.half x.frame.message.header sent new.state
+      else SendResponse (status_response INVALID_ARGUMENT (path_text (arriving _ _ _ x _ _ _ _ own).request.service (arriving _ _ _ x _ _ _ _ own).request.method))) old.state old.outbox.half x.frame.message.header now sent new.state
       → ComesUp c s had stream_of trace rest down next kept old new
-  by_row true x rest down next kept old new sent stories known sends own m =
+  by_row true now x rest down next kept old new sent sync stories known sends own m =
       let k : ℕ = x.frame.message.header.stream_id in
       let a = arriving _ _ _ x _ _ _ _ own in
       let jobs : List ActiveJob = old.state.jobs.list in
-      let job = new_job (old.state.jobs.last + 1) x.frame.message.header a.request in
+      let job = new_job (old.state.jobs.last + 1) x.frame.message.header a.request (unary_body old.state.rules now a.request) in
       let is : new.state.jobs.list ≡ jobs ++ job ∷ [] = ap (λ (t : Server). t.jobs.list) m.0 in
       quiet_comes rest down next kept old new (none_sent s.out old.outbox sent new.outbox m.1 sends)
       (turns_up x rest down down next kept jobs new.state.jobs.list stories
       (arrives_here _ k _ x _ _ _ _ _ job own (record { request = refl; stream = refl; within = a.is_sent.within }) (ap (λ js. jobs_at js k) is ∙ pushed_own stream_id_of k job jobs refl))
       (λ i e. (ap (λ js. jobs_at js i) is ∙ pushed_other stream_id_of i job jobs e, refl)))
       (subst (λ (js : List ActiveJob). AreKnown stream_of js) (sym is) (known_more stream_of jobs job a.request refl known))
-  by_row false x rest down next kept old new sent stories known sends own p =
+  by_row false now x rest down next kept old new sent sync stories known sends own p =
       let k : ℕ = x.frame.message.header.stream_id in
       let a = arriving _ _ _ x _ _ _ _ own in
       let refusal = path_refusal a.request a.is_sent.known in
       let jobs : old.state.jobs.list ≡ new.state.jobs.list = ap (λ (t : Server). t.jobs.list) (sym p.0) in
       let same : AreKnown stream_of new.state.jobs.list = subst (λ (js : List ActiveJob). AreKnown stream_of js) jobs known in
-      elim p.1 [
+      elim (subst (λ (r : Rules). SendsOwnAnswer r s.out old.outbox.half k (status_response INVALID_ARGUMENT (path_text a.request.service a.request.method)) sent) sync p.1) [
         | inl responds ↦
             let done : List Act = Called a.request ∷ [] in
             let r = sends_response s.out old.outbox k (status_response INVALID_ARGUMENT (path_text a.request.service a.request.method)) sent new.outbox done a.is_sent.within (called_alone a.request) refusal.is (λ ok. absurd (refusal.never_ok ok)) responds sends in
@@ -110,29 +122,36 @@ module _ {CO CI SO SI : Type 0} (c : Halves CO CI) (s : Halves SO SI) (had : ℕ
       ]
 
   -- one frame
-  comes_up : (x : Flying) (rest down : List Flying) (next : ℕ) (kept : ℕ → Option Call) (old new : Scene Server SO SI) (sent : List Sent)
-      → Does s.out (sync_row old.state.services x.frame.message.header (Opened x.plain)) old.state old.outbox.half x.frame.message.header sent new.state → SendsAll s.out old.outbox sent new.outbox
+  comes_up : (now : ℕ) (x : Flying) (rest down : List Flying) (next : ℕ) (kept : ℕ → Option Call) (old new : Scene Server SO SI) (sent : List Sent) → old.state.rules ≡ Sync
+      → Does s.out (sync_row old.state.services x.frame.message.header (Opened x.plain)) old.state old.outbox.half x.frame.message.header now sent new.state → SendsAll s.out old.outbox sent new.outbox
       → Stories had stream_of trace (x ∷ rest) down next old.state.jobs.list kept → AreKnown stream_of old.state.jobs.list
       → ComesUp c s had stream_of trace rest down next kept old new
-  comes_up x rest down next kept old new sent does sends stories known =
+  comes_up now x rest down next kept old new sent sync does sends stories known =
       let k : ℕ = x.frame.message.header.stream_id in
       let own = subst (λ (u : List Flying). Story had (next ≤ k) k (acts stream_of k trace) u (jobs_at old.state.jobs.list k) (parcels k down) (kept k)) (under_own id_of k x rest refl) (stories k) in
       let request = (arriving _ _ _ x _ _ _ _ own).request in
       let is_sent = (arriving _ _ _ x _ _ _ _ own).is_sent in
-      let row : sync_row old.state.services x.frame.message.header (Opened x.plain) ≡ request_row old.state.services (Some request) =
-      ap (λ (plain : List ℕ). sync_row old.state.services x.frame.message.header (Opened plain)) is_sent.plain ∙ request_row_is old.state.services x.frame.message.header request is_sent.known is_sent.short is_sent.type_ in
-      by_row (has_method old.state.services request.service request.method) x rest down next kept old new sent stories known sends own
-      (subst (λ (r : Row). Does s.out r old.state old.outbox.half x.frame.message.header sent new.state) row does)
+      let b = has_method old.state.services request.service request.method in
+      let row : sync_row old.state.services x.frame.message.header (Opened x.plain) ≡ (if b then MakeJob request else SendResponse (status_response INVALID_ARGUMENT (path_text request.service request.method))) =
+      ap (λ (plain : List ℕ). sync_row old.state.services x.frame.message.header (Opened plain)) is_sent.plain ∙ request_row_is old.state.services x.frame.message.header request is_sent.known is_sent.short is_sent.type_ ∙ asked_by b request in
+      by_row b now x rest down next kept old new sent sync stories known sends own
+      (subst (λ (r : Row). Does s.out r old.state old.outbox.half x.frame.message.header now sent new.state) row does)
+
+  -- the rules stay
+  pub rules_kept : (now : ℕ) (front : List Flying) (old new : Scene Server SO SI) → ActsOn (serving s.out s.in_) now old front new → new.state.rules ≡ old.state.rules
+  rules_kept now [] old new p = ap (λ (x : Scene Server SO SI). x.state.rules) p
+  rules_kept now (x ∷ front) old new p = rules_kept now front p.0 new p.4 ∙ rules_stay s.out _ old.state _ _ now p.1 p.0.state p.2
 
   -- frames, one after the other
-  pub feeds_up : (now : ℕ) (front rest down : List Flying) (next : ℕ) (kept : ℕ → Option Call) (old new : Scene Server SO SI)
+  pub feeds_up : (now : ℕ) (front rest down : List Flying) (next : ℕ) (kept : ℕ → Option Call) (old new : Scene Server SO SI) → old.state.rules ≡ Sync
       → ActsOn (serving s.out s.in_) now old front new → Stories had stream_of trace (front ++ rest) down next old.state.jobs.list kept → AreKnown stream_of old.state.jobs.list
       → ComesUp c s had stream_of trace rest down next kept old new
-  feeds_up now [] rest down next kept old new p stories known =
+  feeds_up now [] rest down next kept old new sync p stories known =
       subst (λ (x : Scene Server SO SI). ComesUp c s had stream_of trace rest down next kept old x) (sym p) (quiet_comes rest down next kept old old refl stories known)
-  feeds_up now (x ∷ front) rest down next kept old new p stories known =
-      let first = comes_up x (front ++ rest) down next kept old p.0 p.1 p.2 p.3 stories known in
-      let later = feeds_up now front rest (down ++ first.more) next kept p.0 new p.4 first.stories first.known in
+  feeds_up now (x ∷ front) rest down next kept old new sync p stories known =
+      let does = subst (λ (r : Row). Does s.out r old.state old.outbox.half x.frame.message.header now p.1 p.0.state) (row_of_sync old.state (record { header = x.frame.message.header; opening = Opened x.plain; now = now }) sync) p.2 in
+      let first = comes_up now x (front ++ rest) down next kept old p.0 p.1 sync does p.3 stories known in
+      let later = feeds_up now front rest (down ++ first.more) next kept p.0 new (rules_stay s.out _ old.state _ _ now p.1 p.0.state p.2 ∙ sync) p.4 first.stories first.known in
       record {
         more = first.more ++ later.more;
         stories = subst (λ (d : List Flying). Stories had stream_of trace rest d next new.state.jobs.list kept) (append_assoc down first.more later.more) later.stories;

@@ -1,5 +1,5 @@
 -- THE HEADLINE, for any run from a fresh start: each step keeps the invariant, and the invariant has the headline in it.
-use Rattle.ttrpc_world.proofs.Words.{rules, ◌≡◌, ℕ, List, [], ◌∷◌, ◌++◌, Bool, false, Some, refl, sym, ap, subst, inl, inr, append_assoc, append-nil, ServerCore, ClientCore, Event, Reply, Entry, Told, Outcome, DropCall, Take, Answer, Tick, Carry, Deliver, Cut, Fail, Named, Given, Handed, Done, Count, Refused, Halves, Net, IsFresh, Runs, Steps, failed_by_hand, IsExactlyOnce, IsRightAt, IsStreamOf, act_of, acts}
+use Rattle.ttrpc_world.proofs.Words.{rules, ◌≡◌, ℕ, List, [], ◌∷◌, ◌++◌, Bool, false, Some, refl, sym, ap, ◌∙◌, subst, inl, inr, append_assoc, append-nil, ServerCore, ClientCore, Event, Reply, Entry, Told, Outcome, DropCall, Take, Answer, Tick, Carry, Deliver, Cut, Fail, Named, Given, Handed, Done, Count, Refused, Halves, Net, IsFresh, Runs, Steps, failed_by_hand, IsExactlyOnce, IsRightAt, IsStreamOf, act_of, acts}
 use Rattle.ttrpc_server.specs.State as server
 use Rattle.ttrpc_client.specs.State as client
 use Rattle.ttrpc_world.specs.declared.events.Side.TheVariants as side
@@ -75,6 +75,7 @@ module _ {CO CI SO SI : Type 0} (c : Halves CO CI) (s : Halves SO SI) (seals : B
       downs_is = refl;
       ends = subst (λ (x : ClientCore CO CI). Ends Unborn [] (client.call_at x.state k)) (sym f.client) (inl refl);
     };
+    sync = ap (λ (x : ServerCore SO SI). x.state.rules) f.server ∙ f.sync;
     known = subst (λ (x : ServerCore SO SI). AreKnown stream_of x.state.jobs.list) (sym f.server) tt;
     own = tt;
     upward = starts c.out s.in_ w.client.connection w.server.connection w.up (ap (λ (x : ClientCore CO CI). x.connection.outbox.queue) f.client) (ap (λ (x : ServerCore SO SI). x.connection.decoder) f.server) f.up f.up_paired;

@@ -1,6 +1,7 @@
 -- What holds of a client, a server and their pipes after any run, and that each event of the client keeps it.
 use Rattle.ttrpc_world.proofs.Words.{◌≡◌, ℕ, nat_eq, ◌+◌, ◌≤◌, List, [], ◌∷◌, ◌++◌, Bool, true, false, if◌then◌else◌, is_some, Option, Some, None, Result, refl, sym, ap, ◌∙◌, subst, inl, inr, arith, cases_eq, AllByRecursion, Error, Request, Response, IsRequest, Outbox, Connection, Failure, CancelledDuringWrite, DeadlineDuringWrite, ClientCore, Client, throws, Requests, Ticks, due_at, taken_back, takes_back, Passes, Flying, IsOwnRequest, parcels, all_joined, Event, CallEvent, Outcome, DropCall, Tick, Reply, Named, Given, Done, Entry, Halves, Net, has_response, with_client, Forgot, Ticked, Called, act_of, acts, pushed_own, pushed_other, id_of}
 use Rattle.ttrpc_server.specs.State as server
+use Rattle.ttrpc_server.specs.declared.rules.Rules.TheVariants.{Sync as SyncRules}
 use Rattle.ttrpc_client.specs.declared.kind.ClientKind.{ClientKind}
 use Rattle.ttrpc_client.specs.declared.kind.ClientKind.TheVariants.{Sync, Async}
 use Rattle.ttrpc_connection.specs.Deadlines.{deadline_of}
@@ -21,6 +22,7 @@ pub record Keeps {CO CI SO SI : Type 0} (c : Halves CO CI) (s : Halves SO SI) (s
   pub down : List Flying
   pub stories : Stories (has_response w) stream_of trace up down w.client.state.next w.server.state.jobs.list (client.call_at w.client.state)
   pub known : AreKnown stream_of w.server.state.jobs.list
+  pub sync : w.server.state.rules ≡ SyncRules
   pub own : AllByRecursion IsOwnRequest up
   pub upward : OneWay c.out s.in_ w.client.connection.outbox w.server.connection w.up up
   pub downward : OneWay s.out c.in_ w.server.connection.outbox w.client.connection w.down down
@@ -45,6 +47,7 @@ module _ {CO CI SO SI : Type 0} (c : Halves CO CI) (s : Halves SO SI) (seals : B
     down = i.down;
     stories = stories_silent (has_response w) stream_of trace event reply i.up i.down w.client.state.next w.server.state.jobs.list (client.call_at w.client.state) q i.stories;
     known = i.known;
+    sync = i.sync;
     own = i.own;
     upward = i.upward;
     downward = i.downward;
@@ -65,6 +68,7 @@ module _ {CO CI SO SI : Type 0} (c : Halves CO CI) (s : Halves SO SI) (seals : B
             (λ k e. elsewhere (w.client.state.next ≤ k) (v.client.state.next ≤ k) k _ _ _ _ _ _ _ _ _ _ (i.stories k) (λ y. omega (arith, y, next, p.id_is))
             (unheard stream_of k id trace (CallEvent request) (Named id) (Called request) refl e) (pushed_other id_of k r.x i.up (λ same. e (sym r.is_sent.stream ∙ same))) refl refl (p.others k (λ same. e (sym same))));
         known = i.known;
+        sync = i.sync;
         own = all_joined IsOwnRequest i.up (r.x ∷ []) i.own (r.own, tt);
         upward = joins c.out s.in_ w.client.connection.outbox v.client.connection.outbox w.server.connection w.up i.up r.x r.queue r.seal r.sound i.upward;
         downward = goes_on s.out c.in_ _ _ w.client.connection v.client.connection w.down i.down refl (ap (λ (x : ClientCore CO CI). x.connection.decoder) p.same) (ap (λ (x : ClientCore CO CI). x.connection.inbound) p.same) (λ _. p.alive) i.downward;
@@ -87,6 +91,7 @@ module _ {CO CI SO SI : Type 0} (c : Halves CO CI) (s : Halves SO SI) (seals : B
     down = i.down;
     stories = stories (left_stories w x.connection.outbox i t);
     known = i.known;
+    sync = i.sync;
     own = t.own;
     upward = t.way;
     downward = goes_on s.out c.in_ _ _ w.client.connection x.connection w.down i.down refl held inbound lives i.downward;
@@ -150,7 +155,7 @@ module _ {CO CI SO SI : Type 0} (c : Halves CO CI) (s : Halves SO SI) (seals : B
 
   -- the moment plays no part
   at_moment : (t : List Entry) (w : Net CO CI SO SI) (now : ℕ) → Keeps c s stream_of t w → Keeps c s stream_of t (record w { moment = now })
-  at_moment t w now i = record { up = i.up; down = i.down; stories = i.stories; known = i.known; own = i.own; upward = i.upward; downward = i.downward }
+  at_moment t w now i = record { up = i.up; down = i.down; stories = i.stories; known = i.known; sync = i.sync; own = i.own; upward = i.upward; downward = i.downward }
 
   pub keeps_tick : (w : Net CO CI SO SI) (now : ℕ) (v : Net CO CI SO SI) → Keeps c s stream_of trace w → Ticked c s seals w now v → Keeps c s stream_of (with_entry trace (Tick now) Done) (record (with_client w v.client) { moment = now })
   keeps_tick w now v i p = at_moment (with_entry trace (Tick now) Done) (with_client w v.client) now (passes w now v.client w.client.connection.failure refl i p.does)

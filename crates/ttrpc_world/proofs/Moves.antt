@@ -1,9 +1,11 @@
 -- Each event that moves bytes, cuts a pipe or fails a side, and each of the server, keeps the invariant.
 use Rattle.ttrpc_world.proofs.Words.{nat_eq, cases_Bool, eq-eqb, inl, inr, true, false, RespondsTo, ◌≡◌, ◌≢◌, ℕ, ◌≤◌, List, [], ◌∷◌, ◌++◌, length, Bool, Option, Some, None, refl, sym, ap, ◌∙◌, subst, arith, Result, Ok, Err, Error, Failure, ServerCore, Entry, Request, Response, ActiveJob, Event, Reply, Queue, open_part, Connection, HandlerError, Scene, scene, serving, Answers, Drops, Server, Client, call_at, calling, Flying, IsOwnRequest, parcels, all_behind, Pipe, is_over, Halves, Net, has_response, with_client, with_server, BreaksAt, OnlyClient, OnlyServer, CarriesDown, CarriesUp, CutsDown, CutsUp, DeliversDown, DeliversUp, pipe_after_carry, cut_to, failing, after_carry, lent_of, taken_from, AnswersBy, IsResponse, Job, jobs_at, Take, Answer, Handed, Done, Act, Answered, Ran, acts, all_at, all_changed, all_less, between_own, between_other, under_both, pushed_own, pushed_other, id_of, stream_id_of}
-use Rattle.ttrpc_server.specs.Protocol.{Finishes, Hands}
+use Rattle.ttrpc_server.specs.Protocol.{AnswersError, Finishes, Hands, Responds}
+use Rattle.ttrpc_server.specs.declared.rules.Rules.{Rules}
+use Rattle.ttrpc_connection.specs.Frames.{safe_limit}
 use Rattle.std.specs.List.{list_any}
 use Rattle.ttrpc_world.specs.Types.{Finish, Respond}
-use Rattle.ttrpc_world.proofs.Delivers.{AreKnown, IsKnown, Stories, feeds_down, feeds_up, at_one}
+use Rattle.ttrpc_world.proofs.Delivers.{AreKnown, IsKnown, Stories, feeds_down, feeds_up, at_one, rules_kept}
 use Rattle.ttrpc_world.proofs.OneWay.{Lands, OneWay, as_heard, breaks_land, carries, cuts, dead, feeds_land, goes_on, joins, kept_some, not_both}
 use Rattle.ttrpc_world.proofs.Keeps.{Keeps}
 use Rattle.ttrpc_world.proofs.Turns.{answers_here, elsewhere, fails_here, finishes_here, is_running, more_have, responds_here, takes_here}
@@ -23,7 +25,7 @@ module _ {CO CI SO SI : Type 0} (c : Halves CO CI) (s : Halves SO SI) (seals : B
   -- the states of both cores stay, and what is in flight
   rewired : (w : Net CO CI SO SI) (i : Kept w) (x : Connection CO CI) (y : Connection SO SI) (p q : Pipe) → OneWay c.out s.in_ x.outbox y p i.up → OneWay s.out c.in_ y.outbox x q i.down
       → Kept (record { client = record w.client { connection = x }; server = record w.server { connection = y }; up = p; down = q; moment = w.moment; responded = w.responded })
-  rewired w i x y p q upward downward = record { up = i.up; down = i.down; stories = i.stories; known = i.known; own = i.own; upward = upward; downward = downward }
+  rewired w i x y p q upward downward = record { up = i.up; down = i.down; stories = i.stories; known = i.known; sync = i.sync; own = i.own; upward = upward; downward = downward }
 
   -- a side fails
   pub server_fails : (w : Net CO CI SO SI) (why : Failure) → Kept w → Kept (with_server w (record w.server { connection = failing w.server.connection why }))
@@ -53,12 +55,13 @@ module _ {CO CI SO SI : Type 0} (c : Halves CO CI) (s : Halves SO SI) (seals : B
       (t : Server) (y : Connection SO SI) (p : Pipe) → t ≡ new.state → y.outbox ≡ new.outbox → OneWay c.out s.in_ w.client.connection.outbox y p l.rest
       → Kept (record w { server = record { state = t; connection = y }; up = p })
   served w i new l t y p state outbox upward =
-      let u = feeds_up c s (has_response w) stream_of trace w.moment l.front l.rest i.down w.client.state.next (call_at w.client.state) (scene w.server.state w.server.connection) new l.acts (rw l.all i.stories) i.known in
+      let u = feeds_up c s (has_response w) stream_of trace w.moment l.front l.rest i.down w.client.state.next (call_at w.client.state) (scene w.server.state w.server.connection) new i.sync l.acts (rw l.all i.stories) i.known in
       record {
         up = l.rest;
         down = i.down ++ u.more;
         stories = rw state u.stories;
         known = rw state u.known;
+        sync = rw state (rules_kept c s (has_response w) stream_of trace w.moment l.front (scene w.server.state w.server.connection) new l.acts ∙ i.sync);
         own = all_behind IsOwnRequest l.front l.rest (rw l.all i.own);
         upward = upward;
         downward = rw outbox (u.sent w.client.connection w.down i.down i.downward);
@@ -74,6 +77,7 @@ module _ {CO CI SO SI : Type 0} (c : Halves CO CI) (s : Halves SO SI) (seals : B
         down = l.rest;
         stories = rw state d.stories;
         known = i.known;
+        sync = i.sync;
         own = i.own;
         upward = rw (outbox, d.outbox) i.upward;
         downward = downward;
@@ -147,14 +151,15 @@ is_answer request job response = λ ok. (request, job, refl)
 module _ {CO CI SO SI : Type 0} (c : Halves CO CI) (s : Halves SO SI) (seals : Bool) (stream_of : ℕ → ℕ) (trace : List Entry) where
   -- the server's jobs change, and it may queue a response
   server_changes : (w : Net CO CI SO SI) (event : Event) (reply : Reply) (x : ServerCore SO SI) (responded : List ℕ) (down : List Flying) → (i : Keeps c s stream_of trace w)
-      → Stories (λ job. list_any (λ j. nat_eq j job) responded) stream_of (with_entry trace event reply) i.up down w.client.state.next x.state.jobs.list (call_at w.client.state) → AreKnown stream_of x.state.jobs.list
+      → Stories (λ job. list_any (λ j. nat_eq j job) responded) stream_of (with_entry trace event reply) i.up down w.client.state.next x.state.jobs.list (call_at w.client.state) → AreKnown stream_of x.state.jobs.list → x.state.rules ≡ w.server.state.rules
       → x.connection.decoder ≡ w.server.connection.decoder → x.connection.inbound ≡ w.server.connection.inbound → (x.connection.failure ≡ None → w.server.connection.failure ≡ None)
       → OneWay s.out c.in_ x.connection.outbox w.client.connection w.down down → Keeps c s stream_of (with_entry trace event reply) (record (with_server w x) { responded = responded })
-  server_changes w event reply x responded down i stories known held inbound lives downward = record {
+  server_changes w event reply x responded down i stories known rules held inbound lives downward = record {
     up = i.up;
     down = down;
     stories = stories;
     known = known;
+    sync = rules ∙ i.sync;
     own = i.own;
     upward = goes_on c.out s.in_ _ _ w.server.connection x.connection w.up i.up refl held inbound lives i.upward;
     downward = downward;
@@ -180,7 +185,7 @@ module _ {CO CI SO SI : Type 0} (c : Halves CO CI) (s : Halves SO SI) (seals : B
       (λ n e. elsewhere (w.client.state.next ≤ n) (w.client.state.next ≤ n) n _ _ _ _ _ _ _ _ _ _ (i.stories n) (λ y. y) (unheard stream_of n job.header.stream_id trace Take (Handed (Some job)) (Ran job.id job.request) refl (λ same. e (sym at ∙ same)))
       refl (is n ∙ not_here n t.front t.back taken e ∙ sym (was n ∙ not_here n t.front t.back j e)) refl refl))
       (subst (λ (js : List ActiveJob). AreKnown stream_of js) (sym t.jobs) (all_changed (IsKnown stream_of) t.front t.back j taken (λ e. now_known) (subst (λ (js : List ActiveJob). AreKnown stream_of js) t.was i.known)))
-      (ap (λ (x : ServerCore SO SI). x.connection.decoder) same) (ap (λ (x : ServerCore SO SI). x.connection.inbound) same) (λ alive. p.alive) (rw same i.downward)
+      (ap (λ (x : ServerCore SO SI). x.state.rules) same) (ap (λ (x : ServerCore SO SI). x.connection.decoder) same) (ap (λ (x : ServerCore SO SI). x.connection.inbound) same) (λ alive. p.alive) (rw same i.downward)
 
   -- A job is answered by a response.
   keeps_response : (w : Net CO CI SO SI) (id : ℕ) (response : Response) (x : ServerCore SO SI) → Keeps c s stream_of trace w → IsResponse response → Answers s.out w.server id response x → has_response w id ≡ false
@@ -197,7 +202,7 @@ module _ {CO CI SO SI : Type 0} (c : Halves CO CI) (s : Halves SO SI) (seals : B
       let none : has_response w j.id ≡ false = ap (has_response w) t.is_job ∙ none_yet in
       let running = is_running _ k _ _ _ _ _ (jobs_at t.front k) (jobs_at t.back k) j (i.stories k) here t.taken none in
       let done : List Act = whole_work running.request j.id response in
-      let r = sends_response s.out w.server.connection.outbox k response p.sent x.connection.outbox done running.is_job.within (answered_work running.request j.id response) is_response (is_answer running.request j.id response) p.responds p.sends in
+      let r = sends_response s.out w.server.connection.outbox k response p.sent x.connection.outbox done running.is_job.within (answered_work running.request j.id response) is_response (is_answer running.request j.id response) (subst (λ (r : Rules). Responds r (safe_limit s.out w.server.connection.outbox.half) k response p.sent) i.sync p.responds) p.sends in
       server_changes w (Answer id (Ok response)) Done x w.responded (i.down ++ r.y ∷ []) i
       (at_one (λ (m : ℕ). Story (has_response w) (w.client.state.next ≤ m) m (acts stream_of m (with_entry trace (Answer id (Ok response)) Done)) (parcels m i.up) (jobs_at x.state.jobs.list m) (parcels m (i.down ++ r.y ∷ [])) (call_at w.client.state m)) k
       (answers_here (w.client.state.next ≤ k) k _ _ _ _ _ _ _ _ (jobs_at t.front k) (jobs_at t.back k) j response r.r r.y (i.stories k) here (is k) t.taken none r.is_told
@@ -205,7 +210,7 @@ module _ {CO CI SO SI : Type 0} (c : Halves CO CI) (s : Halves SO SI) (seals : B
       (λ n e. elsewhere (w.client.state.next ≤ n) (w.client.state.next ≤ n) n _ _ _ _ _ _ _ _ _ _ (i.stories n) (λ y. y) (unheard stream_of n (stream_of id) trace (Answer id (Ok response)) Done (Answered (Ok response)) refl (λ same. e (sym at ∙ same)))
       refl (is n ∙ sym (under_both stream_id_of n t.front t.back) ∙ sym (was n ∙ not_here n t.front t.back j e)) (pushed_other id_of n r.y i.down (λ same. e (sym r.is_told.stream ∙ same))) refl))
       (subst (λ (js : List ActiveJob). AreKnown stream_of js) (sym p.ends.jobs) (all_less (IsKnown stream_of) t.front t.back j known))
-      (ap (λ (y : ServerCore SO SI). y.connection.decoder) p.same) (ap (λ (y : ServerCore SO SI). y.connection.inbound) p.same) (λ alive. p.alive)
+      (ap (λ (y : ServerCore SO SI). y.state.rules) p.same) (ap (λ (y : ServerCore SO SI). y.connection.decoder) p.same) (ap (λ (y : ServerCore SO SI). y.connection.inbound) p.same) (λ alive. p.alive)
       (joins s.out c.in_ w.server.connection.outbox x.connection.outbox w.client.connection w.down i.down r.y r.queue r.seal r.sound i.downward)
 
   -- A handler failed.
@@ -225,14 +230,14 @@ module _ {CO CI SO SI : Type 0} (c : Halves CO CI) (s : Halves SO SI) (seals : B
       (λ n e. elsewhere (w.client.state.next ≤ n) (w.client.state.next ≤ n) n _ _ _ _ _ _ _ _ _ _ (i.stories n) (λ y. y) (unheard stream_of n (stream_of id) trace (Answer id (Err error)) Done (Answered (Err error)) refl (λ same. e (sym at ∙ same)))
       refl (is n ∙ sym (under_both stream_id_of n t.front t.back) ∙ sym (was n ∙ not_here n t.front t.back j e)) refl refl))
       (subst (λ (js : List ActiveJob). AreKnown stream_of js) (sym p.ends.jobs) (all_less (IsKnown stream_of) t.front t.back j known))
-      (ap (λ (y : ServerCore SO SI). y.connection.decoder) p.same) (ap (λ (y : ServerCore SO SI). y.connection.inbound) p.same)
+      (ap (λ (y : ServerCore SO SI). y.state.rules) p.same) (ap (λ (y : ServerCore SO SI). y.connection.decoder) p.same) (ap (λ (y : ServerCore SO SI). y.connection.inbound) p.same)
       (λ alive. absurd (not_both x.connection.failure HandlerError (ap (λ (y : ServerCore SO SI). y.connection.failure) p.same) alive)) (rw p.same i.downward)
 
   -- A job is answered by what its handler gave.
   pub keeps_answer : (w : Net CO CI SO SI) (id : ℕ) (result : Result Response Error) (x : ServerCore SO SI) → Keeps c s stream_of trace w → AnswersBy c s seals w.server id result x → has_response w id ≡ false
       → Keeps c s stream_of (with_entry trace (Answer id result) Done) (with_server w x)
   keeps_answer w id (Ok response) x i p none_yet = keeps_response w id response x i p.0 p.1 none_yet
-  keeps_answer w id (Err error) x i p none_yet = keeps_error w id error x i p none_yet
+  keeps_answer w id (Err error) x i p none_yet = keeps_error w id error x i (subst (λ (r : Rules). AnswersError s.out r w.server id error x) i.sync p) none_yet
 
   -- A response is queued for a job, which goes on.
   pub keeps_respond : (w : Net CO CI SO SI) (id : ℕ) (response : Response) (v : Net CO CI SO SI) → Keeps c s stream_of trace w → RespondsTo c s seals w id response v
@@ -252,7 +257,7 @@ module _ {CO CI SO SI : Type 0} (c : Halves CO CI) (s : Halves SO SI) (seals : B
       let none : has_response w j.id ≡ false = ap (has_response w) t.is_job ∙ p.awaits.none_yet in
       let running = is_running _ k _ _ _ _ _ (jobs_at t.front k) (jobs_at t.back k) j (i.stories k) here t.taken none in
       let done : List Act = whole_work running.request j.id response in
-      let r = sends_response s.out w.server.connection.outbox k response p.does.sent x.connection.outbox done running.is_job.within (answered_work running.request j.id response) p.is_response (is_answer running.request j.id response) p.does.responds p.does.sends in
+      let r = sends_response s.out w.server.connection.outbox k response p.does.sent x.connection.outbox done running.is_job.within (answered_work running.request j.id response) p.is_response (is_answer running.request j.id response) (subst (λ (r : Rules). Responds r (safe_limit s.out w.server.connection.outbox.half) k response p.does.sent) i.sync p.does.responds) p.does.sends in
       server_changes w (Respond id response) Done x (w.responded ++ id ∷ []) (i.down ++ r.y ∷ []) i
       (at_one (λ (m : ℕ). Story had2 (w.client.state.next ≤ m) m (acts stream_of m (with_entry trace (Respond id response) Done)) (parcels m i.up) (jobs_at x.state.jobs.list m) (parcels m (i.down ++ r.y ∷ [])) (call_at w.client.state m)) k
       (subst (λ (js : List ActiveJob). Story had2 (w.client.state.next ≤ k) k (acts stream_of k (with_entry trace (Respond id response) Done)) (parcels k i.up) js (parcels k (i.down ++ r.y ∷ [])) (call_at w.client.state k)) (sym (is k))
@@ -261,7 +266,7 @@ module _ {CO CI SO SI : Type 0} (c : Halves CO CI) (s : Halves SO SI) (seals : B
       (λ n e. elsewhere (w.client.state.next ≤ n) (w.client.state.next ≤ n) n _ _ _ _ _ _ _ _ _ _ (more_have _ n _ _ _ _ _ more (i.stories n)) (λ y. y) (unheard stream_of n (stream_of id) trace (Respond id response) Done (Answered (Ok response)) refl (λ h. e (sym at ∙ h)))
       refl (is n) (pushed_other id_of n r.y i.down (λ h. e (sym r.is_told.stream ∙ h))) refl))
       (subst (λ (y : Server). AreKnown stream_of y.jobs.list) (sym same) i.known)
-      (ap (λ (y : ServerCore SO SI). y.connection.decoder) p.does.same) (ap (λ (y : ServerCore SO SI). y.connection.inbound) p.does.same) (λ alive. p.does.alive)
+      (ap (λ (y : ServerCore SO SI). y.state.rules) p.does.same) (ap (λ (y : ServerCore SO SI). y.connection.decoder) p.does.same) (ap (λ (y : ServerCore SO SI). y.connection.inbound) p.does.same) (λ alive. p.does.alive)
       (joins s.out c.in_ w.server.connection.outbox x.connection.outbox w.client.connection w.down i.down r.y r.queue r.seal r.sound i.downward)
 
   -- A job ends, and nothing is queued.
@@ -279,4 +284,4 @@ module _ {CO CI SO SI : Type 0} (c : Halves CO CI) (s : Halves SO SI) (seals : B
       (finishes_here (w.client.state.next ≤ k) k _ _ _ _ _ _ (jobs_at t.front k) (jobs_at t.back k) j (i.stories k) (was k ∙ between_own stream_id_of k t.front t.back j refl) (is k) t.taken)
       (λ n e. elsewhere (w.client.state.next ≤ n) (w.client.state.next ≤ n) n _ _ _ _ _ _ _ _ _ _ (i.stories n) (λ y. y) refl refl (is n ∙ sym (under_both stream_id_of n t.front t.back) ∙ sym (was n ∙ not_here n t.front t.back j e)) refl refl)))
       (subst (λ (js : List ActiveJob). AreKnown stream_of js) (sym p.ends.jobs) (all_less (IsKnown stream_of) t.front t.back j known))
-      (ap (λ (y : ServerCore SO SI). y.connection.decoder) p.same) (ap (λ (y : ServerCore SO SI). y.connection.inbound) p.same) (λ alive. p.alive) (rw p.same i.downward)
+      (ap (λ (y : ServerCore SO SI). y.state.rules) p.same) (ap (λ (y : ServerCore SO SI). y.connection.decoder) p.same) (ap (λ (y : ServerCore SO SI). y.connection.inbound) p.same) (λ alive. p.alive) (rw p.same i.downward)

@@ -7,6 +7,7 @@ use Rattle.std.specs.Str.{IsAscii, IsUtf8}
 use Rattle.ttrpc_wire.proofs.Folds.{reads_back}
 use Rattle.ttrpc_proto.specs.Laws.{request_again, request_fits, response_again, response_fits}
 use Rattle.ttrpc_server.specs.State.{Services}
+use Rattle.ttrpc_server.specs.declared.rules.Rules.TheVariants.{Sync}
 use Rattle.ttrpc_server.specs.Protocol.{limit_text}
 use Rattle.ttrpc_world.proofs.Stages.{IsAnswerOf, IsDone, IsSent, IsToldOf}
 
@@ -14,7 +15,7 @@ use Rattle.ttrpc_world.proofs.Stages.{IsAnswerOf, IsDone, IsSent, IsToldOf}
 
 -- The server makes of a request that is opened as it was sent what its services say.
 pub request_row_is : (services : Services) (h : MessageHeader) (r : Request) → IsRequest r → length (request_bytes r) ≤ MESSAGE_LENGTH_MAX → h.type_ ≡ MESSAGE_TYPE_REQUEST
-    → sync_row services h (Opened (request_bytes r)) ≡ request_row services (Some r)
+    → sync_row services h (Opened (request_bytes r)) ≡ request_row Sync services (Some r)
 request_row_is services h r is short type_ =
     let within : nat_lt MESSAGE_LENGTH_MAX (length (request_bytes r)) ≡ false = le-ltb _ _ short in
     let fits : length (request_bytes r) < 2 ^ 64 - 1 = omega (arith, short) in
@@ -137,7 +138,7 @@ pub record SendsResponse {O : Type 0} (out : OutboundTransform O) (old : Outbox 
   pub is_told : IsToldOf k done r y
 
 pub sends_response : {O : Type 0} (out : OutboundTransform O) (old : Outbox O) (k : ℕ) (r : Response) (sent : List Sent) (new : Outbox O) (done : List Act) → k ≤ last_id → IsDone done → IsResponse r → IsAnswerOf done r
-    → Responds (safe_limit out old.half) k r sent → SendsAll out old sent new → SendsResponse out old k done new
+    → Responds Sync (safe_limit out old.half) k r sent → SendsAll out old sent new → SendsResponse out old k done new
 sends_response out old k r sent new done within is_done is answer p q =
     let f = p.frame in
     let g = p.is_frame in

@@ -1,6 +1,7 @@
 -- A run goes on by one step, why a piece was refused, and what an answer comes to by what the core says of it.
-use Rattle.ttrpc_world.proofs.Words.{◌≡◌, List, [], ◌∷◌, ◌++◌, Bool, map, subst, refl, ap, Option, Some, None, ◌⊎◌, inl, inr, ℕ, Result, Ok, Err, Entry, Event, Reply, Error, Failure, Response, OutboundTransform, ActiveJob, ServerCore, Halves, Net, Runs, Steps, AnswersBy, IsTold, error_of, IsFailed, IsResponse, IsTaken, IsUnknown, Answers, Drops, HasUnsent, RefusesAnswer, ◌≡◌, ap, false, ◌∷◌, RespondsTo, has_response, with_server}
-use Rattle.ttrpc_server.specs.Protocol.{QueuesResponse, RefusesFinish}
+use Rattle.ttrpc_world.proofs.Words.{◌≡◌, List, [], ◌∷◌, ◌++◌, Bool, map, subst, refl, ap, Option, Some, None, ◌⊎◌, inl, inr, ℕ, Result, Ok, Err, Entry, Event, Reply, Error, Failure, Response, OutboundTransform, ActiveJob, ServerCore, Halves, Net, Runs, Steps, AnswersBy, IsTold, error_of, IsFailed, IsResponse, IsTaken, IsUnknown, Answers, HasUnsent, RefusesAnswer, ◌≡◌, ap, false, ◌∷◌, RespondsTo, has_response, with_server}
+use Rattle.ttrpc_server.specs.Protocol.{AnswersError, HasOtherRules, QueuesResponse, RefusesFinish, RefusesResponse}
+use Rattle.ttrpc_server.proofs.Sending.{unsent_answer}
 
 pub run_more : {CO CI SO SI : Type 0} (c : Halves CO CI) (s : Halves SO SI) (seals : Bool) (w : Net CO CI SO SI) (trace : List Entry) (x : Net CO CI SO SI) (event : Event) (reply : Reply) (v : Net CO CI SO SI)
     → Runs c s seals w trace x → Steps c s seals x event reply v → Runs c s seals w (trace ++ record { event = event; reply = reply } ∷ []) v
@@ -25,7 +26,7 @@ taken_unknown : (jobs : List ActiveJob) (id : ℕ) (job : ActiveJob) → IsTaken
 taken_unknown jobs id job t none = unknown_between t.front t.back id job t.is_job t.taken (subst (λ js. IsUnknown js id) t.is none)
 
 pub answers_by : {CO CI SO SI : Type 0} (c : Halves CO CI) (s : Halves SO SI) (seals : Bool) (old : ServerCore SO SI) (id : ℕ) (given : Result Response Error) (new : ServerCore SO SI)
-    → ((r : Response) → given ≡ Ok r → IsResponse r) → ((r : Response) → given ≡ Ok r → Answers s.out old id r new) → ((e : Error) → given ≡ Err e → Drops old id new)
+    → ((r : Response) → given ≡ Ok r → IsResponse r) → ((r : Response) → given ≡ Ok r → Answers s.out old id r new) → ((e : Error) → given ≡ Err e → AnswersError s.out old.state.rules old id e new)
     → AnswersBy c s seals old id given new
 answers_by c s seals old id (Ok r) new known answers drops = (known r refl, answers r refl)
 answers_by c s seals old id (Err e) new known answers drops = drops e refl
@@ -37,9 +38,16 @@ refuses_one out old id job given told at (inl failed) = inl failed
 refuses_one out old id job given told at (inr (inl none)) = absurd (taken_unknown old.state.jobs.list id job at none.unknown)
 refuses_one out old id job given told at (inr (inr unsent)) = inr unsent
 
-pub refuses_finish : {O I : Type 0} (old : ServerCore O I) (id : ℕ) (job : ActiveJob) (told : Error) → IsTaken old.state.jobs.list id job → RefusesFinish old id told → IsFailed old.connection.failure told
-refuses_finish old id job told at (inl failed) = failed
-refuses_finish old id job told at (inr none) = absurd (taken_unknown old.state.jobs.list id job at none.unknown)
+pub refuses_finish : {O I : Type 0} (old : ServerCore O I) (id : ℕ) (job : ActiveJob) (told : Error) → IsTaken old.state.jobs.list id job → RefusesFinish old id told → IsFailed old.connection.failure told ⊎ HasOtherRules old told
+refuses_finish old id job told at (inl failed) = inl failed
+refuses_finish old id job told at (inr (inl other)) = inr other
+refuses_finish old id job told at (inr (inr none)) = absurd (taken_unknown old.state.jobs.list id job at none.unknown)
+
+pub refuses_response : {O I : Type 0} (out : OutboundTransform O) (old : ServerCore O I) (id k : ℕ) (job : ActiveJob) (response : Response) (told : Error) → IsTaken old.state.jobs.list id job → k ≡ job.header.stream_id → RefusesResponse out old k response told
+    → (IsFailed old.connection.failure told ⊎ HasUnsent out old id (Ok response) told) ⊎ HasOtherRules old told
+refuses_response out old id k job response told at stream (inl failed) = inl (inl failed)
+refuses_response out old id k job response told at stream (inr (inl other)) = inr other
+refuses_response out old id k job response told at stream (inr (inr unsent)) = inl (unsent_answer out old id k job response told at stream (inr unsent))
 
 -- a response was queued for a job that awaits one
 pub responds_to : {CO CI SO SI : Type 0} (c : Halves CO CI) (s : Halves SO SI) (seals : Bool) (old : Net CO CI SO SI) (id k : ℕ) (response : Response) (job : ActiveJob) (server : ServerCore SO SI) (responded : List ℕ)

@@ -1,6 +1,10 @@
 -- Each job has one stream, and no two jobs the same: ids of jobs are used once, and so are streams.
 use Rattle.ttrpc_world.proofs.Words.{cond_both, rules, ◌≡◌, ℕ, ◌+◌, ◌≤◌, List, [], ◌∷◌, ◌++◌, length, Bool, true, false, Some, None, Result, Ok, Err, nat_eq, if◌then◌else◌, refl, sym, ap, ◌∙◌, subst, ◌⊎◌, inl, inr, arith, append_assoc, cases_Bool, cond-false, cond-true, eq-eqb, eqb-true, ne_eqb, append-nil, AllByRecursion, Error, ActiveJob, OutboundTransform, ServerCore, Event, Reply, Entry, Incoming, Job, ActsAll, Scene, scene, Sent, header_of_frame, Does, serving, EndsOne, JobList, new_job, Server, Row, MakeJob, row_of, MessageHeader, Take, Answer, Deliver, Handed, Done, Count, Refused, Halves, Net, IsFresh, AnswersBy, Runs, Steps, Act, Ran, IsOneToOne, IsRightAt, IsStreamOf, act_of, acts, only_if, runs, all_at, all_changed, all_less}
 use Rattle.ttrpc_connection.specs.Feeds.{arrived}
+use Rattle.ttrpc_server.specs.Protocol.{AnswersError}
+use Rattle.ttrpc_server.specs.State.{unary_body}
+use Rattle.ttrpc_server.specs.declared.rules.Rules.{Rules}
+use Rattle.ttrpc_server.specs.declared.rules.Rules.TheVariants.{Async, Sync}
 use Rattle.ttrpc_world.specs.declared.events.Side.TheVariants as side
 use Rattle.ttrpc_world.specs.Types.{Finish, Respond}
 use Rattle.ttrpc_world.proofs.Traces.{with_entry}
@@ -57,17 +61,17 @@ others_placed trace f n js new last list below past = record {
   past = subst (λ (m : ℕ). WasBelow f m trace) (sym last) past;
 }
 
-does_placed : {O : Type 0} (out : OutboundTransform O) (trace : List Entry) (r : Row) (old : Server) (o : O) (header : MessageHeader) (sent : List Sent) (new : Server) → Does out r old o header sent new
+does_placed : {O : Type 0} (out : OutboundTransform O) (trace : List Entry) (r : Row) (old : Server) (o : O) (header : MessageHeader) (now : ℕ) (sent : List Sent) (new : Server) → Does out r old o header now sent new
     → Placed trace old.jobs → Placed trace new.jobs
-does_placed out trace (MakeJob request) old o header sent new d p =
+does_placed out trace (MakeJob request) old o header now sent new d p =
     let n : ℕ = old.jobs.last in
-    let job = new_job (n + 1) header request in
+    let job = new_job (n + 1) header request (unary_body old.rules now request) in
     subst (λ (t : Server). Placed trace t.jobs) (sym d.0) (record {
       f = moved p.f n header.stream_id;
       below = jobs_make p.f n job old.jobs.list refl p.below;
       past = past_make p.f n header.stream_id trace p.past;
     })
-does_placed out trace r old o header sent new d p = rw d.0 p
+does_placed out trace r old o header now sent new d p = rw d.0 p
 
 acts_placed : {O I : Type 0} (h : Halves O I) (trace : List Entry) (now : ℕ) (fs : List Incoming) (old new : Scene Server O I) → ActsAll (serving h.out h.in_) now old fs new
     → Placed trace old.state.jobs → Placed trace new.state.jobs
@@ -75,7 +79,7 @@ acts_placed h trace now [] old new a p = rw a p
 acts_placed h trace now (f ∷ fs) old new a p =
     let one = a.1 in
     acts_placed h trace now fs a.0 new a.2
-    (does_placed h.out trace (row_of old.state (arrived f one.opening now)) old.state old.outbox.half (header_of_frame f) one.sent a.0.state one.reacts p)
+    (does_placed h.out trace (row_of old.state (arrived f one.opening now)) old.state old.outbox.half (header_of_frame f) now one.sent a.0.state one.reacts p)
 
 past_more : (f : ℕ → ℕ) (n : ℕ) (trace : List Entry) (event : Event) (reply : Reply) → WasBelow f n trace → IsBelow f n event reply → WasBelow f n (with_entry trace event reply)
 past_more f n [] event reply h r = (r, tt)
@@ -88,6 +92,12 @@ ended_placed : (trace : List Entry) (old new : JobList) (id : ℕ) (job : Active
 ended_placed trace old new id job last t p =
     others_placed trace p.f old.last (t.at.front ++ t.at.back) new last t.jobs (all_less (IsPlaced p.f old.last) t.at.front t.at.back job (subst (λ (js : List ActiveJob). AreBelow p.f old.last js) t.at.is p.below)) p.past
 
+-- a handler's error ends its job under either rules
+error_ends : {O I : Type 0} (out : OutboundTransform O) (rules : Rules) (old : ServerCore O I) (id : ℕ) (error : Error) (new : ServerCore O I) → AnswersError out rules old id error new
+    → (job : ActiveJob) × EndsOne old.state.jobs.list id job new.state.jobs.list × (new.state.jobs.last ≡ old.state.jobs.last)
+error_ends out Sync old id error new a = (a.job, a.ends, ap (λ (z : ServerCore _ _). z.state.jobs.last) a.same)
+error_ends out Async old id error new a = (a.2.job, a.2.ends, ap (λ (z : ServerCore _ _). z.state.jobs.last) a.2.same)
+
 module _ {CO CI SO SI : Type 0} (c : Halves CO CI) (s : Halves SO SI) (seals : Bool) where
   abbrev jobs : Net CO CI SO SI → JobList
   jobs w = w.server.state.jobs
@@ -98,7 +108,7 @@ module _ {CO CI SO SI : Type 0} (c : Halves CO CI) (s : Halves SO SI) (seals : B
 
   answered : (trace : List Entry) (x y : ServerCore SO SI) (id : ℕ) (result : Result _ Error) → AnswersBy c s seals x id result y → Placed trace x.state.jobs → Placed trace y.state.jobs
   answered trace x y id (Ok response) a p = ended_placed trace x.state.jobs y.state.jobs id a.1.job (ap (λ (z : ServerCore SO SI). z.state.jobs.last) a.1.same) a.1.ends p
-  answered trace x y id (Err error) a p = ended_placed trace x.state.jobs y.state.jobs id a.job (ap (λ (z : ServerCore SO SI). z.state.jobs.last) a.same) a.ends p
+  answered trace x y id (Err error) a p = let e = error_ends s.out x.state.rules x id error y a in ended_placed trace x.state.jobs y.state.jobs id e.0 e.2 e.1 p
 
   handed : (trace : List Entry) (w v : Net CO CI SO SI) (job : Job) → Steps c s seals w Take (Handed (Some job)) v → Placed trace (jobs w) → Placed (with_entry trace Take (Handed (Some job))) (jobs v)
   handed trace w v job q p =

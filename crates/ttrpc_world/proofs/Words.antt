@@ -16,7 +16,8 @@ pub use Rattle.ttrpc_server.specs.declared.job.Job.{Job}
 pub use Rattle.ttrpc_server.specs.declared.server.ServerCore.{ServerCore}
 pub use Rattle.ttrpc_server.proofs.Streams.{stream_id_of}
 pub use Rattle.ttrpc_server.proofs.Words.{Answers, Does, Drops, EndsOne, fit_to_limit, has_method, IsTaken, IsUnknown, JobList, jobs_at, MakeJob, new_job, Request, request_row, Responds, Response, response_bytes, response_size, Row, row_of, Server, serving, status_response, sync_row, SendResponse}
-pub use Rattle.ttrpc_server.specs.Protocol.{HasUnsent, path_text, RefusesAnswer}
+pub use Rattle.ttrpc_server.specs.Protocol.{HasUnsent, RefusesAnswer}
+pub use Rattle.ttrpc_server.specs.Table.{path_text}
 pub use Rattle.ttrpc_client.specs.declared.call.Call.{Call}
 pub use Rattle.ttrpc_client.specs.declared.call.Call.TheVariants.{Ended, Expired, Waiting}
 pub use Rattle.ttrpc_client.specs.declared.client.ClientCore.{ClientCore}

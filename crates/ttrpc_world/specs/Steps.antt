@@ -10,7 +10,7 @@ use Rattle.ttrpc_connection.specs.OneEnd.{Ends, failing, lending, reporting}
 use Rattle.ttrpc_server.specs.declared.server.ServerCore.{ServerCore}
 use Rattle.ttrpc_server.specs.declared.job.ActiveJob.{ActiveJob}
 use Rattle.ttrpc_server.specs.State.{IsTaken, IsUnknown, NoneWaits}
-use Rattle.ttrpc_server.specs.Protocol.{HasUnsent, Answers, Drops, Finishes, Hands, QueuesResponse, serving}
+use Rattle.ttrpc_server.specs.Protocol.{HasOtherRules, HasUnsent, Answers, AnswersError, Finishes, Hands, QueuesResponse, serving}
 use Rattle.ttrpc_client.specs.Protocol.{RefusesRequest, Forgets, Requests, TakesOutcome, calling}
 use Rattle.ttrpc_client.specs.Calls.{Passes}
 use Rattle.ttrpc_flight.specs.Flight.{bytes_after_carry}
@@ -81,10 +81,10 @@ module _ {CO CI SO SI : Type 0} (c : Halves CO CI) (s : Halves SO SI) (seals : B
     pub does : Forgets seals old.client id new.client
     pub only : new ≡ with_client old new.client
 
-  -- A job was answered by what its handler gave; a handler's error ends the job, and the connection fails.
+  -- A job was answered by what its handler gave; a handler's error ends the job, and under sync rules the connection fails.
   abbrev pub AnswersBy : ServerCore SO SI → ℕ → Result Response Error → ServerCore SO SI → Type 0
   AnswersBy old id (Ok response) new = IsResponse response × Answers s.out old id response new
-  AnswersBy old id (Err error) new = Drops old id new
+  AnswersBy old id (Err error) new = AnswersError s.out old.state.rules old id error new
 
   -- An answer was refused: the connection has failed, or the response to a job that was taken can't be queued.
   abbrev pub RefusesOne : ServerCore SO SI → ℕ → Result Response Error → Error → Type 0
@@ -170,11 +170,11 @@ module _ {CO CI SO SI : Type 0} (c : Halves CO CI) (s : Halves SO SI) (seals : B
   Steps old (Answer id result) (Refused told) new = RefusesOne old.server id result told × (new ≡ old)
   Steps old (Answer id result) NoStep new = (old.server.connection.failure ≡ None) × AwaitsNone old id × (new ≡ old)
   Steps old (Respond id response) Done new = RespondsTo old id response new
-  Steps old (Respond id response) (Refused told) new = RefusesOne old.server id (Ok response) told × (new ≡ old)
+  Steps old (Respond id response) (Refused told) new = (RefusesOne old.server id (Ok response) told ⊎ HasOtherRules old.server told) × (new ≡ old)
   Steps old (Respond id response) NoMemory new = (old.server.connection.failure ≡ None) × Awaits old id × (new ≡ old)
   Steps old (Respond id response) NoStep new = (old.server.connection.failure ≡ None) × AwaitsNone old id × (new ≡ old)
   Steps old (Finish id) Done new = Finishes old.server id new.server × OnlyServer old new
-  Steps old (Finish id) (Refused told) new = IsFailed old.server.connection.failure told × (new ≡ old)
+  Steps old (Finish id) (Refused told) new = (IsFailed old.server.connection.failure told ⊎ HasOtherRules old.server told) × (new ≡ old)
   Steps old (Finish id) NoStep new = (old.server.connection.failure ≡ None) × IsUnknown old.server.state.jobs.list id × (new ≡ old)
   Steps old (Tick now) Done new = Ticked old now new
   Steps old (Tick now) NoStep new = (now < old.moment) × (new ≡ old)

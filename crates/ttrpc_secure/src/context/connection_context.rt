@@ -16,8 +16,7 @@ use std::collections::BTreeMap;
 use std::fmt;
 use ttrpc_frame::header::oversize::{check_oversize, oversize_error};
 use ttrpc_frame::{GenMessage, MessageHeader, Outgoing, Queued};
-use ttrpc_proto::{Error, Result};
-use ttrpc_wire::Blob;
+use ttrpc_proto::{Blob, Error, Result};
 
 /// What is known of a connection, and the two halves that its payloads go through.
 #[derive(Drop)]

@@ -4,8 +4,7 @@ ghost use Rattle.ttrpc_secure.specs.Context.Told.{IsTold};
 ghost use Rattle.ttrpc_secure.specs.Context.Texts.{unsafe_payload_text, unsealed_text, unopened_text};
 
 use std::alloc::{AllocError, Global};
-use ttrpc_proto::Error;
-use ttrpc_wire::Text;
+use ttrpc_proto::{Error, Text};
 
 /// The error for a payload of this many bytes, which is above the safe limit, with advice or with none.
 pub fn unsafe_payload_error(alloc: Global, length: usize, limit: usize, advice: &str) -> Error

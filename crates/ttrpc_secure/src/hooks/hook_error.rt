@@ -6,7 +6,7 @@ ghost use Rattle.ttrpc_secure.specs.Hooks.{IsHookErrorDebug, IsHookErrorText, Wr
 use std::alloc::{AllocError, AllocFailed};
 use std::fmt::InlineText;
 use std::{fmt, io};
-use ttrpc_wire::Text;
+use ttrpc_proto::Text;
 
 /// Why a hook rejects a connection.
 #[derive(Drop)]

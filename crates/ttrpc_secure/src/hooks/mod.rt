@@ -65,17 +65,25 @@ pub trait AcceptHook<S> {
 /// Inspects a connection that a client has opened, before anything else is written to it. It is lent the stream, so
 /// that it may speak with the other side first.
 pub trait ConnectHook<S> {
+    ghost use Rattle.std.specs.Prelude.{⊤, Result};
+    ghost use Rattle.ttrpc_secure.specs.declared.hooks.hook_error.HookError.{HookError};
+    ghost use Rattle.ttrpc_secure.specs.declared.hooks.HookOutput.{HookOutput};
+
     /// The half that seals what the connection sends.
     type Outbound: OutboundTransform + Drop;
     /// The half that opens what the connection receives.
     type Inbound: InboundTransform + Drop;
+
+    // That it may give this for a stream, where it tells.
+    ghost gives: { Self → S → Result (HookOutput Self.Outbound Self.Inbound) HookError → Type 0 } = { λ _ _ _. ⊤ };
 
     /// What is known of the connection and what it goes through, or why it isn't used.
     fn on_connect(
         &self,
         alloc: Global,
         stream: &S,
-    ) -> Result<HookOutput<Self::Outbound, Self::Inbound>, HookError>;
+    ) -> Result<HookOutput<Self::Outbound, Self::Inbound>, HookError>
+        ensures { gives self.now stream.now result };
 }
 
 /// How long a hook may look at a connection that a server has accepted, in nanoseconds: 30 seconds.

@@ -1,7 +1,8 @@
 //! Jobs whose ids are used up, which takes too many requests to come to.
 use super::Jobs;
+use crate::job::Body;
 use std::alloc::Global;
-use std::collections::BTreeMap;
+use std::collections::{BTreeMap, BTreeSet};
 use std::process::Abort;
 use std::test::Fail;
 use ttrpc_codec::message::WireMessage;
@@ -13,14 +14,15 @@ use ttrpc_proto::Request;
 fn jobs_after(alloc: Global, last: u64) -> Jobs {
     Jobs {
         jobs: BTreeMap::new(alloc),
-        handed: last,
+        waiting: BTreeSet::new(alloc),
         last,
     }
 }
 
 /// Makes a job of stream 1.
 fn make(alloc: Global, jobs: &mut Jobs) -> Result<(), Failure> {
-    jobs.make(MessageHeader::new_request(1, 0), Request::new(alloc))
+    let header = MessageHeader::new_request(1, 0);
+    jobs.make(header, Request::new(alloc), Body::Unary(None))
 }
 
 /// The job that is handed out has this id.

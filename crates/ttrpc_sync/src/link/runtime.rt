@@ -1,4 +1,7 @@
 //! What a connection's threads ask of the system, and the moments at which things happen.
+ghost use Rattle.std.specs.Prelude.{IfErr};
+ghost use Rattle.ttrpc_transport.specs.Sockets.{IsFault};
+
 use std::sync::Wait;
 use std::thread::Threads;
 use std::time::Clock;
@@ -15,7 +18,9 @@ pub trait Runtime: Host + Threads + Send + Sync + 'static {}
 impl<R: Host + Threads + Send + Sync + 'static> Runtime for R {}
 
 /// The current time, in nanoseconds since some start, the same for all moments. A clock that can't be read is `Nix`.
-pub fn moment<R: Clock>(rt: &R) -> Result<u64> {
+pub fn moment<R: Clock>(rt: &R) -> Result<u64>
+    ensures { IfErr result IsFault }
+{
     match rt.monotonic() {
         Ok(time) => Ok(u64::try_from(time.as_nanos()).unwrap_or(u64::MAX)),
         Err(error) => Err(Error::Nix(error.kind())),

@@ -1,10 +1,12 @@
 //! What the threads of a server's connection share.
-ghost use Rattle.std.specs.Prelude.{◌≡◌, ◌↔◌, ◌+◌, ◌-◌, ◌^◌, ◌<◌, ◌≤◌, min, length, if◌then◌else◌, Err, IfNone, IfSome, IsFalse, IsTrue, None, Ok};
+ghost use Rattle.std.specs.Prelude.{◌≡◌, ◌↔◌, ◌+◌, ◌-◌, ◌^◌, ◌<◌, ◌≤◌, ◌||◌, min, length, if◌then◌else◌, is_some, false, true, Err, IfNone, IfSome, IsFalse, IsTrue, None, Ok};
+ghost use Rattle.ttrpc_server.specs.Types.{Failure as AFailure, failing};
 ghost use Rattle.ttrpc_proto.specs.declared.error.Error.{Error as AnError};
 ghost use Rattle.ttrpc_server.specs.Protocol.{Hands};
 ghost use Rattle.ttrpc_server.specs.State.{NoneWaits};
-ghost use Rattle.ttrpc_sync_connection.specs.Held.{IsDropped, IsFinished, LendsFrame, reported_to};
+ghost use Rattle.ttrpc_sync_connection.specs.Held.{IsDropped, IsFed, IsFinished, IsQuiet, LendsFrame, MayTellEnd, has_bytes, is_alive, reported_to};
 ghost use Rattle.ttrpc_pool.specs.Pool.{with_waiting};
+ghost use Rattle.ttrpc_sync.specs.Turns.{given_back, next_of, turn_after, wakes_behind};
 
 use std::alloc::Global;
 use std::io::ErrorKind;
@@ -41,16 +43,18 @@ pub struct ServerHeld<O, I> {
     pub starting: usize,
     // Workers that sleep, and weren't woken yet.
     sleeping: u64,
-    // Whether the reader is at its end. The core isn't told before all jobs have ended and all answers have left.
-    has_ended: bool,
+    /// Whether the reader is at its end. The core isn't told before all jobs have ended and all answers have left.
+    pub has_ended: bool,
 }
 
 impl<O: OutboundTransform + Drop, I: InboundTransform + Drop> ServerHeld<O, I> {
     /// This core and this pool, and it is nobody's turn to write.
     pub fn new(core: ServerCore<O, I>, pool: PoolCore) -> Self
         ensures core { result.core ≡ core }
+        ensures turn { result.turn ≡ record { is_taken = false; sleeps = false } }
         ensures pool { result.pool ≡ pool }
         ensures starting { result.starting ≡ 0 }
+        ensures has_ended { result.has_ended ≡ false }
     {
         ServerHeld {
             core,
@@ -67,13 +71,15 @@ impl<O: OutboundTransform + Drop, I: InboundTransform + Drop> ServerHeld<O, I> {
         ensures handed { IfSome result (λ job. Hands self.old.core job self.new.core) }
         ensures none { IfNone result ((self.new.core ≡ self.old.core)
             × (self.old.core.connection.failure ≡ None → NoneWaits self.old.core.state.jobs.list)) }
-        ensures pool { self.new.pool ≡ self.old.pool }
+        ensures rest { self.new ≡ record self.old { core = self.new.core } }
     {
         jobs_on::take_on(&mut self.core)
     }
 
     /// A worker goes to sleep.
-    pub(crate) fn sleep(&mut self) {
+    pub(crate) fn sleep(&mut self)
+        ensures { self.new ≡ record self.old { sleeping = min (self.old.sleeping + 1) (2 ^ 64 - 1) } }
+    {
         self.sleeping = self.sleeping.saturating_add(1);
     }
 
@@ -81,16 +87,30 @@ impl<O: OutboundTransform + Drop, I: InboundTransform + Drop> ServerHeld<O, I> {
     /// be woken, since this may be the last job of an input that has ended.
     pub(crate) fn done(&mut self, alloc: Global, id: JobId, outcome: Result<(), Error>) -> bool
         ensures finished { outcome ≡ Ok tt → IsFinished self.old.core id self.new.core }
-        ensures failed { (e : AnError) → outcome ≡ Err e → IsDropped self.old.core id self.new.core }
-        ensures pool { self.new.pool ≡ self.old.pool }
+        ensures failed { (e : AnError) → outcome ≡ Err e → IsDropped O.OutboundTransform self.old.core id e self.new.core }
+        ensures rest { self.new ≡ record self.old { core = self.new.core; turn = self.new.turn } }
     {
         let _ = jobs_on::done_on(&mut self.core, alloc, id, outcome);
         self.has_ended && self.turn.wakes()
     }
 
     // No job is under way, and all that was queued was written.
-    fn is_quiet(&self) -> bool {
+    fn is_quiet(&self) -> bool
+        ensures { IsTrue result → IsQuiet self.now.core }
+    {
         self.core.jobs_taken() == 0 && self.core.jobs_waiting() == 0 && self.core.lendable() == 0
+    }
+
+    // Where nobody writes for himself, all that was written is flushed, too. So behind an end of the input the core is told
+    // of it then.
+    fn tell_end(&mut self, has_turn: bool)
+        ensures told { MayTellEnd self.old.has_ended self.old.core self.new.core }
+        ensures rest { self.new ≡ record self.old { core = self.new.core } }
+    {
+        let others_write = self.turn.is_taken && !has_turn;
+        if self.has_ended && !others_write && self.is_quiet() {
+            ended_on(&mut self.core);
+        }
     }
 
     /// How many workers are to be started: as many as the pool says, but for those that were started already and haven't
@@ -105,16 +125,14 @@ impl<O: OutboundTransform + Drop, I: InboundTransform + Drop> ServerHeld<O, I> {
 
     /// So many workers are started.
     pub fn starts(&mut self, count: usize)
-        ensures pool { self.new.pool ≡ self.old.pool }
-        ensures starting { self.new.starting ≡ min (self.old.starting + count) (2 ^ 64 - 1) }
+        ensures { self.new ≡ record self.old { starting = min (self.old.starting + count) (2 ^ 64 - 1) } }
     {
         self.starting = self.starting.saturating_add(count);
     }
 
     /// So many workers that were to be started don't come.
     pub fn gives_up(&mut self, count: usize)
-        ensures pool { self.new.pool ≡ self.old.pool }
-        ensures starting { self.new.starting ≡ self.old.starting - count }
+        ensures { self.new ≡ record self.old { starting = self.old.starting - count } }
     {
         self.starting = self.starting.saturating_sub(count);
     }
@@ -125,6 +143,7 @@ impl<O: OutboundTransform + Drop, I: InboundTransform + Drop> ServerHeld<O, I> {
         ensures entered { IsTrue result → self.new.pool ≡ with_waiting self.old.pool (self.old.pool.waiting + 1) }
         ensures refused { IsFalse result → self.new.pool ≡ self.old.pool }
         ensures starting { self.new.starting ≡ self.old.starting - (if is_new then 1 else 0) }
+        ensures rest { self.new ≡ record self.old { pool = self.new.pool; starting = self.new.starting } }
     {
         if is_new {
             self.gives_up(1);
@@ -139,6 +158,7 @@ impl<O: OutboundTransform + Drop, I: InboundTransform + Drop> ServerHeld<O, I> {
         ensures left { 0 < self.old.pool.waiting
             → self.new.pool ≡ with_waiting self.old.pool (self.old.pool.waiting - 1) }
         ensures nobody { self.old.pool.waiting ≡ 0 → (IsFalse result × (self.new.pool ≡ self.old.pool)) }
+        ensures rest { self.new ≡ record self.old { pool = self.new.pool } }
     {
         if self.pool.waiting() == 0 {
             return false;
@@ -147,7 +167,9 @@ impl<O: OutboundTransform + Drop, I: InboundTransform + Drop> ServerHeld<O, I> {
     }
 
     /// The threads to wake: one sleeping worker for each waiting job, and the writer.
-    fn woken(&mut self) -> Woken {
+    fn woken(&mut self) -> Woken
+        ensures { self.new ≡ record self.old { turn = self.new.turn; sleeping = self.new.sleeping } }
+    {
         let workers = self.core.jobs_waiting().min(self.sleeping);
         self.sleeping -= workers;
         let writer = self.core.lendable() > 0 && self.turn.wakes();
@@ -159,7 +181,13 @@ impl<O: OutboundTransform + Drop, I: InboundTransform + Drop> Held for ServerHel
     type Woken = Woken;
 
     // Under sync rules the moment plays no part.
-    fn take(&mut self, alloc: Global, piece: &[u8]) -> Option<Taken<Woken>> {
+    fn take(&mut self, alloc: Global, piece: &[u8]) -> Option<Taken<Woken>>
+        ensures whole { IfSome result (λ taken. taken.count ≡ length piece.now) }
+        ensures fed { IsFed O.OutboundTransform I.InboundTransform self.old.core piece.now (is_some result) self.new.core }
+        ensures pool { self.new.pool ≡ self.old.pool }
+        ensures starting { self.new.starting ≡ self.old.starting }
+        ensures has_ended { self.new.has_ended ≡ self.old.has_ended }
+    {
         match take_on(&mut self.core, alloc, piece, 0) {
             Ok(count) => Some(Taken {
                 count,
@@ -170,12 +198,14 @@ impl<O: OutboundTransform + Drop, I: InboundTransform + Drop> Held for ServerHel
         }
     }
 
-    fn ended(&mut self) {
+    fn ended(&mut self)
+        ensures { self.new ≡ record self.old { has_ended = true } }
+    {
         self.has_ended = true;
     }
 
     fn wrote(&mut self, count: usize)
-        ensures { self.new.core ≡ reported_to self.old.core count }
+        ensures { self.new ≡ record self.old { core = reported_to self.old.core count } }
     {
         let lent = self.core.lent();
         wrote_on(&mut self.core, count.min(lent));
@@ -183,6 +213,7 @@ impl<O: OutboundTransform + Drop, I: InboundTransform + Drop> Held for ServerHel
 
     fn lend(&mut self, buffer: &mut [u8]) -> Loan
         ensures lent { LendsFrame self.old.core buffer.old result.count result.ends_frame buffer.new self.new.core }
+        ensures rest { self.new ≡ record self.old { core = self.new.core } }
     {
         let open = self.core.lendable();
         let count = lend_on(&mut self.core, buffer);
@@ -192,23 +223,33 @@ impl<O: OutboundTransform + Drop, I: InboundTransform + Drop> Held for ServerHel
         }
     }
 
-    fn broke(&mut self, kind: ErrorKind) {
+    fn broke(&mut self, kind: ErrorKind)
+        ensures { self.new ≡ record self.old {
+          core = record self.old.core {
+            connection = failing self.old.core.connection (AFailure.Told (AnError.Nix kind));
+          };
+        } }
+    {
         broke_on(&mut self.core, kind);
     }
 
-    // Where nobody writes for himself, all that was written is flushed, too. So behind an end of the input the core is told
-    // of it here.
-    fn next(&mut self, has_turn: bool) -> Next {
-        let others_write = self.turn.is_taken && !has_turn;
-        if self.has_ended && !others_write && self.is_quiet() {
-            ended_on(&mut self.core);
-        }
+    fn next(&mut self, has_turn: bool) -> Next
+        ensures told { MayTellEnd self.old.has_ended self.old.core self.new.core }
+        ensures result { result ≡ next_of self.old.turn.is_taken has_turn (is_alive self.new.core) (has_bytes self.new.core) }
+        ensures turn { self.new.turn ≡ turn_after self.old.turn has_turn (is_alive self.new.core) (has_bytes self.new.core) }
+        ensures rest { self.new ≡ record self.old { core = self.new.core; turn = self.new.turn } }
+    {
+        self.tell_end(has_turn);
         let bytes_wait = self.core.lendable() > 0;
         let stays = !self.core.has_failed();
         self.turn.next(has_turn, stays, bytes_wait)
     }
 
-    fn give_back(&mut self) -> bool {
+    fn give_back(&mut self) -> bool
+        ensures result { result ≡ wakes_behind self.old.turn (has_bytes self.old.core || self.old.has_ended) }
+        ensures turn { self.new.turn ≡ given_back self.old.turn (has_bytes self.old.core || self.old.has_ended) }
+        ensures rest { self.new ≡ record self.old { turn = self.new.turn } }
+    {
         let bytes_wait = self.core.lendable() > 0;
         self.turn.give_back(bytes_wait || self.has_ended)
     }

@@ -1,3 +1,4 @@
+mod async_server_tests;
 mod client;
 mod client_numbers;
 mod client_steps;
@@ -9,6 +10,7 @@ mod plain_server_tests;
 mod script;
 mod server_numbers;
 mod server_steps;
+mod stamps;
 mod steps;
 mod stream_client_tests;
 mod stream_numbers;

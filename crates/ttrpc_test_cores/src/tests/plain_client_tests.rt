@@ -1,8 +1,9 @@
 //! Each row of the client's table for unary calls, each refusal, and what becomes of calls that expire or are dropped,
-//! over plain halves. All bytes are written by hand.
+//! over plain halves, and what frames give over halves that stamp, too. All bytes are written by hand.
 use crate::tests::client::*;
 use crate::tests::script::{Cuts, FRESH, Row, Start, Step, Told};
-use crate::tests::under_test::{Table, Tested, hold};
+use crate::tests::under_test::{Table, Tested, hold, hold_stamped};
+use ttrpc_bench::{StampIn, StampOut};
 use ttrpc_client::{ClientCore, ClientKind};
 use ttrpc_secure::Plain;
 
@@ -652,6 +653,11 @@ const FRAMES: &[Table<ClientKind>] = &[
 #[test]
 fn frames_give_outcomes(rt: HostRuntime) -> Tested {
     hold::<Core>(&rt, rt.alloc(), FRAMES)
+}
+
+#[test]
+fn stamped_frames_give_outcomes(rt: HostRuntime) -> Tested {
+    hold_stamped::<ClientCore<StampOut, StampIn>>(&rt, rt.alloc(), FRAMES)
 }
 
 const DEADLINES: &[Table<ClientKind>] = &[

@@ -1,5 +1,6 @@
 //! The steps of either core.
 use crate::tests::script::{Step, Told};
+use crate::tests::stamps::{Stamps, stamped};
 use crate::tests::under_test::{Core, End, Met};
 use std::alloc::Global;
 use ttrpc_proto::Error;
@@ -31,6 +32,27 @@ pub fn act<C: Core>(alloc: Global, core: &mut C, step: &Step, cut: usize) -> Met
             Ok(true)
         }
         _ => core.own_step(alloc, step, cut),
+    }
+}
+
+/// The same over halves that stamp: frames come and leave with their stamps.
+pub fn act_stamped<C: Core>(
+    alloc: Global,
+    core: &mut C,
+    step: &Step,
+    cut: usize,
+    stamps: &mut Stamps,
+) -> Met {
+    match *step {
+        Step::Feed(frames) => {
+            let bytes = stamped(alloc, frames, &mut stamps.comes)?;
+            feeds(alloc, core, bytes.as_slice(), cut)
+        }
+        Step::Writes(frames) => {
+            let bytes = stamped(alloc, frames, &mut stamps.leaves)?;
+            Ok(writes(core, bytes.as_slice()))
+        }
+        _ => act(alloc, core, step, cut),
     }
 }
 

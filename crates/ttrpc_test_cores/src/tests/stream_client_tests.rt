@@ -2,8 +2,8 @@
 //! and what becomes of streams whose halves are dropped. All bytes are written by hand.
 use crate::tests::client::*;
 use crate::tests::halves::OpensOnly;
-use crate::tests::script::{FRESH, Row, Start, Step, Told};
-use crate::tests::under_test::{Table, Tested, hold};
+use crate::tests::script::{Cuts, FRESH, Row, Start, Step, Told};
+use crate::tests::under_test::{Table, Tested, hold, hold_stamped};
 use ttrpc_bench::{Sealed, StampIn, StampOut, Swelling};
 use ttrpc_client::{ClientCore, ClientKind};
 use ttrpc_secure::Plain;
@@ -22,7 +22,10 @@ const OPENED_WITH_ITEM: &[u8] =
 /// The first one, the items `a`, none and `b`, and a close.
 const OPENED_AND_SENT: &[u8] =
     b"\0\0\0\x11\0\0\0\x01\x01\x06\x0a\x09demo.Echo\x12\x04Chat\0\0\0\x01\0\0\0\x01\x03\0a\0\0\0\0\0\0\0\x01\x03\0\0\0\0\x01\0\0\0\x01\x03\0b\0\0\0\0\0\0\0\x01\x03\x05";
-/// The same with stamps, up to the first item, and with the close.
+/// The first one and the first item.
+const OPENED_AND_FIRST: &[u8] =
+    b"\0\0\0\x11\0\0\0\x01\x01\x06\x0a\x09demo.Echo\x12\x04Chat\0\0\0\x01\0\0\0\x01\x03\0a";
+/// The same with stamps, and a close.
 const STAMPED_AND_SENT: &[u8] =
     b"\0\0\0\x12\0\0\0\x01\x01\x06\x0a\x09demo.Echo\x12\x04Chat\0\0\0\0\x02\0\0\0\x01\x03\0a\x01\0\0\0\x01\0\0\0\x01\x03\x05\x02";
 
@@ -304,6 +307,9 @@ const ITEM_ROWS: &[Row] = &[
         ],
         ..FRESH
     },
+];
+
+const NUMBER_ROWS: &[Row] = &[
     Row {
         name: "who isn't asked holds up nobody",
         steps: &[
@@ -483,8 +489,7 @@ const DROP_ROWS: &[Row] = &[
             Step::Feed(DATA),
             Step::ReceivesError(1, UNKNOWN),
             Step::IsAlive,
-            Step::Leaves(OPENED_AND_SENT, 0, 27),
-            Step::Leaves(OPENED_AND_SENT, 27, 38),
+            Step::Writes(OPENED_AND_FIRST),
             Step::IsSent(1),
             Step::Opens(true, true, b"", 3),
         ],
@@ -570,6 +575,21 @@ const FAILURE_ROWS: &[Row] = &[
         ],
         ..FRESH
     },
+];
+
+const PART_ROWS: &[Row] = &[
+    Row {
+        name: "the input ends inside a frame",
+        cuts: Cuts::Inside(11),
+        steps: &[
+            Step::Opens(true, true, b"", 1),
+            Step::FeedToCut(DATA),
+            Step::EndsInput,
+            Step::ReceivesError(1, Told::Socket("socket disconnected inside a frame")),
+            Step::ReceivesError(1, PAST),
+        ],
+        ..FRESH
+    },
     Row {
         name: "nothing is reported, and items come all the same",
         steps: &[
@@ -605,18 +625,30 @@ const LONG_ROWS: &[Row] = &[Row {
     ..FRESH
 }];
 
-const STREAMS: &[Table<ClientKind>] = &[(BOTH, OPEN_ROWS), (BOTH, ITEM_ROWS), (BOTH, HEARD_ROWS)];
-
-const HALVES: &[Table<ClientKind>] = &[
-    (BOTH, SENDING_ROWS),
-    (BOTH, TICKET_ROWS),
+/// What holds over halves that stamp, too.
+const STREAMS: &[Table<ClientKind>] = &[
+    (BOTH, OPEN_ROWS),
+    (BOTH, ITEM_ROWS),
+    (BOTH, HEARD_ROWS),
     (BOTH, DROP_ROWS),
     (BOTH, FAILURE_ROWS),
+];
+
+const HALVES: &[Table<ClientKind>] = &[
+    (BOTH, NUMBER_ROWS),
+    (BOTH, SENDING_ROWS),
+    (BOTH, TICKET_ROWS),
+    (BOTH, PART_ROWS),
 ];
 
 #[test]
 fn streams_are_opened_and_receive(rt: HostRuntime) -> Tested {
     hold::<ClientCore<Plain, Plain>>(&rt, rt.alloc(), STREAMS)
+}
+
+#[test]
+fn stamped_streams_are_opened_and_receive(rt: HostRuntime) -> Tested {
+    hold_stamped::<ClientCore<StampOut, StampIn>>(&rt, rt.alloc(), STREAMS)
 }
 
 #[test]

@@ -1,6 +1,7 @@
 //! Either core, as scripts see it, and how scripts are run.
 use crate::tests::script::{Cuts, Row, Start, Step};
-use crate::tests::steps::act;
+use crate::tests::stamps::Stamps;
+use crate::tests::steps::{act, act_stamped};
 use std::alloc::Global;
 use std::process::Abort;
 use std::test::Fail;
@@ -118,12 +119,33 @@ pub trait Core: End + Sized + Drop {
 /// Kinds of a core, and what holds of each of them.
 pub type Table<K> = (&'static [K], &'static [Row]);
 
+/// How frames go over the wire.
+#[derive(Clone, Copy, PartialEq, Eq)]
+enum Form {
+    AsTheyStand,
+    Stamped,
+}
+
 /// Each table holds.
 pub fn hold<C: Core>(rt: &impl Abort, alloc: Global, tables: &[Table<C::Kind>]) -> Tested {
+    hold_as::<C>(rt, alloc, tables, Form::AsTheyStand)
+}
+
+/// Each table holds over halves that stamp, where its frames come and leave with their stamps.
+pub fn hold_stamped<C: Core>(rt: &impl Abort, alloc: Global, tables: &[Table<C::Kind>]) -> Tested {
+    hold_as::<C>(rt, alloc, tables, Form::Stamped)
+}
+
+fn hold_as<C: Core>(
+    rt: &impl Abort,
+    alloc: Global,
+    tables: &[Table<C::Kind>],
+    form: Form,
+) -> Tested {
     for (kinds, rows) in tables {
         for kind in *kinds {
             for row in *rows {
-                holds::<C>(rt, alloc, *kind, row)?;
+                holds::<C>(rt, alloc, *kind, row, form)?;
             }
         }
     }
@@ -131,15 +153,21 @@ pub fn hold<C: Core>(rt: &impl Abort, alloc: Global, tables: &[Table<C::Kind>]) 
 }
 
 /// The row holds in all its cuts.
-fn holds<C: Core>(rt: &impl Abort, alloc: Global, kind: C::Kind, row: &Row) -> Tested {
+fn holds<C: Core>(
+    rt: &impl Abort,
+    alloc: Global,
+    kind: C::Kind,
+    row: &Row,
+    form: Form,
+) -> Tested {
     match row.cuts {
         Cuts::WholeAndBytes => {
-            holds_at::<C>(rt, alloc, kind, row, usize::MAX)?;
-            holds_at::<C>(rt, alloc, kind, row, 1)
+            holds_at::<C>(rt, alloc, kind, row, usize::MAX, form)?;
+            holds_at::<C>(rt, alloc, kind, row, 1, form)
         }
         Cuts::Inside(length) => {
             for cut in 1..length {
-                holds_at::<C>(rt, alloc, kind, row, cut)?;
+                holds_at::<C>(rt, alloc, kind, row, cut, form)?;
             }
             Ok(())
         }
@@ -153,9 +181,13 @@ fn holds_at<C: Core>(
     kind: C::Kind,
     row: &Row,
     cut: usize,
+    form: Form,
 ) -> Tested {
     let mut core = C::start(alloc, kind, row.start)?;
-    run(rt, alloc, &mut core, row, cut)
+    match form {
+        Form::AsTheyStand => run(rt, alloc, &mut core, row, cut),
+        Form::Stamped => run_stamped(rt, alloc, &mut core, row, cut),
+    }
 }
 
 /// Each step of the row is met.
@@ -163,6 +195,25 @@ fn run<C: Core>(rt: &impl Abort, alloc: Global, core: &mut C, row: &Row, cut: us
     for (number, step) in row.steps.iter().enumerate() {
         let met = act(alloc, core, step, cut)?;
         assert!(rt; met, "{}: step {number}, cut at {cut}", row.name);
+    }
+    Ok(())
+}
+
+/// The same over halves that stamp.
+fn run_stamped<C: Core>(
+    rt: &impl Abort,
+    alloc: Global,
+    core: &mut C,
+    row: &Row,
+    cut: usize,
+) -> Tested {
+    let mut stamps = Stamps {
+        comes: 0,
+        leaves: 0,
+    };
+    for (number, step) in row.steps.iter().enumerate() {
+        let met = act_stamped(alloc, core, step, cut, &mut stamps)?;
+        assert!(rt; met, "{}, stamped: step {number}, cut at {cut}", row.name);
     }
     Ok(())
 }

@@ -2,8 +2,7 @@
 ghost use Rattle.std.specs.Prelude.{◌≡◌, string_bytes, MatchResult};
 
 use std::alloc::AllocError;
-use ttrpc_proto::Error;
-use ttrpc_wire::Text;
+use ttrpc_proto::{Error, Text};
 
 // The error of this text, or `NoMemory` where memory for it was refused.
 pub(crate) fn refusal(text: Result<String, AllocError>) -> Error

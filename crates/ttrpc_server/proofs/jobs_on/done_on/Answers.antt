@@ -1,7 +1,9 @@
-use Rattle.std.proofs.lemmas.Result.{IfErr-weaker}
-use Rattle.ttrpc_server.proofs.Refusals.{refused_as_an_end}
+use Rattle.ttrpc_server.proofs.Words.{rules, ◌≡◌, subst, Error}
+use Rattle.std.proofs.Common.{IfErr, Err}
+use Rattle.ttrpc_server.specs.Protocol.{RefusesAnswer}
 use Rattle.ttrpc_server.proofs.jobs_on.done_on.Goals as goal
 
-pub returns-in-Err-clause-refused : goal.returns-in-Err-clause-refused
-returns-in-Err-clause-refused g c =
-    IfErr-weaker c.answer.result _ _ (λ told h. refused_as_an_end g.O.OutboundTransform c.args.core.now c.args.id c.in-Err.error told h) c.answer.ensures.refused
+pub returns-in-Err-clause-unsent : goal.returns-in-Err-clause-unsent
+returns-in-Err-clause-unsent g c = λ e is.
+    let same : c.in-Err.error ≡ e = search rules in
+    subst (λ (x : Error). IfErr c.answer.result (RefusesAnswer g.O.OutboundTransform c.args.core.now c.args.id (Err x))) same c.answer.ensures.refused

@@ -7,7 +7,7 @@ pub returns-in-Ok-clause-ok : goal.returns-in-Ok-clause-ok
 returns-in-Ok-clause-ok g c =
     let out = g.O.OutboundTransform in
     let fit = rw c.limit.ensures at c.in_ok-bytes.ensures.ok in
-    sent_one out c.args.outbox.now c.args.stream_id c.args.response.now c.response_frame-frame.result c.in_ok-bytes.bytes.items _
+    sent_one c.args.rules out c.args.outbox.now c.args.stream_id c.args.response.now c.response_frame-frame.result c.in_ok-bytes.bytes.items _
     fit.0 fit.1 c.response_frame-frame.ensures c.in-Ok.ensures.ok
 
 pub returns-in-Err-Failed-Refused-clause-err : goal.returns-in-Err-Failed-Refused-clause-err

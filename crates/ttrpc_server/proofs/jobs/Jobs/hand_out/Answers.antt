@@ -1,40 +1,28 @@
-use Rattle.ttrpc_server.proofs.Words.{rules, sym, ◌∙◌, ◌≡◌, ◌<◌, refl, ◌+◌, None, Some, false, same_Some, is_at, lookup, values_of, nat_cmp, AreJobs, HandsOne}
-use Rattle.ttrpc_server.proofs.Keyed.{first_waits, given_out, none_waits, not_past, waits_not}
+use Rattle.ttrpc_server.proofs.Words.{rules, arith, ◌≡◌, ◌∙◌, ◌∷◌, ap, sym, refl, List, [], ℕ, length, None, Some, is_some, true, false, subst, NoneWaits, ids_waiting}
+use Rattle.ttrpc_server.proofs.Keyed.{empty_of, found, handed, is_there, list_is, none_waits, unary_only}
 use Rattle.ttrpc_server.proofs.jobs.Jobs.hand_out.Goals as goal
 
-pub returns-then-self-clause-none : goal.returns-then-self-clause-none
-returns-then-self-clause-none c = (refl, rw (← c.self.view_is) (none_waits _ _ _ c.self.invariant c.if-self.true))
+pub invariant_of-self-2 : goal.invariant_of-self-2
+invariant_of-self-2 c = (handed c.self.invariant c.in-Some.id c.pop_first.new.self.keys (search rules) c.in-Some-get_mut.job.now c.in-Some-request.request false (unary_only c.in-Some-get_mut.job.now.body) (search rules) (search rules) _ (search rules)).0
 
-pub overflow_add-id : goal.overflow_add-id
-overflow_add-id c =
-    let most = not_past c.self.invariant in
-    let less : c.self.inside.handed < c.self.inside.last = search (rules, most) in
-    search (rules, less)
+pub returns-clause-given : goal.returns-clause-given
+returns-clause-given c =
+    let job = c.in-Some-get_mut.job.now in
+    let new = (c.get_mut.follows.lender (record { id = job.id; header = job.header; request = c.take-request.new.self; body = job.body })).entries in
+    rw (← c.self.view_is) (handed c.self.invariant c.in-Some.id c.pop_first.new.self.keys (search rules) job c.in-Some-request.request false (unary_only job.body) (search rules) (search rules) new (search rules)).1
 
 pub unreachable-requires : goal.unreachable-requires
 unreachable-requires c =
-    let w = first_waits _ _ _ c.self.invariant c.if-self.false in
-    let here : lookup (is_at (nat_cmp (c.self.inside.handed + 1))) c.self.inside.jobs.entries ≡ Some c.in-Some.job.now = search rules in
-    let same : w.job ≡ c.in-Some.job.now = same_Some _ _ (sym w.found ∙ here) in
-    let none : c.in-Some.job.now.request ≡ None = search rules in
-    waits_not w.job.request (rw same none) w.some
+    let f = found c.self.invariant c.in-Some.id c.pop_first.new.self.keys (search rules) in
+    let some : is_some c.in-Some-get_mut.job.now.request ≡ true = f.1 c.in-Some-get_mut.job.now (search rules) in
+    let none : c.in-Some-get_mut.job.now.request ≡ None = search rules in
+    let bad : false ≡ true = rw none at some in cc
 
 pub unreachable-requires-in-None : goal.unreachable-requires-in-None
-unreachable-requires-in-None c =
-    let w = first_waits _ _ _ c.self.invariant c.if-self.false in
-    let bad : None ≡ Some w.job = search (rules, w.found) in cc
+unreachable-requires-in-None c = is_there c.self.invariant c.in-Some.id c.pop_first.new.self.keys (search rules) (search rules)
 
-both : (c : goal.In-Some-request)
-    → AreJobs (c.self.inside.handed + 1) c.self.inside.last (c.get_mut.follows.lender (record { id = c.in-Some.job.now.id; header = c.in-Some.job.now.header; request = c.take-request.new.self })).entries
-    × HandsOne (values_of c.self.inside.jobs.entries) (record { id = c.self.inside.handed + 1; header = c.in-Some.job.now.header; stream = false; request = c.in-Some-request.request })
-    (values_of (c.get_mut.follows.lender (record { id = c.in-Some.job.now.id; header = c.in-Some.job.now.header; request = c.take-request.new.self })).entries)
-both c =
-    let here : lookup (is_at (nat_cmp (c.self.inside.handed + 1))) c.self.inside.jobs.entries ≡ Some c.in-Some.job.now = search rules in
-    given_out c.self.inside.handed c.self.inside.last c.self.inside.jobs.entries _ c.self.invariant c.if-self.false c.in-Some.job.now c.in-Some-request.request c.take-request.new.self here
-    (search rules) c.take-request.ensures.after (c.get_mut.follows.holds _).0
-
-pub invariant_of-self : goal.invariant_of-self
-invariant_of-self c = (both c).0
-
-pub returns-clause-given : goal.returns-clause-given
-returns-clause-given c = rw (← c.self.view_is) (both c).1
+pub returns-in_default-clause-none : goal.returns-in_default-clause-none
+returns-in_default-clause-none c =
+    let n : length c.self.inside.waiting.keys ≡ 0 = search (rules, arith) in
+    let none : [] ≡ ids_waiting c.self.invariant.list = sym (empty_of c.self.inside.waiting.keys n) ∙ c.self.invariant.wait in
+    (c.self.view_is, rw (← c.self.view_is) (subst NoneWaits (sym (list_is c.self.invariant)) (none_waits c.self.invariant.list none)))

@@ -1,12 +1,12 @@
-use Rattle.ttrpc_server.proofs.Keyed.{count_waits, jobs_rise, not_past}
+use Rattle.ttrpc_server.proofs.Words.{rules, ◌≡◌, ◌∙◌, ap, sym, List, ℕ, length, filter, ActiveJob, ids_waiting, waits}
+use Rattle.ttrpc_server.proofs.Keyed.{counted, jobs_rise, list_is}
 use Rattle.ttrpc_server.proofs.jobs.Jobs.waiting.Goals as goal
 
-pub overflow_sub-result : goal.overflow_sub-result
-overflow_sub-result c = not_past c.self.invariant
-
 pub returns-clause-count : goal.returns-clause-count
-returns-clause-count c = rw (← c.self.view_is) (count_waits _ _ _ c.self.invariant)
+returns-clause-count c =
+    let a = c.self.invariant in
+    let n : c.len.result ≡ length c.self.inside.waiting.keys = search rules in
+    rw (← c.self.view_is) (n ∙ ap (λ (l : List ℕ). length l) a.wait ∙ counted a.list ∙ ap (λ (l : List ActiveJob). length (filter waits l)) (sym (list_is a)))
 
 pub returns-clause-rise : goal.returns-clause-rise
-returns-clause-rise c =
-    rw (← c.self.view_is) (jobs_rise c.self.invariant)
+returns-clause-rise c = rw (← c.self.view_is) (jobs_rise c.self.invariant)

@@ -1,16 +1,21 @@
-use Rattle.ttrpc_server.proofs.Words.{rules, ◌≡◌, refl, on_ok_weaker, Refused, status_response, SendResponse, row_of, unopened_response_text}
-use Rattle.ttrpc_wire.specs.declared.values.code.Code.TheVariants.{UNKNOWN}
-use Rattle.ttrpc_server.proofs.Sending.{tells}
+use Rattle.ttrpc_server.proofs.Words.{rules, ◌≡◌, ◌∙◌, sym, ap, on_ok_weaker, jobs_at}
+use Rattle.ttrpc_server.specs.Table.{answer_row, case_of, case_row, inlet_of}
+use Rattle.ttrpc_server.proofs.Kept.{case_is_answered}
+use Rattle.ttrpc_server.proofs.Streams.{same_case}
+use Rattle.ttrpc_server.proofs.Sending.{answers}
 use Rattle.ttrpc_server.proofs.state.ServerStateReacts.react.Goals as goal
 
-pub returns-in_ok-response-in-TooLong-clause-ok : goal.returns-in_ok-response-in-TooLong-clause-ok
-returns-in_ok-response-in-TooLong-clause-ok g c =
-    let row : row_of c.args.self.now c.args.arrived ≡ SendResponse c.in_ok-response-in-TooLong.response = rw (c.in-TooLong.is, c.in_ok-response-in-TooLong.ensures) refl in
-    on_ok_weaker c.send_own_answer.result (λ x. tells g.O.OutboundTransform _ c.args.self.now c.args.arrived.header _ c.args.outbox.now c.send_own_answer.new.outbox row x) c.send_own_answer.ensures.ok
-
-pub returns-in_ok-response-in-Refused-clause-ok : goal.returns-in_ok-response-in-Refused-clause-ok
-returns-in_ok-response-in-Refused-clause-ok g c =
-    let is : c.args.arrived.opening ≡ Refused c.in-Refused.why = c.in-Refused.is in
-    let text : c.in_ok-response-in-Refused.response ≡ status_response UNKNOWN (unopened_response_text c.in-Refused.why) = search rules in
-    let row : row_of c.args.self.now c.args.arrived ≡ SendResponse c.in_ok-response-in-Refused.response = rw (is, text) refl in
-    on_ok_weaker c.send_own_answer-in-Refused.result (λ x. tells g.O.OutboundTransform _ c.args.self.now c.args.arrived.header _ c.args.outbox.now c.send_own_answer-in-Refused.new.outbox row x) c.send_own_answer-in-Refused.ensures.ok
+pub returns-in_ok-answer-in_default-clause-ok : goal.returns-in_ok-answer-in_default-clause-ok
+returns-in_ok-answer-in_default-clause-ok g c =
+    let s = c.self.inside in
+    let a = c.args.arrived in
+    let inlet = c.inlet-inlet.result in
+    let has = rw (← c.self.view_is) at c.inlet-inlet.ensures in
+    let same = same_case s.rules a.header a.opening (inlet_of (jobs_at s.jobs.list a.header.stream_id)) inlet (λ async. sym (has async)) in
+    let case : case_of s.rules a.header a.opening inlet ≡ c.case_of.result = search rules in
+    let no = c.in_default.not-Asks in
+    let row : case_row s.rules s.registry a.header (case_of s.rules a.header a.opening (inlet_of (jobs_at s.jobs.list a.header.stream_id))) ≡ answer_row c.in_ok-answer-in_default.answer =
+    ap (case_row s.rules s.registry a.header) (same ∙ case)
+    ∙ case_is_answered s.rules s.registry a.header c.case_of.result (λ plain is. first_of (search (rules, no), grind (rules, no)))
+    ∙ ap answer_row (sym c.in_ok-answer-in_default.ensures) in
+    rw (← c.self.view_is) (on_ok_weaker c.send_answer.result (λ x. answers g.O.OutboundTransform _ _ a.header a.now _ c.args.outbox.now _ row x) c.send_answer.ensures.ok)

@@ -7,6 +7,7 @@ run-requires c = rw (c.new.ensures, c.new-client.ensures, c.new-server.ensures) 
   first = 1;
   client = refl;
   rules = _;
+  sync = refl;
   services = _;
   server = refl;
   up = refl;

@@ -12,6 +12,7 @@ run-requires c =
       first = 1;
       client = refl;
       rules = _;
+      sync = refl;
       services = _;
       server = refl;
       up = refl;

@@ -1,6 +1,5 @@
-use Rattle.ttrpc_world.proofs.Words.{◌++◌, ◌∷◌, ◌∙◌, [], ap, refl, halves, rules}
-use Rattle.ttrpc_server.proofs.Sending.{unsent_answer}
-use Rattle.ttrpc_world.proofs.Replies.{responds_to}
+use Rattle.ttrpc_world.proofs.Words.{◌++◌, ◌∷◌, ◌∙◌, [], ap, halves, rules}
+use Rattle.ttrpc_world.proofs.Replies.{refuses_response, responds_to}
 use Rattle.ttrpc_world.proofs.world.World.respond.Goals as goal
 
 pub returns-in-Ok : goal.returns-in-Ok
@@ -16,6 +15,6 @@ pub returns-in-Err : goal.returns-in-Err
 returns-in-Err g c =
     let taken = rw (← c.self.view_is) at c.in-Some-awaiting.ensures.some in
     rw (← c.self.view_is) (
-      unsent_answer g.SO.OutboundTransform c.self.inside.server c.args.id c.in-Some-awaiting.stream_id taken.0 c.args.response.now _ c.in-Err.error taken.1 taken.2 refl c.in-Err.ensures.refused,
+      refuses_response g.SO.OutboundTransform c.self.inside.server c.args.id c.in-Some-awaiting.stream_id taken.0 c.args.response.now c.in-Err.error taken.1 taken.2 c.in-Err.ensures.refused,
       search rules,
     )

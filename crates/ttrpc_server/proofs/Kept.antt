@@ -1,0 +1,273 @@
+-- What finds jobs goes on to find them, through each change of the jobs.
+use Rattle.ttrpc_server.proofs.Words.{rules, arith, inl, inr, ◌≡◌, ◌≢◌, ◌<◌, ◌≤◌, ◌&&◌, ℕ, ◌+◌, nat_eq, nat_cmp, is_at, List, [], ◌∷◌, ◌++◌, length, list_any, Option, Some, None, Bool, true, false, refl, sym, ap, subst, ◌∙◌, AllByRecursion, pushed_own, pushed_other, between_own, between_other, under_both, Request, ActiveJob, Job, Rules, Async, HandsOne, IsJob, IsTaken, jobs_at, Rising, deadline_in, AreSingle, Finds, FindsTheSame, Indexed, IsKept, Loses, first_id, is_due_at, job_found}
+use Rattle.std.proofs.Common.{◌||◌}
+use Rattle.std.proofs.lemmas.List.Folds.{list_any-append}
+use Rattle.std.proofs.lemmas.Map.Lookups.{exact_unsigned}
+use Rattle.ttrpc_connection.specs.Deadlines.{ChangesTo, has_deadline, is_moment}
+use Rattle.ttrpc_connection.proofs.Words.{if◌then◌else◌, cases_eq, eqb-true, length-append, ne_eqb, Equal-is, cases_Bool}
+use Rattle.ttrpc_server.proofs.Keyed.{at_most, before_it}
+use Rattle.ttrpc_server.proofs.Streams.{stream_id_of}
+use Rattle.std.proofs.Common.{IfSome, IfNone}
+use Rattle.ttrpc_connection.specs.declared.arrived.Opening.{Opening}
+use Rattle.ttrpc_server.specs.Kept.{no_index}
+use Rattle.ttrpc_server.specs.State.{Services}
+use Rattle.ttrpc_server.specs.Table.{answer_row, asked_answer, asked_row, case_answer, case_of, case_row, inlet_of}
+use Rattle.ttrpc_server.specs.Types.{MessageHeader, TooLong, Refused, Opened, Sync, Inlet, Absent, Busy, Case, Skipped, EvenId, Inactive, InUse, Asks, Asked, Call}
+
+-- ---- one change of what finds them
+
+-- what a change of the map says of the others
+pub apart_place : (k q : ℕ) → q ≢ k → is_at (nat_cmp k) q ≡ false
+apart_place k q apart = elim (cases_Bool (is_at (nat_cmp k) q)) [
+  | inl e ↦ absurd (apart (sym (exact_unsigned k q (search (rules, Equal-is)))))
+  | inr e ↦ e
+]
+
+-- ---- due jobs
+
+-- whether this job has this id and is due then
+abbrev is_job_due : ℕ → ℕ → ActiveJob → Bool
+is_job_due at id j = nat_eq id j.id && is_moment at (deadline_in j.body)
+
+-- no job of a list of rising ids has an id above them all
+none_above : (low high id at : ℕ) (js : List ActiveJob) → Rising low js high → high < id → is_due_at js at id ≡ false
+none_above low high id at [] rising above = refl
+none_above low high id at (j ∷ js) rising above =
+    let more = none_above j.id high id at js rising.1 above in
+    let most = at_most j.id high js rising.1 in
+    let apart : id ≢ j.id = λ same. omega (arith, same, most, above) in
+    rw (ne_eqb id j.id apart) more
+
+-- nor one below them all
+none_below : (low high id at : ℕ) (js : List ActiveJob) → Rising low js high → id ≤ low → is_due_at js at id ≡ false
+none_below low high id at [] rising below = refl
+none_below low high id at (j ∷ js) rising below =
+    let more = none_below j.id high id at js rising.1 (omega (arith, rising.0, below)) in
+    let apart : id ≢ j.id = λ same. omega (arith, same, rising.0, below) in
+    rw (ne_eqb id j.id apart) more
+
+-- nor one of those around the job that has it
+none_around : (low high at : ℕ) (front back : List ActiveJob) (job : ActiveJob) → Rising low (front ++ job ∷ back) high → is_due_at (front ++ back) at job.id ≡ false
+none_around low high at [] back job rising = none_below job.id high job.id at back rising.1 (omega arith)
+none_around low high at (j ∷ front) back job rising =
+    let more = none_around j.id high at front back job rising.1 in
+    let less : j.id < job.id = before_it j.id high front back job rising.1 in
+    let apart : job.id ≢ j.id = λ same. omega (arith, same, less) in
+    rw (ne_eqb job.id j.id apart) more
+
+-- those around a job are due as all are, but for it
+due_around : (at id : ℕ) (front back : List ActiveJob) (job : ActiveJob) → is_due_at (front ++ job ∷ back) at id ≡ (is_job_due at id job || is_due_at (front ++ back) at id)
+due_around at id front back job =
+    list_any-append (is_job_due at id) front (job ∷ back) ∙ by (list_any (is_job_due at id) front) (is_job_due at id job) (list_any (is_job_due at id) back)
+    ∙ ap (λ b. is_job_due at id job || b) (sym (list_any-append (is_job_due at id) front back))
+  where
+    by : (f j b : Bool) → (f || (j || b)) ≡ (j || (f || b))
+    by true true b = refl
+    by true false b = refl
+    by false j b = refl
+
+-- ---- a job is made
+
+first_of_none : (js : List ActiveJob) → first_id js ≡ None → js ≡ []
+first_of_none [] none = refl
+first_of_none (j ∷ js) none = cc
+
+fresh_due : (index mid : Indexed) (list : List ActiveJob) (last : ℕ) (job : ActiveJob) → Rising 0 list last → job.id ≡ last + 1
+    → ((at id : ℕ) → has_deadline index.deadlines at id ≡ is_due_at list at id) → ChangesTo true index.deadlines job.id (deadline_in job.body) mid.deadlines
+    → (at id : ℕ) → has_deadline mid.deadlines at id ≡ is_due_at (list ++ job ∷ []) at id
+fresh_due index mid list last job rising next were changes at id =
+    changes at id ∙ ap (λ b. if is_job_due at id job then true else b) (were at id) ∙ by (is_job_due at id job) (is_due_at list at id) ∙ sym (list_any-append (is_job_due at id) list (job ∷ []))
+  where
+    by : (j b : Bool) → (if j then true else b) ≡ (b || (j || false))
+    by true true = refl
+    by true false = refl
+    by false true = refl
+    by false false = refl
+
+single_made : (list : List ActiveJob) (job : ActiveJob) → AreSingle list → jobs_at list job.header.stream_id ≡ [] → AreSingle (list ++ job ∷ [])
+single_made list job single free k = elim (cases_eq k job.header.stream_id) [
+  | inl here ↦ rw (here, pushed_own stream_id_of job.header.stream_id job list refl, free) (omega arith)
+  | inr apart ↦ rw (pushed_other stream_id_of k job list (λ same. apart (sym same))) (single k)
+]
+
+found_made : (index mid : Indexed) (list : List ActiveJob) (job : ActiveJob) (deadline : Option ℕ) → jobs_at list job.header.stream_id ≡ []
+    → ((k : ℕ) → job_found index k ≡ first_id (jobs_at list k)) → Finds index job.header.stream_id job.id deadline mid → (k : ℕ) → job_found mid k ≡ first_id (jobs_at (list ++ job ∷ []) k)
+found_made index mid list job deadline free were finds k = elim (cases_eq k job.header.stream_id) [
+  | inl here ↦ rw (here, pushed_own stream_id_of job.header.stream_id job list refl, free) finds.own
+  | inr apart ↦ rw (pushed_other stream_id_of k job list (λ same. apart (sym same))) (finds.others k apart ∙ were k)
+]
+
+pub kept_made : (r : Rules) (index mid : Indexed) (list : List ActiveJob) (last : ℕ) (job : ActiveJob) → IsKept r list index → Rising 0 list last → job.id ≡ last + 1 → (r ≡ Async → jobs_at list job.header.stream_id ≡ [])
+    → r ≡ Async → Finds index job.header.stream_id job.id (deadline_in job.body) mid → IsKept r (list ++ job ∷ []) mid
+kept_made r index mid list last job kept rising next free async finds = record {
+  deadlines = fresh_due index mid list last job rising next kept.deadlines finds.deadlines;
+  single = λ is. single_made list job (kept.single is) (free is);
+  found = λ is. found_made index mid list job (deadline_in job.body) (free is) (kept.found is) finds;
+}
+
+-- under sync rules, without a deadline
+pub kept_plainly : (r : Rules) (index : Indexed) (list : List ActiveJob) (job : ActiveJob) → IsKept r list index → deadline_in job.body ≡ None → (r ≡ Async → ⊥) → IsKept r (list ++ job ∷ []) index
+kept_plainly r index list job kept none sync = record {
+  deadlines = λ at id. kept.deadlines at id ∙ sym (list_any-append (is_job_due at id) list (job ∷ []) ∙ rw none (by (is_due_at list at id) (nat_eq id job.id)));
+  single = λ is. absurd (sync is);
+  found = λ is. absurd (sync is);
+}
+  where
+    by : (b e : Bool) → (b || ((e && false) || false)) ≡ b
+    by true e = refl
+    by false true = refl
+    by false false = refl
+
+-- all are found as before
+pub kept_same : (r : Rules) (index new : Indexed) (list : List ActiveJob) → IsKept r list index → FindsTheSame index new → IsKept r list new
+kept_same r index new list kept same = record {
+  deadlines = λ at id. same.deadlines at id ∙ kept.deadlines at id;
+  single = kept.single;
+  found = λ is k. same.streams k ∙ kept.found is k;
+}
+
+-- a job that would have been made is found no more
+undone : (j had : Bool) → (j ≡ true → had ≡ false) → (if j then false else (if j then true else had)) ≡ had
+undone true had none = sym (none refl)
+undone false had none = refl
+
+and_left : (a b : Bool) → (a && b) ≡ true → a ≡ true
+and_left true b both = refl
+and_left false b both = both
+
+pub taken_back : (r : Rules) (index mid new : Indexed) (list : List ActiveJob) (last k id : ℕ) (deadline : Option ℕ) → IsKept r list index → Rising 0 list last → id ≡ last + 1 → job_found index k ≡ None
+    → Finds index k id deadline mid → Loses mid k id deadline new → FindsTheSame index new
+taken_back r index mid new list last k id deadline kept rising next none finds loses = record {
+  streams = λ q. elim (cases_eq q k) [
+    | inl here ↦ rw here (loses.own ∙ sym none)
+    | inr apart ↦ loses.others q apart ∙ finds.others q apart
+  ];
+  deadlines = λ at q. loses.deadlines at q ∙ ap (λ b. if nat_eq q id && is_moment at deadline then false else b) (finds.deadlines at q)
+      ∙ undone (nat_eq q id && is_moment at deadline) (has_deadline index.deadlines at q) (λ both.
+      let same : q ≡ id = eqb-true q id (and_left (nat_eq q id) (is_moment at deadline) both) in
+      kept.deadlines at q ∙ none_above 0 last q at list rising (omega (arith, same, next)));
+}
+
+-- ---- a job is handed out
+
+same_first : (a b : List ActiveJob) (job other : ActiveJob) → job.id ≡ other.id → first_id (a ++ job ∷ b) ≡ first_id (a ++ other ∷ b)
+same_first [] b job other same = ap (λ (i : ℕ). Some i) same
+same_first (x ∷ a) b job other same = refl
+
+same_length : (a b : List ActiveJob) (job other : ActiveJob) → length (a ++ job ∷ b) ≡ length (a ++ other ∷ b)
+same_length a b job other = rw (length-append a (job ∷ b), length-append a (other ∷ b)) refl
+
+-- the jobs of an id, where one of them is changed but for its id and its stream's
+of_id_changed : (P : List ActiveJob → List ActiveJob → Type 0) (k : ℕ) (front back : List ActiveJob) (job other : ActiveJob) → job.header.stream_id ≡ other.header.stream_id
+    → P (jobs_at front k ++ job ∷ jobs_at back k) (jobs_at front k ++ other ∷ jobs_at back k) → P (jobs_at front k ++ jobs_at back k) (jobs_at front k ++ jobs_at back k)
+    → P (jobs_at (front ++ job ∷ back) k) (jobs_at (front ++ other ∷ back) k)
+of_id_changed P k front back job other stream own elsewhere = elim (cases_eq job.header.stream_id k) [
+  | inl here ↦ rw (between_own stream_id_of k front back job here, between_own stream_id_of k front back other (sym stream ∙ here)) own
+  | inr apart ↦ rw (between_other stream_id_of k front back job apart, between_other stream_id_of k front back other (λ same. apart (stream ∙ same))) elsewhere
+]
+
+pub kept_handed : (r : Rules) (index : Indexed) (old new : List ActiveJob) (handed : Job) → IsKept r old index → HandsOne old handed new → IsKept r new index
+kept_handed r index old new handed kept h =
+    let taken = record h.job { request = None } in
+    record {
+      deadlines = λ at id. rw h.jobs (kept.deadlines at id ∙ rw h.was (due_around at id h.front h.back h.job ∙ sym (due_around at id h.front h.back taken)));
+      single = λ is k. let few = kept.single is k in rw h.jobs (subst (λ n. n ≤ 1)
+          (of_id_changed (λ xs ys. length xs ≡ length ys) k h.front h.back h.job taken refl (same_length (jobs_at h.front k) (jobs_at h.back k) h.job taken) refl) (rw h.was at few));
+      found = λ is k. rw h.jobs (kept.found is k ∙ rw h.was
+          (of_id_changed (λ xs ys. first_id xs ≡ first_id ys) k h.front h.back h.job taken refl (same_first (jobs_at h.front k) (jobs_at h.back k) h.job taken refl) refl));
+    }
+
+-- ---- a job is gone
+
+gone : (j others all : Bool) → all ≡ (j || others) → (j ≡ true → others ≡ false) → (if j then false else all) ≡ others
+gone true others all is none = sym (none refl)
+gone false others all is none = is
+
+none_left : (a b : List ActiveJob) (job : ActiveJob) → length (a ++ job ∷ b) ≤ 1 → a ++ b ≡ []
+none_left [] [] job few = refl
+none_left [] (x ∷ b) job few = absurd (omega (arith, few))
+none_left (x ∷ a) b job few = absurd (let n = length-append a (job ∷ b) in omega (arith, n, few))
+
+alone : (list : List ActiveJob) (id : ℕ) (job : ActiveJob) (at : IsJob list id job) → AreSingle list → jobs_at (at.front ++ at.back) job.header.stream_id ≡ []
+alone list id job at single =
+    let k = job.header.stream_id in
+    let own = ap (λ jobs. jobs_at jobs k) at.is ∙ between_own stream_id_of k at.front at.back job refl in
+    under_both stream_id_of k at.front at.back ∙ none_left (jobs_at at.front k) (jobs_at at.back k) job (subst (λ (xs : List ActiveJob). length xs ≤ 1) own (single k))
+
+elsewhere : (list : List ActiveJob) (id : ℕ) (job : ActiveJob) (at : IsJob list id job) (k : ℕ) → k ≢ job.header.stream_id → jobs_at (at.front ++ at.back) k ≡ jobs_at list k
+elsewhere list id job at k apart =
+    under_both stream_id_of k at.front at.back
+    ∙ sym (ap (λ jobs. jobs_at jobs k) at.is ∙ between_other stream_id_of k at.front at.back job (λ same. apart (sym same)))
+
+pub kept_ended : (r : Rules) (index new : Indexed) (list : List ActiveJob) (last id : ℕ) (job : ActiveJob) (at : IsJob list id job) → IsKept r list index → Rising 0 list last
+    → Loses index job.header.stream_id id (deadline_in job.body) new → IsKept r (at.front ++ at.back) new
+kept_ended r index new list last id job at kept rising loses = record {
+  deadlines = λ moment q. loses.deadlines moment q
+      ∙ subst (λ (i : ℕ). (if nat_eq q i && is_moment moment (deadline_in job.body) then false else has_deadline index.deadlines moment q) ≡ is_due_at (at.front ++ at.back) moment q) at.is_job
+      (gone (is_job_due moment q job) (is_due_at (at.front ++ at.back) moment q) (has_deadline index.deadlines moment q)
+      (kept.deadlines moment q ∙ ap (λ jobs. is_due_at jobs moment q) at.is ∙ due_around moment q at.front at.back job)
+      (λ due. let same : q ≡ job.id = eqb-true q job.id (and_left (nat_eq q job.id) (is_moment moment (deadline_in job.body)) due) in
+      rw same (none_around 0 last moment at.front at.back job (subst (λ jobs. Rising 0 jobs last) at.is rising))));
+  single = λ is k. elim (cases_eq k job.header.stream_id) [
+    | inl here ↦ rw (here, alone list id job at (kept.single is)) (omega arith)
+    | inr apart ↦ rw (elsewhere list id job at k apart) (kept.single is k)
+  ];
+  found = λ is k. elim (cases_eq k job.header.stream_id) [
+    | inl here ↦ rw (here, alone list id job at (kept.single is)) loses.own
+    | inr apart ↦ rw (elsewhere list id job at k apart) (loses.others k apart ∙ kept.found is k)
+  ];
+}
+
+pub kept_none : (r : Rules) → IsKept r [] no_index
+kept_none r = record { deadlines = λ at id. refl; single = λ is k. omega arith; found = λ is k. refl }
+
+pub none_weaker : {T P Q : Type 0} (r : Option T) → (P → Q) → IfNone r P → IfNone r Q
+none_weaker None f h = f h
+none_weaker (Some x) f h = tt
+
+pub kept_by_hand_out : (r : Rules) (index : Indexed) (old new : List ActiveJob) (given : Option Job) → IsKept r old index → IfSome given (λ job. HandsOne old job new) → IfNone given (new ≡ old) → IsKept r new index
+kept_by_hand_out r index old new (Some job) kept some none = kept_handed r index old new job kept some
+kept_by_hand_out r index old new None kept some none = rw none kept
+
+-- ---- what an id has
+
+pub inlet_absent : (js : List ActiveJob) → first_id js ≡ None → Absent ≡ inlet_of js
+inlet_absent [] none = refl
+inlet_absent (j ∷ js) none = cc
+
+pub inlet_busy : (js : List ActiveJob) (id : ℕ) → first_id js ≡ Some id → Busy ≡ inlet_of js
+inlet_busy [] id some = cc
+inlet_busy (j ∷ js) id some = refl
+
+pub none_of_absent : (js : List ActiveJob) → inlet_of js ≡ Absent → js ≡ []
+none_of_absent [] absent = refl
+none_of_absent (j ∷ js) absent = cc
+
+-- ---- which case a frame is
+
+never_asks : (a b c d : Bool) (plain : List ℕ) → (if a then Skipped else (if b then EvenId else (if c then InUse else (if d then Inactive else Skipped)))) ≡ Asks plain → ⊥
+never_asks true b c d plain is = cc
+never_asks false true c d plain is = cc
+never_asks false false true d plain is = cc
+never_asks false false false true plain is = cc
+never_asks false false false false plain is = cc
+
+-- under async rules a request is read only where its id has no job
+pub asks_where_absent : (h : MessageHeader) (opening : Opening) (inlet : Inlet) (plain : List ℕ) → case_of Async h opening inlet ≡ Asks plain → inlet ≡ Absent
+asks_where_absent h opening Absent plain is = refl
+asks_where_absent h TooLong Busy plain is = cc
+asks_where_absent h (Refused why) Busy plain is = cc
+asks_where_absent h (Opened bytes) Busy plain is = absurd (never_asks _ _ _ _ plain is)
+
+pub case_is_answered : (r : Rules) (services : Services) (h : MessageHeader) (case : Case) → ((plain : List ℕ) → case ≡ Asks plain → ⊥) → case_row r services h case ≡ answer_row (case_answer h case)
+case_is_answered r services h (Asks plain) other = absurd (other plain refl)
+case_is_answered r services h case other = refl
+
+pub asked_is_answered : (request : Request) (asked : Asked) → (asked ≡ Call → ⊥) → asked_row request asked ≡ answer_row (asked_answer request asked)
+asked_is_answered request Call other = absurd (other refl)
+asked_is_answered request asked other = refl
+
+-- ---- one that was taken
+
+abbrev pub as_job : {jobs : List ActiveJob} {id : ℕ} {job : ActiveJob} → IsTaken jobs id job → IsJob jobs id job
+as_job at = record { front = at.front; back = at.back; is = at.is; is_job = at.is_job }

@@ -1,0 +1,162 @@
+-- The table of a server: which case a frame is, what a request does that was read, and what each of them does.
+-- The kinds of frames, and that a request is answered by one response under its stream's id, are PROTOCOL.md's. What it
+-- leaves open, which is codes, texts and which frames are passed over, is as the Rust crate has it, which has two servers:
+-- each of the two rules is one of them. That async rules refuse an id whose job is active is this project's.
+-- Source: PROTOCOL.md of ttrpc, "Message Frame", "Request" and "Response"; the Rust crate; this project's.
+use Rattle.std.specs.Prelude.{ℕ, ◌%◌, List, ◌++◌, length, codes, Option, None, Some, Bool, nat_eq, nat_lt, if◌then◌else◌, [], ◌∷◌}
+use Rattle.std.specs.Fmt.{decimal}
+use Rattle.ttrpc_server.specs.Types.{Code, UNKNOWN, INVALID_ARGUMENT, UNIMPLEMENTED, MessageHeader, MESSAGE_LENGTH_MAX, MESSAGE_TYPE_DATA, MESSAGE_TYPE_REQUEST, Request, Response, TooLong, Opened, Refused, ActiveJob, Rules, Sync, Async, Inlet, Absent, Busy, Case, Skipped, Oversize, Unopened, EvenId, Inactive, InUse, Asks, Asked, Call, NoPath, NoService, NoMethod}
+use Rattle.ttrpc_wire.specs.Fold.{read_from}
+use Rattle.ttrpc_proto.specs.ErrorText.{status_of}
+use Rattle.ttrpc_proto.specs.Messages.{empty_request, request_step}
+use Rattle.ttrpc_frame.specs.Header.Oversize.{oversize_text}
+use Rattle.ttrpc_secure.specs.Context.Texts.{unopened_text}
+use Rattle.ttrpc_connection.specs.declared.arrived.Opening.{Opening}
+use Rattle.ttrpc_server.specs.State.{Services, has_method, has_service}
+
+-- ---- which case a frame is, from top to bottom
+
+-- what these jobs, those of an id, are for a frame under it
+abbrev pub inlet_of : List ActiveJob → Inlet
+inlet_of [] = Absent
+inlet_of (j ∷ js) = Busy
+
+-- a payload was opened, under sync rules
+abbrev pub sync_case : MessageHeader → List ℕ → Case
+sync_case h plain =
+    if nat_lt MESSAGE_LENGTH_MAX (length plain) then Oversize (length plain) else
+    if nat_eq h.type_ MESSAGE_TYPE_REQUEST then Asks plain else
+    Skipped
+
+-- a request under async rules, by what its id has
+abbrev pub inlet_case : List ℕ → Inlet → Case
+inlet_case plain Absent = Asks plain
+inlet_case plain Busy = InUse
+
+-- a payload was opened, under async rules
+abbrev pub async_case : MessageHeader → List ℕ → Inlet → Case
+async_case h plain inlet =
+    if nat_lt MESSAGE_LENGTH_MAX (length plain) then Skipped else
+    if nat_eq (h.stream_id % 2) 0 then EvenId else
+    if nat_eq h.type_ MESSAGE_TYPE_REQUEST then inlet_case plain inlet else
+    if nat_eq h.type_ MESSAGE_TYPE_DATA then Inactive else
+    Skipped
+
+-- a payload was opened
+abbrev pub opened_case : Rules → MessageHeader → List ℕ → Inlet → Case
+opened_case Sync h plain inlet = sync_case h plain
+opened_case Async h plain inlet = async_case h plain inlet
+
+-- the inbound half refused a payload
+abbrev pub unopened_case : Rules → List ℕ → Case
+unopened_case Sync why = Unopened why
+unopened_case Async why = Skipped
+
+-- the case of a frame, by what the inbound half made of its payload
+abbrev pub case_of : Rules → MessageHeader → Opening → Inlet → Case
+case_of rules h TooLong inlet = Oversize h.length
+case_of rules h (Refused why) inlet = unopened_case rules why
+case_of rules h (Opened plain) inlet = opened_case rules h plain inlet
+
+-- ---- what a request does that was read
+
+-- there is no such method
+abbrev pub unknown_of : Rules → Services → Request → Asked
+unknown_of Sync services r = NoPath
+unknown_of Async services r = if has_service services r.service then NoMethod else NoService
+
+-- what a request does that was read
+abbrev pub asked_of : Rules → Services → Request → Asked
+asked_of rules services r = if has_method services r.service r.method then Call else unknown_of rules services r
+
+-- ---- what is answered: a code and a text, or nothing
+
+-- the response with the status of this code and message, and no payload
+abbrev pub status_response : Code → List ℕ → Response
+status_response code message = record { status = Some (status_of code message); payload = [] }
+
+-- the inbound half didn't open a payload
+abbrev pub unopened_response_text : List ℕ → List ℕ
+unopened_response_text why = codes "ttrpc err: " ++ unopened_text why
+
+-- an id is even
+abbrev pub even_id_text : List ℕ
+even_id_text = codes "stream id must be odd"
+
+-- data come for no active stream
+abbrev pub inactive_text : List ℕ
+inactive_text = codes "Stream is no longer active"
+
+-- an id has an active job
+abbrev pub in_use_text : ℕ → List ℕ
+in_use_text k = codes "stream id " ++ decimal k ++ codes " is in use"
+
+-- no handler has this path
+abbrev pub path_text : List ℕ → List ℕ → List ℕ
+path_text service method = codes "/" ++ service ++ codes "/" ++ method ++ codes " does not exist"
+
+-- there is no such service
+abbrev pub service_text : List ℕ → List ℕ
+service_text service = service ++ codes " service does not exist"
+
+-- the service has no such method
+abbrev pub method_text : List ℕ → List ℕ
+method_text method = method ++ codes " method"
+
+-- a response of this code and text
+abbrev pub answer : Code → List ℕ → Option Response
+answer code text = Some (status_response code text)
+
+-- what is answered at a case
+abbrev pub case_answer : MessageHeader → Case → Option Response
+case_answer h Skipped = None
+case_answer h (Oversize n) = answer INVALID_ARGUMENT (oversize_text n)
+case_answer h (Unopened why) = answer UNKNOWN (unopened_response_text why)
+case_answer h EvenId = answer INVALID_ARGUMENT even_id_text
+case_answer h Inactive = answer INVALID_ARGUMENT inactive_text
+case_answer h InUse = answer INVALID_ARGUMENT (in_use_text h.stream_id)
+case_answer h (Asks plain) = None
+
+-- what is answered to a request that was read
+abbrev pub asked_answer : Request → Asked → Option Response
+asked_answer r Call = None
+asked_answer r NoPath = answer INVALID_ARGUMENT (path_text r.service r.method)
+asked_answer r NoService = answer INVALID_ARGUMENT (service_text r.service)
+asked_answer r NoMethod = answer UNIMPLEMENTED (method_text r.method)
+
+-- ---- which row a frame has
+
+-- what a frame does
+pub data Row : Type 0 where
+  -- nothing
+  Ignore : Row
+  -- this response is sent
+  SendResponse : (response : Response) → Row
+  -- a response of this code is sent, whose text is left open
+  SendCode : (code : Code) → Row
+  -- a job is made of the request
+  MakeJob : (request : Request) → Row
+
+-- what is answered is sent
+abbrev pub answer_row : Option Response → Row
+answer_row None = Ignore
+answer_row (Some r) = SendResponse r
+
+-- the row of a request that was read
+abbrev pub asked_row : Request → Asked → Row
+asked_row r Call = MakeJob r
+asked_row r asked = answer_row (asked_answer r asked)
+
+-- the row of a request, and of bytes that mean none
+abbrev pub request_row : Rules → Services → Option Request → Row
+request_row rules services None = SendCode INVALID_ARGUMENT
+request_row rules services (Some r) = asked_row r (asked_of rules services r)
+
+-- the row of each case
+abbrev pub case_row : Rules → Services → MessageHeader → Case → Row
+case_row rules services h (Asks plain) = request_row rules services (read_from request_step empty_request plain)
+case_row rules services h case = answer_row (case_answer h case)
+
+-- the rows under sync rules, whatever the id of the frame has
+abbrev pub sync_row : Services → MessageHeader → Opening → Row
+sync_row services h opening = case_row Sync services h (case_of Sync h opening Absent)

@@ -1,0 +1,70 @@
+//! What finds the jobs of a server: by the stream's id, and by the deadline.
+ghost use Rattle.std.specs.Prelude.{◌≡◌, OnOk, OnErr, None};
+ghost use Rattle.ttrpc_server.specs.Kept.{Finds, FindsTheSame, Loses, job_found, no_index};
+
+use crate::job::JobId;
+use std::alloc::{AllocError, Global};
+use std::collections::BTreeMap;
+use std::marker::Model;
+use ttrpc_connection::deadlines::Deadlines;
+
+/// The active job of each stream id, and the deadlines of jobs, soonest first.
+#[derive(Drop)]
+pub(crate) struct Index {
+    streams: BTreeMap<u32, JobId>,
+    deadlines: Deadlines,
+}
+
+impl Model for Index {
+    ghost use Rattle.ttrpc_server.specs.Kept.{Indexed};
+
+    ghost Value = { Indexed };
+
+    ghost view = { λ a. record { streams = a.streams.entries; deadlines = a.deadlines } };
+}
+
+impl Index {
+    /// It finds none. Takes no memory.
+    pub(crate) fn new(alloc: Global) -> Self
+        ensures { result ≡ no_index }
+    {
+        Index {
+            streams: BTreeMap::new(alloc),
+            deadlines: Deadlines::new(alloc),
+        }
+    }
+
+    /// From now on the job of this id is found, under a stream id that has none. At an `Err` all are found as before.
+    pub(crate) fn add(
+        &mut self,
+        stream_id: u32,
+        id: JobId,
+        deadline: Option<u128>,
+    ) -> Result<(), AllocError>
+        requires { job_found self.old stream_id ≡ None }
+        ensures ok { OnOk result (Finds self.old stream_id id deadline self.new) }
+        ensures err { OnErr result (FindsTheSame self.old self.new) }
+    {
+        self.streams.insert(stream_id, id)?;
+        if self.deadlines.add(id, deadline).is_err() {
+            let _ = self.streams.remove(&stream_id);
+            return Err(AllocError);
+        }
+        Ok(())
+    }
+
+    /// From now on the job of this id is found no more. Takes no memory.
+    pub(crate) fn take_away(&mut self, stream_id: u32, id: JobId, deadline: Option<u128>)
+        ensures { Loses self.old stream_id id deadline self.new }
+    {
+        let _ = self.streams.remove(&stream_id);
+        self.deadlines.take_away(id, deadline);
+    }
+
+    /// The active job of this stream id. Takes no memory.
+    pub(crate) fn job_of(&self, stream_id: u32) -> Option<JobId>
+        ensures { result ≡ job_found self.now stream_id }
+    {
+        self.streams.get(&stream_id).copied()
+    }
+}

@@ -1,0 +1,168 @@
+//! The table: which case a frame is, what a request does that was read, and what is answered to either.
+ghost use Rattle.std.specs.Prelude.{◌≡◌, IfOk};
+ghost use Rattle.ttrpc_server.specs.Table.{asked_answer, asked_of, async_case, case_answer, case_of, inlet_case, opened_case, sync_case};
+
+use crate::registry::Registry;
+use crate::responses::{
+    even_id_response, in_use_response, inactive_response, method_response, oversize_response,
+    path_response, service_response, unopened_response,
+};
+use crate::rules::Rules;
+use std::alloc::{AllocError, Global};
+use ttrpc_connection::Opening;
+use ttrpc_frame::{MESSAGE_LENGTH_MAX, MESSAGE_TYPE_DATA, MESSAGE_TYPE_REQUEST, MessageHeader};
+use ttrpc_proto::{Request, Response};
+use ttrpc_wire::{Blob, Text};
+
+/// What an id has for a frame under it.
+#[derive(Clone, Copy, Debug, PartialEq, Eq)]
+pub enum Inlet {
+    /// No active job.
+    Absent,
+    /// An active job that takes no data.
+    Busy,
+}
+
+/// Which case of the table a frame is, before its request is read.
+#[derive(Debug, Drop)]
+pub enum Case {
+    /// It does nothing.
+    Skipped,
+    /// A message of this length is too long.
+    Oversize(usize),
+    /// The inbound half didn't open it, for this reason.
+    Unopened(Text),
+    /// Its id is even.
+    EvenId,
+    /// It is data, which no active stream takes.
+    Inactive,
+    /// Its id has an active job.
+    InUse,
+    /// This is to be read as a request.
+    Asks(Blob),
+}
+
+/// What a request does that was read.
+#[derive(Clone, Copy, Debug, PartialEq, Eq)]
+pub enum Asked {
+    /// A job is made of it.
+    Call,
+    /// It is answered that there is no such path.
+    NoPath,
+    /// It is answered that there is no such service.
+    NoService,
+    /// It is answered that the service has no such method.
+    NoMethod,
+}
+
+/// The case of a frame, by what was opened and what its id has. The first test that fits counts.
+pub fn case_of(rules: Rules, header: &MessageHeader, opening: Opening, inlet: Inlet) -> Case
+    ensures { result ≡ case_of rules header.now opening inlet }
+{
+    match opening {
+        Opening::TooLong => Case::Oversize(header.length as usize),
+        Opening::Refused(why) => match rules {
+            Rules::Sync => Case::Unopened(why),
+            Rules::Async => Case::Skipped,
+        },
+        Opening::Opened(plain) => opened_case(rules, header, plain, inlet),
+    }
+}
+
+// The case of a frame whose payload was opened.
+fn opened_case(rules: Rules, header: &MessageHeader, plain: Blob, inlet: Inlet) -> Case
+    ensures { result ≡ opened_case rules header.now plain inlet }
+{
+    match rules {
+        Rules::Sync => sync_case(header, plain),
+        Rules::Async => async_case(header, plain, inlet),
+    }
+}
+
+fn sync_case(header: &MessageHeader, plain: Blob) -> Case
+    ensures { result ≡ sync_case header.now plain }
+{
+    if plain.len() > MESSAGE_LENGTH_MAX {
+        return Case::Oversize(plain.len());
+    }
+    if header.type_ == MESSAGE_TYPE_REQUEST {
+        return Case::Asks(plain);
+    }
+    Case::Skipped
+}
+
+fn async_case(header: &MessageHeader, plain: Blob, inlet: Inlet) -> Case
+    ensures { result ≡ async_case header.now plain inlet }
+{
+    if plain.len() > MESSAGE_LENGTH_MAX {
+        return Case::Skipped;
+    }
+    if header.stream_id % 2 == 0 {
+        return Case::EvenId;
+    }
+    if header.type_ == MESSAGE_TYPE_REQUEST {
+        return inlet_case(plain, inlet);
+    }
+    if header.type_ == MESSAGE_TYPE_DATA {
+        return Case::Inactive;
+    }
+    Case::Skipped
+}
+
+// A request, by what its id has.
+fn inlet_case(plain: Blob, inlet: Inlet) -> Case
+    ensures { result ≡ inlet_case plain inlet }
+{
+    match inlet {
+        Inlet::Absent => Case::Asks(plain),
+        Inlet::Busy => Case::InUse,
+    }
+}
+
+/// What is answered at a case.
+pub fn case_response(
+    alloc: Global,
+    header: &MessageHeader,
+    case: &Case,
+) -> Result<Option<Response>, AllocError>
+    ensures { IfOk result (λ told. told ≡ case_answer header.now case.now) }
+{
+    match case {
+        Case::Skipped | Case::Asks(_) => Ok(None),
+        Case::Oversize(length) => Ok(Some(oversize_response(alloc, *length)?)),
+        Case::Unopened(why) => Ok(Some(unopened_response(alloc, why)?)),
+        Case::EvenId => Ok(Some(even_id_response(alloc)?)),
+        Case::Inactive => Ok(Some(inactive_response(alloc)?)),
+        Case::InUse => Ok(Some(in_use_response(alloc, header.stream_id)?)),
+    }
+}
+
+/// What a request does, by what the server has.
+pub fn asked_of(rules: Rules, registry: &Registry, request: &Request) -> Asked
+    ensures { result ≡ asked_of rules registry.now request.now }
+{
+    if registry.has_method(&request.service, &request.method) {
+        return Asked::Call;
+    }
+    match rules {
+        Rules::Sync => Asked::NoPath,
+        Rules::Async if registry.has_service(&request.service) => Asked::NoMethod,
+        Rules::Async => Asked::NoService,
+    }
+}
+
+/// What is answered to a request that was read.
+pub fn asked_response(
+    alloc: Global,
+    request: &Request,
+    asked: Asked,
+) -> Result<Option<Response>, AllocError>
+    ensures { IfOk result (λ told. told ≡ asked_answer request.now asked) }
+{
+    match asked {
+        Asked::Call => Ok(None),
+        Asked::NoPath => Ok(Some(path_response(alloc, &request.service, &request.method)?)),
+        Asked::NoService => Ok(Some(service_response(alloc, &request.service)?)),
+        Asked::NoMethod => Ok(Some(method_response(alloc, &request.method)?)),
+    }
+}

@@ -1,0 +1,39 @@
+//! What a script's frames are between halves that stamp: each has its stamp behind its payload.
+use std::alloc::{AllocError, Global};
+use ttrpc_wire::values::slices::{behind, front};
+
+/// The stamps of the next frame that comes, and of the next that leaves.
+#[derive(Drop)]
+pub struct Stamps {
+    pub comes: u8,
+    pub leaves: u8,
+}
+
+/// These frames, each with a stamp, from this one on. What is no whole frame stays as it is.
+pub fn stamped(alloc: Global, frames: &[u8], next: &mut u8) -> Result<Vec<u8>, AllocError> {
+    let mut stamped = Vec::new(alloc);
+    let mut rest = frames;
+    for _ in 0..frames.len() {
+        let length = length_of(rest);
+        let whole = 10_usize.saturating_add(length as usize);
+        if rest.len() < whole {
+            break;
+        }
+        stamped.extend_from_slice(&length.wrapping_add(1).to_be_bytes())?;
+        stamped.extend_from_slice(behind(front(rest, whole), 4))?;
+        stamped.push(*next)?;
+        *next = next.wrapping_add(1);
+        rest = behind(rest, whole);
+    }
+    stamped.extend_from_slice(rest)?;
+    Ok(stamped)
+}
+
+/// The length that the first four bytes state.
+fn length_of(frames: &[u8]) -> u32 {
+    let mut length: u32 = 0;
+    for byte in front(frames, 4) {
+        length = length.wrapping_mul(256).wrapping_add(u32::from(*byte));
+    }
+    length
+}
