@@ -176,9 +176,13 @@ lands_once old o a sent new = LandsOnce old a sent new
 abbrev pub fails_not : Client → Arrived → Failure → Type 0
 fails_not old a failure = ⊥
 
+-- a client takes whatever comes in
+abbrev pub takes_always : Client → Bool
+takes_always s = true
+
 -- what the clauses know of a client core over these halves
 abbrev pub calling : {O I : Type 0} → OutboundTransform O → InboundTransform I → Ways Client O I
-calling out in_ = record { out = out; in_ = in_; core = record { reacts = lands_once; fails = fails_not } }
+calling out in_ = record { out = out; in_ = in_; core = record { reacts = lands_once; fails = fails_not; takes = takes_always } }
 
 -- ---- a request and its frame
 -- Source: PROTOCOL.md of ttrpc, "Request" and "Streaming".

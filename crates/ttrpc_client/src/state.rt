@@ -337,11 +337,17 @@ impl ClientState {
 }
 
 impl<O: OutboundTransform> Reacts<O> for ClientState {
-    ghost use Rattle.ttrpc_client.specs.Protocol.{fails_not, lands_once};
+    ghost use Rattle.ttrpc_client.specs.Protocol.{fails_not, lands_once, takes_always};
 
     ghost reacts = { lands_once };
 
     ghost fails = { fails_not };
+
+    ghost takes = { takes_always };
+
+    fn takes(&self) -> bool {
+        true
+    }
 
     fn react(
         &mut self,

@@ -1,7 +1,7 @@
 -- A piece that is fed in two parts at one moment does what it does whole, so that calls with pieces cut otherwise lead
 -- to the same.
 use Rattle.ttrpc_connection.proofs.Words.{◌≡◌, ◌⊎◌, inl, inr, ℕ, Bool, true, false, cond, nat_eq, List, [], ◌∷◌, ◌++◌, length, map, Option, Some, None, IsSome, is_some, arith, rules, refl, sym, ap, subst, ◌∙◌, append_assoc, length-append, append_cancel_left, map-append, Error, Incoming, Held, nothing, Holds, Fed, given, Queue, Happening, Placed, nothing_held, exact, Connection, Ways, Scene, ActsAll, Feeds, Breaks, scene, Call, Gave, Lent, Reported, Failed, Did, Others, AreLawful, Gives, Calls, Runs, before_others, joined}
-use Rattle.ttrpc_connection.proofs.Feeding.{breaks_behind, breaks_so, fed_twice, feeds_joined}
+use Rattle.ttrpc_connection.proofs.Feeding.{acts_keep, breaks_behind, breaks_so, fed_twice, feeds_joined, still_takes}
 use Rattle.ttrpc_connection.proofs.Holding.{fed_one_way, fed_some}
 use Rattle.ttrpc_connection.proofs.Leaving.{gives_grow}
 
@@ -50,17 +50,20 @@ module _ {S O I : Type 0} (w : Ways S O I) where
 
   breaks_before : (s : S) (old : Connection O I) (at : ℕ) (told : Error) (t : S) (new : Connection O I) (p q : List ℕ) → Breaks w s old p at told t new → Breaks w s old (p ++ q) at told t new
   breaks_before s old at told t new p q b =
-      breaks_so w s s old old (p ++ q) p at told t new b b.frames b.taken (b.rest ++ q) b.alive (ap (λ xs. xs ++ q) b.piece_is ∙ append_assoc b.taken b.rest q) b.fed b.acts
+      breaks_so w s s old old (p ++ q) p at told t new b b.frames b.taken (b.rest ++ q) b.takes b.alive (ap (λ xs. xs ++ q) b.piece_is ∙ append_assoc b.taken b.rest q) b.fed b.acts
 
   pub gives_joined : (s : S) (old : Connection O I) (at : ℕ) (u : S) (mid : Connection O I) (t : S) (new : Connection O I) (p q : List ℕ) → Gives w s old p at u mid → Gives w u mid q at t new → Gives w s old (p ++ q) at t new
   gives_joined s old at u mid t new p q (inl one) (inl two) = inl (feeds_joined w s old at u mid t new p q one two)
   gives_joined s old at u mid t new p q (inl one) (inr (inl two)) = inr (inl (two.0, breaks_behind w s old at u mid two.0 t new p q one two.1))
-  gives_joined s old at u mid t new p q (inl one) (inr (inr two)) = absurd (cc (one.still, two.0))
+  gives_joined s old at u mid t new p q (inl one) (inr (inr (inl failed, is, same))) = absurd (cc (one.still, failed))
+  gives_joined s old at u mid t new p q (inl one) (inr (inr (inr drains, is, same))) = absurd (cc (still_takes w s old p at u mid one, drains))
   gives_joined s old at u mid t new p q (inr (inl one)) (inl two) = absurd (cc (one.1.fails, two.alive))
   gives_joined s old at u mid t new p q (inr (inl one)) (inr (inl two)) = absurd (cc (one.1.fails, two.1.alive))
   gives_joined s old at u mid t new p q (inr (inl one)) (inr (inr two)) = inr (inl (one.0, rw (two.1, two.2) (breaks_before s old at one.0 u mid p q one.1)))
-  gives_joined s old at u mid t new p q (inr (inr one)) (inl two) = absurd (cc (one.0, one.2, two.alive))
-  gives_joined s old at u mid t new p q (inr (inr one)) (inr (inl two)) = absurd (cc (one.0, one.2, two.1.alive))
+  gives_joined s old at u mid t new p q (inr (inr (inl failed, is, same))) (inl two) = absurd (cc (failed, same, two.alive))
+  gives_joined s old at u mid t new p q (inr (inr (inl failed, is, same))) (inr (inl two)) = absurd (cc (failed, same, two.1.alive))
+  gives_joined s old at u mid t new p q (inr (inr (inr drains, is, same))) (inl two) = absurd (cc (drains, ap w.core.takes is, two.takes))
+  gives_joined s old at u mid t new p q (inr (inr (inr drains, is, same))) (inr (inl two)) = absurd (cc (drains, ap w.core.takes is, two.1.takes))
   gives_joined s old at u mid t new p q (inr (inr one)) (inr (inr two)) = inr (inr (one.0, two.1 ∙ one.1, two.2 ∙ one.2))
 
   abbrev GivesApart : S → Connection O I → ℕ → S → Connection O I → List ℕ → List ℕ → Type 0
@@ -76,8 +79,8 @@ module _ {S O I : Type 0} (w : Ways S O I) where
       let acts = acts_apart at one.0 two.0 (scene s old) (scene t new) (rw same.0 feeds.acts) in (
         acts.0.state,
         record { decoder = one.1; outbox = acts.0.outbox; inbound = acts.0.inbound; failure = None; known = old.known },
-        inl (record { alive = feeds.alive; still = refl; frames = one.0; fed = one.2; acts = acts.1 }),
-        inl (record { alive = refl; still = feeds.still; frames = two.0; fed = rw (← same.1) two.2; acts = acts.2 }),
+        inl (record { takes = feeds.takes; alive = feeds.alive; still = refl; frames = one.0; fed = one.2; acts = acts.1 }),
+        inl (record { takes = acts_keep w at one.0 (scene s old) acts.0 acts.1 ∙ feeds.takes; alive = refl; still = feeds.still; frames = two.0; fed = rw (← same.1) two.2; acts = acts.2 }),
       )
 
   breaks_apart : (s : S) (old : Connection O I) (at : ℕ) (told : Error) (t : S) (new : Connection O I) (before p q : List ℕ) → Holds old.decoder before → Breaks w s old (p ++ q) at told t new → GivesApart s old at t new p q
@@ -85,8 +88,8 @@ module _ {S O I : Type 0} (w : Ways S O I) where
     | inl h ↦ (
       t,
       new,
-      inr (inl (told, breaks_so w s s old old p (p ++ q) at told t new b b.frames b.taken h.0 b.alive h.1 b.fed b.acts)),
-      inr (inr (ap is_some b.fails, refl, refl)),
+      inr (inl (told, breaks_so w s s old old p (p ++ q) at told t new b b.frames b.taken h.0 b.takes b.alive h.1 b.fed b.acts)),
+      inr (inr (inl (ap is_some b.fails), refl, refl)),
     )
     | inr h ↦
         let more = h.0 ∷ h.1 in
@@ -101,8 +104,8 @@ module _ {S O I : Type 0} (w : Ways S O I) where
         let mid : Connection O I = record { decoder = one.1; outbox = acts.0.outbox; inbound = acts.0.inbound; failure = None; known = old.known } in (
           acts.0.state,
           mid,
-          inl (record { alive = b.alive; still = refl; frames = one.0; fed = one.2; acts = acts.1 }),
-          inr (inl (told, breaks_so w acts.0.state s mid old q (p ++ q) at told t new b last.0 more b.rest refl h.3 (rw (← last.1, ← same.1) two.2) acts.2)),
+          inl (record { takes = b.takes; alive = b.alive; still = refl; frames = one.0; fed = one.2; acts = acts.1 }),
+          inr (inl (told, breaks_so w acts.0.state s mid old q (p ++ q) at told t new b last.0 more b.rest (acts_keep w at one.0 (scene s old) acts.0 acts.1 ∙ b.takes) refl h.3 (rw (← last.1, ← same.1) two.2) acts.2)),
         )
   ]
 

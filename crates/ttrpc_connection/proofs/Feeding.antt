@@ -1,5 +1,5 @@
 -- A piece is fed in turns: each takes a front of what is left, and at most one frame acts.
-use Rattle.ttrpc_connection.proofs.Words.{◌≡◌, ◌⊎◌, inl, inr, ℕ, List, [], ◌∷◌, ◌++◌, take, drop, refl, sym, subst, append_assoc, Option, Some, None, IsSome, take-append-drop, append-nil, Error, Incoming, Frames, Held, Fed, given, nothing, frames_append, Arrived, Connection, Failure, NoMemory, IsTold, error_of, Opens, SendsAll, Sent, header_of_frame, Ways, Scene, ActsAll, Breaks, Feeds, FeedsFront, IsWhy, scene}
+use Rattle.ttrpc_connection.proofs.Words.{◌≡◌, ◌⊎◌, inl, inr, true, ap, ◌∙◌, ℕ, List, [], ◌∷◌, ◌++◌, take, drop, refl, sym, subst, append_assoc, Option, Some, None, IsSome, take-append-drop, append-nil, Error, Incoming, Frames, Held, Fed, given, nothing, frames_append, Arrived, Connection, Failure, NoMemory, IsTold, error_of, Opens, SendsAll, Sent, header_of_frame, Ways, Scene, ActsAll, Breaks, Feeds, FeedsFront, IsWhy, scene}
 use Rattle.ttrpc_connection.specs.Inside.{FrontActs, StopsAt}
 
 pub nothing_taken : (held : Held) → Fed held [] [] held
@@ -63,8 +63,9 @@ pub took_frame : {S O I : Type 0} (w : Ways S O I) (s : S) (old : Connection O I
     → o ≡ Some f → Fed old.decoder front (given o) new.decoder → Opens w.in_ old.inbound f a.opening new.inbound
     → a.header ≡ header_of_frame f → a.now ≡ at
     → (sent : List Sent) × w.core.reacts s old.outbox.half a sent t × SendsAll w.out old.outbox sent new.outbox
+    → w.core.takes t ≡ w.core.takes s
     → FrontActs w s old front at t new
-took_frame w s old front at f o a t new is fed opens header now reacts = record {
+took_frame w s old front at f o a t new is fed opens header now reacts kept = record {
   frame = Some f;
   fed = subst (λ (x : Option Incoming). Fed old.decoder front (given x) new.decoder) is fed;
   acts = (
@@ -75,6 +76,7 @@ took_frame w s old front at f o a t new is fed opens header now reacts = record 
       sent = reacts.0;
       reacts = rw (← header, ← now) reacts.1;
       sends = reacts.2;
+      takes = kept;
     },
     refl,
   );
@@ -91,9 +93,18 @@ took_part w s old front at o held is fed = record {
 
 -- ---- a whole piece
 
+-- no frame changes whether the core takes
+pub acts_keep : {S O I : Type 0} (w : Ways S O I) (at : ℕ) (fs : List Incoming) (old new : Scene S O I) → ActsAll w at old fs new → w.core.takes new.state ≡ w.core.takes old.state
+acts_keep w at [] old new same = ap (λ c. w.core.takes c.state) same
+acts_keep w at (f ∷ fs) old new acts = acts_keep w at fs acts.0 new acts.2 ∙ acts.1.takes
+
+pub still_takes : {S O I : Type 0} (w : Ways S O I) (s : S) (old : Connection O I) (piece : List ℕ) (at : ℕ) (t : S) (new : Connection O I) → Feeds w s old piece at t new → w.core.takes t ≡ true
+still_takes w s old piece at t new feeds = acts_keep w at feeds.frames (scene s old) (scene t new) feeds.acts ∙ feeds.takes
+
 pub feeds_joined : {S O I : Type 0} (w : Ways S O I) (s : S) (old : Connection O I) (at : ℕ) (u : S) (mid : Connection O I) (t : S) (new : Connection O I) (p q : List ℕ)
     → Feeds w s old p at u mid → Feeds w u mid q at t new → Feeds w s old (p ++ q) at t new
 feeds_joined w s old at u mid t new p q one two = record {
+  takes = one.takes;
   alive = one.alive;
   still = two.still;
   frames = one.frames ++ two.frames;
@@ -107,24 +118,25 @@ pub record SoFar {S O I : Type 0} (w : Ways S O I) (s : S) (old : Connection O I
   pub piece_is : piece ≡ front ++ rest
   pub feeds : Feeds w s old front at t new
 
-pub at_first : {S O I : Type 0} (w : Ways S O I) (s : S) (old : Connection O I) (piece : List ℕ) (at : ℕ) → old.failure ≡ None → SoFar w s old piece piece at s old
-at_first w s old piece at alive = record { front = []; piece_is = refl; feeds = record { alive = alive; still = alive; frames = []; fed = nothing_taken old.decoder; acts = refl } }
+pub at_first : {S O I : Type 0} (w : Ways S O I) (s : S) (old : Connection O I) (piece : List ℕ) (at : ℕ) → w.core.takes s ≡ true → old.failure ≡ None → SoFar w s old piece piece at s old
+at_first w s old piece at takes alive = record { front = []; piece_is = refl; feeds = record { takes = takes; alive = alive; still = alive; frames = []; fed = nothing_taken old.decoder; acts = refl } }
 
 pub one_more : {S O I : Type 0} (w : Ways S O I) (s : S) (old : Connection O I) (piece rest : List ℕ) (at : ℕ) (t : S) (mid : Connection O I) (n : ℕ) (u : S) (new : Connection O I)
     → SoFar w s old piece rest at t mid → FeedsFront w t mid (take n rest) at u new → SoFar w s old piece (drop n rest) at u new
 one_more w s old piece rest at t mid n u new p x = record {
   front = p.front ++ take n rest;
   piece_is = rw (append_assoc, take-append-drop) p.piece_is;
-  feeds = feeds_joined w s old at t mid u new p.front (take n rest) p.feeds (record { alive = x.alive; still = x.still; frames = given x.frame; fed = x.fed; acts = x.acts });
+  feeds = feeds_joined w s old at t mid u new p.front (take n rest) p.feeds (record { takes = x.takes; alive = x.alive; still = x.still; frames = given x.frame; fed = x.fed; acts = x.acts });
 }
 
 -- all of the piece was taken
 pub whole : {S O I : Type 0} (w : Ways S O I) (s : S) (old : Connection O I) (piece rest : List ℕ) (at : ℕ) (t : S) (new : Connection O I) → SoFar w s old piece rest at t new → rest ≡ [] → Feeds w s old piece at t new
 whole w s old piece rest at t new p none = rw (p.piece_is, none, append-nil) p.feeds
 
-pub breaks : {S O I : Type 0} (w : Ways S O I) (s : S) (old : Connection O I) (piece : List ℕ) (at : ℕ) (failure : Failure) (told : Error) (t : S) (mid : Connection O I) → old.failure ≡ None
+pub breaks : {S O I : Type 0} (w : Ways S O I) (s : S) (old : Connection O I) (piece : List ℕ) (at : ℕ) (failure : Failure) (told : Error) (t : S) (mid : Connection O I) → w.core.takes s ≡ true → old.failure ≡ None
     → StopsAt w s old piece at failure t mid → IsTold (error_of failure) told → Breaks w s old piece at told t (record mid { failure = Some failure })
-breaks w s old piece at failure told t mid alive x is_told = record {
+breaks w s old piece at failure told t mid takes alive x is_told = record {
+  takes = takes;
   alive = alive;
   frames = [];
   last = x.frame;
@@ -145,9 +157,10 @@ breaks w s old piece at failure told t mid alive x is_told = record {
 
 -- the connection breaks at the same frame where other bytes lead up to it, from another connection
 pub breaks_so : {S O I : Type 0} (w : Ways S O I) (r s : S) (first old : Connection O I) (piece p : List ℕ) (at : ℕ) (told : Error) (t : S) (new : Connection O I) (b : Breaks w s old p at told t new)
-    (frames : List Incoming) (taken rest : List ℕ) → first.failure ≡ None → piece ≡ taken ++ rest → Fed first.decoder taken (frames ++ given b.last) new.decoder → ActsAll w at (scene r first) frames b.mid
+    (frames : List Incoming) (taken rest : List ℕ) → w.core.takes r ≡ true → first.failure ≡ None → piece ≡ taken ++ rest → Fed first.decoder taken (frames ++ given b.last) new.decoder → ActsAll w at (scene r first) frames b.mid
     → Breaks w r first piece at told t new
-breaks_so w r s first old piece p at told t new b frames taken rest alive piece_is fed acts = record {
+breaks_so w r s first old piece p at told t new b frames taken rest takes alive piece_is fed acts = record {
+  takes = takes;
   alive = alive;
   frames = frames;
   last = b.last;
@@ -170,7 +183,7 @@ breaks_so w r s first old piece p at told t new b frames taken rest alive piece_
 pub breaks_behind : {S O I : Type 0} (w : Ways S O I) (s : S) (old : Connection O I) (at : ℕ) (u : S) (mid : Connection O I) (told : Error) (t : S) (new : Connection O I) (p q : List ℕ)
     → Feeds w s old p at u mid → Breaks w u mid q at told t new → Breaks w s old (p ++ q) at told t new
 breaks_behind w s old at u mid told t new p q one b =
-    breaks_so w s u old mid (p ++ q) q at told t new b (one.frames ++ b.frames) (p ++ b.taken) b.rest one.alive (rw (append_assoc, b.piece_is) refl)
+    breaks_so w s u old mid (p ++ q) q at told t new b (one.frames ++ b.frames) (p ++ b.taken) b.rest one.takes one.alive (rw (append_assoc, b.piece_is) refl)
     (rw append_assoc (fed_twice old.decoder mid.decoder new.decoder p b.taken one.frames (b.frames ++ given b.last) one.fed b.fed))
     (acts_twice w at one.frames b.frames (scene s old) (scene u mid) b.mid one.acts b.acts)
 

@@ -1,6 +1,6 @@
 -- Calls of a core over a connection one after the other, also past a failure, and what the queue goes through by them.
 -- Source: this project's.
-use Rattle.std.specs.Prelude.{◌≡◌, ◌≤◌, ◌⊎◌, ℕ, List, [], ◌∷◌, ◌++◌, length, map, is_some, true, if◌then◌else◌, nat_eq}
+use Rattle.std.specs.Prelude.{◌≡◌, ◌≤◌, ◌⊎◌, ℕ, List, [], ◌∷◌, ◌++◌, length, map, is_some, true, false, if◌then◌else◌, nat_eq}
 use Rattle.ttrpc_connection.specs.Types.{Error, Queued, Connection, Failure}
 use Rattle.ttrpc_frame.specs.Queue.{Queue, Happening, Placed, Allowed, after_all, open_part, with_payload}
 use Rattle.ttrpc_frame.specs.Queue as queue
@@ -35,12 +35,13 @@ pub record AreLawful {A S O I : Type 0} (others : Others A S O I) : Type 0 where
   pub decoder : (a : A) (s : S) (old : Connection O I) (happenings : List Happening) (t : S) (new : Connection O I) → others a s old happenings t new → new.decoder ≡ old.decoder
   pub queue : (a : A) (s : S) (old : Connection O I) (happenings : List Happening) (t : S) (new : Connection O I) → others a s old happenings t new → Goes old.outbox.queue happenings new.outbox.queue
 
--- a piece was fed
+-- a piece was fed: to a connection that took it, or failed while it did, or took nothing, since it had failed or its core
+-- takes no more
 abbrev pub Gives : {S O I : Type 0} → Ways S O I → S → Connection O I → List ℕ → ℕ → S → Connection O I → Type 0
 Gives w s old piece now t new =
     Feeds w s old piece now t new
     ⊎ ((told : Error) × Breaks w s old piece now told t new)
-    ⊎ ((is_some old.failure ≡ true) × (t ≡ s) × (new ≡ old))
+    ⊎ (((is_some old.failure ≡ true) ⊎ (w.core.takes s ≡ false)) × (t ≡ s) × (new ≡ old))
 
 -- these frames were queued
 abbrev pub Queues : {O I : Type 0} → Connection O I → List Queued → Connection O I → Type 0

@@ -1,6 +1,6 @@
 -- What it is to feed a connection, over whatever a core does at a whole frame.
 -- Source: this project's.
-use Rattle.std.specs.Prelude.{◌≡◌, ◌⊎◌, ℕ, List, [], ◌∷◌, ◌++◌, Option, Some, None, IsSome}
+use Rattle.std.specs.Prelude.{◌≡◌, ◌⊎◌, true, ℕ, List, [], ◌∷◌, ◌++◌, Option, Some, None, IsSome}
 use Rattle.ttrpc_connection.specs.Types.{Error, Incoming, OutboundTransform, InboundTransform, Arrived, Opening, Connection, Failure, NoMemory, Outbox}
 use Rattle.ttrpc_frame.specs.Frames.{Fed, given, nothing}
 use Rattle.ttrpc_frame.specs.Queue.{empty_queue}
@@ -43,13 +43,15 @@ scene state c = record { state = state; outbox = c.outbox; inbound = c.inbound }
 abbrev pub arrived : Incoming → Opening → ℕ → Arrived
 arrived f opening now = record { header = header_of_frame f; opening = opening; now = now }
 
--- One whole frame acts: it passes the inbound half once, unless it is too long, and the core does what it does at it.
+-- One whole frame acts: it passes the inbound half once, unless it is too long, and the core does what it does at it, and
+-- takes what comes as before.
 pub record Acts {S O I : Type 0} (w : Ways S O I) (now : ℕ) (old : Scene S O I) (f : Incoming) (new : Scene S O I) : Type 0 where
   pub opening : Opening
   pub opens : Opens w.in_ old.inbound f opening new.inbound
   pub sent : List Sent
   pub reacts : w.core.reacts old.state old.outbox.half (arrived f opening now) sent new.state
   pub sends : SendsAll w.out old.outbox sent new.outbox
+  pub takes : w.core.takes new.state ≡ w.core.takes old.state
 
 -- These frames act, one after the other.
 abbrev pub ActsAll : {S O I : Type 0} → Ways S O I → ℕ → Scene S O I → List Incoming → Scene S O I → Type 0
@@ -58,6 +60,7 @@ ActsAll w now old (f ∷ fs) new = (mid : Scene _ _ _) × Acts w now old f mid �
 
 -- a piece was taken whole at a moment, and its frames acted
 pub record Feeds {S O I : Type 0} (w : Ways S O I) (s : S) (old : Connection O I) (piece : List ℕ) (now : ℕ) (t : S) (new : Connection O I) : Type 0 where
+  pub takes : w.core.takes s ≡ true
   pub alive : old.failure ≡ None
   pub still : new.failure ≡ None
   pub frames : List Incoming
@@ -66,6 +69,7 @@ pub record Feeds {S O I : Type 0} (w : Ways S O I) (s : S) (old : Connection O I
 
 -- a front of a piece was taken, and at most one frame was whole with it
 pub record FeedsFront {S O I : Type 0} (w : Ways S O I) (s : S) (old : Connection O I) (front : List ℕ) (now : ℕ) (t : S) (new : Connection O I) : Type 0 where
+  pub takes : w.core.takes s ≡ true
   pub alive : old.failure ≡ None
   pub still : new.failure ≡ None
   pub frame : Option Incoming
@@ -81,6 +85,7 @@ IsWhy {S} {O} {I} w now old (Some f) failure = (failure ≡ NoMemory)
 -- A piece was taken in part: its first frames acted, and then the connection failed, at a frame or before the next one
 -- was whole. That frame changed nothing but the inbound half, and what comes behind it wasn't looked at.
 pub record Breaks {S O I : Type 0} (w : Ways S O I) (s : S) (old : Connection O I) (piece : List ℕ) (now : ℕ) (told : Error) (t : S) (new : Connection O I) : Type 0 where
+  pub takes : w.core.takes s ≡ true
   pub alive : old.failure ≡ None
   pub frames : List Incoming
   pub last : Option Incoming

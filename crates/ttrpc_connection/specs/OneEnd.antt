@@ -1,17 +1,17 @@
 -- What each call of one end of a connection does: the words of its contracts, of those of the cores, which hand these
 -- calls on, and of their ports.
 -- Source: this project's.
-use Rattle.std.specs.Prelude.{◌≡◌, ◌≢◌, ◌<◌, ◌≤◌, ◌↔◌, ◌⊎◌, ℕ, List, [], true, length, take, drop, min, is_some, if◌then◌else◌, Option, Some, None, Result, IfOk, IfErr}
+use Rattle.std.specs.Prelude.{◌≡◌, ◌≢◌, ◌<◌, ◌≤◌, ◌↔◌, ◌⊎◌, ℕ, List, [], true, false, length, take, drop, min, is_some, if◌then◌else◌, Some, None, Result, IfOk, IfErr}
 use Rattle.ttrpc_frame.specs.Frames.{nothing}
 use Rattle.ttrpc_frame.specs.Queue.{open_part, unsent, with_lent, after_report}
 use Rattle.ttrpc_connection.specs.Types.{Error, Connection, Failure, Disconnected, DisconnectedInside}
 use Rattle.ttrpc_connection.specs.Failure.{IsTold, error_of, first_failure}
-use Rattle.ttrpc_connection.specs.Feeds.{Breaks, Feeds, FeedsFront, Ways}
+use Rattle.ttrpc_connection.specs.Feeds.{Breaks, Feeds, FeedsFront, IsFailed, Ways}
 
 -- ---- bytes in
 
--- A piece was fed at a moment, and this was answered: it was taken whole, or the connection failed while it was fed. Once
--- the connection has failed nothing changes, and the answer is that failure.
+-- A piece was fed at a moment to a core that takes, and this was answered: it was taken whole, or the connection failed
+-- while it was fed. Once the connection has failed nothing changes, and the answer is that failure.
 pub record Takes {S O I : Type 0} (w : Ways S O I) (s : S) (old : Connection O I) (piece : List ℕ) (now : ℕ) (result : Result ℕ Error) (t : S) (new : Connection O I) : Type 0 where
   pub ok : IfOk result (λ n. (n ≡ length piece) × Feeds w s old piece now t new)
   pub fails : old.failure ≡ None → IfErr result (λ e. Breaks w s old piece now e t new)
@@ -26,6 +26,22 @@ pub record TakesFront {S O I : Type 0} (w : Ways S O I) (s : S) (old : Connectio
   pub fails : old.failure ≡ None → IfErr result (λ e. Breaks w s old piece now e t new)
   pub failed : (f : Failure) → old.failure ≡ Some f → IfErr result (IsTold (error_of f)) × (t ≡ s) × (new ≡ old)
   pub known : new.known ≡ old.known
+
+-- A piece was fed to a core that takes no more: nothing changed, and this was answered: 0, or the failure.
+pub record Drains {S O I : Type 0} (s : S) (old : Connection O I) (result : Result ℕ Error) (t : S) (new : Connection O I) : Type 0 where
+  pub ok : IfOk result (λ n. (n ≡ 0) × (old.failure ≡ None))
+  pub failed : IfErr result (IsFailed old.failure)
+  pub same : (t ≡ s) × (new ≡ old)
+
+-- A piece was fed, by whether the core takes.
+pub record TakesOrDrains {S O I : Type 0} (w : Ways S O I) (s : S) (old : Connection O I) (piece : List ℕ) (now : ℕ) (result : Result ℕ Error) (t : S) (new : Connection O I) : Type 0 where
+  pub takes : w.core.takes s ≡ true → Takes w s old piece now result t new
+  pub drains : w.core.takes s ≡ false → Drains s old result t new
+
+-- The same of a front of the piece.
+pub record TakesFrontOrDrains {S O I : Type 0} (w : Ways S O I) (s : S) (old : Connection O I) (piece : List ℕ) (now : ℕ) (result : Result ℕ Error) (t : S) (new : Connection O I) : Type 0 where
+  pub takes : w.core.takes s ≡ true → TakesFront w s old piece now result t new
+  pub drains : w.core.takes s ≡ false → Drains s old result t new
 
 -- ---- bytes out
 

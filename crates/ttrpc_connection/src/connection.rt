@@ -6,7 +6,7 @@ ghost use Rattle.ttrpc_secure.specs.Hooks.Facts.{facts_of};
 ghost use Rattle.ttrpc_connection.specs.Failure.{TellsSent};
 ghost use Rattle.ttrpc_connection.specs.Feeds.{IsFailed, new_connection, ways};
 ghost use Rattle.ttrpc_connection.specs.Inside.{FrontActs, StopsAt};
-ghost use Rattle.ttrpc_connection.specs.OneEnd.{Ends, Lends, Takes, TakesFront, failing, lendable, lending, reporting};
+ghost use Rattle.ttrpc_connection.specs.OneEnd.{Ends, Lends, TakesFrontOrDrains, TakesOrDrains, failing, lendable, lending, reporting};
 ghost use Rattle.ttrpc_connection.specs.Outbox.{is_sent};
 
 use crate::arrived::open;
@@ -56,7 +56,7 @@ impl<O: OutboundTransform + Drop, I: InboundTransform + Drop> Connection<O, I> {
 
     /// Takes a piece whole, and says how many bytes that are. Each frame that is whole with it acts, in order, at this
     /// moment. The connection fails where memory is refused or the core says so; then and from then on the answer is
-    /// that failure.
+    /// that failure. Of a core that takes no more the answer is 0, and nothing changes.
     pub fn feed<R: Reacts<O>>(
         &mut self,
         alloc: Global,
@@ -64,9 +64,12 @@ impl<O: OutboundTransform + Drop, I: InboundTransform + Drop> Connection<O, I> {
         piece: &[u8],
         now: u64,
     ) -> Result<usize, Error>
-        ensures { Takes (ways O.OutboundTransform I.InboundTransform R.Reacts) core.old self.old piece.now now result core.new self.new }
+        ensures { TakesOrDrains (ways O.OutboundTransform I.InboundTransform R.Reacts) core.old self.old piece.now now result core.new self.new }
     {
         self.check_alive(alloc)?;
+        if !core.takes() {
+            return Ok(0);
+        }
         let mut rest = piece;
         while !rest.is_empty() {
             let n = self.feed_front(alloc, core, rest, now)?;
@@ -84,9 +87,12 @@ impl<O: OutboundTransform + Drop, I: InboundTransform + Drop> Connection<O, I> {
         piece: &[u8],
         now: u64,
     ) -> Result<usize, Error>
-        ensures { TakesFront (ways O.OutboundTransform I.InboundTransform R.Reacts) core.old self.old piece.now now result core.new self.new }
+        ensures { TakesFrontOrDrains (ways O.OutboundTransform I.InboundTransform R.Reacts) core.old self.old piece.now now result core.new self.new }
     {
         self.check_alive(alloc)?;
+        if !core.takes() {
+            return Ok(0);
+        }
         match self.take_front(alloc, core, piece, now) {
             Ok(n) => Ok(n),
             Err(failure) => {

@@ -1,5 +1,5 @@
 //! What a connection asks of the core that uses it.
-ghost use Rattle.std.specs.Prelude.{◌≡◌, ◌⊎◌, List, IfErr, OnOk, OnErr};
+ghost use Rattle.std.specs.Prelude.{◌≡◌, ◌⊎◌, Bool, List, IfErr, OnOk, OnErr};
 ghost use Rattle.ttrpc_connection.specs.declared.arrived.Arrived.{Arrived as AFrame};
 ghost use Rattle.ttrpc_connection.specs.declared.failure.Failure.{Failure as AFailure};
 ghost use Rattle.ttrpc_connection.specs.Frames.{Sent, SendsAll};
@@ -18,6 +18,13 @@ pub trait Reacts<O: OutboundTransform> {
     // For which failures the connection is to fail at a frame, beside want of memory.
     ghost fails: { Self → AFrame → AFailure → Type 0 };
 
+    // Whether it still takes what comes in.
+    ghost takes: { Self → Bool };
+
+    /// Whether it still takes what comes in. Takes no memory.
+    fn takes(&self) -> bool
+        ensures { result ≡ takes self.now };
+
     /// A whole frame acts. An `Err` says why the connection is to fail, and changes nothing.
     fn react(
         &mut self,
@@ -27,6 +34,7 @@ pub trait Reacts<O: OutboundTransform> {
     ) -> Result<(), Failure>
         ensures ok { OnOk result ((sent : List Sent) × reacts self.old outbox.old.half arrived sent self.new
             × SendsAll O.OutboundTransform outbox.old sent outbox.new) }
+        ensures kept { takes self.new ≡ takes self.old }
         ensures fails { IfErr result (λ failure. (failure ≡ Failure.NoMemory) ⊎ fails self.old arrived failure) }
         ensures err { OnErr result ((self.new ≡ self.old) × (outbox.new ≡ outbox.old)) };
 }

@@ -125,6 +125,7 @@ record Done (f : Incoming) (old mid new : ServerCore Plain Plain) : Type 0 where
   adds : Adds old.connection.outbox.queue new.connection.outbox.queue answers
   jobs : new.state.jobs.list ≡ []
   rules : new.state.rules ≡ Sync
+  takes : new.state.draining ≡ false
   services : HasEcho new.state.services
   alive : new.connection.failure ≡ None
   held : new.connection.decoder ≡ mid.connection.decoder
@@ -142,6 +143,7 @@ done_quiet f said old mid new ready says state alive adds echoes =
       adds = subst (λ (x : ServerCore Plain Plain). Adds old.connection.outbox.queue x.connection.outbox.queue (said_bytes ((header_of_frame f).stream_id) said)) (sym same) adds;
       jobs = ap (λ (x : ServerCore Plain Plain). x.state.jobs.list) same ∙ jobs;
       rules = ap (λ (x : ServerCore Plain Plain). x.state.rules) same ∙ ap (λ (s : Server). s.rules) state ∙ ready.rules;
+      takes = ap (λ (x : ServerCore Plain Plain). x.state.draining) same ∙ ap (λ (s : Server). s.draining) state ∙ ready.takes;
       services = subst HasEcho (sym (ap (λ (x : ServerCore Plain Plain). x.state.services) same ∙ ap (λ (s : Server). s.services) state)) ready.services;
       alive = ap (λ (x : ServerCore Plain Plain). x.connection.failure) same ∙ alive;
       held = ap (λ (x : ServerCore Plain Plain). x.connection.decoder) same;
@@ -180,6 +182,7 @@ done_known now f request old mid new ready says makes quiet alive (inr e) =
           (subst (λ (r : Request). Adds e.mid.connection.outbox.queue new.connection.outbox.queue (said_bytes e.answers.job.header.stream_id (Some (echo_of r)))) asked adds));
       jobs = e.answers.ends.jobs ∙ ap (λ js. js ++ at.back) gone.0 ∙ gone.2;
       rules = ap (λ (x : ServerCore Plain Plain). x.state.rules) e.answers.same ∙ rules;
+      takes = ap (λ (x : ServerCore Plain Plain). x.state.draining) e.answers.same ∙ ap (λ (x : ServerCore Plain Plain). x.state.draining) e.hands.same ∙ ap (λ (s : Server). s.draining) makes ∙ ready.takes;
       services = subst HasEcho (sym (ap (λ (x : ServerCore Plain Plain). x.state.services) e.answers.same ∙ ap (λ (x : ServerCore Plain Plain). x.state.services) e.hands.same ∙ ap (λ (s : Server). s.services) makes)) ready.services;
       alive = ap (λ (x : ServerCore Plain Plain). x.connection.failure) e.answers.same ∙ e.answers.alive;
       held = ap (λ (x : ServerCore Plain Plain). x.connection.decoder) e.answers.same ∙ ap (λ (x : ServerCore Plain Plain). x.connection.decoder) e.hands.same;
@@ -237,6 +240,7 @@ one_front now None old mid new front ready still fed acts echoes =
       },
       record {
         rules = ap (λ (s : Server). s.rules) left ∙ ready.rules;
+        takes = ap (λ (s : Server). s.draining) left ∙ ready.takes;
         services = subst HasEcho (sym (ap (λ (s : Server). s.services) left)) ready.services;
         jobs = ap (λ (s : Server). s.jobs.list) left ∙ ready.jobs;
         alive = ap (λ (x : ServerCore Plain Plain). x.connection.failure) same ∙ still;
@@ -253,7 +257,7 @@ one_front now (Some f) old mid new front ready still fed acts echoes =
         more = done.adds.more;
         jobs = done.last_job;
       },
-      record { rules = done.rules; services = done.services; jobs = done.jobs; alive = done.alive; queue = done.adds.valid },
+      record { rules = done.rules; takes = done.takes; services = done.services; jobs = done.jobs; alive = done.alive; queue = done.adds.valid },
     )
 
 -- ---- one front after the other

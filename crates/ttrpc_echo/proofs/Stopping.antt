@@ -1,5 +1,5 @@
 -- Why a piece isn't served to its end.
-use Rattle.std.proofs.Common.{◌≡◌, inl, inr, ℕ, ◌+◌, ◌≤◌, ◌^◌, List, [], ◌∷◌, ◌++◌, length, Option, Some, None, Result, arith, refl, sym, ap, subst, ◌∙◌, length-append}
+use Rattle.std.proofs.Common.{◌≡◌, inl, inr, ℕ, ◌+◌, ◌≤◌, ◌^◌, List, [], ◌∷◌, ◌++◌, length, true, not, Option, Some, None, Result, arith, refl, sym, ap, subst, ◌∙◌, length-append}
 use Rattle.std.specs.List.{AllByRecursion}
 use Rattle.ttrpc_proto.specs.declared.error.Error.{Error}
 use Rattle.ttrpc_proto.specs.declared.error.Error.TheVariants.{NoMemory}
@@ -20,8 +20,8 @@ use Rattle.ttrpc_server.specs.declared.server.ServerCore.{ServerCore}
 use Rattle.ttrpc_server.specs.Protocol.{Does, Hands, serving, IsUnsent, RefusesAnswer, fit_to_message, row_of}
 use Rattle.ttrpc_server.specs.Table.{Row, Ignore, SendResponse, SendCode, MakeJob}
 use Rattle.ttrpc_server.specs.declared.rules.Rules.{Rules}
-use Rattle.ttrpc_server.specs.State.{IsUnknown, Server}
-use Rattle.ttrpc_echo.specs.Serving.{plain_in, plain_out, IsStop, Serves, UsesUp}
+use Rattle.ttrpc_server.specs.State.{IsUnknown, Server, takes_on}
+use Rattle.ttrpc_echo.specs.Serving.{plain_in, plain_out, IsReady, IsStop, Serves, UsesUp}
 use Rattle.ttrpc_echo.proofs.Limits.{fitted_fits}
 use Rattle.ttrpc_echo.proofs.Echoing.{some_is_not_none}
 
@@ -42,6 +42,10 @@ acts_count now (f ∷ fs) old new acts =
     let one = acts.1 in
     let count = does_count (row_of old.state (arrived f one.opening now)) old.state old.outbox.half (header_of_frame f) now one.sent acts.0.state one.reacts in
     omega (arith, count, acts_count now fs acts.0 new acts.2)
+
+-- one that is ready takes what comes
+pub takes_so : {s : ServerCore Plain Plain} → IsReady s → takes_on s.state ≡ true
+takes_so ready = ap not ready.takes
 
 -- ---- feeding breaks
 

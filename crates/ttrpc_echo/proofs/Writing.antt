@@ -52,6 +52,7 @@ writes_more a b n k x y z bytes ready one within less are wrote = record {
 pub still_ready : (s : ServerCore Plain Plain) (n k : ℕ) → IsReady s → n ≤ length (open_part s.connection.outbox.queue) → k ≤ n → IsReady (lent_and_reported s n k)
 still_ready s n k ready within less = record {
   rules = ready.rules;
+  takes = ready.takes;
   services = ready.services;
   jobs = ready.jobs;
   alive = ready.alive;

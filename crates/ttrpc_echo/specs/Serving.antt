@@ -27,9 +27,10 @@ plain_out = record { SEALS = false; overhead = λ _. 0; seals = Keeps; refuses =
 abbrev pub plain_in : InboundTransform Plain
 plain_in = record { opens = Keeps; refuses = RefusesNothing }
 
--- between two fronts: nothing waits or is at work, and the connection lives
+-- between two fronts: it takes what comes, nothing waits or is at work, and the connection lives
 pub record IsReady (s : ServerCore Plain Plain) : Type 0 where
   pub rules : s.state.rules ≡ Sync
+  pub takes : s.state.draining ≡ false
   pub services : HasEcho s.state.services
   pub jobs : s.state.jobs.list ≡ []
   pub alive : s.connection.failure ≡ None

@@ -1,14 +1,16 @@
 -- The calls of a server core take nothing of what comes in, and the queue goes through what they say.
-use Rattle.ttrpc_server.proofs.Words.{◌≡◌, ◌∙◌, ℕ, List, [], ◌∷◌, ◌++◌, None, refl, ap, subst, Queued, Queue, Happening, Placed, with_payload, OutboundTransform, Connection, Outbox, AreLawful, Goes, Sent, SendsAll, goes_not, queued_goes, sends_grow, Server, Response, Served, Took, Answered, Responded, served, fitted, IsResponseFrame, Responds, Rules, response_bytes}
+use Rattle.ttrpc_server.proofs.Words.{◌≡◌, ◌∙◌, ℕ, List, [], ◌∷◌, ◌++◌, None, refl, ap, subst, Queued, Queue, Happening, Placed, with_payload, OutboundTransform, Connection, Outbox, AreLawful, Goes, Sent, SendsAll, goes_not, queued_goes, sends_grow, Server, Response, Served, Took, Drained, Answered, Responded, served, fitted, IsResponseFrame, Responds, Rules, response_bytes}
 use Rattle.ttrpc_server.specs.declared.server.ServerCore.{ServerCore}
 use Rattle.ttrpc_server.specs.Calls.{Causes, Performs, PlacesResponse}
 
 decoder : {O I : Type 0} (out : OutboundTransform O) (a : Served) (s : Server) (old : Connection O I) (hs : List Happening) (t : Server) (new : Connection O I) → served out a s old hs t new → new.decoder ≡ old.decoder
 decoder out (Took None) s old hs t new call = ap (λ c. c.connection.decoder) call.0
+decoder out Drained s old hs t new call = ap (λ c. c.connection.decoder) call.0
 decoder out a s old hs t new call = ap (λ c. c.connection.decoder) call.0.same
 
 queue : {O I : Type 0} (out : OutboundTransform O) (a : Served) (s : Server) (old : Connection O I) (hs : List Happening) (t : Server) (new : Connection O I) → served out a s old hs t new → Goes old.outbox.queue hs new.outbox.queue
 queue out (Took None) s old hs t new call = goes_not old.outbox.queue new.outbox.queue hs (ap (λ c. c.connection.outbox.queue) call.0) call.1
+queue out Drained s old hs t new call = goes_not old.outbox.queue new.outbox.queue hs (ap (λ c. c.connection.outbox.queue) call.0) call.1
 queue out (Answered id response) s old hs t new call =
     let placed = call.1.2 in
     queued_goes old.outbox.queue new.outbox.queue (placed.0 ∷ []) hs (sends_grow out call.0.sent old.outbox new.outbox call.0.sends) placed.2 placed.3

@@ -9,7 +9,7 @@ use Rattle.ttrpc_connection.specs.Calls.{Others, Queues}
 use Rattle.ttrpc_connection.specs.Frames.{header_of_frame}
 use Rattle.ttrpc_server.specs.declared.server.ServerCore.{ServerCore}
 use Rattle.ttrpc_server.specs.State.{IsTaken, Server}
-use Rattle.ttrpc_server.specs.Protocol.{Answers, Drops, Finishes, Hands, IsResponseFrame, QueuesResponse}
+use Rattle.ttrpc_server.specs.Protocol.{Answers, Drops, drained, Finishes, Hands, IsResponseFrame, QueuesResponse}
 
 -- a call, with what it was given and what it gave
 pub data Served : Type 0 where
@@ -23,6 +23,8 @@ pub data Served : Type 0 where
   Responded : (k : ℕ) → (response : Response) → Served
   -- a job was ended
   Finished : (id : ℕ) → Served
+  -- from then on it took no more of what came in
+  Drained : Served
 
 -- the core of this state and this connection
 abbrev pub core : {O I : Type 0} → Server → Connection O I → ServerCore O I
@@ -36,6 +38,7 @@ Performs out (Answered id response) old new = Answers out old id response new
 Performs out (Dropped id) old new = Drops old id new
 Performs out (Responded k response) old new = QueuesResponse out old k response new
 Performs out (Finished id) old new = Finishes old id new
+Performs out Drained old new = new ≡ drained old
 
 -- ---- what the queue goes through by it
 

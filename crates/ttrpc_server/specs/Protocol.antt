@@ -4,7 +4,7 @@
 -- leaves open, which is codes, texts and which frames are passed over, is as the Rust crate has it. Jobs and the order of
 -- refusals are this project's.
 -- Source: PROTOCOL.md of ttrpc, "Request" and "Response"; the Rust crate; this project's.
-use Rattle.std.specs.Prelude.{◌≡◌, ◌⊎◌, ℕ, ◌<◌, ◌≤◌, ◌-◌, ◌^◌, List, [], ◌∷◌, ◌++◌, length, codes, min, Option, None, Some, Result, Ok, Err, Bool, nat_lt, if◌then◌else◌}
+use Rattle.std.specs.Prelude.{◌≡◌, ◌⊎◌, ℕ, ◌<◌, ◌≤◌, ◌-◌, ◌^◌, List, [], ◌∷◌, ◌++◌, length, codes, min, Option, None, Some, Result, Ok, Err, Bool, true, nat_lt, if◌then◌else◌}
 use Rattle.std.specs.Fmt.{decimal}
 use Rattle.ttrpc_server.specs.Types.{Code, UNKNOWN, INVALID_ARGUMENT, MessageHeader, MESSAGE_LENGTH_MAX, MESSAGE_TYPE_RESPONSE, Request, Response, Error, Others, NoMemory, Queued, OutboundTransform, Arrived, Failure, JobIdsUsedUp, HandlerError, ActiveJob, Job, Rules, Sync, Async}
 use Rattle.ttrpc_wire.specs.Field.{fields_bytes}
@@ -19,7 +19,7 @@ use Rattle.ttrpc_connection.specs.Failure.{IsTold}
 use Rattle.ttrpc_connection.specs.Feeds.{IsFailed, Ways, new_connection}
 use Rattle.ttrpc_connection.specs.Frames.{Sent, SendsAll, safe_limit}
 use Rattle.ttrpc_server.specs.declared.server.ServerCore.{ServerCore}
-use Rattle.ttrpc_server.specs.State.{EndsOne, HandsOne, IsTaken, IsUnknown, Server, Services, jobs_at, new_server, unary_body, with_job, with_list}
+use Rattle.ttrpc_server.specs.State.{EndsOne, HandsOne, IsTaken, IsUnknown, Server, Services, jobs_at, new_server, takes_on, unary_body, with_job, with_list}
 use Rattle.ttrpc_server.specs.Table.{Row, Ignore, MakeJob, SendCode, SendResponse, case_of, case_row, inlet_of, status_response}
 
 -- ---- which row a frame has
@@ -125,7 +125,7 @@ stops_serving old a failure = IsUsedUp (row_of old a) old failure
 
 -- what the clauses know of a server core over these halves
 abbrev pub serving : {O I : Type 0} → OutboundTransform O → InboundTransform I → Ways Server O I
-serving out in_ = record { out = out; in_ = in_; core = record { reacts = serves out; fails = stops_serving } }
+serving out in_ = record { out = out; in_ = in_; core = record { reacts = serves out; fails = stops_serving; takes = takes_on } }
 
 -- ---- what the calls do: taking, answering and ending a job
 -- Source: this project's.
@@ -133,6 +133,10 @@ serving out in_ = record { out = out; in_ = in_; core = record { reacts = serves
 -- a core that has made no job, with a new connection
 abbrev pub new_core : {O I : Type 0} → Rules → Services → Facts → O → I → ServerCore O I
 new_core rules services known outbound inbound = record { state = new_server rules services; connection = new_connection known outbound inbound }
+
+-- the core, which takes no more of what comes in
+abbrev pub drained : {O I : Type 0} → ServerCore O I → ServerCore O I
+drained core = record core { state = record core.state { draining = true } }
 
 -- the core with these jobs
 abbrev pub with_jobs : {O I : Type 0} → ServerCore O I → List ActiveJob → ServerCore O I

@@ -1,6 +1,6 @@
 -- What a server core is, beside its connection: the methods and streams that it has, and its jobs that weren't answered.
 -- Source: PROTOCOL.md of ttrpc, "RPC", "Request" and "Response".
-use Rattle.std.specs.Prelude.{◌≡◌, ◌≢◌, ◌<◌, ◌≤◌, ℕ, ◌+◌, ◌&&◌, ◌||◌, List, [], ◌∷◌, ◌++◌, filter, nat_eq, Option, None, Some, is_some, Bool, false}
+use Rattle.std.specs.Prelude.{◌≡◌, ◌≢◌, ◌<◌, ◌≤◌, ℕ, ◌+◌, ◌&&◌, ◌||◌, List, [], ◌∷◌, ◌++◌, filter, nat_eq, Option, None, Some, is_some, Bool, false, not}
 use Rattle.std.specs.List.{list_any, AllByRecursion}
 use Rattle.std.specs.Map.{lookup}
 use Rattle.std.specs.Option.{option_map_or}
@@ -146,10 +146,16 @@ pub record Server : Type 0 where
   pub rules : Rules
   pub services : Services
   pub jobs : JobList
+  -- whether it takes no more of what comes in
+  pub draining : Bool
 
 -- a server that has made no job
 abbrev pub new_server : Rules → Services → Server
-new_server rules services = record { rules = rules; services = services; jobs = no_jobs }
+new_server rules services = record { rules = rules; services = services; jobs = no_jobs; draining = false }
+
+-- whether a server still takes what comes in
+abbrev pub takes_on : Server → Bool
+takes_on s = not s.draining
 
 -- the server with this list of jobs
 abbrev pub with_list : Server → List ActiveJob → Server

@@ -25,4 +25,4 @@ pub use Rattle.ttrpc_server.specs.declared.rows.Inlet.{Inlet}
 pub use Rattle.ttrpc_server.specs.declared.rows.Inlet.TheVariants.{Absent, Busy}
 pub use Rattle.ttrpc_server.specs.declared.rules.Rules.{Rules}
 pub use Rattle.ttrpc_server.specs.declared.rules.Rules.TheVariants.{Async, Sync}
-pub use Rattle.ttrpc_connection.specs.OneEnd.{Ends, failing, Takes}
+pub use Rattle.ttrpc_connection.specs.OneEnd.{Ends, failing, Takes, TakesOrDrains}

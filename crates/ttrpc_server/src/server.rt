@@ -6,9 +6,9 @@ ghost use Rattle.ttrpc_frame.specs.Frames.{Holds, nothing};
 ghost use Rattle.ttrpc_frame.specs.Queue.{unsent};
 ghost use Rattle.ttrpc_secure.specs.Hooks.Facts.{facts_of};
 ghost use Rattle.ttrpc_connection.specs.Feeds.{IsFailed};
-ghost use Rattle.ttrpc_connection.specs.OneEnd.{Ends, Lends, Takes, TakesFront, failing, lendable, lending, reporting};
+ghost use Rattle.ttrpc_connection.specs.OneEnd.{Ends, Lends, TakesFrontOrDrains, TakesOrDrains, failing, lendable, lending, reporting};
 ghost use Rattle.ttrpc_server.specs.declared.job.ActiveJob.{ActiveJob as AJob};
-ghost use Rattle.ttrpc_server.specs.Protocol.{Answers, AnswersError, Finishes, Hands, HasNoJob, HasOtherRules, HasUnsent, HasUnsentResponse, QueuesResponse, new_core, serving, RefusesAnswer, RefusesFinish, RefusesResponse};
+ghost use Rattle.ttrpc_server.specs.Protocol.{Answers, AnswersError, Finishes, Hands, HasNoJob, HasOtherRules, HasUnsent, HasUnsentResponse, QueuesResponse, drained, new_core, serving, RefusesAnswer, RefusesFinish, RefusesResponse};
 ghost use Rattle.ttrpc_server.specs.State.{IsTaken, IsUnknown, NoneWaits, Rising, waits};
 
 use crate::job::{Job, JobId};
@@ -54,9 +54,10 @@ impl<O: OutboundTransform + Drop, I: InboundTransform + Drop> ServerCore<O, I> {
 
     /// Takes a piece whole, and says how many bytes that are. Each frame that is whole with it acts, in order. The
     /// connection fails where memory for a frame is refused or job ids are used up; then and from then on the answer is
-    /// that failure. Under sync rules the moment `now`, in nanoseconds, plays no part.
+    /// that failure. Under sync rules the moment `now`, in nanoseconds, plays no part. After `drain` the answer is 0, and
+    /// nothing changes.
     pub fn feed(&mut self, alloc: Global, piece: &[u8], now: u64) -> Result<usize, Error>
-        ensures { Takes (serving O.OutboundTransform I.InboundTransform) self.old.state self.old.connection piece.now now result self.new.state self.new.connection }
+        ensures { TakesOrDrains (serving O.OutboundTransform I.InboundTransform) self.old.state self.old.connection piece.now now result self.new.state self.new.connection }
     {
         self.connection.feed(alloc, &mut self.state, piece, now)
     }
@@ -64,7 +65,7 @@ impl<O: OutboundTransform + Drop, I: InboundTransform + Drop> ServerCore<O, I> {
     /// Takes a front of the piece, and says how many bytes: at least one of a piece that isn't empty, and none behind the
     /// first frame that is whole with it. That frame acts. Otherwise as `feed`.
     pub fn feed_front(&mut self, alloc: Global, piece: &[u8], now: u64) -> Result<usize, Error>
-        ensures { TakesFront (serving O.OutboundTransform I.InboundTransform) self.old.state self.old.connection piece.now now result self.new.state self.new.connection }
+        ensures { TakesFrontOrDrains (serving O.OutboundTransform I.InboundTransform) self.old.state self.old.connection piece.now now result self.new.state self.new.connection }
     {
         self.connection
             .feed_front(alloc, &mut self.state, piece, now)
@@ -168,6 +169,14 @@ impl<O: OutboundTransform + Drop, I: InboundTransform + Drop> ServerCore<O, I> {
         ensures { result ≡ length self.now.state.jobs.list - length (filter waits self.now.state.jobs.list) }
     {
         self.state.jobs().taken()
+    }
+
+    /// From now on nothing that comes in is taken: `feed` and `feed_front` answer 0, or the failure. Jobs are given and
+    /// answered as before. Takes no memory.
+    pub fn drain(&mut self)
+        ensures { self.new ≡ drained self.old }
+    {
+        self.state.drain();
     }
 
     /// The input ended: the connection fails, if it hasn't. Takes no memory.

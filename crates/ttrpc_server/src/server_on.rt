@@ -1,7 +1,7 @@
 //! What the calls of a server's ports do to its core, under the lock.
 ghost use Rattle.std.specs.Prelude.{◌≡◌, ◌≤◌};
 ghost use Rattle.ttrpc_connection.specs.declared.failure.Failure.{Failure as AFailure};
-ghost use Rattle.ttrpc_connection.specs.OneEnd.{Ends, Lends, Takes, failing, lending, reporting};
+ghost use Rattle.ttrpc_connection.specs.OneEnd.{Ends, Lends, TakesOrDrains, failing, lending, reporting};
 ghost use Rattle.ttrpc_proto.specs.declared.error.Error.{Error as AnError};
 ghost use Rattle.ttrpc_server.specs.Protocol.{serving};
 
@@ -18,7 +18,7 @@ pub fn take_on<O: OutboundTransform + Drop, I: InboundTransform + Drop>(
     piece: &[u8],
     now: u64,
 ) -> Result<usize, Error>
-    ensures { Takes (serving O.OutboundTransform I.InboundTransform) core.old.state core.old.connection piece.now now result core.new.state core.new.connection }
+    ensures { TakesOrDrains (serving O.OutboundTransform I.InboundTransform) core.old.state core.old.connection piece.now now result core.new.state core.new.connection }
 {
     core.feed(alloc, piece, now)
 }

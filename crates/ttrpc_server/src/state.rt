@@ -1,5 +1,5 @@
 //! The state of a server core, without its connection, and how a whole frame acts on it.
-ghost use Rattle.std.specs.Prelude.{◌≡◌, [], IfErr, IfSome, IfNone, OnOk, Some};
+ghost use Rattle.std.specs.Prelude.{◌≡◌, [], true, IfErr, IfSome, IfNone, OnOk, Some};
 ghost use Rattle.ttrpc_proto.specs.Messages.{empty_request, request_step};
 ghost use Rattle.ttrpc_wire.specs.Fold.{read_from};
 ghost use Rattle.ttrpc_server.specs.declared.job.ActiveJob.{ActiveJob as AJob};
@@ -34,6 +34,7 @@ pub struct ServerState {
     jobs: Jobs,
     // Under sync rules it has none.
     index: Index,
+    draining: bool,
 }
 
 impl Model for ServerState {
@@ -42,7 +43,7 @@ impl Model for ServerState {
 
     ghost Value = { Server };
 
-    ghost view = { λ a. record { rules = a.rules; services = a.registry; jobs = a.jobs } };
+    ghost view = { λ a. record { rules = a.rules; services = a.registry; jobs = a.jobs; draining = a.draining } };
 
     ghost invariant = { λ a. IsKept a.rules a.jobs.list a.index };
 }
@@ -57,6 +58,7 @@ impl ServerState {
             registry,
             jobs: Jobs::new(alloc),
             index: Index::new(alloc),
+            draining: false,
         }
     }
 
@@ -65,6 +67,13 @@ impl ServerState {
         ensures { result ≡ self.now.rules }
     {
         self.rules
+    }
+
+    /// From now on it takes no more of what comes in. Takes no memory.
+    pub(crate) fn drain(&mut self)
+        ensures { self.new ≡ record self.old { draining = true } }
+    {
+        self.draining = true;
     }
 
     /// The jobs that weren't answered.
@@ -190,10 +199,17 @@ impl ServerState {
 
 impl<O: OutboundTransform + Drop> Reacts<O> for ServerState {
     ghost use Rattle.ttrpc_server.specs.Protocol.{serves, stops_serving};
+    ghost use Rattle.ttrpc_server.specs.State.{takes_on};
 
     ghost reacts = { serves O.OutboundTransform };
 
     ghost fails = { stops_serving };
+
+    ghost takes = { takes_on };
+
+    fn takes(&self) -> bool {
+        !self.draining
+    }
 
     fn react(
         &mut self,

@@ -1,12 +1,12 @@
 -- What the calls of a server's ports do to its core, under the lock.
 -- Source: this project's.
-use Rattle.std.specs.Prelude.{◌≡◌, ◌⊎◌, ℕ, List, length, take, drop, min, is_some, if◌then◌else◌, Bool, true, false, nat_eq, nat_lt, Err, Result, is_ok}
+use Rattle.std.specs.Prelude.{◌≡◌, ◌⊎◌, ℕ, List, length, take, drop, min, is_some, if◌then◌else◌, Bool, true, false, nat_eq, nat_lt, Ok, Err, Result}
 use Rattle.ttrpc_frame.specs.Queue.{after_report, open_part, with_lent}
 use Rattle.ttrpc_proto.specs.declared.error.Error.{Error}
 use Rattle.ttrpc_secure.specs.declared.transform.InboundTransform.{Ghosts as InboundTransform}
 use Rattle.ttrpc_secure.specs.declared.transform.OutboundTransform.{Ghosts as OutboundTransform}
 use Rattle.ttrpc_server.specs.Protocol.{AnswersError, Finishes, RefusesAnswer, RefusesFinish, serving}
-use Rattle.ttrpc_server.specs.Types.{Ends, Takes}
+use Rattle.ttrpc_server.specs.Types.{Ends, TakesOrDrains}
 use Rattle.ttrpc_server.specs.declared.server.ServerCore.{ServerCore}
 
 -- ---- jobs
@@ -27,11 +27,16 @@ IsDropped out old id error new = AnswersError out old.state.rules old id error n
 
 -- ---- bytes in
 
--- A piece was fed to the core, and taken where that is said.
+-- whether all of a piece of this length was taken
+abbrev pub is_whole : Result ℕ Error → ℕ → Bool
+is_whole (Ok n) length = nat_eq n length
+is_whole (Err e) length = false
+
+-- A piece was fed to the core, and taken whole where that is said.
 pub record IsFed {O I : Type 0} (seals : OutboundTransform O) (opens : InboundTransform I) (old : ServerCore O I) (piece : List ℕ) (is_taken : Bool) (new : ServerCore O I) : Type 0 where
   pub answer : Result ℕ Error
-  pub fed : Takes (serving seals opens) old.state old.connection piece 0 answer new.state new.connection
-  pub taken : is_ok answer ≡ is_taken
+  pub fed : TakesOrDrains (serving seals opens) old.state old.connection piece 0 answer new.state new.connection
+  pub taken : is_whole answer (length piece) ≡ is_taken
 
 -- ---- bytes out
 

@@ -9,7 +9,7 @@ use Rattle.ttrpc_world.proofs.Stages.{Ends, Unborn, exactly_once}
 use Rattle.ttrpc_world.proofs.Delivers.{AreKnown}
 use Rattle.ttrpc_world.proofs.Traces.{with_entry}
 use Rattle.ttrpc_world.proofs.Keeps.{Keeps, keeps_ask, keeps_call, keeps_drop, keeps_still, keeps_tick}
-use Rattle.ttrpc_world.proofs.Moves.{break_down, break_up, carry_down, carry_up, client_fails, cut_down, cut_up, deliver_down, deliver_up, keeps_answer, keeps_finish, keeps_hand, keeps_respond, server_fails}
+use Rattle.ttrpc_world.proofs.Moves.{break_down, break_up, carry_down, carry_up, client_fails, cut_down, cut_up, deliver_down, deliver_up, stay_up, keeps_answer, keeps_finish, keeps_hand, keeps_respond, server_fails}
 
 module _ {CO CI SO SI : Type 0} (c : Halves CO CI) (s : Halves SO SI) (seals : Bool) (still : seals ≡ false → (from to : CO) (plain aad sealed : List ℕ) → c.out.seals from plain aad sealed to → to ≡ from)
     (stream_of : ℕ → ℕ) where
@@ -40,7 +40,8 @@ module _ {CO CI SO SI : Type 0} (c : Halves CO CI) (s : Halves SO SI) (seals : B
   keeps trace w (Tick now) Done v i r p = along _ _ v p.only (keeps_tick c s seals still stream_of trace w now v i p)
   keeps trace w (Carry side.Client n) (Count k) v i r p = carry_up c s seals stream_of _ w n k v (quietly trace w (Carry side.Client n) (Count k) (λ j. refl) i) p
   keeps trace w (Carry side.Server n) (Count k) v i r p = carry_down c s seals stream_of _ w n k v (quietly trace w (Carry side.Server n) (Count k) (λ j. refl) i) p
-  keeps trace w (Deliver side.Server n) (Count k) v i r p = deliver_up c s seals stream_of _ w n k v (quietly trace w (Deliver side.Server n) (Count k) (λ j. refl) i) p
+  keeps trace w (Deliver side.Server n) (Count k) v i r (inl p) = deliver_up c s seals stream_of _ w n k v (quietly trace w (Deliver side.Server n) (Count k) (λ j. refl) i) p
+  keeps trace w (Deliver side.Server n) (Count k) v i r (inr p) = stay_up c s seals stream_of _ w k v (quietly trace w (Deliver side.Server n) (Count k) (λ j. refl) i) p
   keeps trace w (Deliver side.Server n) (Refused told) v i r (inl p) = break_up c s seals stream_of _ w n told v (quietly trace w (Deliver side.Server n) (Refused told) (λ j. refl) i) p.0 p.1
   keeps trace w (Deliver side.Server n) (Refused told) v i r (inr p) = same trace w (Deliver side.Server n) (Refused told) v (λ k. refl) i p.1
   keeps trace w (Deliver side.Client n) (Count k) v i r p = deliver_down c s seals stream_of _ w n k v (quietly trace w (Deliver side.Client n) (Count k) (λ j. refl) i) p

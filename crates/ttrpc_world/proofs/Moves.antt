@@ -1,5 +1,5 @@
 -- Each event that moves bytes, cuts a pipe or fails a side, and each of the server, keeps the invariant.
-use Rattle.ttrpc_world.proofs.Words.{nat_eq, cases_Bool, eq-eqb, inl, inr, true, false, RespondsTo, ◌≡◌, ◌≢◌, ℕ, ◌≤◌, List, [], ◌∷◌, ◌++◌, length, Bool, Option, Some, None, refl, sym, ap, ◌∙◌, subst, arith, Result, Ok, Err, Error, Failure, ServerCore, Entry, Request, Response, ActiveJob, Event, Reply, Queue, open_part, Connection, HandlerError, Scene, scene, serving, Answers, Drops, Server, Client, call_at, calling, Flying, IsOwnRequest, parcels, all_behind, Pipe, is_over, Halves, Net, has_response, with_client, with_server, BreaksAt, OnlyClient, OnlyServer, CarriesDown, CarriesUp, CutsDown, CutsUp, DeliversDown, DeliversUp, pipe_after_carry, cut_to, failing, after_carry, lent_of, taken_from, AnswersBy, IsResponse, Job, jobs_at, Take, Answer, Handed, Done, Act, Answered, Ran, acts, all_at, all_changed, all_less, between_own, between_other, under_both, pushed_own, pushed_other, id_of, stream_id_of}
+use Rattle.ttrpc_world.proofs.Words.{nat_eq, cases_Bool, eq-eqb, inl, inr, true, false, RespondsTo, ◌≡◌, ◌≢◌, ℕ, ◌≤◌, List, [], ◌∷◌, ◌++◌, length, Bool, Option, Some, None, refl, sym, ap, ◌∙◌, subst, arith, Result, Ok, Err, Error, Failure, ServerCore, Entry, Request, Response, ActiveJob, Event, Reply, Queue, open_part, Connection, HandlerError, Scene, scene, serving, Answers, Drops, Server, Client, call_at, calling, Flying, IsOwnRequest, parcels, all_behind, Pipe, is_over, Halves, Net, has_response, with_client, with_server, BreaksAt, OnlyClient, OnlyServer, CarriesDown, CarriesUp, CutsDown, CutsUp, DeliversDown, DeliversUp, StaysUp, pipe_after_carry, cut_to, failing, after_carry, lent_of, taken_from, AnswersBy, IsResponse, Job, jobs_at, Take, Answer, Handed, Done, Act, Answered, Ran, acts, all_at, all_changed, all_less, between_own, between_other, under_both, pushed_own, pushed_other, id_of, stream_id_of}
 use Rattle.ttrpc_server.specs.Protocol.{AnswersError, Finishes, Hands, Responds}
 use Rattle.ttrpc_server.specs.declared.rules.Rules.{Rules}
 use Rattle.ttrpc_connection.specs.Frames.{safe_limit}
@@ -90,6 +90,11 @@ module _ {CO CI SO SI : Type 0} (c : Halves CO CI) (s : Halves SO SI) (seals : B
       let is = λ (y : Connection SO SI). served w i (scene v.server.state p.does.mid) l.0 v.server.state y (taken_from w.up k) refl in
       rw p.only (as_heard (λ y. Kept (record (with_server w (record { state = v.server.state; connection = y })) { up = taken_from w.up k })) (is_over (taken_from w.up k)) p.does.mid v.server.connection p.does.hears
       (is p.does.mid refl (record { bytes = λ alive. l.1; linked = λ alive. l.0.linked })) (λ why. is (failing p.does.mid why) refl (dead c.out s.in_ _ _ _ _ (kept_some p.does.mid.failure why))))
+
+  pub stay_up : (w : Net CO CI SO SI) (k : ℕ) (v : Net CO CI SO SI) → Kept w → StaysUp c s seals w k v → Kept v
+  stay_up w k v i p =
+      rw p.only (as_heard (λ y. Kept (with_server w (record w.server { connection = y }))) (is_over w.up) w.server.connection v.server.connection p.hears
+      i (λ why. server_fails w why i))
 
   pub deliver_down : (w : Net CO CI SO SI) (n k : ℕ) (v : Net CO CI SO SI) → Kept w → DeliversDown c s seals w n k v → Kept v
   deliver_down w n k v i p =

@@ -1,5 +1,6 @@
 -- A run goes on by one step, why a piece was refused, and what an answer comes to by what the core says of it.
-use Rattle.ttrpc_world.proofs.Words.{◌≡◌, List, [], ◌∷◌, ◌++◌, Bool, map, subst, refl, ap, Option, Some, None, ◌⊎◌, inl, inr, ℕ, Result, Ok, Err, Entry, Event, Reply, Error, Failure, Response, OutboundTransform, ActiveJob, ServerCore, Halves, Net, Runs, Steps, AnswersBy, IsTold, error_of, IsFailed, IsResponse, IsTaken, IsUnknown, Answers, HasUnsent, RefusesAnswer, ◌≡◌, ap, false, ◌∷◌, RespondsTo, has_response, with_server}
+use Rattle.ttrpc_world.proofs.Words.{◌≡◌, List, [], ◌∷◌, ◌++◌, Bool, map, subst, refl, ap, Option, Some, None, ◌⊎◌, inl, inr, ℕ, Result, Ok, Err, Entry, Event, Reply, Error, Failure, Response, OutboundTransform, ActiveJob, ServerCore, Halves, Net, Runs, Steps, AnswersBy, IsTold, error_of, IsFailed, IsResponse, IsTaken, IsUnknown, Answers, HasUnsent, RefusesAnswer, ◌≡◌, ap, false, ◌∷◌, RespondsTo, has_response, with_server, cases_Bool, true, Connection, Ways}
+use Rattle.ttrpc_connection.specs.OneEnd.{Drains, Takes, TakesOrDrains}
 use Rattle.ttrpc_server.specs.Protocol.{AnswersError, HasOtherRules, QueuesResponse, RefusesFinish, RefusesResponse}
 use Rattle.ttrpc_server.proofs.Sending.{unsent_answer}
 
@@ -12,6 +13,11 @@ run_more c s seals w (e ∷ trace) x event reply v p q = (p.0, p.1, run_more c s
 pub events_more : (trace : List Entry) (event : Event) (reply : Reply) → map Entry.event (trace ++ record { event = event; reply = reply } ∷ []) ≡ map Entry.event trace ++ event ∷ []
 events_more [] event reply = refl
 events_more (e ∷ trace) event reply = ap (λ xs. e.event ∷ xs) (events_more trace event reply)
+
+-- what a piece does to a core that takes, and to one that takes no more
+pub by_taking : {S O I : Type 0} (w : Ways S O I) (s : S) (old : Connection O I) (piece : List ℕ) (at : ℕ) (result : Result ℕ Error) (t : S) (new : Connection O I) → TakesOrDrains w s old piece at result t new
+    → Takes w s old piece at result t new ⊎ ((w.core.takes s ≡ false) × Drains s old result t new)
+by_taking w s old piece at result t new fed = elim (cases_Bool (w.core.takes s)) [ inl takes ↦ inl (fed.takes takes) | inr drains ↦ inr (drains, fed.drains drains) ]
 
 pub breaks_or_failed : (Breaks Same : Type 0) (failure : Option Failure) (told : Error) → (failure ≡ None → Breaks) → ((f : Failure) → failure ≡ Some f → IsTold (error_of f) told × Same)
     → Breaks ⊎ (IsFailed failure told × Same)

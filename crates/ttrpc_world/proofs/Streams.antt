@@ -127,7 +127,9 @@ module _ {CO CI SO SI : Type 0} (c : Halves CO CI) (s : Halves SO SI) (seals : B
   places trace w (Finish id) Done v p q =
       let t = q.0 in
       entry_placed trace (jobs v) (Finish id) Done (ended_placed trace (jobs w) (jobs v) id t.job (ap (λ (z : ServerCore SO SI). z.state.jobs.last) t.same) t.ends p) tt
-  places trace w (Deliver side.Server n) (Count k) v p q =
+  places trace w (Deliver side.Server n) (Count k) v p (inr q) =
+      still trace w v (Deliver side.Server n) (Count k) (ap (λ (x : Net _ _ _ _). x.server.state.jobs) q.only) (λ f m. tt) p
+  places trace w (Deliver side.Server n) (Count k) v p (inl q) =
       entry_placed trace (jobs v) (Deliver side.Server n) (Count k) (acts_placed s trace w.moment q.does.does.frames (scene w.server.state w.server.connection) (scene v.server.state q.does.mid) q.does.does.acts p) tt
   places trace w (Deliver side.Server n) (Refused told) v p (inl q) =
       let mid = acts_placed s trace w.moment q.0.frames (scene w.server.state w.server.connection) q.0.mid q.0.acts p in

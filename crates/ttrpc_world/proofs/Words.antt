@@ -31,5 +31,5 @@ pub use Rattle.ttrpc_flight.proofs.Words.{ActsOn, AreInFlight, AreLinked, arrive
 pub use Rattle.ttrpc_world.specs.Types.{Answer, CallEvent, CancelledDuringWrite, Carry, Connection, Count, Cut, DeadlineDuringWrite, Deliver, Disconnected, DisconnectedInside, Done, DropCall, Entry, Event, Fail, Failure, Given, Handed, HandlerError, Named, Outcome, Refused, Reply, Take, Tick, Told}
 pub use Rattle.ttrpc_world.specs.Net.{Halves, halves, has_response, IsFresh, Net, with_client, with_server}
 pub use Rattle.ttrpc_world.specs.Pipes.{empty_pipe, is_over, Pipe}
-pub use Rattle.ttrpc_world.specs.Steps.{after_carry, AnswersBy, Awaits, AwaitsNone, BreaksAt, pipe_after_carry, CarriesDown, CarriesUp, cut_to, CutsDown, CutsUp, DeliversDown, DeliversUp, failed_by_hand, Forgot, Hears, lent_of, OnlyClient, OnlyServer, RespondsTo, Runs, Steps, taken_from, Ticked}
+pub use Rattle.ttrpc_world.specs.Steps.{after_carry, AnswersBy, Awaits, AwaitsNone, BreaksAt, pipe_after_carry, CarriesDown, CarriesUp, cut_to, CutsDown, CutsUp, DeliversDown, DeliversUp, StaysUp, failed_by_hand, Forgot, Hears, lent_of, OnlyClient, OnlyServer, RespondsTo, Runs, Steps, taken_from, Ticked}
 pub use Rattle.ttrpc_world.specs.Story.{Act, act_of, acts, Answered, Called, calls, Gave, HasOkStatus, IsExactlyOnce, IsOneToOne, IsRightAt, IsStreamOf, only_if, outcomes, Ran, runs, work}

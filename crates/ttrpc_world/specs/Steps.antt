@@ -9,7 +9,7 @@ use Rattle.ttrpc_connection.specs.Feeds.{Ways, Feeds, Breaks, IsFailed}
 use Rattle.ttrpc_connection.specs.OneEnd.{Ends, failing, lending, reporting}
 use Rattle.ttrpc_server.specs.declared.server.ServerCore.{ServerCore}
 use Rattle.ttrpc_server.specs.declared.job.ActiveJob.{ActiveJob}
-use Rattle.ttrpc_server.specs.State.{IsTaken, IsUnknown, NoneWaits}
+use Rattle.ttrpc_server.specs.State.{IsTaken, IsUnknown, NoneWaits, takes_on}
 use Rattle.ttrpc_server.specs.Protocol.{HasOtherRules, HasUnsent, Answers, AnswersError, Finishes, Hands, QueuesResponse, serving}
 use Rattle.ttrpc_client.specs.Protocol.{RefusesRequest, Forgets, Requests, TakesOutcome, calling}
 use Rattle.ttrpc_client.specs.Calls.{Passes}
@@ -128,6 +128,13 @@ module _ {CO CI SO SI : Type 0} (c : Halves CO CI) (s : Halves SO SI) (seals : B
     pub does : Delivers (serving s.out s.in_) old.server.state old.server.connection old.up old.moment n k new.server.state new.server.connection
     pub only : new ≡ record (with_server old new.server) { up = taken_from old.up k }
 
+  -- Nothing was delivered to a server that takes no more.
+  pub record StaysUp (old : Net CO CI SO SI) (k : ℕ) (new : Net CO CI SO SI) : Type 0 where
+    pub drains : takes_on old.server.state ≡ false
+    pub none : k ≡ 0
+    pub hears : Hears (is_over old.up) old.server.connection new.server.connection
+    pub only : new ≡ with_server old (record old.server { connection = new.server.connection })
+
   -- Bytes were delivered to the client, which is told no moment.
   pub record DeliversDown (old : Net CO CI SO SI) (n k : ℕ) (new : Net CO CI SO SI) : Type 0 where
     pub does : Delivers (calling c.out c.in_) old.client.state old.client.connection old.down 0 n k new.client.state new.client.connection
@@ -182,7 +189,7 @@ module _ {CO CI SO SI : Type 0} (c : Halves CO CI) (s : Halves SO SI) (seals : B
   Steps old (Carry side.Client n) NoMemory new = HasToLend old.client.connection n × (new ≡ old)
   Steps old (Carry side.Server n) (Count k) new = CarriesDown old n k new
   Steps old (Carry side.Server n) NoMemory new = HasToLend old.server.connection n × (new ≡ old)
-  Steps old (Deliver side.Server n) (Count k) new = DeliversUp old n k new
+  Steps old (Deliver side.Server n) (Count k) new = DeliversUp old n k new ⊎ StaysUp old k new
   Steps old (Deliver side.Server n) (Refused told) new = RefusesUp old n told new
   Steps old (Deliver side.Client n) (Count k) new = DeliversDown old n k new
   Steps old (Deliver side.Client n) (Refused told) new = RefusesDown old n told new

@@ -180,7 +180,7 @@ impl<O: OutboundTransform + Drop, I: InboundTransform + Drop> ServerHeld<O, I> {
 impl<O: OutboundTransform + Drop, I: InboundTransform + Drop> Held for ServerHeld<O, I> {
     type Woken = Woken;
 
-    // Under sync rules the moment plays no part.
+    // Under sync rules the moment plays no part. A core that drains takes no piece.
     fn take(&mut self, alloc: Global, piece: &[u8]) -> Option<Taken<Woken>>
         ensures whole { IfSome result (λ taken. taken.count ≡ length piece.now) }
         ensures fed { IsFed O.OutboundTransform I.InboundTransform self.old.core piece.now (is_some result) self.new.core }
@@ -189,12 +189,12 @@ impl<O: OutboundTransform + Drop, I: InboundTransform + Drop> Held for ServerHel
         ensures has_ended { self.new.has_ended ≡ self.old.has_ended }
     {
         match take_on(&mut self.core, alloc, piece, 0) {
-            Ok(count) => Some(Taken {
+            Ok(count) if count == piece.len() => Some(Taken {
                 count,
                 reads_on: true,
                 woken: self.woken(),
             }),
-            Err(_) => None,
+            _ => None,
         }
     }
 

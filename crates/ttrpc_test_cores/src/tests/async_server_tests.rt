@@ -1,6 +1,6 @@
 //! Each row of the server's table under async rules, for unary jobs, and each refusal. All bytes are written by hand.
 use crate::server::*;
-use crate::tests::script::{FRESH, Row, Start, Step, Told};
+use crate::tests::script::{Cuts, FRESH, Row, Start, Step, Told};
 use crate::tests::under_test::{Table, Tested, hold};
 use ttrpc_bench::{Sealed, StampIn, StampOut, Swelling};
 use ttrpc_secure::Plain;
@@ -9,6 +9,8 @@ use ttrpc_server::{Rules, ServerCore};
 type Core = ServerCore<Plain, Plain>;
 
 const ASYNC: &[Rules] = &[Rules::Async];
+
+const BOTH: &[Rules] = &[Rules::Sync, Rules::Async];
 
 const UNKNOWN_JOB: Told = Told::Others("unknown job");
 
@@ -33,6 +35,10 @@ const ASKED_AND_DATA: &[u8] =
 /// What answers the data.
 const OWN_DATA_ANSWER: &[u8] =
     b"\0\0\0\x20\0\0\0\x01\x02\0\x0a\x1e\x08\x03\x12\x1aStream is no longer active";
+/// A request under stream 3.
+const ASKED_BEHIND: &[u8] = b"\0\0\0\x14\0\0\0\x03\x01\0\x0a\x09demo.Echo\x12\x04Echo\x1a\x01\x2b";
+/// What echoes it.
+const ECHOED_BEHIND: &[u8] = b"\0\0\0\x05\0\0\0\x03\x02\0\x0a\0\x12\x01\x2b";
 /// What answers a request whose id has an active job.
 const IN_USE: &[u8] = b"\0\0\0\x1b\0\0\0\x01\x02\0\x0a\x19\x08\x03\x12\x15stream id 1 is in use";
 /// An unreadable request under an id that has an active job.
@@ -197,6 +203,59 @@ const JOB_ROWS: &[Row] = &[
         ..FRESH
     },
 ];
+
+// Under either rules.
+const DRAINING_ROWS: &[Row] = &[
+    Row {
+        name: "a server that drains takes nothing, and gives and answers the jobs that it has",
+        steps: &[
+            Step::Feed(ASKED),
+            Step::Feed(ASKED_BEHIND),
+            Step::Takes(1, 1, b"\x2a"),
+            Step::Drains,
+            Step::TakesNothing(ASKED),
+            Step::Jobs(1, 1),
+            Step::Answers(1, b"\x2a"),
+            Step::Writes(ECHOED),
+            Step::Takes(2, 3, b"\x2b"),
+            Step::Answers(2, b"\x2b"),
+            Step::Writes(ECHOED_BEHIND),
+            Step::TakesNothing(ASKED),
+            Step::TakesNone,
+            Step::IsAlive,
+        ],
+        ..FRESH
+    },
+    Row {
+        name: "a server that drains inside a frame takes no more of it",
+        steps: &[
+            Step::FeedToCut(ASKED),
+            Step::Drains,
+            Step::TakesNothing(ASKED),
+            Step::AtBoundary(false),
+            Step::Jobs(0, 0),
+            Step::EndsInput,
+            Step::HasFailed("socket disconnected inside a frame"),
+        ],
+        cuts: Cuts::Inside(30),
+        ..FRESH
+    },
+    Row {
+        name: "a server that drains tells its failure",
+        steps: &[
+            Step::Drains,
+            Step::FailsBy("first"),
+            Step::HasFailed("first"),
+        ],
+        ..FRESH
+    },
+];
+
+#[test]
+fn a_server_that_drains_takes_nothing(rt: HostRuntime) -> Tested {
+    let tables: &[Table<Rules>] = &[(BOTH, DRAINING_ROWS)];
+    hold::<Core>(&rt, rt.alloc(), tables)
+}
 
 #[test]
 fn a_polled_server_keeps_its_table(rt: HostRuntime) -> Tested {

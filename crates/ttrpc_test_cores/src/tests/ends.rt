@@ -92,6 +92,10 @@ impl<O: OutboundTransform + Drop, I: InboundTransform + Drop> Server for ServerC
     fn has_unsent(&self) -> bool {
         ServerCore::has_unsent(self)
     }
+
+    fn drain(&mut self) {
+        ServerCore::drain(self);
+    }
 }
 
 impl<O: OutboundTransform + Half + Drop, I: InboundTransform + Half + Drop> Core

@@ -94,6 +94,10 @@ pub enum Step {
     StreamOf(u64, Option<u32>),
     /// How many jobs wait, and how many were taken and haven't ended.
     Jobs(u64, u64),
+    /// From now on nothing that comes in is taken.
+    Drains,
+    /// Of these bytes nothing is taken, whole or as a front.
+    TakesNothing(&'static [u8]),
     /// Whether anything is left to be written.
     HasUnsent(bool),
     /// All that is left to be written is a response of stream 1 with this code, and a message that begins so.

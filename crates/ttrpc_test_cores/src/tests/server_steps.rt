@@ -29,6 +29,8 @@ pub fn server_step<S: Server>(alloc: Global, core: &mut S, step: &Step, cut: usi
             Ok(core.jobs_waiting() == waiting && core.jobs_taken() == taken)
         }
         Step::HasUnsent(unsent) => Ok(core.has_unsent() == unsent),
+        Step::Drains => Ok(drains(core)),
+        Step::TakesNothing(bytes) => takes_nothing(alloc, core, bytes),
         Step::Serves(bytes, expected) => serves(alloc, core, bytes, cut, expected),
         Step::WritesStatus(code, begins) => writes_status(alloc, core, code, begins),
         Step::ServesLastFirst(count) => serves_last_first(alloc, core, count),
@@ -92,6 +94,17 @@ fn frame_taken<S: Server>(alloc: Global, core: &mut S, piece: &[u8]) -> Result<u
 
 fn takes_all<S: Server>(alloc: Global, core: &mut S, piece: &[u8]) -> Met {
     Ok(frame_taken(alloc, core, piece)? == piece.len())
+}
+
+// ---- the end of taking
+
+fn drains<S: Server>(core: &mut S) -> bool {
+    core.drain();
+    true
+}
+
+fn takes_nothing<S: Server>(alloc: Global, core: &mut S, bytes: &[u8]) -> Met {
+    Ok(core.feed(alloc, bytes)? == 0 && core.feed_front(alloc, bytes)? == 0)
 }
 
 // ---- jobs

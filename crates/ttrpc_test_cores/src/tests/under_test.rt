@@ -60,6 +60,8 @@ pub trait Server: End {
     fn jobs_taken(&self) -> u64;
 
     fn has_unsent(&self) -> bool;
+
+    fn drain(&mut self);
 }
 
 /// What a client does beside.
@@ -153,13 +155,7 @@ fn hold_as<C: Core>(
 }
 
 /// The row holds in all its cuts.
-fn holds<C: Core>(
-    rt: &impl Abort,
-    alloc: Global,
-    kind: C::Kind,
-    row: &Row,
-    form: Form,
-) -> Tested {
+fn holds<C: Core>(rt: &impl Abort, alloc: Global, kind: C::Kind, row: &Row, form: Form) -> Tested {
     match row.cuts {
         Cuts::WholeAndBytes => {
             holds_at::<C>(rt, alloc, kind, row, usize::MAX, form)?;

@@ -1,12 +1,13 @@
 use Rattle.std.proofs.Common.{◌≡◌, inl, rules, Err, take}
 use Rattle.ttrpc_echo.proofs.Echoing.{one_front}
-use Rattle.ttrpc_echo.proofs.Stopping.{breaks_stop}
+use Rattle.ttrpc_echo.proofs.Stopping.{breaks_stop, takes_so}
 use Rattle.ttrpc_echo.proofs.engine.serve_front.Goals as goal
 
 pub returns-in_err-n-clause-err : goal.returns-in_err-n-clause-err
 returns-in_err-n-clause-err c =
     let e : c.from_residual.result ≡ Err c.in_err-n.field-0.0 = search rules in
-    rw e (breaks_stop _ _ _ _ _ (c.in_err-n.ensures.fails c.requires.alive))
+    let front = c.in_err-n.ensures.takes (takes_so c.requires) in
+    rw e (breaks_stop _ _ _ _ _ (front.fails c.requires.alive))
 
 pub returns-in_err-echo_next-clause-err : goal.returns-in_err-echo_next-clause-err
 returns-in_err-echo_next-clause-err c =
@@ -15,5 +16,5 @@ returns-in_err-echo_next-clause-err c =
 
 pub returns-clause-serves : goal.returns-clause-serves
 returns-clause-serves c =
-    let t = c.in_ok-n.ensures.ok in
+    let t = (c.in_ok-n.ensures.takes (takes_so c.requires)).ok in
     one_front _ t.frame c.args.core.now c.feed_front.new.self c.echo_next.new.core (take c.in_ok-n.n c.args.piece.now) c.requires t.still t.fed t.acts c.in_ok-echo_next.ensures.ok
