@@ -9,10 +9,10 @@ use Rattle.ttrpc_frame.proofs.Departures.{bytes_are_written}
 abbrev pub Grows : Queue → Queue → Type 0
 Grows old new = (queued : List Queued) × (new ≡ record old { frames = old.frames ++ queued })
 
-grows_not : (old new : Queue) → new ≡ old → Grows old new
+pub grows_not : (old new : Queue) → new ≡ old → Grows old new
 grows_not old new same = ([], same ∙ ap (λ fs. record old { frames = fs }) (sym (append-nil old.frames)))
 
-grows_twice : (old mid new : Queue) → Grows old mid → Grows mid new → Grows old new
+pub grows_twice : (old mid new : Queue) → Grows old mid → Grows mid new → Grows old new
 grows_twice old mid new one two =
     (one.0 ++ two.0, two.1 ∙ ap (λ (q : Queue). record q { frames = q.frames ++ two.0 }) one.1 ∙ ap (λ fs. record old { frames = fs }) (append_assoc old.frames one.0 two.0))
 

@@ -8,7 +8,7 @@ thrown_both [] ys q = refl
 thrown_both (x ∷ xs) ys q =
     ap (λ fs. thrown_by q x ++ fs) (thrown_both xs ys (after q x)) ∙ sym (append_assoc (thrown_by q x) (thrown (after q x) xs) (thrown (after_all (after q x) xs) ys))
 
-none_placed : (fs : List Queued) (q : Queue) → thrown q (map Placed fs) ≡ []
+pub none_placed : (fs : List Queued) (q : Queue) → thrown q (map Placed fs) ≡ []
 none_placed [] q = refl
 none_placed (f ∷ fs) q = none_placed fs (with_frame q f)
 

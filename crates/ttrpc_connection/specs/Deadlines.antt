@@ -1,6 +1,6 @@
 -- Deadlines, each a moment in nanoseconds and the id of what must have ended by then.
 -- Source: this project's.
-use Rattle.std.specs.Prelude.{◌≡◌, ◌&&◌, ℕ, ◌+◌, List, Option, None, Some, Bool, false, if◌then◌else◌, nat_eq, ℤ, pos, negsuc, zero, suc}
+use Rattle.std.specs.Prelude.{◌≡◌, ◌&&◌, ℕ, ◌+◌, List, map, filter, Option, None, Some, Bool, false, if◌then◌else◌, nat_eq, nat_le, ℤ, pos, negsuc, zero, suc}
 use Rattle.std.specs.declared.cmp.Ordering.{Ordering}
 use Rattle.std.specs.Ordering.{nat_cmp, ordering_then}
 use Rattle.std.specs.List.{list_any}
@@ -30,3 +30,7 @@ is_moment at (Some moment) = nat_eq at moment
 abbrev pub ChangesTo : Bool → List (ℕ × ℕ) → ℕ → Option ℕ → List (ℕ × ℕ) → Type 0
 ChangesTo there old id deadline new =
     (at k : ℕ) → has_deadline new at k ≡ (if nat_eq k id && is_moment at deadline then there else has_deadline old at k)
+
+-- the ids of those that are at a moment or before it, in their order
+abbrev pub due_ids : ℕ → List (ℕ × ℕ) → List ℕ
+due_ids now deadlines = map (λ d. d.1) (filter (λ d. nat_le d.0 now) deadlines)

@@ -1,6 +1,7 @@
 //! The deadlines of what waits, soonest first.
-ghost use Rattle.std.specs.Prelude.{◌≡◌, ◌≤◌, ℕ, [], true, false, IfSome, IfNone, OnOk, OnErr};
-ghost use Rattle.ttrpc_connection.specs.Deadlines.{ChangesTo, deadline_of, has_deadline};
+ghost use Rattle.std.specs.Prelude.{◌≡◌, ◌≤◌, ℕ, [], true, false, length, vec_capacity, IfSome, IfNone, OnOk, OnErr};
+ghost use Rattle.std.specs.List.Sorted.{IsStrictlySortedBy};
+ghost use Rattle.ttrpc_connection.specs.Deadlines.{ChangesTo, deadline_of, due_ids, has_deadline, sooner};
 
 use std::alloc::{AllocError, Global};
 use std::collections::BTreeSet;
@@ -58,6 +59,32 @@ impl Deadlines {
         ensures none { IfNone result ((at id : ℕ) → has_deadline self.now at id ≡ false) }
     {
         self.pairs.first().copied()
+    }
+
+    /// A lemma, which does nothing when it runs: each is there once, by rising moment and then by rising id.
+    pub fn lemma_ordered(&self)
+        ensures { IsStrictlySortedBy sooner self.now }
+    {
+        let _ = self.pairs.len();
+    }
+
+    /// Puts the ids of those that are at this moment or before it into `due`, in place of what it had, soonest first.
+    /// Takes no memory, as `due` has room for them.
+    pub fn due(&self, now: u64, due: &mut Vec<u64>)
+        requires { length (due_ids now self.now) ≤ vec_capacity due.old }
+        ensures are { due.new.items ≡ due_ids now self.now }
+        ensures room { vec_capacity due.old ≤ vec_capacity due.new }
+    {
+        due.clear();
+        for pair in self.pairs.iter() {
+            let (deadline, id) = *pair;
+            if deadline > u128::from(now) {
+                break;
+            }
+            if due.push(id).is_err() {
+                unreachable!();
+            }
+        }
     }
 }
 

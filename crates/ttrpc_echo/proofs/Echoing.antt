@@ -1,5 +1,5 @@
 -- One frame, fed to the echo and answered.
-use Rattle.std.proofs.Common.{◌≡◌, inl, inr, ℕ, ◌+◌, ◌≤◌, List, [], ◌∷◌, ◌++◌, length, drop, refl, sym, ap, subst, ◌∙◌, Option, Some, None, arith, length-append, append_assoc, take}
+use Rattle.std.proofs.Common.{◌≡◌, inl, inr, ℕ, ◌+◌, ◌≤◌, List, [], ◌∷◌, ◌++◌, length, drop, refl, sym, ap, subst, ◌∙◌, Option, Some, None, false, arith, length-append, append_assoc, take}
 use Rattle.std.proofs.lemmas.Option.{same_Some}
 use Rattle.std.proofs.lemmas.List.{append-nil, drop-append-le, take-append-drop}
 use Rattle.std.proofs.lemmas.Grind.{flat_map-append}
@@ -33,7 +33,7 @@ use Rattle.ttrpc_server.specs.declared.rows.Inlet.TheVariants.{Absent}
 use Rattle.ttrpc_server.specs.declared.rules.Rules.{Rules}
 use Rattle.ttrpc_server.specs.declared.rules.Rules.TheVariants.{Sync}
 use Rattle.ttrpc_server.proofs.Streams.{row_of_sync}
-use Rattle.ttrpc_server.specs.State.{NoneWaits, new_job, unary_body, with_job, Services, Server}
+use Rattle.ttrpc_server.specs.State.{NoneWaits, new_job, told_left, unary_body, with_job, Services, Server}
 use Rattle.ttrpc_echo.specs.Echo.{AreAnswers, HasEcho, IsAnswer, Says, echo_of, echo_services, framed, plainly, said_bytes}
 use Rattle.ttrpc_echo.specs.Serving.{plain_in, plain_out, IsReady, Echoes, Serves}
 use Rattle.ttrpc_echo.proofs.Limits.{fitted_fits}
@@ -151,7 +151,7 @@ done_quiet f said old mid new ready says state alive adds echoes =
     }
 
 done_known : (now : ℕ) (f : Incoming) (request : Request) (old mid new : ServerCore Plain Plain) → IsReady old → Says (sync_row echo_services (header_of_frame f) (plainly f)) (Some (echo_of request))
-    → mid.state ≡ record old.state { jobs = with_job old.state.jobs (header_of_frame f) request (unary_body old.state.rules now request) } → mid.connection.outbox ≡ old.connection.outbox → mid.connection.failure ≡ None → Echoes mid new → Done f old mid new
+    → mid.state ≡ record old.state { jobs = with_job old.state.jobs (header_of_frame f) request (unary_body old.state.rules now request); expired = told_left old.state.jobs.list old.state.expired } → mid.connection.outbox ≡ old.connection.outbox → mid.connection.failure ≡ None → Echoes mid new → Done f old mid new
 done_known now f request old mid new ready says makes quiet alive (inl same) =
     let job = new_job (old.state.jobs.last + 1) (header_of_frame f) request (unary_body old.state.rules now request) in
     let jobs : mid.state.jobs.list ≡ job ∷ [] = ap (λ (s : Server). s.jobs.list) makes ∙ ap (λ js. js ++ job ∷ []) ready.jobs in

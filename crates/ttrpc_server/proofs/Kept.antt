@@ -1,5 +1,5 @@
 -- What finds jobs goes on to find them, through each change of the jobs.
-use Rattle.ttrpc_server.proofs.Words.{rules, arith, inl, inr, ◌≡◌, ◌≢◌, ◌<◌, ◌≤◌, ◌&&◌, ℕ, ◌+◌, nat_eq, nat_cmp, is_at, List, [], ◌∷◌, ◌++◌, length, list_any, Option, Some, None, Bool, true, false, refl, sym, ap, subst, ◌∙◌, AllByRecursion, pushed_own, pushed_other, between_own, between_other, under_both, Request, ActiveJob, Job, Rules, Async, HandsOne, IsJob, IsTaken, jobs_at, Rising, deadline_in, AreSingle, Finds, FindsTheSame, Indexed, IsKept, Loses, first_id, is_due_at, job_found}
+use Rattle.ttrpc_server.proofs.Words.{rules, arith, inl, inr, ◌≡◌, ◌≢◌, ◌<◌, ◌≤◌, ◌&&◌, ℕ, ◌+◌, nat_eq, nat_cmp, is_at, List, [], ◌∷◌, ◌++◌, length, list_any, Option, Some, None, Bool, true, false, refl, sym, ap, subst, ◌∙◌, pushed_own, pushed_other, between_own, between_other, under_both, Request, ActiveJob, Job, Rules, Async, HandsOne, IsJob, IsTaken, jobs_at, Rising, deadline_in, AreSingle, Finds, FindsTheSame, Indexed, IsKept, Loses, first_id, is_due_at, job_found}
 use Rattle.std.proofs.Common.{◌||◌}
 use Rattle.std.proofs.lemmas.List.Folds.{list_any-append}
 use Rattle.std.proofs.lemmas.Map.Lookups.{exact_unsigned}
@@ -12,7 +12,7 @@ use Rattle.ttrpc_connection.specs.declared.arrived.Opening.{Opening}
 use Rattle.ttrpc_server.specs.Kept.{no_index}
 use Rattle.ttrpc_server.specs.State.{Services}
 use Rattle.ttrpc_server.specs.Table.{answer_row, asked_answer, asked_row, case_answer, case_of, case_row, inlet_of}
-use Rattle.ttrpc_server.specs.Types.{MessageHeader, TooLong, Refused, Opened, Sync, Inlet, Absent, Busy, Case, Skipped, EvenId, Inactive, InUse, Asks, Asked, Call}
+use Rattle.ttrpc_server.specs.Types.{MessageHeader, TooLong, Refused, Opened, Inlet, Absent, Busy, Case, Skipped, EvenId, Inactive, InUse, Asks, Asked, Call}
 
 -- ---- one change of what finds them
 
@@ -39,7 +39,7 @@ none_above low high id at (j ∷ js) rising above =
     rw (ne_eqb id j.id apart) more
 
 -- nor one below them all
-none_below : (low high id at : ℕ) (js : List ActiveJob) → Rising low js high → id ≤ low → is_due_at js at id ≡ false
+pub none_below : (low high id at : ℕ) (js : List ActiveJob) → Rising low js high → id ≤ low → is_due_at js at id ≡ false
 none_below low high id at [] rising below = refl
 none_below low high id at (j ∷ js) rising below =
     let more = none_below j.id high id at js rising.1 (omega (arith, rising.0, below)) in
@@ -84,7 +84,7 @@ fresh_due index mid list last job rising next were changes at id =
     by false true = refl
     by false false = refl
 
-single_made : (list : List ActiveJob) (job : ActiveJob) → AreSingle list → jobs_at list job.header.stream_id ≡ [] → AreSingle (list ++ job ∷ [])
+pub single_made : (list : List ActiveJob) (job : ActiveJob) → AreSingle list → jobs_at list job.header.stream_id ≡ [] → AreSingle (list ++ job ∷ [])
 single_made list job single free k = elim (cases_eq k job.header.stream_id) [
   | inl here ↦ rw (here, pushed_own stream_id_of job.header.stream_id job list refl, free) (omega arith)
   | inr apart ↦ rw (pushed_other stream_id_of k job list (λ same. apart (sym same))) (single k)
@@ -166,13 +166,18 @@ of_id_changed P k front back job other stream own elsewhere = elim (cases_eq job
   | inr apart ↦ rw (between_other stream_id_of k front back job apart, between_other stream_id_of k front back other (λ same. apart (stream ∙ same))) elsewhere
 ]
 
+pub single_handed : (old new : List ActiveJob) (handed : Job) → AreSingle old → HandsOne old handed new → AreSingle new
+single_handed old new handed single h k =
+    let few = single k in
+    rw h.jobs (subst (λ n. n ≤ 1)
+    (of_id_changed (λ xs ys. length xs ≡ length ys) k h.front h.back h.job (record h.job { request = None }) refl (same_length (jobs_at h.front k) (jobs_at h.back k) h.job (record h.job { request = None })) refl) (rw h.was at few))
+
 pub kept_handed : (r : Rules) (index : Indexed) (old new : List ActiveJob) (handed : Job) → IsKept r old index → HandsOne old handed new → IsKept r new index
 kept_handed r index old new handed kept h =
     let taken = record h.job { request = None } in
     record {
       deadlines = λ at id. rw h.jobs (kept.deadlines at id ∙ rw h.was (due_around at id h.front h.back h.job ∙ sym (due_around at id h.front h.back taken)));
-      single = λ is k. let few = kept.single is k in rw h.jobs (subst (λ n. n ≤ 1)
-          (of_id_changed (λ xs ys. length xs ≡ length ys) k h.front h.back h.job taken refl (same_length (jobs_at h.front k) (jobs_at h.back k) h.job taken) refl) (rw h.was at few));
+      single = λ is. single_handed old new handed (kept.single is) h;
       found = λ is k. rw h.jobs (kept.found is k ∙ rw h.was
           (of_id_changed (λ xs ys. first_id xs ≡ first_id ys) k h.front h.back h.job taken refl (same_first (jobs_at h.front k) (jobs_at h.back k) h.job taken refl) refl));
     }
@@ -199,6 +204,12 @@ elsewhere list id job at k apart =
     under_both stream_id_of k at.front at.back
     ∙ sym (ap (λ jobs. jobs_at jobs k) at.is ∙ between_other stream_id_of k at.front at.back job (λ same. apart (sym same)))
 
+pub single_ended : (list : List ActiveJob) (id : ℕ) (job : ActiveJob) (at : IsJob list id job) → AreSingle list → AreSingle (at.front ++ at.back)
+single_ended list id job at single k = elim (cases_eq k job.header.stream_id) [
+  | inl here ↦ rw (here, alone list id job at single) (omega arith)
+  | inr apart ↦ rw (elsewhere list id job at k apart) (single k)
+]
+
 pub kept_ended : (r : Rules) (index new : Indexed) (list : List ActiveJob) (last id : ℕ) (job : ActiveJob) (at : IsJob list id job) → IsKept r list index → Rising 0 list last
     → Loses index job.header.stream_id id (deadline_in job.body) new → IsKept r (at.front ++ at.back) new
 kept_ended r index new list last id job at kept rising loses = record {
@@ -208,10 +219,7 @@ kept_ended r index new list last id job at kept rising loses = record {
       (kept.deadlines moment q ∙ ap (λ jobs. is_due_at jobs moment q) at.is ∙ due_around moment q at.front at.back job)
       (λ due. let same : q ≡ job.id = eqb-true q job.id (and_left (nat_eq q job.id) (is_moment moment (deadline_in job.body)) due) in
       rw same (none_around 0 last moment at.front at.back job (subst (λ jobs. Rising 0 jobs last) at.is rising))));
-  single = λ is k. elim (cases_eq k job.header.stream_id) [
-    | inl here ↦ rw (here, alone list id job at (kept.single is)) (omega arith)
-    | inr apart ↦ rw (elsewhere list id job at k apart) (kept.single is k)
-  ];
+  single = λ is. single_ended list id job at (kept.single is);
   found = λ is k. elim (cases_eq k job.header.stream_id) [
     | inl here ↦ rw (here, alone list id job at (kept.single is)) loses.own
     | inr apart ↦ rw (elsewhere list id job at k apart) (loses.others k apart ∙ kept.found is k)
@@ -228,6 +236,19 @@ none_weaker (Some x) f h = tt
 pub kept_by_hand_out : (r : Rules) (index : Indexed) (old new : List ActiveJob) (given : Option Job) → IsKept r old index → IfSome given (λ job. HandsOne old job new) → IfNone given (new ≡ old) → IsKept r new index
 kept_by_hand_out r index old new (Some job) kept some none = kept_handed r index old new job kept some
 kept_by_hand_out r index old new None kept some none = rw none kept
+
+-- ---- how many there are
+
+pub as_many : (old new : List ActiveJob) (given : Option Job) → IfSome given (λ job. HandsOne old job new) → IfNone given (new ≡ old) → length new ≡ length old
+as_many old new (Some job) some none = rw (some.jobs, some.was) (same_length some.front some.back (record some.job { request = None }) some.job)
+as_many old new None some none = ap (λ l. length l) none
+
+pub one_fewer : (list : List ActiveJob) (id : ℕ) (job : ActiveJob) (at : IsJob list id job) → length (at.front ++ at.back) + 1 ≡ length list
+one_fewer list id job at =
+    let all = length-append at.front (job ∷ at.back) in
+    let left = length-append at.front at.back in
+    let is = ap (λ l. length l) at.is in
+    omega (arith, all, left, is)
 
 -- ---- what an id has
 

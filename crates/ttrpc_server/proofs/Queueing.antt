@@ -5,7 +5,7 @@ use Rattle.ttrpc_connection.specs.Calls.{Queues}
 use Rattle.ttrpc_connection.specs.Feeds.{arrived}
 use Rattle.ttrpc_connection.proofs.Words.{append-nil, ActsAll, given, Gives, header_of_frame, InboundTransform, Incoming, Scene, scene}
 use Rattle.ttrpc_connection.proofs.Feeding.{nothing_taken}
-use Rattle.ttrpc_server.specs.Calls.{AnswersPiece, AreAnswers}
+use Rattle.ttrpc_server.specs.Calls.{AnswersPiece, AreAnswers, streams_of}
 use Rattle.ttrpc_server.proofs.Calls.{one_is_queued}
 
 -- ---- one frame
@@ -37,7 +37,7 @@ sent_is_queued out k old new sent (inr one) sends = inr (one_is_queued out k old
 
 -- these were queued for those frames
 abbrev QueuesAnswers : {O : Type 0} → List Incoming → Outbox O → Outbox O → Type 0
-QueuesAnswers frames old new = (queued : List Queued) × (new.queue.frames ≡ old.queue.frames ++ queued) × AreAnswers frames queued
+QueuesAnswers frames old new = (queued : List Queued) × (new.queue.frames ≡ old.queue.frames ++ queued) × AreAnswers (streams_of frames) queued
 
 one_more : {O : Type 0} (f : Incoming) (fs : List Incoming) (old mid new : Outbox O) → QueuesAtMostOne (header_of_frame f).stream_id old mid → QueuesAnswers fs mid new → QueuesAnswers (f ∷ fs) old new
 one_more f fs old mid new (inl same) later = (later.0, later.1 ∙ ap (λ gs. gs ++ later.0) same, inl later.2)
@@ -47,7 +47,7 @@ one_more f fs old mid new (inr one) later = (
   inr (one.0, later.0, one.1, refl, later.2),
 )
 
-last_unanswered : (fs : List Incoming) (last : Option Incoming) (queued : List Queued) → AreAnswers fs queued → AreAnswers (fs ++ given last) queued
+last_unanswered : (fs : List Incoming) (last : Option Incoming) (queued : List Queued) → AreAnswers (streams_of fs) queued → AreAnswers (streams_of (fs ++ given last)) queued
 last_unanswered [] None queued are = are
 last_unanswered [] (Some f) queued are = inl are
 last_unanswered (f ∷ fs) last queued (inl are) = inl (last_unanswered fs last queued are)

@@ -1,5 +1,5 @@
--- What a frame, a job that is handed out, and an answer do to each stream id by itself.
-use Rattle.ttrpc_server.proofs.Words.{cond_both, ◌≡◌, ℕ, nat_eq, ◌≢◌, inl, inr, refl, arith, List, [], ◌∷◌, None, sym, ap, ◌∙◌, ActiveJob, Job, MessageHeader, Response, OutboundTransform, Sent, EndsOne, HandsOne, NoneWaits, jobs_at, SendsOwnAnswer, Server, Arrived, Async, Row, Rules, Sync, row_of, sync_row, Opened, Refused, SendResponse, SendCode, MakeJob, Does, between_own, between_other, pushed_own, pushed_other, under_both}
+-- What a frame, a job that is handed out, an answer and a job that expires do to each stream id by itself.
+use Rattle.ttrpc_server.proofs.Words.{cond_both, ◌≡◌, ℕ, nat_eq, ◌≢◌, inl, inr, refl, arith, List, [], ◌∷◌, ◌++◌, None, ExpiresOne, IsJob, Outbox, timeout_response, sym, ap, ◌∙◌, ActiveJob, Job, MessageHeader, Response, OutboundTransform, Sent, EndsOne, HandsOne, NoneWaits, jobs_at, SendsOwnAnswer, Server, Arrived, Async, Row, Rules, Sync, row_of, sync_row, Opened, Refused, SendResponse, SendCode, MakeJob, Does, between_own, between_other, pushed_own, pushed_other, under_both}
 use Rattle.ttrpc_connection.specs.declared.arrived.Opening.{Opening}
 use Rattle.ttrpc_server.specs.Types.{TooLong, Inlet, Absent}
 use Rattle.ttrpc_server.specs.Table.{case_of, case_row, inlet_of}
@@ -74,6 +74,32 @@ pub row_answers : {O : Type 0} (out : OutboundTransform O) (row : Row) (old : Se
 row_answers out (SendResponse r) old o header now sent new does = referred old.rules out o header.stream_id r sent does.1
 row_answers out (SendCode code) old o header now sent new does = referred old.rules out o header.stream_id does.1.0 sent does.1.2
 row_answers out row old o header now sent new does = none_sent header.stream_id sent does.1
+
+-- ---- jobs that expire
+
+module _ {O : Type 0} (out : OutboundTransform O) (old : Server) (from : Outbox O) (job : ActiveJob) (new : Server) (to : Outbox O) where
+  list_is : (one : ExpiresOne out old from job new to) → new.jobs.list ≡ one.at.front ++ one.at.back
+  list_is one = ap (λ (s : Server). s.jobs.list) one.state
+
+  pub expired_elsewhere : (k : ℕ) → ExpiresOne out old from job new to → k ≢ job.header.stream_id → jobs_at new.jobs.list k ≡ jobs_at old.jobs.list k
+  expired_elsewhere k one apart =
+      ap (λ jobs. jobs_at jobs k) (list_is one) ∙ under_both stream_id_of k one.at.front one.at.back
+      ∙ sym (ap (λ jobs. jobs_at jobs k) one.at.is ∙ between_other stream_id_of k one.at.front one.at.back job (λ same. apart (sym same)))
+
+  pub expired_by_its_stream : ExpiresOne out old from job new to → (at : IsJob (jobs_at old.jobs.list job.header.stream_id) job.id job) × (jobs_at new.jobs.list job.header.stream_id ≡ at.front ++ at.back)
+  expired_by_its_stream one =
+      let k = job.header.stream_id in (
+        record {
+          front = jobs_at one.at.front k;
+          back = jobs_at one.at.back k;
+          is = ap (λ jobs. jobs_at jobs k) one.at.is ∙ between_own stream_id_of k one.at.front one.at.back job refl;
+          is_job = refl;
+        },
+        ap (λ jobs. jobs_at jobs k) (list_is one) ∙ under_both stream_id_of k one.at.front one.at.back,
+      )
+
+  pub one_answers : (one : ExpiresOne out old from job new to) → IsAnswered job.header.stream_id one.sent
+  one_answers one = referred old.rules out from.half job.header.stream_id timeout_response one.sent one.answers
 
 -- ---- the rules
 

@@ -1,14 +1,15 @@
 -- What the parts of a call do, which its users need not read.
 -- Source: this project's.
-use Rattle.std.specs.Prelude.{◌≡◌, ◌⊎◌, ◌-◌, ◌^◌, ℕ, List, [], ◌∷◌, Option, None, Some, if◌then◌else◌}
-use Rattle.ttrpc_server.specs.Types.{Error, Others, MemoryRefused, Response, OutboundTransform, Failure, JobIdsUsedUp, NoMemoryLeft, Outbox, ActiveJob, Rules}
+use Rattle.std.specs.Prelude.{◌≡◌, ◌⊎◌, ◌≤◌, ◌+◌, ◌-◌, ◌^◌, ℕ, List, [], ◌∷◌, ◌++◌, Option, None, Some, if◌then◌else◌}
+use Rattle.ttrpc_server.specs.Types.{Error, Others, MemoryRefused, Response, OutboundTransform, Failure, JobIdsUsedUp, NoMemoryLeft, Outbox, ActiveJob, Rules, Async}
 use Rattle.ttrpc_connection.specs.Failure.{IsTold}
 use Rattle.ttrpc_connection.specs.Frames.{Sent, SendsAll, safe_limit}
 use Rattle.ttrpc_secure.specs.Context.Texts.{unsafe_payload_text, unsealed_text}
 use Rattle.ttrpc_server.specs.declared.replies.Unsent.{Unsent}
 use Rattle.ttrpc_server.specs.declared.replies.Unsent.TheVariants.{AboveLimit, Unsealed, NoMemory}
-use Rattle.ttrpc_server.specs.Protocol.{IsUsedUp, IsAboveLimit, IsUnsealed, SendsOwnAnswer, advice, fitted, response_size}
-use Rattle.ttrpc_server.specs.State.{JobList, Rising, Server, waits}
+use Rattle.ttrpc_server.specs.Protocol.{ExpireAll, IsUsedUp, IsAboveLimit, IsUnsealed, SendsOwnAnswer, advice, due_jobs, fitted, response_size, timeout_response, told_with}
+use Rattle.ttrpc_server.specs.Kept.{Expiring, Indexed, Loses}
+use Rattle.ttrpc_server.specs.State.{IsJob, JobList, Rising, Server, deadline_in, waits}
 use Rattle.ttrpc_server.specs.Table.{Row}
 
 -- ---- jobs in their map
@@ -66,3 +67,24 @@ TellsUnsent rules limit NoMemory told = told ≡ MemoryRefused
 -- why the connection is to fail at a row
 abbrev pub FailsOn : Row → Server → Failure → Type 0
 FailsOn row old failure = (failure ≡ NoMemoryLeft) ⊎ IsUsedUp row old failure
+
+-- ---- jobs that expire
+
+-- A job expires, in its place: it is gone and found no more, it is answered, and to be told of where it was taken. The
+-- jobs that are due stay listed.
+pub record ExpiresAt {O : Type 0} {id : ℕ} (out : OutboundTransform O) (jobs : JobList) (index : Indexed) (expiring : Expiring) (from : Outbox O)
+    (job : ActiveJob) (at : IsJob jobs.list id job) (left : JobList) (less : Indexed) (told : Expiring) (to : Outbox O) : Type 0 where
+  pub left_are : left ≡ record jobs { list = at.front ++ at.back }
+  pub loses : Loses index job.header.stream_id id (deadline_in job.body) less
+  pub expired : told.expired ≡ told_with job expiring.expired
+  pub due : told.due ≡ expiring.due
+  pub room : expiring.room ≤ told.room + 1
+  pub answers : SendsSome out from (SendsOwnAnswer Async out from.half job.header.stream_id timeout_response) to
+
+-- some of the jobs that are due have expired, and others are left
+pub record StopsExpiring {O : Type 0} (out : OutboundTransform O) (old : Server) (from : Outbox O) (now : ℕ) (new : Server) (to : Outbox O) : Type 0 where
+  pub expired : List ActiveJob
+  pub first : ActiveJob
+  pub others : List ActiveJob
+  pub due : due_jobs now old.jobs.list ≡ expired ++ first ∷ others
+  pub expire : ExpireAll out old from expired new to

@@ -43,6 +43,17 @@ pub record FindsTheSame (old new : Indexed) : Type 0 where
   pub streams : (q : ℕ) → job_found new q ≡ job_found old q
   pub deadlines : (at id : ℕ) → has_deadline new.deadlines at id ≡ has_deadline old.deadlines at id
 
+-- ---- what expires
+
+-- the ids of the jobs that are due, while they expire; of those that expired and weren't told of yet; and for how many
+-- more there is room among both
+pub record Expiring : Type 0 where
+  pub due : List ℕ
+  pub expired : List ℕ
+  pub room : ℕ
+
+-- ---- what holds of every server
+
 -- the id of the first of some jobs
 abbrev pub first_id : List ActiveJob → Option ℕ
 first_id [] = None
@@ -62,3 +73,7 @@ pub record IsKept (rules : Rules) (jobs : List ActiveJob) (index : Indexed) : Ty
   pub deadlines : (at id : ℕ) → has_deadline index.deadlines at id ≡ is_due_at jobs at id
   pub single : rules ≡ Async → AreSingle jobs
   pub found : rules ≡ Async → (k : ℕ) → job_found index k ≡ first_id (jobs_at jobs k)
+
+-- under async rules there is room for each job to expire
+abbrev pub HasRoom : Rules → List ActiveJob → Expiring → Type 0
+HasRoom rules jobs expiring = rules ≡ Async → length jobs ≤ expiring.room

@@ -1,12 +1,13 @@
 -- The protocol of a server, from top to bottom: which row of the table a frame has, what the row does, what each call of
--- the core does, and for what it is refused. Which case a frame is and what each case does stands in `Table.antt`.
+-- the core does, how jobs expire, and for what a call is refused. Which case a frame is and what each case does stands in `Table.antt`.
 -- The kinds of frames, and that a request is answered by one response under its stream's id, are PROTOCOL.md's. What it
 -- leaves open, which is codes, texts and which frames are passed over, is as the Rust crate has it. Jobs and the order of
 -- refusals are this project's.
 -- Source: PROTOCOL.md of ttrpc, "Request" and "Response"; the Rust crate; this project's.
-use Rattle.std.specs.Prelude.{◌≡◌, ◌⊎◌, ℕ, ◌<◌, ◌≤◌, ◌-◌, ◌^◌, List, [], ◌∷◌, ◌++◌, length, codes, min, Option, None, Some, Result, Ok, Err, Bool, true, nat_lt, if◌then◌else◌}
+use Rattle.std.specs.Prelude.{◌≡◌, ◌⊎◌, ℕ, ◌<◌, ◌≤◌, ◌-◌, ◌^◌, List, [], ◌∷◌, ◌++◌, length, codes, min, Option, None, Some, Result, Ok, Err, Bool, true, nat_lt, if◌then◌else◌, ◌≢◌, filter, false, nat_le}
 use Rattle.std.specs.Fmt.{decimal}
-use Rattle.ttrpc_server.specs.Types.{Code, UNKNOWN, INVALID_ARGUMENT, MessageHeader, MESSAGE_LENGTH_MAX, MESSAGE_TYPE_RESPONSE, Request, Response, Error, Others, NoMemory, Queued, OutboundTransform, Arrived, Failure, JobIdsUsedUp, HandlerError, ActiveJob, Job, Rules, Sync, Async}
+use Rattle.std.specs.Option.{option_map_or}
+use Rattle.ttrpc_server.specs.Types.{Code, UNKNOWN, INVALID_ARGUMENT, DEADLINE_EXCEEDED, MessageHeader, MESSAGE_LENGTH_MAX, MESSAGE_TYPE_RESPONSE, Request, Response, Error, Others, NoMemory, Queued, OutboundTransform, Outbox, Arrived, Failure, JobIdsUsedUp, HandlerError, NoMemoryLeft, ActiveJob, Job, Rules, Sync, Async}
 use Rattle.ttrpc_wire.specs.Field.{fields_bytes}
 use Rattle.ttrpc_proto.specs.ErrorText.{IsTextOf}
 use Rattle.ttrpc_proto.specs.Messages.{response_fields}
@@ -19,7 +20,7 @@ use Rattle.ttrpc_connection.specs.Failure.{IsTold}
 use Rattle.ttrpc_connection.specs.Feeds.{IsFailed, Ways, new_connection}
 use Rattle.ttrpc_connection.specs.Frames.{Sent, SendsAll, safe_limit}
 use Rattle.ttrpc_server.specs.declared.server.ServerCore.{ServerCore}
-use Rattle.ttrpc_server.specs.State.{EndsOne, HandsOne, IsTaken, IsUnknown, Server, Services, jobs_at, new_server, takes_on, unary_body, with_job, with_list}
+use Rattle.ttrpc_server.specs.State.{EndsOne, HandsOne, IsTaken, IsUnknown, Server, Services, jobs_at, new_server, takes_on, unary_body, with_job, with_list, IsJob, deadline_in, told_left, waits}
 use Rattle.ttrpc_server.specs.Table.{Row, Ignore, MakeJob, SendCode, SendResponse, case_of, case_row, inlet_of, status_response}
 
 -- ---- which row a frame has
@@ -106,7 +107,9 @@ abbrev pub Does : {O : Type 0} → OutboundTransform O → Row → Server → O 
 Does out Ignore old o header now sent new = (new ≡ old) × (sent ≡ [])
 Does out (SendResponse r) old o header now sent new = (new ≡ old) × SendsOwnAnswer old.rules out o header.stream_id r sent
 Does out (SendCode code) old o header now sent new = (new ≡ old) × ((r : Response) × IsStatusResponse code r × SendsOwnAnswer old.rules out o header.stream_id r sent)
-Does out (MakeJob request) old o header now sent new = (new ≡ record old { jobs = with_job old.jobs header request (unary_body old.rules now request) }) × (sent ≡ [])
+Does out (MakeJob request) old o header now sent new =
+    (new ≡ record old { jobs = with_job old.jobs header request (unary_body old.rules now request); expired = told_left old.jobs.list old.expired })
+    × (sent ≡ [])
 
 -- what its row does with a frame that arrived
 abbrev pub serves : {O : Type 0} → OutboundTransform O → Server → O → Arrived → List Sent → Server → Type 0
@@ -188,6 +191,63 @@ IsErrorResponse error r = (text : List ℕ) × IsTextOf error text × (r ≡ sta
 abbrev pub AnswersError : {O I : Type 0} → OutboundTransform O → Rules → ServerCore O I → ℕ → Error → ServerCore O I → Type 0
 AnswersError out Sync old id error new = Drops old id new
 AnswersError out Async old id error new = (r : Response) × IsErrorResponse error r × Answers out old id r new
+
+-- ---- jobs that expire
+-- Source: this project's; code and text of the answer: the Rust crate.
+
+-- whether a job's deadline has passed at a moment
+abbrev pub is_due : ℕ → ActiveJob → Bool
+is_due now j = option_map_or (λ at. nat_le at now) (deadline_in j.body) false
+
+-- the jobs that are due, by rising id
+abbrev pub due_jobs : ℕ → List ActiveJob → List ActiveJob
+due_jobs now jobs = filter (is_due now) jobs
+
+-- the answer to a job that expires
+abbrev pub timeout_response : Response
+timeout_response = status_response DEADLINE_EXCEEDED (codes "timeout")
+
+-- a job that was taken is to be told of, once it has expired
+abbrev pub told_with : ActiveJob → List ℕ → List ℕ
+told_with job expired = if waits job then expired else expired ++ job.id ∷ []
+
+-- One job expires: it is gone, whether it was taken or not, and it is answered, or not where that can't be sent.
+pub record ExpiresOne {O : Type 0} (out : OutboundTransform O) (old : Server) (from : Outbox O) (job : ActiveJob) (new : Server) (to : Outbox O) : Type 0 where
+  pub at : IsJob old.jobs.list job.id job
+  pub state : new ≡ record (with_list old (at.front ++ at.back)) { expired = told_with job old.expired }
+  pub sent : List Sent
+  pub answers : SendsOwnAnswer old.rules out from.half job.header.stream_id timeout_response sent
+  pub sends : SendsAll out from sent to
+
+-- These jobs expire, one after the other.
+abbrev pub ExpireAll : {O : Type 0} → OutboundTransform O → Server → Outbox O → List ActiveJob → Server → Outbox O → Type 0
+ExpireAll out old from [] new to = (new ≡ old) × (to ≡ from)
+ExpireAll {O} out old from (j ∷ js) new to = (mid : Server) × (between : Outbox O) × ExpiresOne out old from j mid between × ExpireAll out mid between js new to
+
+-- memory is wanted for the answer to the first of the jobs that are left to expire, if any is
+abbrev pub want_for : List ActiveJob → Option Failure
+want_for [] = None
+want_for (j ∷ js) = Some NoMemoryLeft
+
+-- A moment came: the jobs that are due expire, by rising id. Where memory for an answer is refused the connection has
+-- failed, and those before have expired.
+pub record Ticks {O I : Type 0} (out : OutboundTransform O) (old : ServerCore O I) (now : ℕ) (new : ServerCore O I) : Type 0 where
+  pub expired : List ActiveJob
+  pub left : List ActiveJob
+  pub due : due_jobs now old.state.jobs.list ≡ expired ++ left
+  pub expire : ExpireAll out old.state old.connection.outbox expired new.state new.connection.outbox
+  pub same : new ≡ record old { state = new.state; connection = record old.connection { outbox = new.connection.outbox; failure = want_for left } }
+
+-- a moment came: under sync rules and after a failure it changes nothing
+abbrev pub Passes : {O I : Type 0} → OutboundTransform O → Rules → Option Failure → ServerCore O I → ℕ → ServerCore O I → Type 0
+Passes out Sync failure old now new = new ≡ old
+Passes out Async None old now new = Ticks out old now new
+Passes out Async (Some failure) old now new = new ≡ old
+
+-- the least moment at which a job expires
+pub record IsDeadline (jobs : List ActiveJob) (at : ℕ) : Type 0 where
+  pub some : due_jobs at jobs ≢ []
+  pub earlier : (now : ℕ) → now < at → due_jobs now jobs ≡ []
 
 -- ---- for what an answer, a response and a job's end are refused, in the order of the tests
 -- Source: this project's; texts: the Rust crate.

@@ -1,4 +1,5 @@
--- What a server core is, beside its connection: the methods and streams that it has, and its jobs that weren't answered.
+-- What a server core is, beside its connection: the methods and streams that it has, its jobs that weren't answered, and
+-- those that expired.
 -- Source: PROTOCOL.md of ttrpc, "RPC", "Request" and "Response".
 use Rattle.std.specs.Prelude.{◌≡◌, ◌≢◌, ◌<◌, ◌≤◌, ℕ, ◌+◌, ◌&&◌, ◌||◌, List, [], ◌∷◌, ◌++◌, filter, nat_eq, Option, None, Some, is_some, Bool, false, not}
 use Rattle.std.specs.List.{list_any, AllByRecursion}
@@ -146,12 +147,14 @@ pub record Server : Type 0 where
   pub rules : Rules
   pub services : Services
   pub jobs : JobList
+  -- the ids of jobs that were taken and expired since it was last asked which have, in the order in which they expired
+  pub expired : List ℕ
   -- whether it takes no more of what comes in
   pub draining : Bool
 
 -- a server that has made no job
 abbrev pub new_server : Rules → Services → Server
-new_server rules services = record { rules = rules; services = services; jobs = no_jobs; draining = false }
+new_server rules services = record { rules = rules; services = services; jobs = no_jobs; expired = []; draining = false }
 
 -- whether a server still takes what comes in
 abbrev pub takes_on : Server → Bool
@@ -160,3 +163,8 @@ takes_on s = not s.draining
 -- the server with this list of jobs
 abbrev pub with_list : Server → List ActiveJob → Server
 with_list s list = record s { jobs = record s.jobs { list = list } }
+
+-- which expired jobs are still to be told, where a job is made beside these: none if no job is left
+abbrev pub told_left : List ActiveJob → List ℕ → List ℕ
+told_left [] expired = []
+told_left (j ∷ js) expired = expired

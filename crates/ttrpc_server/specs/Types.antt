@@ -1,7 +1,7 @@
 -- The types of the code that these definitions speak of, in one list.
 -- Source: this project's.
 pub use Rattle.ttrpc_wire.specs.declared.values.code.Code.{Code}
-pub use Rattle.ttrpc_wire.specs.declared.values.code.Code.TheVariants.{INVALID_ARGUMENT, UNIMPLEMENTED, UNKNOWN}
+pub use Rattle.ttrpc_wire.specs.declared.values.code.Code.TheVariants.{DEADLINE_EXCEEDED, INVALID_ARGUMENT, UNIMPLEMENTED, UNKNOWN}
 pub use Rattle.ttrpc_frame.specs.declared.header.TheConstants.{MESSAGE_TYPE_DATA, MESSAGE_TYPE_RESPONSE}
 pub use Rattle.ttrpc_proto.specs.declared.request.Request.{Request}
 pub use Rattle.ttrpc_proto.specs.declared.response.Response.{Response}

@@ -61,6 +61,13 @@ impl Index {
         self.deadlines.take_away(id, deadline);
     }
 
+    /// The deadlines of jobs, soonest first. Takes no memory.
+    pub(crate) fn deadlines(&self) -> &Deadlines
+        ensures { result.now ≡ self.now.deadlines }
+    {
+        &self.deadlines
+    }
+
     /// The active job of this stream id. Takes no memory.
     pub(crate) fn job_of(&self, stream_id: u32) -> Option<JobId>
         ensures { result ≡ job_found self.now stream_id }

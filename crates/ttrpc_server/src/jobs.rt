@@ -1,5 +1,5 @@
 //! The jobs of a server that weren't answered, found by their ids.
-ghost use Rattle.std.specs.Prelude.{◌≡◌, ◌-◌, ◌+◌, ◌^◌, ◌++◌, IfErr, IfSome, IfNone, OnOk, Some, filter, length};
+ghost use Rattle.std.specs.Prelude.{◌≡◌, ◌<◌, ◌-◌, ◌+◌, ◌^◌, ◌++◌, IfErr, IfSome, IfNone, OnOk, Some, filter, length};
 ghost use Rattle.ttrpc_server.specs.declared.job.ActiveJob.{ActiveJob as AJob};
 ghost use Rattle.ttrpc_server.specs.State.{HandsOne, deadline_in, IsJob, IsTaken, IsUnknown, NoneWaits, Rising, no_jobs, waits, with_job};
 ghost use Rattle.ttrpc_server.specs.Inside.{FailsToMake};
@@ -136,6 +136,16 @@ impl Jobs {
         }
     }
 
+    /// Whether the job of this id waits. Takes no memory.
+    pub(crate) fn waits(&self, id: JobId) -> bool
+        ensures { (job : AJob) → IsJob self.now.list id job → result ≡ waits job }
+    {
+        match self.jobs.get(&id) {
+            Some(job) => job.request.is_some(),
+            None => false,
+        }
+    }
+
     /// Forgets the job of this id, whether it was taken or waits. Takes no memory.
     pub(crate) fn end(&mut self, id: JobId)
         requires { (job : AJob) × IsJob self.old.list id job }
@@ -145,6 +155,21 @@ impl Jobs {
     {
         let _ = self.waiting.remove(&id);
         let _ = self.jobs.remove(&id);
+    }
+
+    /// How many jobs weren't answered. Takes no memory.
+    pub(crate) fn len(&self) -> usize
+        ensures count { result ≡ length self.now.list }
+        ensures small { result < 2 ^ 63 }
+    {
+        self.jobs.len()
+    }
+
+    /// A lemma, which does nothing when it runs: the ids of jobs rise, and none is above the last that was made.
+    pub(crate) fn lemma_rise(&self)
+        ensures { Rising 0 self.now.list self.now.last }
+    {
+        let _last = self.last;
     }
 
     /// How many jobs wait to be handed out. Takes no memory.

@@ -1,6 +1,6 @@
 //! Laws over the definitions: what the contracts of single calls come to.
-ghost use Rattle.std.specs.Prelude.{◌≡◌, ◌≢◌, ◌≤◌, ◌++◌, ℕ, List, [], Some, drop};
-ghost use Rattle.std.specs.List.{AllByRecursion};
+ghost use Rattle.std.specs.Prelude.{◌≡◌, ◌≢◌, ◌≤◌, ◌++◌, ◌⊎◌, ◌↔◌, ℕ, List, [], Option, None, Some, is_some, true, drop, nat_eq};
+ghost use Rattle.std.specs.List.{AllByRecursion, IsDistinct};
 ghost use Rattle.ttrpc_proto.specs.declared.request.Request.{Request as ARequest};
 ghost use Rattle.ttrpc_frame.specs.declared.outgoing.Queued.{Queued as AQueued};
 ghost use Rattle.ttrpc_frame.specs.Frames.{nothing};
@@ -9,19 +9,22 @@ ghost use Rattle.ttrpc_connection.specs.declared.arrived.Arrived.{Arrived as AFr
 ghost use Rattle.ttrpc_connection.specs.declared.connection.Connection.{Connection as AConnection};
 ghost use Rattle.ttrpc_connection.specs.Calls.{Call, Gives, Goes, Queues, Runs, joined};
 ghost use Rattle.ttrpc_connection.specs.Frames.{Sent};
+ghost use Rattle.ttrpc_connection.specs.Outbox.{Outbox as AnOutbox};
 ghost use Rattle.ttrpc_server.specs.declared.job.ActiveJob.{ActiveJob as AJob};
 ghost use Rattle.ttrpc_server.specs.declared.job.Job.{Job as AHandedJob};
 ghost use Rattle.ttrpc_server.specs.declared.server.ServerCore.{ServerCore as ACore};
-ghost use Rattle.ttrpc_server.specs.Calls.{AnswersPiece, Causes, Performs, Served, served};
-ghost use Rattle.ttrpc_server.specs.Protocol.{serves, serving, row_of};
-ghost use Rattle.ttrpc_server.specs.State.{EndsOne, HandsOne, Rising, jobs_at, Server};
+ghost use Rattle.ttrpc_server.specs.Calls.{AnswersPiece, Causes, Performs, Served, Took, WaitsNot, ids_given, served};
+ghost use Rattle.ttrpc_server.specs.Kept.{AreSingle};
+ghost use Rattle.ttrpc_server.specs.Protocol.{ExpiresOne, Ticks, serves, serving, row_of};
+ghost use Rattle.ttrpc_server.specs.State.{EndsOne, HandsOne, IsJob, NoneWaits, Rising, jobs_at, Server};
 ghost use Rattle.ttrpc_server.specs.Streams.{IsAnswered, made_by};
 
+use crate::rules::Rules;
 use ttrpc_secure::{InboundTransform, OutboundTransform};
 
 /// Each stream id stands by itself. A frame changes the jobs of its own id alone, adds at most the one that its row
-/// makes, and sends at most one answer, under that id. A job that is handed out or answered changes in its own id
-/// alone, as if there were no other.
+/// makes, and sends at most one answer, under that id. A job that is handed out, answered or expires changes in its own id
+/// alone, as if there were no other, and one that expires is answered at most once, under that id.
 pub fn streams_stand_by_themselves<O: OutboundTransform>()
     ensures frame_elsewhere { (old new : Server) (o : O) (a : AFrame) (sent : List Sent) (k : ℕ) → serves O.OutboundTransform old o a sent new
         → k ≢ a.header.stream_id → jobs_at new.jobs.list k ≡ jobs_at old.jobs.list k }
@@ -38,21 +41,61 @@ pub fn streams_stand_by_themselves<O: OutboundTransform>()
         → k ≢ job.header.stream_id → jobs_at new k ≡ jobs_at old k }
     ensures answered { (old new : List AJob) (id : ℕ) (job : AJob) → EndsOne old id job new
         → EndsOne (jobs_at old job.header.stream_id) id job (jobs_at new job.header.stream_id) }
+    ensures expired_elsewhere { (old new : Server) (from to : AnOutbox O) (job : AJob) (k : ℕ) → ExpiresOne O.OutboundTransform old from job new to
+        → k ≢ job.header.stream_id → jobs_at new.jobs.list k ≡ jobs_at old.jobs.list k }
+    ensures expired { (old new : Server) (from to : AnOutbox O) (job : AJob) → ExpiresOne O.OutboundTransform old from job new to
+        → (at : IsJob (jobs_at old.jobs.list job.header.stream_id) job.id job) × (jobs_at new.jobs.list job.header.stream_id ≡ at.front ++ at.back) }
+    ensures timed_out { (old new : Server) (from to : AnOutbox O) (job : AJob) → (one : ExpiresOne O.OutboundTransform old from job new to)
+        → IsAnswered job.header.stream_id one.sent }
 {}
 
-/// The ids of jobs rise, from 1 on, through every call, so that each job has its own; and the job that is handed out has
-/// the least id of those that wait.
-pub fn job_ids_rise<O: OutboundTransform>()
+/// Under async rules, over any run, also past a failure, each stream's id has at most one active job.
+pub fn one_active_job_an_id<O: OutboundTransform, I: InboundTransform>()
+    ensures { (s t : Server) (old new : AConnection O I) (calls : List (Call Served)) (happenings : List Happening)
+        → s.rules ≡ Rules.Async → AreSingle s.jobs.list
+        → Runs (serving O.OutboundTransform I.InboundTransform) (served O.OutboundTransform) s old calls happenings t new
+        → AreSingle t.jobs.list }
+{}
+
+/// Over any run each job is given at most once, and never after it was given or expired. None is given exactly where none
+/// waits, or the connection has failed.
+pub fn a_job_is_given_once<O: OutboundTransform, I: InboundTransform>()
+    ensures once { (s t : Server) (old new : AConnection O I) (calls : List (Call Served)) (happenings : List Happening)
+        → Rising 0 s.jobs.list s.jobs.last
+        → Runs (serving O.OutboundTransform I.InboundTransform) (served O.OutboundTransform) s old calls happenings t new
+        → IsDistinct nat_eq (ids_given calls) }
+    ensures never { (s t : Server) (old new : AConnection O I) (calls : List (Call Served)) (happenings : List Happening) (id : ℕ)
+        → id ≤ s.jobs.last → WaitsNot id s.jobs.list
+        → Runs (serving O.OutboundTransform I.InboundTransform) (served O.OutboundTransform) s old calls happenings t new
+        → AllByRecursion (λ other. id ≢ other) (ids_given calls) }
+    ensures expired { (before after : ACore O I) (now : ℕ) (t : Server) (new : AConnection O I) (calls : List (Call Served)) (happenings : List Happening)
+        → Rising 0 before.state.jobs.list before.state.jobs.last → (ticks : Ticks O.OutboundTransform before now after)
+        → Runs (serving O.OutboundTransform I.InboundTransform) (served O.OutboundTransform) after.state after.connection calls happenings t new
+        → AllByRecursion (λ (job : AJob). AllByRecursion (λ other. job.id ≢ other) (ids_given calls)) ticks.expired }
+    ensures none { (old new : ACore O I) (given : Option AHandedJob) → Performs O.OutboundTransform (Took given) old new
+        → (given ≡ None) ↔ ((is_some old.connection.failure ≡ true) ⊎ NoneWaits old.state.jobs.list) }
+{}
+
+/// The ids of jobs rise, from 1 on, through every call and over any run, so that each job has its own; and the job that is
+/// handed out has the least id of those that wait.
+pub fn job_ids_rise<O: OutboundTransform, I: InboundTransform>()
     ensures frames { (old new : Server) (o : O) (a : AFrame) (sent : List Sent) → serves O.OutboundTransform old o a sent new
         → Rising 0 old.jobs.list old.jobs.last → Rising 0 new.jobs.list new.jobs.last }
     ensures taken { (old new : List AJob) (last : ℕ) (handed : AHandedJob) → HandsOne old handed new → Rising 0 old last → Rising 0 new last }
     ensures answered { (old new : List AJob) (last id : ℕ) (job : AJob) → EndsOne old id job new → Rising 0 old last → Rising 0 new last }
     ensures least { (old new : List AJob) (handed : AHandedJob) (low high : ℕ) → HandsOne old handed new → Rising low old high
         → AllByRecursion (λ (j : AJob). (request : ARequest) → j.request ≡ Some request → handed.id ≤ j.id) old }
+    ensures over_runs { (s t : Server) (old new : AConnection O I) (calls : List (Call Served)) (happenings : List Happening)
+        → Rising 0 s.jobs.list s.jobs.last
+        → Runs (serving O.OutboundTransform I.InboundTransform) (served O.OutboundTransform) s old calls happenings t new
+        → Rising 0 t.jobs.list t.jobs.last }
+    ensures last { (s t : Server) (old new : AConnection O I) (calls : List (Call Served)) (happenings : List Happening)
+        → Runs (serving O.OutboundTransform I.InboundTransform) (served O.OutboundTransform) s old calls happenings t new
+        → s.jobs.last ≤ t.jobs.last }
 {}
 
 /// Each call has its part in what the queue goes through: an answer and a response queue one frame, under their stream's
-/// id, and the others none. A piece that is fed queues, in order, at most one frame for each that is whole with it,
+/// id, a tick at most one for each job that is due, by rising id, and the others none. A piece that is fed queues, in order, at most one frame for each that is whole with it,
 /// under its id. Over any run, also past a failure, that is a history which is allowed and leads to the queue after it. So
 /// the bytes that left and those still to be written are the written forms of the frames that depart, in order; and those
 /// are all the frames that were queued, in order: a server throws none away.

@@ -2,7 +2,7 @@
 ghost use Rattle.std.specs.Prelude.{◌≡◌, codes, string_bytes, IfOk};
 ghost use Rattle.ttrpc_frame.specs.Header.Oversize.{oversize_text};
 ghost use Rattle.ttrpc_connection.specs.Failure.{IsTold};
-ghost use Rattle.ttrpc_server.specs.Protocol.{IsErrorResponse, IsStatusResponse, limit_text};
+ghost use Rattle.ttrpc_server.specs.Protocol.{IsErrorResponse, IsStatusResponse, limit_text, timeout_response};
 ghost use Rattle.ttrpc_server.specs.Table.{even_id_text, in_use_text, inactive_text, method_text, path_text, service_text, status_response, unopened_response_text};
 
 use std::alloc::{AllocError, Global};
@@ -70,6 +70,14 @@ pub fn in_use_response(alloc: Global, stream_id: u32) -> Result<Response, AllocE
 {
     let text = format!(in alloc; "stream id {stream_id} is in use")?;
     Ok(response_of(alloc, Code::INVALID_ARGUMENT, text))
+}
+
+/// The answer to a request whose job expired.
+pub fn timeout_response(alloc: Global) -> Result<Response, AllocError>
+    ensures { IfOk result (λ response. response ≡ timeout_response) }
+{
+    let text = String::from_str(alloc, "timeout")?;
+    Ok(response_of(alloc, Code::DEADLINE_EXCEEDED, text))
 }
 
 /// The answer to a request whose handler gave an error. It is never without its text.

@@ -1,5 +1,5 @@
 //! The core of a server: frames in, jobs and responses out.
-ghost use Rattle.std.specs.Prelude.{◌≡◌, ◌≢◌, ◌⊎◌, ◌<◌, ◌≤◌, ◌-◌, ◌↔◌, ℕ, List, [], filter, true, length, is_some, IfOk, IfErr, OnOk, OnErr, IfSome, IfNone, Ok, Err, Some, None};
+ghost use Rattle.std.specs.Prelude.{◌≡◌, ◌≢◌, ◌⊎◌, ◌<◌, ◌≤◌, ◌-◌, ◌^◌, ◌++◌, ◌↔◌, ℕ, List, [], filter, true, length, is_some, option_to_list, IfOk, IfErr, OnOk, OnErr, IfSome, IfNone, Ok, Err, Some, None};
 ghost use Rattle.ttrpc_proto.specs.declared.error.Error.{Error as AnError};
 ghost use Rattle.ttrpc_proto.specs.declared.response.Response.{Response as AResponse};
 ghost use Rattle.ttrpc_frame.specs.Frames.{Holds, nothing};
@@ -8,7 +8,7 @@ ghost use Rattle.ttrpc_secure.specs.Hooks.Facts.{facts_of};
 ghost use Rattle.ttrpc_connection.specs.Feeds.{IsFailed};
 ghost use Rattle.ttrpc_connection.specs.OneEnd.{Ends, Lends, TakesFrontOrDrains, TakesOrDrains, failing, lendable, lending, reporting};
 ghost use Rattle.ttrpc_server.specs.declared.job.ActiveJob.{ActiveJob as AJob};
-ghost use Rattle.ttrpc_server.specs.Protocol.{Answers, AnswersError, Finishes, Hands, HasNoJob, HasOtherRules, HasUnsent, HasUnsentResponse, QueuesResponse, drained, new_core, serving, RefusesAnswer, RefusesFinish, RefusesResponse};
+ghost use Rattle.ttrpc_server.specs.Protocol.{Answers, AnswersError, Finishes, Hands, HasNoJob, HasOtherRules, HasUnsent, HasUnsentResponse, QueuesResponse, drained, new_core, serving, RefusesAnswer, RefusesFinish, RefusesResponse, IsDeadline, Passes, due_jobs};
 ghost use Rattle.ttrpc_server.specs.State.{IsTaken, IsUnknown, NoneWaits, Rising, waits};
 
 use crate::job::{Job, JobId};
@@ -148,6 +148,46 @@ impl<O: OutboundTransform + Drop, I: InboundTransform + Drop> ServerCore<O, I> {
         Ok(())
     }
 
+    /// Says that this moment, in nanoseconds, has come. The unary jobs whose deadline it is or was expire, by rising id,
+    /// whether they were taken or not: each is answered by a status that says so, or not where that can't be sent, and is
+    /// gone. Where memory for an answer is refused the connection fails, and those before have expired. Under sync rules
+    /// jobs have no deadlines.
+    pub fn tick(&mut self, alloc: Global, now: u64)
+        ensures { Passes O.OutboundTransform self.old.state.rules self.old.connection.failure self.old now self.new }
+    {
+        if !self.may_expire() {
+            return;
+        }
+        match self.state.expire(alloc, &mut self.connection.outbox, now) {
+            Ok(()) => {}
+            Err(failure) => self.connection.fail(failure),
+        }
+    }
+
+    /// The least moment at which `tick` would expire a job: none where it never would. Takes no memory.
+    pub fn next_deadline(&self) -> Option<u64>
+        ensures some { IfSome result (λ at. (self.now.connection.failure ≡ None) × (self.now.state.rules ≡ Rules.Async)
+            × IsDeadline self.now.state.jobs.list at) }
+        ensures none { IfNone result (self.now.connection.failure ≡ None → self.now.state.rules ≡ Rules.Async
+            → (now : ℕ) → now < 2 ^ 64 → due_jobs now self.now.state.jobs.list ≡ []) }
+    {
+        if !self.may_expire() {
+            return None;
+        }
+        self.state.next_deadline()
+    }
+
+    /// The first of the jobs that were taken and expired, and weren't told of yet: its handler may be dropped. Takes no
+    /// memory. The id of each such job is kept until it is told here, or until a job is made where none was left. So a
+    /// caller asks after each tick; where it never asks, while there is always a job, ever more of them are kept.
+    pub fn next_expired(&mut self) -> Option<JobId>
+        ensures first { self.old.state.expired ≡ option_to_list result ++ self.new.state.expired }
+        ensures none { IfNone result (self.old.state.expired ≡ []) }
+        ensures same { self.new ≡ record self.old { state = record self.old.state { expired = self.new.state.expired } } }
+    {
+        self.state.next_expired()
+    }
+
     /// The stream's id of the job of this number, if it was taken and hasn't ended. Takes no memory.
     pub fn stream_of(&self, id: JobId) -> Option<u32>
         ensures some { IfSome result (λ k. (job : AJob) × IsTaken self.now.state.jobs.list id job × (k ≡ job.header.stream_id)) }
@@ -245,6 +285,13 @@ impl<O: OutboundTransform + Drop, I: InboundTransform + Drop> ServerCore<O, I> {
         ensures { result ≡ self.now.connection.outbox.queue.lent }
     {
         self.connection.lent()
+    }
+
+    /// Whether jobs may expire: the connection lives, and the rules have deadlines.
+    fn may_expire(&self) -> bool
+        ensures { (result ≡ true) ↔ ((self.now.connection.failure ≡ None) × (self.now.state.rules ≡ Rules.Async)) }
+    {
+        !self.connection.has_failed() && self.state.rules() == Rules::Async
     }
 
     /// The stream's id of a job that may be answered or ended, or why it may not.

@@ -1,13 +1,14 @@
 //! The state of a server core, without its connection, and how a whole frame acts on it.
-ghost use Rattle.std.specs.Prelude.{◌≡◌, [], true, IfErr, IfSome, IfNone, OnOk, Some};
+ghost use Rattle.std.specs.Prelude.{◌≡◌, [], true, IfErr, IfSome, IfNone, OnOk, Some, ◌<◌, ◌^◌, ◌++◌, ℕ, option_to_list};
 ghost use Rattle.ttrpc_proto.specs.Messages.{empty_request, request_step};
 ghost use Rattle.ttrpc_wire.specs.Fold.{read_from};
 ghost use Rattle.ttrpc_server.specs.declared.job.ActiveJob.{ActiveJob as AJob};
-ghost use Rattle.ttrpc_server.specs.Protocol.{Does};
-ghost use Rattle.ttrpc_server.specs.Inside.{FailsOn, FailsToMake, SendsSome};
-ghost use Rattle.ttrpc_server.specs.State.{EndsOne, HandsOne, IsTaken, NoneWaits, jobs_at, new_server, unary_body, with_job, with_list};
+ghost use Rattle.ttrpc_server.specs.Protocol.{Does, ExpireAll, IsDeadline, due_jobs};
+ghost use Rattle.ttrpc_server.specs.Inside.{FailsOn, FailsToMake, SendsSome, StopsExpiring};
+ghost use Rattle.ttrpc_server.specs.State.{EndsOne, HandsOne, IsTaken, NoneWaits, jobs_at, new_server, told_left, unary_body, with_job, with_list};
 ghost use Rattle.ttrpc_server.specs.Table.{inlet_of, request_row};
 
+use crate::expiry::{Expiry, expire_job};
 use crate::index::Index;
 use crate::job::{Body, Job, JobId};
 use crate::jobs::Jobs;
@@ -34,18 +35,20 @@ pub struct ServerState {
     jobs: Jobs,
     // Under sync rules it has none.
     index: Index,
+    // Under async rules it has room for each job.
+    expiry: Expiry,
     draining: bool,
 }
 
 impl Model for ServerState {
-    ghost use Rattle.ttrpc_server.specs.Kept.{IsKept};
+    ghost use Rattle.ttrpc_server.specs.Kept.{HasRoom, IsKept};
     ghost use Rattle.ttrpc_server.specs.State.{Server};
 
     ghost Value = { Server };
 
-    ghost view = { λ a. record { rules = a.rules; services = a.registry; jobs = a.jobs; draining = a.draining } };
+    ghost view = { λ a. record { rules = a.rules; services = a.registry; jobs = a.jobs; expired = a.expiry.expired; draining = a.draining } };
 
-    ghost invariant = { λ a. IsKept a.rules a.jobs.list a.index };
+    ghost invariant = { λ a. IsKept a.rules a.jobs.list a.index × HasRoom a.rules a.jobs.list a.expiry };
 }
 
 impl ServerState {
@@ -58,6 +61,7 @@ impl ServerState {
             registry,
             jobs: Jobs::new(alloc),
             index: Index::new(alloc),
+            expiry: Expiry::new(alloc),
             draining: false,
         }
     }
@@ -169,8 +173,26 @@ impl ServerState {
         }
     }
 
-    /// Makes a job of a request that came at this moment. An `Err` changes nothing: no id is left, or no memory.
+    /// Makes a job of a request that came at this moment. Where none was left, those that expired are no longer told of. An
+    /// `Err` changes nothing: no id is left, or no memory.
     fn make(&mut self, header: MessageHeader, request: Request, now: u64) -> Result<(), Failure>
+        requires { self.old.rules ≡ Rules.Async → jobs_at self.old.jobs.list header.stream_id ≡ [] }
+        ensures ok { OnOk result (self.new ≡ record self.old {
+          jobs = with_job self.old.jobs header request (unary_body self.old.rules now request);
+          expired = told_left self.old.jobs.list self.old.expired;
+        }) }
+        ensures err { IfErr result (λ failure. (self.new ≡ self.old) × FailsToMake self.old.jobs failure) }
+    {
+        let was_idle = self.jobs.len() == 0;
+        self.make_job(header, request, now)?;
+        if was_idle {
+            self.expiry.forget();
+        }
+        Ok(())
+    }
+
+    /// Makes a job, and room for it to expire. An `Err` changes nothing.
+    fn make_job(&mut self, header: MessageHeader, request: Request, now: u64) -> Result<(), Failure>
         requires { self.old.rules ≡ Rules.Async → jobs_at self.old.jobs.list header.stream_id ≡ [] }
         ensures ok { OnOk result (self.new ≡ record self.old {
           jobs = with_job self.old.jobs header request (unary_body self.old.rules now request);
@@ -184,6 +206,9 @@ impl ServerState {
                 let Some(id) = self.jobs.next_id() else {
                     return Err(Failure::JobIdsUsedUp);
                 };
+                if self.expiry.reserve(self.jobs.len() + 1).is_err() {
+                    return Err(Failure::NoMemory);
+                }
                 if self.index.add(header.stream_id, id, deadline).is_err() {
                     return Err(Failure::NoMemory);
                 }
@@ -194,6 +219,58 @@ impl ServerState {
                 made
             }
         }
+    }
+}
+
+/// Jobs that expire.
+impl ServerState {
+    /// The jobs that are due at this moment expire, by rising id. An `Err` says why the connection is to fail: memory for an
+    /// answer was refused. Those before have expired.
+    pub(crate) fn expire<O: OutboundTransform + Drop>(
+        &mut self,
+        alloc: Global,
+        outbox: &mut Outbox<O>,
+        now: u64,
+    ) -> Result<(), Failure>
+        requires { self.old.rules ≡ Rules.Async }
+        ensures ok { OnOk result (ExpireAll O.OutboundTransform self.old outbox.old (due_jobs now self.old.jobs.list) self.new outbox.new) }
+        ensures err { IfErr result (λ failure. (failure ≡ Failure.NoMemory)
+            × StopsExpiring O.OutboundTransform self.old outbox.old now self.new outbox.new) }
+    {
+        self.jobs.lemma_rise();
+        let deadlines = self.index.deadlines();
+        deadlines.lemma_ordered();
+        self.expiry.list_due(deadlines, now);
+        for place in 0..self.expiry.count_due() {
+            let id = self.expiry.due_at(place);
+            expire_job(
+                alloc,
+                outbox,
+                &mut self.jobs,
+                &mut self.index,
+                &mut self.expiry,
+                id,
+            )?;
+        }
+        Ok(())
+    }
+
+    /// The least moment at which a job expires, if there is one. Takes no memory.
+    pub(crate) fn next_deadline(&self) -> Option<u64>
+        ensures some { IfSome result (IsDeadline self.now.jobs.list) }
+        ensures none { IfNone result ((now : ℕ) → now < 2 ^ 64 → due_jobs now self.now.jobs.list ≡ []) }
+    {
+        let (deadline, _) = self.index.deadlines().first()?;
+        u64::try_from(deadline).ok()
+    }
+
+    /// The first of the jobs that were taken and expired, and weren't told of yet. Takes no memory.
+    pub(crate) fn next_expired(&mut self) -> Option<JobId>
+        ensures first { self.old.expired ≡ option_to_list result ++ self.new.expired }
+        ensures none { IfNone result (self.old.expired ≡ []) }
+        ensures same { self.new ≡ record self.old { expired = self.new.expired } }
+    {
+        self.expiry.next_expired()
     }
 }
 

@@ -361,3 +361,230 @@ const ABOVE_LIMIT: &str =
 fn a_polled_server_refuses_answers_that_are_not_sealed(rt: HostRuntime) -> Tested {
     hold::<ServerCore<Sealed, Plain>>(&rt, rt.alloc(), &[(ASYNC, SEALED_ROWS)])
 }
+
+// ---- jobs that expire
+
+const SYNC: &[Rules] = &[Rules::Sync];
+
+/// A request of stream 1 with a timeout of ten nanoseconds.
+const TIMED: &[u8] = b"\0\0\0\x16\0\0\0\x01\x01\0\x0a\x09demo.Echo\x12\x04Echo\x1a\x01\x2a\x20\x0a";
+/// What answers it once it has expired.
+const TIMEOUT: &[u8] = b"\0\0\0\x0d\0\0\0\x01\x02\0\x0a\x0b\x08\x04\x12\x07timeout";
+/// A timeout of -1, which is read as 2^64 - 1.
+const NEGATIVE: &[u8] =
+    b"\0\0\0\x1f\0\0\0\x01\x01\0\x0a\x09demo.Echo\x12\x04Echo\x1a\x01\x2a\x20\xff\xff\xff\xff\xff\xff\xff\xff\xff\x01";
+/// Requests of streams 1, 3, 5 and 7, with timeouts of 30, 10, 20 and 99 nanoseconds.
+const FOUR_TIMED: &[u8] =
+    b"\0\0\0\x16\0\0\0\x01\x01\0\x0a\x09demo.Echo\x12\x04Echo\x1a\x01\x2a\x20\x1e\0\0\0\x16\0\0\0\x03\x01\0\x0a\x09demo.Echo\x12\x04Echo\x1a\x01\x2b\x20\x0a\0\0\0\x16\0\0\0\x05\x01\0\x0a\x09demo.Echo\x12\x04Echo\x1a\x01\x2c\x20\x14\0\0\0\x16\0\0\0\x07\x01\0\x0a\x09demo.Echo\x12\x04Echo\x1a\x01\x2d\x20\x63";
+/// What answers the first three once they have expired.
+const THREE_TIMEOUTS: &[u8] =
+    b"\0\0\0\x0d\0\0\0\x01\x02\0\x0a\x0b\x08\x04\x12\x07timeout\0\0\0\x0d\0\0\0\x03\x02\0\x0a\x0b\x08\x04\x12\x07timeout\0\0\0\x0d\0\0\0\x05\x02\0\x0a\x0b\x08\x04\x12\x07timeout";
+/// What answers the second and the third.
+const TWO_TIMEOUTS: &[u8] =
+    b"\0\0\0\x0d\0\0\0\x03\x02\0\x0a\x0b\x08\x04\x12\x07timeout\0\0\0\x0d\0\0\0\x05\x02\0\x0a\x0b\x08\x04\x12\x07timeout";
+
+const DEADLINE_ROWS: &[Row] = &[
+    Row {
+        name: "an answer before the tick of its deadline is sent, and nothing expires",
+        steps: &[
+            Step::NextDeadline(None),
+            Step::FeedAt(TIMED, 5),
+            Step::NextDeadline(Some(15)),
+            Step::Takes(1, 1, b"\x2a"),
+            Step::Ticks(14),
+            Step::HasUnsent(false),
+            Step::Answers(1, b"\x2a"),
+            Step::NextDeadline(None),
+            Step::Ticks(15),
+            Step::Writes(ECHOED),
+            Step::NextExpired(None),
+        ],
+        ..FRESH
+    },
+    Row {
+        name: "an answer behind that tick is refused, and the stream's id is free",
+        steps: &[
+            Step::FeedAt(TIMED, 5),
+            Step::Takes(1, 1, b"\x2a"),
+            Step::Ticks(15),
+            Step::RefusesAnswer(1, UNKNOWN_JOB),
+            Step::StreamOf(1, None),
+            Step::Writes(TIMEOUT),
+            Step::NextDeadline(None),
+            Step::NextExpired(Some(1)),
+            Step::NextExpired(None),
+            Step::IsAlive,
+            Step::Feed(ASKED),
+            Step::Takes(2, 1, b"\x2a"),
+            Step::RefusesAnswer(1, UNKNOWN_JOB),
+            Step::Answers(2, b"\x2a"),
+            Step::Writes(ECHOED),
+        ],
+        ..FRESH
+    },
+    Row {
+        name: "a negative timeout is a long one",
+        steps: &[
+            Step::FeedAt(NEGATIVE, 0),
+            Step::NextDeadline(Some(18446744073709551615)),
+            Step::Ticks(18446744073709551614),
+            Step::HasUnsent(false),
+            Step::Ticks(18446744073709551615),
+            Step::Writes(TIMEOUT),
+            Step::TakesNone,
+        ],
+        ..FRESH
+    },
+    Row {
+        name: "no tick reaches a deadline above the greatest moment",
+        steps: &[
+            Step::FeedAt(NEGATIVE, 1),
+            Step::NextDeadline(None),
+            Step::Ticks(18446744073709551615),
+            Step::HasUnsent(false),
+            Step::Takes(1, 1, b"\x2a"),
+        ],
+        ..FRESH
+    },
+    Row {
+        name: "a request without a timeout has no deadline",
+        steps: &[
+            Step::FeedAt(ASKED, 0),
+            Step::NextDeadline(None),
+            Step::Ticks(18446744073709551615),
+            Step::HasUnsent(false),
+            Step::Takes(1, 1, b"\x2a"),
+        ],
+        ..FRESH
+    },
+];
+
+const EXPIRY_ROWS: &[Row] = &[
+    Row {
+        name: "jobs expire by rising id, whatever the order of their deadlines",
+        steps: &[
+            Step::FeedAt(FOUR_TIMED, 0),
+            Step::NextDeadline(Some(10)),
+            Step::Takes(1, 1, b"\x2a"),
+            Step::Ticks(30),
+            Step::Writes(THREE_TIMEOUTS),
+            Step::Jobs(1, 0),
+            Step::NextDeadline(Some(99)),
+            Step::Takes(4, 7, b"\x2d"),
+            Step::NextExpired(Some(1)),
+            Step::NextExpired(None),
+        ],
+        ..FRESH
+    },
+    Row {
+        name: "taken and waiting jobs expire, and those that were taken are told of",
+        steps: &[
+            Step::FeedAt(FOUR_TIMED, 0),
+            Step::Takes(1, 1, b"\x2a"),
+            Step::Takes(2, 3, b"\x2b"),
+            Step::Ticks(20),
+            Step::Writes(TWO_TIMEOUTS),
+            Step::Jobs(1, 1),
+            Step::NextDeadline(Some(30)),
+            Step::Takes(4, 7, b"\x2d"),
+            Step::TakesNone,
+            Step::Ticks(99),
+            Step::Jobs(0, 0),
+            Step::NextExpired(Some(2)),
+            Step::NextExpired(Some(1)),
+            Step::NextExpired(Some(4)),
+            Step::NextExpired(None),
+        ],
+        ..FRESH
+    },
+    Row {
+        name: "those that expired are let go where a job is made and none was left",
+        steps: &[
+            Step::FeedAt(TIMED, 0),
+            Step::Takes(1, 1, b"\x2a"),
+            Step::Ticks(10),
+            Step::FeedAt(TIMED, 10),
+            Step::NextExpired(None),
+            Step::Takes(2, 1, b"\x2a"),
+            Step::Ticks(20),
+            Step::NextExpired(Some(2)),
+        ],
+        ..FRESH
+    },
+    Row {
+        name: "and kept where one was left",
+        steps: &[
+            Step::FeedAt(FOUR_TIMED, 0),
+            Step::Takes(1, 1, b"\x2a"),
+            Step::Ticks(30),
+            Step::FeedAt(TIMED, 30),
+            Step::NextExpired(Some(1)),
+        ],
+        ..FRESH
+    },
+    Row {
+        name: "nothing expires after a failure",
+        steps: &[
+            Step::FeedAt(TIMED, 0),
+            Step::Takes(1, 1, b"\x2a"),
+            Step::FailsBy("first"),
+            Step::NextDeadline(None),
+            Step::Ticks(10),
+            Step::StreamOf(1, Some(1)),
+            Step::NextExpired(None),
+            Step::HasUnsent(false),
+        ],
+        ..FRESH
+    },
+    Row {
+        name: "many jobs expire by one tick, beside as many that stay",
+        cuts: Cuts::Inside(2),
+        steps: &[Step::JobsExpireAtOnce(2000), Step::IsAlive],
+        ..FRESH
+    },
+];
+
+const UNTIMED_ROWS: &[Row] = &[Row {
+    name: "nothing expires under sync rules",
+    steps: &[
+        Step::FeedAt(TIMED, 0),
+        Step::NextDeadline(None),
+        Step::Takes(1, 1, b"\x2a"),
+        Step::Ticks(18446744073709551615),
+        Step::NextExpired(None),
+        Step::HasUnsent(false),
+        Step::Answers(1, b"\x2a"),
+        Step::Writes(ECHOED),
+    ],
+    ..FRESH
+}];
+
+#[test]
+fn jobs_expire(rt: HostRuntime) -> Tested {
+    let tables: &[Table<Rules>] = &[
+        (ASYNC, DEADLINE_ROWS),
+        (ASYNC, EXPIRY_ROWS),
+        (SYNC, UNTIMED_ROWS),
+    ];
+    hold::<Core>(&rt, rt.alloc(), tables)
+}
+
+const UNSEALED_ROWS: &[Row] = &[Row {
+    name: "a job whose answer is not sealed expires without one",
+    start: Start::Room(4194304),
+    steps: &[
+        Step::FeedAt(TIMED, 0),
+        Step::Takes(1, 1, b"\x2a"),
+        Step::Ticks(10),
+        Step::Jobs(0, 0),
+        Step::HasUnsent(false),
+        Step::NextExpired(Some(1)),
+        Step::IsAlive,
+    ],
+    ..FRESH
+}];
+
+#[test]
+fn jobs_expire_without_an_answer(rt: HostRuntime) -> Tested {
+    hold::<ServerCore<Sealed, Plain>>(&rt, rt.alloc(), &[(ASYNC, UNSEALED_ROWS)])
+}

@@ -52,6 +52,10 @@ impl<O: OutboundTransform + Drop, I: InboundTransform + Drop> End for ServerCore
 }
 
 impl<O: OutboundTransform + Drop, I: InboundTransform + Drop> Server for ServerCore<O, I> {
+    fn feed_at(&mut self, alloc: Global, piece: &[u8], now: u64) -> Result<usize, Error> {
+        ServerCore::feed(self, alloc, piece, now)
+    }
+
     fn feed_front(&mut self, alloc: Global, piece: &[u8]) -> Result<usize, Error> {
         ServerCore::feed_front(self, alloc, piece, 0)
     }
@@ -75,6 +79,18 @@ impl<O: OutboundTransform + Drop, I: InboundTransform + Drop> Server for ServerC
 
     fn finish(&mut self, alloc: Global, id: JobId) -> Result<(), Error> {
         ServerCore::finish(self, alloc, id)
+    }
+
+    fn tick(&mut self, alloc: Global, now: u64) {
+        ServerCore::tick(self, alloc, now);
+    }
+
+    fn next_deadline(&self) -> Option<u64> {
+        ServerCore::next_deadline(self)
+    }
+
+    fn next_expired(&mut self) -> Option<JobId> {
+        ServerCore::next_expired(self)
     }
 
     fn stream_of(&self, id: JobId) -> Option<u32> {

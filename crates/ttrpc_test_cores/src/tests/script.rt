@@ -49,6 +49,10 @@ pub enum Step {
     EndsInput,
     /// The connection is failed, with a text for a socket's error.
     FailsBy(&'static str),
+    /// This moment comes.
+    Ticks(u64),
+    /// The next deadline is this one.
+    NextDeadline(Option<u64>),
     /// The connection hasn't failed.
     IsAlive,
     /// The connection has failed, with this text: nothing is taken, lent or asked any more.
@@ -58,6 +62,8 @@ pub enum Step {
     /// Takes the first bytes, in the run's pieces. Behind each piece each job is answered with its own payload, and what
     /// is written then is the second bytes.
     Serves(&'static [u8], &'static [u8]),
+    /// Takes these bytes at this moment, in the run's pieces.
+    FeedAt(&'static [u8], u64),
     /// One front of these bytes has so many.
     Front(&'static [u8], usize),
     /// Fronts of what stands behind the first number of bytes end a frame after the second.
@@ -92,6 +98,8 @@ pub enum Step {
     RefusesFinish(u64, Told),
     /// The stream of the job of this id, which was taken and hasn't ended; none, if it wasn't or has.
     StreamOf(u64, Option<u32>),
+    /// The next job that was taken and expired is this one.
+    NextExpired(Option<u64>),
     /// How many jobs wait, and how many were taken and haven't ended.
     Jobs(u64, u64),
     /// From now on nothing that comes in is taken.
@@ -104,6 +112,8 @@ pub enum Step {
     WritesStatus(i32, &'static str),
     /// So many requests wait, each of a stream of its own, and are answered, the last first.
     ServesLastFirst(u32),
+    /// So many requests wait, each of a stream of its own, and all expire by one tick, while so many others stay.
+    JobsExpireAtOnce(u32),
 
     // ---- of a client
     /// A call with the payload 01 02 03, this timeout and at this moment gets this id.
@@ -126,12 +136,8 @@ pub enum Step {
     Ends(u32, Told),
     /// The call of this id is dropped.
     DropsCall(u32),
-    /// This moment comes.
-    Ticks(u64),
     /// The next call that ended is this one.
     NextEnded(Option<u32>),
-    /// The next deadline is this one.
-    NextDeadline(Option<u64>),
     /// So many calls are made and answered, the last first.
     CallsLastFirst(u32),
     /// So many calls are made, and all expire by one tick.

@@ -21,6 +21,56 @@ pub fn serves_last_first<S: Server>(alloc: Global, core: &mut S, count: u32) -> 
     )
 }
 
+/// So many requests with a timeout come, of the streams from 1 on, each a nanosecond behind the one before, and behind each
+/// one without. The first is taken. All that have a timeout expire by one tick, and are answered in their order.
+pub fn jobs_expire_at_once<S: Server>(alloc: Global, core: &mut S, count: u32) -> Met {
+    if !asks_in_time(alloc, core, count)? || core.take_job().is_none() {
+        return Ok(false);
+    }
+    core.tick(alloc, u64::from(count).wrapping_add(10));
+    Ok(
+        core.jobs_waiting() == u64::from(count)
+            && core.next_expired() == Some(1)
+            && core.next_expired().is_none()
+            && times_out(core, count)
+            && !core.has_unsent(),
+    )
+}
+
+/// The id of the stream of each request, of those from 0 on: of the one with a timeout, or of the other.
+fn stream_of(number: u32, waits: bool) -> u32 {
+    number
+        .wrapping_mul(4)
+        .wrapping_add(if waits { 3 } else { 1 })
+}
+
+/// Each pair of requests: one with a timeout of ten nanoseconds, and one without.
+fn asks_in_time<S: Server>(alloc: Global, core: &mut S, count: u32) -> Met {
+    for number in 0..count {
+        let [a, b, c, d] = stream_of(number, false).to_be_bytes();
+        core.feed_at(alloc, &[0, 0, 0, 0x16, a, b, c, d, 1, 0], u64::from(number))?;
+        core.feed_at(alloc, behind(ASKED, 10), u64::from(number))?;
+        core.feed_at(alloc, &[0x20, 10], u64::from(number))?;
+        let [a, b, c, d] = stream_of(number, true).to_be_bytes();
+        core.feed_at(alloc, &[0, 0, 0, 0x14, a, b, c, d, 1, 0], 0)?;
+        core.feed_at(alloc, behind(ASKED, 10), 0)?;
+    }
+    Ok(true)
+}
+
+/// The answer to a job that expired leaves for each.
+fn times_out<C: End>(core: &mut C, count: u32) -> bool {
+    for number in 0..count {
+        let [a, b, c, d] = stream_of(number, false).to_be_bytes();
+        let is_written = leaves(core, &[0, 0, 0, 0x0d, a, b, c, d, 2, 0])
+            && leaves(core, b"\x0a\x0b\x08\x04\x12\x07timeout");
+        if !is_written {
+            return false;
+        }
+    }
+    true
+}
+
 /// The request of each stream: the usual one under another id.
 fn asks<S: Server>(alloc: Global, core: &mut S, count: u32) -> Met {
     for stream in 1..=count {

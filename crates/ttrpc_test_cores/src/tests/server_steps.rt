@@ -1,6 +1,6 @@
 //! The steps of a server.
 use crate::tests::script::{Step, Told};
-use crate::tests::server_numbers::serves_last_first;
+use crate::tests::server_numbers::{jobs_expire_at_once, serves_last_first};
 use crate::tests::steps::{drained, tells};
 use crate::tests::under_test::{Met, Server};
 use std::alloc::Global;
@@ -38,7 +38,7 @@ pub fn server_step<S: Server>(alloc: Global, core: &mut S, step: &Step, cut: usi
         Step::RefusesResponse(stream, why) => refuses_response(alloc, core, stream, why),
         Step::Finishes(id) => finishes(alloc, core, id),
         Step::RefusesFinish(id, why) => refuses_finish(alloc, core, id, why),
-        _ => front_step(alloc, core, step, cut),
+        _ => moment_step(alloc, core, step, cut),
     }
 }
 
@@ -49,6 +49,31 @@ pub fn server_refusal<S: Server>(alloc: Global, core: &mut S) -> Option<Error> {
     }
     let answer = Ok(ok_response(alloc, Blob::new(alloc)));
     core.answer(alloc, 1, &answer).err()
+}
+
+/// A step that asks for the moment.
+fn moment_step<S: Server>(alloc: Global, core: &mut S, step: &Step, cut: usize) -> Met {
+    match *step {
+        Step::FeedAt(bytes, now) => feeds_at(alloc, core, bytes, now, cut),
+        Step::NextDeadline(at) => Ok(core.next_deadline() == at),
+        Step::NextExpired(id) => Ok(core.next_expired() == id),
+        Step::JobsExpireAtOnce(count) => jobs_expire_at_once(alloc, core, count),
+        Step::Ticks(now) => {
+            core.tick(alloc, now);
+            Ok(true)
+        }
+        _ => front_step(alloc, core, step, cut),
+    }
+}
+
+/// Bytes are taken whole at this moment, in pieces of this size.
+fn feeds_at<S: Server>(alloc: Global, core: &mut S, bytes: &[u8], now: u64, size: usize) -> Met {
+    for piece in bytes.chunks(size.max(1)) {
+        if core.feed_at(alloc, piece, now)? != piece.len() {
+            return Ok(false);
+        }
+    }
+    Ok(true)
 }
 
 /// A step that takes fronts of a piece.

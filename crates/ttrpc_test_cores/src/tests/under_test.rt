@@ -38,6 +38,8 @@ pub trait End {
 
 /// What a server does beside.
 pub trait Server: End {
+    fn feed_at(&mut self, alloc: Global, piece: &[u8], now: u64) -> Result<usize, Error>;
+
     fn feed_front(&mut self, alloc: Global, piece: &[u8]) -> Result<usize, Error>;
 
     fn take_job(&mut self) -> Option<Job>;
@@ -52,6 +54,12 @@ pub trait Server: End {
     fn respond(&mut self, alloc: Global, stream_id: u32, response: &Response) -> Result<(), Error>;
 
     fn finish(&mut self, alloc: Global, id: JobId) -> Result<(), Error>;
+
+    fn tick(&mut self, alloc: Global, now: u64);
+
+    fn next_deadline(&self) -> Option<u64>;
+
+    fn next_expired(&mut self) -> Option<JobId>;
 
     fn stream_of(&self, id: JobId) -> Option<u32>;
 

@@ -1,0 +1,151 @@
+//! Jobs that expire, and what is told of them.
+ghost use Rattle.std.specs.Prelude.{◌≡◌, ◌<◌, ◌≤◌, ◌+◌, ◌++◌, [], ◌∷◌, if◌then◌else◌, length, slice_get, option_to_list, IfErr, IfNone, Some, IsPermutation, OnOk, OnErr};
+ghost use Rattle.std.specs.List.Sorted.{IsNonDecreasing};
+ghost use Rattle.ttrpc_connection.specs.Deadlines.{due_ids};
+ghost use Rattle.ttrpc_server.specs.declared.job.ActiveJob.{ActiveJob as AJob};
+ghost use Rattle.ttrpc_server.specs.Inside.{ExpiresAt};
+ghost use Rattle.ttrpc_server.specs.State.{IsJob};
+
+use crate::index::Index;
+use crate::job::JobId;
+use crate::jobs::Jobs;
+use crate::replies::send_own_answer;
+use crate::responses::timeout_response;
+use crate::rules::Rules;
+use std::alloc::{AllocError, Global};
+use std::collections::VecDeque;
+use std::marker::Model;
+use ttrpc_connection::deadlines::Deadlines;
+use ttrpc_connection::{Failure, Outbox};
+use ttrpc_secure::OutboundTransform;
+
+/// The jobs that are due, while they expire, and those that expired and weren't told of yet.
+#[derive(Drop)]
+pub(crate) struct Expiry {
+    due: Vec<JobId>,
+    expired: VecDeque<JobId>,
+}
+
+impl Model for Expiry {
+    ghost use Rattle.std.specs.Prelude.{◌-◌, min, vec_capacity};
+    ghost use Rattle.std.specs.VecDeque.{deque_capacity, deque_len};
+    ghost use Rattle.ttrpc_server.specs.Kept.{Expiring};
+
+    ghost Value = { Expiring };
+
+    ghost view = { λ a. record {
+      due = a.due.items;
+      expired = a.expired.items;
+      room = min (vec_capacity a.due) (deque_capacity a.expired - deque_len a.expired);
+    } };
+}
+
+impl Expiry {
+    /// Nothing expired. Takes no memory.
+    pub(crate) fn new(alloc: Global) -> Self
+        ensures due { result.due ≡ [] }
+        ensures expired { result.expired ≡ [] }
+    {
+        Expiry {
+            due: Vec::new(alloc),
+            expired: VecDeque::new(alloc),
+        }
+    }
+
+    /// Makes room for this many jobs to expire. An `Err` takes no room away.
+    pub(crate) fn reserve(&mut self, jobs: usize) -> Result<(), AllocError>
+        ensures ok { OnOk result (jobs ≤ self.new.room) }
+        ensures room { self.old.room ≤ self.new.room }
+        ensures expired { self.new.expired ≡ self.old.expired }
+    {
+        self.due.clear();
+        self.due.reserve(jobs)?;
+        self.expired.reserve(jobs)
+    }
+
+    /// Lists the jobs whose deadlines are at this moment or before it, by rising id. Takes no memory.
+    pub(crate) fn list_due(&mut self, deadlines: &Deadlines, now: u64)
+        requires { length (due_ids now deadlines.now) ≤ self.old.room }
+        ensures are { IsPermutation (due_ids now deadlines.now) self.new.due }
+        ensures rise { IsNonDecreasing self.new.due }
+        ensures expired { self.new.expired ≡ self.old.expired }
+        ensures room { self.old.room ≤ self.new.room }
+    {
+        deadlines.due(now, &mut self.due);
+        self.due.sort_unstable();
+    }
+
+    /// How many jobs are due. Takes no memory.
+    pub(crate) fn count_due(&self) -> usize
+        ensures { result ≡ length self.now.due }
+    {
+        self.due.len()
+    }
+
+    /// The job at this place of those that are due. Takes no memory.
+    pub(crate) fn due_at(&self, place: usize) -> JobId
+        requires { place < length self.now.due }
+        ensures { slice_get self.now.due place ≡ Some result }
+    {
+        self.due[place]
+    }
+
+    /// A job that expired is to be told of, unless it waited. Takes no memory.
+    fn tell(&mut self, id: JobId, waited: bool)
+        requires { 0 < self.old.room }
+        ensures expired { self.new.expired ≡ (if waited then self.old.expired else self.old.expired ++ id ∷ []) }
+        ensures due { self.new.due ≡ self.old.due }
+        ensures room { self.old.room ≤ self.new.room + 1 }
+    {
+        if waited {
+            return;
+        }
+        if self.expired.push_back(id).is_err() {
+            unreachable!();
+        }
+    }
+
+    /// The first of those that expired and weren't told of yet. Takes no memory.
+    pub(crate) fn next_expired(&mut self) -> Option<JobId>
+        ensures first { self.old.expired ≡ option_to_list result ++ self.new.expired }
+        ensures none { IfNone result (self.old.expired ≡ []) }
+        ensures room { self.old.room ≤ self.new.room }
+    {
+        self.expired.pop_front()
+    }
+
+    /// Those that expired are no longer told of. Takes no memory.
+    pub(crate) fn forget(&mut self)
+        ensures expired { self.new.expired ≡ [] }
+        ensures room { self.old.room ≤ self.new.room }
+    {
+        self.expired.clear();
+    }
+}
+
+/// A job that is due expires: it is gone, and answered so. An `Err` changes nothing.
+pub(crate) fn expire_job<O: OutboundTransform + Drop>(
+    alloc: Global,
+    outbox: &mut Outbox<O>,
+    jobs: &mut Jobs,
+    index: &mut Index,
+    expiry: &mut Expiry,
+    id: JobId,
+) -> Result<(), Failure>
+    requires job { (job : AJob) × IsJob jobs.old.list id job }
+    requires room { 0 < expiry.old.room }
+    ensures ok { (job : AJob) → (at : IsJob jobs.old.list id job) → OnOk result (ExpiresAt O.OutboundTransform
+        jobs.old index.old expiry.old outbox.old job at jobs.new index.new expiry.new outbox.new) }
+    ensures err { IfErr result (λ failure. (failure ≡ Failure.NoMemory) × (jobs.new ≡ jobs.old) × (index.new ≡ index.old)
+        × (expiry.new ≡ expiry.old) × (outbox.new ≡ outbox.old)) }
+{
+    let Some((stream_id, deadline)) = jobs.place_of(id) else {
+        unreachable!();
+    };
+    let response = timeout_response(alloc)?;
+    send_own_answer(alloc, outbox, Rules::Async, stream_id, &response)?;
+    expiry.tell(id, jobs.waits(id));
+    jobs.end(id);
+    index.take_away(stream_id, id, deadline);
+    Ok(())
+}
