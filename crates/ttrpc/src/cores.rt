@@ -7,6 +7,7 @@ pub mod client {
 
 /// The core of a server.
 pub mod server {
+    pub use ttrpc_client::Ticket;
     pub use ttrpc_server::{Job, JobId, Registry, Rules, ServerCore};
 }
 

@@ -1,5 +1,6 @@
 -- The calls of a client core take nothing of what comes in, and the queue goes through what they say.
-use Rattle.ttrpc_client.proofs.Words.{cond_both, ◌≡◌, ◌∙◌, ◌&&◌, not, ℕ, nat_eq, List, [], ◌∷◌, Option, Some, None, is_some, Bool, true, false, if◌then◌else◌, refl, sym, ap, subst, Queued, Queue, Happening, Placed, with_payload, OutboundTransform, Connection, Failure, AreLawful, Goes, ClientCore, Called, Asked, Dropped, Ticked, Opened, SentOn, Passes, Does, Causes, called, core, thrown_at, thrown_if, Client, call_at, throws, due_at, taken_back, takes_back, IsDataFrame, IsOpeningFrame, IsRequestFrame, CancelledDuringWrite, DeadlineDuringWrite, goes_not, queued_goes}
+use Rattle.ttrpc_client.proofs.Words.{cond_both, ◌≡◌, ◌∙◌, ◌&&◌, not, ℕ, nat_eq, List, [], ◌∷◌, Option, Some, None, is_some, Bool, true, false, if◌then◌else◌, refl, sym, ap, subst, Queued, Queue, Happening, Placed, with_payload, OutboundTransform, Connection, Failure, AreLawful, Goes, ClientCore, Called, Asked, Dropped, Ticked, Opened, SentOn, Passes, Does, Causes, called, core, thrown_at, thrown_if, Client, call_at, throws, due_at, taken_back, takes_back, IsOpeningFrame, IsRequestFrame, CancelledDuringWrite, DeadlineDuringWrite, goes_not, queued_goes}
+use Rattle.ttrpc_connection.specs.Items.{IsDataFrame}
 
 -- ---- the decoder
 
@@ -45,7 +46,7 @@ queue out seals (Asked request now id) s old hs t new call =
 queue out seals (Opened request streaming_client streaming_server id) s old hs t new call =
     queued_goes old.outbox.queue new.outbox.queue (call.1.0 ∷ []) hs (with_payload call.0.frame call.0.sends.sealed ∷ [], call.0.sends.queue) call.1.2 call.1.3
 queue out seals (SentOn id flags plain sender ticket) s old hs t new call =
-    queued_goes old.outbox.queue new.outbox.queue (call.1.0 ∷ []) hs (with_payload call.0.frame call.0.sends.sealed ∷ [], call.0.sends.queue) call.1.2 call.1.3
+    queued_goes old.outbox.queue new.outbox.queue (call.1.0 ∷ []) hs (with_payload call.0.sends.frame call.0.sends.sends.sealed ∷ [], call.0.sends.sends.queue) call.1.2 call.1.3
 queue out seals (Dropped id) s old hs t new call =
     goes_so old.outbox.queue hs _ new.outbox.queue _ (back_goes (takes_back seals (core s old) id) old (λ k. nat_eq k id) CancelledDuringWrite) call.1 (ap (λ c. c.connection.outbox.queue) call.0.same)
 queue out seals (Ticked now) s old hs t new call = passes_goes seals old.failure (core s old) now (core t new) refl call.0 hs call.1
@@ -76,8 +77,8 @@ does_cause out seals (Opened request streaming_client streaming_server id) old n
     let f = with_payload did.frame did.sends.sealed in
     (Placed f ∷ [], (f, filled_opening streaming_client id did.frame did.sends.sealed did.is_frame, ap (λ (q : Queue). q.frames) did.sends.queue, refl))
 does_cause out seals (SentOn id flags plain sender ticket) old new did =
-    let f = with_payload did.frame did.sends.sealed in
-    (Placed f ∷ [], (f, filled_data id flags ticket did.frame did.sends.sealed did.is_frame, ap (λ (q : Queue). q.frames) did.sends.queue, refl))
+    let f = with_payload did.sends.frame did.sends.sends.sealed in
+    (Placed f ∷ [], (f, filled_data id flags ticket did.sends.frame did.sends.sends.sealed did.sends.is_frame, ap (λ (q : Queue). q.frames) did.sends.sends.queue, refl))
 does_cause out seals (Dropped id) old new did = (_, refl)
 does_cause out seals (Ticked now) old new did = (_, refl)
 does_cause out seals a old new did = ([], refl)

@@ -13,8 +13,7 @@ use Rattle.ttrpc_secure.specs.declared.transform.TransformError.{TransformError}
 use Rattle.ttrpc_secure.specs.declared.transform.TransformError.TheVariants.{Refused, NoMemory}
 use Rattle.ttrpc_secure.specs.Halves.{MayFail}
 use Rattle.ttrpc_client.specs.Types.{Closed, Dropped, LocalClosed}
-use Rattle.ttrpc_client.specs.Protocol.{IsDataFrame, last_ticket, MaySend, ReceivesAt, ReceivesOne, RefusesSending, unsendable}
-use Rattle.ttrpc_client.specs.Inside.{IsUnsentBy}
+use Rattle.ttrpc_client.specs.Protocol.{ReceivesAt, ReceivesOne, unsendable}
 use Rattle.ttrpc_connection.specs.Frames.{safe_limit}
 use Rattle.ttrpc_client.proofs.Entries.{at_or_apart, same_place, undone}
 
@@ -135,14 +134,6 @@ pub closed_is : (s : Option Stream) (t : Stream) → s ≡ Some t → t.streamin
 closed_is s t is client (inl closed) = rw (is, client, closed) refl
 closed_is s t is client (inr dropped) = rw (is, client, dropped) refl
 
--- ---- ids that are listed
-
--- an id that wasn't listed, was put in and taken out again leaves the list as it was
-pub unlisted : (k : ℕ) (ks : List ℕ) → list_any (is_at (nat_cmp k)) ks ≡ false → remove_key (is_at (nat_cmp k)) (insert_key nat_cmp ks k) ≡ ks
-unlisted k [] h = rw (same_place k) refl
-unlisted k (x ∷ xs) h = by_ranked _ _ _ (nat_cmp k x) (ranked k x _ refl) (λ q _. rw (q, same_place k) refl)
-    (λ q _. let bad : true ≡ false = rw q at h in cc) (λ q _. rw (q, q, unlisted k xs (rw q at h)) refl)
-
 -- ---- two streams
 
 pub received_apart : {O I : Type 0} (old mid new : ClientCore O I) (j k : ℕ) (other given : Option (Result (List ℕ) Error)) → k ≢ j → ReceivesOne old j other mid → ReceivesOne mid k given new
@@ -165,10 +156,3 @@ pub may_refuse : {O I : Type 0} (out : OutboundTransform O) (old : ClientCore O 
     → MayFail out.refuses old.connection.outbox.half plain (associated frame.message.header) error → MayRefuse out old is_such plain error
 may_refuse out old is_such plain frame (Refused why) is refuses = record { frame = frame; is_frame = is; refuses = refuses }
 may_refuse out old is_such plain frame NoMemory is refuses = tt
-
-pub item_refused : {O I : Type 0} (out : OutboundTransform O) (old : ClientCore O I) (id flags : ℕ) (plain : List ℕ) (frame : Queued) (error : TransformError) (told : Error)
-    → MaySend old id plain → old.connection.outbox.tickets < last_ticket → length plain ≤ safe_limit out old.connection.outbox.half → IsDataFrame id flags (old.connection.outbox.tickets + 1) frame
-    → MayFail out.refuses old.connection.outbox.half plain (associated frame.message.header) error → IsUnsentBy error told → RefusesSending out old id flags plain told
-item_refused out old id flags plain frame (Refused why) told may left fits is refuses unsent =
-    inr (inr (inr (inr (inr (inl (record { may = may; has_ticket = left; fits = fits; frame = frame; is_frame = is; why = why; refuses = refuses; is_told = unsent }))))))
-item_refused out old id flags plain frame NoMemory told may left fits is refuses unsent = inr (inr (inr (inr (inr (inr (unsent, may.alive))))))

@@ -106,11 +106,6 @@ abbrev pub MayRefuse : {O I : Type 0} → OutboundTransform O → ClientCore O I
 MayRefuse out old is_such plain (Refused why) = RefusesSealing out old is_such plain why
 MayRefuse out old is_such plain NoMemory = Unit {0}
 
--- the error that tells why data weren't sealed
-abbrev pub IsUnsentBy : TransformError → Error → Type 0
-IsUnsentBy (Refused why) told = IsTold (Others (unsealed_text why)) told
-IsUnsentBy NoMemory told = told ≡ MemoryRefused
-
 -- what is written for a request: the next id, and its bytes, which fit
 pub record IsWritten {O I : Type 0} (out : OutboundTransform O) (old : ClientCore O I) (r : Request) (id : ℕ) (bytes : List ℕ) : Type 0 where
   pub id_is : id ≡ old.state.next

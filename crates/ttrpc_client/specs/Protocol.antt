@@ -30,6 +30,7 @@ use Rattle.ttrpc_connection.specs.Deadlines.{deadline_of}
 use Rattle.ttrpc_connection.specs.Failure.{IsTold, error_of, first_failure}
 use Rattle.ttrpc_connection.specs.Feeds.{IsFailed, Ways, new_connection}
 use Rattle.ttrpc_connection.specs.Frames.{Sent, SendsOne, safe_limit}
+use Rattle.ttrpc_connection.specs.Items.{RefusesData, SendsData}
 use Rattle.ttrpc_connection.specs.Mail.{Mail, Receives}
 use Rattle.ttrpc_connection.specs.Things.{data_thing, has_flag}
 use Rattle.ttrpc_client.specs.declared.client.ClientCore.{ClientCore}
@@ -429,20 +430,8 @@ RefusesStream out old r streaming_client told =
     ⊎ ((told ≡ NoMemory) × (old.connection.failure ≡ None))
 
 -- ---- items that are sent, and the close behind them
--- Source: PROTOCOL.md of ttrpc, "Data" and "Streaming"; errors and texts: the Rust crate; their order: this project's.
-
--- the flags of a frame that says that no more items come
-abbrev pub close_flags : ℕ
-close_flags = FLAG_REMOTE_CLOSED + FLAG_NO_DATA
-
--- a data frame of a stream
-pub record IsDataFrame (id flags ticket : ℕ) (f : Queued) : Type 0 where
-  pub stream_id : f.message.header.stream_id ≡ id
-  pub type_ : f.message.header.type_ ≡ MESSAGE_TYPE_DATA
-  pub flags_are : f.message.header.flags ≡ flags
-  pub ticket_is : f.ticket ≡ Some ticket
-  pub is_unary_request : f.is_unary_request ≡ false
-  pub owner : f.owner ≡ id
+-- Source: PROTOCOL.md of ttrpc, "Data" and "Streaming"; errors and texts: the Rust crate; their order: this project's. How data
+-- are sent, and for what they are refused, is said in `Items` of the connection's specs.
 
 -- there is no such stream
 abbrev pub unknown_error : Error
@@ -463,22 +452,13 @@ abbrev pub unsendable : Option Stream → Option Error
 unsendable None = Some unknown_error
 unsendable (Some s) = if s.streaming_client then closed_error s.sender else Some unsendable_error
 
--- the greatest ticket
-abbrev pub last_ticket : ℕ
-last_ticket = 2 ^ 64 - 1
-
 -- Data were sent on a stream in a frame of these flags, and got this ticket; its sender is in this state then.
 pub record SendsOn {O I : Type 0} (out : OutboundTransform O) (old : ClientCore O I) (id flags : ℕ) (plain : List ℕ) (sender : Sender) (ticket : ℕ) (new : ClientCore O I) : Type 0 where
   pub alive : old.connection.failure ≡ None
   pub sendable : unsendable (stream_at old.state id) ≡ None
-  pub ticket_is : ticket ≡ old.connection.outbox.tickets + 1
-  pub in_range : ticket ≤ last_ticket
-  pub fits : length plain ≤ safe_limit out old.connection.outbox.half
+  pub sends : SendsData out old.connection.outbox id flags plain ticket new.connection.outbox
   pub own : stream_at new.state id ≡ with_sender sender (stream_at old.state id)
   pub others : StreamsStay old.state.streams id new.state.streams
-  pub frame : Queued
-  pub is_frame : IsDataFrame id flags ticket frame
-  pub sends : SendsOne out old.connection.outbox frame plain new.connection.outbox
   pub same : new ≡ record old {
     state = record old.state { streams = new.state.streams };
     connection = record old.connection { outbox = new.connection.outbox };
@@ -491,49 +471,16 @@ pub record IsUnsendable {O I : Type 0} (old : ClientCore O I) (id : ℕ) (told :
   pub is : unsendable (stream_at old.state id) ≡ Some error
   pub is_told : IsTold error told
 
--- something may be sent on it, but these data are longer than a message may be
-pub record IsItemTooLong {O I : Type 0} (old : ClientCore O I) (id : ℕ) (plain : List ℕ) (told : Error) : Type 0 where
+-- something may be sent on it, but these data aren't
+pub record IsItemRefused {O I : Type 0} (out : OutboundTransform O) (old : ClientCore O I) (id flags : ℕ) (plain : List ℕ) (told : Error) : Type 0 where
   pub alive : old.connection.failure ≡ None
   pub sendable : unsendable (stream_at old.state id) ≡ None
-  pub above : MESSAGE_LENGTH_MAX < length plain
-  pub is_told : IsTold (Others (oversize_text (length plain))) told
+  pub refuses : RefusesData out (advice old.state.kind) old.connection.outbox id flags plain told
 
--- something may be sent on it, and the data are no longer than a message may be
-pub record MaySend {O I : Type 0} (old : ClientCore O I) (id : ℕ) (plain : List ℕ) : Type 0 where
-  pub alive : old.connection.failure ≡ None
-  pub sendable : unsendable (stream_at old.state id) ≡ None
-  pub short : length plain ≤ MESSAGE_LENGTH_MAX
-
--- and no ticket is left
-pub record HasNoTicket {O I : Type 0} (old : ClientCore O I) (id : ℕ) (plain : List ℕ) (told : Error) : Type 0 where
-  pub may : MaySend old id plain
-  pub used_up : old.connection.outbox.tickets ≡ last_ticket
-  pub is_told : IsTold (Others (codes "tickets are used up")) told
-
--- or one is left, and the data are above the safe limit
-pub record IsItemAboveLimit {O I : Type 0} (out : OutboundTransform O) (old : ClientCore O I) (id : ℕ) (plain : List ℕ) (told : Error) : Type 0 where
-  pub may : MaySend old id plain
-  pub has_ticket : old.connection.outbox.tickets < last_ticket
-  pub above : safe_limit out old.connection.outbox.half < length plain
-  pub is_told : IsTold (Others (unsafe_payload_text (length plain) (safe_limit out old.connection.outbox.half) (advice old.state.kind))) told
-
--- or they aren't, and the half refuses them, for this reason
-pub record IsItemUnsealed {O I : Type 0} (out : OutboundTransform O) (old : ClientCore O I) (id flags : ℕ) (plain : List ℕ) (told : Error) : Type 0 where
-  pub may : MaySend old id plain
-  pub has_ticket : old.connection.outbox.tickets < last_ticket
-  pub fits : length plain ≤ safe_limit out old.connection.outbox.half
-  pub frame : Queued
-  pub is_frame : IsDataFrame id flags (old.connection.outbox.tickets + 1) frame
-  pub why : List ℕ
-  pub refuses : out.refuses old.connection.outbox.half plain (associated frame.message.header) why
-  pub is_told : IsTold (Others (unsealed_text why)) told
-
--- For what sending is refused, from top to bottom; or memory is wanted.
+-- For what sending is refused, from top to bottom.
 abbrev pub RefusesSending : {O I : Type 0} → OutboundTransform O → ClientCore O I → ℕ → ℕ → List ℕ → Error → Type 0
 RefusesSending out old id flags plain told =
-    IsFailed old.connection.failure told ⊎ IsUnsendable old id told ⊎ IsItemTooLong old id plain told ⊎ HasNoTicket old id plain told
-    ⊎ IsItemAboveLimit out old id plain told ⊎ IsItemUnsealed out old id flags plain told
-    ⊎ ((told ≡ NoMemory) × (old.connection.failure ≡ None))
+    IsFailed old.connection.failure told ⊎ IsUnsendable old id told ⊎ IsItemRefused out old id flags plain told
 
 -- ---- items that are received, and halves that are dropped
 -- Source: PROTOCOL.md of ttrpc, "Streaming"; the table of a mailbox is `Mail` of the connection's specs.

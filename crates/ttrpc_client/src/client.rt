@@ -13,7 +13,7 @@ ghost use Rattle.ttrpc_client.specs.Inside.{Begins, IsUnwritten, IsWritten, MayR
 ghost use Rattle.ttrpc_client.specs.Streams.{AreStreams};
 
 use crate::call::{Call, CallId};
-use crate::errors::{above_limit_error, deadline_error, unsent_error, used_up_error};
+use crate::errors::{above_limit_error, deadline_error, used_up_error};
 use crate::kind::ClientKind;
 use crate::landing::Outcome;
 use crate::state::ClientState;
@@ -21,6 +21,7 @@ use std::alloc::Global;
 use ttrpc_codec::Codec;
 use ttrpc_codec::message::encode_with_room;
 use ttrpc_connection::deadlines::deadline_of;
+use ttrpc_connection::items::unsent_error;
 use ttrpc_connection::{Connection, Failure, Outbox};
 use ttrpc_frame::header::oversize::oversize_error;
 use ttrpc_frame::owners::Owners;

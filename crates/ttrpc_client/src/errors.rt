@@ -3,7 +3,6 @@ ghost use Rattle.std.specs.Prelude.{◌≡◌, ◌++◌, ℕ, List, codes, IfOk}
 ghost use Rattle.ttrpc_proto.specs.ErrorText.{status_of};
 ghost use Rattle.ttrpc_connection.specs.Failure.{IsTold};
 ghost use Rattle.ttrpc_client.specs.Protocol.{advice, malformed_text, expired_error, unknown_error, unsendable_error};
-ghost use Rattle.ttrpc_client.specs.Inside.{IsUnsentBy};
 ghost use Rattle.ttrpc_secure.specs.Context.Texts.{unsafe_payload_text};
 
 use crate::kind::ClientKind;
@@ -11,8 +10,7 @@ use std::alloc::{AllocError, Global};
 use ttrpc_frame::MessageHeader;
 use ttrpc_proto::Error;
 use ttrpc_proto::error::get_rpc_status;
-use ttrpc_secure::TransformError;
-use ttrpc_secure::context::errors::{others_error, unsafe_payload_error, unsealed_error};
+use ttrpc_secure::context::errors::{others_error, unsafe_payload_error};
 use ttrpc_wire::{Code, CodecError, Text};
 
 /// The outcome of a call whose response doesn't read as one. The clause leaves the end of its text open, as it leaves
@@ -45,7 +43,7 @@ pub fn above_limit_error(alloc: Global, kind: ClientKind, length: usize, limit: 
 }
 
 /// What a client of this kind adds to the text about the safe limit.
-fn advice(kind: ClientKind) -> &'static str
+pub fn advice(kind: ClientKind) -> &'static str
     ensures { result.now ≡ advice kind }
 {
     match kind {
@@ -109,21 +107,4 @@ pub fn unsendable_error(alloc: Global) -> Error
     ensures { IsTold unsendable_error result }
 {
     others_error(String::from_str(alloc, "stream is not sendable"))
-}
-
-/// The refusal of sending where no ticket is left, or `NoMemory` where memory for its text was refused.
-pub fn tickets_error(alloc: Global) -> Error
-    ensures { IsTold (Error.Others (codes "tickets are used up")) result }
-{
-    others_error(String::from_str(alloc, "tickets are used up"))
-}
-
-/// The refusal of what the outbound half didn't seal, or `NoMemory` where memory was refused.
-pub fn unsent_error(alloc: Global, refused: &TransformError) -> Error
-    ensures { IsUnsentBy refused.now result }
-{
-    match refused {
-        TransformError::Refused(why) => unsealed_error(alloc, why),
-        TransformError::NoMemory => Error::NoMemory,
-    }
 }

@@ -15,5 +15,5 @@ mod streams;
 pub use call::CallId;
 pub use client::ClientCore;
 pub use kind::ClientKind;
-pub use streaming::Ticket;
 pub use streams::{Sender, Stream, StreamId, Streams};
+pub use ttrpc_connection::Ticket;

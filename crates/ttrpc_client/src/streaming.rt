@@ -1,34 +1,26 @@
 //! The calls of a client core on its streams.
-ghost use Rattle.std.specs.Prelude.{◌≡◌, ◌≤◌, ◌++◌, ◌⊎◌, [], length, false, option_to_list, IfOk, IfErr, OnOk, OnErr, IfNone};
+ghost use Rattle.std.specs.Prelude.{◌≡◌, ◌≤◌, ◌++◌, [], length, option_to_list, IfOk, IfErr, OnOk, OnErr, IfNone};
 ghost use Rattle.ttrpc_connection.specs.Failure.{TellsSent};
-ghost use Rattle.ttrpc_connection.specs.Feeds.{IsFailed};
 ghost use Rattle.ttrpc_connection.specs.Frames.{safe_limit};
+ghost use Rattle.ttrpc_connection.specs.Items.{close_flags};
 ghost use Rattle.ttrpc_connection.specs.Outbox.{is_sent};
-ghost use Rattle.ttrpc_client.specs.Protocol.{DropsReceiver, DropsSender, IsDataFrame, IsItemTooLong, IsOpeningFrame, IsUnsendable, MaySend, OpensStream, ReceivesOne, RefusesSending, RefusesStream, SendsOn, close_flags, opening_flags};
+ghost use Rattle.ttrpc_client.specs.Protocol.{DropsReceiver, DropsSender, IsOpeningFrame, OpensStream, ReceivesOne, RefusesSending, RefusesStream, SendsOn, opening_flags};
 ghost use Rattle.ttrpc_client.specs.Inside.{BeginsStream, MayRefuse};
 ghost use Rattle.ttrpc_client.specs.declared.streams.Sender.{Sender as ASender};
 
 use crate::client::ClientCore;
-use crate::errors::{above_limit_error, payload_error, tickets_error, unsent_error};
+use crate::errors::{advice, payload_error};
 use crate::streams::{Stream, StreamId};
 use std::alloc::Global;
-use ttrpc_connection::Outbox;
-use ttrpc_frame::header::oversize::oversize_error;
+use ttrpc_connection::Ticket;
+use ttrpc_connection::items::{CLOSE_FLAGS, send_data, stream_frame, unsent_error};
 use ttrpc_frame::{
-    FLAG_NO_DATA, FLAG_REMOTE_CLOSED, FLAG_REMOTE_OPEN, GenMessage, MESSAGE_LENGTH_MAX,
-    MESSAGE_TYPE_DATA, MESSAGE_TYPE_REQUEST, MessageHeader, Queued,
+    FLAG_NO_DATA, FLAG_REMOTE_CLOSED, FLAG_REMOTE_OPEN, MESSAGE_TYPE_REQUEST, Queued,
 };
 use ttrpc_proto::{Error, Request};
-use ttrpc_secure::context::errors::or_no_memory;
 use ttrpc_secure::sending::SendError;
 use ttrpc_secure::{InboundTransform, OutboundTransform, TransformError};
 use ttrpc_wire::Blob;
-
-/// The number of a frame that was sent on a stream, by which it is asked about: 1, and rising with each.
-pub type Ticket = u64;
-
-/// The flags of a frame that closes a stream without an item.
-const CLOSE_FLAGS: u8 = FLAG_REMOTE_CLOSED | FLAG_NO_DATA;
 
 impl<O: OutboundTransform + Drop, I: InboundTransform + Drop> ClientCore<O, I> {
     /// Opens a stream, to send items, to receive them, or both: its request is sealed and queued under the next id. Where
@@ -122,36 +114,10 @@ impl<O: OutboundTransform + Drop, I: InboundTransform + Drop> ClientCore<O, I> {
         ensures refused { IfErr result (RefusesSending O.OutboundTransform self.old id flags plain.now) }
         ensures err { OnErr result (self.new ≡ self.old) }
     {
-        self.check_item(alloc, id, plain)?;
-        let Some(ticket) = self.connection.outbox.next_ticket() else {
-            return Err(tickets_error(alloc));
-        };
-        let limit = self.connection.outbox.limit();
-        if plain.len() > limit {
-            return Err(above_limit_error(alloc, self.state.kind(), plain.len(), limit));
-        }
-        let bytes = plain.to_vec(alloc)?;
-        let frame = data_frame(alloc, id, flags, ticket);
-        match self.connection.outbox.send(alloc, frame, bytes) {
-            Ok(()) => Ok(ticket),
-            Err(SendError::Failed(refused)) => Err(unsent_error(alloc, &refused)),
-            Err(SendError::TooLong) => unreachable!(),
-        }
-    }
-
-    /// Refuses to send where the connection has failed, nothing may be sent on the stream, or the data are longer than a
-    /// message may be.
-    fn check_item(&self, alloc: Global, id: StreamId, plain: &[u8]) -> Result<(), Error>
-        ensures ok { OnOk result (MaySend self.now id plain.now) }
-        ensures err { IfErr result (λ told. IsFailed self.now.connection.failure told ⊎ IsUnsendable self.now id told
-            ⊎ IsItemTooLong self.now id plain.now told) }
-    {
         self.connection.check_alive(alloc)?;
         self.state.check_sendable(alloc, id)?;
-        if plain.len() > MESSAGE_LENGTH_MAX {
-            return Err(or_no_memory(oversize_error(alloc, plain.len(), false)));
-        }
-        Ok(())
+        let advice = advice(self.state.kind());
+        send_data(alloc, &mut self.connection.outbox, advice, id, flags, plain)
     }
 
     /// Gives the next item of a stream, or why there is none: nothing where none came yet. After a failure that stands
@@ -207,36 +173,4 @@ fn opening_frame(alloc: Global, id: StreamId, streaming_client: bool) -> Queued
         FLAG_REMOTE_CLOSED
     };
     stream_frame(alloc, id, MESSAGE_TYPE_REQUEST, flags, None)
-}
-
-/// A data frame of a stream, without its payload.
-fn data_frame(alloc: Global, id: StreamId, flags: u8, ticket: Ticket) -> Queued
-    ensures { IsDataFrame id flags ticket result }
-{
-    stream_frame(alloc, id, MESSAGE_TYPE_DATA, flags, Some(ticket))
-}
-
-/// A frame of a stream, without its payload.
-fn stream_frame(alloc: Global, id: StreamId, type_: u8, flags: u8, ticket: Option<Ticket>) -> Queued
-    ensures { result ≡ record {
-      message = record { header = record { length = 0; stream_id = id; type_ = type_; flags = flags }; payload = [] };
-      ticket = ticket;
-      is_unary_request = false;
-      owner = id;
-    } }
-{
-    Queued {
-        message: GenMessage {
-            header: MessageHeader {
-                length: 0,
-                stream_id: id,
-                type_,
-                flags,
-            },
-            payload: Blob::new(alloc),
-        },
-        ticket,
-        is_unary_request: false,
-        owner: u64::from(id),
-    }
 }

@@ -29,6 +29,11 @@ kept_for Dropped things x = things
 abbrev pub with_thing : Mail → Thing → Bool → Mail
 with_thing m x ends = record { things = kept_for m.receiver m.things x; receiver = m.receiver; ended = m.ended || ends }
 
+-- the mailbox of a stream whose request brings this, which may be the last
+abbrev pub opened_with : Option Thing → Bool → Mail
+opened_with None ends = empty_mail
+opened_with (Some x) ends = with_thing empty_mail x ends
+
 -- nobody receives any more
 abbrev pub without_receiver : Mail → Mail
 without_receiver m = record { things = []; receiver = Dropped; ended = m.ended }

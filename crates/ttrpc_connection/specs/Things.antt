@@ -1,8 +1,8 @@
 -- What a data frame or a request brings for the receiver of a stream.
 -- Source: PROTOCOL.md of ttrpc, "Data" and "Streaming".
-use Rattle.std.specs.Prelude.{ℕ, List, [], ◌∷◌, ◌++◌, Bool, true, false, not, bit_and, nat_eq, codes, Option, Some, None}
+use Rattle.std.specs.Prelude.{◌&&◌, if◌then◌else◌, ℕ, List, [], ◌∷◌, ◌++◌, Bool, true, false, not, bit_and, nat_eq, codes, Option, Some, None}
 use Rattle.std.specs.Fmt.{decimal}
-use Rattle.ttrpc_frame.specs.declared.header.TheConstants.{FLAG_NO_DATA, FLAG_REMOTE_CLOSED}
+use Rattle.ttrpc_frame.specs.declared.header.TheConstants.{FLAG_NO_DATA, FLAG_REMOTE_CLOSED, FLAG_REMOTE_OPEN}
 use Rattle.ttrpc_proto.specs.declared.error.Error.TheVariants.{Others}
 use Rattle.ttrpc_connection.specs.Types.{Thing, Item, Last, End, Closing}
 
@@ -35,3 +35,12 @@ first_by true true payload = Some End
 -- what the request of a stream brings by itself, by its flags
 abbrev pub request_thing : ℕ → List ℕ → Option Thing
 request_thing flags payload = first_by (has_flag FLAG_REMOTE_CLOSED flags) (has_flag FLAG_NO_DATA flags) payload
+
+-- whether a request says that items come, has none itself, and says nothing of that
+abbrev pub is_bare : ℕ → List ℕ → Bool
+is_bare flags [] = has_flag FLAG_REMOTE_OPEN flags && not (has_flag FLAG_NO_DATA flags) && not (has_flag FLAG_REMOTE_CLOSED flags)
+is_bare flags (b ∷ bs) = false
+
+-- What it brings, by whether a bare one brings nothing. Peers written in Go mean it so, and by the letter it is an empty item.
+abbrev pub opening_thing : Bool → ℕ → List ℕ → Option Thing
+opening_thing bare flags payload = if bare && is_bare flags payload then None else request_thing flags payload

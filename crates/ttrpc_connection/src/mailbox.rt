@@ -1,7 +1,7 @@
 //! The things that came in for one receiver.
-ghost use Rattle.std.specs.Prelude.{◌≡◌, [], OnOk, OnErr};
+ghost use Rattle.std.specs.Prelude.{◌≡◌, [], IfOk, OnOk, OnErr};
 ghost use Rattle.ttrpc_connection.specs.Failure.{IsTold};
-ghost use Rattle.ttrpc_connection.specs.Mail.{Receives, empty_mail, past_error, with_thing, without_receiver};
+ghost use Rattle.ttrpc_connection.specs.Mail.{Receives, empty_mail, opened_with, past_error, with_thing, without_receiver};
 
 use crate::failure::Failure;
 use crate::thing::Thing;
@@ -50,6 +50,17 @@ impl Mailbox {
             receiver: Receiver::Open,
             ended: false,
         }
+    }
+
+    /// The mailbox of a stream whose request brings this thing, or none; `ends` says that it is the last.
+    pub fn opened(alloc: Global, thing: Option<Thing>, ends: bool) -> Result<Self, AllocError>
+        ensures { IfOk result (λ mailbox. mailbox ≡ opened_with thing ends) }
+    {
+        let mut mailbox = Mailbox::new(alloc);
+        if let Some(thing) = thing {
+            mailbox.put(thing, ends)?;
+        }
+        Ok(mailbox)
     }
 
     /// Whether nothing more is put in. Takes no memory.
@@ -154,7 +165,7 @@ impl Mailbox {
 }
 
 /// The error that is told where nothing is received any more.
-fn past(alloc: Global) -> Error
+pub fn past(alloc: Global) -> Error
     ensures { IsTold past_error result }
 {
     match Text::from_str(alloc, "Receive packet from Receiver error") {

@@ -1,9 +1,9 @@
 //! What comes in for a receiver, and what a frame or a request brings.
 ghost use Rattle.std.specs.Prelude.{◌≡◌, IfOk};
-ghost use Rattle.ttrpc_connection.specs.Things.{data_thing, request_thing, has_flag};
+ghost use Rattle.ttrpc_connection.specs.Things.{data_thing, has_flag, is_bare, opening_thing, request_thing};
 
 use std::alloc::{AllocError, Global};
-use ttrpc_frame::{FLAG_NO_DATA, FLAG_REMOTE_CLOSED};
+use ttrpc_frame::{FLAG_NO_DATA, FLAG_REMOTE_CLOSED, FLAG_REMOTE_OPEN};
 use ttrpc_proto::Error;
 use ttrpc_wire::{Blob, Text};
 
@@ -57,4 +57,25 @@ pub fn of_request(flags: u8, payload: Blob) -> Option<Thing>
         (true, false) => Some(Thing::End),
         (false, false) => None,
     }
+}
+
+/// What it brings, where a request that says nothing of a payload that it hasn't may bring nothing (`bare`). Takes no
+/// memory.
+pub fn of_opening(bare: bool, flags: u8, payload: Blob) -> Option<Thing>
+    ensures { result ≡ opening_thing bare flags payload }
+{
+    if bare && is_bare(flags, &payload) {
+        return None;
+    }
+    of_request(flags, payload)
+}
+
+/// Whether a request says that items come, has none itself, and says nothing of that.
+fn is_bare(flags: u8, payload: &Blob) -> bool
+    ensures { result ≡ is_bare flags payload.now }
+{
+    payload.len() == 0
+        && flags & FLAG_REMOTE_OPEN != 0
+        && flags & FLAG_NO_DATA == 0
+        && !closes(flags)
 }

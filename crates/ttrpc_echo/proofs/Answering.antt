@@ -15,7 +15,7 @@ use Rattle.ttrpc_connection.specs.Frames.{header_of_frame}
 use Rattle.ttrpc_connection.proofs.Feeding.{fed_twice, nothing_taken}
 use Rattle.ttrpc_connection.proofs.Holding.{fed_some}
 use Rattle.ttrpc_server.specs.declared.server.ServerCore.{ServerCore}
-use Rattle.ttrpc_server.specs.Table.{status_response, Row, Ignore, SendResponse, SendCode, MakeJob, sync_row}
+use Rattle.ttrpc_server.specs.Table.{status_response, Row, Ignore, SendResponse, SendCode, MakeJob, MakeStream, PutIn, sync_row}
 use Rattle.ttrpc_echo.specs.Echo.{AreAnswers, Says, echo_of, echo_services, plainly, said_bytes}
 use Rattle.ttrpc_echo.specs.Answered.{AnsweredAll, Fails, IsCause, StopsEarly}
 use Rattle.ttrpc_echo.specs.Serving.{IsFresh, IsReady, IsStop, Serves, WritesOut}
@@ -29,6 +29,8 @@ says_some Ignore = (None, refl)
 says_some (SendResponse r) = (Some r, refl)
 says_some (SendCode code) = (Some (status_response code []), (status_response code [], ([], refl), refl))
 says_some (MakeJob request) = (Some (echo_of request), refl)
+says_some (MakeStream request) = (None, refl)
+says_some (PutIn payload) = (None, refl)
 
 answers_some : (fs : List Incoming) → (bytes : List ℕ) × AreAnswers fs bytes
 answers_some [] = ([], refl)

@@ -1,5 +1,5 @@
 -- One frame, fed to the echo and answered.
-use Rattle.std.proofs.Common.{◌≡◌, inl, inr, ℕ, ◌+◌, ◌≤◌, List, [], ◌∷◌, ◌++◌, length, drop, refl, sym, ap, subst, ◌∙◌, Option, Some, None, false, arith, length-append, append_assoc, take}
+use Rattle.std.proofs.Common.{◌≡◌, inl, inr, ℕ, ◌+◌, ◌≤◌, List, [], ◌∷◌, ◌++◌, length, drop, refl, sym, ap, subst, ◌∙◌, Option, Some, None, true, false, arith, length-append, append_assoc, take}
 use Rattle.std.proofs.lemmas.Option.{same_Some}
 use Rattle.std.proofs.lemmas.List.{append-nil, drop-append-le, take-append-drop}
 use Rattle.std.proofs.lemmas.Grind.{flat_map-append}
@@ -26,13 +26,13 @@ use Rattle.ttrpc_connection.proofs.Feeding.{fed_twice, nothing_taken}
 use Rattle.ttrpc_server.specs.declared.job.ActiveJob.{ActiveJob}
 use Rattle.ttrpc_server.specs.declared.server.ServerCore.{ServerCore}
 use Rattle.ttrpc_server.specs.Protocol.{Does, serving, IsResponseFrame, SendsOwnAnswer, Responds, fit_to_limit, response_bytes, row_of}
-use Rattle.ttrpc_server.specs.Table.{Row, Ignore, SendResponse, SendCode, MakeJob, case_of, case_row, request_row, sync_row}
+use Rattle.ttrpc_server.specs.Table.{Row, Ignore, SendResponse, SendCode, MakeJob, MakeStream, PutIn, case_of, case_row, request_row, sync_row}
 use Rattle.ttrpc_server.specs.declared.rows.Case.{Case}
 use Rattle.ttrpc_server.specs.declared.rows.Case.TheVariants.{Asks}
 use Rattle.ttrpc_server.specs.declared.rows.Inlet.TheVariants.{Absent}
 use Rattle.ttrpc_server.specs.declared.rules.Rules.{Rules}
 use Rattle.ttrpc_server.specs.declared.rules.Rules.TheVariants.{Sync}
-use Rattle.ttrpc_server.proofs.Streams.{row_of_sync}
+use Rattle.ttrpc_server.proofs.Streams.{is_of_streams, no_streams, row_of_sync, rules_stay}
 use Rattle.ttrpc_server.specs.State.{NoneWaits, new_job, told_left, unary_body, with_job, Services, Server}
 use Rattle.ttrpc_echo.specs.Echo.{AreAnswers, HasEcho, IsAnswer, Says, echo_of, echo_services, framed, plainly, said_bytes}
 use Rattle.ttrpc_echo.specs.Serving.{plain_in, plain_out, IsReady, Echoes, Serves}
@@ -201,6 +201,8 @@ done_row now (SendCode code) f old mid new sent ready is does sends alive echoes
 done_row now (MakeJob request) f old mid new sent ready is does sends alive echoes =
     let quiet : mid.connection.outbox ≡ old.connection.outbox = subst (λ (xs : List Sent). SendsAll plain_out old.connection.outbox xs mid.connection.outbox) does.1 sends in
     done_known now f request old mid new ready (subst (λ (x : Row). Says x (Some (echo_of request))) is refl) does.0 quiet alive echoes
+done_row now (MakeStream request) f old mid new sent ready is does sends alive echoes = absurd (let none : true ≡ false = ap is_of_streams is ∙ no_streams echo_services (header_of_frame f) (plainly f) in cc)
+done_row now (PutIn payload) f old mid new sent ready is does sends alive echoes = absurd (let none : true ≡ false = ap is_of_streams is ∙ no_streams echo_services (header_of_frame f) (plainly f) in cc)
 
 -- the table asks of services for their methods alone
 same_request : (s : Services) (r : Option Request) → HasEcho s → request_row Sync s r ≡ request_row Sync echo_services r
@@ -221,6 +223,13 @@ done_frame now f old mid new ready alive acts echoes =
     let row : row_of old.state (arrived f acts.opening now) ≡ sync_row echo_services (header_of_frame f) (plainly f) =
     row_of_sync old.state (arrived f acts.opening now) ready.rules ∙ ap (λ o. sync_row old.state.services (header_of_frame f) o) opening ∙ same_row old.state.services (header_of_frame f) (plainly f) ready.services in
     done_row now (row_of old.state (arrived f acts.opening now)) f old mid new acts.sent ready row acts.reacts acts.sends alive echoes
+
+-- a front was fed, under the same rules
+pub fed_rules : (now : ℕ) (o : Option Incoming) (old mid : ServerCore Plain Plain) → ActsAll (serving plain_out plain_in) now (scene old.state old.connection) (given o) (scene mid.state mid.connection) → mid.state.rules ≡ old.state.rules
+fed_rules now None old mid acts = ap (λ (c : Scene Server Plain Plain). c.state.rules) acts
+fed_rules now (Some f) old mid acts =
+    let one = acts.1 in
+    ap (λ (c : Scene Server Plain Plain). c.state.rules) acts.2 ∙ rules_stay plain_out (row_of old.state (arrived f one.opening now)) old.state old.connection.outbox.half (header_of_frame f) now one.sent acts.0.state one.reacts
 
 -- a front was fed, and the job that it made is echoed
 pub one_front : (now : ℕ) (o : Option Incoming) (old mid new : ServerCore Plain Plain) (front : List ℕ) → IsReady old → mid.connection.failure ≡ None → Fed old.connection.decoder front (given o) mid.connection.decoder

@@ -18,9 +18,10 @@ use Rattle.ttrpc_server.specs.declared.job.ActiveJob.{ActiveJob}
 use Rattle.ttrpc_server.specs.declared.job.Job.{Job}
 use Rattle.ttrpc_server.specs.declared.server.ServerCore.{ServerCore}
 use Rattle.ttrpc_server.specs.Protocol.{Does, Hands, serving, IsUnsent, RefusesAnswer, fit_to_message, row_of}
-use Rattle.ttrpc_server.specs.Table.{Row, Ignore, SendResponse, SendCode, MakeJob}
+use Rattle.ttrpc_server.specs.Table.{Row, Ignore, SendResponse, SendCode, MakeJob, MakeStream, PutIn}
 use Rattle.ttrpc_server.specs.declared.rules.Rules.{Rules}
-use Rattle.ttrpc_server.specs.State.{IsUnknown, Server, takes_on}
+use Rattle.ttrpc_server.specs.declared.rules.Rules.TheVariants.{Sync}
+use Rattle.ttrpc_server.specs.State.{IsNoUnary, IsUnknown, Server, takes_on}
 use Rattle.ttrpc_echo.specs.Serving.{plain_in, plain_out, IsReady, IsStop, Serves, UsesUp}
 use Rattle.ttrpc_echo.proofs.Limits.{fitted_fits}
 use Rattle.ttrpc_echo.proofs.Echoing.{some_is_not_none}
@@ -35,6 +36,8 @@ does_count Ignore old o header now sent new does = same_last old new does.0
 does_count (SendResponse r) old o header now sent new does = same_last old new does.0
 does_count (SendCode code) old o header now sent new does = same_last old new does.0
 does_count (MakeJob request) old o header now sent new does = omega (arith, ap (λ (s : Server). s.jobs.last) does.0)
+does_count (MakeStream request) old o header now sent new does = omega (arith, ap (λ (s : Server). s.jobs.last) does.0)
+does_count (PutIn payload) old o header now sent new does = omega (arith, ap (λ (s : Server). s.jobs.last) does.0)
 
 acts_count : (now : ℕ) (fs : List Incoming) (old new : Scene Server Plain Plain) → ActsAll (serving plain_out plain_in) now old fs new → new.state.jobs.last ≤ old.state.jobs.last + length fs
 acts_count now [] old new acts = omega (arith, ap (λ (c : Scene Server Plain Plain). c.state.jobs.last) acts)
@@ -117,10 +120,12 @@ unsent_is_memory rules s k r told (inr (inl unsealed)) = absurd unsealed.1.refus
 unsent_is_memory rules s k r told (inr (inr memory)) = memory
 
 -- the echo of a job that was just handed out is refused for want of memory alone
-pub refused_is_memory : (old mid : ServerCore Plain Plain) (job : Job) (response : Result Response Error) (told : Error) → Hands old job mid
+pub refused_is_memory : (old mid : ServerCore Plain Plain) (job : Job) (response : Result Response Error) (told : Error) → old.state.rules ≡ Sync → Hands old job mid
     → RefusesAnswer plain_out mid job.id response told → told ≡ NoMemory
-refused_is_memory old mid job response told hands (inl failed) =
+refused_is_memory old mid job response told sync hands (inl failed) =
     let alive : mid.connection.failure ≡ None = ap (λ (c : ServerCore Plain Plain). c.connection.failure) hands.same ∙ hands.alive in
     absurd (some_is_not_none failed.why (sym failed.is ∙ alive))
-refused_is_memory old mid job response told hands (inr (inl gone)) = absurd (handed_is_known old mid job hands gone.unknown)
-refused_is_memory old mid job response told hands (inr (inr unsent)) = unsent_is_memory mid.state.rules mid.connection.outbox.half unsent.job.header.stream_id unsent.answer told unsent.unsent
+refused_is_memory old mid job response told sync hands (inr (inl gone)) =
+    let rules : mid.state.rules ≡ Sync = ap (λ (c : ServerCore Plain Plain). c.state.rules) hands.same ∙ sync in
+    absurd (handed_is_known old mid job hands (subst (λ r. IsNoUnary r mid.state.jobs.list job.id) rules gone.unknown))
+refused_is_memory old mid job response told sync hands (inr (inr unsent)) = unsent_is_memory mid.state.rules mid.connection.outbox.half unsent.job.header.stream_id unsent.answer told unsent.unsent

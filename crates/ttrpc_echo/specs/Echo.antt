@@ -1,6 +1,6 @@
 -- What the program answers to frames, one after the other.
 -- Source: PROTOCOL.md of ttrpc, "Request" and "Response".
-use Rattle.std.specs.Prelude.{◌≡◌, ℕ, ◌%◌, ◌^◌, List, [], ◌∷◌, ◌++◌, length, codes, Option, Some, None}
+use Rattle.std.specs.Prelude.{◌≡◌, ℕ, ◌%◌, ◌^◌, List, [], ◌∷◌, ◌++◌, length, codes, false, Option, Some, None}
 use Rattle.ttrpc_frame.specs.declared.header.TheConstants.{MESSAGE_LENGTH_MAX, MESSAGE_TYPE_RESPONSE}
 use Rattle.ttrpc_proto.specs.declared.request.Request.{Request}
 use Rattle.ttrpc_proto.specs.declared.response.Response.{Response}
@@ -13,11 +13,11 @@ use Rattle.ttrpc_connection.specs.declared.arrived.Opening.TheVariants.{TooLong,
 use Rattle.ttrpc_connection.specs.Frames.{header_of_frame}
 use Rattle.ttrpc_server.specs.State.{Services, has_method}
 use Rattle.ttrpc_server.specs.Protocol.{IsStatusResponse, fit_to_limit, response_bytes}
-use Rattle.ttrpc_server.specs.Table.{Row, Ignore, SendResponse, SendCode, MakeJob, sync_row}
+use Rattle.ttrpc_server.specs.Table.{Row, Ignore, SendResponse, SendCode, MakeJob, MakeStream, PutIn, sync_row}
 
 -- the one service
 abbrev pub echo_services : Services
-echo_services = record { methods = (codes "demo.Echo", codes "Echo" ∷ []) ∷ []; streams = [] }
+echo_services = record { methods = (codes "demo.Echo", codes "Echo" ∷ []) ∷ []; streams = []; bare_openings = false }
 
 -- these have its method, and no other
 abbrev pub HasEcho : Services → Type 0
@@ -38,6 +38,8 @@ Says Ignore said = said ≡ None
 Says (SendResponse r) said = said ≡ Some r
 Says (SendCode code) said = (r : Response) × IsStatusResponse code r × (said ≡ Some r)
 Says (MakeJob request) said = said ≡ Some (echo_of request)
+Says (MakeStream request) said = said ≡ None
+Says (PutIn payload) said = said ≡ None
 
 -- a payload in a response frame of stream k
 abbrev pub framed : ℕ → List ℕ → List ℕ

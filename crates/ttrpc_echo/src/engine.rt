@@ -107,7 +107,8 @@ pub fn echo(alloc: Global, request: Request) -> Response
 
 /// Answers the job that waits, if there is one.
 fn echo_next(alloc: Global, core: &mut EchoCore) -> Result<(), Error>
-    requires { core.old.connection.failure ≡ None }
+    requires alive { core.old.connection.failure ≡ None }
+    requires rules { core.old.state.rules ≡ Rules.Sync }
     ensures ok { OnOk result (Echoes core.old core.new) }
     ensures err { IfErr result (λ e. e ≡ NoMemory) }
 {

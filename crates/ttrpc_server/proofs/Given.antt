@@ -1,6 +1,6 @@
 -- What lasts through every list of calls: the ids of jobs rise, a stream's id has one active job under async rules, and a
 -- job that was given or expired is never given.
-use Rattle.ttrpc_server.proofs.Words.{arith, inl, inr, ◌≡◌, ◌≢◌, ◌≤◌, ◌∙◌, ℕ, nat_eq, List, [], ◌∷◌, ◌++◌, Option, Some, None, is_some, true, false, refl, sym, ap, subst, AllByRecursion, all_joined, all_less, OutboundTransform, Connection, Happening, ActiveJob, Arrived, Async, Job, MessageHeader, Outbox, Rules, Sent, HandsOne, IsJob, NoneWaits, Rising, Server, jobs_at, with_list, Does, Row, MakeJob, row_of, ExpireAll, serving, Served, Took, served, Request}
+use Rattle.ttrpc_server.proofs.Words.{arith, inl, inr, ◌≡◌, ◌≢◌, ◌≤◌, ◌∙◌, ℕ, nat_eq, List, [], ◌∷◌, ◌++◌, Option, Some, None, is_some, true, false, refl, sym, ap, subst, AllByRecursion, all_joined, all_less, OutboundTransform, Connection, Happening, ActiveJob, Arrived, Async, Job, MessageHeader, Outbox, Rules, Sent, HandsOne, IsJob, NoneWaits, Rising, Server, jobs_at, with_list, Does, Row, MakeJob, row_of, ExpireAll, serving, Served, Took, served}
 use Rattle.std.specs.Prelude.{◌⊎◌, ◌↔◌}
 use Rattle.std.specs.List.{IsDistinct}
 use Rattle.ttrpc_connection.specs.Calls.{Call, Calls, Did, Runs}
@@ -8,9 +8,10 @@ use Rattle.ttrpc_connection.proofs.Words.{InboundTransform, all_at, all_changed,
 use Rattle.ttrpc_server.specs.declared.server.ServerCore.{ServerCore}
 use Rattle.ttrpc_server.specs.Calls.{Performs, WaitsNot, core, given_by, ids_given}
 use Rattle.ttrpc_server.specs.Kept.{AreSingle}
-use Rattle.ttrpc_server.specs.Table.{answer_row, case_answer, case_of, case_row, inlet_of}
-use Rattle.ttrpc_server.specs.State.{Services}
-use Rattle.ttrpc_server.specs.Types.{Case, Asks, Skipped, Oversize, Unopened, EvenId, Inactive, InUse, Response}
+use Rattle.ttrpc_server.specs.Table.{answer_row, case_answer, case_of, case_row, inlet_of, makes_job, MakeStream, PutIn}
+use Rattle.ttrpc_server.specs.State.{Services, brought_by, changed_at, changed_under}
+use Rattle.ttrpc_server.proofs.Mapped.{at_stays, rising_mapped, single_mapped, under_stays, waits_not_mapped}
+use Rattle.ttrpc_server.specs.Types.{Case, Asks, PutsIn, Skipped, Oversize, Unopened, EvenId, Inactive, InUse, Response}
 use Rattle.ttrpc_server.proofs.Keyed.{at_most, before_it, one_less}
 use Rattle.ttrpc_server.proofs.Kept.{asks_where_absent, none_of_absent, single_ended, single_handed, single_made}
 use Rattle.ttrpc_server.proofs.Rising.{frame_keeps, taking_keeps}
@@ -28,11 +29,14 @@ rising_lasts out = record {
   ends = λ old id job at rising. one_less 0 old.jobs.last at.front at.back job (rw at.is at rising);
   told = λ old expired rising. rising;
   drains = λ old rising. rising;
+  mails = λ old id change rising. rising_mapped (changed_at id change) (at_stays id change) 0 old.jobs.last old.jobs.list rising;
+  hears = λ old heard rising. rising;
 }
 
 row_counts : {O : Type 0} (out : OutboundTransform O) (row : Row) (old : Server) (o : O) (header : MessageHeader) (now : ℕ) (sent : List Sent) (new : Server) (n : ℕ) → Does out row old o header now sent new
     → n ≤ old.jobs.last → n ≤ new.jobs.last
 row_counts out (MakeJob request) old o header now sent new n does le = let is = ap (λ (s : Server). s.jobs.last) does.0 in omega (arith, is, le)
+row_counts out (MakeStream request) old o header now sent new n does le = let is = ap (λ (s : Server). s.jobs.last) does.0 in omega (arith, is, le)
 row_counts out row old o header now sent new n does le = rw does.0 le
 
 pub count_lasts : {O : Type 0} (out : OutboundTransform O) (n : ℕ) → Lasts out (λ (s : Server). n ≤ s.jobs.last)
@@ -42,27 +46,30 @@ count_lasts out n = record {
   ends = λ old id job at le. le;
   told = λ old expired le. le;
   drains = λ old le. le;
+  mails = λ old id change le. le;
+  hears = λ old heard le. le;
 }
 
 -- ---- one active job an id
 
-answers_make_none : (r : Option Response) (request : Request) → answer_row r ≡ MakeJob request → ⊥
-answers_make_none None request is = cc
-answers_make_none (Some r) request is = cc
+answers_make_none : (r : Option Response) → makes_job (answer_row r) ≡ true → ⊥
+answers_make_none None is = cc
+answers_make_none (Some r) is = cc
 
-made_by_asking : (r : Rules) (services : Services) (h : MessageHeader) (case : Case) (request : Request) → case_row r services h case ≡ MakeJob request → (plain : List ℕ) × (case ≡ Asks plain)
-made_by_asking r services h (Asks plain) request is = (plain, refl)
-made_by_asking r services h Skipped request is = absurd (answers_make_none (case_answer h Skipped) request is)
-made_by_asking r services h (Oversize n) request is = absurd (answers_make_none (case_answer h (Oversize n)) request is)
-made_by_asking r services h (Unopened why) request is = absurd (answers_make_none (case_answer h (Unopened why)) request is)
-made_by_asking r services h EvenId request is = absurd (answers_make_none (case_answer h EvenId) request is)
-made_by_asking r services h Inactive request is = absurd (answers_make_none (case_answer h Inactive) request is)
-made_by_asking r services h InUse request is = absurd (answers_make_none (case_answer h InUse) request is)
+made_by_asking : (r : Rules) (services : Services) (h : MessageHeader) (case : Case) → makes_job (case_row r services h case) ≡ true → (plain : List ℕ) × (case ≡ Asks plain)
+made_by_asking r services h (Asks plain) is = (plain, refl)
+made_by_asking r services h (PutsIn plain) is = cc
+made_by_asking r services h Skipped is = absurd (answers_make_none (case_answer h Skipped) is)
+made_by_asking r services h (Oversize n) is = absurd (answers_make_none (case_answer h (Oversize n)) is)
+made_by_asking r services h (Unopened why) is = absurd (answers_make_none (case_answer h (Unopened why)) is)
+made_by_asking r services h EvenId is = absurd (answers_make_none (case_answer h EvenId) is)
+made_by_asking r services h Inactive is = absurd (answers_make_none (case_answer h Inactive) is)
+made_by_asking r services h InUse is = absurd (answers_make_none (case_answer h InUse) is)
 
-free_where_made : (s : Server) (a : Arrived) (request : Request) → s.rules ≡ Async → row_of s a ≡ MakeJob request → jobs_at s.jobs.list a.header.stream_id ≡ []
-free_where_made s a request async is =
+free_where_made : (s : Server) (a : Arrived) → s.rules ≡ Async → makes_job (row_of s a) ≡ true → jobs_at s.jobs.list a.header.stream_id ≡ []
+free_where_made s a async is =
     let inlet = inlet_of (jobs_at s.jobs.list a.header.stream_id) in
-    let asks : (plain : List ℕ) × (case_of s.rules a.header a.opening inlet ≡ Asks plain) = made_by_asking s.rules s.services a.header (case_of s.rules a.header a.opening inlet) request is in
+    let asks : (plain : List ℕ) × (case_of s.rules a.header a.opening inlet ≡ Asks plain) = made_by_asking s.rules s.services a.header (case_of s.rules a.header a.opening inlet) is in
     none_of_absent (jobs_at s.jobs.list a.header.stream_id) (asks_where_absent a.header a.opening inlet asks.0 (subst (λ r. case_of r a.header a.opening inlet ≡ Asks asks.0) async asks.1))
 
 abbrev pub HasSingle : Server → Type 0
@@ -70,7 +77,12 @@ HasSingle s = (s.rules ≡ Async) × AreSingle s.jobs.list
 
 row_single : {O : Type 0} (out : OutboundTransform O) (row : Row) (old : Server) (o : O) (a : Arrived) (sent : List Sent) (new : Server) → row_of old a ≡ row → Does out row old o a.header a.now sent new → HasSingle old → HasSingle new
 row_single out (MakeJob request) old o a sent new is does single =
-    (ap (λ (s : Server). s.rules) does.0 ∙ single.0, rw does.0 (single_made old.jobs.list _ single.1 (free_where_made old a request single.0 is)))
+    (ap (λ (s : Server). s.rules) does.0 ∙ single.0, rw does.0 (single_made old.jobs.list _ single.1 (free_where_made old a single.0 (ap makes_job is))))
+row_single out (MakeStream request) old o a sent new is does single =
+    (ap (λ (s : Server). s.rules) does.0 ∙ single.0, rw does.0 (single_made old.jobs.list _ single.1 (free_where_made old a single.0 (ap makes_job is))))
+row_single out (PutIn payload) old o a sent new is does single =
+    let change = brought_by a.header payload in
+    (ap (λ (s : Server). s.rules) does.0 ∙ single.0, rw does.0 (single_mapped (changed_under a.header.stream_id change) (under_stays a.header.stream_id change) old.jobs.list single.1))
 row_single out row old o a sent new is does single = rw does.0 single
 
 pub single_lasts : {O : Type 0} (out : OutboundTransform O) → Lasts out HasSingle
@@ -80,6 +92,8 @@ single_lasts out = record {
   ends = λ old id job at single. (single.0, single_ended old.jobs.list id job at single.1);
   told = λ old expired single. single;
   drains = λ old single. single;
+  mails = λ old id change single. (single.0, single_mapped (changed_at id change) (at_stays id change) old.jobs.list single.1);
+  hears = λ old heard single. single;
 }
 
 -- ---- a job that doesn't wait
@@ -92,6 +106,12 @@ row_past : {O : Type 0} (out : OutboundTransform O) (row : Row) (old : Server) (
 row_past out (MakeJob request) old o header now sent new id does past =
     let le = past.0 in
     rw does.0 (omega (arith, le), all_joined (λ (j : ActiveJob). j.id ≡ id → j.request ≡ None) old.jobs.list _ past.1 ((λ same. absurd (omega (arith, same, le))), tt))
+row_past out (MakeStream request) old o header now sent new id does past =
+    let le = past.0 in
+    rw does.0 (omega (arith, le), all_joined (λ (j : ActiveJob). j.id ≡ id → j.request ≡ None) old.jobs.list _ past.1 ((λ same. absurd (omega (arith, same, le))), tt))
+row_past out (PutIn payload) old o header now sent new id does past =
+    let change = brought_by header payload in
+    rw does.0 (past.0, waits_not_mapped (changed_under header.stream_id change) (under_stays header.stream_id change) id old.jobs.list past.1)
 row_past out row old o header now sent new id does past = rw does.0 past
 
 pub past_lasts : {O : Type 0} (out : OutboundTransform O) (id : ℕ) → Lasts out (IsPast id)
@@ -105,6 +125,8 @@ past_lasts out id = record {
   ends = λ old k job at past. (past.0, all_less (λ (j : ActiveJob). j.id ≡ id → j.request ≡ None) at.front at.back job (subst (WaitsNot id) at.is past.1));
   told = λ old expired past. past;
   drains = λ old past. past;
+  mails = λ old k change past. (past.0, waits_not_mapped (changed_at k change) (at_stays k change) id old.jobs.list past.1);
+  hears = λ old heard past. past;
 }
 
 -- no other job has the id of one

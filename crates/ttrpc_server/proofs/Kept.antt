@@ -1,18 +1,20 @@
 -- What finds jobs goes on to find them, through each change of the jobs.
-use Rattle.ttrpc_server.proofs.Words.{rules, arith, inl, inr, ◌≡◌, ◌≢◌, ◌<◌, ◌≤◌, ◌&&◌, ℕ, ◌+◌, nat_eq, nat_cmp, is_at, List, [], ◌∷◌, ◌++◌, length, list_any, Option, Some, None, Bool, true, false, refl, sym, ap, subst, ◌∙◌, pushed_own, pushed_other, between_own, between_other, under_both, Request, ActiveJob, Job, Rules, Async, HandsOne, IsJob, IsTaken, jobs_at, Rising, deadline_in, AreSingle, Finds, FindsTheSame, Indexed, IsKept, Loses, first_id, is_due_at, job_found}
-use Rattle.std.proofs.Common.{◌||◌}
+use Rattle.ttrpc_server.proofs.Words.{rules, arith, inl, inr, ◌≡◌, ◌≢◌, ◌<◌, ◌≤◌, ◌&&◌, ℕ, ◌+◌, nat_eq, nat_cmp, is_at, List, [], ◌∷◌, ◌++◌, length, list_any, Option, Some, None, Bool, true, false, refl, sym, ap, subst, ◌∙◌, pushed_own, pushed_other, between_own, between_other, under_both, Request, ActiveJob, Job, Rules, Async, Sync, all_joined, all_less, HandsOne, IsJob, IsTaken, jobs_at, Rising, deadline_in, AreSingle, Finds, FindsTheSame, Indexed, IsKept, Loses, first_id, is_due_at, job_found}
+use Rattle.std.proofs.Common.{◌||◌, cond}
 use Rattle.std.proofs.lemmas.List.Folds.{list_any-append}
 use Rattle.std.proofs.lemmas.Map.Lookups.{exact_unsigned}
 use Rattle.ttrpc_connection.specs.Deadlines.{ChangesTo, has_deadline, is_moment}
 use Rattle.ttrpc_connection.proofs.Words.{if◌then◌else◌, cases_eq, eqb-true, length-append, ne_eqb, Equal-is, cases_Bool}
+use Rattle.ttrpc_connection.proofs.Lists.{all_at}
 use Rattle.ttrpc_server.proofs.Keyed.{at_most, before_it}
 use Rattle.ttrpc_server.proofs.Streams.{stream_id_of}
 use Rattle.std.proofs.Common.{IfSome, IfNone}
 use Rattle.ttrpc_connection.specs.declared.arrived.Opening.{Opening}
-use Rattle.ttrpc_server.specs.Kept.{no_index}
-use Rattle.ttrpc_server.specs.State.{Services}
-use Rattle.ttrpc_server.specs.Table.{answer_row, asked_answer, asked_row, case_answer, case_of, case_row, inlet_of}
-use Rattle.ttrpc_server.specs.Types.{MessageHeader, TooLong, Refused, Opened, Inlet, Absent, Busy, Case, Skipped, EvenId, Inactive, InUse, Asks, Asked, Call}
+use Rattle.ttrpc_server.specs.Kept.{AreUnary, no_index}
+use Rattle.std.specs.Option.{option_map, unwrap_or}
+use Rattle.ttrpc_server.specs.State.{IsNoUnary, Services, is_stream, job_at}
+use Rattle.ttrpc_server.specs.Table.{answer_row, asked_answer, asked_row, case_answer, case_of, case_row, inlet_by, inlet_in, inlet_of}
+use Rattle.ttrpc_server.specs.Types.{MessageHeader, TooLong, Refused, Opened, Inlet, Absent, Busy, Full, Taking, Case, Skipped, EvenId, Inactive, InUse, Asks, PutsIn, Asked, Call, Chat, Body, Stream, Unary, Receiver, Open, Closed, Broken, Dropped}
 
 -- ---- one change of what finds them
 
@@ -68,6 +70,9 @@ due_around at id front back job =
 
 -- ---- a job is made
 
+pub no_two : {r : Rules} → r ≡ Async → r ≡ Sync → ⊥
+no_two {r} async sync = let both : Async ≡ Sync = sym async ∙ sync in cc
+
 first_of_none : (js : List ActiveJob) → first_id js ≡ None → js ≡ []
 first_of_none [] none = refl
 first_of_none (j ∷ js) none = cc
@@ -103,14 +108,16 @@ kept_made r index mid list last job kept rising next free async finds = record {
   deadlines = fresh_due index mid list last job rising next kept.deadlines finds.deadlines;
   single = λ is. single_made list job (kept.single is) (free is);
   found = λ is. found_made index mid list job (deadline_in job.body) (free is) (kept.found is) finds;
+  unary = λ sync. absurd (no_two async sync);
 }
 
--- under sync rules, without a deadline
-pub kept_plainly : (r : Rules) (index : Indexed) (list : List ActiveJob) (job : ActiveJob) → IsKept r list index → deadline_in job.body ≡ None → (r ≡ Async → ⊥) → IsKept r (list ++ job ∷ []) index
+-- under sync rules, of one response and without a deadline
+pub kept_plainly : (r : Rules) (index : Indexed) (list : List ActiveJob) (job : ActiveJob) → IsKept r list index → job.body ≡ Unary None → (r ≡ Async → ⊥) → IsKept r (list ++ job ∷ []) index
 kept_plainly r index list job kept none sync = record {
   deadlines = λ at id. kept.deadlines at id ∙ sym (list_any-append (is_job_due at id) list (job ∷ []) ∙ rw none (by (is_due_at list at id) (nat_eq id job.id)));
   single = λ is. absurd (sync is);
   found = λ is. absurd (sync is);
+  unary = λ is. all_joined (λ (j : ActiveJob). is_stream j.body ≡ false) list (job ∷ []) (kept.unary is) (rw none refl, tt);
 }
   where
     by : (b e : Bool) → (b || ((e && false) || false)) ≡ b
@@ -124,6 +131,7 @@ kept_same r index new list kept same = record {
   deadlines = λ at id. same.deadlines at id ∙ kept.deadlines at id;
   single = kept.single;
   found = λ is k. same.streams k ∙ kept.found is k;
+  unary = kept.unary;
 }
 
 -- a job that would have been made is found no more
@@ -172,6 +180,11 @@ single_handed old new handed single h k =
     rw h.jobs (subst (λ n. n ≤ 1)
     (of_id_changed (λ xs ys. length xs ≡ length ys) k h.front h.back h.job (record h.job { request = None }) refl (same_length (jobs_at h.front k) (jobs_at h.back k) h.job (record h.job { request = None })) refl) (rw h.was at few))
 
+-- where one of them is changed but for whether it is a stream's
+unary_changed : (front back : List ActiveJob) (job other : ActiveJob) → is_stream other.body ≡ is_stream job.body → AreUnary (front ++ job ∷ back) → AreUnary (front ++ other ∷ back)
+unary_changed [] back job other same h = (same ∙ h.0, h.1)
+unary_changed (x ∷ front) back job other same h = (h.0, unary_changed front back job other same h.1)
+
 pub kept_handed : (r : Rules) (index : Indexed) (old new : List ActiveJob) (handed : Job) → IsKept r old index → HandsOne old handed new → IsKept r new index
 kept_handed r index old new handed kept h =
     let taken = record h.job { request = None } in
@@ -180,6 +193,7 @@ kept_handed r index old new handed kept h =
       single = λ is. single_handed old new handed (kept.single is) h;
       found = λ is k. rw h.jobs (kept.found is k ∙ rw h.was
           (of_id_changed (λ xs ys. first_id xs ≡ first_id ys) k h.front h.back h.job taken refl (same_first (jobs_at h.front k) (jobs_at h.back k) h.job taken refl) refl));
+      unary = λ is. rw h.jobs (unary_changed h.front h.back h.job taken refl (subst AreUnary h.was (kept.unary is)));
     }
 
 -- ---- a job is gone
@@ -224,10 +238,18 @@ kept_ended r index new list last id job at kept rising loses = record {
     | inl here ↦ rw (here, alone list id job at (kept.single is)) loses.own
     | inr apart ↦ rw (elsewhere list id job at k apart) (loses.others k apart ∙ kept.found is k)
   ];
+  unary = λ is. all_less (λ (j : ActiveJob). is_stream j.body ≡ false) at.front at.back job (subst AreUnary at.is (kept.unary is));
 }
 
+-- a stream's job that was taken is of async rules, and no job of one response
+pub no_unary : (r : Rules) (jobs : List ActiveJob) (index : Indexed) (id : ℕ) (job : ActiveJob) → IsKept r jobs index → IsTaken jobs id job → is_stream job.body ≡ true → IsNoUnary r jobs id
+no_unary Async jobs index id job kept at stream = inr (job, at, stream)
+no_unary Sync jobs index id job kept at stream =
+    let plain : is_stream job.body ≡ false = all_at (λ (j : ActiveJob). is_stream j.body ≡ false) at.front at.back job (subst AreUnary at.is (kept.unary refl)) in
+    absurd (let none : true ≡ false = sym stream ∙ plain in cc)
+
 pub kept_none : (r : Rules) → IsKept r [] no_index
-kept_none r = record { deadlines = λ at id. refl; single = λ is k. omega arith; found = λ is k. refl }
+kept_none r = record { deadlines = λ at id. refl; single = λ is k. omega arith; found = λ is k. refl; unary = λ is. tt }
 
 pub none_weaker : {T P Q : Type 0} (r : Option T) → (P → Q) → IfNone r P → IfNone r Q
 none_weaker None f h = f h
@@ -256,37 +278,85 @@ pub inlet_absent : (js : List ActiveJob) → first_id js ≡ None → Absent ≡
 inlet_absent [] none = refl
 inlet_absent (j ∷ js) none = cc
 
-pub inlet_busy : (js : List ActiveJob) (id : ℕ) → first_id js ≡ Some id → Busy ≡ inlet_of js
-inlet_busy [] id some = cc
-inlet_busy (j ∷ js) id some = refl
+-- the first job of a stream's id is found under its own
+pub first_above : (low high k : ℕ) (js : List ActiveJob) (j : ActiveJob) (rest : List ActiveJob) → Rising low js high → jobs_at js k ≡ j ∷ rest → low < j.id
+first_above low high k [] j rest rising is = cc
+first_above low high k (x ∷ xs) j rest rising is = by (nat_eq x.header.stream_id k) is (first_above x.id high k xs j rest rising.1)
+  where
+    by : (t : Bool) → cond t (x ∷ jobs_at xs k) (jobs_at xs k) ≡ j ∷ rest → (jobs_at xs k ≡ j ∷ rest → x.id < j.id) → low < j.id
+    by true is more = let same : x ≡ j = cc in subst (λ (y : ActiveJob). low < y.id) same rising.0
+    by false is more = omega (arith, rising.0, more is)
+
+first_found : (low high k : ℕ) (js : List ActiveJob) (j : ActiveJob) (rest : List ActiveJob) → Rising low js high → jobs_at js k ≡ j ∷ rest → job_at js j.id ≡ Some j
+first_found low high k [] j rest rising is = cc
+first_found low high k (x ∷ xs) j rest rising is = by (nat_eq x.header.stream_id k) is (first_found x.id high k xs j rest rising.1)
+  where
+    by : (t : Bool) → cond t (x ∷ jobs_at xs k) (jobs_at xs k) ≡ j ∷ rest → (jobs_at xs k ≡ j ∷ rest → job_at xs j.id ≡ Some j) → job_at (x ∷ xs) j.id ≡ Some j
+    by true is more =
+        let same : x ≡ j = cc in
+        let here : nat_eq x.id j.id ≡ true = subst (λ (y : ActiveJob). nat_eq x.id y.id ≡ true) same (search rules) in
+        rw here (ap (λ y. Some y) same)
+    by false is more =
+        let less = first_above x.id high k xs j rest rising.1 is in
+        let other : nat_eq x.id j.id ≡ false = ne_eqb x.id j.id (λ same. omega (arith, same, less)) in
+        rw other (more is)
+
+pub inlet_found : (low high k id : ℕ) (js : List ActiveJob) → Rising low js high → first_id (jobs_at js k) ≡ Some id → unwrap_or (option_map (λ j. inlet_in j.body) (job_at js id)) Absent ≡ inlet_of (jobs_at js k)
+inlet_found low high k id js rising first = by (jobs_at js k) refl first
+  where
+    by : (own : List ActiveJob) → jobs_at js k ≡ own → first_id own ≡ Some id → unwrap_or (option_map (λ j. inlet_in j.body) (job_at js id)) Absent ≡ inlet_of own
+    by [] is first = cc
+    by (j ∷ rest) is first =
+        let same : j.id ≡ id = cc in
+        let found : job_at js id ≡ Some j = subst (λ i. job_at js i ≡ Some j) same (first_found low high k js j rest rising is) in
+        rw found refl
+
+inlet_of_body : (b : Body) → inlet_in b ≡ Absent → ⊥
+inlet_of_body (Unary deadline) is = cc
+inlet_of_body (Stream mail) is = by mail.ended mail.receiver is
+  where
+    by : (ended : Bool) (receiver : Receiver) → inlet_by ended receiver ≡ Absent → ⊥
+    by true receiver is = cc
+    by false Open is = cc
+    by false Closed is = cc
+    by false Broken is = cc
+    by false Dropped is = cc
 
 pub none_of_absent : (js : List ActiveJob) → inlet_of js ≡ Absent → js ≡ []
 none_of_absent [] absent = refl
-none_of_absent (j ∷ js) absent = cc
+none_of_absent (j ∷ js) absent = absurd (inlet_of_body j.body absent)
 
 -- ---- which case a frame is
 
-never_asks : (a b c d : Bool) (plain : List ℕ) → (if a then Skipped else (if b then EvenId else (if c then InUse else (if d then Inactive else Skipped)))) ≡ Asks plain → ⊥
-never_asks true b c d plain is = cc
-never_asks false true c d plain is = cc
-never_asks false false true d plain is = cc
-never_asks false false false true plain is = cc
-never_asks false false false false plain is = cc
+never_asks : (a b c d : Bool) (items : Case) (plain : List ℕ) → (items ≡ Asks plain → ⊥) → (if a then Skipped else (if b then EvenId else (if c then InUse else (if d then items else Skipped)))) ≡ Asks plain → ⊥
+never_asks true b c d items plain other is = cc
+never_asks false true c d items plain other is = cc
+never_asks false false true d items plain other is = cc
+never_asks false false false true items plain other is = other is
+never_asks false false false false items plain other is = cc
 
 -- under async rules a request is read only where its id has no job
 pub asks_where_absent : (h : MessageHeader) (opening : Opening) (inlet : Inlet) (plain : List ℕ) → case_of Async h opening inlet ≡ Asks plain → inlet ≡ Absent
 asks_where_absent h opening Absent plain is = refl
 asks_where_absent h TooLong Busy plain is = cc
+asks_where_absent h TooLong Taking plain is = cc
+asks_where_absent h TooLong Full plain is = cc
 asks_where_absent h (Refused why) Busy plain is = cc
-asks_where_absent h (Opened bytes) Busy plain is = absurd (never_asks _ _ _ _ plain is)
+asks_where_absent h (Refused why) Taking plain is = cc
+asks_where_absent h (Refused why) Full plain is = cc
+asks_where_absent h (Opened bytes) Busy plain is = absurd (never_asks _ _ _ _ Inactive plain (λ e. cc) is)
+asks_where_absent h (Opened bytes) Taking plain is = absurd (never_asks _ _ _ _ (PutsIn bytes) plain (λ e. cc) is)
+asks_where_absent h (Opened bytes) Full plain is = absurd (never_asks _ _ _ _ Skipped plain (λ e. cc) is)
 
-pub case_is_answered : (r : Rules) (services : Services) (h : MessageHeader) (case : Case) → ((plain : List ℕ) → case ≡ Asks plain → ⊥) → case_row r services h case ≡ answer_row (case_answer h case)
-case_is_answered r services h (Asks plain) other = absurd (other plain refl)
-case_is_answered r services h case other = refl
+pub case_is_answered : (r : Rules) (services : Services) (h : MessageHeader) (case : Case) → ((plain : List ℕ) → case ≡ Asks plain → ⊥) → ((plain : List ℕ) → case ≡ PutsIn plain → ⊥) → case_row r services h case ≡ answer_row (case_answer h case)
+case_is_answered r services h (Asks plain) other items = absurd (other plain refl)
+case_is_answered r services h (PutsIn plain) other items = absurd (items plain refl)
+case_is_answered r services h case other items = refl
 
-pub asked_is_answered : (request : Request) (asked : Asked) → (asked ≡ Call → ⊥) → asked_row request asked ≡ answer_row (asked_answer request asked)
-asked_is_answered request Call other = absurd (other refl)
-asked_is_answered request asked other = refl
+pub asked_is_answered : (request : Request) (asked : Asked) → (asked ≡ Call → ⊥) → (asked ≡ Chat → ⊥) → asked_row request asked ≡ answer_row (asked_answer request asked)
+asked_is_answered request Call other stream = absurd (other refl)
+asked_is_answered request Chat other stream = absurd (stream refl)
+asked_is_answered request asked other stream = refl
 
 -- ---- one that was taken
 

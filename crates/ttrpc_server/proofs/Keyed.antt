@@ -1,5 +1,5 @@
 -- Jobs under their ids, and the ids of those that wait.
-use Rattle.ttrpc_server.proofs.Words.{rules, cases_Bool, inl, inr, arith, ◌≡◌, ◌<◌, ◌≤◌, ℕ, ◌+◌, List, [], ◌∷◌, ◌++◌, length, filter, Option, Some, None, is_some, not, Bool, true, false, cond, refl, sym, ap, subst, ◌∙◌, AllByRecursion, same_Some, is_at, insert_entry, lookup, remove_entry, set_value, values_of, nat_cmp, nat_cmp_is, Equal, Greater, Request, ActiveJob, Body, Unary, AreJobs, ids_waiting, keyed, HandsOne, IsJob, IsTaken, IsUnknown, NoneWaits, Rising, waits, Equal-is}
+use Rattle.ttrpc_server.proofs.Words.{rules, cases_Bool, inl, inr, arith, ◌≡◌, ◌<◌, ◌≤◌, ℕ, ◌+◌, List, [], ◌∷◌, ◌++◌, length, filter, Option, Some, None, is_some, not, Bool, true, false, cond, refl, sym, ap, subst, ◌∙◌, AllByRecursion, same_Some, is_at, insert_entry, lookup, remove_entry, set_value, values_of, nat_cmp, nat_cmp_is, Equal, Greater, Request, ActiveJob, AreJobs, ids_waiting, keyed, HandsOne, IsJob, IsTaken, IsUnknown, NoneWaits, Rising, waits, Equal-is}
 use Rattle.std.proofs.lemmas.List.{append-nil}
 use Rattle.std.proofs.lemmas.List.Filters.{length-filter_both}
 use Rattle.std.proofs.lemmas.Map.Lookups.{exact_unsigned}
@@ -11,7 +11,7 @@ use Rattle.ttrpc_server.specs.State.{is_stream}
 above : (k x : ℕ) → x < k → nat_cmp k x ≡ Greater
 above k x less = sym (nat_cmp_is k x Greater less)
 
-same_place : (k : ℕ) → nat_cmp k k ≡ Equal
+pub same_place : (k : ℕ) → nat_cmp k k ≡ Equal
 same_place k = sym (nat_cmp_is k k Equal refl)
 
 pub values_keyed : (js : List ActiveJob) → values_of (keyed js) ≡ js
@@ -311,10 +311,6 @@ new_jobs n = record { list = []; are = refl; rising = omega arith; wait = refl }
 
 pub filter_fewer : (js : List ActiveJob) → length (filter waits js) ≤ length js
 filter_fewer js = let n = length-filter_both waits (λ j. not (waits j)) (λ j. refl) js in omega (arith, n)
-
--- each job is unary so far
-pub unary_only : (body : Body) → false ≡ is_stream body
-unary_only (Unary deadline) = refl
 
 pub empty_of : (l : List ℕ) → length l ≡ 0 → l ≡ []
 empty_of [] n = refl

@@ -1,6 +1,9 @@
 -- The ids of jobs rise through every call.
 use Rattle.ttrpc_server.proofs.Words.{◌≡◌, ℕ, ◌≤◌, List, [], ◌∷◌, ◌++◌, Some, None, refl, arith, AllByRecursion, MessageHeader, Request, OutboundTransform, Arrived, Sent, ActiveJob, Job, EndsOne, HandsOne, NoneWaits, Rising, Server, Row, MakeJob, row_of, Does, serves}
+use Rattle.ttrpc_server.specs.State.{brought_by, changed_under}
+use Rattle.ttrpc_server.specs.Table.{MakeStream, PutIn}
 use Rattle.ttrpc_server.proofs.Keyed.{one_less, rising_more}
+use Rattle.ttrpc_server.proofs.Mapped.{rising_mapped, under_stays}
 
 -- ---- lists of jobs
 
@@ -13,6 +16,9 @@ with_one_taken low high (j ∷ front) back job rising = (rising.0, with_one_take
 row_keeps : {O : Type 0} (out : OutboundTransform O) (row : Row) (old : Server) (o : O) (header : MessageHeader) (now : ℕ) (sent : List Sent) (new : Server) → Does out row old o header now sent new
     → Rising 0 old.jobs.list old.jobs.last → Rising 0 new.jobs.list new.jobs.last
 row_keeps out (MakeJob request) old o header now sent new does rising = rw does.0 (rising_more 0 old.jobs.last old.jobs.list _ refl rising)
+row_keeps out (MakeStream request) old o header now sent new does rising = rw does.0 (rising_more 0 old.jobs.last old.jobs.list _ refl rising)
+row_keeps out (PutIn payload) old o header now sent new does rising =
+    let change = brought_by header payload in rw does.0 (rising_mapped (changed_under header.stream_id change) (under_stays header.stream_id change) 0 old.jobs.last old.jobs.list rising)
 row_keeps out row old o header now sent new does rising = rw does.0 rising
 
 pub frame_keeps : {O : Type 0} (out : OutboundTransform O) (old : Server) (o : O) (a : Arrived) (sent : List Sent) (new : Server) → serves out old o a sent new

@@ -4,7 +4,12 @@ use Rattle.ttrpc_connection.specs.Calls.{Call, Calls, Gave, Did, Gives, Runs}
 use Rattle.ttrpc_connection.specs.Feeds.{ActsAll, Scene, scene}
 use Rattle.ttrpc_connection.proofs.Words.{InboundTransform, Incoming}
 use Rattle.ttrpc_server.specs.declared.server.ServerCore.{ServerCore}
-use Rattle.ttrpc_server.specs.Calls.{Dropped, Finished, Performs, core}
+use Rattle.std.proofs.Common.{Result}
+use Rattle.ttrpc_connection.specs.Mail.{without_receiver}
+use Rattle.ttrpc_server.specs.Types.{Error, Mail}
+use Rattle.ttrpc_server.specs.State.{on_mail}
+use Rattle.ttrpc_server.specs.Streaming.{ReceivesBy}
+use Rattle.ttrpc_server.specs.Calls.{AskedHeard, Dropped, Ended, Finished, Performs, Received, ReceiverDropped, SentItem, core}
 use Rattle.ttrpc_server.proofs.Kept.{as_job}
 
 -- it holds of a state after a frame, a job that is handed out, one that is gone, whoever is told of, and draining, if it held before
@@ -14,6 +19,8 @@ pub record Lasts {O : Type 0} (out : OutboundTransform O) (P : Server → Type 0
   pub ends : (old : Server) (id : ℕ) (job : ActiveJob) (at : IsJob old.jobs.list id job) → P old → P (with_list old (at.front ++ at.back))
   pub told : (old : Server) (expired : List ℕ) → P old → P (record old { expired = expired })
   pub drains : (old : Server) → P old → P (record old { draining = true })
+  pub mails : (old : Server) (id : ℕ) (change : Mail → Mail) → P old → P (with_list old (on_mail id change old.jobs.list))
+  pub hears : (old : Server) (heard : List ℕ) → P old → P (record old { heard = heard })
 
 module _ {O I : Type 0} (out : OutboundTransform O) (in_ : InboundTransform I) (P : Server → Type 0) (lasts : Lasts out P) where
   acts_last : (at : ℕ) (fs : List Incoming) (old new : Scene Server O I) → ActsAll (serving out in_) at old fs new → P old.state → P new.state
@@ -42,6 +49,11 @@ module _ {O I : Type 0} (out : OutboundTransform O) (in_ : InboundTransform I) (
   state_is : (old new : ServerCore O I) → new ≡ old → P old.state → P new.state
   state_is old new same p = subst (λ (c : ServerCore O I). P c.state) (sym same) p
 
+  received_last : (rules : Rules) (failure : Option Failure) (old : Server) (id : ℕ) (given : Option (Result (List ℕ) Error)) (list : List ActiveJob) → ReceivesBy rules failure old id given list → P old → P (with_list old list)
+  received_last Sync failure old id given list own p = subst (λ l. P (with_list old l)) (sym own.1) p
+  received_last Async failure old id given list (inl own) p = subst (λ l. P (with_list old l)) (sym own.4) (lasts.mails old id (λ _. own.1) p)
+  received_last Async failure old id given list (inr own) p = subst (λ l. P (with_list old l)) (sym own.1) p
+
   pub performs_last : (a : Served) (old new : ServerCore O I) → Performs out a old new → P old.state → P new.state
   performs_last (Took None) old new did p = state_is old new did.0 p
   performs_last (Took (Some job)) old new did p = state_is _ new did.same (lasts.hands old.state job new.state.jobs.list did.hands p)
@@ -52,6 +64,11 @@ module _ {O I : Type 0} (out : OutboundTransform O) (in_ : InboundTransform I) (
   performs_last (Ticked now) old new did p = passes_last old.state.rules old.connection.failure old now new did p
   performs_last (AskedExpired id) old new did p = state_is _ new did.same (lasts.told old.state new.state.expired p)
   performs_last Drained old new did p = state_is _ new did (lasts.drains old.state p)
+  performs_last (SentItem id item ticket) old new did p = state_is _ new did.same p
+  performs_last (Received id given) old new did p = state_is _ new did.same (received_last old.state.rules old.connection.failure old.state id given new.state.jobs.list did.own p)
+  performs_last (ReceiverDropped id) old new did p = state_is _ new did (lasts.hears (with_list old.state (on_mail id without_receiver old.state.jobs.list)) _ (lasts.mails old.state id without_receiver p))
+  performs_last (Ended id end) old new did p = state_is _ new did.same (lasts.hears (with_list old.state new.state.jobs.list) _ (ended_last old.state id did.job new.state.jobs.list did.ends p))
+  performs_last (AskedHeard id) old new did p = state_is _ new did.same (lasts.hears old.state new.state.heard p)
 
   pub call_lasts : (c : Call Served) (s : Server) (old : Connection O I) (hs : List Happening) (t : Server) (new : Connection O I) → Calls (serving out in_) (served out) s old c hs t new → P s → P t
   call_lasts (Gave piece at) s old hs t new call p = gives_last s old piece at t new call.0 p

@@ -1,9 +1,10 @@
 -- What was sent, why a response wasn't, and how an answer ends its job.
-use Rattle.ttrpc_server.proofs.Words.{◌≡◌, ◌<◌, ◌≤◌, ◌∙◌, ℕ, List, [], ◌∷◌, refl, sym, ap, subst, Option, inl, inr, None, Error, MessageHeader, Response, Queued, OutboundTransform, Outbox, Failure, HandlerError, IsTold, first_failure, SendsOne, safe_limit, ActiveJob, EndsOne, fit_to_limit, fitted, response_size, response_bytes, IsResponseFrame, IsStatusResponse, SendsOwnAnswer, Responds, Server, with_list, IsUnsent, Row, SendResponse, SendCode, Rules, Answers, Does, Drops, Finishes, QueuesResponse, with_jobs, IsUnsentFor, SendsAnswer, SendsSome, TellsUnsent, IsErrorResponse, Async, Sync, IsTaken}
-use Rattle.std.specs.Prelude.{◌⊎◌, Result, Ok, Err, Some}
+use Rattle.ttrpc_server.proofs.Words.{◌≡◌, ◌<◌, ◌≤◌, ◌∙◌, ℕ, List, [], ◌∷◌, refl, sym, ap, subst, Option, inl, inr, None, Error, MessageHeader, Response, Queued, OutboundTransform, Outbox, Failure, HandlerError, IsTold, first_failure, SendsOne, safe_limit, ActiveJob, EndsOne, fit_to_limit, fitted, response_size, response_bytes, IsResponseFrame, IsStatusResponse, SendsOwnAnswer, Responds, Server, with_list, IsUnsent, Row, SendCode, Rules, Answers, Does, Drops, Finishes, QueuesResponse, with_jobs, IsUnsentFor, SendsAnswer, SendsSome, TellsUnsent, IsErrorResponse, Async, Sync, IsTaken}
+use Rattle.std.specs.Prelude.{◌⊎◌, false, Result, Ok, Err, Some}
 use Rattle.ttrpc_connection.specs.Feeds.{IsFailed}
-use Rattle.ttrpc_server.specs.Protocol.{AnswersError, HasNoJob, HasUnsent, HasUnsentResponse, IsSentFor, RefusesAnswer, advice, fit_to_message}
+use Rattle.ttrpc_server.specs.Protocol.{AnswersError, HasNoJob, HasUnsent, HasUnsentResponse, RefusesAnswer, advice, fit_to_message}
 use Rattle.ttrpc_server.specs.Inside.{IsUnfit}
+use Rattle.ttrpc_server.specs.State.{is_stream}
 use Rattle.ttrpc_server.specs.Table.{answer_row, status_response}
 use Rattle.ttrpc_proto.specs.ErrorText.{error_text}
 use Rattle.ttrpc_wire.specs.declared.values.code.Code.TheVariants.{UNKNOWN}
@@ -62,13 +63,14 @@ told_unsent rules out o k r NoMemory limit told why is tells = inr (inr tells)
 
 -- a response that can't be queued is no answer to its job
 pub unsent_answer : {O I : Type 0} (out : OutboundTransform O) (old : ServerCore O I) (id k : ℕ) (job : ActiveJob) (r : Response) (told : Error)
-    → IsTaken old.state.jobs.list id job → k ≡ job.header.stream_id → IsFailed old.connection.failure told ⊎ HasUnsentResponse out old k r told
+    → IsTaken old.state.jobs.list id job → (old.state.rules ≡ Async → is_stream job.body ≡ false) → k ≡ job.header.stream_id → IsFailed old.connection.failure told ⊎ HasUnsentResponse out old k r told
     → IsFailed old.connection.failure told ⊎ HasUnsent out old id (Ok r) told
-unsent_answer out old id k job r told at stream (inl failed) = inl failed
-unsent_answer out old id k job r told at stream (inr unsent) = inr (record {
+unsent_answer out old id k job r told at unary stream (inl failed) = inl failed
+unsent_answer out old id k job r told at unary stream (inr unsent) = inr (record {
   alive = unsent.alive;
   job = job;
   at = at;
+  unary = unary;
   answer = r;
   is_answer = refl;
   unsent = subst (λ n. IsUnsent old.state.rules out old.connection.outbox.half n r told) stream unsent.unsent;
@@ -82,6 +84,7 @@ unsent_error out old id error r told rules is (inr unsent) = inr (record {
   alive = unsent.alive;
   job = unsent.job;
   at = unsent.at;
+  unary = unsent.unary;
   answer = unsent.answer;
   is_answer = rw (rules, unsent.is_answer) is;
   unsent = unsent.unsent;
@@ -97,10 +100,10 @@ some_text error = by (error_text error) refl
 
 -- there was no memory for it
 pub textless : {O I : Type 0} (out : OutboundTransform O) (old : ServerCore O I) (id : ℕ) (job : ActiveJob) (error told : Error) → old.connection.failure ≡ None → old.state.rules ≡ Async
-    → IsTaken old.state.jobs.list id job → told ≡ NoMemoryError → HasUnsent out old id (Err error) told
-textless out old id job error told alive rules at is =
+    → IsTaken old.state.jobs.list id job → is_stream job.body ≡ false → told ≡ NoMemoryError → HasUnsent out old id (Err error) told
+textless out old id job error told alive rules at unary is =
     let some = some_text error in
-    record { alive = alive; job = job; at = at; answer = some.0; is_answer = rw rules some.1; unsent = inr (inr is) }
+    record { alive = alive; job = job; at = at; unary = λ async. unary; answer = some.0; is_answer = rw rules some.1; unsent = inr (inr is) }
 
 pub refuses_answer : {O I : Type 0} (out : OutboundTransform O) (old : ServerCore O I) (id : ℕ) (response : Result Response Error) (told : Error)
     → IsFailed old.connection.failure told ⊎ HasUnsent out old id response told → RefusesAnswer out old id response told
@@ -116,24 +119,26 @@ refuses_none out old id response told (inr none) = inr (inl none)
 
 -- a job was forgotten
 pub finishes_at : {O I : Type 0} (old : ServerCore O I) (id : ℕ) (job : ActiveJob) (t : Server) → old.connection.failure ≡ None
-    → EndsOne old.state.jobs.list id job t.jobs.list → t ≡ with_list old.state t.jobs.list → Finishes old id (record { state = t; connection = old.connection })
-finishes_at old id job t alive ends same = record {
+    → EndsOne old.state.jobs.list id job t.jobs.list → is_stream job.body ≡ false → t ≡ with_list old.state t.jobs.list → Finishes old id (record { state = t; connection = old.connection })
+finishes_at old id job t alive ends unary same = record {
   alive = alive;
   job = job;
   ends = ends;
+  unary = unary;
   same = ap (λ s. record { state = s; connection = old.connection }) same;
 }
 
 -- a response was queued, and then its job forgotten
 pub answers_at : {O I : Type 0} (out : OutboundTransform O) (old : ServerCore O I) (id k : ℕ) (job : ActiveJob) (r : Response) (mid : ServerCore O I) (t : Server)
-    → QueuesResponse out old k r mid → k ≡ job.header.stream_id → EndsOne mid.state.jobs.list id job t.jobs.list → t ≡ with_list mid.state t.jobs.list
+    → QueuesResponse out old k r mid → k ≡ job.header.stream_id → EndsOne mid.state.jobs.list id job t.jobs.list → is_stream job.body ≡ false → t ≡ with_list mid.state t.jobs.list
     → Answers out old id r (record { state = t; connection = mid.connection })
-answers_at out old id k job r mid t queues at ends same =
+answers_at out old id k job r mid t queues at ends unary same =
     let state : mid.state ≡ old.state = ap (λ (c : ServerCore _ _). c.state) queues.same in
     record {
       alive = queues.alive;
       job = job;
       ends = subst (λ (s : Server). EndsOne s.jobs.list id job t.jobs.list) state ends;
+      unary = unary;
       sent = queues.sent;
       responds = subst (λ n. Responds old.state.rules (safe_limit out old.connection.outbox.half) n r queues.sent) at queues.responds;
       sends = queues.sends;
@@ -148,12 +153,13 @@ error_drops out old id error new sync drops = subst (λ (r : Rules). AnswersErro
 -- a handler's error: the job forgotten, and the connection failed
 pub drops_at : {O I : Type 0} (old : ServerCore O I) (id : ℕ) (job : ActiveJob) (t : Server) (failure : Option Failure)
     → old.connection.failure ≡ None → failure ≡ first_failure old.connection.failure HandlerError
-    → EndsOne old.state.jobs.list id job t.jobs.list → t ≡ with_list old.state t.jobs.list
+    → EndsOne old.state.jobs.list id job t.jobs.list → is_stream job.body ≡ false → t ≡ with_list old.state t.jobs.list
     → Drops old id (record { state = t; connection = record old.connection { failure = failure } })
-drops_at old id job t failure alive fails ends same = record {
+drops_at old id job t failure alive fails ends unary same = record {
   alive = alive;
   job = job;
   ends = ends;
+  unary = unary;
   same = ap (λ s. record { state = s; connection = record old.connection { failure = failure } }) same
       ∙ ap (λ f. record (with_jobs old t.jobs.list) { connection = record old.connection { failure = f } }) (fails ∙ ap (λ f. first_failure f HandlerError) alive);
 }

@@ -1,9 +1,15 @@
 -- What a frame, a job that is handed out, an answer and a job that expires do to each stream id by itself.
 use Rattle.ttrpc_server.proofs.Words.{cond_both, ◌≡◌, ℕ, nat_eq, ◌≢◌, inl, inr, refl, arith, List, [], ◌∷◌, ◌++◌, None, ExpiresOne, IsJob, Outbox, timeout_response, sym, ap, ◌∙◌, ActiveJob, Job, MessageHeader, Response, OutboundTransform, Sent, EndsOne, HandsOne, NoneWaits, jobs_at, SendsOwnAnswer, Server, Arrived, Async, Row, Rules, Sync, row_of, sync_row, Opened, Refused, SendResponse, SendCode, MakeJob, Does, between_own, between_other, pushed_own, pushed_other, under_both}
 use Rattle.ttrpc_connection.specs.declared.arrived.Opening.{Opening}
-use Rattle.ttrpc_server.specs.Types.{TooLong, Inlet, Absent}
-use Rattle.ttrpc_server.specs.Table.{case_of, case_row, inlet_of}
+use Rattle.std.specs.Prelude.{Bool, true, false, nat_lt, length, if◌then◌else◌, Option, Some}
+use Rattle.ttrpc_wire.specs.Fold.{read_from}
+use Rattle.ttrpc_proto.specs.Messages.{empty_request, request_step}
+use Rattle.ttrpc_server.specs.Types.{TooLong, Inlet, Absent, Asks, Call, NoPath, Oversize, Skipped, MESSAGE_LENGTH_MAX, MESSAGE_TYPE_REQUEST, Request}
+use Rattle.ttrpc_server.specs.Table.{asked_row, case_of, case_row, inlet_of, request_row}
 use Rattle.ttrpc_server.specs.Streams.{IsAnswered, made_by}
+use Rattle.ttrpc_server.specs.State.{Services, brought_by, changed_under, has_method}
+use Rattle.ttrpc_server.specs.Table.{MakeStream, PutIn}
+use Rattle.ttrpc_server.proofs.Mapped.{mapped_at, under_stays, unmoved}
 
 none_waits_at : (js : List ActiveJob) (k : ℕ) → NoneWaits js → NoneWaits (jobs_at js k)
 none_waits_at [] k none = tt
@@ -55,11 +61,19 @@ ended_elsewhere old new id job k h apart =
 pub row_elsewhere : {O : Type 0} (out : OutboundTransform O) (row : Row) (old : Server) (o : O) (header : MessageHeader) (now : ℕ) (sent : List Sent) (new : Server) (k : ℕ) → Does out row old o header now sent new
     → k ≢ header.stream_id → jobs_at new.jobs.list k ≡ jobs_at old.jobs.list k
 row_elsewhere out (MakeJob request) old o header now sent new k does apart = rw does.0 (pushed_other stream_id_of k _ old.jobs.list (λ same. apart (sym same)))
+row_elsewhere out (MakeStream request) old o header now sent new k does apart = rw does.0 (pushed_other stream_id_of k _ old.jobs.list (λ same. apart (sym same)))
+row_elsewhere out (PutIn payload) old o header now sent new k does apart =
+    let change = brought_by header payload in
+    rw does.0 (mapped_at (changed_under header.stream_id change) (under_stays header.stream_id change) old.jobs.list k ∙ unmoved k header.stream_id change old.jobs.list apart)
 row_elsewhere out row old o header now sent new k does apart = rw does.0 refl
 
 pub row_made : {O : Type 0} (out : OutboundTransform O) (row : Row) (old : Server) (o : O) (header : MessageHeader) (now : ℕ) (sent : List Sent) (new : Server) → Does out row old o header now sent new
-    → jobs_at new.jobs.list header.stream_id ≡ made_by row old.rules header now old.jobs.last (jobs_at old.jobs.list header.stream_id)
+    → jobs_at new.jobs.list header.stream_id ≡ made_by row old header now (jobs_at old.jobs.list header.stream_id)
 row_made out (MakeJob request) old o header now sent new does = rw does.0 (pushed_own stream_id_of header.stream_id _ old.jobs.list refl)
+row_made out (MakeStream request) old o header now sent new does = rw does.0 (pushed_own stream_id_of header.stream_id _ old.jobs.list refl)
+row_made out (PutIn payload) old o header now sent new does =
+    let change = brought_by header payload in
+    rw does.0 (mapped_at (changed_under header.stream_id change) (under_stays header.stream_id change) old.jobs.list header.stream_id)
 row_made out row old o header now sent new does = rw does.0 refl
 
 none_sent : (k : ℕ) (sent : List Sent) → sent ≡ [] → IsAnswered k sent
@@ -106,6 +120,8 @@ module _ {O : Type 0} (out : OutboundTransform O) (old : Server) (from : Outbox 
 pub rules_stay : {O : Type 0} (out : OutboundTransform O) (row : Row) (old : Server) (o : O) (header : MessageHeader) (now : ℕ) (sent : List Sent) (new : Server) → Does out row old o header now sent new
     → new.rules ≡ old.rules
 rules_stay out (MakeJob request) old o header now sent new does = ap (λ (s : Server). s.rules) does.0
+rules_stay out (MakeStream request) old o header now sent new does = ap (λ (s : Server). s.rules) does.0
+rules_stay out (PutIn payload) old o header now sent new does = ap (λ (s : Server). s.rules) does.0
 rules_stay out row old o header now sent new does = ap (λ (s : Server). s.rules) does.0
 
 -- sync rules don't ask what an id has
@@ -117,3 +133,29 @@ same_case Async h opening x y same = ap (case_of Async h opening) (same refl)
 
 pub row_of_sync : (s : Server) (a : Arrived) → s.rules ≡ Sync → row_of s a ≡ sync_row s.services a.header a.opening
 row_of_sync s a sync = rw sync (ap (case_row Sync s.services a.header) (same_case Sync a.header a.opening (inlet_of (jobs_at s.jobs.list a.header.stream_id)) Absent (λ bad. cc)))
+
+-- ---- sync rules have no streams
+
+-- a row of a stream
+abbrev pub is_of_streams : Row → Bool
+is_of_streams (MakeStream request) = true
+is_of_streams (PutIn payload) = true
+is_of_streams row = false
+
+none_asked : (r : Request) (b : Bool) → is_of_streams (asked_row r (if b then Call else NoPath)) ≡ false
+none_asked r true = refl
+none_asked r false = refl
+
+none_read : (services : Services) (r : Option Request) → is_of_streams (request_row Sync services r) ≡ false
+none_read services None = refl
+none_read services (Some r) = none_asked r (has_method services r.service r.method)
+
+none_opened : (services : Services) (h : MessageHeader) (plain : List ℕ) (long asks : Bool) → is_of_streams (case_row Sync services h (if long then Oversize (length plain) else if asks then Asks plain else Skipped)) ≡ false
+none_opened services h plain true asks = refl
+none_opened services h plain false true = none_read services (read_from request_step empty_request plain)
+none_opened services h plain false false = refl
+
+pub no_streams : (services : Services) (h : MessageHeader) (opening : Opening) → is_of_streams (sync_row services h opening) ≡ false
+no_streams services h TooLong = refl
+no_streams services h (Refused why) = refl
+no_streams services h (Opened plain) = none_opened services h plain (nat_lt MESSAGE_LENGTH_MAX (length plain)) (nat_eq h.type_ MESSAGE_TYPE_REQUEST)

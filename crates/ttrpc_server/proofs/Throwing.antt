@@ -1,5 +1,6 @@
 -- No frame of a server is thrown away, so that those that depart are those that were queued, in order.
 use Rattle.ttrpc_server.proofs.Words.{◌≡◌, inl, inr, ◌∙◌, List, [], ◌∷◌, ◌++◌, arith, length, refl, sym, ap, Queued, Queue, Happening, OutboundTransform, Connection, Server, Served, Answered, Responded, Ticked, served, serving}
+use Rattle.ttrpc_server.specs.Calls.{Ended, SentItem}
 use Rattle.std.specs.List.Sorted.{IsPermutation}
 use Rattle.std.proofs.lemmas.List.Sorted.{length_permutation}
 use Rattle.ttrpc_frame.specs.Queue.{departing, IsMerge, placed, thrown}
@@ -15,6 +16,8 @@ call_throws_nothing : {O I : Type 0} (out : OutboundTransform O) (a : Served) (s
     → thrown old.outbox.queue hs ≡ []
 call_throws_nothing out (Answered id response) s old hs t new call = ap (thrown old.outbox.queue) call.1.2.3
 call_throws_nothing out (Responded k response) s old hs t new call = ap (thrown old.outbox.queue) call.1.3
+call_throws_nothing out (SentItem id item ticket) s old hs t new call = ap (thrown old.outbox.queue) call.1.2.3
+call_throws_nothing out (Ended id end) s old hs t new call = ap (thrown old.outbox.queue) call.1.2.3
 call_throws_nothing out (Ticked now) s old hs t new call = ap (thrown old.outbox.queue) call.1.3 ∙ none_placed call.1.0 old.outbox.queue
 call_throws_nothing out a s old hs t new call = ap (thrown old.outbox.queue) call.1
 

@@ -1,13 +1,13 @@
 -- What the state of a server keeps beside what is seen of it: what finds jobs.
 -- Source: this project's.
 use Rattle.std.specs.Prelude.{◌≡◌, ◌≢◌, ◌≤◌, ◌&&◌, ℕ, List, [], ◌∷◌, Option, None, Some, Bool, true, false, length, nat_eq}
-use Rattle.std.specs.List.{list_any}
+use Rattle.std.specs.List.{list_any, AllByRecursion}
 use Rattle.std.specs.BTreeMap.{is_at}
 use Rattle.std.specs.Map.{lookup}
 use Rattle.std.specs.Ordering.{nat_cmp}
-use Rattle.ttrpc_server.specs.Types.{ActiveJob, Rules, Async}
+use Rattle.ttrpc_server.specs.Types.{ActiveJob, Rules, Async, Sync}
 use Rattle.ttrpc_connection.specs.Deadlines.{ChangesTo, has_deadline, is_moment}
-use Rattle.ttrpc_server.specs.State.{deadline_in, jobs_at}
+use Rattle.ttrpc_server.specs.State.{deadline_in, is_stream, jobs_at}
 
 -- ---- what finds jobs: the active job of each stream id, and deadlines
 
@@ -67,12 +67,17 @@ is_due_at jobs at id = list_any (λ j. nat_eq id j.id && is_moment at (deadline_
 abbrev pub AreSingle : List ActiveJob → Type 0
 AreSingle jobs = (k : ℕ) → length (jobs_at jobs k) ≤ 1
 
--- What holds of the jobs of every server, and what finds them: deadlines are those of the jobs, and under async rules a
--- stream id has at most one active job, which is found under it.
+-- none is a stream's
+abbrev pub AreUnary : List ActiveJob → Type 0
+AreUnary jobs = AllByRecursion (λ (j : ActiveJob). is_stream j.body ≡ false) jobs
+
+-- What holds of the jobs of every server, and what finds them: deadlines are those of the jobs; under async rules a stream
+-- id has at most one active job, which is found under it; and sync rules have no streams.
 pub record IsKept (rules : Rules) (jobs : List ActiveJob) (index : Indexed) : Type 0 where
   pub deadlines : (at id : ℕ) → has_deadline index.deadlines at id ≡ is_due_at jobs at id
   pub single : rules ≡ Async → AreSingle jobs
   pub found : rules ≡ Async → (k : ℕ) → job_found index k ≡ first_id (jobs_at jobs k)
+  pub unary : rules ≡ Sync → AreUnary jobs
 
 -- under async rules there is room for each job to expire
 abbrev pub HasRoom : Rules → List ActiveJob → Expiring → Type 0

@@ -7,7 +7,7 @@
 use Rattle.std.specs.Prelude.{◌≡◌, ◌⊎◌, ℕ, ◌<◌, ◌≤◌, ◌-◌, ◌^◌, List, [], ◌∷◌, ◌++◌, length, codes, min, Option, None, Some, Result, Ok, Err, Bool, true, nat_lt, if◌then◌else◌, ◌≢◌, filter, false, nat_le}
 use Rattle.std.specs.Fmt.{decimal}
 use Rattle.std.specs.Option.{option_map_or}
-use Rattle.ttrpc_server.specs.Types.{Code, UNKNOWN, INVALID_ARGUMENT, DEADLINE_EXCEEDED, MessageHeader, MESSAGE_LENGTH_MAX, MESSAGE_TYPE_RESPONSE, Request, Response, Error, Others, NoMemory, Queued, OutboundTransform, Outbox, Arrived, Failure, JobIdsUsedUp, HandlerError, NoMemoryLeft, ActiveJob, Job, Rules, Sync, Async}
+use Rattle.ttrpc_server.specs.Types.{Code, UNKNOWN, INVALID_ARGUMENT, DEADLINE_EXCEEDED, MessageHeader, MESSAGE_LENGTH_MAX, MESSAGE_TYPE_RESPONSE, Response, Error, Others, NoMemory, Queued, OutboundTransform, Outbox, Arrived, Failure, JobIdsUsedUp, HandlerError, NoMemoryLeft, ActiveJob, Job, Rules, Sync, Async}
 use Rattle.ttrpc_wire.specs.Field.{fields_bytes}
 use Rattle.ttrpc_proto.specs.ErrorText.{IsTextOf}
 use Rattle.ttrpc_proto.specs.Messages.{response_fields}
@@ -20,8 +20,8 @@ use Rattle.ttrpc_connection.specs.Failure.{IsTold}
 use Rattle.ttrpc_connection.specs.Feeds.{IsFailed, Ways, new_connection}
 use Rattle.ttrpc_connection.specs.Frames.{Sent, SendsAll, safe_limit}
 use Rattle.ttrpc_server.specs.declared.server.ServerCore.{ServerCore}
-use Rattle.ttrpc_server.specs.State.{EndsOne, HandsOne, IsTaken, IsUnknown, Server, Services, jobs_at, new_server, takes_on, unary_body, with_job, with_list, IsJob, deadline_in, told_left, waits}
-use Rattle.ttrpc_server.specs.Table.{Row, Ignore, MakeJob, SendCode, SendResponse, case_of, case_row, inlet_of, status_response}
+use Rattle.ttrpc_server.specs.State.{EndsOne, HandsOne, IsTaken, IsNoUnary, is_stream, Server, Services, jobs_at, new_server, put_in, stream_body, takes_on, unary_body, with_made, without_payload, with_list, IsJob, deadline_in, waits}
+use Rattle.ttrpc_server.specs.Table.{Row, Ignore, MakeJob, MakeStream, PutIn, makes_job, SendCode, SendResponse, case_of, case_row, inlet_of, status_response}
 
 -- ---- which row a frame has
 
@@ -107,9 +107,10 @@ abbrev pub Does : {O : Type 0} → OutboundTransform O → Row → Server → O 
 Does out Ignore old o header now sent new = (new ≡ old) × (sent ≡ [])
 Does out (SendResponse r) old o header now sent new = (new ≡ old) × SendsOwnAnswer old.rules out o header.stream_id r sent
 Does out (SendCode code) old o header now sent new = (new ≡ old) × ((r : Response) × IsStatusResponse code r × SendsOwnAnswer old.rules out o header.stream_id r sent)
-Does out (MakeJob request) old o header now sent new =
-    (new ≡ record old { jobs = with_job old.jobs header request (unary_body old.rules now request); expired = told_left old.jobs.list old.expired })
-    × (sent ≡ [])
+Does out (MakeJob request) old o header now sent new = (new ≡ with_made old header request (unary_body old.rules now request)) × (sent ≡ [])
+Does out (MakeStream request) old o header now sent new =
+    (new ≡ with_made old header (without_payload request) (stream_body old.services.bare_openings header.flags request.payload)) × (sent ≡ [])
+Does out (PutIn payload) old o header now sent new = (new ≡ put_in old header payload) × (sent ≡ [])
 
 -- what its row does with a frame that arrived
 abbrev pub serves : {O : Type 0} → OutboundTransform O → Server → O → Arrived → List Sent → Server → Type 0
@@ -117,8 +118,7 @@ serves out old o a sent new = Does out (row_of old a) old o a.header a.now sent 
 
 -- the row makes a job, and no job can get an id
 pub record IsUsedUp (row : Row) (old : Server) (failure : Failure) : Type 0 where
-  pub request : Request
-  pub is_row : row ≡ MakeJob request
+  pub is_row : makes_job row ≡ true
   pub last : old.jobs.last ≡ 2 ^ 64 - 1
   pub failure_is : failure ≡ JobIdsUsedUp
 
@@ -159,28 +159,31 @@ pub record QueuesResponse {O I : Type 0} (out : OutboundTransform O) (old : Serv
   pub sends : SendsAll out old.connection.outbox sent new.connection.outbox
   pub same : new ≡ record old { connection = record old.connection { outbox = new.connection.outbox } }
 
--- a job that was taken ends, and nothing is queued
+-- a job that was taken, no stream's, ends, and nothing is queued
 pub record Finishes {O I : Type 0} (old : ServerCore O I) (id : ℕ) (new : ServerCore O I) : Type 0 where
   pub alive : old.connection.failure ≡ None
   pub job : ActiveJob
   pub ends : EndsOne old.state.jobs.list id job new.state.jobs.list
+  pub unary : is_stream job.body ≡ false
   pub same : new ≡ with_jobs old new.state.jobs.list
 
--- a job that was taken is answered
+-- a job that was taken, no stream's, is answered
 pub record Answers {O I : Type 0} (out : OutboundTransform O) (old : ServerCore O I) (id : ℕ) (response : Response) (new : ServerCore O I) : Type 0 where
   pub alive : old.connection.failure ≡ None
   pub job : ActiveJob
   pub ends : EndsOne old.state.jobs.list id job new.state.jobs.list
+  pub unary : is_stream job.body ≡ false
   pub sent : List Sent
   pub responds : Responds old.state.rules (safe_limit out old.connection.outbox.half) job.header.stream_id response sent
   pub sends : SendsAll out old.connection.outbox sent new.connection.outbox
   pub same : new ≡ record (with_jobs old new.state.jobs.list) { connection = record old.connection { outbox = new.connection.outbox } }
 
--- a handler failed: its job is gone, and the connection fails
+-- a handler failed: its job, no stream's, is gone, and the connection fails
 pub record Drops {O I : Type 0} (old : ServerCore O I) (id : ℕ) (new : ServerCore O I) : Type 0 where
   pub alive : old.connection.failure ≡ None
   pub job : ActiveJob
   pub ends : EndsOne old.state.jobs.list id job new.state.jobs.list
+  pub unary : is_stream job.body ≡ false
   pub same : new ≡ record (with_jobs old new.state.jobs.list) { connection = record old.connection { failure = Some HandlerError } }
 
 -- under async rules the response to an error that a handler gave: a status of code UNKNOWN with the error's text
@@ -258,10 +261,10 @@ pub record HasOtherRules {O I : Type 0} (old : ServerCore O I) (told : Error) : 
   pub rules : old.state.rules ≡ Async
   pub is_told : IsTold (Others (codes "wrong rules for this call")) told
 
--- the connection lives, and no such job waits for its answer
+-- the connection lives, and no such job waits for an answer
 pub record HasNoJob {O I : Type 0} (old : ServerCore O I) (id : ℕ) (told : Error) : Type 0 where
   pub alive : old.connection.failure ≡ None
-  pub unknown : IsUnknown old.state.jobs.list id
+  pub unknown : IsNoUnary old.state.rules old.state.jobs.list id
   pub is_told : IsTold (Others (codes "unknown job")) told
 
 -- a response can't be sent: it is above the limit, the half refuses it, or memory is wanted
@@ -277,11 +280,12 @@ IsSentFor rules (Ok r) answer = answer ≡ r
 IsSentFor Sync (Err e) answer = ⊥
 IsSentFor Async (Err e) answer = IsErrorResponse e answer
 
--- the connection lives, the job was taken, and the response to it can't be sent
+-- the connection lives, the job was taken, under async rules no stream's, and the response to it can't be sent
 pub record HasUnsent {O I : Type 0} (out : OutboundTransform O) (old : ServerCore O I) (id : ℕ) (response : Result Response Error) (told : Error) : Type 0 where
   pub alive : old.connection.failure ≡ None
   pub job : ActiveJob
   pub at : IsTaken old.state.jobs.list id job
+  pub unary : old.state.rules ≡ Async → is_stream job.body ≡ false
   pub answer : Response
   pub is_answer : IsSentFor old.state.rules response answer
   pub unsent : IsUnsent old.state.rules out old.connection.outbox.half job.header.stream_id answer told
@@ -297,8 +301,8 @@ pub record HasUnsentResponse {O I : Type 0} (out : OutboundTransform O) (old : S
 
 -- for what a response is refused: the connection has failed, or async rules have no such call, or it can't be sent
 abbrev pub RefusesResponse : {O I : Type 0} → OutboundTransform O → ServerCore O I → ℕ → Response → Error → Type 0
-RefusesResponse out old k response told = IsFailed old.connection.failure told ⊎ HasOtherRules old told ⊎ HasUnsentResponse out old k response told
+RefusesResponse out old k response told = IsFailed old.connection.failure told ⊎ HasOtherRules old told ⊎ ((old.state.rules ≡ Sync) × HasUnsentResponse out old k response told)
 
 -- for what a job's end is refused: the connection has failed, or async rules have no such call, or there is no such job
 abbrev pub RefusesFinish : {O I : Type 0} → ServerCore O I → ℕ → Error → Type 0
-RefusesFinish old id told = IsFailed old.connection.failure told ⊎ HasOtherRules old told ⊎ HasNoJob old id told
+RefusesFinish old id told = IsFailed old.connection.failure told ⊎ HasOtherRules old told ⊎ ((old.state.rules ≡ Sync) × HasNoJob old id told)

@@ -1,13 +1,18 @@
 -- What a server core is, beside its connection: the methods and streams that it has, its jobs that weren't answered, and
 -- those that expired.
 -- Source: PROTOCOL.md of ttrpc, "RPC", "Request" and "Response".
-use Rattle.std.specs.Prelude.{◌≡◌, ◌≢◌, ◌<◌, ◌≤◌, ℕ, ◌+◌, ◌&&◌, ◌||◌, List, [], ◌∷◌, ◌++◌, filter, nat_eq, Option, None, Some, is_some, Bool, false, not}
+use Rattle.std.specs.Prelude.{◌≡◌, ◌⊎◌, ◌≢◌, ◌<◌, ◌≤◌, ℕ, ◌+◌, ◌&&◌, ◌||◌, List, [], ◌∷◌, ◌++◌, filter, map, if◌then◌else◌, nat_eq, Option, None, Some, is_some, Bool, true, false, not}
 use Rattle.std.specs.List.{list_any, AllByRecursion}
 use Rattle.std.specs.Map.{lookup}
 use Rattle.std.specs.Option.{option_map_or}
 use Rattle.std.specs.Str.{bytes_eq}
-use Rattle.ttrpc_server.specs.Types.{MessageHeader, Request, ActiveJob, Body, Unary, Job, Rules, Sync, Async}
+use Rattle.ttrpc_server.specs.Types.{MessageHeader, Request, ActiveJob, Body, Unary, Stream, Mail, Job, Rules, Sync, Async}
+use Rattle.std.specs.BTreeSet.{insert_key}
+use Rattle.std.specs.Ordering.{nat_cmp}
+use Rattle.ttrpc_frame.specs.declared.header.TheConstants.{FLAG_REMOTE_CLOSED}
 use Rattle.ttrpc_connection.specs.Deadlines.{deadline_of}
+use Rattle.ttrpc_connection.specs.Mail.{opened_with, with_thing}
+use Rattle.ttrpc_connection.specs.Things.{data_thing, has_flag, opening_thing}
 
 -- ---- methods and streams
 
@@ -35,10 +40,13 @@ AddsService old service new = (s : List ℕ) → knows new s ≡ (bytes_eq s ser
 pub record Services : Type 0 where
   pub methods : Names
   pub streams : Names
+  -- whether a request that opens a stream brings no item where it has no payload and says nothing of it, as those of peers
+  -- written in Go
+  pub bare_openings : Bool
 
 -- no method and no stream
 abbrev pub no_services : Services
-no_services = record { methods = []; streams = [] }
+no_services = record { methods = []; streams = []; bare_openings = false }
 
 -- whether a service has this method
 abbrev pub has_method : Services → List ℕ → List ℕ → Bool
@@ -57,10 +65,12 @@ has_service services service = knows services.methods service || knows services.
 -- the moment until which a job waits to be answered, if there is one
 abbrev pub deadline_in : Body → Option ℕ
 deadline_in (Unary deadline) = deadline
+deadline_in (Stream mail) = None
 
 -- whether a job is a stream's
 abbrev pub is_stream : Body → Bool
 is_stream (Unary deadline) = false
+is_stream (Stream mail) = true
 
 -- what a unary job is that is made at this moment: under sync rules it has no deadline
 abbrev pub unary_body : Rules → ℕ → Request → Body
@@ -103,6 +113,32 @@ new_job id header request body = record { id = id; header = header; request = So
 abbrev pub with_job : JobList → MessageHeader → Request → Body → JobList
 with_job s header request body = record { last = s.last + 1; list = s.list ++ new_job (s.last + 1) header request body ∷ [] }
 
+-- the job of this id, waiting or taken, if there is one
+abbrev pub job_at : List ActiveJob → ℕ → Option ActiveJob
+job_at [] id = None
+job_at (j ∷ js) id = if nat_eq j.id id then Some j else job_at js id
+
+-- what a job is once its mailbox has changed, if it is a stream's
+abbrev pub with_mail : (Mail → Mail) → Body → Body
+with_mail change (Unary deadline) = Unary deadline
+with_mail change (Stream mail) = Stream (change mail)
+
+-- a job, where it is the one of this id with its mailbox changed
+abbrev pub changed_at : ℕ → (Mail → Mail) → ActiveJob → ActiveJob
+changed_at id change j = if nat_eq j.id id then record j { body = with_mail change j.body } else j
+
+-- the jobs, with the mailbox of the one of this id changed
+abbrev pub on_mail : ℕ → (Mail → Mail) → List ActiveJob → List ActiveJob
+on_mail id change jobs = map (changed_at id change) jobs
+
+-- a job, where it is one of this stream's id with its mailbox changed
+abbrev pub changed_under : ℕ → (Mail → Mail) → ActiveJob → ActiveJob
+changed_under k change j = if nat_eq j.header.stream_id k then record j { body = with_mail change j.body } else j
+
+-- the jobs, with the mailboxes of those of a stream's id changed
+abbrev pub on_stream : ℕ → (Mail → Mail) → List ActiveJob → List ActiveJob
+on_stream k change jobs = map (changed_under k change) jobs
+
 -- the first of the jobs that wait was handed out
 pub record HandsOne (old : List ActiveJob) (handed : Job) (new : List ActiveJob) : Type 0 where
   pub job : ActiveJob
@@ -135,6 +171,11 @@ pub record IsTaken (jobs : List ActiveJob) (id : ℕ) (job : ActiveJob) : Type 0
 abbrev pub IsUnknown : List ActiveJob → ℕ → Type 0
 IsUnknown jobs id = AllByRecursion (λ (j : ActiveJob). j.id ≡ id → j.request ≢ None) jobs
 
+-- No job of this id was taken that is answered by one response: none was taken, or under async rules a stream's.
+abbrev pub IsNoUnary : Rules → List ActiveJob → ℕ → Type 0
+IsNoUnary Sync jobs id = IsUnknown jobs id
+IsNoUnary Async jobs id = IsUnknown jobs id ⊎ ((job : ActiveJob) × IsTaken jobs id job × (is_stream job.body ≡ true))
+
 -- a job that was taken is gone
 pub record EndsOne (old : List ActiveJob) (id : ℕ) (job : ActiveJob) (new : List ActiveJob) : Type 0 where
   pub at : IsTaken old id job
@@ -147,6 +188,8 @@ pub record Server : Type 0 where
   pub rules : Rules
   pub services : Services
   pub jobs : JobList
+  -- the streams' jobs for which something came since it was last told of them, by rising id
+  pub heard : List ℕ
   -- the ids of jobs that were taken and expired since it was last asked which have, in the order in which they expired
   pub expired : List ℕ
   -- whether it takes no more of what comes in
@@ -154,7 +197,40 @@ pub record Server : Type 0 where
 
 -- a server that has made no job
 abbrev pub new_server : Rules → Services → Server
-new_server rules services = record { rules = rules; services = services; jobs = no_jobs; expired = []; draining = false }
+new_server rules services = record { rules = rules; services = services; jobs = no_jobs; heard = []; expired = []; draining = false }
+
+-- which expired jobs are still to be told, where a job is made beside these: none if no job is left
+abbrev pub told_left : List ActiveJob → List ℕ → List ℕ
+told_left [] expired = []
+told_left (j ∷ js) expired = expired
+
+-- a server that made a job, which waits
+abbrev pub with_made : Server → MessageHeader → Request → Body → Server
+with_made s header request body = record s { jobs = with_job s.jobs header request body; expired = told_left s.jobs.list s.expired }
+
+-- the jobs for which something came, with the first of these, those of a stream's id
+abbrev pub heard_with : List ActiveJob → List ℕ → List ℕ
+heard_with [] heard = heard
+heard_with (j ∷ js) heard = insert_key nat_cmp heard j.id
+
+-- what data under this header make of a mailbox
+abbrev pub brought_by : MessageHeader → List ℕ → Mail → Mail
+brought_by h payload m = with_thing m (data_thing h.stream_id h.flags payload) (has_flag FLAG_REMOTE_CLOSED h.flags)
+
+-- data came for the stream of their id: its mailbox has them, and the job is one for which something came
+abbrev pub put_in : Server → MessageHeader → List ℕ → Server
+put_in s h payload = record s {
+  jobs = record s.jobs { list = on_stream h.stream_id (brought_by h payload) s.jobs.list };
+  heard = heard_with (jobs_at s.jobs.list h.stream_id) s.heard;
+}
+
+-- a request without its payload
+abbrev pub without_payload : Request → Request
+without_payload r = record r { payload = [] }
+
+-- what a stream's job is that a request of these flags and payload makes: they bring the first thing
+abbrev pub stream_body : Bool → ℕ → List ℕ → Body
+stream_body bare flags payload = Stream (opened_with (opening_thing bare flags payload) (has_flag FLAG_REMOTE_CLOSED flags))
 
 -- whether a server still takes what comes in
 abbrev pub takes_on : Server → Bool
@@ -163,8 +239,3 @@ takes_on s = not s.draining
 -- the server with this list of jobs
 abbrev pub with_list : Server → List ActiveJob → Server
 with_list s list = record s { jobs = record s.jobs { list = list } }
-
--- which expired jobs are still to be told, where a job is made beside these: none if no job is left
-abbrev pub told_left : List ActiveJob → List ℕ → List ℕ
-told_left [] expired = []
-told_left (j ∷ js) expired = expired

@@ -3,23 +3,36 @@
 -- leaves open, which is codes, texts and which frames are passed over, is as the Rust crate has it, which has two servers:
 -- each of the two rules is one of them. That async rules refuse an id whose job is active is this project's.
 -- Source: PROTOCOL.md of ttrpc, "Message Frame", "Request" and "Response"; the Rust crate; this project's.
-use Rattle.std.specs.Prelude.{ℕ, ◌%◌, List, ◌++◌, length, codes, Option, None, Some, Bool, nat_eq, nat_lt, if◌then◌else◌, [], ◌∷◌}
+use Rattle.std.specs.Prelude.{ℕ, ◌%◌, List, ◌++◌, length, codes, Option, None, Some, Bool, true, false, nat_eq, nat_lt, if◌then◌else◌, [], ◌∷◌}
 use Rattle.std.specs.Fmt.{decimal}
-use Rattle.ttrpc_server.specs.Types.{Code, UNKNOWN, INVALID_ARGUMENT, UNIMPLEMENTED, MessageHeader, MESSAGE_LENGTH_MAX, MESSAGE_TYPE_DATA, MESSAGE_TYPE_REQUEST, Request, Response, TooLong, Opened, Refused, ActiveJob, Rules, Sync, Async, Inlet, Absent, Busy, Case, Skipped, Oversize, Unopened, EvenId, Inactive, InUse, Asks, Asked, Call, NoPath, NoService, NoMethod}
+use Rattle.ttrpc_server.specs.Types.{Code, UNKNOWN, INVALID_ARGUMENT, UNIMPLEMENTED, MessageHeader, MESSAGE_LENGTH_MAX, MESSAGE_TYPE_DATA, MESSAGE_TYPE_REQUEST, Request, Response, TooLong, Opened, Refused, ActiveJob, Rules, Sync, Async, Inlet, Absent, Busy, Full, Taking, Receiver, Open, Closed, Broken, Dropped, Body, Stream, Unary, Case, Skipped, Oversize, Unopened, EvenId, Inactive, InUse, Asks, PutsIn, Asked, Call, Chat, NoPath, NoService, NoMethod}
 use Rattle.ttrpc_wire.specs.Fold.{read_from}
 use Rattle.ttrpc_proto.specs.ErrorText.{status_of}
 use Rattle.ttrpc_proto.specs.Messages.{empty_request, request_step}
 use Rattle.ttrpc_frame.specs.Header.Oversize.{oversize_text}
 use Rattle.ttrpc_secure.specs.Context.Texts.{unopened_text}
 use Rattle.ttrpc_connection.specs.declared.arrived.Opening.{Opening}
-use Rattle.ttrpc_server.specs.State.{Services, has_method, has_service}
+use Rattle.ttrpc_server.specs.State.{Services, has_method, has_service, has_stream}
 
 -- ---- which case a frame is, from top to bottom
+
+-- what a stream's job is for data, by whether its end came and by its receiver: behind the end they are passed over
+abbrev pub inlet_by : Bool → Receiver → Inlet
+inlet_by true receiver = Full
+inlet_by false Open = Taking
+inlet_by false Closed = Busy
+inlet_by false Broken = Busy
+inlet_by false Dropped = Busy
+
+-- what a job is for a frame under its id
+abbrev pub inlet_in : Body → Inlet
+inlet_in (Unary deadline) = Busy
+inlet_in (Stream mail) = inlet_by mail.ended mail.receiver
 
 -- what these jobs, those of an id, are for a frame under it
 abbrev pub inlet_of : List ActiveJob → Inlet
 inlet_of [] = Absent
-inlet_of (j ∷ js) = Busy
+inlet_of (j ∷ js) = inlet_in j.body
 
 -- a payload was opened, under sync rules
 abbrev pub sync_case : MessageHeader → List ℕ → Case
@@ -32,6 +45,15 @@ sync_case h plain =
 abbrev pub inlet_case : List ℕ → Inlet → Case
 inlet_case plain Absent = Asks plain
 inlet_case plain Busy = InUse
+inlet_case plain Taking = InUse
+inlet_case plain Full = InUse
+
+-- data under async rules, by the same
+abbrev pub data_case : List ℕ → Inlet → Case
+data_case plain Absent = Inactive
+data_case plain Busy = Inactive
+data_case plain Taking = PutsIn plain
+data_case plain Full = Skipped
 
 -- a payload was opened, under async rules
 abbrev pub async_case : MessageHeader → List ℕ → Inlet → Case
@@ -39,7 +61,7 @@ async_case h plain inlet =
     if nat_lt MESSAGE_LENGTH_MAX (length plain) then Skipped else
     if nat_eq (h.stream_id % 2) 0 then EvenId else
     if nat_eq h.type_ MESSAGE_TYPE_REQUEST then inlet_case plain inlet else
-    if nat_eq h.type_ MESSAGE_TYPE_DATA then Inactive else
+    if nat_eq h.type_ MESSAGE_TYPE_DATA then data_case plain inlet else
     Skipped
 
 -- a payload was opened
@@ -60,14 +82,17 @@ case_of rules h (Opened plain) inlet = opened_case rules h plain inlet
 
 -- ---- what a request does that was read
 
--- there is no such method
-abbrev pub unknown_of : Rules → Services → Request → Asked
-unknown_of Sync services r = NoPath
-unknown_of Async services r = if has_service services r.service then NoMethod else NoService
+-- there is no such method: sync rules know methods alone
+abbrev pub other_of : Rules → Services → Request → Asked
+other_of Sync services r = NoPath
+other_of Async services r =
+    if has_stream services r.service r.method then Chat else
+    if has_service services r.service then NoMethod else
+    NoService
 
 -- what a request does that was read
 abbrev pub asked_of : Rules → Services → Request → Asked
-asked_of rules services r = if has_method services r.service r.method then Call else unknown_of rules services r
+asked_of rules services r = if has_method services r.service r.method then Call else other_of rules services r
 
 -- ---- what is answered: a code and a text, or nothing
 
@@ -116,10 +141,12 @@ case_answer h EvenId = answer INVALID_ARGUMENT even_id_text
 case_answer h Inactive = answer INVALID_ARGUMENT inactive_text
 case_answer h InUse = answer INVALID_ARGUMENT (in_use_text h.stream_id)
 case_answer h (Asks plain) = None
+case_answer h (PutsIn plain) = None
 
 -- what is answered to a request that was read
 abbrev pub asked_answer : Request → Asked → Option Response
 asked_answer r Call = None
+asked_answer r Chat = None
 asked_answer r NoPath = answer INVALID_ARGUMENT (path_text r.service r.method)
 asked_answer r NoService = answer INVALID_ARGUMENT (service_text r.service)
 asked_answer r NoMethod = answer UNIMPLEMENTED (method_text r.method)
@@ -134,8 +161,21 @@ pub data Row : Type 0 where
   SendResponse : (response : Response) → Row
   -- a response of this code is sent, whose text is left open
   SendCode : (code : Code) → Row
-  -- a job is made of the request
+  -- a job of one response is made of the request
   MakeJob : (request : Request) → Row
+  -- a stream's job is
+  MakeStream : (request : Request) → Row
+  -- data are put into the mailbox of its id's stream
+  PutIn : (payload : List ℕ) → Row
+
+-- whether it makes a job
+abbrev pub makes_job : Row → Bool
+makes_job Ignore = false
+makes_job (SendResponse response) = false
+makes_job (SendCode code) = false
+makes_job (MakeJob request) = true
+makes_job (MakeStream request) = true
+makes_job (PutIn payload) = false
 
 -- what is answered is sent
 abbrev pub answer_row : Option Response → Row
@@ -145,6 +185,7 @@ answer_row (Some r) = SendResponse r
 -- the row of a request that was read
 abbrev pub asked_row : Request → Asked → Row
 asked_row r Call = MakeJob r
+asked_row r Chat = MakeStream r
 asked_row r asked = answer_row (asked_answer r asked)
 
 -- the row of a request, and of bytes that mean none
@@ -154,6 +195,7 @@ request_row rules services (Some r) = asked_row r (asked_of rules services r)
 
 -- the row of each case
 abbrev pub case_row : Rules → Services → MessageHeader → Case → Row
+case_row rules services h (PutsIn plain) = PutIn plain
 case_row rules services h (Asks plain) = request_row rules services (read_from request_step empty_request plain)
 case_row rules services h case = answer_row (case_answer h case)
 

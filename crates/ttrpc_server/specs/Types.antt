@@ -12,17 +12,20 @@ pub use Rattle.ttrpc_connection.specs.declared.arrived.Opening.TheVariants.{Open
 pub use Rattle.ttrpc_connection.specs.declared.connection.Connection.{Connection}
 pub use Rattle.ttrpc_connection.specs.declared.failure.Failure.{Failure}
 pub use Rattle.ttrpc_connection.specs.declared.failure.Failure.TheVariants.{HandlerError, JobIdsUsedUp, NoMemory as NoMemoryLeft}
+pub use Rattle.ttrpc_connection.specs.declared.mailbox.Receiver.{Receiver}
+pub use Rattle.ttrpc_connection.specs.declared.mailbox.Receiver.TheVariants.{Open, Closed, Broken, Dropped}
+pub use Rattle.ttrpc_connection.specs.Mail.{Mail}
 pub use Rattle.ttrpc_connection.specs.Outbox.{Outbox}
 pub use Rattle.ttrpc_server.specs.declared.job.ActiveJob.{ActiveJob}
 pub use Rattle.ttrpc_server.specs.declared.job.Body.{Body}
-pub use Rattle.ttrpc_server.specs.declared.job.Body.TheVariants.{Unary}
+pub use Rattle.ttrpc_server.specs.declared.job.Body.TheVariants.{Stream, Unary}
 pub use Rattle.ttrpc_server.specs.declared.job.Job.{Job}
 pub use Rattle.ttrpc_server.specs.declared.rows.Asked.{Asked}
-pub use Rattle.ttrpc_server.specs.declared.rows.Asked.TheVariants.{Call, NoMethod, NoPath, NoService}
+pub use Rattle.ttrpc_server.specs.declared.rows.Asked.TheVariants.{Call, NoMethod, NoPath, NoService, Stream as Chat}
 pub use Rattle.ttrpc_server.specs.declared.rows.Case.{Case}
-pub use Rattle.ttrpc_server.specs.declared.rows.Case.TheVariants.{Asks, EvenId, Inactive, InUse, Oversize, Skipped, Unopened}
+pub use Rattle.ttrpc_server.specs.declared.rows.Case.TheVariants.{Asks, EvenId, Inactive, InUse, Oversize, PutsIn, Skipped, Unopened}
 pub use Rattle.ttrpc_server.specs.declared.rows.Inlet.{Inlet}
-pub use Rattle.ttrpc_server.specs.declared.rows.Inlet.TheVariants.{Absent, Busy}
+pub use Rattle.ttrpc_server.specs.declared.rows.Inlet.TheVariants.{Absent, Busy, Full, Taking}
 pub use Rattle.ttrpc_server.specs.declared.rules.Rules.{Rules}
 pub use Rattle.ttrpc_server.specs.declared.rules.Rules.TheVariants.{Async, Sync}
 pub use Rattle.ttrpc_connection.specs.OneEnd.{Ends, failing, Takes, TakesOrDrains}

@@ -4,6 +4,7 @@ ghost use Rattle.ttrpc_server.specs.declared.job.ActiveJob.{ActiveJob as AJob};
 ghost use Rattle.ttrpc_server.specs.State.{HandsOne, deadline_in, IsJob, IsTaken, IsUnknown, NoneWaits, Rising, no_jobs, waits, with_job};
 ghost use Rattle.ttrpc_server.specs.Inside.{FailsToMake};
 
+mod mailboxes;
 #[cfg(test)]
 mod used_up_tests;
 
@@ -100,29 +101,19 @@ impl Jobs {
         match self.jobs.get_mut(&id) {
             Some(job) => {
                 let header = job.header;
+                let stream = job.body.is_stream();
                 let request = job.request.take();
                 match request {
                     Some(request) => Some(Job {
                         id,
                         header,
-                        stream: false,
+                        stream,
                         request,
                     }),
                     None => unreachable!(),
                 }
             }
             None => unreachable!(),
-        }
-    }
-
-    /// The stream's id of the job of this id, if it was taken. Takes no memory.
-    pub(crate) fn stream_of(&self, id: JobId) -> Option<u32>
-        ensures some { IfSome result (λ k. (job : AJob) × IsTaken self.now.list id job × (k ≡ job.header.stream_id)) }
-        ensures none { IfNone result (IsUnknown self.now.list id) }
-    {
-        match self.jobs.get(&id) {
-            Some(job) if job.request.is_none() => Some(job.header.stream_id),
-            _ => None,
         }
     }
 

@@ -1,15 +1,18 @@
 //! Laws over the definitions: what the contracts of single calls come to.
-ghost use Rattle.std.specs.Prelude.{◌≡◌, ◌≢◌, ◌≤◌, ◌++◌, ◌⊎◌, ◌↔◌, ℕ, List, [], Option, None, Some, is_some, true, drop, nat_eq};
+ghost use Rattle.std.specs.Prelude.{◌≡◌, ◌≢◌, ◌≤◌, ◌++◌, ◌⊎◌, ◌↔◌, ◌&&◌, ℕ, List, [], Option, None, Some, Result, is_some, true, drop, nat_eq, nat_le, nat_lt};
 ghost use Rattle.std.specs.List.{AllByRecursion, IsDistinct};
 ghost use Rattle.ttrpc_proto.specs.declared.request.Request.{Request as ARequest};
 ghost use Rattle.ttrpc_frame.specs.declared.outgoing.Queued.{Queued as AQueued};
 ghost use Rattle.ttrpc_frame.specs.Frames.{nothing};
-ghost use Rattle.ttrpc_frame.specs.Queue.{Happening, IsQueue, all_bytes_left, departing, placed, thrown, unsent, written_all};
+ghost use Rattle.ttrpc_frame.specs.Queue.{Happening, IsQueue, all_bytes_left, departing, finished, last_ticket, placed, thrown, unsent, written_all};
 ghost use Rattle.ttrpc_connection.specs.declared.arrived.Arrived.{Arrived as AFrame};
 ghost use Rattle.ttrpc_connection.specs.declared.connection.Connection.{Connection as AConnection};
 ghost use Rattle.ttrpc_connection.specs.Calls.{Call, Gives, Goes, Queues, Runs, joined};
 ghost use Rattle.ttrpc_connection.specs.Frames.{Sent};
-ghost use Rattle.ttrpc_connection.specs.Outbox.{Outbox as AnOutbox};
+ghost use Rattle.ttrpc_connection.specs.Outbox.{Outbox as AnOutbox, is_sent};
+ghost use Rattle.ttrpc_proto.specs.declared.error.Error.{Error as AnError};
+ghost use Rattle.ttrpc_server.specs.Mailboxes.{mail_at};
+ghost use Rattle.ttrpc_server.specs.Streaming.{ReceivesBy, ReceivesOne};
 ghost use Rattle.ttrpc_server.specs.declared.job.ActiveJob.{ActiveJob as AJob};
 ghost use Rattle.ttrpc_server.specs.declared.job.Job.{Job as AHandedJob};
 ghost use Rattle.ttrpc_server.specs.declared.server.ServerCore.{ServerCore as ACore};
@@ -24,13 +27,14 @@ use ttrpc_secure::{InboundTransform, OutboundTransform};
 
 /// Each stream id stands by itself. A frame changes the jobs of its own id alone, adds at most the one that its row
 /// makes, and sends at most one answer, under that id. A job that is handed out, answered or expires changes in its own id
-/// alone, as if there were no other, and one that expires is answered at most once, under that id.
-pub fn streams_stand_by_themselves<O: OutboundTransform>()
+/// alone, as if there were no other, and one that expires is answered at most once, under that id. What a receiver is given,
+/// and what is left for it, doesn't depend on whether another was asked before.
+pub fn streams_stand_by_themselves<O: OutboundTransform, I: InboundTransform>()
     ensures frame_elsewhere { (old new : Server) (o : O) (a : AFrame) (sent : List Sent) (k : ℕ) → serves O.OutboundTransform old o a sent new
         → k ≢ a.header.stream_id → jobs_at new.jobs.list k ≡ jobs_at old.jobs.list k }
     ensures frame { (old new : Server) (o : O) (a : AFrame) (sent : List Sent) → serves O.OutboundTransform old o a sent new
         → jobs_at new.jobs.list a.header.stream_id
-        ≡ made_by (row_of old a) old.rules a.header a.now old.jobs.last (jobs_at old.jobs.list a.header.stream_id) }
+        ≡ made_by (row_of old a) old a.header a.now (jobs_at old.jobs.list a.header.stream_id) }
     ensures own_answer { (old new : Server) (o : O) (a : AFrame) (sent : List Sent) → serves O.OutboundTransform old o a sent new
         → IsAnswered a.header.stream_id sent }
     ensures taken_elsewhere { (old new : List AJob) (handed : AHandedJob) (k : ℕ) → HandsOne old handed new
@@ -47,6 +51,17 @@ pub fn streams_stand_by_themselves<O: OutboundTransform>()
         → (at : IsJob (jobs_at old.jobs.list job.header.stream_id) job.id job) × (jobs_at new.jobs.list job.header.stream_id ≡ at.front ++ at.back) }
     ensures timed_out { (old new : Server) (from to : AnOutbox O) (job : AJob) → (one : ExpiresOne O.OutboundTransform old from job new to)
         → IsAnswered job.header.stream_id one.sent }
+    ensures received { (old mid new : ACore O I) (i j : ℕ) (other given : Option (Result (List ℕ) AnError)) → j ≢ i
+        → ReceivesOne old i other mid → ReceivesOne mid j given new
+        → (left : List AJob) × ReceivesBy old.state.rules old.connection.failure old.state j given left × (mail_at left j ≡ mail_at new.state.jobs.list j) }
+{}
+
+/// Over any run a ticket is sent once the frame that has it, or one behind it, was reported whole.
+pub fn a_ticket_is_sent_once_reported<O: OutboundTransform, I: InboundTransform>()
+    ensures { (s t : Server) (old new : AConnection O I) (calls : List (Call Served)) (happenings : List Happening) (ticket : ℕ)
+        → Runs (serving O.OutboundTransform I.InboundTransform) (served O.OutboundTransform) s old calls happenings t new
+        → is_sent new.outbox.queue ticket
+        ≡ (nat_lt 0 ticket && nat_le ticket (last_ticket (finished old.outbox.queue happenings) old.outbox.queue.sent)) }
 {}
 
 /// Under async rules, over any run, also past a failure, each stream's id has at most one active job.

@@ -13,6 +13,7 @@ use ttrpc_wire::Text;
 pub struct Registry {
     methods: Names,
     streams: Names,
+    bare_openings: bool,
 }
 
 impl Model for Registry {
@@ -20,7 +21,7 @@ impl Model for Registry {
 
     ghost Value = { Services };
 
-    ghost view = { λ a. record { methods = a.methods; streams = a.streams } };
+    ghost view = { λ a. record { methods = a.methods; streams = a.streams; bare_openings = a.bare_openings } };
 }
 
 impl Registry {
@@ -31,6 +32,7 @@ impl Registry {
         Registry {
             methods: Names::new(alloc),
             streams: Names::new(alloc),
+            bare_openings: false,
         }
     }
 
@@ -74,6 +76,21 @@ impl Registry {
     {
         self.streams
             .add(alloc, service.into_string(), stream.into_string())
+    }
+
+    /// Whether a request that opens a stream brings no item where it has no payload and says nothing of that, as those of
+    /// peers written in Go. By default it brings an empty one, by the letter.
+    pub fn set_bare_openings(&mut self, bare: bool)
+        ensures { self.new ≡ record self.old { bare_openings = bare } }
+    {
+        self.bare_openings = bare;
+    }
+
+    /// What was set so.
+    pub(crate) fn has_bare_openings(&self) -> bool
+        ensures { result ≡ self.now.bare_openings }
+    {
+        self.bare_openings
     }
 
     /// Whether this service has this method. Takes no memory.

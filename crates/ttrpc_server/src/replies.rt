@@ -53,7 +53,7 @@ impl Unsent {
 }
 
 /// What a server adds to the text about the safe limit.
-fn advice(rules: Rules) -> &'static str
+pub(crate) fn advice(rules: Rules) -> &'static str
     ensures { result.now ≡ advice rules }
 {
     match rules {

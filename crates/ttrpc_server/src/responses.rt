@@ -124,6 +124,13 @@ pub fn unknown_job_error(alloc: Global) -> Error
     others_error(String::from_str(alloc, "unknown job"))
 }
 
+/// The error for a call on the stream of a job that has none, or `NoMemory` where memory for its text was refused.
+pub fn unknown_stream_error(alloc: Global) -> Error
+    ensures { IsTold (Error.Others (codes "unknown stream")) result }
+{
+    others_error(String::from_str(alloc, "unknown stream"))
+}
+
 /// The error for a call that the server's rules don't have, or `NoMemory` where memory for its text was refused.
 pub fn other_rules_error(alloc: Global) -> Error
     ensures { IsTold (Error.Others (codes "wrong rules for this call")) result }

@@ -1,6 +1,6 @@
 //! The table: which case a frame is, what a request does that was read, and what is answered to either.
 ghost use Rattle.std.specs.Prelude.{◌≡◌, IfOk};
-ghost use Rattle.ttrpc_server.specs.Table.{asked_answer, asked_of, async_case, case_answer, case_of, inlet_case, opened_case, sync_case};
+ghost use Rattle.ttrpc_server.specs.Table.{asked_answer, asked_of, async_case, case_answer, case_of, data_case, inlet_case, opened_case, sync_case};
 
 use crate::registry::Registry;
 use crate::responses::{
@@ -21,6 +21,10 @@ pub enum Inlet {
     Absent,
     /// An active job that takes no data.
     Busy,
+    /// The job of a stream, which takes data.
+    Taking,
+    /// The job of a stream whose end came: data behind it are passed over.
+    Full,
 }
 
 /// Which case of the table a frame is, before its request is read.
@@ -40,13 +44,17 @@ pub enum Case {
     InUse,
     /// This is to be read as a request.
     Asks(Blob),
+    /// These data are put into the mailbox of its id's stream.
+    PutsIn(Blob),
 }
 
 /// What a request does that was read.
 #[derive(Clone, Copy, Debug, PartialEq, Eq)]
 pub enum Asked {
-    /// A job is made of it.
+    /// A job of one response is made of it.
     Call,
+    /// A stream's job is made of it.
+    Stream,
     /// It is answered that there is no such path.
     NoPath,
     /// It is answered that there is no such service.
@@ -104,9 +112,20 @@ fn async_case(header: &MessageHeader, plain: Blob, inlet: Inlet) -> Case
         return inlet_case(plain, inlet);
     }
     if header.type_ == MESSAGE_TYPE_DATA {
-        return Case::Inactive;
+        return data_case(plain, inlet);
     }
     Case::Skipped
+}
+
+// Data, by what their id has.
+fn data_case(plain: Blob, inlet: Inlet) -> Case
+    ensures { result ≡ data_case plain inlet }
+{
+    match inlet {
+        Inlet::Absent | Inlet::Busy => Case::Inactive,
+        Inlet::Taking => Case::PutsIn(plain),
+        Inlet::Full => Case::Skipped,
+    }
 }
 
 // A request, by what its id has.
@@ -115,7 +134,7 @@ fn inlet_case(plain: Blob, inlet: Inlet) -> Case
 {
     match inlet {
         Inlet::Absent => Case::Asks(plain),
-        Inlet::Busy => Case::InUse,
+        Inlet::Busy | Inlet::Taking | Inlet::Full => Case::InUse,
     }
 }
 
@@ -128,7 +147,7 @@ pub fn case_response(
     ensures { IfOk result (λ told. told ≡ case_answer header.now case.now) }
 {
     match case {
-        Case::Skipped | Case::Asks(_) => Ok(None),
+        Case::Skipped | Case::Asks(_) | Case::PutsIn(_) => Ok(None),
         Case::Oversize(length) => Ok(Some(oversize_response(alloc, *length)?)),
         Case::Unopened(why) => Ok(Some(unopened_response(alloc, why)?)),
         Case::EvenId => Ok(Some(even_id_response(alloc)?)),
@@ -146,6 +165,7 @@ pub fn asked_of(rules: Rules, registry: &Registry, request: &Request) -> Asked
     }
     match rules {
         Rules::Sync => Asked::NoPath,
+        Rules::Async if registry.has_stream(&request.service, &request.method) => Asked::Stream,
         Rules::Async if registry.has_service(&request.service) => Asked::NoMethod,
         Rules::Async => Asked::NoService,
     }
@@ -160,7 +180,7 @@ pub fn asked_response(
     ensures { IfOk result (λ told. told ≡ asked_answer request.now asked) }
 {
     match asked {
-        Asked::Call => Ok(None),
+        Asked::Call | Asked::Stream => Ok(None),
         Asked::NoPath => Ok(Some(path_response(alloc, &request.service, &request.method)?)),
         Asked::NoService => Ok(Some(service_response(alloc, &request.service)?)),
         Asked::NoMethod => Ok(Some(method_response(alloc, &request.method)?)),

@@ -1,5 +1,5 @@
 //! The core of a server: frames in, jobs and responses out.
-ghost use Rattle.std.specs.Prelude.{◌≡◌, ◌≢◌, ◌⊎◌, ◌<◌, ◌≤◌, ◌-◌, ◌^◌, ◌++◌, ◌↔◌, ℕ, List, [], filter, true, length, is_some, option_to_list, IfOk, IfErr, OnOk, OnErr, IfSome, IfNone, Ok, Err, Some, None};
+ghost use Rattle.std.specs.Prelude.{◌≡◌, ◌≢◌, ◌⊎◌, ◌<◌, ◌≤◌, ◌-◌, ◌^◌, ◌++◌, ◌↔◌, ℕ, List, [], filter, true, false, length, is_some, option_to_list, IfOk, IfErr, OnOk, OnErr, IfSome, IfNone, Ok, Err, Some, None};
 ghost use Rattle.ttrpc_proto.specs.declared.error.Error.{Error as AnError};
 ghost use Rattle.ttrpc_proto.specs.declared.response.Response.{Response as AResponse};
 ghost use Rattle.ttrpc_frame.specs.Frames.{Holds, nothing};
@@ -9,7 +9,7 @@ ghost use Rattle.ttrpc_connection.specs.Feeds.{IsFailed};
 ghost use Rattle.ttrpc_connection.specs.OneEnd.{Ends, Lends, TakesFrontOrDrains, TakesOrDrains, failing, lendable, lending, reporting};
 ghost use Rattle.ttrpc_server.specs.declared.job.ActiveJob.{ActiveJob as AJob};
 ghost use Rattle.ttrpc_server.specs.Protocol.{Answers, AnswersError, Finishes, Hands, HasNoJob, HasOtherRules, HasUnsent, HasUnsentResponse, QueuesResponse, drained, new_core, serving, RefusesAnswer, RefusesFinish, RefusesResponse, IsDeadline, Passes, due_jobs};
-ghost use Rattle.ttrpc_server.specs.State.{IsTaken, IsUnknown, NoneWaits, Rising, waits};
+ghost use Rattle.ttrpc_server.specs.State.{IsTaken, IsUnknown, NoneWaits, Rising, is_stream, waits};
 
 use crate::job::{Job, JobId};
 use crate::registry::Registry;
@@ -25,8 +25,8 @@ use ttrpc_secure::{ConnectionContext, ConnectionData, InboundTransform, Outbound
 /// The core of a server, over its connection's two halves.
 #[derive(Drop)]
 pub struct ServerCore<O, I> {
-    state: ServerState,
-    connection: Connection<O, I>,
+    pub(crate) state: ServerState,
+    pub(crate) connection: Connection<O, I>,
 }
 
 impl<O: OutboundTransform + Drop, I: InboundTransform + Drop> ServerCore<O, I> {
@@ -92,8 +92,8 @@ impl<O: OutboundTransform + Drop, I: InboundTransform + Drop> ServerCore<O, I> {
         self.state.hand_out()
     }
 
-    /// Answers a job that was taken: its response is queued, and it is gone. One whose response is too long is answered
-    /// by a status that says so. A handler's error ends its job, too: under sync rules it fails the connection, and under
+    /// Answers a job that was taken, no stream's: its response is queued, and it is gone. One whose response is too long is
+    /// answered by a status that says so. A handler's error ends its job, too: under sync rules it fails the connection, and under
     /// async rules it is answered by a status of its text. A refusal changes nothing, and its caller still has the
     /// response.
     pub fn answer(
@@ -133,7 +133,7 @@ impl<O: OutboundTransform + Drop, I: InboundTransform + Drop> ServerCore<O, I> {
         self.queue(alloc, stream_id, response)
     }
 
-    /// Ends a job that was taken, and queues nothing. It is a call of sync rules. It is refused only under others, for a
+    /// Ends a job that was taken, no stream's, and queues nothing. It is a call of sync rules. It is refused only under others, for a
     /// job that wasn't taken or has ended, or once the connection has failed; memory is taken for the text of a refusal
     /// alone. A refusal changes nothing.
     pub fn finish(&mut self, alloc: Global, id: JobId) -> Result<(), Error>
@@ -193,7 +193,8 @@ impl<O: OutboundTransform + Drop, I: InboundTransform + Drop> ServerCore<O, I> {
         ensures some { IfSome result (λ k. (job : AJob) × IsTaken self.now.state.jobs.list id job × (k ≡ job.header.stream_id)) }
         ensures none { IfNone result (IsUnknown self.now.state.jobs.list id) }
     {
-        self.state.jobs().stream_of(id)
+        let (stream_id, _) = self.state.jobs().taken_at(id)?;
+        Some(stream_id)
     }
 
     /// How many jobs wait to be handed out. Takes no memory.
@@ -294,14 +295,14 @@ impl<O: OutboundTransform + Drop, I: InboundTransform + Drop> ServerCore<O, I> {
         !self.connection.has_failed() && self.state.rules() == Rules::Async
     }
 
-    /// The stream's id of a job that may be answered or ended, or why it may not.
+    /// The stream's id of a job that may be answered or ended by one response, or why it may not.
     fn active(&self, alloc: Global, id: JobId) -> Result<u32, Error>
         ensures ok { IfOk result (λ k. (self.now.connection.failure ≡ None)
-            × ((job : AJob) × IsTaken self.now.state.jobs.list id job × (k ≡ job.header.stream_id))) }
+            × ((job : AJob) × IsTaken self.now.state.jobs.list id job × (is_stream job.body ≡ false) × (k ≡ job.header.stream_id))) }
         ensures err { IfErr result (λ told. IsFailed self.now.connection.failure told ⊎ HasNoJob self.now id told) }
     {
         self.connection.check_alive(alloc)?;
-        match self.stream_of(id) {
+        match self.state.unary_at(id) {
             Some(stream_id) => Ok(stream_id),
             None => Err(unknown_job_error(alloc)),
         }
@@ -343,7 +344,7 @@ impl<O: OutboundTransform + Drop, I: InboundTransform + Drop> ServerCore<O, I> {
         stream_id: u32,
         response: &Response,
     ) -> Result<(), Error>
-        requires { (job : AJob) × IsTaken self.old.state.jobs.list id job × (stream_id ≡ job.header.stream_id) }
+        requires { (job : AJob) × IsTaken self.old.state.jobs.list id job × (is_stream job.body ≡ false) × (stream_id ≡ job.header.stream_id) }
         ensures answered { OnOk result (Answers O.OutboundTransform self.old id response.now self.new) }
         ensures refused { IfErr result (λ told. IsFailed self.old.connection.failure told
             ⊎ HasUnsent O.OutboundTransform self.old id (Ok response.now) told) }
@@ -363,7 +364,7 @@ impl<O: OutboundTransform + Drop, I: InboundTransform + Drop> ServerCore<O, I> {
         error: &Error,
     ) -> Result<(), Error>
         requires alive { self.old.connection.failure ≡ None }
-        requires taken { (job : AJob) × IsTaken self.old.state.jobs.list id job × (stream_id ≡ job.header.stream_id) }
+        requires taken { (job : AJob) × IsTaken self.old.state.jobs.list id job × (is_stream job.body ≡ false) × (stream_id ≡ job.header.stream_id) }
         ensures answered { OnOk result (AnswersError O.OutboundTransform self.old.state.rules self.old id error.now self.new) }
         ensures refused { IfErr result (λ told. IsFailed self.old.connection.failure told
             ⊎ HasUnsent O.OutboundTransform self.old id (Err error.now) told) }

@@ -1,12 +1,24 @@
 //! The state of a server core, without its connection, and how a whole frame acts on it.
-ghost use Rattle.std.specs.Prelude.{◌≡◌, [], true, IfErr, IfSome, IfNone, OnOk, Some, ◌<◌, ◌^◌, ◌++◌, ℕ, option_to_list};
+ghost use Rattle.std.specs.Prelude.{◌≡◌, ◌⊎◌, [], true, false, IfErr, IfOk, IfSome, IfNone, OnErr, OnOk, None, Some, ◌<◌, ◌^◌, ◌++◌, ℕ, option_to_list};
 ghost use Rattle.ttrpc_proto.specs.Messages.{empty_request, request_step};
 ghost use Rattle.ttrpc_wire.specs.Fold.{read_from};
 ghost use Rattle.ttrpc_server.specs.declared.job.ActiveJob.{ActiveJob as AJob};
+ghost use Rattle.ttrpc_server.specs.declared.job.Body.{Body as ABody};
 ghost use Rattle.ttrpc_server.specs.Protocol.{Does, ExpireAll, IsDeadline, due_jobs};
 ghost use Rattle.ttrpc_server.specs.Inside.{FailsOn, FailsToMake, SendsSome, StopsExpiring};
-ghost use Rattle.ttrpc_server.specs.State.{EndsOne, HandsOne, IsTaken, NoneWaits, jobs_at, new_server, told_left, unary_body, with_job, with_list};
+ghost use Rattle.ttrpc_server.specs.State.{EndsOne, HandsOne, IsNoUnary, IsTaken, NoneWaits, is_stream, job_at, jobs_at, new_server, on_mail, put_in, stream_body, unary_body, with_job, with_list, with_made, without_payload};
+ghost use Rattle.ttrpc_server.specs.declared.rows.Inlet.{Inlet as AnInlet};
+ghost use Rattle.ttrpc_connection.specs.declared.failure.Failure.{Failure as AFailure};
 ghost use Rattle.ttrpc_server.specs.Table.{inlet_of, request_row};
+ghost use Rattle.ttrpc_server.specs.Mailboxes.{mail_at};
+ghost use Rattle.ttrpc_server.specs.Streaming.{HasNoStreams, ReceivesBy, unreceivable, unsendable};
+ghost use Rattle.ttrpc_connection.specs.Failure.{IsTold};
+ghost use Rattle.ttrpc_connection.specs.Mail.{with_thing, without_receiver};
+ghost use Rattle.std.specs.BTreeSet.{insert_key};
+ghost use Rattle.ttrpc_proto.specs.declared.error.Error.{Error as AnError};
+ghost use Rattle.std.specs.BTreeMap.{is_at};
+ghost use Rattle.std.specs.Ordering.{nat_cmp};
+ghost use Rattle.std.specs.Set.{remove_key};
 
 use crate::expiry::{Expiry, expire_job};
 use crate::index::Index;
@@ -14,16 +26,19 @@ use crate::job::{Body, Job, JobId};
 use crate::jobs::Jobs;
 use crate::registry::Registry;
 use crate::replies::{send_answer, send_own_answer};
-use crate::responses::unreadable_response;
+use crate::responses::{other_rules_error, unknown_stream_error, unreadable_response};
 use crate::rows::{Asked, Case, Inlet, asked_of, asked_response, case_of, case_response};
 use crate::rules::Rules;
-use std::alloc::Global;
+use std::alloc::{AllocError, Global};
+use std::collections::BTreeSet;
 use std::marker::Model;
 use ttrpc_codec::in_place::decode_in_place;
 use ttrpc_connection::deadlines::deadline_of;
-use ttrpc_connection::{Arrived, Failure, Outbox, Reacts};
+use ttrpc_connection::mailbox::past;
+use ttrpc_connection::thing::{closes, of_data, of_opening};
+use ttrpc_connection::{Arrived, Failure, Mailbox, Outbox, Reacts, Thing};
 use ttrpc_frame::MessageHeader;
-use ttrpc_proto::Request;
+use ttrpc_proto::{Error, Request};
 use ttrpc_secure::OutboundTransform;
 use ttrpc_wire::{Blob, CodecError};
 
@@ -35,6 +50,8 @@ pub struct ServerState {
     jobs: Jobs,
     // Under sync rules it has none.
     index: Index,
+    // The streams' jobs for which something came since it was last asked.
+    heard: BTreeSet<JobId>,
     // Under async rules it has room for each job.
     expiry: Expiry,
     draining: bool,
@@ -46,7 +63,7 @@ impl Model for ServerState {
 
     ghost Value = { Server };
 
-    ghost view = { λ a. record { rules = a.rules; services = a.registry; jobs = a.jobs; expired = a.expiry.expired; draining = a.draining } };
+    ghost view = { λ a. record { rules = a.rules; services = a.registry; jobs = a.jobs; heard = a.heard.keys; expired = a.expiry.expired; draining = a.draining } };
 
     ghost invariant = { λ a. IsKept a.rules a.jobs.list a.index × HasRoom a.rules a.jobs.list a.expiry };
 }
@@ -61,6 +78,7 @@ impl ServerState {
             registry,
             jobs: Jobs::new(alloc),
             index: Index::new(alloc),
+            heard: BTreeSet::new(alloc),
             expiry: Expiry::new(alloc),
             draining: false,
         }
@@ -109,14 +127,26 @@ impl ServerState {
         self.index.take_away(stream_id, id, deadline);
     }
 
+    /// The stream's id of a job that was taken and is answered by one response, if this id is one's. Takes no memory.
+    pub(crate) fn unary_at(&self, id: JobId) -> Option<u32>
+        ensures some { IfSome result (λ k. (job : AJob) × IsTaken self.now.jobs.list id job × (is_stream job.body ≡ false) × (k ≡ job.header.stream_id)) }
+        ensures none { IfNone result (IsNoUnary self.now.rules self.now.jobs.list id) }
+    {
+        match self.jobs.taken_at(id) {
+            Some((stream_id, false)) => Some(stream_id),
+            _ => None,
+        }
+    }
+
     /// What an id has for a frame under it, which async rules ask. Takes no memory.
     fn inlet(&self, stream_id: u32) -> Inlet
         ensures { self.now.rules ≡ Rules.Async → result ≡ inlet_of (jobs_at self.now.jobs.list stream_id) }
     {
-        match self.index.job_of(stream_id) {
-            None => Inlet::Absent,
-            Some(_) => Inlet::Busy,
-        }
+        let Some(id) = self.index.job_of(stream_id) else {
+            return Inlet::Absent;
+        };
+        self.jobs.lemma_rise();
+        self.jobs.inlet(id).unwrap_or(Inlet::Absent)
     }
 
     /// A payload is read as a request, which acts. An `Err` changes nothing.
@@ -165,7 +195,11 @@ impl ServerState {
             × FailsOn (request_row self.old.rules self.old.services (Some request)) self.old failure) }
     {
         match asked_of(self.rules, &self.registry, &request) {
-            Asked::Call => self.make(header, request, now),
+            Asked::Call => {
+                let body = unary_body(self.rules, now, &request);
+                self.make(header, request, body)
+            }
+            Asked::Stream => self.open(alloc, header, request),
             asked => {
                 let answer = asked_response(alloc, &request, asked)?;
                 send_answer(alloc, outbox, self.rules, header.stream_id, &answer)
@@ -173,18 +207,83 @@ impl ServerState {
         }
     }
 
-    /// Makes a job of a request that came at this moment. Where none was left, those that expired are no longer told of. An
-    /// `Err` changes nothing: no id is left, or no memory.
-    fn make(&mut self, header: MessageHeader, request: Request, now: u64) -> Result<(), Failure>
-        requires { self.old.rules ≡ Rules.Async → jobs_at self.old.jobs.list header.stream_id ≡ [] }
+    /// Makes a stream's job of a request, whose payload is the first thing that came for it. An `Err` changes nothing.
+    fn open(
+        &mut self,
+        alloc: Global,
+        header: MessageHeader,
+        request: Request,
+    ) -> Result<(), Failure>
+        requires none { self.old.rules ≡ Rules.Async → jobs_at self.old.jobs.list header.stream_id ≡ [] }
+        requires rules { self.old.rules ≡ Rules.Async }
+        ensures ok { OnOk result (self.new ≡ with_made self.old header (without_payload request)
+            (stream_body self.old.services.bare_openings header.flags request.payload)) }
+        ensures err { IfErr result (λ failure. (self.new ≡ self.old) × FailsToMake self.old.jobs failure) }
+    {
+        let Request {
+            service,
+            method,
+            payload,
+            timeout_nano,
+            metadata,
+        } = request;
+        let first = of_opening(self.registry.has_bare_openings(), header.flags, payload);
+        let mailbox = Mailbox::opened(alloc, first, closes(header.flags))?;
+        let request = Request {
+            service,
+            method,
+            payload: Blob::new(alloc),
+            timeout_nano,
+            metadata,
+        };
+        self.make(header, request, Body::Stream(mailbox))
+    }
+
+    /// Puts data into the mailbox of their id's stream. An `Err` changes nothing.
+    fn put(&mut self, alloc: Global, header: &MessageHeader, plain: Blob) -> Result<(), Failure>
+        requires rules { self.old.rules ≡ Rules.Async }
+        requires takes { inlet_of (jobs_at self.old.jobs.list header.now.stream_id) ≡ AnInlet.Taking }
+        ensures ok { OnOk result (self.new ≡ put_in self.old header.now plain) }
+        ensures err { IfErr result (λ failure. (self.new ≡ self.old) × (failure ≡ AFailure.NoMemory)) }
+    {
+        let Some(id) = self.index.job_of(header.stream_id) else {
+            unreachable!();
+        };
+        let thing = of_data(alloc, header.stream_id, header.flags, plain)?;
+        self.jobs.lemma_rise();
+        match self.bring(id, thing, closes(header.flags)) {
+            Ok(()) => Ok(()),
+            Err(refused) => Err(refused.into()),
+        }
+    }
+
+    /// Puts a thing into the mailbox of a stream's job, and lists the job as one for which something came. An `Err` changes
+    /// nothing.
+    fn bring(&mut self, id: JobId, thing: Thing, ends: bool) -> Result<(), AllocError>
         ensures ok { OnOk result (self.new ≡ record self.old {
-          jobs = with_job self.old.jobs header request (unary_body self.old.rules now request);
-          expired = told_left self.old.jobs.list self.old.expired;
+          jobs = record self.old.jobs { list = on_mail id (λ m. with_thing m thing ends) self.old.jobs.list };
+          heard = insert_key nat_cmp self.old.heard id;
         }) }
+        ensures err { OnErr result (self.new ≡ self.old) }
+    {
+        let is_new = self.heard.insert(id)?;
+        let put = self.jobs.put(id, thing, ends);
+        if put.is_err() && is_new {
+            self.heard.remove(&id);
+        }
+        put
+    }
+
+    /// Makes a job of a request. Where none was left, those that expired are no longer told of. An `Err` changes nothing: no
+    /// id is left, or no memory.
+    fn make(&mut self, header: MessageHeader, request: Request, body: Body) -> Result<(), Failure>
+        requires none { self.old.rules ≡ Rules.Async → jobs_at self.old.jobs.list header.stream_id ≡ [] }
+        requires plain { self.old.rules ≡ Rules.Sync → body ≡ ABody.Unary None }
+        ensures ok { OnOk result (self.new ≡ with_made self.old header request body) }
         ensures err { IfErr result (λ failure. (self.new ≡ self.old) × FailsToMake self.old.jobs failure) }
     {
         let was_idle = self.jobs.len() == 0;
-        self.make_job(header, request, now)?;
+        self.make_job(header, request, body)?;
         if was_idle {
             self.expiry.forget();
         }
@@ -192,17 +291,21 @@ impl ServerState {
     }
 
     /// Makes a job, and room for it to expire. An `Err` changes nothing.
-    fn make_job(&mut self, header: MessageHeader, request: Request, now: u64) -> Result<(), Failure>
-        requires { self.old.rules ≡ Rules.Async → jobs_at self.old.jobs.list header.stream_id ≡ [] }
-        ensures ok { OnOk result (self.new ≡ record self.old {
-          jobs = with_job self.old.jobs header request (unary_body self.old.rules now request);
-        }) }
+    fn make_job(
+        &mut self,
+        header: MessageHeader,
+        request: Request,
+        body: Body,
+    ) -> Result<(), Failure>
+        requires none { self.old.rules ≡ Rules.Async → jobs_at self.old.jobs.list header.stream_id ≡ [] }
+        requires plain { self.old.rules ≡ Rules.Sync → body ≡ ABody.Unary None }
+        ensures ok { OnOk result (self.new ≡ record self.old { jobs = with_job self.old.jobs header request body }) }
         ensures err { IfErr result (λ failure. (self.new ≡ self.old) × FailsToMake self.old.jobs failure) }
     {
         match self.rules {
-            Rules::Sync => self.jobs.make(header, request, Body::Unary(None)),
+            Rules::Sync => self.jobs.make(header, request, body),
             Rules::Async => {
-                let deadline = deadline_of(now, request.timeout_nano);
+                let deadline = body.deadline();
                 let Some(id) = self.jobs.next_id() else {
                     return Err(Failure::JobIdsUsedUp);
                 };
@@ -212,12 +315,101 @@ impl ServerState {
                 if self.index.add(header.stream_id, id, deadline).is_err() {
                     return Err(Failure::NoMemory);
                 }
-                let made = self.jobs.make(header, request, Body::Unary(deadline));
+                let made = self.jobs.make(header, request, body);
                 if made.is_err() {
                     self.index.take_away(header.stream_id, id, deadline);
                 }
                 made
             }
+        }
+    }
+}
+
+/// Streams.
+impl ServerState {
+    /// The stream's id of a job on whose stream something may be sent, or why nothing may.
+    pub(crate) fn sendable(&self, alloc: Global, id: JobId) -> Result<u32, Error>
+        ensures ok { IfOk result (λ k. (self.now.rules ≡ Rules.Async)
+            × ((job : AJob) × (job_at self.now.jobs.list id ≡ Some job) × (is_stream job.body ≡ true) × (k ≡ job.header.stream_id))) }
+        ensures err { IfErr result (λ told. HasNoStreams self.now told
+            ⊎ ((self.now.rules ≡ Rules.Async) × ((error : AnError) × (unsendable self.now.jobs id ≡ Some error) × IsTold error told))) }
+    {
+        self.check_streams(alloc)?;
+        match self.jobs.stream_at(id) {
+            Some((stream_id, true)) => Ok(stream_id),
+            None if self.jobs.was_made(id) => Err(Error::LocalClosed),
+            _ => Err(unknown_stream_error(alloc)),
+        }
+    }
+
+    /// Gives the next item of the stream of a job, or why there is none.
+    pub(crate) fn recv(
+        &mut self,
+        alloc: Global,
+        id: JobId,
+        failure: &Option<Failure>,
+    ) -> Option<Result<Blob, Error>>
+        ensures own { ReceivesBy self.old.rules failure.now self.old id result self.new.jobs.list }
+        ensures same { self.new ≡ with_list self.old self.new.jobs.list }
+    {
+        if let Err(error) = self.check_streams(alloc) {
+            return Some(Err(error));
+        }
+        match self.jobs.recv(alloc, id, failure) {
+            Some(given) => given,
+            None => Some(Err(self.astray(alloc, id))),
+        }
+    }
+
+    /// Why nothing is received from a job that has no stream.
+    fn astray(&self, alloc: Global, id: JobId) -> Error
+        requires { mail_at self.now.jobs.list id ≡ None }
+        ensures { (error : AnError) × (unreceivable self.now.jobs id ≡ Some error) × IsTold error result }
+    {
+        match self.jobs.stream_at(id) {
+            None if self.jobs.was_made(id) => past(alloc),
+            _ => unknown_stream_error(alloc),
+        }
+    }
+
+    /// Nobody receives any more what comes for the stream of a job. Takes no memory.
+    pub(crate) fn drop_receiver(&mut self, id: JobId)
+        ensures { self.new ≡ record self.old {
+          jobs = record self.old.jobs { list = on_mail id without_receiver self.old.jobs.list };
+          heard = remove_key (is_at (nat_cmp id)) self.old.heard;
+        } }
+    {
+        self.jobs.drop_receiver(id);
+        self.heard.remove(&id);
+    }
+
+    /// The first of the streams' jobs for which something came, and which weren't told of yet. Takes no memory.
+    pub(crate) fn next_heard(&mut self) -> Option<JobId>
+        ensures first { self.old.heard ≡ option_to_list result ++ self.new.heard }
+        ensures none { IfNone result (self.old.heard ≡ []) }
+        ensures same { self.new ≡ record self.old { heard = self.new.heard } }
+    {
+        self.heard.pop_first()
+    }
+
+    /// Forgets the stream's job of this id, which was taken. Takes no memory.
+    pub(crate) fn end_stream(&mut self, id: JobId)
+        requires { (job : AJob) × IsTaken self.old.jobs.list id job }
+        ensures ended { (job : AJob) → IsTaken self.old.jobs.list id job → EndsOne self.old.jobs.list id job self.new.jobs.list }
+        ensures same { self.new ≡ record (with_list self.old self.new.jobs.list) { heard = remove_key (is_at (nat_cmp id)) self.old.heard } }
+    {
+        self.end(id);
+        self.heard.remove(&id);
+    }
+
+    /// The rules have streams, or why they haven't.
+    pub(crate) fn check_streams(&self, alloc: Global) -> Result<(), Error>
+        ensures ok { OnOk result (self.now.rules ≡ Rules.Async) }
+        ensures err { IfErr result (HasNoStreams self.now) }
+    {
+        match self.rules {
+            Rules::Sync => Err(other_rules_error(alloc)),
+            Rules::Async => Ok(()),
         }
     }
 }
@@ -298,10 +490,21 @@ impl<O: OutboundTransform + Drop> Reacts<O> for ServerState {
         let inlet = self.inlet(header.stream_id);
         match case_of(self.rules, &header, arrived.opening, inlet) {
             Case::Asks(plain) => self.ask(alloc, outbox, header, plain, arrived.now),
+            Case::PutsIn(plain) => self.put(alloc, &header, plain),
             case => {
                 let answer = case_response(alloc, &header, &case)?;
                 send_answer(alloc, outbox, self.rules, header.stream_id, &answer)
             }
         }
+    }
+}
+
+/// What a job of one response is that is made of this request at this moment.
+fn unary_body(rules: Rules, now: u64, request: &Request) -> Body
+    ensures { result ≡ unary_body rules now request.now }
+{
+    match rules {
+        Rules::Sync => Body::Unary(None),
+        Rules::Async => Body::Unary(deadline_of(now, request.timeout_nano)),
     }
 }

@@ -4,7 +4,7 @@ use std::alloc::{AllocError, Global};
 use ttrpc_server::Registry;
 use ttrpc_wire::Text;
 
-/// The service `demo.Echo` with the method `Echo` and the stream `Chat`.
+/// The service `demo.Echo` with the method `Echo`, which is the name of a stream, too, and the stream `Chat`.
 pub fn registry(alloc: Global) -> Result<Registry, AllocError> {
     let mut registry = Registry::new(alloc);
     registry.add_method(
@@ -16,6 +16,11 @@ pub fn registry(alloc: Global) -> Result<Registry, AllocError> {
         alloc,
         Text::from_str(alloc, "demo.Echo")?,
         Text::from_str(alloc, "Chat")?,
+    )?;
+    registry.add_stream(
+        alloc,
+        Text::from_str(alloc, "demo.Echo")?,
+        Text::from_str(alloc, "Echo")?,
     )?;
     Ok(registry)
 }

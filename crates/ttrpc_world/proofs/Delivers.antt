@@ -1,5 +1,5 @@
 -- A delivery: each flight that comes in acts as it was sent, on one call. No bytes, no seals that are opened.
-use Rattle.ttrpc_world.proofs.Words.{◌≡◌, ◌≢◌, ℕ, ◌+◌, ◌≤◌, List, [], ◌∷◌, ◌++◌, Bool, true, false, Option, Some, None, if◌then◌else◌, refl, sym, ap, ◌∙◌, subst, inl, inr, arith, append_assoc, cases_eq, append-nil, AllByRecursion, Request, OutboundTransform, Outbox, ActiveJob, Call, Entry, INVALID_ARGUMENT, Opened, Sent, SendsAll, Scene, jobs_at, new_job, has_method, status_response, Server, Row, MakeJob, SendResponse, path_text, request_row, sync_row, Does, serving, Client, call_at, Landing, LandsOn, Gives, by_status, landing_of, LandsOnce, calling, Flying, ActsOn, parcels, Act, Called, acts, Connection, Halves, Pipe, all_joined, under_own, under_other, pushed_own, pushed_other, id_of, stream_id_of}
+use Rattle.ttrpc_world.proofs.Words.{◌≡◌, ◌≢◌, ℕ, ◌+◌, ◌≤◌, List, [], ◌∷◌, ◌++◌, Bool, true, false, Option, Some, None, if◌then◌else◌, refl, sym, ap, ◌∙◌, subst, inl, inr, arith, append_assoc, cases_eq, append-nil, AllByRecursion, Request, OutboundTransform, Outbox, ActiveJob, Call, Entry, INVALID_ARGUMENT, Opened, Sent, SendsAll, Scene, jobs_at, new_job, has_method, status_response, Server, Row, MakeJob, SendResponse, path_text, sync_row, Does, serving, Client, call_at, Landing, LandsOn, Gives, by_status, landing_of, LandsOnce, calling, Flying, ActsOn, parcels, Act, Called, acts, Connection, Halves, Pipe, all_joined, under_own, under_other, pushed_own, pushed_other, id_of, stream_id_of}
 use Rattle.ttrpc_server.specs.Protocol.{SendsOwnAnswer}
 use Rattle.ttrpc_server.specs.State.{unary_body}
 use Rattle.ttrpc_server.specs.Table.{asked_row}

@@ -1,8 +1,10 @@
 -- Each job has one stream, and no two jobs the same: ids of jobs are used once, and so are streams.
-use Rattle.ttrpc_world.proofs.Words.{cond_both, rules, ◌≡◌, ℕ, ◌+◌, ◌≤◌, List, [], ◌∷◌, ◌++◌, length, Bool, true, false, Some, None, Result, Ok, Err, nat_eq, if◌then◌else◌, refl, sym, ap, ◌∙◌, subst, ◌⊎◌, inl, inr, arith, append_assoc, cases_Bool, cond-false, cond-true, eq-eqb, eqb-true, ne_eqb, append-nil, AllByRecursion, Error, ActiveJob, OutboundTransform, ServerCore, Event, Reply, Entry, Incoming, Job, ActsAll, Scene, scene, Sent, header_of_frame, Does, serving, EndsOne, JobList, new_job, Server, Row, MakeJob, row_of, MessageHeader, Take, Answer, Deliver, Handed, Done, Count, Refused, Halves, Net, IsFresh, AnswersBy, Runs, Steps, Act, Ran, IsOneToOne, IsRightAt, IsStreamOf, act_of, acts, only_if, runs, all_at, all_changed, all_less}
+use Rattle.ttrpc_world.proofs.Words.{cond_both, map, rules, ◌≡◌, ℕ, ◌+◌, ◌≤◌, List, [], ◌∷◌, ◌++◌, length, Bool, true, false, Some, None, Result, Ok, Err, nat_eq, if◌then◌else◌, refl, sym, ap, ◌∙◌, subst, ◌⊎◌, inl, inr, arith, append_assoc, cases_Bool, cond-false, cond-true, eq-eqb, eqb-true, ne_eqb, append-nil, AllByRecursion, Error, ActiveJob, OutboundTransform, ServerCore, Event, Reply, Entry, Incoming, Job, ActsAll, Scene, scene, Sent, header_of_frame, Does, serving, EndsOne, JobList, new_job, Server, Row, MakeJob, row_of, MessageHeader, Take, Answer, Deliver, Handed, Done, Count, Refused, Halves, Net, IsFresh, AnswersBy, Runs, Steps, Act, Ran, IsOneToOne, IsRightAt, IsStreamOf, act_of, acts, only_if, runs, all_at, all_changed, all_less}
 use Rattle.ttrpc_connection.specs.Feeds.{arrived}
 use Rattle.ttrpc_server.specs.Protocol.{AnswersError}
-use Rattle.ttrpc_server.specs.State.{unary_body}
+use Rattle.ttrpc_server.specs.State.{brought_by, changed_under, stream_body, unary_body, without_payload}
+use Rattle.ttrpc_server.specs.Table.{MakeStream, PutIn}
+use Rattle.ttrpc_server.proofs.Mapped.{StaysFound, under_stays}
 use Rattle.ttrpc_server.specs.declared.rules.Rules.{Rules}
 use Rattle.ttrpc_server.specs.declared.rules.Rules.TheVariants.{Async, Sync}
 use Rattle.ttrpc_world.specs.declared.events.Side.TheVariants as side
@@ -45,6 +47,11 @@ jobs_make : (f : ℕ → ℕ) (n : ℕ) (job : ActiveJob) (js : List ActiveJob) 
 jobs_make f n job [] id h = ((moved_at f n job.header.stream_id job.id id, omega (arith, id)), tt)
 jobs_make f n job (j ∷ js) id h = ((moved_below f n job.header.stream_id j.id h.0.1 ∙ h.0.0, omega (arith, h.0.1)), jobs_make f n job js id h.1)
 
+-- their mailboxes change
+jobs_map : (f : ℕ → ℕ) (n : ℕ) (g : ActiveJob → ActiveJob) → StaysFound g → (js : List ActiveJob) → AreBelow f n js → AreBelow f n (map g js)
+jobs_map f n g stays [] h = tt
+jobs_map f n g stays (j ∷ js) h = (rw (stays.id j, stays.header j) h.0, jobs_map f n g stays js h.1)
+
 entry_make : (f : ℕ → ℕ) (n s : ℕ) (event : Event) (reply : Reply) → IsBelow f n event reply → IsBelow (moved f n s) (n + 1) event reply
 entry_make f n s Take (Handed (Some job)) h = (moved_below f n s job.id h.1 ∙ h.0, omega (arith, h.1))
 entry_make f n s event reply h = tt
@@ -71,6 +78,17 @@ does_placed out trace (MakeJob request) old o header now sent new d p =
       below = jobs_make p.f n job old.jobs.list refl p.below;
       past = past_make p.f n header.stream_id trace p.past;
     })
+does_placed out trace (MakeStream request) old o header now sent new d p =
+    let n : ℕ = old.jobs.last in
+    let job = new_job (n + 1) header (without_payload request) (stream_body old.services.bare_openings header.flags request.payload) in
+    subst (λ (t : Server). Placed trace t.jobs) (sym d.0) (record {
+      f = moved p.f n header.stream_id;
+      below = jobs_make p.f n job old.jobs.list refl p.below;
+      past = past_make p.f n header.stream_id trace p.past;
+    })
+does_placed out trace (PutIn payload) old o header now sent new d p =
+    let g = changed_under header.stream_id (brought_by header payload) in
+    subst (λ (t : Server). Placed trace t.jobs) (sym d.0) (record { f = p.f; below = jobs_map p.f old.jobs.last g (under_stays header.stream_id (brought_by header payload)) old.jobs.list p.below; past = p.past })
 does_placed out trace r old o header now sent new d p = rw d.0 p
 
 acts_placed : {O I : Type 0} (h : Halves O I) (trace : List Entry) (now : ℕ) (fs : List Incoming) (old new : Scene Server O I) → ActsAll (serving h.out h.in_) now old fs new

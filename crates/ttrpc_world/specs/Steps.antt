@@ -6,11 +6,13 @@ use Rattle.ttrpc_proto.specs.declared.error.Error.TheVariants.{Socket}
 use Rattle.ttrpc_proto.specs.Messages.{IsRequest, IsResponse}
 use Rattle.ttrpc_frame.specs.Queue.{Queue, open_part}
 use Rattle.ttrpc_connection.specs.Feeds.{Ways, Feeds, Breaks, IsFailed}
+use Rattle.ttrpc_connection.specs.Failure.{IsTold}
 use Rattle.ttrpc_connection.specs.OneEnd.{Ends, failing, lending, reporting}
 use Rattle.ttrpc_server.specs.declared.server.ServerCore.{ServerCore}
 use Rattle.ttrpc_server.specs.declared.job.ActiveJob.{ActiveJob}
-use Rattle.ttrpc_server.specs.State.{IsTaken, IsUnknown, NoneWaits, takes_on}
+use Rattle.ttrpc_server.specs.State.{IsTaken, IsUnknown, NoneWaits, is_stream, takes_on}
 use Rattle.ttrpc_server.specs.Protocol.{HasOtherRules, HasUnsent, Answers, AnswersError, Finishes, Hands, QueuesResponse, serving}
+use Rattle.ttrpc_server.specs.Streaming.{unknown_job}
 use Rattle.ttrpc_client.specs.Protocol.{RefusesRequest, Forgets, Requests, TakesOutcome, calling}
 use Rattle.ttrpc_client.specs.Calls.{Passes}
 use Rattle.ttrpc_flight.specs.Flight.{bytes_after_carry}
@@ -65,6 +67,14 @@ BreaksAt w s old pipe now n told t new = Breaks w s old (take (min n (length pip
 abbrev pub failed_by_hand : Error
 failed_by_hand = Socket (codes "failed")
 
+-- The server lives, and the job that was taken is a stream's, to which no one response is the answer.
+pub record IsOfStream {O I : Type 0} (old : ServerCore O I) (id : ℕ) (told : Error) : Type 0 where
+  pub alive : old.connection.failure ≡ None
+  pub job : ActiveJob
+  pub at : IsTaken old.state.jobs.list id job
+  pub stream : is_stream job.body ≡ true
+  pub is_told : IsTold unknown_job told
+
 -- ---- the events, each with its reply
 
 module _ {CO CI SO SI : Type 0} (c : Halves CO CI) (s : Halves SO SI) (seals : Bool) where
@@ -86,9 +96,13 @@ module _ {CO CI SO SI : Type 0} (c : Halves CO CI) (s : Halves SO SI) (seals : B
   AnswersBy old id (Ok response) new = IsResponse response × Answers s.out old id response new
   AnswersBy old id (Err error) new = AnswersError s.out old.state.rules old id error new
 
-  -- An answer was refused: the connection has failed, or the response to a job that was taken can't be queued.
+  -- A response was refused: the connection has failed, or the response to a job that was taken can't be queued.
   abbrev pub RefusesOne : ServerCore SO SI → ℕ → Result Response Error → Error → Type 0
   RefusesOne old id result told = IsFailed old.connection.failure told ⊎ HasUnsent s.out old id result told
+
+  -- An answer was refused: the job that was taken is a stream's; or as above.
+  abbrev pub RefusesJob : ServerCore SO SI → ℕ → Result Response Error → Error → Type 0
+  RefusesJob old id result told = IsOfStream old id told ⊎ RefusesOne old id result told
 
   -- No answer may come for a job: it wasn't taken, or is over, or has its response already.
   abbrev pub AwaitsNone : Net CO CI SO SI → ℕ → Type 0
@@ -174,7 +188,7 @@ module _ {CO CI SO SI : Type 0} (c : Halves CO CI) (s : Halves SO SI) (seals : B
   Steps old Take (Handed (Some job)) new = Hands old.server job new.server × OnlyServer old new
   Steps old Take (Handed None) new = (old.server.connection.failure ≡ None → NoneWaits old.server.state.jobs.list) × (new ≡ old)
   Steps old (Answer id result) Done new = AnswersBy old.server id result new.server × OnlyServer old new × (has_response old id ≡ false)
-  Steps old (Answer id result) (Refused told) new = RefusesOne old.server id result told × (new ≡ old)
+  Steps old (Answer id result) (Refused told) new = RefusesJob old.server id result told × (new ≡ old)
   Steps old (Answer id result) NoStep new = (old.server.connection.failure ≡ None) × AwaitsNone old id × (new ≡ old)
   Steps old (Respond id response) Done new = RespondsTo old id response new
   Steps old (Respond id response) (Refused told) new = (RefusesOne old.server id (Ok response) told ⊎ HasOtherRules old.server told) × (new ≡ old)

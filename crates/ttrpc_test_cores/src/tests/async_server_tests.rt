@@ -1,7 +1,7 @@
 //! Each row of the server's table under async rules, for unary jobs, and each refusal. All bytes are written by hand.
 use crate::server::*;
 use crate::tests::script::{Cuts, FRESH, Row, Start, Step, Told};
-use crate::tests::under_test::{Table, Tested, hold};
+use crate::tests::under_test::{Table, Tested, hold, hold_stamped};
 use ttrpc_bench::{Sealed, StampIn, StampOut, Swelling};
 use ttrpc_secure::Plain;
 use ttrpc_server::{Rules, ServerCore};
@@ -126,17 +126,18 @@ const ANSWERED_ROWS: &[Row] = &[
         steps: &[Step::Serves(NO_METHOD, NOPE)],
         ..FRESH
     },
-    // How the text begins is stated, what follows isn't.
-    Row {
-        name: "unreadable requests are answered",
-        steps: &[
-            Step::Feed(UNREADABLE),
-            Step::TakesNone,
-            Step::WritesStatus(3, "Unpack request error "),
-        ],
-        ..FRESH
-    },
 ];
+
+// How the text begins is stated, what follows isn't.
+const UNREADABLE_ROWS: &[Row] = &[Row {
+    name: "unreadable requests are answered",
+    steps: &[
+        Step::Feed(UNREADABLE),
+        Step::TakesNone,
+        Step::WritesStatus(3, "Unpack request error "),
+    ],
+    ..FRESH
+}];
 
 const JOB_ROWS: &[Row] = &[
     Row {
@@ -259,8 +260,17 @@ fn a_server_that_drains_takes_nothing(rt: HostRuntime) -> Tested {
 
 #[test]
 fn a_polled_server_keeps_its_table(rt: HostRuntime) -> Tested {
-    let tables: &[Table<Rules>] = &[(ASYNC, ANSWERED_ROWS), (ASYNC, JOB_ROWS)];
+    let tables: &[Table<Rules>] = &[
+        (ASYNC, ANSWERED_ROWS),
+        (ASYNC, UNREADABLE_ROWS),
+        (ASYNC, JOB_ROWS),
+    ];
     hold::<Core>(&rt, rt.alloc(), tables)
+}
+
+#[test]
+fn a_polled_server_keeps_its_table_over_stamps(rt: HostRuntime) -> Tested {
+    hold_stamped::<ServerCore<StampOut, StampIn>>(&rt, rt.alloc(), &[(ASYNC, ANSWERED_ROWS)])
 }
 
 const LONG_ROWS: &[Row] = &[Row {
@@ -539,7 +549,7 @@ const EXPIRY_ROWS: &[Row] = &[
     Row {
         name: "many jobs expire by one tick, beside as many that stay",
         cuts: Cuts::Inside(2),
-        steps: &[Step::JobsExpireAtOnce(2000), Step::IsAlive],
+        steps: &[Step::JobsExpireAtOnce(1000), Step::IsAlive],
         ..FRESH
     },
 ];

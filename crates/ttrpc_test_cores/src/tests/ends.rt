@@ -3,8 +3,8 @@ use crate::server::registry;
 use crate::tests::client_steps::{client_refusal, client_step};
 use crate::tests::halves::Half;
 use crate::tests::script::{Start, Step};
-use crate::tests::server_steps::{server_refusal, server_step};
-use crate::tests::under_test::{Client, Core, End, Met, Server, Streaming};
+use crate::tests::server_steps::{server_refusal, server_step, serves};
+use crate::tests::under_test::{Client, Core, End, Items, Met, Server, Streaming};
 use std::alloc::Global;
 use std::test::Fail;
 use ttrpc_client::{CallId, ClientCore, ClientKind, StreamId, Ticket};
@@ -51,6 +51,28 @@ impl<O: OutboundTransform + Drop, I: InboundTransform + Drop> End for ServerCore
     }
 }
 
+impl<O: OutboundTransform + Drop, I: InboundTransform + Drop> Items for ServerCore<O, I> {
+    fn send(&mut self, alloc: Global, id: u32, item: &[u8]) -> Result<Ticket, Error> {
+        ServerCore::send(self, alloc, u64::from(id), item)
+    }
+
+    fn recv(&mut self, alloc: Global, id: u32) -> Option<Result<Blob, Error>> {
+        ServerCore::recv(self, alloc, u64::from(id))
+    }
+
+    fn drop_receiver(&mut self, id: u32) {
+        ServerCore::drop_receiver(self, u64::from(id));
+    }
+
+    fn sent(&self, alloc: Global, ticket: Ticket) -> Option<Result<(), Error>> {
+        ServerCore::sent(self, alloc, ticket)
+    }
+
+    fn next_heard(&mut self) -> Option<u32> {
+        u32::try_from(ServerCore::next_heard(self)?).ok()
+    }
+}
+
 impl<O: OutboundTransform + Drop, I: InboundTransform + Drop> Server for ServerCore<O, I> {
     fn feed_at(&mut self, alloc: Global, piece: &[u8], now: u64) -> Result<usize, Error> {
         ServerCore::feed(self, alloc, piece, now)
@@ -79,6 +101,15 @@ impl<O: OutboundTransform + Drop, I: InboundTransform + Drop> Server for ServerC
 
     fn finish(&mut self, alloc: Global, id: JobId) -> Result<(), Error> {
         ServerCore::finish(self, alloc, id)
+    }
+
+    fn end_stream(
+        &mut self,
+        alloc: Global,
+        id: JobId,
+        end: &Result<Option<Response>, Error>,
+    ) -> Result<(), Error> {
+        ServerCore::end_stream(self, alloc, id, end)
     }
 
     fn tick(&mut self, alloc: Global, now: u64) {
@@ -119,12 +150,17 @@ impl<O: OutboundTransform + Half + Drop, I: InboundTransform + Half + Drop> Core
     type Kind = Rules;
 
     fn start(alloc: Global, rules: Rules, start: Start) -> Result<Self, Fail> {
-        let registry = registry(alloc)?;
+        let mut registry = registry(alloc)?;
+        registry.set_bare_openings(matches!(start, Start::BareOpenings));
         Ok(ServerCore::new(alloc, rules, registry, context(alloc, start)))
     }
 
     fn refusal(&mut self, alloc: Global) -> Result<Option<Error>, Fail> {
         Ok(server_refusal(alloc, self))
+    }
+
+    fn serves(&mut self, alloc: Global, bytes: &[u8], size: usize, expected: &[u8]) -> Met {
+        serves(alloc, self, bytes, size, expected)
     }
 
     fn own_step(&mut self, alloc: Global, step: &Step, cut: usize) -> Met {
@@ -193,6 +229,28 @@ impl<O: OutboundTransform + Drop, I: InboundTransform + Drop> Client for ClientC
     }
 }
 
+impl<O: OutboundTransform + Drop, I: InboundTransform + Drop> Items for ClientCore<O, I> {
+    fn send(&mut self, alloc: Global, id: u32, item: &[u8]) -> Result<Ticket, Error> {
+        ClientCore::send(self, alloc, id, item)
+    }
+
+    fn recv(&mut self, alloc: Global, id: u32) -> Option<Result<Blob, Error>> {
+        ClientCore::recv(self, alloc, id)
+    }
+
+    fn drop_receiver(&mut self, id: u32) {
+        ClientCore::drop_receiver(self, id);
+    }
+
+    fn sent(&self, alloc: Global, ticket: Ticket) -> Option<Result<(), Error>> {
+        ClientCore::sent(self, alloc, ticket)
+    }
+
+    fn next_heard(&mut self) -> Option<u32> {
+        ClientCore::next_heard(self)
+    }
+}
+
 impl<O: OutboundTransform + Drop, I: InboundTransform + Drop> Streaming for ClientCore<O, I> {
     fn new_stream(
         &mut self,
@@ -204,32 +262,12 @@ impl<O: OutboundTransform + Drop, I: InboundTransform + Drop> Streaming for Clie
         ClientCore::new_stream(self, alloc, request, streaming_client, streaming_server)
     }
 
-    fn send(&mut self, alloc: Global, id: StreamId, item: &[u8]) -> Result<Ticket, Error> {
-        ClientCore::send(self, alloc, id, item)
-    }
-
     fn close_send(&mut self, alloc: Global, id: StreamId) -> Result<Ticket, Error> {
         ClientCore::close_send(self, alloc, id)
     }
 
-    fn recv(&mut self, alloc: Global, id: StreamId) -> Option<Result<Blob, Error>> {
-        ClientCore::recv(self, alloc, id)
-    }
-
-    fn drop_receiver(&mut self, id: StreamId) {
-        ClientCore::drop_receiver(self, id);
-    }
-
     fn drop_sender(&mut self, id: StreamId) {
         ClientCore::drop_sender(self, id);
-    }
-
-    fn sent(&self, alloc: Global, ticket: Ticket) -> Option<Result<(), Error>> {
-        ClientCore::sent(self, alloc, ticket)
-    }
-
-    fn next_heard(&mut self) -> Option<StreamId> {
-        ClientCore::next_heard(self)
     }
 }
 
@@ -241,12 +279,18 @@ impl<O: OutboundTransform + Half + Drop, I: InboundTransform + Half + Drop> Core
         let context = context(alloc, start);
         Ok(match start {
             Start::AtLastId => ClientCore::starting_at(alloc, kind, context, LAST_ID),
-            Start::Fresh | Start::Room(_) => ClientCore::new(alloc, kind, context),
+            Start::Fresh | Start::BareOpenings | Start::Room(_) => ClientCore::new(
+                alloc, kind, context,
+            ),
         })
     }
 
     fn refusal(&mut self, alloc: Global) -> Result<Option<Error>, Fail> {
         client_refusal(alloc, self)
+    }
+
+    fn serves(&mut self, _alloc: Global, _bytes: &[u8], _size: usize, _expected: &[u8]) -> Met {
+        Ok(false)
     }
 
     fn own_step(&mut self, alloc: Global, step: &Step, _cut: usize) -> Met {

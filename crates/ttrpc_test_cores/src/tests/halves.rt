@@ -38,7 +38,7 @@ impl Half for Sealed {
     fn start(start: Start) -> Sealed {
         let room = match start {
             Start::Room(room) => room,
-            Start::Fresh | Start::AtLastId => 0,
+            Start::Fresh | Start::AtLastId | Start::BareOpenings => 0,
         };
         Sealed { room }
     }

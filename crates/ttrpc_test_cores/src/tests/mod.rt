@@ -1,4 +1,6 @@
 mod async_server_tests;
+mod both_cores;
+mod both_cores_tests;
 mod client;
 mod client_numbers;
 mod client_steps;
@@ -13,7 +15,10 @@ mod server_steps;
 mod stamps;
 mod steps;
 mod stream_client_tests;
+mod stream_job_numbers;
+mod stream_job_steps;
 mod stream_numbers;
+mod stream_server_tests;
 mod stream_steps;
 mod texts_tests;
 mod transforms_client_tests;

@@ -115,6 +115,24 @@ pub enum Step {
     /// So many requests wait, each of a stream of its own, and all expire by one tick, while so many others stay.
     JobsExpireAtOnce(u32),
 
+    // ---- of a server's streams
+    /// The job that is handed out is a stream's, without a payload, and has this id and this stream.
+    TakesStream(u64, u32),
+    /// The stream of the job of this id is ended by a frame that closes it.
+    EndsStream(u64),
+    /// The same by a response with this payload.
+    EndsWith(u64, &'static [u8]),
+    /// The same by a response with so many bytes 7.
+    EndsWithSevens(u64, usize),
+    /// The same by a response with a status of this code and message.
+    EndsBy(u64, i32, &'static str),
+    /// The same by an error.
+    EndsByError(u64),
+    /// The end of the stream of the job of this id is refused so, and so again.
+    RefusesEnd(u64, Told),
+    /// So many streams are opened, an item comes for each, and they are received and ended, the last first.
+    StreamJobsLastFirst(u32),
+
     // ---- of a client
     /// A call with the payload 01 02 03, this timeout and at this moment gets this id.
     Calls(i64, u64, u32),
@@ -143,7 +161,7 @@ pub enum Step {
     /// So many calls are made, and all expire by one tick.
     CallsExpireAtOnce(u32),
 
-    // ---- of a client's streams
+    // ---- of streams
     /// A stream is opened, by whether it is to send items and to receive them, with this payload, and gets this id.
     Opens(bool, bool, &'static [u8], u32),
     /// A stream that is to send items, or not, with this payload is refused so, and so again.
@@ -158,7 +176,9 @@ pub enum Step {
     Closes(u32, u64),
     /// To send an item on the stream of this id, and to close it, is refused so, and so again.
     RefusesSending(u32, Told),
-    /// To send an item of so many bytes 7 is refused so, and so again.
+    /// To send an item is refused so, and so again.
+    RefusesItem(u32, Told),
+    /// The same of one of so many bytes 7.
     RefusesSevensOn(u32, usize, Told),
     /// The next item of the stream of this id is this one.
     Receives(u32, &'static [u8]),
@@ -195,6 +215,8 @@ pub enum Start {
     Fresh,
     /// With the last id as that of the first call.
     AtLastId,
+    /// Where requests that open streams may be bare.
+    BareOpenings,
     /// With an outbound half that leaves room for so many bytes, where it seals nothing.
     Room(usize),
 }

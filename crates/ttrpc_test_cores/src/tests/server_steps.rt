@@ -2,6 +2,7 @@
 use crate::tests::script::{Step, Told};
 use crate::tests::server_numbers::{jobs_expire_at_once, serves_last_first};
 use crate::tests::steps::{drained, tells};
+use crate::tests::stream_job_steps::stream_job_step;
 use crate::tests::under_test::{Met, Server};
 use std::alloc::Global;
 use std::test::Fail;
@@ -88,7 +89,7 @@ fn front_step<S: Server>(alloc: Global, core: &mut S, step: &Step, cut: usize) -
         Step::RefusesFront(bytes, from, why) => {
             tells(core.feed_front(alloc, behind(bytes, from)).err(), why)
         }
-        _ => Ok(false),
+        _ => stream_job_step(alloc, core, step),
     }
 }
 
@@ -275,7 +276,8 @@ fn echoes_all<S: Server>(alloc: Global, core: &mut S, at_most: usize) -> Met {
     Ok(true)
 }
 
-fn serves<S: Server>(
+/// The bytes are taken in pieces of this size. Behind each, each job is answered with its own payload, and all is written.
+pub fn serves<S: Server>(
     alloc: Global,
     core: &mut S,
     bytes: &[u8],

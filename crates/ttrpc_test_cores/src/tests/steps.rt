@@ -52,6 +52,11 @@ pub fn act_stamped<C: Core>(
             let bytes = stamped(alloc, frames, &mut stamps.leaves)?;
             Ok(writes(core, bytes.as_slice()))
         }
+        Step::Serves(frames, answers) => {
+            let bytes = stamped(alloc, frames, &mut stamps.comes)?;
+            let expected = stamped(alloc, answers, &mut stamps.leaves)?;
+            core.serves(alloc, bytes.as_slice(), cut, expected.as_slice())
+        }
         _ => act(alloc, core, step, cut),
     }
 }

@@ -1,8 +1,8 @@
-//! Many streams, items and frames of a client at once.
+//! Many items and frames of a stream, and many streams of a client, at once.
 use crate::tests::client_steps::stream_request;
 use crate::tests::steps::leaves;
 use crate::tests::stream_steps::receives;
-use crate::tests::under_test::{Met, Streaming};
+use crate::tests::under_test::{Items, Met, Streaming};
 use std::alloc::Global;
 use ttrpc_client::StreamId;
 use ttrpc_wire::values::slices::behind;
@@ -16,7 +16,7 @@ fn id_of(number: u32) -> StreamId {
 }
 
 /// So many items come for the stream of this id, each one byte, which rises and starts again. Nobody asks.
-pub fn items_come<C: Streaming>(alloc: Global, core: &mut C, id: StreamId, count: u32) -> Met {
+pub fn items_come<C: Items>(alloc: Global, core: &mut C, id: u32, count: u32) -> Met {
     let [a, b, c, d] = id.to_be_bytes();
     for number in 0..count {
         let [_, _, _, item] = number.to_be_bytes();
@@ -26,7 +26,7 @@ pub fn items_come<C: Streaming>(alloc: Global, core: &mut C, id: StreamId, count
 }
 
 /// So many items are received of those that came, in order.
-pub fn receives_each<C: Streaming>(alloc: Global, core: &mut C, id: StreamId, count: u32) -> Met {
+pub fn receives_each<C: Items>(alloc: Global, core: &mut C, id: u32, count: u32) -> Met {
     for number in 0..count {
         let [_, _, _, item] = number.to_be_bytes();
         if !receives(alloc, core, id, &[item])? {
@@ -100,7 +100,7 @@ fn receives_last_first<C: Streaming>(alloc: Global, core: &mut C, count: u32) ->
 }
 
 /// So many items are sent on the stream of this id, and each is asked about before and after it leaves.
-pub fn sends_each<C: Streaming>(alloc: Global, core: &mut C, id: StreamId, count: u32) -> Met {
+pub fn sends_each<C: Items>(alloc: Global, core: &mut C, id: u32, count: u32) -> Met {
     let [a, b, c, d] = id.to_be_bytes();
     for _ in 0..count {
         let ticket = core.send(alloc, id, b"i")?;

@@ -1,9 +1,9 @@
-//! The steps of a client's streams.
+//! The steps of streams.
 use crate::tests::client_steps::{request_of_sevens, stream_request};
 use crate::tests::script::{Step, Told};
 use crate::tests::steps::tells;
 use crate::tests::stream_numbers::{items_come, receives_each, sends_each, streams_last_first};
-use crate::tests::under_test::{Met, Streaming};
+use crate::tests::under_test::{Items, Met, Streaming};
 use std::alloc::Global;
 use ttrpc_client::{StreamId, Ticket};
 use ttrpc_proto::Request;
@@ -23,27 +23,28 @@ pub fn stream_step<C: Streaming>(alloc: Global, core: &mut C, step: &Step) -> Me
             let request = request_of_sevens(alloc, length)?;
             refuses_stream(alloc, core, &request, false, why)
         }
-        Step::NextHeard(id) => Ok(core.next_heard() == id),
         Step::StreamsLastFirst(count) => streams_last_first(alloc, core, count),
-        Step::DropsReceiver(id) => {
-            core.drop_receiver(id);
-            Ok(true)
-        }
+        Step::Closes(id, ticket) => Ok(core.close_send(alloc, id)? == ticket),
+        Step::RefusesSending(id, why) => refuses_sending(alloc, core, id, why),
         Step::DropsSender(id) => {
             core.drop_sender(id);
             Ok(true)
         }
-        _ => send_step(alloc, core, step),
+        _ => item_step(alloc, core, step),
     }
 }
 
-/// A step that sends.
-fn send_step<C: Streaming>(alloc: Global, core: &mut C, step: &Step) -> Met {
+/// A step of a stream at either core.
+pub fn item_step<C: Items>(alloc: Global, core: &mut C, step: &Step) -> Met {
     match *step {
+        Step::NextHeard(id) => Ok(core.next_heard() == id),
+        Step::DropsReceiver(id) => {
+            core.drop_receiver(id);
+            Ok(true)
+        }
         Step::Sends(id, item, ticket) => Ok(core.send(alloc, id, item)? == ticket),
         Step::SendsSevens(id, length, ticket) => sends_sevens(alloc, core, id, length, ticket),
-        Step::Closes(id, ticket) => Ok(core.close_send(alloc, id)? == ticket),
-        Step::RefusesSending(id, why) => refuses_sending(alloc, core, id, why),
+        Step::RefusesItem(id, why) => refuses_item(alloc, core, id, why),
         Step::RefusesSevensOn(id, length, why) => refuses_sevens_on(alloc, core, id, length, why),
         Step::IsSent(ticket) => Ok(matches!(core.sent(alloc, ticket), Some(Ok(())))),
         Step::IsUnsent(ticket) => Ok(core.sent(alloc, ticket).is_none()),
@@ -54,7 +55,7 @@ fn send_step<C: Streaming>(alloc: Global, core: &mut C, step: &Step) -> Met {
 }
 
 /// A step that receives.
-fn receive_step<C: Streaming>(alloc: Global, core: &mut C, step: &Step) -> Met {
+fn receive_step<C: Items>(alloc: Global, core: &mut C, step: &Step) -> Met {
     match *step {
         Step::Receives(id, item) => receives(alloc, core, id, item),
         Step::ReceivesNone(id) => Ok(core.recv(alloc, id).is_none()),
@@ -79,10 +80,10 @@ fn refuses_stream<C: Streaming>(
     )
 }
 
-fn sends_sevens<C: Streaming>(
+fn sends_sevens<C: Items>(
     alloc: Global,
     core: &mut C,
-    id: StreamId,
+    id: u32,
     length: usize,
     ticket: Ticket,
 ) -> Met {
@@ -99,10 +100,18 @@ fn refuses_sending<C: Streaming>(alloc: Global, core: &mut C, id: StreamId, why:
     )
 }
 
-fn refuses_sevens_on<C: Streaming>(
+/// To send an item is refused so, and so again.
+fn refuses_item<C: Items>(alloc: Global, core: &mut C, id: u32, why: Told) -> Met {
+    Ok(
+        tells(core.send(alloc, id, &[1]).err(), why)?
+            && tells(core.send(alloc, id, &[1]).err(), why)?,
+    )
+}
+
+fn refuses_sevens_on<C: Items>(
     alloc: Global,
     core: &mut C,
-    id: StreamId,
+    id: u32,
     length: usize,
     why: Told,
 ) -> Met {
@@ -113,7 +122,7 @@ fn refuses_sevens_on<C: Streaming>(
     )
 }
 
-fn is_never_sent<C: Streaming>(alloc: Global, core: &mut C, ticket: Ticket, why: Told) -> Met {
+fn is_never_sent<C: Items>(alloc: Global, core: &mut C, ticket: Ticket, why: Told) -> Met {
     match core.sent(alloc, ticket) {
         None | Some(Ok(())) => Ok(false),
         Some(Err(error)) => tells(Some(error), why),
@@ -121,7 +130,7 @@ fn is_never_sent<C: Streaming>(alloc: Global, core: &mut C, ticket: Ticket, why:
 }
 
 /// The next item is this one. Where memory was refused, the test ends with that error.
-pub fn receives<C: Streaming>(alloc: Global, core: &mut C, id: StreamId, item: &[u8]) -> Met {
+pub fn receives<C: Items>(alloc: Global, core: &mut C, id: u32, item: &[u8]) -> Met {
     match core.recv(alloc, id) {
         None => Ok(false),
         Some(Ok(received)) => Ok(received.as_slice() == item),
@@ -130,7 +139,7 @@ pub fn receives<C: Streaming>(alloc: Global, core: &mut C, id: StreamId, item: &
 }
 
 /// In place of an item this error comes.
-fn receives_error<C: Streaming>(alloc: Global, core: &mut C, id: StreamId, why: Told) -> Met {
+pub fn receives_error<C: Items>(alloc: Global, core: &mut C, id: u32, why: Told) -> Met {
     match core.recv(alloc, id) {
         None | Some(Ok(_)) => Ok(false),
         Some(Err(error)) => tells(Some(error), why),

@@ -36,8 +36,21 @@ pub trait End {
     fn at_boundary(&self) -> bool;
 }
 
+/// What either core does on streams, under their ids at a client and under those of their jobs at a server.
+pub trait Items: End {
+    fn send(&mut self, alloc: Global, id: u32, item: &[u8]) -> Result<Ticket, Error>;
+
+    fn recv(&mut self, alloc: Global, id: u32) -> Option<Result<Blob, Error>>;
+
+    fn drop_receiver(&mut self, id: u32);
+
+    fn sent(&self, alloc: Global, ticket: Ticket) -> Option<Result<(), Error>>;
+
+    fn next_heard(&mut self) -> Option<u32>;
+}
+
 /// What a server does beside.
-pub trait Server: End {
+pub trait Server: Items {
     fn feed_at(&mut self, alloc: Global, piece: &[u8], now: u64) -> Result<usize, Error>;
 
     fn feed_front(&mut self, alloc: Global, piece: &[u8]) -> Result<usize, Error>;
@@ -54,6 +67,13 @@ pub trait Server: End {
     fn respond(&mut self, alloc: Global, stream_id: u32, response: &Response) -> Result<(), Error>;
 
     fn finish(&mut self, alloc: Global, id: JobId) -> Result<(), Error>;
+
+    fn end_stream(
+        &mut self,
+        alloc: Global,
+        id: JobId,
+        end: &Result<Option<Response>, Error>,
+    ) -> Result<(), Error>;
 
     fn tick(&mut self, alloc: Global, now: u64);
 
@@ -87,8 +107,8 @@ pub trait Client: End {
     fn next_deadline(&self) -> Option<u64>;
 }
 
-/// What it does on streams.
-pub trait Streaming: Client {
+/// What it does on streams beside.
+pub trait Streaming: Client + Items {
     fn new_stream(
         &mut self,
         alloc: Global,
@@ -97,19 +117,9 @@ pub trait Streaming: Client {
         streaming_server: bool,
     ) -> Result<StreamId, Error>;
 
-    fn send(&mut self, alloc: Global, id: StreamId, item: &[u8]) -> Result<Ticket, Error>;
-
     fn close_send(&mut self, alloc: Global, id: StreamId) -> Result<Ticket, Error>;
 
-    fn recv(&mut self, alloc: Global, id: StreamId) -> Option<Result<Blob, Error>>;
-
-    fn drop_receiver(&mut self, id: StreamId);
-
     fn drop_sender(&mut self, id: StreamId);
-
-    fn sent(&self, alloc: Global, ticket: Ticket) -> Option<Result<(), Error>>;
-
-    fn next_heard(&mut self) -> Option<StreamId>;
 }
 
 /// Either core.
@@ -121,6 +131,10 @@ pub trait Core: End + Sized + Drop {
 
     /// How the core refuses to be used, where it does: none where it doesn't.
     fn refusal(&mut self, alloc: Global) -> Result<Option<Error>, Fail>;
+
+    /// Takes the first bytes in pieces of this size; behind each, each job is answered with its own payload, and what is
+    /// written then is the second bytes. A core without jobs serves nothing.
+    fn serves(&mut self, alloc: Global, bytes: &[u8], size: usize, expected: &[u8]) -> Met;
 
     /// A step that only this core knows.
     fn own_step(&mut self, alloc: Global, step: &Step, cut: usize) -> Met;

@@ -1,5 +1,5 @@
-use Rattle.std.proofs.Common.{◌≡◌, inl, rules, Err, take}
-use Rattle.ttrpc_echo.proofs.Echoing.{one_front}
+use Rattle.std.proofs.Common.{◌≡◌, ◌∙◌, inl, rules, Err, take}
+use Rattle.ttrpc_echo.proofs.Echoing.{fed_rules, one_front}
 use Rattle.ttrpc_echo.proofs.Stopping.{breaks_stop, takes_so}
 use Rattle.ttrpc_echo.proofs.engine.serve_front.Goals as goal
 
@@ -18,3 +18,8 @@ pub returns-clause-serves : goal.returns-clause-serves
 returns-clause-serves c =
     let t = (c.in_ok-n.ensures.takes (takes_so c.requires)).ok in
     one_front _ t.frame c.args.core.now c.feed_front.new.self c.echo_next.new.core (take c.in_ok-n.n c.args.piece.now) c.requires t.still t.fed t.acts c.in_ok-echo_next.ensures.ok
+
+pub echo_next-requires : goal.echo_next-requires
+echo_next-requires c =
+    let t = (c.in_ok-n.ensures.takes (takes_so c.requires)).ok in
+    record { alive = t.still; rules = fed_rules _ t.frame c.args.core.now c.feed_front.new.self t.acts ∙ c.requires.rules }

@@ -52,7 +52,9 @@ pub mod security {
 pub mod cores {
     pub use ttrpc::cores::client::{CallId, ClientCore, ClientKind, StreamId, Ticket};
     pub use ttrpc::cores::pool::PoolCore;
-    pub use ttrpc::cores::server::{Job, JobId, Registry, Rules, ServerCore};
+    pub use ttrpc::cores::server::{
+        Job, JobId, Registry, Rules, ServerCore, Ticket as ServerTicket,
+    };
     pub use ttrpc::cores::world::{Entry, Event, Reply, Side, Trace, World};
 }
 

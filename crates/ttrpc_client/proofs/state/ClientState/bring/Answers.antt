@@ -1,7 +1,8 @@
 use Rattle.ttrpc_client.proofs.Words.{◌≡◌, ◌∙◌, ap, false, is_at, list_any, nat_cmp}
 use Rattle.std.specs.Set.{remove_key}
 use Rattle.ttrpc_client.proofs.Words.{rules}
-use Rattle.ttrpc_client.proofs.Entered.{on_err, unlisted, view_back}
+use Rattle.ttrpc_client.proofs.Entered.{on_err, view_back}
+use Rattle.ttrpc_connection.proofs.Listed.{unlisted}
 use Rattle.ttrpc_client.proofs.state.ClientState.bring.Goals as goal
 
 pub returns-then-is_new-clause-err : goal.returns-then-is_new-clause-err

@@ -1,4 +1,4 @@
-use Rattle.ttrpc_server.proofs.Words.{rules, ◌≡◌, ◌≢◌, ◌∙◌, ℕ, refl, sym, Option, Some, None, is_at, lookup, nat_cmp}
+use Rattle.ttrpc_server.proofs.Words.{rules}
 use Rattle.ttrpc_server.proofs.Kept.{apart_place}
 use Rattle.ttrpc_server.proofs.index.Index.add.Goals as goal
 

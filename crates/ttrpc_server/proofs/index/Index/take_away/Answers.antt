@@ -1,4 +1,3 @@
-use Rattle.ttrpc_server.proofs.Words.{rules, ◌≡◌, ◌≢◌}
 use Rattle.ttrpc_server.proofs.Kept.{apart_place}
 use Rattle.ttrpc_server.proofs.index.Index.take_away.Goals as goal
 

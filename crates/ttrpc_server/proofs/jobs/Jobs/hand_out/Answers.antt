@@ -1,15 +1,15 @@
-use Rattle.ttrpc_server.proofs.Words.{rules, arith, ◌≡◌, ◌∙◌, ◌∷◌, ap, sym, refl, List, [], ℕ, length, None, Some, is_some, true, false, subst, NoneWaits, ids_waiting}
-use Rattle.ttrpc_server.proofs.Keyed.{empty_of, found, handed, is_there, list_is, none_waits, unary_only}
+use Rattle.ttrpc_server.proofs.Words.{rules, arith, ◌≡◌, ◌∙◌, sym, [], length, None, is_some, true, false, subst, NoneWaits, ids_waiting}
+use Rattle.ttrpc_server.proofs.Keyed.{empty_of, found, handed, is_there, list_is, none_waits}
 use Rattle.ttrpc_server.proofs.jobs.Jobs.hand_out.Goals as goal
 
 pub invariant_of-self-2 : goal.invariant_of-self-2
-invariant_of-self-2 c = (handed c.self.invariant c.in-Some.id c.pop_first.new.self.keys (search rules) c.in-Some-get_mut.job.now c.in-Some-request.request false (unary_only c.in-Some-get_mut.job.now.body) (search rules) (search rules) _ (search rules)).0
+invariant_of-self-2 c = (handed c.self.invariant c.in-Some.id c.pop_first.new.self.keys (search rules) c.in-Some-get_mut.job.now c.in-Some-request.request _ c.is_stream-stream.ensures (search rules) (search rules) _ (search rules)).0
 
 pub returns-clause-given : goal.returns-clause-given
 returns-clause-given c =
     let job = c.in-Some-get_mut.job.now in
     let new = (c.get_mut.follows.lender (record { id = job.id; header = job.header; request = c.take-request.new.self; body = job.body })).entries in
-    rw (← c.self.view_is) (handed c.self.invariant c.in-Some.id c.pop_first.new.self.keys (search rules) job c.in-Some-request.request false (unary_only job.body) (search rules) (search rules) new (search rules)).1
+    rw (← c.self.view_is) (handed c.self.invariant c.in-Some.id c.pop_first.new.self.keys (search rules) job c.in-Some-request.request _ c.is_stream-stream.ensures (search rules) (search rules) new (search rules)).1
 
 pub unreachable-requires : goal.unreachable-requires
 unreachable-requires c =

@@ -1,4 +1,4 @@
-use Rattle.ttrpc_server.proofs.Words.{rules, ◌≡◌, ◌+◌, ◌∙◌, inl, ℕ, ap, sym, refl, List, insert_entry, is_at, remove_entry, nat_cmp, ActiveJob, JobList, new_job}
+use Rattle.ttrpc_server.proofs.Words.{rules, ◌≡◌, ◌+◌, ◌∙◌, inl, ℕ, ap, refl, List, insert_entry, is_at, remove_entry, nat_cmp, ActiveJob, JobList, new_job}
 use Rattle.std.specs.BTreeSet.{insert_key}
 use Rattle.ttrpc_server.proofs.Keyed.{made, unmade}
 use Rattle.ttrpc_server.proofs.jobs.Jobs.make.Goals as goal

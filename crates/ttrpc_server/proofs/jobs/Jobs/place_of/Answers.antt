@@ -1,4 +1,4 @@
-use Rattle.ttrpc_server.proofs.Words.{rules, ◌≡◌, ◌∙◌, sym, ap, Option, Some, None, same_Some, is_at, lookup, nat_cmp, ActiveJob, deadline_in}
+use Rattle.ttrpc_server.proofs.Words.{rules, ◌≡◌, ◌∙◌, sym, ap, Some, None, same_Some, is_at, lookup, nat_cmp, ActiveJob, deadline_in}
 use Rattle.ttrpc_server.proofs.Keyed.{job_found_at}
 use Rattle.ttrpc_server.proofs.jobs.Jobs.place_of.Goals as goal
 

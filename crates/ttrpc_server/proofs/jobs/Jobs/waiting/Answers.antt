@@ -1,4 +1,4 @@
-use Rattle.ttrpc_server.proofs.Words.{rules, ◌≡◌, ◌∙◌, ap, sym, List, ℕ, length, filter, ActiveJob, ids_waiting, waits}
+use Rattle.ttrpc_server.proofs.Words.{rules, ◌≡◌, ◌∙◌, ap, sym, List, ℕ, length, filter, ActiveJob, waits}
 use Rattle.ttrpc_server.proofs.Keyed.{counted, jobs_rise, list_is}
 use Rattle.ttrpc_server.proofs.jobs.Jobs.waiting.Goals as goal
 

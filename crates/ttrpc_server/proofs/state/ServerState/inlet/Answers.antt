@@ -1,11 +1,12 @@
-use Rattle.ttrpc_server.proofs.Words.{◌∙◌, sym, jobs_at}
-use Rattle.ttrpc_server.proofs.Kept.{inlet_absent, inlet_busy}
+use Rattle.ttrpc_server.proofs.Words.{rules, ◌∙◌, ◌≡◌, sym, Some, jobs_at, first_id}
+use Rattle.ttrpc_server.proofs.Kept.{inlet_absent, inlet_found}
 use Rattle.ttrpc_server.proofs.state.ServerState.inlet.Goals as goal
 
-pub returns-in-None : goal.returns-in-None
-returns-in-None c = rw (← c.self.view_is) (λ async.
-    inlet_absent (jobs_at c.self.inside.jobs.list c.args.stream_id) (sym (c.self.invariant.0.found async c.args.stream_id) ∙ sym c.job_of.ensures ∙ c.in-None.is))
+pub returns-in_default : goal.returns-in_default
+returns-in_default c = rw (← c.self.view_is) (λ async.
+    inlet_absent (jobs_at c.self.inside.jobs.list c.args.stream_id) (sym (c.self.invariant.0.found async c.args.stream_id) ∙ sym c.job_of.ensures ∙ search rules))
 
-pub returns-in-Some : goal.returns-in-Some
-returns-in-Some c = rw (← c.self.view_is) (λ async.
-    inlet_busy (jobs_at c.self.inside.jobs.list c.args.stream_id) c.in-Some.field-0 (sym (c.self.invariant.0.found async c.args.stream_id) ∙ sym c.job_of.ensures ∙ c.in-Some.is))
+pub returns : goal.returns
+returns c = rw (← c.self.view_is) (λ async.
+    let first : first_id (jobs_at c.self.inside.jobs.list c.args.stream_id) ≡ Some c.in-Some.id = sym (c.self.invariant.0.found async c.args.stream_id) ∙ search rules in
+    rw (c.unwrap_or.ensures, c.inlet.ensures) (inlet_found 0 c.self.inside.jobs.last c.args.stream_id c.in-Some.id c.self.inside.jobs.list c.lemma_rise.ensures first))

@@ -14,8 +14,9 @@ returns-in_ok-answer-in_default-clause-ok g c =
     let same = same_case s.rules a.header a.opening (inlet_of (jobs_at s.jobs.list a.header.stream_id)) inlet (λ async. sym (has async)) in
     let case : case_of s.rules a.header a.opening inlet ≡ c.case_of.result = search rules in
     let no = c.in_default.not-Asks in
+    let items = c.in_default.not-PutsIn in
     let row : case_row s.rules s.registry a.header (case_of s.rules a.header a.opening (inlet_of (jobs_at s.jobs.list a.header.stream_id))) ≡ answer_row c.in_ok-answer-in_default.answer =
     ap (case_row s.rules s.registry a.header) (same ∙ case)
-    ∙ case_is_answered s.rules s.registry a.header c.case_of.result (λ plain is. first_of (search (rules, no), grind (rules, no)))
+    ∙ case_is_answered s.rules s.registry a.header c.case_of.result (λ plain is. first_of (search (rules, no), grind (rules, no))) (λ plain is. first_of (search (rules, items), grind (rules, items)))
     ∙ ap answer_row (sym c.in_ok-answer-in_default.ensures) in
     rw (← c.self.view_is) (on_ok_weaker c.send_answer.result (λ x. answers g.O.OutboundTransform _ _ a.header a.now _ c.args.outbox.now _ row x) c.send_answer.ensures.ok)

@@ -1,10 +1,11 @@
 use Rattle.ttrpc_server.proofs.Words.{rules, refl, Some, None}
 use Rattle.ttrpc_server.proofs.Keyed.{taken_found, unknown_here}
-use Rattle.ttrpc_server.proofs.jobs.Jobs.stream_of.Goals as goal
+use Rattle.ttrpc_server.proofs.jobs.Jobs.taken_at.Goals as goal
 
 pub returns-in-Some-clause-some : goal.returns-in-Some-clause-some
 returns-in-Some-clause-some c =
-    rw (← c.self.view_is) (c.in-Some.job.now, taken_found c.self.invariant c.args.id c.in-Some.job.now (search rules) (search rules), refl)
+    let job = c.in-Some.job.now in
+    rw (← c.self.view_is, c.is_stream.ensures) (job, taken_found c.self.invariant c.args.id job (search rules) (search rules), refl)
 
 pub returns-in_default-clause-none : goal.returns-in_default-clause-none
 returns-in_default-clause-none c =

@@ -1,0 +1,97 @@
+//! The mailboxes of streams' jobs.
+ghost use Rattle.std.specs.Prelude.{◌≡◌, IfNone, IfSome, OnOk, OnErr};
+ghost use Rattle.std.specs.Option.{option_map};
+ghost use Rattle.ttrpc_connection.specs.Mail.{with_thing, without_receiver};
+ghost use Rattle.ttrpc_server.specs.State.{IsTaken, IsUnknown, is_stream, job_at, on_mail};
+ghost use Rattle.ttrpc_server.specs.declared.job.ActiveJob.{ActiveJob as AJob};
+ghost use Rattle.ttrpc_server.specs.Mailboxes.{ReceivesFrom};
+ghost use Rattle.ttrpc_server.specs.Streaming.{was_made};
+ghost use Rattle.ttrpc_server.specs.Table.{inlet_in};
+
+use crate::job::JobId;
+use crate::jobs::Jobs;
+use crate::rows::Inlet;
+use std::alloc::{AllocError, Global};
+use ttrpc_connection::{Failure, Thing};
+use ttrpc_proto::Error;
+use ttrpc_wire::Blob;
+
+impl Jobs {
+    /// What the job of this id is for a frame under its stream's id, if there is one. Takes no memory.
+    pub(crate) fn inlet(&self, id: JobId) -> Option<Inlet>
+        ensures { result ≡ option_map (λ j. inlet_in j.body) (job_at self.now.list id) }
+    {
+        match self.jobs.get(&id) {
+            Some(job) => Some(job.body.inlet()),
+            None => None,
+        }
+    }
+
+    /// The stream's id of the job of this id, and whether it is a stream's, if there is one. Takes no memory.
+    pub(crate) fn stream_at(&self, id: JobId) -> Option<(u32, bool)>
+        ensures { result ≡ option_map (λ j. (j.header.stream_id, is_stream j.body)) (job_at self.now.list id) }
+    {
+        match self.jobs.get(&id) {
+            Some(job) => Some((job.header.stream_id, job.body.is_stream())),
+            None => None,
+        }
+    }
+
+    /// The stream's id of the job of this id, and whether it is a stream's, if it was taken. Takes no memory.
+    pub(crate) fn taken_at(&self, id: JobId) -> Option<(u32, bool)>
+        ensures some { IfSome result (λ p. (job : AJob) × IsTaken self.now.list id job × (p ≡ (job.header.stream_id, is_stream job.body))) }
+        ensures none { IfNone result (IsUnknown self.now.list id) }
+    {
+        match self.jobs.get(&id) {
+            Some(job) if job.request.is_none() => {
+                Some((job.header.stream_id, job.body.is_stream()))
+            }
+            _ => None,
+        }
+    }
+
+    /// Whether a job of this id was made. Takes no memory.
+    pub(crate) fn was_made(&self, id: JobId) -> bool
+        ensures { result ≡ was_made self.now id }
+    {
+        0 < id && id <= self.last
+    }
+
+    /// Puts a thing into the mailbox of this job, if it is a stream's; `ends` says that it is the last. An `Err` changes
+    /// nothing.
+    pub(crate) fn put(&mut self, id: JobId, thing: Thing, ends: bool) -> Result<(), AllocError>
+        ensures ok { OnOk result (self.new ≡ record self.old { list = on_mail id (λ m. with_thing m thing ends) self.old.list }) }
+        ensures err { OnErr result (self.new ≡ self.old) }
+    {
+        let Some(job) = self.jobs.get_mut(&id) else {
+            return Ok(());
+        };
+        job.body.put(thing, ends)
+    }
+
+    /// Nobody receives any more what comes for this job, if it is a stream's. Takes no memory.
+    pub(crate) fn drop_receiver(&mut self, id: JobId)
+        ensures { self.new ≡ record self.old { list = on_mail id without_receiver self.old.list } }
+    {
+        let Some(job) = self.jobs.get_mut(&id) else {
+            return;
+        };
+        job.body.drop_receiver();
+    }
+
+    /// Gives the next item of this job, which is a stream's, or why there is none. Otherwise there is no answer.
+    pub(crate) fn recv(
+        &mut self,
+        alloc: Global,
+        id: JobId,
+        failure: &Option<Failure>,
+    ) -> Option<Option<Result<Blob, Error>>>
+        ensures answer { ReceivesFrom failure.now self.old.list id result self.new.list }
+        ensures last { self.new.last ≡ self.old.last }
+    {
+        let Some(job) = self.jobs.get_mut(&id) else {
+            return None;
+        };
+        job.body.recv(alloc, failure)
+    }
+}

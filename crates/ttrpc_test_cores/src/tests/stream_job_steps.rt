@@ -1,0 +1,84 @@
+//! The steps of a server's streams.
+use crate::tests::script::{Step, Told};
+use crate::tests::server_steps::ok_response;
+use crate::tests::steps::tells;
+use crate::tests::stream_job_numbers::stream_jobs_last_first;
+use crate::tests::stream_steps::item_step;
+use crate::tests::under_test::{Met, Server};
+use std::alloc::Global;
+use std::test::Fail;
+use ttrpc_codec::message::WireMessage;
+use ttrpc_proto::{Error, Response, Status};
+use ttrpc_server::JobId;
+use ttrpc_wire::{Blob, Text};
+
+/// How a handler ends its stream.
+pub type End = Result<Option<Response>, Error>;
+
+/// A step of a stream's job.
+pub fn stream_job_step<S: Server>(alloc: Global, core: &mut S, step: &Step) -> Met {
+    match *step {
+        Step::TakesStream(id, stream) => Ok(takes_stream(core, id, stream)),
+        Step::EndsStream(id) => ends(alloc, core, id, &Ok(None)),
+        Step::EndsWith(id, payload) => {
+            let payload = Blob::from_slice(alloc, payload)?;
+            ends(alloc, core, id, &Ok(Some(ok_response(alloc, payload))))
+        }
+        Step::EndsWithSevens(id, length) => {
+            let payload = Blob::from_vec(vec![in alloc; 7; length]?);
+            ends(alloc, core, id, &Ok(Some(ok_response(alloc, payload))))
+        }
+        Step::EndsBy(id, code, message) => {
+            let response = status_response(alloc, code, message)?;
+            ends(alloc, core, id, &Ok(Some(response)))
+        }
+        Step::EndsByError(id) => ends(alloc, core, id, &Err(Error::Eof)),
+        Step::RefusesEnd(id, why) => refuses_end(alloc, core, id, why),
+        Step::StreamJobsLastFirst(count) => stream_jobs_last_first(alloc, core, count),
+        _ => item_step(alloc, core, step),
+    }
+}
+
+/// The job that is handed out is a stream's, and has no payload.
+pub fn takes_stream<S: Server>(core: &mut S, id: JobId, stream: u32) -> bool {
+    match core.take_job() {
+        Some(job) => {
+            job.stream
+                && job.id == id
+                && job.header.stream_id == stream
+                && job.request.payload.as_slice().is_empty()
+        }
+        None => false,
+    }
+}
+
+/// A response with a status of this code and message, and no payload.
+pub fn status_response(alloc: Global, code: i32, message: &str) -> Result<Response, Fail> {
+    let mut status = Status::new(alloc);
+    status.code = code;
+    status.message = Text::from_str(alloc, message)?;
+    Ok(Response {
+        status: Some(status),
+        payload: Blob::new(alloc),
+    })
+}
+
+/// The stream ends so.
+pub fn ends<S: Server>(alloc: Global, core: &mut S, id: JobId, end: &End) -> Met {
+    core.end_stream(alloc, id, end)?;
+    Ok(true)
+}
+
+/// Each end of a stream is refused so: none, a response and an error.
+fn refuses_end<S: Server>(alloc: Global, core: &mut S, id: JobId, why: Told) -> Met {
+    let response = ok_response(alloc, Blob::new(alloc));
+    Ok(
+        refuses(alloc, core, id, &Ok(None), why)?
+            && refuses(alloc, core, id, &Ok(Some(response)), why)?
+            && refuses(alloc, core, id, &Err(Error::Eof), why)?,
+    )
+}
+
+fn refuses<S: Server>(alloc: Global, core: &mut S, id: JobId, end: &End, why: Told) -> Met {
+    tells(core.end_stream(alloc, id, end).err(), why)
+}
