@@ -1,2 +1,4 @@
 pub mod ReadTurns
+pub mod Held
+pub mod Asking
 pub mod Making

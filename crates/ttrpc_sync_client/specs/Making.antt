@@ -17,6 +17,6 @@ IsNotMade e = IsFault e ⊎ (e ≡ NoMemory)
 abbrev pub IsNotConnected : List ℕ → Error → Type 0
 IsNotConnected addr e = IsNotOpened addr e ⊎ IsNotMade e
 
--- the hook refused the connection, for this reason
-abbrev pub IsRefusedByHook : Error → Type 0
-IsRefusedByHook e = (why : HookError) × IsOthers (codes "client connect hook failed: ") (hook_error_text why) e
+-- the hook refused the connection, for a reason that it gives
+abbrev pub IsRefusedByHook : (HookError → Type 0) → Error → Type 0
+IsRefusedByHook gives e = (why : HookError) × gives why × IsOthers (codes "client connect hook failed: ") (hook_error_text why) e

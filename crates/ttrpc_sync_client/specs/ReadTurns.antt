@@ -1,6 +1,9 @@
 -- Whose turn it is to read.
 -- Source: this project's.
-use Rattle.std.specs.Prelude.{◌+◌, ◌-◌, ◌^◌, min, ℕ, Bool, true, false, Option, Some, None, if◌then◌else◌, is_some, nat_eq, nat_lt, nat_le}
+use Rattle.std.specs.Prelude.{◌+◌, ◌-◌, ◌^◌, min, ℕ, Bool, true, false, Option, Some, None, Result, Ok, Err, if◌then◌else◌, is_some, nat_eq, nat_lt, nat_le}
+use Rattle.ttrpc_proto.specs.declared.error.Error.{Error}
+use Rattle.ttrpc_proto.specs.declared.error.Error.TheVariants.{RpcStatus}
+use Rattle.ttrpc_proto.specs.declared.response.Response.{Response}
 use Rattle.ttrpc_sync_client.specs.declared.ports.read_turn.TheConstants.{CALLS_TO_REST}
 use Rattle.ttrpc_sync_client.specs.declared.ports.read_turn.Reader.{Reader}
 use Rattle.ttrpc_sync_client.specs.declared.ports.read_turn.Reader.TheVariants.{Nobody, Thread, Caller}
@@ -8,6 +11,10 @@ use Rattle.ttrpc_sync_client.specs.declared.ports.read_turn.Onward.{Onward}
 use Rattle.ttrpc_sync_client.specs.declared.ports.read_turn.Onward.TheVariants.{Reads, Leaves, HandsOver}
 use Rattle.ttrpc_sync_client.specs.declared.ports.read_turn.Manner.{Manner}
 use Rattle.ttrpc_sync_client.specs.declared.ports.read_turn.ReadTurn.{ReadTurn}
+
+-- nobody's, and no call is under way
+abbrev pub new_turn : ReadTurn
+new_turn = record { reader = Nobody; sleeps = false; callers = 0; alone = 0; last = None; unread = None }
 
 -- Nobody reads.
 abbrev pub is_free : Reader → Bool
@@ -54,6 +61,17 @@ finished turn id is_answered = record turn {
   unread = if (if is_answered then is_call turn.unread id else false) then None else turn.unread;
 }
 
+-- An outcome is the peer's answer.
+abbrev pub is_answer : Result Response Error → Bool
+is_answer (Ok response) = true
+is_answer (Err (RpcStatus status)) = true
+is_answer (Err error) = false
+
+-- the turn once the caller of a call has asked for its outcome, and has it where there is one
+abbrev pub turn_asked : ReadTurn → ℕ → Option (Result Response Error) → ReadTurn
+turn_asked turn id None = turn
+turn_asked turn id (Some outcome) = finished turn id (is_answer outcome)
+
 -- The caller of this call may take the turn: nobody has it, and the call is the last one and hasn't ended.
 abbrev pub may_take : ReadTurn → ℕ → Bool
 may_take turn id = if is_free turn.reader then is_call turn.last id else false
@@ -77,3 +95,23 @@ abbrev pub turn_onward : Onward → ReadTurn → ReadTurn
 turn_onward Reads turn = turn
 turn_onward Leaves turn = record turn { reader = Nobody }
 turn_onward HandsOver turn = record turn { sleeps = false }
+
+-- The reader reads on.
+abbrev pub reads_on : Onward → Bool
+reads_on Reads = true
+reads_on Leaves = false
+reads_on HandsOver = false
+
+-- The reader thread is to be woken.
+abbrev pub hands_over : Onward → Bool
+hands_over Reads = false
+hands_over Leaves = false
+hands_over HandsOver = true
+
+-- The reader thread is to be woken for a caller that doesn't read: nobody reads, and it sleeps.
+abbrev pub wakes_thread : ReadTurn → Bool
+wakes_thread turn = if is_free turn.reader then turn.sleeps else false
+
+-- the turn then
+abbrev pub turn_waking : ReadTurn → ReadTurn
+turn_waking turn = if is_free turn.reader then record turn { sleeps = false } else turn

@@ -1,9 +1,10 @@
 //! The client.
-ghost use Rattle.std.specs.Prelude.{◌≡◌, ◌⊎◌, [], IfErr, IfOk};
+ghost use Rattle.std.specs.Prelude.{◌≡◌, ◌⊎◌, [], Err, IfErr, IfOk, Ok};
+ghost use Rattle.std.specs.IoError.{error_kind};
 ghost use Rattle.ttrpc_proto.specs.declared.error.Error.{Error as AnError};
 ghost use Rattle.ttrpc_secure.specs.Hooks.Facts.{facts_of};
+ghost use Rattle.ttrpc_secure.specs.declared.hooks.HookOutput.{HookOutput as AnOutput};
 ghost use Rattle.ttrpc_sync_client.specs.Making.{IsNotConnected, IsNotMade, IsRefusedByHook};
-ghost use Rattle.ttrpc_transport.specs.Sockets.{IsFault};
 
 use crate::connection::ClientConn;
 use crate::ports::{ClientRead, ClientShared};
@@ -74,7 +75,8 @@ where
     pub fn with_hook<H>(rt: R, stream: PipeConnection, hook: &H) -> Result<Client<R, O, I>>
     where
         H: ConnectHook<PipeConnection, Outbound = O, Inbound = I>,
-        ensures err { IfErr result (λ e. IsRefusedByHook e ⊎ IsNotMade e) }
+        ensures known { IfOk result (λ client. (output : AnOutput O I) × H.gives hook.now stream (Ok output) × (client ≡ facts_of output.connection_data.entries)) }
+        ensures err { IfErr result (λ e. IsRefusedByHook (λ why. H.gives hook.now stream (Err why)) e ⊎ IsNotMade e) }
     {
         let alloc = rt.alloc();
         match hook.on_connect(alloc, &stream) {
@@ -151,7 +153,7 @@ where
 
 /// The error for a thread that the system refused.
 fn fault(error: io::Error) -> Error
-    ensures { IsFault result }
+    ensures { result ≡ AnError.Nix (error_kind error) }
 {
     Error::Nix(error.kind())
 }

@@ -1,6 +1,11 @@
 //! A client's connection, which lives as long as a client of it.
-ghost use Rattle.std.specs.Prelude.{◌≡◌};
+ghost use Rattle.std.specs.Prelude.{◌≡◌, IfErr, IfOk, OnErr, OnOk, false};
+ghost use Rattle.ttrpc_client.specs.Protocol.{Forgets, RefusesRequest, TakesOutcome};
 ghost use Rattle.ttrpc_secure.specs.Hooks.Facts.{facts_of};
+ghost use Rattle.ttrpc_sync_client.specs.Asking.{Asks};
+ghost use Rattle.ttrpc_sync_client.specs.Held.{HasTicked};
+ghost use Rattle.ttrpc_sync_client.specs.ReadTurns.{finished, is_answer, turn_asked};
+ghost use Rattle.ttrpc_transport.specs.Sockets.{IsFault};
 
 use crate::ports::{ClientHeld, ClientRead, ClientShared, LONE_FRAME, Manner};
 use std::alloc::Global;
@@ -109,15 +114,13 @@ impl<O: OutboundTransform + Drop, I: InboundTransform + Drop> ClientConn<O, I> {
         let shared = self.link.shared();
         let mut guard = shared.held().lock(rt);
         for _ in rt.forever() {
-            if let Some(outcome) = guard.take_outcome(rt.alloc(), waiting.id) {
-                guard.reading.finished(waiting.id, is_answer(&outcome));
+            if let Some(outcome) = outcome_of(&mut guard, rt.alloc(), waiting.id) {
                 return outcome;
             }
             guard = self.sleep(rt, guard, waiting);
             let has_ticked = ticked(rt, &mut guard);
             if let Err(error) = has_ticked {
-                guard.drop_call(waiting.id);
-                guard.reading.finished(waiting.id, false);
+                give_up(&mut guard, waiting.id);
                 return Err(error);
             }
         }
@@ -143,8 +146,38 @@ impl<O: OutboundTransform + Drop, I: InboundTransform + Drop> ClientConn<O, I> {
     }
 }
 
+/// Gives the outcome of a call, and tells the turn to read that its caller has it; `None` where there is none yet.
+fn outcome_of<O: OutboundTransform + Drop, I: InboundTransform + Drop>(
+    held: &mut ClientHeld<O, I>,
+    alloc: Global,
+    id: CallId,
+) -> Option<Result<Response>>
+    ensures given { TakesOutcome held.old.core id result held.new.core }
+    ensures reading { held.new.reading ≡ turn_asked held.old.reading id result }
+    ensures turn { held.new.turn ≡ held.old.turn }
+{
+    let outcome = held.take_outcome(alloc, id)?;
+    held.reading.finished(id, is_answer(&outcome));
+    Some(outcome)
+}
+
+/// Forgets a call whose caller waits no longer, though it has no outcome.
+fn give_up<O: OutboundTransform + Drop, I: InboundTransform + Drop>(
+    held: &mut ClientHeld<O, I>,
+    id: CallId,
+)
+    ensures forgotten { Forgets O.SEALS held.old.core id held.new.core }
+    ensures reading { held.new.reading ≡ finished held.old.reading id false }
+    ensures turn { held.new.turn ≡ held.old.turn }
+{
+    held.drop_call(id);
+    held.reading.finished(id, false);
+}
+
 /// Whether the peer has answered the call, and so has read its request.
-fn is_answer(outcome: &Result<Response>) -> bool {
+fn is_answer(outcome: &Result<Response>) -> bool
+    ensures { result ≡ is_answer outcome.now }
+{
     matches!(outcome, Ok(_) | Err(Error::RpcStatus(_)))
 }
 
@@ -156,7 +189,11 @@ fn queue_request<O: OutboundTransform + Drop, I: InboundTransform + Drop>(
     alloc: Global,
     request: &Request,
     now: u64,
-) -> Result<Asked> {
+) -> Result<Asked>
+    ensures ok { IfOk result (λ asked. Asks O.OutboundTransform held.old request.now now asked held.new) }
+    ensures refused { IfErr result (RefusesRequest O.OutboundTransform held.old.core request.now) }
+    ensures err { OnErr result ((held.new.core ≡ held.old.core) × (held.new.turn ≡ held.old.turn) × (held.new.reading ≡ held.old.reading)) }
+{
     let deadline = deadline_of(now, request.timeout_nano);
     let nothing_waits = held.core.lendable() == 0;
     let id = held.request(alloc, request, now)?;
@@ -182,11 +219,17 @@ fn queue_request<O: OutboundTransform + Drop, I: InboundTransform + Drop>(
 fn ticked<R: Host, O: OutboundTransform + Drop, I: InboundTransform + Drop>(
     rt: &R,
     held: &mut ClientHeld<O, I>,
-) -> Result<()> {
-    if held.core.next_deadline().is_some() {
-        held.tick(moment(rt)?);
-        // Those that expired wake by themselves.
-        let _ = held.note_ended();
+) -> Result<()>
+    ensures ok { OnOk result (HasTicked O.SEALS held.old.core held.old.reading held.new.core held.new.reading) }
+    ensures fault { IfErr result IsFault }
+    ensures err { OnErr result ((held.new.core ≡ held.old.core) × (held.new.reading ≡ held.old.reading)) }
+    ensures turn { held.new.turn ≡ held.old.turn }
+{
+    if held.core.next_deadline().is_none() {
+        return Ok(());
     }
+    held.tick(moment(rt)?);
+    // Those that expired wake by themselves.
+    let _ = held.note_ended();
     Ok(())
 }

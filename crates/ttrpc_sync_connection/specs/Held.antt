@@ -1,11 +1,12 @@
 -- What the calls of a server's ports do to its core, under the lock.
 -- Source: this project's.
-use Rattle.std.specs.Prelude.{◌≡◌, ◌⊎◌, ℕ, List, length, take, drop, min, is_some, if◌then◌else◌, Bool, true, false, nat_eq, nat_lt, Ok, Err, Result}
+use Rattle.std.specs.Prelude.{◌≡◌, ◌⊎◌, ℕ, List, filter, length, take, drop, min, is_some, if◌then◌else◌, Bool, true, false, nat_eq, nat_lt, Ok, Err, Result}
 use Rattle.ttrpc_frame.specs.Queue.{after_report, open_part, with_lent}
 use Rattle.ttrpc_proto.specs.declared.error.Error.{Error}
 use Rattle.ttrpc_secure.specs.declared.transform.InboundTransform.{Ghosts as InboundTransform}
 use Rattle.ttrpc_secure.specs.declared.transform.OutboundTransform.{Ghosts as OutboundTransform}
 use Rattle.ttrpc_server.specs.Protocol.{AnswersError, Finishes, RefusesAnswer, RefusesFinish, serving}
+use Rattle.ttrpc_server.specs.State.{waits}
 use Rattle.ttrpc_server.specs.Types.{Ends, TakesOrDrains}
 use Rattle.ttrpc_server.specs.declared.server.ServerCore.{ServerCore}
 
@@ -73,3 +74,10 @@ is_alive core = if is_some core.connection.failure then false else true
 -- the core, after a report that so many of the lent bytes were written, and at most all of these
 abbrev pub reported_to : {O I : Type 0} → ServerCore O I → ℕ → ServerCore O I
 reported_to core n = record core { connection = record core.connection { outbox = record core.connection.outbox { queue = after_report core.connection.outbox.queue (min n core.connection.outbox.queue.lent) } } }
+
+-- whether the thread that queued an answer writes it itself: nothing waited to be written before, no other job is under
+-- way, and none waits
+abbrev pub is_lone_answer : {O I : Type 0} → ServerCore O I → ServerCore O I → Bool
+is_lone_answer old new =
+    if has_bytes old then false else
+    if nat_eq (length (filter waits new.state.jobs.list)) 0 then nat_lt (length new.state.jobs.list) 2 else false

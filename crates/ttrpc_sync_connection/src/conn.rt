@@ -1,6 +1,9 @@
 //! A server's connection, as its handlers see it.
-ghost use Rattle.std.specs.Prelude.{◌≡◌, IfErr, IfOk};
+ghost use Rattle.std.specs.Prelude.{◌≡◌, IfErr, IfOk, OnErr, OnOk};
 ghost use Rattle.ttrpc_proto.specs.declared.error.Error.TheVariants.{NoMemory};
+ghost use Rattle.ttrpc_server.specs.Protocol.{QueuesResponse, RefusesResponse};
+ghost use Rattle.ttrpc_sync.specs.Queuing.{queuing_of, turn_after_queuing};
+ghost use Rattle.ttrpc_sync_connection.specs.Held.{is_lone_answer};
 
 use crate::crew::Crew;
 use crate::ports::{ServerHeld, ServerShared};
@@ -108,7 +111,16 @@ fn responded<O: OutboundTransform + Drop, I: InboundTransform + Drop>(
     alloc: Global,
     stream_id: u32,
     response: &Response,
-) -> Result<AfterQueuing> {
+) -> Result<AfterQueuing>
+    // The response is queued, and written at once where it may be.
+    ensures queued { OnOk result (QueuesResponse O.OutboundTransform held.old.core stream_id response.now held.new.core) }
+    ensures next { IfOk result (λ next. next ≡ queuing_of held.old.turn (is_lone_answer held.old.core held.new.core)) }
+    ensures turn { OnOk result (held.new.turn ≡ turn_after_queuing held.old.turn (is_lone_answer held.old.core held.new.core)) }
+    ensures rest { held.new ≡ record held.old { core = held.new.core; turn = held.new.turn } }
+    // Or it is refused, and nothing changed.
+    ensures refused { IfErr result (RefusesResponse O.OutboundTransform held.old.core stream_id response.now) }
+    ensures err { OnErr result (held.new ≡ held.old) }
+{
     let nothing_waits = held.core.lendable() == 0;
     held.core.respond(alloc, stream_id, response)?;
     let is_alone = held.core.jobs_taken() < 2 && held.core.jobs_waiting() == 0;

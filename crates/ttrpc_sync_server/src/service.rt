@@ -1,6 +1,8 @@
 //! What a server uses for each connection.
-ghost use Rattle.std.specs.Prelude.{◌≡◌, IfOk};
+ghost use Rattle.std.specs.Prelude.{◌≡◌, IfErr, IfOk};
 ghost use Rattle.std.specs.Arc.{arc_value};
+ghost use Rattle.ttrpc_proto.specs.declared.error.Error.TheVariants.{NoMemory};
+ghost use Rattle.ttrpc_sync_server.specs.Built.{IsNotStarted};
 
 use crate::accept::Stop;
 use crate::admission::admit;
@@ -63,6 +65,7 @@ where
     A: SharedHook<Outbound = O, Inbound = I>,
     H: SharedHandler<R, O, I>,
     W: SharedWatch,
+    ensures { IfErr result IsNotStarted }
 {
     let (mine, theirs) = (rt.clone()?, Arc::try_clone(service)?);
     let numbered = add(rt, &*service.connections, stream)?;
@@ -77,7 +80,9 @@ where
 }
 
 /// Adds this connection, which has no threads yet, to those that are open.
-fn add<R: Host>(rt: &R, connections: &Connections, stream: PipeConnection) -> Result<Numbered> {
+fn add<R: Host>(rt: &R, connections: &Connections, stream: PipeConnection) -> Result<Numbered>
+    ensures { IfErr result (λ e. e ≡ NoMemory) }
+{
     let alloc = rt.alloc();
     let stream = Arc::new(alloc, stream)?;
     let crew = Arc::new(alloc, Crew::new())?;
@@ -159,7 +164,8 @@ where
     H: Drop,
     A: Drop,
     W: Drop,
-    ensures { IfOk result (λ conn. (arc_value conn).known ≡ output.connection_data) }
+    ensures known { IfOk result (λ conn. (arc_value conn).known ≡ output.connection_data) }
+    ensures err { IfErr result (λ e. e ≡ NoMemory) }
 {
     let alloc = rt.alloc();
     let HookOutput {

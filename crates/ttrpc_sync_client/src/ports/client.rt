@@ -1,12 +1,16 @@
 //! What the threads of a client's connection share.
-ghost use Rattle.std.specs.Prelude.{◌≡◌, ◌≤◌, length, min, nat_eq, None, Some, IfOk, IfErr, IfSome, OnErr};
+ghost use Rattle.std.specs.Prelude.{◌≡◌, length, min, nat_eq, None, Some, IfOk, IfErr, IfSome, OnErr, slice_get, false};
+ghost use Rattle.std.specs.Option.{option_map};
 ghost use Rattle.ttrpc_connection.specs.declared.failure.Failure.{Failure as AFailure};
 ghost use Rattle.ttrpc_connection.specs.OneEnd.{Ends, Lends, failing, lendable, lending, reporting};
 ghost use Rattle.ttrpc_client.specs.State.{IsClient};
 ghost use Rattle.ttrpc_client.specs.Protocol.{Forgets, Requests, TakesOutcome, Ticks, RefusesRequest};
 ghost use Rattle.ttrpc_proto.specs.declared.error.Error.{Error as AnError};
+ghost use Rattle.ttrpc_sync.specs.Turns.{given_back, next_of, turn_after, wakes_behind};
+ghost use Rattle.ttrpc_sync_client.specs.Held.{IsFed, TakesPiece, TellsEnded, has_bytes, is_alive, place_of};
+ghost use Rattle.ttrpc_sync_client.specs.ReadTurns.{new_turn};
 
-use crate::ports::read_turn::{Onward, ReadTurn};
+use crate::ports::read_turn::ReadTurn;
 use std::alloc::Global;
 use std::hint::spin_loop;
 use std::io::ErrorKind;
@@ -51,7 +55,9 @@ pub struct ClientHeld<O, I> {
 impl<O: OutboundTransform + Drop, I: InboundTransform + Drop> ClientHeld<O, I> {
     /// This core, and it is nobody's turn to write or to read.
     pub fn new(core: ClientCore<O, I>) -> Self
-        ensures { result.core ≡ core }
+        ensures core { result.core ≡ core }
+        ensures turn { result.turn ≡ record { is_taken = false; sleeps = false } }
+        ensures reading { result.reading ≡ new_turn }
     {
         core.lemma_is_client();
         ClientHeld {
@@ -66,6 +72,7 @@ impl<O: OutboundTransform + Drop, I: InboundTransform + Drop> ClientHeld<O, I> {
         ensures ok { IfOk result (λ id. Requests O.OutboundTransform self.old.core request.now now id self.new.core) }
         ensures refused { IfErr result (RefusesRequest O.OutboundTransform self.old.core request.now) }
         ensures err { OnErr result (self.new.core ≡ self.old.core) }
+        ensures turns { (self.new.turn ≡ self.old.turn) × (self.new.reading ≡ self.old.reading) }
     {
         let asked = self.core.request(alloc, request, now);
         self.core.lemma_is_client();
@@ -74,7 +81,8 @@ impl<O: OutboundTransform + Drop, I: InboundTransform + Drop> ClientHeld<O, I> {
 
     /// Gives the outcome of a call, once; `None` where there is none yet.
     pub fn take_outcome(&mut self, alloc: Global, id: CallId) -> Option<Result<Response>>
-        ensures { TakesOutcome self.old.core id result self.new.core }
+        ensures given { TakesOutcome self.old.core id result self.new.core }
+        ensures turns { (self.new.turn ≡ self.old.turn) × (self.new.reading ≡ self.old.reading) }
     {
         let outcome = self.core.take_outcome(alloc, id);
         self.core.lemma_is_client();
@@ -85,6 +93,7 @@ impl<O: OutboundTransform + Drop, I: InboundTransform + Drop> ClientHeld<O, I> {
     pub fn tick(&mut self, now: u64)
         ensures failed { (f : AFailure) → self.old.core.connection.failure ≡ Some f → self.new.core ≡ self.old.core }
         ensures alive { self.old.core.connection.failure ≡ None → Ticks O.SEALS self.old.core now self.new.core }
+        ensures turns { (self.new.turn ≡ self.old.turn) × (self.new.reading ≡ self.old.reading) }
     {
         self.core.tick(now);
         self.core.lemma_is_client();
@@ -92,20 +101,25 @@ impl<O: OutboundTransform + Drop, I: InboundTransform + Drop> ClientHeld<O, I> {
 
     /// Forgets a call.
     pub fn drop_call(&mut self, id: CallId)
-        ensures { Forgets O.SEALS self.old.core id self.new.core }
+        ensures forgotten { Forgets O.SEALS self.old.core id self.new.core }
+        ensures turns { (self.new.turn ≡ self.old.turn) × (self.new.reading ≡ self.old.reading) }
     {
         self.core.drop_call(id);
         self.core.lemma_is_client();
     }
 
     /// Tells the turn to read of the calls that have ended, and says at which places their callers wait.
-    pub fn note_ended(&mut self) -> Ended {
+    pub fn note_ended(&mut self) -> Ended
+        ensures told { TellsEnded self.old.core self.old.reading result self.new.core self.new.reading }
+        ensures turn { self.new.turn ≡ self.old.turn }
+    {
         ended_places(&mut self.core, &mut self.reading)
     }
 
     /// No client is left: the connection fails, if it hasn't. Takes no memory.
     pub fn abandon(&mut self)
-        ensures { self.new.core ≡ record self.old.core { connection = failing self.old.core.connection (AFailure.Told AnError.LocalClosed) } }
+        ensures failed { self.new.core ≡ record self.old.core { connection = failing self.old.core.connection (AFailure.Told AnError.LocalClosed) } }
+        ensures turns { (self.new.turn ≡ self.old.turn) × (self.new.reading ≡ self.old.reading) }
     {
         self.core.fail(Error::LocalClosed);
     }
@@ -114,15 +128,19 @@ impl<O: OutboundTransform + Drop, I: InboundTransform + Drop> ClientHeld<O, I> {
 impl<O: OutboundTransform + Drop, I: InboundTransform + Drop> Held for ClientHeld<O, I> {
     type Woken = Woken;
 
-    fn take(&mut self, alloc: Global, piece: &[u8]) -> Option<Taken<Woken>> {
+    fn take(&mut self, alloc: Global, piece: &[u8]) -> Option<Taken<Woken>>
+        ensures whole { IfSome result (λ taken. taken.count ≡ length piece.now) }
+        ensures taken { TakesPiece O.OutboundTransform I.InboundTransform self.old.core self.old.reading piece.now result self.new.core self.new.reading }
+        ensures turn { self.new.turn ≡ self.old.turn }
+    {
         let (count, callers) = feed_piece(&mut self.core, &mut self.reading, alloc, piece)?;
         let onward = self.reading.onward();
         Some(Taken {
             count,
-            reads_on: onward == Onward::Reads,
+            reads_on: onward.reads_on(),
             woken: Woken {
                 callers,
-                reader: onward == Onward::HandsOver,
+                reader: onward.hands_over(),
             },
         })
     }
@@ -130,14 +148,16 @@ impl<O: OutboundTransform + Drop, I: InboundTransform + Drop> Held for ClientHel
     fn ended(&mut self)
         ensures ends { Ends self.old.core.connection self.new.core.connection }
         ensures same { self.new.core ≡ record self.old.core { connection = self.new.core.connection } }
+        ensures turns { (self.new.turn ≡ self.old.turn) × (self.new.reading ≡ self.old.reading) }
     {
         ended_on(&mut self.core);
     }
 
     fn wrote(&mut self, count: usize)
-        ensures { self.new.core ≡ record self.old.core {
+        ensures reported { self.new.core ≡ record self.old.core {
           connection = reporting self.old.core.connection (min count self.old.core.connection.outbox.queue.lent);
         } }
+        ensures turns { (self.new.turn ≡ self.old.turn) × (self.new.reading ≡ self.old.reading) }
     {
         let lent = self.core.lent();
         wrote_on(&mut self.core, count.min(lent));
@@ -147,6 +167,7 @@ impl<O: OutboundTransform + Drop, I: InboundTransform + Drop> Held for ClientHel
         ensures lends { Lends self.old.core.connection buffer.old result.count buffer.new }
         ensures lent { self.new.core ≡ record self.old.core { connection = lending self.old.core.connection result.count } }
         ensures frame { result.ends_frame ≡ nat_eq result.count (lendable self.old.core.connection) }
+        ensures turns { (self.new.turn ≡ self.old.turn) × (self.new.reading ≡ self.old.reading) }
     {
         let open = self.core.lendable();
         let count = lend_on(&mut self.core, buffer);
@@ -157,18 +178,27 @@ impl<O: OutboundTransform + Drop, I: InboundTransform + Drop> Held for ClientHel
     }
 
     fn broke(&mut self, kind: ErrorKind)
-        ensures { self.new.core ≡ record self.old.core { connection = failing self.old.core.connection (AFailure.Told (AnError.Nix kind)) } }
+        ensures failed { self.new.core ≡ record self.old.core { connection = failing self.old.core.connection (AFailure.Told (AnError.Nix kind)) } }
+        ensures turns { (self.new.turn ≡ self.old.turn) × (self.new.reading ≡ self.old.reading) }
     {
         broke_on(&mut self.core, kind);
     }
 
-    fn next(&mut self, has_turn: bool) -> Next {
+    fn next(&mut self, has_turn: bool) -> Next
+        ensures result { result ≡ next_of self.old.turn.is_taken has_turn (is_alive self.old.core) (has_bytes self.old.core) }
+        ensures turn { self.new.turn ≡ turn_after self.old.turn has_turn (is_alive self.old.core) (has_bytes self.old.core) }
+        ensures rest { (self.new.core ≡ self.old.core) × (self.new.reading ≡ self.old.reading) }
+    {
         let bytes_wait = self.core.lendable() > 0;
         let stays = !self.core.has_failed();
         self.turn.next(has_turn, stays, bytes_wait)
     }
 
-    fn give_back(&mut self) -> bool {
+    fn give_back(&mut self) -> bool
+        ensures result { result ≡ wakes_behind self.old.turn (has_bytes self.old.core) }
+        ensures turn { self.new.turn ≡ given_back self.old.turn (has_bytes self.old.core) }
+        ensures rest { (self.new.core ≡ self.old.core) × (self.new.reading ≡ self.old.reading) }
+    {
         let bytes_wait = self.core.lendable() > 0;
         self.turn.give_back(bytes_wait)
     }
@@ -183,6 +213,7 @@ fn feed_piece<O: OutboundTransform + Drop, I: InboundTransform + Drop>(
 ) -> Option<(usize, Ended)>
     ensures pending { IsClient core.new.state.next core.new.state.calls }
     ensures whole { IfSome result (λ taken. taken.0 ≡ length piece.now) }
+    ensures fed { IsFed O.OutboundTransform I.InboundTransform core.old reading.old piece.now (option_map (λ taken. taken.1) result) core.new reading.new }
 {
     let taken = take_on(core, alloc, piece);
     let ended = ended_places(core, reading);
@@ -197,17 +228,13 @@ fn ended_places<O: OutboundTransform + Drop, I: InboundTransform + Drop>(
     core: &mut ClientCore<O, I>,
     reading: &mut ReadTurn,
 ) -> Ended
-    ensures { IsClient core.new.state.next core.new.state.calls }
+    ensures told { TellsEnded core.old reading.old result core.new reading.new }
+    ensures pending { IsClient core.new.state.next core.new.state.calls }
 {
     let mut places = 0;
-    for _ in 0..u64::MAX {
-        match core.next_ended() {
-            Some(id) => {
-                reading.ended(id);
-                places |= 1 << place_of(id);
-            }
-            None => break,
-        }
+    while let Some(id) = core.next_ended() {
+        reading.ended(id);
+        places |= 1 << place_of(id);
     }
     core.lemma_is_client();
     places
@@ -215,7 +242,7 @@ fn ended_places<O: OutboundTransform + Drop, I: InboundTransform + Drop>(
 
 /// The place of a caller.
 fn place_of(id: CallId) -> usize
-    ensures { result ≤ 15 }
+    ensures { result ≡ place_of id }
 {
     ((id / 2) % 16) as usize
 }
@@ -258,7 +285,9 @@ impl<O: OutboundTransform + Drop, I: InboundTransform + Drop> ClientShared<O, I>
     }
 
     /// Where a caller waits for the outcome of its call.
-    pub fn caller(&self, id: CallId) -> &Condvar {
+    pub fn caller(&self, id: CallId) -> &Condvar
+        ensures { slice_get self.now.callers (place_of id) ≡ Some result.now }
+    {
         let callers = &self.callers[..];
         &callers[place_of(id)]
     }

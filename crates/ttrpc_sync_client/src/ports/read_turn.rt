@@ -1,6 +1,6 @@
 //! Whose turn it is to read.
-ghost use Rattle.std.specs.Prelude.{◌≡◌, ◌-◌, None, true, false, if◌then◌else◌};
-ghost use Rattle.ttrpc_sync_client.specs.ReadTurns.{begun, ended, finished, is_alone, is_free, may_rest, may_take, onward_of, turn_onward};
+ghost use Rattle.std.specs.Prelude.{◌≡◌, true, false, if◌then◌else◌};
+ghost use Rattle.ttrpc_sync_client.specs.ReadTurns.{begun, ended, finished, hands_over, is_alone, is_free, may_rest, may_take, new_turn, onward_of, reads_on, turn_onward, turn_waking, wakes_thread};
 
 use ttrpc_client::CallId;
 
@@ -34,6 +34,22 @@ pub enum Onward {
     HandsOver,
 }
 
+impl Onward {
+    /// Whether the reader reads on.
+    pub fn reads_on(self) -> bool
+        ensures { result ≡ reads_on self }
+    {
+        matches!(self, Onward::Reads)
+    }
+
+    /// Whether the reader thread is to be woken.
+    pub fn hands_over(self) -> bool
+        ensures { result ≡ hands_over self }
+    {
+        matches!(self, Onward::HandsOver)
+    }
+}
+
 /// Which of the threads of a client's connection reads it: one at a time. It stands under the connection's lock, so who
 /// has the turn is the one reader.
 #[derive(Debug, Drop)]
@@ -65,7 +81,7 @@ pub struct Manner {
 impl ReadTurn {
     /// Nobody's, and no call is under way.
     pub fn new() -> ReadTurn
-        ensures { result ≡ record { reader = Reader.Nobody; sleeps = false; callers = 0; alone = 0; last = None; unread = None } }
+        ensures { result ≡ new_turn }
     {
         ReadTurn {
             reader: Reader::Nobody,
@@ -169,8 +185,8 @@ impl ReadTurn {
     /// A caller waits that doesn't read. True: the reader thread is to be woken, which is said once for
     /// one sleep. Where another caller reads, that one hands over.
     pub fn wakes(&mut self) -> bool
-        ensures result { result ≡ (if is_free self.old.reader then self.old.sleeps else false) }
-        ensures turn { self.new ≡ (if is_free self.old.reader then record self.old { sleeps = false } else self.old) }
+        ensures result { result ≡ wakes_thread self.old }
+        ensures turn { self.new ≡ turn_waking self.old }
     {
         if self.reader != Reader::Nobody || !self.sleeps {
             return false;
