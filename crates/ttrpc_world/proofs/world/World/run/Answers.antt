@@ -1,13 +1,4 @@
-use Rattle.ttrpc_world.proofs.Words.{ℕ, IsExactlyOnce, IsStreamOf, acts}
-use Rattle.ttrpc_world.proofs.Headline.{headline}
-use Rattle.ttrpc_world.proofs.Streams.{one_to_one, some_streams}
 use Rattle.ttrpc_world.proofs.world.World.run.Goals as goal
 
 pub returns-clause-told : goal.returns-clause-told
-returns-clause-told g c =
-    let trace = c.run_all.new.trace.items in
-    let told : (stream_of : ℕ → ℕ) → IsStreamOf stream_of trace → (id : ℕ) → IsExactlyOnce (acts stream_of id trace) =
-    λ stream_of right id. headline _ _ _ g.met.CO.OutboundTransform.lawful.still stream_of _ _ _ c.requires c.run_all.ensures.steps right id in
-    let some = some_streams _ _ _ _ _ _ c.requires c.run_all.ensures.steps in
-    let one = one_to_one trace some.0 some.1 (λ id. (told some.0 some.1 id).one_run) in
-    (one.0, record { agrees = one.1; one_to_one = one.2; exactly_once = λ id. told one.0 one.1 id })
+returns-clause-told g c = c.runs_are_told.ensures _ _ _ c.requires c.run_all.ensures.steps

@@ -1,0 +1,3 @@
+pub mod Types
+pub mod Trace
+pub mod Told

@@ -1,0 +1,46 @@
+-- What happened to one call, as a trace says it.
+-- Source: this project's.
+use Rattle.std.specs.Prelude.{◌≡◌, ℕ, List, [], ◌∷◌, nat_eq, if◌then◌else◌, Bool, Some, Result, Ok}
+use Rattle.std.specs.List.{AllByRecursion, flat_map}
+use Rattle.ttrpc_events.specs.Types.{Error, Request, Response, Event, Call, Outcome, Take, Answer, Respond, Reply, Named, Given, Handed, Done, Entry}
+
+-- what happened to a call
+pub data Act : Type 0 where
+  -- it was accepted
+  Called : (request : Request) → Act
+  -- a job of it was handed out
+  Ran : (job : ℕ) → (request : Request) → Act
+  -- such a job was answered, or a response was queued for it
+  Answered : (result : Result Response Error) → Act
+  -- its outcome was given
+  Gave : (outcome : Result Response Error) → Act
+
+-- this act, or none where the condition is false
+abbrev pub only_if : Bool → Act → List Act
+only_if b act = if b then act ∷ [] else []
+
+-- What an event with its reply is to the call of id k; `stream_of job` is the stream id of a job.
+abbrev pub act_of : (stream_of : ℕ → ℕ) → ℕ → Event → Reply → List Act
+act_of stream_of k (Call request) (Named id) = only_if (nat_eq id k) (Called request)
+act_of stream_of k (Outcome id) (Given (Some outcome)) = only_if (nat_eq id k) (Gave outcome)
+act_of stream_of k Take (Handed (Some job)) = only_if (nat_eq job.header.stream_id k) (Ran job.id job.request)
+act_of stream_of k (Answer job result) Done = only_if (nat_eq (stream_of job) k) (Answered result)
+act_of stream_of k (Respond job response) Done = only_if (nat_eq (stream_of job) k) (Answered (Ok response))
+act_of stream_of k event reply = []
+
+-- THE STORY OF ONE ID: all that a trace says of it, in order.
+abbrev pub acts : (stream_of : ℕ → ℕ) → ℕ → List Entry → List Act
+acts stream_of k trace = flat_map (λ (e : Entry). act_of stream_of k e.event e.reply) trace
+
+-- `stream_of` is right for the job that was handed out at this event, if one was
+abbrev pub IsRightAt : (ℕ → ℕ) → Event → Reply → Type 0
+IsRightAt stream_of Take (Handed (Some job)) = stream_of job.id ≡ job.header.stream_id
+IsRightAt stream_of event reply = Unit {0}
+
+-- `stream_of` is right for each job that was handed out in a trace
+abbrev pub IsStreamOf : (ℕ → ℕ) → List Entry → Type 0
+IsStreamOf stream_of trace = AllByRecursion (λ (e : Entry). IsRightAt stream_of e.event e.reply) trace
+
+-- no two numbers have the same value: as `stream_of`, no two jobs have the same stream id
+abbrev pub IsOneToOne : (ℕ → ℕ) → Type 0
+IsOneToOne f = (i j : ℕ) → f i ≡ f j → i ≡ j

@@ -1,0 +1,9 @@
+pub mod OneWay
+pub mod Throws
+pub mod Payloads
+pub mod Streams
+pub mod Delivers
+pub mod Keeps
+pub mod Moves
+pub mod Headline
+pub mod Running

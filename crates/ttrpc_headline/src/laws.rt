@@ -1,0 +1,19 @@
+//! The headline, as a law over the definitions.
+ghost use Rattle.std.specs.Prelude.{ℕ, List};
+ghost use Rattle.ttrpc_headline.specs.Words.{Entry as AnEntry, IsFresh, IsTold, Net, Runs, halves};
+
+use ttrpc_secure::{InboundTransform, OutboundTransform};
+
+/// Whatever happens to a client and a server that are new, over paired halves: under one function that gives each job its
+/// stream, no two the same, each call has at most one outcome, and an `Ok` is the answer of its one run.
+pub fn runs_are_told<
+    CO: OutboundTransform,
+    CI: InboundTransform,
+    SO: OutboundTransform,
+    SI: InboundTransform,
+>()
+    ensures { let c = halves CO.OutboundTransform CI.InboundTransform in
+        let s = halves SO.OutboundTransform SI.InboundTransform in
+        (old new : Net CO CI SO SI) (trace : List AnEntry) → IsFresh c s old → Runs c s CO.SEALS old trace new
+        → (stream_of : ℕ → ℕ) × IsTold stream_of trace }
+{}

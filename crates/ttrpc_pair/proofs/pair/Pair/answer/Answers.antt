@@ -1,0 +1,19 @@
+use Rattle.ttrpc_pair.proofs.Words.{refl, rules, halves}
+use Rattle.ttrpc_pair.proofs.Replies.{answers_by, refuses_one}
+use Rattle.ttrpc_pair.proofs.pair.Pair.answer.Goals as goal
+use Rattle.ttrpc_pair.proofs.pair.Pair.answer.Goals.{in-Ok, in-Err}
+
+pub returns : goal.returns
+returns g c =
+    let client = halves g.CO.OutboundTransform g.CI.InboundTransform in
+    let server = halves g.SO.OutboundTransform g.SI.InboundTransform in
+    let old = c.self.inside.server in
+    let taken = rw (← c.self.view_is) at c.in-Some-awaiting.ensures.some in
+    rw (← c.self.view_is) (elim c.match-answer.branch [
+      | in-Ok w ↦ rw w.result-is (
+        answers_by client server g.CO.OutboundTransform.SEALS old c.args.id c.args.given.now c.answer.new.self c.lemma_answer_is_value.ensures w.in-Ok.ensures.answered w.in-Ok.ensures.handler_failed,
+        refl,
+        taken.3,
+      )
+      | in-Err w ↦ rw w.result-is (refuses_one g.SO.OutboundTransform old c.args.id taken.0 c.args.given.now w.in-Err.error taken.1 w.in-Err.ensures.refused, search rules)
+    ])

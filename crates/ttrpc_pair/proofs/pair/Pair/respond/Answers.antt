@@ -1,0 +1,20 @@
+use Rattle.ttrpc_pair.proofs.Words.{◌++◌, ◌∷◌, ◌∙◌, [], ap, halves, rules}
+use Rattle.ttrpc_pair.proofs.Replies.{refuses_response, responds_to}
+use Rattle.ttrpc_pair.proofs.pair.Pair.respond.Goals as goal
+
+pub returns-in-Ok : goal.returns-in-Ok
+returns-in-Ok g c =
+    let client = halves g.CO.OutboundTransform g.CI.InboundTransform in
+    let server = halves g.SO.OutboundTransform g.SI.InboundTransform in
+    let taken = rw (← c.self.view_is) at c.in-Some-awaiting.ensures.some in
+    let items = c.push_reserved.ensures.items ∙ ap (λ xs. xs ++ c.args.id ∷ []) c.reserve.ensures.items in
+    rw (← c.self.view_is) (responds_to client server g.CO.OutboundTransform.SEALS _ c.args.id c.in-Some-awaiting.stream_id c.args.response.now taken.0 c.respond.new.self _
+    c.lemma_is_value.ensures taken.1 taken.2 taken.3 c.in-Ok.ensures.queued items)
+
+pub returns-in-Err : goal.returns-in-Err
+returns-in-Err g c =
+    let taken = rw (← c.self.view_is) at c.in-Some-awaiting.ensures.some in
+    rw (← c.self.view_is) (
+      refuses_response g.SO.OutboundTransform c.self.inside.server c.args.id c.in-Some-awaiting.stream_id taken.0 c.args.response.now c.in-Err.error taken.1 taken.2 c.in-Err.ensures.refused,
+      search rules,
+    )

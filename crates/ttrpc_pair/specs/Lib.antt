@@ -1,0 +1,4 @@
+pub mod Pipes
+pub mod Net
+pub mod Types
+pub mod Steps

@@ -1,0 +1,230 @@
+-- What an event and its reply may do to a client, a server and their pipes.
+-- Source: PROTOCOL.md of ttrpc, "Streaming", by the tables of both cores.
+use Rattle.std.specs.Prelude.{◌≡◌, ◌⊎◌, ◌<◌, ◌≤◌, ◌++◌, ℕ, List, [], ◌∷◌, length, take, drop, min, codes, Bool, true, false, Option, Some, None, Result, Ok, Err}
+use Rattle.ttrpc_pair.specs.Types.{Error, Response, Connection, Failure, Told, Event, Call, Open, Outcome, Recv, Send, Close, DropCall, DropReceiver, DropSender, Take, Answer, Respond, Finish, EndStream, Drain, Tick, Carry, Deliver, Cut, Fail, Reply, Named, Given, Handed, Done, Count, Refused, NoMemory, NoStep, Entry}
+use Rattle.ttrpc_proto.specs.declared.error.Error.TheVariants.{Socket}
+use Rattle.ttrpc_proto.specs.Messages.{IsRequest, IsResponse}
+use Rattle.ttrpc_frame.specs.Queue.{Queue, open_part}
+use Rattle.ttrpc_connection.specs.Feeds.{Ways, Feeds, Breaks, IsFailed}
+use Rattle.ttrpc_connection.specs.Failure.{IsTold}
+use Rattle.ttrpc_connection.specs.OneEnd.{Ends, failing, lending, reporting}
+use Rattle.ttrpc_server.specs.declared.server.ServerCore.{ServerCore}
+use Rattle.ttrpc_server.specs.declared.job.ActiveJob.{ActiveJob}
+use Rattle.ttrpc_server.specs.State.{IsTaken, IsUnknown, NoneWaits, is_stream, takes_on}
+use Rattle.ttrpc_server.specs.Protocol.{HasOtherRules, HasUnsent, Answers, AnswersError, Finishes, Hands, QueuesResponse, serving}
+use Rattle.ttrpc_server.specs.Streaming.{unknown_job}
+use Rattle.ttrpc_client.specs.Protocol.{RefusesRequest, Forgets, Requests, TakesOutcome, calling}
+use Rattle.ttrpc_client.specs.Calls.{Passes}
+use Rattle.ttrpc_flight.specs.Flight.{bytes_after_carry}
+use Rattle.ttrpc_events.specs.declared.events.Side.TheVariants as side
+use Rattle.ttrpc_pair.specs.Pipes.{Pipe, is_over}
+use Rattle.ttrpc_pair.specs.Net.{Halves, Net, has_response, with_client, with_server}
+
+-- ---- one side, and the pipe to it or from it
+
+-- n bytes of the first unfinished frame move into the pipe, or are lost behind its cut
+abbrev pub pipe_after_carry : Pipe → ℕ → Queue → Pipe
+pipe_after_carry p n q = record p { bytes = bytes_after_carry p.cut p.bytes n q }
+
+-- how many bytes a lend of at most n gives: none after a failure
+abbrev pub lent_of : Option Failure → ℕ → Queue → ℕ
+lent_of None n q = min n (length (open_part q))
+lent_of (Some why) n q = 0
+
+-- bytes may be lent: the side is alive, and some are left of its first frame
+abbrev pub HasToLend : {O I : Type 0} → Connection O I → ℕ → Type 0
+HasToLend c n = 0 < lent_of c.failure n c.outbox.queue
+
+-- they were lent, and reported as written
+abbrev pub after_carry : {O I : Type 0} → Connection O I → ℕ → Connection O I
+after_carry c k = reporting (lending c k) k
+
+-- the first n bytes were taken
+abbrev pub taken_from : Pipe → ℕ → Pipe
+taken_from p n = record p { bytes = drop n p.bytes }
+
+-- the first bytes stay, and what is written from now on is lost
+abbrev pub cut_to : Pipe → ℕ → Pipe
+cut_to p keep = record { bytes = take keep p.bytes; cut = true }
+
+-- its input ends where all was delivered that a cut left
+abbrev pub Hears : {O I : Type 0} → Bool → Connection O I → Connection O I → Type 0
+Hears true old new = Ends old new
+Hears false old new = new ≡ old
+
+-- Bytes moved from a pipe to its side at a moment. Where they were the last before a cut, the input ends.
+pub record Delivers {S O I : Type 0} (w : Ways S O I) (s : S) (old : Connection O I) (pipe : Pipe) (now n k : ℕ) (t : S) (new : Connection O I) : Type 0 where
+  pub count : k ≡ min n (length pipe.bytes)
+  pub mid : Connection O I
+  pub does : Feeds w s old (take k pipe.bytes) now t mid
+  pub hears : Hears (is_over (taken_from pipe k)) mid new
+
+-- The side fails at these bytes.
+abbrev pub BreaksAt : {S O I : Type 0} → Ways S O I → S → Connection O I → Pipe → ℕ → ℕ → Error → S → Connection O I → Type 0
+BreaksAt w s old pipe now n told t new = Breaks w s old (take (min n (length pipe.bytes)) pipe.bytes) now told t new
+
+-- the error by which the event `Fail` fails a side
+abbrev pub failed_by_hand : Error
+failed_by_hand = Socket (codes "failed")
+
+-- The server lives, and the job that was taken is a stream's, to which no one response is the answer.
+pub record IsOfStream {O I : Type 0} (old : ServerCore O I) (id : ℕ) (told : Error) : Type 0 where
+  pub alive : old.connection.failure ≡ None
+  pub job : ActiveJob
+  pub at : IsTaken old.state.jobs.list id job
+  pub stream : is_stream job.body ≡ true
+  pub is_told : IsTold unknown_job told
+
+-- ---- the events, each with its reply
+
+module _ {CO CI SO SI : Type 0} (c : Halves CO CI) (s : Halves SO SI) (seals : Bool) where
+  -- Only the client changed.
+  abbrev pub OnlyClient : Net CO CI SO SI → Net CO CI SO SI → Type 0
+  OnlyClient old new = new ≡ with_client old new.client
+
+  -- Only the server changed.
+  abbrev pub OnlyServer : Net CO CI SO SI → Net CO CI SO SI → Type 0
+  OnlyServer old new = new ≡ with_server old new.server
+
+  -- A call was forgotten.
+  pub record Forgot (old : Net CO CI SO SI) (id : ℕ) (new : Net CO CI SO SI) : Type 0 where
+    pub does : Forgets seals old.client id new.client
+    pub only : new ≡ with_client old new.client
+
+  -- A job was answered by what its handler gave; a handler's error ends the job, and under sync rules the connection fails.
+  abbrev pub AnswersBy : ServerCore SO SI → ℕ → Result Response Error → ServerCore SO SI → Type 0
+  AnswersBy old id (Ok response) new = IsResponse response × Answers s.out old id response new
+  AnswersBy old id (Err error) new = AnswersError s.out old.state.rules old id error new
+
+  -- A response was refused: the connection has failed, or the response to a job that was taken can't be queued.
+  abbrev pub RefusesOne : ServerCore SO SI → ℕ → Result Response Error → Error → Type 0
+  RefusesOne old id result told = IsFailed old.connection.failure told ⊎ HasUnsent s.out old id result told
+
+  -- An answer was refused: the job that was taken is a stream's; or as above.
+  abbrev pub RefusesJob : ServerCore SO SI → ℕ → Result Response Error → Error → Type 0
+  RefusesJob old id result told = IsOfStream old id told ⊎ RefusesOne old id result told
+
+  -- No answer may come for a job: it wasn't taken, or is over, or has its response already.
+  abbrev pub AwaitsNone : Net CO CI SO SI → ℕ → Type 0
+  AwaitsNone w id = IsUnknown w.server.state.jobs.list id ⊎ (has_response w id ≡ true)
+
+  -- One may: it was taken, isn't over, and has no response.
+  pub record Awaits (w : Net CO CI SO SI) (id : ℕ) : Type 0 where
+    pub job : ActiveJob
+    pub at : IsTaken w.server.state.jobs.list id job
+    pub none_yet : has_response w id ≡ false
+
+  -- A response was queued for a job, which goes on.
+  pub record RespondsTo (old : Net CO CI SO SI) (id : ℕ) (response : Response) (new : Net CO CI SO SI) : Type 0 where
+    pub is_response : IsResponse response
+    pub awaits : Awaits old id
+    pub does : QueuesResponse s.out old.server awaits.job.header.stream_id response new.server
+    pub only : new ≡ record (with_server old new.server) { responded = old.responded ++ id ∷ [] }
+
+  -- A moment came.
+  pub record Ticked (old : Net CO CI SO SI) (now : ℕ) (new : Net CO CI SO SI) : Type 0 where
+    pub later : old.moment ≤ now
+    pub does : Passes seals old.client.connection.failure old.client now new.client
+    pub only : new ≡ record (with_client old new.client) { moment = now }
+
+  -- Bytes moved from the client into the pipe to the server, and were reported.
+  pub record CarriesUp (old : Net CO CI SO SI) (n k : ℕ) (new : Net CO CI SO SI) : Type 0 where
+    pub count : k ≡ lent_of old.client.connection.failure n old.client.connection.outbox.queue
+    pub only : new ≡ record (with_client old (record old.client { connection = after_carry old.client.connection k })) { up = pipe_after_carry old.up k old.client.connection.outbox.queue }
+
+  -- Bytes moved from the server into the pipe to the client, and were reported.
+  pub record CarriesDown (old : Net CO CI SO SI) (n k : ℕ) (new : Net CO CI SO SI) : Type 0 where
+    pub count : k ≡ lent_of old.server.connection.failure n old.server.connection.outbox.queue
+    pub only : new ≡ record (with_server old (record old.server { connection = after_carry old.server.connection k })) { down = pipe_after_carry old.down k old.server.connection.outbox.queue }
+
+  -- Bytes were delivered to the server, at the last moment.
+  pub record DeliversUp (old : Net CO CI SO SI) (n k : ℕ) (new : Net CO CI SO SI) : Type 0 where
+    pub does : Delivers (serving s.out s.in_) old.server.state old.server.connection old.up old.moment n k new.server.state new.server.connection
+    pub only : new ≡ record (with_server old new.server) { up = taken_from old.up k }
+
+  -- Nothing was delivered to a server that takes no more.
+  pub record StaysUp (old : Net CO CI SO SI) (k : ℕ) (new : Net CO CI SO SI) : Type 0 where
+    pub drains : takes_on old.server.state ≡ false
+    pub none : k ≡ 0
+    pub hears : Hears (is_over old.up) old.server.connection new.server.connection
+    pub only : new ≡ with_server old (record old.server { connection = new.server.connection })
+
+  -- Bytes were delivered to the client, which is told no moment.
+  pub record DeliversDown (old : Net CO CI SO SI) (n k : ℕ) (new : Net CO CI SO SI) : Type 0 where
+    pub does : Delivers (calling c.out c.in_) old.client.state old.client.connection old.down 0 n k new.client.state new.client.connection
+    pub only : new ≡ record (with_client old new.client) { down = taken_from old.down k }
+
+  -- The server refused bytes: it fails at them, or had failed.
+  abbrev pub RefusesUp : Net CO CI SO SI → ℕ → Error → Net CO CI SO SI → Type 0
+  RefusesUp old n told new =
+      (BreaksAt (serving s.out s.in_) old.server.state old.server.connection old.up old.moment n told new.server.state new.server.connection × OnlyServer old new)
+      ⊎ (IsFailed old.server.connection.failure told × (new ≡ old))
+
+  -- Bytes were refused: the client fails at them, or had failed.
+  abbrev pub RefusesDown : Net CO CI SO SI → ℕ → Error → Net CO CI SO SI → Type 0
+  RefusesDown old n told new =
+      (BreaksAt (calling c.out c.in_) old.client.state old.client.connection old.down 0 n told new.client.state new.client.connection × OnlyClient old new)
+      ⊎ (IsFailed old.client.connection.failure told × (new ≡ old))
+
+  -- The pipe to the server was cut; where nothing is left to deliver, the server's input ends at once.
+  pub record CutsUp (old : Net CO CI SO SI) (keep : ℕ) (new : Net CO CI SO SI) : Type 0 where
+    pub connection : Connection SO SI
+    pub hears : Hears (is_over (cut_to old.up keep)) old.server.connection connection
+    pub only : new ≡ record (with_server old (record old.server { connection = connection })) { up = cut_to old.up keep }
+
+  -- The pipe to the client was cut; where nothing is left to deliver, the client's input ends at once.
+  pub record CutsDown (old : Net CO CI SO SI) (keep : ℕ) (new : Net CO CI SO SI) : Type 0 where
+    pub connection : Connection CO CI
+    pub hears : Hears (is_over (cut_to old.down keep)) old.client.connection connection
+    pub only : new ≡ record (with_client old (record old.client { connection = connection })) { down = cut_to old.down keep }
+
+  -- WHAT AN EVENT AND ITS REPLY MAY DO. A reply that isn't here can't be. Where memory is refused nothing changes, and
+  -- it was asked for: bytes were to be carried, or a side that was alive to fail.
+  abbrev pub Steps : Net CO CI SO SI → Event → Reply → Net CO CI SO SI → Type 0
+  Steps old (Call request) (Named id) new = IsRequest request × Requests c.out old.client request old.moment id new.client × OnlyClient old new
+  Steps old (Call request) (Refused told) new = RefusesRequest c.out old.client request told × (new ≡ old)
+  Steps old (Outcome id) (Given outcome) new = TakesOutcome old.client id outcome new.client × OnlyClient old new
+  Steps old (DropCall id) Done new = Forgot old id new
+  Steps old Take (Handed (Some job)) new = Hands old.server job new.server × OnlyServer old new
+  Steps old Take (Handed None) new = (old.server.connection.failure ≡ None → NoneWaits old.server.state.jobs.list) × (new ≡ old)
+  Steps old (Answer id result) Done new = AnswersBy old.server id result new.server × OnlyServer old new × (has_response old id ≡ false)
+  Steps old (Answer id result) (Refused told) new = RefusesJob old.server id result told × (new ≡ old)
+  Steps old (Answer id result) NoStep new = (old.server.connection.failure ≡ None) × AwaitsNone old id × (new ≡ old)
+  Steps old (Respond id response) Done new = RespondsTo old id response new
+  Steps old (Respond id response) (Refused told) new = (RefusesOne old.server id (Ok response) told ⊎ HasOtherRules old.server told) × (new ≡ old)
+  Steps old (Respond id response) NoMemory new = (old.server.connection.failure ≡ None) × Awaits old id × (new ≡ old)
+  Steps old (Respond id response) NoStep new = (old.server.connection.failure ≡ None) × AwaitsNone old id × (new ≡ old)
+  Steps old (Finish id) Done new = Finishes old.server id new.server × OnlyServer old new
+  Steps old (Finish id) (Refused told) new = (IsFailed old.server.connection.failure told ⊎ HasOtherRules old.server told) × (new ≡ old)
+  Steps old (Finish id) NoStep new = (old.server.connection.failure ≡ None) × IsUnknown old.server.state.jobs.list id × (new ≡ old)
+  Steps old (Tick now) Done new = Ticked old now new
+  Steps old (Tick now) NoStep new = (now < old.moment) × (new ≡ old)
+  Steps old (Carry side.Client n) (Count k) new = CarriesUp old n k new
+  Steps old (Carry side.Client n) NoMemory new = HasToLend old.client.connection n × (new ≡ old)
+  Steps old (Carry side.Server n) (Count k) new = CarriesDown old n k new
+  Steps old (Carry side.Server n) NoMemory new = HasToLend old.server.connection n × (new ≡ old)
+  Steps old (Deliver side.Server n) (Count k) new = DeliversUp old n k new ⊎ StaysUp old k new
+  Steps old (Deliver side.Server n) (Refused told) new = RefusesUp old n told new
+  Steps old (Deliver side.Client n) (Count k) new = DeliversDown old n k new
+  Steps old (Deliver side.Client n) (Refused told) new = RefusesDown old n told new
+  Steps old (Cut side.Server keep) Done new = CutsUp old keep new
+  Steps old (Cut side.Client keep) Done new = CutsDown old keep new
+  Steps old (Fail side.Client) Done new = new ≡ with_client old (record old.client { connection = failing old.client.connection (Told failed_by_hand) })
+  Steps old (Fail side.Server) Done new = new ≡ with_server old (record old.server { connection = failing old.server.connection (Told failed_by_hand) })
+  Steps old (Fail side.Client) NoMemory new = (old.client.connection.failure ≡ None) × (new ≡ old)
+  Steps old (Fail side.Server) NoMemory new = (old.server.connection.failure ≡ None) × (new ≡ old)
+  -- of streams the cores know nothing yet
+  Steps old (Open request up down) NoStep new = new ≡ old
+  Steps old (Recv at id) NoStep new = new ≡ old
+  Steps old (Send at id bytes) NoStep new = new ≡ old
+  Steps old (Close id) NoStep new = new ≡ old
+  Steps old (DropReceiver at id) NoStep new = new ≡ old
+  Steps old (DropSender id) NoStep new = new ≡ old
+  Steps old (EndStream id result) NoStep new = new ≡ old
+  Steps old Drain NoStep new = new ≡ old
+  Steps old event reply new = ⊥
+
+  -- A run: one entry an event, in order.
+  abbrev pub Runs : Net CO CI SO SI → List Entry → Net CO CI SO SI → Type 0
+  Runs old [] new = new ≡ old
+  Runs old (e ∷ es) new = (mid : Net CO CI SO SI) × Steps old e.event e.reply mid × Runs mid es new

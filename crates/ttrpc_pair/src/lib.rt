@@ -1,0 +1,9 @@
+//! One client and one server over two byte pipes, and what each event does to them.
+#![tactic(auto)]
+
+mod pair;
+mod pipe;
+
+pub use pair::Pair;
+pub use ttrpc_client::ClientCore;
+pub use ttrpc_server::ServerCore;

@@ -1,0 +1,412 @@
+//! A client, a server and two pipes, and what happens to them at an event.
+ghost use Rattle.std.specs.Prelude.{◌≡◌, ◌<◌, [], length, true, false, ◌⊎◌, IfOk, OnErr, IfSome, IfNone, Ok};
+ghost use Rattle.ttrpc_proto.specs.declared.response.Response.{Response as AResponse};
+ghost use Rattle.ttrpc_proto.specs.Messages.{IsResponse};
+ghost use Rattle.ttrpc_server.specs.declared.job.ActiveJob.{ActiveJob as AJob};
+ghost use Rattle.ttrpc_server.specs.State.{IsTaken, IsUnknown};
+ghost use Rattle.ttrpc_events.specs.declared.events.Event.{Event as AnEvent};
+ghost use Rattle.ttrpc_events.specs.declared.events.Side.{Side as ASide};
+ghost use Rattle.ttrpc_pair.specs.Pipes.{empty_pipe, is_over};
+ghost use Rattle.ttrpc_pair.specs.Net.{Net, halves, has_response, with_client, with_server};
+ghost use Rattle.ttrpc_pair.specs.Steps.{Hears, Steps, failed_by_hand};
+
+use crate::pipe::Pipe;
+use std::alloc::{AllocError, Global};
+use std::marker::Model;
+use ttrpc_client::{CallId, ClientCore};
+use ttrpc_codec::message::WireMessage;
+use ttrpc_events::{Event, Reply, Side};
+use ttrpc_proto::{Error, Request, Response};
+use ttrpc_secure::{InboundTransform, OutboundTransform};
+use ttrpc_server::{JobId, ServerCore};
+use ttrpc_wire::Text;
+use ttrpc_wire::values::slices::front;
+
+/// A client and a server, each over its two halves, and the bytes in flight between them.
+#[derive(Drop)]
+pub struct Pair<CO, CI, SO, SI> {
+    client: ClientCore<CO, CI>,
+    server: ServerCore<SO, SI>,
+    up: Pipe,
+    down: Pipe,
+    moment: u64,
+    responded: Vec<JobId>,
+}
+
+impl<CO, CI, SO, SI> Model for Pair<CO, CI, SO, SI> {
+    ghost use Rattle.ttrpc_pair.specs.Net.{Net};
+
+    ghost Value = { Net CO CI SO SI };
+
+    ghost view = { λ a. record {
+      client = a.client;
+      server = a.server;
+      up = a.up;
+      down = a.down;
+      moment = a.moment;
+      responded = a.responded.items;
+    } };
+}
+
+impl<
+    CO: OutboundTransform + Drop,
+    CI: InboundTransform + Drop,
+    SO: OutboundTransform + Drop,
+    SI: InboundTransform + Drop,
+> Pair<CO, CI, SO, SI> {
+    /// A pair of these two cores, with nothing in flight, at moment 0. Takes no memory.
+    pub fn new(alloc: Global, client: ClientCore<CO, CI>, server: ServerCore<SO, SI>) -> Self
+        ensures { result ≡ record {
+          client = client;
+          server = server;
+          up = empty_pipe;
+          down = empty_pipe;
+          moment = 0;
+          responded = [];
+        } }
+    {
+        Pair {
+            client,
+            server,
+            up: Pipe::new(alloc),
+            down: Pipe::new(alloc),
+            moment: 0,
+            responded: Vec::new(alloc),
+        }
+    }
+
+    /// One event happens, and this is replied to it.
+    pub fn step(&mut self, alloc: Global, event: &Event) -> Reply
+        ensures { Steps
+            (halves CO.OutboundTransform CI.InboundTransform)
+            (halves SO.OutboundTransform SI.InboundTransform) CO.SEALS
+            self.old event.now result self.new }
+    {
+        match event {
+            Event::Call(request) => self.call(alloc, request),
+            Event::Outcome(id) => self.outcome(alloc, *id),
+            Event::DropCall(id) => self.drop_call(*id),
+            Event::Take => self.take(),
+            Event::Answer(id, result) => self.answer(alloc, *id, result),
+            Event::Respond(id, response) => self.respond(alloc, *id, response),
+            Event::Finish(id) => self.finish(alloc, *id),
+            Event::Tick(now) => self.tick(*now),
+            Event::Carry(Side::Client, n) => self.carry_up(alloc, *n),
+            Event::Carry(Side::Server, n) => self.carry_down(alloc, *n),
+            Event::Deliver(Side::Server, n) => self.deliver_up(alloc, *n),
+            Event::Deliver(Side::Client, n) => self.deliver_down(alloc, *n),
+            Event::Cut(Side::Server, keep) => self.cut_up(*keep),
+            Event::Cut(Side::Client, keep) => self.cut_down(*keep),
+            Event::Fail(Side::Client) => self.fail_client(alloc),
+            Event::Fail(Side::Server) => self.fail_server(alloc),
+            _ => Reply::NoStep,
+        }
+    }
+
+    fn call(&mut self, alloc: Global, request: &Request) -> Reply
+        ensures { Steps
+            (halves CO.OutboundTransform CI.InboundTransform)
+            (halves SO.OutboundTransform SI.InboundTransform) CO.SEALS
+            self.old (AnEvent.Call request.now) result self.new }
+    {
+        request.lemma_is_value();
+        match self.client.request(alloc, request, self.moment) {
+            Ok(id) => Reply::Named(id),
+            Err(error) => Reply::Refused(error),
+        }
+    }
+
+    fn outcome(&mut self, alloc: Global, id: CallId) -> Reply
+        ensures { Steps
+            (halves CO.OutboundTransform CI.InboundTransform)
+            (halves SO.OutboundTransform SI.InboundTransform) CO.SEALS
+            self.old (AnEvent.Outcome id) result self.new }
+    {
+        Reply::Outcome(self.client.take_outcome(alloc, id))
+    }
+
+    fn drop_call(&mut self, id: CallId) -> Reply
+        ensures { Steps
+            (halves CO.OutboundTransform CI.InboundTransform)
+            (halves SO.OutboundTransform SI.InboundTransform) CO.SEALS
+            self.old (AnEvent.DropCall id) result self.new }
+    {
+        self.client.drop_call(id);
+        Reply::Done
+    }
+
+    fn take(&mut self) -> Reply
+        ensures { Steps
+            (halves CO.OutboundTransform CI.InboundTransform)
+            (halves SO.OutboundTransform SI.InboundTransform) CO.SEALS
+            self.old AnEvent.Take result self.new }
+    {
+        Reply::Handed(self.server.take_job())
+    }
+
+    fn answer(&mut self, alloc: Global, id: JobId, given: &Result<Response, Error>) -> Reply
+        ensures { Steps
+            (halves CO.OutboundTransform CI.InboundTransform)
+            (halves SO.OutboundTransform SI.InboundTransform) CO.SEALS
+            self.old (AnEvent.Answer id given.now) result self.new }
+    {
+        if let Some(error) = self.server.failure(alloc) {
+            return Reply::Refused(error);
+        }
+        let Some(_) = self.awaiting(id) else {
+            return Reply::NoStep;
+        };
+        lemma_answer_is_value(given);
+        match self.server.answer(alloc, id, given) {
+            Ok(()) => Reply::Done,
+            Err(error) => Reply::Refused(error),
+        }
+    }
+
+    fn respond(&mut self, alloc: Global, id: JobId, response: &Response) -> Reply
+        ensures { Steps
+            (halves CO.OutboundTransform CI.InboundTransform)
+            (halves SO.OutboundTransform SI.InboundTransform) CO.SEALS
+            self.old (AnEvent.Respond id response.now) result self.new }
+    {
+        if let Some(error) = self.server.failure(alloc) {
+            return Reply::Refused(error);
+        }
+        let Some(stream_id) = self.awaiting(id) else {
+            return Reply::NoStep;
+        };
+        if self.responded.reserve(1).is_err() {
+            return Reply::NoMemory;
+        }
+        response.lemma_is_value();
+        match self.server.respond(alloc, stream_id, response) {
+            Ok(()) => {
+                self.responded.push_reserved(id);
+                Reply::Done
+            }
+            Err(error) => Reply::Refused(error),
+        }
+    }
+
+    fn finish(&mut self, alloc: Global, id: JobId) -> Reply
+        ensures { Steps
+            (halves CO.OutboundTransform CI.InboundTransform)
+            (halves SO.OutboundTransform SI.InboundTransform) CO.SEALS
+            self.old (AnEvent.Finish id) result self.new }
+    {
+        if let Some(error) = self.server.failure(alloc) {
+            return Reply::Refused(error);
+        }
+        let Some(_) = self.server.stream_of(id) else {
+            return Reply::NoStep;
+        };
+        match self.server.finish(alloc, id) {
+            Ok(()) => Reply::Done,
+            Err(error) => Reply::Refused(error),
+        }
+    }
+
+    /// The stream's id of a job that may be answered: it was taken, isn't over, and has no response yet.
+    fn awaiting(&self, id: JobId) -> Option<u32>
+        ensures some { IfSome result (λ k. (job : AJob)
+            × IsTaken self.now.server.state.jobs.list id job × (k ≡ job.header.stream_id) × (has_response self.now id ≡ false)) }
+        ensures none { IfNone result (IsUnknown self.now.server.state.jobs.list id ⊎ (has_response self.now id ≡ true)) }
+    {
+        if self.responded.as_slice().contains(&id) {
+            return None;
+        }
+        self.server.stream_of(id)
+    }
+
+    fn tick(&mut self, now: u64) -> Reply
+        ensures { Steps
+            (halves CO.OutboundTransform CI.InboundTransform)
+            (halves SO.OutboundTransform SI.InboundTransform) CO.SEALS
+            self.old (AnEvent.Tick now) result self.new }
+    {
+        if now < self.moment {
+            return Reply::NoStep;
+        }
+        self.client.tick(now);
+        self.moment = now;
+        Reply::Done
+    }
+
+    fn carry_up(&mut self, alloc: Global, n: usize) -> Reply
+        ensures { Steps
+            (halves CO.OutboundTransform CI.InboundTransform)
+            (halves SO.OutboundTransform SI.InboundTransform) CO.SEALS
+            self.old (AnEvent.Carry ASide.Client n) result self.new }
+    {
+        let room = n.min(self.client.lendable());
+        let Ok(mut buffer) = zeros(alloc, room) else {
+            return Reply::NoMemory;
+        };
+        let at = self.up.as_slice().len();
+        if self.up.put(buffer.as_slice()).is_err() {
+            return Reply::NoMemory;
+        }
+        let count = self.client.lend(buffer.as_mut_slice());
+        self.up.replace_from(at, front(buffer.as_slice(), count));
+        self.client.wrote(count);
+        Reply::Count(count)
+    }
+
+    fn carry_down(&mut self, alloc: Global, n: usize) -> Reply
+        ensures { Steps
+            (halves CO.OutboundTransform CI.InboundTransform)
+            (halves SO.OutboundTransform SI.InboundTransform) CO.SEALS
+            self.old (AnEvent.Carry ASide.Server n) result self.new }
+    {
+        let room = n.min(self.server.lendable());
+        let Ok(mut buffer) = zeros(alloc, room) else {
+            return Reply::NoMemory;
+        };
+        let at = self.down.as_slice().len();
+        if self.down.put(buffer.as_slice()).is_err() {
+            return Reply::NoMemory;
+        }
+        let count = self.server.lend(buffer.as_mut_slice());
+        self.down.replace_from(at, front(buffer.as_slice(), count));
+        self.server.wrote(count);
+        Reply::Count(count)
+    }
+
+    fn deliver_up(&mut self, alloc: Global, n: usize) -> Reply
+        ensures { Steps
+            (halves CO.OutboundTransform CI.InboundTransform)
+            (halves SO.OutboundTransform SI.InboundTransform) CO.SEALS
+            self.old (AnEvent.Deliver ASide.Server n) result self.new }
+    {
+        let count = n.min(self.up.as_slice().len());
+        match self
+            .server
+            .feed(alloc, front(self.up.as_slice(), count), self.moment)
+        {
+            Ok(taken) => {
+                self.up.drop_front(taken);
+                self.end_up();
+                Reply::Count(taken)
+            }
+            Err(error) => Reply::Refused(error),
+        }
+    }
+
+    fn deliver_down(&mut self, alloc: Global, n: usize) -> Reply
+        ensures { Steps
+            (halves CO.OutboundTransform CI.InboundTransform)
+            (halves SO.OutboundTransform SI.InboundTransform) CO.SEALS
+            self.old (AnEvent.Deliver ASide.Client n) result self.new }
+    {
+        let count = n.min(self.down.as_slice().len());
+        match self.client.feed(alloc, front(self.down.as_slice(), count)) {
+            Ok(taken) => {
+                self.down.drop_front(taken);
+                self.end_down();
+                Reply::Count(taken)
+            }
+            Err(error) => Reply::Refused(error),
+        }
+    }
+
+    fn cut_up(&mut self, keep: usize) -> Reply
+        ensures { Steps
+            (halves CO.OutboundTransform CI.InboundTransform)
+            (halves SO.OutboundTransform SI.InboundTransform) CO.SEALS
+            self.old (AnEvent.Cut ASide.Server keep) result self.new }
+    {
+        self.up.cut(keep);
+        self.end_up();
+        Reply::Done
+    }
+
+    fn cut_down(&mut self, keep: usize) -> Reply
+        ensures { Steps
+            (halves CO.OutboundTransform CI.InboundTransform)
+            (halves SO.OutboundTransform SI.InboundTransform) CO.SEALS
+            self.old (AnEvent.Cut ASide.Client keep) result self.new }
+    {
+        self.down.cut(keep);
+        self.end_down();
+        Reply::Done
+    }
+
+    /// The server's input ends, where its pipe is over.
+    fn end_up(&mut self)
+        ensures hears { Hears (is_over self.old.up) self.old.server.connection self.new.server.connection }
+        ensures only { self.new ≡ with_server self.old (record self.old.server { connection = self.new.server.connection }) }
+    {
+        if self.up.is_over() {
+            self.server.end_of_input();
+        }
+    }
+
+    /// The client's input ends, where its pipe is over.
+    fn end_down(&mut self)
+        ensures hears { Hears (is_over self.old.down) self.old.client.connection self.new.client.connection }
+        ensures only { self.new ≡ with_client self.old (record self.old.client { connection = self.new.client.connection }) }
+    {
+        if self.down.is_over() {
+            self.client.end_of_input();
+        }
+    }
+
+    fn fail_client(&mut self, alloc: Global) -> Reply
+        ensures { Steps
+            (halves CO.OutboundTransform CI.InboundTransform)
+            (halves SO.OutboundTransform SI.InboundTransform) CO.SEALS
+            self.old (AnEvent.Fail ASide.Client) result self.new }
+    {
+        if self.client.failure(alloc).is_some() {
+            return Reply::Done;
+        }
+        let Ok(error) = failed_by_hand(alloc) else {
+            return Reply::NoMemory;
+        };
+        self.client.fail(error);
+        Reply::Done
+    }
+
+    fn fail_server(&mut self, alloc: Global) -> Reply
+        ensures { Steps
+            (halves CO.OutboundTransform CI.InboundTransform)
+            (halves SO.OutboundTransform SI.InboundTransform) CO.SEALS
+            self.old (AnEvent.Fail ASide.Server) result self.new }
+    {
+        if self.server.failure(alloc).is_some() {
+            return Reply::Done;
+        }
+        let Ok(error) = failed_by_hand(alloc) else {
+            return Reply::NoMemory;
+        };
+        self.server.fail(error);
+        Reply::Done
+    }
+}
+
+/// The error of a connection that is failed by an event.
+fn failed_by_hand(alloc: Global) -> Result<Error, AllocError>
+    ensures { IfOk result (λ e. e ≡ failed_by_hand) }
+{
+    Ok(Error::Socket(Text::from_string(String::from_str(alloc, "failed")?)))
+}
+
+/// A lemma, which does nothing when it runs: the response that a handler gave is a value of its type.
+fn lemma_answer_is_value(given: &Result<Response, Error>)
+    ensures { (r : AResponse) → given.now ≡ Ok r → IsResponse r }
+{
+    if let Ok(response) = given {
+        response.lemma_is_value();
+    }
+}
+
+/// This many zeros. Memory is asked for only where there are some.
+fn zeros(alloc: Global, n: usize) -> Result<Vec<u8>, AllocError>
+    ensures ok { IfOk result (λ bytes. length bytes.items ≡ n) }
+    ensures err { OnErr result (0 < n) }
+{
+    if n == 0 {
+        return Ok(Vec::new(alloc));
+    }
+    vec![in alloc; 0u8; n]
+}
