@@ -2,7 +2,7 @@
 pub use Rattle.std.proofs.Common.{ℤ, pos}
 pub use Rattle.ttrpc_proto.specs.Messages.{is_ok_code, IsRequest, IsResponse}
 pub use Rattle.ttrpc_server.specs.declared.job.ActiveJob.{ActiveJob}
-pub use Rattle.ttrpc_server.proofs.Words.{Failure, MESSAGE_LENGTH_MAX, MESSAGE_TYPE_REQUEST}
+pub use Rattle.ttrpc_server.proofs.Words.{Failure, jobs_at, MESSAGE_LENGTH_MAX, MESSAGE_TYPE_REQUEST}
 pub use Rattle.ttrpc_server.specs.Types.{MESSAGE_TYPE_RESPONSE}
 pub use Rattle.ttrpc_server.specs.Protocol.{response_bytes}
 pub use Rattle.ttrpc_client.specs.declared.call.Call.{Call}

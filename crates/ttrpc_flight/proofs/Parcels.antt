@@ -1,5 +1,5 @@
 -- The flights of one stream, and what a throw leaves of them. No bytes, no seals, no queue.
-use Rattle.ttrpc_flight.proofs.Words.{◌≡◌, ◌≤◌, ◌⊎◌, inl, inr, ℕ, Bool, true, false, nat_eq, List, [], ◌∷◌, ◌++◌, length, arith, refl, sym, ap, subst, ◌∙◌, length-append, AllByRecursion, filter, eq-eqb, ne_eqb, Flying, IsOwnRequest, flying_without, parcels, cases_Bool, cases_eq, and_right, all_behind, under_both}
+use Rattle.ttrpc_flight.proofs.Words.{◌≡◌, ◌≤◌, ◌⊎◌, inl, inr, ℕ, Bool, true, false, nat_eq, List, [], ◌∷◌, ◌++◌, length, arith, refl, sym, ap, subst, ◌∙◌, length-append, AllByRecursion, filter, eq-eqb, ne_eqb, Flying, IsOwned, flying_without, parcels, cases_Bool, cases_eq, and_right, all_behind, under_both}
 use Rattle.ttrpc_flight.proofs.Losing.{left_behind, stays}
 
 -- ---- the flights of one stream
@@ -38,11 +38,14 @@ left_of k keep front back le =
 pub parcels_thrown : (k : ℕ) (owners : ℕ → Bool) (n : ℕ) (transit queued : List Flying) → LeftOf k (transit ++ queued) (transit ++ flying_without owners n queued)
 parcels_thrown k owners n transit queued = left_behind (LeftOf k) owners n transit queued (left_of k (stays owners))
 
--- requests of other owners stay
-stays_there : (k : ℕ) (owners : ℕ → Bool) (x : Flying) → owners k ≡ false → IsOwnRequest x → id_of x ≡ k → stays owners x ≡ true
-stays_there k owners x none own is = rw (and_right x.frame.is_unary_request (owners x.frame.owner) (ap owners (own.1 ∙ is) ∙ none)) refl
+-- what isn't a unary request of theirs stays
+stays_there : (k : ℕ) (owners : ℕ → Bool) (x : Flying) → owners k ≡ false → IsOwned x → id_of x ≡ k → stays owners x ≡ true
+stays_there k owners x none own is = elim (cases_Bool x.frame.is_unary_request) [
+  | inl e ↦ rw (and_right x.frame.is_unary_request (owners x.frame.owner) (ap owners (own e ∙ is) ∙ none)) refl
+  | inr e ↦ rw e refl
+]
 
-own_stay : (k : ℕ) (owners : ℕ → Bool) → owners k ≡ false → (xs : List Flying) → AllByRecursion IsOwnRequest xs → filter (stays owners) (parcels k xs) ≡ parcels k xs
+own_stay : (k : ℕ) (owners : ℕ → Bool) → owners k ≡ false → (xs : List Flying) → AllByRecursion IsOwned xs → filter (stays owners) (parcels k xs) ≡ parcels k xs
 own_stay k owners none [] own = refl
 own_stay k owners none (x ∷ xs) own =
     let later = own_stay k owners none xs own.1 in
@@ -51,10 +54,10 @@ own_stay k owners none (x ∷ xs) own =
       | inr e ↦ rw (ne_eqb (id_of x) k e, later) refl
     ]
 
-pub parcels_thrown_elsewhere : (k : ℕ) (owners : ℕ → Bool) (n : ℕ) (queued : List Flying) → owners k ≡ false → AllByRecursion IsOwnRequest queued
+pub parcels_thrown_elsewhere : (k : ℕ) (owners : ℕ → Bool) (n : ℕ) (queued : List Flying) → owners k ≡ false → AllByRecursion IsOwned queued
     → parcels k (flying_without owners n queued) ≡ parcels k queued
 parcels_thrown_elsewhere k owners n queued none =
-    left_behind (λ all left. AllByRecursion IsOwnRequest all → parcels k left ≡ parcels k all) owners n [] queued
+    left_behind (λ all left. AllByRecursion IsOwned all → parcels k left ≡ parcels k all) owners n [] queued
     (λ front back own. under_both id_of k front (filter (stays owners) back)
-    ∙ ap (λ xs. parcels k front ++ xs) (filter_twice (λ (x : Flying). nat_eq (id_of x) k) (stays owners) back ∙ own_stay k owners none back (all_behind IsOwnRequest front back own))
+    ∙ ap (λ xs. parcels k front ++ xs) (filter_twice (λ (x : Flying). nat_eq (id_of x) k) (stays owners) back ∙ own_stay k owners none back (all_behind IsOwned front back own))
     ∙ sym (under_both id_of k front back))

@@ -85,9 +85,9 @@ pub record AreLinked {O I : Type 0} (seals : Moves O) (opens : Moves I) (refuses
 abbrev pub parcels : ℕ → List Flying → List Flying
 parcels k flights = filter (λ (x : Flying). nat_eq x.frame.message.header.stream_id k) flights
 
--- a unary request that its own stream id owns
-abbrev pub IsOwnRequest : Flying → Type 0
-IsOwnRequest x = (x.frame.is_unary_request ≡ true) × (x.frame.owner ≡ x.frame.message.header.stream_id)
+-- where it is a unary request, its own stream id owns it
+abbrev pub IsOwned : Flying → Type 0
+IsOwned x = x.frame.is_unary_request ≡ true → x.frame.owner ≡ x.frame.message.header.stream_id
 
 -- ---- flights that act
 

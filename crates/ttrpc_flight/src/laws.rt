@@ -12,7 +12,7 @@ ghost use Rattle.ttrpc_connection.specs.declared.arrived.Opening.TheVariants.{Op
 ghost use Rattle.ttrpc_connection.specs.Outbox.{Outbox as AnOutbox};
 ghost use Rattle.ttrpc_connection.specs.Frames.{Opens, Sent, SendsAll};
 ghost use Rattle.ttrpc_connection.specs.Feeds.{ActsAll, Scene, ways};
-ghost use Rattle.ttrpc_flight.specs.Flight.{Flying, ActsOn, AreInFlight, AreLinked, frames_of, IsOwnRequest, IsSound, arrived, bytes_after_carry, flying_without, parcels};
+ghost use Rattle.ttrpc_flight.specs.Flight.{Flying, ActsOn, AreInFlight, AreLinked, frames_of, IsOwned, IsSound, arrived, bytes_after_carry, flying_without, parcels};
 
 use ttrpc_connection::Reacts;
 use ttrpc_secure::{InboundTransform, OutboundTransform};
@@ -64,16 +64,16 @@ pub fn seals_open_as_they_were_made<O: OutboundTransform, I: InboundTransform>()
         → AreLinked O.seals I.opens I.refuses (transit ++ flying_without owners n queued) out in_ }
 {}
 
-/// Where each flight is a request that its own stream id owns, a throw leaves the flights of streams that aren't among its
-/// owners, and those that are left are such requests; and of a stream with one flight it stays or is gone.
+/// Where each flight that is a unary request is owned by its own stream id, a throw leaves the flights of streams that aren't
+/// among its owners, and this holds of those that are left; and of a stream with one flight it stays or is gone.
 pub fn a_throw_takes_requests_of_its_owners()
     ensures elsewhere { (k : ℕ) (owners : ℕ → Bool) (n : ℕ) (queued : List Flying) → owners k ≡ false
-        → AllByRecursion IsOwnRequest queued → parcels k (flying_without owners n queued) ≡ parcels k queued }
+        → AllByRecursion IsOwned queued → parcels k (flying_without owners n queued) ≡ parcels k queued }
     ensures one { (k : ℕ) (owners : ℕ → Bool) (n : ℕ) (transit queued : List Flying) → length (parcels k (transit ++ queued)) ≤ 1
         → (parcels k (transit ++ flying_without owners n queued) ≡ parcels k (transit ++ queued))
         ⊎ (parcels k (transit ++ flying_without owners n queued) ≡ []) }
-    ensures own { (owners : ℕ → Bool) (n : ℕ) (transit queued : List Flying) → AllByRecursion IsOwnRequest (transit ++ queued)
-        → AllByRecursion IsOwnRequest (transit ++ flying_without owners n queued) }
+    ensures own { (owners : ℕ → Bool) (n : ℕ) (transit queued : List Flying) → AllByRecursion IsOwned (transit ++ queued)
+        → AllByRecursion IsOwned (transit ++ flying_without owners n queued) }
 {}
 
 /// What a connection sends is in flight, one flight for each frame, in order, and linked; and where the frames that a core takes

@@ -1,83 +1,105 @@
 -- THE HEADLINE, for any run from a fresh start: each step keeps the invariant, and the invariant has the headline in it.
-use Rattle.ttrpc_pair.proofs.Words.{[], Answer, ap, append-nil, append_assoc, Bool, call_at, CallEvent, Carry, ClientCore, ClientSide, Count, Cut, Deliver, Done, DropCall, Entry, Event, Fail, failed_by_hand, false, Finish, Given, Halves, Handed, inl, inr, IsFresh, jobs_at, List, Named, Net, Outcome, refl, Refused, Reply, Respond, rules, Runs, ServerCore, ServerSide, Some, Steps, subst, sym, Take, Tick, Told, waits, ℕ, ◌++◌, ◌∙◌, ◌∷◌, ◌≡◌}
-use Rattle.ttrpc_story.proofs.Words.{act_of, acts, IsExactlyOnce, IsRightAt, IsStreamOf, with_entry}
+use Rattle.ttrpc_pair.proofs.Words.{◌++◌, ◌∙◌, ◌∷◌, ◌≡◌, ℕ, [], Answer, ap, append-nil, append_assoc, Bool, call_at, CallEvent, Carry, ClientCore, ClientSide, Count, Cut, Deliver, Done, DropCall, Entry, Event, Fail, failed_by_hand, false, Finish, Given, Halves, Handed, inl, inr, IsFresh, jobs_at, List, Named, Net, Outcome, refl, Refused, Reply, Respond, rules, Runs, ServerCore, ServerSide, Some, Steps, subst, sym, Take, Tick, Told}
+use Rattle.ttrpc_story.proofs.Words.{act_of, acts, IsExactlyOnce, with_entry}
+use Rattle.ttrpc_story.proofs.Here.{Idle, Unborn}
+use Rattle.ttrpc_story.proofs.AtClient.{AtClient}
+use Rattle.ttrpc_story.proofs.Place.{exactly_once}
+use Rattle.ttrpc_headline.proofs.ByClient.{keeps_ask, keeps_call, keeps_drop, keeps_tick}
+use Rattle.ttrpc_headline.proofs.ByServer.{keeps_answer, keeps_finish, keeps_hand, keeps_respond}
+use Rattle.ttrpc_headline.proofs.Keeps.{Keeps, keeps_still}
+use Rattle.ttrpc_headline.proofs.Moves.{break_down, break_up, carry_down, carry_up, client_fails, cut_down, cut_up, deliver_down, deliver_up, server_fails, stay_up}
+use Rattle.ttrpc_headline.proofs.Numbers.{AreRight, fresh_numbers, IsRightRun, Numbers, one_to_one, stream_of_run, streams_of}
 use Rattle.ttrpc_headline.proofs.OneWay.{starts}
-use Rattle.ttrpc_story.proofs.Stages.{Ends, Unborn, exactly_once}
-use Rattle.ttrpc_headline.proofs.Delivers.{AreKnown}
-use Rattle.ttrpc_headline.proofs.Keeps.{Keeps, keeps_ask, keeps_call, keeps_drop, keeps_still, keeps_tick}
-use Rattle.ttrpc_headline.proofs.Moves.{break_down, break_up, carry_down, carry_up, client_fails, cut_down, cut_up, deliver_down, deliver_up, stay_up, keeps_answer, keeps_finish, keeps_hand, keeps_respond, server_fails}
+use Rattle.ttrpc_events.specs.Told.{IsTold}
 
 module _ {CO CI SO SI : Type 0} (c : Halves CO CI) (s : Halves SO SI) (seals : Bool) (still : seals ≡ false → (from to : CO) (plain aad sealed : List ℕ) → c.out.seals from plain aad sealed to → to ≡ from)
-    (stream_of : ℕ → ℕ) where
+    (f : ℕ → ℕ) where
   abbrev Kept : List Entry → Net CO CI SO SI → Type 0
-  Kept trace w = Keeps c s stream_of trace w
+  Kept trace w = Keeps c s f trace w
+
+  abbrev Right : Net CO CI SO SI → Type 0
+  Right w = AreRight f w.server.state.jobs.list
 
   -- an equal net
   along : (trace : List Entry) (w v : Net CO CI SO SI) → v ≡ w → Kept trace w → Kept trace v
-  along trace w v e i = subst (λ (x : Net CO CI SO SI). Keeps c s stream_of trace x) (sym e) i
+  along trace w v e i = subst (λ (x : Net CO CI SO SI). Keeps c s f trace x) (sym e) i
 
   -- an entry that is no act of any id, and then what it did
-  quietly : (trace : List Entry) (w : Net CO CI SO SI) (event : Event) (reply : Reply) → ((k : ℕ) → act_of stream_of k event reply ≡ []) → Kept trace w → Kept (with_entry trace event reply) w
-  quietly trace w event reply quiet i = keeps_still c s seals still stream_of trace w event reply quiet i
+  quietly : (trace : List Entry) (w : Net CO CI SO SI) (event : Event) (reply : Reply) → ((k : ℕ) → act_of f k event reply ≡ []) → Kept trace w → Kept (with_entry trace event reply) w
+  quietly trace w event reply quiet i = keeps_still c s f trace w event reply quiet i
 
   -- nothing changed
-  same : (trace : List Entry) (w : Net CO CI SO SI) (event : Event) (reply : Reply) (v : Net CO CI SO SI) → ((k : ℕ) → act_of stream_of k event reply ≡ []) → Kept trace w → v ≡ w → Kept (with_entry trace event reply) v
+  same : (trace : List Entry) (w : Net CO CI SO SI) (event : Event) (reply : Reply) (v : Net CO CI SO SI) → ((k : ℕ) → act_of f k event reply ≡ []) → Kept trace w → v ≡ w → Kept (with_entry trace event reply) v
   same trace w event reply v quiet i e = along (with_entry trace event reply) w v e (quietly trace w event reply quiet i)
 
-  -- EACH STEP KEEPS IT.
-  keeps : (trace : List Entry) (w : Net CO CI SO SI) (event : Event) (reply : Reply) (v : Net CO CI SO SI) → Kept trace w → IsRightAt stream_of event reply → Steps c s seals w event reply v → Kept (with_entry trace event reply) v
-  keeps trace w (CallEvent request) (Named id) v i r p = along _ _ v p.2 (keeps_call c s seals still stream_of trace w request id v i p.0 p.1)
-  keeps trace w (Outcome id) (Given outcome) v i r p = along _ _ v p.1 (keeps_ask c s seals still stream_of trace w id outcome v i p.0)
-  keeps trace w (DropCall id) Done v i r p = along _ _ v p.only (keeps_drop c s seals still stream_of trace w id v i p)
-  keeps trace w Take (Handed (Some job)) v i r p = along _ _ v p.1 (keeps_hand c s seals stream_of trace w job v r i p.0)
-  keeps trace w (Answer id result) Done v i r p = along _ _ v p.1 (keeps_answer c s seals stream_of trace w id result v.server i p.0 p.2)
-  keeps trace w (Respond id response) Done v i r p = along _ _ v p.only (keeps_respond c s seals stream_of trace w id response v i p)
-  keeps trace w (Finish id) Done v i r p = along _ _ v p.1 (keeps_finish c s seals stream_of trace w id v.server i p.0)
-  keeps trace w (Tick now) Done v i r p = along _ _ v p.only (keeps_tick c s seals still stream_of trace w now v i p)
-  keeps trace w (Carry ClientSide n) (Count k) v i r p = carry_up c s seals stream_of _ w n k v (quietly trace w (Carry ClientSide n) (Count k) (λ j. refl) i) p
-  keeps trace w (Carry ServerSide n) (Count k) v i r p = carry_down c s seals stream_of _ w n k v (quietly trace w (Carry ServerSide n) (Count k) (λ j. refl) i) p
-  keeps trace w (Deliver ServerSide n) (Count k) v i r (inl p) = deliver_up c s seals stream_of _ w n k v (quietly trace w (Deliver ServerSide n) (Count k) (λ j. refl) i) p
-  keeps trace w (Deliver ServerSide n) (Count k) v i r (inr p) = stay_up c s seals stream_of _ w k v (quietly trace w (Deliver ServerSide n) (Count k) (λ j. refl) i) p
-  keeps trace w (Deliver ServerSide n) (Refused told) v i r (inl p) = break_up c s seals stream_of _ w n told v (quietly trace w (Deliver ServerSide n) (Refused told) (λ j. refl) i) p.0 p.1
-  keeps trace w (Deliver ServerSide n) (Refused told) v i r (inr p) = same trace w (Deliver ServerSide n) (Refused told) v (λ k. refl) i p.1
-  keeps trace w (Deliver ClientSide n) (Count k) v i r p = deliver_down c s seals stream_of _ w n k v (quietly trace w (Deliver ClientSide n) (Count k) (λ j. refl) i) p
-  keeps trace w (Deliver ClientSide n) (Refused told) v i r (inl p) = break_down c s seals stream_of _ w n told v (quietly trace w (Deliver ClientSide n) (Refused told) (λ j. refl) i) p.0 p.1
-  keeps trace w (Deliver ClientSide n) (Refused told) v i r (inr p) = same trace w (Deliver ClientSide n) (Refused told) v (λ k. refl) i p.1
-  keeps trace w (Cut ServerSide keep) Done v i r p = cut_up c s seals stream_of _ w keep v (quietly trace w (Cut ServerSide keep) Done (λ k. refl) i) p
-  keeps trace w (Cut ClientSide keep) Done v i r p = cut_down c s seals stream_of _ w keep v (quietly trace w (Cut ClientSide keep) Done (λ k. refl) i) p
-  keeps trace w (Fail ClientSide) Done v i r p =
-      along _ _ v p (client_fails c s seals stream_of (with_entry trace (Fail ClientSide) Done) w (Told failed_by_hand) (quietly trace w (Fail ClientSide) Done (λ k. refl) i))
-  keeps trace w (Fail ServerSide) Done v i r p =
-      along _ _ v p (server_fails c s seals stream_of (with_entry trace (Fail ServerSide) Done) w (Told failed_by_hand) (quietly trace w (Fail ServerSide) Done (λ k. refl) i))
-  keeps trace w event reply v i r p = same trace w event reply v (λ k. refl) i (first_of (assumption, cc, search rules))
+  -- EACH STEP KEEPS IT, where the function is right before it and behind it.
+  keeps : (trace : List Entry) (w : Net CO CI SO SI) (event : Event) (reply : Reply) (v : Net CO CI SO SI) → Kept trace w → Right w → Right v → Steps c s seals w event reply v → Kept (with_entry trace event reply) v
+  keeps trace w (CallEvent request) (Named id) v i r r2 p = along _ _ v p.2 (keeps_call c s seals still f trace w request id v i p.0 p.1)
+  keeps trace w (Outcome id) (Given outcome) v i r r2 p = along _ _ v p.1 (keeps_ask c s seals still f trace w id outcome v i p.0)
+  keeps trace w (DropCall id) Done v i r r2 p = along _ _ v p.only (keeps_drop c s seals still f trace w id v i p)
+  keeps trace w Take (Handed (Some job)) v i r r2 p = along _ _ v p.1 (keeps_hand c s seals f trace w job v i p.0)
+  keeps trace w (Answer id result) Done v i r r2 p = along _ _ v p.1 (keeps_answer c s seals f trace w id result v.server i r p.0 p.2)
+  keeps trace w (Respond id response) Done v i r r2 p = along _ _ v p.only (keeps_respond c s seals f trace w id response v i r p)
+  keeps trace w (Finish id) Done v i r r2 p = along _ _ v p.1 (keeps_finish c s seals f trace w id v.server i r p.0)
+  keeps trace w (Tick now) Done v i r r2 p = along _ _ v p.only (keeps_tick c s seals still f trace w now v i p)
+  keeps trace w (Carry ClientSide n) (Count k) v i r r2 p = carry_up c s seals f _ w n k v (quietly trace w (Carry ClientSide n) (Count k) (λ j. refl) i) p
+  keeps trace w (Carry ServerSide n) (Count k) v i r r2 p = carry_down c s seals f _ w n k v (quietly trace w (Carry ServerSide n) (Count k) (λ j. refl) i) p
+  keeps trace w (Deliver ServerSide n) (Count k) v i r r2 (inl p) = deliver_up c s seals f _ w n k v (quietly trace w (Deliver ServerSide n) (Count k) (λ j. refl) i) r2 p
+  keeps trace w (Deliver ServerSide n) (Count k) v i r r2 (inr p) = stay_up c s seals f _ w k v (quietly trace w (Deliver ServerSide n) (Count k) (λ j. refl) i) p
+  keeps trace w (Deliver ServerSide n) (Refused told) v i r r2 (inl p) = break_up c s seals f _ w n told v (quietly trace w (Deliver ServerSide n) (Refused told) (λ j. refl) i) r2 p.0 p.1
+  keeps trace w (Deliver ServerSide n) (Refused told) v i r r2 (inr p) = same trace w (Deliver ServerSide n) (Refused told) v (λ k. refl) i p.1
+  keeps trace w (Deliver ClientSide n) (Count k) v i r r2 p = deliver_down c s seals f _ w n k v (quietly trace w (Deliver ClientSide n) (Count k) (λ j. refl) i) p
+  keeps trace w (Deliver ClientSide n) (Refused told) v i r r2 (inl p) = break_down c s seals f _ w n told v (quietly trace w (Deliver ClientSide n) (Refused told) (λ j. refl) i) p.0 p.1
+  keeps trace w (Deliver ClientSide n) (Refused told) v i r r2 (inr p) = same trace w (Deliver ClientSide n) (Refused told) v (λ k. refl) i p.1
+  keeps trace w (Cut ServerSide keep) Done v i r r2 p = cut_up c s seals f _ w keep v (quietly trace w (Cut ServerSide keep) Done (λ k. refl) i) p
+  keeps trace w (Cut ClientSide keep) Done v i r r2 p = cut_down c s seals f _ w keep v (quietly trace w (Cut ClientSide keep) Done (λ k. refl) i) p
+  keeps trace w (Fail ClientSide) Done v i r r2 p =
+      along _ _ v p (client_fails c s seals f (with_entry trace (Fail ClientSide) Done) w (Told failed_by_hand) (quietly trace w (Fail ClientSide) Done (λ k. refl) i))
+  keeps trace w (Fail ServerSide) Done v i r r2 p =
+      along _ _ v p (server_fails c s seals f (with_entry trace (Fail ServerSide) Done) w (Told failed_by_hand) (quietly trace w (Fail ServerSide) Done (λ k. refl) i))
+  keeps trace w event reply v i r r2 p = same trace w event reply v (λ k. refl) i (first_of (assumption, cc, search rules))
 
-  keeps_all : (before rest : List Entry) (w v : Net CO CI SO SI) → Kept before w → IsStreamOf stream_of rest → Runs c s seals w rest v → Kept (before ++ rest) v
-  keeps_all before [] w v i r p = subst (λ (t : List Entry). Keeps c s stream_of t v) (sym (append-nil before)) (along before w v p i)
-  keeps_all before (e ∷ rest) w v i r p =
-      subst (λ (t : List Entry). Keeps c s stream_of t v) (append_assoc before (e ∷ []) rest)
-      (keeps_all (before ++ e ∷ []) rest p.0 v (keeps before w e.event e.reply p.0 i r.0 p.1) r.1 p.2)
+  -- right at the first state of what is left of a run
+  now_right : (w : Net CO CI SO SI) (rest : List Entry) (v : Net CO CI SO SI) → (p : Runs c s seals w rest v) → IsRightRun c s seals f w rest v p → Right w
+  now_right w [] v p right = right
+  now_right w (e ∷ rest) v p right = right.0
+
+  keeps_all : (before rest : List Entry) (w v : Net CO CI SO SI) → Kept before w → (p : Runs c s seals w rest v) → IsRightRun c s seals f w rest v p → Kept (before ++ rest) v
+  keeps_all before [] w v i p right = subst (λ (t : List Entry). Keeps c s f t v) (sym (append-nil before)) (along before w v p i)
+  keeps_all before (e ∷ rest) w v i p right =
+      subst (λ (t : List Entry). Keeps c s f t v) (append_assoc before (e ∷ []) rest)
+      (keeps_all (before ++ e ∷ []) rest p.0 v (keeps before w e.event e.reply p.0 i right.0 (now_right p.0 rest v p.2 right.1) p.1) p.2 right.1)
 
   -- it holds at the start
   fresh : (w : Net CO CI SO SI) → IsFresh c s w → Kept [] w
-  fresh w f = record {
+  fresh w n = record {
     up = [];
     down = [];
     stories = λ k. record {
-      stage = Unborn;
-      is_stage = tt;
-      young = λ y. refl;
-      works_is = refl;
-      ups_is = refl;
-      jobs_is = ap (λ (x : ServerCore SO SI). jobs_at x.state.jobs.list k) f.server;
-      downs_is = refl;
-      ends = subst (λ (x : ClientCore CO CI). Ends Unborn [] (call_at x.state k)) (sym f.client) (inl refl);
+      origin = Unborn;
+      so_far = Idle;
+      known = record {
+        young = λ y. refl;
+        server = record { is_work = refl; works_is = refl; ups_is = refl; jobs_is = ap (λ (x : ServerCore SO SI). jobs_at x.state.jobs.list k) n.server; downs = tt };
+        client = (ap (λ (x : ClientCore CO CI). call_at x.state k) n.client, refl);
+      };
     };
-    sync = ap (λ (x : ServerCore SO SI). x.state.rules) f.server ∙ f.sync;
-    known = subst (λ (x : ServerCore SO SI). AreKnown stream_of x.state.jobs.list) (sym f.server) tt;
+    numbers = subst (λ (x : ServerCore SO SI). Numbers f x.state.jobs.last [] w.client.state.next) (sym n.server) (fresh_numbers f w.client.state.next);
+    sync = ap (λ (x : ServerCore SO SI). x.state.rules) n.server ∙ n.sync;
     own = tt;
-    upward = starts c.out s.in_ w.client.connection w.server.connection w.up (ap (λ (x : ClientCore CO CI). x.connection.outbox.queue) f.client) (ap (λ (x : ServerCore SO SI). x.connection.decoder) f.server) f.up f.up_paired;
-    downward = starts s.out c.in_ w.server.connection w.client.connection w.down (ap (λ (x : ServerCore SO SI). x.connection.outbox.queue) f.server) (ap (λ (x : ClientCore CO CI). x.connection.decoder) f.client) f.down f.down_paired;
+    upward = starts c.out s.in_ w.client.connection w.server.connection w.up (ap (λ (x : ClientCore CO CI). x.connection.outbox.queue) n.client) (ap (λ (x : ServerCore SO SI). x.connection.decoder) n.server) n.up n.up_paired;
+    downward = starts s.out c.in_ w.server.connection w.client.connection w.down (ap (λ (x : ServerCore SO SI). x.connection.outbox.queue) n.server) (ap (λ (x : ClientCore CO CI). x.connection.decoder) n.client) n.down n.down_paired;
   }
 
-  pub headline : (w : Net CO CI SO SI) (trace : List Entry) (v : Net CO CI SO SI) → IsFresh c s w → Runs c s seals w trace v → IsStreamOf stream_of trace → (k : ℕ) → IsExactlyOnce (acts stream_of k trace)
-  headline w trace v f p r k = exactly_once _ _ k _ _ _ _ _ ((keeps_all [] trace w v (fresh w f) r p).stories k)
+pub told : {CO CI SO SI : Type 0} (c : Halves CO CI) (s : Halves SO SI) (seals : Bool) (still : seals ≡ false → (from to : CO) (plain aad sealed : List ℕ) → c.out.seals from plain aad sealed to → to ≡ from)
+    (w v : Net CO CI SO SI) (trace : List Entry) → IsFresh c s w → Runs c s seals w trace v → (stream_of : ℕ → ℕ) × IsTold stream_of trace
+told c s seals still w v trace n p =
+    let g = streams_of c s seals w trace v n p in
+    let i = keeps_all c s seals still g.f [] trace w v (fresh c s seals still g.f w n) p g.right in (
+      g.f,
+      record {
+        agrees = stream_of_run c s seals g.f w trace v p g.right;
+        one_to_one = one_to_one g.f v.server.state.jobs.last i.numbers.low i.numbers.rise g.zero_ g.beyond i.numbers.within;
+        exactly_once = λ id. exactly_once (i.stories id);
+      },
+    )

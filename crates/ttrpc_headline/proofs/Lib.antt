@@ -1,9 +1,11 @@
 pub mod OneWay
 pub mod Throws
 pub mod Payloads
-pub mod Streams
+pub mod Numbers
 pub mod Delivers
 pub mod Keeps
+pub mod ByClient
 pub mod Moves
+pub mod ByServer
 pub mod Headline
 pub mod Running

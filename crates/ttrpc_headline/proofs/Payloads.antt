@@ -1,11 +1,12 @@
 -- What is sent reads back, what a core makes of it then, and the flights that it is sent as.
-use Rattle.ttrpc_pair.proofs.Words.{[], and_parts, arith, associated, Bool, by_status, ClientCore, codes, empty_request, empty_response, false, fit_to_limit, Flying, Gives, INVALID_ARGUMENT, IsOwnRequest, IsRequest, IsResponse, IsSound, landing_of, last_id, le-ltb, length, limit_text, List, ltb-true, MESSAGE_LENGTH_MAX, MESSAGE_TYPE_REQUEST, MESSAGE_TYPE_RESPONSE, MessageHeader, nat_lt, Opened, OutboundTransform, Outbox, path_text, Queued, reads_back, refl, Request, request_again, request_bytes, request_fields, request_fits, request_row, request_step, Requests, Responds, Response, response_again, response_bytes, response_fields, response_fits, response_size, response_step, rules, safe_limit, SendsAll, SendsOne, Sent, Services, Some, status_response, subst, suc, sym, sync_row, SyncRules, true, with_frame, with_payload, zero, ℕ, ◌&&◌, ◌++◌, ◌-◌, ◌<◌, ◌^◌, ◌∙◌, ◌∷◌, ◌≡◌, ◌≤◌}
+use Rattle.ttrpc_pair.proofs.Words.{[], and_parts, arith, associated, Bool, by_status, ClientCore, codes, empty_request, empty_response, false, fit_to_limit, Flying, Gives, INVALID_ARGUMENT, IsOwned, IsRequest, IsResponse, IsSound, landing_of, last_id, le-ltb, length, limit_text, List, ltb-true, MESSAGE_LENGTH_MAX, MESSAGE_TYPE_REQUEST, MESSAGE_TYPE_RESPONSE, MessageHeader, nat_lt, Opened, OutboundTransform, Outbox, path_text, Queued, reads_back, refl, Request, request_again, request_bytes, request_fields, request_fits, request_row, request_step, Requests, Responds, Response, response_again, response_bytes, response_fields, response_fits, response_size, response_step, rules, safe_limit, SendsAll, SendsOne, Sent, Services, Some, status_response, subst, suc, sym, sync_row, SyncRules, true, with_frame, with_payload, zero, ℕ, ◌&&◌, ◌++◌, ◌-◌, ◌<◌, ◌^◌, ◌∙◌, ◌∷◌, ◌≡◌, ◌≤◌}
 use Rattle.ttrpc_story.proofs.Words.{Act, HasOkStatus}
 use Rattle.std.specs.Fmt.{decimal}
 use Rattle.std.proofs.lemmas.Fmt.{IsAscii-decimal}
 use Rattle.std.proofs.lemmas.Str.{IsUtf8-append, IsUtf8-from_ascii}
 use Rattle.std.specs.Str.{IsAscii, IsUtf8}
-use Rattle.ttrpc_story.proofs.Stages.{IsAnswerOf, IsDone, IsSent, IsToldOf}
+use Rattle.ttrpc_story.proofs.AtServer.{IsDown, IsSent}
+use Rattle.ttrpc_story.proofs.Here.{IsAnswer}
 
 -- ---- reading
 
@@ -32,6 +33,10 @@ refusal_is_response text is = record { status = record { code = search rules; me
 
 not_ok : (text : List ℕ) → HasOkStatus (status_response INVALID_ARGUMENT text).status → ⊥
 not_ok text h = cc
+
+-- if it is an outcome that is Ok, it is the answer of the one run
+abbrev pub IsAnswerOf : List Act → Response → Type 0
+IsAnswerOf done r = HasOkStatus r.status → IsAnswer done r
 
 -- such a response is no outcome that is Ok
 refusal_answers : (done : List Act) (text : List ℕ) → IsAnswerOf done (status_response INVALID_ARGUMENT text)
@@ -99,7 +104,7 @@ pub record SendsRequest {O : Type 0} (out : OutboundTransform O) (old : Outbox O
   pub queue : new.queue ≡ with_frame old.queue x.frame
   pub seal : out.seals old.half x.plain (associated x.frame.message.header) x.frame.message.payload new.half
   pub sound : IsSound x.frame
-  pub own : IsOwnRequest x
+  pub own : IsOwned x
   pub is_sent : IsSent id request x
 
 pub sends_request : {O I : Type 0} (out : OutboundTransform O) (old : ClientCore O I) (request : Request) (now id : ℕ) (new : ClientCore O I) → IsRequest request → Requests out old request now id new
@@ -113,7 +118,7 @@ sends_request out old request now id new is p =
       queue = p.sends.queue;
       seal = p.sends.seal;
       sound = sealed_is_sound f sealed p.sends.fits (omega (arith, g.stream_id, p.in_range)) (omega (arith, g.type_)) (omega (arith, g.flags));
-      own = (g.is_unary_request, g.owner ∙ sym g.stream_id);
+      own = λ unary. g.owner ∙ sym g.stream_id;
       is_sent = record {
         known = is;
         plain = refl;
@@ -126,16 +131,15 @@ sends_request out old request now id new is p =
 
 -- A response is a flight.
 pub record SendsResponse {O : Type 0} (out : OutboundTransform O) (old : Outbox O) (k : ℕ) (done : List Act) (new : Outbox O) : Type 0 where
-  pub r : Response
   pub y : Flying
   pub queue : new.queue ≡ with_frame old.queue y.frame
   pub seal : out.seals old.half y.plain (associated y.frame.message.header) y.frame.message.payload new.half
   pub sound : IsSound y.frame
-  pub is_told : IsToldOf k done r y
+  pub is_down : IsDown k true done y
 
-pub sends_response : {O : Type 0} (out : OutboundTransform O) (old : Outbox O) (k : ℕ) (r : Response) (sent : List Sent) (new : Outbox O) (done : List Act) → k ≤ last_id → IsDone done → IsResponse r → IsAnswerOf done r
+pub sends_response : {O : Type 0} (out : OutboundTransform O) (old : Outbox O) (k : ℕ) (r : Response) (sent : List Sent) (new : Outbox O) (done : List Act) → k ≤ last_id → IsResponse r → IsAnswerOf done r
     → Responds SyncRules (safe_limit out old.half) k r sent → SendsAll out old sent new → SendsResponse out old k done new
-sends_response out old k r sent new done within is_done is answer p q =
+sends_response out old k r sent new done within is answer p q =
     let f = p.frame in
     let g = p.is_frame in
     let limit = safe_limit out old.half in
@@ -144,18 +148,17 @@ sends_response out old k r sent new done within is_done is answer p q =
     let sealed = one.sealed in
     let s = fitted_is limit r (omega arith) is done answer in
     record {
-      r = fit_to_limit limit r;
       y = record { frame = with_payload f sealed; plain = response_bytes (fit_to_limit limit r) };
       queue = one.queue;
       seal = one.seal;
       sound = sealed_is_sound f sealed one.fits (omega (arith, g.stream_id, within)) (omega (arith, g.type_)) (omega (arith, g.flags));
-      is_told = record {
-        is_done = is_done;
+      is_down = record {
+        r = fit_to_limit limit r;
         known = s.0;
         plain = refl;
         short = omega (arith, p.fits);
         stream = g.stream_id;
         type_ = g.type_;
-        answer = s.1;
+        answer = λ ok. (refl, s.1 ok);
       };
     }

@@ -8,7 +8,7 @@ pub use Rattle.ttrpc_frame.specs.Queue.{empty_queue, has_begun}
 pub use Rattle.ttrpc_secure.specs.Halves.{IsPaired}
 pub use Rattle.ttrpc_connection.specs.declared.arrived.Opening.TheVariants.{Opened}
 pub use Rattle.ttrpc_connection.specs.Outbox.{Outbox}
-pub use Rattle.ttrpc_connection.proofs.Words.{if◌then◌else◌, ℕ, ◌&&◌, ◌++◌, ◌+◌, ◌-◌, ◌<◌, ◌^◌, ◌∙◌, ◌∷◌, ◌≡◌, ◌≢◌, ◌≤◌, ◌⊎◌, [], ActsAll, after_report, all_at, all_behind, all_changed, all_joined, all_less, AllByRecursion, ap, append-nil, append_assoc, arith, associated, begun_count, between_other, between_own, Bool, cases_Bool, cases_eq, cond-false, cond-true, cond_both, drop, eq-eqb, eqb-true, Err, Error, error_of, false, Fed, Feeds, given, header_of_frame, Held, Incoming, inl, inr, INVALID_ARGUMENT, is_some, IsTold, first_failure, length, List, ltb-true, map, MESSAGE_LENGTH_MAX, MESSAGE_TYPE_REQUEST, MessageHeader, min, nat_eq, nat_lt, ne_eqb, None, nothing, Ok, open_part, Option, OutboundTransform, pushed_other, pushed_own, Queue, Queued, refl, Result, rules, safe_limit, Scene, scene, SendsAll, SendsOne, Sent, Some, subst, suc, sym, take, take-append-drop, true, under_both, under_other, under_own, Ways, with_frame, with_lent, with_payload, without, zero}
+pub use Rattle.ttrpc_connection.proofs.Words.{[], ActsAll, after_report, all_at, all_behind, all_changed, all_in_front, all_joined, all_less, AllByRecursion, ap, append-nil, append_assoc, arith, associated, begun_count, between_other, between_own, Bool, cases_Bool, cases_eq, cond-false, cond-true, cond_both, drop, eq-eqb, eqb-true, Err, Error, error_of, false, Fed, Feeds, filter, first_failure, given, header_of_frame, Held, if◌then◌else◌, Incoming, inl, inr, INVALID_ARGUMENT, is_some, IsTold, length, List, ltb-true, map, MESSAGE_LENGTH_MAX, MESSAGE_TYPE_REQUEST, MessageHeader, min, nat_eq, nat_lt, ne_eqb, None, nothing, Ok, open_part, Option, OutboundTransform, pushed_other, pushed_own, Queue, Queued, refl, Result, rules, safe_limit, scene, Scene, SendsAll, SendsOne, Sent, Some, subst, suc, sym, take, take-append-drop, true, under_both, under_other, under_own, Ways, with_frame, with_lent, with_payload, without, zero, ℕ, ◌&&◌, ◌++◌, ◌+◌, ◌-◌, ◌<◌, ◌^◌, ◌∙◌, ◌∷◌, ◌≡◌, ◌≢◌, ◌≤◌, ◌⊎◌}
 pub use Rattle.ttrpc_connection.specs.Feeds.{arrived as arrives, IsFailed}
 pub use Rattle.ttrpc_connection.specs.OneEnd.{failing}
 pub use Rattle.ttrpc_server.specs.declared.job.ActiveJob.{ActiveJob}
@@ -24,10 +24,10 @@ pub use Rattle.ttrpc_client.specs.declared.client.ClientCore.{ClientCore}
 pub use Rattle.ttrpc_client.proofs.Words.{call_at, calling, Client, due_at, expired_at, GivesOutcome, InboundTransform, is_due, Landing, landing_of, LandsOn, LandsOnce, last_id, left_of, Passes, taken_back, takes_back, throws, Ticks}
 pub use Rattle.ttrpc_client.specs.Protocol.{by_code, by_status, expired_error, Gives, request_bytes, Requests, TakesOutcome, TellsOutcome}
 pub use Rattle.ttrpc_flight.proofs.Bytes.{carried_in_flight, cut_in_flight, fed_in_flight, none_in_flight, placed_in_flight, thrown_in_flight}
-pub use Rattle.ttrpc_flight.proofs.Losing.{all_thrown}
-pub use Rattle.ttrpc_flight.proofs.Parcels.{id_of, parcels_thrown}
+pub use Rattle.ttrpc_flight.proofs.Losing.{all_thrown, left_behind, stays}
+pub use Rattle.ttrpc_flight.proofs.Parcels.{id_of, parcels_thrown, parcels_thrown_elsewhere}
 pub use Rattle.ttrpc_flight.proofs.Seals.{more_linked, none_linked, thrown_linked}
-pub use Rattle.ttrpc_flight.proofs.Words.{ActsOn, AreInFlight, AreLinked, arrived, Flying, flying_without, IsOwnRequest, IsSound, parcels}
+pub use Rattle.ttrpc_flight.proofs.Words.{ActsOn, AreInFlight, AreLinked, arrived, Flying, flying_without, IsOwned, IsSound, parcels}
 pub use Rattle.ttrpc_pair.specs.Types.{Answer, CallEvent, CancelledDuringWrite, Carry, Connection, Count, Cut, DeadlineDuringWrite, Deliver, Disconnected, DisconnectedInside, Done, DropCall, Entry, Event, Fail, Failure, Finish, Given, Handed, HandlerError, Named, Outcome, Refused, Reply, Respond, Take, Tick, Told}
 pub use Rattle.ttrpc_pair.specs.Net.{Halves, halves, has_response, IsFresh, Net, with_client, with_server}
 pub use Rattle.ttrpc_pair.specs.Pipes.{empty_pipe, is_over, Pipe}

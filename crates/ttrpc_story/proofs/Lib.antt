@@ -1,3 +1,5 @@
 pub mod Words
-pub mod Stages
-pub mod Turns
+pub mod Here
+pub mod AtServer
+pub mod AtClient
+pub mod Place
