@@ -65,24 +65,23 @@ impl<
         ensures told { IfOk result (λ trace. (stream_of : ℕ → ℕ) × IsTold stream_of trace.items) }
         ensures refused { IfErr result (λ error. error ≡ AnError.NoMemory) }
     {
-        let mut trace = Vec::with_capacity(alloc, events.len())?;
         runs_are_told::<CO, CI, SO, SI>();
         let mut world = self;
-        world.run_all(alloc, events, &mut trace);
-        Ok(trace)
+        world.run_all(alloc, events)
     }
 
-    /// Lets these events happen, and keeps each with its reply. There is room for them.
-    fn run_all(&mut self, alloc: Global, events: Vec<Event>, trace: &mut Trace)
-        requires room { length events.items ≤ vec_capacity trace.old }
-        requires empty { trace.old.items ≡ [] }
-        ensures events { map AnEntry.event trace.new.items ≡ events.items }
-        ensures steps { Runs
+    /// Lets these events happen, and gives each with its reply. An `Err` comes before any event.
+    fn run_all(&mut self, alloc: Global, events: Vec<Event>) -> Result<Trace, Error>
+        ensures events { IfOk result (λ trace. map AnEntry.event trace.items ≡ events.items) }
+        ensures steps { IfOk result (λ trace. Runs
             (halves CO.OutboundTransform CI.InboundTransform)
             (halves SO.OutboundTransform SI.InboundTransform) CO.SEALS
-            self.old trace.new.items self.new }
+            self.old trace.items self.new) }
+        ensures refused { IfErr result (λ error. error ≡ AnError.NoMemory) }
     {
-        run_pair(&mut self.pair, alloc, events, trace);
+        let mut trace = Vec::with_capacity(alloc, events.len())?;
+        run_pair(&mut self.pair, alloc, events, &mut trace);
+        Ok(trace)
     }
 }
 
