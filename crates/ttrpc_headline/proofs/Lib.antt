@@ -9,3 +9,4 @@ pub mod Moves
 pub mod ByServer
 pub mod Headline
 pub mod Running
+pub mod Constants

@@ -1,6 +1,7 @@
 //! The headline, as a law over the definitions.
-ghost use Rattle.std.specs.Prelude.{ℕ, List};
+ghost use Rattle.std.specs.Prelude.{◌≡◌, ℕ, List};
 ghost use Rattle.ttrpc_headline.specs.Words.{Entry as AnEntry, IsFresh, IsTold, Net, Runs, halves};
+ghost use Rattle.ttrpc_secure.specs.Sends.{safe_limit};
 
 use ttrpc_secure::{InboundTransform, OutboundTransform};
 
@@ -16,4 +17,17 @@ pub fn runs_are_told<
         let s = halves SO.OutboundTransform SI.InboundTransform in
         (old new : Net CO CI SO SI) (trace : List AnEntry) → IsFresh c s old → Runs c s CO.SEALS old trace new
         → (stream_of : ℕ → ℕ) × IsTold stream_of trace }
+{}
+
+/// In any run the server's rules and services stay as they are, and so does the limit of what its outbound half may seal.
+pub fn settings_stay<
+    CO: OutboundTransform,
+    CI: InboundTransform,
+    SO: OutboundTransform,
+    SI: InboundTransform,
+>()
+    ensures { (old new : Net CO CI SO SI) (trace : List AnEntry)
+        → Runs (halves CO.OutboundTransform CI.InboundTransform) (halves SO.OutboundTransform SI.InboundTransform) CO.SEALS old trace new
+        → (new.server.state.rules ≡ old.server.state.rules) × (new.server.state.services ≡ old.server.state.services)
+        × (safe_limit SO.OutboundTransform new.server.connection.outbox.half ≡ safe_limit SO.OutboundTransform old.server.connection.outbox.half) }
 {}

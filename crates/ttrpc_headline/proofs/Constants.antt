@@ -1,0 +1,123 @@
+-- What stays the same in a run: the server's rules, its services, and the limit of its outbound half.
+use Rattle.ttrpc_pair.proofs.Words.{◌-◌, ◌∙◌, ◌∷◌, ◌≡◌, ℕ, [], ActsAll, Answer, AnswersBy, AnswersError, ap, arrives, AsyncRules, Bool, ClientSide, Connection, Count, Cut, Deliver, Does, Done, Entry, Err, Error, Event, Fail, Finish, Halves, Handed, header_of_frame, Hears, Incoming, inl, inr, is_over, Job, List, MakeJob, MakeStream, MESSAGE_LENGTH_MAX, MessageHeader, Net, Ok, Outbox, OutboundTransform, PutIn, refl, Refused, Reply, Respond, Response, Result, Row, row_of, Rules, rules, rules_stay, Runs, safe_limit, scene, Scene, SendsAll, Sent, Server, ServerCore, ServerSide, serving, Some, Steps, subst, sym, SyncRules, Take, true, cut_to, failing, taken_from, false}
+use Rattle.ttrpc_headline.proofs.OneWay.{as_heard}
+
+-- these stay
+pub record Constant {O I : Type 0} (out : OutboundTransform O) (old new : ServerCore O I) : Type 0 where
+  pub rules : new.state.rules ≡ old.state.rules
+  pub services : new.state.services ≡ old.state.services
+  pub limit : safe_limit out new.connection.outbox.half ≡ safe_limit out old.connection.outbox.half
+
+services_stay : {O : Type 0} (out : OutboundTransform O) (row : Row) (old : Server) (o : O) (header : MessageHeader) (now : ℕ) (sent : List Sent) (new : Server) → Does out row old o header now sent new
+    → new.services ≡ old.services
+services_stay out (MakeJob request) old o header now sent new does = ap (λ (s : Server). s.services) does.0
+services_stay out (MakeStream request) old o header now sent new does = ap (λ (s : Server). s.services) does.0
+services_stay out (PutIn payload) old o header now sent new does = ap (λ (s : Server). s.services) does.0
+services_stay out row old o header now sent new does = ap (λ (s : Server). s.services) does.0
+
+limit_sent : {O : Type 0} (out : OutboundTransform O) (fixed : (s t : O) (plain aad sealed : List ℕ) → out.seals s plain aad sealed t → out.overhead t ≡ out.overhead s) (sent : List Sent) (old new : Outbox O) → SendsAll out old sent new
+    → safe_limit out new.half ≡ safe_limit out old.half
+limit_sent out fixed [] old new same = ap (λ (b : Outbox _). safe_limit out b.half) same
+limit_sent out fixed (s ∷ sent) old new sends = limit_sent out fixed sent sends.0 new sends.2 ∙ ap (λ n. MESSAGE_LENGTH_MAX - n) (fixed _ _ _ _ _ sends.1.seal)
+
+stays_same : {O I : Type 0} (out : OutboundTransform O) (old new : ServerCore O I) → new.state ≡ old.state → new.connection.outbox ≡ old.connection.outbox → Constant out old new
+stays_same out old new state outbox = record { rules = ap (λ (s : Server). s.rules) state; services = ap (λ (s : Server). s.services) state; limit = ap (λ (b : Outbox _). safe_limit out b.half) outbox }
+
+both : {O I : Type 0} (out : OutboundTransform O) (a b d : ServerCore O I) → Constant out a b → Constant out b d → Constant out a d
+both out a b d one two = record { rules = two.rules ∙ one.rules; services = two.services ∙ one.services; limit = two.limit ∙ one.limit }
+
+record SameScene {O I : Type 0} (out : OutboundTransform O) (old new : Scene Server O I) : Type 0 where
+  rules : new.state.rules ≡ old.state.rules
+  services : new.state.services ≡ old.state.services
+  limit : safe_limit out new.outbox.half ≡ safe_limit out old.outbox.half
+
+module _ {CO CI SO SI : Type 0} (c : Halves CO CI) (s : Halves SO SI) (seals : Bool) (fixed : (x y : SO) (plain aad sealed : List ℕ) → s.out.seals x plain aad sealed y → s.out.overhead y ≡ s.out.overhead x) where
+  acted : (now : ℕ) (fs : List Incoming) (old new : Scene Server SO SI) → ActsAll (serving s.out s.in_) now old fs new → SameScene s.out old new
+  acted now [] old new same = record {
+    rules = ap (λ (x : Scene Server SO SI). x.state.rules) same;
+    services = ap (λ (x : Scene Server SO SI). x.state.services) same;
+    limit = ap (λ (x : Scene Server SO SI). safe_limit s.out x.outbox.half) same;
+  }
+  acted now (f ∷ fs) old new acts =
+      let mid = acts.0 in
+      let one = acts.1 in
+      let later = acted now fs mid new acts.2 in
+      let row = row_of old.state (arrives f one.opening now) in
+      record {
+        rules = later.rules ∙ rules_stay s.out row old.state old.outbox.half (header_of_frame f) now one.sent mid.state one.reacts;
+        services = later.services ∙ services_stay s.out row old.state old.outbox.half (header_of_frame f) now one.sent mid.state one.reacts;
+        limit = later.limit ∙ limit_sent s.out fixed one.sent old.outbox mid.outbox one.sends;
+      }
+
+  answered : (old : ServerCore SO SI) (id : ℕ) (result : Result Response Error) (new : ServerCore SO SI) (r : Rules) → old.state.rules ≡ r → AnswersBy c s seals old id result new → Constant s.out old new
+  answered old id (Ok response) new r e p = record {
+    rules = ap (λ (x : ServerCore SO SI). x.state.rules) p.1.same;
+    services = ap (λ (x : ServerCore SO SI). x.state.services) p.1.same;
+    limit = limit_sent s.out fixed p.1.sent old.connection.outbox new.connection.outbox p.1.sends;
+  }
+  answered old id (Err error) new SyncRules e p =
+      let drops = subst (λ (x : Rules). AnswersError s.out x old id error new) e p in
+      record {
+        rules = ap (λ (x : ServerCore SO SI). x.state.rules) drops.same;
+        services = ap (λ (x : ServerCore SO SI). x.state.services) drops.same;
+        limit = ap (λ (x : ServerCore SO SI). safe_limit s.out x.connection.outbox.half) drops.same;
+      }
+  answered old id (Err error) new AsyncRules e p =
+      let a = subst (λ (x : Rules). AnswersError s.out x old id error new) e p in
+      record {
+        rules = ap (λ (x : ServerCore SO SI). x.state.rules) a.2.same;
+        services = ap (λ (x : ServerCore SO SI). x.state.services) a.2.same;
+        limit = limit_sent s.out fixed a.2.sent old.connection.outbox new.connection.outbox a.2.sends;
+      }
+
+  delivered : (w : Net CO CI SO SI) (fs : List Incoming) (new : Scene Server SO SI) (t : ServerCore SO SI) → ActsAll (serving s.out s.in_) w.moment (scene w.server.state w.server.connection) fs new
+      → t.state ≡ new.state → t.connection.outbox ≡ new.outbox → Constant s.out w.server t
+  delivered w fs new t acts state outbox =
+      let a = acted w.moment fs (scene w.server.state w.server.connection) new acts in
+      record {
+        rules = ap (λ (x : Server). x.rules) state ∙ a.rules;
+        services = ap (λ (x : Server). x.services) state ∙ a.services;
+        limit = ap (λ (x : Outbox SO). safe_limit s.out x.half) outbox ∙ a.limit;
+      }
+
+  -- its input may have ended
+  heard_same : (over : Bool) (old new : Connection SO SI) → Hears over old new → new.outbox ≡ old.outbox
+  heard_same over old new h = as_heard (λ (y : Connection SO SI). y.outbox ≡ old.outbox) over old new h refl (λ why. refl)
+
+  stepped : (w : Net CO CI SO SI) (event : Event) (reply : Reply) (v : Net CO CI SO SI) → Steps c s seals w event reply v → Constant s.out w.server v.server
+  stepped w Take (Handed (Some job)) v p = record {
+    rules = ap (λ (x : ServerCore SO SI). x.state.rules) p.0.same;
+    services = ap (λ (x : ServerCore SO SI). x.state.services) p.0.same;
+    limit = ap (λ (x : ServerCore SO SI). safe_limit s.out x.connection.outbox.half) p.0.same;
+  }
+  stepped w (Answer id result) Done v p = answered w.server id result v.server w.server.state.rules refl p.0
+  stepped w (Respond id response) Done v p = record {
+    rules = ap (λ (x : ServerCore SO SI). x.state.rules) p.does.same;
+    services = ap (λ (x : ServerCore SO SI). x.state.services) p.does.same;
+    limit = limit_sent s.out fixed p.does.sent w.server.connection.outbox v.server.connection.outbox p.does.sends;
+  }
+  stepped w (Finish id) Done v p = record {
+    rules = ap (λ (x : ServerCore SO SI). x.state.rules) p.0.same;
+    services = ap (λ (x : ServerCore SO SI). x.state.services) p.0.same;
+    limit = ap (λ (x : ServerCore SO SI). safe_limit s.out x.connection.outbox.half) p.0.same;
+  }
+  stepped w (Deliver ServerSide n) (Count k) v (inl p) =
+      delivered w p.does.does.frames (scene v.server.state p.does.mid) v.server p.does.does.acts refl (heard_same (is_over (taken_from w.up k)) p.does.mid v.server.connection p.does.hears)
+  stepped w (Deliver ServerSide n) (Count k) v (inr p) =
+      stays_same s.out w.server v.server (ap (λ (x : Net _ _ _ _). x.server.state) p.only) (heard_same (is_over w.up) w.server.connection v.server.connection p.hears)
+  stepped w (Deliver ServerSide n) (Refused told) v (inl p) = delivered w p.0.frames p.0.mid v.server p.0.acts p.0.state p.0.outbox
+  stepped w (Deliver ServerSide n) (Refused told) v (inr p) = stays_same s.out w.server v.server (ap (λ (x : Net _ _ _ _). x.server.state) p.1) (ap (λ (x : Net _ _ _ _). x.server.connection.outbox) p.1)
+  stepped w (Deliver ClientSide n) (Refused told) v (inl p) = stays_same s.out w.server v.server (ap (λ (x : Net _ _ _ _). x.server.state) p.1) (ap (λ (x : Net _ _ _ _). x.server.connection.outbox) p.1)
+  stepped w (Deliver ClientSide n) (Refused told) v (inr p) = stays_same s.out w.server v.server (ap (λ (x : Net _ _ _ _). x.server.state) p.1) (ap (λ (x : Net _ _ _ _). x.server.connection.outbox) p.1)
+  stepped w (Cut ServerSide keep) Done v p =
+      stays_same s.out w.server v.server (ap (λ (x : Net _ _ _ _). x.server.state) p.only)
+      (ap (λ (x : Net _ _ _ _). x.server.connection.outbox) p.only ∙ heard_same (is_over (cut_to w.up keep)) w.server.connection p.connection p.hears)
+  stepped w event reply v p =
+      let state : v.server.state ≡ w.server.state = first_of (cc, search rules) in
+      let limit : safe_limit s.out v.server.connection.outbox.half ≡ safe_limit s.out w.server.connection.outbox.half = first_of (cc, search rules) in
+      record { rules = ap (λ (x : Server). x.rules) state; services = ap (λ (x : Server). x.services) state; limit = limit }
+
+  -- in any run
+  pub constant : (w : Net CO CI SO SI) (trace : List Entry) (v : Net CO CI SO SI) → Runs c s seals w trace v → Constant s.out w.server v.server
+  constant w [] v same = stays_same s.out w.server v.server (ap (λ (x : Net _ _ _ _). x.server.state) same) (ap (λ (x : Net _ _ _ _). x.server.connection.outbox) same)
+  constant w (e ∷ trace) v r = both s.out w.server r.0.server v.server (stepped w e.event e.reply r.0 r.1) (constant r.0 trace v r.2)
