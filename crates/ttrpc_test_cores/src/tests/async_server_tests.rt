@@ -1,6 +1,7 @@
 //! Each row of the server's table under async rules, for unary jobs, and each refusal. All bytes are written by hand.
 use crate::server::*;
 use crate::tests::script::{Cuts, FRESH, Row, Start, Step, Told};
+use crate::tests::streams::IN_USE;
 use crate::tests::under_test::{Table, Tested, hold, hold_stamped};
 use ttrpc_bench::{Sealed, StampIn, StampOut, Swelling};
 use ttrpc_secure::Plain;
@@ -39,8 +40,6 @@ const OWN_DATA_ANSWER: &[u8] =
 const ASKED_BEHIND: &[u8] = b"\0\0\0\x14\0\0\0\x03\x01\0\x0a\x09demo.Echo\x12\x04Echo\x1a\x01\x2b";
 /// What echoes it.
 const ECHOED_BEHIND: &[u8] = b"\0\0\0\x05\0\0\0\x03\x02\0\x0a\0\x12\x01\x2b";
-/// What answers a request whose id has an active job.
-const IN_USE: &[u8] = b"\0\0\0\x1b\0\0\0\x01\x02\0\x0a\x19\x08\x03\x12\x15stream id 1 is in use";
 /// An unreadable request under an id that has an active job.
 const ASKED_AND_UNREADABLE: &[u8] =
     b"\0\0\0\x14\0\0\0\x01\x01\0\x0a\x09demo.Echo\x12\x04Echo\x1a\x01\x2a\0\0\0\x03\0\0\0\x01\x01\0\x0a\x05a";
@@ -544,12 +543,6 @@ const EXPIRY_ROWS: &[Row] = &[
             Step::NextExpired(None),
             Step::HasUnsent(false),
         ],
-        ..FRESH
-    },
-    Row {
-        name: "many jobs expire by one tick, beside as many that stay",
-        cuts: Cuts::Inside(2),
-        steps: &[Step::JobsExpireAtOnce(1000), Step::IsAlive],
         ..FRESH
     },
 ];

@@ -1,67 +1,91 @@
 //! Streams between both cores, stepped by hand: one byte at a time, and whole.
-use crate::tests::both_cores::{items_arrive, single_item_arrives, status_arrives};
-use crate::tests::script::Start;
-use crate::tests::under_test::{Core, Tested};
+use crate::tests::both_cores::{Deed, Story, hold_between};
+use crate::tests::script::{Step, Told};
+use crate::tests::under_test::Tested;
 use ttrpc_bench::{StampIn, StampOut};
 use ttrpc_client::{ClientCore, ClientKind};
 use ttrpc_secure::Plain;
 use ttrpc_server::{Rules, ServerCore};
 
-const SIZES: [usize; 2] = [1, 64];
+const BOTH: &[ClientKind] = &[ClientKind::Sync, ClientKind::Async];
 
-const KINDS: [ClientKind; 2] = [ClientKind::Sync, ClientKind::Async];
+const STORIES: &[Story] = &[
+    Story {
+        name: "items arrive in order, up and down, and the ends behind them",
+        deeds: &[
+            Deed::Client(Step::Opens(true, true, b"", 1)),
+            Deed::Client(Step::Sends(1, b"a", 1)),
+            Deed::Client(Step::Sends(1, b"", 2)),
+            Deed::Client(Step::Sends(1, b"b", 3)),
+            Deed::Client(Step::Closes(1, 4)),
+            Deed::CarriesUp,
+            Deed::Server(Step::TakesStream(1, 1)),
+            Deed::Server(Step::Receives(1, b"a")),
+            Deed::Server(Step::Receives(1, b"")),
+            Deed::Server(Step::Receives(1, b"b")),
+            Deed::Server(Step::ReceivesError(1, Told::Eof)),
+            Deed::Server(Step::ReceivesError(1, Told::RemoteClosed)),
+            Deed::Server(Step::Sends(1, b"x", 1)),
+            Deed::Server(Step::Sends(1, b"", 2)),
+            Deed::Server(Step::EndsBy(1, 5, "gone")),
+            Deed::Server(Step::IsUnsent(2)),
+            Deed::CarriesDown,
+            Deed::Server(Step::IsSent(1)),
+            Deed::Server(Step::IsSent(2)),
+            Deed::Client(Step::Receives(1, b"x")),
+            Deed::Client(Step::Receives(1, b"")),
+            Deed::Client(Step::ReceivesError(1, Told::Status(5, "gone"))),
+            Deed::Client(Step::ReceivesError(1, Told::RemoteClosed)),
+        ],
+    },
+    Story {
+        name: "a stream that sends nothing has its empty payload as its one item",
+        deeds: &[
+            Deed::Client(Step::Opens(false, true, b"", 1)),
+            Deed::CarriesUp,
+            Deed::Server(Step::TakesStream(1, 1)),
+            Deed::Server(Step::Receives(1, b"")),
+            Deed::Server(Step::ReceivesError(1, Told::RemoteClosed)),
+            Deed::Server(Step::EndsStream(1)),
+            Deed::CarriesDown,
+            Deed::Client(Step::ReceivesError(1, Told::Eof)),
+            Deed::Client(Step::ReceivesError(1, Told::RemoteClosed)),
+        ],
+    },
+    Story {
+        name: "or another payload",
+        deeds: &[
+            Deed::Client(Step::Opens(false, true, b"\x2a", 1)),
+            Deed::CarriesUp,
+            Deed::Server(Step::TakesStream(1, 1)),
+            Deed::Server(Step::Receives(1, b"\x2a")),
+            Deed::Server(Step::ReceivesError(1, Told::RemoteClosed)),
+            Deed::Server(Step::EndsStream(1)),
+            Deed::CarriesDown,
+            Deed::Client(Step::ReceivesError(1, Told::Eof)),
+            Deed::Client(Step::ReceivesError(1, Told::RemoteClosed)),
+        ],
+    },
+];
 
 #[test]
 fn items_arrive_in_order_and_the_end_behind_them(rt: HostRuntime) -> Tested {
-    let alloc = rt.alloc();
-    for kind in KINDS {
-        for size in SIZES {
-            let mut client: ClientCore<Plain, Plain> = Core::start(alloc, kind, Start::Fresh)?;
-            let mut server: ServerCore<Plain, Plain> = Core::start(
-                alloc,
-                Rules::Async,
-                Start::Fresh,
-            )?;
-            let met = items_arrive(alloc, &mut client, &mut server, size)?
-                && status_arrives(alloc, &mut client, &mut server, size)?;
-            assert!(rt; met, "in pieces of {size}");
-        }
-    }
-    Ok(())
+    hold_between::<ClientCore<Plain, Plain>, ServerCore<Plain, Plain>>(
+        &rt,
+        rt.alloc(),
+        BOTH,
+        Rules::Async,
+        STORIES,
+    )
 }
 
 #[test]
 fn stamped_items_arrive_in_order_and_the_end_behind_them(rt: HostRuntime) -> Tested {
-    let alloc = rt.alloc();
-    for size in SIZES {
-        let mut client: ClientCore<StampOut, StampIn> = Core::start(
-            alloc,
-            ClientKind::Async,
-            Start::Fresh,
-        )?;
-        let mut server: ServerCore<StampOut, StampIn> = Core::start(
-            alloc,
-            Rules::Async,
-            Start::Fresh,
-        )?;
-        let met = items_arrive(alloc, &mut client, &mut server, size)?
-            && status_arrives(alloc, &mut client, &mut server, size)?;
-        assert!(rt; met, "stamped, in pieces of {size}");
-    }
-    Ok(())
-}
-
-#[test]
-fn a_request_without_other_items_is_the_only_one(rt: HostRuntime) -> Tested {
-    let alloc = rt.alloc();
-    for payload in [b"".as_slice(), b"\x2a".as_slice()] {
-        let mut client: ClientCore<Plain, Plain> = Core::start(
-            alloc,
-            ClientKind::Async,
-            Start::Fresh,
-        )?;
-        let mut server: ServerCore<Plain, Plain> = Core::start(alloc, Rules::Async, Start::Fresh)?;
-        assert!(rt; single_item_arrives(alloc, &mut client, &mut server, payload)?);
-    }
-    Ok(())
+    hold_between::<ClientCore<StampOut, StampIn>, ServerCore<StampOut, StampIn>>(
+        &rt,
+        rt.alloc(),
+        BOTH,
+        Rules::Async,
+        STORIES,
+    )
 }

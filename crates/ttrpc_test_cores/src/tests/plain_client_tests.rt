@@ -98,11 +98,6 @@ const REQUEST_ROWS: &[Row] = &[
         ],
         ..FRESH
     },
-    Row {
-        name: "a thousand calls are answered, the last first",
-        steps: &[Step::CallsLastFirst(1000)],
-        ..FRESH
-    },
 ];
 
 const REFUSAL_ROWS: &[Row] = &[
@@ -490,11 +485,6 @@ const ASYNC_EXPIRY_ROWS: &[Row] = &[
             Step::Writes(ASKED),
             Step::IsAlive,
         ],
-        ..FRESH
-    },
-    Row {
-        name: "a thousand calls expire at once",
-        steps: &[Step::CallsExpireAtOnce(1000), Step::IsAlive],
         ..FRESH
     },
 ];

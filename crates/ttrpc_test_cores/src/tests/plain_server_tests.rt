@@ -179,11 +179,6 @@ const JOB_ROWS: &[Row] = &[
         ],
         ..FRESH
     },
-    Row {
-        name: "a thousand requests are answered, the last first",
-        steps: &[Step::ServesLastFirst(1000)],
-        ..FRESH
-    },
     // With six bytes of status and field around it, a payload of 4194297 bytes is the greatest.
     Row {
         name: "answers of the greatest length are sent",

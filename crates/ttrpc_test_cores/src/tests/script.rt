@@ -45,6 +45,9 @@ pub enum Step {
     Reports,
     /// The bytes from the first number up to the second leave.
     Leaves(&'static [u8], usize, usize),
+    /// The first bytes come so many times, each time whole, and behind each all that is left to be written is the second
+    /// bytes, which leave.
+    Repeats(&'static [u8], &'static [u8], u32),
     /// The input ends.
     EndsInput,
     /// The connection is failed, with a text for a socket's error.
@@ -114,6 +117,8 @@ pub enum Step {
     ServesLastFirst(u32),
     /// So many requests wait, each of a stream of its own, and all expire by one tick, while so many others stay.
     JobsExpireAtOnce(u32),
+    /// So many requests wait, each of a stream of its own, are taken, and expire one after the other, each by a tick.
+    JobsExpireInTurn(u32),
 
     // ---- of a server's streams
     /// The job that is handed out is a stream's, without a payload, and has this id and this stream.
@@ -204,7 +209,8 @@ pub enum Step {
     ReceivesEach(u32, u32),
     /// So many streams are opened, an item comes for each, and they are received, the last first.
     StreamsLastFirst(u32),
-    /// So many items are sent on the stream of this id, each is asked about, and all leave.
+    /// So many items are sent on the stream of this id, the first ones of its connection. Each is asked about before all
+    /// leave, and as it leaves.
     SendsEach(u32, u32),
 }
 

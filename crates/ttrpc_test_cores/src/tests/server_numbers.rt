@@ -4,13 +4,14 @@ use crate::tests::server_steps::answers;
 use crate::tests::steps::leaves;
 use crate::tests::under_test::{End, Met, Server};
 use std::alloc::Global;
+use ttrpc_proto::Error;
 use ttrpc_wire::values::slices::behind;
 
-/// So many requests come, of the streams from 1 on, and are taken before the first is answered. The last is answered
+/// So many requests come, of the odd streams from 1 on, and are taken before the first is answered. The last is answered
 /// first, with its own stream's lowest byte, and so are the answers written.
 pub fn serves_last_first<S: Server>(alloc: Global, core: &mut S, count: u32) -> Met {
     Ok(
-        asks(alloc, core, count)?
+        asks_each(alloc, core, count)?
             && core.jobs_waiting() == u64::from(count)
             && takes(core, count)
             && core.jobs_taken() == u64::from(count)
@@ -21,10 +22,10 @@ pub fn serves_last_first<S: Server>(alloc: Global, core: &mut S, count: u32) -> 
     )
 }
 
-/// So many requests with a timeout come, of the streams from 1 on, each a nanosecond behind the one before, and behind each
-/// one without. The first is taken. All that have a timeout expire by one tick, and are answered in their order.
+/// So many requests with a timeout come, each a nanosecond behind the one before, and behind each one without, of the odd
+/// streams from 1 on. The first is taken. All that have a timeout expire by one tick, and are answered in their order.
 pub fn jobs_expire_at_once<S: Server>(alloc: Global, core: &mut S, count: u32) -> Met {
-    if !asks_in_time(alloc, core, count)? || core.take_job().is_none() {
+    if !asks_in_pairs(alloc, core, count)? || core.take_job().is_none() {
         return Ok(false);
     }
     core.tick(alloc, u64::from(count).wrapping_add(10));
@@ -32,59 +33,108 @@ pub fn jobs_expire_at_once<S: Server>(alloc: Global, core: &mut S, count: u32) -
         core.jobs_waiting() == u64::from(count)
             && core.next_expired() == Some(1)
             && core.next_expired().is_none()
-            && times_out(core, count)
+            && first_ones_time_out(core, count)
             && !core.has_unsent(),
     )
 }
 
-/// The id of the stream of each request, of those from 0 on: of the one with a timeout, or of the other.
-fn stream_of(number: u32, waits: bool) -> u32 {
-    number
-        .wrapping_mul(4)
-        .wrapping_add(if waits { 3 } else { 1 })
-}
-
-/// Each pair of requests: one with a timeout of ten nanoseconds, and one without.
-fn asks_in_time<S: Server>(alloc: Global, core: &mut S, count: u32) -> Met {
-    for number in 0..count {
-        let [a, b, c, d] = stream_of(number, false).to_be_bytes();
-        core.feed_at(alloc, &[0, 0, 0, 0x16, a, b, c, d, 1, 0], u64::from(number))?;
-        core.feed_at(alloc, behind(ASKED, 10), u64::from(number))?;
-        core.feed_at(alloc, &[0x20, 10], u64::from(number))?;
-        let [a, b, c, d] = stream_of(number, true).to_be_bytes();
-        core.feed_at(alloc, &[0, 0, 0, 0x14, a, b, c, d, 1, 0], 0)?;
-        core.feed_at(alloc, behind(ASKED, 10), 0)?;
+/// So many requests with a timeout come, of the odd streams from 1 on, each a nanosecond behind the one before, and are
+/// taken. Each expires by a tick of its own, is told of, and is answered.
+pub fn jobs_expire_in_turn<S: Server>(alloc: Global, core: &mut S, count: u32) -> Met {
+    for job in 1..=count {
+        asks_in_time(alloc, core, stream_of(job), u64::from(job))?;
     }
-    Ok(true)
+    Ok(
+        takes(core, count)
+            && expire_in_turn(alloc, core, count)
+            && core.jobs_taken() == 0
+            && core.next_deadline().is_none(),
+    )
 }
 
-/// The answer to a job that expired leaves for each.
-fn times_out<C: End>(core: &mut C, count: u32) -> bool {
-    for number in 0..count {
-        let [a, b, c, d] = stream_of(number, false).to_be_bytes();
-        let is_written = leaves(core, &[0, 0, 0, 0x0d, a, b, c, d, 2, 0])
-            && leaves(core, b"\x0a\x0b\x08\x04\x12\x07timeout");
-        if !is_written {
+fn expire_in_turn<S: Server>(alloc: Global, core: &mut S, count: u32) -> bool {
+    for job in 1..=count {
+        let due = u64::from(job).wrapping_add(10);
+        let is_next = core.next_deadline() == Some(due);
+        core.tick(alloc, due);
+        let has_expired = is_next
+            && core.next_expired() == Some(u64::from(job))
+            && core.next_expired().is_none()
+            && times_out(core, stream_of(job))
+            && !core.has_unsent();
+        if !has_expired {
             return false;
         }
     }
     true
 }
 
-/// The request of each stream: the usual one under another id.
-fn asks<S: Server>(alloc: Global, core: &mut S, count: u32) -> Met {
-    for stream in 1..=count {
-        let [a, b, c, d] = stream.to_be_bytes();
-        core.feed(alloc, &[0, 0, 0, 0x14, a, b, c, d, 1, 0])?;
-        core.feed(alloc, behind(ASKED, 10))?;
+/// The stream's id of a job, of those from 1 on.
+fn stream_of(job: u32) -> u32 {
+    job.wrapping_mul(2).wrapping_sub(1)
+}
+
+/// The usual request of this stream.
+fn asks<S: Server>(alloc: Global, core: &mut S, stream: u32) -> Result<usize, Error> {
+    let [a, b, c, d] = stream.to_be_bytes();
+    core.feed(alloc, &[0, 0, 0, 0x14, a, b, c, d, 1, 0])?;
+    core.feed(alloc, behind(ASKED, 10))
+}
+
+/// The same with a timeout of ten nanoseconds, at this moment.
+fn asks_in_time<S: Server>(
+    alloc: Global,
+    core: &mut S,
+    stream: u32,
+    now: u64,
+) -> Result<usize, Error> {
+    let [a, b, c, d] = stream.to_be_bytes();
+    core.feed_at(alloc, &[0, 0, 0, 0x16, a, b, c, d, 1, 0], now)?;
+    core.feed_at(alloc, behind(ASKED, 10), now)?;
+    core.feed_at(alloc, &[0x20, 10], now)
+}
+
+/// The answer to a job that expired leaves.
+fn times_out<C: End>(core: &mut C, stream: u32) -> bool {
+    let [a, b, c, d] = stream.to_be_bytes();
+    leaves(core, &[0, 0, 0, 0x0d, a, b, c, d, 2, 0])
+        && leaves(core, b"\x0a\x0b\x08\x04\x12\x07timeout")
+}
+
+/// Pairs of requests: one with a timeout, and one without.
+fn asks_in_pairs<S: Server>(alloc: Global, core: &mut S, count: u32) -> Met {
+    for number in 0..count {
+        let job = number.wrapping_mul(2).wrapping_add(1);
+        asks_in_time(alloc, core, stream_of(job), u64::from(number))?;
+        asks(alloc, core, stream_of(job.wrapping_add(1)))?;
+    }
+    Ok(true)
+}
+
+/// The first of each pair is answered as one that expired.
+fn first_ones_time_out<C: End>(core: &mut C, count: u32) -> bool {
+    for number in 0..count {
+        let job = number.wrapping_mul(2).wrapping_add(1);
+        if !times_out(core, stream_of(job)) {
+            return false;
+        }
+    }
+    true
+}
+
+/// The usual request of the stream of each job.
+fn asks_each<S: Server>(alloc: Global, core: &mut S, count: u32) -> Met {
+    for job in 1..=count {
+        asks(alloc, core, stream_of(job))?;
     }
     Ok(true)
 }
 
 fn takes<S: Server>(core: &mut S, count: u32) -> bool {
-    for stream in 1..=count {
+    for number in 1..=count {
         match core.take_job() {
-            Some(job) if job.header.stream_id == stream && job.id == u64::from(stream) => {}
+            Some(job) if job.header.stream_id == stream_of(number) && job.id == u64::from(number) =>
+                {}
             _ => return false,
         }
     }
@@ -92,16 +142,16 @@ fn takes<S: Server>(core: &mut S, count: u32) -> bool {
 }
 
 fn answers_last_first<S: Server>(alloc: Global, core: &mut S, count: u32) -> Met {
-    for stream in (1..=count).rev() {
-        let [_, _, _, d] = stream.to_be_bytes();
-        answers(alloc, core, u64::from(stream), &[d])?;
+    for job in (1..=count).rev() {
+        let [_, _, _, d] = stream_of(job).to_be_bytes();
+        answers(alloc, core, u64::from(job), &[d])?;
     }
     Ok(true)
 }
 
 fn writes_last_first<C: End>(core: &mut C, count: u32) -> bool {
-    for stream in (1..=count).rev() {
-        let [a, b, c, d] = stream.to_be_bytes();
+    for job in (1..=count).rev() {
+        let [a, b, c, d] = stream_of(job).to_be_bytes();
         let answer = [0, 0, 0, 5, a, b, c, d, 2, 0, 0x0a, 0, 0x12, 1, d];
         if !leaves(core, &answer) {
             return false;

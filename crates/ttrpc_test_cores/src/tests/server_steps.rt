@@ -1,6 +1,6 @@
 //! The steps of a server.
 use crate::tests::script::{Step, Told};
-use crate::tests::server_numbers::{jobs_expire_at_once, serves_last_first};
+use crate::tests::server_numbers::{jobs_expire_at_once, jobs_expire_in_turn, serves_last_first};
 use crate::tests::steps::{drained, tells};
 use crate::tests::stream_job_steps::stream_job_step;
 use crate::tests::under_test::{Met, Server};
@@ -59,6 +59,7 @@ fn moment_step<S: Server>(alloc: Global, core: &mut S, step: &Step, cut: usize) 
         Step::NextDeadline(at) => Ok(core.next_deadline() == at),
         Step::NextExpired(id) => Ok(core.next_expired() == id),
         Step::JobsExpireAtOnce(count) => jobs_expire_at_once(alloc, core, count),
+        Step::JobsExpireInTurn(count) => jobs_expire_in_turn(alloc, core, count),
         Step::Ticks(now) => {
             core.tick(alloc, now);
             Ok(true)

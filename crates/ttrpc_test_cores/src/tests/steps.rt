@@ -19,6 +19,7 @@ pub fn act<C: Core>(alloc: Global, core: &mut C, step: &Step, cut: usize) -> Met
         Step::Lends(room, bytes, from, to) => Ok(lends(core, room, behind(front(bytes, to), from))),
         Step::Lent(count) => Ok(core.lent() == count),
         Step::Leaves(bytes, from, to) => Ok(leaves(core, behind(front(bytes, to), from))),
+        Step::Repeats(bytes, expected, count) => repeats(alloc, core, bytes, expected, count),
         Step::FailsBy(text) => fails_by(alloc, core, text),
         Step::IsAlive => Ok(core.failure(alloc).is_none()),
         Step::AtBoundary(at_boundary) => Ok(core.at_boundary() == at_boundary),
@@ -100,6 +101,16 @@ fn writes<C: End>(core: &mut C, expected: &[u8]) -> bool {
         Some(rest) => rest.is_empty(),
         None => false,
     }
+}
+
+/// The first bytes come so many times, and behind each all that is left to be written is the second.
+fn repeats<C: End>(alloc: Global, core: &mut C, bytes: &[u8], expected: &[u8], count: u32) -> Met {
+    for _ in 0..count {
+        if core.feed(alloc, bytes)? != bytes.len() || !writes(core, expected) {
+            return Ok(false);
+        }
+    }
+    Ok(true)
 }
 
 /// A buffer with this room gets these bytes.

@@ -3,6 +3,7 @@
 use crate::tests::client::*;
 use crate::tests::halves::OpensOnly;
 use crate::tests::script::{Cuts, FRESH, Row, Start, Step, Told};
+use crate::tests::streams::*;
 use crate::tests::under_test::{Table, Tested, hold, hold_stamped};
 use ttrpc_bench::{Sealed, StampIn, StampOut, Swelling};
 use ttrpc_client::{ClientCore, ClientKind};
@@ -12,17 +13,12 @@ const BOTH: &[ClientKind] = &[ClientKind::Sync, ClientKind::Async];
 
 // ---- what a client writes
 
-/// The request that opens the first stream to `Chat` of `demo.Echo`, to send items.
-const OPENED: &[u8] = b"\0\0\0\x11\0\0\0\x01\x01\x06\x0a\x09demo.Echo\x12\x04Chat";
-/// The same, to send none.
+/// The request that opens the first stream, to send no items.
 const OPENED_CLOSED: &[u8] = b"\0\0\0\x11\0\0\0\x01\x01\x01\x0a\x09demo.Echo\x12\x04Chat";
 /// With the payload 2a, to send no other item.
 const OPENED_WITH_ITEM: &[u8] =
     b"\0\0\0\x14\0\0\0\x01\x01\x01\x0a\x09demo.Echo\x12\x04Chat\x1a\x01\x2a";
-/// The first one, the items `a`, none and `b`, and a close.
-const OPENED_AND_SENT: &[u8] =
-    b"\0\0\0\x11\0\0\0\x01\x01\x06\x0a\x09demo.Echo\x12\x04Chat\0\0\0\x01\0\0\0\x01\x03\0a\0\0\0\0\0\0\0\x01\x03\0\0\0\0\x01\0\0\0\x01\x03\0b\0\0\0\0\0\0\0\x01\x03\x05";
-/// The first one and the first item.
+/// The one of a stream that sends, and the first item.
 const OPENED_AND_FIRST: &[u8] =
     b"\0\0\0\x11\0\0\0\x01\x01\x06\x0a\x09demo.Echo\x12\x04Chat\0\0\0\x01\0\0\0\x01\x03\0a";
 /// The same with stamps, and a close.
@@ -34,31 +30,14 @@ const STAMPED_AND_SENT: &[u8] =
 /// The items `a`, none and `b`, and a close.
 const ITEMS_AND_CLOSE: &[u8] =
     b"\0\0\0\x01\0\0\0\x01\x03\0a\0\0\0\0\0\0\0\x01\x03\0\0\0\0\x01\0\0\0\x01\x03\0b\0\0\0\0\0\0\0\x01\x03\x05";
-/// The item `z`, with which the server closes.
-const LAST_ITEM: &[u8] = b"\0\0\0\x01\0\0\0\x01\x03\x01z";
-/// The item `z`, with the flag that says there is none, but no close.
-const FLAGGED_ITEM: &[u8] = b"\0\0\0\x01\0\0\0\x01\x03\x04z";
-/// A response with the code 5 and the message `gone`.
-const GONE: &[u8] = b"\0\0\0\x0a\0\0\0\x01\x02\0\x0a\x08\x08\x05\x12\x04gone";
 /// A frame of no type.
 const NO_TYPE: &[u8] = b"\0\0\0\0\0\0\0\x01\0\0";
 /// The item `y` under the third id.
 const ITEM_OF_THIRD: &[u8] = b"\0\0\0\x01\0\0\0\x03\x03\0y";
-/// Three items under the third id.
-const THREE_OF_THIRD: &[u8] =
-    b"\0\0\0\x01\0\0\0\x03\x03\0x\0\0\0\x01\0\0\0\x03\x03\0y\0\0\0\x01\0\0\0\x03\x03\0z";
 
 // ---- what is told
 
-const PAST: Told = Told::Others("Receive packet from Receiver error");
-
-const UNKNOWN: Told = Told::Others("unknown stream");
-
 const NOT_SENDABLE: Told = Told::Others("stream is not sendable");
-
-const DISCONNECTED: Told = Told::Socket("socket disconnected");
-
-const LONG: Told = Told::Others("message length 4194305 exceed maximum message size of 4194304");
 
 const LONG_STATUS: Told = Told::Status(
     3,
@@ -309,43 +288,6 @@ const ITEM_ROWS: &[Row] = &[
     },
 ];
 
-const NUMBER_ROWS: &[Row] = &[
-    Row {
-        name: "who isn't asked holds up nobody",
-        steps: &[
-            Step::Opens(true, true, b"", 1),
-            Step::Opens(true, true, b"", 3),
-            Step::ItemsCome(1, 1000),
-            Step::Feed(THREE_OF_THIRD),
-            Step::Receives(3, b"x"),
-            Step::Receives(3, b"y"),
-            Step::Receives(3, b"z"),
-            Step::ReceivesNone(3),
-            Step::ReceivesEach(1, 1000),
-            Step::ReceivesNone(1),
-        ],
-        ..FRESH
-    },
-    Row {
-        name: "what comes for nobody isn't kept",
-        steps: &[
-            Step::Opens(true, true, b"", 1),
-            Step::DropsReceiver(1),
-            Step::ItemsCome(1, 1000),
-            Step::ItemsCome(9, 1000),
-            Step::ReceivesError(1, PAST),
-            Step::ReceivesError(9, UNKNOWN),
-            Step::NextHeard(None),
-        ],
-        ..FRESH
-    },
-    Row {
-        name: "a thousand streams are received from, the last first",
-        steps: &[Step::StreamsLastFirst(1000)],
-        ..FRESH
-    },
-];
-
 const HEARD_ROWS: &[Row] = &[Row {
     name: "streams for which something came are told of once",
     steps: &[
@@ -456,15 +398,6 @@ const TICKET_ROWS: &[Row] = &[
             Step::IsNeverSent(0, Told::Socket("first")),
             Step::IsNeverSent(3, Told::Socket("first")),
             Step::HasFailed("first"),
-        ],
-        ..FRESH
-    },
-    Row {
-        name: "a thousand items are asked about",
-        steps: &[
-            Step::Opens(true, true, b"", 1),
-            Step::Writes(OPENED),
-            Step::SendsEach(1, 1000),
         ],
         ..FRESH
     },
@@ -635,7 +568,6 @@ const STREAMS: &[Table<ClientKind>] = &[
 ];
 
 const HALVES: &[Table<ClientKind>] = &[
-    (BOTH, NUMBER_ROWS),
     (BOTH, SENDING_ROWS),
     (BOTH, TICKET_ROWS),
     (BOTH, PART_ROWS),

@@ -99,19 +99,33 @@ fn receives_last_first<C: Streaming>(alloc: Global, core: &mut C, count: u32) ->
     Ok(true)
 }
 
-/// So many items are sent on the stream of this id, and each is asked about before and after it leaves.
+/// So many items are sent on the stream of this id, the first ones of its connection, and each is asked about before all
+/// leave, and as it leaves.
 pub fn sends_each<C: Items>(alloc: Global, core: &mut C, id: u32, count: u32) -> Met {
-    let [a, b, c, d] = id.to_be_bytes();
-    for _ in 0..count {
+    Ok(queues_each(alloc, core, id, count)? && sent_each(alloc, core, id, count))
+}
+
+fn queues_each<C: Items>(alloc: Global, core: &mut C, id: u32, count: u32) -> Met {
+    for number in 1..=count {
         let ticket = core.send(alloc, id, b"i")?;
-        let is_sent = core.sent(alloc, ticket).is_none()
-            && leaves(core, &[0, 0, 0, 1, a, b, c, d, 3, 0])
-            && core.sent(alloc, ticket).is_none()
-            && leaves(core, b"i")
-            && matches!(core.sent(alloc, ticket), Some(Ok(())));
-        if !is_sent {
+        if ticket != u64::from(number) || core.sent(alloc, ticket).is_some() {
             return Ok(false);
         }
     }
     Ok(true)
+}
+
+fn sent_each<C: Items>(alloc: Global, core: &mut C, id: u32, count: u32) -> bool {
+    let [a, b, c, d] = id.to_be_bytes();
+    for number in 1..=count {
+        let ticket = u64::from(number);
+        let is_sent = leaves(core, &[0, 0, 0, 1, a, b, c, d, 3, 0])
+            && core.sent(alloc, ticket).is_none()
+            && leaves(core, b"i")
+            && matches!(core.sent(alloc, ticket), Some(Ok(())));
+        if !is_sent {
+            return false;
+        }
+    }
+    true
 }

@@ -4,6 +4,7 @@
 use crate::server::{ASKED, ECHOED};
 use crate::tests::client::{CLOSE, CLOSE_WITH_DATA, DATA};
 use crate::tests::script::{Cuts, FRESH, Row, Start, Step, Told};
+use crate::tests::streams::*;
 use crate::tests::under_test::{Table, Tested, hold, hold_stamped};
 use ttrpc_bench::{Sealed, StampIn, StampOut, Swelling};
 use ttrpc_secure::Plain;
@@ -17,14 +18,6 @@ const SYNC: &[Rules] = &[Rules::Sync];
 
 // ---- what a server is sent under the first id, beside what a client is
 
-/// The request that opens the first stream to `Chat` of `demo.Echo`, with the flags that other items come and that it is
-/// none.
-const OPENED: &[u8] = b"\0\0\0\x11\0\0\0\x01\x01\x06\x0a\x09demo.Echo\x12\x04Chat";
-/// The same of the second.
-const OPENED_THIRD: &[u8] = b"\0\0\0\x11\0\0\0\x03\x01\x06\x0a\x09demo.Echo\x12\x04Chat";
-/// The first, the items `a`, none and `b`, and a close.
-const OPENED_AND_SENT: &[u8] =
-    b"\0\0\0\x11\0\0\0\x01\x01\x06\x0a\x09demo.Echo\x12\x04Chat\0\0\0\x01\0\0\0\x01\x03\0a\0\0\0\0\0\0\0\x01\x03\0\0\0\0\x01\0\0\0\x01\x03\0b\0\0\0\0\0\0\0\x01\x03\x05";
 /// Without flags, with the payload 2a.
 const PLAIN_ITEM: &[u8] = b"\0\0\0\x14\0\0\0\x01\x01\0\x0a\x09demo.Echo\x12\x04Chat\x1a\x01\x2a";
 /// Without flags and payload.
@@ -48,13 +41,6 @@ const BARE_ONLY: &[u8] = b"\0\0\0\x11\0\0\0\x01\x01\x03\x0a\x09demo.Echo\x12\x04
 const BARE_ITEM: &[u8] = b"\0\0\0\x14\0\0\0\x01\x01\x02\x0a\x09demo.Echo\x12\x04Chat\x1a\x01\x2a";
 /// With a timeout of ten nanoseconds.
 const TIMED: &[u8] = b"\0\0\0\x13\0\0\0\x01\x01\x06\x0a\x09demo.Echo\x12\x04Chat\x20\x0a";
-/// The item `z`, with which the client closes.
-const LAST_ITEM: &[u8] = b"\0\0\0\x01\0\0\0\x01\x03\x01z";
-/// The item `z`, with the flag that says there is none, but no close.
-const FLAGGED_ITEM: &[u8] = b"\0\0\0\x01\0\0\0\x01\x03\x04z";
-/// Three items under the third id.
-const THREE_OF_THIRD: &[u8] =
-    b"\0\0\0\x01\0\0\0\x03\x03\0x\0\0\0\x01\0\0\0\x03\x03\0y\0\0\0\x01\0\0\0\x03\x03\0z";
 /// The header of data that are one byte too long.
 const OVERSIZED_DATA: &[u8] = b"\0\x40\0\x01\0\0\0\x01\x03\0";
 /// A response and a frame of no type under the first id.
@@ -62,15 +48,6 @@ const OTHER_TYPES: &[u8] = b"\0\0\0\x02\0\0\0\x01\x02\0\x0a\0\0\0\0\0\0\0\0\x01\
 
 // ---- what it writes
 
-/// The items `a` and none.
-const TWO_ITEMS: &[u8] = b"\0\0\0\x01\0\0\0\x01\x03\0a\0\0\0\0\0\0\0\x01\x03\0";
-/// A response with the code 5 and the message `gone`.
-const GONE: &[u8] = b"\0\0\0\x0a\0\0\0\x01\x02\0\x0a\x08\x08\x05\x12\x04gone";
-/// What answers data without a stream.
-const INACTIVE: &[u8] =
-    b"\0\0\0\x20\0\0\0\x01\x02\0\x0a\x1e\x08\x03\x12\x1aStream is no longer active";
-/// What answers a request whose id has an active job.
-const IN_USE: &[u8] = b"\0\0\0\x1b\0\0\0\x01\x02\0\x0a\x19\x08\x03\x12\x15stream id 1 is in use";
 /// What answers a handler's error.
 const EOF_ANSWER: &[u8] = b"\0\0\0\x09\0\0\0\x01\x02\0\x0a\x07\x08\x02\x12\x03eof";
 /// What answers a frame of 4194305 bytes, and replaces a response of as many.
@@ -82,17 +59,9 @@ const NO_PATH: &[u8] =
 
 // ---- what is told
 
-const PAST: Told = Told::Others("Receive packet from Receiver error");
-
-const UNKNOWN: Told = Told::Others("unknown stream");
-
 const UNKNOWN_JOB: Told = Told::Others("unknown job");
 
 const OTHER_RULES: Told = Told::Others("wrong rules for this call");
-
-const DISCONNECTED: Told = Told::Socket("socket disconnected");
-
-const LONG: Told = Told::Others("message length 4194305 exceed maximum message size of 4194304");
 
 const CLOSE_HAS_DATA: Told = Told::Others("stream 1: close message cannot include data");
 
@@ -493,59 +462,6 @@ const PART_ROWS: &[Row] = &[Row {
     ..FRESH
 }];
 
-const NUMBER_ROWS: &[Row] = &[
-    Row {
-        name: "who isn't asked holds up nobody",
-        steps: &[
-            Step::Feed(OPENED),
-            Step::Feed(OPENED_THIRD),
-            Step::ItemsCome(1, 1000),
-            Step::Feed(THREE_OF_THIRD),
-            Step::Receives(2, b"x"),
-            Step::Receives(2, b"y"),
-            Step::Receives(2, b"z"),
-            Step::ReceivesNone(2),
-            Step::ReceivesEach(1, 1000),
-            Step::ReceivesNone(1),
-        ],
-        ..FRESH
-    },
-    Row {
-        name: "nothing is reported, and items come all the same",
-        steps: &[
-            Step::Feed(OPENED),
-            Step::Sends(1, b"a", 1),
-            Step::Lends(5, TWO_ITEMS, 0, 5),
-            Step::ItemsCome(1, 1000),
-            Step::ReceivesEach(1, 1000),
-            Step::IsUnsent(1),
-        ],
-        ..FRESH
-    },
-    Row {
-        name: "behind the end a peer may repeat itself, and nothing is kept",
-        steps: &[
-            Step::Feed(OPENED),
-            Step::Feed(CLOSE),
-            Step::ItemsCome(1, 1000),
-            Step::ReceivesError(1, Told::Eof),
-            Step::ReceivesError(1, Told::RemoteClosed),
-            Step::Writes(b""),
-        ],
-        ..FRESH
-    },
-    Row {
-        name: "a thousand streams end, the last first",
-        steps: &[Step::StreamJobsLastFirst(1000)],
-        ..FRESH
-    },
-    Row {
-        name: "a thousand items are asked about",
-        steps: &[Step::Feed(OPENED), Step::SendsEach(1, 1000)],
-        ..FRESH
-    },
-];
-
 const END_ROWS: &[Row] = &[
     Row {
         name: "a stream that has ended sends no more",
@@ -795,7 +711,6 @@ const STREAMS: &[Table<Rules>] = &[
 
 const ENDS: &[Table<Rules>] = &[
     (ASYNC, PART_ROWS),
-    (ASYNC, NUMBER_ROWS),
     (ASYNC, END_ROWS),
     (ASYNC, TICKET_ROWS),
     (ASYNC, TIME_ROWS),
