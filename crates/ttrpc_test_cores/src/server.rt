@@ -4,25 +4,23 @@ use std::alloc::{AllocError, Global};
 use ttrpc_server::Registry;
 use ttrpc_wire::Text;
 
-/// The service `demo.Echo` with the method `Echo`, which is the name of a stream, too, and the stream `Chat`.
+/// The service `demo.Echo` with the method `Echo`, which is the name of a stream, too, and the stream `Chat`; and the
+/// service `demo.None`, which has neither.
 pub fn registry(alloc: Global) -> Result<Registry, AllocError> {
     let mut registry = Registry::new(alloc);
-    registry.add_method(
-        alloc,
-        Text::from_str(alloc, "demo.Echo")?,
-        Text::from_str(alloc, "Echo")?,
-    )?;
-    registry.add_stream(
-        alloc,
-        Text::from_str(alloc, "demo.Echo")?,
-        Text::from_str(alloc, "Chat")?,
-    )?;
-    registry.add_stream(
-        alloc,
-        Text::from_str(alloc, "demo.Echo")?,
-        Text::from_str(alloc, "Echo")?,
-    )?;
+    fill(alloc, &mut registry)?;
     Ok(registry)
+}
+
+fn fill(alloc: Global, registry: &mut Registry) -> Result<(), AllocError> {
+    registry.add_method(alloc, text(alloc, "demo.Echo")?, text(alloc, "Echo")?)?;
+    registry.add_stream(alloc, text(alloc, "demo.Echo")?, text(alloc, "Chat")?)?;
+    registry.add_stream(alloc, text(alloc, "demo.Echo")?, text(alloc, "Echo")?)?;
+    registry.add_service(alloc, text(alloc, "demo.None")?)
+}
+
+fn text(alloc: Global, name: &str) -> Result<Text, AllocError> {
+    Text::from_str(alloc, name)
 }
 
 /// A request of stream 1 to `Echo` with the payload 2a.

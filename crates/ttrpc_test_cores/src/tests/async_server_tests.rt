@@ -48,10 +48,17 @@ const OTHER_SERVICE: &[u8] = b"\0\0\0\x06\0\0\0\x01\x01\0\x0a\x01x\x12\x01y";
 /// What answers it.
 const OTHER_SERVICE_ANSWER: &[u8] =
     b"\0\0\0\x1e\0\0\0\x01\x02\0\x0a\x1c\x08\x03\x12\x18x service does not exist";
+/// A request to `y` of a service that has no methods.
+const EMPTY_SERVICE: &[u8] = b"\0\0\0\x0e\0\0\0\x01\x01\0\x0a\x09demo.None\x12\x01y";
+/// What answers it.
+const EMPTY_SERVICE_ANSWER: &[u8] = b"\0\0\0\x0e\0\0\0\x01\x02\0\x0a\x0c\x08\x0c\x12\x08y method";
 /// What answers a method that isn't there.
 const NOPE: &[u8] = b"\0\0\0\x11\0\0\0\x01\x02\0\x0a\x0f\x08\x0c\x12\x0bNope method";
 /// What answers a handler's error.
 const EOF_ANSWER: &[u8] = b"\0\0\0\x09\0\0\0\x01\x02\0\x0a\x07\x08\x02\x12\x03eof";
+/// What answers a handler's error that is a status of code 5 and message `gone`.
+const STATUS_ANSWER: &[u8] =
+    b"\0\0\0\x18\0\0\0\x01\x02\0\x0a\x16\x08\x02\x12\x12rpc status: 5 gone";
 /// What replaces a response of 4194305 bytes.
 const LONG_ANSWER: &[u8] =
     b"\0\0\0\x43\0\0\0\x01\x02\0\x0a\x41\x08\x03\x12\x3dmessage length 4194305 exceed maximum message size of 4194304";
@@ -125,6 +132,11 @@ const ANSWERED_ROWS: &[Row] = &[
         steps: &[Step::Serves(NO_METHOD, NOPE)],
         ..FRESH
     },
+    Row {
+        name: "those of a service without methods, too",
+        steps: &[Step::Serves(EMPTY_SERVICE, EMPTY_SERVICE_ANSWER)],
+        ..FRESH
+    },
 ];
 
 // How the text begins is stated, what follows isn't.
@@ -177,6 +189,17 @@ const JOB_ROWS: &[Row] = &[
             Step::Breaks(1),
             Step::Writes(EOF_ANSWER),
             Step::RefusesAnswer(1, UNKNOWN_JOB),
+            Step::IsAlive,
+        ],
+        ..FRESH
+    },
+    Row {
+        name: "also where that is a status",
+        steps: &[
+            Step::Feed(ASKED),
+            Step::Takes(1, 1, b"\x2a"),
+            Step::BreaksBy(1, 5, "gone"),
+            Step::Writes(STATUS_ANSWER),
             Step::IsAlive,
         ],
         ..FRESH

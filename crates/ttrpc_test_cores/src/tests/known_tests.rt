@@ -1,7 +1,8 @@
 //! What is known of a connection, as both cores lend it.
 use crate::server::registry;
-use crate::tests::under_test::{Met, Tested};
+use crate::tests::under_test::{End, Tested};
 use std::alloc::Global;
+use std::process::Abort;
 use std::test::Fail;
 use ttrpc_client::{ClientCore, ClientKind};
 use ttrpc_secure::{
@@ -29,31 +30,50 @@ fn is_seven(data: &ConnectionData) -> bool {
     }
 }
 
-fn client_lends_seven(alloc: Global, client: &mut ClientCore<Plain, Plain>) -> Met {
-    client.feed(alloc, &[0])?;
-    Ok(is_seven(client.connection_data()))
+/// A core that lends what is known of its connection.
+trait Knows: End {
+    fn known(&self) -> &ConnectionData;
 }
 
-fn server_lends_seven(alloc: Global, server: &mut ServerCore<Plain, Plain>) -> Met {
-    server.feed(alloc, &[0], 0)?;
-    Ok(is_seven(server.connection_data()))
+impl Knows for ClientCore<Plain, Plain> {
+    fn known(&self) -> &ConnectionData {
+        self.connection_data()
+    }
+}
+
+impl Knows for ServerCore<Plain, Plain> {
+    fn known(&self) -> &ConnectionData {
+        self.connection_data()
+    }
+}
+
+/// The core lends that number, also once bytes have come.
+fn lends_seven<C: Knows + Drop>(rt: &impl Abort, alloc: Global, core: C) -> Tested {
+    let mut core = core;
+    core.feed(alloc, &[0])?;
+    assert!(rt; is_seven(core.known()));
+    Ok(())
 }
 
 #[test]
 fn what_a_client_knows_is_lent(rt: HostRuntime) -> Tested {
     let alloc = rt.alloc();
-    let mut client = ClientCore::new(alloc, ClientKind::Sync, context(alloc)?);
-    let met = client_lends_seven(alloc, &mut client)?;
-    assert!(rt; met);
-    Ok(())
+    let context = context(alloc)?;
+    lends_seven(
+        &rt,
+        alloc,
+        ClientCore::new(alloc, ClientKind::Sync, context),
+    )
 }
 
 #[test]
 fn what_a_server_knows_is_lent(rt: HostRuntime) -> Tested {
     let alloc = rt.alloc();
     let registry = registry(alloc)?;
-    let mut server = ServerCore::new(alloc, Rules::Sync, registry, context(alloc)?);
-    let met = server_lends_seven(alloc, &mut server)?;
-    assert!(rt; met);
-    Ok(())
+    let context = context(alloc)?;
+    lends_seven(
+        &rt,
+        alloc,
+        ServerCore::new(alloc, Rules::Sync, registry, context),
+    )
 }

@@ -91,6 +91,8 @@ pub enum Step {
     RefusesAnswer(u64, Told),
     /// The handler of the job of this id failed.
     Breaks(u64),
+    /// The same by a status of this code and message.
+    BreaksBy(u64, i32, &'static str),
     /// A response with this payload is queued under this stream's id.
     Responds(u32, &'static [u8]),
     /// A response under this stream's id is refused so, and so again.

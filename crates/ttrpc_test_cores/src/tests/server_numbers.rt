@@ -1,6 +1,6 @@
 //! Many requests of a server at once.
 use crate::server::ASKED;
-use crate::tests::server_steps::answers;
+use crate::tests::server_steps::{answers, ticks};
 use crate::tests::steps::leaves;
 use crate::tests::under_test::{End, Met, Server};
 use std::alloc::Global;
@@ -28,9 +28,9 @@ pub fn jobs_expire_at_once<S: Server>(alloc: Global, core: &mut S, count: u32) -
     if !asks_in_pairs(alloc, core, count)? || core.take_job().is_none() {
         return Ok(false);
     }
-    core.tick(alloc, u64::from(count).wrapping_add(10));
     Ok(
-        core.jobs_waiting() == u64::from(count)
+        ticks(alloc, core, u64::from(count).wrapping_add(10))?
+            && core.jobs_waiting() == u64::from(count)
             && core.next_expired() == Some(1)
             && core.next_expired().is_none()
             && first_ones_time_out(core, count)
@@ -46,27 +46,26 @@ pub fn jobs_expire_in_turn<S: Server>(alloc: Global, core: &mut S, count: u32) -
     }
     Ok(
         takes(core, count)
-            && expire_in_turn(alloc, core, count)
+            && expire_in_turn(alloc, core, count)?
             && core.jobs_taken() == 0
             && core.next_deadline().is_none(),
     )
 }
 
-fn expire_in_turn<S: Server>(alloc: Global, core: &mut S, count: u32) -> bool {
+fn expire_in_turn<S: Server>(alloc: Global, core: &mut S, count: u32) -> Met {
     for job in 1..=count {
         let due = u64::from(job).wrapping_add(10);
-        let is_next = core.next_deadline() == Some(due);
-        core.tick(alloc, due);
-        let has_expired = is_next
+        let has_expired = core.next_deadline() == Some(due)
+            && ticks(alloc, core, due)?
             && core.next_expired() == Some(u64::from(job))
             && core.next_expired().is_none()
             && times_out(core, stream_of(job))
             && !core.has_unsent();
         if !has_expired {
-            return false;
+            return Ok(false);
         }
     }
-    true
+    Ok(true)
 }
 
 /// The stream's id of a job, of those from 1 on.

@@ -10,8 +10,8 @@ use ttrpc_codec::Codec;
 use ttrpc_codec::message::WireMessage;
 use ttrpc_proto::{Error, Response, Status};
 use ttrpc_server::{Job, JobId};
-use ttrpc_wire::Blob;
 use ttrpc_wire::values::slices::{behind, front};
+use ttrpc_wire::{Blob, Text};
 
 /// A step that only a server knows.
 pub fn server_step<S: Server>(alloc: Global, core: &mut S, step: &Step, cut: usize) -> Met {
@@ -25,6 +25,7 @@ pub fn server_step<S: Server>(alloc: Global, core: &mut S, step: &Step, cut: usi
         ),
         Step::RefusesAnswer(id, why) => refuses_answer(alloc, core, id, why),
         Step::Breaks(id) => breaks(alloc, core, id),
+        Step::BreaksBy(id, code, message) => breaks_by(alloc, core, id, code, message),
         Step::StreamOf(id, stream) => Ok(core.stream_of(id) == stream),
         Step::Jobs(waiting, taken) => {
             Ok(core.jobs_waiting() == waiting && core.jobs_taken() == taken)
@@ -60,11 +61,17 @@ fn moment_step<S: Server>(alloc: Global, core: &mut S, step: &Step, cut: usize) 
         Step::NextExpired(id) => Ok(core.next_expired() == id),
         Step::JobsExpireAtOnce(count) => jobs_expire_at_once(alloc, core, count),
         Step::JobsExpireInTurn(count) => jobs_expire_in_turn(alloc, core, count),
-        Step::Ticks(now) => {
-            core.tick(alloc, now);
-            Ok(true)
-        }
+        Step::Ticks(now) => ticks(alloc, core, now),
         _ => front_step(alloc, core, step, cut),
+    }
+}
+
+/// This moment comes. Where memory for an answer was refused, the test ends with that error.
+pub fn ticks<S: Server>(alloc: Global, core: &mut S, now: u64) -> Met {
+    core.tick(alloc, now);
+    match core.failure(alloc) {
+        Some(Error::NoMemory) => Err(Error::NoMemory.into()),
+        _ => Ok(true),
     }
 }
 
@@ -102,6 +109,14 @@ pub fn ok_response(alloc: Global, payload: Blob) -> Response {
         status: Some(Status::new(alloc)),
         payload,
     }
+}
+
+/// A status of this code and message.
+pub fn status_of(alloc: Global, code: i32, message: &str) -> Result<Status, Fail> {
+    let mut status = Status::new(alloc);
+    status.code = code;
+    status.message = Text::from_str(alloc, message)?;
+    Ok(status)
 }
 
 // ---- fronts
@@ -163,6 +178,11 @@ fn answers_sevens<S: Server>(alloc: Global, core: &mut S, id: JobId, length: usi
 
 fn breaks<S: Server>(alloc: Global, core: &mut S, id: JobId) -> Met {
     gives(alloc, core, id, &Err(Error::Eof))
+}
+
+fn breaks_by<S: Server>(alloc: Global, core: &mut S, id: JobId, code: i32, message: &str) -> Met {
+    let status = status_of(alloc, code, message)?;
+    gives(alloc, core, id, &Err(Error::RpcStatus(status)))
 }
 
 /// The answer is given.

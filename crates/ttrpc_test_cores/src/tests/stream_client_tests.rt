@@ -347,17 +347,18 @@ const SENDING_ROWS: &[Row] = &[
         ],
         ..FRESH
     },
-    Row {
-        name: "the greatest item is sent, and a refused one uses no ticket",
-        steps: &[
-            Step::Opens(true, true, b"", 1),
-            Step::RefusesSevensOn(1, 4194305, LONG),
-            Step::SendsSevens(1, 4194304, 1),
-            Step::Closes(1, 2),
-        ],
-        ..FRESH
-    },
 ];
+
+const GREATEST_ROWS: &[Row] = &[Row {
+    name: "the greatest item is sent, and a refused one uses no ticket",
+    steps: &[
+        Step::Opens(true, true, b"", 1),
+        Step::RefusesSevensOn(1, 4194305, LONG),
+        Step::SendsSevens(1, 4194304, 1),
+        Step::Closes(1, 2),
+    ],
+    ..FRESH
+}];
 
 const TICKET_ROWS: &[Row] = &[
     Row {
@@ -558,34 +559,59 @@ const LONG_ROWS: &[Row] = &[Row {
     ..FRESH
 }];
 
-/// What holds over halves that stamp, too.
-const STREAMS: &[Table<ClientKind>] = &[
-    (BOTH, OPEN_ROWS),
-    (BOTH, ITEM_ROWS),
-    (BOTH, HEARD_ROWS),
+// What holds over halves that stamp, too.
+
+const OPENINGS: &[Table<ClientKind>] = &[(BOTH, OPEN_ROWS), (BOTH, HEARD_ROWS)];
+
+#[test]
+fn streams_are_opened(rt: HostRuntime) -> Tested {
+    hold::<ClientCore<Plain, Plain>>(&rt, rt.alloc(), OPENINGS)
+}
+
+#[test]
+fn stamped_streams_are_opened(rt: HostRuntime) -> Tested {
+    hold_stamped::<ClientCore<StampOut, StampIn>>(&rt, rt.alloc(), OPENINGS)
+}
+
+const ITEMS: &[Table<ClientKind>] = &[(BOTH, ITEM_ROWS)];
+
+#[test]
+fn streams_receive(rt: HostRuntime) -> Tested {
+    hold::<ClientCore<Plain, Plain>>(&rt, rt.alloc(), ITEMS)
+}
+
+#[test]
+fn stamped_streams_receive(rt: HostRuntime) -> Tested {
+    hold_stamped::<ClientCore<StampOut, StampIn>>(&rt, rt.alloc(), ITEMS)
+}
+
+const ENDS: &[Table<ClientKind>] = &[
     (BOTH, DROP_ROWS),
     (BOTH, FAILURE_ROWS),
+    (BOTH, SENDING_ROWS),
 ];
 
-const HALVES: &[Table<ClientKind>] = &[
-    (BOTH, SENDING_ROWS),
+#[test]
+fn streams_end_and_are_refused(rt: HostRuntime) -> Tested {
+    hold::<ClientCore<Plain, Plain>>(&rt, rt.alloc(), ENDS)
+}
+
+#[test]
+fn stamped_streams_end_and_are_refused(rt: HostRuntime) -> Tested {
+    hold_stamped::<ClientCore<StampOut, StampIn>>(&rt, rt.alloc(), ENDS)
+}
+
+// What holds over plain halves alone.
+
+const SENDS: &[Table<ClientKind>] = &[
+    (BOTH, GREATEST_ROWS),
     (BOTH, TICKET_ROWS),
     (BOTH, PART_ROWS),
 ];
 
 #[test]
-fn streams_are_opened_and_receive(rt: HostRuntime) -> Tested {
-    hold::<ClientCore<Plain, Plain>>(&rt, rt.alloc(), STREAMS)
-}
-
-#[test]
-fn stamped_streams_are_opened_and_receive(rt: HostRuntime) -> Tested {
-    hold_stamped::<ClientCore<StampOut, StampIn>>(&rt, rt.alloc(), STREAMS)
-}
-
-#[test]
-fn streams_send_and_end(rt: HostRuntime) -> Tested {
-    hold::<ClientCore<Plain, Plain>>(&rt, rt.alloc(), HALVES)
+fn streams_send(rt: HostRuntime) -> Tested {
+    hold::<ClientCore<Plain, Plain>>(&rt, rt.alloc(), SENDS)
 }
 
 #[test]

@@ -1,16 +1,14 @@
 //! The steps of a server's streams.
 use crate::tests::script::{Step, Told};
-use crate::tests::server_steps::ok_response;
+use crate::tests::server_steps::{ok_response, status_of};
 use crate::tests::steps::tells;
 use crate::tests::stream_job_numbers::stream_jobs_last_first;
 use crate::tests::stream_steps::item_step;
 use crate::tests::under_test::{Met, Server};
 use std::alloc::Global;
-use std::test::Fail;
-use ttrpc_codec::message::WireMessage;
-use ttrpc_proto::{Error, Response, Status};
+use ttrpc_proto::{Error, Response};
 use ttrpc_server::JobId;
-use ttrpc_wire::{Blob, Text};
+use ttrpc_wire::Blob;
 
 /// How a handler ends its stream.
 pub type End = Result<Option<Response>, Error>;
@@ -20,18 +18,9 @@ pub fn stream_job_step<S: Server>(alloc: Global, core: &mut S, step: &Step) -> M
     match *step {
         Step::TakesStream(id, stream) => Ok(takes_stream(core, id, stream)),
         Step::EndsStream(id) => ends(alloc, core, id, &Ok(None)),
-        Step::EndsWith(id, payload) => {
-            let payload = Blob::from_slice(alloc, payload)?;
-            ends(alloc, core, id, &Ok(Some(ok_response(alloc, payload))))
-        }
-        Step::EndsWithSevens(id, length) => {
-            let payload = Blob::from_vec(vec![in alloc; 7; length]?);
-            ends(alloc, core, id, &Ok(Some(ok_response(alloc, payload))))
-        }
-        Step::EndsBy(id, code, message) => {
-            let response = status_response(alloc, code, message)?;
-            ends(alloc, core, id, &Ok(Some(response)))
-        }
+        Step::EndsWith(id, payload) => ends_with(alloc, core, id, payload),
+        Step::EndsWithSevens(id, length) => ends_with_sevens(alloc, core, id, length),
+        Step::EndsBy(id, code, message) => ends_by(alloc, core, id, code, message),
         Step::EndsByError(id) => ends(alloc, core, id, &Err(Error::Eof)),
         Step::RefusesEnd(id, why) => refuses_end(alloc, core, id, why),
         Step::StreamJobsLastFirst(count) => stream_jobs_last_first(alloc, core, count),
@@ -52,15 +41,24 @@ pub fn takes_stream<S: Server>(core: &mut S, id: JobId, stream: u32) -> bool {
     }
 }
 
-/// A response with a status of this code and message, and no payload.
-pub fn status_response(alloc: Global, code: i32, message: &str) -> Result<Response, Fail> {
-    let mut status = Status::new(alloc);
-    status.code = code;
-    status.message = Text::from_str(alloc, message)?;
-    Ok(Response {
-        status: Some(status),
+/// The stream ends by a response with this payload.
+fn ends_with<S: Server>(alloc: Global, core: &mut S, id: JobId, payload: &[u8]) -> Met {
+    let payload = Blob::from_slice(alloc, payload)?;
+    ends(alloc, core, id, &Ok(Some(ok_response(alloc, payload))))
+}
+
+fn ends_with_sevens<S: Server>(alloc: Global, core: &mut S, id: JobId, length: usize) -> Met {
+    let payload = Blob::from_vec(vec![in alloc; 7; length]?);
+    ends(alloc, core, id, &Ok(Some(ok_response(alloc, payload))))
+}
+
+/// The stream ends by a response with a status of this code and message, and no payload.
+fn ends_by<S: Server>(alloc: Global, core: &mut S, id: JobId, code: i32, message: &str) -> Met {
+    let response = Response {
+        status: Some(status_of(alloc, code, message)?),
         payload: Blob::new(alloc),
-    })
+    };
+    ends(alloc, core, id, &Ok(Some(response)))
 }
 
 /// The stream ends so.

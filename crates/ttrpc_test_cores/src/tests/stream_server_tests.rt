@@ -559,17 +559,18 @@ const END_ROWS: &[Row] = &[
         ],
         ..FRESH
     },
-    Row {
-        name: "the greatest item is sent, and a refused one uses no ticket",
-        steps: &[
-            Step::Feed(OPENED),
-            Step::RefusesSevensOn(1, 4194305, LONG),
-            Step::SendsSevens(1, 4194304, 1),
-            Step::Sends(1, b"", 2),
-        ],
-        ..FRESH
-    },
 ];
+
+const GREATEST_ROWS: &[Row] = &[Row {
+    name: "the greatest item is sent, and a refused one uses no ticket",
+    steps: &[
+        Step::Feed(OPENED),
+        Step::RefusesSevensOn(1, 4194305, LONG),
+        Step::SendsSevens(1, 4194304, 1),
+        Step::Sends(1, b"", 2),
+    ],
+    ..FRESH
+}];
 
 const TICKET_ROWS: &[Row] = &[
     Row {
@@ -699,36 +700,68 @@ const SYNC_ROWS: &[Row] = &[
     },
 ];
 
-/// What holds over halves that stamp, too.
-const STREAMS: &[Table<Rules>] = &[
-    (ASYNC, OPEN_ROWS),
-    (ASYNC, ITEM_ROWS),
-    (ASYNC, DROP_ROWS),
-    (ASYNC, HEARD_ROWS),
-    (ASYNC, FAILURE_ROWS),
-    (SYNC, SYNC_ROWS),
-];
+// What holds over halves that stamp, too.
 
-const ENDS: &[Table<Rules>] = &[
+const OPENINGS: &[Table<Rules>] = &[(ASYNC, OPEN_ROWS)];
+
+#[test]
+fn streams_are_opened(rt: HostRuntime) -> Tested {
+    hold::<Core>(&rt, rt.alloc(), OPENINGS)
+}
+
+#[test]
+fn stamped_streams_are_opened(rt: HostRuntime) -> Tested {
+    hold_stamped::<ServerCore<StampOut, StampIn>>(&rt, rt.alloc(), OPENINGS)
+}
+
+const ITEMS: &[Table<Rules>] = &[(ASYNC, ITEM_ROWS), (ASYNC, HEARD_ROWS)];
+
+#[test]
+fn streams_receive(rt: HostRuntime) -> Tested {
+    hold::<Core>(&rt, rt.alloc(), ITEMS)
+}
+
+#[test]
+fn stamped_streams_receive(rt: HostRuntime) -> Tested {
+    hold_stamped::<ServerCore<StampOut, StampIn>>(&rt, rt.alloc(), ITEMS)
+}
+
+const DROPS: &[Table<Rules>] = &[(ASYNC, DROP_ROWS), (ASYNC, FAILURE_ROWS), (SYNC, SYNC_ROWS)];
+
+#[test]
+fn streams_are_dropped_and_fail(rt: HostRuntime) -> Tested {
+    hold::<Core>(&rt, rt.alloc(), DROPS)
+}
+
+#[test]
+fn stamped_streams_are_dropped_and_fail(rt: HostRuntime) -> Tested {
+    hold_stamped::<ServerCore<StampOut, StampIn>>(&rt, rt.alloc(), DROPS)
+}
+
+const ENDS: &[Table<Rules>] = &[(ASYNC, END_ROWS)];
+
+#[test]
+fn streams_end(rt: HostRuntime) -> Tested {
+    hold::<Core>(&rt, rt.alloc(), ENDS)
+}
+
+#[test]
+fn stamped_streams_end(rt: HostRuntime) -> Tested {
+    hold_stamped::<ServerCore<StampOut, StampIn>>(&rt, rt.alloc(), ENDS)
+}
+
+// What holds over plain halves alone.
+
+const SENDS: &[Table<Rules>] = &[
     (ASYNC, PART_ROWS),
-    (ASYNC, END_ROWS),
+    (ASYNC, GREATEST_ROWS),
     (ASYNC, TICKET_ROWS),
     (ASYNC, TIME_ROWS),
 ];
 
 #[test]
-fn streams_are_opened_and_receive(rt: HostRuntime) -> Tested {
-    hold::<Core>(&rt, rt.alloc(), STREAMS)
-}
-
-#[test]
-fn stamped_streams_are_opened_and_receive(rt: HostRuntime) -> Tested {
-    hold_stamped::<ServerCore<StampOut, StampIn>>(&rt, rt.alloc(), STREAMS)
-}
-
-#[test]
-fn streams_send_and_end(rt: HostRuntime) -> Tested {
-    hold::<Core>(&rt, rt.alloc(), ENDS)
+fn streams_send(rt: HostRuntime) -> Tested {
+    hold::<Core>(&rt, rt.alloc(), SENDS)
 }
 
 const LONG_ROWS: &[Row] = &[Row {

@@ -5,6 +5,7 @@ use crate::tests::steps::tells;
 use crate::tests::stream_numbers::{items_come, receives_each, sends_each, streams_last_first};
 use crate::tests::under_test::{Items, Met, Streaming};
 use std::alloc::Global;
+use std::test::Fail;
 use ttrpc_client::{StreamId, Ticket};
 use ttrpc_proto::Request;
 
@@ -12,16 +13,14 @@ use ttrpc_proto::Request;
 pub fn stream_step<C: Streaming>(alloc: Global, core: &mut C, step: &Step) -> Met {
     match *step {
         Step::Opens(sends, receives, payload, id) => {
-            let request = stream_request(alloc, payload)?;
-            Ok(core.new_stream(alloc, &request, sends, receives)? == id)
+            let opened = opens(alloc, core, payload, sends, receives)?;
+            Ok(opened == id)
         }
         Step::RefusesStream(sends, payload, why) => {
-            let request = stream_request(alloc, payload)?;
-            refuses_stream(alloc, core, &request, sends, why)
+            refuses_opening(alloc, core, payload, sends, why)
         }
         Step::RefusesStreamOfSevens(length, why) => {
-            let request = request_of_sevens(alloc, length)?;
-            refuses_stream(alloc, core, &request, false, why)
+            refuses_opening_of_sevens(alloc, core, length, why)
         }
         Step::StreamsLastFirst(count) => streams_last_first(alloc, core, count),
         Step::Closes(id, ticket) => Ok(core.close_send(alloc, id)? == ticket),
@@ -64,6 +63,40 @@ fn receive_step<C: Items>(alloc: Global, core: &mut C, step: &Step) -> Met {
         Step::ReceivesEach(id, count) => receives_each(alloc, core, id, count),
         _ => Ok(false),
     }
+}
+
+/// A stream is opened.
+fn opens<C: Streaming>(
+    alloc: Global,
+    core: &mut C,
+    payload: &[u8],
+    sends: bool,
+    receives: bool,
+) -> Result<StreamId, Fail> {
+    let request = stream_request(alloc, payload)?;
+    let id = core.new_stream(alloc, &request, sends, receives)?;
+    Ok(id)
+}
+
+fn refuses_opening<C: Streaming>(
+    alloc: Global,
+    core: &mut C,
+    payload: &[u8],
+    sends: bool,
+    why: Told,
+) -> Met {
+    let request = stream_request(alloc, payload)?;
+    refuses_stream(alloc, core, &request, sends, why)
+}
+
+fn refuses_opening_of_sevens<C: Streaming>(
+    alloc: Global,
+    core: &mut C,
+    length: usize,
+    why: Told,
+) -> Met {
+    let request = request_of_sevens(alloc, length)?;
+    refuses_stream(alloc, core, &request, false, why)
 }
 
 /// The stream is refused so, and so again.
