@@ -9,6 +9,7 @@ mod kind;
 mod landing;
 pub mod laws;
 pub mod state;
+mod stream_core;
 mod streaming;
 mod streams;
 
