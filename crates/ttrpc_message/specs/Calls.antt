@@ -1,10 +1,10 @@
 -- What is told of the values of calls, and the response that tells what a service answered.
 -- Source: PROTOCOL.md of ttrpc, "RPC"; the texts are those of the Rust crate's macros.
-use Rattle.std.specs.Prelude.{◌≡◌, ◌≢◌, ◌≤◌, ◌^◌, ℕ, List, [], codes, length, IsSomeAnd, Option, Some, Result, Ok, Err}
+use Rattle.std.specs.Prelude.{◌≡◌, ◌≢◌, ◌≤◌, ◌^◌, ℕ, List, [], codes, length, IsSomeAnd, Option, None, Some, Result, Ok, Err}
 use Rattle.ttrpc_wire.specs.declared.values.code.Code.TheVariants.{OK, INVALID_ARGUMENT}
 use Rattle.ttrpc_proto.specs.declared.response.Response.{Response}
 use Rattle.ttrpc_proto.specs.declared.error.Error.{Error}
-use Rattle.ttrpc_proto.specs.declared.error.Error.TheVariants.{NoMemory, Others, RpcStatus}
+use Rattle.ttrpc_proto.specs.declared.error.Error.TheVariants.{Eof, NoMemory, Others, RpcStatus}
 use Rattle.ttrpc_proto.specs.ErrorText.{IsOthers, status_of, Tells}
 
 -- that memory was refused, or `Others` of this prefix and what an error of the codec prints, which isn't that of refused memory
@@ -29,3 +29,19 @@ AnswersWith written meaning (Err error) r = IsSomeAnd r.status (Tells error) × 
 abbrev pub IsUnanswered : {M E : Type 0} → (M → List ℕ) → (E → Type 0) → (E → Option (List ℕ)) → Result M Error → Error → Type 0
 IsUnanswered written is_no_memory output (Ok m) e = IsUnwritten (codes "Encoding response ") is_no_memory output (written m) e
 IsUnanswered written is_no_memory output (Err error) e = e ≡ NoMemory
+
+-- What is told of an item that a stream gave: the value that its bytes mean, or why there is none.
+abbrev pub TellsItem : {M E : Type 0} → (List ℕ → Option M) → (E → Type 0) → (E → Option (List ℕ)) → Result (List ℕ) Error → Result M Error → Type 0
+TellsItem meaning is_no_memory output (Err error) told = told ≡ Err error
+TellsItem meaning is_no_memory output (Ok bytes) (Ok m) = meaning bytes ≡ Some m
+TellsItem meaning is_no_memory output (Ok bytes) (Err e) = (e ≢ NoMemory → meaning bytes ≡ None) × TellsCause (codes "Decode message failed. ") is_no_memory output e
+
+-- the same, where there may be no more
+abbrev pub as_more : {M : Type 0} → Result M Error → Result (Option M) Error
+as_more (Ok m) = Ok (Some m)
+as_more (Err e) = Err e
+
+-- The same of a stream's end, which is told as none.
+pub record TellsItemOrEnd {M E : Type 0} (meaning : List ℕ → Option M) (is_no_memory : E → Type 0) (output : E → Option (List ℕ)) (given : Result (List ℕ) Error) (told : Result (Option M) Error) : Type 0 where
+  pub end : given ≡ Err Eof → told ≡ Ok None
+  pub item : given ≢ Err Eof → (item : Result M Error) × TellsItem meaning is_no_memory output given item × (told ≡ as_more item)
