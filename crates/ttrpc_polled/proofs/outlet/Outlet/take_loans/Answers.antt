@@ -1,0 +1,12 @@
+use Rattle.std.proofs.Common.{refl}
+use Rattle.ttrpc_polled.proofs.Gathering.{gathers_none, gathers_more}
+use Rattle.ttrpc_polled.proofs.outlet.Outlet.take_loans.Goals as goal
+
+pub loop-init : goal.loop-init
+loop-init g c = (refl, gathers_none _ _ _)
+
+pub loop-preserved : goal.loop-preserved
+loop-preserved g c = (c.loop.invariant.0, gathers_more _ _ _ _ _ _ _ _ c.loop.invariant.1 c.take_loan.ensures)
+
+pub returns-then-take_loan-eq0-clause-gathers : goal.returns-then-take_loan-eq0-clause-gathers
+returns-then-take_loan-eq0-clause-gathers g c = gathers_more _ _ _ _ _ _ _ _ c.loop.invariant.1 c.take_loan.ensures

@@ -1,0 +1,4 @@
+pub mod Connecting
+pub mod Passing
+pub mod Needs
+pub mod Sockets

@@ -1,0 +1,18 @@
+-- For what the future of a connection waits.
+-- Source: this project's.
+use Rattle.std.specs.Prelude.{◌≡◌, ◌≢◌, ◌⊎◌, ℕ, [], IsSome, true}
+use Rattle.std.specs.Arc.{arc_value}
+use Rattle.tokio.specs.Timers.{sleep_source}
+use Rattle.ttrpc_polled.specs.declared.link.Link.{Link}
+
+-- It waits to write, where bytes are kept, and in any case for what is new.
+abbrev pub OutNeeds : {R S W C : Type 0} → (W → ℕ → Type 0) → (C → ℕ) → Link R S W C → ℕ → Type 0
+OutNeeds writes asked c s =
+    ((c.outlet.kept ≢ []) × writes c.outlet.writer s) ⊎ (s ≡ asked (arc_value c.shared))
+
+-- In all it waits to read, unless it reads no more, and for its alarm, where that is set.
+abbrev pub LinkNeeds : {R S W C : Type 0} → (S → ℕ → Type 0) → (W → ℕ → Type 0) → (C → ℕ) → Link R S W C → ℕ → Type 0
+LinkNeeds reads writes asked c s =
+    OutNeeds writes asked c s
+    ⊎ ((c.is_reading ≡ true) × reads c.inlet.reader s)
+    ⊎ (IsSome c.alarm.set_for × (s ≡ sleep_source c.alarm.sleep))

@@ -1,0 +1,40 @@
+-- The bytes of a polled connection, on their way from a reader to a core and from the core to a writer.
+-- Source: this project's.
+use Rattle.std.specs.Prelude.{◌≡◌, ◌≢◌, ℕ, List, [], ◌++◌, take, drop, Bool, true, false, Option, Result, Ok, nat_lt}
+use Rattle.std.specs.Option.{option_map_or}
+use Rattle.std.specs.declared.io.Error.{Error}
+use Rattle.futures.specs.declared.task.Poll.{Poll}
+use Rattle.futures.specs.declared.task.Poll.TheVariants.{Ready}
+
+-- A piece was asked for: what is left of the last one, or where nothing is, what the reader gives now. There is none at the
+-- end of the input.
+pub record AsksPiece {S : Type 0} (reads : S → List ℕ → S → Type 0) (ends : S → Type 0) (old : S) (left : List ℕ) (polled : Poll (Result Bool Error)) (new : S) (piece : List ℕ) : Type 0 where
+  pub rest : left ≢ [] → (new ≡ old) × (piece ≡ left) × (polled ≡ Ready (Ok true))
+  pub read : left ≡ [] → reads old piece new
+  pub some : polled ≡ Ready (Ok true) → piece ≢ []
+  pub none : polled ≢ Ready (Ok true) → piece ≡ []
+  pub end : polled ≡ Ready (Ok false) → ends new
+
+-- The writer was offered what is kept, and took a front of it.
+abbrev pub Writes : {W : Type 0} → (W → List ℕ → W → Type 0) → W → List ℕ → W → List ℕ → Type 0
+Writes writes old kept new left = (taken : List ℕ) × (kept ≡ taken ++ left) × writes old taken new
+
+-- A loan of so many bytes was taken, into a buffer that held other bytes: they stand behind what was kept.
+pub record TakesLoan {H : Type 0} (lends : H → List ℕ → ℕ → List ℕ → H → Type 0) (old : H) (count : ℕ) (kept_before : List ℕ) (new : H) (kept_after : List ℕ) : Type 0 where
+  pub before : List ℕ
+  pub after : List ℕ
+  pub lent : lends old before count after new
+  pub kept : kept_after ≡ kept_before ++ take count after
+
+-- Loans were taken one after the other, of these bytes in order.
+pub data Gathers {H : Type 0} (lends : H → List ℕ → ℕ → List ℕ → H → Type 0) (first : H) : List ℕ → H → Type 0 where
+  nothing : Gathers lends first [] first
+  one_more : (bytes : List ℕ) (held : H) (gathered : Gathers lends first bytes held) (before : List ℕ) (count : ℕ) (after : List ℕ) (last : H)
+      → lends held before count after last → Gathers lends first (bytes ++ take count after) last
+
+-- A piece was handed to a core, which took a front of it, or whose connection has failed. More is wanted where it took some.
+pub record IsHandedOn {H : Type 0} (takes : H → List ℕ → Option ℕ → H → Type 0) (old : H) (piece : List ℕ) (wants : Bool) (new : H) (left : List ℕ) : Type 0 where
+  pub count : Option ℕ
+  pub taken : takes old piece count new
+  pub rest : left ≡ drop (option_map_or (λ n. n) count 0) piece
+  pub wants_more : wants ≡ nat_lt 0 (option_map_or (λ n. n) count 0)

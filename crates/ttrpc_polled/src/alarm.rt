@@ -1,0 +1,77 @@
+//! When a core is to be told of the moment.
+ghost use Rattle.std.specs.Prelude.{◌≡◌, ◌⊎◌, None, Some, IfErr, IfOk};
+ghost use Rattle.futures.specs.Task.{Covers, Keeps};
+ghost use Rattle.futures.specs.Poll.{OnPending};
+ghost use Rattle.tokio.specs.Timers.{sleep_source};
+ghost use Rattle.ttrpc_transport.specs.Sockets.{IsFault};
+
+use futures::Future;
+use futures::task::{Context, Poll};
+use std::time::{Clock, Duration, Instant};
+use tokio::runtime::Handle;
+use tokio::time::Sleep;
+use ttrpc_proto::{Error, Result};
+
+/// How long an alarm sleeps that isn't set.
+const UNSET: u64 = 3600;
+
+/// A timer for the least moment at which something expires.
+#[derive(Drop)]
+pub struct Alarm {
+    pub sleep: Sleep,
+    pub set_for: Option<u64>,
+}
+
+impl Alarm {
+    /// An alarm that isn't set. A clock that can't be read, or want of memory, is `Nix`.
+    pub fn new<R: Clock>(rt: &R, handle: &Handle) -> Result<Alarm>
+        ensures ok { IfOk result (λ alarm. alarm.set_for ≡ None) }
+        ensures err { IfErr result IsFault }
+    {
+        match handle.time().sleep(rt, Duration::from_secs(UNSET)) {
+            Ok(sleep) => Ok(Alarm {
+                sleep,
+                set_for: None,
+            }),
+            Err(error) => Err(Error::Nix(error.kind())),
+        }
+    }
+
+    /// Sets it, unless it is set for this moment or an earlier one.
+    pub fn set<R: Clock>(&mut self, rt: &R, at: u64)
+        ensures { (self.new.set_for ≡ self.old.set_for) ⊎ (self.new.set_for ≡ Some at) }
+    {
+        if self.set_for.is_some_and(|set_for| set_for <= at) {
+            return;
+        }
+        let (Ok(now), Ok(instant)) = (moment(rt), Instant::now(rt)) else {
+            return;
+        };
+        if let Some(instant) = instant.checked_add(Duration::from_nanos(at.saturating_sub(now))) {
+            self.sleep.reset(instant);
+            self.set_for = Some(at);
+        }
+    }
+
+    /// Ready once it rings: the moment. It isn't set any more then.
+    pub fn poll_ring<R: Clock>(&mut self, rt: &R, cx: &mut Context<'_>) -> Poll<u64>
+        ensures registered { OnPending result (Covers cx.new (λ s. s ≡ sleep_source self.new.sleep)) }
+        ensures kept { Keeps cx.old cx.new }
+    {
+        if let Poll::Pending = self.sleep.poll(cx) {
+            return Poll::Pending;
+        }
+        self.set_for = None;
+        Poll::Ready(moment(rt).unwrap_or(0))
+    }
+}
+
+/// The current time, in nanoseconds since some start, the same for all moments. A clock that can't be read is `Nix`.
+pub fn moment<R: Clock>(rt: &R) -> Result<u64>
+    ensures { IfErr result IsFault }
+{
+    match rt.monotonic() {
+        Ok(time) => Ok(u64::try_from(time.as_nanos()).unwrap_or(u64::MAX)),
+        Err(error) => Err(Error::Nix(error.kind())),
+    }
+}

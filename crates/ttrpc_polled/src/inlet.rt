@@ -1,0 +1,68 @@
+//! Bytes that a reader gave, on their way to a core.
+ghost use Rattle.std.specs.Prelude.{◌≡◌, [], IfOk};
+ghost use Rattle.futures.specs.Task.{Covers, Keeps};
+ghost use Rattle.futures.specs.Poll.{OnPending};
+ghost use Rattle.tokio.specs.Io.Moved.{IfReadyErr};
+ghost use Rattle.ttrpc_polled.specs.Passing.{AsksPiece};
+
+use crate::piece::Piece;
+use futures::task::{Context, Poll};
+use std::alloc::{AllocError, Global};
+use std::io::{self, ErrorKind};
+use tokio::io::AsyncRead;
+
+/// The room for a piece while a connection waits for one.
+pub const INLET_AT_REST: usize = 1024;
+
+/// The room for a piece behind one that filled all there was, where memory is found.
+pub const INLET_AT_WORK: usize = 131072;
+
+/// A reader, and what a core hasn't taken yet of the piece that it gave.
+#[derive(Drop)]
+pub struct Inlet<S> {
+    pub reader: S,
+    pub piece: Piece,
+    was_full: bool,
+}
+
+impl<S: AsyncRead> Inlet<S> {
+    /// The inlet of this reader, with no piece yet. Memory for the room at rest may be refused.
+    pub fn new(alloc: Global, reader: S) -> Result<Inlet<S>, AllocError>
+        ensures { IfOk result (λ inlet. (inlet.reader ≡ reader) × (inlet.piece ≡ [])) }
+    {
+        Ok(Inlet {
+            reader,
+            piece: Piece::new(alloc, INLET_AT_REST)?,
+            was_full: false,
+        })
+    }
+
+    /// Asks for a piece: the rest of the last one, or a new one. Ready: whether there is one, which at the end of the input
+    /// there isn't.
+    pub fn poll_piece(&mut self, cx: &mut Context<'_>) -> Poll<io::Result<bool>>
+        ensures asks { AsksPiece S.reads S.is_at_end self.old.reader self.old.piece result self.new.reader self.new.piece }
+        ensures failed { IfReadyErr result (S.fails self.new.reader) }
+        ensures registered { OnPending result (Covers cx.new (S.needs self.new.reader)) }
+        ensures kept { Keeps cx.old cx.new }
+    {
+        if !self.piece.is_empty() {
+            return Poll::Ready(Ok(true));
+        }
+        if self.was_full {
+            self.piece.make_room(INLET_AT_WORK);
+        }
+        match self.piece.poll_read(&mut self.reader, cx) {
+            Poll::Ready(Ok(count)) => {
+                self.was_full = self.piece.room() == 0;
+                Poll::Ready(Ok(count > 0))
+            }
+            Poll::Ready(Err(error)) if error.kind() == ErrorKind::Interrupted => cx.yield_now(),
+            Poll::Ready(Err(error)) => Poll::Ready(Err(error)),
+            Poll::Pending => {
+                self.was_full = false;
+                self.piece.let_go(INLET_AT_REST);
+                Poll::Pending
+            }
+        }
+    }
+}

@@ -1,0 +1,247 @@
+//! The future that reads, writes and ticks for one connection.
+ghost use Rattle.std.specs.Prelude.{◌≡◌, [], IfErr, IsSome, Ok, true, false, IfOk, None};
+ghost use Rattle.std.specs.Arc.{arc_value};
+ghost use Rattle.std.specs.IoError.{error_kind};
+ghost use Rattle.futures.specs.Task.{Covers, Hears, IsArmed, Keeps};
+ghost use Rattle.tokio.specs.Timers.{sleep_source};
+ghost use Rattle.ttrpc_polled.specs.Needs.{LinkNeeds, OutNeeds};
+ghost use Rattle.ttrpc_polled.specs.Passing.{IsHandedOn};
+
+use crate::alarm::Alarm;
+use crate::held::{Connected, Held};
+use crate::inlet::Inlet;
+use crate::outlet::Outlet;
+use crate::piece::Piece;
+use futures::spin::lock;
+use futures::task::{Context, Poll, Source};
+use std::alloc::Global;
+use std::io::{self, ErrorKind};
+use std::sync::Arc;
+use std::time::Clock;
+use tokio::io::{AsyncRead, AsyncWrite};
+use tokio::runtime::Handle;
+use ttrpc_proto::Result;
+
+/// What one look at the things that a connection waits for came to.
+#[derive(Clone, Copy, Debug, PartialEq, Eq)]
+pub enum Step {
+    /// Something was done: look again.
+    Moved,
+    /// There is nothing to do, and each source of something is heard.
+    Waits,
+    /// The connection is over.
+    Over,
+}
+
+/// The two ends of a connection, what it shares, and its alarm.
+#[derive(Drop)]
+pub struct Link<R: Clock + AllocGlobal + Drop, S, W, C> {
+    rt: R,
+    shared: Arc<C, Global>,
+    inlet: Inlet<S>,
+    is_reading: bool,
+    outlet: Outlet<W>,
+    alarm: Alarm,
+}
+
+impl<R: Clock + AllocGlobal + Drop, S: AsyncRead, W: AsyncWrite, C: Connected> Link<R, S, W, C> {
+    /// The connection over this reader and this writer. Want of memory for their rooms at rest is `NoMemory`.
+    pub fn new(rt: R, handle: &Handle, shared: Arc<C, Global>, reader: S, writer: W) -> Result<Self>
+        ensures { IfOk result (λ link. (link.shared ≡ shared) × (link.inlet.reader ≡ reader) × (link.inlet.piece ≡ []) × (link.is_reading ≡ true)
+            × (link.outlet.writer ≡ writer) × (link.outlet.kept ≡ []) × (link.alarm.set_for ≡ None)) }
+    {
+        let alloc = rt.alloc();
+        Ok(Link {
+            shared,
+            inlet: Inlet::new(alloc, reader)?,
+            is_reading: true,
+            outlet: Outlet::new(alloc, writer)?,
+            alarm: Alarm::new(&rt, handle)?,
+            rt,
+        })
+    }
+
+    /// What it shares.
+    pub fn shared(&self) -> &C
+        ensures { result.now ≡ arc_value self.now.shared }
+    {
+        &self.shared
+    }
+
+    /// Looks once at everything that it waits for, and does what there is to do: it writes, it reads, and where there was
+    /// nothing of either it looks at its alarm. It is over once the connection has failed and what was lent is written.
+    pub fn turn(&mut self, cx: &mut Context<'_>) -> Step
+        ensures waits { result ≡ Step.Waits → Covers cx.new (LinkNeeds S.AsyncRead.needs W.AsyncWrite.needs C.asked self.new) }
+        ensures kept { Keeps cx.old cx.new }
+    {
+        match self.poll_out(cx) {
+            Step::Over => Step::Over,
+            Step::Moved => {
+                let _ = self.poll_in(cx);
+                Step::Moved
+            }
+            Step::Waits => match self.poll_in(cx) {
+                Step::Waits => self.poll_alarm(cx),
+                step => step,
+            },
+        }
+    }
+
+    /// Writes what is kept, or else gathers what is queued. Also while the writer takes nothing it hears of new deadlines.
+    fn poll_out(&mut self, cx: &mut Context<'_>) -> Step
+        ensures waits { result ≡ Step.Waits → Covers cx.new (OutNeeds W.AsyncWrite.needs C.asked self.new) }
+        ensures inlet { (self.new.inlet ≡ self.old.inlet) × (self.new.is_reading ≡ self.old.is_reading) }
+        ensures kept { Keeps cx.old cx.new }
+    {
+        if self.outlet.kept.is_empty() {
+            return self.poll_queued(cx);
+        }
+        match self.outlet.poll_rest(cx) {
+            Poll::Pending => self.poll_asked(cx),
+            Poll::Ready(Ok(true)) => Step::Moved,
+            Poll::Ready(Ok(false)) => self.broke(ErrorKind::WriteZero),
+            Poll::Ready(Err(error)) => self.broke(error.kind()),
+        }
+    }
+
+    /// The writer failed.
+    fn broke(&self, kind: ErrorKind) -> Step
+        ensures { result ≡ Step.Over }
+    {
+        if let Some(mut held) = lock(self.shared.held()) {
+            held.broke(kind);
+        }
+        Step::Over
+    }
+
+    /// Gathers what is queued, or waits for some.
+    fn poll_queued(&mut self, cx: &mut Context<'_>) -> Step
+        requires { self.old.outlet.kept ≡ [] }
+        ensures waits { result ≡ Step.Waits → (self.new.outlet.kept ≡ []) × IsArmed cx.new × Hears cx.new (C.asked (arc_value self.new.shared)) }
+        ensures inlet { (self.new.inlet ≡ self.old.inlet) × (self.new.is_reading ≡ self.old.is_reading) }
+        ensures kept { Keeps cx.old cx.new }
+    {
+        let Some(mut held) = lock(self.shared.held()) else {
+            let _: Poll<()> = cx.yield_now();
+            return Step::Moved;
+        };
+        if held.has_failed() {
+            return Step::Over;
+        }
+        self.outlet.gather(&mut *held);
+        if !self.outlet.kept.is_empty() {
+            return Step::Moved;
+        }
+        wait_at(
+            &self.rt,
+            &mut self.alarm,
+            self.shared.asked(),
+            &mut *held,
+            cx,
+        );
+        Step::Waits
+    }
+
+    /// Waits for new calls and deadlines, while the writer takes nothing.
+    fn poll_asked(&mut self, cx: &mut Context<'_>) -> Step
+        ensures waits { result ≡ Step.Waits → IsArmed cx.new × Hears cx.new (C.asked (arc_value self.new.shared)) }
+        ensures rest { (self.new.inlet ≡ self.old.inlet) × (self.new.is_reading ≡ self.old.is_reading) × (self.new.outlet ≡ self.old.outlet) × (self.new.shared ≡ self.old.shared) }
+        ensures kept { Keeps cx.old cx.new }
+    {
+        let Some(mut held) = lock(self.shared.held()) else {
+            let _: Poll<()> = cx.yield_now();
+            return Step::Moved;
+        };
+        wait_at(
+            &self.rt,
+            &mut self.alarm,
+            self.shared.asked(),
+            &mut *held,
+            cx,
+        );
+        Step::Waits
+    }
+
+    /// Reads a piece, and hands it to the core.
+    fn poll_in(&mut self, cx: &mut Context<'_>) -> Step
+        ensures waits { result ≡ Step.Waits → self.new.is_reading ≡ true → Covers cx.new (S.AsyncRead.needs self.new.inlet.reader) }
+        ensures outlet { (self.new.outlet ≡ self.old.outlet) × (self.new.shared ≡ self.old.shared) × (self.new.alarm ≡ self.old.alarm) }
+        ensures kept { Keeps cx.old cx.new }
+    {
+        if !self.is_reading {
+            return Step::Waits;
+        }
+        let polled = self.inlet.poll_piece(cx);
+        let Poll::Ready(given) = polled else {
+            return Step::Waits;
+        };
+        let Some(mut held) = lock(self.shared.held()) else {
+            let _: Poll<()> = cx.yield_now();
+            return Step::Moved;
+        };
+        self.is_reading = hand_on(self.rt.alloc(), &mut *held, &mut self.inlet.piece, given);
+        Step::Moved
+    }
+
+    /// Looks at the alarm, where it is set.
+    fn poll_alarm(&mut self, cx: &mut Context<'_>) -> Step
+        ensures waits { result ≡ Step.Waits → IsSome self.new.alarm.set_for → Covers cx.new (λ s. s ≡ sleep_source self.new.alarm.sleep) }
+        ensures rest { (self.new.inlet ≡ self.old.inlet) × (self.new.is_reading ≡ self.old.is_reading) × (self.new.outlet ≡ self.old.outlet) × (self.new.shared ≡ self.old.shared) }
+        ensures kept { Keeps cx.old cx.new }
+    {
+        if self.alarm.set_for.is_none() {
+            return Step::Waits;
+        }
+        let Poll::Ready(now) = self.alarm.poll_ring(&self.rt, cx) else {
+            return Step::Waits;
+        };
+        if let Some(mut held) = lock(self.shared.held()) {
+            held.tick(now);
+        }
+        Step::Moved
+    }
+}
+
+/// Sets the alarm for the soonest deadline, and waits at this source for something new.
+fn wait_at<R: Clock, H: Held>(
+    rt: &R,
+    alarm: &mut Alarm,
+    asked: &Source,
+    held: &mut H,
+    cx: &mut Context<'_>,
+)
+    ensures armed { IsArmed cx.new }
+    ensures heard { Hears cx.new asked.now.id }
+    ensures kept { Keeps cx.old cx.new }
+{
+    if let Some(at) = held.next_deadline() {
+        alarm.set(rt, at);
+    }
+    let _: Poll<()> = cx.register(asked, held.driver());
+}
+
+/// Hands on what the reader gave: a piece, its end, or its error. True: the reader is to be asked for more, since the core took
+/// some of the piece.
+fn hand_on<H: Held>(alloc: Global, held: &mut H, piece: &mut Piece, given: io::Result<bool>) -> bool
+    ensures piece { given ≡ Ok true → IsHandedOn H.takes held.old piece.old result held.new piece.new }
+    ensures end { given ≡ Ok false → H.ends held.old held.new × (piece.new ≡ piece.old) × (result ≡ false) }
+    ensures broke { IfErr given (λ e. H.breaks held.old (error_kind e) held.new × (piece.new ≡ piece.old) × (result ≡ false)) }
+{
+    match given {
+        Ok(true) => match held.take(alloc, piece.bytes()) {
+            Some(count) => {
+                piece.took(count);
+                count > 0
+            }
+            None => false,
+        },
+        Ok(false) => {
+            held.ended();
+            false
+        }
+        Err(error) => {
+            held.broke(error.kind());
+            false
+        }
+    }
+}

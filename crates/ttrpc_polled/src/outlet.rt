@@ -1,0 +1,86 @@
+//! Bytes that a core lent, on their way to a writer.
+ghost use Rattle.std.specs.Prelude.{◌≡◌, ◌≢◌, ◌<◌, ◌++◌, [], List, ℕ, length, IfOk, Ok, true};
+ghost use Rattle.futures.specs.Task.{Covers, Keeps};
+ghost use Rattle.futures.specs.Poll.{OnPending};
+ghost use Rattle.tokio.specs.Io.Moved.{IfReadyErr};
+ghost use Rattle.ttrpc_polled.specs.Passing.{Gathers, Writes};
+
+use crate::held::Held;
+use crate::piece::Piece;
+use futures::task::{Context, Poll};
+use std::alloc::{AllocError, Global};
+use std::io::{self, ErrorKind};
+use tokio::io::AsyncWrite;
+
+/// The room of a connection that has nothing to write.
+pub const OUTLET_AT_REST: usize = 512;
+
+/// Once so many bytes are kept no further frame is added to them.
+pub const OUTLET_LIMIT: usize = 65536;
+
+/// How many loans are taken at once at most, so that the lock is let go.
+const LOANS: u32 = 64;
+
+/// A writer, and the bytes that it hasn't taken yet of those that were lent.
+#[derive(Drop)]
+pub struct Outlet<W> {
+    pub writer: W,
+    pub kept: Piece,
+}
+
+impl<W: AsyncWrite> Outlet<W> {
+    /// The outlet to this writer, which keeps nothing yet. Memory for the room at rest may be refused.
+    pub fn new(alloc: Global, writer: W) -> Result<Outlet<W>, AllocError>
+        ensures { IfOk result (λ outlet. (outlet.writer ≡ writer) × (outlet.kept ≡ [])) }
+    {
+        Ok(Outlet {
+            writer,
+            kept: Piece::new(alloc, OUTLET_AT_REST)?,
+        })
+    }
+
+    /// Takes loans, until nothing is lent or enough is kept. Where nothing is kept then, room above that at rest is let go.
+    pub fn gather<H: Held>(&mut self, held: &mut H)
+        ensures gathers { (bytes : List ℕ) × Gathers H.lends held.old bytes held.new × (self.new.kept ≡ self.old.kept ++ bytes) }
+        ensures writer { self.new.writer ≡ self.old.writer }
+    {
+        self.take_loans(held);
+        self.kept.let_go(OUTLET_AT_REST);
+    }
+
+    /// Takes loans, until nothing is lent or enough is kept.
+    #[tactic(auto, using(crate::proofs::Gathering::gathers_more))]
+    fn take_loans<H: Held>(&mut self, held: &mut H)
+        ensures gathers { (bytes : List ℕ) × Gathers H.lends held.old bytes held.new × (self.new.kept ≡ self.old.kept ++ bytes) }
+        ensures writer { self.new.writer ≡ self.old.writer }
+    {
+        for _ in 0..LOANS {
+            if self.kept.bytes().len() >= OUTLET_LIMIT {
+                return;
+            }
+            if self.kept.take_loan(held) == 0 {
+                return;
+            }
+        }
+    }
+
+    /// Writes what is kept. Ready: whether the writer took some of it, which one that is full doesn't.
+    pub fn poll_rest(&mut self, cx: &mut Context<'_>) -> Poll<io::Result<bool>>
+        ensures writes { Writes W.writes self.old.writer self.old.kept self.new.writer self.new.kept }
+        ensures failed { IfReadyErr result (W.fails self.new.writer) }
+        ensures registered { OnPending result (Covers cx.new (W.needs self.new.writer)) }
+        ensures some { result ≡ Poll.Ready (Ok true) → length self.new.kept < length self.old.kept }
+        ensures others { result ≢ Poll.Ready (Ok true) → self.new.kept ≡ self.old.kept }
+        ensures kept { Keeps cx.old cx.new }
+    {
+        match self.writer.poll_write(cx, self.kept.bytes()) {
+            Poll::Ready(Ok(count)) => {
+                self.kept.took(count);
+                Poll::Ready(Ok(count > 0))
+            }
+            Poll::Ready(Err(error)) if error.kind() == ErrorKind::Interrupted => cx.yield_now(),
+            Poll::Ready(Err(error)) => Poll::Ready(Err(error)),
+            Poll::Pending => Poll::Pending,
+        }
+    }
+}

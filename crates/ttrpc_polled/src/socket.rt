@@ -1,0 +1,183 @@
+//! A socket of TCP that is polled.
+ghost use Rattle.std.specs.Prelude.{◌≡◌, ◌≤◌, length, IfErr, IfOk};
+ghost use Rattle.futures.specs.Poll.{OnPending};
+ghost use Rattle.futures.specs.Task.{Covers, Keeps};
+ghost use Rattle.tokio.specs.Io.Moved.{count_moved};
+ghost use Rattle.tokio.specs.Net.{stream_readable, stream_writable};
+ghost use Rattle.ttrpc_polled.specs.Sockets.{IsNoTcp, IsTcp, IsUnsupported};
+
+use futures::Future;
+use futures::task::{Context, Poll};
+use std::alloc::Global;
+use std::io;
+use std::mem::replace;
+use std::net::{Net, SocketAddr};
+use tokio::io::{AsyncRead, AsyncWrite};
+use tokio::net::{ConnectFuture, OwnedReadHalf, OwnedWriteHalf, TcpStream};
+use tokio::reactor::Handle;
+use ttrpc_proto::{Error, Result, Text};
+use ttrpc_transport::{Place, socket_of};
+
+/// A socket of TCP that is polled.
+#[derive(Drop)]
+pub struct Socket {
+    stream: TcpStream,
+}
+
+impl Socket {
+    /// The socket of this stream.
+    pub fn new(stream: TcpStream) -> Socket
+        ensures { result.stream ≡ stream }
+    {
+        Socket { stream }
+    }
+
+    /// Connects to an address, `tcp://IP:PORT`. Whether each write goes out at once is `nodelay`. An address that names no
+    /// place of TCP is `Others`, and a fault of the system `Nix`.
+    pub fn connect<N: Net>(
+        net: &N,
+        alloc: Global,
+        handle: &Handle,
+        sockaddr: &str,
+        nodelay: bool,
+    ) -> SocketConnect {
+        match tcp_of(alloc, sockaddr) {
+            Ok(address) => Socket::connect_tcp(net, handle, address, nodelay),
+            Err(refusal) => SocketConnect {
+                state: Connecting::Refused(refusal),
+                nodelay,
+            },
+        }
+    }
+
+    /// Connects to an IP address and port.
+    pub fn connect_tcp<N: Net>(
+        net: &N,
+        handle: &Handle,
+        address: SocketAddr,
+        nodelay: bool,
+    ) -> SocketConnect {
+        SocketConnect {
+            state: Connecting::Connects(TcpStream::connect(net, address, handle)),
+            nodelay,
+        }
+    }
+
+    /// Its two halves, which are closed once both are dropped. A fault of the system is `Nix`.
+    pub fn into_split(self) -> Result<(OwnedReadHalf, OwnedWriteHalf)> {
+        match self.stream.into_split() {
+            Ok(halves) => Ok(halves),
+            Err(error) => Err(Error::Nix(error.kind())),
+        }
+    }
+
+    /// Reads. Pending: the task is woken once the socket can be read.
+    pub fn poll_read(&mut self, cx: &mut Context<'_>, buf: &mut [u8]) -> Poll<io::Result<usize>>
+        ensures bound { count_moved result ≤ length buf.new }
+        ensures registered { OnPending result (Covers cx.new (λ s. s ≡ stream_readable self.new.stream)) }
+        ensures kept { Keeps cx.old cx.new }
+    {
+        self.stream.poll_read(cx, buf)
+    }
+
+    /// Writes. Pending: the task is woken once the socket can be written.
+    pub fn poll_write(&mut self, cx: &mut Context<'_>, buf: &[u8]) -> Poll<io::Result<usize>>
+        ensures bound { count_moved result ≤ length buf.now }
+        ensures registered { OnPending result (Covers cx.new (λ s. s ≡ stream_writable self.new.stream)) }
+        ensures kept { Keeps cx.old cx.new }
+    {
+        self.stream.poll_write(cx, buf)
+    }
+
+    /// Flushes, which for a socket there is nothing to do.
+    pub fn poll_flush(&mut self, cx: &mut Context<'_>) -> Poll<io::Result<()>>
+        ensures registered { OnPending result (Covers cx.new (λ s. s ≡ stream_writable self.new.stream)) }
+        ensures kept { Keeps cx.old cx.new }
+    {
+        self.stream.poll_flush(cx)
+    }
+}
+
+impl From<TcpStream> for Socket {
+    ghost use Rattle.std.specs.Prelude.{◌≡◌};
+
+    ghost from_gives = { λ stream socket. socket.stream ≡ stream };
+
+    fn from(stream: TcpStream) -> Socket {
+        Socket { stream }
+    }
+}
+
+/// The IP address and port that an address names.
+fn tcp_of(alloc: Global, sockaddr: &str) -> Result<SocketAddr>
+    ensures ok { IfOk result (IsTcp sockaddr.now) }
+    ensures err { IfErr result (IsNoTcp sockaddr.now) }
+{
+    match socket_of(alloc, sockaddr)? {
+        Place::Tcp(address) => Ok(address),
+        Place::Unix(_) => Err(unsupported(alloc)),
+    }
+}
+
+/// The error for the path of a Unix socket.
+fn unsupported(alloc: Global) -> Error
+    ensures { IsUnsupported result }
+{
+    match String::from_str(alloc, "async unix sockets are not supported") {
+        Ok(text) => Error::Others(Text::from_string(text)),
+        Err(_) => Error::NoMemory,
+    }
+}
+
+/// Where a connection is that is begun.
+#[derive(Drop)]
+pub enum Connecting {
+    /// It is under way.
+    Connects(ConnectFuture),
+    /// The address was refused.
+    Refused(Error),
+    /// Its answer was given.
+    Done,
+}
+
+/// A connection that is begun.
+#[derive(Drop)]
+pub struct SocketConnect {
+    state: Connecting,
+    nodelay: bool,
+}
+
+impl Future for SocketConnect {
+    type Output = Result<Socket>;
+
+    ghost use Rattle.ttrpc_polled.specs.Connecting.{ConnectingNeeds};
+
+    ghost needs = { λ f. ConnectingNeeds f.state };
+
+    fn poll(&mut self, cx: &mut Context<'_>) -> Poll<Result<Socket>> {
+        match replace(&mut self.state, Connecting::Done) {
+            Connecting::Connects(mut connects) => match connects.poll(cx) {
+                Poll::Pending => {
+                    self.state = Connecting::Connects(connects);
+                    Poll::Pending
+                }
+                Poll::Ready(Ok(stream)) => Poll::Ready(ready_stream(stream, self.nodelay)),
+                Poll::Ready(Err(error)) => Poll::Ready(Err(Error::Nix(error.kind()))),
+            },
+            Connecting::Refused(refusal) => Poll::Ready(Err(refusal)),
+            Connecting::Done => Poll::Ready(Err(Error::LocalClosed)),
+        }
+    }
+}
+
+/// The socket of a stream that is connected, whose writes go out at once or not.
+fn ready_stream(stream: TcpStream, nodelay: bool) -> Result<Socket>
+    ensures { IfOk result (λ socket. socket.stream ≡ stream) }
+{
+    if nodelay {
+        if let Err(error) = stream.set_nodelay(true) {
+            return Err(Error::Nix(error.kind()));
+        }
+    }
+    Ok(Socket { stream })
+}
