@@ -1,0 +1,4 @@
+pub mod Closing
+pub mod Items
+pub mod Needs
+pub mod Steps

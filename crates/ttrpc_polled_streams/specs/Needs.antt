@@ -1,0 +1,14 @@
+-- The sources at which calls on streams wait.
+-- Source: this project's.
+use Rattle.std.specs.Prelude.{ℕ}
+use Rattle.std.specs.Arc.{arc_value}
+use Rattle.ttrpc_polled_streams.specs.declared.sender.StreamSender.{StreamSender}
+use Rattle.ttrpc_polled_streams.specs.declared.receiver.StreamReceiver.{StreamReceiver}
+
+-- a stream's sender waits at the source of its line
+abbrev pub sender_source : {L I : Type 0} → (L → ℕ) → StreamSender L I → ℕ
+sender_source came s = came (arc_value (arc_value s.seat).line)
+
+-- and so does its receiver
+abbrev pub receiver_source : {L I : Type 0} → (L → ℕ) → StreamReceiver L I → ℕ
+receiver_source came r = came (arc_value r.line)

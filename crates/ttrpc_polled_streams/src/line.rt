@@ -1,0 +1,150 @@
+//! What the streams of a connection share with its future.
+ghost use Rattle.std.specs.Prelude.{◌≡◌};
+ghost use Rattle.futures.specs.Poll.{OnPending};
+ghost use Rattle.futures.specs.Task.{Covers, Keeps};
+
+use crate::sending::Sending;
+use futures::task::{Context, Poll, Source};
+use std::alloc::Global;
+use ttrpc_connection::{StreamCore, Ticket};
+use ttrpc_polled::Wakers;
+use ttrpc_proto::Result;
+use ttrpc_wire::Blob;
+
+/// Which end of a connection a stream is of.
+#[derive(Clone, Copy, Debug, PartialEq, Eq)]
+pub enum Kind {
+    /// A client's.
+    Client,
+    /// A server's.
+    Server,
+}
+
+/// What the streams of a connection share: under its lock a core, and the wakers of those who wait. Each call takes the lock,
+/// and makes on the core the steps of the call that it is handed.
+pub trait StreamLine: Drop {
+    ghost use Rattle.std.specs.Prelude.{ℕ};
+
+    /// By what its streams are named.
+    type Id: Ord + Copy + Drop;
+
+    // The source at which those wait who use its streams.
+    ghost came: { Self → ℕ };
+
+    /// Which end of the connection it is.
+    fn kind(&self) -> Kind;
+
+    /// Steps a call that sends on this stream. Pending: the caller is woken once there is an answer.
+    fn poll_sending(
+        &self,
+        alloc: Global,
+        id: Self::Id,
+        sending: &mut Sending,
+        cx: &mut Context<'_>,
+    ) -> Poll<Result<()>>
+        ensures registered { OnPending result (Covers cx.new (λ s. s ≡ came self.now)) }
+        ensures kept { Keeps cx.old cx.new };
+
+    /// Receives from this stream. Pending: the caller is woken once something came.
+    fn poll_receiving(
+        &self,
+        alloc: Global,
+        id: Self::Id,
+        cx: &mut Context<'_>,
+    ) -> Poll<Result<Blob>>
+        ensures registered { OnPending result (Covers cx.new (λ s. s ≡ came self.now)) }
+        ensures kept { Keeps cx.old cx.new };
+
+    /// Nobody receives from this stream any more.
+    fn drop_receiver(&self, id: Self::Id);
+
+    /// Nobody sends on this stream any more.
+    fn drop_sender(&self, id: Self::Id);
+}
+
+/// The wakers of those who use the streams of a connection.
+#[derive(Drop)]
+pub struct StreamWakers<K: Ord + Drop> {
+    senders: Wakers<Ticket>,
+    receivers: Wakers<K>,
+}
+
+impl<K: Ord + Copy + Drop> StreamWakers<K> {
+    /// Nobody waits.
+    pub fn new(alloc: Global) -> StreamWakers<K> {
+        StreamWakers {
+            senders: Wakers::new(alloc),
+            receivers: Wakers::new(alloc),
+        }
+    }
+
+    /// Wakes who receives from this stream.
+    pub fn wake_receiver(&mut self, id: K) {
+        self.receivers.wake(id);
+    }
+
+    /// Wakes those whose frames have left the core.
+    pub fn wake_sent<C: StreamCore>(&mut self, alloc: Global, core: &C) {
+        for _ in 0..u64::MAX {
+            let Some(ticket) = self.senders.first() else {
+                return;
+            };
+            if core.item_sent(alloc, ticket).is_none() {
+                return;
+            }
+            self.senders.wake(ticket);
+        }
+    }
+
+    /// Wakes everybody, since the connection has failed.
+    pub fn wake_all(&mut self) {
+        self.senders.wake_all();
+        self.receivers.wake_all();
+    }
+
+    /// Steps a call that sends on a stream, on a core that is lent: it asks for its frame, where it hasn't, and then whether
+    /// that was sent. Where there is no answer yet it waits at this source.
+    pub fn poll_sending_on<C: StreamCore<Id = K>>(
+        &mut self,
+        alloc: Global,
+        core: &mut C,
+        id: K,
+        sending: &mut Sending,
+        came: &Source,
+        cx: &mut Context<'_>,
+    ) -> Poll<Result<()>>
+        ensures registered { OnPending result (Covers cx.new (λ s. s ≡ came.now.id)) }
+        ensures kept { Keeps cx.old cx.new }
+    {
+        if sending.is_new() {
+            if let Some(refusal) = sending.step(alloc, core, id) {
+                return Poll::Ready(refusal);
+            }
+        }
+        if let Some(answer) = sending.step(alloc, core, id) {
+            return Poll::Ready(answer);
+        }
+        match sending.ticket() {
+            Some(ticket) => self.senders.wait(ticket, came, cx),
+            None => cx.yield_now(),
+        }
+    }
+
+    /// Receives from a stream of a core that is lent. Where nothing came yet it waits at this source.
+    pub fn poll_receiving_on<C: StreamCore<Id = K>>(
+        &mut self,
+        alloc: Global,
+        core: &mut C,
+        id: K,
+        came: &Source,
+        cx: &mut Context<'_>,
+    ) -> Poll<Result<Blob>>
+        ensures registered { OnPending result (Covers cx.new (λ s. s ≡ came.now.id)) }
+        ensures kept { Keeps cx.old cx.new }
+    {
+        match core.recv_item(alloc, id) {
+            Some(received) => Poll::Ready(received),
+            None => self.receivers.wait(id, came, cx),
+        }
+    }
+}
