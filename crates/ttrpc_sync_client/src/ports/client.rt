@@ -1,5 +1,5 @@
 //! What the threads of a client's connection share.
-ghost use Rattle.std.specs.Prelude.{◌≡◌, length, min, nat_eq, None, Some, IfOk, IfErr, IfSome, OnErr, slice_get, false};
+ghost use Rattle.std.specs.Prelude.{◌≡◌, length, min, nat_eq, None, Some, IfOk, IfErr, IfSome, OnErr, false};
 ghost use Rattle.std.specs.Option.{option_map};
 ghost use Rattle.ttrpc_connection.specs.declared.failure.Failure.{Failure as AFailure};
 ghost use Rattle.ttrpc_connection.specs.OneEnd.{Ends, Lends, failing, lendable, lending, reporting};
@@ -285,9 +285,7 @@ impl<O: OutboundTransform + Drop, I: InboundTransform + Drop> ClientShared<O, I>
     }
 
     /// Where a caller waits for the outcome of its call.
-    pub fn caller(&self, id: CallId) -> &Condvar
-        ensures { slice_get self.now.callers (place_of id) ≡ Some result.now }
-    {
+    pub fn caller(&self, id: CallId) -> &Condvar {
         let callers = &self.callers[..];
         &callers[place_of(id)]
     }
