@@ -1,0 +1,48 @@
+-- What the future of a client's connection does to its core, under the lock.
+-- Source: this project's.
+use Rattle.std.specs.Prelude.{◌≡◌, ℕ, List, [], Bool, Option, Some, None, Result, is_ok, if◌then◌else◌}
+use Rattle.std.specs.Result.{result_ok}
+use Rattle.std.specs.declared.io.ErrorKind.{ErrorKind}
+use Rattle.ttrpc_proto.specs.declared.error.Error.{Error}
+use Rattle.ttrpc_proto.specs.declared.error.Error.TheVariants.{Nix}
+use Rattle.ttrpc_secure.specs.declared.transform.InboundTransform.{Ghosts as InboundTransform}
+use Rattle.ttrpc_secure.specs.declared.transform.OutboundTransform.{Ghosts as OutboundTransform}
+use Rattle.ttrpc_connection.specs.declared.failure.Failure.{Failure}
+use Rattle.ttrpc_connection.specs.declared.failure.Failure.TheVariants.{Told}
+use Rattle.ttrpc_connection.specs.OneEnd.{Ends, Lends, Takes, failing, lending, reporting}
+use Rattle.ttrpc_client.specs.declared.client.ClientCore.{ClientCore}
+use Rattle.ttrpc_client.specs.Protocol.{Ticks, calling}
+
+-- the core once it has told of all calls that ended, and of all streams for which something came
+abbrev pub all_told : {O I : Type 0} → ClientCore O I → ClientCore O I
+all_told core = record core { state = record core.state { ended = []; heard = [] } }
+
+-- A piece was fed to the core, and taken whole or, where no count is given, in vain: the connection has failed. Where it was
+-- taken, the core has told of all that came of it.
+pub record TakesPiece {O I : Type 0} (seals : OutboundTransform O) (opens : InboundTransform I) (old : ClientCore O I) (piece : List ℕ) (count : Option ℕ) (new : ClientCore O I) : Type 0 where
+  pub fed : ClientCore O I
+  pub answer : Result ℕ Error
+  pub takes : Takes (calling seals opens) old.state old.connection piece 0 answer fed.state fed.connection
+  pub counted : count ≡ result_ok answer
+  pub told : new ≡ (if is_ok answer then all_told fed else fed)
+
+-- The input ended.
+pub record EndsInput {O I : Type 0} (old new : ClientCore O I) : Type 0 where
+  pub ends : Ends old.connection new.connection
+  pub same : new ≡ record old { connection = new.connection }
+
+-- the core once a reader or a writer has failed by an error of this kind
+abbrev pub broken : {O I : Type 0} → ClientCore O I → ErrorKind → ClientCore O I
+broken core kind = record core { connection = failing core.connection (Told (Nix kind)) }
+
+-- So many bytes were lent, and reported as written.
+pub record LendsAndReports {O I : Type 0} (old : ClientCore O I) (before : List ℕ) (count : ℕ) (after : List ℕ) (new : ClientCore O I) : Type 0 where
+  pub lends : Lends old.connection before count after
+  pub reported : new ≡ record old { connection = reporting (lending old.connection count) count }
+
+-- A moment came, and the core has told of the calls that expired.
+pub record TicksAndTells {O I : Type 0} (seals : Bool) (old : ClientCore O I) (now : ℕ) (new : ClientCore O I) : Type 0 where
+  pub ticked : ClientCore O I
+  pub failed : (f : Failure) → old.connection.failure ≡ Some f → ticked ≡ old
+  pub alive : old.connection.failure ≡ None → Ticks seals old now ticked
+  pub told : new ≡ record ticked { state = record ticked.state { ended = [] } }

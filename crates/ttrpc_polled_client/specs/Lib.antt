@@ -1,0 +1,4 @@
+pub mod Held
+pub mod Making
+pub mod Steps
+pub mod Needs

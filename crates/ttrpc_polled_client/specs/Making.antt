@@ -1,0 +1,16 @@
+-- A client that was made, and the future of its connection.
+-- Source: this project's.
+use Rattle.std.specs.Prelude.{◌≡◌, [], true, None}
+use Rattle.std.specs.Arc.{arc_value}
+use Rattle.ttrpc_secure.specs.Hooks.Facts.{Facts, facts_of}
+use Rattle.ttrpc_polled.specs.declared.link.Link.{Link}
+use Rattle.ttrpc_polled_client.specs.declared.line.ClientLine.{ClientLine}
+use Rattle.ttrpc_polled_client.specs.declared.shared.ClientShared.{ClientShared}
+
+-- The client's line and the link share one thing, the link is over this reader and writer and has moved nothing, and this is
+-- known of the connection.
+pub record IsMadeOver {R S W O I : Type 0} (reader : S) (writer : W) (known : Facts) (line : ClientLine O I) (link : Link R S W (ClientShared O I)) : Type 0 where
+  pub shared : arc_value link.shared ≡ arc_value line.shared
+  pub facts : facts_of line.connection_data.entries ≡ known
+  pub reads : (link.inlet.reader ≡ reader) × (link.inlet.piece ≡ []) × (link.is_reading ≡ true)
+  pub writes : (link.outlet.writer ≡ writer) × (link.outlet.kept ≡ []) × (link.alarm.set_for ≡ None)

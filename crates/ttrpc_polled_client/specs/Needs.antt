@@ -1,0 +1,14 @@
+-- The sources at which a client's calls and its connection wait.
+-- Source: this project's.
+use Rattle.std.specs.Prelude.{◌≡◌, ℕ}
+use Rattle.std.specs.Arc.{arc_value}
+use Rattle.ttrpc_polled_client.specs.declared.shared.ClientShared.{ClientShared}
+use Rattle.ttrpc_polled_client.specs.declared.line.ClientLine.{ClientLine}
+
+-- that of a line's calls and streams
+abbrev pub line_source : {O I : Type 0} → ClientLine O I → ℕ
+line_source line = (arc_value line.shared).came.id
+
+-- that of the connection's future, for something to write
+abbrev pub asked_source : {O I : Type 0} → ClientShared O I → ℕ
+asked_source shared = shared.asked.id

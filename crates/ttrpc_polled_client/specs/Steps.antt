@@ -1,0 +1,63 @@
+-- What a step of a client's call does to the core that it is lent.
+-- Source: this project's.
+use Rattle.std.specs.Prelude.{◌≡◌, ℕ, Bool, true, false, Option, Some, None, Result, Ok, Err}
+use Rattle.ttrpc_proto.specs.declared.error.Error.{Error}
+use Rattle.ttrpc_proto.specs.declared.error.Error.TheVariants.{LocalClosed}
+use Rattle.ttrpc_proto.specs.declared.request.Request.{Request}
+use Rattle.ttrpc_proto.specs.declared.response.Response.{Response}
+use Rattle.ttrpc_secure.specs.declared.transform.OutboundTransform.{Ghosts as OutboundTransform}
+use Rattle.ttrpc_client.specs.declared.client.ClientCore.{ClientCore}
+use Rattle.ttrpc_client.specs.Protocol.{OpensStream, RefusesRequest, RefusesStream, Requests, TakesOutcome}
+use Rattle.ttrpc_polled_client.specs.declared.asked.Asked.{Asked}
+use Rattle.ttrpc_polled_client.specs.declared.asked.Asked.TheVariants.{Asks, Waits, Refused, Done}
+
+-- ---- calls
+
+-- the id under which a call waits
+abbrev pub id_of : Asked → Option ℕ
+id_of (Waits id) = Some id
+id_of (Asks request now) = None
+id_of (Refused e) = None
+id_of Done = None
+
+-- whether a call is still to be made
+abbrev pub is_new : Asked → Bool
+is_new (Asks request now) = true
+is_new (Waits id) = false
+is_new (Refused e) = false
+is_new Done = false
+
+-- A call was asked for: it waits under its id; or its refusal is its outcome.
+abbrev pub Begins : {O I : Type 0} → OutboundTransform O → ClientCore O I → Request → ℕ → Option (Result Response Error) → Asked → ClientCore O I → Type 0
+Begins out old request now None after new = (id : ℕ) × (after ≡ Waits id) × Requests out old request now id new
+Begins out old request now (Some (Err e)) after new = (after ≡ Done) × (new ≡ old) × RefusesRequest out old request e
+Begins out old request now (Some (Ok r)) after new = ⊥
+
+-- what is left of a call once this was given
+abbrev pub after_outcome : ℕ → Option (Result Response Error) → Asked
+after_outcome id None = Waits id
+after_outcome id (Some outcome) = Done
+
+-- Its outcome was asked for.
+abbrev pub Takes : {O I : Type 0} → ClientCore O I → ℕ → Option (Result Response Error) → Asked → ClientCore O I → Type 0
+Takes old id given after new = TakesOutcome old id given new × (after ≡ after_outcome id given)
+
+-- The call was over before: no core call was made, and this is its outcome.
+abbrev pub IsOver : {O I : Type 0} → Error → ClientCore O I → Option (Result Response Error) → Asked → ClientCore O I → Type 0
+IsOver error old given after new = (given ≡ Some (Err error)) × (after ≡ Done) × (new ≡ old)
+
+-- ---- streams that are opened
+
+-- A stream was asked for: it is open under this id; or it is refused, and nothing changed.
+abbrev pub Opens : {O I : Type 0} → OutboundTransform O → ClientCore O I → Request → Bool → Bool → Result ℕ Error → ClientCore O I → Type 0
+Opens out old request streaming_client streaming_server (Ok id) new = OpensStream out old request streaming_client streaming_server id new
+Opens out old request streaming_client streaming_server (Err e) new = (new ≡ old) × RefusesStream out old request streaming_client e
+
+-- ---- a call's step, by where the call was
+
+-- the one core call that the state names was made
+abbrev pub IsStep : {O I : Type 0} → OutboundTransform O → ClientCore O I → Asked → Option (Result Response Error) → Asked → ClientCore O I → Type 0
+IsStep out old (Asks request now) given after new = Begins out old request now given after new
+IsStep out old (Waits id) given after new = Takes old id given after new
+IsStep out old (Refused e) given after new = IsOver e old given after new
+IsStep out old Done given after new = IsOver LocalClosed old given after new

@@ -1,0 +1,171 @@
+//! The client.
+ghost use Rattle.std.specs.Prelude.{◌≡◌, ℕ, IfErr, IfOk, IsSomeAnd};
+ghost use Rattle.std.specs.Arc.{arc_value};
+ghost use Rattle.ttrpc_proto.specs.declared.error.Error.{Error as AnError};
+ghost use Rattle.ttrpc_secure.specs.Hooks.Facts.{facts_of};
+ghost use Rattle.ttrpc_polled_client.specs.Making.{IsMadeOver};
+
+use crate::asked::Asked;
+use crate::connection::{ClientConnection, TcpConnection};
+use crate::line::ClientLine;
+use crate::opening::{ClientNewStream, Opening, Prepared};
+use crate::request::ClientRequest;
+use crate::shared::ClientShared;
+use std::alloc::Global;
+use std::sync::Arc;
+use std::time::Clock;
+use tokio::io::{AsyncRead, AsyncWrite};
+use tokio::runtime::Handle;
+use ttrpc_client::{ClientCore, ClientKind};
+use ttrpc_polled::{Link, Socket, moment};
+use ttrpc_proto::error::causes::others_of;
+use ttrpc_proto::{Request, Result};
+use ttrpc_secure::{
+    ConnectHook, ConnectionContext, ConnectionData, HookOutput, InboundTransform,
+    OutboundTransform, Plain,
+};
+
+/// What a client asks of the system: the clock and memory.
+pub trait Timed: Clock + AllocGlobal + Clone + Drop {}
+
+impl<R: Clock + AllocGlobal + Clone + Drop> Timed for R {}
+
+/// A client of one connection. Its clones share the connection, which ends with the last of them, of its calls and of its
+/// streams.
+#[derive(Drop)]
+pub struct Client<R: Timed, O: OutboundTransform + Drop, I: InboundTransform + Drop> {
+    rt: R,
+    line: Arc<ClientLine<O, I>, Global>,
+}
+
+impl<R: Timed> Client<R, Plain, Plain> {
+    /// A client of the connection of this socket, and the future of the connection, which is to be polled beside the client's
+    /// calls. A fault of the system is `Nix`.
+    pub fn new(
+        rt: R,
+        handle: &Handle,
+        socket: Socket,
+    ) -> Result<(Client<R, Plain, Plain>, TcpConnection<R, Plain, Plain>)> {
+        let alloc = rt.alloc();
+        let output = HookOutput::of_halves(alloc, Plain {}, Plain {});
+        let (reader, writer) = socket.into_split()?;
+        Client::over(rt, handle, reader, writer, output)
+    }
+}
+
+impl<R: Timed, O: OutboundTransform + Drop, I: InboundTransform + Drop> Client<R, O, I> {
+    /// The same, once the hook has looked at the socket, with the halves that it gave. What the hook refuses is `Others`:
+    /// `client connect hook failed: ` and what its error prints.
+    pub fn with_hook<H>(
+        rt: R,
+        handle: &Handle,
+        socket: Socket,
+        hook: &H,
+    ) -> Result<(Client<R, O, I>, TcpConnection<R, O, I>)>
+    where
+        H: ConnectHook<Socket, Outbound = O, Inbound = I>,
+    {
+        let alloc = rt.alloc();
+        let output = match hook.on_connect(alloc, &socket) {
+            Ok(output) => output,
+            Err(error) => return Err(others_of(alloc, "client connect hook failed: ", &error)),
+        };
+        let (reader, writer) = socket.into_split()?;
+        Client::over(rt, handle, reader, writer, output)
+    }
+
+    /// The same over any reader and writer, with what a hook gave.
+    pub fn over<S: AsyncRead, W: AsyncWrite>(
+        rt: R,
+        handle: &Handle,
+        reader: S,
+        writer: W,
+        output: HookOutput<O, I>,
+    ) -> Result<(Client<R, O, I>, ClientConnection<R, S, W, O, I>)>
+        ensures { IfOk result (λ made. IsMadeOver reader writer (facts_of output.connection_data.entries) (arc_value made.0.line) made.1.link) }
+    {
+        let alloc = rt.alloc();
+        let HookOutput {
+            connection_data,
+            outbound,
+            inbound,
+        } = output;
+        let context = ConnectionContext::of_halves(alloc, outbound, inbound);
+        let core = ClientCore::new(alloc, ClientKind::Async, context);
+        let shared = Arc::new(alloc, ClientShared::new(alloc, core))?;
+        let link = Link::new(
+            rt.clone()?,
+            handle,
+            Arc::try_clone(&shared)?,
+            reader,
+            writer,
+        )?;
+        let line = ClientLine {
+            shared,
+            connection_data,
+        };
+        let client = Client {
+            rt,
+            line: Arc::new(alloc, line)?,
+        };
+        Ok((client, ClientConnection::new(link)))
+    }
+
+    /// What is known of the connection, as its hook told it.
+    pub fn connection_data(&self) -> &ConnectionData
+        ensures { result.now ≡ (arc_value self.now.line).connection_data }
+    {
+        &self.line.connection_data
+    }
+
+    /// The allocator of its calls.
+    pub fn alloc(&self) -> Global {
+        self.rt.alloc()
+    }
+
+    /// Another client of the same connection.
+    pub fn try_clone(&self) -> Result<Client<R, O, I>>
+        ensures ok { IfOk result (λ client. arc_value client.line ≡ arc_value self.now.line) }
+        ensures err { IfErr result (λ e. e ≡ AnError.NoMemory) }
+    {
+        Ok(Client {
+            rt: self.rt.clone()?,
+            line: Arc::try_clone(&self.line)?,
+        })
+    }
+
+    /// A call, which is made as it is first polled. It is ready with the response, or with why there is none: the status of one
+    /// whose code isn't 0 (`RpcStatus`), a refusal of the request, its deadline (`Others`), or what broke the connection. The
+    /// request's `timeout_nano`, in nanoseconds, is counted from here on; 0 is no limit.
+    pub fn request(&self, req: Request) -> Result<ClientRequest<O, I>>
+        ensures { IfOk result (λ call. (arc_value call.line ≡ arc_value self.now.line) × ((now : ℕ) × (call.asked ≡ Asked.Asks req now))) }
+    {
+        let now = moment(&self.rt)?;
+        let line = Arc::try_clone(&self.line)?;
+        Ok(ClientRequest::new(self.alloc(), line, Asked::Asks(req, now)))
+    }
+
+    /// A stream, which is opened as this is first polled, to send items, to receive them, or both. Where it sends, the request
+    /// has no payload; else its payload is the one item.
+    pub fn new_stream(
+        &self,
+        req: Request,
+        streaming_client: bool,
+        streaming_server: bool,
+    ) -> Result<ClientNewStream<O, I>>
+        ensures { IfOk result (λ stream. IsSomeAnd stream.prepared (λ p.
+            (p.opening ≡ record { request = req; streaming_client = streaming_client; streaming_server = streaming_server })
+            × (arc_value p.sends ≡ arc_value self.now.line) × (arc_value p.receives ≡ arc_value self.now.line))) }
+    {
+        let prepared = Prepared {
+            opening: Opening {
+                request: req,
+                streaming_client,
+                streaming_server,
+            },
+            sends: Arc::try_clone(&self.line)?,
+            receives: Arc::try_clone(&self.line)?,
+        };
+        Ok(ClientNewStream::new(self.alloc(), prepared))
+    }
+}

@@ -1,0 +1,86 @@
+//! The future of a client's connection.
+ghost use Rattle.std.specs.Prelude.{◌≡◌};
+
+use crate::shared::ClientShared;
+use futures::Future;
+use futures::spin::lock;
+use futures::task::{Context, Poll};
+use std::time::Clock;
+use tokio::io::{AsyncRead, AsyncWrite};
+use tokio::net::{OwnedReadHalf, OwnedWriteHalf};
+use ttrpc_polled::{Link, Step};
+use ttrpc_secure::{InboundTransform, OutboundTransform};
+
+/// How often one poll turns at most, before it lets other tasks run.
+const TURNS: u8 = 64;
+
+/// The future of a client's connection: while it is polled, calls and streams go on. It is ready once the connection is
+/// over. As it is dropped the connection fails, so that nobody waits for it.
+pub struct ClientConnection<
+    R: Clock + AllocGlobal + Drop,
+    S: AsyncRead,
+    W: AsyncWrite,
+    O: OutboundTransform + Drop,
+    I: InboundTransform + Drop,
+> {
+    link: Link<R, S, W, ClientShared<O, I>>,
+}
+
+/// The future of a client's connection over TCP.
+pub type TcpConnection<R, O, I> = ClientConnection<R, OwnedReadHalf, OwnedWriteHalf, O, I>;
+
+impl<
+    R: Clock + AllocGlobal + Drop,
+    S: AsyncRead,
+    W: AsyncWrite,
+    O: OutboundTransform + Drop,
+    I: InboundTransform + Drop,
+> ClientConnection<R, S, W, O, I> {
+    /// Over this link.
+    pub(crate) fn new(link: Link<R, S, W, ClientShared<O, I>>) -> Self
+        ensures { result.link ≡ link }
+    {
+        ClientConnection { link }
+    }
+}
+
+impl<
+    R: Clock + AllocGlobal + Drop,
+    S: AsyncRead,
+    W: AsyncWrite,
+    O: OutboundTransform + Drop,
+    I: InboundTransform + Drop,
+> Future for ClientConnection<R, S, W, O, I> {
+    type Output = ();
+
+    ghost use Rattle.ttrpc_polled.specs.Needs.{LinkNeeds};
+    ghost use Rattle.ttrpc_polled_client.specs.Needs.{asked_source};
+
+    ghost needs = { λ c. LinkNeeds S.AsyncRead.needs W.AsyncWrite.needs asked_source c.link };
+
+    fn poll(&mut self, cx: &mut Context<'_>) -> Poll<()> {
+        for _ in 0..TURNS {
+            match self.link.turn(cx) {
+                Step::Moved => {}
+                Step::Waits => return Poll::Pending,
+                Step::Over => return Poll::Ready(()),
+            }
+        }
+        cx.yield_now()
+    }
+}
+
+impl<
+    R: Clock + AllocGlobal + Drop,
+    S: AsyncRead,
+    W: AsyncWrite,
+    O: OutboundTransform + Drop,
+    I: InboundTransform + Drop,
+> Drop for ClientConnection<R, S, W, O, I> {
+    fn drop(self) {
+        let Self { link } = self;
+        if let Some(mut held) = lock(&link.shared().held) {
+            (&mut *held).abandon();
+        }
+    }
+}

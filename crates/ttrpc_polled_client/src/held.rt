@@ -1,0 +1,234 @@
+//! What stands under the lock of a client's connection.
+ghost use Rattle.std.specs.Prelude.{◌≡◌, []};
+ghost use Rattle.futures.specs.Poll.{OnPending};
+ghost use Rattle.futures.specs.Task.{Covers, Keeps};
+ghost use Rattle.ttrpc_proto.specs.declared.error.Error.{Error as AnError};
+ghost use Rattle.ttrpc_connection.specs.OneEnd.{failing};
+ghost use Rattle.ttrpc_connection.specs.declared.failure.Failure.{Failure as AFailure};
+ghost use Rattle.ttrpc_client.specs.Protocol.{DropsReceiver, Forgets};
+ghost use Rattle.ttrpc_polled_client.specs.Steps.{Opens};
+
+use crate::asked::Asked;
+use crate::opening::Opening;
+use futures::task::{Context, Poll, Source, Waker};
+use std::alloc::Global;
+use std::io::ErrorKind;
+use ttrpc_client::client_on::{broke_on, ended_on, lend_on, take_on, wrote_on};
+use ttrpc_client::{CallId, ClientCore, StreamId};
+use ttrpc_polled::{Held, Wakers};
+use ttrpc_polled_streams::{Sending, StreamWakers};
+use ttrpc_proto::{Error, Response, Result};
+use ttrpc_secure::{InboundTransform, OutboundTransform};
+use ttrpc_wire::Blob;
+
+/// The core of a client, and the wakers of those who wait for what it tells.
+#[derive(Drop)]
+pub struct ClientHeld<O, I> {
+    pub core: ClientCore<O, I>,
+    alloc: Global,
+    callers: Wakers<CallId>,
+    streams: StreamWakers<StreamId>,
+    pub driver: Option<Waker>,
+}
+
+impl<O: OutboundTransform + Drop, I: InboundTransform + Drop> ClientHeld<O, I> {
+    /// This core, for which nobody waits.
+    pub fn new(alloc: Global, core: ClientCore<O, I>) -> Self
+        ensures { result.core ≡ core }
+    {
+        ClientHeld {
+            core,
+            alloc,
+            callers: Wakers::new(alloc),
+            streams: StreamWakers::new(alloc),
+            driver: None,
+        }
+    }
+
+    /// Steps a call, which then waits at this source where it has no outcome yet.
+    pub fn poll_call(
+        &mut self,
+        asked: &mut Asked,
+        came: &Source,
+        cx: &mut Context<'_>,
+    ) -> Poll<Result<Response>>
+        ensures registered { OnPending result (Covers cx.new (λ s. s ≡ came.now.id)) }
+        ensures kept { Keeps cx.old cx.new }
+    {
+        if asked.is_new() {
+            if let Some(refusal) = asked.step(self.alloc, &mut self.core) {
+                return Poll::Ready(refusal);
+            }
+        }
+        if let Some(outcome) = asked.step(self.alloc, &mut self.core) {
+            return Poll::Ready(outcome);
+        }
+        match asked.id() {
+            Some(id) => self.callers.wait(id, came, cx),
+            None => cx.yield_now(),
+        }
+    }
+
+    /// Opens a stream.
+    pub fn open(&mut self, opening: &Opening) -> Result<StreamId>
+        ensures { Opens O.OutboundTransform self.old.core opening.now.request opening.now.streaming_client opening.now.streaming_server result self.new.core }
+    {
+        opening.step(self.alloc, &mut self.core)
+    }
+
+    /// Steps a call that sends on a stream.
+    pub fn poll_sending(
+        &mut self,
+        id: StreamId,
+        sending: &mut Sending,
+        came: &Source,
+        cx: &mut Context<'_>,
+    ) -> Poll<Result<()>>
+        ensures registered { OnPending result (Covers cx.new (λ s. s ≡ came.now.id)) }
+        ensures kept { Keeps cx.old cx.new }
+    {
+        let (alloc, core) = (self.alloc, &mut self.core);
+        self.streams
+            .poll_sending_on(alloc, core, id, sending, came, cx)
+    }
+
+    /// Receives from a stream.
+    pub fn poll_receiving(
+        &mut self,
+        id: StreamId,
+        came: &Source,
+        cx: &mut Context<'_>,
+    ) -> Poll<Result<Blob>>
+        ensures registered { OnPending result (Covers cx.new (λ s. s ≡ came.now.id)) }
+        ensures kept { Keeps cx.old cx.new }
+    {
+        let (alloc, core) = (self.alloc, &mut self.core);
+        self.streams.poll_receiving_on(alloc, core, id, came, cx)
+    }
+
+    /// Forgets a call whose future is dropped.
+    pub fn drop_call(&mut self, id: CallId)
+        ensures { Forgets O.SEALS self.old.core id self.new.core }
+    {
+        self.core.drop_call(id);
+        self.callers.wake(id);
+        self.wake_if_failed();
+    }
+
+    /// Nobody receives from a stream any more.
+    pub fn drop_receiver(&mut self, id: StreamId)
+        ensures { DropsReceiver self.old.core id self.new.core }
+    {
+        self.core.drop_receiver(id);
+        self.streams.wake_receiver(id);
+    }
+
+    /// Nobody is left who would call, or nobody who would answer: the connection fails, if it hasn't.
+    pub fn abandon(&mut self)
+        ensures { self.new.core ≡ record self.old.core { connection = failing self.old.core.connection (AFailure.Told AnError.LocalClosed) } }
+    {
+        self.core.fail(Error::LocalClosed);
+        self.wake_all();
+    }
+
+    /// Wakes everybody, once the connection has failed.
+    fn wake_if_failed(&mut self)
+        ensures { self.new.core ≡ self.old.core }
+    {
+        if self.core.has_failed() {
+            self.wake_all();
+        }
+    }
+
+    fn wake_all(&mut self)
+        ensures { self.new.core ≡ self.old.core }
+    {
+        self.callers.wake_all();
+        self.streams.wake_all();
+    }
+
+    /// Wakes the callers of all calls that have ended.
+    fn wake_ended(&mut self)
+        ensures { self.new.core ≡ record self.old.core { state = record self.old.core.state { ended = [] } } }
+    {
+        while let Some(id) = self.core.next_ended() {
+            self.callers.wake(id);
+        }
+    }
+
+    /// Wakes those who receive from streams for which something came.
+    fn wake_heard(&mut self)
+        ensures { self.new.core ≡ record self.old.core { state = record self.old.core.state { heard = [] } } }
+    {
+        while let Some(id) = self.core.next_heard() {
+            self.streams.wake_receiver(id);
+        }
+    }
+}
+
+impl<O: OutboundTransform + Drop, I: InboundTransform + Drop> Held for ClientHeld<O, I> {
+    ghost use Rattle.std.specs.Prelude.{◌≡◌};
+    ghost use Rattle.ttrpc_connection.specs.OneEnd.{lendable};
+    ghost use Rattle.ttrpc_polled_client.specs.Held.{EndsInput, LendsAndReports, TakesPiece, TicksAndTells, broken};
+
+    ghost takes = { λ old piece count new. TakesPiece O.OutboundTransform I.InboundTransform old.core piece count new.core };
+
+    ghost ends = { λ old new. EndsInput old.core new.core };
+
+    ghost breaks = { λ old kind new. new.core ≡ broken old.core kind };
+
+    ghost lends = { λ old before count after new. LendsAndReports old.core before count after new.core };
+
+    ghost lendable = { λ held. lendable held.core.connection };
+
+    ghost ticks = { λ old now new. TicksAndTells O.SEALS old.core now new.core };
+
+    fn take(&mut self, alloc: Global, piece: &[u8]) -> Option<usize> {
+        let Ok(count) = take_on(&mut self.core, alloc, piece) else {
+            self.wake_all();
+            return None;
+        };
+        self.wake_ended();
+        self.wake_heard();
+        Some(count)
+    }
+
+    fn ended(&mut self) {
+        ended_on(&mut self.core);
+        self.wake_all();
+    }
+
+    fn broke(&mut self, kind: ErrorKind) {
+        broke_on(&mut self.core, kind);
+        self.wake_all();
+    }
+
+    fn lendable(&self) -> usize {
+        self.core.lendable()
+    }
+
+    fn lend(&mut self, buffer: &mut [u8]) -> usize {
+        let count = lend_on(&mut self.core, buffer);
+        wrote_on(&mut self.core, count);
+        self.streams.wake_sent(self.alloc, &self.core);
+        count
+    }
+
+    fn tick(&mut self, now: u64) {
+        self.core.tick(now);
+        self.wake_ended();
+        self.wake_if_failed();
+    }
+
+    fn next_deadline(&self) -> Option<u64> {
+        self.core.next_deadline()
+    }
+
+    fn has_failed(&self) -> bool {
+        self.core.has_failed()
+    }
+
+    fn driver(&mut self) -> &mut Option<Waker> {
+        &mut self.driver
+    }
+}

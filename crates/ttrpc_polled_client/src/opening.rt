@@ -1,0 +1,95 @@
+//! A stream that is opened, as a future.
+ghost use Rattle.std.specs.Prelude.{◌≡◌, Some};
+ghost use Rattle.ttrpc_polled_client.specs.Steps.{Opens};
+
+use crate::line::ClientLine;
+use futures::Future;
+use futures::task::{Context, Poll};
+use std::alloc::Global;
+use std::sync::Arc;
+use ttrpc_client::{ClientCore, StreamId};
+use ttrpc_polled_streams::StreamInner;
+use ttrpc_proto::{Error, Request, Result};
+use ttrpc_secure::{InboundTransform, OutboundTransform};
+
+/// The request that opens a stream, and whether the stream sends and receives items.
+#[derive(Debug, Drop)]
+pub struct Opening {
+    pub request: Request,
+    pub streaming_client: bool,
+    pub streaming_server: bool,
+}
+
+impl Opening {
+    /// Makes the one core call, `new_stream`, on a core that is lent.
+    pub fn step<O: OutboundTransform + Drop, I: InboundTransform + Drop>(
+        &self,
+        alloc: Global,
+        core: &mut ClientCore<O, I>,
+    ) -> Result<StreamId>
+        ensures { Opens O.OutboundTransform core.old self.now.request self.now.streaming_client self.now.streaming_server result core.new }
+    {
+        core.new_stream(
+            alloc,
+            &self.request,
+            self.streaming_client,
+            self.streaming_server,
+        )
+    }
+}
+
+/// What a stream is opened with: its request, and a share of the line for each of its halves.
+#[derive(Drop)]
+pub(crate) struct Prepared<O: OutboundTransform + Drop, I: InboundTransform + Drop> {
+    pub(crate) opening: Opening,
+    pub(crate) sends: Arc<ClientLine<O, I>, Global>,
+    pub(crate) receives: Arc<ClientLine<O, I>, Global>,
+}
+
+/// A stream that is opened as this is first polled. `LocalClosed` where it was opened before.
+#[derive(Drop)]
+pub struct ClientNewStream<O: OutboundTransform + Drop, I: InboundTransform + Drop> {
+    alloc: Global,
+    prepared: Option<Prepared<O, I>>,
+}
+
+impl<O: OutboundTransform + Drop, I: InboundTransform + Drop> ClientNewStream<O, I> {
+    /// A stream that is there to be opened.
+    pub(crate) fn new(alloc: Global, prepared: Prepared<O, I>) -> Self
+        ensures { result.prepared ≡ Some prepared }
+    {
+        ClientNewStream {
+            alloc,
+            prepared: Some(prepared),
+        }
+    }
+}
+
+impl<O: OutboundTransform + Drop, I: InboundTransform + Drop> Future for ClientNewStream<O, I> {
+    type Output = Result<StreamInner<ClientLine<O, I>>>;
+
+    fn poll(&mut self, cx: &mut Context<'_>) -> Poll<Result<StreamInner<ClientLine<O, I>>>> {
+        let Some(
+            Prepared {
+                opening,
+                sends,
+                receives,
+            },
+        ) = self.prepared.take()
+        else {
+            return Poll::Ready(Err(Error::LocalClosed));
+        };
+        match sends.open(&opening, cx) {
+            Poll::Pending => {
+                self.prepared = Some(Prepared {
+                    opening,
+                    sends,
+                    receives,
+                });
+                Poll::Pending
+            }
+            Poll::Ready(Ok(id)) => Poll::Ready(StreamInner::new(self.alloc, sends, receives, id)),
+            Poll::Ready(Err(refusal)) => Poll::Ready(Err(refusal)),
+        }
+    }
+}

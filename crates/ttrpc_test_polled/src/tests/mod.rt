@@ -1,0 +1,4 @@
+mod call_tests;
+mod peer;
+mod sites;
+mod stream_tests;

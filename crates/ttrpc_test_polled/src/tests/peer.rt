@@ -1,0 +1,230 @@
+//! A peer that answers each call with its payload, and sends each item back.
+ghost use Rattle.std.specs.Prelude.{◌≡◌};
+
+use futures::Future;
+use futures::task::{Context, Poll, Source, Waker};
+use std::alloc::Global;
+use std::io::ErrorKind;
+use std::sync::Mutex;
+use std::time::Clock;
+use tokio::io::DuplexStream;
+use ttrpc_polled::{Connected, Held, Link, Step};
+use ttrpc_proto::{Error, Response, ResponseInit, get_status};
+use ttrpc_secure::Plain;
+use ttrpc_server::{JobId, ServerCore};
+use ttrpc_wire::{Blob, Code};
+
+/// What it does with what comes.
+#[derive(Clone, Copy, Debug, PartialEq, Eq)]
+pub enum Manners {
+    /// It answers each call, and echoes each stream.
+    Echoes,
+    /// It answers nothing.
+    IsSilent,
+    /// It answers two calls at once, the last first.
+    AnswersBackwards,
+    /// It reads nothing.
+    ReadsNothing,
+}
+
+/// The core of a server, and the jobs that it has under way.
+#[derive(Drop)]
+pub struct PeerHeld {
+    pub core: ServerCore<Plain, Plain>,
+    manners: Manners,
+    calls: Vec<(JobId, Blob)>,
+    streams: Vec<JobId>,
+    driver: Option<Waker>,
+}
+
+impl PeerHeld {
+    pub fn new(alloc: Global, core: ServerCore<Plain, Plain>, manners: Manners) -> PeerHeld
+        ensures { result.core ≡ core }
+    {
+        PeerHeld {
+            core,
+            manners,
+            calls: Vec::new(alloc),
+            streams: Vec::new(alloc),
+            driver: None,
+        }
+    }
+
+    // Takes what came for it, and answers.
+    fn serve(&mut self, alloc: Global) {
+        for _ in 0..u64::MAX {
+            let Some(job) = self.core.take_job() else {
+                break;
+            };
+            let (id, stream) = (job.id, job.stream);
+            let request = job.request;
+            if stream {
+                let _ = self.streams.push(id);
+            } else {
+                let _ = self.calls.push((id, request.payload));
+            }
+        }
+        match self.manners {
+            Manners::Echoes => {
+                self.answer_all(alloc);
+                self.echo_all(alloc);
+            }
+            Manners::IsSilent | Manners::ReadsNothing => {}
+            Manners::AnswersBackwards => {
+                if self.calls.len() > 1 {
+                    self.answer_all(alloc);
+                }
+            }
+        }
+    }
+
+    fn answer_all(&mut self, alloc: Global) {
+        for _ in 0..u64::MAX {
+            let Some((id, payload)) = self.calls.pop() else {
+                return;
+            };
+            let mut response = Response::init_status(
+                alloc,
+                get_status(Code::OK, String::new(alloc)),
+            );
+            response.payload = payload;
+            let _ = self.core.answer(alloc, id, &Ok(response));
+        }
+    }
+
+    fn echo_all(&mut self, alloc: Global) {
+        for id in &self.streams {
+            echo(alloc, &mut self.core, *id);
+        }
+    }
+}
+
+// Sends back what came for a stream, and ends it where the other side closed.
+fn echo(alloc: Global, core: &mut ServerCore<Plain, Plain>, id: JobId) {
+    for _ in 0..u64::MAX {
+        match core.recv(alloc, id) {
+            Some(Ok(item)) => {
+                let _ = core.send(alloc, id, item.as_slice());
+            }
+            Some(Err(Error::Eof)) => {
+                let _ = core.end_stream(alloc, id, &Ok(None));
+                return;
+            }
+            Some(Err(_)) | None => return,
+        }
+    }
+}
+
+impl Held for PeerHeld {
+    ghost use Rattle.std.specs.Prelude.{⊤};
+    ghost use Rattle.ttrpc_connection.specs.OneEnd.{lendable};
+
+    ghost takes = { λ _ _ _ _. ⊤ };
+
+    ghost ends = { λ _ _. ⊤ };
+
+    ghost breaks = { λ _ _ _. ⊤ };
+
+    ghost lends = { λ _ _ _ _ _. ⊤ };
+
+    ghost lendable = { λ held. lendable held.core.connection };
+
+    ghost ticks = { λ _ _ _. ⊤ };
+
+    fn take(&mut self, alloc: Global, piece: &[u8]) -> Option<usize> {
+        let count = self.core.feed(alloc, piece, 0).ok()?;
+        self.serve(alloc);
+        Some(count.min(piece.len()))
+    }
+
+    fn ended(&mut self) {
+        self.core.end_of_input();
+    }
+
+    fn broke(&mut self, kind: ErrorKind) {
+        self.core.fail(Error::Nix(kind));
+    }
+
+    fn lendable(&self) -> usize {
+        self.core.lendable()
+    }
+
+    fn lend(&mut self, buffer: &mut [u8]) -> usize {
+        let count = self.core.lend(buffer);
+        let lent = self.core.lent();
+        self.core.wrote(lent);
+        count.min(buffer.len())
+    }
+
+    // No request of the tests expires at the peer.
+    fn tick(&mut self, _now: u64) {}
+
+    fn next_deadline(&self) -> Option<u64> {
+        None
+    }
+
+    fn has_failed(&self) -> bool {
+        self.core.has_failed()
+    }
+
+    fn driver(&mut self) -> &mut Option<Waker> {
+        &mut self.driver
+    }
+}
+
+/// What the peer's future shares with nobody.
+#[derive(Drop)]
+pub struct PeerShared {
+    asked: Source,
+    held: Mutex<PeerHeld>,
+}
+
+impl PeerShared {
+    pub fn new(held: PeerHeld) -> PeerShared {
+        PeerShared {
+            asked: Source::new(),
+            held: Mutex::new(held),
+        }
+    }
+}
+
+impl Connected for PeerShared {
+    type Held = PeerHeld;
+
+    ghost asked = { λ shared. shared.asked.id };
+
+    fn held(&self) -> &Mutex<PeerHeld> {
+        &self.held
+    }
+
+    fn asked(&self) -> &Source {
+        &self.asked
+    }
+}
+
+/// The peer's future.
+#[derive(Drop)]
+pub struct Peer<R: Clock + AllocGlobal + Drop> {
+    pub link: Link<R, DuplexStream, DuplexStream, PeerShared>,
+    pub reads: bool,
+    pub never: Source,
+    pub slot: Option<Waker>,
+}
+
+impl<R: Clock + AllocGlobal + Drop> Future for Peer<R> {
+    type Output = ();
+
+    fn poll(&mut self, cx: &mut Context<'_>) -> Poll<()> {
+        if !self.reads {
+            return cx.register(&self.never, &mut self.slot);
+        }
+        for _ in 0..8 {
+            match self.link.turn(cx) {
+                Step::Moved => {}
+                Step::Waits => return Poll::Pending,
+                Step::Over => return Poll::Ready(()),
+            }
+        }
+        cx.yield_now()
+    }
+}

@@ -1,0 +1,112 @@
+//! A client and its peer, in one event loop.
+ghost use Rattle.std.specs.Prelude.{⊤};
+
+use crate::tests::peer::{Manners, Peer, PeerHeld, PeerShared};
+use futures::Future;
+use futures::future::{Either, select};
+use futures::task::{Context, Poll, Source};
+use std::alloc::Global;
+use std::net::Net;
+use std::random::RandomSource;
+use std::sync::{Arc, Wait};
+use std::test::Fail;
+use tokio::io::{DuplexStream, duplex};
+use tokio::runtime::LocalRuntime;
+use ttrpc_polled::Link;
+use ttrpc_polled_client::{Client, ClientConnection, Timed};
+use ttrpc_proto::{Request, RequestInit};
+use ttrpc_secure::{ConnectionContext, HookOutput, Plain};
+use ttrpc_server::{Rules, ServerCore};
+use ttrpc_test_cores::server::registry;
+
+/// What a test needs of the system.
+pub trait System: Timed + Wait + Net + RandomSource {}
+
+impl<R: Timed + Wait + Net + RandomSource> System for R {}
+
+/// Both ends, which go on while this is polled.
+#[derive(Drop)]
+pub struct Ends<R: Timed> {
+    connection: ClientConnection<R, DuplexStream, DuplexStream, Plain, Plain>,
+    peer: Peer<R>,
+}
+
+impl<R: Timed> Future for Ends<R> {
+    type Output = ();
+
+    fn poll(&mut self, cx: &mut Context<'_>) -> Poll<()> {
+        let connection = self.connection.poll(cx);
+        let peer = self.peer.poll(cx);
+        match (connection, peer) {
+            (Poll::Ready(()), Poll::Ready(())) => Poll::Ready(()),
+            (Poll::Pending, _) => Poll::Pending,
+            (Poll::Ready(()), Poll::Pending) => Poll::Pending,
+        }
+    }
+}
+
+/// A client, its peer, and the event loop.
+#[derive(Drop)]
+pub struct Site<R: Timed> {
+    pub runtime: LocalRuntime,
+    pub client: Client<R, Plain, Plain>,
+    pub ends: Ends<R>,
+}
+
+/// A client over bytes in memory, of which so many are under way at most, beside a peer of these manners.
+pub fn make_site<R: System>(rt: &R, room: usize, manners: Manners) -> Result<Site<R>, Fail> {
+    let alloc = rt.alloc();
+    let runtime = LocalRuntime::new(rt)?;
+    let (up, up_far) = duplex(alloc, room.max(1))?;
+    let (down, down_far) = duplex(alloc, room.max(1))?;
+    let output = HookOutput::of_halves(alloc, Plain {}, Plain {});
+    let (client, connection) = Client::over(rt.clone()?, runtime.handle(), down_far, up, output)?;
+    let context = ConnectionContext::of_halves(alloc, Plain {}, Plain {});
+    let core = ServerCore::new(alloc, Rules::Async, registry(alloc)?, context);
+    let shared = Arc::new(alloc, PeerShared::new(PeerHeld::new(alloc, core, manners)))?;
+    let link = Link::new(rt.clone()?, runtime.handle(), shared, up_far, down)?;
+    Ok(Site {
+        runtime,
+        client,
+        ends: Ends {
+            connection,
+            peer: Peer {
+                link,
+                reads: manners != Manners::ReadsNothing,
+                never: Source::new(),
+                slot: None,
+            },
+        },
+    })
+}
+
+/// Runs this beside both ends, until it is ready.
+pub fn done<R: System, F: Future>(
+    rt: &R,
+    runtime: &mut LocalRuntime,
+    ends: Ends<R>,
+    future: F,
+) -> Result<(F::Output, Ends<R>), Fail>
+where
+    F::Output: Drop,
+    requires { F.can_poll future }
+{
+    match runtime.block_on(rt, select(future, ends))? {
+        Either::Left((output, ends)) => Ok((output, ends)),
+        Either::Right(_) => Err("both ends are over first".into()),
+    }
+}
+
+/// A request of `demo.Echo` for this name, with this payload and timeout in nanoseconds.
+pub fn request(
+    alloc: Global,
+    method: &str,
+    payload: &[u8],
+    timeout_nano: i64,
+) -> Result<Request, Fail> {
+    let service = String::from_str(alloc, "demo.Echo")?;
+    let method = String::from_str(alloc, method)?;
+    let mut request = Request::init_request(alloc, service, method, timeout_nano, Vec::new(alloc));
+    request.set_payload(Vec::from_slice(alloc, payload)?);
+    Ok(request)
+}
