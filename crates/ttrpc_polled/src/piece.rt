@@ -63,7 +63,7 @@ impl Piece {
     }
 
     /// The first of them are taken.
-    pub fn took(&mut self, count: usize)
+    pub(crate) fn took(&mut self, count: usize)
         requires { count ≤ length self.old }
         ensures { self.new ≡ drop count self.old }
     {
@@ -75,7 +75,7 @@ impl Piece {
     }
 
     /// Makes room for so many more, where memory is found.
-    pub fn make_room(&mut self, count: usize)
+    pub(crate) fn make_room(&mut self, count: usize)
         ensures { self.new ≡ self.old }
     {
         if count > self.room() {
@@ -84,7 +84,7 @@ impl Piece {
     }
 
     /// Lets go of the room for more than so many, but at least one, where it is empty.
-    pub fn let_go(&mut self, room: usize)
+    pub(crate) fn let_go(&mut self, room: usize)
         ensures { self.new ≡ self.old }
     {
         if self.from == self.to && room < self.bytes.len() {
@@ -96,7 +96,7 @@ impl Piece {
     }
 
     /// Takes a loan, of a whole frame where there is memory for it, and says of how many bytes.
-    pub fn take_loan<H: Held>(&mut self, held: &mut H) -> usize
+    pub(crate) fn take_loan<H: Held>(&mut self, held: &mut H) -> usize
         ensures { TakesLoan H.lends held.old result self.old held.new self.new }
     {
         self.make_room(held.lendable());
@@ -106,7 +106,7 @@ impl Piece {
     }
 
     /// Reads as much as there is room for, and says how many bytes that was.
-    pub fn poll_read<S: AsyncRead>(
+    pub(crate) fn poll_read<S: AsyncRead>(
         &mut self,
         reader: &mut S,
         cx: &mut Context<'_>,
