@@ -1,5 +1,5 @@
 -- A trace with one more entry, and what it says of one id; and lists of acts.
-use Rattle.ttrpc_events.proofs.Words.{◌≡◌, ◌≢◌, ℕ, List, [], ◌∷◌, ◌++◌, Option, Some, None, Result, nat_eq, refl, sym, ap, ◌∙◌, append_assoc, eq-eqb, ne_eqb, append-nil, Error, Request, Response, Event, Reply, Entry, Outcome, Given, Act, Called, Ran, Gave, act_of, acts, calls, only_if, outcomes, runs, work}
+use Rattle.ttrpc_events.proofs.Words.{◌≡◌, ◌≢◌, ℕ, List, [], ◌∷◌, ◌++◌, Option, Some, None, Result, nat_eq, refl, sym, ap, ◌∙◌, append_assoc, eq-eqb, ne_eqb, append-nil, Error, Request, Response, Event, Reply, Entry, Outcome, Given, Act, Called, Opened, Ran, Gave, act_of, acts, calls, names, only_if, outcomes, runs, work}
 
 -- the trace after one more entry
 abbrev pub with_entry : List Entry → Event → Reply → List Entry
@@ -55,9 +55,15 @@ calls_work [] = refl
 calls_work (Called request ∷ a) = ap (λ xs. request ∷ xs) (calls_work a)
 calls_work (act ∷ a) = calls_work a
 
+pub names_work : (a : List Act) → names a ≡ names (work a)
+names_work [] = refl
+names_work (Called request ∷ a) = ap (λ xs. request ∷ xs) (names_work a)
+names_work (Opened request up down ∷ a) = ap (λ xs. request ∷ xs) (names_work a)
+names_work (act ∷ a) = names_work a
+
 pub runs_work : (a : List Act) → runs a ≡ runs (work a)
 runs_work [] = refl
-runs_work (Ran job request ∷ a) = ap (λ xs. job ∷ xs) (runs_work a)
+runs_work (Ran job stream request ∷ a) = ap (λ xs. job ∷ xs) (runs_work a)
 runs_work (act ∷ a) = runs_work a
 
 pub all_work : (a : List Act) → outcomes a ≡ [] → a ≡ work a

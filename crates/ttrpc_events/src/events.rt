@@ -12,10 +12,14 @@ pub enum Side {
     Server,
 }
 
-/// What may happen. On the server's side an id is a job's number, else it is a stream's.
-///
-/// The cores have no streams yet: `Open`, `Recv`, `Send`, `Close`, `DropReceiver`, `DropSender`, `EndStream` and `Drain`
-/// are no step so far.
+/// One end of a stream: the client's by the stream's id, the server's by the number of its job.
+#[derive(Clone, Copy, Debug, PartialEq, Eq)]
+pub enum StreamEnd {
+    Client(CallId),
+    Server(JobId),
+}
+
+/// What may happen.
 #[derive(Debug, Drop)]
 pub enum Event {
     /// The client makes a call of this request, at the last moment.
@@ -24,16 +28,16 @@ pub enum Event {
     Open(Request, bool, bool),
     /// The client asks for the outcome of a call.
     Outcome(CallId),
-    /// A side asks for what a stream received.
-    Recv(Side, u64),
-    /// A side sends on a stream.
-    Send(Side, u64, Blob),
+    /// A side asks for the next item of a stream.
+    Recv(StreamEnd),
+    /// A side sends an item on a stream.
+    Send(StreamEnd, Blob),
     /// The client closes its half of a stream.
     Close(CallId),
     /// The client forgets a call.
     DropCall(CallId),
     /// A side drops a stream's receiver.
-    DropReceiver(Side, u64),
+    DropReceiver(StreamEnd),
     /// The client drops a stream's sender.
     DropSender(CallId),
     /// The server asks for a job.

@@ -1,5 +1,5 @@
 -- What stays the same in a run: the server's rules, its services, and the limit of its outbound half.
-use Rattle.ttrpc_pair.proofs.Words.{◌-◌, ◌∙◌, ◌∷◌, ◌≡◌, ℕ, [], ActsAll, Answer, AnswersBy, AnswersError, ap, arrives, AsyncRules, Bool, ClientSide, Connection, Count, Cut, Deliver, Does, Done, Entry, Err, Error, Event, Fail, Finish, Halves, Handed, header_of_frame, Hears, Incoming, inl, inr, is_over, Job, List, MakeJob, MakeStream, MESSAGE_LENGTH_MAX, MessageHeader, Net, Ok, Outbox, OutboundTransform, PutIn, refl, Refused, Reply, Respond, Response, Result, Row, row_of, Rules, rules, rules_stay, Runs, safe_limit, scene, Scene, SendsAll, Sent, Server, ServerCore, ServerSide, serving, Some, Steps, subst, sym, SyncRules, Take, true, cut_to, failing, taken_from, false}
+use Rattle.ttrpc_pair.proofs.Words.{ActiveJob, ActsAll, Answer, AnswersBy, AnswersError, AsyncRules, Bool, ClientSide, Connection, Count, Cut, Deliver, Does, Done, Drain, DropReceiver, EndStream, EndsStream, Entry, Err, Error, Event, ExpireAll, Failure, Finish, Halves, Handed, Hears, Incoming, Item, List, MESSAGE_LENGTH_MAX, MakeJob, MakeStream, MessageHeader, Net, None, Ok, Option, OutboundTransform, Outbox, PutIn, Recv, Refused, Reply, Respond, Response, Result, Row, Rules, Runs, Scene, Send, SendsAll, Sent, Server, ServerCore, ServerEnd, ServerPasses, ServerSide, Some, Steps, SyncRules, Take, Tick, Ticket, [], ap, arrives, cut_to, header_of_frame, inl, inr, is_over, refl, row_of, rules, rules_stay, safe_limit, scene, serving, subst, taken_from, ℕ, ◌-◌, ◌∙◌, ◌∷◌, ◌≡◌}
 use Rattle.ttrpc_headline.proofs.OneWay.{as_heard}
 
 -- these stay
@@ -70,6 +70,26 @@ module _ {CO CI SO SI : Type 0} (c : Halves CO CI) (s : Halves SO SI) (seals : B
         limit = limit_sent s.out fixed a.2.sent old.connection.outbox new.connection.outbox a.2.sends;
       }
 
+  ended : (old : ServerCore SO SI) (id : ℕ) (result : Result (Option Response) Error) (new : ServerCore SO SI) → EndsStream s.out old id result new → safe_limit s.out new.connection.outbox.half ≡ safe_limit s.out old.connection.outbox.half
+  ended old id (Ok None) new p = ap (λ n. MESSAGE_LENGTH_MAX - n) (fixed _ _ _ _ _ p.sends.2.seal)
+  ended old id (Ok (Some response)) new p = limit_sent s.out fixed p.sends.0 old.connection.outbox new.connection.outbox p.sends.2
+  ended old id (Err error) new p = limit_sent s.out fixed p.sends.2.0 old.connection.outbox new.connection.outbox p.sends.2.2
+
+  -- jobs expire
+  expired : (js : List ActiveJob) (old : Server) (from : Outbox SO) (new : Server) (to : Outbox SO) → ExpireAll s.out old from js new to → (new.rules ≡ old.rules) × (new.services ≡ old.services) × (safe_limit s.out to.half ≡ safe_limit s.out from.half)
+  expired [] old from new to e = (ap (λ (t : Server). t.rules) e.0, ap (λ (t : Server). t.services) e.0, ap (λ (b : Outbox SO). safe_limit s.out b.half) e.1)
+  expired (j ∷ js) old from new to e =
+      let one = e.2 in
+      let later = expired js e.0 e.1 new to e.3 in
+      (later.0 ∙ ap (λ (t : Server). t.rules) one.state, later.1 ∙ ap (λ (t : Server). t.services) one.state, later.2 ∙ limit_sent s.out fixed one.sent from e.1 one.sends)
+
+  passed : (old : ServerCore SO SI) (now : ℕ) (new : ServerCore SO SI) (r : Rules) (failure : Option Failure) → ServerPasses s.out r failure old now new → Constant s.out old new
+  passed old now new SyncRules failure same = stays_same s.out old new (ap (λ (x : ServerCore SO SI). x.state) same) (ap (λ (x : ServerCore SO SI). x.connection.outbox) same)
+  passed old now new AsyncRules None p =
+      let e = expired p.expired old.state old.connection.outbox new.state new.connection.outbox p.expire in
+      record { rules = e.0; services = e.1; limit = e.2 }
+  passed old now new AsyncRules (Some why) same = stays_same s.out old new (ap (λ (x : ServerCore SO SI). x.state) same) (ap (λ (x : ServerCore SO SI). x.connection.outbox) same)
+
   delivered : (w : Net CO CI SO SI) (fs : List Incoming) (new : Scene Server SO SI) (t : ServerCore SO SI) → ActsAll (serving s.out s.in_) w.moment (scene w.server.state w.server.connection) fs new
       → t.state ≡ new.state → t.connection.outbox ≡ new.outbox → Constant s.out w.server t
   delivered w fs new t acts state outbox =
@@ -84,7 +104,7 @@ module _ {CO CI SO SI : Type 0} (c : Halves CO CI) (s : Halves SO SI) (seals : B
   heard_same : (over : Bool) (old new : Connection SO SI) → Hears over old new → new.outbox ≡ old.outbox
   heard_same over old new h = as_heard (λ (y : Connection SO SI). y.outbox ≡ old.outbox) over old new h refl (λ why. refl)
 
-  stepped : (w : Net CO CI SO SI) (event : Event) (reply : Reply) (v : Net CO CI SO SI) → Steps c s seals w event reply v → Constant s.out w.server v.server
+  pub stepped : (w : Net CO CI SO SI) (event : Event) (reply : Reply) (v : Net CO CI SO SI) → Steps c s seals w event reply v → Constant s.out w.server v.server
   stepped w Take (Handed (Some job)) v p = record {
     rules = ap (λ (x : ServerCore SO SI). x.state.rules) p.0.same;
     services = ap (λ (x : ServerCore SO SI). x.state.services) p.0.same;
@@ -101,6 +121,32 @@ module _ {CO CI SO SI : Type 0} (c : Halves CO CI) (s : Halves SO SI) (seals : B
     services = ap (λ (x : ServerCore SO SI). x.state.services) p.0.same;
     limit = ap (λ (x : ServerCore SO SI). safe_limit s.out x.connection.outbox.half) p.0.same;
   }
+  stepped w (EndStream id result) Done v p = record {
+    rules = ap (λ (x : ServerCore SO SI). x.state.rules) p.0.same;
+    services = ap (λ (x : ServerCore SO SI). x.state.services) p.0.same;
+    limit = ended w.server id result v.server p.0;
+  }
+  stepped w (Send (ServerEnd id) item) (Ticket ticket) v p = record {
+    rules = ap (λ (x : ServerCore SO SI). x.state.rules) p.0.same;
+    services = ap (λ (x : ServerCore SO SI). x.state.services) p.0.same;
+    limit = ap (λ n. MESSAGE_LENGTH_MAX - n) (fixed _ _ _ _ _ p.0.sends.sends.seal);
+  }
+  stepped w (Recv (ServerEnd id)) (Item given) v p = record {
+    rules = ap (λ (x : ServerCore SO SI). x.state.rules) p.0.same;
+    services = ap (λ (x : ServerCore SO SI). x.state.services) p.0.same;
+    limit = ap (λ (x : ServerCore SO SI). safe_limit s.out x.connection.outbox.half) p.0.same;
+  }
+  stepped w (DropReceiver (ServerEnd id)) Done v p = record {
+    rules = ap (λ (x : Net _ _ _ _). x.server.state.rules) p.1;
+    services = ap (λ (x : Net _ _ _ _). x.server.state.services) p.1;
+    limit = ap (λ (x : Net _ _ _ _). safe_limit s.out x.server.connection.outbox.half) p.1;
+  }
+  stepped w Drain Done v p = record {
+    rules = ap (λ (x : Net _ _ _ _). x.server.state.rules) p;
+    services = ap (λ (x : Net _ _ _ _). x.server.state.services) p;
+    limit = ap (λ (x : Net _ _ _ _). safe_limit s.out x.server.connection.outbox.half) p;
+  }
+  stepped w (Tick now) Done v p = passed w.server now v.server w.server.state.rules w.server.connection.failure p.serves
   stepped w (Deliver ServerSide n) (Count k) v (inl p) =
       delivered w p.does.does.frames (scene v.server.state p.does.mid) v.server p.does.does.acts refl (heard_same (is_over (taken_from w.up k)) p.does.mid v.server.connection p.does.hears)
   stepped w (Deliver ServerSide n) (Count k) v (inr p) =

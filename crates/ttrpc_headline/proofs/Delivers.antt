@@ -1,22 +1,24 @@
--- A delivery: each flight that comes in acts as it was sent, on one call. No bytes, no seals that are opened.
-use Rattle.ttrpc_pair.proofs.Words.{◌++◌, ◌+◌, ◌∙◌, ◌∷◌, ◌≡◌, ◌≢◌, ◌≤◌, ℕ, [], ActiveJob, ActsOn, all_behind, ap, append-nil, append_assoc, arith, asked_row, AskedCall, Bool, by_status, Call, call_at, calling, cases_eq, Client, Connection, Does, Entry, Event, false, Flying, Gives, Halves, has_method, id_of, if◌then◌else◌, inl, inr, INVALID_ARGUMENT, jobs_at, Landing, landing_of, LandsOn, LandsOnce, List, MakeJob, new_job, NoPath, Opened, Option, Outbox, OutboundTransform, parcels, path_text, Pipe, pushed_other, pushed_own, refl, Reply, Request, Row, row_of_sync, Rules, rules_stay, Scene, SendResponse, SendsAll, SendsOwnAnswer, Sent, Server, serving, status_response, stream_id_of, subst, sym, sync_row, SyncRules, true, unary_body, under_other, under_own}
-use Rattle.ttrpc_story.proofs.Words.{Act, act_of, Called, silent, with_entry}
-use Rattle.ttrpc_story.proofs.Here.{here_at}
-use Rattle.ttrpc_story.proofs.Place.{Around, IsAsked, Later, Place, arrives_here, asked_of, down_of, elsewhere, lands_here, leaves_out_here, refers_here, unchanged}
-use Rattle.ttrpc_headline.proofs.Numbers.{AreRight, Numbers, acts_right, made_of, passed_by}
+-- A delivery: each flight that comes in acts as it was sent, on one call or stream. No bytes, no seals that are opened.
+use Rattle.ttrpc_pair.proofs.Words.{◌++◌, ◌+◌, ◌∙◌, ◌∷◌, ◌≡◌, ◌≢◌, ◌≤◌, ◌⊎◌, ℕ, [], Absent, ActiveJob, ActsOn, all_behind, AllByRecursion, ap, append-nil, append_assoc, arith, AsyncRules, Bool, brought_by, call_at, calling, case_of, case_row, cases_eq, changed_under, Client, Connection, Does, Entry, eq-eqb, Event, false, Flying, Halves, id_of, Ignore, inl, inlet_of, inr, is_stream, jobs_at, LandsOn, LandsOnce, Landing, List, MakeJob, MakeStream, MESSAGE_TYPE_REQUEST, new_job, None, Opened, Option, Outbox, OutboundTransform, parcels, Pipe, pushed_other, pushed_own, PutIn, Reaches, refl, Reply, Request, request_bytes, Response, Row, row_elsewhere, row_made, Rules, rules_stay, Scene, SendResponse, SendsAll, SendsOwnAnswer, Sent, Server, serving, Some, Stream, stream_at, stream_body, stream_id_of, subst, sym, SyncRules, true, unary_body, under_other, under_own, under_stays, without_payload}
+use Rattle.ttrpc_pair.proofs.Words.{is_entered, MessageHeader, Opening}
+use Rattle.ttrpc_story.proofs.Words.{act_of, asked_by, last_id, silent, with_entry}
+use Rattle.ttrpc_story.proofs.AtServer.{IsItem, IsJob, IsNever}
+use Rattle.ttrpc_story.proofs.Here.{here_at, request_of}
+use Rattle.ttrpc_story.proofs.Place.{Around, IsAsked, IsPassed, Later, Place, arrives_here, comes_of, down_of, elsewhere, lands_here, maps_here, passes_here, refers_here, unchanged}
+use Rattle.ttrpc_headline.proofs.Numbers.{AreRight, Numbers, acts_right, asks, made_of, passed_by}
 use Rattle.ttrpc_headline.proofs.OneWay.{OneWay, joins}
-use Rattle.ttrpc_headline.proofs.Payloads.{SendsResponse, path_refusal, request_row_is, response_landing_is, sends_response}
+use Rattle.ttrpc_headline.proofs.Payloads.{IsAskRow, IsItemRow, IsRefusal, SendsFlight, ask_row, item_row, sends_refusal}
 
-abbrev pub around : (ℕ → Bool) → ℕ → Around
-around had next = record { had = had; next = next }
+abbrev pub around : Rules → (ℕ → Bool) → ℕ → Around
+around rules had next = record { rules = rules; had = had; next = next }
 
 -- THE STORIES: that of each id.
-abbrev pub Stories : (ℕ → Bool) → ℕ → (ℕ → ℕ) → List Entry → List Flying → List Flying → List ActiveJob → (ℕ → Option Call) → Type 0
-Stories had next f trace up down jobs kept = (k : ℕ) → Place (around had next) k (here_at f trace up down jobs kept k)
+abbrev pub Stories : Rules → (ℕ → Bool) → (ℕ → ℕ) → List Entry → List Flying → List Flying → List ActiveJob → Client → Type 0
+Stories rules had f trace up down jobs client = (k : ℕ) → Place (around rules had client.next) k (here_at f trace up down jobs client k)
 
 -- the client's next id goes on, or stays
-pub next_up : (had : ℕ → Bool) (next next2 k : ℕ) → next ≤ next2 → Later (around had next) (around had next2) k
-next_up had next next2 k le = record { young = λ y. omega (arith, y, le); had = λ i h. h }
+pub next_up : (rules : Rules) (had : ℕ → Bool) (next next2 k : ℕ) → next ≤ next2 → Later (around rules had next) (around rules had next2) k
+next_up rules had next next2 k le = record { rules = refl; young = λ y. omega (arith, y, le); had = λ i h. h }
 
 -- what holds at one id, and at each other
 pub at_one : (T : ℕ → Type 0) (k : ℕ) → T k → ((n : ℕ) → k ≢ n → T n) → (n : ℕ) → T n
@@ -26,161 +28,263 @@ at_one T k here there n = elim (cases_eq k n) [
 ]
 
 -- an entry that is no act of any id leaves the stories
-pub stories_silent : (had : ℕ → Bool) (next : ℕ) (f : ℕ → ℕ) (trace : List Entry) (event : Event) (reply : Reply) (up down : List Flying) (jobs : List ActiveJob) (kept : ℕ → Option Call)
-    → ((k : ℕ) → act_of f k event reply ≡ []) → Stories had next f trace up down jobs kept → Stories had next f (with_entry trace event reply) up down jobs kept
-stories_silent had next f trace event reply up down jobs kept q c = λ k. elsewhere (unchanged (around had next) k) (c k) (silent f k trace event reply (q k)) refl refl refl refl
+pub stories_silent : (rules : Rules) (had : ℕ → Bool) (f : ℕ → ℕ) (trace : List Entry) (event : Event) (reply : Reply) (up down : List Flying) (jobs : List ActiveJob) (client : Client)
+    → ((k : ℕ) → act_of f k event reply ≡ []) → Stories rules had f trace up down jobs client → Stories rules had f (with_entry trace event reply) up down jobs client
+stories_silent rules had f trace event reply up down jobs client q c = λ k. elsewhere (unchanged (around rules had client.next) k) (c k) (silent f k trace event reply (q k)) refl refl refl refl refl
+
+-- ---- frames that go down and end no call well
+
+-- flights of an id behind others
+pub more_at : (k i : ℕ) (down more : List Flying) → AllByRecursion (IsNever k) more → k ≢ i → parcels i (down ++ more) ≡ parcels i down
+more_at k i down [] never e = ap (parcels i) (append-nil down)
+more_at k i down (y ∷ more) never e =
+    ap (parcels i) (sym (append_assoc down (y ∷ []) more)) ∙ more_at k i (down ++ y ∷ []) more never.1 e ∙ pushed_other id_of i y down (λ same. e (sym never.0.stream ∙ same))
+
+pub more_own : (k : ℕ) (down more : List Flying) → AllByRecursion (IsNever k) more → parcels k (down ++ more) ≡ parcels k down ++ more
+more_own k down [] never = ap (parcels k) (append-nil down) ∙ sym (append-nil (parcels k down))
+more_own k down (y ∷ more) never =
+    ap (parcels k) (sym (append_assoc down (y ∷ []) more)) ∙ more_own k (down ++ y ∷ []) more never.1
+    ∙ ap (λ (xs : List Flying). xs ++ more) (pushed_own id_of k y down never.0.stream) ∙ append_assoc (parcels k down) (y ∷ []) more
 
 -- ---- a frame comes to the server
 
--- what a request does that was read, by whether there is such a method
-asked_by : (b : Bool) (r : Request) → asked_row r (if b then AskedCall else NoPath) ≡ (if b then MakeJob r else SendResponse (status_response INVALID_ARGUMENT (path_text r.service r.method)))
-asked_by true r = refl
-asked_by false r = refl
-
 -- The first frames that were in flight have come, and the others still are. What the server answers itself is in flight
 -- to the client.
-pub record ComesUp {CO CI SO SI : Type 0} (c : Halves CO CI) (s : Halves SO SI) (had : ℕ → Bool) (next : ℕ) (f : ℕ → ℕ) (trace : List Entry) (up down : List Flying) (kept : ℕ → Option Call) (old new : Scene Server SO SI) : Type 0 where
+pub record ComesUp {CO CI SO SI : Type 0} (c : Halves CO CI) (s : Halves SO SI) (rules : Rules) (had : ℕ → Bool) (f : ℕ → ℕ) (trace : List Entry) (up down : List Flying) (client : Client) (old new : Scene Server SO SI) : Type 0 where
   pub more : List Flying
-  pub stories : Stories had next f trace up (down ++ more) new.state.jobs.list kept
-  pub numbers : Numbers f new.state.jobs.last up next
+  pub stories : Stories rules had f trace up (down ++ more) new.state.jobs.list client
+  pub numbers : Numbers f new.state.jobs.last up client.next
   pub sent : (y : Connection CO CI) (pipe : Pipe) (flights : List Flying) → OneWay s.out c.in_ old.outbox y pipe flights → OneWay s.out c.in_ new.outbox y pipe (flights ++ more)
 
 none_sent : {O : Type 0} (out : OutboundTransform O) (old : Outbox O) (sent : List Sent) (new : Outbox O) → sent ≡ [] → SendsAll out old sent new → new ≡ old
 none_sent out old sent new none sends = subst (λ (xs : List Sent). SendsAll out old xs new) none sends
 
-module _ {CO CI SO SI : Type 0} (c : Halves CO CI) (s : Halves SO SI) (had : ℕ → Bool) (next : ℕ) (f : ℕ → ℕ) (trace : List Entry) (kept : ℕ → Option Call) where
-  -- nothing is queued for the client
-  quiet_comes : (up down : List Flying) (old new : Scene Server SO SI) → new.outbox ≡ old.outbox
-      → Stories had next f trace up down new.state.jobs.list kept → Numbers f new.state.jobs.last up next → ComesUp c s had next f trace up down kept old new
-  quiet_comes up down old new outbox stories numbers = record {
-    more = [];
-    stories = subst (λ (d : List Flying). Stories had next f trace up d new.state.jobs.list kept) (sym (append-nil down)) stories;
-    numbers = numbers;
-    sent = λ y pipe flights way. rw (outbox, append-nil) way;
-  }
+unary_kind : (rules : Rules) (now : ℕ) (request : Request) → is_stream (unary_body rules now request) ≡ false
+unary_kind SyncRules now request = refl
+unary_kind AsyncRules now request = refl
 
-  -- a response is queued for the client
-  answer_comes : (up down : List Flying) (old new : Scene Server SO SI) (k : ℕ) (done : List Act) → (r : SendsResponse s.out old.outbox k done new.outbox)
-      → Stories had next f trace up (down ++ r.y ∷ []) new.state.jobs.list kept → Numbers f new.state.jobs.last up next → ComesUp c s had next f trace up down kept old new
-  answer_comes up down old new k done r stories numbers = record {
-    more = r.y ∷ [];
-    stories = stories;
-    numbers = numbers;
-    sent = λ y pipe flights way. joins s.out c.in_ old.outbox new.outbox y pipe flights r.y r.queue r.seal r.sound way;
-  }
+module _ {CO CI SO SI : Type 0} (c : Halves CO CI) (s : Halves SO SI) where
+  abbrev Ways2 : Outbox SO → Outbox SO → List Flying → Type 0
+  Ways2 old new more = (y : Connection CO CI) (pipe : Pipe) (flights : List Flying) → OneWay s.out c.in_ old y pipe flights → OneWay s.out c.in_ new y pipe (flights ++ more)
+
+  -- what goes down, and ends no call well
+  pub record Refers (k : ℕ) (old new : Outbox SO) : Type 0 where
+    pub more : List Flying
+    pub never : AllByRecursion (IsNever k) more
+    pub sent : Ways2 old new more
+
+  unfoldable pub nothing_refers : (k : ℕ) (old new : Outbox SO) → new ≡ old → Refers k old new
+  nothing_refers k old new same = record { more = []; never = tt; sent = λ y pipe flights way. rw (same, append-nil) way }
+
+  pub flight_refers : (k : ℕ) (old new : Outbox SO) → SendsFlight s.out old (IsNever k) new → Refers k old new
+  flight_refers k old new r = record { more = r.y ∷ []; never = (r.is, tt); sent = λ y pipe flights way. joins s.out c.in_ old new y pipe flights r.y r.queue r.seal r.sound way }
+
+  -- the core's own answer
+  pub own_refers : (rules : Rules) (k : ℕ) (r : Response) (sent : List Sent) (old new : Outbox SO) → k ≤ last_id → IsRefusal r → SendsOwnAnswer rules s.out old.half k r sent → SendsAll s.out old sent new → Refers k old new
+  own_refers rules k r sent old new within is (inl responds) sends = flight_refers k old new (sends_refusal s.out old rules k r sent new within is responds sends)
+  own_refers rules k r sent old new within is (inr left) sends = nothing_refers k old new (none_sent s.out old sent new left.0 sends)
+
+module _ {CO CI SO SI : Type 0} (c : Halves CO CI) (s : Halves SO SI) (rules : Rules) (had : ℕ → Bool) (f : ℕ → ℕ) (trace : List Entry) (client : Client) where
+  -- what was turned comes
+  refers_comes : (k : ℕ) (up down : List Flying) (old new : Scene Server SO SI) → (r : Refers c s k old.outbox new.outbox)
+      → Stories rules had f trace up (down ++ r.more) new.state.jobs.list client → Numbers f new.state.jobs.last up client.next → ComesUp c s rules had f trace up down client old new
+  refers_comes k up down old new r stories numbers = record { more = r.more; stories = stories; numbers = numbers; sent = r.sent }
 
   -- the frame is gone: the story that it is of turns, and the others stay
-  turns_up : (x : Flying) (rest down down2 : List Flying) (old new : List ActiveJob) → Stories had next f trace (x ∷ rest) down old kept
-      → (let k : ℕ = x.frame.message.header.stream_id in Place (around had next) k (here_at f trace rest down2 new kept k))
-      → ((i : ℕ) → x.frame.message.header.stream_id ≢ i → (jobs_at new i ≡ jobs_at old i) × (parcels i down2 ≡ parcels i down)) → Stories had next f trace rest down2 new kept
-  turns_up x rest down down2 old new story here others =
-      at_one (λ (n : ℕ). Place (around had next) n (here_at f trace rest down2 new kept n)) x.frame.message.header.stream_id here
-      (λ i e. let o = others i e in elsewhere (unchanged (around had next) i) (story i) refl (sym (under_other id_of i x rest e)) o.0 o.1 refl)
+  turns_up : (x : Flying) (rest down more : List Flying) (old new : List ActiveJob) → Stories rules had f trace (x ∷ rest) down old client
+      → (let k : ℕ = x.frame.message.header.stream_id in AllByRecursion (IsNever k) more → Place (around rules had client.next) k (here_at f trace rest (down ++ more) new client k)
+      → ((i : ℕ) → k ≢ i → jobs_at new i ≡ jobs_at old i) → Stories rules had f trace rest (down ++ more) new client)
+  turns_up x rest down more old new story never here others =
+      let k : ℕ = x.frame.message.header.stream_id in
+      at_one (λ (n : ℕ). Place (around rules had client.next) n (here_at f trace rest (down ++ more) new client n)) k here
+      (λ i e. elsewhere (unchanged (around rules had client.next) i) (story i) refl (sym (under_other id_of i x rest e)) (others i e) (more_at k i down more never e) refl refl)
 
-  -- what a row makes of the request
-  by_row : (b : Bool) (now : ℕ) (x : Flying) (rest down : List Flying) (old new : Scene Server SO SI) (sent : List Sent) → old.state.rules ≡ SyncRules
-      → Stories had next f trace (x ∷ rest) down old.state.jobs.list kept → Numbers f old.state.jobs.last (x ∷ rest) next → AreRight f new.state.jobs.list → SendsAll s.out old.outbox sent new.outbox
-      → (let k : ℕ = x.frame.message.header.stream_id in (a : IsAsked (around had next) k (here_at f trace (x ∷ rest) down old.state.jobs.list kept k) x (parcels k rest))
-      → Does s.out (if b then MakeJob a.request else SendResponse (status_response INVALID_ARGUMENT (path_text a.request.service a.request.method))) old.state old.outbox.half x.frame.message.header now sent new.state
-      → ComesUp c s had next f trace rest down kept old new)
-  by_row true now x rest down old new sent sync stories numbers right sends a m =
+  abbrev HereUp : Flying → List Flying → List Flying → List ActiveJob → Type 0
+  HereUp x rest down jobs = let k : ℕ = x.frame.message.header.stream_id in IsAsked (around rules had client.next) k (here_at f trace (x ∷ rest) down jobs client k) x (parcels k rest)
+
+  abbrev HerePassed : Flying → List Flying → List Flying → List ActiveJob → Type 0
+  HerePassed x rest down jobs = let k : ℕ = x.frame.message.header.stream_id in IsPassed (around rules had client.next) k (here_at f trace (x ∷ rest) down jobs client k) x (parcels k rest)
+
+  -- a job is made of a request
+  makes : (job : ActiveJob) (x : Flying) (rest down : List Flying) (old new : Scene Server SO SI) (sent : List Sent) → Stories rules had f trace (x ∷ rest) down old.state.jobs.list client
+      → Numbers f old.state.jobs.last (x ∷ rest) client.next → AreRight f new.state.jobs.list → SendsAll s.out old.outbox sent new.outbox → sent ≡ []
+      → job.id ≡ old.state.jobs.last + 1 → new.state.jobs.list ≡ old.state.jobs.list ++ job ∷ [] → new.state.jobs.last ≡ old.state.jobs.last + 1
+      → (a : HereUp x rest down old.state.jobs.list) → IsJob rules x.frame.message.header.stream_id (Some (asked_by (is_stream job.body) (request_of a.b))) job
+      → ComesUp c s rules had f trace rest down client old new
+  unfolding nothing_refers
+  makes job x rest down old new sent stories numbers right sends none id is last a is_job =
       let k : ℕ = x.frame.message.header.stream_id in
       let jobs : List ActiveJob = old.state.jobs.list in
-      let job = new_job (old.state.jobs.last + 1) x.frame.message.header a.request (unary_body old.state.rules now a.request) in
-      let is : new.state.jobs.list ≡ jobs ++ job ∷ [] = ap (λ (t : Server). t.jobs.list) m.0 in
-      let last : new.state.jobs.last ≡ old.state.jobs.last + 1 = ap (λ (t : Server). t.jobs.last) m.0 in
       let mine = (all_behind (λ (j : ActiveJob). f j.id ≡ j.header.stream_id) jobs (job ∷ []) (subst (λ (js : List ActiveJob). AreRight f js) is right)).0 in
-      quiet_comes rest down old new (none_sent s.out old.outbox sent new.outbox m.1 sends)
-      (turns_up x rest down down jobs new.state.jobs.list stories
-      (arrives_here job a (record { request = refl; stream = refl; within = a.known.server.is_work.within }) refl refl (ap (λ js. jobs_at js k) is ∙ pushed_own stream_id_of k job jobs refl) refl refl)
-      (λ i e. (ap (λ js. jobs_at js i) is ∙ pushed_other stream_id_of i job jobs e, refl)))
-      (subst (λ (n : ℕ). Numbers f n rest next) (sym last) (made_of f old.state.jobs.last x rest next mine a.known.server.is_work.within numbers))
-  by_row false now x rest down old new sent sync stories numbers right sends a p =
+      let asked : asks x ≡ true = eq-eqb x.frame.message.header.type_ MESSAGE_TYPE_REQUEST a.known.server.is_work.type_ in
+      refers_comes k rest down old new (nothing_refers c s k old.outbox new.outbox (none_sent s.out old.outbox sent new.outbox none sends))
+      (turns_up x rest down [] jobs new.state.jobs.list stories tt
+      (arrives_here job a is_job refl refl (ap (λ js. jobs_at js k) is ∙ pushed_own stream_id_of k job jobs is_job.stream) (ap (parcels k) (append-nil down)) refl refl)
+      (λ i e. ap (λ js. jobs_at js i) is ∙ pushed_other stream_id_of i job jobs (λ same. e (sym is_job.stream ∙ same))))
+      (subst (λ (n : ℕ). Numbers f n rest client.next) (sym last)
+      (made_of f old.state.jobs.last x rest client.next asked (ap f (sym id) ∙ mine ∙ is_job.stream) a.known.server.within numbers))
+
+  -- nothing is made of a frame, and something may be answered
+  refers : (x : Flying) (rest down : List Flying) (old new : Scene Server SO SI) → Stories rules had f trace (x ∷ rest) down old.state.jobs.list client
+      → Numbers f old.state.jobs.last (x ∷ rest) client.next → new.state ≡ old.state → Refers c s x.frame.message.header.stream_id old.outbox new.outbox
+      → HereUp x rest down old.state.jobs.list ⊎ HerePassed x rest down old.state.jobs.list → ComesUp c s rules had f trace rest down client old new
+  refers x rest down old new stories numbers same r at =
       let k : ℕ = x.frame.message.header.stream_id in
-      let refusal = path_refusal a.request a.known.server.is_work.known in
-      let jobs : old.state.jobs.list ≡ new.state.jobs.list = ap (λ (t : Server). t.jobs.list) (sym p.0) in
-      let same : Numbers f new.state.jobs.last rest next = subst (λ (t : Server). Numbers f t.jobs.last rest next) (sym p.0) (passed_by f old.state.jobs.last x rest next numbers) in
-      elim (subst (λ (r : Rules). SendsOwnAnswer r s.out old.outbox.half k (status_response INVALID_ARGUMENT (path_text a.request.service a.request.method)) sent) sync p.1) [
-        | inl responds ↦
-            let done : List Act = Called a.request ∷ [] in
-            let r = sends_response s.out old.outbox k (status_response INVALID_ARGUMENT (path_text a.request.service a.request.method)) sent new.outbox done a.known.server.is_work.within refusal.is (λ ok. absurd (refusal.never_ok ok)) responds sends in
-            answer_comes rest down old new k done r
-            (subst (λ (js : List ActiveJob). Stories had next f trace rest (down ++ r.y ∷ []) js kept) jobs
-            (turns_up x rest down (down ++ r.y ∷ []) old.state.jobs.list old.state.jobs.list stories
-            (refers_here r.y a r.is_down refl refl refl (pushed_own id_of k r.y down r.is_down.stream) refl)
-            (λ i e. (refl, pushed_other id_of i r.y down (λ same_id. e (sym r.is_down.stream ∙ same_id))))))
-            same
-        | inr left ↦ quiet_comes rest down old new (none_sent s.out old.outbox sent new.outbox left.0 sends)
-            (subst (λ (js : List ActiveJob). Stories had next f trace rest down js kept) jobs
-            (turns_up x rest down down old.state.jobs.list old.state.jobs.list stories (leaves_out_here a refl refl refl refl refl) (λ i e. (refl, refl))))
-            same
-      ]
+      let jobs : new.state.jobs.list ≡ old.state.jobs.list = ap (λ (t : Server). t.jobs.list) same in
+      refers_comes k rest down old new r
+      (subst (λ (js : List ActiveJob). Stories rules had f trace rest (down ++ r.more) js client) (sym jobs)
+      (turns_up x rest down r.more old.state.jobs.list old.state.jobs.list stories r.never
+      (elim at [
+        | inl a ↦ refers_here r.more a r.never refl refl refl (more_own k down r.more r.never) refl refl
+        | inr a ↦ passes_here r.more a r.never refl refl refl (more_own k down r.more r.never) refl refl
+      ])
+      (λ i e. refl)))
+      (subst (λ (t : Server). Numbers f t.jobs.last rest client.next) (sym same) (passed_by f old.state.jobs.last x rest client.next numbers))
+
+  -- data are put in
+  puts : (payload : List ℕ) (now : ℕ) (x : Flying) (rest down : List Flying) (old new : Scene Server SO SI) (sent : List Sent) → Stories rules had f trace (x ∷ rest) down old.state.jobs.list client
+      → Numbers f old.state.jobs.last (x ∷ rest) client.next → SendsAll s.out old.outbox sent new.outbox
+      → Does s.out (PutIn payload) old.state old.outbox.half x.frame.message.header now sent new.state → HerePassed x rest down old.state.jobs.list
+      → ComesUp c s rules had f trace rest down client old new
+  unfolding nothing_refers
+  puts payload now x rest down old new sent stories numbers sends does a =
+      let k : ℕ = x.frame.message.header.stream_id in
+      let h : MessageHeader = x.frame.message.header in
+      let g = changed_under k (brought_by h payload) in
+      let none = none_sent s.out old.outbox sent new.outbox does.1 sends in
+      let whole = here_at f trace (x ∷ rest) down old.state.jobs.list client k in
+      let gone = passes_here {h2 = record whole { ups = parcels k rest }} [] a tt refl refl refl (sym (append-nil whole.downs)) refl refl in
+      refers_comes k rest down old new (nothing_refers c s k old.outbox new.outbox none)
+      (turns_up x rest down [] old.state.jobs.list new.state.jobs.list stories tt
+      (maps_here g (under_stays k (brought_by h payload)) gone refl refl (row_made s.out (PutIn payload) old.state old.outbox.half h now sent new.state does) (ap (parcels k) (append-nil down)) refl refl)
+      (λ i e. row_elsewhere s.out (PutIn payload) old.state old.outbox.half h now sent new.state i does (λ same. e (sym same))))
+      (subst (λ (t : Server). Numbers f t.jobs.last rest client.next) (sym does.0) (passed_by f old.state.jobs.last x rest client.next numbers))
+
+  -- what its row makes of a request
+  by_ask_row : (row : Row) (now : ℕ) (x : Flying) (rest down : List Flying) (old new : Scene Server SO SI) (sent : List Sent) → old.state.rules ≡ rules → Stories rules had f trace (x ∷ rest) down old.state.jobs.list client
+      → Numbers f old.state.jobs.last (x ∷ rest) client.next → AreRight f new.state.jobs.list → SendsAll s.out old.outbox sent new.outbox
+      → Does s.out row old.state old.outbox.half x.frame.message.header now sent new.state → (a : HereUp x rest down old.state.jobs.list) → IsAskRow rules (request_of a.b) row
+      → ComesUp c s rules had f trace rest down client old new
+  by_ask_row (MakeJob request) now x rest down old new sent ruled stories numbers right sends does a is =
+      let k : ℕ = x.frame.message.header.stream_id in
+      let job = new_job (old.state.jobs.last + 1) x.frame.message.header request (unary_body old.state.rules now request) in
+      let kind : is_stream job.body ≡ false = unary_kind old.state.rules now request in
+      makes job x rest down old new sent stories numbers right sends does.1 refl (ap (λ (t : Server). t.jobs.list) does.0) (ap (λ (t : Server). t.jobs.last) does.0) a
+      (record {
+        request = ap (λ (q : Request). Some q) is ∙ ap (λ (t : Bool). Some (asked_by t (request_of a.b))) (sym kind);
+        stream = refl;
+        kind = λ sync. kind;
+      })
+  by_ask_row (MakeStream request) now x rest down old new sent ruled stories numbers right sends does a is =
+      let job = new_job (old.state.jobs.last + 1) x.frame.message.header (without_payload request) (stream_body old.state.services.bare_openings x.frame.message.header.flags request.payload) in
+      makes job x rest down old new sent stories numbers right sends does.1 refl (ap (λ (t : Server). t.jobs.list) does.0) (ap (λ (t : Server). t.jobs.last) does.0) a
+      (record {
+        request = ap (λ (q : Request). Some (without_payload q)) is.0;
+        stream = refl;
+        kind = λ sync. let bad : SyncRules ≡ AsyncRules = sym sync ∙ is.1 in cc;
+      })
+  by_ask_row (SendResponse response) now x rest down old new sent ruled stories numbers right sends does a is =
+      refers x rest down old new stories numbers does.0
+      (own_refers c s old.state.rules x.frame.message.header.stream_id response sent old.outbox new.outbox a.known.server.within is does.1 sends) (inl a)
+  by_ask_row row now x rest down old new sent ruled stories numbers right sends does a is = absurd is
+
+  -- and of data
+  by_item_row : (row : Row) (now : ℕ) (x : Flying) (rest down : List Flying) (old new : Scene Server SO SI) (sent : List Sent) → Stories rules had f trace (x ∷ rest) down old.state.jobs.list client
+      → Numbers f old.state.jobs.last (x ∷ rest) client.next → SendsAll s.out old.outbox sent new.outbox
+      → Does s.out row old.state old.outbox.half x.frame.message.header now sent new.state → (a : HerePassed x rest down old.state.jobs.list) → IsItemRow row
+      → ComesUp c s rules had f trace rest down client old new
+  by_item_row (PutIn payload) now x rest down old new sent stories numbers sends does a is = puts payload now x rest down old new sent stories numbers sends does a
+  by_item_row (SendResponse response) now x rest down old new sent stories numbers sends does a is =
+      refers x rest down old new stories numbers does.0
+      (own_refers c s old.state.rules x.frame.message.header.stream_id response sent old.outbox new.outbox a.known.server.within is does.1 sends) (inr a)
+  by_item_row Ignore now x rest down old new sent stories numbers sends does a is =
+      refers x rest down old new stories numbers does.0 (nothing_refers c s x.frame.message.header.stream_id old.outbox new.outbox (none_sent s.out old.outbox sent new.outbox does.1 sends)) (inr a)
+  by_item_row row now x rest down old new sent stories numbers sends does a is = absurd is
+
+  -- the row of a frame that arrives as it was sent
+  abbrev row_at : Server → Flying → Row
+  row_at t x = case_row t.rules t.services x.frame.message.header (case_of t.rules x.frame.message.header (Opened x.plain) (inlet_of (jobs_at t.jobs.list x.frame.message.header.stream_id)))
+
+  asked_row_is : (x : Flying) (rest down : List Flying) (t : Server) → t.rules ≡ rules → (a : HereUp x rest down t.jobs.list) → IsAskRow rules (request_of a.b) (row_at t x)
+  asked_row_is x rest down t ruled a =
+      let h : MessageHeader = x.frame.message.header in
+      let sent = a.known.server.is_work in
+      let none : jobs_at t.jobs.list h.stream_id ≡ [] = a.known.server.jobs_is in
+      subst (λ (plain : List ℕ). IsAskRow rules (request_of a.b) (case_row t.rules t.services h (case_of t.rules h (Opened plain) (inlet_of (jobs_at t.jobs.list h.stream_id))))) (sym sent.plain)
+      (subst (λ (jobs : List ActiveJob). IsAskRow rules (request_of a.b) (case_row t.rules t.services h (case_of t.rules h (Opened (request_bytes (request_of a.b))) (inlet_of jobs)))) (sym none)
+      (subst (λ (r : Rules). IsAskRow rules (request_of a.b) (case_row r t.services h (case_of r h (Opened (request_bytes (request_of a.b))) Absent))) (sym ruled)
+      (ask_row rules t.services h (request_of a.b) sent.known sent.short sent.type_)))
+
+  passed_row_is : (x : Flying) (rest down : List Flying) (t : Server) → (a : HerePassed x rest down t.jobs.list) → IsItemRow (row_at t x)
+  passed_row_is x rest down t a =
+      let k : ℕ = x.frame.message.header.stream_id in
+      let item : IsItem k x = (subst (λ (xs : List Flying). AllByRecursion (IsItem k) xs) a.items a.known.server.are_items).0 in
+      item_row t.rules t.services x.frame.message.header x.plain (inlet_of (jobs_at t.jobs.list k)) item.short item.type_
 
   -- one frame
-  comes_up : (now : ℕ) (x : Flying) (rest down : List Flying) (old new : Scene Server SO SI) (sent : List Sent) → old.state.rules ≡ SyncRules
-      → Does s.out (sync_row old.state.services x.frame.message.header (Opened x.plain)) old.state old.outbox.half x.frame.message.header now sent new.state → SendsAll s.out old.outbox sent new.outbox
-      → Stories had next f trace (x ∷ rest) down old.state.jobs.list kept → Numbers f old.state.jobs.last (x ∷ rest) next → AreRight f new.state.jobs.list
-      → ComesUp c s had next f trace rest down kept old new
-  comes_up now x rest down old new sent sync does sends stories numbers right =
+  comes_up : (now : ℕ) (x : Flying) (rest down : List Flying) (old new : Scene Server SO SI) (sent : List Sent) → old.state.rules ≡ rules
+      → Does s.out (row_at old.state x) old.state old.outbox.half x.frame.message.header now sent new.state → SendsAll s.out old.outbox sent new.outbox
+      → Stories rules had f trace (x ∷ rest) down old.state.jobs.list client → Numbers f old.state.jobs.last (x ∷ rest) client.next → AreRight f new.state.jobs.list
+      → ComesUp c s rules had f trace rest down client old new
+  comes_up now x rest down old new sent ruled does sends stories numbers right =
       let k : ℕ = x.frame.message.header.stream_id in
-      let a = asked_of x (parcels k rest) (stories k) (under_own id_of k x rest refl) in
-      let is_sent = a.known.server.is_work in
-      let b = has_method old.state.services a.request.service a.request.method in
-      let row : sync_row old.state.services x.frame.message.header (Opened x.plain) ≡ (if b then MakeJob a.request else SendResponse (status_response INVALID_ARGUMENT (path_text a.request.service a.request.method))) =
-      ap (λ (plain : List ℕ). sync_row old.state.services x.frame.message.header (Opened plain)) is_sent.plain ∙ request_row_is old.state.services x.frame.message.header a.request is_sent.known is_sent.short is_sent.type_ ∙ asked_by b a.request in
-      by_row b now x rest down old new sent sync stories numbers right sends a
-      (subst (λ (r : Row). Does s.out r old.state old.outbox.half x.frame.message.header now sent new.state) row does)
-
-  -- the rules stay
-  pub rules_kept : (now : ℕ) (front : List Flying) (old new : Scene Server SO SI) → ActsOn (serving s.out s.in_) now old front new → new.state.rules ≡ old.state.rules
-  rules_kept now [] old new p = ap (λ (x : Scene Server SO SI). x.state.rules) p
-  rules_kept now (x ∷ front) old new p = rules_kept now front p.0 new p.4 ∙ rules_stay s.out _ old.state _ _ now p.1 p.0.state p.2
+      elim (comes_of x (parcels k rest) (stories k) (under_own id_of k x rest refl)) [
+        | inl a ↦ by_ask_row (row_at old.state x) now x rest down old new sent ruled stories numbers right sends does a (asked_row_is x rest down old.state ruled a)
+        | inr a ↦ by_item_row (row_at old.state x) now x rest down old new sent stories numbers sends does a (passed_row_is x rest down old.state a)
+      ]
 
   -- frames, one after the other
-  pub feeds_up : (now : ℕ) (front rest down : List Flying) (old new : Scene Server SO SI) → old.state.rules ≡ SyncRules
-      → ActsOn (serving s.out s.in_) now old front new → Stories had next f trace (front ++ rest) down old.state.jobs.list kept → Numbers f old.state.jobs.last (front ++ rest) next → AreRight f new.state.jobs.list
-      → ComesUp c s had next f trace rest down kept old new
-  feeds_up now [] rest down old new sync p stories numbers right =
-      subst (λ (x : Scene Server SO SI). ComesUp c s had next f trace rest down kept old x) (sym p) (quiet_comes rest down old old refl stories numbers)
-  feeds_up now (x ∷ front) rest down old new sync p stories numbers right =
-      let does = subst (λ (r : Row). Does s.out r old.state old.outbox.half x.frame.message.header now p.1 p.0.state) (row_of_sync old.state (record { header = x.frame.message.header; opening = Opened x.plain; now = now }) sync) p.2 in
-      let first = comes_up now x (front ++ rest) down old p.0 p.1 sync does p.3 stories numbers (acts_right s f now front p.0 new p.4 right) in
-      let later = feeds_up now front rest (down ++ first.more) p.0 new (rules_stay s.out _ old.state _ _ now p.1 p.0.state p.2 ∙ sync) p.4 first.stories first.numbers right in
+  pub feeds_up : (now : ℕ) (front rest down : List Flying) (old new : Scene Server SO SI) → old.state.rules ≡ rules
+      → ActsOn (serving s.out s.in_) now old front new → Stories rules had f trace (front ++ rest) down old.state.jobs.list client → Numbers f old.state.jobs.last (front ++ rest) client.next → AreRight f new.state.jobs.list
+      → ComesUp c s rules had f trace rest down client old new
+  feeds_up now [] rest down old new ruled p stories numbers right =
+      subst (λ (x : Scene Server SO SI). ComesUp c s rules had f trace rest down client old x) (sym p) (record {
+        more = [];
+        stories = subst (λ (d : List Flying). Stories rules had f trace rest d old.state.jobs.list client) (sym (append-nil down)) stories;
+        numbers = numbers;
+        sent = λ y pipe flights way. rw append-nil way;
+      })
+  feeds_up now (x ∷ front) rest down old new ruled p stories numbers right =
+      let first = comes_up now x (front ++ rest) down old p.0 p.1 ruled p.2 p.3 stories numbers (acts_right s f now front p.0 new p.4 right) in
+      let later = feeds_up now front rest (down ++ first.more) p.0 new (rules_stay s.out _ old.state _ _ now p.1 p.0.state p.2 ∙ ruled) p.4 first.stories first.numbers right in
       record {
         more = first.more ++ later.more;
-        stories = subst (λ (d : List Flying). Stories had next f trace rest d new.state.jobs.list kept) (append_assoc down first.more later.more) later.stories;
+        stories = subst (λ (d : List Flying). Stories rules had f trace rest d new.state.jobs.list client) (append_assoc down first.more later.more) later.stories;
         numbers = later.numbers;
         sent = λ y pipe flights way. rw (← append_assoc) (later.sent y pipe (flights ++ first.more) (first.sent y pipe flights way));
       }
 
 -- ---- a frame comes to the client
 
-pub record ComesDown {CO CI : Type 0} (had : ℕ → Bool) (f : ℕ → ℕ) (trace : List Entry) (up down : List Flying) (jobs : List ActiveJob) (old new : Scene Client CO CI) : Type 0 where
-  pub stories : Stories had new.state.next f trace up down jobs (call_at new.state)
+-- there is no stream, and so none after it
+reaches_none : (h : MessageHeader) (opening : Opening) (old new : Option Stream) → Reaches (is_entered old) h opening old new → old ≡ None → new ≡ None
+reaches_none h opening old new reaches none = subst (λ (x : Option Stream). Reaches (is_entered x) h opening x new) none reaches
+
+pub record ComesDown {CO CI : Type 0} (rules : Rules) (had : ℕ → Bool) (f : ℕ → ℕ) (trace : List Entry) (up down : List Flying) (jobs : List ActiveJob) (old new : Scene Client CO CI) : Type 0 where
+  pub stories : Stories rules had f trace up down jobs new.state
   pub next : new.state.next ≡ old.state.next
   pub outbox : new.outbox ≡ old.outbox
 
-module _ {CO CI : Type 0} (c : Halves CO CI) (had : ℕ → Bool) (f : ℕ → ℕ) (trace : List Entry) where
+module _ {CO CI : Type 0} (c : Halves CO CI) (rules : Rules) (had : ℕ → Bool) (f : ℕ → ℕ) (trace : List Entry) where
   comes_down : (x : Flying) (up rest : List Flying) (jobs : List ActiveJob) (old new : Client) (sent : List Sent) (now : ℕ)
-      → LandsOnce old (record { header = x.frame.message.header; opening = Opened x.plain; now = now }) sent new → Stories had old.next f trace up (x ∷ rest) jobs (call_at old)
-      → Stories had new.next f trace up rest jobs (call_at new)
+      → LandsOnce old (record { header = x.frame.message.header; opening = Opened x.plain; now = now }) sent new → Stories rules had f trace up (x ∷ rest) jobs old
+      → Stories rules had f trace up rest jobs new
   comes_down x up rest jobs old new sent now p stories =
       let k : ℕ = x.frame.message.header.stream_id in
       let was = under_own id_of k x rest refl in
       let told = down_of x (parcels k rest) (stories k) was in
-      let landing : landing_of x.frame.message.header (Opened x.plain) ≡ Gives (by_status told.r.status told.r) =
-      ap (λ (plain : List ℕ). landing_of x.frame.message.header (Opened plain)) told.plain ∙ response_landing_is x.frame.message.header told.r told.known told.short told.type_ in
       let next : new.next ≡ old.next = ap (λ (s : Client). s.next) p.same in
-      let later : (i : ℕ) → Later (around had old.next) (around had new.next) i = λ i. next_up had old.next new.next i (omega (arith, next)) in
-      at_one (λ (n : ℕ). Place (around had new.next) n (here_at f trace up rest jobs (call_at new) n)) k
-      (lands_here x (parcels k rest) (later k) (stories k) was refl refl refl refl (subst (λ (l : Landing). LandsOn l (call_at old k) (call_at new k)) landing p.lands.own))
-      (λ i e. elsewhere (later i) (stories i) refl refl refl (sym (under_other id_of i x rest e)) (p.lands.others i (λ same. e (sym same))))
+      let later : (i : ℕ) → Later (around rules had old.next) (around rules had new.next) i = λ i. next_up rules had old.next new.next i (omega (arith, next)) in
+      at_one (λ (n : ℕ). Place (around rules had new.next) n (here_at f trace up rest jobs new n)) k
+      (lands_here x (parcels k rest) (later k) (stories k) was refl refl refl refl (subst (λ (l : Landing). LandsOn l (call_at old k) (call_at new k)) told.lands p.lands.own)
+      (reaches_none x.frame.message.header (Opened x.plain) (stream_at old k) (stream_at new k) p.reaches.own))
+      (λ i e. elsewhere (later i) (stories i) refl refl refl (sym (under_other id_of i x rest e)) (p.lands.others i (λ same. e (sym same))) (p.reaches.others i (λ same. e (sym same))))
 
   pub feeds_down : (now : ℕ) (front up rest : List Flying) (jobs : List ActiveJob) (old new : Scene Client CO CI)
-      → ActsOn (calling c.out c.in_) now old front new → Stories had old.state.next f trace up (front ++ rest) jobs (call_at old.state)
-      → ComesDown had f trace up rest jobs old new
+      → ActsOn (calling c.out c.in_) now old front new → Stories rules had f trace up (front ++ rest) jobs old.state
+      → ComesDown rules had f trace up rest jobs old new
   feeds_down now [] up rest jobs old new p stories =
-      subst (λ (x : Scene Client CO CI). ComesDown had f trace up rest jobs old x) (sym p) (record { stories = stories; next = refl; outbox = refl })
+      subst (λ (x : Scene Client CO CI). ComesDown rules had f trace up rest jobs old x) (sym p) (record { stories = stories; next = refl; outbox = refl })
   feeds_down now (x ∷ front) up rest jobs old new p stories =
       let first = comes_down x up (front ++ rest) jobs old.state p.0.state p.1 now p.2 stories in
       let later = feeds_down now front up rest jobs p.0 new p.4 first in

@@ -1,6 +1,6 @@
 -- Each event that moves bytes, cuts a pipe or fails a side keeps the invariant.
-use Rattle.ttrpc_pair.proofs.Words.{◌++◌, ◌∙◌, ◌≡◌, ◌≤◌, ℕ, after_carry, all_behind, arith, Bool, BreaksAt, call_at, calling, CarriesDown, CarriesUp, Client, Connection, cut_to, CutsDown, CutsUp, DeliversDown, DeliversUp, Entry, Error, failing, Failure, Halves, has_response, is_over, IsOwned, length, lent_of, List, Net, None, OnlyClient, OnlyServer, open_part, Option, Pipe, pipe_after_carry, Queue, refl, Scene, scene, Server, serving, Some, StaysUp, taken_from, with_client, with_server}
-use Rattle.ttrpc_headline.proofs.Delivers.{feeds_down, feeds_up, rules_kept}
+use Rattle.ttrpc_pair.proofs.Words.{◌++◌, ◌≡◌, ◌≤◌, ℕ, after_carry, all_behind, arith, Bool, BreaksAt, calling, CarriesDown, CarriesUp, Client, Connection, cut_to, CutsDown, CutsUp, DeliversDown, DeliversUp, Entry, Error, failing, Failure, Halves, has_response, is_over, IsOwned, length, lent_of, List, Net, None, OnlyClient, OnlyServer, open_part, Option, Pipe, pipe_after_carry, Queue, refl, Rules, Scene, scene, Server, serving, Some, StaysUp, taken_from, with_client, with_server}
+use Rattle.ttrpc_headline.proofs.Delivers.{feeds_down, feeds_up}
 use Rattle.ttrpc_headline.proofs.Keeps.{Keeps}
 use Rattle.ttrpc_headline.proofs.Numbers.{AreRight}
 use Rattle.ttrpc_headline.proofs.OneWay.{Lands, OneWay, as_heard, breaks_land, carries, cuts, dead, feeds_land, kept_some, not_both}
@@ -10,14 +10,14 @@ lent_fits : (failure : Option Failure) (n k : ℕ) (q : Queue) → k ≡ lent_of
 lent_fits None n k q e = omega (arith, e)
 lent_fits (Some x) n k q e = omega (arith, e)
 
-module _ {CO CI SO SI : Type 0} (c : Halves CO CI) (s : Halves SO SI) (seals : Bool) (f : ℕ → ℕ) (trace : List Entry) where
+module _ {CO CI SO SI : Type 0} (c : Halves CO CI) (s : Halves SO SI) (seals : Bool) (rules : Rules) (f : ℕ → ℕ) (trace : List Entry) where
   abbrev Kept : Net CO CI SO SI → Type 0
-  Kept w = Keeps c s f trace w
+  Kept w = Keeps c s rules f trace w
 
   -- the states of both cores stay, and what is in flight
   rewired : (w : Net CO CI SO SI) (i : Kept w) (x : Connection CO CI) (y : Connection SO SI) (p q : Pipe) → OneWay c.out s.in_ x.outbox y p i.up → OneWay s.out c.in_ y.outbox x q i.down
       → Kept (record { client = record w.client { connection = x }; server = record w.server { connection = y }; up = p; down = q; moment = w.moment; responded = w.responded })
-  rewired w i x y p q upward downward = record { up = i.up; down = i.down; stories = i.stories; numbers = i.numbers; sync = i.sync; own = i.own; upward = upward; downward = downward }
+  rewired w i x y p q upward downward = record { up = i.up; down = i.down; stories = i.stories; numbers = i.numbers; own = i.own; upward = upward; downward = downward }
 
   -- a side fails
   pub server_fails : (w : Net CO CI SO SI) (why : Failure) → Kept w → Kept (with_server w (record w.server { connection = failing w.server.connection why }))
@@ -44,16 +44,15 @@ module _ {CO CI SO SI : Type 0} (c : Halves CO CI) (s : Halves SO SI) (seals : B
   -- WHAT FRAMES DO THAT COME TO A SIDE: the first flights have acted there, and the others still are in flight, unless it
   -- failed.
   served : (w : Net CO CI SO SI) (i : Kept w) (new : Scene Server SO SI) (l : Lands c.out (serving s.out s.in_) w.moment w.client.connection.outbox (scene w.server.state w.server.connection) new i.up)
-      (t : Server) (y : Connection SO SI) (p : Pipe) → t ≡ new.state → AreRight f t.jobs.list → y.outbox ≡ new.outbox → OneWay c.out s.in_ w.client.connection.outbox y p l.rest
+      (t : Server) (y : Connection SO SI) (p : Pipe) → w.server.state.rules ≡ rules → t ≡ new.state → AreRight f t.jobs.list → y.outbox ≡ new.outbox → OneWay c.out s.in_ w.client.connection.outbox y p l.rest
       → Kept (record w { server = record { state = t; connection = y }; up = p })
-  served w i new l t y p state right outbox upward =
-      let u = feeds_up c s (has_response w) w.client.state.next f trace (call_at w.client.state) w.moment l.front l.rest i.down (scene w.server.state w.server.connection) new i.sync l.acts (rw l.all i.stories) (rw l.all i.numbers) (rw (← state) right) in
+  served w i new l t y p ruled state right outbox upward =
+      let u = feeds_up c s rules (has_response w) f trace w.client.state w.moment l.front l.rest i.down (scene w.server.state w.server.connection) new ruled l.acts (rw l.all i.stories) (rw l.all i.numbers) (rw (← state) right) in
       record {
         up = l.rest;
         down = i.down ++ u.more;
         stories = rw state u.stories;
         numbers = rw state u.numbers;
-        sync = rw state (rules_kept c s (has_response w) w.client.state.next f trace (call_at w.client.state) w.moment l.front (scene w.server.state w.server.connection) new l.acts ∙ i.sync);
         own = all_behind IsOwned l.front l.rest (rw l.all i.own);
         upward = upward;
         downward = rw outbox (u.sent w.client.connection w.down i.down i.downward);
@@ -63,23 +62,22 @@ module _ {CO CI SO SI : Type 0} (c : Halves CO CI) (s : Halves SO SI) (seals : B
       (t : Client) (x : Connection CO CI) (q : Pipe) → t ≡ new.state → x.outbox ≡ new.outbox → OneWay s.out c.in_ w.server.connection.outbox x q l.rest
       → Kept (record w { client = record { state = t; connection = x }; down = q })
   landed w i new l t x q state outbox downward =
-      let d = feeds_down c (has_response w) f trace 0 l.front i.up l.rest w.server.state.jobs.list (scene w.client.state w.client.connection) new l.acts (rw l.all i.stories) in
+      let d = feeds_down c rules (has_response w) f trace 0 l.front i.up l.rest w.server.state.jobs.list (scene w.client.state w.client.connection) new l.acts (rw l.all i.stories) in
       record {
         up = i.up;
         down = l.rest;
         stories = rw state d.stories;
         numbers = rw (state, d.next) i.numbers;
-        sync = i.sync;
         own = i.own;
         upward = rw (outbox, d.outbox) i.upward;
         downward = downward;
       }
 
   -- Bytes are delivered.
-  pub deliver_up : (w : Net CO CI SO SI) (n k : ℕ) (v : Net CO CI SO SI) → Kept w → AreRight f v.server.state.jobs.list → DeliversUp c s seals w n k v → Kept v
-  deliver_up w n k v i right p =
+  pub deliver_up : (w : Net CO CI SO SI) (n k : ℕ) (v : Net CO CI SO SI) → Kept w → w.server.state.rules ≡ rules → AreRight f v.server.state.jobs.list → DeliversUp c s seals w n k v → Kept v
+  deliver_up w n k v i ruled right p =
       let l = feeds_land c.out (serving s.out s.in_) w.moment w.server.state w.client.connection.outbox w.server.connection w.up i.up k v.server.state p.does.mid i.upward p.does.does in
-      let is = λ (y : Connection SO SI). served w i (scene v.server.state p.does.mid) l.0 v.server.state y (taken_from w.up k) refl right in
+      let is = λ (y : Connection SO SI). served w i (scene v.server.state p.does.mid) l.0 v.server.state y (taken_from w.up k) ruled refl right in
       rw p.only (as_heard (λ y. Kept (record (with_server w (record { state = v.server.state; connection = y })) { up = taken_from w.up k })) (is_over (taken_from w.up k)) p.does.mid v.server.connection p.does.hears
       (is p.does.mid refl (record { bytes = λ alive. l.1; linked = λ alive. l.0.linked })) (λ why. is (failing p.does.mid why) refl (dead c.out s.in_ _ _ _ _ (kept_some p.does.mid.failure why))))
 
@@ -96,10 +94,10 @@ module _ {CO CI SO SI : Type 0} (c : Halves CO CI) (s : Halves SO SI) (seals : B
       (is p.does.mid refl (record { bytes = λ alive. l.1; linked = λ alive. l.0.linked })) (λ why. is (failing p.does.mid why) refl (dead s.out c.in_ _ _ _ _ (kept_some p.does.mid.failure why))))
 
   -- A side fails at bytes that are delivered.
-  pub break_up : (w : Net CO CI SO SI) (n : ℕ) (told : Error) (v : Net CO CI SO SI) → Kept w → AreRight f v.server.state.jobs.list → BreaksAt (serving s.out s.in_) w.server.state w.server.connection w.up w.moment n told v.server.state v.server.connection → OnlyServer c s seals w v → Kept v
-  break_up w n told v i right b only =
+  pub break_up : (w : Net CO CI SO SI) (n : ℕ) (told : Error) (v : Net CO CI SO SI) → Kept w → w.server.state.rules ≡ rules → AreRight f v.server.state.jobs.list → BreaksAt (serving s.out s.in_) w.server.state w.server.connection w.up w.moment n told v.server.state v.server.connection → OnlyServer c s seals w v → Kept v
+  break_up w n told v i ruled right b only =
       let l = breaks_land c.out (serving s.out s.in_) w.moment w.server.state w.client.connection.outbox w.server.connection w.up i.up n told v.server.state v.server.connection i.upward b in
-      rw only (served w i b.mid l v.server.state v.server.connection w.up b.state right b.outbox (dead c.out s.in_ _ _ _ _ (not_both v.server.connection.failure b.failure b.fails)))
+      rw only (served w i b.mid l v.server.state v.server.connection w.up ruled b.state right b.outbox (dead c.out s.in_ _ _ _ _ (not_both v.server.connection.failure b.failure b.fails)))
 
   pub break_down : (w : Net CO CI SO SI) (n : ℕ) (told : Error) (v : Net CO CI SO SI) → Kept w → BreaksAt (calling c.out c.in_) w.client.state w.client.connection w.down 0 n told v.client.state v.client.connection → OnlyClient c s seals w v → Kept v
   break_down w n told v i b only =

@@ -1,7 +1,7 @@
 -- The stream of each job. There is one function that is right at every state of a run; the streams of the jobs that were
 -- made rise, and so do the ids of the requests in flight, from above them to below the client's next. So no two jobs have
 -- the same stream.
-use Rattle.ttrpc_pair.proofs.Words.{◌++◌, ◌+◌, ◌<◌, ◌∙◌, ◌∷◌, ◌≡◌, ◌≤◌, ◌⊎◌, ℕ, [], ActiveJob, ActsAll, ActsOn, all_at, all_changed, all_in_front, all_less, AllByRecursion, Answer, AnswersBy, AnswersError, ap, arith, arrives, AsyncRules, Bool, brought_by, changed_under, ClientSide, cond-false, cond-true, Count, Deliver, Does, Done, EndsOne, Entry, eq-eqb, Err, Error, Event, false, filter, Finish, flying_without, Flying, Halves, Handed, header_of_frame, id_of, if◌then◌else◌, Incoming, inl, inr, IsFresh, Job, JobList, last_id, left_behind, List, MakeJob, MakeStream, map, MessageHeader, nat_eq, ne_eqb, Net, new_job, None, Ok, OutboundTransform, PutIn, refl, Refused, Reply, Respond, Result, Row, row_of, Rules, rules, Runs, Scene, scene, Sent, Server, ServerCore, ServerSide, serving, Some, stays, StaysFound, Steps, stream_body, subst, sym, SyncRules, Take, true, unary_body, under_stays, without_payload}
+use Rattle.ttrpc_pair.proofs.Words.{ActiveJob, ActsAll, ActsOn, AllByRecursion, Answer, AnswersBy, AnswersError, AsyncRules, Bool, ClientSide, Count, Deliver, Does, Done, Drain, DropReceiver, EndStream, EndsOne, Entry, Err, Error, Event, ExpireAll, Failure, Finish, Flying, Halves, Handed, Incoming, IsFresh, Item, Job, JobList, List, MESSAGE_TYPE_REQUEST, Mail, MakeJob, MakeStream, MessageHeader, Net, None, Ok, Option, OutboundTransform, Outbox, PutIn, ReceivesBy, Recv, Refused, Reply, Respond, Result, Row, Rules, Runs, Scene, Send, Sent, Server, ServerCore, ServerEnd, ServerPasses, ServerSide, Some, StaysFound, Steps, SyncRules, Take, Tick, Ticket, [], all_at, all_changed, all_in_front, all_less, ap, arith, arrives, at_stays, brought_by, changed_at, changed_under, cond-false, cond-true, eq-eqb, false, filter, flying_without, header_of_frame, id_of, if◌then◌else◌, inl, inr, last_id, left_behind, map, nat_eq, ne_eqb, new_job, on_mail, refl, row_of, rules, scene, serving, stays, stream_body, subst, sym, true, unary_body, under_stays, unheard, with_server, without_payload, without_receiver, ℕ, ◌++◌, ◌+◌, ◌<◌, ◌∙◌, ◌∷◌, ◌≡◌, ◌≤◌, ◌⊎◌}
 use Rattle.std.proofs.Common.{suc, zero}
 use Rattle.ttrpc_story.proofs.Words.{IsOneToOne, IsRightAt, IsStreamOf}
 
@@ -43,32 +43,53 @@ one_made f last low s is more n = record {
   ];
 }
 
--- the ids of these flights rise, from the one number on to below the other
+-- whether a flight is a request
+abbrev pub asks : Flying → Bool
+asks x = nat_eq x.frame.message.header.type_ MESSAGE_TYPE_REQUEST
+
+-- the number behind a flight's id, if it is a request
+abbrev pub past : Bool → ℕ → ℕ → ℕ
+past true low id = id + 1
+past false low id = low
+
+-- the ids of the requests among these flights rise, from the one number on to below the other
 abbrev pub Between : ℕ → List Flying → ℕ → Type 0
 Between low [] high = low ≤ high
-Between low (x ∷ xs) high = (low ≤ id_of x) × Between (id_of x + 1) xs high
+Between low (x ∷ xs) high = (asks x ≡ true → low ≤ id_of x) × Between (past (asks x) low (id_of x)) xs high
+
+past_up : (t : Bool) (low id : ℕ) → (t ≡ true → low ≤ id) → low ≤ past t low id
+past_up true low id h = omega (arith, h refl)
+past_up false low id h = omega arith
+
+lower_past : (t : Bool) (low low2 id : ℕ) (xs : List Flying) (high : ℕ) → (Between low xs high → Between low2 xs high) → Between (past t low id) xs high → Between (past t low2 id) xs high
+lower_past true low low2 id xs high later h = h
+lower_past false low low2 id xs high later h = later h
 
 lower : (low low2 : ℕ) (xs : List Flying) (high : ℕ) → low2 ≤ low → Between low xs high → Between low2 xs high
 lower low low2 [] high le h = omega (arith, le, h)
-lower low low2 (x ∷ xs) high le h = (omega (arith, le, h.0), h.1)
+lower low low2 (x ∷ xs) high le h = (λ e. omega (arith, le, h.0 e), lower_past (asks x) low low2 (id_of x) xs high (λ k. lower low low2 xs high le k) h.1)
 
 -- one more is queued
-pub more_between : (low : ℕ) (xs : List Flying) (x : Flying) (next next2 : ℕ) → next ≤ id_of x → id_of x + 1 ≤ next2 → Between low xs next → Between low (xs ++ x ∷ []) next2
-more_between low [] x next next2 le lt h = (omega (arith, h, le), lt)
-more_between low (y ∷ xs) x next next2 le lt h = (h.0, more_between (id_of y + 1) xs x next next2 le lt h.1)
+last_past : (t : Bool) (low next next2 id : ℕ) → low ≤ next → past t next id ≤ next2 → past t low id ≤ next2
+last_past true low next next2 id le h = h
+last_past false low next next2 id le h = omega (arith, le, h)
+
+pub more_between : (low : ℕ) (xs : List Flying) (x : Flying) (next next2 : ℕ) → (asks x ≡ true → next ≤ id_of x) → past (asks x) next (id_of x) ≤ next2 → Between low xs next → Between low (xs ++ x ∷ []) next2
+more_between low [] x next next2 le lt h = (λ e. omega (arith, h, le e), last_past (asks x) low next next2 (id_of x) h lt)
+more_between low (y ∷ xs) x next next2 le lt h = (h.0, more_between (past (asks y) low (id_of y)) xs x next next2 le lt h.1)
 
 -- some are thrown away
-kept_at : (b : Bool) (low : ℕ) (x : Flying) (xs : List Flying) (high : ℕ) → low ≤ id_of x → Between (id_of x + 1) xs high → Between low (if b then x ∷ xs else xs) high
+kept_at : (b : Bool) (low : ℕ) (x : Flying) (xs : List Flying) (high : ℕ) → (asks x ≡ true → low ≤ id_of x) → Between (past (asks x) low (id_of x)) xs high → Between low (if b then x ∷ xs else xs) high
 kept_at true low x xs high le h = (le, h)
-kept_at false low x xs high le h = lower (id_of x + 1) low xs high (omega (arith, le)) h
+kept_at false low x xs high le h = lower (past (asks x) low (id_of x)) low xs high (past_up (asks x) low (id_of x) le) h
 
 kept_between : (keep : Flying → Bool) (low : ℕ) (xs : List Flying) (high : ℕ) → Between low xs high → Between low (filter keep xs) high
 kept_between keep low [] high h = h
-kept_between keep low (x ∷ xs) high h = kept_at (keep x) low x (filter keep xs) high h.0 (kept_between keep (id_of x + 1) xs high h.1)
+kept_between keep low (x ∷ xs) high h = kept_at (keep x) low x (filter keep xs) high h.0 (kept_between keep (past (asks x) low (id_of x)) xs high h.1)
 
 behind_between : (keep : Flying → Bool) (low : ℕ) (front back : List Flying) (high : ℕ) → Between low (front ++ back) high → Between low (front ++ filter keep back) high
 behind_between keep low [] back high h = kept_between keep low back high h
-behind_between keep low (x ∷ front) back high h = (h.0, behind_between keep (id_of x + 1) front back high h.1)
+behind_between keep low (x ∷ front) back high h = (h.0, behind_between keep (past (asks x) low (id_of x)) front back high h.1)
 
 pub thrown_between : (owners : ℕ → Bool) (n : ℕ) (transit queued : List Flying) (low high : ℕ) → Between low (transit ++ queued) high → Between low (transit ++ flying_without owners n queued) high
 thrown_between owners n transit queued low high =
@@ -85,13 +106,44 @@ pub record Numbers (f : ℕ → ℕ) (last : ℕ) (up : List Flying) (next : ℕ
 pub fresh_numbers : (f : ℕ → ℕ) (next : ℕ) → Numbers f 0 [] next
 fresh_numbers f next = record { low = 0; within = omega arith; rise = none_made f 0; between = omega arith }
 
--- the first request is gone, and no job was made of it
+-- the first flight is gone, and no job was made of it
 pub passed_by : (f : ℕ → ℕ) (last : ℕ) (x : Flying) (up : List Flying) (next : ℕ) → Numbers f last (x ∷ up) next → Numbers f last up next
-passed_by f last x up next n = record { low = n.low; within = n.within; rise = n.rise; between = lower (id_of x + 1) n.low up next (omega (arith, n.between.0)) n.between.1 }
+passed_by f last x up next n = record {
+  low = n.low;
+  within = n.within;
+  rise = n.rise;
+  between = lower (past (asks x) n.low (id_of x)) n.low up next (past_up (asks x) n.low (id_of x) n.between.0) n.between.1;
+}
 
 -- a job was made of it
-pub made_of : (f : ℕ → ℕ) (last : ℕ) (x : Flying) (up : List Flying) (next : ℕ) → f (last + 1) ≡ id_of x → id_of x ≤ last_id → Numbers f last (x ∷ up) next → Numbers f (last + 1) up next
-made_of f last x up next is within n = record { low = id_of x + 1; within = omega (arith, within); rise = one_made f last n.low (id_of x) is n.between.0 n.rise; between = n.between.1 }
+pub made_of : (f : ℕ → ℕ) (last : ℕ) (x : Flying) (up : List Flying) (next : ℕ) → asks x ≡ true → f (last + 1) ≡ id_of x → id_of x ≤ last_id → Numbers f last (x ∷ up) next → Numbers f (last + 1) up next
+made_of f last x up next is_asked is within n = record {
+  low = id_of x + 1;
+  within = omega (arith, within);
+  rise = one_made f last n.low (id_of x) is (n.between.0 is_asked) n.rise;
+  between = subst (λ (t : Bool). Between (past t n.low (id_of x)) up next) is_asked n.between.1;
+}
+
+-- one more is queued, a request of the client's next id, or data
+pub asked_more : (f : ℕ → ℕ) (last : ℕ) (up : List Flying) (x : Flying) (next next2 : ℕ) → next ≤ id_of x → id_of x + 1 ≤ next2 → next ≤ next2 → Numbers f last up next → Numbers f last (up ++ x ∷ []) next2
+asked_more f last up x next next2 le lt more n = record {
+  low = n.low;
+  within = n.within;
+  rise = n.rise;
+  between = more_between n.low up x next next2 (λ e. le) (by (asks x)) n.between;
+}
+  where
+    by : (t : Bool) → past t next (id_of x) ≤ next2
+    by true = lt
+    by false = more
+
+pub items_more : (f : ℕ → ℕ) (last : ℕ) (up : List Flying) (x : Flying) (next : ℕ) → asks x ≡ false → Numbers f last up next → Numbers f last (up ++ x ∷ []) next
+items_more f last up x next item n = record {
+  low = n.low;
+  within = n.within;
+  rise = n.rise;
+  between = more_between n.low up x next next (λ e. let bad : true ≡ false = sym e ∙ item in cc) (subst (λ (t : Bool). past t next (id_of x) ≤ next) (sym item) (omega arith)) n.between;
+}
 
 -- ---- a function that is right for the jobs that are left, and spare beyond the last
 
@@ -170,7 +222,34 @@ make_placed f old job id p = record {
   };
 }
 
--- mailboxes change
+-- ---- mailboxes change
+
+-- these are the jobs with mailboxes changed
+pub record AreChanged (old new : List ActiveJob) : Type 0 where
+  pub g : ActiveJob → ActiveJob
+  pub found : StaysFound g
+  pub is : new ≡ map g old
+
+none_changed : (jobs : List ActiveJob) → jobs ≡ map (λ j. j) jobs
+none_changed [] = refl
+none_changed (j ∷ jobs) = ap (λ xs. j ∷ xs) (none_changed jobs)
+
+unchanged : (old new : List ActiveJob) → new ≡ old → AreChanged old new
+unchanged old new same = record { g = λ j. j; found = record { id = λ j. refl; header = λ j. refl; deadline = λ j. refl; request = λ j. refl; stream = λ j. refl }; is = same ∙ none_changed old }
+
+changed_one : (old new : List ActiveJob) (id : ℕ) (change : Mail → Mail) → new ≡ on_mail id change old → AreChanged old new
+changed_one old new id change is = record { g = changed_at id change; found = at_stays id change; is = is }
+
+-- an item was asked for of a job's stream
+pub received : (r : Rules) (failure : Option Failure) (s : Server) (id : ℕ) (given : Option (Result (List ℕ) Error)) (new : List ActiveJob) → ReceivesBy r failure s id given new → AreChanged s.jobs.list new
+received SyncRules failure s id given new h = unchanged s.jobs.list new h.1
+received AsyncRules failure s id given new (inl h) = changed_one s.jobs.list new id (λ _. h.1) h.4
+received AsyncRules failure s id given new (inr h) = unchanged s.jobs.list new h.1
+
+-- its receiver was dropped
+pub dropped : (s : Server) (id : ℕ) → AreChanged s.jobs.list (on_mail id without_receiver s.jobs.list)
+dropped s id = changed_one s.jobs.list _ id without_receiver refl
+
 jobs_map : (f : ℕ → ℕ) (n : ℕ) (change : ActiveJob → ActiveJob) → StaysFound change → (js : List ActiveJob) → AreBelow f n js → AreBelow f n (map change js)
 jobs_map f n change stay [] h = tt
 jobs_map f n change stay (j ∷ js) h = (rw (stay.id j, stay.header j) h.0, jobs_map f n change stay js h.1)
@@ -186,6 +265,26 @@ does_goes out f (PutIn payload) old o header now sent new d p =
     subst (λ (t : Server). Goes f old.jobs t.jobs) (sym d.0)
     (stay_placed f old.jobs _ refl (jobs_map f old.jobs.last change (under_stays header.stream_id (brought_by header payload)) old.jobs.list p.below) p)
 does_goes out f r old o header now sent new d p = same_placed f old.jobs new.jobs (ap (λ (t : Server). t.jobs) d.0) p
+
+changed_goes : (f : ℕ → ℕ) (old new : JobList) → new.last ≡ old.last → AreChanged old.list new.list → Placed f old → Goes f old new
+changed_goes f old new last c p = stay_placed f old new last (subst (λ (js : List ActiveJob). AreBelow f old.last js) (sym c.is) (jobs_map f old.last c.g c.found old.list p.below)) p
+
+-- jobs expire
+expire_goes : {O : Type 0} (out : OutboundTransform O) (f : ℕ → ℕ) (expired : List ActiveJob) (old : Server) (from : Outbox O) (new : Server) (to : Outbox O) → ExpireAll out old from expired new to → Placed f old.jobs → Goes f old.jobs new.jobs
+expire_goes out f [] old from new to e p = same_placed f old.jobs new.jobs (ap (λ (t : Server). t.jobs) e.0) p
+expire_goes out f (j ∷ js) old from new to e p =
+    let mid = e.0 in
+    let one = e.2 in
+    let last : mid.jobs.last ≡ old.jobs.last = ap (λ (t : Server). t.jobs.last) one.state in
+    let list : mid.jobs.list ≡ one.at.front ++ one.at.back = ap (λ (t : Server). t.jobs.list) one.state in
+    let first = stay_placed f old.jobs mid.jobs last
+    (subst (λ (xs : List ActiveJob). AreBelow f old.jobs.last xs) (sym list) (all_less (IsPlaced f old.jobs.last) one.at.front one.at.back j (subst (λ (xs : List ActiveJob). AreBelow f old.jobs.last xs) one.at.is p.below))) p in
+    then_goes f old.jobs mid.jobs new.jobs first (expire_goes out first.g js mid e.1 new to e.3 first.placed)
+
+passes_goes : {O I : Type 0} (out : OutboundTransform O) (f : ℕ → ℕ) (r : Rules) (failure : Option Failure) (old : ServerCore O I) (now : ℕ) (new : ServerCore O I) → ServerPasses out r failure old now new → Placed f old.state.jobs → Goes f old.state.jobs new.state.jobs
+passes_goes out f SyncRules failure old now new same p = same_placed f old.state.jobs new.state.jobs (ap (λ (x : ServerCore _ _). x.state.jobs) same) p
+passes_goes out f AsyncRules None old now new t p = expire_goes out f t.expired old.state old.connection.outbox new.state new.connection.outbox t.expire p
+passes_goes out f AsyncRules (Some why) old now new same p = same_placed f old.state.jobs new.state.jobs (ap (λ (x : ServerCore _ _). x.state.jobs) same) p
 
 acts_go : {O I : Type 0} (h : Halves O I) (f : ℕ → ℕ) (now : ℕ) (fs : List Incoming) (old new : Scene Server O I) → ActsAll (serving h.out h.in_) now old fs new
     → Placed f old.state.jobs → Goes f old.state.jobs new.state.jobs
@@ -259,6 +358,14 @@ module _ {CO CI SO SI : Type 0} (c : Halves CO CI) (s : Halves SO SI) (seals : B
   goes f w Take (Handed (Some job)) v p q = hand_goes f w v job q p
   goes f w (Answer id result) Done v p q = answer_goes f w.server v.server id result q.0 p
   goes f w (Respond id response) Done v p q = same_placed f (jobs w) (jobs v) (ap (λ (z : ServerCore SO SI). z.state.jobs) q.does.same) p
+  goes f w (EndStream id result) Done v p q = let t = q.0 in ends_go f (jobs w) (jobs v) id t.job (ap (λ (z : ServerCore SO SI). z.state.jobs.last) t.same) t.ends p
+  goes f w (Recv (ServerEnd id)) (Item given) v p q =
+      changed_goes f (jobs w) (jobs v) (ap (λ (z : ServerCore SO SI). z.state.jobs.last) q.0.same) (received w.server.state.rules w.server.connection.failure w.server.state id given v.server.state.jobs.list q.0.own) p
+  goes f w (DropReceiver (ServerEnd id)) Done v p q =
+      subst (λ (x : Net CO CI SO SI). Goes f (jobs w) (jobs x)) (sym q.1) (changed_goes f (jobs w) (jobs (with_server w (unheard w.server id))) refl (dropped w.server.state id) p)
+  goes f w (Send (ServerEnd id) item) (Ticket ticket) v p q = same_placed f (jobs w) (jobs v) (ap (λ (z : ServerCore SO SI). z.state.jobs) q.0.same) p
+  goes f w Drain Done v p q = same_placed f (jobs w) (jobs v) (ap jobs q) p
+  goes f w (Tick now) Done v p q = passes_goes s.out f w.server.state.rules w.server.connection.failure w.server now v.server q.serves p
   goes f w (Finish id) Done v p q = let t = q.0 in ends_go f (jobs w) (jobs v) id t.job (ap (λ (z : ServerCore SO SI). z.state.jobs.last) t.same) t.ends p
   goes f w (Deliver ServerSide n) (Count k) v p (inl q) = acts_go s f w.moment q.does.does.frames (scene w.server.state w.server.connection) (scene v.server.state q.does.mid) q.does.does.acts p
   goes f w (Deliver ServerSide n) (Count k) v p (inr q) = same_placed f (jobs w) (jobs v) (ap jobs q.only) p

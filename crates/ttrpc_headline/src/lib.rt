@@ -4,5 +4,5 @@
 
 pub mod laws;
 
-pub use ttrpc_events::{Entry, Event, Reply, Side, Trace};
+pub use ttrpc_events::{Entry, Event, Reply, Side, StreamEnd, Trace};
 pub use ttrpc_pair::{ClientCore, Pair, ServerCore};

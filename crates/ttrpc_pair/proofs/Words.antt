@@ -1,47 +1,65 @@
 -- The words that these proofs use, and those of the headline above them, in one list.
-pub use Rattle.std.proofs.Common.{ℤ, codes, pos}
+pub use Rattle.std.proofs.Common.{codes}
 pub use Rattle.std.proofs.lemmas.Bool.{and_parts, le-ltb}
-pub use Rattle.std.specs.Vec.{vec_capacity}
 pub use Rattle.ttrpc_frame.specs.declared.header.TheConstants.{MESSAGE_TYPE_RESPONSE}
-pub use Rattle.ttrpc_proto.specs.Messages.{empty_request, empty_response, is_ok_code, IsRequest, IsResponse, request_fields, request_step, response_fields, response_step}
+pub use Rattle.ttrpc_proto.specs.Messages.{empty_request, empty_response, IsRequest, IsResponse, request_fields, request_step, response_fields, response_step}
 pub use Rattle.ttrpc_frame.specs.Queue.{empty_queue, has_begun}
 pub use Rattle.ttrpc_secure.specs.Halves.{IsPaired}
 pub use Rattle.ttrpc_connection.specs.declared.arrived.Opening.TheVariants.{Opened}
 pub use Rattle.ttrpc_connection.specs.Outbox.{Outbox}
-pub use Rattle.ttrpc_connection.proofs.Words.{[], ActsAll, after_report, all_at, all_behind, all_changed, all_in_front, all_joined, all_less, AllByRecursion, ap, append-nil, append_assoc, arith, associated, begun_count, between_other, between_own, Bool, cases_Bool, cases_eq, cond-false, cond-true, cond_both, drop, eq-eqb, eqb-true, Err, Error, error_of, false, Fed, Feeds, filter, first_failure, given, header_of_frame, Held, if◌then◌else◌, Incoming, inl, inr, INVALID_ARGUMENT, is_some, IsTold, length, List, ltb-true, map, MESSAGE_LENGTH_MAX, MESSAGE_TYPE_REQUEST, MessageHeader, min, nat_eq, nat_lt, ne_eqb, None, nothing, Ok, open_part, Option, OutboundTransform, pushed_other, pushed_own, Queue, Queued, refl, Result, rules, safe_limit, scene, Scene, SendsAll, SendsOne, Sent, Some, subst, suc, sym, take, take-append-drop, true, under_both, under_other, under_own, Ways, with_frame, with_lent, with_payload, without, zero, ℕ, ◌&&◌, ◌++◌, ◌+◌, ◌-◌, ◌<◌, ◌^◌, ◌∙◌, ◌∷◌, ◌≡◌, ◌≢◌, ◌≤◌, ◌⊎◌}
+pub use Rattle.ttrpc_connection.proofs.Words.{[], ActsAll, after_report, all_at, all_behind, all_changed, all_in_front, all_joined, all_less, AllByRecursion, ap, append-nil, append_assoc, arith, associated, begun_count, between_other, between_own, Bool, cases_Bool, cases_eq, cond-false, cond-true, drop, eq-eqb, eqb-true, Err, Error, error_of, false, Fed, Feeds, filter, first_failure, given, header_of_frame, Held, if◌then◌else◌, Incoming, inl, inr, INVALID_ARGUMENT, is_some, IsTold, length, List, ltb-true, map, MESSAGE_LENGTH_MAX, MESSAGE_TYPE_REQUEST, MessageHeader, min, nat_eq, nat_lt, ne_eqb, None, nothing, Ok, open_part, Option, OutboundTransform, pushed_other, pushed_own, Queue, Queued, refl, Result, rules, safe_limit, scene, Scene, SendsAll, SendsOne, Sent, Some, subst, suc, sym, take, take-append-drop, true, under_both, under_other, under_own, Ways, with_frame, with_lent, with_payload, without, zero, ℕ, ◌&&◌, ◌++◌, ◌+◌, ◌-◌, ◌<◌, ◌^◌, ◌∙◌, ◌∷◌, ◌≡◌, ◌≢◌, ◌≤◌, ◌⊎◌}
 pub use Rattle.ttrpc_connection.specs.Feeds.{arrived as arrives, IsFailed}
 pub use Rattle.ttrpc_connection.specs.OneEnd.{failing}
 pub use Rattle.ttrpc_server.specs.declared.job.ActiveJob.{ActiveJob}
 pub use Rattle.ttrpc_server.specs.declared.job.Job.{Job}
 pub use Rattle.ttrpc_server.specs.declared.server.ServerCore.{ServerCore}
-pub use Rattle.ttrpc_server.proofs.Streams.{row_of_sync, rules_stay, stream_id_of}
-pub use Rattle.ttrpc_server.proofs.Words.{Answers, Does, Drops, EndsOne, fit_to_limit, has_method, IsTaken, IsUnknown, JobList, jobs_at, MakeJob, new_job, Request, request_row, Responds, Response, response_bytes, response_size, Row, row_of, Server, serving, status_response, sync_row, SendResponse}
-pub use Rattle.ttrpc_server.specs.Protocol.{AnswersError, Finishes, Hands, HasUnsent, limit_text, RefusesAnswer, SendsOwnAnswer}
-pub use Rattle.ttrpc_server.specs.Table.{asked_row, MakeStream, path_text, PutIn}
-pub use Rattle.ttrpc_client.specs.declared.call.Call.{Call}
-pub use Rattle.ttrpc_client.specs.declared.call.Call.TheVariants.{Ended, Expired, Waiting}
+pub use Rattle.ttrpc_server.proofs.Streams.{row_elsewhere, row_made, rules_stay, stream_id_of}
+pub use Rattle.ttrpc_server.proofs.Words.{Answers, Does, Drops, EndsOne, has_method, IsTaken, IsUnknown, JobList, jobs_at, MakeJob, new_job, Request, request_row, Responds, Response, response_bytes, response_size, Row, row_of, Server, serving, status_response, SendResponse}
+pub use Rattle.ttrpc_server.specs.Protocol.{AnswersError, drained, ExpireAll, Finishes, fit_to_message, fitted, Hands, IsErrorResponse, limit_text, SendsOwnAnswer, timeout_response}
+pub use Rattle.ttrpc_server.specs.Protocol.{Passes as ServerPasses, Ticks as ServerTicks}
+pub use Rattle.ttrpc_server.specs.Table.{asked_row, case_of, case_row, data_case, even_id_text, Ignore, inactive_text, inlet_of, MakeStream, method_text, other_of, path_text, PutIn, service_text}
 pub use Rattle.ttrpc_client.specs.declared.client.ClientCore.{ClientCore}
-pub use Rattle.ttrpc_client.proofs.Words.{call_at, calling, Client, due_at, expired_at, GivesOutcome, InboundTransform, is_due, Landing, landing_of, LandsOn, LandsOnce, last_id, left_of, Passes, taken_back, takes_back, throws, Ticks}
-pub use Rattle.ttrpc_client.specs.Protocol.{by_code, by_status, expired_error, Gives, request_bytes, Requests, TakesOutcome, TellsOutcome}
+pub use Rattle.ttrpc_client.proofs.Words.{call_at, calling, Client, due_at, InboundTransform, Landing, landing_of, LandsOn, LandsOnce, last_id, Passes, taken_back, takes_back, throws, Ticks}
+pub use Rattle.ttrpc_client.specs.Protocol.{by_status, Gives, request_bytes, Requests, TakesOutcome}
 pub use Rattle.ttrpc_flight.proofs.Bytes.{carried_in_flight, cut_in_flight, fed_in_flight, none_in_flight, placed_in_flight, thrown_in_flight}
 pub use Rattle.ttrpc_flight.proofs.Losing.{all_thrown, left_behind, stays}
 pub use Rattle.ttrpc_flight.proofs.Parcels.{id_of, parcels_thrown, parcels_thrown_elsewhere}
 pub use Rattle.ttrpc_flight.proofs.Seals.{more_linked, none_linked, thrown_linked}
 pub use Rattle.ttrpc_flight.proofs.Words.{ActsOn, AreInFlight, AreLinked, arrived, Flying, flying_without, IsOwned, IsSound, parcels}
-pub use Rattle.ttrpc_pair.specs.Types.{Answer, CallEvent, CancelledDuringWrite, Carry, Connection, Count, Cut, DeadlineDuringWrite, Deliver, Disconnected, DisconnectedInside, Done, DropCall, Entry, Event, Fail, Failure, Finish, Given, Handed, HandlerError, Named, Outcome, Refused, Reply, Respond, Take, Tick, Told}
+pub use Rattle.ttrpc_pair.specs.Types.{Answer, CallEvent, CancelledDuringWrite, Carry, Connection, Count, Cut, DeadlineDuringWrite, Deliver, Disconnected, DisconnectedInside, Done, DropCall, Entry, Event, Fail, Failure, Finish, Given, Handed, HandlerError, Named, Outcome, Refused, Reply, Respond, Take, Tick, Told, Open as OpenEvent, Recv, Send, Close, DropReceiver, DropSender, EndStream, Drain, Ticket, Item}
 pub use Rattle.ttrpc_pair.specs.Net.{Halves, halves, has_response, IsFresh, Net, with_client, with_server}
 pub use Rattle.ttrpc_pair.specs.Pipes.{empty_pipe, is_over, Pipe}
-pub use Rattle.ttrpc_pair.specs.Steps.{after_carry, AnswersBy, Awaits, AwaitsNone, BreaksAt, pipe_after_carry, CarriesDown, CarriesUp, cut_to, CutsDown, CutsUp, DeliversDown, DeliversUp, StaysUp, failed_by_hand, Forgot, Hears, lent_of, OnlyClient, OnlyServer, RespondsTo, Runs, Steps, taken_from, Ticked}
-pub use Rattle.ttrpc_server.specs.State.{brought_by, changed_under, Services, stream_body, unary_body, without_payload}
-pub use Rattle.ttrpc_server.specs.declared.rows.Asked.TheVariants.{Call as AskedCall, NoPath}
+pub use Rattle.ttrpc_pair.specs.Steps.{after_carry, AnswersBy, BreaksAt, IsEnd, pipe_after_carry, CarriesDown, CarriesUp, cut_to, CutsDown, CutsUp, DeliversDown, DeliversUp, StaysUp, failed_by_hand, Forgot, Hears, lent_of, OnlyClient, OnlyServer, RespondsTo, Runs, Steps, taken_from}
+pub use Rattle.ttrpc_server.specs.State.{brought_by, changed_at, changed_under, has_service, has_stream, is_stream, job_at, on_mail, Services, stream_body, unary_body, without_payload}
+pub use Rattle.ttrpc_server.specs.declared.rows.Asked.TheVariants.{Call as AskedCall, NoMethod, NoService, Stream as Chat}
+pub use Rattle.ttrpc_server.specs.declared.rows.Case.{Case}
+pub use Rattle.ttrpc_server.specs.declared.rows.Case.TheVariants.{Asks, EvenId, Skipped}
+pub use Rattle.ttrpc_server.specs.declared.rows.Inlet.{Inlet}
+pub use Rattle.ttrpc_server.specs.declared.rows.Inlet.TheVariants.{Absent, Busy, Full, Taking}
 pub use Rattle.ttrpc_server.specs.declared.rules.Rules.{Rules}
 pub use Rattle.ttrpc_server.specs.declared.rules.Rules.TheVariants.{Async as AsyncRules, Sync as SyncRules}
 pub use Rattle.ttrpc_client.specs.State.{waits}
 pub use Rattle.ttrpc_events.specs.declared.events.Side.TheVariants.{Client as ClientSide, Server as ServerSide}
+pub use Rattle.ttrpc_events.specs.declared.events.StreamEnd.TheVariants.{Client as ClientEnd, Server as ServerEnd}
 pub use Rattle.ttrpc_client.specs.declared.kind.ClientKind.{ClientKind}
 pub use Rattle.ttrpc_client.specs.declared.kind.ClientKind.TheVariants.{Async as AsyncKind, Sync as SyncKind}
 pub use Rattle.ttrpc_connection.specs.Deadlines.{deadline_of}
 pub use Rattle.ttrpc_flight.proofs.Acting.{act_as_sent}
 pub use Rattle.ttrpc_wire.proofs.Folds.{reads_back}
 pub use Rattle.ttrpc_proto.specs.Laws.{request_again, request_fits, response_again, response_fits}
-pub use Rattle.ttrpc_server.proofs.Mapped.{StaysFound, under_stays}
+pub use Rattle.ttrpc_server.proofs.Mapped.{at_stays, mapped_at, StaysFound, under_stays}
+pub use Rattle.ttrpc_server.specs.Streaming.{EndsStream, IsCloseFrame, ReceivesBy, SendsItem, unheard}
+pub use Rattle.ttrpc_server.specs.Streaming.{ReceivesOne as JobReceives}
+pub use Rattle.ttrpc_client.specs.Protocol.{DropsReceiver, DropsSender, malformed_text, opening_flags, OpensStream, Reaches, ReceivesAt, SendsOn, unsendable}
+pub use Rattle.ttrpc_client.specs.Protocol.{ReceivesOne as StreamReceives}
+pub use Rattle.ttrpc_client.specs.Streams.{is_entered, without_reader, without_sender}
+pub use Rattle.ttrpc_client.specs.declared.streams.Sender.{Sender}
+pub use Rattle.ttrpc_connection.specs.declared.arrived.Opening.{Opening}
+pub use Rattle.ttrpc_client.specs.State.{stream_at}
+pub use Rattle.ttrpc_client.specs.declared.streams.Stream.{Stream}
+pub use Rattle.ttrpc_connection.specs.Items.{SendsData}
+pub use Rattle.ttrpc_connection.specs.Mail.{Mail, without_receiver}
+pub use Rattle.ttrpc_frame.specs.Header.Oversize.{oversize_text}
+pub use Rattle.ttrpc_frame.specs.declared.header.TheConstants.{MESSAGE_TYPE_DATA}
+pub use Rattle.ttrpc_proto.specs.declared.error.Error.TheVariants.{Others}
+pub use Rattle.ttrpc_wire.specs.declared.values.code.Code.TheVariants.{UNIMPLEMENTED, UNKNOWN}

@@ -6,7 +6,6 @@ use Rattle.ttrpc_secure.specs.declared.transform.OutboundTransform.{Ghosts as Ou
 use Rattle.ttrpc_secure.specs.declared.transform.InboundTransform.{Ghosts as InboundTransform}
 use Rattle.ttrpc_secure.specs.Halves.{IsPaired}
 use Rattle.ttrpc_server.specs.declared.rules.Rules.{Rules}
-use Rattle.ttrpc_server.specs.declared.rules.Rules.TheVariants.{Sync}
 use Rattle.ttrpc_server.specs.declared.server.ServerCore.{ServerCore}
 use Rattle.ttrpc_server.specs.Protocol as server
 use Rattle.ttrpc_server.specs.State.{Services}
@@ -54,9 +53,7 @@ pub record IsFresh {CO CI SO SI : Type 0} (c : Halves CO CI) (s : Halves SO SI) 
   pub kind : ClientKind
   pub first : ℕ
   pub client : w.client ≡ client.new_core kind first w.client.connection.known w.client.connection.outbox.half w.client.connection.inbound
-  -- sync rules, the only ones that this world speaks of so far
   pub rules : Rules
-  pub sync : rules ≡ Sync
   pub services : Services
   pub server : w.server ≡ server.new_core rules services w.server.connection.known w.server.connection.outbox.half w.server.connection.inbound
   pub up : w.up ≡ empty_pipe

@@ -1,22 +1,29 @@
 -- What an event and its reply may do to a client, a server and their pipes.
 -- Source: PROTOCOL.md of ttrpc, "Streaming", by the tables of both cores.
 use Rattle.std.specs.Prelude.{◌≡◌, ◌⊎◌, ◌<◌, ◌≤◌, ◌++◌, ℕ, List, [], ◌∷◌, length, take, drop, min, codes, Bool, true, false, Option, Some, None, Result, Ok, Err}
-use Rattle.ttrpc_pair.specs.Types.{Error, Response, Connection, Failure, Told, Event, Call, Open, Outcome, Recv, Send, Close, DropCall, DropReceiver, DropSender, Take, Answer, Respond, Finish, EndStream, Drain, Tick, Carry, Deliver, Cut, Fail, Reply, Named, Given, Handed, Done, Count, Refused, NoMemory, NoStep, Entry}
+use Rattle.ttrpc_pair.specs.Types.{Error, Response, Connection, Failure, Told, Event, Call, Open, Outcome, Recv, Send, Close, DropCall, DropReceiver, DropSender, Take, Answer, Respond, Finish, EndStream, Drain, Tick, Carry, Deliver, Cut, Fail, Reply, Named, Ticket, Given, Item, Handed, Done, Count, Refused, NoMemory, NoStep, Entry}
 use Rattle.ttrpc_proto.specs.declared.error.Error.TheVariants.{Socket}
 use Rattle.ttrpc_proto.specs.Messages.{IsRequest, IsResponse}
 use Rattle.ttrpc_frame.specs.Queue.{Queue, open_part}
 use Rattle.ttrpc_connection.specs.Feeds.{Ways, Feeds, Breaks, IsFailed}
-use Rattle.ttrpc_connection.specs.Failure.{IsTold}
 use Rattle.ttrpc_connection.specs.OneEnd.{Ends, failing, lending, reporting}
 use Rattle.ttrpc_server.specs.declared.server.ServerCore.{ServerCore}
 use Rattle.ttrpc_server.specs.declared.job.ActiveJob.{ActiveJob}
-use Rattle.ttrpc_server.specs.State.{IsTaken, IsUnknown, NoneWaits, is_stream, takes_on}
-use Rattle.ttrpc_server.specs.Protocol.{HasOtherRules, HasUnsent, Answers, AnswersError, Finishes, Hands, QueuesResponse, serving}
-use Rattle.ttrpc_server.specs.Streaming.{unknown_job}
-use Rattle.ttrpc_client.specs.Protocol.{RefusesRequest, Forgets, Requests, TakesOutcome, calling}
+use Rattle.ttrpc_server.specs.declared.rules.Rules.{Rules}
+use Rattle.ttrpc_server.specs.declared.rules.Rules.TheVariants.{Async, Sync}
+use Rattle.ttrpc_server.specs.State.{IsTaken, IsUnknown, NoneWaits, takes_on}
+use Rattle.ttrpc_server.specs.Protocol.{Answers, AnswersError, Finishes, Hands, QueuesResponse, RefusesAnswer, RefusesFinish, RefusesResponse, drained, serving}
+use Rattle.ttrpc_server.specs.Protocol as server
+use Rattle.ttrpc_server.specs.Streaming.{EndsStream, RefusesEnd, RefusesItem, SendsItem, unheard}
+use Rattle.ttrpc_server.specs.Streaming as streams
+use Rattle.ttrpc_client.specs.declared.streams.Sender.TheVariants as sender
+use Rattle.ttrpc_client.specs.Protocol.{DropsReceiver, DropsSender, RefusesRequest, RefusesSending, RefusesStream, Forgets, OpensStream, Requests, SendsOn, TakesOutcome, calling}
+use Rattle.ttrpc_client.specs.Protocol as client
 use Rattle.ttrpc_client.specs.Calls.{Passes}
+use Rattle.ttrpc_connection.specs.Items.{close_flags}
 use Rattle.ttrpc_flight.specs.Flight.{bytes_after_carry}
 use Rattle.ttrpc_events.specs.declared.events.Side.TheVariants as side
+use Rattle.ttrpc_events.specs.declared.events.StreamEnd.TheVariants as end
 use Rattle.ttrpc_pair.specs.Pipes.{Pipe, is_over}
 use Rattle.ttrpc_pair.specs.Net.{Halves, Net, has_response, with_client, with_server}
 
@@ -67,14 +74,6 @@ BreaksAt w s old pipe now n told t new = Breaks w s old (take (min n (length pip
 abbrev pub failed_by_hand : Error
 failed_by_hand = Socket (codes "failed")
 
--- The server lives, and the job that was taken is a stream's, to which no one response is the answer.
-pub record IsOfStream {O I : Type 0} (old : ServerCore O I) (id : ℕ) (told : Error) : Type 0 where
-  pub alive : old.connection.failure ≡ None
-  pub job : ActiveJob
-  pub at : IsTaken old.state.jobs.list id job
-  pub stream : is_stream job.body ≡ true
-  pub is_told : IsTold unknown_job told
-
 -- ---- the events, each with its reply
 
 module _ {CO CI SO SI : Type 0} (c : Halves CO CI) (s : Halves SO SI) (seals : Bool) where
@@ -96,14 +95,6 @@ module _ {CO CI SO SI : Type 0} (c : Halves CO CI) (s : Halves SO SI) (seals : B
   AnswersBy old id (Ok response) new = IsResponse response × Answers s.out old id response new
   AnswersBy old id (Err error) new = AnswersError s.out old.state.rules old id error new
 
-  -- A response was refused: the connection has failed, or the response to a job that was taken can't be queued.
-  abbrev pub RefusesOne : ServerCore SO SI → ℕ → Result Response Error → Error → Type 0
-  RefusesOne old id result told = IsFailed old.connection.failure told ⊎ HasUnsent s.out old id result told
-
-  -- An answer was refused: the job that was taken is a stream's; or as above.
-  abbrev pub RefusesJob : ServerCore SO SI → ℕ → Result Response Error → Error → Type 0
-  RefusesJob old id result told = IsOfStream old id told ⊎ RefusesOne old id result told
-
   -- No answer may come for a job: it wasn't taken, or is over, or has its response already.
   abbrev pub AwaitsNone : Net CO CI SO SI → ℕ → Type 0
   AwaitsNone w id = IsUnknown w.server.state.jobs.list id ⊎ (has_response w id ≡ true)
@@ -117,15 +108,28 @@ module _ {CO CI SO SI : Type 0} (c : Halves CO CI) (s : Halves SO SI) (seals : B
   -- A response was queued for a job, which goes on.
   pub record RespondsTo (old : Net CO CI SO SI) (id : ℕ) (response : Response) (new : Net CO CI SO SI) : Type 0 where
     pub is_response : IsResponse response
+    pub rules : old.server.state.rules ≡ Sync
     pub awaits : Awaits old id
     pub does : QueuesResponse s.out old.server awaits.job.header.stream_id response new.server
     pub only : new ≡ record (with_server old new.server) { responded = old.responded ++ id ∷ [] }
 
-  -- A moment came.
+  -- A response to such a job was refused, as the core refuses it.
+  pub record RefusesRespond (old : Net CO CI SO SI) (id : ℕ) (response : Response) (told : Error) : Type 0 where
+    pub rules : old.server.state.rules ≡ Sync
+    pub awaits : Awaits old id
+    pub does : RefusesResponse s.out old.server awaits.job.header.stream_id response told
+
+  -- The end of a stream's job: what it sends is a value of its type.
+  abbrev pub IsEnd : Result (Option Response) Error → Type 0
+  IsEnd (Ok (Some response)) = IsResponse response
+  IsEnd end = Unit {0}
+
+  -- A moment came, for both sides.
   pub record Ticked (old : Net CO CI SO SI) (now : ℕ) (new : Net CO CI SO SI) : Type 0 where
     pub later : old.moment ≤ now
     pub does : Passes seals old.client.connection.failure old.client now new.client
-    pub only : new ≡ record (with_client old new.client) { moment = now }
+    pub serves : server.Passes s.out old.server.state.rules old.server.connection.failure old.server now new.server
+    pub only : new ≡ record (with_server (with_client old new.client) new.server) { moment = now }
 
   -- Bytes moved from the client into the pipe to the server, and were reported.
   pub record CarriesUp (old : Net CO CI SO SI) (n k : ℕ) (new : Net CO CI SO SI) : Type 0 where
@@ -178,25 +182,63 @@ module _ {CO CI SO SI : Type 0} (c : Halves CO CI) (s : Halves SO SI) (seals : B
     pub hears : Hears (is_over (cut_to old.down keep)) old.client.connection connection
     pub only : new ≡ record (with_client old (record old.client { connection = connection })) { down = cut_to old.down keep }
 
+  -- ---- where an event of the server is a step: it has failed, and says so; or the event is one of its rules, and of a job
+
+  -- it lives, and its rules are these
+  abbrev pub LivesBy : Rules → Net CO CI SO SI → Type 0
+  LivesBy rules w = (w.server.connection.failure ≡ None) × (w.server.state.rules ≡ rules)
+
+  -- it lives, and either its rules are these, or it is so
+  abbrev pub LivesOr : Rules → Type 0 → Net CO CI SO SI → Type 0
+  LivesOr rules P w = (w.server.connection.failure ≡ None) × ((w.server.state.rules ≡ rules) ⊎ P)
+
+  -- a job of this number was taken, and isn't over
+  abbrev pub HasTaken : Net CO CI SO SI → ℕ → Type 0
+  HasTaken w id = (job : ActiveJob) × IsTaken w.server.state.jobs.list id job
+
   -- WHAT AN EVENT AND ITS REPLY MAY DO. A reply that isn't here can't be. Where memory is refused nothing changes, and
-  -- it was asked for: bytes were to be carried, or a side that was alive to fail.
+  -- it was asked for: a response was to be remembered, bytes were to be carried, or a side that was alive to fail.
   abbrev pub Steps : Net CO CI SO SI → Event → Reply → Net CO CI SO SI → Type 0
   Steps old (Call request) (Named id) new = IsRequest request × Requests c.out old.client request old.moment id new.client × OnlyClient old new
   Steps old (Call request) (Refused told) new = RefusesRequest c.out old.client request told × (new ≡ old)
   Steps old (Outcome id) (Given outcome) new = TakesOutcome old.client id outcome new.client × OnlyClient old new
   Steps old (DropCall id) Done new = Forgot old id new
+  -- the client's streams
+  Steps old (Open request up down) (Named id) new = IsRequest request × OpensStream c.out old.client request up down id new.client × OnlyClient old new
+  Steps old (Open request up down) (Refused told) new = RefusesStream c.out old.client request up told × (new ≡ old)
+  Steps old (Recv (end.Client id)) (Item given) new = client.ReceivesOne old.client id given new.client × OnlyClient old new
+  Steps old (Send (end.Client id) bytes) (Ticket ticket) new = SendsOn c.out old.client id 0 bytes sender.Open ticket new.client × OnlyClient old new
+  Steps old (Send (end.Client id) bytes) (Refused told) new = RefusesSending c.out old.client id 0 bytes told × (new ≡ old)
+  Steps old (Close id) (Ticket ticket) new = SendsOn c.out old.client id close_flags [] sender.Closed ticket new.client × OnlyClient old new
+  Steps old (Close id) (Refused told) new = RefusesSending c.out old.client id close_flags [] told × (new ≡ old)
+  Steps old (DropReceiver (end.Client id)) Done new = DropsReceiver old.client id new.client × OnlyClient old new
+  Steps old (DropSender id) Done new = DropsSender old.client id new.client × OnlyClient old new
+  -- the server's jobs
   Steps old Take (Handed (Some job)) new = Hands old.server job new.server × OnlyServer old new
   Steps old Take (Handed None) new = (old.server.connection.failure ≡ None → NoneWaits old.server.state.jobs.list) × (new ≡ old)
   Steps old (Answer id result) Done new = AnswersBy old.server id result new.server × OnlyServer old new × (has_response old id ≡ false)
-  Steps old (Answer id result) (Refused told) new = RefusesJob old.server id result told × (new ≡ old)
+  Steps old (Answer id result) (Refused told) new = RefusesAnswer s.out old.server id result told × (old.server.connection.failure ≡ None → Awaits old id) × (new ≡ old)
   Steps old (Answer id result) NoStep new = (old.server.connection.failure ≡ None) × AwaitsNone old id × (new ≡ old)
   Steps old (Respond id response) Done new = RespondsTo old id response new
-  Steps old (Respond id response) (Refused told) new = (RefusesOne old.server id (Ok response) told ⊎ HasOtherRules old.server told) × (new ≡ old)
-  Steps old (Respond id response) NoMemory new = (old.server.connection.failure ≡ None) × Awaits old id × (new ≡ old)
-  Steps old (Respond id response) NoStep new = (old.server.connection.failure ≡ None) × AwaitsNone old id × (new ≡ old)
-  Steps old (Finish id) Done new = Finishes old.server id new.server × OnlyServer old new
-  Steps old (Finish id) (Refused told) new = (IsFailed old.server.connection.failure told ⊎ HasOtherRules old.server told) × (new ≡ old)
-  Steps old (Finish id) NoStep new = (old.server.connection.failure ≡ None) × IsUnknown old.server.state.jobs.list id × (new ≡ old)
+  Steps old (Respond id response) (Refused told) new = (IsFailed old.server.connection.failure told ⊎ RefusesRespond old id response told) × (new ≡ old)
+  Steps old (Respond id response) NoMemory new = LivesBy Sync old × Awaits old id × (new ≡ old)
+  Steps old (Respond id response) NoStep new = LivesOr Async (AwaitsNone old id) old × (new ≡ old)
+  Steps old (Finish id) Done new = Finishes old.server id new.server × OnlyServer old new × (old.server.state.rules ≡ Sync)
+  Steps old (Finish id) (Refused told) new = IsFailed old.server.connection.failure told × (new ≡ old)
+  Steps old (Finish id) NoStep new = LivesOr Async (IsUnknown old.server.state.jobs.list id) old × (new ≡ old)
+  Steps old Drain Done new = new ≡ with_server old (drained old.server)
+  -- the server's streams
+  Steps old (Recv (end.Server id)) (Item given) new = streams.ReceivesOne old.server id given new.server × OnlyServer old new × (old.server.state.rules ≡ Async)
+  Steps old (Recv (end.Server id)) NoStep new = (old.server.state.rules ≡ Sync) × (new ≡ old)
+  Steps old (Send (end.Server id) bytes) (Ticket ticket) new = SendsItem s.out old.server id bytes ticket new.server × OnlyServer old new
+  Steps old (Send (end.Server id) bytes) (Refused told) new = RefusesItem s.out old.server id bytes told × (old.server.connection.failure ≡ None → old.server.state.rules ≡ Async) × (new ≡ old)
+  Steps old (Send (end.Server id) bytes) NoStep new = LivesBy Sync old × (new ≡ old)
+  Steps old (DropReceiver (end.Server id)) Done new = (old.server.state.rules ≡ Async) × (new ≡ with_server old (unheard old.server id))
+  Steps old (DropReceiver (end.Server id)) NoStep new = (old.server.state.rules ≡ Sync) × (new ≡ old)
+  Steps old (EndStream id result) Done new = EndsStream s.out old.server id result new.server × OnlyServer old new × IsEnd result
+  Steps old (EndStream id result) (Refused told) new = RefusesEnd s.out old.server id result told × (old.server.connection.failure ≡ None → (old.server.state.rules ≡ Async) × HasTaken old id) × (new ≡ old)
+  Steps old (EndStream id result) NoStep new = LivesOr Sync (IsUnknown old.server.state.jobs.list id) old × (new ≡ old)
+  -- both sides, and the pipes
   Steps old (Tick now) Done new = Ticked old now new
   Steps old (Tick now) NoStep new = (now < old.moment) × (new ≡ old)
   Steps old (Carry side.Client n) (Count k) new = CarriesUp old n k new
@@ -213,15 +255,6 @@ module _ {CO CI SO SI : Type 0} (c : Halves CO CI) (s : Halves SO SI) (seals : B
   Steps old (Fail side.Server) Done new = new ≡ with_server old (record old.server { connection = failing old.server.connection (Told failed_by_hand) })
   Steps old (Fail side.Client) NoMemory new = (old.client.connection.failure ≡ None) × (new ≡ old)
   Steps old (Fail side.Server) NoMemory new = (old.server.connection.failure ≡ None) × (new ≡ old)
-  -- of streams the cores know nothing yet
-  Steps old (Open request up down) NoStep new = new ≡ old
-  Steps old (Recv at id) NoStep new = new ≡ old
-  Steps old (Send at id bytes) NoStep new = new ≡ old
-  Steps old (Close id) NoStep new = new ≡ old
-  Steps old (DropReceiver at id) NoStep new = new ≡ old
-  Steps old (DropSender id) NoStep new = new ≡ old
-  Steps old (EndStream id result) NoStep new = new ≡ old
-  Steps old Drain NoStep new = new ≡ old
   Steps old event reply new = ⊥
 
   -- A run: one entry an event, in order.

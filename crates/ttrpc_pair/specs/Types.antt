@@ -9,4 +9,4 @@ pub use Rattle.ttrpc_events.specs.declared.events.Entry.{Entry}
 pub use Rattle.ttrpc_events.specs.declared.events.Event.{Event}
 pub use Rattle.ttrpc_events.specs.declared.events.Event.TheVariants.{Answer, Call, Call as CallEvent, Carry, Close, Cut, Deliver, Drain, DropCall, DropReceiver, DropSender, EndStream, Fail, Finish, Open, Outcome, Recv, Respond, Send, Take, Tick}
 pub use Rattle.ttrpc_events.specs.declared.events.Reply.{Reply}
-pub use Rattle.ttrpc_events.specs.declared.events.Reply.TheVariants.{Count, Done, Handed, Named, NoMemory, NoStep, Outcome as Given, Refused}
+pub use Rattle.ttrpc_events.specs.declared.events.Reply.TheVariants.{Count, Done, Handed, Item, Named, NoMemory, NoStep, Outcome as Given, Refused, Ticket}

@@ -1,26 +1,28 @@
 //! A client, a server and two pipes, and what happens to them at an event.
-ghost use Rattle.std.specs.Prelude.{◌≡◌, ◌<◌, [], length, true, false, ◌⊎◌, IfOk, OnErr, IfSome, IfNone, Ok};
+ghost use Rattle.std.specs.Prelude.{◌≡◌, ◌<◌, [], length, true, false, ◌⊎◌, IfOk, OnErr, IfSome, IfNone, Ok, Some};
 ghost use Rattle.ttrpc_proto.specs.declared.response.Response.{Response as AResponse};
 ghost use Rattle.ttrpc_proto.specs.Messages.{IsResponse};
 ghost use Rattle.ttrpc_server.specs.declared.job.ActiveJob.{ActiveJob as AJob};
 ghost use Rattle.ttrpc_server.specs.State.{IsTaken, IsUnknown};
+ghost use Rattle.ttrpc_server.specs.declared.rules.Rules.{Rules as AllRules};
 ghost use Rattle.ttrpc_events.specs.declared.events.Event.{Event as AnEvent};
 ghost use Rattle.ttrpc_events.specs.declared.events.Side.{Side as ASide};
+ghost use Rattle.ttrpc_events.specs.declared.events.StreamEnd.{StreamEnd as AnEnd};
 ghost use Rattle.ttrpc_pair.specs.Pipes.{empty_pipe, is_over};
 ghost use Rattle.ttrpc_pair.specs.Net.{Net, halves, has_response, with_client, with_server};
-ghost use Rattle.ttrpc_pair.specs.Steps.{Hears, Steps, failed_by_hand};
+ghost use Rattle.ttrpc_pair.specs.Steps.{Hears, LivesBy, Steps, failed_by_hand};
 
 use crate::pipe::Pipe;
 use std::alloc::{AllocError, Global};
 use std::marker::Model;
-use ttrpc_client::{CallId, ClientCore};
+use ttrpc_client::{CallId, ClientCore, StreamId};
 use ttrpc_codec::message::WireMessage;
-use ttrpc_events::{Event, Reply, Side};
+use ttrpc_events::{Event, Reply, Side, StreamEnd};
 use ttrpc_proto::{Error, Request, Response};
 use ttrpc_secure::{InboundTransform, OutboundTransform};
-use ttrpc_server::{JobId, ServerCore};
-use ttrpc_wire::Text;
+use ttrpc_server::{JobId, Rules, ServerCore};
 use ttrpc_wire::values::slices::front;
+use ttrpc_wire::{Blob, Text};
 
 /// A client and a server, each over its two halves, and the bytes in flight between them.
 #[derive(Drop)]
@@ -84,13 +86,24 @@ impl<
     {
         match event {
             Event::Call(request) => self.call(alloc, request),
+            Event::Open(request, up, down) => self.open(alloc, request, *up, *down),
             Event::Outcome(id) => self.outcome(alloc, *id),
+            Event::Recv(StreamEnd::Client(id)) => self.recv_down(alloc, *id),
+            Event::Recv(StreamEnd::Server(id)) => self.recv_up(alloc, *id),
+            Event::Send(StreamEnd::Client(id), item) => self.send_up(alloc, *id, item),
+            Event::Send(StreamEnd::Server(id), item) => self.send_down(alloc, *id, item),
+            Event::Close(id) => self.close(alloc, *id),
             Event::DropCall(id) => self.drop_call(*id),
+            Event::DropReceiver(StreamEnd::Client(id)) => self.drop_receiver_down(*id),
+            Event::DropReceiver(StreamEnd::Server(id)) => self.drop_receiver_up(*id),
+            Event::DropSender(id) => self.drop_sender(*id),
             Event::Take => self.take(),
             Event::Answer(id, result) => self.answer(alloc, *id, result),
             Event::Respond(id, response) => self.respond(alloc, *id, response),
             Event::Finish(id) => self.finish(alloc, *id),
-            Event::Tick(now) => self.tick(*now),
+            Event::EndStream(id, end) => self.end_stream(alloc, *id, end),
+            Event::Drain => self.drain(),
+            Event::Tick(now) => self.tick(alloc, *now),
             Event::Carry(Side::Client, n) => self.carry_up(alloc, *n),
             Event::Carry(Side::Server, n) => self.carry_down(alloc, *n),
             Event::Deliver(Side::Server, n) => self.deliver_up(alloc, *n),
@@ -99,7 +112,6 @@ impl<
             Event::Cut(Side::Client, keep) => self.cut_down(*keep),
             Event::Fail(Side::Client) => self.fail_client(alloc),
             Event::Fail(Side::Server) => self.fail_server(alloc),
-            _ => Reply::NoStep,
         }
     }
 
@@ -111,6 +123,19 @@ impl<
     {
         request.lemma_is_value();
         match self.client.request(alloc, request, self.moment) {
+            Ok(id) => Reply::Named(id),
+            Err(error) => Reply::Refused(error),
+        }
+    }
+
+    fn open(&mut self, alloc: Global, request: &Request, up: bool, down: bool) -> Reply
+        ensures { Steps
+            (halves CO.OutboundTransform CI.InboundTransform)
+            (halves SO.OutboundTransform SI.InboundTransform) CO.SEALS
+            self.old (AnEvent.Open request.now up down) result self.new }
+    {
+        request.lemma_is_value();
+        match self.client.new_stream(alloc, request, up, down) {
             Ok(id) => Reply::Named(id),
             Err(error) => Reply::Refused(error),
         }
@@ -132,6 +157,59 @@ impl<
             self.old (AnEvent.DropCall id) result self.new }
     {
         self.client.drop_call(id);
+        Reply::Done
+    }
+
+    fn recv_down(&mut self, alloc: Global, id: StreamId) -> Reply
+        ensures { Steps
+            (halves CO.OutboundTransform CI.InboundTransform)
+            (halves SO.OutboundTransform SI.InboundTransform) CO.SEALS
+            self.old (AnEvent.Recv (AnEnd.Client id)) result self.new }
+    {
+        Reply::Item(self.client.recv(alloc, id))
+    }
+
+    fn send_up(&mut self, alloc: Global, id: StreamId, item: &Blob) -> Reply
+        ensures { Steps
+            (halves CO.OutboundTransform CI.InboundTransform)
+            (halves SO.OutboundTransform SI.InboundTransform) CO.SEALS
+            self.old (AnEvent.Send (AnEnd.Client id) item.now) result self.new }
+    {
+        match self.client.send(alloc, id, item.as_slice()) {
+            Ok(ticket) => Reply::Ticket(ticket),
+            Err(error) => Reply::Refused(error),
+        }
+    }
+
+    fn close(&mut self, alloc: Global, id: StreamId) -> Reply
+        ensures { Steps
+            (halves CO.OutboundTransform CI.InboundTransform)
+            (halves SO.OutboundTransform SI.InboundTransform) CO.SEALS
+            self.old (AnEvent.Close id) result self.new }
+    {
+        match self.client.close_send(alloc, id) {
+            Ok(ticket) => Reply::Ticket(ticket),
+            Err(error) => Reply::Refused(error),
+        }
+    }
+
+    fn drop_receiver_down(&mut self, id: StreamId) -> Reply
+        ensures { Steps
+            (halves CO.OutboundTransform CI.InboundTransform)
+            (halves SO.OutboundTransform SI.InboundTransform) CO.SEALS
+            self.old (AnEvent.DropReceiver (AnEnd.Client id)) result self.new }
+    {
+        self.client.drop_receiver(id);
+        Reply::Done
+    }
+
+    fn drop_sender(&mut self, id: StreamId) -> Reply
+        ensures { Steps
+            (halves CO.OutboundTransform CI.InboundTransform)
+            (halves SO.OutboundTransform SI.InboundTransform) CO.SEALS
+            self.old (AnEvent.DropSender id) result self.new }
+    {
+        self.client.drop_sender(id);
         Reply::Done
     }
 
@@ -172,6 +250,23 @@ impl<
         if let Some(error) = self.server.failure(alloc) {
             return Reply::Refused(error);
         }
+        match self.server.rules() {
+            Rules::Async => Reply::NoStep,
+            Rules::Sync => self.respond_by_rules(alloc, id, response),
+        }
+    }
+
+    /// The same of a server that lives and has sync rules.
+    fn respond_by_rules(&mut self, alloc: Global, id: JobId, response: &Response) -> Reply
+        requires { LivesBy
+            (halves CO.OutboundTransform CI.InboundTransform)
+            (halves SO.OutboundTransform SI.InboundTransform) CO.SEALS
+            AllRules.Sync self.old }
+        ensures { Steps
+            (halves CO.OutboundTransform CI.InboundTransform)
+            (halves SO.OutboundTransform SI.InboundTransform) CO.SEALS
+            self.old (AnEvent.Respond id response.now) result self.new }
+    {
         let Some(stream_id) = self.awaiting(id) else {
             return Reply::NoStep;
         };
@@ -197,10 +292,129 @@ impl<
         if let Some(error) = self.server.failure(alloc) {
             return Reply::Refused(error);
         }
+        match self.server.rules() {
+            Rules::Async => Reply::NoStep,
+            Rules::Sync => self.finish_by_rules(alloc, id),
+        }
+    }
+
+    /// The same of a server that lives and has sync rules.
+    fn finish_by_rules(&mut self, alloc: Global, id: JobId) -> Reply
+        requires { LivesBy
+            (halves CO.OutboundTransform CI.InboundTransform)
+            (halves SO.OutboundTransform SI.InboundTransform) CO.SEALS
+            AllRules.Sync self.old }
+        ensures { Steps
+            (halves CO.OutboundTransform CI.InboundTransform)
+            (halves SO.OutboundTransform SI.InboundTransform) CO.SEALS
+            self.old (AnEvent.Finish id) result self.new }
+    {
         let Some(_) = self.server.stream_of(id) else {
             return Reply::NoStep;
         };
         match self.server.finish(alloc, id) {
+            Ok(()) => Reply::Done,
+            Err(error) => Reply::Refused(error),
+        }
+    }
+
+    fn drain(&mut self) -> Reply
+        ensures { Steps
+            (halves CO.OutboundTransform CI.InboundTransform)
+            (halves SO.OutboundTransform SI.InboundTransform) CO.SEALS
+            self.old AnEvent.Drain result self.new }
+    {
+        self.server.drain();
+        Reply::Done
+    }
+
+    fn recv_up(&mut self, alloc: Global, id: JobId) -> Reply
+        ensures { Steps
+            (halves CO.OutboundTransform CI.InboundTransform)
+            (halves SO.OutboundTransform SI.InboundTransform) CO.SEALS
+            self.old (AnEvent.Recv (AnEnd.Server id)) result self.new }
+    {
+        let rules = self.server.rules();
+        match rules {
+            Rules::Sync => Reply::NoStep,
+            Rules::Async => Reply::Item(self.server.recv(alloc, id)),
+        }
+    }
+
+    fn send_down(&mut self, alloc: Global, id: JobId, item: &Blob) -> Reply
+        ensures { Steps
+            (halves CO.OutboundTransform CI.InboundTransform)
+            (halves SO.OutboundTransform SI.InboundTransform) CO.SEALS
+            self.old (AnEvent.Send (AnEnd.Server id) item.now) result self.new }
+    {
+        if let Some(error) = self.server.failure(alloc) {
+            return Reply::Refused(error);
+        }
+        match self.server.rules() {
+            Rules::Sync => Reply::NoStep,
+            Rules::Async => match self.server.send(alloc, id, item.as_slice()) {
+                Ok(ticket) => Reply::Ticket(ticket),
+                Err(error) => Reply::Refused(error),
+            },
+        }
+    }
+
+    fn drop_receiver_up(&mut self, id: JobId) -> Reply
+        ensures { Steps
+            (halves CO.OutboundTransform CI.InboundTransform)
+            (halves SO.OutboundTransform SI.InboundTransform) CO.SEALS
+            self.old (AnEvent.DropReceiver (AnEnd.Server id)) result self.new }
+    {
+        match self.server.rules() {
+            Rules::Sync => Reply::NoStep,
+            Rules::Async => {
+                self.server.drop_receiver(id);
+                Reply::Done
+            }
+        }
+    }
+
+    fn end_stream(
+        &mut self,
+        alloc: Global,
+        id: JobId,
+        end: &Result<Option<Response>, Error>,
+    ) -> Reply
+        ensures { Steps
+            (halves CO.OutboundTransform CI.InboundTransform)
+            (halves SO.OutboundTransform SI.InboundTransform) CO.SEALS
+            self.old (AnEvent.EndStream id end.now) result self.new }
+    {
+        if let Some(error) = self.server.failure(alloc) {
+            return Reply::Refused(error);
+        }
+        match self.server.rules() {
+            Rules::Sync => Reply::NoStep,
+            Rules::Async => self.end_by_rules(alloc, id, end),
+        }
+    }
+
+    /// The same of a server that lives and has async rules.
+    fn end_by_rules(
+        &mut self,
+        alloc: Global,
+        id: JobId,
+        end: &Result<Option<Response>, Error>,
+    ) -> Reply
+        requires { LivesBy
+            (halves CO.OutboundTransform CI.InboundTransform)
+            (halves SO.OutboundTransform SI.InboundTransform) CO.SEALS
+            AllRules.Async self.old }
+        ensures { Steps
+            (halves CO.OutboundTransform CI.InboundTransform)
+            (halves SO.OutboundTransform SI.InboundTransform) CO.SEALS
+            self.old (AnEvent.EndStream id end.now) result self.new }
+    {
+        let Some(_) = self.server.stream_of(id) else {
+            return Reply::NoStep;
+        };
+        lemma_end_is_value(end);
+        match self.server.end_stream(alloc, id, end) {
             Ok(()) => Reply::Done,
             Err(error) => Reply::Refused(error),
         }
@@ -218,7 +432,7 @@ impl<
         self.server.stream_of(id)
     }
 
-    fn tick(&mut self, now: u64) -> Reply
+    fn tick(&mut self, alloc: Global, now: u64) -> Reply
         ensures { Steps
             (halves CO.OutboundTransform CI.InboundTransform)
             (halves SO.OutboundTransform SI.InboundTransform) CO.SEALS
@@ -228,6 +442,7 @@ impl<
             return Reply::NoStep;
         }
         self.client.tick(now);
+        self.server.tick(alloc, now);
         self.moment = now;
         Reply::Done
     }
@@ -396,6 +611,15 @@ fn lemma_answer_is_value(given: &Result<Response, Error>)
     ensures { (r : AResponse) → given.now ≡ Ok r → IsResponse r }
 {
     if let Ok(response) = given {
+        response.lemma_is_value();
+    }
+}
+
+/// The same of the response with which a handler ended a stream.
+fn lemma_end_is_value(end: &Result<Option<Response>, Error>)
+    ensures { (r : AResponse) → end.now ≡ Ok (Some r) → IsResponse r }
+{
+    if let Ok(Some(response)) = end {
         response.lemma_is_value();
     }
 }

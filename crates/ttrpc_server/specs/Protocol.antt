@@ -10,7 +10,7 @@ use Rattle.std.specs.Option.{option_map_or}
 use Rattle.ttrpc_server.specs.Types.{Code, UNKNOWN, INVALID_ARGUMENT, DEADLINE_EXCEEDED, MessageHeader, MESSAGE_LENGTH_MAX, MESSAGE_TYPE_RESPONSE, Response, Error, Others, NoMemory, Queued, OutboundTransform, Outbox, Arrived, Failure, JobIdsUsedUp, HandlerError, NoMemoryLeft, ActiveJob, Job, Rules, Sync, Async}
 use Rattle.ttrpc_wire.specs.Field.{fields_bytes}
 use Rattle.ttrpc_proto.specs.ErrorText.{IsTextOf}
-use Rattle.ttrpc_proto.specs.Messages.{response_fields}
+use Rattle.ttrpc_proto.specs.Messages.{IsResponse, response_fields}
 use Rattle.ttrpc_frame.specs.Header.Oversize.{oversize_text}
 use Rattle.ttrpc_secure.specs.declared.transform.InboundTransform.{Ghosts as InboundTransform}
 use Rattle.ttrpc_secure.specs.Hooks.Facts.{Facts}
@@ -190,10 +190,11 @@ pub record Drops {O I : Type 0} (old : ServerCore O I) (id : ℕ) (new : ServerC
 abbrev pub IsErrorResponse : Error → Response → Type 0
 IsErrorResponse error r = (text : List ℕ) × IsTextOf error text × (r ≡ status_response UNKNOWN text)
 
--- a handler gave an error: under sync rules its job is gone and the connection fails, under async rules it is answered
+-- a handler gave an error: under sync rules its job is gone and the connection fails, under async rules it is answered, by
+-- a valid response
 abbrev pub AnswersError : {O I : Type 0} → OutboundTransform O → Rules → ServerCore O I → ℕ → Error → ServerCore O I → Type 0
 AnswersError out Sync old id error new = Drops old id new
-AnswersError out Async old id error new = (r : Response) × IsErrorResponse error r × Answers out old id r new
+AnswersError out Async old id error new = (r : Response) × IsErrorResponse error r × Answers out old id r new × IsResponse r
 
 -- ---- jobs that expire
 -- Source: this project's; code and text of the answer: the Rust crate.

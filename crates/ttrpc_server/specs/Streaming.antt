@@ -7,6 +7,7 @@ use Rattle.std.specs.BTreeMap.{is_at}
 use Rattle.std.specs.Ordering.{nat_cmp}
 use Rattle.std.specs.Set.{remove_key}
 use Rattle.ttrpc_frame.specs.declared.header.TheConstants.{MESSAGE_TYPE_DATA}
+use Rattle.ttrpc_proto.specs.Messages.{IsResponse}
 use Rattle.ttrpc_proto.specs.declared.error.Error.TheVariants.{LocalClosed}
 use Rattle.ttrpc_secure.specs.Context.Texts.{unsealed_text}
 use Rattle.ttrpc_secure.specs.Sends.{associated}
@@ -123,10 +124,10 @@ abbrev pub SendsEndFrame : {O : Type 0} → OutboundTransform O → Outbox O →
 SendsEndFrame out old k None new = (frame : Queued) × IsCloseFrame k frame × SendsOne out old frame [] new
 SendsEndFrame out old k (Some r) new = (sent : List Sent) × Responds Async (safe_limit out old.half) k r sent × SendsAll out old sent new
 
--- by what its handler gave: an error is answered by its text
+-- by what its handler gave: an error is answered by its text, in a valid response
 abbrev pub SendsEnd : {O : Type 0} → OutboundTransform O → Outbox O → ℕ → Result (Option Response) Error → Outbox O → Type 0
 SendsEnd out old k (Ok end) new = SendsEndFrame out old k end new
-SendsEnd out old k (Err error) new = (r : Response) × IsErrorResponse error r × SendsEndFrame out old k (Some r) new
+SendsEnd out old k (Err error) new = (r : Response) × IsErrorResponse error r × SendsEndFrame out old k (Some r) new × IsResponse r
 
 -- The stream of a job that was taken ends so: the job is gone, and its receiver.
 pub record EndsStream {O I : Type 0} (out : OutboundTransform O) (old : ServerCore O I) (id : ℕ) (end : Result (Option Response) Error) (new : ServerCore O I) : Type 0 where

@@ -18,6 +18,7 @@ use crate::responses::{error_response, other_rules_error, unknown_job_error};
 use crate::rules::Rules;
 use crate::state::ServerState;
 use std::alloc::Global;
+use ttrpc_codec::message::WireMessage;
 use ttrpc_connection::{Connection, Failure};
 use ttrpc_proto::{Error, Response};
 use ttrpc_secure::{ConnectionContext, ConnectionData, InboundTransform, OutboundTransform};
@@ -50,6 +51,13 @@ impl<O: OutboundTransform + Drop, I: InboundTransform + Drop> ServerCore<O, I> {
         ensures { facts_of result.now.entries ≡ self.now.connection.known }
     {
         self.connection.connection_data()
+    }
+
+    /// The rules that it keeps.
+    pub fn rules(&self) -> Rules
+        ensures { result ≡ self.now.state.rules }
+    {
+        self.state.rules()
     }
 
     /// Takes a piece whole, and says how many bytes that are. Each frame that is whole with it acts, in order. The
@@ -378,6 +386,7 @@ impl<O: OutboundTransform + Drop, I: InboundTransform + Drop> ServerCore<O, I> {
             }
             Rules::Async => {
                 let response = error_response(alloc, error)?;
+                response.lemma_is_value();
                 self.answer_with(alloc, id, stream_id, &response)
             }
         }

@@ -13,6 +13,7 @@ use crate::responses::{error_response, unknown_job_error};
 use crate::rules::Rules;
 use crate::server::ServerCore;
 use std::alloc::Global;
+use ttrpc_codec::message::WireMessage;
 use ttrpc_connection::items::{CLOSE_FLAGS, send_data, stream_frame, unsent_error};
 use ttrpc_connection::{Outbox, Ticket};
 use ttrpc_frame::MESSAGE_TYPE_DATA;
@@ -124,6 +125,7 @@ impl<O: OutboundTransform + Drop, I: InboundTransform + Drop> ServerCore<O, I> {
             Ok(Some(response)) => send_end(alloc, outbox, stream_id, response),
             Err(error) => {
                 let response = error_response(alloc, error)?;
+                response.lemma_is_value();
                 send_end(alloc, outbox, stream_id, &response)
             }
         }

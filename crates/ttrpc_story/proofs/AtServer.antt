@@ -1,7 +1,9 @@
--- The server's side of one id: its request in flight, its job, what is in flight to the client, and the acts but for the
--- outcome. It knows no outcome, and nothing of what the client keeps.
-use Rattle.ttrpc_story.proofs.Words.{◌++◌, ◌∙◌, ◌∷◌, ◌≡◌, ◌≤◌, ℕ, [], Act, ActiveJob, all_joined, AllByRecursion, Answered, ap, arith, Bool, Called, calls, calls_work, false, Flying, HasOkStatus, IsRequest, IsResponse, last_id, length, List, MESSAGE_LENGTH_MAX, MESSAGE_TYPE_REQUEST, MESSAGE_TYPE_RESPONSE, None, Ok, Option, Ran, refl, Request, request_bytes, Response, response_bytes, runs, runs_work, Some, subst, sym, true, work, work_append}
-use Rattle.ttrpc_story.proofs.Here.{Asking, ByCall, Here, Idle, IsAnswer, jobs_of, Left, Origin, Over, Runs, Unborn, ups_of, Waits, Work, works_of}
+-- The server's side of one id: its request and the data behind it in flight, its job, what is in flight to the client, and the
+-- acts but for the outcome. It knows no outcome, and nothing of what the client keeps.
+use Rattle.ttrpc_story.proofs.Words.{◌++◌, ◌∙◌, ◌∷◌, ◌≡◌, ◌≤◌, ℕ, [], Act, ActiveJob, all_joined, AllByRecursion, Answered, ap, append-nil, arith, asked_by, Bool, calls, calls_work, Err, Error, false, Flying, Gives, HasOkStatus, is_stream, IsRequest, landing_of, last_id, length, List, map, MESSAGE_LENGTH_MAX, MESSAGE_TYPE_DATA, MESSAGE_TYPE_REQUEST, MessageHeader, names, names_work, None, Ok, OpenedPayload, Option, Ran, refl, Request, request_bytes, Response, Result, Rules, runs, runs_work, Some, StaysFound, subst, sym, SyncRules, true, work, work_append}
+use Rattle.ttrpc_story.proofs.Here.{Asking, Birth, Born, ByCall, ByOpen, first_act, Here, Idle, IsAnswer, jobs_of, Left, Origin, Over, ran_work, request_of, Runs, Unborn, ups_of, Waits, Work, works_of}
+
+-- ---- what is in flight, and what is left to be done
 
 -- a request in flight
 pub record IsSent (k : ℕ) (request : Request) (x : Flying) : Type 0 where
@@ -10,28 +12,48 @@ pub record IsSent (k : ℕ) (request : Request) (x : Flying) : Type 0 where
   pub short : length (request_bytes request) ≤ MESSAGE_LENGTH_MAX
   pub stream : x.frame.message.header.stream_id ≡ k
   pub type_ : x.frame.message.header.type_ ≡ MESSAGE_TYPE_REQUEST
-  pub within : k ≤ last_id
 
--- a job, waiting with what is asked, or taken
-pub record IsJob (k : ℕ) (asked : Option Request) (j : ActiveJob) : Type 0 where
+-- data in flight to the server
+pub record IsItem (k : ℕ) (x : Flying) : Type 0 where
+  pub short : length x.plain ≤ MESSAGE_LENGTH_MAX
+  pub stream : x.frame.message.header.stream_id ≡ k
+  pub type_ : x.frame.message.header.type_ ≡ MESSAGE_TYPE_DATA
+
+abbrev pub AreItems : ℕ → List Flying → Type 0
+AreItems k items = AllByRecursion (IsItem k) items
+
+-- data are sent on a stream alone
+abbrev pub MayHave : Origin → List Flying → Type 0
+MayHave (Born (ByOpen request up down)) items = Unit {0}
+MayHave o items = items ≡ []
+
+-- an id that was used is one
+abbrev pub IsWithin : Origin → ℕ → Type 0
+IsWithin Unborn k = Unit {0}
+IsWithin (Born b) k = k ≤ last_id
+
+-- a job, waiting with what is asked, or taken; under sync rules it is no stream's
+pub record IsJob (rules : Rules) (k : ℕ) (asked : Option Request) (j : ActiveJob) : Type 0 where
   pub request : j.request ≡ asked
   pub stream : j.header.stream_id ≡ k
-  pub within : k ≤ last_id
+  pub kind : rules ≡ SyncRules → is_stream j.body ≡ false
 
--- one call, and at most one run
-pub record IsDone (done : List Act) : Type 0 where
-  pub one_call : length (calls done) ≡ 1
-  pub one_run : length (runs done) ≤ 1
+-- behind the act that uses the id there is no other such act, and at most one run
+pub record IsDone (b : Birth) (done : List Act) : Type 0 where
+  pub rest : List Act
+  pub is : done ≡ first_act b ∷ rest
+  pub unnamed : names rest ≡ []
+  pub one_run : length (runs rest) ≤ 1
 
--- What is right of the work. A job goes on only behind its response; `had` says which jobs have one.
-abbrev pub IsWork : (ℕ → Bool) → ℕ → Origin → Work → Type 0
-IsWork had k Unborn p = p ≡ Idle
-IsWork had k (ByCall request) Idle = ⊥
-IsWork had k (ByCall request) (Asking x) = IsSent k request x
-IsWork had k (ByCall request) (Waits j) = IsJob k (Some request) j
-IsWork had k (ByCall request) (Runs j) = IsJob k None j
-IsWork had k (ByCall request) (Left j response) = IsJob k None j × (had j.id ≡ true)
-IsWork had k (ByCall request) (Over done) = IsDone done
+-- What is right of the work. A job goes on only behind its response, and is no stream's; `had` says which jobs have one.
+abbrev pub IsWork : Rules → (ℕ → Bool) → ℕ → Origin → Work → Type 0
+IsWork rules had k Unborn p = p ≡ Idle
+IsWork rules had k (Born b) Idle = ⊥
+IsWork rules had k (Born b) (Asking x) = IsSent k (request_of b) x
+IsWork rules had k (Born b) (Waits j) = IsJob rules k (Some (asked_by (is_stream j.body) (request_of b))) j
+IsWork rules had k (Born b) (Runs j) = IsJob rules k None j
+IsWork rules had k (Born b) (Left j response) = IsJob rules k None j × (had j.id ≡ true) × (is_stream j.body ≡ false)
+IsWork rules had k (Born b) (Over done) = IsDone b done
 
 -- whether nothing is answered any more
 abbrev pub is_over : Work → Bool
@@ -39,126 +61,269 @@ is_over (Left j response) = true
 is_over (Over done) = true
 is_over p = false
 
--- A response in flight. If its status is OK it is the answer of the one run, and no more acts come but the outcome.
-pub record IsDown (k : ℕ) (over : Bool) (done : List Act) (x : Flying) : Type 0 where
-  pub r : Response
-  pub known : IsResponse r
-  pub plain : x.plain ≡ response_bytes r
-  pub short : length (response_bytes r) ≤ MESSAGE_LENGTH_MAX
+-- A frame in flight to the client. If it gives a call an outcome that is OK, that is the answer of the one run, and no more
+-- acts come but the outcome.
+pub record IsDown (k : ℕ) (over : Bool) (o : Origin) (done : List Act) (x : Flying) : Type 0 where
   pub stream : x.frame.message.header.stream_id ≡ k
-  pub type_ : x.frame.message.header.type_ ≡ MESSAGE_TYPE_RESPONSE
-  pub answer : HasOkStatus r.status → (over ≡ true) × IsAnswer done r
+  pub outcome : Result Response Error
+  pub lands : landing_of x.frame.message.header (OpenedPayload x.plain) ≡ Gives outcome
+  pub answer : (r : Response) → outcome ≡ Ok r → HasOkStatus r.status × ((over ≡ true) × IsAnswer o done r)
 
--- THE SERVER'S SIDE, where the work has come this far. Any number of responses may be in flight.
-pub record AtServer (had : ℕ → Bool) (k : ℕ) (o : Origin) (p : Work) (h : Here) : Type 0 where
-  pub is_work : IsWork had k o p
+-- one that gives a call an error: data, or a response that isn't OK
+pub record IsNever (k : ℕ) (x : Flying) : Type 0 where
+  pub stream : x.frame.message.header.stream_id ≡ k
+  pub error : Error
+  pub lands : landing_of x.frame.message.header (OpenedPayload x.plain) ≡ Gives (Err error)
+
+abbrev pub AreDown : ℕ → Origin → Work → List Flying → Type 0
+AreDown k o p downs = AllByRecursion (IsDown k (is_over p) o (works_of o p)) downs
+
+-- THE SERVER'S SIDE, where the work has come this far. Any number of frames may be in flight to the client.
+pub record AtServer (rules : Rules) (had : ℕ → Bool) (k : ℕ) (o : Origin) (p : Work) (h : Here) : Type 0 where
+  pub within : IsWithin o k
+  pub is_work : IsWork rules had k o p
   pub works_is : work h.acts ≡ works_of o p
-  pub ups_is : h.ups ≡ ups_of p
+  pub items : List Flying
+  pub are_items : AreItems k items
+  pub may_have : MayHave o items
+  pub ups_is : h.ups ≡ ups_of p ++ items
   pub jobs_is : h.jobs ≡ jobs_of p
-  pub downs : AllByRecursion (IsDown k (is_over p) (works_of o p)) h.downs
+  pub downs : AreDown k o p h.downs
 
 -- ---- its turns
 
-work_later : {had had2 : ℕ → Bool} → ((i : ℕ) → had i ≡ true → had2 i ≡ true) → (k : ℕ) (o : Origin) (p : Work) → IsWork had k o p → IsWork had2 k o p
-work_later more k Unborn p h = h
-work_later more k (ByCall request) (Left j response) h = (h.0, more j.id h.1)
-work_later more k (ByCall request) p h = h
+work_later : (rules : Rules) {had had2 : ℕ → Bool} → ((i : ℕ) → had i ≡ true → had2 i ≡ true) → (k : ℕ) (o : Origin) (p : Work) → IsWork rules had k o p → IsWork rules had2 k o p
+work_later rules more k Unborn p h = h
+work_later rules more k (Born b) (Left j response) h = (h.0, more j.id h.1, h.2)
+work_later rules more k (Born b) p h = h
 
--- The work stays; more jobs may have a response, and an outcome may be given.
-pub stays : {had had2 : ℕ → Bool} {k : ℕ} {o : Origin} {p : Work} {h h2 : Here} → ((i : ℕ) → had i ≡ true → had2 i ≡ true) → AtServer had k o p h
-    → work h2.acts ≡ work h.acts → h2.ups ≡ h.ups → h2.jobs ≡ h.jobs → h2.downs ≡ h.downs → AtServer had2 k o p h2
-stays {k = k} {o = o} {p = p} more s ha hu hj hd = record {
-  is_work = work_later more k o p s.is_work;
+-- it never ends a call well
+pub never_down : {k : ℕ} {over : Bool} {o : Origin} {done : List Act} {x : Flying} → IsNever k x → IsDown k over o done x
+never_down d = record { stream = d.stream; outcome = Err d.error; lands = d.lands; answer = λ r e. let bad : Err d.error ≡ Ok r = e in cc }
+
+pub never_downs : (k : ℕ) (over : Bool) (o : Origin) (done : List Act) (xs : List Flying) → AllByRecursion (IsNever k) xs → AllByRecursion (IsDown k over o done) xs
+never_downs k over o done [] h = tt
+never_downs k over o done (x ∷ xs) h = (never_down h.0, never_downs k over o done xs h.1)
+
+-- The work stays: more jobs may have a response, an outcome may be given, other data may be in flight, and more frames to the
+-- client.
+pub goes_on : {rules : Rules} {had had2 : ℕ → Bool} {k : ℕ} {o : Origin} {p : Work} {h h2 : Here} (items down : List Flying) → ((i : ℕ) → had i ≡ true → had2 i ≡ true) → AtServer rules had k o p h
+    → AreItems k items → MayHave o items → work h2.acts ≡ work h.acts → h2.ups ≡ ups_of p ++ items → h2.jobs ≡ h.jobs → h2.downs ≡ h.downs ++ down → AreDown k o p down → AtServer rules had2 k o p h2
+goes_on {rules} {k = k} {o = o} {p = p} {h = h} items down more s are may ha hu hj hd new = record {
+  within = s.within;
+  is_work = work_later rules more k o p s.is_work;
   works_is = ha ∙ s.works_is;
-  ups_is = hu ∙ s.ups_is;
+  items = items;
+  are_items = are;
+  may_have = may;
+  ups_is = hu;
   jobs_is = hj ∙ s.jobs_is;
-  downs = subst (λ (d : List Flying). AllByRecursion (IsDown k (is_over p) (works_of o p)) d) (sym hd) s.downs;
+  downs = subst (λ (d : List Flying). AreDown k o p d) (sym hd) (all_joined (IsDown k (is_over p) o (works_of o p)) h.downs down s.downs new);
 }
 
--- Before the work is over no response is OK, so all stay right whatever the acts.
-kept_down : (k : ℕ) (a a2 : List Act) (over : Bool) (x : Flying) → IsDown k false a x → IsDown k over a2 x
-kept_down k a a2 over x d = record {
-  r = d.r;
-  known = d.known;
-  plain = d.plain;
-  short = d.short;
+-- and nothing new is in flight
+pub stays : {rules : Rules} {had had2 : ℕ → Bool} {k : ℕ} {o : Origin} {p : Work} {h h2 : Here} → ((i : ℕ) → had i ≡ true → had2 i ≡ true) → AtServer rules had k o p h
+    → work h2.acts ≡ work h.acts → h2.ups ≡ h.ups → h2.jobs ≡ h.jobs → h2.downs ≡ h.downs → AtServer rules had2 k o p h2
+stays {h = h} more s ha hu hj hd = goes_on s.items [] more s s.are_items s.may_have ha (hu ∙ s.ups_is) hj (hd ∙ sym (append-nil h.downs)) tt
+
+-- Before the work is over no frame ends a call well, so all stay right whatever the acts.
+kept_down : (k : ℕ) (o o2 : Origin) (a a2 : List Act) (over : Bool) (x : Flying) → IsDown k false o a x → IsDown k over o2 a2 x
+kept_down k o o2 a a2 over x d = record {
   stream = d.stream;
-  type_ = d.type_;
-  answer = λ ok. let bad : false ≡ true = (d.answer ok).0 in cc;
+  outcome = d.outcome;
+  lands = d.lands;
+  answer = λ r e. let bad : false ≡ true = (d.answer r e).1.0 in cc;
 }
 
-kept_downs : (k : ℕ) (a a2 : List Act) (over : Bool) (d : List Flying) → AllByRecursion (IsDown k false a) d → AllByRecursion (IsDown k over a2) d
-kept_downs k a a2 over [] h = tt
-kept_downs k a a2 over (x ∷ d) h = (kept_down k a a2 over x h.0, kept_downs k a a2 over d h.1)
+kept_downs : (k : ℕ) (o o2 : Origin) (a a2 : List Act) (over : Bool) (d : List Flying) → AllByRecursion (IsDown k false o a) d → AllByRecursion (IsDown k over o2 a2) d
+kept_downs k o o2 a a2 over [] h = tt
+kept_downs k o o2 a a2 over (x ∷ d) h = (kept_down k o o2 a a2 over x h.0, kept_downs k o o2 a a2 over d h.1)
 
 -- THE TURN of work that isn't over, by acts and by what goes down with it.
-pub moves : {had had2 : ℕ → Bool} {k : ℕ} {o o2 : Origin} {p q : Work} {h h2 : Here} (more : List Act) (down : List Flying) → AtServer had k o p h → is_over p ≡ false → IsWork had2 k o2 q
-    → h2.acts ≡ h.acts ++ more → works_of o2 q ≡ works_of o p ++ work more → h2.ups ≡ ups_of q → h2.jobs ≡ jobs_of q → h2.downs ≡ h.downs ++ down
-    → AllByRecursion (IsDown k (is_over q) (works_of o2 q)) down → AtServer had2 k o2 q h2
-moves {k = k} {o = o} {o2 = o2} {p = p} {q = q} {h = h} more down s undone is ha grows hu hj hd new =
-    let old : AllByRecursion (IsDown k false (works_of o p)) h.downs = subst (λ (b : Bool). AllByRecursion (IsDown k b (works_of o p)) h.downs) undone s.downs in
+pub moves : {rules : Rules} {had had2 : ℕ → Bool} {k : ℕ} {o o2 : Origin} {p q : Work} {h h2 : Here} (more : List Act) (items down : List Flying) → AtServer rules had k o p h → is_over p ≡ false
+    → IsWithin o2 k → IsWork rules had2 k o2 q → AreItems k items → MayHave o2 items
+    → h2.acts ≡ h.acts ++ more → works_of o2 q ≡ works_of o p ++ work more → h2.ups ≡ ups_of q ++ items → h2.jobs ≡ jobs_of q → h2.downs ≡ h.downs ++ down → AreDown k o2 q down
+    → AtServer rules had2 k o2 q h2
+moves {k = k} {o = o} {o2 = o2} {p = p} {q = q} {h = h} more items down s undone within is are may ha grows hu hj hd new =
+    let old : AllByRecursion (IsDown k false o (works_of o p)) h.downs = subst (λ (b : Bool). AllByRecursion (IsDown k b o (works_of o p)) h.downs) undone s.downs in
     record {
+      within = within;
       is_work = is;
       works_is = ap work ha ∙ work_append h.acts more ∙ ap (λ xs. xs ++ work more) s.works_is ∙ sym grows;
+      items = items;
+      are_items = are;
+      may_have = may;
       ups_is = hu;
       jobs_is = hj;
-      downs = subst (λ (d : List Flying). AllByRecursion (IsDown k (is_over q) (works_of o2 q)) d) (sym hd)
-          (all_joined (IsDown k (is_over q) (works_of o2 q)) h.downs down (kept_downs k (works_of o p) (works_of o2 q) (is_over q) h.downs old) new);
+      downs = subst (λ (d : List Flying). AreDown k o2 q d) (sym hd)
+          (all_joined (IsDown k (is_over q) o2 (works_of o2 q)) h.downs down (kept_downs k o o2 (works_of o p) (works_of o2 q) (is_over q) h.downs old) new);
     }
 
--- The first response has landed.
-pub lands_down : {had had2 : ℕ → Bool} {k : ℕ} {o : Origin} {p : Work} {h h2 : Here} (x : Flying) (d : List Flying) → ((i : ℕ) → had i ≡ true → had2 i ≡ true) → AtServer had k o p h → h.downs ≡ x ∷ d
-    → h2.acts ≡ h.acts → h2.ups ≡ h.ups → h2.jobs ≡ h.jobs → h2.downs ≡ d → AtServer had2 k o p h2
-lands_down {k = k} {o = o} {p = p} x d more s was ha hu hj hd = record {
-  is_work = work_later more k o p s.is_work;
+-- what goes down stays right once the work is over
+done_down : (k : ℕ) (over : Bool) (o : Origin) (a : List Act) (x : Flying) → IsDown k over o a x → IsDown k true o a x
+done_down k over o a x d = record { stream = d.stream; outcome = d.outcome; lands = d.lands; answer = λ r e. let y = d.answer r e in (y.0, (refl, y.1.1)) }
+
+done_downs : (k : ℕ) (over : Bool) (o : Origin) (a : List Act) (d : List Flying) → AllByRecursion (IsDown k over o a) d → AllByRecursion (IsDown k true o a) d
+done_downs k over o a [] h = tt
+done_downs k over o a (x ∷ d) h = (done_down k over o a x h.0, done_downs k over o a d h.1)
+
+-- the work so far is one name and at most one run
+is_done : (rules : Rules) (had : ℕ → Bool) (k : ℕ) (b : Birth) (p : Work) → IsWork rules had k (Born b) p → IsDone b (works_of (Born b) p)
+is_done rules had k b Idle h = absurd h
+is_done rules had k b (Asking x) h = record { rest = []; is = refl; unnamed = refl; one_run = omega arith }
+is_done rules had k b (Waits j) h = record { rest = []; is = refl; unnamed = refl; one_run = omega arith }
+is_done rules had k b (Runs j) h = record { rest = _; is = refl; unnamed = refl; one_run = omega arith }
+is_done rules had k b (Left j response) h = record { rest = _; is = refl; unnamed = refl; one_run = omega arith }
+is_done rules had k b (Over done) h = h
+
+-- The work is over, and nothing more was done: no request and no job is left, and what may go down ends no call well.
+pub concludes : {rules : Rules} {had : ℕ → Bool} {k : ℕ} {b : Birth} {p : Work} {h h2 : Here} (items down : List Flying) → AtServer rules had k (Born b) p h → AreItems k items → MayHave (Born b) items
+    → h2.acts ≡ h.acts → h2.ups ≡ items → h2.jobs ≡ [] → h2.downs ≡ h.downs ++ down → AllByRecursion (IsNever k) down → AtServer rules had k (Born b) (Over (works_of (Born b) p)) h2
+concludes {rules} {had} {k} {b} {p} {h} items down s are may ha hu hj hd new = record {
+  within = s.within;
+  is_work = is_done rules had k b p s.is_work;
   works_is = ap work ha ∙ s.works_is;
+  items = items;
+  are_items = are;
+  may_have = may;
+  ups_is = hu;
+  jobs_is = hj;
+  downs = subst (λ (d : List Flying). AllByRecursion (IsDown k true (Born b) (works_of (Born b) p)) d) (sym hd)
+      (all_joined (IsDown k true (Born b) (works_of (Born b) p)) h.downs down (done_downs k (is_over p) (Born b) (works_of (Born b) p) h.downs s.downs) (never_downs k true (Born b) (works_of (Born b) p) down new));
+}
+
+-- The first frame has landed.
+pub lands_down : {rules : Rules} {had had2 : ℕ → Bool} {k : ℕ} {o : Origin} {p : Work} {h h2 : Here} (x : Flying) (d : List Flying) → ((i : ℕ) → had i ≡ true → had2 i ≡ true) → AtServer rules had k o p h → h.downs ≡ x ∷ d
+    → h2.acts ≡ h.acts → h2.ups ≡ h.ups → h2.jobs ≡ h.jobs → h2.downs ≡ d → AtServer rules had2 k o p h2
+lands_down {rules} {k = k} {o = o} {p = p} x d more s was ha hu hj hd = record {
+  within = s.within;
+  is_work = work_later rules more k o p s.is_work;
+  works_is = ap work ha ∙ s.works_is;
+  items = s.items;
+  are_items = s.are_items;
+  may_have = s.may_have;
   ups_is = hu ∙ s.ups_is;
   jobs_is = hj ∙ s.jobs_is;
-  downs = subst (λ (ds : List Flying). AllByRecursion (IsDown k (is_over p) (works_of o p)) ds) (sym hd)
-      (subst (λ (ds : List Flying). AllByRecursion (IsDown k (is_over p) (works_of o p)) ds) was s.downs).1;
+  downs = subst (λ (ds : List Flying). AreDown k o p ds) (sym hd) (subst (λ (ds : List Flying). AreDown k o p ds) was s.downs).1;
 }
+
+-- ---- mailboxes change
+
+abbrev pub mapped : (ActiveJob → ActiveJob) → Work → Work
+mapped g (Waits j) = Waits (g j)
+mapped g (Runs j) = Runs (g j)
+mapped g (Left j response) = Left (g j) response
+mapped g Idle = Idle
+mapped g (Asking x) = Asking x
+mapped g (Over done) = Over done
+
+module _ (g : ActiveJob → ActiveJob) (found : StaysFound g) where
+  mapped_job : (rules : Rules) (k : ℕ) (asked : Option Request) (j : ActiveJob) → IsJob rules k asked j → IsJob rules k asked (g j)
+  mapped_job rules k asked j h = record { request = found.request j ∙ h.request; stream = ap (λ (x : MessageHeader). x.stream_id) (found.header j) ∙ h.stream; kind = λ sync. found.stream j ∙ h.kind sync }
+
+  mapped_work : (rules : Rules) (had : ℕ → Bool) (k : ℕ) (o : Origin) (p : Work) → IsWork rules had k o p → IsWork rules had k o (mapped g p)
+  mapped_work rules had k Unborn p h = ap (mapped g) h
+  mapped_work rules had k (Born b) Idle h = h
+  mapped_work rules had k (Born b) (Asking x) h = h
+  mapped_work rules had k (Born b) (Waits j) h =
+      subst (λ (t : Bool). IsJob rules k (Some (asked_by t (request_of b))) (g j)) (sym (found.stream j)) (mapped_job rules k (Some (asked_by (is_stream j.body) (request_of b))) j h)
+  mapped_work rules had k (Born b) (Runs j) h = mapped_job rules k None j h
+  mapped_work rules had k (Born b) (Left j response) h = (mapped_job rules k None j h.0, ap had (found.id j) ∙ h.1, found.stream j ∙ h.2)
+  mapped_work rules had k (Born b) (Over done) h = h
+
+  same_ran : (b : Birth) (j : ActiveJob) → Ran (g j).id (is_stream (g j).body) (asked_by (is_stream (g j).body) (request_of b)) ≡ Ran j.id (is_stream j.body) (asked_by (is_stream j.body) (request_of b))
+  same_ran b j = ap (λ (n : ℕ). Ran n (is_stream (g j).body) (asked_by (is_stream (g j).body) (request_of b))) (found.id j) ∙ ap (λ (t : Bool). Ran j.id t (asked_by t (request_of b))) (found.stream j)
+
+  same_works : (o : Origin) (p : Work) → works_of o (mapped g p) ≡ works_of o p
+  same_works Unborn p = refl
+  same_works (Born b) Idle = refl
+  same_works (Born b) (Asking x) = refl
+  same_works (Born b) (Waits j) = refl
+  same_works (Born b) (Runs j) = ap (λ (a : Act). first_act b ∷ a ∷ []) (same_ran b j)
+  same_works (Born b) (Left j response) = ap (λ (a : Act). first_act b ∷ a ∷ Answered false (Ok (Some response)) ∷ []) (same_ran b j)
+  same_works (Born b) (Over done) = refl
+
+  same_over : (p : Work) → is_over (mapped g p) ≡ is_over p
+  same_over Idle = refl
+  same_over (Asking x) = refl
+  same_over (Waits j) = refl
+  same_over (Runs j) = refl
+  same_over (Left j response) = refl
+  same_over (Over done) = refl
+
+  same_ups : (p : Work) → ups_of (mapped g p) ≡ ups_of p
+  same_ups Idle = refl
+  same_ups (Asking x) = refl
+  same_ups (Waits j) = refl
+  same_ups (Runs j) = refl
+  same_ups (Left j response) = refl
+  same_ups (Over done) = refl
+
+  same_jobs : (p : Work) → map g (jobs_of p) ≡ jobs_of (mapped g p)
+  same_jobs Idle = refl
+  same_jobs (Asking x) = refl
+  same_jobs (Waits j) = refl
+  same_jobs (Runs j) = refl
+  same_jobs (Left j response) = refl
+  same_jobs (Over done) = refl
+
+  -- Mailboxes change, and nothing else.
+  pub maps : {rules : Rules} {had : ℕ → Bool} {k : ℕ} {o : Origin} {p : Work} {h h2 : Here} → AtServer rules had k o p h
+      → h2.acts ≡ h.acts → h2.ups ≡ h.ups → h2.jobs ≡ map g h.jobs → h2.downs ≡ h.downs → AtServer rules had k o (mapped g p) h2
+  maps {rules} {had} {k} {o} {p} {h} {h2} s ha hu hj hd = record {
+    within = s.within;
+    is_work = mapped_work rules had k o p s.is_work;
+    works_is = ap work ha ∙ s.works_is ∙ sym (same_works o p);
+    items = s.items;
+    are_items = s.are_items;
+    may_have = s.may_have;
+    ups_is = hu ∙ s.ups_is ∙ ap (λ (xs : List Flying). xs ++ s.items) (sym (same_ups p));
+    jobs_is = hj ∙ ap (map g) s.jobs_is ∙ same_jobs p;
+    downs = rw (hd, same_over p, same_works o p) s.downs;
+  }
 
 -- ---- what follows
 
 -- work that isn't over has no answer
-pub unanswered : (o : Origin) (p : Work) (r : Response) → is_over p ≡ false → IsAnswer (works_of o p) r → ⊥
-unanswered Unborn p r e h = let bad : [] ≡ Called h.0 ∷ Ran h.1 h.0 ∷ Answered (Ok r) ∷ [] = h.2 in cc
-unanswered (ByCall q) Idle r e h = let bad : [] ≡ Called h.0 ∷ Ran h.1 h.0 ∷ Answered (Ok r) ∷ [] = h.2 in cc
-unanswered (ByCall q) (Asking x) r e h = let bad : Called q ∷ [] ≡ Called h.0 ∷ Ran h.1 h.0 ∷ Answered (Ok r) ∷ [] = h.2 in cc
-unanswered (ByCall q) (Waits j) r e h = let bad : Called q ∷ [] ≡ Called h.0 ∷ Ran h.1 h.0 ∷ Answered (Ok r) ∷ [] = h.2 in cc
-unanswered (ByCall q) (Runs j) r e h = let bad : Called q ∷ Ran j.id q ∷ [] ≡ Called h.0 ∷ Ran h.1 h.0 ∷ Answered (Ok r) ∷ [] = h.2 in cc
-unanswered (ByCall q) (Left j x) r e h = let bad : true ≡ false = e in cc
-unanswered (ByCall q) (Over done) r e h = let bad : true ≡ false = e in cc
+pub unanswered : (o : Origin) (p : Work) (r : Response) → is_over p ≡ false → IsAnswer o (works_of o p) r → ⊥
+unanswered Unborn p r e h = h
+unanswered (Born b) Idle r e h = let bad : [] ≡ first_act b ∷ Ran h.0 h.1 (asked_by h.1 (request_of b)) ∷ Answered h.1 (Ok (Some r)) ∷ [] = h.2 in cc
+unanswered (Born b) (Asking x) r e h = let bad : first_act b ∷ [] ≡ first_act b ∷ Ran h.0 h.1 (asked_by h.1 (request_of b)) ∷ Answered h.1 (Ok (Some r)) ∷ [] = h.2 in cc
+unanswered (Born b) (Waits j) r e h = let bad : first_act b ∷ [] ≡ first_act b ∷ Ran h.0 h.1 (asked_by h.1 (request_of b)) ∷ Answered h.1 (Ok (Some r)) ∷ [] = h.2 in cc
+unanswered (Born b) (Runs j) r e h = let bad : ran_work b j ≡ first_act b ∷ Ran h.0 h.1 (asked_by h.1 (request_of b)) ∷ Answered h.1 (Ok (Some r)) ∷ [] = h.2 in cc
+unanswered (Born b) (Left j x) r e h = let bad : true ≡ false = e in cc
+unanswered (Born b) (Over done) r e h = let bad : true ≡ false = e in cc
 
-one_up_of : (p : Work) → length (ups_of p) ≤ 1
-one_up_of (Asking x) = omega arith
-one_up_of p = omega arith
+names_first : (b : Birth) (rest : List Act) → names (first_act b ∷ rest) ≡ request_of b ∷ names rest
+names_first (ByCall request) rest = refl
+names_first (ByOpen request up down) rest = refl
 
--- at most one request is in flight
-pub one_up : {had : ℕ → Bool} {k : ℕ} {o : Origin} {p : Work} {h : Here} → AtServer had k o p h → length h.ups ≤ 1
-one_up {p = p} s = rw s.ups_is (one_up_of p)
+runs_first : (b : Birth) (rest : List Act) → runs (first_act b ∷ rest) ≡ runs rest
+runs_first (ByCall request) rest = refl
+runs_first (ByOpen request up down) rest = refl
 
-one_call_of : (had : ℕ → Bool) (k : ℕ) (o : Origin) (p : Work) → IsWork had k o p → length (calls (works_of o p)) ≤ 1
-one_call_of had k Unborn p h = omega arith
-one_call_of had k (ByCall q) (Over done) h = omega (arith, h.one_call)
-one_call_of had k (ByCall q) p h = omega arith
+one_name_of : (rules : Rules) (had : ℕ → Bool) (k : ℕ) (o : Origin) (p : Work) → IsWork rules had k o p → length (names (works_of o p)) ≤ 1
+one_name_of rules had k Unborn p h = omega arith
+one_name_of rules had k (Born b) p h = let d = is_done rules had k b p h in rw (d.is, names_first b d.rest, d.unnamed) (omega arith)
 
-one_run_of : (had : ℕ → Bool) (k : ℕ) (o : Origin) (p : Work) → IsWork had k o p → length (runs (works_of o p)) ≤ 1
-one_run_of had k Unborn p h = omega arith
-one_run_of had k (ByCall q) (Over done) h = h.one_run
-one_run_of had k (ByCall q) p h = omega arith
+one_run_of : (rules : Rules) (had : ℕ → Bool) (k : ℕ) (o : Origin) (p : Work) → IsWork rules had k o p → length (runs (works_of o p)) ≤ 1
+one_run_of rules had k Unborn p h = omega arith
+one_run_of rules had k (Born b) p h = let d = is_done rules had k b p h in rw (d.is, runs_first b d.rest) d.one_run
 
-called_of : (had : ℕ → Bool) (k : ℕ) (q : Request) (p : Work) → IsWork had k (ByCall q) p → calls (works_of (ByCall q) p) ≡ [] → ⊥
-called_of had k q Idle h e = h
-called_of had k q (Over done) h e = absurd (let no : ⊥ = omega (arith, h.one_call, ap (λ (xs : List Request). length xs) e) in no)
-called_of had k q p h e = cc
+pub one_name : {rules : Rules} {had : ℕ → Bool} {k : ℕ} {o : Origin} {p : Work} {h : Here} → AtServer rules had k o p h → length (names h.acts) ≤ 1
+one_name {rules} {had} {k} {o} {p} {h} s = rw (names_work h.acts, s.works_is) (one_name_of rules had k o p s.is_work)
 
-pub one_call : {had : ℕ → Bool} {k : ℕ} {o : Origin} {p : Work} {h : Here} → AtServer had k o p h → length (calls h.acts) ≤ 1
-one_call {had = had} {k = k} {o = o} {p = p} {h = h} s = rw (calls_work h.acts, s.works_is) (one_call_of had k o p s.is_work)
-
-pub one_run : {had : ℕ → Bool} {k : ℕ} {o : Origin} {p : Work} {h : Here} → AtServer had k o p h → length (runs h.acts) ≤ 1
-one_run {had = had} {k = k} {o = o} {p = p} {h = h} s = rw (runs_work h.acts, s.works_is) (one_run_of had k o p s.is_work)
+pub one_run : {rules : Rules} {had : ℕ → Bool} {k : ℕ} {o : Origin} {p : Work} {h : Here} → AtServer rules had k o p h → length (runs h.acts) ≤ 1
+one_run {rules} {had} {k} {o} {p} {h} s = rw (runs_work h.acts, s.works_is) (one_run_of rules had k o p s.is_work)
 
 -- who has no call is no call
-pub uncalled : {had : ℕ → Bool} {k : ℕ} {q : Request} {p : Work} {h : Here} → AtServer had k (ByCall q) p h → calls h.acts ≡ [] → ⊥
-uncalled {had = had} {k = k} {q = q} {p = p} {h = h} s e = called_of had k q p s.is_work (sym (calls_work h.acts ∙ ap calls s.works_is) ∙ e)
+pub uncalled : {rules : Rules} {had : ℕ → Bool} {k : ℕ} {q : Request} {p : Work} {h : Here} → AtServer rules had k (Born (ByCall q)) p h → calls h.acts ≡ [] → ⊥
+uncalled {rules} {had} {k} {q} {p} {h} s e =
+    let d = is_done rules had k (ByCall q) p s.is_work in
+    let bad : q ∷ calls d.rest ≡ [] = sym (calls_work h.acts ∙ ap calls (s.works_is ∙ d.is)) ∙ e in
+    cc
+
+-- a call has at most its request in flight
+pub one_up : {rules : Rules} {had : ℕ → Bool} {k : ℕ} {q : Request} {p : Work} {h : Here} → AtServer rules had k (Born (ByCall q)) p h → length h.ups ≤ 1
+one_up {p = Asking x} s = rw (s.ups_is, s.may_have) (omega arith)
+one_up {p = p} s = rw (s.ups_is, s.may_have) (omega arith)

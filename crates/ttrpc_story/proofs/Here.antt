@@ -1,5 +1,5 @@
--- All there is at one id, how its call began, and how far its work has come. No net, no queue and no bytes.
-use Rattle.ttrpc_story.proofs.Words.{◌++◌, ◌∷◌, ◌≡◌, ℕ, [], Act, ActiveJob, acts, Answered, Call, Called, Flying, jobs_at, List, Ok, Option, parcels, Ran, refl, Request, Response}
+-- All there is at one id, how it came to be used, and how far the server's work has come. No net, no queue and no bytes.
+use Rattle.ttrpc_story.proofs.Words.{◌++◌, ◌∷◌, ◌≡◌, ℕ, [], Act, ActiveJob, acts, Answered, asked_by, Bool, Call, call_at, Called, Client, Error, false, Flying, is_stream, jobs_at, List, Ok, Opened, Option, parcels, Ran, refl, Request, Response, Result, Some, Stream, stream_at}
 use Rattle.ttrpc_events.specs.declared.events.Entry.{Entry}
 
 -- what a trace says of an id, the frames in flight under it, its jobs at the server, and what the client keeps
@@ -9,22 +9,39 @@ pub record Here : Type 0 where
   pub jobs : List ActiveJob
   pub downs : List Flying
   pub call : Option Call
+  pub stream : Option Stream
 
--- THE ONE PLACE WHERE IT IS MADE, of a trace, of all that is in flight each way, of the jobs and of what is kept. An event
+-- THE ONE PLACE WHERE IT IS MADE, of a trace, of all that is in flight each way, of the jobs and of the client. An event
 -- that isn't about an id leaves this there.
-abbrev pub here_at : (ℕ → ℕ) → List Entry → List Flying → List Flying → List ActiveJob → (ℕ → Option Call) → ℕ → Here
-here_at stream_of trace up down jobs kept k = record {
+abbrev pub here_at : (ℕ → ℕ) → List Entry → List Flying → List Flying → List ActiveJob → Client → ℕ → Here
+here_at stream_of trace up down jobs client k = record {
   acts = acts stream_of k trace;
   ups = parcels k up;
   jobs = jobs_at jobs k;
   downs = parcels k down;
-  call = kept k;
+  call = call_at client k;
+  stream = stream_at client k;
 }
 
--- how an id came to be used: not yet, or by a call
+-- how an id came to be used: by a call, or by a stream that was opened
+pub data Birth : Type 0 where
+  ByCall : (request : Request) → Birth
+  ByOpen : (request : Request) → (up down : Bool) → Birth
+
+-- not yet, or so
 pub data Origin : Type 0 where
   Unborn : Origin
-  ByCall : (request : Request) → Origin
+  Born : (b : Birth) → Origin
+
+-- the act that is
+abbrev pub first_act : Birth → Act
+first_act (ByCall request) = Called request
+first_act (ByOpen request up down) = Opened request up down
+
+-- its request
+abbrev pub request_of : Birth → Request
+request_of (ByCall request) = request
+request_of (ByOpen request up down) = request
 
 -- how far the server's work has come
 pub data Work : Type 0 where
@@ -41,16 +58,24 @@ pub data Work : Type 0 where
   -- nothing of it is left to be done
   Over : (done : List Act) → Work
 
+-- a job was handed out
+abbrev pub ran_work : Birth → ActiveJob → List Act
+ran_work b j = first_act b ∷ Ran j.id (is_stream j.body) (asked_by (is_stream j.body) (request_of b)) ∷ []
+
+-- and answered, as a job of this kind
+abbrev pub answered_work : Birth → ActiveJob → Bool → Result (Option Response) Error → List Act
+answered_work b j kind result = first_act b ∷ Ran j.id (is_stream j.body) (asked_by (is_stream j.body) (request_of b)) ∷ Answered kind result ∷ []
+
 -- the acts but for the outcome
 abbrev pub works_of : Origin → Work → List Act
-works_of (ByCall request) (Asking x) = Called request ∷ []
-works_of (ByCall request) (Waits j) = Called request ∷ []
-works_of (ByCall request) (Runs j) = Called request ∷ Ran j.id request ∷ []
-works_of (ByCall request) (Left j response) = Called request ∷ Ran j.id request ∷ Answered (Ok response) ∷ []
-works_of (ByCall request) (Over done) = done
+works_of (Born b) (Asking x) = first_act b ∷ []
+works_of (Born b) (Waits j) = first_act b ∷ []
+works_of (Born b) (Runs j) = ran_work b j
+works_of (Born b) (Left j response) = answered_work b j false (Ok (Some response))
+works_of (Born b) (Over done) = done
 works_of origin work = []
 
--- what is in flight to the server
+-- what is in flight to the server, beside data
 abbrev pub ups_of : Work → List Flying
 ups_of (Asking x) = x ∷ []
 ups_of work = []
@@ -62,9 +87,10 @@ jobs_of (Runs j) = j ∷ []
 jobs_of (Left j response) = j ∷ []
 jobs_of work = []
 
--- these acts are a call, one run of its request, and this answer
-abbrev pub IsAnswer : List Act → Response → Type 0
-IsAnswer done r = (request : Request) × (job : ℕ) × (done ≡ Called request ∷ Ran job request ∷ Answered (Ok r) ∷ [])
+-- these acts are the call, one run of its request, and this answer
+abbrev pub IsAnswer : Origin → List Act → Response → Type 0
+IsAnswer Unborn done r = ⊥
+IsAnswer (Born b) done r = (job : ℕ) × (stream : Bool) × (done ≡ first_act b ∷ Ran job stream (asked_by stream (request_of b)) ∷ Answered stream (Ok (Some r)) ∷ [])
 
 -- ---- lists of at most one item
 

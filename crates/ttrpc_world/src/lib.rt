@@ -3,5 +3,5 @@
 
 mod world;
 
-pub use ttrpc_headline::{Entry, Event, Reply, Side, Trace};
+pub use ttrpc_headline::{Entry, Event, Reply, Side, StreamEnd, Trace};
 pub use world::World;

@@ -2,3 +2,4 @@ mod plainly;
 mod random_tests;
 mod rows_tests;
 mod script;
+mod streams_tests;

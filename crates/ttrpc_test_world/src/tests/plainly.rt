@@ -1,9 +1,9 @@
-//! The headline, computed from a trace: at most one outcome of a call, and an `Ok` is the answer of its one run. Slow, and
-//! written from its sentences alone.
+//! The headline, computed from a trace: ids are distinct, a call has at most one outcome, and an `Ok` is the answer of its
+//! one run. Slow, and written from its sentences alone.
 
 use ttrpc_client::CallId;
 use ttrpc_proto::{Error, Request, Response};
-use ttrpc_server::JobId;
+use ttrpc_server::{Job, JobId};
 use ttrpc_world::{Entry, Event, Reply};
 
 /// What was read of a trace so far: what is wrong with it, or how many outcomes were `Ok`.
@@ -11,11 +11,11 @@ use ttrpc_world::{Entry, Event, Reply};
 pub enum Finding {
     /// Nothing is wrong, and so many outcomes were `Ok`.
     Whole(usize),
-    /// A call was accepted under an id that was used.
+    /// A call was accepted, or a stream opened, under an id that was used.
     IdUsedTwice,
-    /// A job was handed out for an id that no call has, or for the second time.
+    /// A job was handed out for an id that no call or stream has, or for the second time.
     RunOutOfPlace,
-    /// An answer or a response to a job was accepted for the second time.
+    /// An answer, a response or an end of a job was accepted for the second time.
     AnsweredTwice,
     /// An outcome was given of an id that no call has, or for the second time.
     OutcomeOutOfPlace,
@@ -23,14 +23,20 @@ pub enum Finding {
     OtherAnswer,
 }
 
-/// The requests of calls that were accepted under this id.
-fn calls_of(trace: &[Entry], id: CallId) -> usize {
+/// Whether a call was accepted under this id, or a stream opened.
+fn is_named(entry: &Entry, id: CallId) -> bool {
+    match (&entry.event, &entry.reply) {
+        (Event::Call(_) | Event::Open(_, _, _), Reply::Named(named)) => *named == id,
+        _ => false,
+    }
+}
+
+/// The calls that were accepted under this id, and the streams that were opened.
+fn names_of(trace: &[Entry], id: CallId) -> usize {
     let mut count = 0usize;
     for entry in trace {
-        if let (Event::Call(_), Reply::Named(named)) = (&entry.event, &entry.reply) {
-            if *named == id {
-                count = count.saturating_add(1);
-            }
+        if is_named(entry, id) {
+            count = count.saturating_add(1);
         }
     }
     count
@@ -61,22 +67,36 @@ fn runs_of(trace: &[Entry], id: CallId) -> usize {
     count
 }
 
-/// The first job that was handed out for this id, with its request.
-fn run_of(trace: &[Entry], id: CallId) -> Option<(JobId, &Request)> {
+/// The first job that was handed out for this id.
+fn run_of(trace: &[Entry], id: CallId) -> Option<&Job> {
     for entry in trace {
         if let Reply::Handed(Some(job)) = &entry.reply {
             if job.header.stream_id == id {
-                return Some((job.id, &job.request));
+                return Some(job);
             }
         }
     }
     None
 }
 
-/// Whether an answer or a response to this job was accepted here.
+/// Whether a job has exactly this request; a stream's has it without its payload.
+fn has_request(job: &Job, request: &Request) -> bool {
+    if !job.stream {
+        return job.request == *request;
+    }
+    job.request.service == request.service
+        && job.request.method == request.method
+        && job.request.payload.is_empty()
+        && job.request.timeout_nano == request.timeout_nano
+        && job.request.metadata == request.metadata
+}
+
+/// Whether an answer, a response or an end of this job was accepted here.
 fn is_answered(entry: &Entry, job: JobId) -> bool {
     match (&entry.event, &entry.reply) {
-        (Event::Answer(id, _) | Event::Respond(id, _), Reply::Done) => *id == job,
+        (Event::Answer(id, _) | Event::Respond(id, _) | Event::EndStream(id, _), Reply::Done) => {
+            *id == job
+        }
         _ => false,
     }
 }
@@ -92,12 +112,13 @@ fn answers_of(trace: &[Entry], job: JobId) -> usize {
     count
 }
 
-/// The first response that was accepted of this job, also as an answer.
+/// The first response that was accepted of this job, also as an answer or an end.
 fn answer_of(trace: &[Entry], job: JobId) -> Option<&Response> {
     for entry in trace {
         if is_answered(entry, job) {
             return match &entry.event {
                 Event::Answer(_, Ok(response)) | Event::Respond(_, response) => Some(response),
+                Event::EndStream(_, Ok(Some(response))) => Some(response),
                 _ => None,
             };
         }
@@ -128,15 +149,15 @@ fn is_ok(response: &Response) -> bool {
 
 /// Whether the trace up to an outcome makes it the answer of the one run, for exactly the request of its call.
 fn is_answer(before: &[Entry], id: CallId, response: &Response) -> bool {
-    let (Some(request), Some((job, asked))) = (call_of(before, id), run_of(before, id)) else {
+    let (Some(request), Some(job)) = (call_of(before, id), run_of(before, id)) else {
         return false;
     };
-    let Some(answer) = answer_of(before, job) else {
+    let Some(answer) = answer_of(before, job.id) else {
         return false;
     };
     runs_of(before, id) == 1
-        && answers_of(before, job) == 1
-        && request == asked
+        && answers_of(before, job.id) == 1
+        && has_request(job, request)
         && answer == response
         && is_ok(response)
 }
@@ -144,11 +165,13 @@ fn is_answer(before: &[Entry], id: CallId, response: &Response) -> bool {
 /// What one entry behind others adds.
 fn step(before: &[Entry], entry: &Entry) -> Finding {
     match (&entry.event, &entry.reply) {
-        (Event::Call(_), Reply::Named(id)) if calls_of(before, *id) > 0 => Finding::IdUsedTwice,
+        (Event::Call(_) | Event::Open(_, _, _), Reply::Named(id)) if names_of(before, *id) > 0 => {
+            Finding::IdUsedTwice
+        }
         (Event::Take, Reply::Handed(Some(job)))
-            if calls_of(before, job.header.stream_id) == 0
+            if names_of(before, job.header.stream_id) == 0
                 || runs_of(before, job.header.stream_id) > 0 => { Finding::RunOutOfPlace }
-        (Event::Answer(job, _) | Event::Respond(job, _), Reply::Done)
+        (Event::Answer(job, _) | Event::Respond(job, _) | Event::EndStream(job, _), Reply::Done)
             if answers_of(before, *job) > 0 => { Finding::AnsweredTwice }
         (Event::Outcome(id), Reply::Outcome(Some(outcome))) => outcome_step(before, *id, outcome),
         _ => Finding::Whole(0),
@@ -157,7 +180,7 @@ fn step(before: &[Entry], entry: &Entry) -> Finding {
 
 /// What an outcome adds.
 fn outcome_step(before: &[Entry], id: CallId, outcome: &Result<Response, Error>) -> Finding {
-    if calls_of(before, id) == 0 || outcomes_of(before, id) > 0 {
+    if call_of(before, id).is_none() || outcomes_of(before, id) > 0 {
         return Finding::OutcomeOutOfPlace;
     }
     match outcome {

@@ -2,22 +2,27 @@
 ghost use Rattle.std.specs.Prelude.{◌<◌};
 
 use crate::tests::plainly::{Finding, read_headline};
-use crate::tests::script::{over_plain, over_stamps, put, request_of, response_of};
+use crate::tests::script::{
+    Ways, over_plain, over_stamps, put, request_named, request_of, response_of,
+};
 use std::alloc::Global;
+use std::process::Abort;
 use std::test::Fail;
 use ttrpc_client::ClientKind;
 use ttrpc_codec::message::WireMessage;
 use ttrpc_frame::MessageHeader;
 use ttrpc_proto::{Error, Response, Status};
-use ttrpc_server::Job;
-use ttrpc_wire::Text;
-use ttrpc_world::{Entry, Event, Reply, Side, Trace};
+use ttrpc_server::{Job, Rules};
+use ttrpc_wire::Blob;
+use ttrpc_world::{Entry, Event, Reply, Side, StreamEnd, Trace};
 
 type Tested = Result<(), Fail>;
 
+/// The seed of the first of the four tests; each has its own.
 const SEED: u64 = 20260101;
 
-const LISTS: usize = 2000;
+/// How many lists each of the four tests runs.
+const LISTS: usize = 1250;
 
 const EVENTS: usize = 64;
 
@@ -50,6 +55,15 @@ impl Chance {
         self.below(4).saturating_add(1)
     }
 
+    /// The client's end of one of the first streams, or the server's.
+    fn end(&mut self) -> StreamEnd {
+        if self.below(2) == 0 {
+            StreamEnd::Client(self.id())
+        } else {
+            StreamEnd::Server(self.job())
+        }
+    }
+
     fn count(&mut self) -> usize {
         self.below(96) as usize
     }
@@ -80,15 +94,56 @@ fn answer_of(alloc: Global, chance: &mut Chance) -> Result<Result<Response, Erro
     Ok(Ok(response))
 }
 
-/// A call of a method that there is, or by chance of one that isn't.
+/// A call of a method that there is, or by chance of a stream, or of one that isn't.
 fn call_of(alloc: Global, chance: &mut Chance) -> Result<Event, Fail> {
     let payload = [chance.below(256) as u8];
     let timeout = if chance.below(4) == 0 { 20 } else { 0 };
-    let mut request = request_of(alloc, &payload, timeout)?;
-    if chance.below(10) == 0 {
-        request.method = Text::from_str(alloc, "Nope")?;
+    match chance.below(10) {
+        0 => Ok(Event::Call(request_named(alloc, "Nope", &payload)?)),
+        1 | 2 => Ok(Event::Call(request_named(alloc, "Chat", &payload)?)),
+        _ => Ok(Event::Call(request_of(alloc, &payload, timeout)?)),
     }
-    Ok(Event::Call(request))
+}
+
+/// A stream, mostly of a name that there is.
+fn open_of(alloc: Global, chance: &mut Chance) -> Result<Event, Fail> {
+    let method = match chance.below(8) {
+        0 => "Nope",
+        1 | 2 => "Echo",
+        _ => "Chat",
+    };
+    let up = chance.below(2) == 0;
+    let payload = if up { 0 } else { chance.below(2) as usize };
+    let request = request_named(alloc, method, &b"a"[..payload])?;
+    Ok(Event::Open(request, up, chance.below(4) > 0))
+}
+
+fn item_of(alloc: Global, chance: &mut Chance) -> Result<Blob, Fail> {
+    let count = chance.below(3) as usize;
+    Ok(Blob::from_slice(alloc, &b"ab"[..count])?)
+}
+
+/// An event of a stream.
+fn of_stream(alloc: Global, chance: &mut Chance) -> Result<Event, Fail> {
+    Ok(match chance.below(24) {
+        0..5 => open_of(alloc, chance)?,
+        5..10 => Event::Send(chance.end(), item_of(alloc, chance)?),
+        10..16 => Event::Recv(chance.end()),
+        16..18 => Event::Close(chance.id()),
+        18 => Event::DropReceiver(chance.end()),
+        19 => Event::DropSender(chance.id()),
+        _ => Event::EndStream(chance.job(), end_of(alloc, chance)?),
+    })
+}
+
+/// What a handler ends a stream by.
+fn end_of(alloc: Global, chance: &mut Chance) -> Result<Result<Option<Response>, Error>, Fail> {
+    let payload = [chance.below(256) as u8];
+    Ok(match chance.below(8) {
+        0 => Err(Error::Eof),
+        1 | 2 => Ok(None),
+        _ => Ok(Some(response_of(alloc, &payload)?)),
+    })
 }
 
 /// An event that ends something: rare, so that most lists come far.
@@ -96,7 +151,8 @@ fn ending(chance: &mut Chance) -> Event {
     match chance.below(64) {
         0 | 1 => Event::Cut(chance.side(), chance.count()),
         2 => Event::Fail(chance.side()),
-        3 | 4 => Event::DropCall(chance.id()),
+        3 => Event::Drain,
+        4 => Event::DropCall(chance.id()),
         5..9 => Event::Tick(chance.below(40)),
         _ => Event::Outcome(chance.id()),
     }
@@ -112,7 +168,7 @@ fn responding(alloc: Global, chance: &mut Chance) -> Result<Event, Fail> {
 }
 
 fn event_by(alloc: Global, chance: &mut Chance) -> Result<Event, Fail> {
-    Ok(match chance.below(16) {
+    Ok(match chance.below(20) {
         0 => call_of(alloc, chance)?,
         1..4 => Event::Carry(Side::Client, chance.count()),
         4..6 => Event::Deliver(Side::Server, chance.count()),
@@ -121,29 +177,40 @@ fn event_by(alloc: Global, chance: &mut Chance) -> Result<Event, Fail> {
         10 => responding(alloc, chance)?,
         11 | 12 => Event::Carry(Side::Server, chance.count()),
         13 | 14 => Event::Deliver(Side::Client, chance.count()),
+        15..19 => of_stream(alloc, chance)?,
         _ => ending(chance),
     })
 }
 
 /// What is under way is brought to its end.
 fn settle(alloc: Global, events: &mut Vec<Event>, chance: &mut Chance) -> Tested {
-    for _ in 0..4 {
+    for _ in 0..12 {
         put(events, Event::Carry(Side::Client, 4096))?;
     }
     put(events, Event::Deliver(Side::Server, 4096))?;
     for job in 1..5 {
-        put(events, Event::Take)?;
-        if chance.below(4) == 0 {
-            put(events, Event::Respond(job, response_of(alloc, b"a")?))?;
-            put(events, Event::Finish(job))?;
-        }
-        put(events, Event::Answer(job, answer_of(alloc, chance)?))?;
-        put(events, Event::Carry(Side::Server, 4096))?;
-        put(events, Event::Carry(Side::Server, 4096))?;
+        settle_job(alloc, events, chance, job)?;
     }
     put(events, Event::Deliver(Side::Client, 4096))?;
     for id in [1, 3, 5, 7] {
         put(events, Event::Outcome(id))?;
+        put(events, Event::Recv(StreamEnd::Client(id)))?;
+    }
+    Ok(())
+}
+
+/// A job is taken, and answered or ended.
+fn settle_job(alloc: Global, events: &mut Vec<Event>, chance: &mut Chance, job: u64) -> Tested {
+    put(events, Event::Take)?;
+    put(events, Event::Recv(StreamEnd::Server(job)))?;
+    if chance.below(4) == 0 {
+        put(events, Event::Respond(job, response_of(alloc, b"a")?))?;
+        put(events, Event::Finish(job))?;
+    }
+    put(events, Event::Answer(job, answer_of(alloc, chance)?))?;
+    put(events, Event::EndStream(job, end_of(alloc, chance)?))?;
+    for _ in 0..3 {
+        put(events, Event::Carry(Side::Server, 4096))?;
     }
     Ok(())
 }
@@ -162,32 +229,56 @@ fn events_by(alloc: Global, chance: &mut Chance) -> Result<Vec<Event>, Fail> {
 
 fn trace_by(alloc: Global, chance: &mut Chance) -> Result<Trace, Fail> {
     let events = events_by(alloc, chance)?;
-    let kind = if chance.below(2) == 0 {
-        ClientKind::Sync
-    } else {
-        ClientKind::Async
+    let ways = Ways {
+        kind: match chance.below(2) {
+            0 => ClientKind::Sync,
+            _ => ClientKind::Async,
+        },
+        rules: match chance.below(3) {
+            0 => Rules::Sync,
+            _ => Rules::Async,
+        },
     };
     if chance.below(2) == 0 {
-        over_plain(alloc, kind, events)
+        over_plain(alloc, ways, events)
     } else {
-        over_stamps(alloc, kind, events)
+        over_stamps(alloc, ways, events)
     }
 }
 
-/// Over 2000 lists the headline holds, and hundreds of calls end well.
-#[test]
-fn the_headline_holds_by_chance(rt: HostRuntime) -> Tested {
-    let mut chance = Chance { state: SEED };
+/// Over 1250 lists from this seed the headline holds, and hundreds of calls end well.
+fn holds_by_chance(rt: &impl Abort, alloc: Global, seed: u64) -> Tested {
+    let mut chance = Chance { state: seed };
     let mut good = 0usize;
     for _ in 0..LISTS {
-        let trace = trace_by(rt.alloc(), &mut chance)?;
+        let trace = trace_by(alloc, &mut chance)?;
         match read_headline(trace.as_slice()) {
             Finding::Whole(more) => good = good.saturating_add(more),
             _ => return Err("the headline doesn't hold".into()),
         }
     }
-    assert!(rt; good > 500);
+    assert!(rt; good > 200);
     Ok(())
+}
+
+#[test]
+fn the_headline_holds_by_chance(rt: HostRuntime) -> Tested {
+    holds_by_chance(&rt, rt.alloc(), SEED)
+}
+
+#[test]
+fn the_headline_holds_by_another_chance(rt: HostRuntime) -> Tested {
+    holds_by_chance(&rt, rt.alloc(), SEED + 1)
+}
+
+#[test]
+fn the_headline_holds_by_a_third_chance(rt: HostRuntime) -> Tested {
+    holds_by_chance(&rt, rt.alloc(), SEED + 2)
+}
+
+#[test]
+fn the_headline_holds_by_a_fourth_chance(rt: HostRuntime) -> Tested {
+    holds_by_chance(&rt, rt.alloc(), SEED + 3)
 }
 
 fn call_entry(alloc: Global) -> Result<Entry, Fail> {
@@ -198,11 +289,35 @@ fn call_entry(alloc: Global) -> Result<Entry, Fail> {
     })
 }
 
+/// A stream was opened under the same id.
+fn open_entry(alloc: Global) -> Result<Entry, Fail> {
+    let request = request_of(alloc, b"", 0)?;
+    Ok(Entry {
+        event: Event::Open(request, true, true),
+        reply: Reply::Named(1),
+    })
+}
+
 fn outcome_entry(alloc: Global) -> Result<Entry, Fail> {
     let response = response_of(alloc, b"a")?;
     Ok(Entry {
         event: Event::Outcome(1),
         reply: Reply::Outcome(Some(Ok(response))),
+    })
+}
+
+/// A stream's job of call 1 was handed out, with the payload of its request still in it.
+fn stream_entry(alloc: Global) -> Result<Entry, Fail> {
+    let request = request_of(alloc, b"a", 0)?;
+    let job = Job {
+        id: 1,
+        header: MessageHeader::new_request(1, 0),
+        stream: true,
+        request,
+    };
+    Ok(Entry {
+        event: Event::Take,
+        reply: Reply::Handed(Some(job)),
     })
 }
 
@@ -228,6 +343,15 @@ fn answer_entry() -> Entry {
     }
 }
 
+/// The same by a stream's end.
+fn end_entry(alloc: Global) -> Result<Entry, Fail> {
+    let response = response_of(alloc, b"a")?;
+    Ok(Entry {
+        event: Event::EndStream(1, Ok(Some(response))),
+        reply: Reply::Done,
+    })
+}
+
 fn one(alloc: Global, entry: Entry) -> Result<Trace, Fail> {
     let mut trace = Vec::with_capacity(alloc, 1)?;
     trace.push_reserved(entry);
@@ -247,16 +371,29 @@ fn faults_are_found(rt: HostRuntime) -> Tested {
     let alloc = rt.alloc();
     let used = two(alloc, call_entry(alloc)?, call_entry(alloc)?)?;
     assert_eq!(rt; read_headline(used.as_slice()), Finding::IdUsedTwice);
+    let opened = two(alloc, call_entry(alloc)?, open_entry(alloc)?)?;
+    assert_eq!(rt; read_headline(opened.as_slice()), Finding::IdUsedTwice);
     let run = one(alloc, run_entry(alloc)?)?;
     assert_eq!(rt; read_headline(run.as_slice()), Finding::RunOutOfPlace);
     let answered = two(alloc, answer_entry(), answer_entry())?;
     assert_eq!(rt; read_headline(answered.as_slice()), Finding::AnsweredTwice);
+    let ended = two(alloc, answer_entry(), end_entry(alloc)?)?;
+    assert_eq!(rt; read_headline(ended.as_slice()), Finding::AnsweredTwice);
     let uncalled = one(alloc, outcome_entry(alloc)?)?;
     assert_eq!(rt;
         read_headline(uncalled.as_slice()),
         Finding::OutcomeOutOfPlace
     );
+    let streamed = two(alloc, open_entry(alloc)?, outcome_entry(alloc)?)?;
+    assert_eq!(rt;
+        read_headline(streamed.as_slice()),
+        Finding::OutcomeOutOfPlace
+    );
     let other = two(alloc, call_entry(alloc)?, outcome_entry(alloc)?)?;
     assert_eq!(rt; read_headline(other.as_slice()), Finding::OtherAnswer);
+    let mut payload = two(alloc, call_entry(alloc)?, stream_entry(alloc)?)?;
+    payload.push(end_entry(alloc)?)?;
+    payload.push(outcome_entry(alloc)?)?;
+    assert_eq!(rt; read_headline(payload.as_slice()), Finding::OtherAnswer);
     Ok(())
 }

@@ -1,5 +1,5 @@
 use Rattle.ttrpc_pair.proofs.Words.{refl, rules, halves}
-use Rattle.ttrpc_pair.proofs.Replies.{answers_by, refuses_one}
+use Rattle.ttrpc_pair.proofs.Replies.{answers_by}
 use Rattle.ttrpc_pair.proofs.pair.Pair.answer.Goals as goal
 use Rattle.ttrpc_pair.proofs.pair.Pair.answer.Goals.{in-Ok, in-Err}
 
@@ -15,5 +15,5 @@ returns g c =
         refl,
         taken.3,
       )
-      | in-Err w ↦ rw w.result-is (refuses_one g.SO.OutboundTransform old c.args.id taken.0 c.args.given.now w.in-Err.error taken.1 w.in-Err.ensures.refused, search rules)
+      | in-Err w ↦ rw w.result-is (w.in-Err.ensures.refused, λ alive. record { job = taken.0; at = taken.1; none_yet = taken.3 }, search rules)
     ])

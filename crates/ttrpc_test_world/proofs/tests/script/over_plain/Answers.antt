@@ -3,11 +3,10 @@ use Rattle.ttrpc_test_world.proofs.tests.script.over_plain.Goals as goal
 
 pub run-requires : goal.run-requires
 run-requires c = rw (c.new.ensures, c.new-client.ensures, c.new-server.ensures) (record {
-  kind = c.args.kind;
+  kind = c.args.ways.kind;
   first = 1;
   client = refl;
-  rules = _;
-  sync = refl;
+  rules = c.args.ways.rules;
   services = _;
   server = refl;
   up = refl;

@@ -1,0 +1,352 @@
+//! Scripts of streams with their replies, over plain halves and over halves that stamp.
+use crate::tests::rows_tests::{ASYNC, SYNC, Tested, plain, stamped};
+use crate::tests::script::{Act, Said};
+use std::alloc::Global;
+use std::test::Fail;
+
+/// What a receiver is told behind an error.
+const PAST: &str = "Receive packet from Receiver error";
+
+/// What opens a stream both ways is a frame of 27 bytes. The client sends two items and an empty one between them, and
+/// closes; the server receives them, and their end.
+const ITEMS_UP: &[(Act, Said)] = &[
+    (Act::Open("Chat"), Said::Named(1)),
+    (Act::Send(1, b"a"), Said::Ticket(1)),
+    (Act::Send(1, b""), Said::Ticket(2)),
+    (Act::Send(1, b"b"), Said::Ticket(3)),
+    (Act::Close(1), Said::Ticket(4)),
+    (Act::Send(1, b"c"), Said::LocalClosed),
+    (Act::CarryUp(64), Said::Count(27)),
+    (Act::CarryUp(64), Said::Count(11)),
+    (Act::CarryUp(64), Said::Count(10)),
+    (Act::CarryUp(64), Said::Count(11)),
+    (Act::CarryUp(64), Said::Count(10)),
+    (Act::DeliverUp(1), Said::Count(1)),
+    (Act::DeliverUp(40), Said::Count(40)),
+    (Act::RecvUp(1), Said::Payload(b"a")),
+    (Act::RecvUp(1), Said::Waits),
+    (Act::DeliverUp(64), Said::Count(28)),
+    (Act::RecvUp(1), Said::Payload(b"")),
+    (Act::RecvUp(1), Said::Payload(b"b")),
+    (Act::RecvUp(1), Said::Eof),
+    (Act::RecvUp(1), Said::RemoteClosed),
+    (Act::Take, Said::StreamJob(1, 1)),
+    (Act::End(1), Said::Done),
+    (Act::RecvUp(1), Said::Others(PAST)),
+    (Act::SendDown(1, b"a"), Said::LocalClosed),
+];
+
+/// A server sends two items of 11 bytes each, of which one arrives.
+const CUT_BETWEEN: &[(Act, Said)] = &[
+    (Act::Open("Chat"), Said::Named(1)),
+    (Act::CarryUp(64), Said::Count(27)),
+    (Act::DeliverUp(64), Said::Count(27)),
+    (Act::Take, Said::StreamJob(1, 1)),
+    (Act::SendDown(1, b"a"), Said::Ticket(1)),
+    (Act::SendDown(1, b"b"), Said::Ticket(2)),
+    (Act::CarryDown(64), Said::Count(11)),
+    (Act::CarryDown(64), Said::Count(11)),
+    (Act::CutDown(11), Said::Done),
+    (Act::DeliverDown(64), Said::Count(11)),
+    (Act::Recv(1), Said::Payload(b"a")),
+    (Act::Recv(1), Said::Socket("socket disconnected")),
+    (Act::Recv(1), Said::Others(PAST)),
+];
+
+/// One arrives, and a part of the other.
+const CUT_INSIDE: &[(Act, Said)] = &[
+    (Act::Open("Chat"), Said::Named(1)),
+    (Act::CarryUp(64), Said::Count(27)),
+    (Act::DeliverUp(64), Said::Count(27)),
+    (Act::Take, Said::StreamJob(1, 1)),
+    (Act::SendDown(1, b"a"), Said::Ticket(1)),
+    (Act::SendDown(1, b"b"), Said::Ticket(2)),
+    (Act::CarryDown(64), Said::Count(11)),
+    (Act::CarryDown(64), Said::Count(11)),
+    (Act::CutDown(15), Said::Done),
+    (Act::DeliverDown(64), Said::Count(15)),
+    (Act::Recv(1), Said::Payload(b"a")),
+    (
+        Act::Recv(1),
+        Said::Socket("socket disconnected inside a frame"),
+    ),
+    (Act::Recv(1), Said::Others(PAST)),
+];
+
+/// A call that meets a stream gets its payload as the first item, and no end. Data that come back are no outcome.
+const CALL_GETS_DATA: &[(Act, Said)] = &[
+    (Act::CallOf("Chat", b"\x2a"), Said::Named(1)),
+    (Act::CarryUp(64), Said::Count(30)),
+    (Act::DeliverUp(64), Said::Count(30)),
+    (Act::Take, Said::StreamJob(1, 1)),
+    (Act::RecvUp(1), Said::Payload(b"\x2a")),
+    (Act::RecvUp(1), Said::Waits),
+    (Act::Answer(1, b"\x2b"), Said::Others("unknown job")),
+    (Act::SendDown(1, b"a"), Said::Ticket(1)),
+    (Act::EndWith(1, b"\x2b"), Said::Done),
+    (Act::CarryDown(64), Said::Count(11)),
+    (Act::CarryDown(64), Said::Count(15)),
+    (Act::DeliverDown(64), Said::Count(26)),
+    (
+        Act::Outcome(1),
+        Said::Others("Receiver got malformed packet: type 3, flags 0, stream 1"),
+    ),
+    (Act::Outcome(1), Said::Waits),
+];
+
+/// A response alone is its outcome.
+const CALL_GETS_RESPONSE: &[(Act, Said)] = &[
+    (Act::CallOf("Chat", b"\x2a"), Said::Named(1)),
+    (Act::CarryUp(64), Said::Count(30)),
+    (Act::DeliverUp(64), Said::Count(30)),
+    (Act::Take, Said::StreamJob(1, 1)),
+    (Act::EndWith(1, b"\x2b"), Said::Done),
+    (Act::EndWith(1, b"\x2b"), Said::NoStep),
+    (Act::CarryDown(64), Said::Count(15)),
+    (Act::DeliverDown(64), Said::Count(15)),
+    (Act::Outcome(1), Said::Payload(b"\x2b")),
+];
+
+/// A close is none, and neither is a handler's error.
+const CALL_GETS_CLOSE: &[(Act, Said)] = &[
+    (Act::CallOf("Chat", b"\x2a"), Said::Named(1)),
+    (Act::CallOf("Chat", b"\x2a"), Said::Named(3)),
+    (Act::CarryUp(64), Said::Count(30)),
+    (Act::CarryUp(64), Said::Count(30)),
+    (Act::DeliverUp(64), Said::Count(60)),
+    (Act::Take, Said::StreamJob(1, 1)),
+    (Act::Take, Said::StreamJob(2, 3)),
+    (Act::End(1), Said::Done),
+    (Act::EndBroken(2), Said::Done),
+    (Act::CarryDown(64), Said::Count(10)),
+    (Act::CarryDown(64), Said::Count(19)),
+    (Act::DeliverDown(64), Said::Count(29)),
+    (
+        Act::Outcome(1),
+        Said::Others("Receiver got malformed packet: type 3, flags 5, stream 1"),
+    ),
+    (Act::Outcome(3), Said::Status(2, "eof")),
+];
+
+/// A stream that meets a method: its items are refused, the first refusal ends it, and the answer comes too late.
+const STREAM_MEETS_METHOD: &[(Act, Said)] = &[
+    (Act::Open("Echo"), Said::Named(1)),
+    (Act::Send(1, b"a"), Said::Ticket(1)),
+    (Act::CarryUp(64), Said::Count(27)),
+    (Act::CarryUp(64), Said::Count(11)),
+    (Act::DeliverUp(64), Said::Count(38)),
+    (Act::Take, Said::Job(1, 1, b"")),
+    (Act::RecvUp(1), Said::Others("unknown stream")),
+    (Act::SendDown(1, b"b"), Said::Others("unknown stream")),
+    (Act::End(1), Said::Others("unknown job")),
+    (Act::Answer(1, b"\x2b"), Said::Done),
+    (Act::CarryDown(64), Said::Count(42)),
+    (Act::CarryDown(64), Said::Count(15)),
+    (Act::DeliverDown(64), Said::Count(57)),
+    (Act::Recv(1), Said::Status(3, "Stream is no longer active")),
+    (Act::Recv(1), Said::RemoteClosed),
+    (Act::Outcome(1), Said::Waits),
+];
+
+/// A stream under sync rules: it meets a method, its items are passed over, and the answer is its one item.
+const STREAM_UNDER_SYNC: &[(Act, Said)] = &[
+    (Act::Open("Echo"), Said::Named(1)),
+    (Act::Send(1, b"a"), Said::Ticket(1)),
+    (Act::Open("Chat"), Said::Named(3)),
+    (Act::CarryUp(64), Said::Count(27)),
+    (Act::CarryUp(64), Said::Count(11)),
+    (Act::CarryUp(64), Said::Count(27)),
+    (Act::DeliverUp(128), Said::Count(65)),
+    (Act::Take, Said::Job(1, 1, b"")),
+    (Act::Take, Said::NoJob),
+    (Act::Answer(1, b"\x2b"), Said::Done),
+    (Act::CarryDown(64), Said::Count(46)),
+    (Act::CarryDown(64), Said::Count(15)),
+    (Act::DeliverDown(128), Said::Count(61)),
+    (Act::Recv(1), Said::Payload(b"\x2b")),
+    (Act::Recv(1), Said::RemoteClosed),
+    (
+        Act::Recv(3),
+        Said::Status(3, "/demo.Echo/Chat does not exist"),
+    ),
+];
+
+/// A server sends on the stream of a job that waits, and asks it for items.
+const JOB_THAT_WAITS: &[(Act, Said)] = &[
+    (Act::Ask("Chat", b"\x2a"), Said::Named(1)),
+    (Act::Send(1, b"a"), Said::Others("stream is not sendable")),
+    (Act::SendDown(1, b"a"), Said::Others("unknown stream")),
+    (Act::RecvUp(1), Said::Others("unknown stream")),
+    (Act::CarryUp(64), Said::Count(30)),
+    (Act::DeliverUp(64), Said::Count(30)),
+    (Act::SendDown(1, b"a"), Said::Ticket(1)),
+    (Act::RecvUp(1), Said::Payload(b"\x2a")),
+    (Act::RecvUp(1), Said::RemoteClosed),
+    (Act::CarryDown(64), Said::Count(11)),
+    (Act::DeliverDown(64), Said::Count(11)),
+    (Act::Recv(1), Said::Payload(b"a")),
+    (Act::Recv(1), Said::Waits),
+    (Act::End(1), Said::NoStep),
+    (Act::Take, Said::StreamJob(1, 1)),
+    (Act::End(1), Said::Done),
+    (Act::CarryDown(64), Said::Count(10)),
+    (Act::DeliverDown(64), Said::Count(10)),
+    (Act::Recv(1), Said::Eof),
+];
+
+/// Halves of a stream are dropped: what comes for a receiver that is dropped is refused at the server, and lost at the
+/// client.
+const DROPPED: &[(Act, Said)] = &[
+    (Act::Open("Chat"), Said::Named(1)),
+    (Act::Open("Chat"), Said::Named(3)),
+    (Act::CarryUp(64), Said::Count(27)),
+    (Act::CarryUp(64), Said::Count(27)),
+    (Act::DeliverUp(64), Said::Count(54)),
+    (Act::DropReceiverUp(1), Said::Done),
+    (Act::RecvUp(1), Said::Others(PAST)),
+    (Act::RecvUp(2), Said::Waits),
+    (Act::Send(1, b"a"), Said::Ticket(1)),
+    (Act::DropSender(1), Said::Done),
+    (Act::Send(1, b"a"), Said::LocalClosed),
+    (Act::CarryUp(64), Said::Count(11)),
+    (Act::DeliverUp(64), Said::Count(11)),
+    (Act::DropReceiver(3), Said::Done),
+    (Act::Recv(3), Said::Others(PAST)),
+    (Act::CarryDown(64), Said::Count(42)),
+    (Act::DeliverDown(64), Said::Count(42)),
+    (Act::Recv(1), Said::Status(3, "Stream is no longer active")),
+    (Act::DropReceiver(1), Said::Done),
+    (Act::Recv(1), Said::Others("unknown stream")),
+    (Act::Close(3), Said::Ticket(2)),
+];
+
+/// The same with stamps, where no bytes are counted.
+const STAMPED_ITEMS: &[(Act, Said)] = &[
+    (Act::Open("Chat"), Said::Named(1)),
+    (Act::Send(1, b"a"), Said::Ticket(1)),
+    (Act::Send(1, b""), Said::Ticket(2)),
+    (Act::Close(1), Said::Ticket(3)),
+    (Act::CarryUp(64), Said::Count(28)),
+    (Act::CarryUp(64), Said::Count(12)),
+    (Act::CarryUp(64), Said::Count(11)),
+    (Act::CarryUp(64), Said::Count(11)),
+    (Act::DeliverUp(64), Said::Count(62)),
+    (Act::Take, Said::StreamJob(1, 1)),
+    (Act::RecvUp(1), Said::Payload(b"a")),
+    (Act::RecvUp(1), Said::Payload(b"")),
+    (Act::RecvUp(1), Said::Eof),
+    (Act::RecvUp(1), Said::RemoteClosed),
+    (Act::SendDown(1, b"b"), Said::Ticket(1)),
+    (Act::EndWith(1, b"\x2b"), Said::Done),
+    (Act::CarryDown(64), Said::Count(12)),
+    (Act::CarryDown(64), Said::Count(16)),
+    (Act::DeliverDown(64), Said::Count(28)),
+    (Act::Recv(1), Said::Payload(b"b")),
+    (Act::Recv(1), Said::Payload(b"\x2b")),
+    (Act::Recv(1), Said::RemoteClosed),
+];
+
+/// A stream is opened, and two items, an empty one between them and the close are queued.
+const QUEUED: &[(Act, Said)] = &[
+    (Act::Open("Chat"), Said::Named(1)),
+    (Act::Send(1, b"a"), Said::Ticket(1)),
+    (Act::Send(1, b""), Said::Ticket(2)),
+    (Act::Send(1, b"b"), Said::Ticket(3)),
+    (Act::Close(1), Said::Ticket(4)),
+];
+
+/// They are received.
+const RECEIVED: &[(Act, Said)] = &[
+    (Act::RecvUp(1), Said::Payload(b"a")),
+    (Act::RecvUp(1), Said::Payload(b"")),
+    (Act::RecvUp(1), Said::Payload(b"b")),
+    (Act::RecvUp(1), Said::Eof),
+    (Act::RecvUp(1), Said::RemoteClosed),
+];
+
+/// The same where this many bytes are carried and delivered between, one by one.
+fn byte_by_byte(alloc: Global, bytes: usize) -> Result<Vec<(Act, Said)>, Fail> {
+    let mut script = Vec::new(alloc);
+    script.extend_from_slice(QUEUED)?;
+    for _ in 0..bytes {
+        script.push((Act::CarryUp(1), Said::Count(1)))?;
+        script.push((Act::DeliverUp(1), Said::Count(1)))?;
+    }
+    script.push((Act::CarryUp(1), Said::Count(0)))?;
+    script.extend_from_slice(RECEIVED)?;
+    Ok(script)
+}
+
+#[test]
+fn items_go_byte_by_byte(rt: HostRuntime) -> Tested {
+    for ways in ASYNC {
+        plain(
+            &rt,
+            rt.alloc(),
+            ways,
+            byte_by_byte(rt.alloc(), 69)?.as_slice(),
+        )?;
+        stamped(
+            &rt,
+            rt.alloc(),
+            ways,
+            byte_by_byte(rt.alloc(), 74)?.as_slice(),
+        )?;
+    }
+    Ok(())
+}
+
+#[test]
+fn items_go_both_ways(rt: HostRuntime) -> Tested {
+    for ways in ASYNC {
+        plain(&rt, rt.alloc(), ways, ITEMS_UP)?;
+        stamped(&rt, rt.alloc(), ways, STAMPED_ITEMS)?;
+    }
+    Ok(())
+}
+
+#[test]
+fn a_pipe_is_cut_under_a_stream(rt: HostRuntime) -> Tested {
+    for ways in ASYNC {
+        plain(&rt, rt.alloc(), ways, CUT_BETWEEN)?;
+        plain(&rt, rt.alloc(), ways, CUT_INSIDE)?;
+    }
+    Ok(())
+}
+
+#[test]
+fn a_call_meets_a_stream(rt: HostRuntime) -> Tested {
+    for ways in ASYNC {
+        plain(&rt, rt.alloc(), ways, CALL_GETS_DATA)?;
+        plain(&rt, rt.alloc(), ways, CALL_GETS_RESPONSE)?;
+        plain(&rt, rt.alloc(), ways, CALL_GETS_CLOSE)?;
+    }
+    Ok(())
+}
+
+#[test]
+fn a_stream_meets_a_method(rt: HostRuntime) -> Tested {
+    for ways in ASYNC {
+        plain(&rt, rt.alloc(), ways, STREAM_MEETS_METHOD)?;
+    }
+    for ways in SYNC {
+        plain(&rt, rt.alloc(), ways, STREAM_UNDER_SYNC)?;
+    }
+    Ok(())
+}
+
+#[test]
+fn a_job_that_waits_has_a_stream(rt: HostRuntime) -> Tested {
+    for ways in ASYNC {
+        plain(&rt, rt.alloc(), ways, JOB_THAT_WAITS)?;
+    }
+    Ok(())
+}
+
+#[test]
+fn halves_are_dropped(rt: HostRuntime) -> Tested {
+    for ways in ASYNC {
+        plain(&rt, rt.alloc(), ways, DROPPED)?;
+    }
+    Ok(())
+}
