@@ -1,0 +1,10 @@
+pub mod FieldNumbers
+pub mod ItemLaws
+pub mod KindLaws
+pub mod PackedLaws
+pub mod PartLaws
+pub mod MapLaws
+pub mod ChoiceLaws
+pub mod Groups
+pub mod Lists
+pub mod Proved

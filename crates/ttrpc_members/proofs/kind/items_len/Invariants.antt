@@ -1,0 +1,8 @@
+use Rattle.std.proofs.Common.{◌≡◌, ◌-◌, ◌^◌, min, length, take}
+use Rattle.ttrpc_wire.specs.Field.{fields_bytes}
+use Rattle.ttrpc_members.specs.Schema.{fields_at}
+use Rattle.ttrpc_members.specs.Kinds.{repeated_values}
+use Rattle.ttrpc_members.proofs.kind.items_len.Given as goal
+
+abbrev pub invariant-loop-item : goal.invariant-loop-item
+invariant-loop-item g l = l.len ≡ min (length (fields_bytes (fields_at l.number.value (repeated_values g.I.ItemKind.form (take l.item-index l.items))))) (2 ^ 64 - 1)

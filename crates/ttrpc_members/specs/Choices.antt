@@ -1,0 +1,67 @@
+-- Members of which at most one is set: the last one that was set.
+-- Source: the Protocol Buffers language guide for proto3, "Oneof".
+use Rattle.std.specs.Prelude.{ℕ, List, [], ◌∷◌, ◌++◌, Option, Some, None, ◌==◌, ◌⊎◌, if◌then◌else◌}
+use Rattle.std.proofs.Common.{inl, inr}
+use Rattle.std.specs.Option.{option_map}
+use Rattle.ttrpc_wire.specs.Field.{Field}
+use Rattle.ttrpc_members.specs.Items.{Item}
+use Rattle.ttrpc_members.specs.Kinds.{IsOptional, taken_else}
+use Rattle.ttrpc_members.specs.Schema.{Part}
+
+-- Members to choose from: the values of each, what one more field makes of the one that is set (none, another, or a refusal), the field
+-- that is written for one, and all their numbers.
+pub record Choices (S : Type 0) : Type 1 where
+  pub is_value : S → Type 0
+  pub read : Option S → Field → Option (Option S)
+  pub field : S → Field
+  pub numbers : List ℕ
+
+-- none to choose from
+abbrev pub no_choice : Choices ⊥
+no_choice = record { is_value = λ s. absurd s; read = λ o f. Some None; field = λ s. absurd s; numbers = [] }
+
+-- the item of the last of them, or its first one where another is set, or none
+abbrev pub right_or : {S A : Type 0} → A → Option (S ⊎ A) → A
+right_or first None = first
+right_or first (Some (inl s)) = first
+right_or first (Some (inr x)) = x
+
+-- what is set, where it isn't the last of them
+abbrev pub left_of : {S A : Type 0} → Option (S ⊎ A) → Option S
+left_of None = None
+left_of (Some (inl s)) = Some s
+left_of (Some (inr x)) = None
+
+-- what holds of the one that is set
+abbrev pub either : {S A : Type 0} → (S → Type 0) → (A → Type 0) → S ⊎ A → Type 0
+either P Q (inl s) = P s
+either P Q (inr x) = Q x
+
+-- the field of the one that is set
+abbrev pub either_field : {S A : Type 0} → (S → Field) → (A → Field) → S ⊎ A → Field
+either_field f g (inl s) = f s
+either_field f g (inr x) = g x
+
+-- members to choose from, and an item of this number behind them
+abbrev pub or_item : {S A : Type 0} → Choices S → ℕ → Item A → Choices (S ⊎ A)
+or_item c k i = record {
+  is_value = either c.is_value i.is_value;
+  read = λ o f. if f.number == k then option_map (option_map (λ x. inr x)) (i.read (right_or i.first o) f.value) else option_map (option_map (λ s. inl s)) (c.read (left_of o) f);
+  field = either_field c.field (λ x. record { number = k; value = i.value x });
+  numbers = c.numbers ++ k ∷ [];
+}
+
+-- the field of what is set
+abbrev pub chosen_fields : {S : Type 0} → (S → Field) → Option S → List Field
+chosen_fields field None = []
+chosen_fields field (Some s) = field s ∷ []
+
+-- the part of a message that is one of these, as the type C has them
+abbrev pub one_of : {S C : Type 0} → Choices S → (C → S) → (S → C) → Part (Option C)
+one_of c split join = record {
+  is_value = IsOptional (λ x. c.is_value (split x));
+  empty = None;
+  step = λ o f. option_map (λ t. taken_else o (option_map join t)) (c.read (option_map split o) f);
+  fields = λ o. chosen_fields c.field (option_map split o);
+  numbers = c.numbers;
+}

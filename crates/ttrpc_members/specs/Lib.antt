@@ -1,0 +1,6 @@
+pub mod Items
+pub mod Kinds
+pub mod Schema
+pub mod Maps
+pub mod Laws
+pub mod Choices

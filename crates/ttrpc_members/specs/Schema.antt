@@ -1,0 +1,69 @@
+-- A message's schema: its members, each with its number. What a field makes of the message, and the fields that are written.
+-- Source: the Protocol Buffers language guide for proto3, "Defining A Message Type", and the encoding guide, "Message Structure".
+use Rattle.std.specs.Prelude.{ℕ, List, [], ◌∷◌, ◌++◌, Option, Some, ◌==◌, if◌then◌else◌, map}
+use Rattle.std.specs.Option.{option_map}
+use Rattle.ttrpc_wire.specs.Field.{Value, Field}
+use Rattle.ttrpc_wire.specs.Reading.{◌>>=◌}
+use Rattle.ttrpc_members.specs.Kinds.{Kind}
+
+-- the fields of one number with these values
+abbrev pub fields_at : ℕ → List Value → List Field
+fields_at k values = map (λ v. record { number = k; value = v }) values
+
+-- A part of a message: its values, the one before any field, what one more field makes of it or that it refuses that, the fields that
+-- are written, and the numbers that these may have.
+pub record Part (A : Type 0) : Type 1 where
+  pub is_value : A → Type 0
+  pub empty : A
+  pub step : A → Field → Option A
+  pub fields : A → List Field
+  pub numbers : List ℕ
+
+-- a member of one number; fields of other numbers pass it by
+abbrev pub member : {A : Type 0} → ℕ → Kind A → Part A
+member k kind = record {
+  is_value = kind.is_value;
+  empty = kind.empty;
+  step = λ x f. if f.number == k then kind.take x f.value else Some x;
+  fields = λ x. fields_at k (kind.values x);
+  numbers = k ∷ [];
+}
+
+-- ---- the parts of a message, each of which is offered each field
+
+-- fields in groups, one group a part, as one list
+unfoldable pub flat : List (List Field) → List Field
+flat [] = []
+flat (fs ∷ groups) = fs ++ flat groups
+
+-- Parts: as a part, with the fields of each in a group of its own.
+pub record Parts (P : Type 0) : Type 1 where
+  pub is_value : P → Type 0
+  pub empty : P
+  pub step : P → Field → Option P
+  pub groups : P → List (List Field)
+  pub numbers : List ℕ
+
+-- no part
+abbrev pub none : Parts (Unit {0})
+none = record { is_value = λ _. Unit {0}; empty = tt; step = λ m f. Some m; groups = λ m. []; numbers = [] }
+
+-- parts, and one behind them
+abbrev pub with_part : {P A : Type 0} → Parts P → Part A → Parts (P × A)
+with_part p q = record {
+  is_value = λ m. p.is_value m.0 × q.is_value m.1;
+  empty = (p.empty, q.empty);
+  step = λ m f. p.step m.0 f >>= λ a. q.step m.1 f >>= λ b. Some (a, b);
+  groups = λ m. p.groups m.0 ++ q.fields m.1 ∷ [];
+  numbers = p.numbers ++ q.numbers;
+}
+
+-- the message of these parts: how a message falls into them, and is made of them
+abbrev pub message_of : {P M : Type 0} → Parts P → (M → P) → (P → M) → Part M
+message_of p parts make = record {
+  is_value = λ m. p.is_value (parts m);
+  empty = make p.empty;
+  step = λ m f. option_map make (p.step (parts m) f);
+  fields = λ m. flat (p.groups (parts m));
+  numbers = p.numbers;
+}

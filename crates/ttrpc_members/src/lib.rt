@@ -1,0 +1,10 @@
+//! Members of messages, of every kind: each is read, measured and written by calls that are proved once.
+#![tactic(auto)]
+
+pub mod choice;
+pub mod coding;
+pub mod entries;
+pub mod item;
+pub mod kind;
+pub mod map;
+pub mod numbers;

@@ -1,0 +1,1152 @@
+//! The messages of kinds.proto.
+//! Written by tools/messages from kinds.proto: change that, and run the tool.
+
+use std::alloc::{AllocError, Global};
+use ttrpc_codec::message::WireMessage;
+use ttrpc_members::choice::Choice;
+use ttrpc_members::entries::MapOf;
+use ttrpc_members::item::{
+    Bits32, Bits64, Boolean, Bytes, Int32, Int64, ItemKind, Nested, Signed32, Signed64, Sint32,
+    Sint64, Uint32, Uint64, Utf8, Utf8Key,
+};
+use ttrpc_members::kind::{MemberKind, Optional, Packed, Repeated, Single, item_len, put_item};
+use ttrpc_members::map::{Map, TextKey};
+use ttrpc_members::numbers::Numbers;
+use ttrpc_wire::{Blob, CodecError, Field, FieldNumber, Sequence, Text, TryClone, Value};
+
+/// The number of `UNKNOWN` of the enum `test.kinds.Way`.
+pub const WAY_UNKNOWN: i32 = 0;
+
+/// The number of `LEFT` of the enum `test.kinds.Way`.
+pub const WAY_LEFT: i32 = 1;
+
+/// The number of `RIGHT` of the enum `test.kinds.Way`.
+pub const WAY_RIGHT: i32 = -2;
+
+/// A point in time.
+#[derive(Drop)]
+pub struct Timestamp {
+    /// Seconds since the beginning of 1970.
+    pub seconds: i64,
+    /// Nanoseconds of the second.
+    pub nanos: i32,
+}
+
+const TIMESTAMP_SECONDS: FieldNumber = FieldNumber { value: 1 };
+
+const TIMESTAMP_NANOS: FieldNumber = FieldNumber { value: 2 };
+
+impl TryClone for Timestamp {
+    fn try_clone(&self) -> Result<Timestamp, AllocError> {
+        Ok(Timestamp {
+            seconds: self.seconds,
+            nanos: self.nanos,
+        })
+    }
+}
+
+impl WireMessage for Timestamp {
+    ghost use Rattle.ttrpc_test_members.specs.Messages.{timestamp};
+
+    ghost is_value = { timestamp.part.is_value };
+
+    ghost empty = { timestamp.part.empty };
+
+    ghost step = { timestamp.part.step };
+
+    ghost fields = { timestamp.part.fields };
+
+    fn new(alloc: Global) -> Timestamp {
+        Timestamp {
+            seconds: Single::<Int64>::empty(alloc),
+            nanos: Single::<Int32>::empty(alloc),
+        }
+    }
+
+    fn put(&mut self, alloc: Global, field: Field<'_>) -> Result<(), CodecError> {
+        match field.number.value {
+            1 => Single::<Int64>::take(&mut self.seconds, alloc, field.value),
+            2 => Single::<Int32>::take(&mut self.nanos, alloc, field.value),
+            _ => Ok(()),
+        }
+    }
+
+    #[tactic(auto, using(ttrpc_members::proofs::Groups::flat_measured))]
+    fn length(&self) -> u64 {
+        let len: u64 = 0;
+        let len = len.saturating_add(Single::<Int64>::length(&self.seconds, TIMESTAMP_SECONDS));
+        len.saturating_add(Single::<Int32>::length(&self.nanos, TIMESTAMP_NANOS))
+    }
+
+    #[tactic(auto, using(ttrpc_members::proofs::Groups::flat_written, ttrpc_members::proofs::Groups::flat_len))]
+    fn write(&self, out: &mut Vec<u8>) -> Result<(), CodecError> {
+        Single::<Int64>::write(&self.seconds, TIMESTAMP_SECONDS, out)?;
+        Single::<Int32>::write(&self.nanos, TIMESTAMP_NANOS, out)
+    }
+
+    fn lemma_is_value(&self) {
+        Single::<Int64>::lemma_is_value(&self.seconds);
+        Single::<Int32>::lemma_is_value(&self.nanos);
+    }
+
+    ghost again = { timestamp.laws.again timestamp.valid };
+
+    ghost fits = { timestamp.laws.fits timestamp.valid };
+}
+
+/// One number of every kind.
+#[derive(Drop)]
+pub struct Figures {
+    /// Field 1.
+    pub a: i32,
+    /// Field 2.
+    pub b: i64,
+    /// Field 3.
+    pub c: u32,
+    /// Field 4.
+    pub d: u64,
+    /// Field 5.
+    pub e: i32,
+    /// Field 6.
+    pub f: i64,
+    /// Field 7.
+    pub g: bool,
+    /// Field 8.
+    pub h: u32,
+    /// Field 9.
+    pub i: u64,
+    /// Field 10.
+    pub j: i32,
+    /// Field 11.
+    pub k: i64,
+    /// Field 12.
+    pub l: u32,
+    /// Field 13.
+    pub m: u64,
+    /// Field 14.
+    pub n: i32,
+}
+
+const FIGURES_A: FieldNumber = FieldNumber { value: 1 };
+
+const FIGURES_B: FieldNumber = FieldNumber { value: 2 };
+
+const FIGURES_C: FieldNumber = FieldNumber { value: 3 };
+
+const FIGURES_D: FieldNumber = FieldNumber { value: 4 };
+
+const FIGURES_E: FieldNumber = FieldNumber { value: 5 };
+
+const FIGURES_F: FieldNumber = FieldNumber { value: 6 };
+
+const FIGURES_G: FieldNumber = FieldNumber { value: 7 };
+
+const FIGURES_H: FieldNumber = FieldNumber { value: 8 };
+
+const FIGURES_I: FieldNumber = FieldNumber { value: 9 };
+
+const FIGURES_J: FieldNumber = FieldNumber { value: 10 };
+
+const FIGURES_K: FieldNumber = FieldNumber { value: 11 };
+
+const FIGURES_L: FieldNumber = FieldNumber { value: 12 };
+
+const FIGURES_M: FieldNumber = FieldNumber { value: 13 };
+
+const FIGURES_N: FieldNumber = FieldNumber { value: 14 };
+
+impl TryClone for Figures {
+    fn try_clone(&self) -> Result<Figures, AllocError> {
+        Ok(Figures {
+            a: self.a,
+            b: self.b,
+            c: self.c,
+            d: self.d,
+            e: self.e,
+            f: self.f,
+            g: self.g,
+            h: self.h,
+            i: self.i,
+            j: self.j,
+            k: self.k,
+            l: self.l,
+            m: self.m,
+            n: self.n,
+        })
+    }
+}
+
+impl WireMessage for Figures {
+    ghost use Rattle.ttrpc_test_members.specs.Messages.{figures};
+
+    ghost is_value = { figures.part.is_value };
+
+    ghost empty = { figures.part.empty };
+
+    ghost step = { figures.part.step };
+
+    ghost fields = { figures.part.fields };
+
+    fn new(alloc: Global) -> Figures {
+        Figures {
+            a: Single::<Int32>::empty(alloc),
+            b: Single::<Int64>::empty(alloc),
+            c: Single::<Uint32>::empty(alloc),
+            d: Single::<Uint64>::empty(alloc),
+            e: Single::<Sint32>::empty(alloc),
+            f: Single::<Sint64>::empty(alloc),
+            g: Single::<Boolean>::empty(alloc),
+            h: Single::<Bits32>::empty(alloc),
+            i: Single::<Bits64>::empty(alloc),
+            j: Single::<Signed32>::empty(alloc),
+            k: Single::<Signed64>::empty(alloc),
+            l: Single::<Bits32>::empty(alloc),
+            m: Single::<Bits64>::empty(alloc),
+            n: Single::<Int32>::empty(alloc),
+        }
+    }
+
+    fn put(&mut self, alloc: Global, field: Field<'_>) -> Result<(), CodecError> {
+        match field.number.value {
+            1 => Single::<Int32>::take(&mut self.a, alloc, field.value),
+            2 => Single::<Int64>::take(&mut self.b, alloc, field.value),
+            3 => Single::<Uint32>::take(&mut self.c, alloc, field.value),
+            4 => Single::<Uint64>::take(&mut self.d, alloc, field.value),
+            5 => Single::<Sint32>::take(&mut self.e, alloc, field.value),
+            6 => Single::<Sint64>::take(&mut self.f, alloc, field.value),
+            7 => Single::<Boolean>::take(&mut self.g, alloc, field.value),
+            8 => Single::<Bits32>::take(&mut self.h, alloc, field.value),
+            9 => Single::<Bits64>::take(&mut self.i, alloc, field.value),
+            10 => Single::<Signed32>::take(&mut self.j, alloc, field.value),
+            11 => Single::<Signed64>::take(&mut self.k, alloc, field.value),
+            12 => Single::<Bits32>::take(&mut self.l, alloc, field.value),
+            13 => Single::<Bits64>::take(&mut self.m, alloc, field.value),
+            14 => Single::<Int32>::take(&mut self.n, alloc, field.value),
+            _ => Ok(()),
+        }
+    }
+
+    #[tactic(auto, using(ttrpc_members::proofs::Groups::flat_measured))]
+    fn length(&self) -> u64 {
+        let len: u64 = 0;
+        let len = len.saturating_add(Single::<Int32>::length(&self.a, FIGURES_A));
+        let len = len.saturating_add(Single::<Int64>::length(&self.b, FIGURES_B));
+        let len = len.saturating_add(Single::<Uint32>::length(&self.c, FIGURES_C));
+        let len = len.saturating_add(Single::<Uint64>::length(&self.d, FIGURES_D));
+        let len = len.saturating_add(Single::<Sint32>::length(&self.e, FIGURES_E));
+        let len = len.saturating_add(Single::<Sint64>::length(&self.f, FIGURES_F));
+        let len = len.saturating_add(Single::<Boolean>::length(&self.g, FIGURES_G));
+        let len = len.saturating_add(Single::<Bits32>::length(&self.h, FIGURES_H));
+        let len = len.saturating_add(Single::<Bits64>::length(&self.i, FIGURES_I));
+        let len = len.saturating_add(Single::<Signed32>::length(&self.j, FIGURES_J));
+        let len = len.saturating_add(Single::<Signed64>::length(&self.k, FIGURES_K));
+        let len = len.saturating_add(Single::<Bits32>::length(&self.l, FIGURES_L));
+        let len = len.saturating_add(Single::<Bits64>::length(&self.m, FIGURES_M));
+        len.saturating_add(Single::<Int32>::length(&self.n, FIGURES_N))
+    }
+
+    #[tactic(auto, using(ttrpc_members::proofs::Groups::flat_written, ttrpc_members::proofs::Groups::flat_len))]
+    fn write(&self, out: &mut Vec<u8>) -> Result<(), CodecError> {
+        Single::<Int32>::write(&self.a, FIGURES_A, out)?;
+        Single::<Int64>::write(&self.b, FIGURES_B, out)?;
+        Single::<Uint32>::write(&self.c, FIGURES_C, out)?;
+        Single::<Uint64>::write(&self.d, FIGURES_D, out)?;
+        Single::<Sint32>::write(&self.e, FIGURES_E, out)?;
+        Single::<Sint64>::write(&self.f, FIGURES_F, out)?;
+        Single::<Boolean>::write(&self.g, FIGURES_G, out)?;
+        Single::<Bits32>::write(&self.h, FIGURES_H, out)?;
+        Single::<Bits64>::write(&self.i, FIGURES_I, out)?;
+        Single::<Signed32>::write(&self.j, FIGURES_J, out)?;
+        Single::<Signed64>::write(&self.k, FIGURES_K, out)?;
+        Single::<Bits32>::write(&self.l, FIGURES_L, out)?;
+        Single::<Bits64>::write(&self.m, FIGURES_M, out)?;
+        Single::<Int32>::write(&self.n, FIGURES_N, out)
+    }
+
+    fn lemma_is_value(&self) {
+        Single::<Int32>::lemma_is_value(&self.a);
+        Single::<Int64>::lemma_is_value(&self.b);
+        Single::<Uint32>::lemma_is_value(&self.c);
+        Single::<Uint64>::lemma_is_value(&self.d);
+        Single::<Sint32>::lemma_is_value(&self.e);
+        Single::<Sint64>::lemma_is_value(&self.f);
+        Single::<Boolean>::lemma_is_value(&self.g);
+        Single::<Bits32>::lemma_is_value(&self.h);
+        Single::<Bits64>::lemma_is_value(&self.i);
+        Single::<Signed32>::lemma_is_value(&self.j);
+        Single::<Signed64>::lemma_is_value(&self.k);
+        Single::<Bits32>::lemma_is_value(&self.l);
+        Single::<Bits64>::lemma_is_value(&self.m);
+        Single::<Int32>::lemma_is_value(&self.n);
+    }
+
+    ghost again = { figures.laws.again figures.valid };
+
+    ghost fits = { figures.laws.fits figures.valid };
+}
+
+/// The message `test.kinds.Inner`.
+#[derive(Drop)]
+pub struct Inner {
+    /// Field 1.
+    pub name: Text,
+    /// Field 2.
+    pub data: Blob,
+    /// Field 16.
+    pub number: i32,
+}
+
+const INNER_NAME: FieldNumber = FieldNumber { value: 1 };
+
+const INNER_DATA: FieldNumber = FieldNumber { value: 2 };
+
+const INNER_NUMBER: FieldNumber = FieldNumber { value: 16 };
+
+impl TryClone for Inner {
+    fn try_clone(&self) -> Result<Inner, AllocError> {
+        Ok(Inner {
+            name: Single::<Utf8>::try_clone(&self.name)?,
+            data: Single::<Bytes>::try_clone(&self.data)?,
+            number: self.number,
+        })
+    }
+}
+
+impl WireMessage for Inner {
+    ghost use Rattle.ttrpc_test_members.specs.Messages.{inner};
+
+    ghost is_value = { inner.part.is_value };
+
+    ghost empty = { inner.part.empty };
+
+    ghost step = { inner.part.step };
+
+    ghost fields = { inner.part.fields };
+
+    fn new(alloc: Global) -> Inner {
+        Inner {
+            name: Single::<Utf8>::empty(alloc),
+            data: Single::<Bytes>::empty(alloc),
+            number: Single::<Sint32>::empty(alloc),
+        }
+    }
+
+    fn put(&mut self, alloc: Global, field: Field<'_>) -> Result<(), CodecError> {
+        match field.number.value {
+            1 => Single::<Utf8>::take(&mut self.name, alloc, field.value),
+            2 => Single::<Bytes>::take(&mut self.data, alloc, field.value),
+            16 => Single::<Sint32>::take(&mut self.number, alloc, field.value),
+            _ => Ok(()),
+        }
+    }
+
+    #[tactic(auto, using(ttrpc_members::proofs::Groups::flat_measured))]
+    fn length(&self) -> u64 {
+        let len: u64 = 0;
+        let len = len.saturating_add(Single::<Utf8>::length(&self.name, INNER_NAME));
+        let len = len.saturating_add(Single::<Bytes>::length(&self.data, INNER_DATA));
+        len.saturating_add(Single::<Sint32>::length(&self.number, INNER_NUMBER))
+    }
+
+    #[tactic(auto, using(ttrpc_members::proofs::Groups::flat_written, ttrpc_members::proofs::Groups::flat_len))]
+    fn write(&self, out: &mut Vec<u8>) -> Result<(), CodecError> {
+        Single::<Utf8>::write(&self.name, INNER_NAME, out)?;
+        Single::<Bytes>::write(&self.data, INNER_DATA, out)?;
+        Single::<Sint32>::write(&self.number, INNER_NUMBER, out)
+    }
+
+    fn lemma_is_value(&self) {
+        Single::<Utf8>::lemma_is_value(&self.name);
+        Single::<Bytes>::lemma_is_value(&self.data);
+        Single::<Sint32>::lemma_is_value(&self.number);
+    }
+
+    ghost again = { inner.laws.again inner.valid };
+
+    ghost fits = { inner.laws.fits inner.valid };
+}
+
+/// The message `test.kinds.Lists`.
+#[derive(Drop)]
+pub struct Lists {
+    /// Field 1.
+    pub ints: Numbers<i32>,
+    /// Field 2.
+    pub zigzags: Numbers<i64>,
+    /// Field 3.
+    pub doubles: Numbers<u64>,
+    /// Field 4.
+    pub flags: Numbers<bool>,
+    /// Field 5.
+    pub texts: Sequence<Text>,
+    /// Field 6.
+    pub blobs: Sequence<Blob>,
+    /// Field 7.
+    pub ways: Numbers<i32>,
+    /// Field 8.
+    pub inners: Sequence<Inner>,
+    /// Field 9.
+    pub fixeds: Numbers<u32>,
+}
+
+const LISTS_INTS: FieldNumber = FieldNumber { value: 1 };
+
+const LISTS_ZIGZAGS: FieldNumber = FieldNumber { value: 2 };
+
+const LISTS_DOUBLES: FieldNumber = FieldNumber { value: 3 };
+
+const LISTS_FLAGS: FieldNumber = FieldNumber { value: 4 };
+
+const LISTS_TEXTS: FieldNumber = FieldNumber { value: 5 };
+
+const LISTS_BLOBS: FieldNumber = FieldNumber { value: 6 };
+
+const LISTS_WAYS: FieldNumber = FieldNumber { value: 7 };
+
+const LISTS_INNERS: FieldNumber = FieldNumber { value: 8 };
+
+const LISTS_FIXEDS: FieldNumber = FieldNumber { value: 9 };
+
+impl TryClone for Lists {
+    fn try_clone(&self) -> Result<Lists, AllocError> {
+        Ok(Lists {
+            ints: Packed::<Int32>::try_clone(&self.ints)?,
+            zigzags: Packed::<Sint64>::try_clone(&self.zigzags)?,
+            doubles: Packed::<Bits64>::try_clone(&self.doubles)?,
+            flags: Packed::<Boolean>::try_clone(&self.flags)?,
+            texts: Repeated::<Utf8>::try_clone(&self.texts)?,
+            blobs: Repeated::<Bytes>::try_clone(&self.blobs)?,
+            ways: Packed::<Int32>::try_clone(&self.ways)?,
+            inners: Repeated::<Nested<Inner>>::try_clone(&self.inners)?,
+            fixeds: Packed::<Bits32>::try_clone(&self.fixeds)?,
+        })
+    }
+}
+
+impl WireMessage for Lists {
+    ghost use Rattle.ttrpc_test_members.specs.Messages.{lists};
+
+    ghost is_value = { lists.part.is_value };
+
+    ghost empty = { lists.part.empty };
+
+    ghost step = { lists.part.step };
+
+    ghost fields = { lists.part.fields };
+
+    fn new(alloc: Global) -> Lists {
+        Lists {
+            ints: Packed::<Int32>::empty(alloc),
+            zigzags: Packed::<Sint64>::empty(alloc),
+            doubles: Packed::<Bits64>::empty(alloc),
+            flags: Packed::<Boolean>::empty(alloc),
+            texts: Repeated::<Utf8>::empty(alloc),
+            blobs: Repeated::<Bytes>::empty(alloc),
+            ways: Packed::<Int32>::empty(alloc),
+            inners: Repeated::<Nested<Inner>>::empty(alloc),
+            fixeds: Packed::<Bits32>::empty(alloc),
+        }
+    }
+
+    fn put(&mut self, alloc: Global, field: Field<'_>) -> Result<(), CodecError> {
+        match field.number.value {
+            1 => Packed::<Int32>::take(&mut self.ints, alloc, field.value),
+            2 => Packed::<Sint64>::take(&mut self.zigzags, alloc, field.value),
+            3 => Packed::<Bits64>::take(&mut self.doubles, alloc, field.value),
+            4 => Packed::<Boolean>::take(&mut self.flags, alloc, field.value),
+            5 => Repeated::<Utf8>::take(&mut self.texts, alloc, field.value),
+            6 => Repeated::<Bytes>::take(&mut self.blobs, alloc, field.value),
+            7 => Packed::<Int32>::take(&mut self.ways, alloc, field.value),
+            8 => Repeated::<Nested<Inner>>::take(&mut self.inners, alloc, field.value),
+            9 => Packed::<Bits32>::take(&mut self.fixeds, alloc, field.value),
+            _ => Ok(()),
+        }
+    }
+
+    #[tactic(auto, using(ttrpc_members::proofs::Groups::flat_measured))]
+    fn length(&self) -> u64 {
+        let len: u64 = 0;
+        let len = len.saturating_add(Packed::<Int32>::length(&self.ints, LISTS_INTS));
+        let len = len.saturating_add(Packed::<Sint64>::length(&self.zigzags, LISTS_ZIGZAGS));
+        let len = len.saturating_add(Packed::<Bits64>::length(&self.doubles, LISTS_DOUBLES));
+        let len = len.saturating_add(Packed::<Boolean>::length(&self.flags, LISTS_FLAGS));
+        let len = len.saturating_add(Repeated::<Utf8>::length(&self.texts, LISTS_TEXTS));
+        let len = len.saturating_add(Repeated::<Bytes>::length(&self.blobs, LISTS_BLOBS));
+        let len = len.saturating_add(Packed::<Int32>::length(&self.ways, LISTS_WAYS));
+        let len = len.saturating_add(Repeated::<Nested<Inner>>::length(&self.inners, LISTS_INNERS));
+        len.saturating_add(Packed::<Bits32>::length(&self.fixeds, LISTS_FIXEDS))
+    }
+
+    #[tactic(auto, using(ttrpc_members::proofs::Groups::flat_written, ttrpc_members::proofs::Groups::flat_len))]
+    fn write(&self, out: &mut Vec<u8>) -> Result<(), CodecError> {
+        Packed::<Int32>::write(&self.ints, LISTS_INTS, out)?;
+        Packed::<Sint64>::write(&self.zigzags, LISTS_ZIGZAGS, out)?;
+        Packed::<Bits64>::write(&self.doubles, LISTS_DOUBLES, out)?;
+        Packed::<Boolean>::write(&self.flags, LISTS_FLAGS, out)?;
+        Repeated::<Utf8>::write(&self.texts, LISTS_TEXTS, out)?;
+        Repeated::<Bytes>::write(&self.blobs, LISTS_BLOBS, out)?;
+        Packed::<Int32>::write(&self.ways, LISTS_WAYS, out)?;
+        Repeated::<Nested<Inner>>::write(&self.inners, LISTS_INNERS, out)?;
+        Packed::<Bits32>::write(&self.fixeds, LISTS_FIXEDS, out)
+    }
+
+    fn lemma_is_value(&self) {
+        Packed::<Int32>::lemma_is_value(&self.ints);
+        Packed::<Sint64>::lemma_is_value(&self.zigzags);
+        Packed::<Bits64>::lemma_is_value(&self.doubles);
+        Packed::<Boolean>::lemma_is_value(&self.flags);
+        Repeated::<Utf8>::lemma_is_value(&self.texts);
+        Repeated::<Bytes>::lemma_is_value(&self.blobs);
+        Packed::<Int32>::lemma_is_value(&self.ways);
+        Repeated::<Nested<Inner>>::lemma_is_value(&self.inners);
+        Packed::<Bits32>::lemma_is_value(&self.fixeds);
+    }
+
+    ghost again = { lists.laws.again lists.valid };
+
+    ghost fits = { lists.laws.fits lists.valid };
+}
+
+/// The message `test.kinds.Options`.
+#[derive(Drop)]
+pub struct Options {
+    /// Field 1.
+    pub number: Option<i32>,
+    /// Field 2.
+    pub text: Option<Text>,
+    /// Field 3.
+    pub blob: Option<Blob>,
+    /// Field 4.
+    pub inner: Option<Inner>,
+    /// Field 6.
+    pub at: Option<Timestamp>,
+    /// Field 536870911.
+    pub flag: Option<bool>,
+}
+
+const OPTIONS_NUMBER: FieldNumber = FieldNumber { value: 1 };
+
+const OPTIONS_TEXT: FieldNumber = FieldNumber { value: 2 };
+
+const OPTIONS_BLOB: FieldNumber = FieldNumber { value: 3 };
+
+const OPTIONS_INNER: FieldNumber = FieldNumber { value: 4 };
+
+const OPTIONS_AT: FieldNumber = FieldNumber { value: 6 };
+
+const OPTIONS_FLAG: FieldNumber = FieldNumber { value: 536870911 };
+
+impl TryClone for Options {
+    fn try_clone(&self) -> Result<Options, AllocError> {
+        Ok(Options {
+            number: Optional::<Int32>::try_clone(&self.number)?,
+            text: Optional::<Utf8>::try_clone(&self.text)?,
+            blob: Optional::<Bytes>::try_clone(&self.blob)?,
+            inner: Optional::<Nested<Inner>>::try_clone(&self.inner)?,
+            at: Optional::<Nested<Timestamp>>::try_clone(&self.at)?,
+            flag: Optional::<Boolean>::try_clone(&self.flag)?,
+        })
+    }
+}
+
+impl WireMessage for Options {
+    ghost use Rattle.ttrpc_test_members.specs.Messages.{options};
+
+    ghost is_value = { options.part.is_value };
+
+    ghost empty = { options.part.empty };
+
+    ghost step = { options.part.step };
+
+    ghost fields = { options.part.fields };
+
+    fn new(alloc: Global) -> Options {
+        Options {
+            number: Optional::<Int32>::empty(alloc),
+            text: Optional::<Utf8>::empty(alloc),
+            blob: Optional::<Bytes>::empty(alloc),
+            inner: Optional::<Nested<Inner>>::empty(alloc),
+            at: Optional::<Nested<Timestamp>>::empty(alloc),
+            flag: Optional::<Boolean>::empty(alloc),
+        }
+    }
+
+    fn put(&mut self, alloc: Global, field: Field<'_>) -> Result<(), CodecError> {
+        match field.number.value {
+            1 => Optional::<Int32>::take(&mut self.number, alloc, field.value),
+            2 => Optional::<Utf8>::take(&mut self.text, alloc, field.value),
+            3 => Optional::<Bytes>::take(&mut self.blob, alloc, field.value),
+            4 => Optional::<Nested<Inner>>::take(&mut self.inner, alloc, field.value),
+            6 => Optional::<Nested<Timestamp>>::take(&mut self.at, alloc, field.value),
+            536870911 => Optional::<Boolean>::take(&mut self.flag, alloc, field.value),
+            _ => Ok(()),
+        }
+    }
+
+    #[tactic(auto, using(ttrpc_members::proofs::Groups::flat_measured))]
+    fn length(&self) -> u64 {
+        let len: u64 = 0;
+        let len = len.saturating_add(Optional::<Int32>::length(&self.number, OPTIONS_NUMBER));
+        let len = len.saturating_add(Optional::<Utf8>::length(&self.text, OPTIONS_TEXT));
+        let len = len.saturating_add(Optional::<Bytes>::length(&self.blob, OPTIONS_BLOB));
+        let len = len.saturating_add(Optional::<Nested<Inner>>::length(&self.inner, OPTIONS_INNER));
+        let len = len.saturating_add(Optional::<Nested<Timestamp>>::length(&self.at, OPTIONS_AT));
+        len.saturating_add(Optional::<Boolean>::length(&self.flag, OPTIONS_FLAG))
+    }
+
+    #[tactic(auto, using(ttrpc_members::proofs::Groups::flat_written, ttrpc_members::proofs::Groups::flat_len))]
+    fn write(&self, out: &mut Vec<u8>) -> Result<(), CodecError> {
+        Optional::<Int32>::write(&self.number, OPTIONS_NUMBER, out)?;
+        Optional::<Utf8>::write(&self.text, OPTIONS_TEXT, out)?;
+        Optional::<Bytes>::write(&self.blob, OPTIONS_BLOB, out)?;
+        Optional::<Nested<Inner>>::write(&self.inner, OPTIONS_INNER, out)?;
+        Optional::<Nested<Timestamp>>::write(&self.at, OPTIONS_AT, out)?;
+        Optional::<Boolean>::write(&self.flag, OPTIONS_FLAG, out)
+    }
+
+    fn lemma_is_value(&self) {
+        Optional::<Int32>::lemma_is_value(&self.number);
+        Optional::<Utf8>::lemma_is_value(&self.text);
+        Optional::<Bytes>::lemma_is_value(&self.blob);
+        Optional::<Nested<Inner>>::lemma_is_value(&self.inner);
+        Optional::<Nested<Timestamp>>::lemma_is_value(&self.at);
+        Optional::<Boolean>::lemma_is_value(&self.flag);
+    }
+
+    ghost again = { options.laws.again options.valid };
+
+    ghost fits = { options.laws.fits options.valid };
+}
+
+/// The message `test.kinds.Tables`.
+#[derive(Drop)]
+pub struct Tables {
+    /// Field 1.
+    pub labels: Map<TextKey, Text>,
+    /// Field 2.
+    pub inners: Map<i32, Inner>,
+    /// Field 3.
+    pub flags: Map<bool, Blob>,
+    /// Field 4.
+    pub ways: Map<u64, i32>,
+    /// Field 5.
+    pub floats: Map<i64, u32>,
+}
+
+const TABLES_LABELS: FieldNumber = FieldNumber { value: 1 };
+
+const TABLES_INNERS: FieldNumber = FieldNumber { value: 2 };
+
+const TABLES_FLAGS: FieldNumber = FieldNumber { value: 3 };
+
+const TABLES_WAYS: FieldNumber = FieldNumber { value: 4 };
+
+const TABLES_FLOATS: FieldNumber = FieldNumber { value: 5 };
+
+impl TryClone for Tables {
+    fn try_clone(&self) -> Result<Tables, AllocError> {
+        Ok(Tables {
+            labels: MapOf::<Utf8Key, Utf8>::try_clone(&self.labels)?,
+            inners: MapOf::<Int32, Nested<Inner>>::try_clone(&self.inners)?,
+            flags: MapOf::<Boolean, Bytes>::try_clone(&self.flags)?,
+            ways: MapOf::<Bits64, Int32>::try_clone(&self.ways)?,
+            floats: MapOf::<Sint64, Bits32>::try_clone(&self.floats)?,
+        })
+    }
+}
+
+impl WireMessage for Tables {
+    ghost use Rattle.ttrpc_test_members.specs.Messages.{tables};
+
+    ghost is_value = { tables.part.is_value };
+
+    ghost empty = { tables.part.empty };
+
+    ghost step = { tables.part.step };
+
+    ghost fields = { tables.part.fields };
+
+    fn new(alloc: Global) -> Tables {
+        Tables {
+            labels: MapOf::<Utf8Key, Utf8>::empty(alloc),
+            inners: MapOf::<Int32, Nested<Inner>>::empty(alloc),
+            flags: MapOf::<Boolean, Bytes>::empty(alloc),
+            ways: MapOf::<Bits64, Int32>::empty(alloc),
+            floats: MapOf::<Sint64, Bits32>::empty(alloc),
+        }
+    }
+
+    fn put(&mut self, alloc: Global, field: Field<'_>) -> Result<(), CodecError> {
+        match field.number.value {
+            1 => MapOf::<Utf8Key, Utf8>::take(&mut self.labels, alloc, field.value),
+            2 => MapOf::<Int32, Nested<Inner>>::take(&mut self.inners, alloc, field.value),
+            3 => MapOf::<Boolean, Bytes>::take(&mut self.flags, alloc, field.value),
+            4 => MapOf::<Bits64, Int32>::take(&mut self.ways, alloc, field.value),
+            5 => MapOf::<Sint64, Bits32>::take(&mut self.floats, alloc, field.value),
+            _ => Ok(()),
+        }
+    }
+
+    #[tactic(auto, using(ttrpc_members::proofs::Groups::flat_measured))]
+    fn length(&self) -> u64 {
+        let len: u64 = 0;
+        let len = len.saturating_add(MapOf::<Utf8Key, Utf8>::length(&self.labels, TABLES_LABELS));
+        let len = len.saturating_add(MapOf::<Int32, Nested<Inner>>::length(
+            &self.inners,
+            TABLES_INNERS,
+        ));
+        let len = len.saturating_add(MapOf::<Boolean, Bytes>::length(&self.flags, TABLES_FLAGS));
+        let len = len.saturating_add(MapOf::<Bits64, Int32>::length(&self.ways, TABLES_WAYS));
+        len.saturating_add(MapOf::<Sint64, Bits32>::length(&self.floats, TABLES_FLOATS))
+    }
+
+    #[tactic(auto, using(ttrpc_members::proofs::Groups::flat_written, ttrpc_members::proofs::Groups::flat_len))]
+    fn write(&self, out: &mut Vec<u8>) -> Result<(), CodecError> {
+        MapOf::<Utf8Key, Utf8>::write(&self.labels, TABLES_LABELS, out)?;
+        MapOf::<Int32, Nested<Inner>>::write(&self.inners, TABLES_INNERS, out)?;
+        MapOf::<Boolean, Bytes>::write(&self.flags, TABLES_FLAGS, out)?;
+        MapOf::<Bits64, Int32>::write(&self.ways, TABLES_WAYS, out)?;
+        MapOf::<Sint64, Bits32>::write(&self.floats, TABLES_FLOATS, out)
+    }
+
+    fn lemma_is_value(&self) {
+        MapOf::<Utf8Key, Utf8>::lemma_is_value(&self.labels);
+        MapOf::<Int32, Nested<Inner>>::lemma_is_value(&self.inners);
+        MapOf::<Boolean, Bytes>::lemma_is_value(&self.flags);
+        MapOf::<Bits64, Int32>::lemma_is_value(&self.ways);
+        MapOf::<Sint64, Bits32>::lemma_is_value(&self.floats);
+    }
+
+    ghost again = { tables.laws.again tables.valid };
+
+    ghost fits = { tables.laws.fits tables.valid };
+}
+
+/// One of number, text, inner, flag, weight, way, blob.
+#[derive(Drop)]
+pub enum ChoicesFigure {
+    /// Field 1.
+    Number(i32),
+    /// Field 2.
+    Text(Text),
+    /// Field 3.
+    Inner(Inner),
+    /// Field 4.
+    Flag(bool),
+    /// Field 5.
+    Weight(u64),
+    /// Field 6.
+    Way(i32),
+    /// Field 7.
+    Blob(Blob),
+}
+
+/// At most one of several.
+#[derive(Drop)]
+pub struct Choices {
+    /// Field 1, 2, 3, 4, 5, 6, 7.
+    pub figure: Option<ChoicesFigure>,
+    /// Field 8.
+    pub behind: Text,
+}
+
+const CHOICES_NUMBER: FieldNumber = FieldNumber { value: 1 };
+
+const CHOICES_TEXT: FieldNumber = FieldNumber { value: 2 };
+
+const CHOICES_INNER: FieldNumber = FieldNumber { value: 3 };
+
+const CHOICES_FLAG: FieldNumber = FieldNumber { value: 4 };
+
+const CHOICES_WEIGHT: FieldNumber = FieldNumber { value: 5 };
+
+const CHOICES_WAY: FieldNumber = FieldNumber { value: 6 };
+
+const CHOICES_BLOB: FieldNumber = FieldNumber { value: 7 };
+
+const CHOICES_BEHIND: FieldNumber = FieldNumber { value: 8 };
+
+impl ChoicesFigure {
+    ghost use Rattle.ttrpc_wire.specs.Fold.{Gives};
+    ghost use Rattle.ttrpc_wire.specs.Seen.{seen_value};
+    ghost use Rattle.ttrpc_test_members.specs.Messages.{choices_figure};
+
+    /// Takes the value of a field of number 1 in.
+    fn take_number(
+        choice: &mut Option<ChoicesFigure>,
+        alloc: Global,
+        value: Value<'_>,
+    ) -> Result<(), CodecError>
+        ensures { Gives (λ _. choice.new) result (choices_figure.part.step choice.old (record { number = 1; value = seen_value value.entry })) }
+    {
+        if let Some(ChoicesFigure::Number(item)) = choice {
+            Sint32::read(item, alloc, value)?;
+            return Ok(());
+        }
+        let mut item = Sint32::first(alloc);
+        if Sint32::read(&mut item, alloc, value)? {
+            *choice = Some(ChoicesFigure::Number(item));
+        }
+        Ok(())
+    }
+
+    /// Takes the value of a field of number 2 in.
+    fn take_text(
+        choice: &mut Option<ChoicesFigure>,
+        alloc: Global,
+        value: Value<'_>,
+    ) -> Result<(), CodecError>
+        ensures { Gives (λ _. choice.new) result (choices_figure.part.step choice.old (record { number = 2; value = seen_value value.entry })) }
+    {
+        if let Some(ChoicesFigure::Text(item)) = choice {
+            Utf8::read(item, alloc, value)?;
+            return Ok(());
+        }
+        let mut item = Utf8::first(alloc);
+        if Utf8::read(&mut item, alloc, value)? {
+            *choice = Some(ChoicesFigure::Text(item));
+        }
+        Ok(())
+    }
+
+    /// Takes the value of a field of number 3 in.
+    fn take_inner(
+        choice: &mut Option<ChoicesFigure>,
+        alloc: Global,
+        value: Value<'_>,
+    ) -> Result<(), CodecError>
+        ensures { Gives (λ _. choice.new) result (choices_figure.part.step choice.old (record { number = 3; value = seen_value value.entry })) }
+    {
+        if let Some(ChoicesFigure::Inner(item)) = choice {
+            Nested::<Inner>::read(item, alloc, value)?;
+            return Ok(());
+        }
+        let mut item = Nested::<Inner>::first(alloc);
+        if Nested::<Inner>::read(&mut item, alloc, value)? {
+            *choice = Some(ChoicesFigure::Inner(item));
+        }
+        Ok(())
+    }
+
+    /// Takes the value of a field of number 4 in.
+    fn take_flag(
+        choice: &mut Option<ChoicesFigure>,
+        alloc: Global,
+        value: Value<'_>,
+    ) -> Result<(), CodecError>
+        ensures { Gives (λ _. choice.new) result (choices_figure.part.step choice.old (record { number = 4; value = seen_value value.entry })) }
+    {
+        if let Some(ChoicesFigure::Flag(item)) = choice {
+            Boolean::read(item, alloc, value)?;
+            return Ok(());
+        }
+        let mut item = Boolean::first(alloc);
+        if Boolean::read(&mut item, alloc, value)? {
+            *choice = Some(ChoicesFigure::Flag(item));
+        }
+        Ok(())
+    }
+
+    /// Takes the value of a field of number 5 in.
+    fn take_weight(
+        choice: &mut Option<ChoicesFigure>,
+        alloc: Global,
+        value: Value<'_>,
+    ) -> Result<(), CodecError>
+        ensures { Gives (λ _. choice.new) result (choices_figure.part.step choice.old (record { number = 5; value = seen_value value.entry })) }
+    {
+        if let Some(ChoicesFigure::Weight(item)) = choice {
+            Bits64::read(item, alloc, value)?;
+            return Ok(());
+        }
+        let mut item = Bits64::first(alloc);
+        if Bits64::read(&mut item, alloc, value)? {
+            *choice = Some(ChoicesFigure::Weight(item));
+        }
+        Ok(())
+    }
+
+    /// Takes the value of a field of number 6 in.
+    fn take_way(
+        choice: &mut Option<ChoicesFigure>,
+        alloc: Global,
+        value: Value<'_>,
+    ) -> Result<(), CodecError>
+        ensures { Gives (λ _. choice.new) result (choices_figure.part.step choice.old (record { number = 6; value = seen_value value.entry })) }
+    {
+        if let Some(ChoicesFigure::Way(item)) = choice {
+            Int32::read(item, alloc, value)?;
+            return Ok(());
+        }
+        let mut item = Int32::first(alloc);
+        if Int32::read(&mut item, alloc, value)? {
+            *choice = Some(ChoicesFigure::Way(item));
+        }
+        Ok(())
+    }
+
+    /// Takes the value of a field of number 7 in.
+    fn take_blob(
+        choice: &mut Option<ChoicesFigure>,
+        alloc: Global,
+        value: Value<'_>,
+    ) -> Result<(), CodecError>
+        ensures { Gives (λ _. choice.new) result (choices_figure.part.step choice.old (record { number = 7; value = seen_value value.entry })) }
+    {
+        if let Some(ChoicesFigure::Blob(item)) = choice {
+            Bytes::read(item, alloc, value)?;
+            return Ok(());
+        }
+        let mut item = Bytes::first(alloc);
+        if Bytes::read(&mut item, alloc, value)? {
+            *choice = Some(ChoicesFigure::Blob(item));
+        }
+        Ok(())
+    }
+}
+
+impl Choice for ChoicesFigure {
+    ghost use Rattle.ttrpc_test_members.specs.Messages.{choices_figure};
+
+    ghost part = { choices_figure.part };
+
+    fn put(
+        choice: &mut Option<ChoicesFigure>,
+        alloc: Global,
+        field: Field<'_>,
+    ) -> Result<(), CodecError> {
+        match field.number.value {
+            1 => ChoicesFigure::take_number(choice, alloc, field.value),
+            2 => ChoicesFigure::take_text(choice, alloc, field.value),
+            3 => ChoicesFigure::take_inner(choice, alloc, field.value),
+            4 => ChoicesFigure::take_flag(choice, alloc, field.value),
+            5 => ChoicesFigure::take_weight(choice, alloc, field.value),
+            6 => ChoicesFigure::take_way(choice, alloc, field.value),
+            7 => ChoicesFigure::take_blob(choice, alloc, field.value),
+            _ => Ok(()),
+        }
+    }
+
+    fn length(choice: &Option<ChoicesFigure>) -> u64 {
+        match choice {
+            None => 0,
+            Some(ChoicesFigure::Number(item)) => item_len::<Sint32>(item, CHOICES_NUMBER),
+            Some(ChoicesFigure::Text(item)) => item_len::<Utf8>(item, CHOICES_TEXT),
+            Some(ChoicesFigure::Inner(item)) => item_len::<Nested<Inner>>(item, CHOICES_INNER),
+            Some(ChoicesFigure::Flag(item)) => item_len::<Boolean>(item, CHOICES_FLAG),
+            Some(ChoicesFigure::Weight(item)) => item_len::<Bits64>(item, CHOICES_WEIGHT),
+            Some(ChoicesFigure::Way(item)) => item_len::<Int32>(item, CHOICES_WAY),
+            Some(ChoicesFigure::Blob(item)) => item_len::<Bytes>(item, CHOICES_BLOB),
+        }
+    }
+
+    fn write(choice: &Option<ChoicesFigure>, out: &mut Vec<u8>) -> Result<(), CodecError> {
+        match choice {
+            None => Ok(()),
+            Some(ChoicesFigure::Number(item)) => put_item::<Sint32>(item, CHOICES_NUMBER, out),
+            Some(ChoicesFigure::Text(item)) => put_item::<Utf8>(item, CHOICES_TEXT, out),
+            Some(ChoicesFigure::Inner(item)) => put_item::<Nested<Inner>>(item, CHOICES_INNER, out),
+            Some(ChoicesFigure::Flag(item)) => put_item::<Boolean>(item, CHOICES_FLAG, out),
+            Some(ChoicesFigure::Weight(item)) => put_item::<Bits64>(item, CHOICES_WEIGHT, out),
+            Some(ChoicesFigure::Way(item)) => put_item::<Int32>(item, CHOICES_WAY, out),
+            Some(ChoicesFigure::Blob(item)) => put_item::<Bytes>(item, CHOICES_BLOB, out),
+        }
+    }
+
+    fn try_clone(choice: &Option<ChoicesFigure>) -> Result<Option<ChoicesFigure>, AllocError> {
+        Ok(match choice {
+            None => None,
+            Some(ChoicesFigure::Number(item)) => {
+                Some(ChoicesFigure::Number(Sint32::try_clone(item)?))
+            }
+            Some(ChoicesFigure::Text(item)) => Some(ChoicesFigure::Text(Utf8::try_clone(item)?)),
+            Some(ChoicesFigure::Inner(item)) => {
+                Some(ChoicesFigure::Inner(Nested::<Inner>::try_clone(item)?))
+            }
+            Some(ChoicesFigure::Flag(item)) => Some(ChoicesFigure::Flag(Boolean::try_clone(item)?)),
+            Some(ChoicesFigure::Weight(item)) => {
+                Some(ChoicesFigure::Weight(Bits64::try_clone(item)?))
+            }
+            Some(ChoicesFigure::Way(item)) => Some(ChoicesFigure::Way(Int32::try_clone(item)?)),
+            Some(ChoicesFigure::Blob(item)) => Some(ChoicesFigure::Blob(Bytes::try_clone(item)?)),
+        })
+    }
+
+    fn lemma_is_value(choice: &Option<ChoicesFigure>) {
+        match choice {
+            None => {}
+            Some(ChoicesFigure::Number(item)) => Sint32::lemma_is_value(item),
+            Some(ChoicesFigure::Text(item)) => Utf8::lemma_is_value(item),
+            Some(ChoicesFigure::Inner(item)) => Nested::<Inner>::lemma_is_value(item),
+            Some(ChoicesFigure::Flag(item)) => Boolean::lemma_is_value(item),
+            Some(ChoicesFigure::Weight(item)) => Bits64::lemma_is_value(item),
+            Some(ChoicesFigure::Way(item)) => Int32::lemma_is_value(item),
+            Some(ChoicesFigure::Blob(item)) => Bytes::lemma_is_value(item),
+        }
+    }
+}
+
+impl TryClone for Choices {
+    fn try_clone(&self) -> Result<Choices, AllocError> {
+        Ok(Choices {
+            figure: ChoicesFigure::try_clone(&self.figure)?,
+            behind: Single::<Utf8>::try_clone(&self.behind)?,
+        })
+    }
+}
+
+impl WireMessage for Choices {
+    ghost use Rattle.ttrpc_test_members.specs.Messages.{choices};
+
+    ghost is_value = { choices.part.is_value };
+
+    ghost empty = { choices.part.empty };
+
+    ghost step = { choices.part.step };
+
+    ghost fields = { choices.part.fields };
+
+    fn new(alloc: Global) -> Choices {
+        Choices {
+            figure: None,
+            behind: Single::<Utf8>::empty(alloc),
+        }
+    }
+
+    fn put(&mut self, alloc: Global, field: Field<'_>) -> Result<(), CodecError> {
+        match field.number.value {
+            1 | 2 | 3 | 4 | 5 | 6 | 7 => ChoicesFigure::put(&mut self.figure, alloc, field),
+            8 => Single::<Utf8>::take(&mut self.behind, alloc, field.value),
+            _ => Ok(()),
+        }
+    }
+
+    #[tactic(auto, using(ttrpc_members::proofs::Groups::flat_measured))]
+    fn length(&self) -> u64 {
+        let len: u64 = 0;
+        let len = len.saturating_add(ChoicesFigure::length(&self.figure));
+        len.saturating_add(Single::<Utf8>::length(&self.behind, CHOICES_BEHIND))
+    }
+
+    #[tactic(auto, using(ttrpc_members::proofs::Groups::flat_written, ttrpc_members::proofs::Groups::flat_len))]
+    fn write(&self, out: &mut Vec<u8>) -> Result<(), CodecError> {
+        ChoicesFigure::write(&self.figure, out)?;
+        Single::<Utf8>::write(&self.behind, CHOICES_BEHIND, out)
+    }
+
+    fn lemma_is_value(&self) {
+        ChoicesFigure::lemma_is_value(&self.figure);
+        Single::<Utf8>::lemma_is_value(&self.behind);
+    }
+
+    ghost again = { choices.laws.again choices.valid };
+
+    ghost fits = { choices.laws.fits choices.valid };
+}
+
+/// Members of all kinds.
+#[derive(Drop)]
+pub struct All {
+    /// Field 1.
+    pub figures: Option<Figures>,
+    /// Field 2.
+    pub lists: Option<Lists>,
+    /// Field 3.
+    pub options: Option<Options>,
+    /// Field 4.
+    pub tables: Option<Tables>,
+    /// Field 5.
+    pub choices: Option<Choices>,
+}
+
+const ALL_FIGURES: FieldNumber = FieldNumber { value: 1 };
+
+const ALL_LISTS: FieldNumber = FieldNumber { value: 2 };
+
+const ALL_OPTIONS: FieldNumber = FieldNumber { value: 3 };
+
+const ALL_TABLES: FieldNumber = FieldNumber { value: 4 };
+
+const ALL_CHOICES: FieldNumber = FieldNumber { value: 5 };
+
+impl TryClone for All {
+    fn try_clone(&self) -> Result<All, AllocError> {
+        Ok(All {
+            figures: Optional::<Nested<Figures>>::try_clone(&self.figures)?,
+            lists: Optional::<Nested<Lists>>::try_clone(&self.lists)?,
+            options: Optional::<Nested<Options>>::try_clone(&self.options)?,
+            tables: Optional::<Nested<Tables>>::try_clone(&self.tables)?,
+            choices: Optional::<Nested<Choices>>::try_clone(&self.choices)?,
+        })
+    }
+}
+
+impl WireMessage for All {
+    ghost use Rattle.ttrpc_test_members.specs.Messages.{all};
+
+    ghost is_value = { all.part.is_value };
+
+    ghost empty = { all.part.empty };
+
+    ghost step = { all.part.step };
+
+    ghost fields = { all.part.fields };
+
+    fn new(alloc: Global) -> All {
+        All {
+            figures: Optional::<Nested<Figures>>::empty(alloc),
+            lists: Optional::<Nested<Lists>>::empty(alloc),
+            options: Optional::<Nested<Options>>::empty(alloc),
+            tables: Optional::<Nested<Tables>>::empty(alloc),
+            choices: Optional::<Nested<Choices>>::empty(alloc),
+        }
+    }
+
+    fn put(&mut self, alloc: Global, field: Field<'_>) -> Result<(), CodecError> {
+        match field.number.value {
+            1 => Optional::<Nested<Figures>>::take(&mut self.figures, alloc, field.value),
+            2 => Optional::<Nested<Lists>>::take(&mut self.lists, alloc, field.value),
+            3 => Optional::<Nested<Options>>::take(&mut self.options, alloc, field.value),
+            4 => Optional::<Nested<Tables>>::take(&mut self.tables, alloc, field.value),
+            5 => Optional::<Nested<Choices>>::take(&mut self.choices, alloc, field.value),
+            _ => Ok(()),
+        }
+    }
+
+    #[tactic(auto, using(ttrpc_members::proofs::Groups::flat_measured))]
+    fn length(&self) -> u64 {
+        let len: u64 = 0;
+        let len = len.saturating_add(Optional::<Nested<Figures>>::length(
+            &self.figures,
+            ALL_FIGURES,
+        ));
+        let len = len.saturating_add(Optional::<Nested<Lists>>::length(&self.lists, ALL_LISTS));
+        let len = len.saturating_add(Optional::<Nested<Options>>::length(
+            &self.options,
+            ALL_OPTIONS,
+        ));
+        let len = len.saturating_add(Optional::<Nested<Tables>>::length(&self.tables, ALL_TABLES));
+        len.saturating_add(Optional::<Nested<Choices>>::length(&self.choices, ALL_CHOICES))
+    }
+
+    #[tactic(auto, using(ttrpc_members::proofs::Groups::flat_written, ttrpc_members::proofs::Groups::flat_len))]
+    fn write(&self, out: &mut Vec<u8>) -> Result<(), CodecError> {
+        Optional::<Nested<Figures>>::write(&self.figures, ALL_FIGURES, out)?;
+        Optional::<Nested<Lists>>::write(&self.lists, ALL_LISTS, out)?;
+        Optional::<Nested<Options>>::write(&self.options, ALL_OPTIONS, out)?;
+        Optional::<Nested<Tables>>::write(&self.tables, ALL_TABLES, out)?;
+        Optional::<Nested<Choices>>::write(&self.choices, ALL_CHOICES, out)
+    }
+
+    fn lemma_is_value(&self) {
+        Optional::<Nested<Figures>>::lemma_is_value(&self.figures);
+        Optional::<Nested<Lists>>::lemma_is_value(&self.lists);
+        Optional::<Nested<Options>>::lemma_is_value(&self.options);
+        Optional::<Nested<Tables>>::lemma_is_value(&self.tables);
+        Optional::<Nested<Choices>>::lemma_is_value(&self.choices);
+    }
+
+    ghost again = { all.laws.again all.valid };
+
+    ghost fits = { all.laws.fits all.valid };
+}

@@ -1,0 +1,159 @@
+//! Messages as bytes, and what those bytes mean.
+use crate::messages::{All, Choices, Figures, Lists, Options, Tables};
+use crate::tests::vectors::{ALL, CHOICES, FIGURES, LISTS, OPTIONS, TABLES};
+use std::alloc::Global;
+use std::process::Abort;
+use std::test::Fail;
+use ttrpc_codec::Codec;
+use ttrpc_codec::message::WireMessage;
+use ttrpc_wire::CodecError;
+
+type Tested = Result<(), Fail>;
+
+/// Whether the numbers are equal.
+fn are_equal(a: &Figures, b: &Figures) -> bool {
+    let varints = a.a == b.a && a.b == b.b && a.c == b.c && a.d == b.d && a.g == b.g && a.n == b.n;
+    let zigzags = a.e == b.e && a.f == b.f;
+    let fixed = a.h == b.h && a.i == b.i && a.j == b.j && a.k == b.k && a.l == b.l && a.m == b.m;
+    varints && zigzags && fixed
+}
+
+/// Each pair of bytes means one value, whose written form the first ones are.
+fn all_are_one<M: WireMessage>(rt: &impl Abort, alloc: Global, rows: &[(&[u8], &[u8])]) -> Tested {
+    for (canonical, other) in rows {
+        for bytes in [*canonical, *other] {
+            let message = M::decode(alloc, bytes)?;
+            let written = message.encode(alloc)?;
+            assert_eq!(rt; written.as_slice(), *canonical);
+        }
+    }
+    Ok(())
+}
+
+#[test]
+fn numbers_are_those_of_the_other_implementation(rt: HostRuntime) -> Tested {
+    for (bytes, figures) in FIGURES {
+        let read = Figures::decode(rt.alloc(), bytes)?;
+        assert!(rt; are_equal(&read, figures));
+        let written = figures.encode(rt.alloc())?;
+        assert_eq!(rt; written.as_slice(), *bytes);
+    }
+    Ok(())
+}
+
+#[test]
+fn lists_are_read_in_either_spelling(rt: HostRuntime) -> Tested {
+    all_are_one::<Lists>(&rt, rt.alloc(), LISTS)
+}
+
+#[test]
+fn presence_is_kept(rt: HostRuntime) -> Tested {
+    all_are_one::<Options>(&rt, rt.alloc(), OPTIONS)
+}
+
+#[test]
+fn maps_are_written_by_rising_key(rt: HostRuntime) -> Tested {
+    all_are_one::<Tables>(&rt, rt.alloc(), TABLES)
+}
+
+#[test]
+fn the_last_of_several_wins(rt: HostRuntime) -> Tested {
+    all_are_one::<Choices>(&rt, rt.alloc(), CHOICES)?;
+    all_are_one::<Choices>(&rt, rt.alloc(), MERGED)
+}
+
+#[test]
+fn nested_messages_are_one_value(rt: HostRuntime) -> Tested {
+    all_are_one::<All>(&rt, rt.alloc(), ALL)
+}
+
+/// Bytes that mean none of the messages, and why.
+const REFUSED: &[(&[u8], CodecError)] = &[
+    // a packed list ends inside a varint, and inside a number of eight bytes
+    (b"\x0a\x02\x01\x80", CodecError::Truncated),
+    (b"\x1a\x09\0\0\0\0\0\0\0\0\x01", CodecError::Truncated),
+    // a packed varint goes past 64 bits
+    (
+        b"\x0a\x0a\xff\xff\xff\xff\xff\xff\xff\xff\xff\x02",
+        CodecError::BadVarint,
+    ),
+    // a text of a list, and one of a message in a list
+    (b"\x2a\x01\xff", CodecError::BadUtf8),
+    (b"\x42\x03\x0a\x01\xff", CodecError::BadUtf8),
+    // a message of a list ends inside a field, and has a field of no number
+    (b"\x42\x02\x0a\x05", CodecError::Truncated),
+    (b"\x42\x02\x00\x00", CodecError::BadTag),
+    (b"\x42\x01\x0b", CodecError::BadWireType),
+];
+
+/// Bytes that mean no map, and why.
+const NO_TABLES: &[(&[u8], CodecError)] = &[
+    (b"\x0a\x03\x0a\x01\xff", CodecError::BadUtf8),
+    (b"\x0a\x03\x12\x01\xff", CodecError::BadUtf8),
+    (b"\x0a\x02\x0a\x01", CodecError::Truncated),
+    (b"\x12\x04\x08\x01\x12\x01", CodecError::Truncated),
+];
+
+/// Other spellings of maps: entries without a key or a value, with more fields, and two of one key.
+const SPELLED: &[(&[u8], &[u8])] = &[
+    (b"\x0a\x04\x0a\0\x12\0", b"\x0a\0"),
+    (b"\x0a\x05\x0a\x01k\x12\0", b"\x0a\x03\x0a\x01k"),
+    (b"\x0a\x05\x0a\0\x12\x01v", b"\x0a\x05\x12\x01v\x18\x07"),
+    (
+        b"\x0a\x06\x0a\x01k\x12\x01w",
+        b"\x0a\x06\x0a\x01k\x12\x01v\x0a\x06\x12\x01w\x0a\x01k",
+    ),
+    // a value in two parts is one message, within one entry alone
+    (
+        b"\x12\x0a\x08\0\x12\x06\x0a\x01a\x12\x01b",
+        b"\x12\x0a\x12\x03\x0a\x01a\x12\x03\x12\x01b",
+    ),
+    (
+        b"\x12\x07\x08\0\x12\x03\x12\x01b",
+        b"\x12\x05\x12\x03\x0a\x01a\x12\x05\x12\x03\x12\x01b",
+    ),
+];
+
+/// Other spellings of one of several: a message in two parts, one behind another member, and values of another wire type.
+const MERGED: &[(&[u8], &[u8])] = &[
+    (
+        b"\x1a\x06\x0a\x01a\x12\x01b",
+        b"\x1a\x03\x0a\x01a\x1a\x03\x12\x01b",
+    ),
+    (
+        b"\x1a\x03\x12\x01b",
+        b"\x1a\x03\x0a\x01a\x20\x01\x1a\x03\x12\x01b",
+    ),
+    (b"\x08\0", b"\x12\x01a\x08\0\x12\0\x08\0"),
+    (b"\x12\x01a", b"\x12\x01a\x0a\x01b\x25\0\0\0\0"),
+];
+
+/// Each of the bytes is refused so.
+fn all_are_refused<M: WireMessage>(
+    rt: &impl Abort,
+    alloc: Global,
+    rows: &[(&[u8], CodecError)],
+) -> Tested {
+    for (bytes, error) in rows {
+        match M::decode(alloc, bytes) {
+            Ok(_message) => assert!(rt; false, "taken"),
+            Err(told) => assert_eq!(rt; told, *error),
+        }
+    }
+    Ok(())
+}
+
+#[test]
+fn bad_lists_are_refused(rt: HostRuntime) -> Tested {
+    all_are_refused::<Lists>(&rt, rt.alloc(), REFUSED)
+}
+
+#[test]
+fn bad_maps_are_refused(rt: HostRuntime) -> Tested {
+    all_are_refused::<Tables>(&rt, rt.alloc(), NO_TABLES)
+}
+
+#[test]
+fn entries_are_read_in_any_spelling(rt: HostRuntime) -> Tested {
+    all_are_one::<Tables>(&rt, rt.alloc(), SPELLED)
+}

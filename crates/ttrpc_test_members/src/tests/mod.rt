@@ -1,0 +1,2 @@
+mod members_tests;
+mod vectors;
