@@ -4,6 +4,9 @@ use Rattle.std.specs.Prelude.{◌≡◌, ◌≢◌, ◌⊎◌, ◌&&◌, ℕ, Li
 use Rattle.std.specs.Map.{lookup}
 use Rattle.std.specs.Option.{option_and_then}
 use Rattle.std.specs.Str.{bytes_eq}
+use Rattle.ttrpc_server.specs.State.{Names, Services}
+use Rattle.ttrpc_methods.specs.declared.methods.Named.{Named}
+use Rattle.ttrpc_methods.specs.declared.methods.Named.TheVariants.{Methods, Streams}
 use Rattle.ttrpc_proto.specs.declared.error.Error.{Error}
 use Rattle.ttrpc_proto.specs.declared.error.Error.TheVariants.{Others, NoMemory}
 
@@ -18,6 +21,23 @@ handler_of handlers service method = option_and_then (lookup (bytes_eq method)) 
 -- a handler stands under a service and a method, and under all others what stood there before
 abbrev pub Puts : {H : Type 0} → Handlers H → List ℕ → List ℕ → H → Handlers H → Type 0
 Puts old service method handler new = (s m : List ℕ) → handler_of new s m ≡ (if bytes_eq s service && bytes_eq m method then Some handler else handler_of old s m)
+
+-- handlers are put one after the other, each under a service and its name
+abbrev pub PutsAll : {A H : Type 0} → Handlers H → List ℕ → List (String A × H) → Handlers H → Type 0
+PutsAll {A} {H} old service [] new = new ≡ old
+PutsAll {A} {H} old service (more ∷ rest) new = (mid : Handlers H) × Puts old service (string_bytes more.0) more.1 mid × PutsAll mid service rest new
+
+-- ---- the names that a core knows
+
+-- those of methods, or of streams
+abbrev pub names_in : Named → Services → Names
+names_in Methods services = services.methods
+names_in Streams services = services.streams
+
+-- the other ones
+abbrev pub others_in : Named → Services → Names
+others_in Methods services = services.streams
+others_in Streams services = services.methods
 
 -- ---- paths
 

@@ -4,4 +4,4 @@
 
 mod methods;
 
-pub use methods::Methods;
+pub use methods::{Methods, Named};

@@ -4,8 +4,8 @@ ghost use Rattle.std.specs.BTreeMap.{get_by_text};
 ghost use Rattle.std.specs.Option.{option_copied};
 ghost use Rattle.std.specs.Str.{bytes_eq};
 ghost use Rattle.ttrpc_proto.specs.declared.error.Error.{Error as AnError};
-ghost use Rattle.ttrpc_server.specs.State.{has_method};
-ghost use Rattle.ttrpc_methods.specs.Methods.{Adds, AddsAll, IsNoPath, IsNotAdded, IsNotAllAdded, IsPath, Puts, handler_of, no_path_text};
+ghost use Rattle.ttrpc_server.specs.State.{AddsName, has_method, has_name};
+ghost use Rattle.ttrpc_methods.specs.Methods.{Adds, AddsAll, IsNoPath, IsNotAdded, IsNotAllAdded, IsPath, Puts, PutsAll, handler_of, names_in, no_path_text, others_in};
 
 use std::alloc::{AllocError, Global};
 use std::collections::BTreeMap;
@@ -64,6 +64,22 @@ impl<H: Drop> Methods<H> {
         Ok(())
     }
 
+    /// Adds the handlers of a service, each under its name. One of a name that stands already takes the place of that. At an
+    /// `Err` some of them may have been added.
+    pub fn put_all(
+        &mut self,
+        alloc: Global,
+        service: &str,
+        handlers: BTreeMap<String, H>,
+    ) -> std::result::Result<(), AllocError>
+        ensures ok { OnOk result (PutsAll self.old service.now handlers.entries self.new) }
+    {
+        for (name, handler) in handlers {
+            self.put(alloc, service, name.as_str(), handler)?;
+        }
+        Ok(())
+    }
+
     /// The handler takes its place under a service and a method. An `Err` changes nothing.
     fn put(
         &mut self,
@@ -100,32 +116,79 @@ impl<H: Drop> Methods<H> {
         ensures streams { IfOk result (λ registry. registry.streams ≡ []) }
     {
         let mut registry = Registry::new(alloc);
-        for (service, methods) in self.services.iter() {
-            add_names(&mut registry, alloc, service.as_str(), methods)?;
-        }
+        self.name_in(&mut registry, alloc, Named::Methods)?;
         Ok(registry)
+    }
+
+    /// Adds these names to those that a core knows, as the names of methods or of streams. At an `Err` some of them may have
+    /// been added.
+    pub fn name_in(
+        &self,
+        registry: &mut Registry,
+        alloc: Global,
+        named: Named,
+    ) -> std::result::Result<(), AllocError>
+        ensures names { OnOk result ((s m : List ℕ) → has_name (names_in named registry.new) s m
+            ≡ (is_some (handler_of self.now s m) || has_name (names_in named registry.old) s m)) }
+        ensures others { others_in named registry.new ≡ others_in named registry.old }
+    {
+        for (service, methods) in self.services.iter() {
+            add_names(registry, alloc, service.as_str(), methods, named)?;
+        }
+        Ok(())
     }
 }
 
-/// Gives the registry's service these methods. Streams stay as they are.
+/// What names stand for.
+#[derive(Clone, Copy, Debug, PartialEq, Eq)]
+pub enum Named {
+    /// Methods.
+    Methods,
+    /// Streams.
+    Streams,
+}
+
+/// Gives the registry's service these names. The others stay as they are.
 fn add_names<H>(
     registry: &mut Registry,
     alloc: Global,
     service: &str,
-    methods: &BTreeMap<String, H>,
+    names: &BTreeMap<String, H>,
+    named: Named,
 ) -> std::result::Result<(), AllocError>
-    ensures methods { OnOk result ((s m : List ℕ) → has_method registry.new s m
-        ≡ ((bytes_eq s service.now && is_some (get_by_text methods.now m)) || has_method registry.old s m)) }
-    ensures streams { registry.new.streams ≡ registry.old.streams }
+    ensures names { OnOk result ((s m : List ℕ) → has_name (names_in named registry.new) s m
+        ≡ ((bytes_eq s service.now && is_some (get_by_text names.now m)) || has_name (names_in named registry.old) s m)) }
+    ensures others { others_in named registry.new ≡ others_in named registry.old }
 {
-    for (method, _) in methods.iter() {
-        registry.add_method(
+    for (name, _) in names.iter() {
+        let service = Text::from_str(alloc, service)?;
+        add_name(
+            registry,
             alloc,
-            Text::from_str(alloc, service)?,
-            Text::from_str(alloc, method.as_str())?,
+            service,
+            Text::from_str(alloc, name.as_str())?,
+            named,
         )?;
     }
     Ok(())
+}
+
+/// Gives the registry's service this name. An `Err` changes nothing.
+fn add_name(
+    registry: &mut Registry,
+    alloc: Global,
+    service: Text,
+    name: Text,
+    named: Named,
+) -> std::result::Result<(), AllocError>
+    ensures name { OnOk result (AddsName (names_in named registry.old) service name (names_in named registry.new)) }
+    ensures others { others_in named registry.new ≡ others_in named registry.old }
+    ensures err { OnErr result (registry.new ≡ registry.old) }
+{
+    match named {
+        Named::Methods => registry.add_method(alloc, service, name),
+        Named::Streams => registry.add_stream(alloc, service, name),
+    }
 }
 
 /// The service and the method of a path. The method has no slash.
