@@ -32,9 +32,10 @@ pub data Gathers {H : Type 0} (lends : H → List ℕ → ℕ → List ℕ → H
   one_more : (bytes : List ℕ) (held : H) (gathered : Gathers lends first bytes held) (before : List ℕ) (count : ℕ) (after : List ℕ) (last : H)
       → lends held before count after last → Gathers lends first (bytes ++ take count after) last
 
--- A piece was handed to a core, which took a front of it, or whose connection has failed. More is wanted where it took some.
-pub record IsHandedOn {H : Type 0} (takes : H → List ℕ → Option ℕ → H → Type 0) (old : H) (piece : List ℕ) (wants : Bool) (new : H) (left : List ℕ) : Type 0 where
+-- A piece was handed to a core at a moment, which took a front of it, or whose connection has failed. More is wanted where it took
+-- some.
+pub record IsHandedOn {H : Type 0} (takes : H → List ℕ → ℕ → Option ℕ → H → Type 0) (old : H) (piece : List ℕ) (now : ℕ) (wants : Bool) (new : H) (left : List ℕ) : Type 0 where
   pub count : Option ℕ
-  pub taken : takes old piece count new
+  pub taken : takes old piece now count new
   pub rest : left ≡ drop (option_map_or (λ n. n) count 0) piece
   pub wants_more : wants ≡ nat_lt 0 (option_map_or (λ n. n) count 0)

@@ -12,6 +12,11 @@ use tokio::runtime::Handle;
 use tokio::time::Sleep;
 use ttrpc_proto::{Error, Result};
 
+/// What a polled client or server asks of the system: the clock and memory.
+pub trait Timed: Clock + AllocGlobal + Clone + Drop {}
+
+impl<R: Clock + AllocGlobal + Clone + Drop> Timed for R {}
+
 /// How long an alarm sleeps that isn't set.
 const UNSET: u64 = 3600;
 

@@ -12,8 +12,8 @@ pub trait Held: Drop {
     ghost use Rattle.std.specs.Prelude.{ℕ, List, Option};
     ghost use Rattle.std.specs.declared.io.ErrorKind.{ErrorKind};
 
-    // So many bytes of a piece were taken, or it was in vain, since the connection has failed.
-    ghost takes: { Self → List ℕ → Option ℕ → Self → Type 0 };
+    // So many bytes of a piece were taken at a moment, or it was in vain, since the connection has failed.
+    ghost takes: { Self → List ℕ → ℕ → Option ℕ → Self → Type 0 };
 
     // The input ended.
     ghost ends: { Self → Self → Type 0 };
@@ -30,10 +30,10 @@ pub trait Held: Drop {
     // A moment came.
     ghost ticks: { Self → ℕ → Self → Type 0 };
 
-    /// Takes a front of a piece, and says of how many bytes. `None`: the connection has failed.
-    fn take(&mut self, alloc: Global, piece: &[u8]) -> Option<usize>
+    /// Takes a front of a piece at this moment, in nanoseconds, and says of how many bytes. `None`: the connection has failed.
+    fn take(&mut self, alloc: Global, piece: &[u8], now: u64) -> Option<usize>
         ensures bound { IfSome result (λ n. n ≤ length piece.now) }
-        ensures takes { takes self.old piece.now result self.new };
+        ensures takes { takes self.old piece.now now result self.new };
 
     /// The reader is at its end.
     fn ended(&mut self)

@@ -6,15 +6,17 @@ mod alarm;
 mod held;
 mod inlet;
 mod link;
+mod listener;
 mod outlet;
 mod piece;
 mod socket;
 mod wakers;
 
-pub use alarm::{Alarm, moment};
+pub use alarm::{Alarm, Timed, moment};
 pub use held::{Connected, Held};
 pub use inlet::{INLET_AT_REST, INLET_AT_WORK, Inlet};
 pub use link::{Link, Step};
+pub use listener::Listener;
 pub use outlet::{OUTLET_AT_REST, OUTLET_LIMIT, Outlet};
 pub use piece::Piece;
 pub use socket::{Connecting, Socket, SocketConnect};

@@ -7,7 +7,7 @@ ghost use Rattle.tokio.specs.Timers.{sleep_source};
 ghost use Rattle.ttrpc_polled.specs.Needs.{LinkNeeds, OutNeeds};
 ghost use Rattle.ttrpc_polled.specs.Passing.{IsHandedOn};
 
-use crate::alarm::Alarm;
+use crate::alarm::{Alarm, moment};
 use crate::held::{Connected, Held};
 use crate::inlet::Inlet;
 use crate::outlet::Outlet;
@@ -66,6 +66,13 @@ impl<R: Clock + AllocGlobal + Drop, S: AsyncRead, W: AsyncWrite, C: Connected> L
         ensures { result.now ≡ arc_value self.now.shared }
     {
         &self.shared
+    }
+
+    /// Whether it keeps nothing that is to be written.
+    pub fn keeps_nothing(&self) -> bool
+        ensures { result ≡ true → self.now.outlet.kept ≡ [] }
+    {
+        self.outlet.kept.is_empty()
     }
 
     /// Looks once at everything that it waits for, and does what there is to do: it writes, it reads, and where there was
@@ -179,7 +186,9 @@ impl<R: Clock + AllocGlobal + Drop, S: AsyncRead, W: AsyncWrite, C: Connected> L
             let _: Poll<()> = cx.yield_now();
             return Step::Moved;
         };
-        self.is_reading = hand_on(self.rt.alloc(), &mut *held, &mut self.inlet.piece, given);
+        let now = moment(&self.rt).unwrap_or(0);
+        let piece = &mut self.inlet.piece;
+        self.is_reading = hand_on(self.rt.alloc(), &mut *held, piece, given, now);
         Step::Moved
     }
 
@@ -220,15 +229,21 @@ fn wait_at<R: Clock, H: Held>(
     let _: Poll<()> = cx.register(asked, held.driver());
 }
 
-/// Hands on what the reader gave: a piece, its end, or its error. True: the reader is to be asked for more, since the core took
-/// some of the piece.
-fn hand_on<H: Held>(alloc: Global, held: &mut H, piece: &mut Piece, given: io::Result<bool>) -> bool
-    ensures piece { given ≡ Ok true → IsHandedOn H.takes held.old piece.old result held.new piece.new }
+/// Hands on what the reader gave at this moment: a piece, its end, or its error. True: the reader is to be asked for more, since
+/// the core took some of the piece.
+fn hand_on<H: Held>(
+    alloc: Global,
+    held: &mut H,
+    piece: &mut Piece,
+    given: io::Result<bool>,
+    now: u64,
+) -> bool
+    ensures piece { given ≡ Ok true → IsHandedOn H.takes held.old piece.old now result held.new piece.new }
     ensures end { given ≡ Ok false → H.ends held.old held.new × (piece.new ≡ piece.old) × (result ≡ false) }
     ensures broke { IfErr given (λ e. H.breaks held.old (error_kind e) held.new × (piece.new ≡ piece.old) × (result ≡ false)) }
 {
     match given {
-        Ok(true) => match held.take(alloc, piece.bytes()) {
+        Ok(true) => match held.take(alloc, piece.bytes(), now) {
             Some(count) => {
                 piece.took(count);
                 count > 0

@@ -109,7 +109,7 @@ impl From<TcpStream> for Socket {
 }
 
 /// The IP address and port that an address names.
-fn tcp_of(alloc: Global, sockaddr: &str) -> Result<SocketAddr>
+pub(crate) fn tcp_of(alloc: Global, sockaddr: &str) -> Result<SocketAddr>
     ensures ok { IfOk result (IsTcp sockaddr.now) }
     ensures err { IfErr result (IsNoTcp sockaddr.now) }
 {
@@ -171,7 +171,7 @@ impl Future for SocketConnect {
 }
 
 /// The socket of a stream that is connected, whose writes go out at once or not.
-fn ready_stream(stream: TcpStream, nodelay: bool) -> Result<Socket>
+pub(crate) fn ready_stream(stream: TcpStream, nodelay: bool) -> Result<Socket>
     ensures { IfOk result (λ socket. socket.stream ≡ stream) }
 {
     if nodelay {

@@ -42,6 +42,11 @@ impl<K: Ord + Copy + Drop> Wakers<K> {
         self.slots.clear();
     }
 
+    /// How many wait.
+    pub fn len(&self) -> usize {
+        self.slots.len()
+    }
+
     /// The least key under which somebody waits.
     pub fn first(&self) -> Option<K> {
         self.slots.first_key_value().map(|(key, _)| *key)

@@ -3,6 +3,8 @@
 use Rattle.std.specs.Prelude.{◌≡◌, ℕ}
 use Rattle.std.specs.Arc.{arc_value}
 use Rattle.ttrpc_polled_client.specs.declared.shared.ClientShared.{ClientShared}
+use Rattle.ttrpc_polled_client.specs.declared.calls.Calling.{Calling}
+use Rattle.ttrpc_polled_client.specs.declared.calls.Calling.TheVariants.{Waits, Refused, Done}
 use Rattle.ttrpc_polled_client.specs.declared.line.ClientLine.{ClientLine}
 
 -- that of a line's calls and streams
@@ -12,3 +14,9 @@ line_source line = (arc_value line.shared).came.id
 -- that of the connection's future, for something to write
 abbrev pub asked_source : {O I : Type 0} → ClientShared O I → ℕ
 asked_source shared = shared.asked.id
+
+-- a call of a service waits where its request does
+abbrev pub calling_needs : {O I P : Type 0} → Calling O I P → ℕ → Type 0
+calling_needs (Waits request reply) s = s ≡ line_source (arc_value request.line)
+calling_needs (Refused e) s = ⊥
+calling_needs Done s = ⊥

@@ -6,29 +6,25 @@ ghost use Rattle.ttrpc_secure.specs.Hooks.Facts.{facts_of};
 ghost use Rattle.ttrpc_polled_client.specs.Making.{IsMadeOver};
 
 use crate::asked::Asked;
+use crate::connect::{ClientConnect, Spawns};
 use crate::connection::{ClientConnection, TcpConnection};
 use crate::line::ClientLine;
 use crate::opening::{ClientNewStream, Opening, Prepared};
 use crate::request::ClientRequest;
 use crate::shared::ClientShared;
 use std::alloc::Global;
+use std::net::Net;
 use std::sync::Arc;
-use std::time::Clock;
 use tokio::io::{AsyncRead, AsyncWrite};
 use tokio::runtime::Handle;
 use ttrpc_client::{ClientCore, ClientKind};
-use ttrpc_polled::{Link, Socket, moment};
+use ttrpc_polled::{Link, Socket, Timed, moment};
 use ttrpc_proto::error::causes::others_of;
 use ttrpc_proto::{Request, Result};
 use ttrpc_secure::{
     ConnectHook, ConnectionContext, ConnectionData, HookOutput, InboundTransform,
     OutboundTransform, Plain,
 };
-
-/// What a client asks of the system: the clock and memory.
-pub trait Timed: Clock + AllocGlobal + Clone + Drop {}
-
-impl<R: Clock + AllocGlobal + Clone + Drop> Timed for R {}
 
 /// A client of one connection. Its clones share the connection, which ends with the last of them, of its calls and of its
 /// streams.
@@ -50,6 +46,33 @@ impl<R: Timed> Client<R, Plain, Plain> {
         let output = HookOutput::of_halves(alloc, Plain {}, Plain {});
         let (reader, writer) = socket.into_split()?;
         Client::over(rt, handle, reader, writer, output)
+    }
+
+    /// The same, with the future of the connection polled by what is there for that.
+    pub fn spawned<P: Spawns<TcpConnection<R, Plain, Plain>>>(
+        rt: R,
+        handle: &Handle,
+        socket: Socket,
+        tasks: &P,
+    ) -> Result<Client<R, Plain, Plain>> {
+        let (client, connection) = Client::new(rt, handle, socket)?;
+        tasks.spawn(connection)?;
+        Ok(client)
+    }
+
+    /// Connects to an address, `tcp://IP:PORT`. Whether each write goes out at once is `nodelay`. An address that names no
+    /// place of TCP is `Others`, and a fault of the system `Nix`.
+    pub fn connect(
+        rt: R,
+        handle: &Handle,
+        sockaddr: &str,
+        nodelay: bool,
+    ) -> Result<ClientConnect<R>>
+    where
+        R: Net,
+    {
+        let connecting = Socket::connect(&rt, rt.alloc(), handle.reactor(), sockaddr, nodelay);
+        ClientConnect::new(rt, handle, connecting)
     }
 }
 

@@ -171,7 +171,7 @@ impl<O: OutboundTransform + Drop, I: InboundTransform + Drop> Held for ClientHel
     ghost use Rattle.ttrpc_connection.specs.OneEnd.{lendable};
     ghost use Rattle.ttrpc_polled_client.specs.Held.{EndsInput, LendsAndReports, TakesPiece, TicksAndTells, broken};
 
-    ghost takes = { λ old piece count new. TakesPiece O.OutboundTransform I.InboundTransform old.core piece count new.core };
+    ghost takes = { λ old piece _ count new. TakesPiece O.OutboundTransform I.InboundTransform old.core piece count new.core };
 
     ghost ends = { λ old new. EndsInput old.core new.core };
 
@@ -183,7 +183,7 @@ impl<O: OutboundTransform + Drop, I: InboundTransform + Drop> Held for ClientHel
 
     ghost ticks = { λ old now new. TicksAndTells O.SEALS old.core now new.core };
 
-    fn take(&mut self, alloc: Global, piece: &[u8]) -> Option<usize> {
+    fn take(&mut self, alloc: Global, piece: &[u8], _now: u64) -> Option<usize> {
         let Ok(count) = take_on(&mut self.core, alloc, piece) else {
             self.wake_all();
             return None;

@@ -2,16 +2,23 @@
 #![tactic(auto)]
 
 mod asked;
+mod calls;
 mod client;
+mod connect;
 mod connection;
 mod held;
 mod line;
+mod macros;
 mod opening;
 mod request;
 mod shared;
 
 pub use asked::Asked;
-pub use client::{Client, Timed};
+pub use calls::{
+    ClientCall, ClientOpening, ClientStreamReceiver, OfStream, call_of, open_of, open_with,
+};
+pub use client::Client;
+pub use connect::{ClientConnect, Spawns};
 pub use connection::{ClientConnection, TcpConnection};
 pub use held::ClientHeld;
 pub use line::ClientLine;

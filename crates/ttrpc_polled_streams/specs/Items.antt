@@ -1,8 +1,9 @@
 -- The messages of typed streams: what is sent for one, and what is told of one that is received.
 -- Source: the Rust crate, for the texts.
-use Rattle.std.specs.Prelude.{◌≡◌, ℕ, List, codes, Option, Some, Result}
+use Rattle.std.specs.Prelude.{◌≡◌, ◌≢◌, ℕ, List, [], codes, Option, Some, None, Result, Ok, Err}
 use Rattle.ttrpc_proto.specs.declared.error.Error.{Error}
-use Rattle.ttrpc_message.specs.Calls.{IsUnwritten, TellsItem, TellsItemOrEnd}
+use Rattle.ttrpc_proto.specs.declared.error.Error.TheVariants.{NoMemory}
+use Rattle.ttrpc_message.specs.Calls.{IsUnwritten, TellsCause, TellsItem, TellsItemOrEnd}
 use Rattle.ttrpc_polled_streams.specs.declared.sending.Sending.{Sending}
 use Rattle.ttrpc_polled_streams.specs.declared.sending.Sending.TheVariants.{Sends, Closes, Waits, Refused, Done}
 
@@ -21,3 +22,8 @@ GivesItem meaning is_no_memory output told = (given : Result (List ℕ) Error) �
 -- the same, where the end is told as none
 abbrev pub GivesItemOrEnd : {M E : Type 0} → (List ℕ → Option M) → (E → Type 0) → (E → Option (List ℕ)) → Result (Option M) Error → Type 0
 GivesItemOrEnd meaning is_no_memory output told = (given : Result (List ℕ) Error) × TellsItemOrEnd meaning is_no_memory output given told
+
+-- the value of the request with which a stream begins, or that its bytes mean none
+abbrev pub TellsRequest : {M E : Type 0} → (List ℕ → Option M) → (E → Type 0) → (E → Option (List ℕ)) → List ℕ → Result M Error → Type 0
+TellsRequest meaning is_no_memory output bytes (Ok m) = meaning bytes ≡ Some m
+TellsRequest meaning is_no_memory output bytes (Err e) = (e ≢ NoMemory → meaning bytes ≡ None) × TellsCause [] is_no_memory output e

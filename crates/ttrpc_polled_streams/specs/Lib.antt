@@ -1,4 +1,5 @@
 pub mod Closing
+pub mod Handling
 pub mod Items
 pub mod Needs
 pub mod Steps

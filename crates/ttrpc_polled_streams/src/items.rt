@@ -5,7 +5,7 @@ ghost use Rattle.futures.specs.Poll.{IfReady, OnPending};
 ghost use Rattle.futures.specs.Task.{Covers, Keeps};
 ghost use Rattle.ttrpc_proto.specs.declared.error.Error.{Error as AnError};
 ghost use Rattle.ttrpc_polled_streams.specs.Items.{GivesItem, GivesItemOrEnd, IsItemSent};
-ghost use Rattle.ttrpc_polled_streams.specs.Needs.{receiver_source};
+ghost use Rattle.ttrpc_polled_streams.specs.Needs.{receiver_source, sender_source};
 
 use crate::inner::StreamInner;
 use crate::line::StreamLine;
@@ -51,6 +51,14 @@ where
         ensures item { IsItemSent Q.written Q.meaning Q.E.is_no_memory Q.E.output req.now result.sending }
     {
         self.tx.sending(sending_of(self.tx.alloc(), req))
+    }
+
+    /// Steps a call that sends, for a state that keeps this sender: `sending_of` makes it of a message.
+    pub fn poll_sending(&self, sending: &mut Sending, cx: &mut Context<'_>) -> Poll<Result<()>>
+        ensures registered { OnPending result (Covers cx.new (λ s. s ≡ sender_source L.came self.now.tx)) }
+        ensures kept { Keeps cx.old cx.new }
+    {
+        self.tx.poll_sending(sending, cx)
     }
 
     /// Says that no more messages are sent.
@@ -153,6 +161,14 @@ where
         ensures item { IsItemSent P.written P.meaning P.E.is_no_memory P.E.output resp.now result.sending }
     {
         self.tx.sending(sending_of(self.tx.alloc(), resp))
+    }
+
+    /// Steps a call that sends, for a state that keeps this sender: `sending_of` makes it of a message.
+    pub fn poll_sending(&self, sending: &mut Sending, cx: &mut Context<'_>) -> Poll<Result<()>>
+        ensures registered { OnPending result (Covers cx.new (λ s. s ≡ sender_source L.came self.now.tx)) }
+        ensures kept { Keeps cx.old cx.new }
+    {
+        self.tx.poll_sending(sending, cx)
     }
 
     /// Another sender of the same stream.

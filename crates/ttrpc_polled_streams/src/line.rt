@@ -78,6 +78,11 @@ impl<K: Ord + Copy + Drop> StreamWakers<K> {
         }
     }
 
+    /// How many wait to receive.
+    pub fn receivers(&self) -> usize {
+        self.receivers.len()
+    }
+
     /// Wakes who receives from this stream.
     pub fn wake_receiver(&mut self, id: K) {
         self.receivers.wake(id);

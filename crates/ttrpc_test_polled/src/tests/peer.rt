@@ -119,7 +119,7 @@ impl Held for PeerHeld {
     ghost use Rattle.std.specs.Prelude.{⊤};
     ghost use Rattle.ttrpc_connection.specs.OneEnd.{lendable};
 
-    ghost takes = { λ _ _ _ _. ⊤ };
+    ghost takes = { λ _ _ _ _ _. ⊤ };
 
     ghost ends = { λ _ _. ⊤ };
 
@@ -131,7 +131,7 @@ impl Held for PeerHeld {
 
     ghost ticks = { λ _ _ _. ⊤ };
 
-    fn take(&mut self, alloc: Global, piece: &[u8]) -> Option<usize> {
+    fn take(&mut self, alloc: Global, piece: &[u8], _now: u64) -> Option<usize> {
         let count = self.core.feed(alloc, piece, 0).ok()?;
         self.serve(alloc);
         Some(count.min(piece.len()))

@@ -1,0 +1,346 @@
+//! Calls and streams whose values are messages.
+ghost use Rattle.std.specs.Prelude.{◌≡◌, IfErr, IfOk};
+ghost use Rattle.std.specs.Arc.{arc_value};
+ghost use Rattle.futures.specs.Poll.{IfReady, OnPending};
+ghost use Rattle.futures.specs.Task.{Covers, Keeps};
+ghost use Rattle.ttrpc_polled_streams.specs.Items.{GivesItemOrEnd};
+ghost use Rattle.ttrpc_polled_client.specs.Needs.{line_source};
+ghost use Rattle.ttrpc_polled_streams.specs.Needs.{receiver_source};
+
+use crate::client::Client;
+use crate::line::ClientLine;
+use crate::opening::ClientNewStream;
+use crate::request::ClientRequest;
+use futures::Future;
+use futures::task::{Context, Poll};
+use std::alloc::Global;
+use std::fmt::Display;
+use std::marker::PhantomData;
+use std::mem::replace;
+use ttrpc_codec::Codec;
+use ttrpc_message::calls::{merge_reply, request_of};
+use ttrpc_message::{Context as CallContext, to_pb};
+use ttrpc_polled::Timed;
+use ttrpc_polled_streams::{
+    ClientStream, ClientStreamSender, SSReceiver, SSReceiverRecv, StreamInner,
+};
+use ttrpc_proto::{Error, Request, RequestInit, Result};
+use ttrpc_secure::{InboundTransform, OutboundTransform};
+
+/// Where a call of a service's method is.
+#[derive(Drop)]
+enum Calling<O: OutboundTransform + Drop, I: InboundTransform + Drop, P> {
+    /// It waits for its response, whose payload goes into this value.
+    Waits(ClientRequest<O, I>, P),
+    /// It was refused before it was made.
+    Refused(Error),
+    /// Its outcome was given.
+    Done,
+}
+
+/// A call of a service's method. It is ready with the value of its response.
+#[derive(Drop)]
+pub struct ClientCall<O: OutboundTransform + Drop, I: InboundTransform + Drop, P> {
+    alloc: Global,
+    at: Calling<O, I, P>,
+}
+
+/// The call of a service's method with this value, as the context says; the payload of its response goes into `reply`. What
+/// refuses the request is the call's outcome.
+pub fn call_of<R, O, I, Q, P>(
+    client: &Client<R, O, I>,
+    service: &str,
+    method: &str,
+    context: CallContext,
+    message: &Q,
+    reply: P,
+) -> ClientCall<O, I, P>
+where
+    R: Timed,
+    O: OutboundTransform + Drop,
+    I: InboundTransform + Drop,
+    Q: Codec,
+    Q::E: Display + Drop,
+    P: Drop,
+{
+    let alloc = client.alloc();
+    let made = match request_of(alloc, service, method, context, message) {
+        Ok(request) => client.request(request),
+        Err(error) => Err(error),
+    };
+    let at = match made {
+        Ok(request) => Calling::Waits(request, reply),
+        Err(error) => Calling::Refused(error),
+    };
+    ClientCall { alloc, at }
+}
+
+impl<O, I, P> Future for ClientCall<O, I, P>
+where
+    O: OutboundTransform + Drop,
+    I: InboundTransform + Drop,
+    P: Codec + Drop,
+    P::E: Display + Drop,
+{
+    type Output = Result<P>;
+
+    ghost use Rattle.ttrpc_polled_client.specs.Needs.{calling_needs};
+
+    ghost needs = { λ call. calling_needs call.at };
+
+    fn poll(&mut self, cx: &mut Context<'_>) -> Poll<Result<P>> {
+        match replace(&mut self.at, Calling::Done) {
+            Calling::Waits(mut request, mut reply) => match request.poll(cx) {
+                Poll::Pending => {
+                    self.at = Calling::Waits(request, reply);
+                    Poll::Pending
+                }
+                Poll::Ready(Err(error)) => Poll::Ready(Err(error)),
+                Poll::Ready(Ok(response)) => {
+                    let merged = merge_reply(self.alloc, &mut reply, response.payload.as_slice());
+                    Poll::Ready(match merged {
+                        Ok(()) => Ok(reply),
+                        Err(error) => Err(error),
+                    })
+                }
+            },
+            Calling::Refused(error) => Poll::Ready(Err(error)),
+            Calling::Done => Poll::Ready(Err(Error::LocalClosed)),
+        }
+    }
+}
+
+/// What a stream that is open becomes.
+pub trait OfStream<R: Timed, O: OutboundTransform + Drop, I: InboundTransform + Drop>: Drop {
+    /// Over this stream of this client.
+    fn of_stream(inner: StreamInner<ClientLine<O, I>>, client: Client<R, O, I>) -> Self;
+}
+
+impl<R, O, I, Q, P> OfStream<R, O, I> for ClientStream<Q, P, ClientLine<O, I>>
+where
+    R: Timed,
+    O: OutboundTransform + Drop,
+    I: InboundTransform + Drop,
+    Q: Codec,
+    P: Codec,
+    Q::E: Display + Drop,
+    P::E: Display + Drop,
+{
+    fn of_stream(inner: StreamInner<ClientLine<O, I>>, _client: Client<R, O, I>) -> Self {
+        ClientStream::new(inner)
+    }
+}
+
+impl<R, O, I, Q, P> OfStream<R, O, I> for ClientStreamSender<Q, P, ClientLine<O, I>>
+where
+    R: Timed,
+    O: OutboundTransform + Drop,
+    I: InboundTransform + Drop,
+    Q: Codec,
+    P: Codec,
+    Q::E: Display + Drop,
+    P::E: Display + Drop,
+{
+    fn of_stream(inner: StreamInner<ClientLine<O, I>>, _client: Client<R, O, I>) -> Self {
+        ClientStreamSender::new(inner)
+    }
+}
+
+/// A stream of which only the server sends messages. It keeps its client, and so the connection.
+#[derive(Drop)]
+pub struct ClientStreamReceiver<
+    P,
+    R: Timed,
+    O: OutboundTransform + Drop,
+    I: InboundTransform + Drop,
+> {
+    rx: SSReceiver<P, ClientLine<O, I>>,
+    client: Client<R, O, I>,
+}
+
+impl<P, R, O, I> ClientStreamReceiver<P, R, O, I>
+where
+    R: Timed,
+    O: OutboundTransform + Drop,
+    I: InboundTransform + Drop,
+    P: Codec,
+    P::E: Display + Drop,
+{
+    /// The receiving half of this stream of this client; the other half is dropped.
+    pub fn new(inner: StreamInner<ClientLine<O, I>>, client: Client<R, O, I>) -> Self
+        ensures { (result.rx.rx ≡ inner.receiver) × (result.client ≡ client) }
+    {
+        ClientStreamReceiver {
+            rx: SSReceiver::new(inner),
+            client,
+        }
+    }
+
+    /// Receives the next message: none where the server closed. An error is another reason why there is none.
+    pub fn recv(&mut self) -> SSReceiverRecv<'_, P, ClientLine<O, I>> {
+        self.rx.recv()
+    }
+
+    /// The same, for a state that keeps this receiver.
+    pub fn poll_recv(&mut self, cx: &mut Context<'_>) -> Poll<Result<Option<P>>>
+        ensures item { IfReady result (GivesItemOrEnd P.meaning P.E.is_no_memory P.E.output) }
+        ensures registered { OnPending result (Covers cx.new (λ s. s ≡ receiver_source line_source self.new.rx.rx)) }
+        ensures same { self.new ≡ self.old }
+        ensures kept { Keeps cx.old cx.new }
+    {
+        self.rx.poll_recv(cx)
+    }
+}
+
+impl<R, O, I, P> OfStream<R, O, I> for ClientStreamReceiver<P, R, O, I>
+where
+    R: Timed,
+    O: OutboundTransform + Drop,
+    I: InboundTransform + Drop,
+    P: Codec,
+    P::E: Display + Drop,
+{
+    fn of_stream(inner: StreamInner<ClientLine<O, I>>, client: Client<R, O, I>) -> Self {
+        ClientStreamReceiver::new(inner, client)
+    }
+}
+
+/// Where a stream of a service is that is to be opened.
+#[derive(Drop)]
+enum OpeningAt<R: Timed, O: OutboundTransform + Drop, I: InboundTransform + Drop> {
+    /// It is opened as it is polled.
+    Opens(ClientNewStream<O, I>, Client<R, O, I>),
+    /// It was refused before.
+    Refused(Error),
+    /// It is open.
+    Done,
+}
+
+/// A stream of a service, which is opened as this is first polled. It is ready with the stream.
+#[derive(Drop)]
+pub struct ClientOpening<K, R: Timed, O: OutboundTransform + Drop, I: InboundTransform + Drop> {
+    at: OpeningAt<R, O, I>,
+    kind: PhantomData<K>,
+}
+
+/// The stream of this name of a service, which begins without a payload.
+pub fn open_of<K, R, O, I>(
+    client: &Client<R, O, I>,
+    service: &str,
+    stream: &str,
+    context: CallContext,
+    streaming_server: bool,
+) -> ClientOpening<K, R, O, I>
+where
+    R: Timed,
+    O: OutboundTransform + Drop,
+    I: InboundTransform + Drop,
+{
+    opening(
+        client,
+        bare_request(client.alloc(), service, stream, context),
+        true,
+        streaming_server,
+    )
+}
+
+/// The stream of this name of a service, of which this value is the client's one item.
+pub fn open_with<K, R, O, I, Q>(
+    client: &Client<R, O, I>,
+    service: &str,
+    stream: &str,
+    context: CallContext,
+    message: &Q,
+) -> ClientOpening<K, R, O, I>
+where
+    R: Timed,
+    O: OutboundTransform + Drop,
+    I: InboundTransform + Drop,
+    Q: Codec,
+    Q::E: Display + Drop,
+{
+    let request = request_of(client.alloc(), service, stream, context, message);
+    opening(client, request, false, true)
+}
+
+/// The stream that this request opens.
+fn opening<K, R, O, I>(
+    client: &Client<R, O, I>,
+    request: Result<Request>,
+    streaming_client: bool,
+    streaming_server: bool,
+) -> ClientOpening<K, R, O, I>
+where
+    R: Timed,
+    O: OutboundTransform + Drop,
+    I: InboundTransform + Drop,
+{
+    let at = match prepared(client, request, streaming_client, streaming_server) {
+        Ok((opens, client)) => OpeningAt::Opens(opens, client),
+        Err(error) => OpeningAt::Refused(error),
+    };
+    ClientOpening {
+        at,
+        kind: PhantomData,
+    }
+}
+
+fn prepared<R, O, I>(
+    client: &Client<R, O, I>,
+    request: Result<Request>,
+    streaming_client: bool,
+    streaming_server: bool,
+) -> Result<(ClientNewStream<O, I>, Client<R, O, I>)>
+where
+    R: Timed,
+    O: OutboundTransform + Drop,
+    I: InboundTransform + Drop,
+{
+    let opens = client.new_stream(request?, streaming_client, streaming_server)?;
+    Ok((opens, client.try_clone()?))
+}
+
+/// The request that opens a stream, without a payload.
+fn bare_request(
+    alloc: Global,
+    service: &str,
+    stream: &str,
+    context: CallContext,
+) -> Result<Request> {
+    let CallContext {
+        metadata,
+        timeout_nano,
+    } = context;
+    Ok(Request::init_request(
+        alloc,
+        String::from_str(alloc, service)?,
+        String::from_str(alloc, stream)?,
+        timeout_nano,
+        to_pb(alloc, metadata)?,
+    ))
+}
+
+impl<K, R, O, I> Future for ClientOpening<K, R, O, I>
+where
+    R: Timed,
+    O: OutboundTransform + Drop,
+    I: InboundTransform + Drop,
+    K: OfStream<R, O, I>,
+{
+    type Output = Result<K>;
+
+    fn poll(&mut self, cx: &mut Context<'_>) -> Poll<Result<K>> {
+        match replace(&mut self.at, OpeningAt::Done) {
+            OpeningAt::Opens(mut opens, client) => match opens.poll(cx) {
+                Poll::Pending => {
+                    self.at = OpeningAt::Opens(opens, client);
+                    Poll::Pending
+                }
+                Poll::Ready(Ok(inner)) => Poll::Ready(Ok(K::of_stream(inner, client))),
+                Poll::Ready(Err(error)) => Poll::Ready(Err(error)),
+            },
+            OpeningAt::Refused(error) => Poll::Ready(Err(error)),
+            OpeningAt::Done => Poll::Ready(Err(Error::LocalClosed)),
+        }
+    }
+}

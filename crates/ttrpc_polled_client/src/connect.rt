@@ -1,0 +1,77 @@
+//! A client that connects, and connections that a set of tasks polls.
+ghost use Rattle.std.specs.Prelude.{◌≡◌, IfErr, IfOk};
+ghost use Rattle.std.specs.Arc.{arc_value};
+
+use crate::client::Client;
+use crate::connection::TcpConnection;
+use futures::Future;
+use futures::executor::TaskSet;
+use futures::task::{Context, Poll};
+use tokio::runtime::Handle;
+use ttrpc_polled::{Socket, SocketConnect, Timed};
+use ttrpc_proto::{Error, Result};
+use ttrpc_secure::{InboundTransform, OutboundTransform, Plain};
+
+/// A client that connects. It is ready with the client, and the future of its connection, which is to be polled beside the
+/// client's calls.
+#[derive(Drop)]
+pub struct ClientConnect<R: Timed> {
+    rt: R,
+    handle: Handle,
+    connecting: SocketConnect,
+}
+
+impl<R: Timed> ClientConnect<R> {
+    /// Over the socket that is being connected.
+    pub(crate) fn new(rt: R, handle: &Handle, connecting: SocketConnect) -> Result<Self>
+        ensures { IfOk result (λ connect. connect.connecting ≡ connecting) }
+    {
+        Ok(ClientConnect {
+            rt,
+            handle: handle.clone()?,
+            connecting,
+        })
+    }
+}
+
+impl<R: Timed> Future for ClientConnect<R> {
+    type Output = Result<(Client<R, Plain, Plain>, TcpConnection<R, Plain, Plain>)>;
+
+    ghost use Rattle.ttrpc_polled.specs.Connecting.{ConnectingNeeds};
+
+    ghost needs = { λ f. ConnectingNeeds f.connecting.state };
+
+    fn poll(&mut self, cx: &mut Context<'_>) -> Poll<Self::Output> {
+        match self.connecting.poll(cx) {
+            Poll::Pending => Poll::Pending,
+            Poll::Ready(Err(error)) => Poll::Ready(Err(error)),
+            Poll::Ready(Ok(socket)) => Poll::Ready(self.client_of(socket)),
+        }
+    }
+}
+
+impl<R: Timed> ClientConnect<R> {
+    /// The client of this socket.
+    fn client_of(
+        &self,
+        socket: Socket,
+    ) -> Result<(Client<R, Plain, Plain>, TcpConnection<R, Plain, Plain>)> {
+        Client::new(self.rt.clone()?, &self.handle, socket)
+    }
+}
+
+/// What polls the futures of connections. A program whose tasks are an enum implements it for its set.
+pub trait Spawns<C: Future> {
+    /// Polls it from now on. An error is want of memory, or that nothing is polled any more; the future is dropped then.
+    fn spawn(&self, connection: C) -> Result<()>
+        requires { C.can_poll connection };
+}
+
+impl<C: Future<Output = ()>> Spawns<C> for TaskSet<C> {
+    fn spawn(&self, connection: C) -> Result<()> {
+        match TaskSet::spawn(self, connection) {
+            Ok(()) => Ok(()),
+            Err(_) => Err(Error::NoMemory),
+        }
+    }
+}
