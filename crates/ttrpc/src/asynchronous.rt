@@ -1,4 +1,40 @@
-//! What programs without threads of their own share. So far this is a shutdown.
+//! Client, server and streams that are polled, without threads of their own: each call, each stream and each connection is a
+//! future.
+pub use ttrpc_polled::Timed;
+pub use ttrpc_polled_client::{
+    Asked, Client, ClientCall, ClientConnect, ClientConnection, ClientLine, ClientNewStream,
+    ClientOpening, ClientRequest, ClientStreamReceiver, OfStream, Opening, Spawns, TcpConnection,
+    async_client_request, async_client_stream, async_client_stream_receive,
+    async_client_stream_send, call_of, open_of, open_with,
+};
+pub use ttrpc_polled_server::{
+    Disconnect, Ended, MethodHandler, NoHook, Server, ServerConnection, ServerShared, Service,
+    Serving, Settings, Shutdown, StopListen, StreamHandler, TcpServerConnection, TtrpcContext,
+    async_client_streamimg_handler, async_duplex_streamimg_handler, async_request_handler,
+    async_server_streamimg_handler,
+};
+pub use ttrpc_polled_streams::{
+    CSReceiver, CSReceiverRecv, CSSender, ClientStream, ClientStreamSender,
+    ClientStreamSenderCloseAndRecv, Closes, EndsBy, Handling, Kind, Responds, SSReceiver,
+    SSReceiverRecv, SSSender, Sending, ServerStream, ServerStreamOpening, ServerStreamReceiver,
+    ServerStreamSender, StreamInner, StreamLine, StreamReceiver, StreamReceiverRecv, StreamSender,
+    StreamSenderCloseSend, StreamSenderSend, Telling, sending_of,
+};
+
+/// The parts and kinds of streams.
+pub mod stream {
+    pub use ttrpc_polled_client::ClientStreamReceiver;
+    pub use ttrpc_polled_streams::{
+        CSReceiver, CSSender, ClientStream, ClientStreamSender, Kind, SSReceiver, SSSender,
+        ServerStream, ServerStreamReceiver, ServerStreamSender, StreamInner, StreamReceiver,
+        StreamSender,
+    };
+}
+
+/// Sockets of TCP that are polled.
+pub mod transport {
+    pub use ttrpc_polled::{Listener, Socket, SocketConnect};
+}
 
 /// A shutdown that threads share: who asks for it, who waits for it, and how many are left that wait.
 pub mod shutdown {

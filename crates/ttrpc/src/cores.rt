@@ -18,5 +18,5 @@ pub mod pool {
 
 /// One client and one server over two pipes.
 pub mod world {
-    pub use ttrpc_world::{Entry, Event, Reply, Side, Trace, World};
+    pub use ttrpc_world::{Entry, Event, Reply, Side, StreamEnd, Trace, World};
 }

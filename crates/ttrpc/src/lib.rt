@@ -15,6 +15,11 @@ pub mod sync;
 pub mod transport;
 pub mod wire;
 
+pub use asynchronous::{
+    async_client_request, async_client_stream, async_client_stream_receive,
+    async_client_stream_send, async_client_streamimg_handler, async_duplex_streamimg_handler,
+    async_request_handler, async_server_streamimg_handler,
+};
 pub use error::{Error, Result, err_to_others, get_status};
 pub use proto::{Code, MessageHeader, Request, Response, Status};
 pub use security_extension::{

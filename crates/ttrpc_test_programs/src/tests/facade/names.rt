@@ -72,3 +72,26 @@ pub mod drivers {
         parse_sockaddr, parse_vsock,
     };
 }
+
+/// Client, server and streams that are polled.
+pub mod polled {
+    pub use ttrpc::asynchronous::stream::{
+        CSReceiver as ByteReceiver, ClientStream as ByteStream, StreamInner as Inner,
+    };
+    pub use ttrpc::asynchronous::transport::{Listener, Socket};
+    pub use ttrpc::asynchronous::{
+        CSReceiver, CSSender, Client, ClientCall, ClientConnect, ClientConnection, ClientLine,
+        ClientNewStream, ClientOpening, ClientRequest, ClientStream, ClientStreamReceiver,
+        ClientStreamSender, ClientStreamSenderCloseAndRecv, Closes, Disconnect, EndsBy, Handling,
+        Kind, MethodHandler, NoHook, Responds, SSReceiver, SSSender, Server, ServerConnection,
+        ServerShared, ServerStream, ServerStreamOpening, ServerStreamReceiver, ServerStreamSender,
+        Service, Serving, Settings, Shutdown, Spawns, StopListen, StreamHandler, StreamInner,
+        StreamLine, StreamReceiver, StreamReceiverRecv, StreamSender, StreamSenderCloseSend,
+        StreamSenderSend, TcpConnection, TcpServerConnection, Timed, TtrpcContext,
+    };
+    pub use ttrpc::{
+        async_client_request, async_client_stream, async_client_stream_receive,
+        async_client_stream_send, async_client_streamimg_handler, async_duplex_streamimg_handler,
+        async_request_handler, async_server_streamimg_handler,
+    };
+}

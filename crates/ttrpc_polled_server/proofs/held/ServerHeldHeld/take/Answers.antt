@@ -1,0 +1,12 @@
+use Rattle.std.proofs.Common.{rules, refl}
+use Rattle.ttrpc_polled_server.proofs.held.ServerHeldHeld.take.Goals as goal
+
+pub returns-clause-takes : goal.returns-clause-takes
+returns-clause-takes g c =
+    record {
+      fed = c.take_on.new.core;
+      answer = c.take_on.result;
+      takes = c.take_on.ensures;
+      counted = rw c.in-Ok.is refl;
+      told = rw c.in-Ok.is (search rules);
+    }

@@ -1,0 +1,33 @@
+-- What runs for a job.
+-- Source: this project's.
+use Rattle.std.specs.Prelude.{◌≡◌, ◌⊎◌, ℕ, Option, Result}
+use Rattle.ttrpc_proto.specs.declared.error.Error.{Error}
+use Rattle.ttrpc_proto.specs.declared.response.Response.{Response}
+use Rattle.ttrpc_polled_server.specs.declared.ended.Ended.{Ended}
+use Rattle.ttrpc_polled_server.specs.declared.ended.Ended.TheVariants.{Answers, Ends, Expired}
+use Rattle.ttrpc_polled_server.specs.declared.running.Handled.{Handled}
+use Rattle.ttrpc_polled_server.specs.declared.running.Handled.TheVariants.{Method, Stream}
+
+-- the handler may be polled
+abbrev pub HandledCanPoll : {F G : Type 0} → (F → Type 0) → (G → Type 0) → Handled F G → Type 0
+HandledCanPoll method stream (Method call) = method call
+HandledCanPoll method stream (Stream call) = stream call
+
+-- it waits for what the handler waits for
+abbrev pub HandledNeeds : {F G : Type 0} → (F → ℕ → Type 0) → (G → ℕ → Type 0) → Handled F G → ℕ → Type 0
+HandledNeeds method stream (Method call) s = method call s
+HandledNeeds method stream (Stream call) s = stream call s
+
+-- it ends by what its own handler gave
+abbrev pub HandledGives : {F G : Type 0} → (F → Result Response Error → Type 0) → (G → Result (Option Response) Error → Type 0) → Handled F G → Ended → Type 0
+HandledGives method stream (Method call) (Answers answer) = method call answer
+HandledGives method stream (Method call) (Ends end) = ⊥
+HandledGives method stream (Method call) Expired = ⊥
+HandledGives method stream (Stream call) (Answers answer) = ⊥
+HandledGives method stream (Stream call) (Ends end) = stream call end
+HandledGives method stream (Stream call) Expired = ⊥
+
+-- its own job's number is given, with what its own handler gave, or with that the job had expired
+pub record RunningGives {F G : Type 0} (method : F → Result Response Error → Type 0) (stream : G → Result (Option Response) Error → Type 0) (id : ℕ) (handled : Handled F G) (given : ℕ × Ended) : Type 0 where
+  pub own : given.0 ≡ id
+  pub ended : HandledGives method stream handled given.1 ⊎ (given.1 ≡ Expired)

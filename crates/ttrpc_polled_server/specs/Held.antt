@@ -1,0 +1,41 @@
+-- What the future of a server's connection does to its core, under the lock.
+-- Source: this project's.
+use Rattle.std.specs.Prelude.{◌≡◌, ℕ, List, [], Option, Result, is_ok, if◌then◌else◌}
+use Rattle.std.specs.Result.{result_ok}
+use Rattle.std.specs.declared.io.ErrorKind.{ErrorKind}
+use Rattle.ttrpc_proto.specs.declared.error.Error.{Error}
+use Rattle.ttrpc_proto.specs.declared.error.Error.TheVariants.{Nix}
+use Rattle.ttrpc_secure.specs.declared.transform.InboundTransform.{Ghosts as InboundTransform}
+use Rattle.ttrpc_secure.specs.declared.transform.OutboundTransform.{Ghosts as OutboundTransform}
+use Rattle.ttrpc_connection.specs.declared.failure.Failure.TheVariants.{Told}
+use Rattle.ttrpc_connection.specs.OneEnd.{Lends, TakesOrDrains, failing, lending, reporting}
+use Rattle.ttrpc_server.specs.declared.server.ServerCore.{ServerCore}
+use Rattle.ttrpc_server.specs.Protocol.{Passes, serving}
+
+-- the core once it has told of all streams for which something came
+abbrev pub all_told : {O I : Type 0} → ServerCore O I → ServerCore O I
+all_told core = record core { state = record core.state { heard = [] } }
+
+-- A piece was fed to the core at a moment, and taken, or where no count is given in vain: the connection has failed. Where it was
+-- taken, the core has told of all that came of it.
+pub record TakesPiece {O I : Type 0} (seals : OutboundTransform O) (opens : InboundTransform I) (old : ServerCore O I) (piece : List ℕ) (now : ℕ) (count : Option ℕ) (new : ServerCore O I) : Type 0 where
+  pub fed : ServerCore O I
+  pub answer : Result ℕ Error
+  pub takes : TakesOrDrains (serving seals opens) old.state old.connection piece now answer fed.state fed.connection
+  pub counted : count ≡ result_ok answer
+  pub told : new ≡ (if is_ok answer then all_told fed else fed)
+
+-- the core once a reader or a writer has failed by an error of this kind
+abbrev pub broken : {O I : Type 0} → ServerCore O I → ErrorKind → ServerCore O I
+broken core kind = record core { connection = failing core.connection (Told (Nix kind)) }
+
+-- So many bytes were lent, and reported as written.
+pub record LendsAndReports {O I : Type 0} (old : ServerCore O I) (before : List ℕ) (count : ℕ) (after : List ℕ) (new : ServerCore O I) : Type 0 where
+  pub lends : Lends old.connection before count after
+  pub reported : new ≡ record old { connection = reporting (lending old.connection count) count }
+
+-- A moment came, and the core has told of the jobs that expired.
+pub record TicksAndTells {O I : Type 0} (seals : OutboundTransform O) (old : ServerCore O I) (now : ℕ) (new : ServerCore O I) : Type 0 where
+  pub ticked : ServerCore O I
+  pub passes : Passes seals old.state.rules old.connection.failure old now ticked
+  pub told : new ≡ record ticked { state = record ticked.state { expired = [] } }

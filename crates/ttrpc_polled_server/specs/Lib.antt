@@ -1,0 +1,7 @@
+pub mod Built
+pub mod Handling
+pub mod Held
+pub mod Needs
+pub mod Served
+pub mod Steps
+pub mod Stopping

@@ -1,0 +1,39 @@
+-- For what the futures of a server wait.
+-- Source: this project's.
+use Rattle.std.specs.Prelude.{◌≡◌, ◌⊎◌, ◌<◌, ℕ, true, false}
+use Rattle.std.specs.Arc.{arc_value}
+use Rattle.futures.specs.Queued.{AllPollable, set_len, set_places}
+use Rattle.tokio.specs.Net.{listener_readable}
+use Rattle.tokio.specs.Timers.{sleep_source}
+use Rattle.ttrpc_polled.specs.Needs.{LinkNeeds}
+use Rattle.ttrpc_polled_server.specs.Handling.{HandledCanPoll}
+use Rattle.ttrpc_polled_server.specs.declared.connection.ServerConnection.{ServerConnection}
+use Rattle.ttrpc_polled_server.specs.declared.running.Running.{Running}
+use Rattle.ttrpc_polled_server.specs.declared.serving.Serving.{Serving}
+use Rattle.ttrpc_polled_server.specs.declared.shared.ServerShared.{ServerShared}
+
+-- the source at which a connection waits for something to write
+abbrev pub asked_source : {O I : Type 0} → ServerShared O I → ℕ
+asked_source shared = shared.asked.id
+
+module _ {R M T S W O I F G : Type 0} where
+  -- each handler that runs may be polled
+  abbrev pub CanPoll : (F → Type 0) → (G → Type 0) → ServerConnection R M T S W O I F G → Type 0
+  CanPoll method stream c = AllPollable (λ (r : Running F G O I). HandledCanPoll method stream r.handled) (set_places c.jobs)
+
+  -- It waits to be told that it is to end, or, once it was told, for the end of its time.
+  abbrev pub EndNeeds : ServerConnection R M T S W O I F G → ℕ → Type 0
+  EndNeeds c s = ((c.is_ending ≡ false) × (s ≡ (arc_value c.seat.stop).told.id)) ⊎ ((c.is_ending ≡ true) × (s ≡ sleep_source c.grace.sleep))
+
+  -- It waits for its handlers, where some run, for what its link waits for, unless that is over, and for its end.
+  abbrev pub ConnectionNeeds : (S → ℕ → Type 0) → (W → ℕ → Type 0) → ServerConnection R M T S W O I F G → ℕ → Type 0
+  ConnectionNeeds reads writes c s = ((0 < set_len c.jobs) × (s ≡ c.jobs.tasks.source.id))
+      ⊎ ((c.is_over ≡ false) × LinkNeeds reads writes asked_source c.link s)
+      ⊎ EndNeeds c s
+
+-- Whoever accepts connections waits to be told to stop, and for a connection, or behind a fault for the end of a rest or of a
+-- connection.
+abbrev pub ServingNeeds : {R M T A : Type 0} → Serving R M T A → ℕ → Type 0
+ServingNeeds v s = (s ≡ (arc_value v.with.stop).told.id)
+    ⊎ ((v.rests ≡ false) × (s ≡ listener_readable v.listener.listener))
+    ⊎ ((v.rests ≡ true) × ((s ≡ (arc_value v.with.stop).left.id) ⊎ (s ≡ sleep_source v.rest.sleep)))

@@ -1,0 +1,46 @@
+//! How a handler ended.
+ghost use Rattle.std.specs.Prelude.{◌≡◌};
+ghost use Rattle.ttrpc_polled_server.specs.Steps.{IsEnded};
+
+use std::alloc::Global;
+use ttrpc_proto::{Error, Response, Result};
+use ttrpc_secure::{InboundTransform, OutboundTransform};
+use ttrpc_server::{JobId, ServerCore};
+
+/// How a handler ended, by which the core call is named that tells of it.
+#[derive(Debug, Drop)]
+pub enum Ended {
+    /// It answered a request: `answer`.
+    Answers(Result<Response>),
+    /// It ended a stream: `end_stream`.
+    Ends(Result<Option<Response>>),
+    /// It was dropped, since its job had expired: no call.
+    Expired,
+}
+
+impl Ended {
+    /// Makes the one core call for the job of this number. A refusal changes nothing.
+    pub fn step<O: OutboundTransform + Drop, I: InboundTransform + Drop>(
+        &self,
+        alloc: Global,
+        core: &mut ServerCore<O, I>,
+        id: JobId,
+    ) -> Result<()>
+        ensures { IsEnded O.OutboundTransform core.old id self.now result core.new }
+    {
+        match self {
+            Ended::Answers(response) => core.answer(alloc, id, response),
+            Ended::Ends(end) => core.end_stream(alloc, id, end),
+            Ended::Expired => Ok(()),
+        }
+    }
+
+    /// The same handler's end, by an error in the place of what it gave.
+    pub fn failed(&self, error: Error) -> Ended {
+        match self {
+            Ended::Answers(_) => Ended::Answers(Err(error)),
+            Ended::Ends(_) => Ended::Ends(Err(error)),
+            Ended::Expired => Ended::Expired,
+        }
+    }
+}

@@ -1,0 +1,94 @@
+//! What handles requests and streams.
+ghost use Rattle.std.specs.Prelude.{◌≡◌, ℕ, List, IfErr, IfOk};
+ghost use Rattle.std.specs.Arc.{arc_value};
+ghost use Rattle.ttrpc_message.specs.Metadata.{seen, some_texts, texts_of, values_at};
+
+use futures::Future;
+use std::alloc::Global;
+use std::collections::BTreeMap;
+use std::fmt;
+use std::sync::Arc;
+use ttrpc_frame::MessageHeader;
+use ttrpc_message::from_pb;
+use ttrpc_polled_streams::{StreamInner, StreamLine};
+use ttrpc_proto::{Error, Request, Response, Result};
+use ttrpc_secure::ConnectionData;
+
+/// What a handler is handed beside the request or the stream.
+#[derive(Drop)]
+pub struct TtrpcContext {
+    alloc: Global,
+    /// The header of the request's frame.
+    pub mh: MessageHeader,
+    /// What goes with the request: texts under keys.
+    pub metadata: BTreeMap<String, Vec<String>>,
+    /// How long the client waits for the response, in nanoseconds; 0 for no limit.
+    pub timeout_nano: i64,
+    /// What is known of the connection.
+    pub connection_data: Arc<ConnectionData, Global>,
+}
+
+impl TtrpcContext {
+    /// The context of a request with this header, on a connection of which this is known.
+    pub(crate) fn new(
+        alloc: Global,
+        mh: MessageHeader,
+        request: &Request,
+        known: &Arc<ConnectionData, Global>,
+    ) -> Result<TtrpcContext>
+        // It has the header, what the request says and what is known.
+        ensures header { IfOk result (λ context. context.mh ≡ mh) }
+        ensures metadata { IfOk result (λ context. (key : List ℕ)
+            → texts_of (seen context.metadata.entries) key ≡ some_texts (values_at request.now.metadata key)) }
+        ensures timeout { IfOk result (λ context. context.timeout_nano ≡ request.now.timeout_nano) }
+        ensures known { IfOk result (λ context. arc_value context.connection_data ≡ arc_value known.now) }
+        // An error is want of memory.
+        ensures only_memory { IfErr result (λ e. e ≡ Error.NoMemory) }
+    {
+        Ok(TtrpcContext {
+            alloc,
+            mh,
+            metadata: from_pb(alloc, request.metadata.as_slice())?,
+            timeout_nano: request.timeout_nano,
+            connection_data: Arc::try_clone(known)?,
+        })
+    }
+
+    /// The allocator of handlers.
+    pub fn alloc(&self) -> Global {
+        self.alloc
+    }
+}
+
+/// What the request says; the connection isn't shown.
+impl fmt::Debug for TtrpcContext {
+    fn fmt<W: fmt::Write>(&self, f: &mut fmt::Formatter<W>) -> fmt::Result {
+        f.debug_struct("TtrpcContext")
+            .field("mh", &self.mh)
+            .field("metadata", &self.metadata)
+            .field("timeout_nano", &self.timeout_nano)
+            .finish_non_exhaustive()
+    }
+}
+
+/// Handles the requests of a method.
+pub trait MethodHandler: Drop {
+    /// A request that is being handled. It gives the response, or an error, of which the client is told by a status of code
+    /// UNKNOWN and its text. Once the request's deadline has passed it is dropped.
+    type Call: Future<Output = Result<Response>>;
+
+    /// Begins to handle a request. What it does before it returns holds up the whole connection.
+    fn handler(&self, ctx: TtrpcContext, req: Request) -> Self::Call
+        ensures { Self.Call.can_poll result };
+}
+
+/// Handles the streams of a name.
+pub trait StreamHandler<L: StreamLine>: Drop {
+    /// A stream that is being handled. What it gives ends the stream: a response, `None` for a frame that closes it, or an
+    /// error, of which the client is told by a status of code UNKNOWN and its text.
+    type Call: Future<Output = Result<Option<Response>>>;
+
+    /// Begins to handle a stream.
+    fn handler(&self, ctx: TtrpcContext, stream: StreamInner<L>) -> Self::Call
+        ensures { Self.Call.can_poll result };
+}

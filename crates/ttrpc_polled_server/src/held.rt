@@ -1,0 +1,233 @@
+//! What stands under the lock of a server's connection.
+ghost use Rattle.std.specs.Prelude.{◌≡◌, [], true};
+ghost use Rattle.futures.specs.Poll.{OnPending};
+ghost use Rattle.futures.specs.Task.{Covers, Keeps};
+ghost use Rattle.ttrpc_proto.specs.declared.error.Error.{Error as AnError};
+ghost use Rattle.ttrpc_connection.specs.OneEnd.{failing};
+ghost use Rattle.ttrpc_connection.specs.declared.failure.Failure.{Failure as AFailure};
+ghost use Rattle.ttrpc_server.specs.Streaming.{unheard};
+
+use crate::ended::Ended;
+use futures::task::{Context, Poll, Source, Waker};
+use std::alloc::Global;
+use std::io::ErrorKind;
+use ttrpc_polled::{Held, Wakers};
+use ttrpc_polled_streams::{Sending, StreamWakers};
+use ttrpc_proto::{Error, Result};
+use ttrpc_secure::{InboundTransform, OutboundTransform};
+use ttrpc_server::server_on::{broke_on, ended_on, lend_on, take_on, wrote_on};
+use ttrpc_server::{Job, JobId, ServerCore};
+use ttrpc_wire::Blob;
+
+/// The core of a server, and the wakers of those who wait for what it tells.
+#[derive(Drop)]
+pub struct ServerHeld<O, I> {
+    pub core: ServerCore<O, I>,
+    alloc: Global,
+    running: Wakers<JobId>,
+    streams: StreamWakers<JobId>,
+    pub input_ended: bool,
+    pub driver: Option<Waker>,
+}
+
+impl<O: OutboundTransform + Drop, I: InboundTransform + Drop> ServerHeld<O, I> {
+    /// This core, for which nobody waits.
+    pub fn new(alloc: Global, core: ServerCore<O, I>) -> Self
+        ensures { result.core ≡ core }
+    {
+        ServerHeld {
+            core,
+            alloc,
+            running: Wakers::new(alloc),
+            streams: StreamWakers::new(alloc),
+            input_ended: false,
+            driver: None,
+        }
+    }
+
+    /// Tells the core how the handler of a job ended. Where what it gave can't be sent, the client is told why by a status,
+    /// and where that can't be sent either the connection fails, so that the client doesn't wait for ever.
+    pub fn end(&mut self, id: JobId, ended: &Ended) {
+        let Err(refusal) = ended.step(self.alloc, &mut self.core, id) else {
+            return;
+        };
+        // A job that has expired is no more to be answered.
+        if self.core.stream_of(id).is_none() {
+            return;
+        }
+        let told = ended.failed(refusal);
+        if let Err(refusal) = told.step(self.alloc, &mut self.core, id) {
+            self.core.fail(refusal);
+            self.wake_all();
+        }
+    }
+
+    /// Waits until the job of this number has expired.
+    pub fn poll_expired(&mut self, id: JobId, came: &Source, cx: &mut Context<'_>) -> Poll<()>
+        ensures registered { OnPending result (Covers cx.new (λ s. s ≡ came.now.id)) }
+        ensures kept { Keeps cx.old cx.new }
+    {
+        if self.core.stream_of(id).is_none() {
+            return Poll::Ready(());
+        }
+        self.running.wait(id, came, cx)
+    }
+
+    /// Steps a call that sends on a stream.
+    pub fn poll_sending(
+        &mut self,
+        id: JobId,
+        sending: &mut Sending,
+        came: &Source,
+        cx: &mut Context<'_>,
+    ) -> Poll<Result<()>>
+        ensures registered { OnPending result (Covers cx.new (λ s. s ≡ came.now.id)) }
+        ensures kept { Keeps cx.old cx.new }
+    {
+        let (alloc, core) = (self.alloc, &mut self.core);
+        self.streams
+            .poll_sending_on(alloc, core, id, sending, came, cx)
+    }
+
+    /// Receives from a stream.
+    pub fn poll_receiving(
+        &mut self,
+        id: JobId,
+        came: &Source,
+        cx: &mut Context<'_>,
+    ) -> Poll<Result<Blob>>
+        ensures registered { OnPending result (Covers cx.new (λ s. s ≡ came.now.id)) }
+        ensures kept { Keeps cx.old cx.new }
+    {
+        let (alloc, core) = (self.alloc, &mut self.core);
+        self.streams.poll_receiving_on(alloc, core, id, came, cx)
+    }
+
+    /// Nobody receives from a stream any more.
+    pub fn drop_receiver(&mut self, id: JobId)
+        ensures { self.new.core ≡ unheard self.old.core id }
+    {
+        self.core.drop_receiver(id);
+        self.streams.wake_receiver(id);
+    }
+
+    /// Whether the input has ended and nothing more comes of what it brought: everything was written, and each of so many
+    /// handlers waits for an item that won't come.
+    pub fn is_answered(&self, running: usize) -> bool {
+        self.input_ended && !self.core.has_unsent() && running <= self.streams.receivers()
+    }
+
+    /// Tells the core that the input ended, once nothing more comes of what it brought.
+    pub fn finish_input(&mut self) {
+        ended_on(&mut self.core);
+        self.wake_all();
+    }
+
+    /// Nobody is left who would read and write: the connection fails, if it hasn't.
+    pub fn abandon(&mut self)
+        ensures { self.new.core ≡ record self.old.core { connection = failing self.old.core.connection (AFailure.Told AnError.LocalClosed) } }
+    {
+        self.core.fail(Error::LocalClosed);
+        self.wake_all();
+    }
+
+    /// Wakes everybody, once the connection has failed.
+    fn wake_if_failed(&mut self)
+        ensures { self.new.core ≡ self.old.core }
+    {
+        if self.core.has_failed() {
+            self.wake_all();
+        }
+    }
+
+    fn wake_all(&mut self)
+        ensures { self.new.core ≡ self.old.core }
+    {
+        self.running.wake_all();
+        self.streams.wake_all();
+    }
+
+    /// Wakes those whose job has expired.
+    fn wake_expired(&mut self)
+        ensures { self.new.core ≡ record self.old.core { state = record self.old.core.state { expired = [] } } }
+    {
+        while let Some(id) = self.core.next_expired() {
+            self.running.wake(id);
+        }
+    }
+
+    /// Wakes those who receive from streams for which something came.
+    fn wake_heard(&mut self)
+        ensures { self.new.core ≡ record self.old.core { state = record self.old.core.state { heard = [] } } }
+    {
+        while let Some(id) = self.core.next_heard() {
+            self.streams.wake_receiver(id);
+        }
+    }
+}
+
+impl<O: OutboundTransform + Drop, I: InboundTransform + Drop> Held for ServerHeld<O, I> {
+    ghost use Rattle.std.specs.Prelude.{◌≡◌, true};
+    ghost use Rattle.ttrpc_connection.specs.OneEnd.{lendable};
+    ghost use Rattle.ttrpc_polled_server.specs.Held.{LendsAndReports, TakesPiece, TicksAndTells, broken};
+
+    ghost takes = { λ old piece now count new. TakesPiece O.OutboundTransform I.InboundTransform old.core piece now count new.core };
+
+    // The core isn't told yet: what came before is still answered.
+    ghost ends = { λ old new. new ≡ record old { input_ended = true } };
+
+    ghost breaks = { λ old kind new. new.core ≡ broken old.core kind };
+
+    ghost lends = { λ old before count after new. LendsAndReports old.core before count after new.core };
+
+    ghost lendable = { λ held. lendable held.core.connection };
+
+    ghost ticks = { λ old now new. TicksAndTells O.OutboundTransform old.core now new.core };
+
+    fn take(&mut self, alloc: Global, piece: &[u8], now: u64) -> Option<usize> {
+        let Ok(count) = take_on(&mut self.core, alloc, piece, now) else {
+            self.wake_all();
+            return None;
+        };
+        self.wake_heard();
+        Some(count)
+    }
+
+    fn ended(&mut self) {
+        self.input_ended = true;
+    }
+
+    fn broke(&mut self, kind: ErrorKind) {
+        broke_on(&mut self.core, kind);
+        self.wake_all();
+    }
+
+    fn lendable(&self) -> usize {
+        self.core.lendable()
+    }
+
+    fn lend(&mut self, buffer: &mut [u8]) -> usize {
+        let count = lend_on(&mut self.core, buffer);
+        wrote_on(&mut self.core, count);
+        self.streams.wake_sent(self.alloc, &self.core);
+        count
+    }
+
+    fn tick(&mut self, now: u64) {
+        self.core.tick(self.alloc, now);
+        self.wake_expired();
+        self.wake_if_failed();
+    }
+
+    fn next_deadline(&self) -> Option<u64> {
+        self.core.next_deadline()
+    }
+
+    fn has_failed(&self) -> bool {
+        self.core.has_failed()
+    }
+
+    fn driver(&mut self) -> &mut Option<Waker> {
+        &mut self.driver
+    }
+}

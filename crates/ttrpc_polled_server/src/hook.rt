@@ -1,0 +1,54 @@
+//! Whether a hook accepts a connection, and its time limit.
+ghost use Rattle.std.specs.Prelude.{◌≡◌, ◌⊎◌, Err, IfErr};
+ghost use Rattle.std.specs.declared.io.Error.{Error as IoError};
+
+use std::alloc::Global;
+use std::io;
+use std::time::Clock;
+use ttrpc_polled::moment;
+use ttrpc_proto::Error;
+use ttrpc_secure::{AcceptHook, HookError, HookOutput, Plain, hook_result};
+
+/// The hook of a server that has none: it lets every connection pass as it is.
+#[derive(Clone, Copy, Debug)]
+pub struct NoHook {}
+
+impl<S> AcceptHook<S> for NoHook {
+    ghost use Rattle.std.specs.Prelude.{◌≡◌, []};
+    ghost use Rattle.std.specs.Result.{IsOkAnd};
+
+    type Outbound = Plain;
+
+    type Inbound = Plain;
+
+    ghost gives = { λ _ _ result. IsOkAnd result (λ output. output.connection_data.entries ≡ []) };
+
+    fn on_accept(&self, alloc: Global, _stream: &S) -> Result<HookOutput<Plain, Plain>, HookError> {
+        Ok(HookOutput::of_halves(alloc, Plain {}, Plain {}))
+    }
+}
+
+/// What the hook gives for a connection, if it does so in time by this clock, or else `Timeout`. A clock that can't be read is
+/// `Io`.
+pub fn admit<C: Clock, S, A: AcceptHook<S>>(
+    clock: &C,
+    alloc: Global,
+    hook: &A,
+    stream: &S,
+) -> Result<HookOutput<A::Outbound, A::Inbound>, HookError>
+    ensures { A.gives hook.now stream.now result ⊎ (result ≡ Err HookError.Timeout) ⊎ ((e : IoError) × (result ≡ Err (HookError.Io e))) }
+{
+    let started = read_clock(clock)?;
+    let hooked = hook.on_accept(alloc, stream);
+    hook_result(started, read_clock(clock)?, hooked)
+}
+
+fn read_clock<C: Clock>(clock: &C) -> Result<u64, HookError>
+    ensures { IfErr result (λ error. (e : IoError) × (error ≡ HookError.Io e)) }
+{
+    match moment(clock) {
+        Ok(now) => Ok(now),
+        Err(Error::Nix(kind)) => Err(HookError::Io(io::Error::from(kind))),
+        Err(_) => unreachable!(),
+    }
+}

@@ -1,0 +1,31 @@
+//! The server whose connections and handlers are polled.
+#![tactic(auto)]
+
+mod connection;
+mod ended;
+mod handler;
+mod held;
+mod hook;
+mod macros;
+mod running;
+mod server;
+mod services;
+mod serving;
+mod settings;
+mod shared;
+mod stop;
+
+pub use connection::ServerConnection;
+pub use ended::Ended;
+pub use handler::{MethodHandler, StreamHandler, TtrpcContext};
+pub use held::ServerHeld;
+pub use hook::{NoHook, admit};
+pub use running::{Handled, Running};
+pub use server::Server;
+pub use services::{Service, Services};
+pub use serving::{Serving, TcpServerConnection};
+pub use settings::Settings;
+pub use shared::ServerShared;
+pub use stop::{Disconnect, Seat, Shutdown, Stop, StopListen};
+pub use ttrpc_message::decode_request;
+pub use ttrpc_polled_streams::{Handling, ServerStream, ServerStreamOpening, ServerStreamReceiver};

@@ -1,0 +1,313 @@
+//! The server.
+ghost use Rattle.std.specs.Prelude.{◌≡◌, ◌⊎◌, IfErr, IfOk, IsSome, OnErr, OnOk, Ok, None, Some, true};
+ghost use Rattle.std.specs.Arc.{arc_value};
+ghost use Rattle.ttrpc_polled.specs.Sockets.{IsNoTcp};
+ghost use Rattle.ttrpc_polled.specs.declared.listener.Listener.{Listener as AListener};
+ghost use Rattle.ttrpc_polled_server.specs.Built.{Adds, IsLack, IsNewServer, IsNotAdded, IsNotStarted, listening, silent, with_listener};
+ghost use Rattle.ttrpc_polled_server.specs.Needs.{CanPoll};
+ghost use Rattle.ttrpc_proto.specs.declared.error.Error.TheVariants.{NoMemory};
+ghost use Rattle.ttrpc_transport.specs.Sockets.{IsFault};
+
+use crate::connection::ServerConnection;
+use crate::handler::{MethodHandler, StreamHandler};
+use crate::hook::NoHook;
+use crate::services::{Service, Services};
+use crate::serving::{Service as Served, Serving};
+use crate::settings::{Settings, unbound_error};
+use crate::shared::ServerShared;
+use crate::stop::{Disconnect, Shutdown, Stop, StopListen};
+use std::alloc::Global;
+use std::collections::BTreeMap;
+use std::marker::Model;
+use std::net::{Net, SocketAddr};
+use std::sync::Arc;
+use std::time::Duration;
+use tokio::io::{AsyncRead, AsyncWrite};
+use tokio::runtime::Handle;
+use ttrpc_polled::{Alarm, Listener, Timed};
+use ttrpc_proto::{Error, Result};
+use ttrpc_secure::{HookOutput, InboundTransform, OutboundTransform};
+
+/// A server whose connections are polled, which contracts see as what it was built with: its settings, its listener, its services
+/// and its hook.
+#[derive(Drop)]
+pub struct Server<R: Timed, M: Drop, T: Drop, A: Drop = NoHook> {
+    rt: R,
+    handle: Handle,
+    settings: Settings,
+    listener: Option<Listener>,
+    services: Arc<Services<M, T>, Global>,
+    hook: Arc<A, Global>,
+    stop: Arc<Stop, Global>,
+}
+
+impl<R: Timed, M: Drop, T: Drop, A: Drop> Model for Server<R, M, T, A> {
+    ghost use Rattle.std.specs.Arc.{arc_value};
+    ghost use Rattle.ttrpc_polled_server.specs.Built.{Built};
+
+    ghost Value = { Built M T A };
+
+    ghost view = { λ server. record {
+      settings = server.settings;
+      listener = server.listener;
+      services = arc_value server.services;
+      hook = arc_value server.hook;
+    } };
+}
+
+impl<R: Timed, M: Drop, T: Drop> Server<R, M, T, NoHook> {
+    /// A server without services and without a listener, whose sockets and timers are those of this runtime.
+    pub fn new(rt: R, handle: &Handle) -> Result<Server<R, M, T, NoHook>>
+        ensures new { IfOk result IsNewServer }
+        ensures err { IfErr result (λ e. e ≡ NoMemory) }
+    {
+        let alloc = rt.alloc();
+        Ok(Server {
+            handle: handle.clone()?,
+            settings: Settings::new(),
+            listener: None,
+            services: Arc::new(alloc, Services::new(alloc))?,
+            hook: Arc::new(alloc, NoHook {})?,
+            stop: Arc::new(alloc, Stop::new(alloc)?)?,
+            rt,
+        })
+    }
+}
+
+impl<R: Timed, M: MethodHandler, T: Drop, A: Drop> Server<R, M, T, A> {
+    /// A connection over any reader and writer, with what a hook gave: a future that is to be polled. It ends with the others
+    /// of this server. From here on its services are fixed.
+    pub fn over<S, W, O, I>(
+        &mut self,
+        reader: S,
+        writer: W,
+        output: HookOutput<O, I>,
+    ) -> Result<ServerConnection<R, M, T, S, W, O, I>>
+    where
+        S: AsyncRead,
+        W: AsyncWrite,
+        O: OutboundTransform + Drop,
+        I: InboundTransform + Drop,
+        T: StreamHandler<ServerShared<O, I>>,
+        ensures can { IfOk result (CanPoll M.Call.Future.can_poll T.Call.Future.can_poll) }
+        ensures fixed { self.new ≡ record self.old { settings = record self.old.settings { is_fixed = true } } }
+    {
+        self.settings.is_fixed = true;
+        self.served()?.open(reader, writer, output)
+    }
+}
+
+impl<R: Timed, M: Drop, T: Drop, A: Drop> Server<R, M, T, A> {
+    /// Its settings.
+    pub fn settings(&self) -> &Settings
+        ensures { result.now ≡ self.now.settings }
+    {
+        &self.settings
+    }
+
+    /// Listens at an address, `tcp://IP:PORT`, in the place of where it would have listened. Whether each write goes out at
+    /// once is `nodelay`. An address that names no place of TCP is `Others`, and a fault of the system `Nix`.
+    pub fn bind(self, sockaddr: &str, nodelay: bool) -> Result<Server<R, M, T, A>>
+    where
+        R: Net,
+        ensures ok { IfOk result (λ server. (listener : AListener) × (listener.nodelay ≡ nodelay) × (server ≡ with_listener self listener)) }
+        ensures err { IfErr result (λ e. IsNoTcp sockaddr.now e ⊎ IsFault e) }
+    {
+        let reactor = self.handle.reactor();
+        match Listener::bind(&self.rt, self.rt.alloc(), reactor, sockaddr, nodelay) {
+            Ok(listener) => Ok(self.add_listener(listener)),
+            Err(refusal) => Err(refusal),
+        }
+    }
+
+    /// Accepts the connections of this listener, in the place of an earlier one.
+    pub fn add_listener(mut self, listener: Listener) -> Server<R, M, T, A>
+        ensures { result ≡ with_listener self listener }
+    {
+        self.listener = Some(listener);
+        self
+    }
+
+    /// Where it will listen, and `None` without a listener or once it has started. A fault of the system is `Nix`.
+    pub fn local_addr(&self) -> Result<Option<SocketAddr>>
+        ensures none { self.now.listener ≡ None → result ≡ Ok None }
+        ensures err { IfErr result IsFault }
+    {
+        match &self.listener {
+            Some(listener) => Ok(Some(listener.local_addr()?)),
+            None => Ok(None),
+        }
+    }
+
+    /// Serves these services too, each under its name. One of a name that stands already takes the place of that. Once the
+    /// server has started its services are fixed, and more are refused.
+    pub fn register_service(
+        mut self,
+        services: BTreeMap<String, Service<M, T>>,
+    ) -> Result<Server<R, M, T, A>>
+        ensures ok { IfOk result (Adds self services.entries) }
+        ensures refused { IfErr result (IsNotAdded self.settings) }
+    {
+        let alloc = self.rt.alloc();
+        self.settings.check_register(alloc)?;
+        // Nobody shares them before the first start.
+        let Some(open) = Arc::get_mut(&mut self.services) else {
+            return Err(Error::NoMemory);
+        };
+        open.add_all(alloc, services)?;
+        Ok(self)
+    }
+
+    /// Lets this hook look at each connection first. What it gives after 30 seconds comes too late, and the connection is
+    /// closed. While it looks nothing else of its thread goes on: one that never returns holds that for ever.
+    pub fn set_accept_hook<B: Drop>(self, hook: B) -> Result<Server<R, M, T, B>>
+        ensures ok { IfOk result (λ server. server ≡ record { settings = self.settings; listener = self.listener; services = self.services; hook = hook }) }
+        ensures err { IfErr result (λ e. e ≡ NoMemory) }
+    {
+        let Server {
+            rt,
+            handle,
+            settings,
+            listener,
+            services,
+            hook: _,
+            stop,
+        } = self;
+        Ok(Server {
+            hook: Arc::new(rt.alloc(), hook)?,
+            rt,
+            handle,
+            settings,
+            listener,
+            services,
+            stop,
+        })
+    }
+
+    /// How long a connection that ends waits for its handlers.
+    pub fn set_connection_limit(mut self, limit: Duration) -> Server<R, M, T, A>
+        ensures { result ≡ record self { settings = record self.settings { connection_limit = limit } } }
+    {
+        self.settings.connection_limit = limit;
+        self
+    }
+
+    /// How long `disconnect` waits for the connections.
+    pub fn set_disconnect_limit(mut self, limit: Duration) -> Server<R, M, T, A>
+        ensures { result ≡ record self { settings = record self.settings { disconnect_limit = limit } } }
+    {
+        self.settings.disconnect_limit = limit;
+        self
+    }
+
+    /// How long it waits to accept again, where the system gives no connection.
+    pub fn set_accept_retry_interval(mut self, interval: Duration) -> Server<R, M, T, A>
+        ensures { result ≡ record self { settings = record self.settings { accept_retry_interval = interval } } }
+    {
+        self.settings.accept_retry_interval = interval;
+        self
+    }
+
+    /// Whether a stream that is opened without a payload begins without an item, as peers written in Go mean it.
+    pub fn set_bare_openings(mut self, bare: bool) -> Server<R, M, T, A>
+        ensures { result ≡ record self { settings = record self.settings { bare_openings = bare } } }
+    {
+        self.settings.bare_openings = bare;
+        self
+    }
+
+    /// Begins to accept: the connections, one after another, each a future that is to be polled. From here on its services are
+    /// fixed. It is refused without a listener, as of a server that has started and didn't stop listening since.
+    pub fn start(&mut self) -> Result<Serving<R, M, T, A>>
+        ensures ok { OnOk result (self.new ≡ listening self.old) }
+        ensures served { IfOk result (λ serving. (serving.with.settings ≡ self.old.settings) × (arc_value serving.with.services ≡ self.old.services) × (arc_value serving.with.hook ≡ self.old.hook)) }
+        ensures refused { IfErr result (IsNotStarted self.old.listener) }
+    {
+        self.restore_listener();
+        let Some(_) = &self.listener else {
+            return Err(unbound_error(self.rt.alloc()));
+        };
+        let with = self.served()?;
+        let rest = Alarm::new(&self.rt, &self.handle)?;
+        let Some(listener) = self.listener.take() else {
+            unreachable!();
+        };
+        let serving = Serving::new(with, listener, rest);
+        self.stop.listen();
+        self.settings.is_listening = true;
+        self.settings.is_fixed = true;
+        Ok(serving)
+    }
+
+    /// What each of its connections is served with: all that it was built with.
+    fn served(&self) -> Result<Served<R, M, T, A>>
+        // its settings, its services and its hook
+        ensures settings { IfOk result (λ with. with.settings ≡ self.now.settings) }
+        ensures services { IfOk result (λ with. arc_value with.services ≡ self.now.services) }
+        ensures hook { IfOk result (λ with. arc_value with.hook ≡ self.now.hook) }
+        // An error is want of memory.
+        ensures err { IfErr result (λ e. e ≡ NoMemory) }
+    {
+        Ok(Served {
+            rt: self.rt.clone()?,
+            handle: self.handle.clone()?,
+            services: Arc::try_clone(&self.services)?,
+            hook: Arc::try_clone(&self.hook)?,
+            stop: Arc::try_clone(&self.stop)?,
+            settings: self.settings,
+        })
+    }
+
+    /// Takes the listener that came back as it stopped listening, where there is no other.
+    fn restore_listener(&mut self)
+        ensures listener { IsSome self.old.listener → self.new ≡ self.old }
+        ensures rest { self.new ≡ record self.old { listener = self.new.listener } }
+    {
+        if self.listener.is_none() {
+            self.listener = self.stop.take_listener();
+        }
+    }
+
+    /// Accepts no more connections, and goes on with those that are open. Ready once the listener is back, with which the
+    /// server may start again. Where it doesn't listen nothing happens.
+    pub fn stop_listen(&mut self) -> Result<StopListen>
+        ensures ok { OnOk result (self.new ≡ silent self.old) }
+        ensures err { OnErr result (self.new ≡ self.old) }
+        ensures only_memory { IfErr result (λ e. e ≡ NoMemory) }
+    {
+        let stop = Arc::try_clone(&self.stop)?;
+        let is_listening = self.settings.is_listening;
+        self.settings.is_listening = false;
+        if is_listening {
+            self.stop.stop_listen();
+        }
+        Ok(StopListen::new(stop, is_listening))
+    }
+
+    /// Ends all connections: each takes no more requests, and waits for its handlers for a limited time. Ready once they have
+    /// ended, or by `Others("waiters are left")` behind its own limit.
+    pub fn disconnect(&mut self) -> Result<Disconnect>
+        ensures same { self.new ≡ self.old }
+        ensures err { IfErr result IsLack }
+    {
+        let limit = self.settings.disconnect_limit;
+        let sleep = match self.handle.time().sleep(&self.rt, limit) {
+            Ok(sleep) => sleep,
+            Err(error) => return Err(Error::Nix(error.kind())),
+        };
+        let stop = Arc::try_clone(&self.stop)?;
+        Ok(Disconnect::new(self.rt.alloc(), stop, sleep))
+    }
+
+    /// Stops listening, closes the listener, and ends all connections.
+    pub fn shutdown(&mut self) -> Result<Shutdown>
+        ensures ok { OnOk result (self.new ≡ record (silent self.old) { listener = None }) }
+        ensures err { IfErr result IsLack }
+    {
+        let connections = self.disconnect()?;
+        let stop = Arc::try_clone(&self.stop)?;
+        let listener = self.stop_listen()?;
+        self.listener = None;
+        Ok(Shutdown::new(stop, listener, connections))
+    }
+}

@@ -1,0 +1,127 @@
+//! What the future of a server's connection and the streams of its jobs share.
+ghost use Rattle.std.specs.Prelude.{◌≡◌};
+ghost use Rattle.futures.specs.Poll.{OnPending};
+ghost use Rattle.futures.specs.Task.{Covers, Keeps};
+
+use crate::held::ServerHeld;
+use futures::spin::lock;
+use futures::task::{Context, Poll, Source};
+use std::alloc::Global;
+use std::sync::Mutex;
+use ttrpc_polled::Connected;
+use ttrpc_polled_streams::{Kind, Sending, StreamLine};
+use ttrpc_proto::Result;
+use ttrpc_secure::{InboundTransform, OutboundTransform};
+use ttrpc_server::{JobId, ServerCore};
+use ttrpc_wire::Blob;
+
+/// What the future of a server's connection and the streams of its jobs share. Nobody reads or writes while it has the lock.
+#[derive(Drop)]
+pub struct ServerShared<O, I> {
+    /// Handlers wait at it for what comes for a stream, for frames that leave, and for the end of their time.
+    pub came: Source,
+    /// The connection's future waits at it for something to write.
+    pub asked: Source,
+    pub held: Mutex<ServerHeld<O, I>>,
+}
+
+impl<O: OutboundTransform + Drop, I: InboundTransform + Drop> ServerShared<O, I> {
+    /// This core, shared.
+    pub fn new(alloc: Global, core: ServerCore<O, I>) -> Self {
+        ServerShared {
+            came: Source::new(),
+            asked: Source::new(),
+            held: Mutex::new(ServerHeld::new(alloc, core)),
+        }
+    }
+
+    /// Waits until the job of this number has expired.
+    pub fn poll_expired(&self, id: JobId, cx: &mut Context<'_>) -> Poll<()>
+        ensures registered { OnPending result (Covers cx.new (λ s. s ≡ self.now.came.id)) }
+        ensures kept { Keeps cx.old cx.new }
+    {
+        let Some(mut guard) = lock(&self.held) else {
+            return cx.yield_now();
+        };
+        let polled = (&mut *guard).poll_expired(id, &self.came, cx);
+        drop(guard);
+        polled
+    }
+}
+
+impl<O: OutboundTransform + Drop, I: InboundTransform + Drop> Connected for ServerShared<O, I> {
+    type Held = ServerHeld<O, I>;
+
+    ghost asked = { λ shared. shared.asked.id };
+
+    fn held(&self) -> &Mutex<ServerHeld<O, I>> {
+        &self.held
+    }
+
+    fn asked(&self) -> &Source {
+        &self.asked
+    }
+}
+
+impl<O: OutboundTransform + Drop, I: InboundTransform + Drop> StreamLine for ServerShared<O, I> {
+    type Id = JobId;
+
+    ghost came = { λ shared. shared.came.id };
+
+    fn kind(&self) -> Kind {
+        Kind::Server
+    }
+
+    fn poll_sending(
+        &self,
+        _alloc: Global,
+        id: JobId,
+        sending: &mut Sending,
+        cx: &mut Context<'_>,
+    ) -> Poll<Result<()>> {
+        let Some(mut guard) = lock(&self.held) else {
+            return cx.yield_now();
+        };
+        let held = &mut *guard;
+        let woken = if sending.is_new() {
+            held.driver.take()
+        } else {
+            None
+        };
+        let polled = held.poll_sending(id, sending, &self.came, cx);
+        drop(guard);
+        drop(woken);
+        polled
+    }
+
+    fn poll_receiving(
+        &self,
+        _alloc: Global,
+        id: JobId,
+        cx: &mut Context<'_>,
+    ) -> Poll<Result<Blob>> {
+        let Some(mut guard) = lock(&self.held) else {
+            return cx.yield_now();
+        };
+        let held = &mut *guard;
+        // The connection's future looks whether all that is left waits in vain.
+        let woken = if held.input_ended {
+            held.driver.take()
+        } else {
+            None
+        };
+        let polled = held.poll_receiving(id, &self.came, cx);
+        drop(guard);
+        drop(woken);
+        polled
+    }
+
+    fn drop_receiver(&self, id: JobId) {
+        if let Some(mut guard) = lock(&self.held) {
+            (&mut *guard).drop_receiver(id);
+        }
+    }
+
+    // A server's stream is ended by its handler's answer.
+    fn drop_sender(&self, _id: JobId) {}
+}

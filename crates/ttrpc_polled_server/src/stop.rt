@@ -1,0 +1,438 @@
+//! How a server is stopped, and how its connections are told.
+ghost use Rattle.std.specs.Prelude.{◌≡◌, IsFalse, IfErr};
+ghost use Rattle.std.specs.Arc.{arc_value};
+ghost use Rattle.futures.specs.Task.{Hears, IsArmed, Keeps};
+ghost use Rattle.futures.specs.Task.{Covers};
+ghost use Rattle.futures.specs.Poll.{OnPending};
+ghost use Rattle.ttrpc_proto.specs.declared.error.Error.{Error as AnError};
+ghost use Rattle.ttrpc_polled_server.specs.Stopping.{IsLeftOver, StoppingNeeds};
+
+use futures::Future;
+use futures::spin::lock;
+use futures::task::{Context, Poll, Source, Waker};
+use std::alloc::Global;
+use std::collections::BTreeMap;
+use std::mem::replace;
+use std::sync::{Arc, Mutex};
+use tokio::time::Sleep;
+use ttrpc_polled::Listener;
+use ttrpc_proto::{Error, Result, Text};
+use ttrpc_shutdown::{Notifier, Waiter, new};
+
+/// What a server, its connections and those who stop it share.
+#[derive(Drop)]
+pub struct Stop {
+    /// The connections, and whoever accepts them, wait at it to be told.
+    pub told: Source,
+    /// Those wait at it who want a connection or the listener to be done.
+    pub left: Source,
+    held: Mutex<Places>,
+}
+
+/// Who waits, and the counters of connections.
+#[derive(Drop)]
+struct Places {
+    /// None once all connections have ended behind a `disconnect`.
+    notifier: Option<Notifier>,
+    seats: BTreeMap<u64, Option<Waker>>,
+    next: u64,
+    ended: u64,
+    is_deaf: bool,
+    accepts: Option<Waker>,
+    rests: Option<Waker>,
+    stops: Option<Waker>,
+    returned: Option<Listener>,
+}
+
+/// A connection's place. The connection counts until it is dropped.
+pub struct Seat {
+    stop: Arc<Stop, Global>,
+    number: u64,
+    waiter: Option<Waiter>,
+}
+
+impl Stop {
+    /// Nothing is stopped, and there are no connections.
+    pub fn new(alloc: Global) -> Result<Stop>
+        ensures err { IfErr result (λ e. e ≡ AnError.NoMemory) }
+    {
+        let (notifier, waiter) = new(alloc)?;
+        drop(waiter);
+        Ok(Stop {
+            told: Source::new(),
+            left: Source::new(),
+            held: Mutex::new(Places {
+                notifier: Some(notifier),
+                seats: BTreeMap::new(alloc),
+                next: 0,
+                ended: 0,
+                is_deaf: false,
+                accepts: None,
+                rests: None,
+                stops: None,
+                returned: None,
+            }),
+        })
+    }
+
+    /// A place for a connection. `LocalClosed` once all have ended behind a `disconnect`.
+    pub fn seat(this: &Arc<Stop, Global>) -> Result<Seat> {
+        let stop = Arc::try_clone(this)?;
+        let Some(mut guard) = lock(&this.held) else {
+            return Err(Error::LocalClosed);
+        };
+        let places = &mut *guard;
+        let Some(notifier) = &mut places.notifier else {
+            return Err(Error::LocalClosed);
+        };
+        let waiter = notifier.subscribe()?;
+        let number = places.next;
+        places.seats.insert(number, None)?;
+        places.next = number.saturating_add(1);
+        Ok(Seat {
+            stop,
+            number,
+            waiter: Some(waiter),
+        })
+    }
+
+    /// Connections are to be accepted from now on.
+    pub fn listen(&self) {
+        if let Some(mut guard) = lock(&self.held) {
+            (&mut *guard).is_deaf = false;
+        }
+    }
+
+    /// No more connections are to be accepted.
+    pub fn stop_listen(&self) {
+        if let Some(mut guard) = lock(&self.held) {
+            let places = &mut *guard;
+            places.is_deaf = true;
+            let woken = places.accepts.take();
+            drop(guard);
+            drop(woken);
+        }
+    }
+
+    /// All connections are to end.
+    pub fn tell(&self) {
+        if let Some(mut guard) = lock(&self.held) {
+            let places = &mut *guard;
+            if let Some(notifier) = &mut places.notifier {
+                notifier.shutdown();
+            }
+            for (_, slot) in places.seats.iter_mut() {
+                *slot = None;
+            }
+        }
+    }
+
+    /// Gives back the listener of a server that accepts no more.
+    pub fn give_back(&self, listener: Listener) {
+        if let Some(mut guard) = lock(&self.held) {
+            let places = &mut *guard;
+            places.returned = Some(listener);
+            let woken = places.stops.take();
+            drop(guard);
+            drop(woken);
+        }
+    }
+
+    /// Takes the listener that was given back.
+    pub fn take_listener(&self) -> Option<Listener> {
+        let mut guard = lock(&self.held)?;
+        (&mut *guard).returned.take()
+    }
+
+    /// Whether no more connections are to be accepted. If not, the task is told once it is so.
+    pub fn is_deaf(&self, cx: &mut Context<'_>) -> bool
+        ensures waits { IsFalse result → IsArmed cx.new × Hears cx.new self.now.told.id }
+        ensures kept { Keeps cx.old cx.new }
+    {
+        let Some(mut guard) = lock(&self.held) else {
+            let _: Poll<()> = cx.yield_now();
+            return false;
+        };
+        let places = &mut *guard;
+        if places.is_deaf {
+            return true;
+        }
+        let _: Poll<()> = cx.register(&self.told, &mut places.accepts);
+        false
+    }
+
+    /// How many connections have ended.
+    pub fn ended(&self) -> u64 {
+        match lock(&self.held) {
+            Some(guard) => guard.ended,
+            None => 0,
+        }
+    }
+
+    /// Whether a connection has ended since so many had. If not, the task is told once one has.
+    pub fn has_ended(&self, since: u64, cx: &mut Context<'_>) -> bool
+        ensures waits { IsFalse result → IsArmed cx.new × Hears cx.new self.now.left.id }
+        ensures kept { Keeps cx.old cx.new }
+    {
+        let Some(mut guard) = lock(&self.held) else {
+            let _: Poll<()> = cx.yield_now();
+            return false;
+        };
+        let places = &mut *guard;
+        if places.ended != since {
+            return true;
+        }
+        let _: Poll<()> = cx.register(&self.left, &mut places.rests);
+        false
+    }
+
+    /// Whether the listener was given back, or there is none under way. If not, the task is told once it was.
+    fn is_back(&self, cx: &mut Context<'_>) -> bool
+        ensures waits { IsFalse result → IsArmed cx.new × Hears cx.new self.now.left.id }
+        ensures kept { Keeps cx.old cx.new }
+    {
+        let Some(mut guard) = lock(&self.held) else {
+            let _: Poll<()> = cx.yield_now();
+            return false;
+        };
+        let places = &mut *guard;
+        if places.returned.is_some() {
+            return true;
+        }
+        let _: Poll<()> = cx.register(&self.left, &mut places.stops);
+        false
+    }
+
+    /// Whether all connections have ended, by the count of the notifier, which isn't needed then any more. If not, the task is
+    /// told once one more has.
+    fn have_all_ended(&self, alloc: Global, cx: &mut Context<'_>) -> bool
+        ensures waits { IsFalse result → IsArmed cx.new × Hears cx.new self.now.left.id }
+        ensures kept { Keeps cx.old cx.new }
+    {
+        let Some(mut guard) = lock(&self.held) else {
+            let _: Poll<()> = cx.yield_now();
+            return false;
+        };
+        let places = &mut *guard;
+        let Some(notifier) = places.notifier.take() else {
+            return true;
+        };
+        match notifier.gather(Vec::new(alloc)) {
+            Ok(_) => true,
+            Err((_, notifier, _)) => {
+                places.notifier = Some(notifier);
+                let _: Poll<()> = cx.register(&self.left, &mut places.stops);
+                false
+            }
+        }
+    }
+}
+
+impl Seat {
+    /// Whether the connection is to end. If not, its task is told once it is.
+    pub fn is_told(&mut self, cx: &mut Context<'_>) -> bool
+        ensures waits { IsFalse result → IsArmed cx.new × Hears cx.new (arc_value self.new.stop).told.id }
+        ensures stop { self.new.stop ≡ self.old.stop }
+        ensures kept { Keeps cx.old cx.new }
+    {
+        let Some(mut guard) = lock(&self.stop.held) else {
+            let _: Poll<()> = cx.yield_now();
+            return false;
+        };
+        let places = &mut *guard;
+        match places.seats.get_mut(&self.number) {
+            Some(slot) => {
+                let _: Poll<()> = cx.register(&self.stop.told, slot);
+            }
+            None => {
+                let _: Poll<()> = cx.yield_now();
+            }
+        }
+        // The flag is set before the wakers are dropped.
+        match &mut self.waiter {
+            Some(waiter) => waiter.is_shutdown(),
+            None => true,
+        }
+    }
+}
+
+impl Drop for Seat {
+    fn drop(self) {
+        let Self {
+            stop,
+            number,
+            waiter,
+        } = self;
+        drop(waiter);
+        if let Some(mut guard) = lock(&stop.held) {
+            let places = &mut *guard;
+            let _ = places.seats.remove(&number);
+            places.ended = places.ended.wrapping_add(1);
+            let stops = places.stops.take();
+            let rests = places.rests.take();
+            drop(guard);
+            drop(stops);
+            drop(rests);
+        }
+    }
+}
+
+/// The listener of a server, on its way back. Ready once connections are accepted no more.
+#[derive(Drop)]
+pub struct StopListen {
+    stop: Arc<Stop, Global>,
+    is_listening: bool,
+}
+
+impl StopListen {
+    /// Of a server that listens, or doesn't.
+    pub(crate) fn new(stop: Arc<Stop, Global>, is_listening: bool) -> StopListen
+        ensures { (result.stop ≡ stop) × (result.is_listening ≡ is_listening) }
+    {
+        StopListen { stop, is_listening }
+    }
+}
+
+impl Future for StopListen {
+    type Output = ();
+
+    ghost use Rattle.std.specs.Prelude.{◌≡◌};
+    ghost use Rattle.std.specs.Arc.{arc_value};
+
+    ghost needs = { λ f s. s ≡ (arc_value f.stop).left.id };
+
+    fn poll(&mut self, cx: &mut Context<'_>) -> Poll<()> {
+        if !self.is_listening || self.stop.is_back(cx) {
+            return Poll::Ready(());
+        }
+        Poll::Pending
+    }
+}
+
+/// The end of all connections of a server. Ready once they have ended, or by `Others("waiters are left")` behind its limit.
+#[derive(Drop)]
+pub struct Disconnect {
+    alloc: Global,
+    stop: Arc<Stop, Global>,
+    limit: Sleep,
+}
+
+impl Disconnect {
+    /// The connections that stop by this, within this time.
+    pub(crate) fn new(alloc: Global, stop: Arc<Stop, Global>, limit: Sleep) -> Disconnect
+        ensures { (result.stop ≡ stop) × (result.limit ≡ limit) }
+    {
+        Disconnect { alloc, stop, limit }
+    }
+}
+
+impl Future for Disconnect {
+    type Output = Result<()>;
+
+    ghost use Rattle.std.specs.Prelude.{◌≡◌, ◌⊎◌};
+    ghost use Rattle.std.specs.Arc.{arc_value};
+    ghost use Rattle.tokio.specs.Timers.{sleep_source};
+
+    ghost needs = { λ d s. (s ≡ (arc_value d.stop).left.id) ⊎ (s ≡ sleep_source d.limit) };
+
+    fn poll(&mut self, cx: &mut Context<'_>) -> Poll<Result<()>> {
+        self.stop.tell();
+        if self.stop.have_all_ended(self.alloc, cx) {
+            return Poll::Ready(Ok(()));
+        }
+        match self.limit.poll(cx) {
+            Poll::Pending => Poll::Pending,
+            Poll::Ready(_) => Poll::Ready(Err(left_over(self.alloc))),
+        }
+    }
+}
+
+/// The error where connections are left, or `NoMemory` where memory for its text was refused.
+fn left_over(alloc: Global) -> Error
+    ensures { IsLeftOver result }
+{
+    match Text::from_str(alloc, "waiters are left") {
+        Ok(text) => Error::Others(text),
+        Err(_) => Error::NoMemory,
+    }
+}
+
+/// Where a shutdown is.
+#[derive(Drop)]
+enum Stopping {
+    /// The listener is on its way back, and the connections go on.
+    Listens(StopListen, Disconnect),
+    /// The connections are to end.
+    Disconnects(Disconnect),
+    /// All is done.
+    Done,
+}
+
+/// The end of a server: its listener is closed, and then its connections end, as by `Disconnect`.
+#[derive(Drop)]
+pub struct Shutdown {
+    stop: Arc<Stop, Global>,
+    at: Stopping,
+}
+
+impl Shutdown {
+    /// Of a server that stops by these.
+    pub(crate) fn new(
+        stop: Arc<Stop, Global>,
+        listener: StopListen,
+        connections: Disconnect,
+    ) -> Shutdown {
+        Shutdown {
+            stop,
+            at: Stopping::Listens(listener, connections),
+        }
+    }
+}
+
+impl Future for Shutdown {
+    type Output = Result<()>;
+
+    ghost use Rattle.ttrpc_polled_server.specs.Stopping.{StoppingNeeds};
+
+    ghost needs = { λ f. StoppingNeeds f.at };
+
+    fn poll(&mut self, cx: &mut Context<'_>) -> Poll<Result<()>> {
+        match replace(&mut self.at, Stopping::Done) {
+            Stopping::Listens(mut listener, connections) => match listener.poll(cx) {
+                Poll::Pending => {
+                    self.at = Stopping::Listens(listener, connections);
+                    Poll::Pending
+                }
+                Poll::Ready(()) => {
+                    drop(self.stop.take_listener());
+                    self.poll_connections(connections, cx)
+                }
+            },
+            Stopping::Disconnects(connections) => self.poll_connections(connections, cx),
+            Stopping::Done => Poll::Ready(Err(Error::LocalClosed)),
+        }
+    }
+}
+
+impl Shutdown {
+    /// Waits for the connections.
+    fn poll_connections(
+        &mut self,
+        mut connections: Disconnect,
+        cx: &mut Context<'_>,
+    ) -> Poll<Result<()>>
+        ensures registered { OnPending result (Covers cx.new (StoppingNeeds self.new.at)) }
+        ensures kept { Keeps cx.old cx.new }
+    {
+        match connections.poll(cx) {
+            Poll::Pending => {
+                self.at = Stopping::Disconnects(connections);
+                Poll::Pending
+            }
+            Poll::Ready(ended) => {
+                self.at = Stopping::Done;
+                Poll::Ready(ended)
+            }
+        }
+    }
+}
