@@ -1,3 +1,4 @@
 pub mod Types
 pub mod Trace
+pub mod Flows
 pub mod Told

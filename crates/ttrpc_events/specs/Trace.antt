@@ -17,9 +17,9 @@ pub data Act : Type 0 where
   -- the call's outcome was given
   Gave : (outcome : Result Response Error) → Act
 
--- this act, or none where the condition is false
-abbrev pub only_if : Bool → Act → List Act
-only_if b act = if b then act ∷ [] else []
+-- this, or nothing where the condition is false
+abbrev pub only_if : {X : Type 0} → Bool → X → List X
+only_if b x = if b then x ∷ [] else []
 
 -- what a handler gave for a job of one response, as the end of a stream would say it
 abbrev pub some_of : Result Response Error → Result (Option Response) Error

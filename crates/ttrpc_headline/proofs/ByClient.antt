@@ -1,17 +1,20 @@
 -- Each event of the client keeps the invariant.
-use Rattle.ttrpc_pair.proofs.Words.{◌++◌, ◌+◌, ◌∙◌, ◌<◌, ◌≡◌, ◌≢◌, ◌≤◌, ◌^◌, ℕ, [], all_joined, ap, arith, AsyncKind, Bool, call_at, CallEvent, CancelledDuringWrite, Client, ClientCore, ClientKind, Connection, deadline_of, DeadlineDuringWrite, Done, DropCall, DropReceiver, DropsReceiver, DropSender, DropsSender, due_at, Entry, Error, Event, Failure, false, Flying, Forgot, Given, Halves, has_response, id_of, if◌then◌else◌, inl, inr, is_some, IsOwned, IsRequest, Item, List, Named, nat_eq, Net, None, OpenEvent, OpensStream, Option, Outbox, Outcome, parcels, Passes, pushed_other, pushed_own, Recv, refl, Reply, Request, Requests, Response, Result, Rules, SendsOn, Some, Stream, stream_at, StreamReceives, subst, sym, SyncKind, taken_back, takes_back, TakesOutcome, throws, Ticks, true, waits, with_client, without_reader, without_sender, ◌∷◌, ◌⊎◌}
-use Rattle.ttrpc_pair.proofs.Words.{ClientEnd, eqb-true, opening_flags, ReceivesAt, Sender, unsendable}
-use Rattle.ttrpc_story.proofs.Words.{act_of, asked, heard, last_id, only_if, unasked, unheard, with_entry}
-use Rattle.ttrpc_story.proofs.AtServer.{IsItem, IsSent}
-use Rattle.ttrpc_story.proofs.Here.{Birth, ByCall, ByOpen, first_act, here_at, request_of}
-use Rattle.ttrpc_story.proofs.AtClient.{IsBegun}
-use Rattle.ttrpc_story.proofs.Place.{Later, Place, asks_here, begins_here, drops_here, elsewhere, expires_here, one_request, sends_here, stream_within, streams_here, thrown_here}
-use Rattle.ttrpc_headline.proofs.Delivers.{Stories, around, at_one, next_up}
+use Rattle.ttrpc_headline.proofs.Delivers.{around, at_one, next_up, Stories}
 use Rattle.ttrpc_headline.proofs.Keeps.{Keeps, keeps_still}
-use Rattle.ttrpc_headline.proofs.Numbers.{Between, Numbers, asked_more, asks, items_more}
+use Rattle.ttrpc_headline.proofs.Numbers.{asked_more, asks, Between, items_more, Numbers}
 use Rattle.ttrpc_headline.proofs.OneWay.{goes_on, joins}
-use Rattle.ttrpc_headline.proofs.Payloads.{SendsFlight, sends_data, sends_request}
-use Rattle.ttrpc_headline.proofs.Throws.{AreSingle, PartsOf, Stays, Thrown, back_stays, nothing_thrown, some_thrown}
+use Rattle.ttrpc_headline.proofs.Flights.{data_brings, IsData, IsRequestFlight, sends_data, sends_request, SendsFlight}
+use Rattle.ttrpc_headline.proofs.Throws.{AreSingle, back_stays, nothing_thrown, PartsOf, some_thrown, Stays, Thrown}
+use Rattle.ttrpc_story.proofs.AtServer.{IsItem}
+use Rattle.ttrpc_story.proofs.Here.{Birth, ByCall, ByOpen, first_act, first_flow, here_at, request_of}
+use Rattle.ttrpc_story.proofs.AtClient.{IsBegun}
+use Rattle.ttrpc_story.proofs.Upward.{flags_of, IsStarted}
+use Rattle.ttrpc_story.proofs.Downward.{box_down, wants}
+use Rattle.ttrpc_story.proofs.Flowing.{IsPlainFailure}
+use Rattle.ttrpc_story.proofs.Place.{begins_here, elsewhere, Later, Place, Settings, thrown_here}
+use Rattle.ttrpc_story.proofs.Events.{asks_here, drops_here, expires_here, GoesOn, hears_here, IsPut, one_request, sends_here, stream_within, unheard_here, unsent_here}
+use Rattle.ttrpc_pair.proofs.Words.{[], all_joined, ap, arith, AsyncKind, Bool, call_at, CallEvent, CancelledDuringWrite, Client, ClientCore, ClientEnd, ClientKind, closed_error, Connection, deadline_of, DeadlineDuringWrite, Done, DropCall, DropReceiver, DropSender, DropsReceiver, DropsSender, due_at, Entry, eqb-true, Error, Event, Failure, false, Flying, Forgot, given, Given, Halves, has_response, id_of, if◌then◌else◌, inl, inr, is_some, IsOwned, IsRequest, Item, last_id, List, Named, nat_eq, Net, None, OpenEvent, opening_flags, OpensStream, Option, Outbox, Outcome, parcels, Passes, pushed_other, pushed_own, Recv, refl, Reply, Request, Requests, Response, Result, Sender, SenderClosed, SendsOn, Some, stays, Stream, stream_at, StreamReceives, subst, sym, SyncKind, taken_back, takes_back, TakesOutcome, throws, Ticks, true, unsendable, unsendable_error, waits, with_client, with_sender, ℕ, ◌++◌, ◌+◌, ◌<◌, ◌^◌, ◌∙◌, ◌∷◌, ◌≡◌, ◌≢◌, ◌≤◌, ◌⊎◌}
+use Rattle.ttrpc_story.proofs.Words.{act_of, asked, calls, data_thing, Flow, flow_of, heard, HeardDown, only_if, said, silent, taken, Thing, told, unasked, unheard, untold, with_entry}
 
 -- dropping takes a request back only where requests are thrown away
 back_throws_only : (failed may waiting : Bool) → (if failed then false else if may then waiting else false) ≡ true → may ≡ true
@@ -29,27 +32,42 @@ throws_unsealed SyncKind seals e = cc
 throws_unsealed AsyncKind false e = refl
 throws_unsealed AsyncKind true e = cc
 
-same_or_none : (owners : ℕ → Bool) (k : ℕ) (flights left : List Flying) → PartsOf owners k flights left → (parcels k left ≡ parcels k flights) ⊎ (parcels k left ≡ [])
-same_or_none owners k flights left (inl same) = inl same
-same_or_none owners k flights left (inr none) = inr none.1
+-- of an id all stays in flight, or nothing where it is an owner's
+same_or_none : {T : Type 0} (owners : ℕ → Bool) (k : ℕ) (flights left : List Flying) → (owners k ≡ true → T) → PartsOf owners k flights left → (parcels k left ≡ parcels k flights) ⊎ (T × (parcels k left ≡ []))
+same_or_none owners k flights left owned (inl same) = inl same
+same_or_none owners k flights left owned (inr none) = inr (owned none.0, none.1)
+
+-- once a sender has closed, nothing more is sent
+closed_for : (wants : Bool) → (if wants then closed_error SenderClosed else Some unsendable_error) ≡ None → ⊥
+closed_for true e = cc
+closed_for false e = cc
+
+pub closed_sends : (st : Option Stream) → unsendable (with_sender SenderClosed st) ≡ None → ⊥
+closed_sends None e = cc
+closed_sends (Some s) e = closed_for s.streaming_client e
+
+-- the sender isn't what the client receives by
+sender_box : (sender : Sender) (st : Option Stream) → (box_down (with_sender sender st) ≡ box_down st) × (wants (with_sender sender st) ≡ wants st)
+sender_box sender None = (refl, refl)
+sender_box sender (Some s) = (refl, refl)
 
 -- a flight of data is no request
 item_asks : {k : ℕ} {y : Flying} → IsItem k y → asks y ≡ false
 item_asks i = rw i.type_ refl
 
 module _ {CO CI SO SI : Type 0} (c : Halves CO CI) (s : Halves SO SI) (seals : Bool) (still : seals ≡ false → (from to : CO) (plain aad sealed : List ℕ) → c.out.seals from plain aad sealed to → to ≡ from)
-    (rules : Rules) (f : ℕ → ℕ) (trace : List Entry) where
+    (set : Settings) (f : ℕ → ℕ) (trace : List Entry) where
   abbrev Kept : List Entry → Net CO CI SO SI → Type 0
-  Kept t w = Keeps c s rules f t w
+  Kept t w = Keeps c s set f t w
 
   abbrev StoriesOf : Net CO CI SO SI → List Entry → List Flying → List Flying → Client → Type 0
-  StoriesOf w t up down state = Stories rules (has_response w) f t up down w.server.state.jobs.list state
+  StoriesOf w t up down state = Stories set (has_response w) f t up down w.server.state.jobs.list state
 
   abbrev PlaceOf : Net CO CI SO SI → List Entry → List Flying → List Flying → Client → ℕ → Type 0
-  PlaceOf w t up down state n = Place (around rules (has_response w) state.next) n (here_at f t up down w.server.state.jobs.list state n)
+  PlaceOf w t up down state n = Place (around set (has_response w) state.next) n (here_at f t up down w.server.state.jobs.list state n)
 
-  later_of : (w : Net CO CI SO SI) (x : Client) → x.next ≡ w.client.state.next → (k : ℕ) → Later (around rules (has_response w) w.client.state.next) (around rules (has_response w) x.next) k
-  later_of w x next k = next_up rules (has_response w) w.client.state.next x.next k (omega (arith, next))
+  later_of : (w : Net CO CI SO SI) (x : Client) → x.next ≡ w.client.state.next → (k : ℕ) → Later (around set (has_response w) w.client.state.next) (around set (has_response w) x.next) k
+  later_of w x next k = next_up set (has_response w) w.client.state.next x.next k (omega (arith, next))
 
   -- ---- one more frame is sent
 
@@ -68,23 +86,29 @@ module _ {CO CI SO SI : Type 0} (c : Halves CO CI) (s : Halves SO SI) (seals : B
     downward = goes_on s.out c.in_ _ _ w.client.connection x.connection w.down i.down refl held inbound lives i.downward;
   }
 
+  -- what the event says of each id: that it is used, if it is this one
+  abbrev IsBirth : Event → ℕ → Birth → Type 0
+  IsBirth event id b = (k : ℕ) → (act_of f k event (Named id) ≡ only_if (nat_eq id k) (first_act b)) × (flow_of f k event (Named id) ≡ only_if (nat_eq id k) (first_flow b))
+
   -- An id is used, by a call or a stream.
-  keeps_birth : (w : Net CO CI SO SI) (event : Event) (id : ℕ) (b : Birth) (x : ClientCore CO CI) → (i : Kept trace w) → SendsFlight c.out w.client.connection.outbox (IsSent id (request_of b)) x.connection.outbox
-      → ((k : ℕ) → act_of f k event (Named id) ≡ only_if (nat_eq id k) (first_act b)) → id ≡ w.client.state.next → id ≤ last_id → x.state.next ≡ id + 2
-      → (call_at w.client.state id ≡ None → stream_at w.client.state id ≡ None → IsBegun b (call_at x.state id) (stream_at x.state id))
+  keeps_birth : (w : Net CO CI SO SI) (event : Event) (id : ℕ) (b : Birth) (x : ClientCore CO CI) → (i : Kept trace w) → SendsFlight c.out w.client.connection.outbox (IsRequestFlight id (request_of b) (flags_of b)) x.connection.outbox
+      → IsBirth event id b → id ≡ w.client.state.next → id ≤ last_id → x.state.next ≡ id + 2
+      → (call_at w.client.state id ≡ None → stream_at w.client.state id ≡ None → IsBegun b (call_at x.state id) (stream_at x.state id) × IsStarted b (stream_at x.state id))
       → ((k : ℕ) → id ≢ k → (call_at x.state k ≡ call_at w.client.state k) × (stream_at x.state k ≡ stream_at w.client.state k))
       → x.connection.decoder ≡ w.client.connection.decoder → x.connection.inbound ≡ w.client.connection.inbound → (x.connection.failure ≡ None → w.client.connection.failure ≡ None)
       → Kept (with_entry trace event (Named id)) (with_client w x)
-  keeps_birth w event id b x i r act id_is within next begun others held inbound lives =
+  keeps_birth w event id b x i r birth id_is within next begun others held inbound lives =
       let t = with_entry trace event (Named id) in
       let n = w.client.state.next in
-      sends_up w t x (IsSent id (request_of b)) i r
+      let stream : r.y.frame.message.header.stream_id ≡ id = r.is.sent.stream in
+      sends_up w t x (IsRequestFlight id (request_of b) (flags_of b)) i r
       (at_one (PlaceOf w t (i.up ++ r.y ∷ []) i.down x.state) id
-      (begins_here b r.y (i.stories id) refl (λ j h. h) (omega (arith, id_is)) (λ y. absurd (let no : ⊥ = omega (arith, y, next) in no)) within r.is begun
-      (heard f id id trace event (Named id) (first_act b) (act id) refl) (pushed_own id_of id r.y i.up r.is.stream) refl refl)
-      (λ k e. let o = others k e in elsewhere (next_up rules (has_response w) n x.state.next k (omega (arith, next, id_is))) (i.stories k) (unheard f k id trace event (Named id) (first_act b) (act k) e)
-      (pushed_other id_of k r.y i.up (λ same. e (sym r.is.stream ∙ same))) refl refl o.0 o.1))
-      (asked_more f w.server.state.jobs.last i.up r.y n x.state.next (omega (arith, r.is.stream, id_is)) (omega (arith, r.is.stream, next)) (omega (arith, id_is, next)) i.numbers)
+      (begins_here b r.y (i.stories id) refl (λ j h. h) (omega (arith, id_is)) (λ y. absurd (let no : ⊥ = omega (arith, y, next) in no)) within r.is.sent r.is.flags_are begun
+      (heard (act_of f id) id id trace event (Named id) (first_act b) (birth id).0 refl) (heard (flow_of f id) id id trace event (Named id) (first_flow b) (birth id).1 refl) (pushed_own id_of id r.y i.up stream) refl refl)
+      (λ k e. let o = others k e in elsewhere (next_up set (has_response w) n x.state.next k (omega (arith, next, id_is))) (i.stories k)
+      (unheard (act_of f k) k id trace event (Named id) (first_act b) (birth k).0 e) (unheard (flow_of f k) k id trace event (Named id) (first_flow b) (birth k).1 e)
+      (pushed_other id_of k r.y i.up (λ same. e (sym stream ∙ same))) refl refl o.0 o.1))
+      (asked_more f w.server.state.jobs.last i.up r.y n x.state.next (omega (arith, stream, id_is)) (omega (arith, stream, next)) (omega (arith, id_is, next)) i.numbers)
       held inbound lives
 
   -- A call is accepted.
@@ -93,9 +117,9 @@ module _ {CO CI SO SI : Type 0} (c : Halves CO CI) (s : Halves SO SI) (seals : B
       let g = p.is_frame in
       let streams : (k : ℕ) → stream_at v.client.state k ≡ stream_at w.client.state k = λ k. ap (λ (x : ClientCore CO CI). stream_at x.state k) p.same in
       keeps_birth w (CallEvent request) id (ByCall request) v.client i
-      (sends_request c.out w.client.connection.outbox request id p.frame v.client.connection.outbox known p.sends (omega (arith, p.fits)) p.in_range g.stream_id g.type_ (omega (arith, g.flags)) g.owner)
-      (λ k. refl) p.id_is p.in_range (ap (λ (x : ClientCore CO CI). x.state.next) p.same)
-      (λ none unheard_of. ((deadline_of w.moment request.timeout_nano, p.own), streams id ∙ unheard_of)) (λ k e. (p.others k (λ same. e (sym same)), streams k))
+      (sends_request c.out w.client.connection.outbox request id 0 p.frame v.client.connection.outbox known p.sends (omega (arith, p.fits)) p.in_range g.stream_id g.type_ g.flags (omega arith) g.owner)
+      (λ k. (refl, refl)) p.id_is p.in_range (ap (λ (x : ClientCore CO CI). x.state.next) p.same)
+      (λ none unheard_of. (((deadline_of w.moment request.timeout_nano, p.own), streams id ∙ unheard_of), streams id ∙ unheard_of)) (λ k e. (p.others k (λ same. e (sym same)), streams k))
       (ap (λ (x : ClientCore CO CI). x.connection.decoder) p.same) (ap (λ (x : ClientCore CO CI). x.connection.inbound) p.same) (λ _. p.alive)
 
   low_flags : (up : Bool) → opening_flags up < 2 ^ 8
@@ -109,32 +133,33 @@ module _ {CO CI SO SI : Type 0} (c : Halves CO CI) (s : Halves SO SI) (seals : B
       let g = p.is_frame in
       let calls : (k : ℕ) → call_at v.client.state k ≡ call_at w.client.state k = λ k. ap (λ (x : ClientCore CO CI). call_at x.state k) p.same in
       keeps_birth w (OpenEvent request up down) id (ByOpen request up down) v.client i
-      (sends_request c.out w.client.connection.outbox request id p.frame v.client.connection.outbox known p.sends (omega (arith, p.fits)) p.in_range g.stream_id g.type_ (subst (λ (n : ℕ). n < 2 ^ 8) (sym g.flags) (low_flags up)) g.owner)
-      (λ k. refl) p.id_is p.in_range (ap (λ (x : ClientCore CO CI). x.state.next) p.same)
-      (λ none unheard_of. calls id ∙ none) (λ k e. (calls k, p.others k (λ same. e (sym same))))
+      (sends_request c.out w.client.connection.outbox request id (opening_flags up) p.frame v.client.connection.outbox known p.sends (omega (arith, p.fits)) p.in_range g.stream_id g.type_ g.flags (low_flags up) g.owner)
+      (λ k. (refl, refl)) p.id_is p.in_range (ap (λ (x : ClientCore CO CI). x.state.next) p.same)
+      (λ none unheard_of. (calls id ∙ none, p.own)) (λ k e. (calls k, p.others k (λ same. e (sym same))))
       (ap (λ (x : ClientCore CO CI). x.connection.decoder) p.same) (ap (λ (x : ClientCore CO CI). x.connection.inbound) p.same) (λ _. p.alive)
 
-  -- Data are sent on a stream.
-  pub keeps_send : (w : Net CO CI SO SI) (event : Event) (reply : Reply) (id flags : ℕ) (plain : List ℕ) (sender : Sender) (ticket : ℕ) (v : Net CO CI SO SI) → Kept trace w → flags < 2 ^ 8 → SendsOn c.out w.client id flags plain sender ticket v.client
-      → ((k : ℕ) → act_of f k event reply ≡ []) → Kept (with_entry trace event reply) (with_client w v.client)
-  keeps_send w event reply id flags plain sender ticket v i low p quiet =
+  -- Data are sent on a stream, which bring this.
+  pub keeps_send : (w : Net CO CI SO SI) (event : Event) (reply : Reply) (id flags : ℕ) (plain : List ℕ) (sender : Sender) (ticket : ℕ) (v : Net CO CI SO SI) (put : Flow) (thing : Thing) → Kept trace w → flags < 2 ^ 8 → SendsOn c.out w.client id flags plain sender ticket v.client
+      → ((k : ℕ) → (act_of f k event reply ≡ []) × (flow_of f k event reply ≡ only_if (nat_eq id k) put)) → IsPut put thing → data_thing id flags plain ≡ thing → GoesOn thing (with_sender sender (stream_at w.client.state id)) → Kept (with_entry trace event reply) (with_client w v.client)
+  keeps_send w event reply id flags plain sender ticket v put thing i low p says is_put brings on =
       let x = v.client in
+      let t = with_entry trace event reply in
       let some : stream_at w.client.state id ≡ None → ⊥ = λ none. unsendable_none (stream_at w.client.state id) none p.sendable in
       let within = stream_within (i.stories id) some in
       let r = sends_data c.out w.client.connection.outbox id flags ticket plain x.connection.outbox within low p.sends in
+      let stream : r.y.frame.message.header.stream_id ≡ id = r.is.item.stream in
       let next : x.state.next ≡ w.client.state.next = ap (λ (y : ClientCore CO CI). y.state.next) p.same in
       let calls : (k : ℕ) → call_at x.state k ≡ call_at w.client.state k = λ k. ap (λ (y : ClientCore CO CI). call_at y.state k) p.same in
-      keeps_entry (with_client w x) event reply quiet
-      (sends_up w trace x (IsItem id) i r
-      (at_one (PlaceOf w trace (i.up ++ r.y ∷ []) i.down x.state) id
-      (sends_here r.y (later_of w x.state next id) (i.stories id) some r.is refl (pushed_own id_of id r.y i.up r.is.stream) refl refl (calls id))
-      (λ k e. elsewhere (later_of w x.state next k) (i.stories k) refl (pushed_other id_of k r.y i.up (λ same. e (sym r.is.stream ∙ same))) refl refl (calls k) (p.others k (λ same. e (sym same)))))
-      (subst (λ (n : ℕ). Numbers f w.server.state.jobs.last (i.up ++ r.y ∷ []) n) (sym next) (items_more f w.server.state.jobs.last i.up r.y w.client.state.next (item_asks r.is) i.numbers))
-      (ap (λ (y : ClientCore CO CI). y.connection.decoder) p.same) (ap (λ (y : ClientCore CO CI). y.connection.inbound) p.same) (λ _. p.alive))
+      let box = sender_box sender (stream_at w.client.state id) in
+      sends_up w t x (IsData id flags plain) i r
+      (at_one (PlaceOf w t (i.up ++ r.y ∷ []) i.down x.state) id
+      (sends_here put thing r.y (later_of w x.state next id) (i.stories id) some r.is.item is_put (data_brings r.is ∙ brings) p.sendable (subst (GoesOn thing) (sym p.own) on) (ap box_down p.own ∙ box.0) (ap wants p.own ∙ box.1)
+      (silent (act_of f id) trace event reply (says id).0) (heard (flow_of f id) id id trace event reply put (says id).1 refl) (pushed_own id_of id r.y i.up stream) refl refl (calls id))
+      (λ k e. elsewhere (later_of w x.state next k) (i.stories k) (silent (act_of f k) trace event reply (says k).0) (unheard (flow_of f k) k id trace event reply put (says k).1 e)
+      (pushed_other id_of k r.y i.up (λ same. e (sym stream ∙ same))) refl refl (calls k) (p.others k (λ same. e (sym same)))))
+      (subst (λ (n : ℕ). Numbers f w.server.state.jobs.last (i.up ++ r.y ∷ []) n) (sym next) (items_more f w.server.state.jobs.last i.up r.y w.client.state.next (item_asks r.is.item) i.numbers))
+      (ap (λ (y : ClientCore CO CI). y.connection.decoder) p.same) (ap (λ (y : ClientCore CO CI). y.connection.inbound) p.same) (λ _. p.alive)
     where
-      keeps_entry : (x : Net CO CI SO SI) (event : Event) (reply : Reply) → ((k : ℕ) → act_of f k event reply ≡ []) → Kept trace x → Kept (with_entry trace event reply) x
-      keeps_entry x event reply quiet i = keeps_still c s rules f trace x event reply quiet i
-
       unsendable_none : (st : Option Stream) → st ≡ None → unsendable st ≡ None → ⊥
       unsendable_none st none e = let bad : unsendable None ≡ None = ap unsendable (sym none) ∙ e in cc
 
@@ -143,19 +168,23 @@ module _ {CO CI SO SI : Type 0} (c : Halves CO CI) (s : Halves SO SI) (seals : B
   abbrev Left : (ℕ → Bool) → Net CO CI SO SI → Outbox CO → List Flying → Type 0
   Left owners w x flights = Thrown c.out s.in_ owners x w.server.connection w.up flights
 
+  -- an owner's call is kept
+  abbrev AreKept : (ℕ → Bool) → Net CO CI SO SI → Type 0
+  AreKept owners w = (k : ℕ) → owners k ≡ true → call_at w.client.state k ≡ None → ⊥
+
   -- the stories of what is left
-  left_stories : (owners : ℕ → Bool) (w : Net CO CI SO SI) (x : Outbox CO) (i : Kept trace w) → (t : Left owners w x i.up) → StoriesOf w trace t.left i.down w.client.state
-  left_stories owners w x i t = λ k. thrown_here (i.stories k) refl (same_or_none owners k i.up t.left (t.parts k)) refl refl refl refl
+  left_stories : (owners : ℕ → Bool) (w : Net CO CI SO SI) (x : Outbox CO) (i : Kept trace w) → AreKept owners w → (t : Left owners w x i.up) → StoriesOf w trace t.left i.down w.client.state
+  left_stories owners w x i some t = λ k. thrown_here (i.stories k) refl refl (same_or_none owners k i.up t.left (some k) (t.parts k)) refl refl refl refl
 
   -- what is kept changes, requests may be thrown away, and the connection may fail
   client_changes : (owners : ℕ → Bool) (w : Net CO CI SO SI) (t : List Entry) (x : ClientCore CO CI) → (i : Kept trace w) → x.connection.decoder ≡ w.client.connection.decoder → x.connection.inbound ≡ w.client.connection.inbound
-      → (x.connection.failure ≡ None → w.client.connection.failure ≡ None) → x.state.next ≡ w.client.state.next → (l : Left owners w x.connection.outbox i.up)
+      → (x.connection.failure ≡ None → w.client.connection.failure ≡ None) → x.state.next ≡ w.client.state.next → AreKept owners w → (l : Left owners w x.connection.outbox i.up)
       → (StoriesOf w trace l.left i.down w.client.state → StoriesOf w t l.left i.down x.state)
       → Kept t (with_client w x)
-  client_changes owners w t x i held inbound lives next l stories = record {
+  client_changes owners w t x i held inbound lives next some l stories = record {
     up = l.left;
     down = i.down;
-    stories = stories (left_stories owners w x.connection.outbox i l);
+    stories = stories (left_stories owners w x.connection.outbox i some l);
     numbers = record {
       low = i.numbers.low;
       within = i.numbers.within;
@@ -172,7 +201,7 @@ module _ {CO CI SO SI : Type 0} (c : Halves CO CI) (s : Halves SO SI) (seals : B
       → Kept t (with_client w x)
   unfolding nothing_thrown
   state_changes w t x i connection next stories =
-      client_changes (λ k. false) w t x i (ap (λ d. d.decoder) connection) (ap (λ d. d.inbound) connection) (λ alive. rw (← connection) alive) next
+      client_changes (λ k. false) w t x i (ap (λ d. d.decoder) connection) (ap (λ d. d.inbound) connection) (λ alive. rw (← connection) alive) next (λ k e. cc)
       (nothing_thrown c.out s.in_ x.connection.outbox w.server.connection w.up i.up (λ k. false) i.own (rw connection i.upward)) stories
 
   -- An outcome is asked for.
@@ -183,38 +212,49 @@ module _ {CO CI SO SI : Type 0} (c : Halves CO CI) (s : Halves SO SI) (seals : B
       let t = with_entry trace (Outcome id) (Given given) in
       state_changes w t v.client i (ap (λ (x : ClientCore CO CI). x.connection) p.same) next
       (λ stories. at_one (PlaceOf w t i.up i.down v.client.state) id
-      (asks_here w.client.connection.failure given (later_of w v.client.state next id) (stories id) p.gives (asked f id id trace given refl) refl refl refl p.own (streams id))
-      (λ k e. elsewhere (later_of w v.client.state next k) (stories k) (unasked f k id trace given e) refl refl refl (p.others k (λ same. e (sym same))) (streams k)))
+      (asks_here w.client.connection.failure given (later_of w v.client.state next id) (stories id) p.gives (asked f id id trace given refl) (silent (flow_of f id) trace (Outcome id) (Given given) refl) refl refl refl p.own (streams id))
+      (λ k e. elsewhere (later_of w v.client.state next k) (stories k) (unasked f k id trace given e) (silent (flow_of f k) trace (Outcome id) (Given given) refl) refl refl refl (p.others k (λ same. e (sym same))) (streams k)))
 
-  -- What is kept of one stream changes, which stays none if it was.
-  keeps_stream : (w : Net CO CI SO SI) (event : Event) (reply : Reply) (id : ℕ) (x : ClientCore CO CI) → Kept trace w → ((k : ℕ) → act_of f k event reply ≡ []) → x.connection ≡ w.client.connection → x.state.next ≡ w.client.state.next
-      → ((k : ℕ) → call_at x.state k ≡ call_at w.client.state k) → (stream_at w.client.state id ≡ None → stream_at x.state id ≡ None) → ((k : ℕ) → k ≢ id → stream_at x.state k ≡ stream_at w.client.state k)
+  -- What is kept of one stream changes, and no other id hears of it.
+  keeps_stream : (w : Net CO CI SO SI) (event : Event) (reply : Reply) (id : ℕ) (x : ClientCore CO CI) → (i : Kept trace w) → x.connection ≡ w.client.connection → (next : x.state.next ≡ w.client.state.next)
+      → ((k : ℕ) → call_at x.state k ≡ call_at w.client.state k) → ((k : ℕ) → k ≢ id → stream_at x.state k ≡ stream_at w.client.state k)
+      → ((k : ℕ) → act_of f k event reply ≡ []) → ((k : ℕ) → id ≢ k → said (flow_of f k) (with_entry trace event reply) ≡ said (flow_of f k) trace)
+      → (Place (around set (has_response w) w.client.state.next) id (here_at f trace i.up i.down w.server.state.jobs.list w.client.state id) → PlaceOf w (with_entry trace event reply) i.up i.down x.state id)
       → Kept (with_entry trace event reply) (with_client w x)
-  keeps_stream w event reply id x i quiet connection next calls own others =
-      keeps_still c s rules f trace (with_client w x) event reply quiet (state_changes w trace x i connection next
-      (λ stories. at_one (PlaceOf w trace i.up i.down x.state) id
-      (streams_here (later_of w x.state next id) (stories id) refl refl refl refl (calls id) own)
-      (λ k e. elsewhere (later_of w x.state next k) (stories k) refl refl refl refl (calls k) (others k (λ same. e (sym same))))))
-
-  received_none : (failure : Option Failure) (old : Option Stream) (given : Option (Result (List ℕ) Error)) (new : Option Stream) → ReceivesAt failure old given new → old ≡ None → new ≡ None
-  received_none failure old given new h none = (subst (λ (x : Option Stream). ReceivesAt failure x given new) none h).1
+  keeps_stream w event reply id x i connection next calls others quiet unheard_by here =
+      let t = with_entry trace event reply in
+      state_changes w t x i connection next
+      (λ stories. at_one (PlaceOf w t i.up i.down x.state) id (here (stories id))
+      (λ k e. elsewhere (later_of w x.state next k) (stories k) (silent (act_of f k) trace event reply (quiet k)) (unheard_by k e) refl refl refl (calls k) (others k (λ same. e (sym same)))))
 
   -- An item is asked for.
-  pub keeps_recv : (w : Net CO CI SO SI) (id : ℕ) (given : Option (Result (List ℕ) Error)) (v : Net CO CI SO SI) → Kept trace w → StreamReceives w.client id given v.client → Kept (with_entry trace (Recv (ClientEnd id)) (Item given)) (with_client w v.client)
-  keeps_recv w id given v i p =
-      keeps_stream w (Recv (ClientEnd id)) (Item given) id v.client i (λ k. refl) (ap (λ (x : ClientCore CO CI). x.connection) p.same) (ap (λ (x : ClientCore CO CI). x.state.next) p.same)
-      (λ k. ap (λ (x : ClientCore CO CI). call_at x.state k) p.same) (received_none w.client.connection.failure (stream_at w.client.state id) given (stream_at v.client.state id) p.own) p.others
+  pub keeps_recv : (w : Net CO CI SO SI) (id : ℕ) (given : Option (Result (List ℕ) Error)) (v : Net CO CI SO SI) → Kept trace w → IsPlainFailure w.client.connection.failure → StreamReceives w.client id given v.client
+      → Kept (with_entry trace (Recv (ClientEnd id)) (Item given)) (with_client w v.client)
+  keeps_recv w id given v i plain p =
+      let event = Recv (ClientEnd id) in
+      let next : v.client.state.next ≡ w.client.state.next = ap (λ (x : ClientCore CO CI). x.state.next) p.same in
+      let calls : (k : ℕ) → call_at v.client.state k ≡ call_at w.client.state k = λ k. ap (λ (x : ClientCore CO CI). call_at x.state k) p.same in
+      keeps_stream w event (Item given) id v.client i (ap (λ (x : ClientCore CO CI). x.connection) p.same) next calls p.others (λ k. refl)
+      (λ k e. untold (flow_of f k) k id trace event HeardDown given refl (λ word. refl) e)
+      (λ story. hears_here w.client.connection.failure given (later_of w v.client.state next id) story plain p.own (silent (act_of f id) trace event (Item given) refl)
+      (told (flow_of f id) id id trace event HeardDown given refl (λ word. refl) refl) refl refl refl (calls id))
 
   -- A receiver is dropped, or a sender.
   pub keeps_unheard : (w : Net CO CI SO SI) (id : ℕ) (v : Net CO CI SO SI) → Kept trace w → DropsReceiver w.client id v.client → Kept (with_entry trace (DropReceiver (ClientEnd id)) Done) (with_client w v.client)
   keeps_unheard w id v i p =
-      keeps_stream w (DropReceiver (ClientEnd id)) Done id v.client i (λ k. refl) (ap (λ (x : ClientCore CO CI). x.connection) p.same) (ap (λ (x : ClientCore CO CI). x.state.next) p.same)
-      (λ k. ap (λ (x : ClientCore CO CI). call_at x.state k) p.same) (λ none. p.own ∙ ap without_reader none) p.others
+      let event = DropReceiver (ClientEnd id) in
+      let next : v.client.state.next ≡ w.client.state.next = ap (λ (x : ClientCore CO CI). x.state.next) p.same in
+      let calls : (k : ℕ) → call_at v.client.state k ≡ call_at w.client.state k = λ k. ap (λ (x : ClientCore CO CI). call_at x.state k) p.same in
+      keeps_stream w event Done id v.client i (ap (λ (x : ClientCore CO CI). x.connection) p.same) next calls p.others (λ k. refl) (λ k e. silent (flow_of f k) trace event Done refl)
+      (λ story. unheard_here (later_of w v.client.state next id) story (silent (act_of f id) trace event Done refl) (silent (flow_of f id) trace event Done refl) refl refl refl (calls id) p.own)
 
   pub keeps_unsent : (w : Net CO CI SO SI) (id : ℕ) (v : Net CO CI SO SI) → Kept trace w → DropsSender w.client id v.client → Kept (with_entry trace (DropSender id) Done) (with_client w v.client)
   keeps_unsent w id v i p =
-      keeps_stream w (DropSender id) Done id v.client i (λ k. refl) (ap (λ (x : ClientCore CO CI). x.connection) p.same) (ap (λ (x : ClientCore CO CI). x.state.next) p.same)
-      (λ k. ap (λ (x : ClientCore CO CI). call_at x.state k) p.same) (λ none. p.own ∙ ap without_sender none) p.others
+      let event = DropSender id in
+      let next : v.client.state.next ≡ w.client.state.next = ap (λ (x : ClientCore CO CI). x.state.next) p.same in
+      let calls : (k : ℕ) → call_at v.client.state k ≡ call_at w.client.state k = λ k. ap (λ (x : ClientCore CO CI). call_at x.state k) p.same in
+      keeps_stream w event Done id v.client i (ap (λ (x : ClientCore CO CI). x.connection) p.same) next calls p.others (λ k. refl) (λ k e. silent (flow_of f k) trace event Done refl)
+      (λ story. unsent_here (later_of w v.client.state next id) story (silent (act_of f id) trace event Done refl) (silent (flow_of f id) trace event Done refl) refl refl refl (calls id) p.own)
 
   -- ---- requests are taken back, where they may be
 
@@ -222,21 +262,34 @@ module _ {CO CI SO SI : Type 0} (c : Halves CO CI) (s : Halves SO SI) (seals : B
   single : (owners : ℕ → Bool) (w : Net CO CI SO SI) → ((k : ℕ) → owners k ≡ true → call_at w.client.state k ≡ None → ⊥) → (i : Kept trace w) → AreSingle owners i.up
   single owners w some i = λ k owner. one_request (i.stories k) (some k owner)
 
-  back_throws : (w : Net CO CI SO SI) (ids : ℕ → Bool) (b : Bool) (why : Failure) → (b ≡ true → throws w.client.state.kind seals ≡ true) → (b ≡ true → (k : ℕ) → ids k ≡ true → call_at w.client.state k ≡ None → ⊥) → (i : Kept trace w)
-      → Left ids w (if b then taken_back w.client.connection ids why else w.client.connection).outbox i.up
-  back_throws w ids true why may some i =
-      some_thrown c.out s.in_ w.client.connection.outbox w.server.connection w.up i.up (still (throws_unsealed w.client.state.kind seals (may refl))) ids (single ids w (some refl) i) i.own i.upward
-  back_throws w ids false why may some i = nothing_thrown c.out s.in_ w.client.connection.outbox w.server.connection w.up i.up ids i.own i.upward
+  -- what is taken back leaves this in flight, of these owners
+  record TakesBack (w : Net CO CI SO SI) (x : Outbox CO) (flights : List Flying) : Type 0 where
+    owners : ℕ → Bool
+    some : AreKept owners w
+    left : Left owners w x flights
+
+  back_throws : (w : Net CO CI SO SI) (ids : ℕ → Bool) (b : Bool) (why : Failure) → (b ≡ true → throws w.client.state.kind seals ≡ true) → (b ≡ true → AreKept ids w) → (i : Kept trace w)
+      → TakesBack w (if b then taken_back w.client.connection ids why else w.client.connection).outbox i.up
+  back_throws w ids true why may some i = record {
+    owners = ids;
+    some = some refl;
+    left = some_thrown c.out s.in_ w.client.connection.outbox w.server.connection w.up i.up (still (throws_unsealed w.client.state.kind seals (may refl))) ids (single ids w (some refl) i) i.own i.upward;
+  }
+  back_throws w ids false why may some i = record {
+    owners = λ k. false;
+    some = λ k e. cc;
+    left = nothing_thrown c.out s.in_ w.client.connection.outbox w.server.connection w.up i.up (λ k. false) i.own i.upward;
+  }
 
   taken_back_keeps : (w : Net CO CI SO SI) (t : List Entry) (x : ClientCore CO CI) (ids : ℕ → Bool) (b : Bool) (why : Failure) → (i : Kept trace w)
-      → (b ≡ true → throws w.client.state.kind seals ≡ true) → (b ≡ true → (k : ℕ) → ids k ≡ true → call_at w.client.state k ≡ None → ⊥)
+      → (b ≡ true → throws w.client.state.kind seals ≡ true) → (b ≡ true → AreKept ids w)
       → x.connection ≡ (if b then taken_back w.client.connection ids why else w.client.connection) → x.state.next ≡ w.client.state.next
       → ((left : List Flying) → StoriesOf w trace left i.down w.client.state → StoriesOf w t left i.down x.state)
       → Kept t (with_client w x)
   taken_back_keeps w t x ids b why i may some same next stories =
       let stays = subst (λ (d : Connection CO CI). Stays w.client.connection d) (sym same) (back_stays b w.client.connection ids why) in
-      let left = subst (λ (d : Connection CO CI). Left ids w d.outbox i.up) (sym same) (back_throws w ids b why may some i) in
-      client_changes ids w t x i stays.decoder stays.inbound stays.lives next left (stories left.left)
+      let taken = subst (λ (d : Connection CO CI). TakesBack w d.outbox i.up) (sym same) (back_throws w ids b why may some i) in
+      client_changes taken.owners w t x i stays.decoder stays.inbound stays.lives next taken.some taken.left (stories taken.left.left)
 
   none_waits : (k id : ℕ) (w : Net CO CI SO SI) → waits (call_at w.client.state id) ≡ true → nat_eq k id ≡ true → call_at w.client.state k ≡ None → ⊥
   none_waits k id w waiting owner none =
@@ -249,14 +302,14 @@ module _ {CO CI SO SI : Type 0} (c : Halves CO CI) (s : Halves SO SI) (seals : B
   keeps_drop w id v i p =
       let next : v.client.state.next ≡ w.client.state.next = ap (λ (x : ClientCore CO CI). x.state.next) p.does.same in
       let streams : (k : ℕ) → stream_at v.client.state k ≡ stream_at w.client.state k = λ k. ap (λ (x : ClientCore CO CI). stream_at x.state k) p.does.same in
-      keeps_still c s rules f trace (with_client w v.client) (DropCall id) Done (λ k. refl)
+      keeps_still c s set f trace (with_client w v.client) (DropCall id) Done (λ k. (refl, refl))
       (taken_back_keeps w trace v.client (λ k. nat_eq k id) (takes_back seals w.client id) CancelledDuringWrite i
       (back_throws_only (is_some w.client.connection.failure) (throws w.client.state.kind seals) (waits (call_at w.client.state id)))
       (λ e k owner. none_waits k id w (back_waits_only (is_some w.client.connection.failure) (throws w.client.state.kind seals) (waits (call_at w.client.state id)) e) owner)
       (ap (λ (x : ClientCore CO CI). x.connection) p.does.same) next
       (λ left stories. at_one (PlaceOf w trace left i.down v.client.state) id
-      (drops_here (later_of w v.client.state next id) (stories id) refl refl refl refl p.does.own (streams id))
-      (λ k e. elsewhere (later_of w v.client.state next k) (stories k) refl refl refl refl (p.does.others k (λ same. e (sym same))) (streams k))))
+      (drops_here (later_of w v.client.state next id) (stories id) refl refl refl refl refl p.does.own (streams id))
+      (λ k e. elsewhere (later_of w v.client.state next k) (stories k) refl refl refl refl refl (p.does.others k (λ same. e (sym same))) (streams k))))
 
   -- A moment comes.
   due_some : (now k : ℕ) (w : Net CO CI SO SI) → due_at now (call_at w.client.state k) ≡ true → call_at w.client.state k ≡ None → ⊥
@@ -267,7 +320,7 @@ module _ {CO CI SO SI : Type 0} (c : Halves CO CI) (s : Halves SO SI) (seals : B
       let next : x.state.next ≡ w.client.state.next = ap (λ (y : Client). y.next) p.expires.same in
       let streams : (k : ℕ) → stream_at x.state k ≡ stream_at w.client.state k = λ k. ap (λ (y : Client). stream_at y k) p.expires.same in
       taken_back_keeps w trace x (λ id. due_at now (call_at w.client.state id)) (throws w.client.state.kind seals) DeadlineDuringWrite i (λ e. e) (λ e k due. due_some now k w due) p.connection next
-      (λ left stories k. expires_here now (later_of w x.state next k) (stories k) refl refl refl refl (p.expires.calls k) (streams k))
+      (λ left stories k. expires_here now (later_of w x.state next k) (stories k) refl refl refl refl refl (p.expires.calls k) (streams k))
 
   pub keeps_passes : (w : Net CO CI SO SI) (now : ℕ) (x : ClientCore CO CI) (failure : Option Failure) → Kept trace w → Passes seals failure w.client now x → Kept trace (with_client w x)
   keeps_passes w now x None i p = tick_lives w now x i p

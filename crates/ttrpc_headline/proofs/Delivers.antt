@@ -1,24 +1,27 @@
 -- A delivery: each flight that comes in acts as it was sent, on one call or stream. No bytes, no seals that are opened.
-use Rattle.ttrpc_pair.proofs.Words.{◌++◌, ◌+◌, ◌∙◌, ◌∷◌, ◌≡◌, ◌≢◌, ◌≤◌, ◌⊎◌, ℕ, [], Absent, ActiveJob, ActsOn, all_behind, AllByRecursion, ap, append-nil, append_assoc, arith, AsyncRules, Bool, brought_by, call_at, calling, case_of, case_row, cases_eq, changed_under, Client, Connection, Does, Entry, eq-eqb, Event, false, Flying, Halves, id_of, Ignore, inl, inlet_of, inr, is_stream, jobs_at, LandsOn, LandsOnce, Landing, List, MakeJob, MakeStream, MESSAGE_TYPE_REQUEST, new_job, None, Opened, Option, Outbox, OutboundTransform, parcels, Pipe, pushed_other, pushed_own, PutIn, Reaches, refl, Reply, Request, request_bytes, Response, Row, row_elsewhere, row_made, Rules, rules_stay, Scene, SendResponse, SendsAll, SendsOwnAnswer, Sent, Server, serving, Some, Stream, stream_at, stream_body, stream_id_of, subst, sym, SyncRules, true, unary_body, under_other, under_own, under_stays, without_payload}
-use Rattle.ttrpc_pair.proofs.Words.{is_entered, MessageHeader, Opening}
-use Rattle.ttrpc_story.proofs.Words.{act_of, asked_by, last_id, silent, with_entry}
+use Rattle.ttrpc_headline.proofs.Numbers.{acts_right, AreRight, asks, made_of, Numbers, passed_by}
+use Rattle.ttrpc_headline.proofs.OneWay.{joins, OneWay}
+use Rattle.ttrpc_headline.proofs.Payloads.{ask_row, IsAskRow, IsItemRow, IsRefusal, item_row}
+use Rattle.ttrpc_headline.proofs.Flights.{IsRefusing, sends_refusal, SendsFlight}
 use Rattle.ttrpc_story.proofs.AtServer.{IsItem, IsJob, IsNever}
 use Rattle.ttrpc_story.proofs.Here.{here_at, request_of}
-use Rattle.ttrpc_story.proofs.Place.{Around, IsAsked, IsPassed, Later, Place, arrives_here, comes_of, down_of, elsewhere, lands_here, maps_here, passes_here, refers_here, unchanged}
-use Rattle.ttrpc_headline.proofs.Numbers.{AreRight, Numbers, acts_right, asks, made_of, passed_by}
-use Rattle.ttrpc_headline.proofs.OneWay.{OneWay, joins}
-use Rattle.ttrpc_headline.proofs.Payloads.{IsAskRow, IsItemRow, IsRefusal, SendsFlight, ask_row, item_row, sends_refusal}
+use Rattle.ttrpc_story.proofs.Upward.{box_up, flags_of, IsMade}
+use Rattle.ttrpc_story.proofs.Downward.{IsTurned}
+use Rattle.ttrpc_story.proofs.Place.{Around, arrives_here, comes_of, elsewhere, IsAsked, IsPassed, Later, passes_here, Place, puts_here, refers_here, Settings, unchanged, untaken}
+use Rattle.ttrpc_story.proofs.Events.{down_of, lands_here}
+use Rattle.ttrpc_pair.proofs.Words.{[], Absent, ActiveJob, ActsOn, all_behind, AllByRecursion, ap, append-nil, append_assoc, arith, AsyncRules, Bool, brought_by, call_at, calling, case_of, case_row, cases_eq, changed_under, Client, Connection, Does, Entry, eq-eqb, Event, false, Flying, Halves, id_of, Ignore, inl, inlet_of, inr, is_stream, jobs_at, Landing, LandsOn, LandsOnce, last_id, List, MakeJob, MakeStream, MESSAGE_TYPE_REQUEST, MessageHeader, nat_eq, new_job, Opened, OutboundTransform, Outbox, parcels, Pipe, pushed_other, pushed_own, PutIn, refl, Reply, Request, request_bytes, Response, Row, row_elsewhere, row_made, Rules, rules, rules_stay, Scene, SendResponse, SendsAll, SendsOwnAnswer, Sent, Server, serving, Some, stream_body, stream_id_of, subst, sym, SyncRules, true, unary_body, under_other, under_own, under_stays, without_payload, ℕ, ◌++◌, ◌+◌, ◌∙◌, ◌∷◌, ◌≡◌, ◌≢◌, ◌≤◌, ◌⊎◌}
+use Rattle.ttrpc_story.proofs.Words.{act_of, asked, asked_by, flow_of, items, Open, silent, told, with_entry, with_mail, ◌%◌}
 
-abbrev pub around : Rules → (ℕ → Bool) → ℕ → Around
-around rules had next = record { rules = rules; had = had; next = next }
+abbrev pub around : Settings → (ℕ → Bool) → ℕ → Around
+around set had next = record { set = set; had = had; next = next }
 
 -- THE STORIES: that of each id.
-abbrev pub Stories : Rules → (ℕ → Bool) → (ℕ → ℕ) → List Entry → List Flying → List Flying → List ActiveJob → Client → Type 0
-Stories rules had f trace up down jobs client = (k : ℕ) → Place (around rules had client.next) k (here_at f trace up down jobs client k)
+abbrev pub Stories : Settings → (ℕ → Bool) → (ℕ → ℕ) → List Entry → List Flying → List Flying → List ActiveJob → Client → Type 0
+Stories set had f trace up down jobs client = (k : ℕ) → Place (around set had client.next) k (here_at f trace up down jobs client k)
 
 -- the client's next id goes on, or stays
-pub next_up : (rules : Rules) (had : ℕ → Bool) (next next2 k : ℕ) → next ≤ next2 → Later (around rules had next) (around rules had next2) k
-next_up rules had next next2 k le = record { rules = refl; young = λ y. omega (arith, y, le); had = λ i h. h }
+pub next_up : (set : Settings) (had : ℕ → Bool) (next next2 k : ℕ) → next ≤ next2 → Later (around set had next) (around set had next2) k
+next_up set had next next2 k le = record { set = refl; young = λ y. omega (arith, y, le); had = λ i h. h }
 
 -- what holds at one id, and at each other
 pub at_one : (T : ℕ → Type 0) (k : ℕ) → T k → ((n : ℕ) → k ≢ n → T n) → (n : ℕ) → T n
@@ -27,10 +30,14 @@ at_one T k here there n = elim (cases_eq k n) [
   | inr e ↦ there n e
 ]
 
--- an entry that is no act of any id leaves the stories
-pub stories_silent : (rules : Rules) (had : ℕ → Bool) (f : ℕ → ℕ) (trace : List Entry) (event : Event) (reply : Reply) (up down : List Flying) (jobs : List ActiveJob) (client : Client)
-    → ((k : ℕ) → act_of f k event reply ≡ []) → Stories rules had f trace up down jobs client → Stories rules had f (with_entry trace event reply) up down jobs client
-stories_silent rules had f trace event reply up down jobs client q c = λ k. elsewhere (unchanged (around rules had client.next) k) (c k) (silent f k trace event reply (q k)) refl refl refl refl refl
+-- an entry that says nothing of any id
+abbrev pub IsQuiet : (ℕ → ℕ) → Event → Reply → Type 0
+IsQuiet f event reply = (k : ℕ) → (act_of f k event reply ≡ []) × (flow_of f k event reply ≡ [])
+
+-- leaves the stories
+pub stories_silent : (set : Settings) (had : ℕ → Bool) (f : ℕ → ℕ) (trace : List Entry) (event : Event) (reply : Reply) (up down : List Flying) (jobs : List ActiveJob) (client : Client)
+    → IsQuiet f event reply → Stories set had f trace up down jobs client → Stories set had f (with_entry trace event reply) up down jobs client
+stories_silent set had f trace event reply up down jobs client q c = λ k. elsewhere (unchanged (around set had client.next) k) (c k) (silent (act_of f k) trace event reply (q k).0) (silent (flow_of f k) trace event reply (q k).1) refl refl refl refl refl
 
 -- ---- frames that go down and end no call well
 
@@ -50,9 +57,9 @@ more_own k down (y ∷ more) never =
 
 -- The first frames that were in flight have come, and the others still are. What the server answers itself is in flight
 -- to the client.
-pub record ComesUp {CO CI SO SI : Type 0} (c : Halves CO CI) (s : Halves SO SI) (rules : Rules) (had : ℕ → Bool) (f : ℕ → ℕ) (trace : List Entry) (up down : List Flying) (client : Client) (old new : Scene Server SO SI) : Type 0 where
+pub record ComesUp {CO CI SO SI : Type 0} (c : Halves CO CI) (s : Halves SO SI) (set : Settings) (had : ℕ → Bool) (f : ℕ → ℕ) (trace : List Entry) (up down : List Flying) (client : Client) (old new : Scene Server SO SI) : Type 0 where
   pub more : List Flying
-  pub stories : Stories rules had f trace up (down ++ more) new.state.jobs.list client
+  pub stories : Stories set had f trace up (down ++ more) new.state.jobs.list client
   pub numbers : Numbers f new.state.jobs.last up client.next
   pub sent : (y : Connection CO CI) (pipe : Pipe) (flights : List Flying) → OneWay s.out c.in_ old.outbox y pipe flights → OneWay s.out c.in_ new.outbox y pipe (flights ++ more)
 
@@ -71,100 +78,104 @@ module _ {CO CI SO SI : Type 0} (c : Halves CO CI) (s : Halves SO SI) where
   pub record Refers (k : ℕ) (old new : Outbox SO) : Type 0 where
     pub more : List Flying
     pub never : AllByRecursion (IsNever k) more
+    pub turned : AllByRecursion IsTurned more
     pub sent : Ways2 old new more
 
   unfoldable pub nothing_refers : (k : ℕ) (old new : Outbox SO) → new ≡ old → Refers k old new
-  nothing_refers k old new same = record { more = []; never = tt; sent = λ y pipe flights way. rw (same, append-nil) way }
+  nothing_refers k old new same = record { more = []; never = tt; turned = tt; sent = λ y pipe flights way. rw (same, append-nil) way }
 
-  pub flight_refers : (k : ℕ) (old new : Outbox SO) → SendsFlight s.out old (IsNever k) new → Refers k old new
-  flight_refers k old new r = record { more = r.y ∷ []; never = (r.is, tt); sent = λ y pipe flights way. joins s.out c.in_ old new y pipe flights r.y r.queue r.seal r.sound way }
+  pub flight_refers : (k : ℕ) (old new : Outbox SO) → SendsFlight s.out old (IsRefusing k) new → Refers k old new
+  flight_refers k old new r = record { more = r.y ∷ []; never = (r.is.never, tt); turned = (r.is.turned, tt); sent = λ y pipe flights way. joins s.out c.in_ old new y pipe flights r.y r.queue r.seal r.sound way }
 
   -- the core's own answer
   pub own_refers : (rules : Rules) (k : ℕ) (r : Response) (sent : List Sent) (old new : Outbox SO) → k ≤ last_id → IsRefusal r → SendsOwnAnswer rules s.out old.half k r sent → SendsAll s.out old sent new → Refers k old new
   own_refers rules k r sent old new within is (inl responds) sends = flight_refers k old new (sends_refusal s.out old rules k r sent new within is responds sends)
   own_refers rules k r sent old new within is (inr left) sends = nothing_refers k old new (none_sent s.out old sent new left.0 sends)
 
-module _ {CO CI SO SI : Type 0} (c : Halves CO CI) (s : Halves SO SI) (rules : Rules) (had : ℕ → Bool) (f : ℕ → ℕ) (trace : List Entry) (client : Client) where
+module _ {CO CI SO SI : Type 0} (c : Halves CO CI) (s : Halves SO SI) (set : Settings) (had : ℕ → Bool) (f : ℕ → ℕ) (trace : List Entry) (client : Client) where
   -- what was turned comes
   refers_comes : (k : ℕ) (up down : List Flying) (old new : Scene Server SO SI) → (r : Refers c s k old.outbox new.outbox)
-      → Stories rules had f trace up (down ++ r.more) new.state.jobs.list client → Numbers f new.state.jobs.last up client.next → ComesUp c s rules had f trace up down client old new
+      → Stories set had f trace up (down ++ r.more) new.state.jobs.list client → Numbers f new.state.jobs.last up client.next → ComesUp c s set had f trace up down client old new
   refers_comes k up down old new r stories numbers = record { more = r.more; stories = stories; numbers = numbers; sent = r.sent }
 
   -- the frame is gone: the story that it is of turns, and the others stay
-  turns_up : (x : Flying) (rest down more : List Flying) (old new : List ActiveJob) → Stories rules had f trace (x ∷ rest) down old client
-      → (let k : ℕ = x.frame.message.header.stream_id in AllByRecursion (IsNever k) more → Place (around rules had client.next) k (here_at f trace rest (down ++ more) new client k)
-      → ((i : ℕ) → k ≢ i → jobs_at new i ≡ jobs_at old i) → Stories rules had f trace rest (down ++ more) new client)
+  turns_up : (x : Flying) (rest down more : List Flying) (old new : List ActiveJob) → Stories set had f trace (x ∷ rest) down old client
+      → (let k : ℕ = x.frame.message.header.stream_id in AllByRecursion (IsNever k) more → Place (around set had client.next) k (here_at f trace rest (down ++ more) new client k)
+      → ((i : ℕ) → k ≢ i → jobs_at new i ≡ jobs_at old i) → Stories set had f trace rest (down ++ more) new client)
   turns_up x rest down more old new story never here others =
       let k : ℕ = x.frame.message.header.stream_id in
-      at_one (λ (n : ℕ). Place (around rules had client.next) n (here_at f trace rest (down ++ more) new client n)) k here
-      (λ i e. elsewhere (unchanged (around rules had client.next) i) (story i) refl (sym (under_other id_of i x rest e)) (others i e) (more_at k i down more never e) refl refl)
+      at_one (λ (n : ℕ). Place (around set had client.next) n (here_at f trace rest (down ++ more) new client n)) k here
+      (λ i e. elsewhere (unchanged (around set had client.next) i) (story i) refl refl (sym (under_other id_of i x rest e)) (others i e) (more_at k i down more never e) refl refl)
 
   abbrev HereUp : Flying → List Flying → List Flying → List ActiveJob → Type 0
-  HereUp x rest down jobs = let k : ℕ = x.frame.message.header.stream_id in IsAsked (around rules had client.next) k (here_at f trace (x ∷ rest) down jobs client k) x (parcels k rest)
+  HereUp x rest down jobs = let k : ℕ = x.frame.message.header.stream_id in IsAsked (around set had client.next) k (here_at f trace (x ∷ rest) down jobs client k) x (parcels k rest)
 
   abbrev HerePassed : Flying → List Flying → List Flying → List ActiveJob → Type 0
-  HerePassed x rest down jobs = let k : ℕ = x.frame.message.header.stream_id in IsPassed (around rules had client.next) k (here_at f trace (x ∷ rest) down jobs client k) x (parcels k rest)
+  HerePassed x rest down jobs = let k : ℕ = x.frame.message.header.stream_id in IsPassed (around set had client.next) k (here_at f trace (x ∷ rest) down jobs client k) x (parcels k rest)
 
   -- a job is made of a request
-  makes : (job : ActiveJob) (x : Flying) (rest down : List Flying) (old new : Scene Server SO SI) (sent : List Sent) → Stories rules had f trace (x ∷ rest) down old.state.jobs.list client
+  makes : (job : ActiveJob) (x : Flying) (rest down : List Flying) (old new : Scene Server SO SI) (sent : List Sent) → Stories set had f trace (x ∷ rest) down old.state.jobs.list client
       → Numbers f old.state.jobs.last (x ∷ rest) client.next → AreRight f new.state.jobs.list → SendsAll s.out old.outbox sent new.outbox → sent ≡ []
       → job.id ≡ old.state.jobs.last + 1 → new.state.jobs.list ≡ old.state.jobs.list ++ job ∷ [] → new.state.jobs.last ≡ old.state.jobs.last + 1
-      → (a : HereUp x rest down old.state.jobs.list) → IsJob rules x.frame.message.header.stream_id (Some (asked_by (is_stream job.body) (request_of a.b))) job
-      → ComesUp c s rules had f trace rest down client old new
+      → (a : HereUp x rest down old.state.jobs.list) → IsJob set.rules x.frame.message.header.stream_id (Some (asked_by (is_stream job.body) (request_of a.b))) job
+      → (x.frame.message.header.flags ≡ flags_of a.b → IsMade a.b job.body) → (is_stream job.body ≡ true → nat_eq (x.frame.message.header.stream_id % 2) 0 ≡ false)
+      → ComesUp c s set had f trace rest down client old new
   unfolding nothing_refers
-  makes job x rest down old new sent stories numbers right sends none id is last a is_job =
+  makes job x rest down old new sent stories numbers right sends none id is last a is_job made odd =
       let k : ℕ = x.frame.message.header.stream_id in
       let jobs : List ActiveJob = old.state.jobs.list in
       let mine = (all_behind (λ (j : ActiveJob). f j.id ≡ j.header.stream_id) jobs (job ∷ []) (subst (λ (js : List ActiveJob). AreRight f js) is right)).0 in
       let asked : asks x ≡ true = eq-eqb x.frame.message.header.type_ MESSAGE_TYPE_REQUEST a.known.server.is_work.type_ in
       refers_comes k rest down old new (nothing_refers c s k old.outbox new.outbox (none_sent s.out old.outbox sent new.outbox none sends))
       (turns_up x rest down [] jobs new.state.jobs.list stories tt
-      (arrives_here job a is_job refl refl (ap (λ js. jobs_at js k) is ∙ pushed_own stream_id_of k job jobs is_job.stream) (ap (parcels k) (append-nil down)) refl refl)
+      (arrives_here job a is_job made odd refl refl refl (ap (λ js. jobs_at js k) is ∙ pushed_own stream_id_of k job jobs is_job.stream) (ap (parcels k) (append-nil down)) refl refl)
       (λ i e. ap (λ js. jobs_at js i) is ∙ pushed_other stream_id_of i job jobs (λ same. e (sym is_job.stream ∙ same))))
       (subst (λ (n : ℕ). Numbers f n rest client.next) (sym last)
       (made_of f old.state.jobs.last x rest client.next asked (ap f (sym id) ∙ mine ∙ is_job.stream) a.known.server.within numbers))
 
   -- nothing is made of a frame, and something may be answered
-  refers : (x : Flying) (rest down : List Flying) (old new : Scene Server SO SI) → Stories rules had f trace (x ∷ rest) down old.state.jobs.list client
+  refers : (x : Flying) (rest down : List Flying) (old new : Scene Server SO SI) → Stories set had f trace (x ∷ rest) down old.state.jobs.list client
       → Numbers f old.state.jobs.last (x ∷ rest) client.next → new.state ≡ old.state → Refers c s x.frame.message.header.stream_id old.outbox new.outbox
-      → HereUp x rest down old.state.jobs.list ⊎ HerePassed x rest down old.state.jobs.list → ComesUp c s rules had f trace rest down client old new
+      → HereUp x rest down old.state.jobs.list ⊎ ((a : HerePassed x rest down old.state.jobs.list) × ((box_up a.so_far).receiver ≡ Open → (box_up a.so_far).ended ≡ true)) → ComesUp c s set had f trace rest down client old new
   refers x rest down old new stories numbers same r at =
       let k : ℕ = x.frame.message.header.stream_id in
       let jobs : new.state.jobs.list ≡ old.state.jobs.list = ap (λ (t : Server). t.jobs.list) same in
       refers_comes k rest down old new r
-      (subst (λ (js : List ActiveJob). Stories rules had f trace rest (down ++ r.more) js client) (sym jobs)
+      (subst (λ (js : List ActiveJob). Stories set had f trace rest (down ++ r.more) js client) (sym jobs)
       (turns_up x rest down r.more old.state.jobs.list old.state.jobs.list stories r.never
       (elim at [
-        | inl a ↦ refers_here r.more a r.never refl refl refl (more_own k down r.more r.never) refl refl
-        | inr a ↦ passes_here r.more a r.never refl refl refl (more_own k down r.more r.never) refl refl
+        | inl a ↦ refers_here r.more a r.never r.turned refl refl refl refl (more_own k down r.more r.never) refl refl
+        | inr a ↦ passes_here r.more a.0 r.never r.turned a.1 refl refl refl refl (more_own k down r.more r.never) refl refl
       ])
       (λ i e. refl)))
       (subst (λ (t : Server). Numbers f t.jobs.last rest client.next) (sym same) (passed_by f old.state.jobs.last x rest client.next numbers))
 
   -- data are put in
-  puts : (payload : List ℕ) (now : ℕ) (x : Flying) (rest down : List Flying) (old new : Scene Server SO SI) (sent : List Sent) → Stories rules had f trace (x ∷ rest) down old.state.jobs.list client
+  puts : (payload : List ℕ) (now : ℕ) (x : Flying) (rest down : List Flying) (old new : Scene Server SO SI) (sent : List Sent) → Stories set had f trace (x ∷ rest) down old.state.jobs.list client
       → Numbers f old.state.jobs.last (x ∷ rest) client.next → SendsAll s.out old.outbox sent new.outbox
-      → Does s.out (PutIn payload) old.state old.outbox.half x.frame.message.header now sent new.state → HerePassed x rest down old.state.jobs.list
-      → ComesUp c s rules had f trace rest down client old new
+      → Does s.out (PutIn payload) old.state old.outbox.half x.frame.message.header now sent new.state → HerePassed x rest down old.state.jobs.list → payload ≡ x.plain
+      → ComesUp c s set had f trace rest down client old new
   unfolding nothing_refers
-  puts payload now x rest down old new sent stories numbers sends does a =
+  puts payload now x rest down old new sent stories numbers sends does a is =
       let k : ℕ = x.frame.message.header.stream_id in
       let h : MessageHeader = x.frame.message.header in
       let g = changed_under k (brought_by h payload) in
       let none = none_sent s.out old.outbox sent new.outbox does.1 sends in
-      let whole = here_at f trace (x ∷ rest) down old.state.jobs.list client k in
-      let gone = passes_here {h2 = record whole { ups = parcels k rest }} [] a tt refl refl refl (sym (append-nil whole.downs)) refl refl in
       refers_comes k rest down old new (nothing_refers c s k old.outbox new.outbox none)
       (turns_up x rest down [] old.state.jobs.list new.state.jobs.list stories tt
-      (maps_here g (under_stays k (brought_by h payload)) gone refl refl (row_made s.out (PutIn payload) old.state old.outbox.half h now sent new.state does) (ap (parcels k) (append-nil down)) refl refl)
+      (puts_here g (under_stays k (brought_by h payload)) a (λ j mine. changed_body k payload h j mine ∙ ap (λ (plain : List ℕ). with_mail (brought_by h plain) j.body) is) refl refl refl
+      (row_made s.out (PutIn payload) old.state old.outbox.half h now sent new.state does) (ap (parcels k) (append-nil down)) refl refl)
       (λ i e. row_elsewhere s.out (PutIn payload) old.state old.outbox.half h now sent new.state i does (λ same. e (sym same))))
       (subst (λ (t : Server). Numbers f t.jobs.last rest client.next) (sym does.0) (passed_by f old.state.jobs.last x rest client.next numbers))
+    where
+      changed_body : (k : ℕ) (payload : List ℕ) (h : MessageHeader) (j : ActiveJob) → j.header.stream_id ≡ k → (changed_under k (brought_by h payload) j).body ≡ with_mail (brought_by h payload) j.body
+      changed_body k payload h j mine = rw (eq-eqb j.header.stream_id k mine) refl
 
   -- what its row makes of a request
-  by_ask_row : (row : Row) (now : ℕ) (x : Flying) (rest down : List Flying) (old new : Scene Server SO SI) (sent : List Sent) → old.state.rules ≡ rules → Stories rules had f trace (x ∷ rest) down old.state.jobs.list client
+  by_ask_row : (row : Row) (now : ℕ) (x : Flying) (rest down : List Flying) (old new : Scene Server SO SI) (sent : List Sent) → old.state.rules ≡ set.rules → Stories set had f trace (x ∷ rest) down old.state.jobs.list client
       → Numbers f old.state.jobs.last (x ∷ rest) client.next → AreRight f new.state.jobs.list → SendsAll s.out old.outbox sent new.outbox
-      → Does s.out row old.state old.outbox.half x.frame.message.header now sent new.state → (a : HereUp x rest down old.state.jobs.list) → IsAskRow rules (request_of a.b) row
-      → ComesUp c s rules had f trace rest down client old new
+      → Does s.out row old.state old.outbox.half x.frame.message.header now sent new.state → (a : HereUp x rest down old.state.jobs.list) → IsAskRow x.frame.message.header.stream_id set.rules (request_of a.b) row
+      → ComesUp c s set had f trace rest down client old new
   by_ask_row (MakeJob request) now x rest down old new sent ruled stories numbers right sends does a is =
       let k : ℕ = x.frame.message.header.stream_id in
       let job = new_job (old.state.jobs.last + 1) x.frame.message.header request (unary_body old.state.rules now request) in
@@ -174,7 +185,7 @@ module _ {CO CI SO SI : Type 0} (c : Halves CO CI) (s : Halves SO SI) (rules : R
         request = ap (λ (q : Request). Some q) is ∙ ap (λ (t : Bool). Some (asked_by t (request_of a.b))) (sym kind);
         stream = refl;
         kind = λ sync. kind;
-      })
+      }) (λ flags. inl kind) (λ stream. let bad : true ≡ false = sym stream ∙ kind in cc)
   by_ask_row (MakeStream request) now x rest down old new sent ruled stories numbers right sends does a is =
       let job = new_job (old.state.jobs.last + 1) x.frame.message.header (without_payload request) (stream_body old.state.services.bare_openings x.frame.message.header.flags request.payload) in
       makes job x rest down old new sent stories numbers right sends does.1 refl (ap (λ (t : Server). t.jobs.list) does.0) (ap (λ (t : Server). t.jobs.last) does.0) a
@@ -182,65 +193,68 @@ module _ {CO CI SO SI : Type 0} (c : Halves CO CI) (s : Halves SO SI) (rules : R
         request = ap (λ (q : Request). Some (without_payload q)) is.0;
         stream = refl;
         kind = λ sync. let bad : SyncRules ≡ AsyncRules = sym sync ∙ is.1 in cc;
-      })
+      }) (λ flags. inr (old.state.services.bare_openings, stream_is old.state.services.bare_openings flags is.0)) (λ stream. is.2)
+    where
+      stream_is : (bare : Bool) {flags flags2 : ℕ} {q q2 : Request} → flags ≡ flags2 → q ≡ q2 → stream_body bare flags q.payload ≡ stream_body bare flags2 q2.payload
+      stream_is bare e same = rw (e, same) refl
   by_ask_row (SendResponse response) now x rest down old new sent ruled stories numbers right sends does a is =
       refers x rest down old new stories numbers does.0
       (own_refers c s old.state.rules x.frame.message.header.stream_id response sent old.outbox new.outbox a.known.server.within is does.1 sends) (inl a)
   by_ask_row row now x rest down old new sent ruled stories numbers right sends does a is = absurd is
 
   -- and of data
-  by_item_row : (row : Row) (now : ℕ) (x : Flying) (rest down : List Flying) (old new : Scene Server SO SI) (sent : List Sent) → Stories rules had f trace (x ∷ rest) down old.state.jobs.list client
+  by_item_row : (row : Row) (now : ℕ) (x : Flying) (rest down : List Flying) (old new : Scene Server SO SI) (sent : List Sent) → Stories set had f trace (x ∷ rest) down old.state.jobs.list client
       → Numbers f old.state.jobs.last (x ∷ rest) client.next → SendsAll s.out old.outbox sent new.outbox
-      → Does s.out row old.state old.outbox.half x.frame.message.header now sent new.state → (a : HerePassed x rest down old.state.jobs.list) → IsItemRow row
-      → ComesUp c s rules had f trace rest down client old new
-  by_item_row (PutIn payload) now x rest down old new sent stories numbers sends does a is = puts payload now x rest down old new sent stories numbers sends does a
-  by_item_row (SendResponse response) now x rest down old new sent stories numbers sends does a is =
+      → Does s.out row old.state old.outbox.half x.frame.message.header now sent new.state → (a : HerePassed x rest down old.state.jobs.list) → old.state.rules ≡ set.rules → IsItemRow x.frame.message.header.stream_id old.state.rules (inlet_of (jobs_at old.state.jobs.list x.frame.message.header.stream_id)) x.plain row
+      → ComesUp c s set had f trace rest down client old new
+  by_item_row (PutIn payload) now x rest down old new sent stories numbers sends does a ruled is = puts payload now x rest down old new sent stories numbers sends does a is
+  by_item_row (SendResponse response) now x rest down old new sent stories numbers sends does a ruled is =
       refers x rest down old new stories numbers does.0
-      (own_refers c s old.state.rules x.frame.message.header.stream_id response sent old.outbox new.outbox a.known.server.within is does.1 sends) (inr a)
-  by_item_row Ignore now x rest down old new sent stories numbers sends does a is =
-      refers x rest down old new stories numbers does.0 (nothing_refers c s x.frame.message.header.stream_id old.outbox new.outbox (none_sent s.out old.outbox sent new.outbox does.1 sends)) (inr a)
-  by_item_row row now x rest down old new sent stories numbers sends does a is = absurd is
+      (own_refers c s old.state.rules x.frame.message.header.stream_id response sent old.outbox new.outbox a.known.server.within is.0 does.1 sends) (inr (a, untaken a.so_far a.known a.none_else (λ async. is.1 (ruled ∙ async))))
+  by_item_row Ignore now x rest down old new sent stories numbers sends does a ruled is =
+      refers x rest down old new stories numbers does.0 (nothing_refers c s x.frame.message.header.stream_id old.outbox new.outbox (none_sent s.out old.outbox sent new.outbox does.1 sends)) (inr (a, untaken a.so_far a.known a.none_else (λ async. is (ruled ∙ async))))
+  by_item_row row now x rest down old new sent stories numbers sends does a ruled is = absurd is
 
   -- the row of a frame that arrives as it was sent
   abbrev row_at : Server → Flying → Row
   row_at t x = case_row t.rules t.services x.frame.message.header (case_of t.rules x.frame.message.header (Opened x.plain) (inlet_of (jobs_at t.jobs.list x.frame.message.header.stream_id)))
 
-  asked_row_is : (x : Flying) (rest down : List Flying) (t : Server) → t.rules ≡ rules → (a : HereUp x rest down t.jobs.list) → IsAskRow rules (request_of a.b) (row_at t x)
+  asked_row_is : (x : Flying) (rest down : List Flying) (t : Server) → t.rules ≡ set.rules → (a : HereUp x rest down t.jobs.list) → IsAskRow x.frame.message.header.stream_id set.rules (request_of a.b) (row_at t x)
   asked_row_is x rest down t ruled a =
       let h : MessageHeader = x.frame.message.header in
       let sent = a.known.server.is_work in
       let none : jobs_at t.jobs.list h.stream_id ≡ [] = a.known.server.jobs_is in
-      subst (λ (plain : List ℕ). IsAskRow rules (request_of a.b) (case_row t.rules t.services h (case_of t.rules h (Opened plain) (inlet_of (jobs_at t.jobs.list h.stream_id))))) (sym sent.plain)
-      (subst (λ (jobs : List ActiveJob). IsAskRow rules (request_of a.b) (case_row t.rules t.services h (case_of t.rules h (Opened (request_bytes (request_of a.b))) (inlet_of jobs)))) (sym none)
-      (subst (λ (r : Rules). IsAskRow rules (request_of a.b) (case_row r t.services h (case_of r h (Opened (request_bytes (request_of a.b))) Absent))) (sym ruled)
-      (ask_row rules t.services h (request_of a.b) sent.known sent.short sent.type_)))
+      subst (λ (plain : List ℕ). IsAskRow h.stream_id set.rules (request_of a.b) (case_row t.rules t.services h (case_of t.rules h (Opened plain) (inlet_of (jobs_at t.jobs.list h.stream_id))))) (sym sent.plain)
+      (subst (λ (jobs : List ActiveJob). IsAskRow h.stream_id set.rules (request_of a.b) (case_row t.rules t.services h (case_of t.rules h (Opened (request_bytes (request_of a.b))) (inlet_of jobs)))) (sym none)
+      (subst (λ (r : Rules). IsAskRow h.stream_id set.rules (request_of a.b) (case_row r t.services h (case_of r h (Opened (request_bytes (request_of a.b))) Absent))) (sym ruled)
+      (ask_row set.rules t.services h (request_of a.b) sent.known sent.short sent.type_)))
 
-  passed_row_is : (x : Flying) (rest down : List Flying) (t : Server) → (a : HerePassed x rest down t.jobs.list) → IsItemRow (row_at t x)
+  passed_row_is : (x : Flying) (rest down : List Flying) (t : Server) → (a : HerePassed x rest down t.jobs.list) → IsItemRow x.frame.message.header.stream_id t.rules (inlet_of (jobs_at t.jobs.list x.frame.message.header.stream_id)) x.plain (row_at t x)
   passed_row_is x rest down t a =
       let k : ℕ = x.frame.message.header.stream_id in
       let item : IsItem k x = (subst (λ (xs : List Flying). AllByRecursion (IsItem k) xs) a.items a.known.server.are_items).0 in
       item_row t.rules t.services x.frame.message.header x.plain (inlet_of (jobs_at t.jobs.list k)) item.short item.type_
 
   -- one frame
-  comes_up : (now : ℕ) (x : Flying) (rest down : List Flying) (old new : Scene Server SO SI) (sent : List Sent) → old.state.rules ≡ rules
+  comes_up : (now : ℕ) (x : Flying) (rest down : List Flying) (old new : Scene Server SO SI) (sent : List Sent) → old.state.rules ≡ set.rules
       → Does s.out (row_at old.state x) old.state old.outbox.half x.frame.message.header now sent new.state → SendsAll s.out old.outbox sent new.outbox
-      → Stories rules had f trace (x ∷ rest) down old.state.jobs.list client → Numbers f old.state.jobs.last (x ∷ rest) client.next → AreRight f new.state.jobs.list
-      → ComesUp c s rules had f trace rest down client old new
+      → Stories set had f trace (x ∷ rest) down old.state.jobs.list client → Numbers f old.state.jobs.last (x ∷ rest) client.next → AreRight f new.state.jobs.list
+      → ComesUp c s set had f trace rest down client old new
   comes_up now x rest down old new sent ruled does sends stories numbers right =
       let k : ℕ = x.frame.message.header.stream_id in
       elim (comes_of x (parcels k rest) (stories k) (under_own id_of k x rest refl)) [
         | inl a ↦ by_ask_row (row_at old.state x) now x rest down old new sent ruled stories numbers right sends does a (asked_row_is x rest down old.state ruled a)
-        | inr a ↦ by_item_row (row_at old.state x) now x rest down old new sent stories numbers sends does a (passed_row_is x rest down old.state a)
+        | inr a ↦ by_item_row (row_at old.state x) now x rest down old new sent stories numbers sends does a ruled (passed_row_is x rest down old.state a)
       ]
 
   -- frames, one after the other
-  pub feeds_up : (now : ℕ) (front rest down : List Flying) (old new : Scene Server SO SI) → old.state.rules ≡ rules
-      → ActsOn (serving s.out s.in_) now old front new → Stories rules had f trace (front ++ rest) down old.state.jobs.list client → Numbers f old.state.jobs.last (front ++ rest) client.next → AreRight f new.state.jobs.list
-      → ComesUp c s rules had f trace rest down client old new
+  pub feeds_up : (now : ℕ) (front rest down : List Flying) (old new : Scene Server SO SI) → old.state.rules ≡ set.rules
+      → ActsOn (serving s.out s.in_) now old front new → Stories set had f trace (front ++ rest) down old.state.jobs.list client → Numbers f old.state.jobs.last (front ++ rest) client.next → AreRight f new.state.jobs.list
+      → ComesUp c s set had f trace rest down client old new
   feeds_up now [] rest down old new ruled p stories numbers right =
-      subst (λ (x : Scene Server SO SI). ComesUp c s rules had f trace rest down client old x) (sym p) (record {
+      subst (λ (x : Scene Server SO SI). ComesUp c s set had f trace rest down client old x) (sym p) (record {
         more = [];
-        stories = subst (λ (d : List Flying). Stories rules had f trace rest d old.state.jobs.list client) (sym (append-nil down)) stories;
+        stories = subst (λ (d : List Flying). Stories set had f trace rest d old.state.jobs.list client) (sym (append-nil down)) stories;
         numbers = numbers;
         sent = λ y pipe flights way. rw append-nil way;
       })
@@ -249,42 +263,37 @@ module _ {CO CI SO SI : Type 0} (c : Halves CO CI) (s : Halves SO SI) (rules : R
       let later = feeds_up now front rest (down ++ first.more) p.0 new (rules_stay s.out _ old.state _ _ now p.1 p.0.state p.2 ∙ ruled) p.4 first.stories first.numbers right in
       record {
         more = first.more ++ later.more;
-        stories = subst (λ (d : List Flying). Stories rules had f trace rest d new.state.jobs.list client) (append_assoc down first.more later.more) later.stories;
+        stories = subst (λ (d : List Flying). Stories set had f trace rest d new.state.jobs.list client) (append_assoc down first.more later.more) later.stories;
         numbers = later.numbers;
         sent = λ y pipe flights way. rw (← append_assoc) (later.sent y pipe (flights ++ first.more) (first.sent y pipe flights way));
       }
 
 -- ---- a frame comes to the client
 
--- there is no stream, and so none after it
-reaches_none : (h : MessageHeader) (opening : Opening) (old new : Option Stream) → Reaches (is_entered old) h opening old new → old ≡ None → new ≡ None
-reaches_none h opening old new reaches none = subst (λ (x : Option Stream). Reaches (is_entered x) h opening x new) none reaches
-
-pub record ComesDown {CO CI : Type 0} (rules : Rules) (had : ℕ → Bool) (f : ℕ → ℕ) (trace : List Entry) (up down : List Flying) (jobs : List ActiveJob) (old new : Scene Client CO CI) : Type 0 where
-  pub stories : Stories rules had f trace up down jobs new.state
+pub record ComesDown {CO CI : Type 0} (set : Settings) (had : ℕ → Bool) (f : ℕ → ℕ) (trace : List Entry) (up down : List Flying) (jobs : List ActiveJob) (old new : Scene Client CO CI) : Type 0 where
+  pub stories : Stories set had f trace up down jobs new.state
   pub next : new.state.next ≡ old.state.next
   pub outbox : new.outbox ≡ old.outbox
 
-module _ {CO CI : Type 0} (c : Halves CO CI) (rules : Rules) (had : ℕ → Bool) (f : ℕ → ℕ) (trace : List Entry) where
+module _ {CO CI : Type 0} (c : Halves CO CI) (set : Settings) (had : ℕ → Bool) (f : ℕ → ℕ) (trace : List Entry) where
   comes_down : (x : Flying) (up rest : List Flying) (jobs : List ActiveJob) (old new : Client) (sent : List Sent) (now : ℕ)
-      → LandsOnce old (record { header = x.frame.message.header; opening = Opened x.plain; now = now }) sent new → Stories rules had f trace up (x ∷ rest) jobs old
-      → Stories rules had f trace up rest jobs new
+      → LandsOnce old (record { header = x.frame.message.header; opening = Opened x.plain; now = now }) sent new → Stories set had f trace up (x ∷ rest) jobs old
+      → Stories set had f trace up rest jobs new
   comes_down x up rest jobs old new sent now p stories =
       let k : ℕ = x.frame.message.header.stream_id in
       let was = under_own id_of k x rest refl in
       let told = down_of x (parcels k rest) (stories k) was in
       let next : new.next ≡ old.next = ap (λ (s : Client). s.next) p.same in
-      let later : (i : ℕ) → Later (around rules had old.next) (around rules had new.next) i = λ i. next_up rules had old.next new.next i (omega (arith, next)) in
-      at_one (λ (n : ℕ). Place (around rules had new.next) n (here_at f trace up rest jobs new n)) k
-      (lands_here x (parcels k rest) (later k) (stories k) was refl refl refl refl (subst (λ (l : Landing). LandsOn l (call_at old k) (call_at new k)) told.lands p.lands.own)
-      (reaches_none x.frame.message.header (Opened x.plain) (stream_at old k) (stream_at new k) p.reaches.own))
-      (λ i e. elsewhere (later i) (stories i) refl refl refl (sym (under_other id_of i x rest e)) (p.lands.others i (λ same. e (sym same))) (p.reaches.others i (λ same. e (sym same))))
+      let later : (i : ℕ) → Later (around set had old.next) (around set had new.next) i = λ i. next_up set had old.next new.next i (omega (arith, next)) in
+      at_one (λ (n : ℕ). Place (around set had new.next) n (here_at f trace up rest jobs new n)) k
+      (lands_here x (parcels k rest) (later k) (stories k) was refl refl refl refl refl (subst (λ (l : Landing). LandsOn l (call_at old k) (call_at new k)) told.lands p.lands.own) p.reaches.own)
+      (λ i e. elsewhere (later i) (stories i) refl refl refl refl (sym (under_other id_of i x rest e)) (p.lands.others i (λ same. e (sym same))) (p.reaches.others i (λ same. e (sym same))))
 
   pub feeds_down : (now : ℕ) (front up rest : List Flying) (jobs : List ActiveJob) (old new : Scene Client CO CI)
-      → ActsOn (calling c.out c.in_) now old front new → Stories rules had f trace up (front ++ rest) jobs old.state
-      → ComesDown rules had f trace up rest jobs old new
+      → ActsOn (calling c.out c.in_) now old front new → Stories set had f trace up (front ++ rest) jobs old.state
+      → ComesDown set had f trace up rest jobs old new
   feeds_down now [] up rest jobs old new p stories =
-      subst (λ (x : Scene Client CO CI). ComesDown rules had f trace up rest jobs old x) (sym p) (record { stories = stories; next = refl; outbox = refl })
+      subst (λ (x : Scene Client CO CI). ComesDown set had f trace up rest jobs old x) (sym p) (record { stories = stories; next = refl; outbox = refl })
   feeds_down now (x ∷ front) up rest jobs old new p stories =
       let first = comes_down x up (front ++ rest) jobs old.state p.0.state p.1 now p.2 stories in
       let later = feeds_down now front up rest jobs p.0 new p.4 first in

@@ -1,38 +1,44 @@
 -- THE HEADLINE, for any run from a fresh start: each step keeps the invariant, and the invariant has the headline in it.
-use Rattle.ttrpc_pair.proofs.Words.{◌++◌, ◌∙◌, ◌∷◌, ◌≡◌, ℕ, [], Answer, ap, append-nil, append_assoc, arith, Bool, call_at, CallEvent, Carry, ClientCore, ClientEnd, ClientSide, Close, Count, Cut, Deliver, Done, Drain, DropCall, DropReceiver, DropSender, EndStream, Entry, Event, Fail, failed_by_hand, false, Finish, Given, Halves, Handed, inl, inr, IsFresh, Item, jobs_at, List, Named, Net, OpenEvent, Outcome, Recv, refl, Refused, Reply, Respond, Rules, rules, Runs, Send, ServerCore, ServerEnd, ServerSide, Some, Steps, stream_at, subst, sym, Take, Tick, Ticket, Told, with_client, with_server}
-use Rattle.ttrpc_story.proofs.Words.{act_of, with_entry}
-use Rattle.ttrpc_story.proofs.Here.{Idle, Unborn}
-use Rattle.ttrpc_story.proofs.Place.{exactly_once}
-use Rattle.ttrpc_headline.proofs.ByClient.{keeps_ask, keeps_call, keeps_drop, keeps_open, keeps_passes, keeps_recv, keeps_send, keeps_unheard, keeps_unsent}
-use Rattle.ttrpc_headline.proofs.ByServer.{keeps_answer, keeps_drain, keeps_end, keeps_finish, keeps_hand, keeps_recv_up, keeps_respond, keeps_send_up, keeps_ticks, keeps_unheard_up}
+use Rattle.ttrpc_headline.proofs.ByClient.{closed_sends, keeps_ask, keeps_call, keeps_drop, keeps_open, keeps_passes, keeps_recv, keeps_send, keeps_unheard, keeps_unsent}
+use Rattle.ttrpc_headline.proofs.ByServer.{IsSet, keeps_answer, keeps_drain, keeps_end, keeps_finish, keeps_hand, keeps_recv_up, keeps_respond, keeps_send_up, keeps_ticks, keeps_unheard_up}
 use Rattle.ttrpc_headline.proofs.Constants.{stepped}
+use Rattle.ttrpc_headline.proofs.Delivers.{IsQuiet}
+use Rattle.ttrpc_headline.proofs.Failing.{ArePlain, fresh_plain, plainly}
 use Rattle.ttrpc_headline.proofs.Keeps.{Keeps, keeps_still}
 use Rattle.ttrpc_headline.proofs.Moves.{break_down, break_up, carry_down, carry_up, client_fails, cut_down, cut_up, deliver_down, deliver_up, server_fails, stay_up}
 use Rattle.ttrpc_headline.proofs.Numbers.{AreRight, fresh_numbers, IsRightRun, Numbers, one_to_one, stream_of_run, streams_of}
 use Rattle.ttrpc_headline.proofs.OneWay.{starts}
 use Rattle.ttrpc_events.specs.Told.{IsTold}
+use Rattle.ttrpc_story.proofs.Reading.{nothing_read}
+use Rattle.ttrpc_story.proofs.Place.{Settings}
+use Rattle.ttrpc_story.proofs.Events.{close_put, exactly_once, in_order_here, item_put}
+use Rattle.ttrpc_story.proofs.Here.{Idle, Unborn}
+use Rattle.ttrpc_pair.proofs.Words.{[], Answer, ap, append-nil, append_assoc, arith, Bool, call_at, CallEvent, Carry, ClientCore, ClientEnd, ClientSide, Close, Count, Cut, Deliver, Done, Drain, DropCall, DropReceiver, DropSender, EndStream, Entry, Event, Fail, failed_by_hand, false, Finish, given, Given, Halves, Handed, inl, inr, IsFresh, Item, jobs_at, List, Named, Net, OpenEvent, Outcome, Recv, refl, Refused, Reply, Respond, rules, Runs, safe_limit, Send, ServerCore, ServerEnd, ServerSide, Some, stays, Steps, stream_at, subst, sym, Take, Tick, Ticket, Told, with_client, with_server, ℕ, ◌++◌, ◌∙◌, ◌∷◌, ◌≡◌}
+use Rattle.ttrpc_story.proofs.Words.{AreInOrder, ClosedUp, flows, items, SentUp, ThingEnd, ThingItem, with_entry}
 
 module _ {CO CI SO SI : Type 0} (c : Halves CO CI) (s : Halves SO SI) (seals : Bool) (still : seals ≡ false → (from to : CO) (plain aad sealed : List ℕ) → c.out.seals from plain aad sealed to → to ≡ from)
-    (fixed : (x y : SO) (plain aad sealed : List ℕ) → s.out.seals x plain aad sealed y → s.out.overhead y ≡ s.out.overhead x) (rs : Rules) (f : ℕ → ℕ) where
+    (fixed : (x y : SO) (plain aad sealed : List ℕ) → s.out.seals x plain aad sealed y → s.out.overhead y ≡ s.out.overhead x) (set : Settings) (f : ℕ → ℕ) where
   abbrev Kept : List Entry → Net CO CI SO SI → Type 0
-  Kept trace w = Keeps c s rs f trace w
+  Kept trace w = Keeps c s set f trace w
 
   abbrev Right : Net CO CI SO SI → Type 0
   Right w = AreRight f w.server.state.jobs.list
 
-  abbrev Ruled : Net CO CI SO SI → Type 0
-  Ruled w = w.server.state.rules ≡ rs
+  -- the settings are these, and no side has failed so that it is an end
+  record Ruled (w : Net CO CI SO SI) : Type 0 where
+    is_set : IsSet c s seals set f [] w
+    plain : ArePlain w
 
   -- an equal net
   along : (trace : List Entry) (w v : Net CO CI SO SI) → v ≡ w → Kept trace w → Kept trace v
-  along trace w v e i = subst (λ (x : Net CO CI SO SI). Keeps c s rs f trace x) (sym e) i
+  along trace w v e i = subst (λ (x : Net CO CI SO SI). Keeps c s set f trace x) (sym e) i
 
   -- an entry that is no act of any id, and then what it did
-  quietly : (trace : List Entry) (w : Net CO CI SO SI) (event : Event) (reply : Reply) → ((k : ℕ) → act_of f k event reply ≡ []) → Kept trace w → Kept (with_entry trace event reply) w
-  quietly trace w event reply quiet i = keeps_still c s rs f trace w event reply quiet i
+  quietly : (trace : List Entry) (w : Net CO CI SO SI) (event : Event) (reply : Reply) → IsQuiet f event reply → Kept trace w → Kept (with_entry trace event reply) w
+  quietly trace w event reply quiet i = keeps_still c s set f trace w event reply quiet i
 
   -- nothing changed
-  same : (trace : List Entry) (w : Net CO CI SO SI) (event : Event) (reply : Reply) (v : Net CO CI SO SI) → ((k : ℕ) → act_of f k event reply ≡ []) → Kept trace w → v ≡ w → Kept (with_entry trace event reply) v
+  same : (trace : List Entry) (w : Net CO CI SO SI) (event : Event) (reply : Reply) (v : Net CO CI SO SI) → IsQuiet f event reply → Kept trace w → v ≡ w → Kept (with_entry trace event reply) v
   same trace w event reply v quiet i e = along (with_entry trace event reply) w v e (quietly trace w event reply quiet i)
 
   -- the moment plays no part
@@ -43,46 +49,52 @@ module _ {CO CI SO SI : Type 0} (c : Halves CO CI) (s : Halves SO SI) (seals : B
   ticks : (trace : List Entry) (w : Net CO CI SO SI) (now : ℕ) (v : Net CO CI SO SI) → Kept trace w → Steps c s seals w (Tick now) Done v → Kept (with_entry trace (Tick now) Done) v
   ticks trace w now v i p =
       let x = with_client w v.client in
-      along _ _ v p.only (at_moment _ (with_server x v.server) now (quietly trace (with_server x v.server) (Tick now) Done (λ k. refl)
-      (keeps_ticks c s seals rs f trace w.server.state.rules w.server.connection.failure x now v.server refl (keeps_passes c s seals still rs f trace w now v.client w.client.connection.failure i p.does) p.serves)))
+      along _ _ v p.only (at_moment _ (with_server x v.server) now (quietly trace (with_server x v.server) (Tick now) Done (λ k. (refl, refl))
+      (keeps_ticks c s seals set f trace w.server.state.rules w.server.connection.failure x now v.server refl (keeps_passes c s seals still set f trace w now v.client w.client.connection.failure i p.does) p.serves)))
 
   -- EACH STEP KEEPS IT, where the function is right before it and behind it.
   keeps : (trace : List Entry) (w : Net CO CI SO SI) (event : Event) (reply : Reply) (v : Net CO CI SO SI) → Kept trace w → Ruled w → Right w → Right v → Steps c s seals w event reply v → Kept (with_entry trace event reply) v
-  keeps trace w (CallEvent request) (Named id) v i u r r2 p = along _ _ v p.2 (keeps_call c s seals still rs f trace w request id v i p.0 p.1)
-  keeps trace w (OpenEvent request up down) (Named id) v i u r r2 p = along _ _ v p.2 (keeps_open c s seals still rs f trace w request up down id v i p.0 p.1)
-  keeps trace w (Outcome id) (Given outcome) v i u r r2 p = along _ _ v p.1 (keeps_ask c s seals still rs f trace w id outcome v i p.0)
-  keeps trace w (DropCall id) Done v i u r r2 p = along _ _ v p.only (keeps_drop c s seals still rs f trace w id v i p)
-  keeps trace w (Recv (ClientEnd id)) (Item given) v i u r r2 p = along _ _ v p.1 (keeps_recv c s seals still rs f trace w id given v i p.0)
-  keeps trace w (Recv (ServerEnd id)) (Item given) v i u r r2 p = along _ _ v p.1 (keeps_recv_up c s seals rs f trace w id given v.server i p.0)
-  keeps trace w (Send (ClientEnd id) item) (Ticket ticket) v i u r r2 p = along _ _ v p.1 (keeps_send c s seals still rs f trace w (Send (ClientEnd id) item) (Ticket ticket) id _ _ _ _ v i (omega arith) p.0 (λ k. refl))
-  keeps trace w (Send (ServerEnd id) item) (Ticket ticket) v i u r r2 p = along _ _ v p.1 (keeps_send_up c s seals rs f trace w id item ticket v.server i p.0)
-  keeps trace w (Close id) (Ticket ticket) v i u r r2 p = along _ _ v p.1 (keeps_send c s seals still rs f trace w (Close id) (Ticket ticket) id _ _ _ _ v i (omega arith) p.0 (λ k. refl))
-  keeps trace w (DropReceiver (ClientEnd id)) Done v i u r r2 p = along _ _ v p.1 (keeps_unheard c s seals still rs f trace w id v i p.0)
-  keeps trace w (DropReceiver (ServerEnd id)) Done v i u r r2 p = along _ _ v p.1 (keeps_unheard_up c s seals rs f trace w id i)
-  keeps trace w (DropSender id) Done v i u r r2 p = along _ _ v p.1 (keeps_unsent c s seals still rs f trace w id v i p.0)
-  keeps trace w Take (Handed (Some job)) v i u r r2 p = along _ _ v p.1 (keeps_hand c s seals rs f trace w job v i p.0)
-  keeps trace w (Answer id result) Done v i u r r2 p = along _ _ v p.1 (keeps_answer c s seals rs f trace w id result v.server i r p.0 p.2)
-  keeps trace w (Respond id response) Done v i u r r2 p = along _ _ v p.only (keeps_respond c s seals rs f trace w id response v i u r p)
-  keeps trace w (Finish id) Done v i u r r2 p = along _ _ v p.1 (keeps_finish c s seals rs f trace w id v.server i p.0)
-  keeps trace w (EndStream id result) Done v i u r r2 p = along _ _ v p.1 (keeps_end c s seals rs f trace w id result v.server i r p.0 p.2)
-  keeps trace w Drain Done v i u r r2 p = along _ _ v p (keeps_drain c s seals rs f trace w i)
+  keeps trace w (CallEvent request) (Named id) v i u r r2 p = along _ _ v p.2 (keeps_call c s seals still set f trace w request id v i p.0 p.1)
+  keeps trace w (OpenEvent request up down) (Named id) v i u r r2 p = along _ _ v p.2 (keeps_open c s seals still set f trace w request up down id v i p.0 p.1)
+  keeps trace w (Outcome id) (Given outcome) v i u r r2 p = along _ _ v p.1 (keeps_ask c s seals still set f trace w id outcome v i p.0)
+  keeps trace w (DropCall id) Done v i u r r2 p = along _ _ v p.only (keeps_drop c s seals still set f trace w id v i p)
+  keeps trace w (Recv (ClientEnd id)) (Item given) v i u r r2 p = along _ _ v p.1 (keeps_recv c s seals still set f trace w id given v i u.plain.client p.0)
+  keeps trace w (Recv (ServerEnd id)) (Item given) v i u r r2 p = along _ _ v p.1 (keeps_recv_up c s seals set f trace w id given v.server i r u.plain.server p.0)
+  keeps trace w (Send (ClientEnd id) item) (Ticket ticket) v i u r r2 p = along _ _ v p.1 (keeps_send c s seals still set f trace w (Send (ClientEnd id) item) (Ticket ticket) id _ _ _ _ v (SentUp item) (ThingItem item) i (omega arith) p.0 (λ k. (refl, refl)) (item_put item) refl (λ e. refl))
+  keeps trace w (Send (ServerEnd id) item) (Ticket ticket) v i u r r2 p = along _ _ v p.1 (keeps_send_up c s seals set f trace w id item ticket v.server i r p.0)
+  keeps trace w (Close id) (Ticket ticket) v i u r r2 p = along _ _ v p.1 (keeps_send c s seals still set f trace w (Close id) (Ticket ticket) id _ _ _ _ v ClosedUp ThingEnd i (omega arith) p.0 (λ k. (refl, refl)) close_put refl (λ e. absurd (closed_sends (stream_at w.client.state id) e)))
+  keeps trace w (DropReceiver (ClientEnd id)) Done v i u r r2 p = along _ _ v p.1 (keeps_unheard c s seals still set f trace w id v i p.0)
+  keeps trace w (DropReceiver (ServerEnd id)) Done v i u r r2 p = along _ _ v p.1 (keeps_unheard_up c s seals set f trace w id i)
+  keeps trace w (DropSender id) Done v i u r r2 p = along _ _ v p.1 (keeps_unsent c s seals still set f trace w id v i p.0)
+  keeps trace w Take (Handed (Some job)) v i u r r2 p = along _ _ v p.1 (keeps_hand c s seals set f trace w job v i p.0)
+  keeps trace w (Answer id result) Done v i u r r2 p = along _ _ v p.1 (keeps_answer c s seals set f trace w id result v.server i u.is_set r p.0 p.2)
+  keeps trace w (Respond id response) Done v i u r r2 p = along _ _ v p.only (keeps_respond c s seals set f trace w id response v i u.is_set r p)
+  keeps trace w (Finish id) Done v i u r r2 p = along _ _ v p.1 (keeps_finish c s seals set f trace w id v.server i p.0)
+  keeps trace w (EndStream id result) Done v i u r r2 p = along _ _ v p.1 (keeps_end c s seals set f trace w id result v.server i u.is_set r p.0 p.2)
+  keeps trace w Drain Done v i u r r2 p = along _ _ v p (keeps_drain c s seals set f trace w i)
   keeps trace w (Tick now) Done v i u r r2 p = ticks trace w now v i p
-  keeps trace w (Carry ClientSide n) (Count k) v i u r r2 p = carry_up c s seals rs f _ w n k v (quietly trace w (Carry ClientSide n) (Count k) (λ j. refl) i) p
-  keeps trace w (Carry ServerSide n) (Count k) v i u r r2 p = carry_down c s seals rs f _ w n k v (quietly trace w (Carry ServerSide n) (Count k) (λ j. refl) i) p
-  keeps trace w (Deliver ServerSide n) (Count k) v i u r r2 (inl p) = deliver_up c s seals rs f _ w n k v (quietly trace w (Deliver ServerSide n) (Count k) (λ j. refl) i) u r2 p
-  keeps trace w (Deliver ServerSide n) (Count k) v i u r r2 (inr p) = stay_up c s seals rs f _ w k v (quietly trace w (Deliver ServerSide n) (Count k) (λ j. refl) i) p
-  keeps trace w (Deliver ServerSide n) (Refused told) v i u r r2 (inl p) = break_up c s seals rs f _ w n told v (quietly trace w (Deliver ServerSide n) (Refused told) (λ j. refl) i) u r2 p.0 p.1
-  keeps trace w (Deliver ServerSide n) (Refused told) v i u r r2 (inr p) = same trace w (Deliver ServerSide n) (Refused told) v (λ k. refl) i p.1
-  keeps trace w (Deliver ClientSide n) (Count k) v i u r r2 p = deliver_down c s seals rs f _ w n k v (quietly trace w (Deliver ClientSide n) (Count k) (λ j. refl) i) p
-  keeps trace w (Deliver ClientSide n) (Refused told) v i u r r2 (inl p) = break_down c s seals rs f _ w n told v (quietly trace w (Deliver ClientSide n) (Refused told) (λ j. refl) i) p.0 p.1
-  keeps trace w (Deliver ClientSide n) (Refused told) v i u r r2 (inr p) = same trace w (Deliver ClientSide n) (Refused told) v (λ k. refl) i p.1
-  keeps trace w (Cut ServerSide keep) Done v i u r r2 p = cut_up c s seals rs f _ w keep v (quietly trace w (Cut ServerSide keep) Done (λ k. refl) i) p
-  keeps trace w (Cut ClientSide keep) Done v i u r r2 p = cut_down c s seals rs f _ w keep v (quietly trace w (Cut ClientSide keep) Done (λ k. refl) i) p
+  keeps trace w (Carry ClientSide n) (Count k) v i u r r2 p = carry_up c s seals set f _ w n k v (quietly trace w (Carry ClientSide n) (Count k) (λ j. (refl, refl)) i) p
+  keeps trace w (Carry ServerSide n) (Count k) v i u r r2 p = carry_down c s seals set f _ w n k v (quietly trace w (Carry ServerSide n) (Count k) (λ j. (refl, refl)) i) p
+  keeps trace w (Deliver ServerSide n) (Count k) v i u r r2 (inl p) = deliver_up c s seals set f _ w n k v (quietly trace w (Deliver ServerSide n) (Count k) (λ j. (refl, refl)) i) u.is_set.0 r2 p
+  keeps trace w (Deliver ServerSide n) (Count k) v i u r r2 (inr p) = stay_up c s seals set f _ w k v (quietly trace w (Deliver ServerSide n) (Count k) (λ j. (refl, refl)) i) p
+  keeps trace w (Deliver ServerSide n) (Refused told) v i u r r2 (inl p) = break_up c s seals set f _ w n told v (quietly trace w (Deliver ServerSide n) (Refused told) (λ j. (refl, refl)) i) u.is_set.0 r2 p.0 p.1
+  keeps trace w (Deliver ServerSide n) (Refused told) v i u r r2 (inr p) = same trace w (Deliver ServerSide n) (Refused told) v (λ k. (refl, refl)) i p.1
+  keeps trace w (Deliver ClientSide n) (Count k) v i u r r2 p = deliver_down c s seals set f _ w n k v (quietly trace w (Deliver ClientSide n) (Count k) (λ j. (refl, refl)) i) p
+  keeps trace w (Deliver ClientSide n) (Refused told) v i u r r2 (inl p) = break_down c s seals set f _ w n told v (quietly trace w (Deliver ClientSide n) (Refused told) (λ j. (refl, refl)) i) p.0 p.1
+  keeps trace w (Deliver ClientSide n) (Refused told) v i u r r2 (inr p) = same trace w (Deliver ClientSide n) (Refused told) v (λ k. (refl, refl)) i p.1
+  keeps trace w (Cut ServerSide keep) Done v i u r r2 p = cut_up c s seals set f _ w keep v (quietly trace w (Cut ServerSide keep) Done (λ k. (refl, refl)) i) p
+  keeps trace w (Cut ClientSide keep) Done v i u r r2 p = cut_down c s seals set f _ w keep v (quietly trace w (Cut ClientSide keep) Done (λ k. (refl, refl)) i) p
   keeps trace w (Fail ClientSide) Done v i u r r2 p =
-      along _ _ v p (client_fails c s seals rs f (with_entry trace (Fail ClientSide) Done) w (Told failed_by_hand) (quietly trace w (Fail ClientSide) Done (λ k. refl) i))
+      along _ _ v p (client_fails c s seals set f (with_entry trace (Fail ClientSide) Done) w (Told failed_by_hand) (quietly trace w (Fail ClientSide) Done (λ k. (refl, refl)) i))
   keeps trace w (Fail ServerSide) Done v i u r r2 p =
-      along _ _ v p (server_fails c s seals rs f (with_entry trace (Fail ServerSide) Done) w (Told failed_by_hand) (quietly trace w (Fail ServerSide) Done (λ k. refl) i))
-  keeps trace w event reply v i u r r2 p = same trace w event reply v (λ k. refl) i (first_of (assumption, cc, search rules))
+      along _ _ v p (server_fails c s seals set f (with_entry trace (Fail ServerSide) Done) w (Told failed_by_hand) (quietly trace w (Fail ServerSide) Done (λ k. (refl, refl)) i))
+  keeps trace w event reply v i u r r2 p = same trace w event reply v (λ k. (refl, refl)) i (first_of (assumption, cc, search rules))
+
+  -- the settings stay, and no step fails a side so that it is an end
+  ruled : (w : Net CO CI SO SI) (event : Event) (reply : Reply) (v : Net CO CI SO SI) → Steps c s seals w event reply v → Ruled w → Ruled v
+  ruled w event reply v p u =
+      let stays = stepped c s seals fixed w event reply v p in
+      record { is_set = (stays.rules ∙ u.is_set.0, stays.limit ∙ u.is_set.1); plain = plainly c s seals w event reply v p u.plain }
 
   -- right at the first state of what is left of a run
   now_right : (w : Net CO CI SO SI) (rest : List Entry) (v : Net CO CI SO SI) → (p : Runs c s seals w rest v) → IsRightRun c s seals f w rest v p → Right w
@@ -90,10 +102,10 @@ module _ {CO CI SO SI : Type 0} (c : Halves CO CI) (s : Halves SO SI) (seals : B
   now_right w (e ∷ rest) v p right = right.0
 
   keeps_all : (before rest : List Entry) (w v : Net CO CI SO SI) → Kept before w → Ruled w → (p : Runs c s seals w rest v) → IsRightRun c s seals f w rest v p → Kept (before ++ rest) v
-  keeps_all before [] w v i u p right = subst (λ (t : List Entry). Keeps c s rs f t v) (sym (append-nil before)) (along before w v p i)
+  keeps_all before [] w v i u p right = subst (λ (t : List Entry). Keeps c s set f t v) (sym (append-nil before)) (along before w v p i)
   keeps_all before (e ∷ rest) w v i u p right =
-      subst (λ (t : List Entry). Keeps c s rs f t v) (append_assoc before (e ∷ []) rest)
-      (keeps_all (before ++ e ∷ []) rest p.0 v (keeps before w e.event e.reply p.0 i u right.0 (now_right p.0 rest v p.2 right.1) p.1) ((stepped c s seals fixed w e.event e.reply p.0 p.1).rules ∙ u) p.2 right.1)
+      subst (λ (t : List Entry). Keeps c s set f t v) (append_assoc before (e ∷ []) rest)
+      (keeps_all (before ++ e ∷ []) rest p.0 v (keeps before w e.event e.reply p.0 i u right.0 (now_right p.0 rest v p.2 right.1) p.1) (ruled w e.event e.reply p.0 p.1 u) p.2 right.1)
 
   -- it holds at the start
   fresh : (w : Net CO CI SO SI) → IsFresh c s w → Kept [] w
@@ -117,6 +129,8 @@ module _ {CO CI SO SI : Type 0} (c : Halves CO CI) (s : Halves SO SI) (seals : B
           downs = tt;
         };
         client = (ap (λ (x : ClientCore CO CI). call_at x.state k) n.client, ap (λ (x : ClientCore CO CI). stream_at x.state k) n.client, refl);
+        up = record { is = record { none = refl; errors = nothing_read } };
+        down = record { is = (record { none = refl; errors = nothing_read }, refl) };
       };
     };
     numbers = subst (λ (x : ServerCore SO SI). Numbers f x.state.jobs.last [] w.client.state.next) (sym n.server) (fresh_numbers f w.client.state.next);
@@ -125,16 +139,40 @@ module _ {CO CI SO SI : Type 0} (c : Halves CO CI) (s : Halves SO SI) (seals : B
     downward = starts s.out c.in_ w.server.connection w.client.connection w.down (ap (λ (x : ServerCore SO SI). x.connection.outbox.queue) n.server) (ap (λ (x : ClientCore CO CI). x.connection.decoder) n.client) n.down n.down_paired;
   }
 
+  starts_ruled : (w : Net CO CI SO SI) → IsSet c s seals set f [] w → IsFresh c s w → Ruled w
+  starts_ruled w is n = record { is_set = is; plain = fresh_plain n }
+
+  -- A front of a run is a run, and the function is right there, too.
+  record Fronts (w : Net CO CI SO SI) (front : List Entry) : Type 0 where
+    mid : Net CO CI SO SI
+    run : Runs c s seals w front mid
+    right : IsRightRun c s seals f w front mid run
+
+  front_of : (w : Net CO CI SO SI) (front back : List Entry) (v : Net CO CI SO SI) → (p : Runs c s seals w (front ++ back) v) → IsRightRun c s seals f w (front ++ back) v p → Fronts w front
+  front_of w [] back v p right = record { mid = w; run = refl; right = now_right w back v p right }
+  front_of w (e ∷ front) back v p right = let later = front_of p.0 front back v p.2 right.1 in record { mid = later.mid; run = (p.0, p.1, later.run); right = (right.0, later.right) }
+
+  -- AT EACH PLACE the items of each id are in order.
+  in_order : (w : Net CO CI SO SI) (trace : List Entry) (v : Net CO CI SO SI) → IsFresh c s w → Ruled w → (p : Runs c s seals w trace v) → IsRightRun c s seals f w trace v p
+      → (front back : List Entry) → trace ≡ front ++ back → (id : ℕ) → AreInOrder set.rules set.limit (flows f id front)
+  in_order w trace v n u p right front back is id =
+      let both = subst (λ (t : List Entry). (r : Runs c s seals w t v) × IsRightRun c s seals f w t v r) is (p, right) in
+      let at = front_of w front back v both.0 both.1 in
+      in_order_here ((keeps_all [] front w at.mid (fresh w n) u at.run at.right).stories id)
+
 pub told : {CO CI SO SI : Type 0} (c : Halves CO CI) (s : Halves SO SI) (seals : Bool) (still : seals ≡ false → (from to : CO) (plain aad sealed : List ℕ) → c.out.seals from plain aad sealed to → to ≡ from)
     (fixed : (x y : SO) (plain aad sealed : List ℕ) → s.out.seals x plain aad sealed y → s.out.overhead y ≡ s.out.overhead x)
-    (w v : Net CO CI SO SI) (trace : List Entry) → IsFresh c s w → Runs c s seals w trace v → (stream_of : ℕ → ℕ) × IsTold stream_of trace
+    (w v : Net CO CI SO SI) (trace : List Entry) → IsFresh c s w → Runs c s seals w trace v → (stream_of : ℕ → ℕ) × IsTold w.server.state.rules (safe_limit s.out w.server.connection.outbox.half) stream_of trace
 told c s seals still fixed w v trace n p =
     let g = streams_of c s seals w trace v n p in
-    let i = keeps_all c s seals still fixed n.rules g.f [] trace w v (fresh c s seals still fixed n.rules g.f w n) (ap (λ (x : ServerCore _ _). x.state.rules) n.server) p g.right in (
+    let set : Settings = record { rules = w.server.state.rules; limit = safe_limit s.out w.server.connection.outbox.half } in
+    let u = starts_ruled c s seals still fixed set g.f w (refl, refl) n in
+    let i = keeps_all c s seals still fixed set g.f [] trace w v (fresh c s seals still fixed set g.f w n) u p g.right in (
       g.f,
       record {
         agrees = stream_of_run c s seals g.f w trace v p g.right;
         one_to_one = one_to_one g.f v.server.state.jobs.last i.numbers.low i.numbers.rise g.zero_ g.beyond i.numbers.within;
         exactly_once = λ id. exactly_once (i.stories id);
+        in_order = in_order c s seals still fixed set g.f w trace v n u p g.right;
       },
     )

@@ -1,29 +1,30 @@
 -- What holds of a client, a server and their pipes after any run.
-use Rattle.ttrpc_pair.proofs.Words.{◌≡◌, ℕ, [], AllByRecursion, Entry, Event, Flying, Halves, has_response, IsOwned, List, Net, Reply, Rules}
-use Rattle.ttrpc_story.proofs.Words.{act_of, with_entry}
-use Rattle.ttrpc_headline.proofs.Delivers.{Stories, stories_silent}
+use Rattle.ttrpc_headline.proofs.Delivers.{IsQuiet, Stories, stories_silent}
 use Rattle.ttrpc_headline.proofs.Numbers.{Numbers}
 use Rattle.ttrpc_headline.proofs.OneWay.{OneWay}
+use Rattle.ttrpc_story.proofs.Place.{Settings}
+use Rattle.ttrpc_pair.proofs.Words.{AllByRecursion, Entry, Event, Flying, Halves, has_response, IsOwned, List, Net, Reply, ℕ}
+use Rattle.ttrpc_story.proofs.Words.{with_entry}
 
 -- THE INVARIANT, under rules that stay. In flight are these frames each way, in order: as bytes, as seals, and each as a part
 -- of one call or stream. A side that failed takes no more, so nothing need be said of what is still in flight to it. `f`
 -- gives each job its stream.
-pub record Keeps {CO CI SO SI : Type 0} (c : Halves CO CI) (s : Halves SO SI) (rules : Rules) (f : ℕ → ℕ) (trace : List Entry) (w : Net CO CI SO SI) : Type 0 where
+pub record Keeps {CO CI SO SI : Type 0} (c : Halves CO CI) (s : Halves SO SI) (set : Settings) (f : ℕ → ℕ) (trace : List Entry) (w : Net CO CI SO SI) : Type 0 where
   pub up : List Flying
   pub down : List Flying
-  pub stories : Stories rules (has_response w) f trace up down w.server.state.jobs.list w.client.state
+  pub stories : Stories set (has_response w) f trace up down w.server.state.jobs.list w.client.state
   pub numbers : Numbers f w.server.state.jobs.last up w.client.state.next
   pub own : AllByRecursion IsOwned up
   pub upward : OneWay c.out s.in_ w.client.connection.outbox w.server.connection w.up up
   pub downward : OneWay s.out c.in_ w.server.connection.outbox w.client.connection w.down down
 
 -- nothing happened
-pub keeps_still : {CO CI SO SI : Type 0} (c : Halves CO CI) (s : Halves SO SI) (rules : Rules) (f : ℕ → ℕ) (trace : List Entry) (w : Net CO CI SO SI) (event : Event) (reply : Reply) → ((k : ℕ) → act_of f k event reply ≡ [])
-    → Keeps c s rules f trace w → Keeps c s rules f (with_entry trace event reply) w
-keeps_still c s rules f trace w event reply q i = record {
+pub keeps_still : {CO CI SO SI : Type 0} (c : Halves CO CI) (s : Halves SO SI) (set : Settings) (f : ℕ → ℕ) (trace : List Entry) (w : Net CO CI SO SI) (event : Event) (reply : Reply) → IsQuiet f event reply
+    → Keeps c s set f trace w → Keeps c s set f (with_entry trace event reply) w
+keeps_still c s set f trace w event reply q i = record {
   up = i.up;
   down = i.down;
-  stories = stories_silent rules (has_response w) f trace event reply i.up i.down w.server.state.jobs.list w.client.state q i.stories;
+  stories = stories_silent set (has_response w) f trace event reply i.up i.down w.server.state.jobs.list w.client.state q i.stories;
   numbers = i.numbers;
   own = i.own;
   upward = i.upward;

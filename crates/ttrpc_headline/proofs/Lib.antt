@@ -1,7 +1,10 @@
 pub mod OneWay
 pub mod Throws
 pub mod Payloads
+pub mod Flights
 pub mod Numbers
+pub mod Jobs
+pub mod Failing
 pub mod Delivers
 pub mod Keeps
 pub mod ByClient

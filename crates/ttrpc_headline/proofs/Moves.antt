@@ -1,18 +1,20 @@
 -- Each event that moves bytes, cuts a pipe or fails a side keeps the invariant.
-use Rattle.ttrpc_pair.proofs.Words.{◌++◌, ◌≡◌, ◌≤◌, ℕ, after_carry, all_behind, arith, Bool, BreaksAt, calling, CarriesDown, CarriesUp, Client, Connection, cut_to, CutsDown, CutsUp, DeliversDown, DeliversUp, Entry, Error, failing, Failure, Halves, has_response, is_over, IsOwned, length, lent_of, List, Net, None, OnlyClient, OnlyServer, open_part, Option, Pipe, pipe_after_carry, Queue, refl, Rules, Scene, scene, Server, serving, Some, StaysUp, taken_from, with_client, with_server}
 use Rattle.ttrpc_headline.proofs.Delivers.{feeds_down, feeds_up}
 use Rattle.ttrpc_headline.proofs.Keeps.{Keeps}
 use Rattle.ttrpc_headline.proofs.Numbers.{AreRight}
-use Rattle.ttrpc_headline.proofs.OneWay.{Lands, OneWay, as_heard, breaks_land, carries, cuts, dead, feeds_land, kept_some, not_both}
+use Rattle.ttrpc_headline.proofs.OneWay.{as_heard, breaks_land, carries, cuts, dead, feeds_land, kept_some, Lands, not_both, OneWay}
+use Rattle.ttrpc_story.proofs.Place.{Settings}
+use Rattle.ttrpc_pair.proofs.Words.{after_carry, all_behind, arith, Bool, BreaksAt, calling, CarriesDown, CarriesUp, Client, Connection, cut_to, CutsDown, CutsUp, DeliversDown, DeliversUp, Entry, Error, failing, Failure, Halves, has_response, is_over, IsOwned, length, lent_of, List, Net, None, OnlyClient, OnlyServer, open_part, Option, Pipe, pipe_after_carry, Queue, refl, rules, Scene, scene, Server, serving, Some, StaysUp, taken_from, with_client, with_server, ℕ, ◌++◌, ◌≡◌, ◌≤◌}
+use Rattle.ttrpc_story.proofs.Words.{acts, told}
 
 -- no more is lent than is left of the first frame
 lent_fits : (failure : Option Failure) (n k : ℕ) (q : Queue) → k ≡ lent_of failure n q → k ≤ length (open_part q)
 lent_fits None n k q e = omega (arith, e)
 lent_fits (Some x) n k q e = omega (arith, e)
 
-module _ {CO CI SO SI : Type 0} (c : Halves CO CI) (s : Halves SO SI) (seals : Bool) (rules : Rules) (f : ℕ → ℕ) (trace : List Entry) where
+module _ {CO CI SO SI : Type 0} (c : Halves CO CI) (s : Halves SO SI) (seals : Bool) (set : Settings) (f : ℕ → ℕ) (trace : List Entry) where
   abbrev Kept : Net CO CI SO SI → Type 0
-  Kept w = Keeps c s rules f trace w
+  Kept w = Keeps c s set f trace w
 
   -- the states of both cores stay, and what is in flight
   rewired : (w : Net CO CI SO SI) (i : Kept w) (x : Connection CO CI) (y : Connection SO SI) (p q : Pipe) → OneWay c.out s.in_ x.outbox y p i.up → OneWay s.out c.in_ y.outbox x q i.down
@@ -44,10 +46,10 @@ module _ {CO CI SO SI : Type 0} (c : Halves CO CI) (s : Halves SO SI) (seals : B
   -- WHAT FRAMES DO THAT COME TO A SIDE: the first flights have acted there, and the others still are in flight, unless it
   -- failed.
   served : (w : Net CO CI SO SI) (i : Kept w) (new : Scene Server SO SI) (l : Lands c.out (serving s.out s.in_) w.moment w.client.connection.outbox (scene w.server.state w.server.connection) new i.up)
-      (t : Server) (y : Connection SO SI) (p : Pipe) → w.server.state.rules ≡ rules → t ≡ new.state → AreRight f t.jobs.list → y.outbox ≡ new.outbox → OneWay c.out s.in_ w.client.connection.outbox y p l.rest
+      (t : Server) (y : Connection SO SI) (p : Pipe) → w.server.state.rules ≡ set.rules → t ≡ new.state → AreRight f t.jobs.list → y.outbox ≡ new.outbox → OneWay c.out s.in_ w.client.connection.outbox y p l.rest
       → Kept (record w { server = record { state = t; connection = y }; up = p })
   served w i new l t y p ruled state right outbox upward =
-      let u = feeds_up c s rules (has_response w) f trace w.client.state w.moment l.front l.rest i.down (scene w.server.state w.server.connection) new ruled l.acts (rw l.all i.stories) (rw l.all i.numbers) (rw (← state) right) in
+      let u = feeds_up c s set (has_response w) f trace w.client.state w.moment l.front l.rest i.down (scene w.server.state w.server.connection) new ruled l.acts (rw l.all i.stories) (rw l.all i.numbers) (rw (← state) right) in
       record {
         up = l.rest;
         down = i.down ++ u.more;
@@ -62,7 +64,7 @@ module _ {CO CI SO SI : Type 0} (c : Halves CO CI) (s : Halves SO SI) (seals : B
       (t : Client) (x : Connection CO CI) (q : Pipe) → t ≡ new.state → x.outbox ≡ new.outbox → OneWay s.out c.in_ w.server.connection.outbox x q l.rest
       → Kept (record w { client = record { state = t; connection = x }; down = q })
   landed w i new l t x q state outbox downward =
-      let d = feeds_down c rules (has_response w) f trace 0 l.front i.up l.rest w.server.state.jobs.list (scene w.client.state w.client.connection) new l.acts (rw l.all i.stories) in
+      let d = feeds_down c set (has_response w) f trace 0 l.front i.up l.rest w.server.state.jobs.list (scene w.client.state w.client.connection) new l.acts (rw l.all i.stories) in
       record {
         up = i.up;
         down = l.rest;
@@ -74,7 +76,7 @@ module _ {CO CI SO SI : Type 0} (c : Halves CO CI) (s : Halves SO SI) (seals : B
       }
 
   -- Bytes are delivered.
-  pub deliver_up : (w : Net CO CI SO SI) (n k : ℕ) (v : Net CO CI SO SI) → Kept w → w.server.state.rules ≡ rules → AreRight f v.server.state.jobs.list → DeliversUp c s seals w n k v → Kept v
+  pub deliver_up : (w : Net CO CI SO SI) (n k : ℕ) (v : Net CO CI SO SI) → Kept w → w.server.state.rules ≡ set.rules → AreRight f v.server.state.jobs.list → DeliversUp c s seals w n k v → Kept v
   deliver_up w n k v i ruled right p =
       let l = feeds_land c.out (serving s.out s.in_) w.moment w.server.state w.client.connection.outbox w.server.connection w.up i.up k v.server.state p.does.mid i.upward p.does.does in
       let is = λ (y : Connection SO SI). served w i (scene v.server.state p.does.mid) l.0 v.server.state y (taken_from w.up k) ruled refl right in
@@ -94,7 +96,7 @@ module _ {CO CI SO SI : Type 0} (c : Halves CO CI) (s : Halves SO SI) (seals : B
       (is p.does.mid refl (record { bytes = λ alive. l.1; linked = λ alive. l.0.linked })) (λ why. is (failing p.does.mid why) refl (dead s.out c.in_ _ _ _ _ (kept_some p.does.mid.failure why))))
 
   -- A side fails at bytes that are delivered.
-  pub break_up : (w : Net CO CI SO SI) (n : ℕ) (told : Error) (v : Net CO CI SO SI) → Kept w → w.server.state.rules ≡ rules → AreRight f v.server.state.jobs.list → BreaksAt (serving s.out s.in_) w.server.state w.server.connection w.up w.moment n told v.server.state v.server.connection → OnlyServer c s seals w v → Kept v
+  pub break_up : (w : Net CO CI SO SI) (n : ℕ) (told : Error) (v : Net CO CI SO SI) → Kept w → w.server.state.rules ≡ set.rules → AreRight f v.server.state.jobs.list → BreaksAt (serving s.out s.in_) w.server.state w.server.connection w.up w.moment n told v.server.state v.server.connection → OnlyServer c s seals w v → Kept v
   break_up w n told v i ruled right b only =
       let l = breaks_land c.out (serving s.out s.in_) w.moment w.server.state w.client.connection.outbox w.server.connection w.up i.up n told v.server.state v.server.connection i.upward b in
       rw only (served w i b.mid l v.server.state v.server.connection w.up ruled b.state right b.outbox (dead c.out s.in_ _ _ _ _ (not_both v.server.connection.failure b.failure b.fails)))

@@ -48,11 +48,13 @@ pub use Rattle.ttrpc_flight.proofs.Acting.{act_as_sent}
 pub use Rattle.ttrpc_wire.proofs.Folds.{reads_back}
 pub use Rattle.ttrpc_proto.specs.Laws.{request_again, request_fits, response_again, response_fits}
 pub use Rattle.ttrpc_server.proofs.Mapped.{at_stays, mapped_at, StaysFound, under_stays}
-pub use Rattle.ttrpc_server.specs.Streaming.{EndsStream, IsCloseFrame, ReceivesBy, SendsItem, unheard}
+pub use Rattle.ttrpc_server.specs.Streaming.{astray, EndsStream, IsCloseFrame, ReceivesBy, SendsItem, unheard, unknown_stream, was_made}
+pub use Rattle.ttrpc_server.specs.Mailboxes.{mail_in, mail_of, ReceivesFrom}
 pub use Rattle.ttrpc_server.specs.Streaming.{ReceivesOne as JobReceives}
-pub use Rattle.ttrpc_client.specs.Protocol.{DropsReceiver, DropsSender, malformed_text, opening_flags, OpensStream, Reaches, ReceivesAt, SendsOn, unsendable}
+pub use Rattle.ttrpc_client.specs.Protocol.{closed_error, DropsReceiver, DropsSender, malformed_text, opening_flags, OpensStream, Reaches, ReceivesAt, SendsOn, unsendable, unsendable_error}
 pub use Rattle.ttrpc_client.specs.Protocol.{ReceivesOne as StreamReceives}
-pub use Rattle.ttrpc_client.specs.Streams.{is_entered, without_reader, without_sender}
+pub use Rattle.ttrpc_client.specs.Streams.{is_entered, with_sender, without_reader, without_sender}
+pub use Rattle.ttrpc_client.specs.declared.streams.Sender.TheVariants.{Closed as SenderClosed}
 pub use Rattle.ttrpc_client.specs.declared.streams.Sender.{Sender}
 pub use Rattle.ttrpc_connection.specs.declared.arrived.Opening.{Opening}
 pub use Rattle.ttrpc_client.specs.State.{stream_at}

@@ -243,7 +243,7 @@ module _ (g : ActiveJob → ActiveJob) (found : StaysFound g) where
   same_works (Born b) (Left j response) = ap (λ (a : Act). first_act b ∷ a ∷ Answered false (Ok (Some response)) ∷ []) (same_ran b j)
   same_works (Born b) (Over done) = refl
 
-  same_over : (p : Work) → is_over (mapped g p) ≡ is_over p
+  pub same_over : (p : Work) → is_over (mapped g p) ≡ is_over p
   same_over Idle = refl
   same_over (Asking x) = refl
   same_over (Waits j) = refl

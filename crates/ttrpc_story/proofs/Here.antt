@@ -1,10 +1,11 @@
 -- All there is at one id, how it came to be used, and how far the server's work has come. No net, no queue and no bytes.
-use Rattle.ttrpc_story.proofs.Words.{◌++◌, ◌∷◌, ◌≡◌, ℕ, [], Act, ActiveJob, acts, Answered, asked_by, Bool, Call, call_at, Called, Client, Error, false, Flying, is_stream, jobs_at, List, Ok, Opened, Option, parcels, Ran, refl, Request, Response, Result, Some, Stream, stream_at}
+use Rattle.ttrpc_story.proofs.Words.{[], Act, ActiveJob, acts, Answered, Asked, asked_by, Began, Bool, Call, call_at, Called, Client, Error, false, Flow, flows, Flying, is_stream, jobs_at, List, Ok, Opened, Option, parcels, Ran, refl, Request, Response, Result, Some, Stream, stream_at, work, ℕ, ◌++◌, ◌∷◌, ◌≡◌}
 use Rattle.ttrpc_events.specs.declared.events.Entry.{Entry}
 
--- what a trace says of an id, the frames in flight under it, its jobs at the server, and what the client keeps
+-- what a trace says of an id and of its items, the frames in flight under it, its jobs at the server, and what the client keeps
 pub record Here : Type 0 where
   pub acts : List Act
+  pub flows : List Flow
   pub ups : List Flying
   pub jobs : List ActiveJob
   pub downs : List Flying
@@ -16,6 +17,7 @@ pub record Here : Type 0 where
 abbrev pub here_at : (ℕ → ℕ) → List Entry → List Flying → List Flying → List ActiveJob → Client → ℕ → Here
 here_at stream_of trace up down jobs client k = record {
   acts = acts stream_of k trace;
+  flows = flows stream_of k trace;
   ups = parcels k up;
   jobs = jobs_at jobs k;
   downs = parcels k down;
@@ -37,6 +39,11 @@ pub data Origin : Type 0 where
 abbrev pub first_act : Birth → Act
 first_act (ByCall request) = Called request
 first_act (ByOpen request up down) = Opened request up down
+
+-- and what that is to its items
+abbrev pub first_flow : Birth → Flow
+first_flow (ByCall request) = Asked request
+first_flow (ByOpen request up down) = Began request up
 
 -- its request
 abbrev pub request_of : Birth → Request

@@ -2,4 +2,9 @@ pub mod Words
 pub mod Here
 pub mod AtServer
 pub mod AtClient
+pub mod Reading
+pub mod Flowing
+pub mod Upward
+pub mod Downward
 pub mod Place
+pub mod Events

@@ -3,6 +3,7 @@ ghost use Rattle.std.specs.Prelude.{◌≡◌, ◌≤◌, [], ℕ, length, map, 
 ghost use Rattle.std.specs.Vec.{vec_capacity};
 ghost use Rattle.ttrpc_proto.specs.declared.error.Error.{Error as AnError};
 ghost use Rattle.ttrpc_headline.specs.Words.{Entry as AnEntry, IsFresh, IsTold, Net, Runs, empty_pipe, halves};
+ghost use Rattle.ttrpc_secure.specs.Sends.{safe_limit};
 
 use std::alloc::Global;
 use std::marker::Model;
@@ -61,8 +62,12 @@ impl<
             (halves SO.OutboundTransform SI.InboundTransform) CO.SEALS
             self trace.items last) }
         // Under one function that gives each job its stream, no two the same: each call has at most one outcome, and an
-        // `Ok` is the answer of its one run.
-        ensures told { IfOk result (λ trace. (stream_of : ℕ → ℕ) × IsTold stream_of trace.items) }
+        // `Ok` is the answer of its one run. At each place of the trace the items that a receiver was given are a beginning
+        // of those that were put in, in order, and where it was told an end, they are all.
+        ensures told { IfOk result (λ trace. (stream_of : ℕ → ℕ) × IsTold
+            self.server.state.rules
+            (safe_limit SO.OutboundTransform self.server.connection.outbox.half)
+            stream_of trace.items) }
         ensures refused { IfErr result (λ error. error ≡ AnError.NoMemory) }
     {
         runs_are_told::<CO, CI, SO, SI>();

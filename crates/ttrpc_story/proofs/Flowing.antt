@@ -1,0 +1,299 @@
+-- One direction of one call or stream, either way, over the table of a mailbox: what was put in and not seen follows what waits
+-- in the mailbox and then what is under way, up to the first thing that closes. No ids, no frames and no jobs.
+use Rattle.ttrpc_story.proofs.Words.{[], AllByRecursion, answer_by, answer_of, ap, append-nil, append_assoc, Bool, broken, Broken, Closed, closed, Dropped, empty_mail, Eof, Err, Error, error_of, Failure, false, inl, inr, IsInOrder, items, kept_for, left_at, List, Mail, MemoryRefused, None, Ok, Open, Option, past_error, Receiver, Receives, refl, Some, subst, sym, Thing, ThingBreaking, ThingClosing, ThingEnd, ThingItem, ThingLast, true, with_thing, Word, words_of, ℕ, ◌++◌, ◌||◌, ◌∙◌, ◌∷◌, ◌≡◌, ◌⊎◌}
+use Rattle.ttrpc_story.proofs.Reading.{closed_front, closed_item, closed_rest, either, IsPlain, items_append, Reading, reads_close, reads_error, reads_item, reads_last, reads_on, reads_stop}
+
+-- behind this nothing comes
+abbrev pub closes : Thing → Bool
+closes (ThingItem bytes) = false
+closes x = true
+
+-- one of these is such
+abbrev pub has_closing : List Thing → Bool
+has_closing [] = false
+has_closing (x ∷ xs) = closes x || has_closing xs
+
+-- What was put in and not seen is what is on the way, up to the first close in both. A close may be put in that never comes,
+-- and an error may come at any place, which is no end; behind either nothing is said.
+abbrev pub Follows : List Thing → List Thing → Type 0
+Follows rest [] = (rest ≡ []) ⊎ (rest ≡ ThingEnd ∷ [])
+Follows rest (ThingItem b ∷ way) = (more : List Thing) × (rest ≡ ThingItem b ∷ more) × Follows more way
+Follows rest (ThingLast b ∷ way) = rest ≡ ThingLast b ∷ []
+Follows rest (ThingEnd ∷ way) = rest ≡ ThingEnd ∷ []
+Follows rest (ThingClosing error ∷ way) = IsPlain error
+Follows rest (ThingBreaking error ∷ way) = IsPlain error
+
+-- such an error
+abbrev pub IsTurning : Thing → Type 0
+IsTurning x = (rest way : List Thing) → Follows rest (x ∷ way)
+
+-- THE INVARIANT OF ONE DIRECTION. Only a receiver that is open is tied to its mailbox and to what is under way.
+pub record Flowing (put : List Thing) (told : List Word) (m : Mail) (flight : List Thing) : Type 0 where
+  pub seen : List Thing
+  pub rest : List Thing
+  pub all : put ≡ seen ++ rest
+  pub reading : Reading seen told m.receiver
+  pub past : closed seen ≡ true → rest ≡ []
+  pub linked : m.receiver ≡ Open → Follows rest (m.things ++ flight)
+  pub full : m.receiver ≡ Open → m.ended ≡ true → has_closing m.things ≡ true
+
+-- ITEMS IN ORDER
+pub in_order : {put : List Thing} {told : List Word} {m : Mail} {flight : List Thing} → Flowing put told m flight → IsInOrder put told
+in_order f = record {
+  rest = items f.rest;
+  beginning = ap items f.all ∙ items_append f.seen f.rest ∙ ap (λ xs. xs ++ items f.rest) f.reading.items_are;
+  whole = λ h. let done = f.reading.ends_are h in (ap items (f.past done), ap closed f.all ∙ closed_front f.seen f.rest done);
+}
+
+-- nothing was put in, and errors alone were told
+pub begins : {told : List Word} → Reading [] told Open → Flowing [] told empty_mail []
+begins r = record { seen = []; rest = []; all = refl; reading = r; past = λ e. refl; linked = λ o. inl refl; full = λ o e. cc }
+
+-- ---- something is put in
+
+follows_more : (rest way : List Thing) (x y : Thing) → Follows (x ∷ []) (y ∷ []) → closed rest ≡ false → Follows rest way → Follows (rest ++ x ∷ []) (way ++ y ∷ [])
+follows_more rest [] x y s c (inl h) = subst (λ (r : List Thing). Follows (r ++ x ∷ []) (y ∷ [])) (sym h) s
+follows_more rest [] x y s c (inr h) = let bad : true ≡ false = sym (ap closed h) ∙ c in cc
+follows_more rest (ThingItem b ∷ way) x y s c h = (h.0 ++ x ∷ [], ap (λ r. r ++ x ∷ []) h.1, follows_more h.0 way x y s (sym (ap closed h.1) ∙ c) h.2)
+follows_more rest (ThingLast b ∷ way) x y s c h = let bad : true ≡ false = sym (ap closed h) ∙ c in cc
+follows_more rest (ThingEnd ∷ way) x y s c h = let bad : true ≡ false = sym (ap closed h) ∙ c in cc
+follows_more rest (ThingClosing e ∷ way) x y s c h = h
+follows_more rest (ThingBreaking e ∷ way) x y s c h = h
+
+-- behind what is seen and closed nothing was put in, and nothing is where it isn't closed
+past_more : (seen rest : List Thing) (x : Thing) → closed (seen ++ rest) ≡ false → closed seen ≡ true → rest ++ x ∷ [] ≡ []
+past_more seen rest x c e = let bad : true ≡ false = sym (closed_front seen rest e) ∙ c in cc
+
+-- It goes as y.
+pub puts : {put : List Thing} {told : List Word} {m : Mail} {flight : List Thing} (x y : Thing) → Follows (x ∷ []) (y ∷ []) → closed put ≡ false → Flowing put told m flight → Flowing (put ++ x ∷ []) told m (flight ++ y ∷ [])
+puts {m = m} {flight = flight} x y s c f =
+    let unclosed : closed (f.seen ++ f.rest) ≡ false = sym (ap closed f.all) ∙ c in
+    record {
+      seen = f.seen;
+      rest = f.rest ++ x ∷ [];
+      all = ap (λ xs. xs ++ x ∷ []) f.all ∙ append_assoc f.seen f.rest (x ∷ []);
+      reading = f.reading;
+      past = past_more f.seen f.rest x unclosed;
+      linked = λ o. subst (λ (w : List Thing). Follows (f.rest ++ x ∷ []) w) (append_assoc m.things flight (y ∷ [])) (follows_more f.rest (m.things ++ flight) x y s (closed_rest f.seen f.rest unclosed) (f.linked o));
+      full = f.full;
+    }
+
+follows_close : (rest way : List Thing) → closed rest ≡ false → Follows rest way → Follows (rest ++ ThingEnd ∷ []) way
+follows_close rest [] c (inl h) = inr (ap (λ (r : List Thing). r ++ ThingEnd ∷ []) h)
+follows_close rest [] c (inr h) = let bad : true ≡ false = sym (ap closed h) ∙ c in cc
+follows_close rest (ThingItem b ∷ way) c h = (h.0 ++ ThingEnd ∷ [], ap (λ r. r ++ ThingEnd ∷ []) h.1, follows_close h.0 way (sym (ap closed h.1) ∙ c) h.2)
+follows_close rest (ThingLast b ∷ way) c h = let bad : true ≡ false = sym (ap closed h) ∙ c in cc
+follows_close rest (ThingEnd ∷ way) c h = let bad : true ≡ false = sym (ap closed h) ∙ c in cc
+follows_close rest (ThingClosing e ∷ way) c h = h
+follows_close rest (ThingBreaking e ∷ way) c h = h
+
+-- It is closed, and nothing comes of it.
+pub shuts : {put : List Thing} {told : List Word} {m : Mail} {flight : List Thing} → closed put ≡ false → Flowing put told m flight → Flowing (put ++ ThingEnd ∷ []) told m flight
+shuts {m = m} {flight = flight} c f =
+    let unclosed : closed (f.seen ++ f.rest) ≡ false = sym (ap closed f.all) ∙ c in
+    record {
+      seen = f.seen;
+      rest = f.rest ++ ThingEnd ∷ [];
+      all = ap (λ (xs : List Thing). xs ++ ThingEnd ∷ []) f.all ∙ append_assoc f.seen f.rest (ThingEnd ∷ []);
+      reading = f.reading;
+      past = past_more f.seen f.rest ThingEnd unclosed;
+      linked = λ o. follows_close f.rest (m.things ++ flight) (closed_rest f.seen f.rest unclosed) (f.linked o);
+      full = f.full;
+    }
+
+-- ---- something comes that wasn't put in
+
+-- an error comes in anywhere
+follows_cut : (rest xs way way2 : List Thing) (x : Thing) → IsTurning x → Follows rest (xs ++ way) → Follows rest (xs ++ x ∷ way2)
+follows_cut rest [] way way2 x n h = n rest way2
+follows_cut rest (ThingItem b ∷ xs) way way2 x n h = (h.0, h.1, follows_cut h.0 xs way way2 x n h.2)
+follows_cut rest (ThingLast b ∷ xs) way way2 x n h = h
+follows_cut rest (ThingEnd ∷ xs) way way2 x n h = h
+follows_cut rest (ThingClosing e ∷ xs) way way2 x n h = h
+follows_cut rest (ThingBreaking e ∷ xs) way way2 x n h = h
+
+turns_one : {put : List Thing} {told : List Word} {m : Mail} {flight : List Thing} (x : Thing) → IsTurning x → Flowing put told m flight → Flowing put told m (flight ++ x ∷ [])
+turns_one {m = m} {flight = flight} x n f = record {
+  seen = f.seen;
+  rest = f.rest;
+  all = f.all;
+  reading = f.reading;
+  past = f.past;
+  full = f.full;
+  linked = λ o. subst (λ (w : List Thing). Follows f.rest w) (append_assoc m.things flight (x ∷ []))
+      (follows_cut f.rest (m.things ++ flight) [] [] x n (subst (λ (w : List Thing). Follows f.rest w) (sym (append-nil (m.things ++ flight))) (f.linked o)));
+}
+
+-- Errors are under way, behind all else.
+pub turns : {put : List Thing} {told : List Word} {m : Mail} {flight : List Thing} (xs : List Thing) → AllByRecursion IsTurning xs → Flowing put told m flight → Flowing put told m (flight ++ xs)
+turns {put} {told} {m} {flight} [] n f = subst (λ (w : List Thing). Flowing put told m w) (sym (append-nil flight)) f
+turns {put} {told} {m} {flight} (x ∷ xs) n f = subst (λ (w : List Thing). Flowing put told m w) (append_assoc flight (x ∷ []) xs) (turns xs n.1 (turns_one x n.0 f))
+
+-- ---- the first thing under way comes
+
+closing_last : (xs : List Thing) (x : Thing) → closes x ≡ true → has_closing (xs ++ x ∷ []) ≡ true
+closing_last [] x h = rw h refl
+closing_last (ThingItem b ∷ xs) x h = closing_last xs x h
+closing_last (y ∷ xs) x h = refl
+
+closing_more : (xs : List Thing) (x : Thing) → has_closing xs ≡ true → has_closing (xs ++ x ∷ []) ≡ true
+closing_more [] x h = cc
+closing_more (ThingItem b ∷ xs) x h = closing_more xs x h
+closing_more (y ∷ xs) x h = refl
+
+-- it comes as itself, or as an error
+abbrev pub ComesAs : Thing → Thing → Type 0
+ComesAs x y = (y ≡ x) ⊎ IsTurning y
+
+follows_as : (rest xs way : List Thing) (x y : Thing) → ComesAs x y → Follows rest (xs ++ x ∷ way) → Follows rest (xs ++ y ∷ way)
+follows_as rest xs way x y (inl same) h = subst (λ (z : Thing). Follows rest (xs ++ z ∷ way)) (sym same) h
+follows_as rest xs way x y (inr n) h = follows_cut rest xs (x ∷ way) way y n h
+
+-- It is put into the mailbox.
+pub lands : {put : List Thing} {told : List Word} {m : Mail} {flight : List Thing} (x y : Thing) (ends : Bool) → ComesAs x y → (ends ≡ true → closes y ≡ true) → Flowing put told m (x ∷ flight) → Flowing put told (with_thing m y ends) flight
+lands {m = m} {flight = flight} x y ends as_is last f =
+    let kept : m.receiver ≡ Open → kept_for m.receiver m.things y ≡ m.things ++ y ∷ [] = λ o. ap (λ r. kept_for r m.things y) o in
+    record {
+      seen = f.seen;
+      rest = f.rest;
+      all = f.all;
+      reading = f.reading;
+      past = f.past;
+      linked = λ o. subst (λ (w : List Thing). Follows f.rest (w ++ flight)) (sym (kept o))
+          (subst (λ (w : List Thing). Follows f.rest w) (sym (append_assoc m.things (y ∷ []) flight)) (follows_as f.rest m.things flight x y as_is (f.linked o)));
+      full = λ o e. ap has_closing (kept o) ∙ either m.ended ends (has_closing (m.things ++ y ∷ []) ≡ true) (λ b. closing_more m.things y (f.full o b)) (λ b. closing_last m.things y (last b)) e;
+    }
+
+-- behind a thing that closes anything may come
+follows_past : (rest xs way way2 : List Thing) → has_closing xs ≡ true → Follows rest (xs ++ way) → Follows rest (xs ++ way2)
+follows_past rest [] way way2 e h = cc
+follows_past rest (ThingItem b ∷ xs) way way2 e h = (h.0, h.1, follows_past h.0 xs way way2 e h.2)
+follows_past rest (ThingLast b ∷ xs) way way2 e h = h
+follows_past rest (ThingEnd ∷ xs) way way2 e h = h
+follows_past rest (ThingClosing x ∷ xs) way way2 e h = h
+follows_past rest (ThingBreaking x ∷ xs) way way2 e h = h
+
+-- Or it is passed over: a mailbox whose receiver is open has ended then.
+pub loses : {put : List Thing} {told : List Word} {m : Mail} {flight : List Thing} (x : Thing) → (m.receiver ≡ Open → m.ended ≡ true) → Flowing put told m (x ∷ flight) → Flowing put told m flight
+loses {m = m} {flight = flight} x n f = record {
+  seen = f.seen;
+  rest = f.rest;
+  all = f.all;
+  reading = f.reading;
+  past = f.past;
+  full = f.full;
+  linked = λ o. follows_past f.rest m.things (x ∷ flight) flight (f.full o (n o)) (f.linked o);
+}
+
+-- The receiver is dropped, and anything may be under way.
+pub drops : {put : List Thing} {told : List Word} {m : Mail} {flight : List Thing} (m2 : Mail) (flight2 : List Thing) → m2.receiver ≡ Dropped → Flowing put told m flight → Flowing put told m2 flight2
+drops m2 flight2 gone f =
+    let shut : m2.receiver ≡ Open → ⊥ = λ o. let bad : Open ≡ Dropped = sym o ∙ gone in cc in
+    record {
+      seen = f.seen;
+      rest = f.rest;
+      all = f.all;
+      reading = reads_on m2.receiver (λ e. let bad : Closed ≡ Dropped = sym e ∙ gone in cc) f.reading;
+      past = f.past;
+      linked = λ o. absurd (shut o);
+      full = λ o. absurd (shut o);
+    }
+
+-- ---- the receiver is told something
+
+-- An error is told that is no end, and the mailbox stays.
+pub aside : {put : List Thing} {told : List Word} {m : Mail} {flight : List Thing} (e : Error) → IsPlain e → Flowing put told m flight → Flowing put (told ++ Err e ∷ []) m flight
+aside e plain f = record { seen = f.seen; rest = f.rest; all = f.all; reading = reads_error e plain f.reading; past = f.past; linked = f.linked; full = f.full }
+
+-- and the receiver isn't open any more
+fails : {put : List Thing} {told : List Word} {m : Mail} {flight : List Thing} (m2 : Mail) (e : Error) → IsPlain e → (m2.receiver ≡ Open → ⊥) → Flowing put told m flight → Flowing put (told ++ Err e ∷ []) m2 flight
+fails m2 e plain shut f = record { seen = f.seen; rest = f.rest; all = f.all; reading = reads_error e plain f.reading; past = f.past; linked = λ o. absurd (shut o); full = λ o. absurd (shut o) }
+
+abbrev pub mail : Receiver → List Thing → Bool → Mail
+mail receiver things ended = record { things = things; receiver = receiver; ended = ended }
+
+item_past : (seen rest more : List Thing) (b : List ℕ) → rest ≡ ThingItem b ∷ more → (closed seen ≡ true → rest ≡ []) → closed (seen ++ ThingItem b ∷ []) ≡ true → more ≡ []
+item_past seen rest more b l past e = let bad : ThingItem b ∷ more ≡ [] = sym l ∙ past (sym (closed_item seen b) ∙ e) in cc
+
+sees_item : {put : List Thing} {told : List Word} {flight : List Thing} (b : List ℕ) (xs : List Thing) (ended : Bool) → Flowing put told (mail Open (ThingItem b ∷ xs) ended) flight → Flowing put (told ++ Ok b ∷ []) (mail Open xs ended) flight
+sees_item b xs ended f =
+    let l = f.linked refl in
+    record {
+      seen = f.seen ++ ThingItem b ∷ [];
+      rest = l.0;
+      all = f.all ∙ ap (λ zs. f.seen ++ zs) l.1 ∙ sym (append_assoc f.seen (ThingItem b ∷ []) l.0);
+      reading = reads_item b f.reading;
+      past = item_past f.seen f.rest l.0 b l.1 f.past;
+      linked = λ o. l.2;
+      full = λ o e. f.full refl e;
+    }
+
+sees_last : {put : List Thing} {told : List Word} {m : Mail} {flight : List Thing} (x : Thing) (w : Word) (ended : Bool) → ((seen : List Thing) → Reading seen told m.receiver → Reading (seen ++ x ∷ []) (told ++ w ∷ []) Closed)
+    → (f : Flowing put told m flight) → f.rest ≡ x ∷ [] → Flowing put (told ++ w ∷ []) (mail Closed [] ended) flight
+sees_last x w ended reads f l = record {
+  seen = f.seen ++ x ∷ [];
+  rest = [];
+  all = f.all ∙ ap (λ zs. f.seen ++ zs) l ∙ sym (append-nil (f.seen ++ x ∷ []));
+  reading = reads f.seen f.reading;
+  past = λ e. refl;
+  linked = λ o. cc;
+  full = λ o. cc;
+}
+
+-- a failure is no end
+abbrev pub IsPlainFailure : Option Failure → Type 0
+IsPlainFailure None = Unit {0}
+IsPlainFailure (Some why) = IsPlain (error_of why)
+
+-- what asking gives, by the fields of the mailbox: the failure stands behind all else
+abbrev word_at : Option Failure → Bool → Receiver → List Thing → Option Word
+word_at (Some why) false Open [] = Some (Err (error_of why))
+word_at failure ended receiver things = answer_of receiver things
+
+word_is : (failure : Option Failure) (ended : Bool) (receiver : Receiver) (things : List Thing) → answer_by (broken failure (mail receiver things ended)) ≡ word_at failure ended receiver things
+word_is None ended receiver things = refl
+word_is (Some why) true receiver things = refl
+word_is (Some why) false Open [] = refl
+word_is (Some why) false Open (ThingItem b ∷ xs) = refl
+word_is (Some why) false Open (ThingLast b ∷ xs) = refl
+word_is (Some why) false Open (ThingEnd ∷ xs) = refl
+word_is (Some why) false Open (ThingClosing e ∷ xs) = refl
+word_is (Some why) false Open (ThingBreaking e ∷ xs) = refl
+word_is (Some why) false Closed things = refl
+word_is (Some why) false Broken things = refl
+word_is (Some why) false Dropped things = refl
+
+-- nothing is told
+still : {put : List Thing} {told : List Word} {m : Mail} {flight : List Thing} → Flowing put told m flight → Flowing put (told ++ []) m flight
+still {put} {told} {m} {flight} f = subst (λ (ws : List Word). Flowing put ws m flight) (sym (append-nil told)) f
+
+-- what the first thing in the mailbox gives
+by_answer : {put : List Thing} {told : List Word} {flight : List Thing} (failure : Option Failure) (ended : Bool) (receiver : Receiver) (things : List Thing) → Flowing put told (mail receiver things ended) flight
+    → Flowing put (told ++ words_of (answer_of receiver things)) (left_at failure ended receiver things) flight
+by_answer failure ended Dropped things f = fails _ past_error (λ m. refl) (λ o. cc) f
+by_answer failure ended Broken things f = fails _ past_error (λ m. refl) (λ o. cc) f
+by_answer failure ended Closed things f =
+    record { seen = f.seen; rest = f.rest; all = f.all; reading = reads_stop f.reading; past = f.past; linked = λ o. cc; full = λ o. cc }
+by_answer None ended Open [] f = still f
+by_answer (Some why) true Open [] f = still f
+by_answer (Some why) false Open [] f =
+    still (record { seen = f.seen; rest = f.rest; all = f.all; reading = reads_on Broken (λ e. cc) f.reading; past = f.past; linked = λ o. cc; full = λ o. cc })
+by_answer failure ended Open (ThingItem b ∷ xs) f = sees_item b xs ended f
+by_answer failure ended Open (ThingLast b ∷ xs) f = sees_last (ThingLast b) (Ok b) ended (λ s r. reads_last b r) f (f.linked refl)
+by_answer failure ended Open (ThingEnd ∷ xs) f = sees_last ThingEnd (Err Eof) ended (λ s r. reads_close r) f (f.linked refl)
+by_answer failure ended Open (ThingClosing e ∷ xs) f = fails _ e (f.linked refl) (λ o. cc) f
+by_answer failure ended Open (ThingBreaking e ∷ xs) f = fails _ e (f.linked refl) (λ o. cc) f
+
+by_table : {put : List Thing} {told : List Word} {flight : List Thing} (failure : Option Failure) (ended : Bool) (receiver : Receiver) (things : List Thing) → IsPlainFailure failure → Flowing put told (mail receiver things ended) flight
+    → Flowing put (told ++ words_of (word_at failure ended receiver things)) (left_at failure ended receiver things) flight
+by_table (Some why) false Open [] plain f = fails _ (error_of why) plain (λ o. cc) f
+by_table failure ended receiver things plain f = by_answer failure ended receiver things f
+
+-- THE TURN OF A RECEIVER, by the table
+pub reads : {put : List Thing} {told : List Word} {flight : List Thing} (failure : Option Failure) (m : Mail) (given : Option Word) (m2 : Mail) → IsPlainFailure failure → Receives failure m given m2 → Flowing put told m flight
+    → Flowing put (told ++ words_of given) m2 flight
+reads {put} {told} {flight} failure m given m2 plain (inl r) f =
+    subst (λ (g : Option Word). Flowing put (told ++ words_of g) m2 flight) (sym (r.0 ∙ word_is failure m.ended m.receiver m.things))
+    (subst (λ (x : Mail). Flowing put (told ++ words_of (word_at failure m.ended m.receiver m.things)) x flight) (sym r.1) (by_table failure m.ended m.receiver m.things plain f))
+reads {put} {told} {flight} failure m given m2 plain (inr r) f =
+    subst (λ (g : Option Word). Flowing put (told ++ words_of g) m2 flight) (sym r.0) (subst (λ (x : Mail). Flowing put (told ++ Err MemoryRefused ∷ []) x flight) (sym r.1) (aside MemoryRefused (λ w. refl) f))
