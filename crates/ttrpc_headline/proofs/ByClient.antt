@@ -13,8 +13,8 @@ use Rattle.ttrpc_story.proofs.Downward.{box_down, wants}
 use Rattle.ttrpc_story.proofs.Flowing.{IsPlainFailure}
 use Rattle.ttrpc_story.proofs.Place.{begins_here, elsewhere, Later, Place, Settings, thrown_here}
 use Rattle.ttrpc_story.proofs.Events.{asks_here, drops_here, expires_here, GoesOn, hears_here, IsPut, one_request, sends_here, stream_within, unheard_here, unsent_here}
-use Rattle.ttrpc_pair.proofs.Words.{[], all_joined, ap, arith, AsyncKind, Bool, call_at, CallEvent, CancelledDuringWrite, Client, ClientCore, ClientEnd, ClientKind, closed_error, Connection, deadline_of, DeadlineDuringWrite, Done, DropCall, DropReceiver, DropSender, DropsReceiver, DropsSender, due_at, Entry, eqb-true, Error, Event, Failure, false, Flying, Forgot, given, Given, Halves, has_response, id_of, if◌then◌else◌, inl, inr, is_some, IsOwned, IsRequest, Item, last_id, List, Named, nat_eq, Net, None, OpenEvent, opening_flags, OpensStream, Option, Outbox, Outcome, parcels, Passes, pushed_other, pushed_own, Recv, refl, Reply, Request, Requests, Response, Result, Sender, SenderClosed, SendsOn, Some, stays, Stream, stream_at, StreamReceives, subst, sym, SyncKind, taken_back, takes_back, TakesOutcome, throws, Ticks, true, unsendable, unsendable_error, waits, with_client, with_sender, ℕ, ◌++◌, ◌+◌, ◌<◌, ◌^◌, ◌∙◌, ◌∷◌, ◌≡◌, ◌≢◌, ◌≤◌, ◌⊎◌}
-use Rattle.ttrpc_story.proofs.Words.{act_of, asked, calls, data_thing, Flow, flow_of, heard, HeardDown, only_if, said, silent, taken, Thing, told, unasked, unheard, untold, with_entry}
+use Rattle.ttrpc_pair.proofs.Words.{[], all_joined, ap, arith, AsyncKind, Bool, call_at, CallEvent, CancelledDuringWrite, Client, ClientCore, ClientEnd, ClientKind, closed_error, Connection, deadline_of, DeadlineDuringWrite, Done, DropCall, DropReceiver, DropSender, DropsReceiver, DropsSender, due_at, Entry, eqb-true, Error, Event, Failure, false, Flying, Forgot, given, Given, Halves, has_response, id_of, if◌then◌else◌, inl, inr, is_some, IsOwned, IsRequest, Item, last_id, List, Named, nat_eq, Net, None, OpenEvent, opening_flags, OpensStream, Option, Outbox, Outcome, parcels, Passes, pushed_other, pushed_own, Recv, refl, Reply, Request, Requests, Response, Result, Sender, SenderClosed, SendsOn, Some, Stream, stream_at, StreamReceives, subst, sym, SyncKind, taken_back, takes_back, TakesOutcome, throws, Ticks, true, unsendable, unsendable_error, waits, with_client, with_sender, ℕ, ◌++◌, ◌+◌, ◌<◌, ◌^◌, ◌∙◌, ◌∷◌, ◌≡◌, ◌≢◌, ◌≤◌, ◌⊎◌}
+use Rattle.ttrpc_story.proofs.Words.{act_of, asked, calls, data_thing, Flow, flow_of, heard, HeardDown, only_if, said, silent, Thing, told, unasked, unheard, untold, with_entry}
 
 -- dropping takes a request back only where requests are thrown away
 back_throws_only : (failed may waiting : Bool) → (if failed then false else if may then waiting else false) ≡ true → may ≡ true

@@ -14,8 +14,8 @@ use Rattle.ttrpc_story.proofs.Flowing.{IsPlainFailure}
 use Rattle.ttrpc_story.proofs.Place.{elsewhere, Later, Place, Settings, unchanged}
 use Rattle.ttrpc_story.proofs.Events.{answers_here, ends_here, errs_up_here, HasNone, hears_up_here, job_within, responds_here, running_of, sends_down_here, takes_here, unheard_up_here}
 use Rattle.ttrpc_pair.proofs.Words.{unheard as unheard_of}
-use Rattle.ttrpc_pair.proofs.Words.{[], ActiveJob, all_at, AllByRecursion, Answer, Answers, AnswersBy, AnswersError, ap, append-nil, append_assoc, arith, AsyncRules, at_stays, between_own, Bool, changed_at, codes, Done, Drain, drained, DropReceiver, Drops, EndsOne, EndsStream, EndStream, Entry, eq-eqb, Err, Error, Event, ExpireAll, Failure, false, Finish, Finishes, Flying, given, Halves, Handed, HandlerError, Hands, has_response, id_of, if◌then◌else◌, inl, inr, is_stream, IsEnd, IsErrorResponse, IsResponse, Item, Job, job_at, JobReceives, jobs_at, last_id, List, Mail, mapped_at, nat_eq, Net, None, Ok, Option, Others, Outbox, parcels, pushed_other, pushed_own, ReceivesBy, ReceivesFrom, Recv, refl, Respond, Responds, RespondsTo, Response, Result, Rules, rules, safe_limit, Send, SendsAll, SendsItem, Sent, Server, ServerCore, ServerEnd, ServerPasses, ServerTicks, Some, stream_id_of, subst, sym, SyncRules, Take, Ticket, timeout_response, true, under_both, was_made, with_server, without_receiver, ℕ, ◌++◌, ◌∙◌, ◌∷◌, ◌≡◌, ◌≢◌, ◌≤◌}
-use Rattle.ttrpc_story.proofs.Words.{Act, act_of, acts, Answered, asked_by, EndedDown, ending_thing, flow_of, HasOkStatus, heard, HeardUp, last_thing, only_if, Ran, SentDown, silent, StreamBody, taken, Thing, ThingEnd, ThingItem, told, told_by, unheard, untold, with_entry, with_mail}
+use Rattle.ttrpc_pair.proofs.Words.{[], ActiveJob, all_at, AllByRecursion, Answer, Answers, AnswersBy, AnswersError, ap, append-nil, append_assoc, arith, AsyncRules, at_stays, between_own, Bool, changed_at, codes, Done, Drain, drained, DropReceiver, Drops, EndsOne, EndsStream, EndStream, Entry, eq-eqb, Err, Error, Event, ExpireAll, Failure, false, Finish, Finishes, Flying, given, Halves, Handed, HandlerError, Hands, has_response, id_of, if◌then◌else◌, inl, inr, is_stream, IsEnd, IsErrorResponse, IsResponse, Item, Job, job_at, JobReceives, jobs_at, last_id, List, Mail, mapped_at, nat_eq, Net, None, Ok, Option, Others, Outbox, parcels, pushed_other, pushed_own, ReceivesBy, ReceivesFrom, Recv, refl, Respond, Responds, RespondsTo, Response, Result, Rules, safe_limit, Send, SendsAll, SendsItem, Sent, Server, ServerCore, ServerEnd, ServerPasses, ServerTicks, Some, stream_id_of, subst, sym, SyncRules, Take, Ticket, timeout_response, true, under_both, was_made, with_server, without_receiver, ℕ, ◌++◌, ◌∙◌, ◌∷◌, ◌≡◌, ◌≢◌, ◌≤◌}
+use Rattle.ttrpc_story.proofs.Words.{Act, act_of, Answered, asked_by, EndedDown, ending_thing, flow_of, HasOkStatus, heard, HeardUp, last_thing, only_if, Ran, SentDown, silent, StreamBody, Thing, ThingEnd, ThingItem, told, told_by, unheard, untold, with_entry, with_mail}
 use Rattle.std.specs.List.{list_any}
 
 module _ {CO CI SO SI : Type 0} (c : Halves CO CI) (s : Halves SO SI) (seals : Bool) (set : Settings) (f : ℕ → ℕ) (trace : List Entry) where

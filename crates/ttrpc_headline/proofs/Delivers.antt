@@ -10,7 +10,7 @@ use Rattle.ttrpc_story.proofs.Downward.{IsTurned}
 use Rattle.ttrpc_story.proofs.Place.{Around, arrives_here, comes_of, elsewhere, IsAsked, IsPassed, Later, passes_here, Place, puts_here, refers_here, Settings, unchanged, untaken}
 use Rattle.ttrpc_story.proofs.Events.{down_of, lands_here}
 use Rattle.ttrpc_pair.proofs.Words.{[], Absent, ActiveJob, ActsOn, all_behind, AllByRecursion, ap, append-nil, append_assoc, arith, AsyncRules, Bool, brought_by, call_at, calling, case_of, case_row, cases_eq, changed_under, Client, Connection, Does, Entry, eq-eqb, Event, false, Flying, Halves, id_of, Ignore, inl, inlet_of, inr, is_stream, jobs_at, Landing, LandsOn, LandsOnce, last_id, List, MakeJob, MakeStream, MESSAGE_TYPE_REQUEST, MessageHeader, nat_eq, new_job, Opened, OutboundTransform, Outbox, parcels, Pipe, pushed_other, pushed_own, PutIn, refl, Reply, Request, request_bytes, Response, Row, row_elsewhere, row_made, Rules, rules, rules_stay, Scene, SendResponse, SendsAll, SendsOwnAnswer, Sent, Server, serving, Some, stream_body, stream_id_of, subst, sym, SyncRules, true, unary_body, under_other, under_own, under_stays, without_payload, ℕ, ◌++◌, ◌+◌, ◌∙◌, ◌∷◌, ◌≡◌, ◌≢◌, ◌≤◌, ◌⊎◌}
-use Rattle.ttrpc_story.proofs.Words.{act_of, asked, asked_by, flow_of, items, Open, silent, told, with_entry, with_mail, ◌%◌}
+use Rattle.ttrpc_story.proofs.Words.{act_of, asked_by, flow_of, Open, silent, with_entry, with_mail, ◌%◌}
 
 abbrev pub around : Settings → (ℕ → Bool) → ℕ → Around
 around set had next = record { set = set; had = had; next = next }

@@ -13,8 +13,8 @@ use Rattle.ttrpc_story.proofs.Reading.{nothing_read}
 use Rattle.ttrpc_story.proofs.Place.{Settings}
 use Rattle.ttrpc_story.proofs.Events.{close_put, exactly_once, in_order_here, item_put}
 use Rattle.ttrpc_story.proofs.Here.{Idle, Unborn}
-use Rattle.ttrpc_pair.proofs.Words.{[], Answer, ap, append-nil, append_assoc, arith, Bool, call_at, CallEvent, Carry, ClientCore, ClientEnd, ClientSide, Close, Count, Cut, Deliver, Done, Drain, DropCall, DropReceiver, DropSender, EndStream, Entry, Event, Fail, failed_by_hand, false, Finish, given, Given, Halves, Handed, inl, inr, IsFresh, Item, jobs_at, List, Named, Net, OpenEvent, Outcome, Recv, refl, Refused, Reply, Respond, rules, Runs, safe_limit, Send, ServerCore, ServerEnd, ServerSide, Some, stays, Steps, stream_at, subst, sym, Take, Tick, Ticket, Told, with_client, with_server, ℕ, ◌++◌, ◌∙◌, ◌∷◌, ◌≡◌}
-use Rattle.ttrpc_story.proofs.Words.{AreInOrder, ClosedUp, flows, items, SentUp, ThingEnd, ThingItem, with_entry}
+use Rattle.ttrpc_pair.proofs.Words.{[], Answer, ap, append-nil, append_assoc, arith, Bool, call_at, CallEvent, Carry, ClientCore, ClientEnd, ClientSide, Close, Count, Cut, Deliver, Done, Drain, DropCall, DropReceiver, DropSender, EndStream, Entry, Event, Fail, failed_by_hand, false, Finish, given, Given, Halves, Handed, inl, inr, IsFresh, Item, jobs_at, List, Named, Net, OpenEvent, Outcome, Recv, refl, Refused, Reply, Respond, rules, Runs, safe_limit, Send, ServerCore, ServerEnd, ServerSide, Some, Steps, stream_at, subst, sym, Take, Tick, Ticket, Told, with_client, with_server, ℕ, ◌++◌, ◌∙◌, ◌∷◌, ◌≡◌}
+use Rattle.ttrpc_story.proofs.Words.{AreInOrder, ClosedUp, flows, SentUp, ThingEnd, ThingItem, with_entry}
 
 module _ {CO CI SO SI : Type 0} (c : Halves CO CI) (s : Halves SO SI) (seals : Bool) (still : seals ≡ false → (from to : CO) (plain aad sealed : List ℕ) → c.out.seals from plain aad sealed to → to ≡ from)
     (fixed : (x y : SO) (plain aad sealed : List ℕ) → s.out.seals x plain aad sealed y → s.out.overhead y ≡ s.out.overhead x) (set : Settings) (f : ℕ → ℕ) where

@@ -1,3 +1,5 @@
+mod lists;
+mod lists_tests;
 mod plainly;
 mod random_tests;
 mod rows_tests;

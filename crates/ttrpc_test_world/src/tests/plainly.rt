@@ -140,7 +140,7 @@ fn outcomes_of(trace: &[Entry], id: CallId) -> usize {
 }
 
 /// Whether the status of a response says that its call ended well.
-fn is_ok(response: &Response) -> bool {
+pub fn is_ok(response: &Response) -> bool {
     match &response.status {
         None => true,
         Some(status) => status.code == 0,

@@ -1,6 +1,7 @@
 //! Lists of events by chance, from a fixed seed: the headline holds of each trace, as the plain program reads it.
 ghost use Rattle.std.specs.Prelude.{◌<◌};
 
+use crate::tests::lists::{Counts, NONE, Order, has_unknown_sender, read_lists};
 use crate::tests::plainly::{Finding, read_headline};
 use crate::tests::script::{
     Ways, over_plain, over_stamps, put, request_named, request_of, response_of,
@@ -184,7 +185,14 @@ fn event_by(alloc: Global, chance: &mut Chance) -> Result<Event, Fail> {
 
 /// What is under way is brought to its end.
 fn settle(alloc: Global, events: &mut Vec<Event>, chance: &mut Chance) -> Tested {
-    for _ in 0..12 {
+    for id in [1, 3, 5, 7] {
+        put(
+            events,
+            Event::Send(StreamEnd::Client(id), item_of(alloc, chance)?),
+        )?;
+    }
+    put(events, Event::Close(chance.id()))?;
+    for _ in 0..16 {
         put(events, Event::Carry(Side::Client, 4096))?;
     }
     put(events, Event::Deliver(Side::Server, 4096))?;
@@ -194,7 +202,15 @@ fn settle(alloc: Global, events: &mut Vec<Event>, chance: &mut Chance) -> Tested
     put(events, Event::Deliver(Side::Client, 4096))?;
     for id in [1, 3, 5, 7] {
         put(events, Event::Outcome(id))?;
-        put(events, Event::Recv(StreamEnd::Client(id)))?;
+        put_recv(events, StreamEnd::Client(id))?;
+    }
+    Ok(())
+}
+
+/// Three items are asked for.
+fn put_recv(events: &mut Vec<Event>, end: StreamEnd) -> Tested {
+    for _ in 0..3 {
+        put(events, Event::Recv(end))?;
     }
     Ok(())
 }
@@ -202,14 +218,18 @@ fn settle(alloc: Global, events: &mut Vec<Event>, chance: &mut Chance) -> Tested
 /// A job is taken, and answered or ended.
 fn settle_job(alloc: Global, events: &mut Vec<Event>, chance: &mut Chance, job: u64) -> Tested {
     put(events, Event::Take)?;
-    put(events, Event::Recv(StreamEnd::Server(job)))?;
+    put_recv(events, StreamEnd::Server(job))?;
+    put(
+        events,
+        Event::Send(StreamEnd::Server(job), item_of(alloc, chance)?),
+    )?;
     if chance.below(4) == 0 {
         put(events, Event::Respond(job, response_of(alloc, b"a")?))?;
         put(events, Event::Finish(job))?;
     }
     put(events, Event::Answer(job, answer_of(alloc, chance)?))?;
     put(events, Event::EndStream(job, end_of(alloc, chance)?))?;
-    for _ in 0..3 {
+    for _ in 0..4 {
         put(events, Event::Carry(Side::Server, 4096))?;
     }
     Ok(())
@@ -246,18 +266,44 @@ fn trace_by(alloc: Global, chance: &mut Chance) -> Result<Trace, Fail> {
     }
 }
 
-/// Over 1250 lists from this seed the headline holds, and hundreds of calls end well.
+/// How many items and ends the receivers of a trace were given, which are in order.
+fn read_in_order(trace: &[Entry]) -> Result<Counts, Fail> {
+    if has_unknown_sender(trace) {
+        return Ok(NONE);
+    }
+    match read_lists(trace) {
+        Order::Kept(counts) => Ok(counts),
+        _ => Err("the items aren't in order".into()),
+    }
+}
+
+/// The sums of two.
+fn both(one: Counts, other: Counts) -> Counts {
+    Counts {
+        items_up: one.items_up.saturating_add(other.items_up),
+        ends_up: one.ends_up.saturating_add(other.ends_up),
+        items_down: one.items_down.saturating_add(other.items_down),
+        ends_down: one.ends_down.saturating_add(other.ends_down),
+    }
+}
+
+/// Over 1250 lists from this seed the headline holds, hundreds of calls end well, and each way hundreds of items and ends are
+/// given.
 fn holds_by_chance(rt: &impl Abort, alloc: Global, seed: u64) -> Tested {
     let mut chance = Chance { state: seed };
     let mut good = 0usize;
+    let mut counts = NONE;
     for _ in 0..LISTS {
         let trace = trace_by(alloc, &mut chance)?;
         match read_headline(trace.as_slice()) {
             Finding::Whole(more) => good = good.saturating_add(more),
             _ => return Err("the headline doesn't hold".into()),
         }
+        counts = both(counts, read_in_order(trace.as_slice())?);
     }
     assert!(rt; good > 200);
+    assert!(rt; counts.items_up > 450 && counts.items_down > 450);
+    assert!(rt; counts.ends_up > 450 && counts.ends_down > 450);
     Ok(())
 }
 

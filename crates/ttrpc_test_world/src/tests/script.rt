@@ -115,7 +115,8 @@ pub fn response_of(alloc: Global, payload: &[u8]) -> Result<Response, Fail> {
     Ok(response)
 }
 
-fn event_of(alloc: Global, act: Act) -> Result<Event, Fail> {
+/// The event of an act.
+pub fn event_of(alloc: Global, act: Act) -> Result<Event, Fail> {
     Ok(match act {
         Act::Call(payload, timeout) => Event::Call(request_of(alloc, payload, timeout)?),
         Act::CallOf(method, payload) => Event::Call(request_named(alloc, method, payload)?),

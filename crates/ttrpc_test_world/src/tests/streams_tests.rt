@@ -220,6 +220,23 @@ const DROPPED: &[(Act, Said)] = &[
     (Act::Close(3), Said::Ticket(2)),
 ];
 
+/// A stream that is opened by an empty item has it, and nothing behind it. With stamps the frame has a byte more.
+const EMPTY_ITEM: &[(Act, Said)] = &[
+    (Act::Ask("Chat", b""), Said::Named(1)),
+    (Act::CarryUp(64), Said::Count(27)),
+    (Act::DeliverUp(64), Said::Count(27)),
+    (Act::RecvUp(1), Said::Payload(b"")),
+    (Act::RecvUp(1), Said::RemoteClosed),
+];
+
+const STAMPED_EMPTY_ITEM: &[(Act, Said)] = &[
+    (Act::Ask("Chat", b""), Said::Named(1)),
+    (Act::CarryUp(64), Said::Count(28)),
+    (Act::DeliverUp(64), Said::Count(28)),
+    (Act::RecvUp(1), Said::Payload(b"")),
+    (Act::RecvUp(1), Said::RemoteClosed),
+];
+
 /// The same with stamps, where no bytes are counted.
 const STAMPED_ITEMS: &[(Act, Said)] = &[
     (Act::Open("Chat"), Said::Named(1)),
@@ -264,17 +281,93 @@ const RECEIVED: &[(Act, Said)] = &[
     (Act::RecvUp(1), Said::RemoteClosed),
 ];
 
-/// The same where this many bytes are carried and delivered between, one by one.
+/// This many bytes are carried and delivered, one by one, and there are no more.
+fn put_bytes(script: &mut Vec<(Act, Said)>, carry: Act, deliver: Act, bytes: usize) -> Tested {
+    for _ in 0..bytes {
+        script.push((carry, Said::Count(1)))?;
+        script.push((deliver, Said::Count(1)))?;
+    }
+    script.push((carry, Said::Count(0)))?;
+    Ok(())
+}
+
+/// The same where this many bytes are moved between.
 fn byte_by_byte(alloc: Global, bytes: usize) -> Result<Vec<(Act, Said)>, Fail> {
     let mut script = Vec::new(alloc);
     script.extend_from_slice(QUEUED)?;
-    for _ in 0..bytes {
-        script.push((Act::CarryUp(1), Said::Count(1)))?;
-        script.push((Act::DeliverUp(1), Said::Count(1)))?;
-    }
-    script.push((Act::CarryUp(1), Said::Count(0)))?;
+    put_bytes(&mut script, Act::CarryUp(1), Act::DeliverUp(1), bytes)?;
     script.extend_from_slice(RECEIVED)?;
     Ok(script)
+}
+
+/// The frames of two streams alternate: two items of each, and its close.
+const ALTERNATE_UP: &[(Act, Said)] = &[
+    (Act::Open("Chat"), Said::Named(1)),
+    (Act::Open("Chat"), Said::Named(3)),
+    (Act::Send(1, b"a"), Said::Ticket(1)),
+    (Act::Send(3, b"b"), Said::Ticket(2)),
+    (Act::Send(1, b"c"), Said::Ticket(3)),
+    (Act::Send(3, b"d"), Said::Ticket(4)),
+    (Act::Close(1), Said::Ticket(5)),
+    (Act::Close(3), Said::Ticket(6)),
+];
+
+/// Each receiver is given its own, and then the frames alternate that go back.
+const ALTERNATE_DOWN: &[(Act, Said)] = &[
+    (Act::RecvUp(2), Said::Payload(b"b")),
+    (Act::RecvUp(1), Said::Payload(b"a")),
+    (Act::RecvUp(1), Said::Payload(b"c")),
+    (Act::RecvUp(1), Said::Eof),
+    (Act::RecvUp(2), Said::Payload(b"d")),
+    (Act::RecvUp(2), Said::Eof),
+    (Act::Take, Said::StreamJob(1, 1)),
+    (Act::Take, Said::StreamJob(2, 3)),
+    (Act::SendDown(2, b"e"), Said::Ticket(1)),
+    (Act::SendDown(1, b"f"), Said::Ticket(2)),
+    (Act::SendDown(2, b"g"), Said::Ticket(3)),
+    (Act::EndWith(1, b"h"), Said::Done),
+    (Act::End(2), Said::Done),
+];
+
+/// And come to the client.
+const ALTERNATE_BACK: &[(Act, Said)] = &[
+    (Act::Recv(1), Said::Payload(b"f")),
+    (Act::Recv(1), Said::Payload(b"h")),
+    (Act::Recv(1), Said::RemoteClosed),
+    (Act::Recv(3), Said::Payload(b"e")),
+    (Act::Recv(3), Said::Payload(b"g")),
+    (Act::Recv(3), Said::Eof),
+];
+
+/// So many bytes go up and down, one by one.
+fn alternating(alloc: Global, up: usize, down: usize) -> Result<Vec<(Act, Said)>, Fail> {
+    let mut script = Vec::new(alloc);
+    script.extend_from_slice(ALTERNATE_UP)?;
+    put_bytes(&mut script, Act::CarryUp(1), Act::DeliverUp(1), up)?;
+    script.extend_from_slice(ALTERNATE_DOWN)?;
+    put_bytes(&mut script, Act::CarryDown(1), Act::DeliverDown(1), down)?;
+    script.extend_from_slice(ALTERNATE_BACK)?;
+    Ok(script)
+}
+
+#[test]
+fn frames_of_two_streams_alternate(rt: HostRuntime) -> Tested {
+    for ways in ASYNC {
+        let script = alternating(rt.alloc(), 118, 58)?;
+        plain(&rt, rt.alloc(), ways, script.as_slice())?;
+        let script = alternating(rt.alloc(), 126, 63)?;
+        stamped(&rt, rt.alloc(), ways, script.as_slice())?;
+    }
+    Ok(())
+}
+
+#[test]
+fn a_stream_is_opened_by_an_empty_item(rt: HostRuntime) -> Tested {
+    for ways in ASYNC {
+        plain(&rt, rt.alloc(), ways, EMPTY_ITEM)?;
+        stamped(&rt, rt.alloc(), ways, STAMPED_EMPTY_ITEM)?;
+    }
+    Ok(())
 }
 
 #[test]
