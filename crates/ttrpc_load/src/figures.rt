@@ -12,10 +12,15 @@ pub struct Figures {
     pub ninety_ninth: u64,
 }
 
+/// How many a second, where so many took so many nanoseconds.
+pub fn rate(count: usize, elapsed: u64) -> u128 {
+    let nanoseconds = (count as u128).saturating_mul(1_000_000_000);
+    nanoseconds / u128::from(elapsed.max(1))
+}
+
 impl fmt::Display for Figures {
     fn fmt<W: fmt::Write>(&self, f: &mut fmt::Formatter<W>) -> fmt::Result {
-        let nanoseconds = (self.calls as u128).saturating_mul(1_000_000_000);
-        let a_second = nanoseconds / u128::from(self.elapsed.max(1));
+        let a_second = rate(self.calls, self.elapsed);
         let (median, ninety_ninth) = (self.median / 1000, self.ninety_ninth / 1000);
         write!(
             f,
@@ -46,11 +51,27 @@ impl fmt::Display for Moments {
     }
 }
 
+/// How many items a second went over streams of each kind.
+#[derive(Clone, Copy, Debug)]
+pub struct Rates {
+    pub chat: u128,
+    pub sum: u128,
+    pub count: u128,
+}
+
+impl fmt::Display for Rates {
+    fn fmt<W: fmt::Write>(&self, f: &mut fmt::Formatter<W>) -> fmt::Result {
+        let Rates { chat, sum, count } = *self;
+        write!(f, "items/s: chat {chat}, sum {sum}, count {count}")
+    }
+}
+
 /// What a measurement tells.
 #[derive(Clone, Copy, Debug)]
 pub enum Told {
     Figures(Figures),
     Moments(Moments),
+    Rates(Rates),
 }
 
 impl fmt::Display for Told {
@@ -58,6 +79,7 @@ impl fmt::Display for Told {
         match self {
             Told::Figures(figures) => figures.fmt(f),
             Told::Moments(moments) => moments.fmt(f),
+            Told::Rates(rates) => rates.fmt(f),
         }
     }
 }

@@ -10,6 +10,10 @@ pub enum Target<'a> {
     Server(&'a str),
     /// The same, by one connection to which all calls are written at once.
     Burst(&'a str),
+    /// The same, by a client whose calls are polled on one event loop.
+    Polled(&'a str),
+    /// The streams of the server at this address, by such a client.
+    Streams(&'a str),
 }
 
 /// How many calls are made, by how many callers, with how many bytes.
@@ -21,10 +25,19 @@ pub struct Load {
 }
 
 /// The load and its target that the words name: an address or `raw`, calls, callers and bytes; or `burst`, an address, calls
-/// and bytes. There are calls and callers, and the calls' payload has at least one byte.
+/// and bytes; or `async` or `stream`, an address, calls or items, callers or streams, and bytes. There are calls and callers,
+/// and the calls' payload has at least one byte.
 pub fn load_of(words: &[String]) -> Option<(Target<'_>, Load)>
     ensures { IfSome result (λ found. (0 < found.1.calls) × (0 < found.1.callers) × (0 < found.1.bytes)) }
 {
+    if let [word, address, calls, callers, bytes] = words {
+        let target = match word.as_str() {
+            "async" => Target::Polled(address.as_str()),
+            "stream" => Target::Streams(address.as_str()),
+            _ => return None,
+        };
+        return Some((target, load_by(calls, count_of(callers)?, bytes)?));
+    }
     let [target, second, third, bytes] = words else {
         return None;
     };

@@ -1,8 +1,9 @@
 //! One measurement, from its words to its line.
 use crate::burst::burst;
 use crate::calling::{EchoClient, Echoes, times_of};
-use crate::figures::{Figures, Told, percentile};
+use crate::figures::{Figures, Rates, Told, percentile, rate};
 use crate::load::{Load, Target, load_of, share};
+use crate::polled::{Looped, Ran, Work, run_polled};
 use crate::raw::{connect_raw, start_raw};
 use std::alloc::Global;
 use std::io::{self, Write};
@@ -18,7 +19,8 @@ use ttrpc_sync::{Runtime, moment};
 use ttrpc_sync_client::Client;
 
 const USAGE: &str =
-    "usage: ttrpc-load ADDR CALLS CALLERS BYTES | raw CALLS CALLERS BYTES | burst ADDR CALLS BYTES";
+    "usage: ttrpc-load ADDR CALLS CALLERS BYTES | raw CALLS CALLERS BYTES | burst ADDR CALLS BYTES
+       ttrpc-load async ADDR CALLS CALLERS BYTES | stream ADDR ITEMS STREAMS BYTES";
 
 /// What `--help` tells behind the usage.
 const HELP: &str = "
@@ -28,14 +30,20 @@ Calls Echo of demo.Echo, and tells in a line how it went.
                              of one client, each with a payload of so many bytes
   raw CALLS CALLERS BYTES    the same of a bare echo of this process, with a connection for each caller: the system's limit
   burst ADDR CALLS BYTES     all requests in one write over one connection, and when their answers came
+  async ADDR CALLS CALLERS BYTES
+                             as the first, by a client whose calls are polled on one event loop, at a TCP address
+  stream ADDR ITEMS STREAMS BYTES
+                             so many items by so many streams of such a client, on Chat, Sum and Count one after the other,
+                             and how many items a second went over each
 
 Told are calls a second, and of the times of single calls the median and the 99th percentile, in microseconds. Where
 TTRPC_TCP_NODELAY_ENABLED is 1 or true, small writes by TCP go out at once.";
 
 /// What a measurement asks of the system.
-pub trait Measured: Runtime + Files + Net<Listener = TcpListener, Stream = TcpStream> {}
+pub trait Measured: Runtime + Looped + Files + Net<Listener = TcpListener, Stream = TcpStream> {}
 
-impl<R: Runtime + Files + Net<Listener = TcpListener, Stream = TcpStream>> Measured for R {}
+impl<R: Runtime + Looped + Files + Net<Listener = TcpListener, Stream = TcpStream>> Measured
+    for R {}
 
 /// A caller in a thread of its own, which gives the times of its calls.
 type Caller = JoinHandle<Result<Vec<u64>>>;
@@ -88,6 +96,8 @@ fn measure<R: Measured + 'static, X: Write>(
         Target::Raw => raw_callers(rt, load, nodelay, &done)?,
         Target::Server(address) => client_callers(rt, address, load, nodelay, &done)?,
         Target::Burst(address) => return Ok(Told::Moments(burst(rt, address, load, nodelay)?)),
+        Target::Polled(address) => return polled_calls(rt, address, load, nodelay),
+        Target::Streams(address) => return stream_rates(rt, address, load, nodelay),
     };
     if shows {
         show(rt, load, &*done, errors)?;
@@ -95,6 +105,32 @@ fn measure<R: Measured + 'static, X: Write>(
     let times = all_times(rt, callers)?;
     let elapsed = moment(rt)?.saturating_sub(start);
     Ok(Told::Figures(figures_of(load, elapsed, times)))
+}
+
+/// The figures of calls that are polled.
+fn polled_calls<R: Looped>(rt: &R, address: &str, load: Load, nodelay: bool) -> Result<Told> {
+    let Ran { elapsed, times } = run_polled(rt, address, Work::Calls, load, nodelay)?;
+    Ok(Told::Figures(figures_of(load, elapsed, times)))
+}
+
+/// The rates of each kind of stream, one after the other.
+fn stream_rates<R: Looped>(rt: &R, address: &str, load: Load, nodelay: bool) -> Result<Told> {
+    Ok(Told::Rates(Rates {
+        chat: rate_of(rt, address, Work::Chat, load, nodelay)?,
+        sum: rate_of(rt, address, Work::Sum, load, nodelay)?,
+        count: rate_of(rt, address, Work::Count, load, nodelay)?,
+    }))
+}
+
+fn rate_of<R: Looped>(
+    rt: &R,
+    address: &str,
+    work: Work,
+    load: Load,
+    nodelay: bool,
+) -> Result<u128> {
+    let ran = run_polled(rt, address, work, load, nodelay)?;
+    Ok(rate(ran.times.len(), ran.elapsed))
 }
 
 /// Callers of one client that all of them share.

@@ -1,0 +1,37 @@
+-- For what the exchanges of one event loop wait.
+-- Source: this project's.
+use Rattle.std.specs.Prelude.{◌≡◌, ℕ, Option, Some, None}
+use Rattle.std.specs.Arc.{arc_value}
+use Rattle.ttrpc_polled_client.specs.declared.request.ClientRequest.{ClientRequest}
+use Rattle.ttrpc_polled_client.specs.Needs.{line_source}
+use Rattle.ttrpc_polled_streams.specs.Needs.{receiver_source, sender_source}
+use Rattle.ttrpc_load.specs.declared.polled.counts.CountAt.{CountAt}
+use Rattle.ttrpc_load.specs.declared.polled.counts.CountAt.TheVariants.{Opens as OpensCount, Receives as ReceivesItem, Done as IsCounted}
+use Rattle.ttrpc_load.specs.declared.polled.exchanges.Exchanges.{Exchanges}
+use Rattle.ttrpc_load.specs.declared.polled.exchanges.Exchanges.TheVariants.{Calls as OfCalls, Talks as OfTalks, Counts as OfCounts}
+use Rattle.ttrpc_load.specs.declared.polled.talks.TalkAt.{TalkAt}
+use Rattle.ttrpc_load.specs.declared.polled.talks.TalkAt.TheVariants.{Opens, Sends, Receives, Done}
+
+-- a caller waits for its call's answer
+abbrev pub CallNeeds : {O I : Type 0} → Option (ClientRequest O I) → ℕ → Type 0
+CallNeeds (Some call) s = s ≡ line_source (arc_value call.line)
+CallNeeds None s = ⊥
+
+-- a talk waits until an item has left, or for one
+abbrev pub TalkNeeds : {R : Type 0} → TalkAt R → ℕ → Type 0
+TalkNeeds (Opens opening) s = ⊥
+TalkNeeds (Sends halves sending) s = s ≡ sender_source line_source halves.tx.tx
+TalkNeeds (Receives halves) s = s ≡ receiver_source line_source halves.rx.rx
+TalkNeeds Done s = ⊥
+
+-- a count waits for an item
+abbrev pub CountNeeds : {R : Type 0} → CountAt R → ℕ → Type 0
+CountNeeds (OpensCount opening) s = ⊥
+CountNeeds (ReceivesItem stream) s = s ≡ receiver_source line_source stream.rx.rx
+CountNeeds IsCounted s = ⊥
+
+-- and so for exchanges of each kind
+abbrev pub ExchangesNeed : {R : Type 0} → Exchanges R → ℕ → Type 0
+ExchangesNeed (OfCalls calls) = CallNeeds calls.call
+ExchangesNeed (OfTalks talks) = TalkNeeds talks.at
+ExchangesNeed (OfCounts counts) = CountNeeds counts.at

@@ -1,0 +1,74 @@
+//! What a task does, one exchange behind the other.
+use crate::polled::calls::Calls;
+use crate::polled::counts::Counts;
+use crate::polled::talks::{Talk, Talks};
+use futures::Stream;
+use futures::task::{Context, Poll};
+use ttrpc_polled::Timed;
+use ttrpc_polled_client::Client;
+use ttrpc_proto::Result;
+use ttrpc_secure::Plain;
+use ttrpc_wire::Blob;
+
+/// What is measured.
+#[derive(Clone, Copy, Debug)]
+pub enum Work {
+    /// Calls of `Echo`.
+    Calls,
+    /// Items of `Chat`, each of which comes back.
+    Chat,
+    /// Items that are sent to `Sum`.
+    Sum,
+    /// Items that `Count` sends.
+    Count,
+}
+
+/// The exchanges of one task. Each item says whether one is done.
+#[derive(Drop)]
+pub enum Exchanges<R: Timed> {
+    Calls(Calls<R>),
+    Talks(Talks<R>),
+    Counts(Counts<R>),
+}
+
+impl<R: Timed> Exchanges<R> {
+    /// So many exchanges by this client, with so many bytes each.
+    pub fn new(
+        client: Client<R, Plain, Plain>,
+        work: Work,
+        count: usize,
+        bytes: usize,
+    ) -> Result<Exchanges<R>> {
+        let alloc = client.alloc();
+        let payload = Vec::from_elem(alloc, 7u8, bytes)?;
+        Ok(match work {
+            Work::Calls => Exchanges::Calls(Calls::new(client, payload, count)),
+            Work::Chat => {
+                Exchanges::Talks(Talks::new(client, Talk::Chat, Blob::from_vec(payload), count))
+            }
+            Work::Sum => {
+                Exchanges::Talks(Talks::new(client, Talk::Sum, Blob::from_vec(payload), count))
+            }
+            Work::Count => {
+                let request = Blob::from_slice(alloc, &(count as u64).to_be_bytes())?;
+                Exchanges::Counts(Counts::new(&client, &request))
+            }
+        })
+    }
+}
+
+impl<R: Timed> Stream for Exchanges<R> {
+    type Item = Result<bool>;
+
+    ghost use Rattle.ttrpc_load.specs.Needs.{ExchangesNeed};
+
+    ghost needs = { ExchangesNeed };
+
+    fn poll_next(&mut self, cx: &mut Context<'_>) -> Poll<Option<Result<bool>>> {
+        match self {
+            Exchanges::Calls(calls) => calls.poll_next(cx),
+            Exchanges::Talks(talks) => talks.poll_next(cx),
+            Exchanges::Counts(counts) => counts.poll_next(cx),
+        }
+    }
+}

@@ -1,0 +1,156 @@
+//! Streams on which a client sends items.
+use crate::calling::same;
+use futures::task::{Context, Poll};
+use futures::{Future, Stream};
+use std::mem::replace;
+use ttrpc_message::Context as CallContext;
+use ttrpc_polled::Timed;
+use ttrpc_polled_client::{Client, ClientLine, ClientOpening, open_of};
+use ttrpc_polled_streams::{CSReceiver, CSSender, ClientStream, Sending, sending_of};
+use ttrpc_proto::Result;
+use ttrpc_secure::Plain;
+use ttrpc_wire::Blob;
+
+/// What the streams share.
+pub type Line = ClientLine<Plain, Plain>;
+
+/// What is said on a stream.
+#[derive(Clone, Copy, Debug, PartialEq, Eq)]
+pub enum Talk {
+    /// Each item comes back before the next is sent.
+    Chat,
+    /// All items are sent, and then one message comes.
+    Sum,
+}
+
+impl Talk {
+    /// The name of the stream of `demo.Echo`.
+    fn name(self) -> &'static str {
+        match self {
+            Talk::Chat => "Chat",
+            Talk::Sum => "Sum",
+        }
+    }
+}
+
+/// Both halves of an open stream.
+#[derive(Drop)]
+pub struct Halves {
+    tx: CSSender<Blob, Line>,
+    rx: CSReceiver<Blob, Line>,
+}
+
+/// Where a talk is.
+#[derive(Drop)]
+pub enum TalkAt<R: Timed> {
+    /// The stream is to be opened.
+    Opens(ClientOpening<ClientStream<Blob, Blob, Line>, R, Plain, Plain>),
+    /// An item is sent, or that there are no more.
+    Sends(Halves, Sending),
+    /// An item is to come.
+    Receives(Halves),
+    /// It is over.
+    Done,
+}
+
+/// A stream on which so many items are sent.
+#[derive(Drop)]
+pub struct Talks<R: Timed> {
+    client: Client<R, Plain, Plain>,
+    talk: Talk,
+    item: Blob,
+    left: usize,
+    at: TalkAt<R>,
+}
+
+impl<R: Timed> Talks<R> {
+    /// So many items of this kind of talk, by this client.
+    pub fn new(client: Client<R, Plain, Plain>, talk: Talk, item: Blob, left: usize) -> Talks<R> {
+        let context = CallContext::new(client.alloc());
+        let answered = talk == Talk::Chat;
+        let opens = open_of(&client, "demo.Echo", talk.name(), context, answered);
+        Talks {
+            client,
+            talk,
+            item,
+            left,
+            at: TalkAt::Opens(opens),
+        }
+    }
+
+    /// Begins to send the next item, or says that there are no more.
+    fn send_next(&mut self, halves: Halves) {
+        let sending = if self.left == 0 {
+            Sending::Closes
+        } else {
+            sending_of(self.client.alloc(), &self.item)
+        };
+        self.at = TalkAt::Sends(halves, sending);
+    }
+
+    /// Goes on behind a frame that has left. Whether an exchange is done by it.
+    fn sent(&mut self, halves: Halves) -> bool {
+        if self.talk == Talk::Chat || self.left == 0 {
+            self.at = TalkAt::Receives(halves);
+            return false;
+        }
+        self.left = self.left.saturating_sub(1);
+        self.send_next(halves);
+        true
+    }
+
+    /// Goes on behind an item that came. Whether an exchange is done by it.
+    fn received(&mut self, halves: Halves, item: &Blob) -> Result<bool> {
+        if self.talk == Talk::Sum {
+            return Ok(false);
+        }
+        same(self.client.alloc(), item.as_slice(), self.item.as_slice())?;
+        self.left = self.left.saturating_sub(1);
+        if self.left > 0 {
+            self.send_next(halves);
+        }
+        Ok(true)
+    }
+}
+
+impl<R: Timed> Stream for Talks<R> {
+    type Item = Result<bool>;
+
+    ghost use Rattle.ttrpc_load.specs.Needs.{TalkNeeds};
+
+    ghost needs = { λ t. TalkNeeds t.at };
+
+    fn poll_next(&mut self, cx: &mut Context<'_>) -> Poll<Option<Result<bool>>> {
+        match replace(&mut self.at, TalkAt::Done) {
+            TalkAt::Opens(mut opening) => match opening.poll(cx) {
+                Poll::Pending => {
+                    self.at = TalkAt::Opens(opening);
+                    Poll::Pending
+                }
+                Poll::Ready(Ok(stream)) => {
+                    let (tx, rx) = stream.split();
+                    self.send_next(Halves { tx, rx });
+                    Poll::Ready(Some(Ok(false)))
+                }
+                Poll::Ready(Err(error)) => Poll::Ready(Some(Err(error))),
+            },
+            TalkAt::Sends(halves, mut sending) => match halves.tx.poll_sending(&mut sending, cx) {
+                Poll::Pending => {
+                    self.at = TalkAt::Sends(halves, sending);
+                    Poll::Pending
+                }
+                Poll::Ready(Ok(())) => Poll::Ready(Some(Ok(self.sent(halves)))),
+                Poll::Ready(Err(error)) => Poll::Ready(Some(Err(error))),
+            },
+            TalkAt::Receives(mut halves) => match halves.rx.poll_recv(cx) {
+                Poll::Pending => {
+                    self.at = TalkAt::Receives(halves);
+                    Poll::Pending
+                }
+                Poll::Ready(Ok(item)) => Poll::Ready(Some(self.received(halves, &item))),
+                Poll::Ready(Err(error)) => Poll::Ready(Some(Err(error))),
+            },
+            TalkAt::Done => Poll::Ready(None),
+        }
+    }
+}

@@ -1,0 +1,57 @@
+//! A task of the event loop.
+use crate::polled::exchanges::Exchanges;
+use crate::polled::tally::Tally;
+use futures::task::{Context, Poll};
+use futures::{Future, Stream};
+use std::alloc::Global;
+use std::rc::Rc;
+use ttrpc_polled::{Timed, moment};
+use ttrpc_proto::Result;
+
+/// How many exchanges are taken at most before other tasks run.
+const TURNS: u32 = 64;
+
+/// A task that takes what exchanges yield, and tallies how long each took.
+#[derive(Drop)]
+pub struct Tallied<R: Timed> {
+    pub rt: R,
+    pub exchanges: Exchanges<R>,
+    pub began: u64,
+    pub tally: Rc<Tally, Global>,
+}
+
+impl<R: Timed> Tallied<R> {
+    /// Keeps the time of an exchange, if one is done.
+    fn note(&mut self, came: Result<bool>) -> Result<()> {
+        if came? {
+            let now = moment(&self.rt)?;
+            self.tally.add(now.saturating_sub(self.began))?;
+            self.began = now;
+        }
+        Ok(())
+    }
+}
+
+impl<R: Timed> Future for Tallied<R> {
+    type Output = ();
+
+    ghost use Rattle.ttrpc_load.specs.Needs.{ExchangesNeed};
+
+    ghost needs = { λ t. ExchangesNeed t.exchanges };
+
+    fn poll(&mut self, cx: &mut Context<'_>) -> Poll<()> {
+        for _ in 0..TURNS {
+            match self.exchanges.poll_next(cx) {
+                Poll::Pending => return Poll::Pending,
+                Poll::Ready(None) => return Poll::Ready(()),
+                Poll::Ready(Some(came)) => {
+                    if let Err(error) = self.note(came) {
+                        self.tally.fail(error);
+                        return Poll::Ready(());
+                    }
+                }
+            }
+        }
+        cx.yield_now()
+    }
+}
