@@ -1,9 +1,10 @@
 //! What handles requests and streams.
-ghost use Rattle.std.specs.Prelude.{◌≡◌, ℕ, List, IfErr, IfOk};
+ghost use Rattle.std.specs.Prelude.{◌≡◌, ℕ, List, IfErr, IfOk, IsSome};
 ghost use Rattle.std.specs.Arc.{arc_value};
 ghost use Rattle.ttrpc_message.specs.Metadata.{seen, some_texts, texts_of, values_at};
 
 use futures::Future;
+use futures::future::{Ready, ready};
 use std::alloc::Global;
 use std::collections::BTreeMap;
 use std::fmt;
@@ -91,4 +92,34 @@ pub trait StreamHandler<L: StreamLine>: Drop {
     /// Begins to handle a stream.
     fn handler(&self, ctx: TtrpcContext, stream: StreamInner<L>) -> Self::Call
         ensures { Self.Call.can_poll result };
+}
+
+/// The methods of a service that has none. Under a name it would answer by `LocalClosed`.
+#[derive(Clone, Copy, Debug)]
+pub struct NoMethods {}
+
+impl MethodHandler for NoMethods {
+    type Call = Ready<Result<Response>>;
+
+    fn handler(&self, _ctx: TtrpcContext, _req: Request) -> Ready<Result<Response>> {
+        ready(Err(Error::LocalClosed))
+    }
+}
+
+/// The streams of a service that has none. Under a name it would close each at once.
+#[derive(Clone, Copy, Debug)]
+pub struct NoStreams {}
+
+impl<L: StreamLine> StreamHandler<L> for NoStreams {
+    type Call = Ready<Result<Option<Response>>>;
+
+    fn handler(
+        &self,
+        _ctx: TtrpcContext,
+        _stream: StreamInner<L>,
+    ) -> Ready<Result<Option<Response>>>
+        ensures { IsSome result.0 }
+    {
+        ready(Ok(None))
+    }
 }

@@ -17,7 +17,7 @@ mod stop;
 
 pub use connection::ServerConnection;
 pub use ended::Ended;
-pub use handler::{MethodHandler, StreamHandler, TtrpcContext};
+pub use handler::{MethodHandler, NoMethods, NoStreams, StreamHandler, TtrpcContext};
 pub use held::ServerHeld;
 pub use hook::{NoHook, admit};
 pub use running::{Handled, Running};

@@ -1,6 +1,8 @@
 -- What a handler's call tells of what a service's method gave.
 -- Source: the Rust crate's macros.
 use Rattle.std.specs.Prelude.{◌≡◌, ⊤, ℕ, List, [], IsSomeAnd, Option, None, Some, Result, Ok, Err}
+use Rattle.futures.specs.declared.future.either.Either.{Either}
+use Rattle.futures.specs.declared.future.either.Either.TheVariants.{Left, Right}
 use Rattle.ttrpc_proto.specs.declared.error.Error.{Error}
 use Rattle.ttrpc_proto.specs.declared.error.Error.TheVariants.{LocalClosed, NoMemory}
 use Rattle.ttrpc_proto.specs.declared.response.Response.{Response}
@@ -21,6 +23,10 @@ TellsClosing (Ok _) told = told ≡ Ok None
 TellsClosing (Err e) (Ok (Some response)) = IsSomeAnd response.status (Tells e) × (response.payload ≡ [])
 TellsClosing (Err e) (Ok None) = ⊥
 TellsClosing (Err e) (Err refused) = refused ≡ NoMemory
+
+-- one of two may be polled where it may be
+abbrev pub EitherCanPoll : {F G : Type 0} → (F → Type 0) → (G → Type 0) → Either F G → Type 0
+EitherCanPoll {F} {G} one other = elim [ Left f ↦ one f | Right g ↦ other g ]
 
 -- a call may be polled whose method may be
 abbrev pub AtCanPoll : {F : Type 0} → (F → Type 0) → HandlingAt F → Type 0

@@ -1,0 +1,17 @@
+//! Tests of what `tools/messages` writes for polled ends: an rpc of each kind reaches its method, and is told as its kind is.
+#![tactic(auto)]
+
+mod beside;
+mod messages;
+mod polled;
+#[cfg(test)]
+mod tests;
+mod told;
+
+pub use beside::Beside;
+pub use messages::{Count, Item};
+pub use polled::{
+    Flows, FlowsClient, Plainly, PlainlyClient, Talks, TalksClient, flows_service, plainly_service,
+    talks_service,
+};
+pub use told::Told;

@@ -1,0 +1,2 @@
+mod sites;
+mod talks_tests;
