@@ -1,5 +1,5 @@
 -- A stream of one item each way, and its ends: the definitions say of it what it is, by computing alone.
-use Rattle.ttrpc_events.proofs.Words.{[], AreInOrder, closed, Entry, Eof, Err, flows, Fresh, got, has_end, heard_down, heard_up, Item, items, List, None, Ok, put_down, put_up, refl, Request, Rules, Some, ThingEnd, ThingItem, true, ℕ, ◌∷◌, ◌≡◌, IsInOrder, RemoteClosed, false}
+use Rattle.ttrpc_events.proofs.Words.{[], AreInOrder, Entry, Eof, Err, flows, Fresh, has_end, heard_down, heard_up, Item, List, None, Ok, put_down, put_up, refl, Request, Rules, Some, ThingEnd, ThingItem, true, ℕ, ◌∷◌, ◌≡◌, IsInOrder, RemoteClosed, false}
 use Rattle.ttrpc_events.specs.Types.{Close, Done, EndStream, Named, Open, Recv, Send, Ticket}
 use Rattle.ttrpc_events.specs.declared.events.StreamEnd.TheVariants as end
 

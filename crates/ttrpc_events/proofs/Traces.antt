@@ -1,5 +1,5 @@
 -- A trace with one more entry, and what it says of one id; and lists of acts, and of what happened to items.
-use Rattle.ttrpc_events.proofs.Words.{◌≡◌, ◌≢◌, ℕ, List, [], ◌∷◌, ◌++◌, Bool, true, false, Option, Some, None, Result, nat_eq, refl, sym, ap, ◌∙◌, append_assoc, eq-eqb, ne_eqb, append-nil, flat_map, Error, Request, Response, Rules, Event, Reply, Entry, Outcome, Given, Item, Thing, ThingEnd, ThingItem, ThingLast, Act, Called, Opened, Ran, Gave, act_of, acts, calls, names, only_if, outcomes, runs, work}
+use Rattle.ttrpc_events.proofs.Words.{◌≡◌, ◌≢◌, ℕ, List, [], ◌∷◌, ◌++◌, true, false, Option, Some, None, Result, nat_eq, refl, sym, ap, ◌∙◌, append_assoc, eq-eqb, ne_eqb, append-nil, flat_map, Error, Response, Rules, Event, Reply, Entry, Outcome, Given, Item, Thing, ThingEnd, ThingItem, ThingLast, Act, Called, Opened, Ran, Gave, act_of, acts, calls, names, only_if, outcomes, runs, work}
 use Rattle.ttrpc_events.proofs.Words.{Asked, Began, ClosedUp, EndedDown, ending_thing, Flow, heard_down, heard_up, HeardDown, HeardUp, put_down, put_up, SentDown, SentUp, Word}
 
 -- the trace after one more entry

@@ -18,14 +18,14 @@ pub use Rattle.ttrpc_connection.specs.Items.{close_flags}
 pub use Rattle.ttrpc_connection.specs.Feeds.{IsWhy}
 pub use Rattle.ttrpc_connection.specs.Mail.{kept_for, answer_by, answer_of, broken, empty_mail, left_at, Mail, opened_with, past_error, Receives, taken, with_thing, without_receiver}
 pub use Rattle.ttrpc_connection.specs.Things.{data_thing, has_flag, opening_thing, thing_by}
-pub use Rattle.ttrpc_proto.specs.Messages.{is_ok_code, IsRequest, IsResponse}
+pub use Rattle.ttrpc_proto.specs.Messages.{is_ok_code, IsRequest}
 pub use Rattle.ttrpc_server.specs.declared.job.ActiveJob.{ActiveJob}
 pub use Rattle.ttrpc_server.proofs.Words.{Failure, jobs_at, MESSAGE_LENGTH_MAX, MESSAGE_TYPE_REQUEST, MessageHeader}
 pub use Rattle.ttrpc_server.specs.Types.{MESSAGE_TYPE_RESPONSE}
-pub use Rattle.ttrpc_server.specs.Protocol.{response_bytes, want_for}
+pub use Rattle.ttrpc_server.specs.Protocol.{want_for}
 pub use Rattle.ttrpc_client.specs.declared.call.Call.{Call}
 pub use Rattle.ttrpc_client.specs.declared.call.Call.TheVariants.{Ended, Expired, Waiting}
-pub use Rattle.ttrpc_client.specs.Protocol.{by_code, by_status, expired_at, expired_error, Gives, GivesOutcome, is_due, landing_of, LandsOn, last_id, left_of, request_bytes, TellsOutcome}
+pub use Rattle.ttrpc_client.specs.Protocol.{by_code, by_status, expired_at, Gives, GivesOutcome, is_due, landing_of, LandsOn, last_id, left_of, request_bytes, TellsOutcome}
 pub use Rattle.ttrpc_client.specs.declared.streams.Stream.{Stream}
 pub use Rattle.ttrpc_client.specs.State.{call_at, Client, stream_at}
 pub use Rattle.ttrpc_server.specs.declared.rules.Rules.{Rules}
@@ -41,8 +41,8 @@ pub use Rattle.ttrpc_client.specs.declared.streams.Sender.{Sender}
 pub use Rattle.ttrpc_client.specs.declared.streams.Sender.TheVariants.{Closed as SenderClosed, Dropped as SenderDropped, Open as SenderOpen}
 pub use Rattle.ttrpc_server.specs.Types.{MESSAGE_TYPE_DATA, Opened as OpenedPayload}
 pub use Rattle.ttrpc_server.proofs.Mapped.{StaysFound}
-pub use Rattle.ttrpc_client.proofs.Words.{if◌then◌else◌, ℕ, ◌++◌, ◌+◌, ◌∙◌, ◌∷◌, ◌≡◌, ◌≢◌, ◌≤◌, ◌⊎◌, [], all_joined, AllByRecursion, ap, append-nil, append_assoc, arith, Bool, eq-eqb, Err, false, inl, inr, is_some, length, List, nat_eq, ne_eqb, None, Ok, Option, refl, Result, Some, subst, sym, true}
+pub use Rattle.ttrpc_client.proofs.Words.{if◌then◌else◌, ℕ, ◌++◌, ◌∙◌, ◌∷◌, ◌≡◌, ◌≢◌, ◌≤◌, ◌⊎◌, [], all_joined, AllByRecursion, ap, append-nil, append_assoc, arith, Bool, eq-eqb, Err, false, inl, inr, is_some, length, List, nat_eq, ne_eqb, None, Ok, Option, refl, Result, Some, subst, sym, true}
 pub use Rattle.ttrpc_events.specs.Types.{Entry, Error, Event, Given, Item, Outcome, Reply, Request, Response}
-pub use Rattle.ttrpc_events.specs.Trace.{Act, act_of, acts, Answered, Called, Gave, IsOneToOne, IsRightAt, IsStreamOf, only_if, Opened, Ran, some_of}
+pub use Rattle.ttrpc_events.specs.Trace.{Act, act_of, acts, Answered, Called, Gave, IsOneToOne, IsRightAt, IsStreamOf, only_if, Opened, Ran}
 pub use Rattle.ttrpc_events.specs.Told.{asked_by, calls, HasOkStatus, IsExactlyOnce, names, outcomes, runs, work}
-pub use Rattle.ttrpc_events.specs.Flows.{after, after_closed, AfterError, AfterItem, AreInOrder, Asked, AtEnd, Began, closed, ClosedUp, EndedDown, ending_thing, Flow, flow_of, flows, Fresh, got, has_end, heard_down, heard_up, HeardDown, HeardUp, is_end, IsInOrder, items, last_thing, Mood, put_down, put_up, SentDown, SentUp, told_by, Word}
+pub use Rattle.ttrpc_events.specs.Flows.{after, after_closed, AfterError, AreInOrder, Asked, Began, closed, ClosedUp, EndedDown, ending_thing, Flow, flow_of, flows, Fresh, got, has_end, heard_down, heard_up, HeardDown, HeardUp, is_end, IsInOrder, items, last_thing, Mood, put_down, put_up, SentDown, SentUp, told_by, Word}

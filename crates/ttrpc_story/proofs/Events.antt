@@ -1,5 +1,5 @@
 -- What each event does to one id: to a job of it, at the client, and to the items of both receivers.
-use Rattle.ttrpc_story.proofs.Words.{[], Act, ActiveJob, all_joined, AllByRecursion, Answered, ap, append-nil, append_assoc, AreInOrder, arith, asked_by, Bool, Broken, calls, Closed, closed, Dropped, EndedDown, ending_thing, Err, Error, expired_at, Failure, false, Flow, Flying, gave_of, Gives, GivesOutcome, heard_down, heard_up, HeardDown, HeardUp, is_entered, is_some, is_stream, IsExactlyOnce, LandsOn, last_id, left_of, length, List, Mail, map, None, Ok, Open, OpenedPayload, Option, outcomes, put_down, put_up, Ran, Reaches, Receiver, Receives, ReceivesAt, refl, Request, Response, Result, Rules, Sender, SenderClosed, SenderDropped, SenderOpen, SentDown, Some, StaysFound, Stream, StreamBody, subst, sym, taken, Thing, ThingEnd, ThingItem, ThingLast, told_of, true, unless_dropped, unless_unheard, unsendable, without_reader, without_receiver, without_sender, Word, words_of, work, work_append, ℕ, ◌++◌, ◌∙◌, ◌∷◌, ◌≡◌, ◌≤◌, SentUp, ClosedUp, inl}
+use Rattle.ttrpc_story.proofs.Words.{[], Act, ActiveJob, all_joined, AllByRecursion, Answered, ap, append-nil, append_assoc, AreInOrder, arith, asked_by, Bool, Broken, calls, Closed, closed, Dropped, EndedDown, ending_thing, Err, Error, expired_at, Failure, false, Flow, Flying, gave_of, Gives, GivesOutcome, heard_down, heard_up, HeardDown, HeardUp, is_entered, is_some, is_stream, IsExactlyOnce, LandsOn, last_id, left_of, length, List, Mail, map, None, Ok, Open, OpenedPayload, Option, outcomes, put_down, put_up, Ran, Reaches, Receiver, Receives, ReceivesAt, refl, Request, Response, Result, Rules, Sender, SenderClosed, SenderDropped, SenderOpen, SentDown, Some, StaysFound, Stream, StreamBody, subst, sym, taken, Thing, ThingEnd, ThingItem, ThingLast, told_of, true, unless_dropped, unless_unheard, unsendable, without_reader, without_receiver, without_sender, Word, words_of, work, work_append, ℕ, ◌++◌, ◌∙◌, ◌∷◌, ◌≡◌, ◌≤◌, SentUp, ClosedUp, inl, heard_down_append, heard_up_append, put_down_append, put_up_append}
 use Rattle.ttrpc_story.proofs.Here.{answered_work, Asking, Birth, Born, ByCall, ByOpen, first_act, Here, IsAnswer, jobs_of, Left, never_empty, no_cons, only_one, Origin, Over, request_of, Runs, Unborn, ups_of, Waits, Work, works_of}
 use Rattle.ttrpc_story.proofs.AtServer.{AreItems, goes_on, is_over, IsDown, IsItem, IsNever, lands_down, never_downs, one_name, one_run, one_up, uncalled}
 use Rattle.ttrpc_story.proofs.AtClient.{whole_given}
@@ -7,7 +7,7 @@ use Rattle.ttrpc_story.proofs.Reading.{closed_item, IsPlain}
 use Rattle.ttrpc_story.proofs.Flowing.{Follows, IsPlainFailure}
 use Rattle.ttrpc_story.proofs.Upward.{IsDeaf, thing_up, up_order}
 use Rattle.ttrpc_story.proofs.Downward.{box_down, down_order, Goes, IsSentAs, IsTurned, wants}
-use Rattle.ttrpc_story.proofs.Place.{Around, at_calls, at_client, at_server, concludes_here, down_as, DownOf, heard_down_grows, heard_down_same, heard_up_grows, heard_up_same, joined, Known, Later, maps_here, Place, put_down_grows, put_down_same, put_up_grows, put_up_same, Settings, turns, unchanged, up_as, UpOf, client_at}
+use Rattle.ttrpc_story.proofs.Place.{Around, at_calls, at_client, at_server, client_at, concludes_here, down_as, DownOf, flows_grow, flows_stay, joined, Known, Later, maps_here, Place, Settings, turns, unchanged, up_as, UpOf}
 use Rattle.ttrpc_story.proofs.AtClient as client
 use Rattle.ttrpc_story.proofs.Upward as upward
 use Rattle.ttrpc_story.proofs.Downward as downward
@@ -108,7 +108,7 @@ answered_down : {w : Around} {k : ℕ} {h : Here} {b : Birth} {p : Work} (h2 : H
     → Goes (ending_thing w.set.rules w.set.limit result) down → h2.flows ≡ h.flows ++ EndedDown result ∷ [] → h2.downs ≡ h.downs ++ down → h2.stream ≡ h.stream → DownOf w.set (Born b) q h2
 answered_down {w} {h = h} h2 q result down n undone over goes hf hd hs =
     let x : Thing = ending_thing w.set.rules w.set.limit result in
-    down_as (put_down_grows w.set h.flows h2.flows (EndedDown result ∷ []) (x ∷ []) refl hf) (heard_down_same h.flows h2.flows (EndedDown result ∷ []) refl hf) hd hs
+    down_as (flows_grow (put_down w.set.rules w.set.limit) (put_down_append w.set.rules w.set.limit) h.flows h2.flows (EndedDown result ∷ []) (x ∷ []) refl hf) (flows_stay heard_down heard_down_append h.flows h2.flows (EndedDown result ∷ []) refl hf) hd hs
     (downward.goes q x down undone (λ e. let bad : true ≡ false = sym over ∙ e in cc) goes n.down)
 
 -- The job is answered or ends by what its handler gave, and this is sent, if anything is.
@@ -119,7 +119,7 @@ answers_here {w} {k} {h} {h2} job kind result down i new goes ha hf hu hj hd he 
     let q : Work = Over (answered_work i.b job kind result) in
     turns q (Answered kind result ∷ []) down i.known (unchanged w k) refl refl (record { rest = _; is = refl; unnamed = refl; one_run = omega arith }) refl
     ha (hu ∙ i.known.server.ups_is) (hj ∙ i.left) hd new he hs
-    (up_as (put_up_same h.flows h2.flows (EndedDown result ∷ []) refl hf) (heard_up_same h.flows h2.flows (EndedDown result ∷ []) refl hf) hu hs (upward.gone q h.ups refl tt i.known.up))
+    (up_as (flows_stay put_up put_up_append h.flows h2.flows (EndedDown result ∷ []) refl hf) (flows_stay heard_up heard_up_append h.flows h2.flows (EndedDown result ∷ []) refl hf) hu hs (upward.gone q h.ups refl tt i.known.up))
     (answered_down h2 q result down i.known refl refl goes hf hd hs)
 
 -- A response is queued for the job, which goes on.
@@ -129,7 +129,7 @@ pub responds_here : {w w2 : Around} {k : ℕ} {h h2 : Here} {front back : List A
 responds_here {h = h} {h2 = h2} job response y i l has unary down goes ha hf hu hj hd he hs =
     let q : Work = Left job response in
     turns q (Answered false (Ok (Some response)) ∷ []) (y ∷ []) i.known l refl refl (i.known.server.is_work, has, unary) refl ha (hu ∙ i.known.server.ups_is) (hj ∙ i.known.server.jobs_is) hd (down, tt) he hs
-    (up_as (put_up_same h.flows h2.flows (EndedDown (Ok (Some response)) ∷ []) refl hf) (heard_up_same h.flows h2.flows (EndedDown (Ok (Some response)) ∷ []) refl hf) hu hs (upward.gone q h.ups refl tt i.known.up))
+    (up_as (flows_stay put_up put_up_append h.flows h2.flows (EndedDown (Ok (Some response)) ∷ []) refl hf) (flows_stay heard_up heard_up_append h.flows h2.flows (EndedDown (Ok (Some response)) ∷ []) refl hf) hu hs (upward.gone q h.ups refl tt i.known.up))
     (answered_down h2 q (Ok (Some response)) (y ∷ []) i.known refl refl goes hf hd hs)
 
 -- ---- a job is gone, or sends
@@ -163,8 +163,8 @@ sends_down_here {w} {k} {h} {h2} front back job bytes y s was stream_is new goes
     let n = i.known in
     let undone = stream_goes_on job i.so_far n i.only stream_is in
     at_server n (goes_on n.server.items (y ∷ []) (λ j h. h) n.server n.server.are_items n.server.may_have (ap work ha) (hu ∙ n.server.ups_is) hj hd (never_downs k (is_over i.so_far) (Born i.b) (works_of (Born i.b) i.so_far) (y ∷ []) (new, tt))) ha he hs
-    (up_as (put_up_same h.flows h2.flows (SentDown bytes ∷ []) refl hf) (heard_up_same h.flows h2.flows (SentDown bytes ∷ []) refl hf) hu hs n.up)
-    (down_as (put_down_grows w.set h.flows h2.flows (SentDown bytes ∷ []) (ThingItem bytes ∷ []) refl hf) (heard_down_same h.flows h2.flows (SentDown bytes ∷ []) refl hf) hd hs
+    (up_as (flows_stay put_up put_up_append h.flows h2.flows (SentDown bytes ∷ []) refl hf) (flows_stay heard_up heard_up_append h.flows h2.flows (SentDown bytes ∷ []) refl hf) hu hs n.up)
+    (down_as (flows_grow (put_down w.set.rules w.set.limit) (put_down_append w.set.rules w.set.limit) h.flows h2.flows (SentDown bytes ∷ []) (ThingItem bytes ∷ []) refl hf) (flows_stay heard_down heard_down_append h.flows h2.flows (SentDown bytes ∷ []) refl hf) hd hs
     (downward.goes i.so_far (ThingItem bytes) (y ∷ []) undone (λ e. closed_item (put_down w.set.rules w.set.limit h.flows) bytes ∙ n.down.is.unended undone) goes n.down))
 
 -- the id of a job is one
@@ -239,23 +239,19 @@ told_sender : (failure : Option Failure) (given : Option Word) (new old : Option
 told_sender failure given new None h = ap unsendable h.1
 told_sender failure given new (Some s) h = ap unsendable h.2
 
-told_flows : (given : Option Word) → (put_up (told_of HeardDown given) ≡ []) × (heard_up (told_of HeardDown given) ≡ []) × (heard_down (told_of HeardDown given) ≡ words_of given)
-told_flows None = (refl, refl, refl)
-told_flows (Some word) = (refl, refl, refl)
-
-told_ends : (set : Settings) (given : Option Word) → put_down set.rules set.limit (told_of HeardDown given) ≡ []
-told_ends set None = refl
-told_ends set (Some word) = refl
+told_says : (set : Settings) (given : Option Word) → (put_up (told_of HeardDown given) ≡ []) × (heard_up (told_of HeardDown given) ≡ []) × (put_down set.rules set.limit (told_of HeardDown given) ≡ []) × (heard_down (told_of HeardDown given) ≡ words_of given)
+told_says set None = (refl, refl, refl, refl)
+told_says set (Some word) = (refl, refl, refl, refl)
 
 -- The client's receiver is told something.
 pub hears_here : {w w2 : Around} {k : ℕ} {h h2 : Here} (failure : Option Failure) (given : Option Word) → Later w w2 k → Place w k h → IsPlainFailure failure → ReceivesAt failure h.stream given h2.stream
     → h2.acts ≡ h.acts → h2.flows ≡ h.flows ++ told_of HeardDown given → h2.ups ≡ h.ups → h2.jobs ≡ h.jobs → h2.downs ≡ h.downs → h2.call ≡ h.call → Place w2 k h2
 hears_here {w} {w2} {k} {h} {h2} failure given l s plain r ha hf hu hj hd he =
     let more = told_of HeardDown given in
-    let t = told_flows given in
+    let t = told_says w.set given in
     streams_here l s ha hu hj hd he (told_none failure h.stream given h2.stream r)
-    (up_as (put_up_same h.flows h2.flows more t.0 hf) (heard_up_same h.flows h2.flows more t.1 hf) hu refl (upward.stays h2.stream (λ e. sym (told_sender failure given h2.stream h.stream r) ∙ e) s.known.up))
-    (down_as (put_down_same w.set h.flows h2.flows more (told_ends w.set given) hf) (heard_down_grows h.flows h2.flows more (words_of given) t.2 hf) hd refl
+    (up_as (flows_stay put_up put_up_append h.flows h2.flows more t.0 hf) (flows_stay heard_up heard_up_append h.flows h2.flows more t.1 hf) hu refl (upward.stays h2.stream (λ e. sym (told_sender failure given h2.stream h.stream r) ∙ e) s.known.up))
+    (down_as (flows_stay (put_down w.set.rules w.set.limit) (put_down_append w.set.rules w.set.limit) h.flows h2.flows more t.2 hf) (flows_grow heard_down heard_down_append h.flows h2.flows more (words_of given) t.3 hf) hd refl
     (downward.hears h.stream failure given (unborn_none s.origin s.so_far s.known) plain r s.known.down))
 
 reader_sends : (old : Option Stream) → unsendable (without_reader old) ≡ None → unsendable old ≡ None
@@ -297,13 +293,9 @@ unsent_here {w} {w2} {k} {h} {h2} l s ha hf hu hj hd he hs =
 
 -- ---- what is told at the server
 
-up_told_flows : (given : Option Word) → (put_up (told_of HeardUp given) ≡ []) × (heard_up (told_of HeardUp given) ≡ words_of given) × (heard_down (told_of HeardUp given) ≡ [])
-up_told_flows None = (refl, refl, refl)
-up_told_flows (Some word) = (refl, refl, refl)
-
-up_told_ends : (set : Settings) (given : Option Word) → put_down set.rules set.limit (told_of HeardUp given) ≡ []
-up_told_ends set None = refl
-up_told_ends set (Some word) = refl
+up_told_says : (set : Settings) (given : Option Word) → (put_up (told_of HeardUp given) ≡ []) × (heard_up (told_of HeardUp given) ≡ words_of given) × (put_down set.rules set.limit (told_of HeardUp given) ≡ []) × (heard_down (told_of HeardUp given) ≡ [])
+up_told_says set None = (refl, refl, refl, refl)
+up_told_says set (Some word) = (refl, refl, refl, refl)
 
 unary_left : {w : Around} {k : ℕ} {h : Here} {b : Birth} (job : ActiveJob) (p : Work) → Known w k h (Born b) p → jobs_of p ≡ job ∷ [] → is_stream job.body ≡ true → (i : ActiveJob) (response : Response) → p ≡ Left i response → ⊥
 unary_left job p n only stream i response is =
@@ -317,11 +309,11 @@ pub hears_up_here : {w : Around} {k : ℕ} {h h2 : Here} (g : ActiveJob → Acti
 hears_up_here {w} {k} {h} {h2} g found front back job failure m left given s was is now plain r ha hf hu hj hd he hs =
     let i = only_of front back job s was in
     let more = told_of HeardUp given in
-    let t = up_told_flows given in
+    let t = up_told_says w.set given in
     maps_here g found (record { origin = Born i.b; so_far = i.so_far; known = i.known })
-    (up_as (put_up_same h.flows h2.flows more t.0 hf) (heard_up_grows h.flows h2.flows more (words_of given) t.1 hf) hu hs
+    (up_as (flows_stay put_up put_up_append h.flows h2.flows more t.0 hf) (flows_grow heard_up heard_up_append h.flows h2.flows more (words_of given) t.1 hf) hu hs
     (upward.hears g found i.so_far job failure m left given i.only (unary_left job i.so_far i.known i.only (ap is_stream is)) is now plain r i.known.up))
-    ha (put_down_same w.set h.flows h2.flows more (up_told_ends w.set given) hf) (heard_down_same h.flows h2.flows more t.2 hf) hu hj hd he hs
+    ha (flows_stay (put_down w.set.rules w.set.limit) (put_down_append w.set.rules w.set.limit) h.flows h2.flows more t.2 hf) (flows_stay heard_down heard_down_append h.flows h2.flows more t.3 hf) hu hj hd he hs
 
 -- It is told an error, and nothing else changes.
 pub errs_up_here : {w : Around} {k : ℕ} {h h2 : Here} (e : Error) → IsPlain e → Place w k h
@@ -329,8 +321,8 @@ pub errs_up_here : {w : Around} {k : ℕ} {h h2 : Here} (e : Error) → IsPlain 
 errs_up_here {w} {k} {h} {h2} e plain s ha hf hu hj hd he hs =
     let more = HeardUp (Err e) ∷ [] in
     at_client (unchanged w k) s (ap work ha) hu hj hd (client_at s.origin h.acts h2.acts h.call h2.call h.stream h2.stream ha he hs s.known.client)
-    (up_as (put_up_same h.flows h2.flows more refl hf) (heard_up_grows h.flows h2.flows more (Err e ∷ []) refl hf) hu hs (upward.told_aside e plain s.known.up))
-    (down_as (put_down_same w.set h.flows h2.flows more refl hf) (heard_down_same h.flows h2.flows more refl hf) hd hs s.known.down)
+    (up_as (flows_stay put_up put_up_append h.flows h2.flows more refl hf) (flows_grow heard_up heard_up_append h.flows h2.flows more (Err e ∷ []) refl hf) hu hs (upward.told_aside e plain s.known.up))
+    (down_as (flows_stay (put_down w.set.rules w.set.limit) (put_down_append w.set.rules w.set.limit) h.flows h2.flows more refl hf) (flows_stay heard_down heard_down_append h.flows h2.flows more refl hf) hd hs s.known.down)
 
 -- It is dropped, or nothing of it changes.
 pub unheard_up_here : {w : Around} {k : ℕ} {h h2 : Here} (g : ActiveJob → ActiveJob) → StaysFound g → ((j : ActiveJob) → IsDeaf g j) → Place w k h
@@ -385,9 +377,9 @@ sends_by {w} {h = h} {h2 = h2} x thing y (Born (ByOpen q up down)) p l n some is
     joined n l (goes_on (m.items ++ y ∷ []) [] l.had m (more_items m.items m.are_items is) tt (ap work ha)
     (hu ∙ ap (λ (xs : List Flying). xs ++ y ∷ []) m.ups_is ∙ append_assoc (ups_of p) m.items (y ∷ [])) hj (hd ∙ sym (append-nil h.downs)) tt)
     (he ∙ n.client.0, ap outcomes ha ∙ n.client.1)
-    (up_as (put_up_grows h.flows h2.flows (x ∷ []) (thing ∷ []) put.puts hf) (heard_up_same h.flows h2.flows (x ∷ []) put.tells hf) hu refl
+    (up_as (flows_grow put_up put_up_append h.flows h2.flows (x ∷ []) (thing ∷ []) put.puts hf) (flows_stay heard_up heard_up_append h.flows h2.flows (x ∷ []) put.tells hf) hu refl
     (upward.sends thing y m.items comes put.follows m.ups_is may (λ e. closed_behind (put_up h.flows) thing (n.up.is.unclosed may) (on e)) n.up))
-    (down_as (put_down_same w.set h.flows h2.flows (x ∷ []) (put.ends w.set.rules w.set.limit) hf) (heard_down_same h.flows h2.flows (x ∷ []) put.told hf) hd refl (downward.stays p h2.stream (λ e. e) box wanted n.down))
+    (down_as (flows_stay (put_down w.set.rules w.set.limit) (put_down_append w.set.rules w.set.limit) h.flows h2.flows (x ∷ []) (put.ends w.set.rules w.set.limit) hf) (flows_stay heard_down heard_down_append h.flows h2.flows (x ∷ []) put.told hf) hd refl (downward.stays p h2.stream (λ e. e) box wanted n.down))
 
 pub sends_here : {w w2 : Around} {k : ℕ} {h h2 : Here} (x : Flow) (thing : Thing) (y : Flying) → Later w w2 k → Place w k h → (h.stream ≡ None → ⊥) → IsItem k y → IsPut x thing → thing_up y ≡ thing → unsendable h.stream ≡ None → GoesOn thing h2.stream
     → box_down h2.stream ≡ box_down h.stream → wants h2.stream ≡ wants h.stream

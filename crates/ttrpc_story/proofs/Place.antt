@@ -58,35 +58,11 @@ client_at o a a2 e e2 st st2 ha he hs k =
 -- ---- the ways of its items
 
 -- what a list of what happened to items says, where more happened
-grows : {X : Type 0} (says : List Flow → List X) → ((a b : List Flow) → says (a ++ b) ≡ says a ++ says b) → (f f2 more : List Flow) (xs : List X) → says more ≡ xs → f2 ≡ f ++ more → says f2 ≡ says f ++ xs
-grows says append f f2 more xs is e = ap says e ∙ append f more ∙ ap (λ ys. says f ++ ys) is
+pub flows_grow : {X : Type 0} (says : List Flow → List X) → ((a b : List Flow) → says (a ++ b) ≡ says a ++ says b) → (f f2 more : List Flow) (xs : List X) → says more ≡ xs → f2 ≡ f ++ more → says f2 ≡ says f ++ xs
+flows_grow says append f f2 more xs is e = ap says e ∙ append f more ∙ ap (λ ys. says f ++ ys) is
 
-same : {X : Type 0} (says : List Flow → List X) → ((a b : List Flow) → says (a ++ b) ≡ says a ++ says b) → (f f2 more : List Flow) → says more ≡ [] → f2 ≡ f ++ more → says f2 ≡ says f
-same says append f f2 more is e = grows says append f f2 more [] is e ∙ append-nil (says f)
-
-pub put_up_grows : (f f2 more : List Flow) (xs : List Thing) → put_up more ≡ xs → f2 ≡ f ++ more → put_up f2 ≡ put_up f ++ xs
-put_up_grows f f2 more xs is e = grows put_up put_up_append f f2 more xs is e
-
-pub put_up_same : (f f2 more : List Flow) → put_up more ≡ [] → f2 ≡ f ++ more → put_up f2 ≡ put_up f
-put_up_same f f2 more is e = same put_up put_up_append f f2 more is e
-
-pub heard_up_grows : (f f2 more : List Flow) (xs : List Word) → heard_up more ≡ xs → f2 ≡ f ++ more → heard_up f2 ≡ heard_up f ++ xs
-heard_up_grows f f2 more xs is e = grows heard_up heard_up_append f f2 more xs is e
-
-pub heard_up_same : (f f2 more : List Flow) → heard_up more ≡ [] → f2 ≡ f ++ more → heard_up f2 ≡ heard_up f
-heard_up_same f f2 more is e = same heard_up heard_up_append f f2 more is e
-
-pub put_down_grows : (set : Settings) (f f2 more : List Flow) (xs : List Thing) → put_down set.rules set.limit more ≡ xs → f2 ≡ f ++ more → put_down set.rules set.limit f2 ≡ put_down set.rules set.limit f ++ xs
-put_down_grows set f f2 more xs is e = grows (put_down set.rules set.limit) (put_down_append set.rules set.limit) f f2 more xs is e
-
-pub put_down_same : (set : Settings) (f f2 more : List Flow) → put_down set.rules set.limit more ≡ [] → f2 ≡ f ++ more → put_down set.rules set.limit f2 ≡ put_down set.rules set.limit f
-put_down_same set f f2 more is e = same (put_down set.rules set.limit) (put_down_append set.rules set.limit) f f2 more is e
-
-pub heard_down_grows : (f f2 more : List Flow) (xs : List Word) → heard_down more ≡ xs → f2 ≡ f ++ more → heard_down f2 ≡ heard_down f ++ xs
-heard_down_grows f f2 more xs is e = grows heard_down heard_down_append f f2 more xs is e
-
-pub heard_down_same : (f f2 more : List Flow) → heard_down more ≡ [] → f2 ≡ f ++ more → heard_down f2 ≡ heard_down f
-heard_down_same f f2 more is e = same heard_down heard_down_append f f2 more is e
+pub flows_stay : {X : Type 0} (says : List Flow → List X) → ((a b : List Flow) → says (a ++ b) ≡ says a ++ says b) → (f f2 more : List Flow) → says more ≡ [] → f2 ≡ f ++ more → says f2 ≡ says f
+flows_stay says append f f2 more is e = flows_grow says append f f2 more [] is e ∙ append-nil (says f)
 
 -- the same way, of equal parts
 pub up_as : {k : ℕ} {o : Origin} {p : Work} {put put2 : List Thing} {told told2 : List Word} {ups ups2 : List Flying} {st st2 : Option Stream} → put2 ≡ put → told2 ≡ told → ups2 ≡ ups → st2 ≡ st → Upward k o p put told ups st → Upward k o p put2 told2 ups2 st2
@@ -160,22 +136,10 @@ first_works : (b : Birth) → work (first_act b ∷ []) ≡ first_act b ∷ []
 first_works (ByCall request) = refl
 first_works (ByOpen request up down) = refl
 
-first_puts : (b : Birth) → put_up (first_flow b ∷ []) ≡ first_things b
-first_puts (ByCall request) = refl
-first_puts (ByOpen request true down) = refl
-first_puts (ByOpen request false down) = refl
-
-first_tells : (b : Birth) → heard_up (first_flow b ∷ []) ≡ []
-first_tells (ByCall request) = refl
-first_tells (ByOpen request up down) = refl
-
-first_ends : (rules : Rules) (limit : ℕ) (b : Birth) → put_down rules limit (first_flow b ∷ []) ≡ []
-first_ends rules limit (ByCall request) = refl
-first_ends rules limit (ByOpen request up down) = refl
-
-first_told : (b : Birth) → heard_down (first_flow b ∷ []) ≡ []
-first_told (ByCall request) = refl
-first_told (ByOpen request up down) = refl
+first_says : (set : Settings) (b : Birth) → (put_up (first_flow b ∷ []) ≡ first_things b) × (heard_up (first_flow b ∷ []) ≡ []) × (put_down set.rules set.limit (first_flow b ∷ []) ≡ []) × (heard_down (first_flow b ∷ []) ≡ [])
+first_says set (ByCall request) = (refl, refl, refl, refl)
+first_says set (ByOpen request true down) = (refl, refl, refl, refl)
+first_says set (ByOpen request false down) = (refl, refl, refl, refl)
 
 -- A call is accepted, or a stream opened.
 pub begins_here : {w w2 : Around} {k : ℕ} {h h2 : Here} (b : Birth) (x : Flying) → Place w k h → w2.set ≡ w.set → ((i : ℕ) → w.had i ≡ true → w2.had i ≡ true) → w.next ≤ k → (w2.next ≤ k → ⊥) → k ≤ last_id → IsSent k (request_of b) x
@@ -184,6 +148,7 @@ pub begins_here : {w w2 : Around} {k : ℕ} {h h2 : Here} (b : Birth) (x : Flyin
 begins_here {w} {w2} {k} {h} {h2} b x s set had y y2 within sent flags begun ha hf hu hj hd =
     let n = born s.origin s.so_far s.known (s.known.young y) in
     let g = begun n.client.0 n.client.1 in
+    let says = first_says w.set b in
     let one : h2.ups ≡ x ∷ [] = hu ∙ ap (λ xs. xs ++ x ∷ []) (n.server.ups_is ∙ n.server.may_have) in
     record {
       origin = Born b;
@@ -195,9 +160,9 @@ begins_here {w} {w2} {k} {h} {h2} b x s set had y y2 within sent flags begun ha 
             (hd ∙ sym (append-nil h.downs)) tt);
         client = subst (λ (a : List Act). AtClient (Born b) a h2.call h2.stream) (sym ha)
             (client.begins b h.acts h.call h2.call h.stream h2.stream g.0 n.client);
-        up = up_as (put_up_grows h.flows h2.flows (first_flow b ∷ []) (first_things b) (first_puts b) hf) (heard_up_same h.flows h2.flows (first_flow b ∷ []) (first_tells b) hf) one refl (upward.starts b x flags g.1 n.up);
+        up = up_as (flows_grow put_up put_up_append h.flows h2.flows (first_flow b ∷ []) (first_things b) says.0 hf) (flows_stay heard_up heard_up_append h.flows h2.flows (first_flow b ∷ []) says.1 hf) one refl (upward.starts b x flags g.1 n.up);
         down = subst (λ (r : Settings). DownOf r (Born b) (Asking x) h2) (sym set)
-            (down_as (put_down_same w.set h.flows h2.flows (first_flow b ∷ []) (first_ends w.set.rules w.set.limit b) hf) (heard_down_same h.flows h2.flows (first_flow b ∷ []) (first_told b) hf) hd refl (downward.starts b (Asking x) h2.stream g.1 n.down));
+            (down_as (flows_stay (put_down w.set.rules w.set.limit) (put_down_append w.set.rules w.set.limit) h.flows h2.flows (first_flow b ∷ []) says.2 hf) (flows_stay heard_down heard_down_append h.flows h2.flows (first_flow b ∷ []) says.3 hf) hd refl (downward.starts b (Asking x) h2.stream g.1 n.down));
       };
     }
 
