@@ -96,7 +96,7 @@ module _ {CO CI SO SI : Type 0} (c : Halves CO CI) (s : Halves SO SI) (seals : B
   }
 
   of_nothing : (w : Net CO CI SO SI) (x : ServerCore SO SI) (k : ℕ) (o : Origin) (done : List Act) (error : Error) → x.connection.outbox ≡ w.server.connection.outbox → Concludes w x k o done (Err error)
-  of_nothing w x k o done error same = record { more = []; downs = tt; goes = refl; sent = λ flights way. rw (same, append-nil) way }
+  of_nothing w x k o done error same = record { more = []; downs = tt; goes = λ wanted. inr refl; sent = λ flights way. rw (same, append-nil) way }
 
   down_at : (k i : ℕ) (o : Origin) (done : List Act) (down more : List Flying) → AllByRecursion (IsDown k true o done) more → k ≢ i → parcels i (down ++ more) ≡ parcels i down
   down_at k i o done down [] downs e = ap (parcels i) (append-nil down)

@@ -1,13 +1,13 @@
 -- The items of one id on their way to the client: the mailbox of its stream, what is under way to it, and whether the server may
 -- still put something in. It knows no outcome, and nothing of what goes up.
-use Rattle.ttrpc_story.proofs.Words.{[], AllByRecursion, ap, append-nil, Bool, breaks_with, Brings, BringsBeginning, Broken, by_status, Closed, closed, closing_news, data_news, Dropped, empty_response, Err, Error, Failure, false, Flying, if◌then◌else◌, inl, inr, is_entered, IsInOrder, IsNews, IsToldBy, length, List, Mail, malformed_text, map, map-append, MESSAGE_LENGTH_MAX, MESSAGE_TYPE_DATA, MESSAGE_TYPE_RESPONSE, MessageHeader, nat_eq, nat_lt, News, news_of, None, not, Ok, Open, OpenedPayload, Option, Others, oversize_text, Reaches, read_from, Receiver, ReceivesAt, refl, Response, response_news, response_step, Result, Sender, SenderClosed, SenderDropped, SenderOpen, Some, Stream, subst, sym, Thing, ThingClosing, ThingEnd, true, unknown_error, unless_dropped, unless_unheard, without_reader, without_receiver, without_sender, Word, words_of, ℕ, ◌++◌, ◌∙◌, ◌∷◌, ◌≡◌, by_code, pos, ℤ}
+use Rattle.ttrpc_story.proofs.Words.{[], AllByRecursion, ap, Bool, breaks_with, Brings, BringsBeginning, Broken, by_status, Closed, closed, closing_news, data_news, Dropped, empty_response, Err, Error, Failure, false, Flying, if◌then◌else◌, inl, inr, is_entered, IsInOrder, IsNews, IsToldBy, length, List, Mail, malformed_text, map, map-append, MESSAGE_LENGTH_MAX, MESSAGE_TYPE_DATA, MESSAGE_TYPE_RESPONSE, MessageHeader, nat_eq, nat_lt, News, news_of, None, not, Ok, Open, OpenedPayload, Option, Others, oversize_text, Reaches, read_from, Receiver, ReceivesAt, refl, Response, response_news, response_step, Result, Sender, SenderClosed, SenderDropped, SenderOpen, Some, Stream, subst, sym, Thing, ThingClosing, true, unknown_error, unless_dropped, unless_unheard, without_reader, without_receiver, without_sender, Word, words_of, ℕ, ◌++◌, ◌∙◌, ◌∷◌, ◌≡◌, by_code, pos, ℤ}
 use Rattle.std.proofs.Common.{zero}
 use Rattle.ttrpc_proto.specs.declared.error.Error.TheVariants.{RpcStatus}
 use Rattle.ttrpc_proto.specs.declared.status.Status.{Status}
 use Rattle.ttrpc_story.proofs.Here.{Birth, Born, ByCall, ByOpen, no_cons, Origin, Unborn, Work}
 use Rattle.ttrpc_story.proofs.AtServer.{is_over}
 use Rattle.ttrpc_story.proofs.Reading.{IsPlain, reads_error}
-use Rattle.ttrpc_story.proofs.Flowing.{aside, begins, closes, ComesAs, drops, Flowing, Follows, in_order, IsPlainFailure, IsTurning, lands, loses, puts, reads, shuts, turns}
+use Rattle.ttrpc_story.proofs.Flowing.{aside, begins, closes, ComesAs, drops, Flowing, Follows, in_order, IsPlainFailure, IsTurning, lands, loses, puts, reads, turns}
 use Rattle.ttrpc_story.proofs.Upward.{flag_closes, gone_mail, Hush, hush_order, IsStarted}
 
 -- the client's mailbox
@@ -99,33 +99,21 @@ turned {put = put} {told = told} {downs = downs} {st = st} q more over are d = r
 abbrev pub IsSentAs : Thing → Flying → Type 0
 IsSentAs x y = (wanted : Bool) → Follows (x ∷ []) (thing_down wanted y ∷ [])
 
--- what goes down with what is put in: a frame that brings it, or nothing where it is the close
+-- these frames go down with what is put in: one that brings it, or none where it is the close
 abbrev pub Goes : Thing → List Flying → Type 0
-Goes x [] = x ≡ ThingEnd
-Goes x (y ∷ []) = IsSentAs x y
-Goes x (y ∷ z ∷ more) = ⊥
+Goes x more = (wanted : Bool) → Follows (x ∷ []) (map (thing_down wanted) more)
 
 -- Something is put in, and the work may go on.
 pub goes : {b : Birth} {p : Work} {put : List Thing} {told : List Word} {downs : List Flying} {st : Option Stream} (q : Work) (x : Thing) (more : List Flying) → is_over p ≡ false → (is_over q ≡ false → closed (put ++ x ∷ []) ≡ false) → Goes x more
     → Downward (Born b) p put told downs st → Downward (Born b) q (put ++ x ∷ []) told (downs ++ more) st
-goes {put = put} {told = told} {downs = downs} {st = st} q x [] undone over is d =
+goes {put = put} {told = told} {downs = downs} {st = st} q x more undone over is d =
     let w : Bool = wants st in
     record {
       is = record {
-        flowing = subst (λ (way : List Thing). Flowing (put ++ x ∷ []) told (box_down st) way) (sym (ap (map (thing_down w)) (append-nil downs)))
-            (subst (λ (t : Thing). Flowing (put ++ t ∷ []) told (box_down st) (map (thing_down w) downs)) (sym is) (shuts (d.is.unended undone) d.is.flowing));
+        flowing = subst (λ (way : List Thing). Flowing (put ++ x ∷ []) told (box_down st) way) (sym (map-append (thing_down w) downs more)) (puts x (map (thing_down w) more) (is w) (d.is.unended undone) d.is.flowing);
         unended = over;
       };
     }
-goes {put = put} {told = told} {downs = downs} {st = st} q x (y ∷ []) undone over is d =
-    let w : Bool = wants st in
-    record {
-      is = record {
-        flowing = subst (λ (way : List Thing). Flowing (put ++ x ∷ []) told (box_down st) way) (sym (map-append (thing_down w) downs (y ∷ []))) (puts x (thing_down w y) (is w) (d.is.unended undone) d.is.flowing);
-        unended = over;
-      };
-    }
-goes q x (y ∷ z ∷ more) undone over is d = absurd is
 
 -- ---- a frame comes to the client
 

@@ -51,22 +51,22 @@ begins r = record { seen = []; rest = []; all = refl; reading = r; past = λ e. 
 
 -- ---- something is put in
 
-follows_more : (rest way : List Thing) (x y : Thing) → Follows (x ∷ []) (y ∷ []) → closed rest ≡ false → Follows rest way → Follows (rest ++ x ∷ []) (way ++ y ∷ [])
-follows_more rest [] x y s c (inl h) = subst (λ (r : List Thing). Follows (r ++ x ∷ []) (y ∷ [])) (sym h) s
-follows_more rest [] x y s c (inr h) = let bad : true ≡ false = sym (ap closed h) ∙ c in cc
-follows_more rest (ThingItem b ∷ way) x y s c h = (h.0 ++ x ∷ [], ap (λ r. r ++ x ∷ []) h.1, follows_more h.0 way x y s (sym (ap closed h.1) ∙ c) h.2)
-follows_more rest (ThingLast b ∷ way) x y s c h = let bad : true ≡ false = sym (ap closed h) ∙ c in cc
-follows_more rest (ThingEnd ∷ way) x y s c h = let bad : true ≡ false = sym (ap closed h) ∙ c in cc
-follows_more rest (ThingClosing e ∷ way) x y s c h = h
-follows_more rest (ThingBreaking e ∷ way) x y s c h = h
+follows_more : (rest way more : List Thing) (x : Thing) → Follows (x ∷ []) more → closed rest ≡ false → Follows rest way → Follows (rest ++ x ∷ []) (way ++ more)
+follows_more rest [] more x s c (inl h) = subst (λ (r : List Thing). Follows (r ++ x ∷ []) more) (sym h) s
+follows_more rest [] more x s c (inr h) = let bad : true ≡ false = sym (ap closed h) ∙ c in cc
+follows_more rest (ThingItem b ∷ way) more x s c h = (h.0 ++ x ∷ [], ap (λ r. r ++ x ∷ []) h.1, follows_more h.0 way more x s (sym (ap closed h.1) ∙ c) h.2)
+follows_more rest (ThingLast b ∷ way) more x s c h = let bad : true ≡ false = sym (ap closed h) ∙ c in cc
+follows_more rest (ThingEnd ∷ way) more x s c h = let bad : true ≡ false = sym (ap closed h) ∙ c in cc
+follows_more rest (ThingClosing e ∷ way) more x s c h = h
+follows_more rest (ThingBreaking e ∷ way) more x s c h = h
 
 -- behind what is seen and closed nothing was put in, and nothing is where it isn't closed
 past_more : (seen rest : List Thing) (x : Thing) → closed (seen ++ rest) ≡ false → closed seen ≡ true → rest ++ x ∷ [] ≡ []
 past_more seen rest x c e = let bad : true ≡ false = sym (closed_front seen rest e) ∙ c in cc
 
--- It goes as y.
-pub puts : {put : List Thing} {told : List Word} {m : Mail} {flight : List Thing} (x y : Thing) → Follows (x ∷ []) (y ∷ []) → closed put ≡ false → Flowing put told m flight → Flowing (put ++ x ∷ []) told m (flight ++ y ∷ [])
-puts {m = m} {flight = flight} x y s c f =
+-- It goes as this: as itself, as an error, or not at all if it is the close.
+pub puts : {put : List Thing} {told : List Word} {m : Mail} {flight : List Thing} (x : Thing) (more : List Thing) → Follows (x ∷ []) more → closed put ≡ false → Flowing put told m flight → Flowing (put ++ x ∷ []) told m (flight ++ more)
+puts {m = m} {flight = flight} x more s c f =
     let unclosed : closed (f.seen ++ f.rest) ≡ false = sym (ap closed f.all) ∙ c in
     record {
       seen = f.seen;
@@ -74,30 +74,7 @@ puts {m = m} {flight = flight} x y s c f =
       all = ap (λ xs. xs ++ x ∷ []) f.all ∙ append_assoc f.seen f.rest (x ∷ []);
       reading = f.reading;
       past = past_more f.seen f.rest x unclosed;
-      linked = λ o. subst (λ (w : List Thing). Follows (f.rest ++ x ∷ []) w) (append_assoc m.things flight (y ∷ [])) (follows_more f.rest (m.things ++ flight) x y s (closed_rest f.seen f.rest unclosed) (f.linked o));
-      full = f.full;
-    }
-
-follows_close : (rest way : List Thing) → closed rest ≡ false → Follows rest way → Follows (rest ++ ThingEnd ∷ []) way
-follows_close rest [] c (inl h) = inr (ap (λ (r : List Thing). r ++ ThingEnd ∷ []) h)
-follows_close rest [] c (inr h) = let bad : true ≡ false = sym (ap closed h) ∙ c in cc
-follows_close rest (ThingItem b ∷ way) c h = (h.0 ++ ThingEnd ∷ [], ap (λ r. r ++ ThingEnd ∷ []) h.1, follows_close h.0 way (sym (ap closed h.1) ∙ c) h.2)
-follows_close rest (ThingLast b ∷ way) c h = let bad : true ≡ false = sym (ap closed h) ∙ c in cc
-follows_close rest (ThingEnd ∷ way) c h = let bad : true ≡ false = sym (ap closed h) ∙ c in cc
-follows_close rest (ThingClosing e ∷ way) c h = h
-follows_close rest (ThingBreaking e ∷ way) c h = h
-
--- It is closed, and nothing comes of it.
-pub shuts : {put : List Thing} {told : List Word} {m : Mail} {flight : List Thing} → closed put ≡ false → Flowing put told m flight → Flowing (put ++ ThingEnd ∷ []) told m flight
-shuts {m = m} {flight = flight} c f =
-    let unclosed : closed (f.seen ++ f.rest) ≡ false = sym (ap closed f.all) ∙ c in
-    record {
-      seen = f.seen;
-      rest = f.rest ++ ThingEnd ∷ [];
-      all = ap (λ (xs : List Thing). xs ++ ThingEnd ∷ []) f.all ∙ append_assoc f.seen f.rest (ThingEnd ∷ []);
-      reading = f.reading;
-      past = past_more f.seen f.rest ThingEnd unclosed;
-      linked = λ o. follows_close f.rest (m.things ++ flight) (closed_rest f.seen f.rest unclosed) (f.linked o);
+      linked = λ o. subst (λ (w : List Thing). Follows (f.rest ++ x ∷ []) w) (append_assoc m.things flight more) (follows_more f.rest (m.things ++ flight) more x s (closed_rest f.seen f.rest unclosed) (f.linked o));
       full = f.full;
     }
 

@@ -115,9 +115,9 @@ IsStarted (ByCall request) st = st ≡ None
 IsStarted (ByOpen request up down) st = st ≡ Some (new_stream up down)
 
 first_flowing : (b : Birth) (told : List Word) → Reading [] told Open → Flowing (first_things b) told empty_mail (first_things b ++ [])
-first_flowing (ByCall request) told r = puts (ThingItem request.payload) (ThingItem request.payload) ([], refl, inl refl) refl (begins r)
+first_flowing (ByCall request) told r = puts (ThingItem request.payload) (ThingItem request.payload ∷ []) ([], refl, inl refl) refl (begins r)
 first_flowing (ByOpen request true down) told r = begins r
-first_flowing (ByOpen request false down) told r = puts (ThingLast request.payload) (ThingLast request.payload) refl refl (begins r)
+first_flowing (ByOpen request false down) told r = puts (ThingLast request.payload) (ThingLast request.payload ∷ []) refl refl (begins r)
 
 first_unclosed : (b : Birth) (st : Option Stream) → IsStarted b st → IsUnclosed st (first_things b)
 first_unclosed (ByCall request) st is e = refl
@@ -205,7 +205,7 @@ pub sends : {k : ℕ} {b : Birth} {p : Work} {put : List Thing} {told : List Wor
     → unsendable st ≡ None → IsUnclosed st2 (put ++ x ∷ []) → Upward k (Born b) p put told ups st → Upward k (Born b) p (put ++ x ∷ []) told (ups ++ y ∷ []) st2
 sends {b = b} {p = p} {put = put} {told = told} {ups = ups} x y items is same was may unclosed s = record {
   is = record {
-    flowing = subst (λ (w : List Thing). Flowing (put ++ x ∷ []) told (box_up p) w) (sym (way_more b p ups y items was ∙ ap (λ (t : Thing). way_up b p ups ++ t ∷ []) is)) (puts x x same (s.is.unclosed may) s.is.flowing);
+    flowing = subst (λ (w : List Thing). Flowing (put ++ x ∷ []) told (box_up p) w) (sym (way_more b p ups y items was ∙ ap (λ (t : Thing). way_up b p ups ++ t ∷ []) is)) (puts x (x ∷ []) same (s.is.unclosed may) s.is.flowing);
     fit = s.is.fit;
     unclosed = unclosed;
   };
@@ -237,14 +237,6 @@ abbrev pub IsDeaf : (ActiveJob → ActiveJob) → ActiveJob → Type 0
 IsDeaf g j = (box_of (g j).body ≡ box_of j.body) ⊎ ((box_of (g j).body).receiver ≡ Dropped)
 
 module _ (g : ActiveJob → ActiveJob) (found : StaysFound g) where
-  -- a job's mailbox changes so
-  changes : {k : ℕ} {b : Birth} {put : List Thing} {told2 : List Word} {ups2 : List Flying} {st : Option Stream} (j : ActiveJob) → Flowing put told2 (box_of (g j).body) (map thing_up ups2)
-      → (is_stream j.body ≡ true → nat_eq (k % 2) 0 ≡ false) → IsUnclosed st put → (q : Work) → (q ≡ Waits (g j)) ⊎ (q ≡ Runs (g j)) → Upward k (Born b) q put told2 ups2 st
-  changes {k} {b} {put} {told2 = told2} {ups2 = ups2} {st = st} j f odd unclosed q (inl is) =
-      subst (λ (w : Work). Upward k (Born b) w put told2 ups2 st) (sym is) (record { is = record { flowing = f; fit = λ e. odd (sym (found.stream j) ∙ e); unclosed = unclosed } })
-  changes {k} {b} {put} {told2 = told2} {ups2 = ups2} {st = st} j f odd unclosed q (inr is) =
-      subst (λ (w : Work). Upward k (Born b) w put told2 ups2 st) (sym is) (record { is = record { flowing = f; fit = λ e. odd (sym (found.stream j) ∙ e); unclosed = unclosed } })
-
   brings_job : {put : List Thing} {told : List Word} {ups u : List Flying} {x : Flying} (j : ActiveJob) → ups ≡ x ∷ u → (g j).body ≡ with_mail (brought_by x.frame.message.header x.plain) j.body
       → Flowing put told (box_of j.body) (map thing_up ups) → Flowing put told (box_of (g j).body) (map thing_up u)
   brings_job {put} {told} {ups} {u} {x} j was now f =
@@ -254,8 +246,8 @@ module _ (g : ActiveJob → ActiveJob) (found : StaysFound g) where
   pub brings : (rules : Rules) (had : ℕ → Bool) {k : ℕ} {b : Birth} {put : List Thing} {told : List Word} {ups u : List Flying} {x : Flying} {st : Option Stream} (p : Work) → ups ≡ x ∷ u → ups_of p ≡ []
       → ((j : ActiveJob) → j.header.stream_id ≡ k → (g j).body ≡ with_mail (brought_by x.frame.message.header x.plain) j.body) → IsWork rules had k (Born b) p
       → Upward k (Born b) p put told ups st → Upward k (Born b) (mapped g p) put told u st
-  brings rules had (Waits j) was none change is s = changes j (brings_job j was (change j is.stream) s.is.flowing) s.is.fit s.is.unclosed (Waits (g j)) (inl refl)
-  brings rules had (Runs j) was none change is s = changes j (brings_job j was (change j is.stream) s.is.flowing) s.is.fit s.is.unclosed (Runs (g j)) (inr refl)
+  brings rules had (Waits j) was none change is s = record { is = record { flowing = brings_job j was (change j is.stream) s.is.flowing; fit = λ e. s.is.fit (sym (found.stream j) ∙ e); unclosed = s.is.unclosed } }
+  brings rules had (Runs j) was none change is s = record { is = record { flowing = brings_job j was (change j is.stream) s.is.flowing; fit = λ e. s.is.fit (sym (found.stream j) ∙ e); unclosed = s.is.unclosed } }
   brings rules had (Asking x) was none change is s = absurd (no_cons x [] none)
   brings rules had {u = u} (Left j response) was none change is s = gone (Left (g j) response) u refl tt s
   brings rules had {u = u} Idle was none change is s = gone Idle u refl tt s
@@ -266,8 +258,8 @@ module _ (g : ActiveJob → ActiveJob) (found : StaysFound g) where
   deaf_box {way = way} j (inr gone) f = drops (box_of (g j).body) way gone f
 
   deaf_born : {k : ℕ} {b : Birth} {put : List Thing} {told : List Word} {ups : List Flying} {st : Option Stream} (p : Work) → ((j : ActiveJob) → IsDeaf g j) → Upward k (Born b) p put told ups st → Upward k (Born b) (mapped g p) put told ups st
-  deaf_born (Waits j) deaf s = changes j (deaf_box j (deaf j) s.is.flowing) s.is.fit s.is.unclosed (Waits (g j)) (inl refl)
-  deaf_born (Runs j) deaf s = changes j (deaf_box j (deaf j) s.is.flowing) s.is.fit s.is.unclosed (Runs (g j)) (inr refl)
+  deaf_born (Waits j) deaf s = record { is = record { flowing = deaf_box j (deaf j) s.is.flowing; fit = λ e. s.is.fit (sym (found.stream j) ∙ e); unclosed = s.is.unclosed } }
+  deaf_born (Runs j) deaf s = record { is = record { flowing = deaf_box j (deaf j) s.is.flowing; fit = λ e. s.is.fit (sym (found.stream j) ∙ e); unclosed = s.is.unclosed } }
   deaf_born {ups = ups} (Left j response) deaf s = gone (Left (g j) response) ups refl tt s
   deaf_born (Asking x) deaf s = s
   deaf_born Idle deaf s = s
@@ -289,8 +281,8 @@ module _ (g : ActiveJob → ActiveJob) (found : StaysFound g) where
       → ((i : ActiveJob) (response : Response) → p ≡ Left i response → ⊥) → j.body ≡ StreamBody m → (g j).body ≡ StreamBody left → IsPlainFailure failure → Receives failure m given left
       → Upward k (Born b) p put told ups st → Upward k (Born b) (mapped g p) put (told ++ words_of given) ups st
   hears (Waits i) j failure m left given is unleft was now plain r s =
-      changes i (hears_job i j failure m left given (let same : i ≡ j = cc in same) was now plain r s.is.flowing) s.is.fit s.is.unclosed (Waits (g i)) (inl refl)
+      record { is = record { flowing = hears_job i j failure m left given (let same : i ≡ j = cc in same) was now plain r s.is.flowing; fit = λ e. s.is.fit (sym (found.stream i) ∙ e); unclosed = s.is.unclosed } }
   hears (Runs i) j failure m left given is unleft was now plain r s =
-      changes i (hears_job i j failure m left given (let same : i ≡ j = cc in same) was now plain r s.is.flowing) s.is.fit s.is.unclosed (Runs (g i)) (inr refl)
+      record { is = record { flowing = hears_job i j failure m left given (let same : i ≡ j = cc in same) was now plain r s.is.flowing; fit = λ e. s.is.fit (sym (found.stream i) ∙ e); unclosed = s.is.unclosed } }
   hears (Left i response) j failure m left given is unleft was now plain r s = absurd (unleft i response refl)
   hears p j failure m left given is unleft was now plain r s = absurd (no_cons j [] (sym is))
