@@ -13,19 +13,6 @@ fn has_expired(outcome: RpcResult<Response>) -> bool {
 }
 
 #[test]
-fn a_call_is_answered(rt: HostRuntime) -> Result<(), Fail> {
-    let Site {
-        mut runtime,
-        client,
-        ends,
-    } = make_site(&rt, 4096, Manners::Echoes)?;
-    let call = client.request(request(rt.alloc(), "Echo", b"\x2a", 0)?)?;
-    let (outcome, _) = done(&rt, &mut runtime, ends, call)?;
-    assert_eq!(rt; outcome?.payload.as_slice(), b"\x2a".as_slice());
-    Ok(())
-}
-
-#[test]
 fn joined_calls_get_their_own_answers(rt: HostRuntime) -> Result<(), Fail> {
     let Site {
         mut runtime,
@@ -51,21 +38,6 @@ fn a_long_call_passes_a_narrow_pipe(rt: HostRuntime) -> Result<(), Fail> {
     let call = client.request(request(rt.alloc(), "Echo", long.as_slice(), 0)?)?;
     let (outcome, _) = done(&rt, &mut runtime, ends, call)?;
     assert_eq!(rt; outcome?.payload.as_slice(), long.as_slice());
-    Ok(())
-}
-
-#[test]
-fn a_call_expires_beside_one_that_never_ends(rt: HostRuntime) -> Result<(), Fail> {
-    let Site {
-        mut runtime,
-        client,
-        ends,
-    } = make_site(&rt, 4096, Manners::IsSilent)?;
-    let other = client.request(request(rt.alloc(), "Echo", b"1", 0)?)?;
-    let call = client.request(request(rt.alloc(), "Echo", b"2", 50_000_000)?)?;
-    let (outcome, _) = done(&rt, &mut runtime, ends, call)?;
-    drop(other);
-    assert!(rt; has_expired(outcome));
     Ok(())
 }
 

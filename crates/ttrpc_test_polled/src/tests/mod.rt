@@ -1,4 +1,7 @@
+mod broken_tests;
 mod call_tests;
+mod conversation_tests;
 mod peer;
 mod sites;
-mod stream_tests;
+mod stepped;
+mod stepped_tests;

@@ -1,6 +1,7 @@
 //! A client and its peer, in one event loop.
 ghost use Rattle.std.specs.Prelude.{⊤};
 
+use crate::registry::registry;
 use crate::tests::peer::{Manners, Peer, PeerHeld, PeerShared};
 use futures::Future;
 use futures::future::{Either, select};
@@ -17,7 +18,6 @@ use ttrpc_polled_client::{Client, ClientConnection};
 use ttrpc_proto::{Request, RequestInit};
 use ttrpc_secure::{ConnectionContext, HookOutput, Plain};
 use ttrpc_server::{Rules, ServerCore};
-use ttrpc_test_cores::server::registry;
 
 /// What a test needs of the system.
 pub trait System: Timed + Wait + Net + RandomSource {}

@@ -1,0 +1,58 @@
+use crate::acts::{Act, Script};
+use crate::lines::{Line, Side, Speaker};
+use crate::parts::{Fault, Parts};
+use crate::recorded::{Conversation, client_beside_go, client_beside_rust};
+use crate::tests::sites::System;
+use futures::future::Either;
+use std::process::Abort;
+use std::test::Fail;
+use tokio::io::duplex;
+use tokio::runtime::LocalRuntime;
+use ttrpc_polled_client::Client;
+use ttrpc_secure::{HookOutput, Plain};
+
+/// How many bytes are under way at most each way.
+const ROOMS: [usize; 3] = [1, 11, 4096];
+
+/// A client that does these acts, and a server that says its part of these lines.
+pub fn speak<R: System>(
+    rt: &R,
+    room: usize,
+    acts: &[Act],
+    lines: &[Line<'_>],
+) -> Result<Option<Fault>, Fail> {
+    let alloc = rt.alloc();
+    let mut runtime = LocalRuntime::new(rt)?;
+    let (up, up_far) = duplex(alloc, room.max(1))?;
+    let (down, down_far) = duplex(alloc, room.max(1))?;
+    let output = HookOutput::of_halves(alloc, Plain {}, Plain {});
+    let (client, connection) = Client::over(rt.clone()?, runtime.handle(), down_far, up, output)?;
+    let mut parts = Parts::new(alloc)?;
+    parts.does(Either::Left(Script::new(client, acts)))?;
+    parts.does(Either::Right(Speaker::new(Side::Server, lines, up_far, down)))?;
+    parts.goes(connection)?;
+    Ok(runtime.block_on(rt, parts)?)
+}
+
+/// This conversation goes as stated, however many bytes are under way.
+fn understand<R: System + Abort>(rt: &R, conversation: Conversation) -> Result<(), Fail> {
+    let (name, acts, lines) = conversation;
+    for room in ROOMS {
+        let fault = speak(rt, room, acts, lines)?;
+        assert_eq!(rt; fault, None, "{name}");
+    }
+    Ok(())
+}
+
+#[test]
+fn recorded_servers_are_understood(rt: HostRuntime) -> Result<(), Fail> {
+    for number in 0..100 {
+        if let Some(conversation) = client_beside_go(number) {
+            understand(&rt, conversation)?;
+        }
+        if let Some(conversation) = client_beside_rust(number) {
+            understand(&rt, conversation)?;
+        }
+    }
+    Ok(())
+}

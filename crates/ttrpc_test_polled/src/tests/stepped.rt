@@ -1,0 +1,286 @@
+//! The states of a client's calls and streams, stepped by hand on a core that is lent, beside the core of a server.
+use crate::acts::{Outcome, is_so, request};
+use crate::registry::registry;
+use std::alloc::Global;
+use ttrpc_client::{CallId, ClientCore, ClientKind, StreamId};
+use ttrpc_polled_client::{Asked, Opening};
+use ttrpc_polled_streams::Sending;
+use ttrpc_proto::{Error, Response, ResponseInit, Result, Status};
+use ttrpc_secure::{ConnectionContext, Plain};
+use ttrpc_server::{JobId, Rules, ServerCore};
+use ttrpc_wire::{Blob, Sequence, Text};
+
+/// A step. Calls, streams, sends and jobs have numbers from 0, in the order in which they come.
+#[derive(Clone, Copy, Debug)]
+pub enum Step {
+    /// A call of this name with this payload is made.
+    Asks(&'static str, &'static [u8]),
+    /// The call of this number is stepped: nothing yet, or this outcome.
+    Steps(usize, Option<Outcome>),
+    /// A stream of this name is opened with this payload. Whether the client sends, and the server.
+    Opens(&'static str, &'static [u8], bool, bool),
+    /// An item is sent on the stream of this number.
+    Sends(usize, &'static [u8]),
+    /// The stream of this number is closed.
+    Closes(usize),
+    /// The send or close of this number is stepped: nothing yet, or sent, or refused by this text.
+    Stepped(usize, Option<std::result::Result<(), &'static str>>),
+    /// The client receives from the stream of this number: nothing yet, or this.
+    Receives(usize, Option<Outcome>),
+    /// These bytes, and no others, are what the client has to write. They go to the server, so many at a time.
+    Up(&'static [u8], usize),
+    /// The same of the server.
+    Down(&'static [u8], usize),
+    /// Bytes that are not the server's own come to the client.
+    Comes(&'static [u8]),
+    /// The server takes a job: whether there is one.
+    Takes(bool),
+    /// The server receives from the stream of the job of this number: nothing yet, or this.
+    Hears(usize, Option<Outcome>),
+    /// The server sends an item on it, or is refused by this text.
+    Says(usize, &'static [u8], Option<&'static str>),
+    /// The server ends it by nothing, or by a status of this code and message; or is refused by this text.
+    Finishes(usize, Option<(i32, &'static str)>, Option<&'static str>),
+    /// The server answers the job of this number by an OK status and this payload.
+    Answers(usize, &'static [u8]),
+}
+
+/// A client's core with the states of its calls and streams, and a server's core with its jobs.
+#[derive(Drop)]
+pub struct Bench {
+    alloc: Global,
+    client: ClientCore<Plain, Plain>,
+    server: ServerCore<Plain, Plain>,
+    calls: Vec<Asked>,
+    streams: Vec<StreamId>,
+    sends: Vec<Sending>,
+    senders: Vec<StreamId>,
+    jobs: Vec<JobId>,
+}
+
+impl Bench {
+    /// Both cores, new.
+    pub fn new(alloc: Global) -> Result<Bench> {
+        let near = ConnectionContext::of_halves(alloc, Plain {}, Plain {});
+        let far = ConnectionContext::of_halves(alloc, Plain {}, Plain {});
+        Ok(Bench {
+            alloc,
+            client: ClientCore::new(alloc, ClientKind::Async, near),
+            server: ServerCore::new(alloc, Rules::Async, registry(alloc)?, far),
+            calls: Vec::new(alloc),
+            streams: Vec::new(alloc),
+            sends: Vec::new(alloc),
+            senders: Vec::new(alloc),
+            jobs: Vec::new(alloc),
+        })
+    }
+
+    /// Does a step: whether it came to what was stated.
+    pub fn take(&mut self, step: Step) -> Result<bool> {
+        match step {
+            Step::Asks(name, payload) => {
+                let request = request(self.alloc, name, payload, 0)?;
+                self.calls.push(Asked::Asks(request, 0))?;
+                Ok(true)
+            }
+            Step::Steps(number, expected) => Ok(self.step_call(number, expected)),
+            Step::Opens(name, payload, sends, receives) => {
+                self.open(name, payload, sends, receives)
+            }
+            Step::Sends(number, item) => {
+                let item = Blob::from_slice(self.alloc, item)?;
+                self.add_sending(number, Sending::Sends(item))
+            }
+            Step::Closes(number) => self.add_sending(number, Sending::Closes),
+            Step::Stepped(number, expected) => Ok(self.step_sending(number, expected)),
+            Step::Receives(number, expected) => Ok(self.receive(number, expected)),
+            Step::Up(bytes, at_a_time) => self.pass_up(bytes, at_a_time),
+            Step::Down(bytes, at_a_time) => self.pass_down(bytes, at_a_time),
+            Step::Comes(bytes) => Ok(self.client.feed(self.alloc, bytes)? == bytes.len()),
+            Step::Takes(is_there) => self.take_job(is_there),
+            Step::Hears(number, expected) => Ok(self.hear(number, expected)),
+            Step::Says(number, item, refusal) => Ok(self.say(number, item, refusal)),
+            Step::Finishes(number, status, refusal) => self.finish(number, status, refusal),
+            Step::Answers(number, payload) => self.answer(number, payload),
+        }
+    }
+
+    fn step_call(&mut self, number: usize, expected: Option<Outcome>) -> bool {
+        let Some(call) = self.calls.get_mut(number) else {
+            return false;
+        };
+        match (call.step(self.alloc, &mut self.client), expected) {
+            (Some(given), Some(expected)) => is_so(self.alloc, payload_of(given), expected),
+            (None, None) => true,
+            _ => false,
+        }
+    }
+
+    fn open(&mut self, name: &str, payload: &[u8], sends: bool, receives: bool) -> Result<bool> {
+        let opening = Opening {
+            request: request(self.alloc, name, payload, 0)?,
+            streaming_client: sends,
+            streaming_server: receives,
+        };
+        let id = opening.step(self.alloc, &mut self.client)?;
+        self.streams.push(id)?;
+        Ok(true)
+    }
+
+    fn add_sending(&mut self, number: usize, sending: Sending) -> Result<bool> {
+        let Some(id) = self.streams.get(number) else {
+            return Ok(false);
+        };
+        let id = *id;
+        self.sends.push(sending)?;
+        self.senders.push(id)?;
+        Ok(true)
+    }
+
+    fn step_sending(
+        &mut self,
+        number: usize,
+        expected: Option<std::result::Result<(), &'static str>>,
+    ) -> bool {
+        let Some(id) = self.senders.get(number) else {
+            return false;
+        };
+        let Some(sending) = self.sends.get_mut(number) else {
+            return false;
+        };
+        match (sending.step(self.alloc, &mut self.client, *id), expected) {
+            (None, None) => true,
+            (Some(Ok(())), Some(Ok(()))) => true,
+            (Some(Err(error)), Some(Err(text))) => is_so(self.alloc, Err(error), Err(text)),
+            _ => false,
+        }
+    }
+
+    fn receive(&mut self, number: usize, expected: Option<Outcome>) -> bool {
+        let Some(id) = self.streams.get(number) else {
+            return false;
+        };
+        match (self.client.recv(self.alloc, *id), expected) {
+            (Some(given), Some(expected)) => is_so(self.alloc, given, expected),
+            (None, None) => true,
+            _ => false,
+        }
+    }
+
+    fn take_job(&mut self, is_there: bool) -> Result<bool> {
+        match self.server.take_job() {
+            Some(job) => {
+                self.jobs.push(job.id)?;
+                Ok(is_there)
+            }
+            None => Ok(!is_there),
+        }
+    }
+
+    fn hear(&mut self, number: usize, expected: Option<Outcome>) -> bool {
+        let Some(id) = self.jobs.get(number) else {
+            return false;
+        };
+        match (self.server.recv(self.alloc, *id), expected) {
+            (Some(given), Some(expected)) => is_so(self.alloc, given, expected),
+            (None, None) => true,
+            _ => false,
+        }
+    }
+
+    fn say(&mut self, number: usize, item: &[u8], refusal: Option<&'static str>) -> bool {
+        let Some(id) = self.jobs.get(number) else {
+            return false;
+        };
+        match (self.server.send(self.alloc, *id, item), refusal) {
+            (Ok(_), None) => true,
+            (Err(error), Some(text)) => is_so(self.alloc, Err(error), Err(text)),
+            _ => false,
+        }
+    }
+
+    fn finish(
+        &mut self,
+        number: usize,
+        status: Option<(i32, &'static str)>,
+        refusal: Option<&'static str>,
+    ) -> Result<bool> {
+        let Some(id) = self.jobs.get(number) else {
+            return Ok(false);
+        };
+        let end = match status {
+            Some((code, message)) => Some(response_of(self.alloc, code, message)?),
+            None => None,
+        };
+        Ok(
+            match (self.server.end_stream(self.alloc, *id, &Ok(end)), refusal) {
+                (Ok(()), None) => true,
+                (Err(error), Some(text)) => is_so(self.alloc, Err(error), Err(text)),
+                _ => false,
+            },
+        )
+    }
+
+    fn answer(&mut self, number: usize, payload: &[u8]) -> Result<bool> {
+        let Some(id) = self.jobs.get(number) else {
+            return Ok(false);
+        };
+        let mut response = response_of(self.alloc, 0, "")?;
+        response.set_payload(Vec::from_slice(self.alloc, payload)?);
+        self.server.answer(self.alloc, *id, &Ok(response))?;
+        Ok(true)
+    }
+
+    /// What the client has to write goes to the server, so many bytes at a time: whether it was this.
+    fn pass_up(&mut self, bytes: &[u8], at_a_time: usize) -> Result<bool> {
+        let mut passed = Vec::new(self.alloc);
+        let mut buffer = vec![in self.alloc; 0u8; at_a_time.max(1)]?;
+        for _ in 0..=bytes.len() {
+            let count = self.client.lend(buffer.as_mut_slice());
+            let lent = self.client.lent();
+            self.client.wrote(lent);
+            let piece = buffer.get(..count).unwrap_or(&[]);
+            if piece.is_empty() {
+                break;
+            }
+            passed.extend_from_slice(piece)?;
+            self.server.feed(self.alloc, piece, 0)?;
+        }
+        Ok(passed.as_slice() == bytes)
+    }
+
+    /// What the server has to write goes to the client.
+    fn pass_down(&mut self, bytes: &[u8], at_a_time: usize) -> Result<bool> {
+        let mut passed = Vec::new(self.alloc);
+        let mut buffer = vec![in self.alloc; 0u8; at_a_time.max(1)]?;
+        for _ in 0..=bytes.len() {
+            let count = self.server.lend(buffer.as_mut_slice());
+            let lent = self.server.lent();
+            self.server.wrote(lent);
+            let piece = buffer.get(..count).unwrap_or(&[]);
+            if piece.is_empty() {
+                break;
+            }
+            passed.extend_from_slice(piece)?;
+            self.client.feed(self.alloc, piece)?;
+        }
+        Ok(passed.as_slice() == bytes)
+    }
+}
+
+fn payload_of(outcome: Result<Response>) -> Result<Blob> {
+    match outcome {
+        Ok(response) => Ok(response.payload),
+        Err(error) => Err(error),
+    }
+}
+
+/// The response of a status of this code and message.
+fn response_of(alloc: Global, code: i32, message: &str) -> Result<Response> {
+    let status = Status {
+        code,
+        message: Text::from_str(alloc, message)?,
+        details: Sequence::new(alloc),
+    };
+    Ok(Response::init_status(alloc, status))
+}

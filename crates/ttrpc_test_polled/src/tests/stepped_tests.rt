@@ -1,0 +1,143 @@
+use crate::tests::stepped::{Bench, Step};
+use std::test::Fail;
+
+/// A stream, as a client that sends and receives opens it; its items and its close.
+const OPENS: &[u8] = b"\0\0\0\x11\0\0\0\x01\x01\x06\x0a\x09demo.Echo\x12\x04Chat";
+
+const ITEMS_AND_CLOSE: &[u8] =
+    b"\0\0\0\x01\0\0\0\x01\x03\0a\0\0\0\0\0\0\0\x01\x03\0\0\0\0\x01\0\0\0\x01\x03\0b\0\0\0\0\0\0\0\x01\x03\x05";
+
+const CLOSE: &[u8] = b"\0\0\0\0\0\0\0\x01\x03\x05";
+/// An item behind which nothing comes.
+const LAST: &[u8] = b"\0\0\0\x01\0\0\0\x01\x03\x01\x7a";
+/// A status of code 5 and message `gone`.
+const GONE: &[u8] = b"\0\0\0\x0a\0\0\0\x01\x02\0\x0a\x08\x08\x05\x12\x04gone";
+/// A stream of the server alone, opened without a payload.
+const OPENS_FOR_SERVER: &[u8] = b"\0\0\0\x11\0\0\0\x01\x01\x01\x0a\x09demo.Echo\x12\x04Chat";
+/// Two calls, and the answers to both, the second first.
+const TWO_CALLS: &[u8] =
+    b"\0\0\0\x14\0\0\0\x01\x01\0\x0a\x09demo.Echo\x12\x04Echo\x1a\x01\x31\0\0\0\x14\0\0\0\x03\x01\0\x0a\x09demo.Echo\x12\x04Echo\x1a\x01\x32";
+
+const TWO_ANSWERS: &[u8] =
+    b"\0\0\0\x05\0\0\0\x03\x02\0\x0a\0\x12\x01\x32\0\0\0\x05\0\0\0\x01\x02\0\x0a\0\x12\x01\x31";
+
+const REMOTE_CLOSED: &str = "ttrpc err: remote stream closed";
+
+const LOCAL_CLOSED: &str = "ttrpc err: local stream closed";
+
+/// Items in order, one of them empty, and the end; each send is told once its frame has left.
+const ITEMS: &[Step] = &[
+    Step::Opens("Chat", b"", true, true),
+    Step::Up(OPENS, 1),
+    Step::Takes(true),
+    Step::Hears(0, None),
+    Step::Sends(0, b"a"),
+    Step::Stepped(0, None),
+    Step::Stepped(0, None),
+    Step::Sends(0, b""),
+    Step::Sends(0, b"b"),
+    Step::Closes(0),
+    Step::Stepped(1, None),
+    Step::Stepped(2, None),
+    Step::Stepped(3, None),
+    Step::Up(ITEMS_AND_CLOSE, 1),
+    Step::Stepped(0, Some(Ok(()))),
+    Step::Stepped(1, Some(Ok(()))),
+    Step::Stepped(2, Some(Ok(()))),
+    Step::Stepped(3, Some(Ok(()))),
+    Step::Stepped(3, Some(Err(LOCAL_CLOSED))),
+    Step::Hears(0, Some(Ok(b"a"))),
+    Step::Hears(0, Some(Ok(b""))),
+    Step::Hears(0, Some(Ok(b"b"))),
+    Step::Hears(0, Some(Err("eof"))),
+    Step::Hears(0, Some(Err(REMOTE_CLOSED))),
+    Step::Sends(0, b"c"),
+    Step::Stepped(4, Some(Err(LOCAL_CLOSED))),
+    Step::Receives(0, None),
+];
+
+/// A server's stream begins with an empty item, as it has no payload.
+const FOR_SERVER: &[Step] = &[
+    Step::Opens("Chat", b"", false, true),
+    Step::Up(OPENS_FOR_SERVER, 5),
+    Step::Takes(true),
+    Step::Hears(0, Some(Ok(b""))),
+    Step::Hears(0, Some(Err(REMOTE_CLOSED))),
+    Step::Sends(0, b"c"),
+    Step::Stepped(0, Some(Err("ttrpc err: stream is not sendable"))),
+];
+
+/// An item that is the last one.
+const LAST_ITEM: &[Step] = &[
+    Step::Opens("Chat", b"", true, true),
+    Step::Up(OPENS, 100),
+    Step::Comes(LAST),
+    Step::Receives(0, Some(Ok(b"z"))),
+    Step::Receives(0, Some(Err(REMOTE_CLOSED))),
+];
+
+/// A server that closes, and can then do nothing more with the stream.
+const SERVER_CLOSES: &[Step] = &[
+    Step::Opens("Chat", b"", true, true),
+    Step::Up(OPENS, 100),
+    Step::Takes(true),
+    Step::Finishes(0, None, None),
+    Step::Down(CLOSE, 3),
+    Step::Says(0, b"x", Some(LOCAL_CLOSED)),
+    Step::Finishes(0, None, Some("ttrpc err: unknown job")),
+    Step::Receives(0, Some(Err("eof"))),
+    Step::Receives(0, Some(Err(REMOTE_CLOSED))),
+];
+
+/// A server that ends by a status.
+const SERVER_FAILS: &[Step] = &[
+    Step::Opens("Chat", b"", true, true),
+    Step::Up(OPENS, 100),
+    Step::Takes(true),
+    Step::Finishes(0, Some((5, "gone")), None),
+    Step::Down(GONE, 100),
+    Step::Receives(0, Some(Err("rpc status: 5 gone"))),
+    Step::Receives(0, Some(Err(REMOTE_CLOSED))),
+];
+
+/// Two calls that are answered in the other order, each by its own answer, which is given once.
+const CALLS: &[Step] = &[
+    Step::Asks("Echo", b"1"),
+    Step::Asks("Echo", b"2"),
+    Step::Steps(0, None),
+    Step::Steps(1, None),
+    Step::Up(TWO_CALLS, 7),
+    Step::Takes(true),
+    Step::Takes(true),
+    Step::Takes(false),
+    Step::Answers(1, b"2"),
+    Step::Answers(0, b"1"),
+    Step::Steps(0, None),
+    Step::Down(TWO_ANSWERS, 1),
+    Step::Steps(0, Some(Ok(b"1"))),
+    Step::Steps(1, Some(Ok(b"2"))),
+    Step::Steps(1, Some(Err(LOCAL_CLOSED))),
+];
+
+const STEPS: &[(&str, &[Step])] = &[
+    ("items", ITEMS),
+    ("for the server", FOR_SERVER),
+    ("last item", LAST_ITEM),
+    ("server closes", SERVER_CLOSES),
+    ("server fails", SERVER_FAILS),
+    ("calls", CALLS),
+];
+
+#[test]
+fn steps_come_to_what_they_state(rt: HostRuntime) -> Result<(), Fail> {
+    for (name, steps) in STEPS {
+        let mut bench = Bench::new(rt.alloc())?;
+        let mut number = 0u32;
+        for step in *steps {
+            let is_so = bench.take(*step)?;
+            assert!(rt; is_so, "{name}, {number}");
+            number = number.saturating_add(1);
+        }
+    }
+    Ok(())
+}
