@@ -1,4 +1,4 @@
-//! The services of the tests.
+//! A service of an rpc of each kind.
 use crate::messages::{Count, Item};
 use crate::polled::{Flows, Plainly, Talks};
 use futures::future::{Ready, ready};
@@ -10,7 +10,7 @@ use ttrpc::{Error, Result};
 
 type Line = ServerShared<Plain, Plain>;
 
-/// What each rpc of the tests does.
+/// What each rpc does.
 #[derive(Clone, Copy, Debug)]
 pub struct Told {}
 

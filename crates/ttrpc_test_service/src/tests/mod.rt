@@ -1,2 +1,0 @@
-mod sites;
-mod talks_tests;
