@@ -1,6 +1,10 @@
 -- A stream of one item each way, and its ends: the definitions say of it what it is, by computing alone.
 use Rattle.ttrpc_events.proofs.Words.{[], AreInOrder, Entry, Eof, Err, flows, Fresh, has_end, heard_down, heard_up, Item, List, None, Ok, put_down, put_up, refl, Request, Rules, Some, ThingEnd, ThingItem, true, ℕ, ◌∷◌, ◌≡◌, IsInOrder, RemoteClosed, false}
-use Rattle.ttrpc_events.specs.Types.{Close, Done, EndStream, Named, Open, Recv, Send, Ticket}
+use Rattle.ttrpc_events.proofs.Words.{acts, arith, calls, Event, inl, inr, sym, told_by, Given, MessageHeader, Ok, Outcome, pos, Reply, Response, SyncRules, ◌++◌}
+use Rattle.std.specs.Prelude.{◌+◌, ◌-◌}
+use Rattle.ttrpc_events.specs.Types.{Answer, CallEvent, Carry, Close, Count, Deliver, Done, EndStream, Handed, Named, Open, Recv, Send, Take, Tick, Ticket}
+use Rattle.ttrpc_events.specs.declared.events.Side.TheVariants.{Client as ClientSide, Server as ServerSide}
+use Rattle.ttrpc_events.specs.Clean.{is_clean_answer, is_clean_event, is_clean_reply, IsAskedFor, IsAskedOutDown, IsAskedOutUp, IsClean, IsCleanAt, IsInTime, IsQuiet, IsWholeCall, IsWholeStream}
 use Rattle.ttrpc_events.specs.declared.events.StreamEnd.TheVariants as end
 
 -- It is opened by this request, and its job is 7. The client sends `a` and closes, the server sends `b` and ends it.
@@ -49,3 +53,87 @@ lost o = let bad : [] ∷ (98 ∷ []) ∷ [] ≡ (98 ∷ []) ∷ o.rest = o.begi
 
 pub unclosed : IsInOrder (ThingItem (97 ∷ []) ∷ []) (Ok (97 ∷ []) ∷ Err RemoteClosed ∷ []) → ⊥
 unclosed o = let bad : false ≡ true = (o.whole refl).1 in cc
+
+-- ---- a clean and quiet run, of a call and of a stream: what is whole in it has premises that can be met
+
+abbrev e : Event → Reply → Entry
+e event reply = record { event = event; reply = reply }
+
+-- what is asked: the call may take five nanoseconds
+abbrev asked : Request
+asked = record { service = []; method = []; payload = 97 ∷ []; timeout_nano = pos 5; metadata = [] }
+
+abbrev header_at : ℕ → MessageHeader
+header_at k = record { length = 0; stream_id = k; type_ = 1; flags = 0 }
+
+abbrev replied : Response
+replied = record { status = None; payload = 98 ∷ [] }
+
+-- of job 1 the id is 1, of job 2 it is 3
+abbrev id_of : ℕ → ℕ
+id_of job = job + job - 1
+
+abbrev last_four : List Entry
+last_four = e (Carry ClientSide 1) (Count 0) ∷ e (Carry ServerSide 1) (Count 0) ∷ e (Deliver ServerSide 1) (Count 0) ∷ e (Deliver ClientSide 1) (Count 0) ∷ []
+
+-- The call is made and answered in time. A later moment is behind its deadline, and it has its outcome by then.
+abbrev one_call : List Entry
+one_call = e (CallEvent asked) (Named 1) ∷ e (Tick 4) Done ∷ e (Carry ClientSide 40) (Count 30) ∷ e (Deliver ServerSide 40) (Count 30)
+    ∷ e Take (Handed (Some (record { id = 1; header = header_at 1; stream = false; request = asked }))) ∷ e Take (Handed None)
+    ∷ e (Answer 1 (Ok replied)) Done ∷ e (Carry ServerSide 40) (Count 30) ∷ e (Deliver ClientSide 40) (Count 30) ∷ e (Outcome 1) (Given (Some (Ok replied))) ∷ e (Tick 5) Done ∷ []
+
+abbrev once : List Entry
+once = one_call ++ last_four
+
+clean_at : (rules : Rules) (f : ℕ → ℕ) (front : List Entry) (event : Event) (reply : Reply) → is_clean_event event ≡ true → is_clean_reply reply ≡ true → is_clean_answer rules event reply ≡ true → IsInTime f front event reply → IsCleanAt rules f front event reply
+clean_at rules f front event reply a b d t = record { event_is = a; reply_is = b; answer_is = d; in_time = t }
+
+pub clean : IsClean SyncRules id_of once
+clean = (clean_at _ _ _ _ _ refl refl refl tt, (clean_at _ _ _ _ _ refl refl refl refl, (clean_at _ _ _ _ _ refl refl refl tt, (clean_at _ _ _ _ _ refl refl refl tt, (clean_at _ _ _ _ _ refl refl refl tt, (clean_at _ _ _ _ _ refl refl refl tt, (clean_at _ _ _ _ _ refl refl refl tt, (clean_at _ _ _ _ _ refl refl refl tt, (clean_at _ _ _ _ _ refl refl refl tt, (clean_at _ _ _ _ _ refl refl refl tt, (clean_at _ _ _ _ _ refl refl refl refl, (clean_at _ _ _ _ _ refl refl refl tt, (clean_at _ _ _ _ _ refl refl refl tt, (clean_at _ _ _ _ _ refl refl refl tt, (clean_at _ _ _ _ _ refl refl refl tt, tt)))))))))))))))
+
+pub quiet : IsQuiet once
+quiet = record {
+  drained = record { front = one_call; from = ClientSide; to = ServerSide; a = 1; b = 1; c = 1; d = 1; some = (omega arith, omega arith, omega arith, omega arith); ends = refl };
+  answered = (tt, (tt, (tt, (tt, (refl, (tt, (tt, (tt, (tt, (tt, (tt, (tt, (tt, (tt, (tt, tt)))))))))))))));
+  taken = refl;
+}
+
+-- so the call is whole: by its one run it was answered, and told of that answer
+pub is_called : calls (acts id_of 1 once) ≡ asked ∷ []
+is_called = refl
+
+pub is_asked_for : IsAskedFor id_of 1 once
+is_asked_for = inr refl
+
+pub is_whole : (limit : ℕ) → told_by SyncRules limit replied ≡ Ok replied → IsWholeCall SyncRules limit asked (acts id_of 1 once)
+is_whole limit told = (1, Ok replied, Ok replied, refl, (replied, refl, sym told))
+
+-- Where the outcome was asked for too early, it isn't asked for.
+abbrev too_early : List Entry
+too_early = e (CallEvent asked) (Named 1) ∷ e (Outcome 1) (Given None) ∷ e (Carry ServerSide 40) (Count 30) ∷ e (Deliver ClientSide 40) (Count 30) ∷ last_four
+
+pub isnt_asked_for : IsAskedFor id_of 1 too_early → ⊥
+isnt_asked_for (inl some) = some refl
+isnt_asked_for (inr late) = cc
+
+-- A moment that reaches the deadline of a call that waits isn't clean.
+pub late : IsInTime id_of (e (CallEvent asked) (Named 1) ∷ []) (Tick 5) Done → ⊥
+late h = cc
+
+-- ---- the stream above, which is clean where nothing else is of it: both its receivers were told of an end
+
+pub both_ends : (q : Request) → IsAskedOutUp stream_of 1 (trace q) × IsAskedOutDown stream_of 1 (trace q)
+both_ends q = (inl refl, inl refl)
+
+pub is_whole_stream : (rules : Rules) (limit : ℕ) (q : Request) → IsWholeStream rules limit stream_of 1 (trace q)
+is_whole_stream rules limit q = record { up = λ out. refl; down = λ out. refl }
+
+-- One that lost an item on its way isn't whole.
+abbrev lossy : Request → List Entry
+lossy q = e (Open q true true) (Named 1) ∷ e (Send (end.Client 1) (97 ∷ [])) (Ticket 1) ∷ e (Recv (end.Server 7)) (Item None) ∷ []
+
+none_given : (bytes : List ℕ) → [] ≡ bytes ∷ [] → ⊥
+none_given bytes h = cc
+
+pub isnt_whole : (rules : Rules) (limit : ℕ) (q : Request) → IsWholeStream rules limit stream_of 1 (lossy q) → ⊥
+isnt_whole rules limit q w = none_given (97 ∷ []) (w.up (inr refl))

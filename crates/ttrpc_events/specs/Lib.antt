@@ -2,3 +2,4 @@ pub mod Types
 pub mod Trace
 pub mod Flows
 pub mod Told
+pub mod Clean

@@ -25,9 +25,9 @@ module _ {CO CI SO SI : Type 0} (c : Halves CO CI) (s : Halves SO SI) (seals : B
   Right w = AreRight f w.server.state.jobs.list
 
   -- the settings are these, and no side has failed so that it is an end
-  record Ruled (w : Net CO CI SO SI) : Type 0 where
-    is_set : IsSet c s seals set f [] w
-    plain : ArePlain w
+  pub record Ruled (w : Net CO CI SO SI) : Type 0 where
+    pub is_set : IsSet c s seals set f [] w
+    pub plain : ArePlain w
 
   -- an equal net
   along : (trace : List Entry) (w v : Net CO CI SO SI) → v ≡ w → Kept trace w → Kept trace v
@@ -53,7 +53,7 @@ module _ {CO CI SO SI : Type 0} (c : Halves CO CI) (s : Halves SO SI) (seals : B
       (keeps_ticks c s seals set f trace w.server.state.rules w.server.connection.failure x now v.server refl (keeps_passes c s seals still set f trace w now v.client w.client.connection.failure i p.does) p.serves)))
 
   -- EACH STEP KEEPS IT, where the function is right before it and behind it.
-  keeps : (trace : List Entry) (w : Net CO CI SO SI) (event : Event) (reply : Reply) (v : Net CO CI SO SI) → Kept trace w → Ruled w → Right w → Right v → Steps c s seals w event reply v → Kept (with_entry trace event reply) v
+  pub keeps : (trace : List Entry) (w : Net CO CI SO SI) (event : Event) (reply : Reply) (v : Net CO CI SO SI) → Kept trace w → Ruled w → Right w → Right v → Steps c s seals w event reply v → Kept (with_entry trace event reply) v
   keeps trace w (CallEvent request) (Named id) v i u r r2 p = along _ _ v p.2 (keeps_call c s seals still set f trace w request id v i p.0 p.1)
   keeps trace w (OpenEvent request up down) (Named id) v i u r r2 p = along _ _ v p.2 (keeps_open c s seals still set f trace w request up down id v i p.0 p.1)
   keeps trace w (Outcome id) (Given outcome) v i u r r2 p = along _ _ v p.1 (keeps_ask c s seals still set f trace w id outcome v i p.0)
@@ -91,24 +91,24 @@ module _ {CO CI SO SI : Type 0} (c : Halves CO CI) (s : Halves SO SI) (seals : B
   keeps trace w event reply v i u r r2 p = same trace w event reply v (λ k. (refl, refl)) i (first_of (assumption, cc, search rules))
 
   -- the settings stay, and no step fails a side so that it is an end
-  ruled : (w : Net CO CI SO SI) (event : Event) (reply : Reply) (v : Net CO CI SO SI) → Steps c s seals w event reply v → Ruled w → Ruled v
+  pub ruled : (w : Net CO CI SO SI) (event : Event) (reply : Reply) (v : Net CO CI SO SI) → Steps c s seals w event reply v → Ruled w → Ruled v
   ruled w event reply v p u =
       let stays = stepped c s seals fixed w event reply v p in
       record { is_set = (stays.rules ∙ u.is_set.0, stays.limit ∙ u.is_set.1); plain = plainly c s seals w event reply v p u.plain }
 
   -- right at the first state of what is left of a run
-  now_right : (w : Net CO CI SO SI) (rest : List Entry) (v : Net CO CI SO SI) → (p : Runs c s seals w rest v) → IsRightRun c s seals f w rest v p → Right w
+  pub now_right : (w : Net CO CI SO SI) (rest : List Entry) (v : Net CO CI SO SI) → (p : Runs c s seals w rest v) → IsRightRun c s seals f w rest v p → Right w
   now_right w [] v p right = right
   now_right w (e ∷ rest) v p right = right.0
 
-  keeps_all : (before rest : List Entry) (w v : Net CO CI SO SI) → Kept before w → Ruled w → (p : Runs c s seals w rest v) → IsRightRun c s seals f w rest v p → Kept (before ++ rest) v
+  pub keeps_all : (before rest : List Entry) (w v : Net CO CI SO SI) → Kept before w → Ruled w → (p : Runs c s seals w rest v) → IsRightRun c s seals f w rest v p → Kept (before ++ rest) v
   keeps_all before [] w v i u p right = subst (λ (t : List Entry). Keeps c s set f t v) (sym (append-nil before)) (along before w v p i)
   keeps_all before (e ∷ rest) w v i u p right =
       subst (λ (t : List Entry). Keeps c s set f t v) (append_assoc before (e ∷ []) rest)
       (keeps_all (before ++ e ∷ []) rest p.0 v (keeps before w e.event e.reply p.0 i u right.0 (now_right p.0 rest v p.2 right.1) p.1) (ruled w e.event e.reply p.0 p.1 u) p.2 right.1)
 
   -- it holds at the start
-  fresh : (w : Net CO CI SO SI) → IsFresh c s w → Kept [] w
+  pub fresh : (w : Net CO CI SO SI) → IsFresh c s w → Kept [] w
   fresh w n = record {
     up = [];
     down = [];
@@ -139,7 +139,7 @@ module _ {CO CI SO SI : Type 0} (c : Halves CO CI) (s : Halves SO SI) (seals : B
     downward = starts s.out c.in_ w.server.connection w.client.connection w.down (ap (λ (x : ServerCore SO SI). x.connection.outbox.queue) n.server) (ap (λ (x : ClientCore CO CI). x.connection.decoder) n.client) n.down n.down_paired;
   }
 
-  starts_ruled : (w : Net CO CI SO SI) → IsSet c s seals set f [] w → IsFresh c s w → Ruled w
+  pub starts_ruled : (w : Net CO CI SO SI) → IsSet c s seals set f [] w → IsFresh c s w → Ruled w
   starts_ruled w is n = record { is_set = is; plain = fresh_plain n }
 
   -- A front of a run is a run, and the function is right there, too.

@@ -13,3 +13,7 @@ pub mod ByServer
 pub mod Headline
 pub mod Running
 pub mod Constants
+pub mod Living
+pub mod Ending
+pub mod Timed
+pub mod Behind

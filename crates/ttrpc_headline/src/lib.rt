@@ -3,6 +3,7 @@
 #![tactic(auto)]
 
 pub mod laws;
+pub mod whole;
 
 pub use ttrpc_events::{Entry, Event, Reply, Side, StreamEnd, Trace};
 pub use ttrpc_pair::{ClientCore, Pair, ServerCore};

@@ -8,3 +8,4 @@ pub mod Upward
 pub mod Downward
 pub mod Place
 pub mod Events
+pub mod Tidy

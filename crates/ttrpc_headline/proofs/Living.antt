@@ -1,0 +1,233 @@
+-- Both sides live at each place of a clean quiet run: no step clears a failure, and the last deliveries found none. No pipe was
+-- cut, and the server takes what comes.
+use Rattle.ttrpc_headline.proofs.OneWay.{as_heard, kept_some}
+use Rattle.ttrpc_headline.specs.Living.{IsOpen, Lives}
+use Rattle.ttrpc_events.specs.Clean.{AreClean, is_clean_event, is_clean_reply, IsDrained, other}
+use Rattle.ttrpc_events.specs.declared.events.Side.{Side}
+use Rattle.std.specs.Prelude.{not}
+use Rattle.ttrpc_pair.proofs.Words.{[], ActiveJob, ActsAll, Answer, append-nil, AnswersBy, AnswersError, ap, append_assoc, AsyncRules, Bool, CancelledDuringWrite, Carry, ClientCore, ClientSide, Connection, Count, Cut, cut_to, Deliver, Done, Drain, DropCall, DropReceiver, EndStream, Entry, Err, Error, Event, ExpireAll, Fail, failed_by_hand, failing, Failure, false, Finish, first_failure, Halves, Handed, has_begun, Hears, if◌then◌else◌, Incoming, inl, inr, is_over, is_over, IsFresh, Item, List, nat_eq, Net, None, Ok, Option, Outbox, Passes, Pipe, Recv, refl, Refused, Reply, Respond, Response, Result, rules, Rules, Runs, Scene, scene, Send, Server, ServerCore, ServerEnd, ServerPasses, ServerSide, serving, Some, Steps, subst, sym, SyncRules, Take, taken_back, taken_from, takes_back, Tick, Ticket, Told, true, ℕ, ◌++◌, ◌∙◌, ◌∷◌, ◌≡◌}
+
+-- ---- a failure is kept
+
+-- where requests were taken back
+back_lives : {O I : Type 0} (b begun : Bool) (c : Connection O I) (ids : ℕ → Bool) (why : Failure) → has_begun c.outbox.queue ids ≡ begun → (if b then taken_back c ids why else c).failure ≡ None → c.failure ≡ None
+back_lives false begun c ids why is h = h
+back_lives true true c ids why is h = absurd (kept_some c.failure why (subst (λ (x : Bool). (if x then first_failure c.failure why else c.failure) ≡ None) is h))
+back_lives true false c ids why is h = subst (λ (x : Bool). (if x then first_failure c.failure why else c.failure) ≡ None) is h
+
+-- where the input may have ended
+heard_lives : {O I : Type 0} (over : Bool) (old new : Connection O I) → Hears over old new → new.failure ≡ None → old.failure ≡ None
+heard_lives over old new h = as_heard (λ (y : Connection _ _). y.failure ≡ None → old.failure ≡ None) over old new h (λ n. n) (λ why n. absurd (kept_some old.failure why n))
+
+module _ {CO CI SO SI : Type 0} (c : Halves CO CI) (s : Halves SO SI) (seals : Bool) where
+  passes_client : (failure : Option Failure) (old : ClientCore CO CI) (now : ℕ) (new : ClientCore CO CI) → old.connection.failure ≡ failure → Passes seals failure old now new → new.connection.failure ≡ None → old.connection.failure ≡ None
+  passes_client None old now new e p h = e
+  passes_client (Some why) old now new e same h = sym (ap (λ (x : ClientCore CO CI). x.connection.failure) same) ∙ h
+
+  passes_server : (r : Rules) (failure : Option Failure) (old : ServerCore SO SI) (now : ℕ) (new : ServerCore SO SI) → old.connection.failure ≡ failure → ServerPasses s.out r failure old now new → new.connection.failure ≡ None → old.connection.failure ≡ None
+  passes_server SyncRules failure old now new e same h = sym (ap (λ (x : ServerCore SO SI). x.connection.failure) same) ∙ h
+  passes_server AsyncRules None old now new e p h = e
+  passes_server AsyncRules (Some why) old now new e same h = sym (ap (λ (x : ServerCore SO SI). x.connection.failure) same) ∙ h
+
+  answers_alive : (r : Rules) (old : ServerCore SO SI) (id : ℕ) (result : Result Response Error) (new : ServerCore SO SI) → old.state.rules ≡ r → AnswersBy c s seals old id result new → old.connection.failure ≡ None
+  answers_alive r old id (Ok response) new e p = p.1.alive
+  answers_alive SyncRules old id (Err error) new e p = let d = subst (λ (x : Rules). AnswersError s.out x old id error new) e p in d.alive
+  answers_alive AsyncRules old id (Err error) new e p = let d = subst (λ (x : Rules). AnswersError s.out x old id error new) e p in d.2.alive
+
+  -- the client failed by hand, or the server
+  failing_lives : {O I : Type 0} (old new : Connection O I) (why : Failure) → new ≡ failing old why → new.failure ≡ None → old.failure ≡ None
+  failing_lives old new why e h = absurd (kept_some old.failure why (sym (ap (λ (x : Connection _ _). x.failure) e) ∙ h))
+
+  by_client : (w v : Net CO CI SO SI) → v.server.connection.failure ≡ w.server.connection.failure → (v.client.connection.failure ≡ None → w.client.connection.failure ≡ None) → Lives v → Lives w
+  by_client w v server client h = record { client = client h.client; server = sym server ∙ h.server }
+
+  by_server : (w v : Net CO CI SO SI) → v.client.connection.failure ≡ w.client.connection.failure → (v.server.connection.failure ≡ None → w.server.connection.failure ≡ None) → Lives v → Lives w
+  by_server w v client server h = record { client = sym client ∙ h.client; server = server h.server }
+
+  -- NO STEP CLEARS A FAILURE: who lives behind it lived before it.
+  pub lives_back : (w : Net CO CI SO SI) (event : Event) (reply : Reply) (v : Net CO CI SO SI) → Steps c s seals w event reply v → Lives v → Lives w
+  lives_back w (DropCall id) Done v p h =
+      by_client w v (ap (λ (x : Net _ _ _ _). x.server.connection.failure) p.only)
+      (λ e. back_lives (takes_back seals w.client id) (has_begun w.client.connection.outbox.queue (λ k. nat_eq k id)) w.client.connection (λ k. nat_eq k id) CancelledDuringWrite refl (sym (ap (λ (x : ClientCore CO CI). x.connection.failure) p.does.same) ∙ e)) h
+  lives_back w (Answer id result) Done v p h = by_server w v (ap (λ (x : Net _ _ _ _). x.client.connection.failure) p.1) (λ e. answers_alive w.server.state.rules w.server id result v.server refl p.0) h
+  lives_back w (Tick now) Done v p h = record {
+    client = passes_client w.client.connection.failure w.client now v.client refl p.does h.client;
+    server = passes_server w.server.state.rules w.server.connection.failure w.server now v.server refl p.serves h.server;
+  }
+  lives_back w (Deliver ServerSide n) (Count k) v (inl p) h = by_server w v (ap (λ (x : Net _ _ _ _). x.client.connection.failure) p.only) (λ e. p.does.does.alive) h
+  lives_back w (Deliver ServerSide n) (Count k) v (inr p) h = by_server w v (ap (λ (x : Net _ _ _ _). x.client.connection.failure) p.only) (heard_lives (is_over w.up) w.server.connection v.server.connection p.hears) h
+  lives_back w (Deliver ServerSide n) (Refused told) v (inl p) h = by_server w v (ap (λ (x : Net _ _ _ _). x.client.connection.failure) p.1) (λ e. p.0.alive) h
+  lives_back w (Deliver ServerSide n) (Refused told) v (inr p) h = subst Lives p.1 h
+  lives_back w (Deliver ClientSide n) (Count k) v p h = by_client w v (ap (λ (x : Net _ _ _ _). x.server.connection.failure) p.only) (λ e. p.does.does.alive) h
+  lives_back w (Deliver ClientSide n) (Refused told) v (inl p) h = by_client w v (ap (λ (x : Net _ _ _ _). x.server.connection.failure) p.1) (λ e. p.0.alive) h
+  lives_back w (Deliver ClientSide n) (Refused told) v (inr p) h = subst Lives p.1 h
+  lives_back w (Cut ServerSide keep) Done v p h =
+      by_server w v (ap (λ (x : Net _ _ _ _). x.client.connection.failure) p.only)
+      (λ e. heard_lives (is_over (cut_to w.up keep)) w.server.connection p.connection p.hears (sym (ap (λ (x : Net _ _ _ _). x.server.connection.failure) p.only) ∙ e)) h
+  lives_back w (Cut ClientSide keep) Done v p h =
+      by_client w v (ap (λ (x : Net _ _ _ _). x.server.connection.failure) p.only)
+      (λ e. heard_lives (is_over (cut_to w.down keep)) w.client.connection p.connection p.hears (sym (ap (λ (x : Net _ _ _ _). x.client.connection.failure) p.only) ∙ e)) h
+  lives_back w (Fail ClientSide) Done v p h =
+      by_client w v (ap (λ (x : Net _ _ _ _). x.server.connection.failure) p) (failing_lives w.client.connection v.client.connection (Told failed_by_hand) (ap (λ (x : Net _ _ _ _). x.client.connection) p)) h
+  lives_back w (Fail ServerSide) Done v p h =
+      by_server w v (ap (λ (x : Net _ _ _ _). x.client.connection.failure) p) (failing_lives w.server.connection v.server.connection (Told failed_by_hand) (ap (λ (x : Net _ _ _ _). x.server.connection) p)) h
+  lives_back w event reply v p h =
+      let client : v.client.connection.failure ≡ w.client.connection.failure = first_of (cc, search rules) in
+      let server : v.server.connection.failure ≡ w.server.connection.failure = first_of (cc, search rules) in
+      record { client = sym client ∙ h.client; server = sym server ∙ h.server }
+
+  -- who lives behind a run lived all along
+  pub lived : (w : Net CO CI SO SI) (rest : List Entry) (v : Net CO CI SO SI) → Runs c s seals w rest v → Lives v → Lives w
+  lived w [] v same h = subst Lives same h
+  lived w (e ∷ rest) v r h = lives_back w e.event e.reply r.0 r.1 (lived r.0 rest v r.2 h)
+
+  -- ---- pipes stay whole, and the server goes on taking
+
+  drains_answered : (r : Rules) (old : ServerCore SO SI) (id : ℕ) (result : Result Response Error) (new : ServerCore SO SI) → old.state.rules ≡ r → AnswersBy c s seals old id result new → not new.state.draining ≡ not old.state.draining
+  drains_answered r old id (Ok response) new e p = ap (λ (x : ServerCore SO SI). not x.state.draining) p.1.same
+  drains_answered SyncRules old id (Err error) new e p = let d = subst (λ (x : Rules). AnswersError s.out x old id error new) e p in ap (λ (x : ServerCore SO SI). not x.state.draining) d.same
+  drains_answered AsyncRules old id (Err error) new e p = let d = subst (λ (x : Rules). AnswersError s.out x old id error new) e p in ap (λ (x : ServerCore SO SI). not x.state.draining) d.2.same
+
+  drains_expired : (js : List ActiveJob) (old : Server) (from : Outbox SO) (new : Server) (to : Outbox SO) → ExpireAll s.out old from js new to → not new.draining ≡ not old.draining
+  drains_expired [] old from new to e = ap (λ (t : Server). not t.draining) e.0
+  drains_expired (j ∷ js) old from new to e = drains_expired js e.0 e.1 new to e.3 ∙ ap (λ (t : Server). not t.draining) e.2.state
+
+  drains_passed : (r : Rules) (failure : Option Failure) (old : ServerCore SO SI) (now : ℕ) (new : ServerCore SO SI) → ServerPasses s.out r failure old now new → not new.state.draining ≡ not old.state.draining
+  drains_passed SyncRules failure old now new same = ap (λ (x : ServerCore SO SI). not x.state.draining) same
+  drains_passed AsyncRules None old now new p = drains_expired p.expired old.state old.connection.outbox new.state new.connection.outbox p.expire
+  drains_passed AsyncRules (Some why) old now new same = ap (λ (x : ServerCore SO SI). not x.state.draining) same
+
+  drains_acted : (now : ℕ) (fs : List Incoming) (old new : Scene Server SO SI) → ActsAll (serving s.out s.in_) now old fs new → not new.state.draining ≡ not old.state.draining
+  drains_acted now [] old new same = ap (λ (x : Scene Server SO SI). not x.state.draining) same
+  drains_acted now (f ∷ fs) old new acts = drains_acted now fs acts.0 new acts.2 ∙ acts.1.takes
+
+  takes_stay : (w : Net CO CI SO SI) (event : Event) (reply : Reply) (v : Net CO CI SO SI) → is_clean_event event ≡ true → is_clean_reply reply ≡ true → Steps c s seals w event reply v → not v.server.state.draining ≡ not w.server.state.draining
+  takes_stay w Take (Handed (Some job)) v e r p = ap (λ (x : ServerCore SO SI). not x.state.draining) p.0.same
+  takes_stay w (Answer id result) Done v e r p = drains_answered w.server.state.rules w.server id result v.server refl p.0
+  takes_stay w (Respond id response) Done v e r p = ap (λ (x : ServerCore SO SI). not x.state.draining) p.does.same
+  takes_stay w (Finish id) Done v e r p = ap (λ (x : ServerCore SO SI). not x.state.draining) p.0.same
+  takes_stay w (EndStream id result) Done v e r p = ap (λ (x : ServerCore SO SI). not x.state.draining) p.0.same
+  takes_stay w (Send (ServerEnd id) item) (Ticket ticket) v e r p = ap (λ (x : ServerCore SO SI). not x.state.draining) p.0.same
+  takes_stay w (Recv (ServerEnd id)) (Item given) v e r p = ap (λ (x : ServerCore SO SI). not x.state.draining) p.0.same
+  takes_stay w (DropReceiver at) reply v e r p = let bad : false ≡ true = e in cc
+  takes_stay w Drain reply v e r p = let bad : false ≡ true = e in cc
+  takes_stay w (Cut to keep) reply v e r p = let bad : false ≡ true = e in cc
+  takes_stay w (Deliver to n) (Refused told) v e r p = let bad : false ≡ true = r in cc
+  takes_stay w (Tick now) Done v e r p = drains_passed w.server.state.rules w.server.connection.failure w.server now v.server p.serves
+  takes_stay w (Deliver ServerSide n) (Count k) v e r (inl p) = drains_acted w.moment p.does.does.frames (scene w.server.state w.server.connection) (scene v.server.state p.does.mid) p.does.does.acts
+  takes_stay w (Deliver ServerSide n) (Count k) v e r (inr p) = ap (λ (x : Net _ _ _ _). not x.server.state.draining) p.only
+  takes_stay w event reply v e r p = let state : v.server.state ≡ w.server.state = first_of (cc, search rules) in ap (λ (x : Server). not x.draining) state
+
+  up_stays : (w : Net CO CI SO SI) (event : Event) (reply : Reply) (v : Net CO CI SO SI) → is_clean_event event ≡ true → is_clean_reply reply ≡ true → Steps c s seals w event reply v → v.up.cut ≡ w.up.cut
+  up_stays w (Cut to keep) reply v e r p = let bad : false ≡ true = e in cc
+  up_stays w (Deliver to n) (Refused told) v e r p = let bad : false ≡ true = r in cc
+  up_stays w (Deliver ServerSide n) (Count k) v e r (inl p) = ap (λ (x : Net _ _ _ _). x.up.cut) p.only
+  up_stays w (Deliver ServerSide n) (Count k) v e r (inr p) = ap (λ (x : Net _ _ _ _). x.up.cut) p.only
+  up_stays w (Deliver ClientSide n) (Count k) v e r p = ap (λ (x : Net _ _ _ _). x.up.cut) p.only
+  up_stays w (Carry ClientSide n) (Count k) v e r p = ap (λ (x : Net _ _ _ _). x.up.cut) p.only
+  up_stays w (Carry ServerSide n) (Count k) v e r p = ap (λ (x : Net _ _ _ _). x.up.cut) p.only
+  up_stays w event reply v e r p = first_of (cc, search rules)
+
+  down_stays : (w : Net CO CI SO SI) (event : Event) (reply : Reply) (v : Net CO CI SO SI) → is_clean_event event ≡ true → is_clean_reply reply ≡ true → Steps c s seals w event reply v → v.down.cut ≡ w.down.cut
+  down_stays w (Cut to keep) reply v e r p = let bad : false ≡ true = e in cc
+  down_stays w (Deliver to n) (Refused told) v e r p = let bad : false ≡ true = r in cc
+  down_stays w (Deliver ServerSide n) (Count k) v e r (inl p) = ap (λ (x : Net _ _ _ _). x.down.cut) p.only
+  down_stays w (Deliver ServerSide n) (Count k) v e r (inr p) = ap (λ (x : Net _ _ _ _). x.down.cut) p.only
+  down_stays w (Deliver ClientSide n) (Count k) v e r p = ap (λ (x : Net _ _ _ _). x.down.cut) p.only
+  down_stays w (Carry ClientSide n) (Count k) v e r p = ap (λ (x : Net _ _ _ _). x.down.cut) p.only
+  down_stays w (Carry ServerSide n) (Count k) v e r p = ap (λ (x : Net _ _ _ _). x.down.cut) p.only
+  down_stays w event reply v e r p = first_of (cc, search rules)
+
+  -- A CLEAN STEP LEAVES BOTH PIPES WHOLE, and the server taking.
+  pub stays_open : (w : Net CO CI SO SI) (event : Event) (reply : Reply) (v : Net CO CI SO SI) → is_clean_event event ≡ true → is_clean_reply reply ≡ true → Steps c s seals w event reply v → IsOpen w → IsOpen v
+  stays_open w event reply v e r p o = record { up = up_stays w event reply v e r p ∙ o.up; down = down_stays w event reply v e r p ∙ o.down; takes = takes_stay w event reply v e r p ∙ o.takes }
+
+  pub stay_open : (rules : Rules) (f : ℕ → ℕ) (front : List Entry) (w : Net CO CI SO SI) (rest : List Entry) (v : Net CO CI SO SI) → AreClean rules f front rest → Runs c s seals w rest v → IsOpen w → IsOpen v
+  stay_open rules f front w [] v clean same o = subst IsOpen (sym same) o
+  stay_open rules f front w (e ∷ rest) v clean r o = stay_open rules f (front ++ e ∷ []) r.0 rest v clean.1 r.2 (stays_open w e.event e.reply r.0 clean.0.event_is clean.0.reply_is r.1 o)
+
+  -- ---- what the last four events are
+
+  -- a run is a run up to a place, and one from there on
+  pub record Split (w : Net CO CI SO SI) (front back : List Entry) (v : Net CO CI SO SI) : Type 0 where
+    pub mid : Net CO CI SO SI
+    pub before : Runs c s seals w front mid
+    pub behind : Runs c s seals mid back v
+
+  pub split_at : (w : Net CO CI SO SI) (front back : List Entry) (v : Net CO CI SO SI) → Runs c s seals w (front ++ back) v → Split w front back v
+  split_at w [] back v r = record { mid = w; before = refl; behind = r }
+  split_at w (e ∷ front) back v r = let later = split_at r.0 front back v r.2 in record { mid = later.mid; before = (r.0, r.1, later.before); behind = later.behind }
+
+  pub runs_joined : (w : Net CO CI SO SI) (front : List Entry) (mid : Net CO CI SO SI) (back : List Entry) (v : Net CO CI SO SI) → Runs c s seals w front mid → Runs c s seals mid back v → Runs c s seals w (front ++ back) v
+  runs_joined w [] mid back v same r = subst (λ (x : Net CO CI SO SI). Runs c s seals x back v) same r
+  runs_joined w (e ∷ front) mid back v p r = (p.0, p.1, runs_joined p.0 front mid back v p.2 r)
+
+  -- of a clean trace what stands behind a place is clean there
+  pub clean_behind : (rules : Rules) (f : ℕ → ℕ) (done front back : List Entry) → AreClean rules f done (front ++ back) → AreClean rules f (done ++ front) back
+  clean_behind rules f done [] back clean = subst (λ (t : List Entry). AreClean rules f t back) (sym (append-nil done)) clean
+  clean_behind rules f done (e ∷ front) back clean = subst (λ (t : List Entry). AreClean rules f t back) (append_assoc done (e ∷ []) front) (clean_behind rules f (done ++ e ∷ []) front back clean.1)
+
+  pub clean_front : (rules : Rules) (f : ℕ → ℕ) (done front back : List Entry) → AreClean rules f done (front ++ back) → AreClean rules f done front
+  clean_front rules f done [] back clean = tt
+  clean_front rules f done (e ∷ front) back clean = (clean.0, clean_front rules f (done ++ e ∷ []) front back clean.1)
+
+  -- a pipe that is whole isn't over
+  pub never_over : (p : Pipe) → p.cut ≡ false → is_over p ≡ false
+  never_over p e = rw e refl
+
+  pub heard_whole : {O I : Type 0} (over : Bool) (old new : Connection O I) → over ≡ false → Hears over old new → new ≡ old
+  heard_whole true old new e h = cc
+  heard_whole false old new e h = h
+
+  -- A delivery that replies a count leaves its side alive, and the other side as it was.
+  delivered_up : (w v : Net CO CI SO SI) (n k : ℕ) → IsOpen w → Steps c s seals w (Deliver ServerSide n) (Count k) v → (v.server.connection.failure ≡ None) × (v.client ≡ w.client)
+  delivered_up w v n k o (inl p) = (
+    ap (λ (x : Connection SO SI). x.failure) (heard_whole (is_over (taken_from w.up k)) p.does.mid v.server.connection (never_over (taken_from w.up k) o.up) p.does.hears) ∙ p.does.does.still,
+    ap (λ (x : Net _ _ _ _). x.client) p.only,
+  )
+  delivered_up w v n k o (inr p) = let bad : true ≡ false = sym o.takes ∙ p.drains in cc
+
+  delivered_down : (w v : Net CO CI SO SI) (n k : ℕ) → IsOpen w → Steps c s seals w (Deliver ClientSide n) (Count k) v → (v.client.connection.failure ≡ None) × (v.server ≡ w.server)
+  delivered_down w v n k o p = (
+    ap (λ (x : Connection CO CI). x.failure) (heard_whole (is_over (taken_from w.down k)) p.does.mid v.client.connection (never_over (taken_from w.down k) o.down) p.does.hears) ∙ p.does.does.still,
+    ap (λ (x : Net _ _ _ _). x.server) p.only,
+  )
+
+  last_two : (to : Side) (a b : ℕ) (w x v : Net CO CI SO SI) → IsOpen w → IsOpen x → Steps c s seals w (Deliver to a) (Count 0) x → Steps c s seals x (Deliver (other to) b) (Count 0) v → Lives v
+  last_two ServerSide a b w x v o o2 p q =
+      let one = delivered_up w x a 0 o p in
+      let two = delivered_down x v b 0 o2 q in
+      record { client = two.0; server = ap (λ (y : ServerCore SO SI). y.connection.failure) two.1 ∙ one.0 }
+  last_two ClientSide a b w x v o o2 p q =
+      let one = delivered_down w x a 0 o p in
+      let two = delivered_up x v b 0 o2 q in
+      record { server = two.0; client = ap (λ (y : ClientCore CO CI). y.connection.failure) two.1 ∙ one.0 }
+
+  -- At the end of a clean drained run both sides live.
+  pub lives_at_end : (rules : Rules) (f : ℕ → ℕ) (w : Net CO CI SO SI) (trace : List Entry) (v : Net CO CI SO SI) → IsOpen w → AreClean rules f [] trace → IsDrained trace → Runs c s seals w trace v → Lives v
+  lives_at_end rules f w trace v o clean d run =
+      let last = record { event = Carry d.from d.a; reply = Count 0 } ∷ record { event = Carry (other d.from) d.b; reply = Count 0 } ∷ record { event = Deliver d.to d.c; reply = Count 0 } ∷ record { event = Deliver (other d.to) d.d; reply = Count 0 } ∷ [] in
+      let at = split_at w d.front last v (subst (λ (t : List Entry). Runs c s seals w t v) d.ends run) in
+      let all = subst (λ (t : List Entry). AreClean rules f [] t) d.ends clean in
+      let o0 = stay_open rules f [] w d.front at.mid (clean_front rules f [] d.front last all) at.before o in
+      let four = at.behind in
+      let o1 = stays_open at.mid (Carry d.from d.a) (Count 0) four.0 refl refl four.1 o0 in
+      let o2 = stays_open four.0 (Carry (other d.from) d.b) (Count 0) four.2.0 refl refl four.2.1 o1 in
+      let o3 = stays_open four.2.0 (Deliver d.to d.c) (Count 0) four.2.2.0 refl refl four.2.2.1 o2 in
+      subst Lives (sym four.2.2.2.2) (last_two d.to d.c d.d four.2.0 four.2.2.0 four.2.2.2.0 o2 o3 four.2.2.1 four.2.2.2.1)
+
+pub fresh_open : {CO CI SO SI : Type 0} {c : Halves CO CI} {s : Halves SO SI} {w : Net CO CI SO SI} → IsFresh c s w → IsOpen w
+fresh_open n = record {
+  up = ap (λ (p : Pipe). p.cut) n.up;
+  down = ap (λ (p : Pipe). p.cut) n.down;
+  takes = ap (λ (x : ServerCore _ _). not x.state.draining) n.server;
+}
+
+-- AT EACH PLACE of a clean run that ends drained both sides live, both pipes are whole and the server takes.
+pub lives_at : {CO CI SO SI : Type 0} (c : Halves CO CI) (s : Halves SO SI) (seals : Bool) (w mid v : Net CO CI SO SI) (front back : List Entry) (rules : Rules) (f : ℕ → ℕ) → IsFresh c s w → Runs c s seals w front mid → Runs c s seals mid back v
+    → AreClean rules f [] (front ++ back) → IsDrained (front ++ back) → Lives mid × IsOpen mid
+lives_at c s seals w mid v front back rules f fresh one two clean drained =
+    let o = fresh_open fresh in (
+      lived c s seals mid back v two (lives_at_end c s seals rules f w (front ++ back) v o clean drained (runs_joined c s seals w front mid back v one two)),
+      stay_open c s seals rules f [] w front mid (clean_front c s seals rules f [] front back clean) one o,
+    )

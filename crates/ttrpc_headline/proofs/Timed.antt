@@ -1,0 +1,195 @@
+-- A call that waits has the deadline of its call in the trace. So a moment that reaches no deadline finds none due, and changes
+-- nothing at the client.
+use Rattle.ttrpc_headline.proofs.Keeps.{Keeps}
+use Rattle.ttrpc_story.proofs.Here.{Born, ByCall, ByOpen, Origin, Unborn}
+use Rattle.ttrpc_story.proofs.AtClient.{AtClient}
+use Rattle.ttrpc_story.proofs.Place.{Settings}
+use Rattle.ttrpc_events.specs.Clean.{is_clean_event, is_clean_reply, is_none_of, IsInTime, moment_after, moment_behind, reaches, reaches_at, reaches_one}
+use Rattle.ttrpc_events.specs.Told.{outcomes}
+use Rattle.std.specs.Prelude.{◌&&◌, ◌||◌}
+use Rattle.ttrpc_pair.proofs.Words.{[], ActsAll, ap, arrives, Bool, call_at, CallEvent, calling, cases_eq, Client, ClientCore, ClientEnd, ClientSide, Close, Count, deadline_of, Deliver, Done, DropCall, DropReceiver, DropSender, Entry, Event, Failure, false, Given, Halves, if◌then◌else◌, Incoming, inl, inr, is_some, IsFresh, Item, Landing, landing_of, LandsOn, List, Named, Net, None, OpenEvent, Option, Outcome, Passes, Recv, refl, Refused, Reply, Request, rules, Scene, scene, Send, ServerSide, Some, Steps, subst, sym, Tick, Ticket, true, ℕ, ◌∙◌, ◌∷◌, ◌≡◌, ◌≢◌, ◌⊎◌}
+use Rattle.ttrpc_story.proofs.Words.{Act, acts, Call, Ended, Expired, expired_at, is_due, left_of, Stream, Waiting, with_entry}
+
+-- this is the call of an id, made at such a moment, and this is its deadline
+abbrev pub IsCallOf : ℕ → Option ℕ → ℕ → Event → Reply → Type 0
+IsCallOf k d moment (CallEvent request) (Named id) = (id ≡ k) × (d ≡ deadline_of moment request.timeout_nano)
+IsCallOf k d moment event reply = ⊥
+
+-- it is among these entries, of which the first stands at such a moment
+abbrev pub HasCall : ℕ → Option ℕ → ℕ → List Entry → Type 0
+HasCall k d moment [] = ⊥
+HasCall k d moment (e ∷ es) = IsCallOf k d moment e.event e.reply ⊎ HasCall k d (moment_after moment e.event e.reply) es
+
+pub has_still : (k : ℕ) (d : Option ℕ) (moment : ℕ) (es : List Entry) (event : Event) (reply : Reply) → HasCall k d moment es → HasCall k d moment (with_entry es event reply)
+has_still k d moment [] event reply h = absurd h
+has_still k d moment (e ∷ es) event reply (inl h) = inl h
+has_still k d moment (e ∷ es) event reply (inr h) = inr (has_still k d (moment_after moment e.event e.reply) es event reply h)
+
+pub has_now : (k : ℕ) (d : Option ℕ) (moment : ℕ) (es : List Entry) (event : Event) (reply : Reply) → IsCallOf k d (moment_behind moment es) event reply → HasCall k d moment (with_entry es event reply)
+has_now k d moment [] event reply h = inl h
+has_now k d moment (e ∷ es) event reply h = inr (has_now k d (moment_after moment e.event e.reply) es event reply h)
+
+pub behind_entry : (moment : ℕ) (es : List Entry) (event : Event) (reply : Reply) → moment_behind moment (with_entry es event reply) ≡ moment_after (moment_behind moment es) event reply
+behind_entry moment [] event reply = refl
+behind_entry moment (e ∷ es) event reply = behind_entry (moment_after moment e.event e.reply) es event reply
+
+-- ---- a moment that reaches no deadline
+
+or_false : (a b : Bool) → (a || b) ≡ false → (a ≡ false) × (b ≡ false)
+or_false false b h = (refl, h)
+or_false true b h = cc
+
+and_false : (a b : Bool) → b ≡ true → (a && b) ≡ false → a ≡ false
+and_false false b h e = refl
+and_false true b h e = let bad : true ≡ false = sym h ∙ e in cc
+
+none_is : {X : Type 0} (xs : List X) → xs ≡ [] → is_none_of xs ≡ true
+none_is xs e = rw e refl
+
+reaches_not : (f : ℕ → ℕ) (front : List Entry) (now moment k : ℕ) (d : Option ℕ) (event : Event) (reply : Reply) → IsCallOf k d moment event reply → outcomes (acts f k front) ≡ [] → reaches_at f front now moment event reply ≡ false → reaches now d ≡ false
+reaches_not f front now moment k d (CallEvent request) (Named id) is none h =
+    ap (reaches now) is.1 ∙ and_false (reaches now (deadline_of moment request.timeout_nano)) (is_none_of (outcomes (acts f id front))) (none_is (outcomes (acts f id front)) (ap (λ (i : ℕ). outcomes (acts f i front)) is.0 ∙ none)) h
+reaches_not f front now moment k d event reply is none h = absurd is
+
+pub in_time : (f : ℕ → ℕ) (front : List Entry) (now moment k : ℕ) (d : Option ℕ) (es : List Entry) → HasCall k d moment es → outcomes (acts f k front) ≡ [] → reaches_one f front now moment es ≡ false → reaches now d ≡ false
+in_time f front now moment k d [] is none h = absurd is
+in_time f front now moment k d (e ∷ es) (inl is) none h =
+    reaches_not f front now moment k d e.event e.reply is none (or_false (reaches_at f front now moment e.event e.reply) (reaches_one f front now (moment_after moment e.event e.reply) es) h).0
+in_time f front now moment k d (e ∷ es) (inr has) none h =
+    in_time f front now (moment_after moment e.event e.reply) k d es has none (or_false (reaches_at f front now moment e.event e.reply) (reaches_one f front now (moment_after moment e.event e.reply) es) h).1
+
+-- ---- a call that waits waited before, or was made
+
+left_waits : (failed : Bool) (e : Option Call) (d : Option ℕ) → left_of failed e ≡ Some (Waiting d) → e ≡ Some (Waiting d)
+left_waits failed None d h = cc
+left_waits false (Some (Waiting x)) d h = h
+left_waits true (Some (Waiting x)) d h = cc
+left_waits failed (Some Expired) d h = cc
+left_waits failed (Some (Ended o)) d h = cc
+
+if_waits : (due : Bool) (c : Call) (d : Option ℕ) → Some (if due then Expired else c) ≡ Some (Waiting d) → Some c ≡ Some (Waiting d)
+if_waits false c d h = h
+if_waits true c d h = cc
+
+expired_waits : (now : ℕ) (e : Option Call) (d : Option ℕ) → expired_at now e ≡ Some (Waiting d) → e ≡ Some (Waiting d)
+expired_waits now None d h = cc
+expired_waits now (Some c) d h = if_waits (is_due now c) c d h
+
+landed_waits : (landing : Landing) (e e2 : Option Call) (d : Option ℕ) → LandsOn landing e e2 → e2 ≡ Some (Waiting d) → e ≡ Some (Waiting d)
+landed_waits landing None e2 d l h = sym l ∙ h
+landed_waits landing (Some (Waiting x)) e2 d l h = let bad : Some (Ended l.0) ≡ Some (Waiting d) = sym l.2 ∙ h in cc
+landed_waits landing (Some Expired) e2 d l h = sym l ∙ h
+landed_waits landing (Some (Ended o)) e2 d l h = sym l ∙ h
+
+module _ {CO CI SO SI : Type 0} (c : Halves CO CI) (s : Halves SO SI) (seals : Bool) where
+  passed_waits : (failure : Option Failure) (old : ClientCore CO CI) (now : ℕ) (new : ClientCore CO CI) (k : ℕ) (d : Option ℕ) → Passes seals failure old now new → call_at new.state k ≡ Some (Waiting d) → call_at old.state k ≡ Some (Waiting d)
+  passed_waits None old now new k d p h = expired_waits now (call_at old.state k) d (sym (p.expires.calls k) ∙ h)
+  passed_waits (Some why) old now new k d same h = sym (ap (λ (x : ClientCore CO CI). call_at x.state k) same) ∙ h
+
+  acted_waits : (fs : List Incoming) (old new : Scene Client CO CI) (k : ℕ) (d : Option ℕ) → ActsAll (calling c.out c.in_) 0 old fs new → call_at new.state k ≡ Some (Waiting d) → call_at old.state k ≡ Some (Waiting d)
+  acted_waits [] old new k d same h = sym (ap (λ (x : Scene Client CO CI). call_at x.state k) same) ∙ h
+  acted_waits (f ∷ fs) old new k d acts h =
+      let mid = acted_waits fs acts.0 new k d acts.2 h in
+      let l = acts.1.reacts.lands in
+      let a = arrives f acts.1.opening 0 in
+      let landing : Landing = landing_of a.header a.opening in
+      elim (cases_eq a.header.stream_id k) [
+        | inl e ↦ landed_waits landing (call_at old.state k) (call_at acts.0.state k) d (subst (λ (i : ℕ). LandsOn landing (call_at old.state i) (call_at acts.0.state i)) e l.own) mid
+        | inr e ↦ sym (l.others k (λ same. e (sym same))) ∙ mid
+      ]
+
+  -- what is kept of one id changed so, and nothing else
+  by_rule : (rule : Option Call → Option Call) → ((e : Option Call) (d : Option ℕ) → rule e ≡ Some (Waiting d) → e ≡ Some (Waiting d)) → (old new : Client) (id k : ℕ) (d : Option ℕ) → call_at new id ≡ rule (call_at old id)
+      → ((j : ℕ) → j ≢ id → call_at new j ≡ call_at old j) → call_at new k ≡ Some (Waiting d) → call_at old k ≡ Some (Waiting d)
+  by_rule rule back old new id k d own others h = elim (cases_eq id k) [
+    | inl e ↦ back (call_at old k) d (sym (subst (λ (i : ℕ). call_at new i ≡ rule (call_at old i)) e own) ∙ h)
+    | inr e ↦ sym (others k (λ same. e (sym same))) ∙ h
+  ]
+
+  called_waits : (request : Request) (old new : Client) (moment id k : ℕ) (d : Option ℕ) → call_at new id ≡ Some (Waiting (deadline_of moment request.timeout_nano)) → ((j : ℕ) → j ≢ id → call_at new j ≡ call_at old j) → call_at new k ≡ Some (Waiting d)
+      → (call_at old k ≡ Some (Waiting d)) ⊎ ((id ≡ k) × (d ≡ deadline_of moment request.timeout_nano))
+  called_waits request old new moment id k d own others h = elim (cases_eq id k) [
+    | inl e ↦
+        let same : Some (Waiting (deadline_of moment request.timeout_nano)) ≡ Some (Waiting d) = sym (subst (λ (i : ℕ). call_at new i ≡ Some (Waiting (deadline_of moment request.timeout_nano))) e own) ∙ h in
+        let is : deadline_of moment request.timeout_nano ≡ d = cc in
+        inr (e, sym is)
+    | inr e ↦ inl (sym (others k (λ same. e (sym same))) ∙ h)
+  ]
+
+  same_waits : (old new : ClientCore CO CI) (k : ℕ) (d : Option ℕ) → call_at new.state k ≡ call_at old.state k → call_at new.state k ≡ Some (Waiting d) → call_at old.state k ≡ Some (Waiting d)
+  same_waits old new k d e h = sym e ∙ h
+
+  pub waited : (w : Net CO CI SO SI) (event : Event) (reply : Reply) (v : Net CO CI SO SI) (k : ℕ) (d : Option ℕ) → is_clean_event event ≡ true → is_clean_reply reply ≡ true → Steps c s seals w event reply v
+      → call_at v.client.state k ≡ Some (Waiting d) → (call_at w.client.state k ≡ Some (Waiting d)) ⊎ IsCallOf k d w.moment event reply
+  waited w (CallEvent request) (Named id) v k d e r p h = called_waits request w.client.state v.client.state w.moment id k d p.1.own p.1.others h
+  waited w (Outcome id) (Given given) v k d e r p h = inl (by_rule (left_of (is_some w.client.connection.failure)) (left_waits (is_some w.client.connection.failure)) w.client.state v.client.state id k d p.0.own p.0.others h)
+  waited w (DropCall id) reply v k d e r p h = let bad : false ≡ true = e in cc
+  waited w (Tick now) Done v k d e r p h = inl (passed_waits w.client.connection.failure w.client now v.client k d p.does h)
+  waited w (Deliver ClientSide n) (Count j) v k d e r p h = inl (acted_waits p.does.does.frames (scene w.client.state w.client.connection) (scene v.client.state p.does.mid) k d p.does.does.acts h)
+  waited w (Deliver to n) (Refused told) v k d e r p h = let bad : false ≡ true = r in cc
+  waited w (OpenEvent request up down) (Named id) v k d e r p h = inl (same_waits w.client v.client k d (ap (λ (x : ClientCore CO CI). call_at x.state k) p.1.same) h)
+  waited w (Recv (ClientEnd id)) (Item given) v k d e r p h = inl (same_waits w.client v.client k d (ap (λ (x : ClientCore CO CI). call_at x.state k) p.0.same) h)
+  waited w (Send (ClientEnd id) bytes) (Ticket ticket) v k d e r p h = inl (same_waits w.client v.client k d (ap (λ (x : ClientCore CO CI). call_at x.state k) p.0.same) h)
+  waited w (Close id) (Ticket ticket) v k d e r p h = inl (same_waits w.client v.client k d (ap (λ (x : ClientCore CO CI). call_at x.state k) p.0.same) h)
+  waited w (DropReceiver at) reply v k d e r p h = let bad : false ≡ true = e in cc
+  waited w (DropSender id) reply v k d e r p h = let bad : false ≡ true = e in cc
+  waited w event reply v k d e r p h =
+      let state : v.client.state ≡ w.client.state = first_of (cc, search rules) in
+      inl (same_waits w.client v.client k d (ap (λ (x : Client). call_at x k) state) h)
+
+  moment_goes : (w : Net CO CI SO SI) (event : Event) (reply : Reply) (v : Net CO CI SO SI) → Steps c s seals w event reply v → v.moment ≡ moment_after w.moment event reply
+  moment_goes w (Tick now) Done v p = ap (λ (x : Net CO CI SO SI). x.moment) p.only
+  moment_goes w (Deliver ServerSide n) (Count k) v (inl p) = ap (λ (x : Net CO CI SO SI). x.moment) p.only
+  moment_goes w (Deliver ServerSide n) (Count k) v (inr p) = ap (λ (x : Net CO CI SO SI). x.moment) p.only
+  moment_goes w (Deliver ServerSide n) (Refused told) v (inl p) = ap (λ (x : Net CO CI SO SI). x.moment) p.1
+  moment_goes w (Deliver ServerSide n) (Refused told) v (inr p) = ap (λ (x : Net CO CI SO SI). x.moment) p.1
+  moment_goes w (Deliver ClientSide n) (Refused told) v (inl p) = ap (λ (x : Net CO CI SO SI). x.moment) p.1
+  moment_goes w (Deliver ClientSide n) (Refused told) v (inr p) = ap (λ (x : Net CO CI SO SI). x.moment) p.1
+  moment_goes w event reply v p = first_of (cc, search rules)
+
+  -- THE DEADLINES OF A NET are those of its trace: its moment is the last one that came, and each call that waits has the
+  -- deadline of its call.
+  pub record IsTimed (t : List Entry) (w : Net CO CI SO SI) : Type 0 where
+    pub moment : w.moment ≡ moment_behind 0 t
+    pub calls : (k : ℕ) (d : Option ℕ) → call_at w.client.state k ≡ Some (Waiting d) → HasCall k d 0 t
+
+  -- EACH CLEAN STEP KEEPS THEM.
+  pub timed : (t : List Entry) (w : Net CO CI SO SI) (event : Event) (reply : Reply) (v : Net CO CI SO SI) → is_clean_event event ≡ true → is_clean_reply reply ≡ true → Steps c s seals w event reply v → IsTimed t w → IsTimed (with_entry t event reply) v
+  timed t w event reply v e r p h = record {
+    moment = moment_goes w event reply v p ∙ ap (λ (m : ℕ). moment_after m event reply) h.moment ∙ sym (behind_entry 0 t event reply);
+    calls = λ k d waits. elim (waited w event reply v k d e r p waits) [
+      | inl was ↦ has_still k d 0 t event reply (h.calls k d was)
+      | inr is ↦ has_now k d 0 t event reply (subst (λ (m : ℕ). IsCallOf k d m event reply) h.moment is)
+    ];
+  }
+
+  -- a call that waits has given no outcome
+  waits_ungiven : (k : ℕ) (o : Origin) (a : List Act) (e : Option Call) (st : Option Stream) (d : Option ℕ) → AtClient o a e st → e ≡ Some (Waiting d) → outcomes a ≡ []
+  waits_ungiven k Unborn a e st d h is = h.2
+  waits_ungiven k (Born (ByCall q)) a None st d h is = cc
+  waits_ungiven k (Born (ByCall q)) a (Some (Waiting x)) st d h is = h.0
+  waits_ungiven k (Born (ByCall q)) a (Some Expired) st d h is = cc
+  waits_ungiven k (Born (ByCall q)) a (Some (Ended o)) st d h is = cc
+  waits_ungiven k (Born (ByOpen q up down)) a e st d h is = h.1
+
+  due_reaches : (now : ℕ) (d : Option ℕ) → is_due now (Waiting d) ≡ reaches now d
+  due_reaches now None = refl
+  due_reaches now (Some at) = refl
+
+  -- what isn't due stays
+  undue : (now : ℕ) (e : Option Call) → ((d : Option ℕ) → e ≡ Some (Waiting d) → reaches now d ≡ false) → expired_at now e ≡ e
+  undue now None h = refl
+  undue now (Some (Waiting d)) h = ap (λ (b : Bool). Some (if b then Expired else Waiting d)) (due_reaches now d ∙ h d refl)
+  undue now (Some Expired) h = refl
+  undue now (Some (Ended o)) h = refl
+
+  -- A CLEAN MOMENT FINDS NO CALL DUE.
+  pub none_due : (set : Settings) (f : ℕ → ℕ) (t : List Entry) (w : Net CO CI SO SI) (now : ℕ) → Keeps c s set f t w → IsTimed t w → IsInTime f t (Tick now) Done → (k : ℕ) → expired_at now (call_at w.client.state k) ≡ call_at w.client.state k
+  none_due set f t w now i h clean k = undue now (call_at w.client.state k)
+      (λ d waits. in_time f t now 0 k d t (h.calls k d waits) (waits_ungiven k (i.stories k).origin _ _ _ d (i.stories k).known.client waits) clean)
+
+pub fresh_timed : {CO CI SO SI : Type 0} (c : Halves CO CI) (s : Halves SO SI) (seals : Bool) (w : Net CO CI SO SI) → IsFresh c s w → IsTimed c s seals [] w
+fresh_timed c s seals w n = record {
+  moment = n.moment;
+  calls = λ k d waits. let none : call_at w.client.state k ≡ None = ap (λ (x : ClientCore _ _). call_at x.state k) n.client in let bad : None ≡ Some (Waiting d) = sym none ∙ waits in cc;
+}
