@@ -32,7 +32,7 @@ pub use Rattle.ttrpc_server.specs.declared.rules.Rules.{Rules}
 pub use Rattle.ttrpc_server.specs.declared.rules.Rules.TheVariants.{Async as AsyncRules, Sync as SyncRules}
 pub use Rattle.ttrpc_server.specs.Table.{inlet_by, inlet_in, inlet_of}
 pub use Rattle.ttrpc_server.specs.declared.rows.Inlet.TheVariants.{Taking}
-pub use Rattle.ttrpc_server.specs.State.{brought_by, is_stream, stream_body, with_mail}
+pub use Rattle.ttrpc_server.specs.State.{brought_by, deadline_in, has_method, is_stream, Services, stream_body, with_mail}
 pub use Rattle.ttrpc_server.specs.declared.job.Body.{Body}
 pub use Rattle.ttrpc_server.specs.declared.job.Body.TheVariants.{Stream as StreamBody, Unary as UnaryBody}
 pub use Rattle.ttrpc_client.specs.Protocol.{breaks_with, Brings, BringsBeginning, closing_news, data_news, IsNews, malformed_text, News, news_of, opening_flags, Reaches, ReceivesAt, response_news, unknown_error, unsendable}

@@ -73,7 +73,7 @@ module _ {CO CI SO SI : Type 0} (c : Halves CO CI) (s : Halves SO SI) (seals : B
 
   -- the settings are these
   abbrev pub IsSet : Net CO CI SO SI → Type 0
-  IsSet w = (w.server.state.rules ≡ set.rules) × (safe_limit s.out w.server.connection.outbox.half ≡ set.limit)
+  IsSet w = (w.server.state.rules ≡ set.rules) × (safe_limit s.out w.server.connection.outbox.half ≡ set.limit) × (w.server.state.services ≡ set.services)
 
   -- what it puts in
   abbrev ending : Result (Option Response) Error → Thing

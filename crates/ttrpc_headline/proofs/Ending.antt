@@ -1,5 +1,5 @@
 -- THE FOUR ZEROS: at the end of a clean drained run both queues and both pipes are empty, and nothing is in flight.
-use Rattle.ttrpc_headline.proofs.Headline.{keeps, keeps_all, now_right, Ruled, ruled, fresh, starts_ruled}
+use Rattle.ttrpc_headline.proofs.Headline.{cut_at, keeps, keeps_all, Ruled, ruled, fresh, starts_ruled}
 use Rattle.ttrpc_headline.proofs.Keeps.{Keeps}
 use Rattle.ttrpc_headline.proofs.Living.{clean_front, fresh_open, heard_whole, lives_at_end, lives_back, never_over, stay_open, stays_open}
 use Rattle.ttrpc_headline.proofs.Numbers.{IsRightRun, streams_of}
@@ -131,32 +131,18 @@ module _ {CO CI SO SI : Type 0} (c : Halves CO CI) (s : Halves SO SI) (seals : B
 
 module _ {CO CI SO SI : Type 0} (c : Halves CO CI) (s : Halves SO SI) (seals : Bool) (still : seals ≡ false → (from to : CO) (plain aad sealed : List ℕ) → c.out.seals from plain aad sealed to → to ≡ from)
     (fixed : (x y : SO) (plain aad sealed : List ℕ) → s.out.seals x plain aad sealed y → s.out.overhead y ≡ s.out.overhead x) (set : Settings) (f : ℕ → ℕ) where
-  -- a right run is one up to a place, and one from there on
-  pub record Cut (w : Net CO CI SO SI) (front back : List Entry) (v : Net CO CI SO SI) : Type 0 where
-    pub mid : Net CO CI SO SI
-    pub before : Runs c s seals w front mid
-    pub right : IsRightRun c s seals f w front mid before
-    pub behind : Runs c s seals mid back v
-    pub later : IsRightRun c s seals f mid back v behind
-
-  pub cut_at : (w : Net CO CI SO SI) (front back : List Entry) (v : Net CO CI SO SI) → (r : Runs c s seals w (front ++ back) v) → IsRightRun c s seals f w (front ++ back) v r → Cut w front back v
-  cut_at w [] back v r right = record { mid = w; before = refl; right = now_right c s seals still fixed set f w back v r right; behind = r; later = right }
-  cut_at w (e ∷ front) back v r right =
-      let l = cut_at r.0 front back v r.2 right.1 in
-      record { mid = l.mid; before = (r.0, r.1, l.before); right = (right.0, l.right); behind = l.behind; later = l.later }
-
   ruled_all : (w : Net CO CI SO SI) (rest : List Entry) (v : Net CO CI SO SI) → Runs c s seals w rest v → Ruled c s seals still fixed set f w → Ruled c s seals still fixed set f v
   ruled_all w [] v same u = subst (λ (x : Net CO CI SO SI). Ruled c s seals still fixed set f x) (sym same) u
   ruled_all w (e ∷ rest) v r u = ruled_all r.0 rest v r.2 (ruled c s seals still fixed set f w e.event e.reply r.0 r.1 u)
 
   -- AT THE END NOTHING IS QUEUED AND NOTHING IS IN A PIPE.
-  pub ends_empty : (rules : Rules) (g : ℕ → ℕ) (w : Net CO CI SO SI) (trace : List Entry) (v : Net CO CI SO SI) → IsFresh c s w → Ruled c s seals still fixed set f w
+  pub ends_empty : (set.clean → ⊥) → (rules : Rules) (g : ℕ → ℕ) (w : Net CO CI SO SI) (trace : List Entry) (v : Net CO CI SO SI) → IsFresh c s w → Ruled c s seals still fixed set f w
       → (p : Runs c s seals w trace v) → IsRightRun c s seals f w trace v p → AreClean rules g [] trace → IsDrained trace → IsEmpty v
-  ends_empty rules g w trace v n u p right clean d =
+  ends_empty never rules g w trace v n u p right clean d =
       let last = record { event = Carry d.from d.a; reply = Count 0 } ∷ record { event = Carry (other d.from) d.b; reply = Count 0 } ∷ record { event = Deliver d.to d.c; reply = Count 0 } ∷ record { event = Deliver (other d.to) d.d; reply = Count 0 } ∷ [] in
       let both = subst (λ (t : List Entry). (r : Runs c s seals w t v) × IsRightRun c s seals f w t v r) d.ends (p, right) in
       let all = subst (λ (t : List Entry). AreClean rules g [] t) d.ends clean in
-      let at = cut_at w d.front last v both.0 both.1 in
+      let at = cut_at c s seals still fixed set f w d.front last v both.0 both.1 in
       let t1 = at.behind in
       let t2 = t1.2 in
       let t3 = t2.2 in
@@ -171,13 +157,13 @@ module _ {CO CI SO SI : Type 0} (c : Halves CO CI) (s : Halves SO SI) (seals : B
       let o1 = stays_open c s seals at.mid (Carry d.from d.a) (Count 0) t1.0 refl refl t1.1 o0 in
       let o2 = stays_open c s seals t1.0 (Carry (other d.from) d.b) (Count 0) t2.0 refl refl t2.1 o1 in
       let o3 = stays_open c s seals t2.0 (Deliver d.to d.c) (Count 0) t3.0 refl refl t3.1 o2 in
-      let i0 = keeps_all c s seals still fixed set f [] d.front w at.mid (fresh c s seals still fixed set f w n) u at.before at.right in
+      let i0 = keeps_all c s seals still fixed set f [] d.front w at.mid (fresh c s seals still fixed set f w n) u at.before at.right (λ x. absurd (never x)) in
       let u0 = ruled_all w d.front at.mid at.before u in
-      let i1 = keeps c s seals still fixed set f d.front at.mid (Carry d.from d.a) (Count 0) t1.0 i0 u0 at.later.0 at.later.1.0 t1.1 in
+      let i1 = keeps c s seals still fixed set f d.front at.mid (Carry d.from d.a) (Count 0) t1.0 i0 u0 at.later.0 at.later.1.0 (λ x. absurd (never x)) t1.1 in
       let u1 = ruled c s seals still fixed set f at.mid (Carry d.from d.a) (Count 0) t1.0 t1.1 u0 in
-      let i2 = keeps c s seals still fixed set f _ t1.0 (Carry (other d.from) d.b) (Count 0) t2.0 i1 u1 at.later.1.0 at.later.1.1.0 t2.1 in
+      let i2 = keeps c s seals still fixed set f _ t1.0 (Carry (other d.from) d.b) (Count 0) t2.0 i1 u1 at.later.1.0 at.later.1.1.0 (λ x. absurd (never x)) t2.1 in
       let u2 = ruled c s seals still fixed set f t1.0 (Carry (other d.from) d.b) (Count 0) t2.0 t2.1 u1 in
-      let i3 = keeps c s seals still fixed set f _ t2.0 (Deliver d.to d.c) (Count 0) t3.0 i2 u2 at.later.1.1.0 at.later.1.1.1.0 t3.1 in
+      let i3 = keeps c s seals still fixed set f _ t2.0 (Deliver d.to d.c) (Count 0) t3.0 i2 u2 at.later.1.1.0 at.later.1.1.1.0 (λ x. absurd (never x)) t3.1 in
       let z1 = carry_zero c s seals set f d.from d.front at.mid t1.0 d.a d.some.0 i0 a0 t1.1 in
       let z2 = carry_zero c s seals set f (other d.from) _ t1.0 t2.0 d.b d.some.1 i1 a1 t2.1 in
       let z3 = deliver_zero c s seals set f d.to _ t2.0 t3.0 d.c d.some.2 i2 o2 t3.1 in
@@ -210,5 +196,5 @@ pub empty_at_end : {CO CI SO SI : Type 0} (c : Halves CO CI) (s : Halves SO SI) 
     (w v : Net CO CI SO SI) (trace : List Entry) (rules : Rules) (f : ℕ → ℕ) → IsFresh c s w → Runs c s seals w trace v → AreClean rules f [] trace → IsDrained trace → IsEmpty v
 empty_at_end c s seals still fixed w v trace rules f n p clean d =
     let g = streams_of c s seals w trace v n p in
-    let set : Settings = record { rules = w.server.state.rules; limit = safe_limit s.out w.server.connection.outbox.half } in
-    ends_empty c s seals still fixed set g.f rules f w trace v n (starts_ruled c s seals still fixed set g.f w (refl, refl) n) p g.right clean d
+    let set : Settings = record { rules = w.server.state.rules; services = w.server.state.services; limit = safe_limit s.out w.server.connection.outbox.half; clean = ⊥ } in
+    ends_empty c s seals still fixed set g.f (λ never. never) rules f w trace v n (starts_ruled c s seals still fixed set g.f w (refl, refl, refl) n) p g.right clean d

@@ -1,6 +1,7 @@
 -- THE HEADLINE, for any run from a fresh start: each step keeps the invariant, and the invariant has the headline in it.
 use Rattle.ttrpc_headline.proofs.ByClient.{closed_sends, keeps_ask, keeps_call, keeps_drop, keeps_open, keeps_passes, keeps_recv, keeps_send, keeps_unheard, keeps_unsent}
 use Rattle.ttrpc_headline.proofs.ByServer.{IsSet, keeps_answer, keeps_drain, keeps_end, keeps_finish, keeps_hand, keeps_recv_up, keeps_respond, keeps_send_up, keeps_ticks, keeps_unheard_up}
+use Rattle.ttrpc_headline.proofs.Cleanly.{first_step, fresh_run, front_run, IsCleanRun, IsCleanStep, later_run}
 use Rattle.ttrpc_headline.proofs.Constants.{stepped}
 use Rattle.ttrpc_headline.proofs.Delivers.{IsQuiet}
 use Rattle.ttrpc_headline.proofs.Failing.{ArePlain, fresh_plain, plainly}
@@ -8,6 +9,7 @@ use Rattle.ttrpc_headline.proofs.Keeps.{Keeps, keeps_still}
 use Rattle.ttrpc_headline.proofs.Moves.{break_down, break_up, carry_down, carry_up, client_fails, cut_down, cut_up, deliver_down, deliver_up, server_fails, stay_up}
 use Rattle.ttrpc_headline.proofs.Numbers.{AreRight, fresh_numbers, IsRightRun, Numbers, one_to_one, stream_of_run, streams_of}
 use Rattle.ttrpc_headline.proofs.OneWay.{starts}
+use Rattle.ttrpc_events.specs.Clean.{IsClean, IsDrained}
 use Rattle.ttrpc_events.specs.Told.{IsTold}
 use Rattle.ttrpc_story.proofs.Reading.{nothing_read}
 use Rattle.ttrpc_story.proofs.Place.{Settings}
@@ -23,6 +25,13 @@ module _ {CO CI SO SI : Type 0} (c : Halves CO CI) (s : Halves SO SI) (seals : B
 
   abbrev Right : Net CO CI SO SI → Type 0
   Right w = AreRight f w.server.state.jobs.list
+
+  -- what is right of a step where the whole run is clean, and of what is left of a run
+  abbrev CleanStep : List Entry → Net CO CI SO SI → Event → Reply → Net CO CI SO SI → Type 0
+  CleanStep trace w event reply v = IsCleanStep c s seals set.rules f trace w event reply v
+
+  abbrev pub CleanRun : List Entry → Net CO CI SO SI → List Entry → Net CO CI SO SI → Type 0
+  CleanRun before w rest v = IsCleanRun c s seals set.rules f before w rest v
 
   -- the settings are these, and no side has failed so that it is an end
   pub record Ruled (w : Net CO CI SO SI) : Type 0 where
@@ -53,59 +62,60 @@ module _ {CO CI SO SI : Type 0} (c : Halves CO CI) (s : Halves SO SI) (seals : B
       (keeps_ticks c s seals set f trace w.server.state.rules w.server.connection.failure x now v.server refl (keeps_passes c s seals still set f trace w now v.client w.client.connection.failure i p.does) p.serves)))
 
   -- EACH STEP KEEPS IT, where the function is right before it and behind it.
-  pub keeps : (trace : List Entry) (w : Net CO CI SO SI) (event : Event) (reply : Reply) (v : Net CO CI SO SI) → Kept trace w → Ruled w → Right w → Right v → Steps c s seals w event reply v → Kept (with_entry trace event reply) v
-  keeps trace w (CallEvent request) (Named id) v i u r r2 p = along _ _ v p.2 (keeps_call c s seals still set f trace w request id v i p.0 p.1)
-  keeps trace w (OpenEvent request up down) (Named id) v i u r r2 p = along _ _ v p.2 (keeps_open c s seals still set f trace w request up down id v i p.0 p.1)
-  keeps trace w (Outcome id) (Given outcome) v i u r r2 p = along _ _ v p.1 (keeps_ask c s seals still set f trace w id outcome v i p.0)
-  keeps trace w (DropCall id) Done v i u r r2 p = along _ _ v p.only (keeps_drop c s seals still set f trace w id v i p)
-  keeps trace w (Recv (ClientEnd id)) (Item given) v i u r r2 p = along _ _ v p.1 (keeps_recv c s seals still set f trace w id given v i u.plain.client p.0)
-  keeps trace w (Recv (ServerEnd id)) (Item given) v i u r r2 p = along _ _ v p.1 (keeps_recv_up c s seals set f trace w id given v.server i r u.plain.server p.0)
-  keeps trace w (Send (ClientEnd id) item) (Ticket ticket) v i u r r2 p = along _ _ v p.1 (keeps_send c s seals still set f trace w (Send (ClientEnd id) item) (Ticket ticket) id _ _ _ _ v (SentUp item) (ThingItem item) i (omega arith) p.0 (λ k. (refl, refl)) (item_put item) refl (λ e. refl))
-  keeps trace w (Send (ServerEnd id) item) (Ticket ticket) v i u r r2 p = along _ _ v p.1 (keeps_send_up c s seals set f trace w id item ticket v.server i r p.0)
-  keeps trace w (Close id) (Ticket ticket) v i u r r2 p = along _ _ v p.1 (keeps_send c s seals still set f trace w (Close id) (Ticket ticket) id _ _ _ _ v ClosedUp ThingEnd i (omega arith) p.0 (λ k. (refl, refl)) close_put refl (λ e. absurd (closed_sends (stream_at w.client.state id) e)))
-  keeps trace w (DropReceiver (ClientEnd id)) Done v i u r r2 p = along _ _ v p.1 (keeps_unheard c s seals still set f trace w id v i p.0)
-  keeps trace w (DropReceiver (ServerEnd id)) Done v i u r r2 p = along _ _ v p.1 (keeps_unheard_up c s seals set f trace w id i)
-  keeps trace w (DropSender id) Done v i u r r2 p = along _ _ v p.1 (keeps_unsent c s seals still set f trace w id v i p.0)
-  keeps trace w Take (Handed (Some job)) v i u r r2 p = along _ _ v p.1 (keeps_hand c s seals set f trace w job v i p.0)
-  keeps trace w (Answer id result) Done v i u r r2 p = along _ _ v p.1 (keeps_answer c s seals set f trace w id result v.server i u.is_set r p.0 p.2)
-  keeps trace w (Respond id response) Done v i u r r2 p = along _ _ v p.only (keeps_respond c s seals set f trace w id response v i u.is_set r p)
-  keeps trace w (Finish id) Done v i u r r2 p = along _ _ v p.1 (keeps_finish c s seals set f trace w id v.server i p.0)
-  keeps trace w (EndStream id result) Done v i u r r2 p = along _ _ v p.1 (keeps_end c s seals set f trace w id result v.server i u.is_set r p.0 p.2)
-  keeps trace w Drain Done v i u r r2 p = along _ _ v p (keeps_drain c s seals set f trace w i)
-  keeps trace w (Tick now) Done v i u r r2 p = ticks trace w now v i p
-  keeps trace w (Carry ClientSide n) (Count k) v i u r r2 p = carry_up c s seals set f _ w n k v (quietly trace w (Carry ClientSide n) (Count k) (λ j. (refl, refl)) i) p
-  keeps trace w (Carry ServerSide n) (Count k) v i u r r2 p = carry_down c s seals set f _ w n k v (quietly trace w (Carry ServerSide n) (Count k) (λ j. (refl, refl)) i) p
-  keeps trace w (Deliver ServerSide n) (Count k) v i u r r2 (inl p) = deliver_up c s seals set f _ w n k v (quietly trace w (Deliver ServerSide n) (Count k) (λ j. (refl, refl)) i) u.is_set.0 r2 p
-  keeps trace w (Deliver ServerSide n) (Count k) v i u r r2 (inr p) = stay_up c s seals set f _ w k v (quietly trace w (Deliver ServerSide n) (Count k) (λ j. (refl, refl)) i) p
-  keeps trace w (Deliver ServerSide n) (Refused told) v i u r r2 (inl p) = break_up c s seals set f _ w n told v (quietly trace w (Deliver ServerSide n) (Refused told) (λ j. (refl, refl)) i) u.is_set.0 r2 p.0 p.1
-  keeps trace w (Deliver ServerSide n) (Refused told) v i u r r2 (inr p) = same trace w (Deliver ServerSide n) (Refused told) v (λ k. (refl, refl)) i p.1
-  keeps trace w (Deliver ClientSide n) (Count k) v i u r r2 p = deliver_down c s seals set f _ w n k v (quietly trace w (Deliver ClientSide n) (Count k) (λ j. (refl, refl)) i) p
-  keeps trace w (Deliver ClientSide n) (Refused told) v i u r r2 (inl p) = break_down c s seals set f _ w n told v (quietly trace w (Deliver ClientSide n) (Refused told) (λ j. (refl, refl)) i) p.0 p.1
-  keeps trace w (Deliver ClientSide n) (Refused told) v i u r r2 (inr p) = same trace w (Deliver ClientSide n) (Refused told) v (λ k. (refl, refl)) i p.1
-  keeps trace w (Cut ServerSide keep) Done v i u r r2 p = cut_up c s seals set f _ w keep v (quietly trace w (Cut ServerSide keep) Done (λ k. (refl, refl)) i) p
-  keeps trace w (Cut ClientSide keep) Done v i u r r2 p = cut_down c s seals set f _ w keep v (quietly trace w (Cut ClientSide keep) Done (λ k. (refl, refl)) i) p
-  keeps trace w (Fail ClientSide) Done v i u r r2 p =
+  pub keeps : (trace : List Entry) (w : Net CO CI SO SI) (event : Event) (reply : Reply) (v : Net CO CI SO SI) → Kept trace w → Ruled w → Right w → Right v → (set.clean → CleanStep trace w event reply v) → Steps c s seals w event reply v → Kept (with_entry trace event reply) v
+  keeps trace w (CallEvent request) (Named id) v i u r r2 z p = along _ _ v p.2 (keeps_call c s seals still set f trace w request id v i p.0 p.1)
+  keeps trace w (OpenEvent request up down) (Named id) v i u r r2 z p = along _ _ v p.2 (keeps_open c s seals still set f trace w request up down id v i p.0 p.1)
+  keeps trace w (Outcome id) (Given outcome) v i u r r2 z p = along _ _ v p.1 (keeps_ask c s seals still set f trace w id outcome v i p.0)
+  keeps trace w (DropCall id) Done v i u r r2 z p = along _ _ v p.only (keeps_drop c s seals still set f trace w id v i p)
+  keeps trace w (Recv (ClientEnd id)) (Item given) v i u r r2 z p = along _ _ v p.1 (keeps_recv c s seals still set f trace w id given v i u.plain.client p.0)
+  keeps trace w (Recv (ServerEnd id)) (Item given) v i u r r2 z p = along _ _ v p.1 (keeps_recv_up c s seals set f trace w id given v.server i r u.plain.server p.0)
+  keeps trace w (Send (ClientEnd id) item) (Ticket ticket) v i u r r2 z p = along _ _ v p.1 (keeps_send c s seals still set f trace w (Send (ClientEnd id) item) (Ticket ticket) id _ _ _ _ v (SentUp item) (ThingItem item) i (omega arith) p.0 (λ k. (refl, refl)) (item_put item) refl (λ e. refl))
+  keeps trace w (Send (ServerEnd id) item) (Ticket ticket) v i u r r2 z p = along _ _ v p.1 (keeps_send_up c s seals set f trace w id item ticket v.server i r p.0)
+  keeps trace w (Close id) (Ticket ticket) v i u r r2 z p = along _ _ v p.1 (keeps_send c s seals still set f trace w (Close id) (Ticket ticket) id _ _ _ _ v ClosedUp ThingEnd i (omega arith) p.0 (λ k. (refl, refl)) close_put refl (λ e. absurd (closed_sends (stream_at w.client.state id) e)))
+  keeps trace w (DropReceiver (ClientEnd id)) Done v i u r r2 z p = along _ _ v p.1 (keeps_unheard c s seals still set f trace w id v i p.0)
+  keeps trace w (DropReceiver (ServerEnd id)) Done v i u r r2 z p = along _ _ v p.1 (keeps_unheard_up c s seals set f trace w id i)
+  keeps trace w (DropSender id) Done v i u r r2 z p = along _ _ v p.1 (keeps_unsent c s seals still set f trace w id v i p.0)
+  keeps trace w Take (Handed (Some job)) v i u r r2 z p = along _ _ v p.1 (keeps_hand c s seals set f trace w job v i p.0)
+  keeps trace w (Answer id result) Done v i u r r2 z p = along _ _ v p.1 (keeps_answer c s seals set f trace w id result v.server i u.is_set r p.0 p.2)
+  keeps trace w (Respond id response) Done v i u r r2 z p = along _ _ v p.only (keeps_respond c s seals set f trace w id response v i u.is_set r p)
+  keeps trace w (Finish id) Done v i u r r2 z p = along _ _ v p.1 (keeps_finish c s seals set f trace w id v.server i p.0)
+  keeps trace w (EndStream id result) Done v i u r r2 z p = along _ _ v p.1 (keeps_end c s seals set f trace w id result v.server i u.is_set r p.0 p.2)
+  keeps trace w Drain Done v i u r r2 z p = along _ _ v p (keeps_drain c s seals set f trace w i)
+  keeps trace w (Tick now) Done v i u r r2 z p = ticks trace w now v i p
+  keeps trace w (Carry ClientSide n) (Count k) v i u r r2 z p = carry_up c s seals set f _ w n k v (quietly trace w (Carry ClientSide n) (Count k) (λ j. (refl, refl)) i) p
+  keeps trace w (Carry ServerSide n) (Count k) v i u r r2 z p = carry_down c s seals set f _ w n k v (quietly trace w (Carry ServerSide n) (Count k) (λ j. (refl, refl)) i) p
+  keeps trace w (Deliver ServerSide n) (Count k) v i u r r2 z (inl p) = deliver_up c s seals set f _ w n k v (quietly trace w (Deliver ServerSide n) (Count k) (λ j. (refl, refl)) i) u.is_set.0 r2 p
+  keeps trace w (Deliver ServerSide n) (Count k) v i u r r2 z (inr p) = stay_up c s seals set f _ w k v (quietly trace w (Deliver ServerSide n) (Count k) (λ j. (refl, refl)) i) p
+  keeps trace w (Deliver ServerSide n) (Refused told) v i u r r2 z (inl p) = break_up c s seals set f _ w n told v (quietly trace w (Deliver ServerSide n) (Refused told) (λ j. (refl, refl)) i) u.is_set.0 r2 p.0 p.1
+  keeps trace w (Deliver ServerSide n) (Refused told) v i u r r2 z (inr p) = same trace w (Deliver ServerSide n) (Refused told) v (λ k. (refl, refl)) i p.1
+  keeps trace w (Deliver ClientSide n) (Count k) v i u r r2 z p = deliver_down c s seals set f _ w n k v (quietly trace w (Deliver ClientSide n) (Count k) (λ j. (refl, refl)) i) p
+  keeps trace w (Deliver ClientSide n) (Refused told) v i u r r2 z (inl p) = break_down c s seals set f _ w n told v (quietly trace w (Deliver ClientSide n) (Refused told) (λ j. (refl, refl)) i) p.0 p.1
+  keeps trace w (Deliver ClientSide n) (Refused told) v i u r r2 z (inr p) = same trace w (Deliver ClientSide n) (Refused told) v (λ k. (refl, refl)) i p.1
+  keeps trace w (Cut ServerSide keep) Done v i u r r2 z p = cut_up c s seals set f _ w keep v (quietly trace w (Cut ServerSide keep) Done (λ k. (refl, refl)) i) p
+  keeps trace w (Cut ClientSide keep) Done v i u r r2 z p = cut_down c s seals set f _ w keep v (quietly trace w (Cut ClientSide keep) Done (λ k. (refl, refl)) i) p
+  keeps trace w (Fail ClientSide) Done v i u r r2 z p =
       along _ _ v p (client_fails c s seals set f (with_entry trace (Fail ClientSide) Done) w (Told failed_by_hand) (quietly trace w (Fail ClientSide) Done (λ k. (refl, refl)) i))
-  keeps trace w (Fail ServerSide) Done v i u r r2 p =
+  keeps trace w (Fail ServerSide) Done v i u r r2 z p =
       along _ _ v p (server_fails c s seals set f (with_entry trace (Fail ServerSide) Done) w (Told failed_by_hand) (quietly trace w (Fail ServerSide) Done (λ k. (refl, refl)) i))
-  keeps trace w event reply v i u r r2 p = same trace w event reply v (λ k. (refl, refl)) i (first_of (assumption, cc, search rules))
+  keeps trace w event reply v i u r r2 z p = same trace w event reply v (λ k. (refl, refl)) i (first_of (assumption, cc, search rules))
 
   -- the settings stay, and no step fails a side so that it is an end
   pub ruled : (w : Net CO CI SO SI) (event : Event) (reply : Reply) (v : Net CO CI SO SI) → Steps c s seals w event reply v → Ruled w → Ruled v
   ruled w event reply v p u =
       let stays = stepped c s seals fixed w event reply v p in
-      record { is_set = (stays.rules ∙ u.is_set.0, stays.limit ∙ u.is_set.1); plain = plainly c s seals w event reply v p u.plain }
+      record { is_set = (stays.rules ∙ u.is_set.0, stays.limit ∙ u.is_set.1, stays.services ∙ u.is_set.2); plain = plainly c s seals w event reply v p u.plain }
 
   -- right at the first state of what is left of a run
   pub now_right : (w : Net CO CI SO SI) (rest : List Entry) (v : Net CO CI SO SI) → (p : Runs c s seals w rest v) → IsRightRun c s seals f w rest v p → Right w
   now_right w [] v p right = right
   now_right w (e ∷ rest) v p right = right.0
 
-  pub keeps_all : (before rest : List Entry) (w v : Net CO CI SO SI) → Kept before w → Ruled w → (p : Runs c s seals w rest v) → IsRightRun c s seals f w rest v p → Kept (before ++ rest) v
-  keeps_all before [] w v i u p right = subst (λ (t : List Entry). Keeps c s set f t v) (sym (append-nil before)) (along before w v p i)
-  keeps_all before (e ∷ rest) w v i u p right =
+  pub keeps_all : (before rest : List Entry) (w v : Net CO CI SO SI) → Kept before w → Ruled w → (p : Runs c s seals w rest v) → IsRightRun c s seals f w rest v p → (set.clean → CleanRun before w rest v) → Kept (before ++ rest) v
+  keeps_all before [] w v i u p right z = subst (λ (t : List Entry). Keeps c s set f t v) (sym (append-nil before)) (along before w v p i)
+  keeps_all before (e ∷ rest) w v i u p right z =
       subst (λ (t : List Entry). Keeps c s set f t v) (append_assoc before (e ∷ []) rest)
-      (keeps_all (before ++ e ∷ []) rest p.0 v (keeps before w e.event e.reply p.0 i u right.0 (now_right p.0 rest v p.2 right.1) p.1) (ruled w e.event e.reply p.0 p.1 u) p.2 right.1)
+      (keeps_all (before ++ e ∷ []) rest p.0 v (keeps before w e.event e.reply p.0 i u right.0 (now_right p.0 rest v p.2 right.1) (λ clean. first_step c s seals set.rules f before w e rest v (z clean) p) p.1) (ruled w e.event e.reply p.0 p.1 u) p.2 right.1
+      (λ clean. later_run c s seals set.rules f before w e rest v (z clean) p))
 
   -- it holds at the start
   pub fresh : (w : Net CO CI SO SI) → IsFresh c s w → Kept [] w
@@ -142,37 +152,41 @@ module _ {CO CI SO SI : Type 0} (c : Halves CO CI) (s : Halves SO SI) (seals : B
   pub starts_ruled : (w : Net CO CI SO SI) → IsSet c s seals set f [] w → IsFresh c s w → Ruled w
   starts_ruled w is n = record { is_set = is; plain = fresh_plain n }
 
-  -- A front of a run is a run, and the function is right there, too.
-  record Fronts (w : Net CO CI SO SI) (front : List Entry) : Type 0 where
-    mid : Net CO CI SO SI
-    run : Runs c s seals w front mid
-    right : IsRightRun c s seals f w front mid run
+  -- A right run is one up to a place, and one from there on.
+  pub record Parts (w : Net CO CI SO SI) (front back : List Entry) (v : Net CO CI SO SI) : Type 0 where
+    pub mid : Net CO CI SO SI
+    pub before : Runs c s seals w front mid
+    pub right : IsRightRun c s seals f w front mid before
+    pub behind : Runs c s seals mid back v
+    pub later : IsRightRun c s seals f mid back v behind
 
-  front_of : (w : Net CO CI SO SI) (front back : List Entry) (v : Net CO CI SO SI) → (p : Runs c s seals w (front ++ back) v) → IsRightRun c s seals f w (front ++ back) v p → Fronts w front
-  front_of w [] back v p right = record { mid = w; run = refl; right = now_right w back v p right }
-  front_of w (e ∷ front) back v p right = let later = front_of p.0 front back v p.2 right.1 in record { mid = later.mid; run = (p.0, p.1, later.run); right = (right.0, later.right) }
+  pub cut_at : (w : Net CO CI SO SI) (front back : List Entry) (v : Net CO CI SO SI) → (p : Runs c s seals w (front ++ back) v) → IsRightRun c s seals f w (front ++ back) v p → Parts w front back v
+  cut_at w [] back v p right = record { mid = w; before = refl; right = now_right w back v p right; behind = p; later = right }
+  cut_at w (e ∷ front) back v p right = let l = cut_at p.0 front back v p.2 right.1 in record { mid = l.mid; before = (p.0, p.1, l.before); right = (right.0, l.right); behind = l.behind; later = l.later }
 
   -- AT EACH PLACE the items of each id are in order.
-  in_order : (w : Net CO CI SO SI) (trace : List Entry) (v : Net CO CI SO SI) → IsFresh c s w → Ruled w → (p : Runs c s seals w trace v) → IsRightRun c s seals f w trace v p
+  in_order : (w : Net CO CI SO SI) (trace : List Entry) (v : Net CO CI SO SI) → IsFresh c s w → Ruled w → (p : Runs c s seals w trace v) → IsRightRun c s seals f w trace v p → (set.clean → CleanRun [] w trace v)
       → (front back : List Entry) → trace ≡ front ++ back → (id : ℕ) → AreInOrder set.rules set.limit (flows f id front)
-  in_order w trace v n u p right front back is id =
+  in_order w trace v n u p right z front back is id =
       let both = subst (λ (t : List Entry). (r : Runs c s seals w t v) × IsRightRun c s seals f w t v r) is (p, right) in
-      let at = front_of w front back v both.0 both.1 in
-      in_order_here ((keeps_all [] front w at.mid (fresh w n) u at.run at.right).stories id)
+      let at = cut_at w front back v both.0 both.1 in
+      in_order_here ((keeps_all [] front w at.mid (fresh w n) u at.before at.right
+      (λ clean. front_run c s seals set.rules f [] w front back at.mid v at.behind (subst (λ (t : List Entry). CleanRun [] w t v) is (z clean)))).stories id)
 
 pub told : {CO CI SO SI : Type 0} (c : Halves CO CI) (s : Halves SO SI) (seals : Bool) (still : seals ≡ false → (from to : CO) (plain aad sealed : List ℕ) → c.out.seals from plain aad sealed to → to ≡ from)
     (fixed : (x y : SO) (plain aad sealed : List ℕ) → s.out.seals x plain aad sealed y → s.out.overhead y ≡ s.out.overhead x)
     (w v : Net CO CI SO SI) (trace : List Entry) → IsFresh c s w → Runs c s seals w trace v → (stream_of : ℕ → ℕ) × IsTold w.server.state.rules (safe_limit s.out w.server.connection.outbox.half) stream_of trace
 told c s seals still fixed w v trace n p =
     let g = streams_of c s seals w trace v n p in
-    let set : Settings = record { rules = w.server.state.rules; limit = safe_limit s.out w.server.connection.outbox.half } in
-    let u = starts_ruled c s seals still fixed set g.f w (refl, refl) n in
-    let i = keeps_all c s seals still fixed set g.f [] trace w v (fresh c s seals still fixed set g.f w n) u p g.right in (
+    let set : Settings = record { rules = w.server.state.rules; services = w.server.state.services; limit = safe_limit s.out w.server.connection.outbox.half; clean = IsClean w.server.state.rules g.f trace × IsDrained trace } in
+    let u = starts_ruled c s seals still fixed set g.f w (refl, refl, refl) n in
+    let z : set.clean → IsCleanRun c s seals set.rules g.f [] w trace v = λ clean. fresh_run c s seals set.rules g.f w trace v n clean.0 clean.1 p in
+    let i = keeps_all c s seals still fixed set g.f [] trace w v (fresh c s seals still fixed set g.f w n) u p g.right z in (
       g.f,
       record {
         agrees = stream_of_run c s seals g.f w trace v p g.right;
         one_to_one = one_to_one g.f v.server.state.jobs.last i.numbers.low i.numbers.rise g.zero_ g.beyond i.numbers.within;
         exactly_once = λ id. exactly_once (i.stories id);
-        in_order = in_order c s seals still fixed set g.f w trace v n u p g.right;
+        in_order = in_order c s seals still fixed set g.f w trace v n u p g.right z;
       },
     )

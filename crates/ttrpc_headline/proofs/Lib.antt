@@ -14,6 +14,7 @@ pub mod Headline
 pub mod Running
 pub mod Constants
 pub mod Living
+pub mod Cleanly
 pub mod Ending
 pub mod Timed
 pub mod Behind

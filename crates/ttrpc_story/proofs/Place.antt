@@ -1,6 +1,6 @@
 -- One id: both sides of it, its items both ways, how it comes to be used, and what frames that come to the server do to it. What
 -- an event isn't about stays.
-use Rattle.ttrpc_story.proofs.Words.{[], Act, ActiveJob, AllByRecursion, ap, append-nil, asked_by, Bool, brought_by, Call, false, Flow, Flying, heard_down, heard_down_append, heard_up, heard_up_append, inl, inr, is_stream, last_id, List, map, nat_eq, None, Open, Option, outcomes, put_down, put_down_append, put_up, put_up_append, refl, Request, Rules, Some, StaysFound, Stream, subst, sym, Thing, true, with_mail, Word, work, ℕ, ◌%◌, ◌++◌, ◌∙◌, ◌∷◌, ◌≡◌, ◌≤◌, ◌⊎◌, inlet_by, inlet_in, inlet_of, Taking, AsyncRules, SyncRules, Body, UnaryBody, StreamBody}
+use Rattle.ttrpc_story.proofs.Words.{[], Act, ActiveJob, AllByRecursion, ap, append-nil, asked_by, Bool, brought_by, Call, false, Flow, Flying, heard_down, heard_down_append, heard_up, heard_up_append, inl, inr, is_stream, last_id, List, map, nat_eq, None, Open, Option, outcomes, put_down, put_down_append, put_up, put_up_append, refl, Request, Rules, Services, Some, StaysFound, Stream, subst, sym, Thing, true, with_mail, Word, work, ℕ, ◌%◌, ◌++◌, ◌∙◌, ◌∷◌, ◌≡◌, ◌≤◌, ◌⊎◌, inlet_by, inlet_in, inlet_of, Taking, AsyncRules, SyncRules, Body, UnaryBody, StreamBody}
 use Rattle.ttrpc_story.proofs.Here.{Asking, Birth, Born, ByCall, ByOpen, first_act, first_flow, Here, Idle, IsAnswer, jobs_of, Left, no_cons, Origin, Over, request_of, Runs, Unborn, ups_of, Waits, Work, works_of}
 use Rattle.ttrpc_story.proofs.AtServer.{AreItems, AtServer, concludes, goes_on, is_over, IsDown, IsJob, IsNever, IsSent, IsWork, mapped, maps, MayHave, moves, never_downs, stays, unanswered, same_over}
 use Rattle.ttrpc_story.proofs.AtClient.{AtClient, IsBegun}
@@ -10,13 +10,16 @@ use Rattle.ttrpc_story.proofs.AtClient as client
 use Rattle.ttrpc_story.proofs.Upward as upward
 use Rattle.ttrpc_story.proofs.Downward as downward
 
--- what stays in a run: the server's rules, and the limit of what its half may seal
-pub record Settings : Type 0 where
+-- What stays in a run: the server's rules and its services, the limit of what its half may seal, and whether the whole run is
+-- clean, as whoever tells of it means that.
+pub record Settings : Type 1 where
   pub rules : Rules
+  pub services : Services
   pub limit : ℕ
+  pub clean : Type 0
 
 -- WHAT IS AROUND AN ID: these settings, which jobs had their response, and the client's next id.
-pub record Around : Type 0 where
+pub record Around : Type 1 where
   pub set : Settings
   pub had : ℕ → Bool
   pub next : ℕ
@@ -43,7 +46,7 @@ pub record Place (w : Around) (k : ℕ) (h : Here) : Type 0 where
   pub known : Known w k h origin so_far
 
 -- what is around may change so: no id is taken back, and no response; the settings stay
-pub record Later (w w2 : Around) (k : ℕ) : Type 0 where
+pub record Later (w w2 : Around) (k : ℕ) : Type 1 where
   pub set : w2.set ≡ w.set
   pub young : w2.next ≤ k → w.next ≤ k
   pub had : (i : ℕ) → w.had i ≡ true → w2.had i ≡ true
