@@ -10,7 +10,7 @@ with_entry trace event reply = trace ++ record { event = event; reply = reply } 
 abbrev pub said : {X : Type 0} → (Event → Reply → List X) → List Entry → List X
 said says trace = flat_map (λ (e : Entry). says e.event e.reply) trace
 
-said_then : {X : Type 0} (says : Event → Reply → List X) (trace : List Entry) (event : Event) (reply : Reply) → said says (with_entry trace event reply) ≡ said says trace ++ says event reply
+pub said_then : {X : Type 0} (says : Event → Reply → List X) (trace : List Entry) (event : Event) (reply : Reply) → said says (with_entry trace event reply) ≡ said says trace ++ says event reply
 said_then says [] event reply = append-nil (says event reply)
 said_then says (e ∷ trace) event reply =
     ap (λ xs. says e.event e.reply ++ xs) (said_then says trace event reply) ∙ sym (append_assoc (says e.event e.reply) (said says trace) (says event reply))
@@ -78,6 +78,11 @@ pub outcomes_append : (a b : List Act) → outcomes (a ++ b) ≡ outcomes a ++ o
 outcomes_append [] b = refl
 outcomes_append (Gave outcome ∷ a) b = ap (λ xs. outcome ∷ xs) (outcomes_append a b)
 outcomes_append (act ∷ a) b = outcomes_append a b
+
+pub calls_append : (a b : List Act) → calls (a ++ b) ≡ calls a ++ calls b
+calls_append [] b = refl
+calls_append (Called request ∷ a) b = ap (λ xs. request ∷ xs) (calls_append a b)
+calls_append (act ∷ a) b = calls_append a b
 
 pub calls_work : (a : List Act) → calls a ≡ calls (work a)
 calls_work [] = refl

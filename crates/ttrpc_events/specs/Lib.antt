@@ -3,3 +3,4 @@ pub mod Trace
 pub mod Flows
 pub mod Told
 pub mod Clean
+pub mod Headline

@@ -5,10 +5,8 @@ use Rattle.std.specs.Prelude.{◌≡◌, ◌≤◌, ℕ, List, [], ◌∷◌, �
 use Rattle.ttrpc_proto.specs.declared.status.Status.{Status}
 use Rattle.ttrpc_proto.specs.Messages.{is_ok_code}
 use Rattle.ttrpc_server.specs.State.{without_payload}
-use Rattle.ttrpc_server.specs.declared.rules.Rules.{Rules}
-use Rattle.ttrpc_events.specs.Types.{Error, Request, Response, Entry}
-use Rattle.ttrpc_events.specs.Trace.{Act, Called, Opened, Ran, Answered, Gave, acts, IsOneToOne, IsStreamOf}
-use Rattle.ttrpc_events.specs.Flows.{AreInOrder, flows}
+use Rattle.ttrpc_events.specs.Types.{Error, Request, Response}
+use Rattle.ttrpc_events.specs.Trace.{Act, Called, Opened, Ran, Answered, Gave}
 
 -- ---- parts of a story
 
@@ -64,13 +62,3 @@ pub record IsExactlyOnce (xs : List Act) : Type 0 where
   pub whole : (r : Response) → outcomes xs ≡ Ok r ∷ []
       → HasOkStatus r.status × ((request : Request) × (job : ℕ) × (stream : Bool)
       × (xs ≡ Called request ∷ Ran job stream (asked_by stream request) ∷ Answered stream (Ok (Some r)) ∷ Gave (Ok r) ∷ []))
-
--- THE HEADLINE, for a whole trace, under one function that gives each job its stream: it is right for each job that was
--- handed out, no two jobs have the same, and each call has at most one outcome, an `Ok` being the answer of its one run. At
--- each place of the trace the items that a receiver was given are a beginning of those that were put in, and an end comes
--- behind all of them. What a client is told of an answer is by the server's rules and the limit of what it may seal.
-pub record IsTold (rules : Rules) (limit : ℕ) (stream_of : ℕ → ℕ) (trace : List Entry) : Type 0 where
-  pub agrees : IsStreamOf stream_of trace
-  pub one_to_one : IsOneToOne stream_of
-  pub exactly_once : (id : ℕ) → IsExactlyOnce (acts stream_of id trace)
-  pub in_order : (front back : List Entry) → trace ≡ front ++ back → (id : ℕ) → AreInOrder rules limit (flows stream_of id front)

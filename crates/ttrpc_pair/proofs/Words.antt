@@ -15,7 +15,7 @@ pub use Rattle.ttrpc_server.specs.declared.job.Job.{Job}
 pub use Rattle.ttrpc_server.specs.declared.server.ServerCore.{ServerCore}
 pub use Rattle.ttrpc_server.proofs.Streams.{row_elsewhere, row_made, rules_stay, stream_id_of}
 pub use Rattle.ttrpc_server.proofs.Words.{Answers, Does, Drops, EndsOne, has_method, IsTaken, IsUnknown, JobList, jobs_at, MakeJob, new_job, Request, request_row, Responds, Response, response_bytes, response_size, Row, row_of, Server, serving, status_response, SendResponse}
-pub use Rattle.ttrpc_server.specs.Protocol.{AnswersError, drained, ExpireAll, Finishes, fit_to_message, fitted, Hands, IsErrorResponse, limit_text, SendsOwnAnswer, timeout_response}
+pub use Rattle.ttrpc_server.specs.Protocol.{AnswersError, drained, due_jobs, ExpireAll, Finishes, fit_to_message, fitted, Hands, is_due, IsErrorResponse, IsSentFor, limit_text, SendsOwnAnswer, timeout_response}
 pub use Rattle.ttrpc_server.specs.Protocol.{Passes as ServerPasses, Ticks as ServerTicks}
 pub use Rattle.ttrpc_server.specs.Table.{asked_row, case_of, case_row, data_case, even_id_text, Ignore, inactive_text, inlet_of, MakeStream, method_text, other_of, path_text, PutIn, service_text}
 pub use Rattle.ttrpc_client.specs.declared.client.ClientCore.{ClientCore}
@@ -30,7 +30,7 @@ pub use Rattle.ttrpc_pair.specs.Types.{Answer, CallEvent, CancelledDuringWrite, 
 pub use Rattle.ttrpc_pair.specs.Net.{Halves, halves, has_response, IsFresh, Net, with_client, with_server}
 pub use Rattle.ttrpc_pair.specs.Pipes.{empty_pipe, is_over, Pipe}
 pub use Rattle.ttrpc_pair.specs.Steps.{after_carry, AnswersBy, BreaksAt, IsEnd, pipe_after_carry, CarriesDown, CarriesUp, cut_to, CutsDown, CutsUp, DeliversDown, DeliversUp, StaysUp, failed_by_hand, Forgot, Hears, lent_of, OnlyClient, OnlyServer, RespondsTo, Runs, Steps, taken_from}
-pub use Rattle.ttrpc_server.specs.State.{brought_by, changed_at, changed_under, has_service, has_stream, is_stream, job_at, on_mail, Services, stream_body, unary_body, without_payload}
+pub use Rattle.ttrpc_server.specs.State.{brought_by, changed_at, changed_under, has_service, has_stream, is_stream, job_at, NoneWaits, on_mail, Services, stream_body, unary_body, without_payload}
 pub use Rattle.ttrpc_server.specs.declared.rows.Asked.TheVariants.{Call as AskedCall, NoMethod, NoService, Stream as Chat}
 pub use Rattle.ttrpc_server.specs.declared.rows.Case.{Case}
 pub use Rattle.ttrpc_server.specs.declared.rows.Case.TheVariants.{Asks, EvenId, Skipped}
@@ -46,6 +46,7 @@ pub use Rattle.ttrpc_client.specs.declared.kind.ClientKind.TheVariants.{Async as
 pub use Rattle.ttrpc_connection.specs.Deadlines.{deadline_of}
 pub use Rattle.ttrpc_flight.proofs.Acting.{act_as_sent}
 pub use Rattle.ttrpc_wire.proofs.Folds.{reads_back}
+pub use Rattle.ttrpc_wire.specs.Number.{number_of}
 pub use Rattle.ttrpc_proto.specs.Laws.{request_again, request_fits, response_again, response_fits}
 pub use Rattle.ttrpc_server.proofs.Mapped.{at_stays, mapped_at, StaysFound, under_stays}
 pub use Rattle.ttrpc_server.specs.Streaming.{astray, EndsStream, IsCloseFrame, ReceivesBy, SendsItem, unheard, unknown_stream, was_made}

@@ -1,6 +1,6 @@
 -- What an event and its reply may do to a client, a server and their pipes.
 -- Source: PROTOCOL.md of ttrpc, "Streaming", by the tables of both cores.
-use Rattle.std.specs.Prelude.{◌≡◌, ◌⊎◌, ◌<◌, ◌≤◌, ◌++◌, ℕ, List, [], ◌∷◌, length, take, drop, min, codes, Bool, true, false, Option, Some, None, Result, Ok, Err}
+use Rattle.std.specs.Prelude.{◌≡◌, ◌⊎◌, ◌<◌, ◌≤◌, ◌%◌, ◌++◌, ℕ, List, [], ◌∷◌, length, take, drop, min, codes, Bool, true, false, Option, Some, None, Result, Ok, Err}
 use Rattle.ttrpc_pair.specs.Types.{Error, Response, Connection, Failure, Told, Event, Call, Open, Outcome, Recv, Send, Close, DropCall, DropReceiver, DropSender, Take, Answer, Respond, Finish, EndStream, Drain, Tick, Carry, Deliver, Cut, Fail, Reply, Named, Ticket, Given, Item, Handed, Done, Count, Refused, NoMemory, NoStep, Entry}
 use Rattle.ttrpc_proto.specs.declared.error.Error.TheVariants.{Socket}
 use Rattle.ttrpc_proto.specs.Messages.{IsRequest, IsResponse}
@@ -199,7 +199,7 @@ module _ {CO CI SO SI : Type 0} (c : Halves CO CI) (s : Halves SO SI) (seals : B
   -- WHAT AN EVENT AND ITS REPLY MAY DO. A reply that isn't here can't be. Where memory is refused nothing changes, and
   -- it was asked for: a response was to be remembered, bytes were to be carried, or a side that was alive to fail.
   abbrev pub Steps : Net CO CI SO SI → Event → Reply → Net CO CI SO SI → Type 0
-  Steps old (Call request) (Named id) new = IsRequest request × Requests c.out old.client request old.moment id new.client × OnlyClient old new
+  Steps old (Call request) (Named id) new = IsRequest request × Requests c.out old.client request old.moment id new.client × OnlyClient old new × (id % 2 ≡ 1)
   Steps old (Call request) (Refused told) new = RefusesRequest c.out old.client request told × (new ≡ old)
   Steps old (Outcome id) (Given outcome) new = TakesOutcome old.client id outcome new.client × OnlyClient old new
   Steps old (DropCall id) Done new = Forgot old id new

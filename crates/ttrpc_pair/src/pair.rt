@@ -122,6 +122,7 @@ impl<
             self.old (AnEvent.Call request.now) result self.new }
     {
         request.lemma_is_value();
+        self.client.lemma_is_client();
         match self.client.request(alloc, request, self.moment) {
             Ok(id) => Reply::Named(id),
             Err(error) => Reply::Refused(error),

@@ -168,7 +168,7 @@ done_downs k over o a [] h = tt
 done_downs k over o a (x ∷ d) h = (done_down k over o a x h.0, done_downs k over o a d h.1)
 
 -- the work so far is one name and at most one run
-is_done : (rules : Rules) (had : ℕ → Bool) (k : ℕ) (b : Birth) (p : Work) → IsWork rules had k (Born b) p → IsDone b (works_of (Born b) p)
+pub is_done : (rules : Rules) (had : ℕ → Bool) (k : ℕ) (b : Birth) (p : Work) → IsWork rules had k (Born b) p → IsDone b (works_of (Born b) p)
 is_done rules had k b Idle h = absurd h
 is_done rules had k b (Asking x) h = record { rest = []; is = refl; unnamed = refl; one_run = omega arith }
 is_done rules had k b (Waits j) h = record { rest = []; is = refl; unnamed = refl; one_run = omega arith }

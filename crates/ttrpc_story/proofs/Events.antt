@@ -1,15 +1,17 @@
 -- What each event does to one id: to a job of it, at the client, and to the items of both receivers.
-use Rattle.ttrpc_story.proofs.Words.{[], Act, ActiveJob, all_joined, AllByRecursion, Answered, ap, append-nil, append_assoc, AreInOrder, arith, asked_by, Bool, Broken, calls, Closed, closed, Dropped, EndedDown, ending_thing, Err, Error, expired_at, Failure, false, Flow, Flying, gave_of, Gives, GivesOutcome, heard_down, heard_up, HeardDown, HeardUp, is_entered, is_some, is_stream, IsExactlyOnce, LandsOn, last_id, left_of, length, List, Mail, map, None, Ok, Open, OpenedPayload, Option, outcomes, put_down, put_up, Ran, Reaches, Receiver, Receives, ReceivesAt, refl, Request, Response, Result, Rules, Sender, SenderClosed, SenderDropped, SenderOpen, SentDown, Some, StaysFound, Stream, StreamBody, subst, sym, taken, Thing, ThingEnd, ThingItem, ThingLast, told_of, true, unless_dropped, unless_unheard, unsendable, without_reader, without_receiver, without_sender, Word, words_of, work, work_append, ℕ, ◌++◌, ◌∙◌, ◌∷◌, ◌≡◌, ◌≤◌, SentUp, ClosedUp, inl, heard_down_append, heard_up_append, put_down_append, put_up_append}
+use Rattle.ttrpc_story.proofs.Words.{[], Act, ActiveJob, all_joined, AllByRecursion, Answered, ap, append-nil, append_assoc, AreInOrder, arith, asked_by, Bool, Broken, calls, Closed, closed, Dropped, EndedDown, ending_thing, Err, Error, expired_at, Failure, false, Flow, Flying, gave_of, Gives, GivesOutcome, heard_down, heard_up, HeardDown, HeardUp, is_entered, is_some, is_stream, IsExactlyOnce, LandsOn, last_id, left_of, length, List, Mail, map, None, Ok, Open, OpenedPayload, Option, outcomes, put_down, put_up, Ran, Reaches, Receiver, Receives, ReceivesAt, refl, Request, Response, Result, Rules, Sender, SenderClosed, SenderDropped, SenderOpen, SentDown, Some, StaysFound, Stream, StreamBody, subst, sym, SyncRules, taken, Thing, ThingEnd, ThingItem, ThingLast, told_of, true, unless_dropped, unless_unheard, unsendable, without_reader, without_receiver, without_sender, Word, words_of, work, work_append, ℕ, ◌++◌, ◌∙◌, ◌∷◌, ◌≡◌, ◌≤◌, SentUp, ClosedUp, inl, heard_down_append, heard_up_append, put_down_append, put_up_append}
 use Rattle.ttrpc_story.proofs.Here.{answered_work, Asking, Birth, Born, ByCall, ByOpen, first_act, Here, IsAnswer, jobs_of, Left, never_empty, no_cons, only_one, Origin, Over, request_of, Runs, Unborn, ups_of, Waits, Work, works_of}
-use Rattle.ttrpc_story.proofs.AtServer.{AreItems, goes_on, is_over, IsDown, IsItem, IsNever, lands_down, never_downs, one_name, one_run, one_up, uncalled}
+use Rattle.ttrpc_story.proofs.AtServer.{AreItems, goes_on, is_over, IsDown, IsItem, IsNever, lands_down, mapped, never_downs, one_name, one_run, one_up, uncalled}
 use Rattle.ttrpc_story.proofs.AtClient.{whole_given}
 use Rattle.ttrpc_story.proofs.Reading.{closed_item, IsPlain}
 use Rattle.ttrpc_story.proofs.Flowing.{Follows, IsPlainFailure}
 use Rattle.ttrpc_story.proofs.Upward.{IsDeaf, thing_up, up_order}
 use Rattle.ttrpc_story.proofs.Downward.{box_down, down_order, Goes, IsSentAs, IsTurned, wants}
-use Rattle.ttrpc_story.proofs.Place.{Around, at_calls, at_client, at_server, client_at, concludes_here, down_as, DownOf, flows_grow, flows_stay, joined, Known, Later, maps_here, Place, Settings, turns, unchanged, up_as, UpOf}
+use Rattle.ttrpc_story.proofs.Place.{Around, at_calls, at_client, at_server, client_at, concludes_here, down_as, DownOf, flows_grow, flows_stay, joined, Known, Later, maps_here, Place, Settings, tidy_same, turns, unchanged, up_as, UpOf}
 use Rattle.ttrpc_story.proofs.AtClient as client
 use Rattle.ttrpc_story.proofs.Upward as upward
+use Rattle.ttrpc_story.proofs.Tidy.{MayGo}
+use Rattle.ttrpc_story.proofs.Turns.{answered_tidy, asked_tidy, gone_tidy, IsAnsweredBy, landed_tidy, responded_tidy, stream_tidy, taken_tidy}
 use Rattle.ttrpc_story.proofs.Downward as downward
 
 -- ---- a job of the id
@@ -49,6 +51,7 @@ waits_taken {w} {k} {h} {h2} job request b m asked ha hf hu hj hd he hs =
     turns (Runs taken) (Ran job.id (is_stream job.body) request ∷ []) [] m (unchanged w k) refl refl
     (record { request = refl; stream = m.server.is_work.stream; kind = m.server.is_work.kind }) (ap (λ (q : Request). first_act b ∷ Ran job.id (is_stream job.body) q ∷ []) (sym is)) ha (hu ∙ m.server.ups_is)
     hj (hd ∙ sym (append-nil h.downs)) tt he hs (up_as (ap put_up hf) (ap heard_up hf) hu hs (upward.takes job m.up)) (down_as (ap (put_down w.set.rules w.set.limit) hf) (ap heard_down hf) hd hs (downward.stays (Runs taken) h.stream (λ e. refl) refl refl m.down))
+    (λ clean. taken_tidy w.set b job (Ran job.id (is_stream job.body) request) h h2 refl ha hd he (m.tidy clean))
 
 -- It is handed out.
 takes_by : {w : Around} {k : ℕ} {h h2 : Here} (job : ActiveJob) (request : Request) (b : Birth) (p : Work) → Known w k h (Born b) p → jobs_of p ≡ job ∷ [] → job.request ≡ Some request
@@ -113,34 +116,35 @@ answered_down {w} {h = h} h2 q result down n undone over goes hf hd hs =
 
 -- The job is answered or ends by what its handler gave, and this is sent, if anything is.
 pub answers_here : {w : Around} {k : ℕ} {h h2 : Here} {front back : List ActiveJob} (job : ActiveJob) (kind : Bool) (result : Result (Option Response) Error) (down : List Flying) → (i : IsRunning w k h front back job)
-    → AllByRecursion (IsDown k true (Born i.b) (answered_work i.b job kind result)) down → Goes (ending_thing w.set.rules w.set.limit result) down
+    → AllByRecursion (IsDown k true (Born i.b) (answered_work i.b job kind result)) down → Goes (ending_thing w.set.rules w.set.limit result) down → (w.set.clean → IsAnsweredBy w.set job kind result down)
     → h2.acts ≡ h.acts ++ Answered kind result ∷ [] → h2.flows ≡ h.flows ++ EndedDown result ∷ [] → h2.ups ≡ h.ups → h2.jobs ≡ front ++ back → h2.downs ≡ h.downs ++ down → h2.call ≡ h.call → h2.stream ≡ h.stream → Place w k h2
-answers_here {w} {k} {h} {h2} job kind result down i new goes ha hf hu hj hd he hs =
+answers_here {w} {k} {h} {h2} job kind result down i new goes back ha hf hu hj hd he hs =
     let q : Work = Over (answered_work i.b job kind result) in
     turns q (Answered kind result ∷ []) down i.known (unchanged w k) refl refl (record { rest = _; is = refl; unnamed = refl; one_run = omega arith }) refl
     ha (hu ∙ i.known.server.ups_is) (hj ∙ i.left) hd new he hs
     (up_as (flows_stay put_up put_up_append h.flows h2.flows (EndedDown result ∷ []) refl hf) (flows_stay heard_up heard_up_append h.flows h2.flows (EndedDown result ∷ []) refl hf) hu hs (upward.gone q h.ups refl tt i.known.up))
-    (answered_down h2 q result down i.known refl refl goes hf hd hs)
+    (answered_down h2 q result down i.known refl refl goes hf hd hs) (λ clean. answered_tidy w.set i.b job kind result down h h2 (back clean) i.known.server.works_is ha hd he (i.known.tidy clean))
 
 -- A response is queued for the job, which goes on.
 pub responds_here : {w w2 : Around} {k : ℕ} {h h2 : Here} {front back : List ActiveJob} (job : ActiveJob) (response : Response) (y : Flying) → (i : IsRunning w k h front back job) → Later w w2 k → w2.had job.id ≡ true → is_stream job.body ≡ false
-    → IsDown k true (Born i.b) (answered_work i.b job false (Ok (Some response))) y → IsSentAs (ending_thing w.set.rules w.set.limit (Ok (Some response))) y
+    → IsDown k true (Born i.b) (answered_work i.b job false (Ok (Some response))) y → IsSentAs (ending_thing w.set.rules w.set.limit (Ok (Some response))) y → w.set.rules ≡ SyncRules → IsAnsweredBy w.set job false (Ok (Some response)) (y ∷ [])
     → h2.acts ≡ h.acts ++ Answered false (Ok (Some response)) ∷ [] → h2.flows ≡ h.flows ++ EndedDown (Ok (Some response)) ∷ [] → h2.ups ≡ h.ups → h2.jobs ≡ h.jobs → h2.downs ≡ h.downs ++ y ∷ [] → h2.call ≡ h.call → h2.stream ≡ h.stream → Place w2 k h2
-responds_here {h = h} {h2 = h2} job response y i l has unary down goes ha hf hu hj hd he hs =
+responds_here {w} {h = h} {h2 = h2} job response y i l has unary down goes sync back ha hf hu hj hd he hs =
     let q : Work = Left job response in
     turns q (Answered false (Ok (Some response)) ∷ []) (y ∷ []) i.known l refl refl (i.known.server.is_work, has, unary) refl ha (hu ∙ i.known.server.ups_is) (hj ∙ i.known.server.jobs_is) hd (down, tt) he hs
     (up_as (flows_stay put_up put_up_append h.flows h2.flows (EndedDown (Ok (Some response)) ∷ []) refl hf) (flows_stay heard_up heard_up_append h.flows h2.flows (EndedDown (Ok (Some response)) ∷ []) refl hf) hu hs (upward.gone q h.ups refl tt i.known.up))
-    (answered_down h2 q (Ok (Some response)) (y ∷ []) i.known refl refl goes hf hd hs)
+    (answered_down h2 q (Ok (Some response)) (y ∷ []) i.known refl refl goes hf hd hs) (λ clean. responded_tidy w.set i.b job response (y ∷ []) h h2 sync back i.known.server.works_is ha hd he (i.known.tidy clean))
 
 -- ---- a job is gone, or sends
 
 -- The job is gone, waiting or taken, and no act says so.
-pub ends_here : {w : Around} {k : ℕ} {h h2 : Here} (front back : List ActiveJob) (job : ActiveJob) (down : List Flying) → Place w k h → h.jobs ≡ front ++ job ∷ back → AllByRecursion (IsNever k) down → AllByRecursion IsTurned down
+pub ends_here : {w : Around} {k : ℕ} {h h2 : Here} (front back : List ActiveJob) (job : ActiveJob) (down : List Flying) → Place w k h → h.jobs ≡ front ++ job ∷ back → AllByRecursion (IsNever k) down → AllByRecursion IsTurned down → (w.set.clean → MayGo down h.call job)
     → h2.acts ≡ h.acts → h2.flows ≡ h.flows → h2.ups ≡ h.ups → h2.jobs ≡ front ++ back → h2.downs ≡ h.downs ++ down → h2.call ≡ h.call → h2.stream ≡ h.stream → Place w k h2
-ends_here front back job down s was new turned ha hf hu hj hd he hs =
+ends_here {h2 = h2} front back job down s was new turned may ha hf hu hj hd he hs =
     let i = only_of front back job s was in
     let n = i.known.server in
     concludes_here n.items down i.known n.are_items n.may_have ha hf (hu ∙ n.ups_is ∙ ap (λ (xs : List Flying). xs ++ n.items) (no_ups i.so_far i.only)) (hj ∙ around_it i) hd new turned he hs
+    (λ clean. gone_tidy i.b i.so_far job down h2 i.known i.only (may clean) ha hd he (i.known.tidy clean))
   where
     no_ups : (p : Work) → jobs_of p ≡ job ∷ [] → ups_of p ≡ []
     no_ups (Asking x) e = absurd (no_cons job [] (sym e))
@@ -166,6 +170,7 @@ sends_down_here {w} {k} {h} {h2} front back job bytes y s was stream_is new goes
     (up_as (flows_stay put_up put_up_append h.flows h2.flows (SentDown bytes ∷ []) refl hf) (flows_stay heard_up heard_up_append h.flows h2.flows (SentDown bytes ∷ []) refl hf) hu hs n.up)
     (down_as (flows_grow (put_down w.set.rules w.set.limit) (put_down_append w.set.rules w.set.limit) h.flows h2.flows (SentDown bytes ∷ []) (ThingItem bytes ∷ []) refl hf) (flows_stay heard_down heard_down_append h.flows h2.flows (SentDown bytes ∷ []) refl hf) hd hs
     (downward.goes i.so_far (ThingItem bytes) (y ∷ []) undone (λ e. closed_item (put_down w.set.rules w.set.limit h.flows) bytes ∙ n.down.is.unended undone) goes n.down))
+    (λ clean. stream_tidy w.set i.b i.so_far i.so_far job h h2 i.only undone stream_is (n.tidy clean))
 
 -- the id of a job is one
 pub job_within : {w : Around} {k : ℕ} {h : Here} (front back : List ActiveJob) (job : ActiveJob) → Place w k h → h.jobs ≡ front ++ job ∷ back → k ≤ last_id
@@ -198,6 +203,7 @@ lands_here {w} {w2} {k} {h} {h2} x d l s was ha hf hu hj hd on reaches =
     (λ r e. let y = down.answer r e in (y.0, subst (λ (a : List Act). IsAnswer s.origin a r) (sym s.known.server.works_is) y.1.1)) on (reached_none h.stream h2.stream x reaches) s.known.client))
     (up_as (ap put_up hf) (ap heard_up hf) hu refl (upward.stays h2.stream (λ e. sym (reached_sender h.stream h2.stream (is_entered h.stream) x reaches) ∙ e) s.known.up))
     (down_as (ap (put_down w.set.rules w.set.limit) hf) (ap heard_down hf) hd refl (downward.comes x was reaches s.known.down))
+    (λ clean. landed_tidy w.set s.origin s.so_far h h2 x d was (subst (λ g. LandsOn g h.call h2.call) (sym down.lands) on) ha hd (s.known.tidy clean))
 
 -- ---- what is asked of the client
 
@@ -206,27 +212,30 @@ work_gave a None = ap work (append-nil a)
 work_gave a (Some outcome) = work_append a (gave_of (Some outcome)) ∙ append-nil (work a)
 
 -- The outcome is asked for.
-pub asks_here : {w w2 : Around} {k : ℕ} {h h2 : Here} (failure : Option Failure) (given : Option (Result Response Error)) → Later w w2 k → Place w k h → GivesOutcome failure h.call given
+pub asks_here : {w w2 : Around} {k : ℕ} {h h2 : Here} (failure : Option Failure) (given : Option (Result Response Error)) → Later w w2 k → Place w k h → GivesOutcome failure h.call given → (w.set.clean → failure ≡ None)
     → h2.acts ≡ h.acts ++ gave_of given → h2.flows ≡ h.flows → h2.ups ≡ h.ups → h2.jobs ≡ h.jobs → h2.downs ≡ h.downs → h2.call ≡ left_of (is_some failure) h.call → h2.stream ≡ h.stream → Place w2 k h2
-asks_here {h = h} {h2 = h2} failure given l s g ha hf hu hj hd he hs =
+asks_here {w} {h = h} {h2 = h2} failure given l s g alive ha hf hu hj hd he hs =
     at_calls l s (ap work ha ∙ work_gave h.acts given) hf hu hj hd hs
     (client_at s.origin (h.acts ++ gave_of given) h2.acts (left_of (is_some failure) h.call) h2.call h.stream h2.stream ha he hs (client.asks s.origin h.acts failure h.call h.stream given g s.known.client))
+    (λ clean. asked_tidy w.set s.origin s.so_far h h2 failure given (alive clean) g ha hd he (s.known.tidy clean))
 
--- The call is forgotten.
-pub drops_here : {w w2 : Around} {k : ℕ} {h h2 : Here} → Later w w2 k → Place w k h → h2.acts ≡ h.acts → h2.flows ≡ h.flows → h2.ups ≡ h.ups → h2.jobs ≡ h.jobs → h2.downs ≡ h.downs → h2.call ≡ None → h2.stream ≡ h.stream → Place w2 k h2
-drops_here {h = h} {h2 = h2} l s ha hf hu hj hd he hs =
-    at_calls l s (ap work ha) hf hu hj hd hs (client_at s.origin h.acts h2.acts None h2.call h.stream h2.stream ha he hs (client.forgets s.origin h.acts h.call h.stream s.known.client))
+-- The call is forgotten, which is not clean.
+pub drops_here : {w w2 : Around} {k : ℕ} {h h2 : Here} → Later w w2 k → Place w k h → (w.set.clean → ⊥) → h2.acts ≡ h.acts → h2.flows ≡ h.flows → h2.ups ≡ h.ups → h2.jobs ≡ h.jobs → h2.downs ≡ h.downs → h2.call ≡ None → h2.stream ≡ h.stream → Place w2 k h2
+drops_here {h = h} {h2 = h2} l s never ha hf hu hj hd he hs =
+    at_calls l s (ap work ha) hf hu hj hd hs (client_at s.origin h.acts h2.acts None h2.call h.stream h2.stream ha he hs (client.forgets s.origin h.acts h.call h.stream s.known.client)) (λ clean. absurd (never clean))
 
--- The call expires, if it is due.
-pub expires_here : {w w2 : Around} {k : ℕ} {h h2 : Here} (now : ℕ) → Later w w2 k → Place w k h → h2.acts ≡ h.acts → h2.flows ≡ h.flows → h2.ups ≡ h.ups → h2.jobs ≡ h.jobs → h2.downs ≡ h.downs → h2.call ≡ expired_at now h.call → h2.stream ≡ h.stream → Place w2 k h2
-expires_here {h = h} {h2 = h2} now l s ha hf hu hj hd he hs =
+-- The call expires, if it is due; in a clean run none is.
+pub expires_here : {w w2 : Around} {k : ℕ} {h h2 : Here} (now : ℕ) → Later w w2 k → Place w k h → (w.set.clean → expired_at now h.call ≡ h.call) → h2.acts ≡ h.acts → h2.flows ≡ h.flows → h2.ups ≡ h.ups → h2.jobs ≡ h.jobs → h2.downs ≡ h.downs → h2.call ≡ expired_at now h.call → h2.stream ≡ h.stream → Place w2 k h2
+expires_here {w} {h = h} {h2 = h2} now l s undue ha hf hu hj hd he hs =
     at_calls l s (ap work ha) hf hu hj hd hs (client_at s.origin h.acts h2.acts (expired_at now h.call) h2.call h.stream h2.stream ha he hs (client.expires s.origin h.acts now h.call h.stream s.known.client))
+    (λ clean. tidy_same w.set s.origin s.so_far h h2 ha hd (he ∙ undue clean) (s.known.tidy clean))
 
 -- what is kept of its stream changes
 streams_here : {w w2 : Around} {k : ℕ} {h h2 : Here} → Later w w2 k → (s : Place w k h) → h2.acts ≡ h.acts → h2.ups ≡ h.ups → h2.jobs ≡ h.jobs → h2.downs ≡ h.downs → h2.call ≡ h.call → (h.stream ≡ None → h2.stream ≡ None)
     → UpOf k s.origin s.so_far h2 → DownOf w.set s.origin s.so_far h2 → Place w2 k h2
-streams_here {h = h} {h2 = h2} l s ha hu hj hd he none up down =
+streams_here {w} {h = h} {h2 = h2} l s ha hu hj hd he none up down =
     at_client l s (ap work ha) hu hj hd (client_at s.origin h.acts h2.acts h.call h2.call h2.stream h2.stream ha he refl (client.streams s.origin h.acts h.call h.stream h2.stream none s.known.client)) up down
+    (λ clean. tidy_same w.set s.origin s.so_far h h2 ha hd he (s.known.tidy clean))
 
 unborn_none : {w : Around} {k : ℕ} {h : Here} (o : Origin) (p : Work) → Known w k h o p → o ≡ Unborn → h.stream ≡ None
 unborn_none Unborn p n e = n.client.1
@@ -313,6 +322,7 @@ hears_up_here {w} {k} {h} {h2} g found front back job failure m left given s was
     maps_here g found (record { origin = Born i.b; so_far = i.so_far; known = i.known })
     (up_as (flows_stay put_up put_up_append h.flows h2.flows more t.0 hf) (flows_grow heard_up heard_up_append h.flows h2.flows more (words_of given) t.1 hf) hu hs
     (upward.hears g found i.so_far job failure m left given i.only (unary_left job i.so_far i.known i.only (ap is_stream is)) is now plain r i.known.up))
+    (λ clean. stream_tidy w.set i.b i.so_far (mapped g i.so_far) job h h2 i.only (stream_goes_on job i.so_far i.known i.only (ap is_stream is)) (ap is_stream is) (i.known.tidy clean))
     ha (flows_stay (put_down w.set.rules w.set.limit) (put_down_append w.set.rules w.set.limit) h.flows h2.flows more t.2 hf) (flows_stay heard_down heard_down_append h.flows h2.flows more t.3 hf) hu hj hd he hs
 
 -- It is told an error, and nothing else changes.
@@ -323,12 +333,13 @@ errs_up_here {w} {k} {h} {h2} e plain s ha hf hu hj hd he hs =
     at_client (unchanged w k) s (ap work ha) hu hj hd (client_at s.origin h.acts h2.acts h.call h2.call h.stream h2.stream ha he hs s.known.client)
     (up_as (flows_stay put_up put_up_append h.flows h2.flows more refl hf) (flows_grow heard_up heard_up_append h.flows h2.flows more (Err e ∷ []) refl hf) hu hs (upward.told_aside e plain s.known.up))
     (down_as (flows_stay (put_down w.set.rules w.set.limit) (put_down_append w.set.rules w.set.limit) h.flows h2.flows more refl hf) (flows_stay heard_down heard_down_append h.flows h2.flows more refl hf) hd hs s.known.down)
+    (λ clean. tidy_same w.set s.origin s.so_far h h2 ha hd he (s.known.tidy clean))
 
--- It is dropped, or nothing of it changes.
-pub unheard_up_here : {w : Around} {k : ℕ} {h h2 : Here} (g : ActiveJob → ActiveJob) → StaysFound g → ((j : ActiveJob) → IsDeaf g j) → Place w k h
+-- It is dropped, or nothing of it changes, which is not clean.
+pub unheard_up_here : {w : Around} {k : ℕ} {h h2 : Here} (g : ActiveJob → ActiveJob) → StaysFound g → ((j : ActiveJob) → IsDeaf g j) → Place w k h → (w.set.clean → ⊥)
     → h2.acts ≡ h.acts → h2.flows ≡ h.flows → h2.ups ≡ h.ups → h2.jobs ≡ map g h.jobs → h2.downs ≡ h.downs → h2.call ≡ h.call → h2.stream ≡ h.stream → Place w k h2
-unheard_up_here {w} {k} {h} {h2} g found deaf s ha hf hu hj hd he hs =
-    maps_here g found s (up_as (ap put_up hf) (ap heard_up hf) hu hs (upward.unheard g found s.so_far deaf s.known.up)) ha (ap (put_down w.set.rules w.set.limit) hf) (ap heard_down hf) hu hj hd he hs
+unheard_up_here {w} {k} {h} {h2} g found deaf s never ha hf hu hj hd he hs =
+    maps_here g found s (up_as (ap put_up hf) (ap heard_up hf) hu hs (upward.unheard g found s.so_far deaf s.known.up)) (λ clean. absurd (never clean)) ha (ap (put_down w.set.rules w.set.limit) hf) (ap heard_down hf) hu hj hd he hs
 
 -- ---- data are sent by the client
 
@@ -379,7 +390,7 @@ sends_by {w} {h = h} {h2 = h2} x thing y (Born (ByOpen q up down)) p l n some is
     (he ∙ n.client.0, ap outcomes ha ∙ n.client.1)
     (up_as (flows_grow put_up put_up_append h.flows h2.flows (x ∷ []) (thing ∷ []) put.puts hf) (flows_stay heard_up heard_up_append h.flows h2.flows (x ∷ []) put.tells hf) hu refl
     (upward.sends thing y m.items comes put.follows m.ups_is may (λ e. closed_behind (put_up h.flows) thing (n.up.is.unclosed may) (on e)) n.up))
-    (down_as (flows_stay (put_down w.set.rules w.set.limit) (put_down_append w.set.rules w.set.limit) h.flows h2.flows (x ∷ []) (put.ends w.set.rules w.set.limit) hf) (flows_stay heard_down heard_down_append h.flows h2.flows (x ∷ []) put.told hf) hd refl (downward.stays p h2.stream (λ e. e) box wanted n.down))
+    (down_as (flows_stay (put_down w.set.rules w.set.limit) (put_down_append w.set.rules w.set.limit) h.flows h2.flows (x ∷ []) (put.ends w.set.rules w.set.limit) hf) (flows_stay heard_down heard_down_append h.flows h2.flows (x ∷ []) put.told hf) hd refl (downward.stays p h2.stream (λ e. e) box wanted n.down)) (λ clean. tt)
 
 pub sends_here : {w w2 : Around} {k : ℕ} {h h2 : Here} (x : Flow) (thing : Thing) (y : Flying) → Later w w2 k → Place w k h → (h.stream ≡ None → ⊥) → IsItem k y → IsPut x thing → thing_up y ≡ thing → unsendable h.stream ≡ None → GoesOn thing h2.stream
     → box_down h2.stream ≡ box_down h.stream → wants h2.stream ≡ wants h.stream

@@ -6,6 +6,7 @@ pub mod Reading
 pub mod Flowing
 pub mod Upward
 pub mod Downward
-pub mod Place
-pub mod Events
 pub mod Tidy
+pub mod Place
+pub mod Turns
+pub mod Events
