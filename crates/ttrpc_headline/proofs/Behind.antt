@@ -1,12 +1,14 @@
--- What holds behind the last bytes that a side took: where a call's outcome was asked for, none is kept.
-use Rattle.ttrpc_headline.proofs.Ending.{idle_down}
+-- What holds behind the last bytes that a side took: where a call's outcome was asked for, none is kept; and where no job waited,
+-- none does.
+use Rattle.ttrpc_headline.proofs.Ending.{idle_down, idle_up}
 use Rattle.ttrpc_headline.proofs.Keeps.{Keeps}
-use Rattle.ttrpc_headline.specs.Living.{IsOpen}
+use Rattle.ttrpc_headline.proofs.Numbers.{AreChanged, error_ends, received}
+use Rattle.ttrpc_headline.specs.Living.{IsOpen, Lives}
 use Rattle.ttrpc_story.proofs.Place.{Settings}
-use Rattle.ttrpc_events.specs.Clean.{asks_outcome, is_clean_event, is_clean_reply, takes_bytes}
+use Rattle.ttrpc_events.specs.Clean.{asks_outcome, is_clean_event, is_clean_reply, takes_bytes, takes_nothing}
 use Rattle.std.specs.Prelude.{nat_lt}
 use Rattle.std.proofs.lemmas.Bool.{ltb-false}
-use Rattle.ttrpc_pair.proofs.Words.{ap, arith, Bool, call_at, CallEvent, cases_eq, Client, ClientCore, ClientEnd, ClientSide, Close, Count, deadline_of, Deliver, Done, DropCall, DropReceiver, DropSender, Entry, eqb-true, Error, Event, Failure, false, Given, Halves, if◌then◌else◌, inl, inr, is_some, Item, List, Named, Net, None, OpenEvent, Option, Outcome, Passes, Recv, Refused, Reply, Response, Result, rules, Send, Some, Steps, subst, sym, Tick, Ticket, true, ℕ, ◌∙◌, ◌≡◌, ◌≢◌, ◌≤◌}
+use Rattle.ttrpc_pair.proofs.Words.{[], ActiveJob, all_at, all_less, Answer, AnswersBy, ap, arith, AsyncRules, Bool, call_at, CallEvent, cases_eq, Client, ClientCore, ClientEnd, ClientSide, Close, Count, Cut, deadline_of, Deliver, Done, Drain, DropCall, DropReceiver, DropSender, EndsOne, EndStream, Entry, eqb-true, Err, Error, Event, ExpireAll, Failure, false, Finish, Given, Halves, Handed, if◌then◌else◌, inl, inr, is_some, Item, JobList, List, map, Named, Net, None, NoneWaits, Ok, OpenEvent, Option, Outbox, Outcome, Passes, Recv, Refused, Reply, Respond, Response, Result, rules, Rules, Send, Server, ServerCore, ServerEnd, ServerPasses, ServerSide, Some, StaysFound, Steps, subst, sym, SyncRules, Take, Tick, Ticket, true, ℕ, ◌∙◌, ◌∷◌, ◌≡◌, ◌≢◌, ◌≤◌}
 use Rattle.ttrpc_story.proofs.Words.{Call, Ended, Expired, expired_at, is_due, left_of, Waiting}
 
 none_taken : (k : ℕ) → nat_lt 0 k ≡ false → k ≡ 0
@@ -73,3 +75,60 @@ module _ {CO CI SO SI : Type 0} (c : Halves CO CI) (s : Halves SO SI) (seals : B
       left_none (is_some w.client.connection.failure) (call_at w.client.state k) o (sym (subst (λ (i : ℕ). call_at v.client.state i ≡ left_of (is_some w.client.connection.failure) (call_at w.client.state i)) same p.0.own) ∙ h)
   none_kept w (Outcome id) reply v k o r asks p h = absurd p
   none_kept w event reply v k o r asks p h = let bad : false ≡ true = asks in cc
+
+  -- ---- no job waits
+
+  ends_idle : (old new : List ActiveJob) (id : ℕ) (job : ActiveJob) → EndsOne old id job new → NoneWaits old → NoneWaits new
+  ends_idle old new id job t h = subst NoneWaits (sym t.jobs) (all_less (λ (j : ActiveJob). j.request ≡ None) t.at.front t.at.back job (subst NoneWaits t.at.is h))
+
+  maps_idle : (g : ActiveJob → ActiveJob) → StaysFound g → (js : List ActiveJob) → NoneWaits js → NoneWaits (map g js)
+  maps_idle g found [] h = tt
+  maps_idle g found (j ∷ js) h = (found.request j ∙ h.0, maps_idle g found js h.1)
+
+  changed_idle : (old new : List ActiveJob) → AreChanged old new → NoneWaits old → NoneWaits new
+  changed_idle old new x h = subst NoneWaits (sym x.is) (maps_idle x.g x.found old h)
+
+  answered_idle : (x y : ServerCore SO SI) (id : ℕ) (result : Result Response Error) → AnswersBy c s seals x id result y → NoneWaits x.state.jobs.list → NoneWaits y.state.jobs.list
+  answered_idle x y id (Ok response) a h = ends_idle x.state.jobs.list y.state.jobs.list id a.1.job a.1.ends h
+  answered_idle x y id (Err error) a h = let e = error_ends s.out x.state.rules x id error y a in ends_idle x.state.jobs.list y.state.jobs.list id e.0 e.1 h
+
+  expired_idle : (js : List ActiveJob) (old : Server) (from : Outbox SO) (new : Server) (to : Outbox SO) → ExpireAll s.out old from js new to → NoneWaits old.jobs.list → NoneWaits new.jobs.list
+  expired_idle [] old from new to e h = subst (λ (t : Server). NoneWaits t.jobs.list) (sym e.0) h
+  expired_idle (j ∷ js) old from new to e h =
+      let one = e.2 in
+      expired_idle js e.0 e.1 new to e.3 (subst (λ (t : Server). NoneWaits t.jobs.list) (sym one.state) (all_less (λ (i : ActiveJob). i.request ≡ None) one.at.front one.at.back j (subst NoneWaits one.at.is h)))
+
+  passed_idle : (r : Rules) (failure : Option Failure) (old : ServerCore SO SI) (now : ℕ) (new : ServerCore SO SI) → ServerPasses s.out r failure old now new → NoneWaits old.state.jobs.list → NoneWaits new.state.jobs.list
+  passed_idle SyncRules failure old now new same h = subst (λ (x : ServerCore SO SI). NoneWaits x.state.jobs.list) (sym same) h
+  passed_idle AsyncRules None old now new p h = expired_idle p.expired old.state old.connection.outbox new.state new.connection.outbox p.expire h
+  passed_idle AsyncRules (Some why) old now new same h = subst (λ (x : ServerCore SO SI). NoneWaits x.state.jobs.list) (sym same) h
+
+  same_idle : (w v : Net CO CI SO SI) → v.server.state.jobs ≡ w.server.state.jobs → NoneWaits w.server.state.jobs.list → NoneWaits v.server.state.jobs.list
+  same_idle w v e h = subst (λ (x : JobList). NoneWaits x.list) (sym e) h
+
+  -- A CLEAN STEP BY WHICH THE SERVER TAKES NO BYTES makes no job.
+  pub idle_still : (set : Settings) (f : ℕ → ℕ) (t : List Entry) (w : Net CO CI SO SI) (event : Event) (reply : Reply) (v : Net CO CI SO SI) → Keeps c s set f t w → IsOpen w → is_clean_event event ≡ true → is_clean_reply reply ≡ true
+      → takes_bytes ServerSide event reply ≡ false → Steps c s seals w event reply v → NoneWaits w.server.state.jobs.list → NoneWaits v.server.state.jobs.list
+  idle_still set f t w Take (Handed (Some job)) v i u e r z p h =
+      let hands = p.0.hands in
+      let bad : Some job.request ≡ None = sym hands.request ∙ all_at (λ (j : ActiveJob). j.request ≡ None) hands.front hands.back hands.job (subst NoneWaits hands.was h) in
+      cc
+  idle_still set f t w (Answer id result) Done v i u e r z p h = answered_idle w.server v.server id result p.0 h
+  idle_still set f t w (Respond id response) Done v i u e r z p h = same_idle w v (ap (λ (x : ServerCore SO SI). x.state.jobs) p.does.same) h
+  idle_still set f t w (Finish id) Done v i u e r z p h = ends_idle w.server.state.jobs.list v.server.state.jobs.list id p.0.job p.0.ends h
+  idle_still set f t w (EndStream id result) Done v i u e r z p h = ends_idle w.server.state.jobs.list v.server.state.jobs.list id p.0.job p.0.ends h
+  idle_still set f t w (Send (ServerEnd id) item) (Ticket ticket) v i u e r z p h = same_idle w v (ap (λ (x : ServerCore SO SI). x.state.jobs) p.0.same) h
+  idle_still set f t w (Recv (ServerEnd id)) (Item given) v i u e r z p h =
+      changed_idle w.server.state.jobs.list v.server.state.jobs.list (received w.server.state.rules w.server.connection.failure w.server.state id given v.server.state.jobs.list p.0.own) h
+  idle_still set f t w (DropReceiver at) reply v i u e r z p h = let bad : false ≡ true = e in cc
+  idle_still set f t w Drain reply v i u e r z p h = let bad : false ≡ true = e in cc
+  idle_still set f t w (Cut to keep) reply v i u e r z p h = let bad : false ≡ true = e in cc
+  idle_still set f t w (Tick now) Done v i u e r z p h = passed_idle w.server.state.rules w.server.connection.failure w.server now v.server p.serves h
+  idle_still set f t w (Deliver ServerSide n) (Count k) v i u e r z p h = same_idle w v (ap (λ (x : Server). x.jobs) (idle_up c s seals set f t w v n k i u (none_taken k z) p).0) h
+  idle_still set f t w (Deliver to n) (Refused told) v i u e r z p h = let bad : false ≡ true = r in cc
+  idle_still set f t w event reply v i u e r z p h = let same : v.server.state.jobs ≡ w.server.state.jobs = first_of (cc, search rules) in same_idle w v same h
+
+  -- Where none was found, none waits.
+  pub none_waits : (w : Net CO CI SO SI) (event : Event) (reply : Reply) (v : Net CO CI SO SI) → Lives w → takes_nothing event reply ≡ true → Steps c s seals w event reply v → NoneWaits v.server.state.jobs.list
+  none_waits w Take (Handed None) v a it p = same_idle w v (ap (λ (x : Net CO CI SO SI). x.server.state.jobs) p.1) (p.0 a.server)
+  none_waits w event reply v a it p = let bad : false ≡ true = it in cc

@@ -11,10 +11,10 @@ use Rattle.ttrpc_story.proofs.AtClient.{IsBegun}
 use Rattle.ttrpc_story.proofs.Upward.{flags_of, IsStarted}
 use Rattle.ttrpc_story.proofs.Downward.{box_down, wants}
 use Rattle.ttrpc_story.proofs.Flowing.{IsPlainFailure}
-use Rattle.ttrpc_story.proofs.Place.{begins_here, elsewhere, Later, Place, Settings, thrown_here}
+use Rattle.ttrpc_story.proofs.Place.{begins_here, elsewhere, IsOdd, Later, Place, Settings, thrown_here}
 use Rattle.ttrpc_story.proofs.Events.{asks_here, drops_here, expires_here, GoesOn, hears_here, IsPut, one_request, sends_here, stream_within, unheard_here, unsent_here}
 use Rattle.ttrpc_pair.proofs.Words.{[], all_joined, ap, arith, AsyncKind, Bool, call_at, CallEvent, CancelledDuringWrite, Client, ClientCore, ClientEnd, ClientKind, closed_error, Connection, deadline_of, DeadlineDuringWrite, Done, DropCall, DropReceiver, DropSender, DropsReceiver, DropsSender, due_at, Entry, eqb-true, Error, Event, Failure, false, Flying, Forgot, given, Given, Halves, has_response, id_of, if◌then◌else◌, inl, inr, is_some, IsOwned, IsRequest, Item, last_id, List, Named, nat_eq, Net, None, OpenEvent, opening_flags, OpensStream, Option, Outbox, Outcome, parcels, Passes, pushed_other, pushed_own, Recv, refl, Reply, Request, Requests, Response, Result, Sender, SenderClosed, SendsOn, Some, Stream, stream_at, StreamReceives, subst, sym, SyncKind, taken_back, takes_back, TakesOutcome, throws, Ticks, true, unsendable, unsendable_error, waits, with_client, with_sender, ℕ, ◌++◌, ◌+◌, ◌<◌, ◌^◌, ◌∙◌, ◌∷◌, ◌≡◌, ◌≢◌, ◌≤◌, ◌⊎◌}
-use Rattle.ttrpc_story.proofs.Words.{act_of, asked, calls, data_thing, Flow, flow_of, heard, HeardDown, only_if, said, silent, Thing, told, unasked, unheard, untold, with_entry}
+use Rattle.ttrpc_story.proofs.Words.{act_of, asked, Call, calls, data_thing, Ended, Expired, expired_at, Flow, flow_of, heard, HeardDown, only_if, said, silent, Thing, told, unasked, unheard, untold, Waiting, with_entry, ◌%◌}
 
 -- dropping takes a request back only where requests are thrown away
 back_throws_only : (failed may waiting : Bool) → (if failed then false else if may then waiting else false) ≡ true → may ≡ true
@@ -92,18 +92,18 @@ module _ {CO CI SO SI : Type 0} (c : Halves CO CI) (s : Halves SO SI) (seals : B
 
   -- An id is used, by a call or a stream.
   keeps_birth : (w : Net CO CI SO SI) (event : Event) (id : ℕ) (b : Birth) (x : ClientCore CO CI) → (i : Kept trace w) → SendsFlight c.out w.client.connection.outbox (IsRequestFlight id (request_of b) (flags_of b)) x.connection.outbox
-      → IsBirth event id b → id ≡ w.client.state.next → id ≤ last_id → x.state.next ≡ id + 2
+      → IsBirth event id b → IsOdd b id → id ≡ w.client.state.next → id ≤ last_id → x.state.next ≡ id + 2
       → (call_at w.client.state id ≡ None → stream_at w.client.state id ≡ None → IsBegun b (call_at x.state id) (stream_at x.state id) × IsStarted b (stream_at x.state id))
       → ((k : ℕ) → id ≢ k → (call_at x.state k ≡ call_at w.client.state k) × (stream_at x.state k ≡ stream_at w.client.state k))
       → x.connection.decoder ≡ w.client.connection.decoder → x.connection.inbound ≡ w.client.connection.inbound → (x.connection.failure ≡ None → w.client.connection.failure ≡ None)
       → Kept (with_entry trace event (Named id)) (with_client w x)
-  keeps_birth w event id b x i r birth id_is within next begun others held inbound lives =
+  keeps_birth w event id b x i r birth odd id_is within next begun others held inbound lives =
       let t = with_entry trace event (Named id) in
       let n = w.client.state.next in
       let stream : r.y.frame.message.header.stream_id ≡ id = r.is.sent.stream in
       sends_up w t x (IsRequestFlight id (request_of b) (flags_of b)) i r
       (at_one (PlaceOf w t (i.up ++ r.y ∷ []) i.down x.state) id
-      (begins_here b r.y (i.stories id) refl (λ j h. h) (omega (arith, id_is)) (λ y. absurd (let no : ⊥ = omega (arith, y, next) in no)) within r.is.sent r.is.flags_are begun
+      (begins_here b r.y (i.stories id) refl (λ j h. h) (omega (arith, id_is)) (λ y. absurd (let no : ⊥ = omega (arith, y, next) in no)) within r.is.sent r.is.flags_are odd begun
       (heard (act_of f id) id id trace event (Named id) (first_act b) (birth id).0 refl) (heard (flow_of f id) id id trace event (Named id) (first_flow b) (birth id).1 refl) (pushed_own id_of id r.y i.up stream) refl refl)
       (λ k e. let o = others k e in elsewhere (next_up set (has_response w) n x.state.next k (omega (arith, next, id_is))) (i.stories k)
       (unheard (act_of f k) k id trace event (Named id) (first_act b) (birth k).0 e) (unheard (flow_of f k) k id trace event (Named id) (first_flow b) (birth k).1 e)
@@ -112,13 +112,13 @@ module _ {CO CI SO SI : Type 0} (c : Halves CO CI) (s : Halves SO SI) (seals : B
       held inbound lives
 
   -- A call is accepted.
-  pub keeps_call : (w : Net CO CI SO SI) (request : Request) (id : ℕ) (v : Net CO CI SO SI) → Kept trace w → IsRequest request → Requests c.out w.client request w.moment id v.client → Kept (with_entry trace (CallEvent request) (Named id)) (with_client w v.client)
-  keeps_call w request id v i known p =
+  pub keeps_call : (w : Net CO CI SO SI) (request : Request) (id : ℕ) (v : Net CO CI SO SI) → Kept trace w → IsRequest request → Requests c.out w.client request w.moment id v.client → id % 2 ≡ 1 → Kept (with_entry trace (CallEvent request) (Named id)) (with_client w v.client)
+  keeps_call w request id v i known p odd =
       let g = p.is_frame in
       let streams : (k : ℕ) → stream_at v.client.state k ≡ stream_at w.client.state k = λ k. ap (λ (x : ClientCore CO CI). stream_at x.state k) p.same in
       keeps_birth w (CallEvent request) id (ByCall request) v.client i
       (sends_request c.out w.client.connection.outbox request id 0 p.frame v.client.connection.outbox known p.sends (omega (arith, p.fits)) p.in_range g.stream_id g.type_ g.flags (omega arith) g.owner)
-      (λ k. (refl, refl)) p.id_is p.in_range (ap (λ (x : ClientCore CO CI). x.state.next) p.same)
+      (λ k. (refl, refl)) (rw odd refl) p.id_is p.in_range (ap (λ (x : ClientCore CO CI). x.state.next) p.same)
       (λ none unheard_of. (((deadline_of w.moment request.timeout_nano, p.own), streams id ∙ unheard_of), streams id ∙ unheard_of)) (λ k e. (p.others k (λ same. e (sym same)), streams k))
       (ap (λ (x : ClientCore CO CI). x.connection.decoder) p.same) (ap (λ (x : ClientCore CO CI). x.connection.inbound) p.same) (λ _. p.alive)
 
@@ -134,7 +134,7 @@ module _ {CO CI SO SI : Type 0} (c : Halves CO CI) (s : Halves SO SI) (seals : B
       let calls : (k : ℕ) → call_at v.client.state k ≡ call_at w.client.state k = λ k. ap (λ (x : ClientCore CO CI). call_at x.state k) p.same in
       keeps_birth w (OpenEvent request up down) id (ByOpen request up down) v.client i
       (sends_request c.out w.client.connection.outbox request id (opening_flags up) p.frame v.client.connection.outbox known p.sends (omega (arith, p.fits)) p.in_range g.stream_id g.type_ g.flags (low_flags up) g.owner)
-      (λ k. (refl, refl)) p.id_is p.in_range (ap (λ (x : ClientCore CO CI). x.state.next) p.same)
+      (λ k. (refl, refl)) tt p.id_is p.in_range (ap (λ (x : ClientCore CO CI). x.state.next) p.same)
       (λ none unheard_of. (calls id ∙ none, p.own)) (λ k e. (calls k, p.others k (λ same. e (sym same))))
       (ap (λ (x : ClientCore CO CI). x.connection.decoder) p.same) (ap (λ (x : ClientCore CO CI). x.connection.inbound) p.same) (λ _. p.alive)
 
@@ -168,9 +168,9 @@ module _ {CO CI SO SI : Type 0} (c : Halves CO CI) (s : Halves SO SI) (seals : B
   abbrev Left : (ℕ → Bool) → Net CO CI SO SI → Outbox CO → List Flying → Type 0
   Left owners w x flights = Thrown c.out s.in_ owners x w.server.connection w.up flights
 
-  -- an owner's call is kept
+  -- an owner's call is kept, and in a clean run there are none
   abbrev AreKept : (ℕ → Bool) → Net CO CI SO SI → Type 0
-  AreKept owners w = (k : ℕ) → owners k ≡ true → call_at w.client.state k ≡ None → ⊥
+  AreKept owners w = (k : ℕ) → owners k ≡ true → (call_at w.client.state k ≡ None → ⊥) × (set.clean → ⊥)
 
   -- the stories of what is left
   left_stories : (owners : ℕ → Bool) (w : Net CO CI SO SI) (x : Outbox CO) (i : Kept trace w) → AreKept owners w → (t : Left owners w x i.up) → StoriesOf w trace t.left i.down w.client.state
@@ -205,14 +205,14 @@ module _ {CO CI SO SI : Type 0} (c : Halves CO CI) (s : Halves SO SI) (seals : B
       (nothing_thrown c.out s.in_ x.connection.outbox w.server.connection w.up i.up (λ k. false) i.own (rw connection i.upward)) stories
 
   -- An outcome is asked for.
-  pub keeps_ask : (w : Net CO CI SO SI) (id : ℕ) (given : Option (Result Response Error)) (v : Net CO CI SO SI) → Kept trace w → TakesOutcome w.client id given v.client → Kept (with_entry trace (Outcome id) (Given given)) (with_client w v.client)
-  keeps_ask w id given v i p =
+  pub keeps_ask : (w : Net CO CI SO SI) (id : ℕ) (given : Option (Result Response Error)) (v : Net CO CI SO SI) → Kept trace w → (set.clean → w.client.connection.failure ≡ None) → TakesOutcome w.client id given v.client → Kept (with_entry trace (Outcome id) (Given given)) (with_client w v.client)
+  keeps_ask w id given v i alive p =
       let next : v.client.state.next ≡ w.client.state.next = ap (λ (x : ClientCore CO CI). x.state.next) p.same in
       let streams : (k : ℕ) → stream_at v.client.state k ≡ stream_at w.client.state k = λ k. ap (λ (x : ClientCore CO CI). stream_at x.state k) p.same in
       let t = with_entry trace (Outcome id) (Given given) in
       state_changes w t v.client i (ap (λ (x : ClientCore CO CI). x.connection) p.same) next
       (λ stories. at_one (PlaceOf w t i.up i.down v.client.state) id
-      (asks_here w.client.connection.failure given (later_of w v.client.state next id) (stories id) p.gives (asked f id id trace given refl) (silent (flow_of f id) trace (Outcome id) (Given given) refl) refl refl refl p.own (streams id))
+      (asks_here w.client.connection.failure given (later_of w v.client.state next id) (stories id) p.gives alive (asked f id id trace given refl) (silent (flow_of f id) trace (Outcome id) (Given given) refl) refl refl refl p.own (streams id))
       (λ k e. elsewhere (later_of w v.client.state next k) (stories k) (unasked f k id trace given e) (silent (flow_of f k) trace (Outcome id) (Given given) refl) refl refl refl (p.others k (λ same. e (sym same))) (streams k)))
 
   -- What is kept of one stream changes, and no other id hears of it.
@@ -259,8 +259,8 @@ module _ {CO CI SO SI : Type 0} (c : Halves CO CI) (s : Halves SO SI) (seals : B
   -- ---- requests are taken back, where they may be
 
   -- an id whose request may be thrown away is a call's
-  single : (owners : ℕ → Bool) (w : Net CO CI SO SI) → ((k : ℕ) → owners k ≡ true → call_at w.client.state k ≡ None → ⊥) → (i : Kept trace w) → AreSingle owners i.up
-  single owners w some i = λ k owner. one_request (i.stories k) (some k owner)
+  single : (owners : ℕ → Bool) (w : Net CO CI SO SI) → AreKept owners w → (i : Kept trace w) → AreSingle owners i.up
+  single owners w some i = λ k owner. one_request (i.stories k) (some k owner).0
 
   -- what is taken back leaves this in flight, of these owners
   record TakesBack (w : Net CO CI SO SI) (x : Outbox CO) (flights : List Flying) : Type 0 where
@@ -298,30 +298,40 @@ module _ {CO CI SO SI : Type 0} (c : Halves CO CI) (s : Halves SO SI) (seals : B
       cc
 
   -- A call is forgotten.
-  pub keeps_drop : (w : Net CO CI SO SI) (id : ℕ) (v : Net CO CI SO SI) → Kept trace w → Forgot c s seals w id v → Kept (with_entry trace (DropCall id) Done) (with_client w v.client)
-  keeps_drop w id v i p =
+  pub keeps_drop : (w : Net CO CI SO SI) (id : ℕ) (v : Net CO CI SO SI) → Kept trace w → (set.clean → ⊥) → Forgot c s seals w id v → Kept (with_entry trace (DropCall id) Done) (with_client w v.client)
+  keeps_drop w id v i never p =
       let next : v.client.state.next ≡ w.client.state.next = ap (λ (x : ClientCore CO CI). x.state.next) p.does.same in
       let streams : (k : ℕ) → stream_at v.client.state k ≡ stream_at w.client.state k = λ k. ap (λ (x : ClientCore CO CI). stream_at x.state k) p.does.same in
       keeps_still c s set f trace (with_client w v.client) (DropCall id) Done (λ k. (refl, refl))
       (taken_back_keeps w trace v.client (λ k. nat_eq k id) (takes_back seals w.client id) CancelledDuringWrite i
       (back_throws_only (is_some w.client.connection.failure) (throws w.client.state.kind seals) (waits (call_at w.client.state id)))
-      (λ e k owner. none_waits k id w (back_waits_only (is_some w.client.connection.failure) (throws w.client.state.kind seals) (waits (call_at w.client.state id)) e) owner)
+      (λ e k owner. (none_waits k id w (back_waits_only (is_some w.client.connection.failure) (throws w.client.state.kind seals) (waits (call_at w.client.state id)) e) owner, never))
       (ap (λ (x : ClientCore CO CI). x.connection) p.does.same) next
       (λ left stories. at_one (PlaceOf w trace left i.down v.client.state) id
-      (drops_here (later_of w v.client.state next id) (stories id) refl refl refl refl refl p.does.own (streams id))
+      (drops_here (later_of w v.client.state next id) (stories id) never refl refl refl refl refl p.does.own (streams id))
       (λ k e. elsewhere (later_of w v.client.state next k) (stories k) refl refl refl refl refl (p.does.others k (λ same. e (sym same))) (streams k))))
 
   -- A moment comes.
   due_some : (now k : ℕ) (w : Net CO CI SO SI) → due_at now (call_at w.client.state k) ≡ true → call_at w.client.state k ≡ None → ⊥
   due_some now k w due none = let bad : due_at now None ≡ true = ap (due_at now) (sym none) ∙ due in cc
 
-  tick_lives : (w : Net CO CI SO SI) (now : ℕ) (x : ClientCore CO CI) → Kept trace w → Ticks seals w.client now x → Kept trace (with_client w x)
-  tick_lives w now x i p =
+  -- in a clean run no call is due
+  abbrev NoneDue : Net CO CI SO SI → ℕ → Type 0
+  NoneDue w now = set.clean → (k : ℕ) → expired_at now (call_at w.client.state k) ≡ call_at w.client.state k
+
+  never_due : (now : ℕ) (e : Option Call) → expired_at now e ≡ e → due_at now e ≡ true → ⊥
+  never_due now None same due = cc
+  never_due now (Some (Waiting d)) same due = let bad : Some Expired ≡ Some (Waiting d) = ap (λ (b : Bool). Some (if b then Expired else Waiting d)) (sym due) ∙ same in cc
+  never_due now (Some Expired) same due = cc
+  never_due now (Some (Ended o)) same due = cc
+
+  tick_lives : (w : Net CO CI SO SI) (now : ℕ) (x : ClientCore CO CI) → Kept trace w → NoneDue w now → Ticks seals w.client now x → Kept trace (with_client w x)
+  tick_lives w now x i undue p =
       let next : x.state.next ≡ w.client.state.next = ap (λ (y : Client). y.next) p.expires.same in
       let streams : (k : ℕ) → stream_at x.state k ≡ stream_at w.client.state k = λ k. ap (λ (y : Client). stream_at y k) p.expires.same in
-      taken_back_keeps w trace x (λ id. due_at now (call_at w.client.state id)) (throws w.client.state.kind seals) DeadlineDuringWrite i (λ e. e) (λ e k due. due_some now k w due) p.connection next
-      (λ left stories k. expires_here now (later_of w x.state next k) (stories k) refl refl refl refl refl (p.expires.calls k) (streams k))
+      taken_back_keeps w trace x (λ id. due_at now (call_at w.client.state id)) (throws w.client.state.kind seals) DeadlineDuringWrite i (λ e. e) (λ e k due. (due_some now k w due, λ clean. never_due now (call_at w.client.state k) (undue clean k) due)) p.connection next
+      (λ left stories k. expires_here now (later_of w x.state next k) (stories k) (λ clean. undue clean k) refl refl refl refl refl (p.expires.calls k) (streams k))
 
-  pub keeps_passes : (w : Net CO CI SO SI) (now : ℕ) (x : ClientCore CO CI) (failure : Option Failure) → Kept trace w → Passes seals failure w.client now x → Kept trace (with_client w x)
-  keeps_passes w now x None i p = tick_lives w now x i p
-  keeps_passes w now x (Some why) i p = subst (λ (y : ClientCore CO CI). Kept trace (with_client w y)) (sym p) i
+  pub keeps_passes : (w : Net CO CI SO SI) (now : ℕ) (x : ClientCore CO CI) (failure : Option Failure) → Kept trace w → NoneDue w now → Passes seals failure w.client now x → Kept trace (with_client w x)
+  keeps_passes w now x None i undue p = tick_lives w now x i undue p
+  keeps_passes w now x (Some why) i undue p = subst (λ (y : ClientCore CO CI). Kept trace (with_client w y)) (sym p) i

@@ -4,18 +4,22 @@ use Rattle.ttrpc_headline.proofs.Keeps.{Keeps, keeps_still}
 use Rattle.ttrpc_headline.proofs.Numbers.{AreRight, Numbers}
 use Rattle.ttrpc_headline.proofs.OneWay.{goes_on, joins, not_both, OneWay}
 use Rattle.ttrpc_headline.proofs.Payloads.{too_late, unknown_never}
-use Rattle.ttrpc_headline.proofs.Flights.{flight_as, IsAnswering, IsData, IsGoing, IsRefusing, item_going, sends_close, sends_data, sends_refusal, sends_response, SendsFlight}
-use Rattle.ttrpc_headline.proofs.Jobs.{any_last, any_more, aside_plain, deaf, gone_at, gone_others, is_at, job_is, mailed, not_here, untouched}
+use Rattle.ttrpc_headline.proofs.Flights.{flight_as, GivesSo, IsAnswering, IsData, IsGoing, IsRefusing, item_going, sends_close, sends_data, sends_refusal, sends_response, SendsFlight}
+use Rattle.ttrpc_headline.proofs.Jobs.{all_due, any_last, any_more, aside_plain, deaf, gone_at, gone_others, is_at, job_is, mailed, not_here, too_soon, untouched}
 use Rattle.ttrpc_story.proofs.AtServer.{IsDown, never_down}
 use Rattle.ttrpc_story.proofs.Here.{answered_work, Birth, Born, first_act, here_at, IsAnswer, Origin, request_of}
 use Rattle.ttrpc_story.proofs.Downward.{Goes, IsSentAs, told_plain}
 use Rattle.ttrpc_story.proofs.Reading.{IsPlain}
 use Rattle.ttrpc_story.proofs.Flowing.{IsPlainFailure}
 use Rattle.ttrpc_story.proofs.Place.{elsewhere, Later, Place, Settings, unchanged}
+use Rattle.ttrpc_story.proofs.Tidy.{IsSentBack}
+use Rattle.ttrpc_story.proofs.Turns.{IsAnsweredBy}
+use Rattle.ttrpc_events.specs.Clean.{is_clean_answer, may_be_error, reaches}
+use Rattle.ttrpc_events.specs.Trace.{some_of}
 use Rattle.ttrpc_story.proofs.Events.{answers_here, ends_here, errs_up_here, HasNone, hears_up_here, job_within, responds_here, running_of, sends_down_here, takes_here, unheard_up_here}
 use Rattle.ttrpc_pair.proofs.Words.{unheard as unheard_of}
-use Rattle.ttrpc_pair.proofs.Words.{[], ActiveJob, all_at, AllByRecursion, Answer, Answers, AnswersBy, AnswersError, ap, append-nil, append_assoc, arith, AsyncRules, at_stays, between_own, Bool, changed_at, codes, Done, Drain, drained, DropReceiver, Drops, EndsOne, EndsStream, EndStream, Entry, eq-eqb, Err, Error, Event, ExpireAll, Failure, false, Finish, Finishes, Flying, given, Halves, Handed, HandlerError, Hands, has_response, id_of, if◌then◌else◌, inl, inr, is_stream, IsEnd, IsErrorResponse, IsResponse, Item, Job, job_at, JobReceives, jobs_at, last_id, List, Mail, mapped_at, nat_eq, Net, None, Ok, Option, Others, Outbox, parcels, pushed_other, pushed_own, ReceivesBy, ReceivesFrom, Recv, refl, Respond, Responds, RespondsTo, Response, Result, Rules, safe_limit, Send, SendsAll, SendsItem, Sent, Server, ServerCore, ServerEnd, ServerPasses, ServerTicks, Some, stream_id_of, subst, sym, SyncRules, Take, Ticket, timeout_response, true, under_both, was_made, with_server, without_receiver, ℕ, ◌++◌, ◌∙◌, ◌∷◌, ◌≡◌, ◌≢◌, ◌≤◌}
-use Rattle.ttrpc_story.proofs.Words.{Act, act_of, Answered, asked_by, EndedDown, ending_thing, flow_of, HasOkStatus, heard, HeardUp, last_thing, only_if, Ran, SentDown, silent, StreamBody, Thing, ThingEnd, ThingItem, told, told_by, unheard, untold, with_entry, with_mail}
+use Rattle.ttrpc_pair.proofs.Words.{[], ActiveJob, all_at, all_in_front, AllByRecursion, Answer, Answers, AnswersBy, AnswersError, ap, append-nil, append_assoc, arith, AsyncRules, at_stays, between_own, Bool, call_at, changed_at, codes, Done, Drain, drained, DropReceiver, Drops, EndsOne, EndsStream, EndStream, Entry, eq-eqb, Err, Error, Event, ExpireAll, Failure, false, Finish, Finishes, Flying, given, Halves, Handed, HandlerError, Hands, has_response, id_of, if◌then◌else◌, inl, inr, is_due, is_stream, IsEnd, IsErrorResponse, IsResponse, IsSentFor, Item, Job, job_at, JobReceives, jobs_at, last_id, List, Mail, mapped_at, nat_eq, Net, None, Ok, Option, Others, Outbox, parcels, pushed_other, pushed_own, ReceivesBy, ReceivesFrom, Recv, refl, Respond, Responds, RespondsTo, Response, Result, Rules, safe_limit, Send, SendsAll, SendsItem, Sent, Server, ServerCore, ServerEnd, ServerPasses, ServerTicks, Some, stream_id_of, subst, sym, SyncRules, Take, Ticket, timeout_response, true, under_both, was_made, with_server, without_receiver, ℕ, ◌++◌, ◌∙◌, ◌∷◌, ◌≡◌, ◌≢◌, ◌≤◌}
+use Rattle.ttrpc_story.proofs.Words.{Act, act_of, Answered, asked_by, EndedDown, ending_thing, flow_of, HasOkStatus, heard, HeardUp, last_thing, only_if, Ran, SentDown, silent, StreamBody, Thing, ThingEnd, ThingItem, told, told_by, unheard, untold, Waiting, with_entry, with_mail}
 use Rattle.std.specs.List.{list_any}
 
 module _ {CO CI SO SI : Type 0} (c : Halves CO CI) (s : Halves SO SI) (seals : Bool) (set : Settings) (f : ℕ → ℕ) (trace : List Entry) where
@@ -80,23 +84,25 @@ module _ {CO CI SO SI : Type 0} (c : Halves CO CI) (s : Halves SO SI) (seals : B
   ending result = ending_thing set.rules set.limit result
 
   -- what is sent for it, if anything is: if it ends a call well, it is the answer; and it brings what was put in
-  record Concludes (w : Net CO CI SO SI) (x : ServerCore SO SI) (k : ℕ) (o : Origin) (done : List Act) (result : Result (Option Response) Error) : Type 0 where
+  record Concludes (w : Net CO CI SO SI) (x : ServerCore SO SI) (j : ActiveJob) (kind : Bool) (o : Origin) (done : List Act) (result : Result (Option Response) Error) : Type 0 where
     more : List Flying
-    downs : AllByRecursion (IsDown k true o done) more
+    downs : AllByRecursion (IsDown j.header.stream_id true o done) more
+    back : set.clean → IsAnsweredBy set j kind result more
     goes : Goes (ending result) more
     sent : (flights : List Flying) → OneWay s.out c.in_ w.server.connection.outbox w.client.connection w.down flights → OneWay s.out c.in_ x.connection.outbox w.client.connection w.down (flights ++ more)
 
-  of_flight : (w : Net CO CI SO SI) (x : ServerCore SO SI) (k : ℕ) (o : Origin) (done : List Act) (result : Result (Option Response) Error) → SendsFlight s.out w.server.connection.outbox (IsAnswering k o done (ending result)) x.connection.outbox
-      → Concludes w x k o done result
-  of_flight w x k o done result r = record {
+  of_flight : (w : Net CO CI SO SI) (x : ServerCore SO SI) (j : ActiveJob) (kind : Bool) (o : Origin) (done : List Act) (result : Result (Option Response) Error) (given : Option (Result Response Error))
+      → ((y : Flying) → GivesSo given y → IsAnsweredBy set j kind result (y ∷ [])) → SendsFlight s.out w.server.connection.outbox (IsAnswering j.header.stream_id o done (ending result) given) x.connection.outbox → Concludes w x j kind o done result
+  of_flight w x j kind o done result given back r = record {
     more = r.y ∷ [];
     downs = (r.is.down, tt);
+    back = λ clean. back r.y r.is.gives;
     goes = r.is.goes;
     sent = λ flights way. joins s.out c.in_ w.server.connection.outbox x.connection.outbox w.client.connection w.down flights r.y r.queue r.seal r.sound way;
   }
 
-  of_nothing : (w : Net CO CI SO SI) (x : ServerCore SO SI) (k : ℕ) (o : Origin) (done : List Act) (error : Error) → x.connection.outbox ≡ w.server.connection.outbox → Concludes w x k o done (Err error)
-  of_nothing w x k o done error same = record { more = []; downs = tt; goes = λ wanted. inr refl; sent = λ flights way. rw (same, append-nil) way }
+  of_nothing : (w : Net CO CI SO SI) (x : ServerCore SO SI) (j : ActiveJob) (kind : Bool) (o : Origin) (done : List Act) (error : Error) → (set.clean → ⊥) → x.connection.outbox ≡ w.server.connection.outbox → Concludes w x j kind o done (Err error)
+  of_nothing w x j kind o done error never same = record { more = []; downs = tt; back = λ clean. absurd (never clean); goes = λ wanted. inr refl; sent = λ flights way. rw (same, append-nil) way }
 
   down_at : (k i : ℕ) (o : Origin) (done : List Act) (down more : List Flying) → AllByRecursion (IsDown k true o done) more → k ≢ i → parcels i (down ++ more) ≡ parcels i down
   down_at k i o done down [] downs e = ap (parcels i) (append-nil down)
@@ -117,7 +123,7 @@ module _ {CO CI SO SI : Type 0} (c : Halves CO CI) (s : Halves SO SI) (seals : B
   concludes : (w : Net CO CI SO SI) (event : Event) (id : ℕ) (kind : Bool) (result : Result (Option Response) Error) (x : ServerCore SO SI) → (i : Kept trace w) → AreRight f w.server.state.jobs.list
       → IsEnding event id kind result → (j : ActiveJob) → (ends : EndsOne w.server.state.jobs.list id j x.state.jobs.list)
       → HasNone (around set (has_response w) w.client.state.next) j
-      → ((b : Birth) → j.header.stream_id ≤ last_id → Concludes w x j.header.stream_id (Born b) (answered_work b j kind result) result)
+      → ((b : Birth) → j.header.stream_id ≤ last_id → Concludes w x j kind (Born b) (answered_work b j kind result) result)
       → x.state.jobs.last ≡ w.server.state.jobs.last → x.connection.decoder ≡ w.server.connection.decoder → x.connection.inbound ≡ w.server.connection.inbound → (x.connection.failure ≡ None → w.server.connection.failure ≡ None)
       → Kept (with_entry trace event Done) (with_server w x)
   concludes w event id kind result x i right says j ends none sends last held inbound lives =
@@ -129,7 +135,7 @@ module _ {CO CI SO SI : Type 0} (c : Halves CO CI) (s : Halves SO SI) (seals : B
       let done = answered_work running.b j kind result in
       server_changes w t x w.responded (i.down ++ r.more) i
       (at_one (PlaceOf w (has_response w) t i.up (i.down ++ r.more) x.state.jobs.list) k
-      (answers_here j kind result r.more running r.downs r.goes (heard (act_of f k) k (f id) trace event Done (Answered kind result) (says k).0 a.stream) (heard (flow_of f k) k (f id) trace event Done (EndedDown result) (says k).1 a.stream) refl
+      (answers_here j kind result r.more running r.downs r.goes r.back (heard (act_of f k) k (f id) trace event Done (Answered kind result) (says k).0 a.stream) (heard (flow_of f k) k (f id) trace event Done (EndedDown result) (says k).1 a.stream) refl
       (gone_at w.server.state.jobs.list id j x.state.jobs.list ends k) (down_own k (Born running.b) done i.down r.more r.downs) refl refl)
       (λ n e. elsewhere (as_was w n) (i.stories n) (unheard (act_of f n) n (f id) trace event Done (Answered kind result) (says n).0 (λ same. e (sym a.stream ∙ same)))
       (unheard (flow_of f n) n (f id) trace event Done (EndedDown result) (says n).1 (λ same. e (sym a.stream ∙ same))) refl (gone_others w.server.state.jobs.list id j x.state.jobs.list ends n e) (down_at k n (Born running.b) done i.down r.more r.downs e) refl refl))
@@ -139,6 +145,19 @@ module _ {CO CI SO SI : Type 0} (c : Halves CO CI) (s : Halves SO SI) (seals : B
   same_ending : (w : Net CO CI SO SI) (response : Response) → IsSet w → last_thing (told_by w.server.state.rules (safe_limit s.out w.server.connection.outbox.half) response) response ≡ ending (Ok (Some response))
   same_ending w response ruled = rw (ruled.0, ruled.1) refl
 
+  -- so is what is told of it
+  sent_back : (w : Net CO CI SO SI) (response : Response) (result : Result Response Error) → IsSet w → IsSentFor set.rules result response → (y : Flying) → GivesSo (Some (told_by w.server.state.rules (safe_limit s.out w.server.connection.outbox.half) response)) y
+      → IsSentBack set.rules set.limit (some_of result) (y ∷ [])
+  sent_back w response result ruled is y gives = record {
+    answer = result;
+    is = refl;
+    outcome = told_by set.rules set.limit response;
+    told = (response, is, refl);
+    x = y;
+    down_is = refl;
+    lands = gives ∙ rw (ruled.0, ruled.1) refl;
+  }
+
   -- what is answered is the answer
   is_answer : (b : Birth) (j : ActiveJob) (kind : Bool) (response : Response) → is_stream j.body ≡ kind → IsAnswer (Born b) (answered_work b j kind (Ok (Some response))) response
   is_answer b j kind response e = (j.id, kind, ap (λ (t : Bool). first_act b ∷ Ran j.id t (asked_by t (request_of b)) ∷ Answered kind (Ok (Some response)) ∷ []) e)
@@ -146,23 +165,26 @@ module _ {CO CI SO SI : Type 0} (c : Halves CO CI) (s : Halves SO SI) (seals : B
   -- a response is sent for it
   sent_answer : (w : Net CO CI SO SI) (x : ServerCore SO SI) (j : ActiveJob) (kind : Bool) (response : Response) (sent : List Sent) → IsSet w → IsResponse response → is_stream j.body ≡ kind
       → Responds w.server.state.rules (safe_limit s.out w.server.connection.outbox.half) j.header.stream_id response sent → SendsAll s.out w.server.connection.outbox sent x.connection.outbox
-      → (b : Birth) → j.header.stream_id ≤ last_id → Concludes w x j.header.stream_id (Born b) (answered_work b j kind (Ok (Some response))) (Ok (Some response))
+      → (b : Birth) → j.header.stream_id ≤ last_id → Concludes w x j kind (Born b) (answered_work b j kind (Ok (Some response))) (Ok (Some response))
   sent_answer w x j kind response sent ruled is unary responds sends b within =
       let k : ℕ = j.header.stream_id in
       let done = answered_work b j kind (Ok (Some response)) in
-      of_flight w x k (Born b) done (Ok (Some response))
-      (subst (λ (t : Thing). SendsFlight s.out w.server.connection.outbox (IsAnswering k (Born b) done t) x.connection.outbox) (same_ending w response ruled)
+      let given = Some (told_by w.server.state.rules (safe_limit s.out w.server.connection.outbox.half) response) in
+      of_flight w x j kind (Born b) done (Ok (Some response)) given (λ y gives one. (sym unary ∙ one, sent_back w response (Ok response) ruled refl y gives))
+      (subst (λ (t : Thing). SendsFlight s.out w.server.connection.outbox (IsAnswering k (Born b) done t given) x.connection.outbox) (same_ending w response ruled)
       (sends_response s.out w.server.connection.outbox w.server.state.rules k response sent x.connection.outbox (Born b) done within is (λ ok. is_answer b j kind response unary) responds sends))
 
   -- or one to an error
-  sent_error : (w : Net CO CI SO SI) (x : ServerCore SO SI) (j : ActiveJob) (kind : Bool) (error : Error) (response : Response) (sent : List Sent) → IsErrorResponse error response → IsResponse response
+  sent_error : (w : Net CO CI SO SI) (x : ServerCore SO SI) (j : ActiveJob) (kind : Bool) (error : Error) (response : Response) (sent : List Sent) → IsSet w → w.server.state.rules ≡ AsyncRules → is_stream j.body ≡ kind → IsErrorResponse error response → IsResponse response
       → Responds w.server.state.rules (safe_limit s.out w.server.connection.outbox.half) j.header.stream_id response sent → SendsAll s.out w.server.connection.outbox sent x.connection.outbox
-      → (b : Birth) → j.header.stream_id ≤ last_id → Concludes w x j.header.stream_id (Born b) (answered_work b j kind (Err error)) (Err error)
-  sent_error w x j kind error response sent why is responds sends b within =
+      → (b : Birth) → j.header.stream_id ≤ last_id → Concludes w x j kind (Born b) (answered_work b j kind (Err error)) (Err error)
+  sent_error w x j kind error response sent ruled async unary why is responds sends b within =
       let k : ℕ = j.header.stream_id in
       let done = answered_work b j kind (Err error) in
-      of_flight w x k (Born b) done (Err error)
-      (flight_as (IsRefusing k) (IsAnswering k (Born b) done ThingEnd) (λ y f. record { down = never_down f.never; goes = λ wanted. f.turned wanted (ThingEnd ∷ []) [] })
+      let outcome = told_by w.server.state.rules (safe_limit s.out w.server.connection.outbox.half) response in
+      of_flight w x j kind (Born b) done (Err error) (Some outcome)
+      (λ y gives one. (sym unary ∙ one, sent_back w response (Err error) ruled (subst (λ (r : Rules). IsSentFor r (Err error) response) (sym async ∙ ruled.0) why) y gives))
+      (flight_as (IsRefusing k outcome) (IsAnswering k (Born b) done ThingEnd (Some outcome)) (λ y f. record { down = never_down f.never; goes = λ wanted. f.turned wanted (ThingEnd ∷ []) []; gives = f.gives })
       (sends_refusal s.out w.server.connection.outbox w.server.state.rules k response sent x.connection.outbox within
       (record { is = is; never_ok = λ ok. unknown_never why.0 (subst (λ (r : Response). HasOkStatus r.status) why.2 ok) }) responds sends))
 
@@ -175,39 +197,41 @@ module _ {CO CI SO SI : Type 0} (c : Halves CO CI) (s : Halves SO SI) (seals : B
   of_stream w j stream has unary = let bad : true ≡ false = sym stream ∙ unary in cc
 
   by_answer : (w : Net CO CI SO SI) (event : Event) (id : ℕ) (result : Result (Option Response) Error) (response : Response) (x : ServerCore SO SI) → (i : Kept trace w) → AreRight f w.server.state.jobs.list → IsEnding event id false result
-      → (p : Answers s.out w.server id response x) → ((b : Birth) → p.job.header.stream_id ≤ last_id → Concludes w x p.job.header.stream_id (Born b) (answered_work b p.job false result) result) → has_response w id ≡ false
+      → (p : Answers s.out w.server id response x) → ((b : Birth) → p.job.header.stream_id ≤ last_id → Concludes w x p.job false (Born b) (answered_work b p.job false result) result) → has_response w id ≡ false
       → Kept (with_entry trace event Done) (with_server w x)
   by_answer w event id result response x i right says p sends none =
       concludes w event id false result x i right says p.job p.ends (none_yet w id p.job p.ends.at.is_job none) sends
       (ap (λ (y : ServerCore SO SI). y.state.jobs.last) p.same) (ap (λ (y : ServerCore SO SI). y.connection.decoder) p.same) (ap (λ (y : ServerCore SO SI). y.connection.inbound) p.same) (λ alive. p.alive)
 
   -- A handler failed, under sync rules.
-  keeps_drops : (w : Net CO CI SO SI) (id : ℕ) (error : Error) (x : ServerCore SO SI) → Kept trace w → AreRight f w.server.state.jobs.list → Drops w.server id x → has_response w id ≡ false
+  keeps_drops : (w : Net CO CI SO SI) (id : ℕ) (error : Error) (x : ServerCore SO SI) → Kept trace w → AreRight f w.server.state.jobs.list → Drops w.server id x → has_response w id ≡ false → (set.clean → ⊥)
       → Kept (with_entry trace (Answer id (Err error)) Done) (with_server w x)
-  keeps_drops w id error x i right p none =
+  keeps_drops w id error x i right p none never =
       concludes w (Answer id (Err error)) id false (Err error) x i right (λ k. (refl, refl)) p.job p.ends (none_yet w id p.job p.ends.at.is_job none)
-      (λ b within. of_nothing w x p.job.header.stream_id (Born b) (answered_work b p.job false (Err error)) error (ap (λ (y : ServerCore SO SI). y.connection.outbox) p.same))
+      (λ b within. of_nothing w x p.job false (Born b) (answered_work b p.job false (Err error)) error never (ap (λ (y : ServerCore SO SI). y.connection.outbox) p.same))
       (ap (λ (y : ServerCore SO SI). y.state.jobs.last) p.same) (ap (λ (y : ServerCore SO SI). y.connection.decoder) p.same) (ap (λ (y : ServerCore SO SI). y.connection.inbound) p.same)
       (λ alive. absurd (not_both x.connection.failure HandlerError (ap (λ (y : ServerCore SO SI). y.connection.failure) p.same) alive))
 
-  keeps_error : (r : Rules) (w : Net CO CI SO SI) (id : ℕ) (error : Error) (x : ServerCore SO SI) → Kept trace w → AreRight f w.server.state.jobs.list → AnswersError s.out r w.server id error x → has_response w id ≡ false
+  keeps_error : (r : Rules) (w : Net CO CI SO SI) (id : ℕ) (error : Error) (x : ServerCore SO SI) → Kept trace w → IsSet w → w.server.state.rules ≡ r → (r ≡ SyncRules → set.clean → ⊥) → AreRight f w.server.state.jobs.list → AnswersError s.out r w.server id error x → has_response w id ≡ false
       → Kept (with_entry trace (Answer id (Err error)) Done) (with_server w x)
-  keeps_error SyncRules w id error x i right p none = keeps_drops w id error x i right p none
-  keeps_error AsyncRules w id error x i right p none =
+  keeps_error SyncRules w id error x i ruled rules never right p none = keeps_drops w id error x i right p none (never refl)
+  keeps_error AsyncRules w id error x i ruled rules never right p none =
       let q = p.2 in
-      by_answer w (Answer id (Err error)) id (Err error) p.0 x i right (λ k. (refl, refl)) q (sent_error w x q.job false error p.0 q.sent p.1 p.3 q.responds q.sends) none
+      by_answer w (Answer id (Err error)) id (Err error) p.0 x i right (λ k. (refl, refl)) q (sent_error w x q.job false error p.0 q.sent ruled rules q.unary p.1 p.3 q.responds q.sends) none
 
   -- A job is answered by what its handler gave.
-  pub keeps_answer : (w : Net CO CI SO SI) (id : ℕ) (result : Result Response Error) (x : ServerCore SO SI) → Kept trace w → IsSet w → AreRight f w.server.state.jobs.list → AnswersBy c s seals w.server id result x → has_response w id ≡ false
+  pub keeps_answer : (w : Net CO CI SO SI) (id : ℕ) (result : Result Response Error) (x : ServerCore SO SI) → Kept trace w → IsSet w → (set.clean → is_clean_answer set.rules (Answer id result) Done ≡ true) → AreRight f w.server.state.jobs.list → AnswersBy c s seals w.server id result x → has_response w id ≡ false
       → Kept (with_entry trace (Answer id result) Done) (with_server w x)
-  keeps_answer w id (Ok response) x i ruled right p none =
+  keeps_answer w id (Ok response) x i ruled clean right p none =
       let q = p.1 in
       by_answer w (Answer id (Ok response)) id (Ok (Some response)) response x i right (λ k. (refl, refl)) q (sent_answer w x q.job false response q.sent ruled p.0 q.unary q.responds q.sends) none
-  keeps_answer w id (Err error) x i ruled right p none = keeps_error w.server.state.rules w id error x i right p none
+  keeps_answer w id (Err error) x i ruled clean right p none =
+      keeps_error w.server.state.rules w id error x i ruled refl
+      (λ sync is. let bad : false ≡ true = ap may_be_error (sym (sym ruled.0 ∙ sync)) ∙ clean is in cc) right p none
 
   -- A stream's job ends by what its handler gave.
   by_end : (w : Net CO CI SO SI) (id : ℕ) (result : Result (Option Response) Error) (x : ServerCore SO SI) → Kept trace w → AreRight f w.server.state.jobs.list → (p : EndsStream s.out w.server id result x)
-      → ((b : Birth) → p.job.header.stream_id ≤ last_id → Concludes w x p.job.header.stream_id (Born b) (answered_work b p.job true result) result) → Kept (with_entry trace (EndStream id result) Done) (with_server w x)
+      → ((b : Birth) → p.job.header.stream_id ≤ last_id → Concludes w x p.job true (Born b) (answered_work b p.job true result) result) → Kept (with_entry trace (EndStream id result) Done) (with_server w x)
   by_end w id result x i right p sends =
       concludes w (EndStream id result) id true result x i right (λ k. (refl, refl)) p.job p.ends (of_stream w p.job p.stream) sends
       (ap (λ (y : ServerCore SO SI). y.state.jobs.last) p.same) (ap (λ (y : ServerCore SO SI). y.connection.decoder) p.same) (ap (λ (y : ServerCore SO SI). y.connection.inbound) p.same) (λ alive. p.alive)
@@ -221,8 +245,8 @@ module _ {CO CI SO SI : Type 0} (c : Halves CO CI) (s : Halves SO SI) (seals : B
       → Kept (with_entry trace (EndStream id result) Done) (with_server w x)
   keeps_end w id (Ok None) x i ruled right p is =
       let k : ℕ = p.job.header.stream_id in
-      by_end w id (Ok None) x i right p (λ b within. of_flight w x k (Born b) (answered_work b p.job true (Ok None)) (Ok None)
-      (flight_as (IsGoing k ThingEnd) (IsAnswering k (Born b) (answered_work b p.job true (Ok None)) ThingEnd) (λ y g. record { down = never_down g.never; goes = g.goes })
+      by_end w id (Ok None) x i right p (λ b within. of_flight w x p.job true (Born b) (answered_work b p.job true (Ok None)) (Ok None) None (λ y gives one. let bad : true ≡ false = sym p.stream ∙ one in cc)
+      (flight_as (IsGoing k ThingEnd) (IsAnswering k (Born b) (answered_work b p.job true (Ok None)) ThingEnd None) (λ y g. record { down = never_down g.never; goes = g.goes; gives = tt })
       (sends_close s.out w.server.connection.outbox k p.sends.0 x.connection.outbox within p.sends.1 p.sends.2)))
   keeps_end w id (Ok (Some response)) x i ruled right p is =
       by_end w id (Ok (Some response)) x i right p
@@ -230,7 +254,7 @@ module _ {CO CI SO SI : Type 0} (c : Halves CO CI) (s : Halves SO SI) (seals : B
   keeps_end w id (Err error) x i ruled right p is =
       let q = p.sends.2 in
       by_end w id (Err error) x i right p
-      (sent_error w x p.job true error p.sends.0 q.0 p.sends.1 p.sends.3 (by_rules w p.job.header.stream_id p.sends.0 q.0 p.rules q.1) q.2)
+      (sent_error w x p.job true error p.sends.0 q.0 ruled p.rules p.stream p.sends.1 p.sends.3 (by_rules w p.job.header.stream_id p.sends.0 q.0 p.rules q.1) q.2)
 
   -- ---- a response is queued for a job, which goes on
 
@@ -254,7 +278,7 @@ module _ {CO CI SO SI : Type 0} (c : Halves CO CI) (s : Halves SO SI) (seals : B
       (λ ok. is_answer running.b j false response unary) p.does.responds p.does.sends in
       server_changes w t x (w.responded ++ id ∷ []) (i.down ++ r.y ∷ []) i
       (at_one (PlaceOf w had2 t i.up (i.down ++ r.y ∷ []) x.state.jobs.list) k
-      (responds_here j response r.y running (later k) (any_last (λ m. nat_eq m j.id) w.responded id (eq-eqb id j.id (sym at.is_job))) unary r.is.down (subst (λ (t : Thing). IsSentAs t r.y) (same_ending w response ruled) r.is.goes)
+      (responds_here j response r.y running (later k) (any_last (λ m. nat_eq m j.id) w.responded id (eq-eqb id j.id (sym at.is_job))) unary r.is.down (subst (λ (t : Thing). IsSentAs t r.y) (same_ending w response ruled) r.is.goes) (sym ruled.0 ∙ p.rules) (λ one. (refl, sent_back w response (Ok response) ruled refl r.y r.is.gives))
       (heard (act_of f k) k (f id) trace (Respond id response) Done (Answered false (Ok (Some response))) refl a.stream) (heard (flow_of f k) k (f id) trace (Respond id response) Done (EndedDown (Ok (Some response))) refl a.stream)
       refl (is k) (pushed_own id_of k r.y i.down r.is.down.stream) refl refl)
       (λ n e. elsewhere (later n) (i.stories n) (unheard (act_of f n) n (f id) trace (Respond id response) Done (Answered false (Ok (Some response))) refl (λ h. e (sym a.stream ∙ h)))
@@ -273,7 +297,7 @@ module _ {CO CI SO SI : Type 0} (c : Halves CO CI) (s : Halves SO SI) (seals : B
       let own : jobs_at w.server.state.jobs.list k ≡ jobs_at p.ends.at.front k ++ j ∷ jobs_at p.ends.at.back k = ap (λ js. jobs_at js k) p.ends.at.is ∙ between_own stream_id_of k p.ends.at.front p.ends.at.back j refl in
       server_changes w trace x w.responded i.down i
       (at_one (PlaceOf w (has_response w) trace i.up i.down x.state.jobs.list) k
-      (ends_here (jobs_at p.ends.at.front k) (jobs_at p.ends.at.back k) j [] (i.stories k) own tt tt refl refl refl (gone_at w.server.state.jobs.list id j x.state.jobs.list p.ends k) (sym (append-nil (parcels k i.down))) refl refl)
+      (ends_here (jobs_at p.ends.at.front k) (jobs_at p.ends.at.back k) j [] (i.stories k) own tt tt (λ clean. inl (refl, p.ends.at.taken)) refl refl refl (gone_at w.server.state.jobs.list id j x.state.jobs.list p.ends k) (sym (append-nil (parcels k i.down))) refl refl)
       (λ n e. elsewhere (as_was w n) (i.stories n) refl refl refl (gone_others w.server.state.jobs.list id j x.state.jobs.list p.ends n e) refl refl refl))
       (ap (λ (y : ServerCore SO SI). y.state.jobs.last) p.same) (ap (λ (y : ServerCore SO SI). y.connection.decoder) p.same) (ap (λ (y : ServerCore SO SI). y.connection.inbound) p.same)
       (λ alive. p.alive) (rw p.same i.downward)
@@ -335,12 +359,12 @@ module _ {CO CI SO SI : Type 0} (c : Halves CO CI) (s : Halves SO SI) (seals : B
       (hears_by w.server.state.rules w id given x.state.jobs.list i right plain p.own)
 
   -- A receiver is dropped.
-  pub keeps_unheard_up : (w : Net CO CI SO SI) (id : ℕ) → Kept trace w → Kept (with_entry trace (DropReceiver (ServerEnd id)) Done) (with_server w (unheard_of w.server id))
-  keeps_unheard_up w id i =
+  pub keeps_unheard_up : (w : Net CO CI SO SI) (id : ℕ) → Kept trace w → (set.clean → ⊥) → Kept (with_entry trace (DropReceiver (ServerEnd id)) Done) (with_server w (unheard_of w.server id))
+  keeps_unheard_up w id i never =
       let event = DropReceiver (ServerEnd id) in
       let g = changed_at id without_receiver in
       jobs_change w (with_entry trace event Done) (unheard_of w.server id) i refl refl
-      (λ n. unheard_up_here g (at_stays id without_receiver) (deaf id) (i.stories n) (silent (act_of f n) trace event Done refl) (silent (flow_of f n) trace event Done refl) refl
+      (λ n. unheard_up_here g (at_stays id without_receiver) (deaf id) (i.stories n) never (silent (act_of f n) trace event Done refl) (silent (flow_of f n) trace event Done refl) refl
       (mapped_at g (at_stays id without_receiver) w.server.state.jobs.list n) refl refl refl)
 
   -- The server takes no more.
@@ -374,21 +398,25 @@ module _ {CO CI SO SI : Type 0} (c : Halves CO CI) (s : Halves SO SI) (seals : B
 
   -- ---- jobs expire
 
+  -- no call that waits is due
+  abbrev pub NoneIsDue : Net CO CI SO SI → ℕ → Type 0
+  NoneIsDue w now = (k : ℕ) (d : Option ℕ) → call_at w.client.state k ≡ Some (Waiting d) → reaches now d ≡ false
+
   -- what jobs that expire leave of a state and an outbox
   record Expired (w : Net CO CI SO SI) (up down : List Flying) (from : Outbox SO) (new : Server) (to : Outbox SO) : Type 0 where
     more : List Flying
     stories : Stories set (has_response w) f trace up (down ++ more) new.jobs.list w.client.state
     sent : (flights : List Flying) → OneWay s.out c.in_ from w.client.connection w.down flights → OneWay s.out c.in_ to w.client.connection w.down (flights ++ more)
 
-  expires : (w : Net CO CI SO SI) (up down : List Flying) (old : Server) (from : Outbox SO) (expired : List ActiveJob) (new : Server) (to : Outbox SO) → Stories set (has_response w) f trace up down old.jobs.list w.client.state
-      → ExpireAll s.out old from expired new to → Expired w up down from new to
-  expires w up down old from [] new to stories e = record {
+  expires : (w : Net CO CI SO SI) (now : ℕ) (up down : List Flying) (old : Server) (from : Outbox SO) (expired : List ActiveJob) (new : Server) (to : Outbox SO) → Stories set (has_response w) f trace up down old.jobs.list w.client.state
+      → (set.clean → NoneIsDue w now) → AllByRecursion (λ (j : ActiveJob). is_due now j ≡ true) expired → ExpireAll s.out old from expired new to → Expired w up down from new to
+  expires w now up down old from [] new to stories undue due e = record {
     more = [];
     stories = subst (λ (t : Server). Stories set (has_response w) f trace up (down ++ []) t.jobs.list w.client.state) (sym e.0)
         (subst (λ (d : List Flying). Stories set (has_response w) f trace up d old.jobs.list w.client.state) (sym (append-nil down)) stories);
     sent = λ flights way. rw (e.1, append-nil) way;
   }
-  expires w up down old from (j ∷ js) new to stories e =
+  expires w now up down old from (j ∷ js) new to stories undue due e =
       let mid = e.0 in
       let one = e.2 in
       let k : ℕ = j.header.stream_id in
@@ -398,10 +426,10 @@ module _ {CO CI SO SI : Type 0} (c : Halves CO CI) (s : Halves SO SI) (seals : B
       let r = own_refers c s old.rules k timeout_response one.sent from e.1 within too_late one.answers one.sends in
       let first : Stories set (has_response w) f trace up (down ++ r.more) mid.jobs.list w.client.state =
       at_one (PlaceOf w (has_response w) trace up (down ++ r.more) mid.jobs.list) k
-      (ends_here (jobs_at one.at.front k) (jobs_at one.at.back k) j r.more (stories k) own r.never r.turned refl refl refl (ap (λ xs. jobs_at xs k) list ∙ under_both stream_id_of k one.at.front one.at.back) (more_own k down r.more r.never) refl refl)
+      (ends_here (jobs_at one.at.front k) (jobs_at one.at.back k) j r.more (stories k) own r.never r.turned (λ clean. inr (too_soon now (call_at w.client.state k) j due.0 (undue clean k))) refl refl refl (ap (λ xs. jobs_at xs k) list ∙ under_both stream_id_of k one.at.front one.at.back) (more_own k down r.more r.never) refl refl)
       (λ n d. elsewhere (as_was w n) (stories n) refl refl refl
       (ap (λ xs. jobs_at xs n) list ∙ sym (ap (λ xs. jobs_at xs n) one.at.is ∙ not_here n one.at.front one.at.back j d)) (more_at k n down r.more r.never d) refl refl) in
-      let later = expires w up (down ++ r.more) mid e.1 js new to first e.3 in
+      let later = expires w now up (down ++ r.more) mid e.1 js new to first undue due.1 e.3 in
       record {
         more = r.more ++ later.more;
         stories = subst (λ (d : List Flying). Stories set (has_response w) f trace up d new.jobs.list w.client.state) (append_assoc down r.more later.more) later.stories;
@@ -412,14 +440,15 @@ module _ {CO CI SO SI : Type 0} (c : Halves CO CI) (s : Halves SO SI) (seals : B
   expire_last [] old from new to e = ap (λ (t : Server). t.jobs.last) e.0
   expire_last (j ∷ js) old from new to e = expire_last js e.0 e.1 new to e.3 ∙ ap (λ (t : Server). t.jobs.last) e.2.state
 
-  ticks : (w : Net CO CI SO SI) (now : ℕ) (x : ServerCore SO SI) → (failure : w.server.connection.failure ≡ None) → Kept trace w → ServerTicks s.out w.server now x → Kept trace (with_server w x)
-  ticks w now x alive i p =
-      let e = expires w i.up i.down w.server.state w.server.connection.outbox p.expired x.state x.connection.outbox i.stories p.expire in
+  ticks : (w : Net CO CI SO SI) (now : ℕ) (x : ServerCore SO SI) → (failure : w.server.connection.failure ≡ None) → Kept trace w → (set.clean → NoneIsDue w now) → ServerTicks s.out w.server now x → Kept trace (with_server w x)
+  ticks w now x alive i undue p =
+      let due = all_in_front (λ (j : ActiveJob). is_due now j ≡ true) p.expired p.left (subst (λ (js : List ActiveJob). AllByRecursion (λ (j : ActiveJob). is_due now j ≡ true) js) p.due (all_due now w.server.state.jobs.list)) in
+      let e = expires w now i.up i.down w.server.state w.server.connection.outbox p.expired x.state x.connection.outbox i.stories undue due p.expire in
       server_changes w trace x w.responded (i.down ++ e.more) i e.stories (expire_last p.expired w.server.state w.server.connection.outbox x.state x.connection.outbox p.expire)
       (ap (λ (y : ServerCore SO SI). y.connection.decoder) p.same) (ap (λ (y : ServerCore SO SI). y.connection.inbound) p.same) (λ lives. alive) (e.sent i.down i.downward)
 
   -- A moment comes for the server.
-  pub keeps_ticks : (r : Rules) (failure : Option Failure) (w : Net CO CI SO SI) (now : ℕ) (x : ServerCore SO SI) → w.server.connection.failure ≡ failure → Kept trace w → ServerPasses s.out r failure w.server now x → Kept trace (with_server w x)
-  keeps_ticks SyncRules failure w now x is i same = subst (λ (y : ServerCore SO SI). Kept trace (with_server w y)) (sym same) i
-  keeps_ticks AsyncRules None w now x is i p = ticks w now x is i p
-  keeps_ticks AsyncRules (Some why) w now x is i same = subst (λ (y : ServerCore SO SI). Kept trace (with_server w y)) (sym same) i
+  pub keeps_ticks : (r : Rules) (failure : Option Failure) (w : Net CO CI SO SI) (now : ℕ) (x : ServerCore SO SI) → w.server.connection.failure ≡ failure → Kept trace w → (set.clean → NoneIsDue w now) → ServerPasses s.out r failure w.server now x → Kept trace (with_server w x)
+  keeps_ticks SyncRules failure w now x is i undue same = subst (λ (y : ServerCore SO SI). Kept trace (with_server w y)) (sym same) i
+  keeps_ticks AsyncRules None w now x is i undue p = ticks w now x is i undue p
+  keeps_ticks AsyncRules (Some why) w now x is i undue same = subst (λ (y : ServerCore SO SI). Kept trace (with_server w y)) (sym same) i

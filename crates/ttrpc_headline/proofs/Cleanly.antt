@@ -1,6 +1,6 @@
 -- What is right of each step of a clean run that ends drained: it is clean, both sides live before and behind it, both pipes are
 -- whole, and the deadlines are those of the trace.
-use Rattle.ttrpc_headline.proofs.Living.{clean_front, fresh_open, lived, lives_at_end, stays_open}
+use Rattle.ttrpc_headline.proofs.Living.{fresh_open, lived, lives_at_end, stays_open}
 use Rattle.ttrpc_headline.proofs.Timed.{fresh_timed, IsTimed, timed}
 use Rattle.ttrpc_headline.specs.Living.{IsOpen, Lives}
 use Rattle.ttrpc_events.specs.Clean.{AreClean, IsClean, IsCleanAt, IsDrained}
@@ -34,10 +34,6 @@ module _ {CO CI SO SI : Type 0} (c : Halves CO CI) (s : Halves SO SI) (seals : B
         whole = stays_open c s seals w e.event e.reply r.0 at.event_is at.reply_is r.1 z.whole;
         timed = timed c s seals t w e.event e.reply r.0 at.event_is at.reply_is r.1 z.timed;
       }
-
-  -- a front of it
-  pub front_run : (t : List Entry) (w : Net CO CI SO SI) (front back : List Entry) (mid v : Net CO CI SO SI) → Runs c s seals mid back v → IsCleanRun t w (front ++ back) v → IsCleanRun t w front mid
-  front_run t w front back mid v behind z = record { clean = clean_front c s seals rules f t front back z.clean; lives = lived c s seals mid back v behind z.lives; whole = z.whole; timed = z.timed }
 
   pub fresh_run : (w : Net CO CI SO SI) (trace : List Entry) (v : Net CO CI SO SI) → IsFresh c s w → IsClean rules f trace → IsDrained trace → Runs c s seals w trace v → IsCleanRun [] w trace v
   fresh_run w trace v n clean drained run = record {

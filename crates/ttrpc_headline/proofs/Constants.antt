@@ -8,7 +8,7 @@ pub record Constant {O I : Type 0} (out : OutboundTransform O) (old new : Server
   pub services : new.state.services ≡ old.state.services
   pub limit : safe_limit out new.connection.outbox.half ≡ safe_limit out old.connection.outbox.half
 
-services_stay : {O : Type 0} (out : OutboundTransform O) (row : Row) (old : Server) (o : O) (header : MessageHeader) (now : ℕ) (sent : List Sent) (new : Server) → Does out row old o header now sent new
+pub services_stay : {O : Type 0} (out : OutboundTransform O) (row : Row) (old : Server) (o : O) (header : MessageHeader) (now : ℕ) (sent : List Sent) (new : Server) → Does out row old o header now sent new
     → new.services ≡ old.services
 services_stay out (MakeJob request) old o header now sent new does = ap (λ (s : Server). s.services) does.0
 services_stay out (MakeStream request) old o header now sent new does = ap (λ (s : Server). s.services) does.0

@@ -1,16 +1,18 @@
 -- A delivery: each flight that comes in acts as it was sent, on one call or stream. No bytes, no seals that are opened.
 use Rattle.ttrpc_headline.proofs.Numbers.{acts_right, AreRight, asks, made_of, Numbers, passed_by}
 use Rattle.ttrpc_headline.proofs.OneWay.{joins, OneWay}
-use Rattle.ttrpc_headline.proofs.Payloads.{ask_row, IsAskRow, IsItemRow, IsRefusal, item_row}
+use Rattle.ttrpc_headline.proofs.Constants.{services_stay}
+use Rattle.ttrpc_headline.proofs.Payloads.{ask_row, IsItemRow, IsRefusal, IsRowOf, item_row}
 use Rattle.ttrpc_headline.proofs.Flights.{IsRefusing, sends_refusal, SendsFlight}
 use Rattle.ttrpc_story.proofs.AtServer.{IsItem, IsJob, IsNever}
-use Rattle.ttrpc_story.proofs.Here.{here_at, request_of}
+use Rattle.ttrpc_story.proofs.Here.{Asking, Birth, Born, ByCall, ByOpen, first_act, Here, here_at, request_of}
+use Rattle.ttrpc_story.proofs.Tidy.{IsPatient}
 use Rattle.ttrpc_story.proofs.Upward.{box_up, flags_of, IsMade}
 use Rattle.ttrpc_story.proofs.Downward.{IsTurned}
-use Rattle.ttrpc_story.proofs.Place.{Around, arrives_here, comes_of, elsewhere, IsAsked, IsPassed, Later, passes_here, Place, puts_here, refers_here, Settings, unchanged, untaken}
+use Rattle.ttrpc_story.proofs.Place.{Around, arrives_here, comes_of, elsewhere, IsAsked, IsHeldBy, IsNoMethod, IsPassed, Later, passes_here, Place, puts_here, refers_here, Settings, TidyOf, unchanged, untaken}
 use Rattle.ttrpc_story.proofs.Events.{down_of, lands_here}
-use Rattle.ttrpc_pair.proofs.Words.{[], Absent, ActiveJob, ActsOn, all_behind, AllByRecursion, ap, append-nil, append_assoc, arith, AsyncRules, Bool, brought_by, call_at, calling, case_of, case_row, cases_eq, changed_under, Client, Connection, Does, Entry, eq-eqb, Event, false, Flying, Halves, id_of, Ignore, inl, inlet_of, inr, is_stream, jobs_at, Landing, LandsOn, LandsOnce, last_id, List, MakeJob, MakeStream, MESSAGE_TYPE_REQUEST, MessageHeader, nat_eq, new_job, Opened, OutboundTransform, Outbox, parcels, Pipe, pushed_other, pushed_own, PutIn, refl, Reply, Request, request_bytes, Response, Row, row_elsewhere, row_made, Rules, rules, rules_stay, Scene, SendResponse, SendsAll, SendsOwnAnswer, Sent, Server, serving, Some, stream_body, stream_id_of, subst, sym, SyncRules, true, unary_body, under_other, under_own, under_stays, without_payload, ℕ, ◌++◌, ◌+◌, ◌∙◌, ◌∷◌, ◌≡◌, ◌≢◌, ◌≤◌, ◌⊎◌}
-use Rattle.ttrpc_story.proofs.Words.{act_of, asked_by, flow_of, Open, silent, with_entry, with_mail, ◌%◌}
+use Rattle.ttrpc_pair.proofs.Words.{[], Absent, ActiveJob, ActsOn, all_behind, AllByRecursion, ap, append-nil, append_assoc, arith, AsyncRules, Bool, brought_by, call_at, calling, case_of, case_row, cases_eq, changed_under, Client, Connection, deadline_of, Does, Entry, eq-eqb, Event, false, Flying, Halves, has_method, id_of, Ignore, inl, inlet_of, inr, is_stream, jobs_at, Landing, LandsOn, LandsOnce, last_id, List, MakeJob, MakeStream, MESSAGE_TYPE_REQUEST, MessageHeader, nat_eq, new_job, Opened, Option, OutboundTransform, Outbox, parcels, Pipe, pushed_other, pushed_own, PutIn, refl, Reply, Request, request_bytes, Response, Result, Row, row_elsewhere, row_made, Rules, rules, rules_stay, Scene, SendResponse, SendsAll, SendsOwnAnswer, Sent, Server, Services, serving, Some, stream_body, stream_id_of, subst, sym, SyncRules, true, unary_body, under_other, under_own, under_stays, without_payload, ℕ, ◌++◌, ◌+◌, ◌∙◌, ◌∷◌, ◌≡◌, ◌≢◌, ◌≤◌, ◌⊎◌}
+use Rattle.ttrpc_story.proofs.Words.{act_of, acts, asked_by, Call, calls, calls_work, deadline_in, Error, flow_of, Open, silent, Waiting, with_entry, with_mail, ◌%◌}
 
 abbrev pub around : Settings → (ℕ → Bool) → ℕ → Around
 around set had next = record { set = set; had = had; next = next }
@@ -84,13 +86,44 @@ module _ {CO CI SO SI : Type 0} (c : Halves CO CI) (s : Halves SO SI) where
   unfoldable pub nothing_refers : (k : ℕ) (old new : Outbox SO) → new ≡ old → Refers k old new
   nothing_refers k old new same = record { more = []; never = tt; turned = tt; sent = λ y pipe flights way. rw (same, append-nil) way }
 
-  pub flight_refers : (k : ℕ) (old new : Outbox SO) → SendsFlight s.out old (IsRefusing k) new → Refers k old new
-  flight_refers k old new r = record { more = r.y ∷ []; never = (r.is.never, tt); turned = (r.is.turned, tt); sent = λ y pipe flights way. joins s.out c.in_ old new y pipe flights r.y r.queue r.seal r.sound way }
+  pub flight_refers : (k : ℕ) (outcome : Result Response Error) (old new : Outbox SO) → SendsFlight s.out old (IsRefusing k outcome) new → Refers k old new
+  flight_refers k outcome old new r = record { more = r.y ∷ []; never = (r.is.never, tt); turned = (r.is.turned, tt); sent = λ y pipe flights way. joins s.out c.in_ old new y pipe flights r.y r.queue r.seal r.sound way }
 
   -- the core's own answer
   pub own_refers : (rules : Rules) (k : ℕ) (r : Response) (sent : List Sent) (old new : Outbox SO) → k ≤ last_id → IsRefusal r → SendsOwnAnswer rules s.out old.half k r sent → SendsAll s.out old sent new → Refers k old new
-  own_refers rules k r sent old new within is (inl responds) sends = flight_refers k old new (sends_refusal s.out old rules k r sent new within is responds sends)
+  own_refers rules k r sent old new within is (inl responds) sends = flight_refers k _ old new (sends_refusal s.out old rules k r sent new within is responds sends)
   own_refers rules k r sent old new within is (inr left) sends = nothing_refers k old new (none_sent s.out old sent new left.0 sends)
+
+-- In a clean run a call that waits is due no later than it would be if it were made at this moment.
+abbrev pub IsTimely : Settings → (ℕ → ℕ) → List Entry → Client → ℕ → Type 0
+IsTimely set f trace client now = set.clean → (k : ℕ) (q : Request) (d : Option ℕ) → call_at client k ≡ Some (Waiting d) → calls (acts f k trace) ≡ q ∷ [] → IsPatient d (deadline_of now q.timeout_nano)
+
+-- so the job that is made of it is due no earlier
+held_by : (set : Settings) (b : Birth) (call : Option Call) (job : ActiveJob) (now : ℕ) → ((q : Request) (d : Option ℕ) → b ≡ ByCall q → call ≡ Some (Waiting d) → IsPatient d (deadline_of now q.timeout_nano)) → job.body ≡ unary_body set.rules now (request_of b) → IsHeldBy set b call job
+held_by set (ByOpen q up down) call job now timely is = tt
+held_by set (ByCall q) call job now timely is = λ method. record {
+  unary = ap is_stream is ∙ unary_kind set.rules now q;
+  patient = λ d waits. rw is (unary_patient set.rules d (timely q d refl waits));
+  untimed = λ sync. rw (is, sync) refl;
+}
+  where
+    unary_patient : (r : Rules) (d : Option ℕ) → IsPatient d (deadline_of now q.timeout_nano) → IsPatient d (deadline_in (unary_body r now q))
+    unary_patient SyncRules d p = tt
+    unary_patient AsyncRules d p = p
+
+-- a request that names no method makes no such job
+no_held : (set : Settings) (b : Birth) (call : Option Call) (job : ActiveJob) → has_method set.services (request_of b).service (request_of b).method ≡ false → IsHeldBy set b call job
+no_held set (ByCall q) call job none = λ method. let bad : true ≡ false = sym method ∙ none in cc
+no_held set (ByOpen q up down) call job none = tt
+
+-- and one that is refused under an odd id names none
+refused_call : (set : Settings) (b : Birth) (x : Flying) (h : Here) → TidyOf set (Born b) (Asking x) h → (nat_eq (x.frame.message.header.stream_id % 2) 0 ≡ false → has_method set.services (request_of b).service (request_of b).method ≡ false) → IsNoMethod set b
+refused_call set (ByCall q) x h t none = λ method. let bad : true ≡ false = sym method ∙ none (t method).1 in cc
+refused_call set (ByOpen q up down) x h t none = tt
+
+-- the call that a request in flight is of
+one_call : {w : Around} {k : ℕ} {h : Here} {x : Flying} {u : List Flying} (a : IsAsked w k h x u) (q : Request) → a.b ≡ ByCall q → calls h.acts ≡ q ∷ []
+one_call {h = h} a q is = calls_work h.acts ∙ ap calls a.known.server.works_is ∙ ap (λ (b : Birth). calls (first_act b ∷ [])) is
 
 module _ {CO CI SO SI : Type 0} (c : Halves CO CI) (s : Halves SO SI) (set : Settings) (had : ℕ → Bool) (f : ℕ → ℕ) (trace : List Entry) (client : Client) where
   -- what was turned comes
@@ -119,16 +152,16 @@ module _ {CO CI SO SI : Type 0} (c : Halves CO CI) (s : Halves SO SI) (set : Set
       → job.id ≡ old.state.jobs.last + 1 → new.state.jobs.list ≡ old.state.jobs.list ++ job ∷ [] → new.state.jobs.last ≡ old.state.jobs.last + 1
       → (a : HereUp x rest down old.state.jobs.list) → IsJob set.rules x.frame.message.header.stream_id (Some (asked_by (is_stream job.body) (request_of a.b))) job
       → (x.frame.message.header.flags ≡ flags_of a.b → IsMade a.b job.body) → (is_stream job.body ≡ true → nat_eq (x.frame.message.header.stream_id % 2) 0 ≡ false)
-      → ComesUp c s set had f trace rest down client old new
+      → (set.clean → IsHeldBy set a.b (call_at client x.frame.message.header.stream_id) job) → ComesUp c s set had f trace rest down client old new
   unfolding nothing_refers
-  makes job x rest down old new sent stories numbers right sends none id is last a is_job made odd =
+  makes job x rest down old new sent stories numbers right sends none id is last a is_job made odd held =
       let k : ℕ = x.frame.message.header.stream_id in
       let jobs : List ActiveJob = old.state.jobs.list in
       let mine = (all_behind (λ (j : ActiveJob). f j.id ≡ j.header.stream_id) jobs (job ∷ []) (subst (λ (js : List ActiveJob). AreRight f js) is right)).0 in
       let asked : asks x ≡ true = eq-eqb x.frame.message.header.type_ MESSAGE_TYPE_REQUEST a.known.server.is_work.type_ in
       refers_comes k rest down old new (nothing_refers c s k old.outbox new.outbox (none_sent s.out old.outbox sent new.outbox none sends))
       (turns_up x rest down [] jobs new.state.jobs.list stories tt
-      (arrives_here job a is_job made odd refl refl refl (ap (λ js. jobs_at js k) is ∙ pushed_own stream_id_of k job jobs is_job.stream) (ap (parcels k) (append-nil down)) refl refl)
+      (arrives_here job a is_job made odd held refl refl refl (ap (λ js. jobs_at js k) is ∙ pushed_own stream_id_of k job jobs is_job.stream) (ap (parcels k) (append-nil down)) refl refl)
       (λ i e. ap (λ js. jobs_at js i) is ∙ pushed_other stream_id_of i job jobs (λ same. e (sym is_job.stream ∙ same))))
       (subst (λ (n : ℕ). Numbers f n rest client.next) (sym last)
       (made_of f old.state.jobs.last x rest client.next asked (ap f (sym id) ∙ mine ∙ is_job.stream) a.known.server.within numbers))
@@ -136,7 +169,7 @@ module _ {CO CI SO SI : Type 0} (c : Halves CO CI) (s : Halves SO SI) (set : Set
   -- nothing is made of a frame, and something may be answered
   refers : (x : Flying) (rest down : List Flying) (old new : Scene Server SO SI) → Stories set had f trace (x ∷ rest) down old.state.jobs.list client
       → Numbers f old.state.jobs.last (x ∷ rest) client.next → new.state ≡ old.state → Refers c s x.frame.message.header.stream_id old.outbox new.outbox
-      → HereUp x rest down old.state.jobs.list ⊎ ((a : HerePassed x rest down old.state.jobs.list) × ((box_up a.so_far).receiver ≡ Open → (box_up a.so_far).ended ≡ true)) → ComesUp c s set had f trace rest down client old new
+      → ((a : HereUp x rest down old.state.jobs.list) × (set.clean → IsNoMethod set a.b)) ⊎ ((a : HerePassed x rest down old.state.jobs.list) × ((box_up a.so_far).receiver ≡ Open → (box_up a.so_far).ended ≡ true)) → ComesUp c s set had f trace rest down client old new
   refers x rest down old new stories numbers same r at =
       let k : ℕ = x.frame.message.header.stream_id in
       let jobs : new.state.jobs.list ≡ old.state.jobs.list = ap (λ (t : Server). t.jobs.list) same in
@@ -144,7 +177,7 @@ module _ {CO CI SO SI : Type 0} (c : Halves CO CI) (s : Halves SO SI) (set : Set
       (subst (λ (js : List ActiveJob). Stories set had f trace rest (down ++ r.more) js client) (sym jobs)
       (turns_up x rest down r.more old.state.jobs.list old.state.jobs.list stories r.never
       (elim at [
-        | inl a ↦ refers_here r.more a r.never r.turned refl refl refl refl (more_own k down r.more r.never) refl refl
+        | inl a ↦ refers_here r.more a.0 a.1 r.never r.turned refl refl refl refl (more_own k down r.more r.never) refl refl
         | inr a ↦ passes_here r.more a.0 r.never r.turned a.1 refl refl refl refl (more_own k down r.more r.never) refl refl
       ])
       (λ i e. refl)))
@@ -174,9 +207,9 @@ module _ {CO CI SO SI : Type 0} (c : Halves CO CI) (s : Halves SO SI) (set : Set
   -- what its row makes of a request
   by_ask_row : (row : Row) (now : ℕ) (x : Flying) (rest down : List Flying) (old new : Scene Server SO SI) (sent : List Sent) → old.state.rules ≡ set.rules → Stories set had f trace (x ∷ rest) down old.state.jobs.list client
       → Numbers f old.state.jobs.last (x ∷ rest) client.next → AreRight f new.state.jobs.list → SendsAll s.out old.outbox sent new.outbox
-      → Does s.out row old.state old.outbox.half x.frame.message.header now sent new.state → (a : HereUp x rest down old.state.jobs.list) → IsAskRow x.frame.message.header.stream_id set.rules (request_of a.b) row
+      → Does s.out row old.state old.outbox.half x.frame.message.header now sent new.state → (a : HereUp x rest down old.state.jobs.list) → IsTimely set f trace client now → IsRowOf set.services x.frame.message.header.stream_id set.rules (request_of a.b) row
       → ComesUp c s set had f trace rest down client old new
-  by_ask_row (MakeJob request) now x rest down old new sent ruled stories numbers right sends does a is =
+  by_ask_row (MakeJob request) now x rest down old new sent ruled stories numbers right sends does a timely is =
       let k : ℕ = x.frame.message.header.stream_id in
       let job = new_job (old.state.jobs.last + 1) x.frame.message.header request (unary_body old.state.rules now request) in
       let kind : is_stream job.body ≡ false = unary_kind old.state.rules now request in
@@ -186,7 +219,8 @@ module _ {CO CI SO SI : Type 0} (c : Halves CO CI) (s : Halves SO SI) (set : Set
         stream = refl;
         kind = λ sync. kind;
       }) (λ flags. inl kind) (λ stream. let bad : true ≡ false = sym stream ∙ kind in cc)
-  by_ask_row (MakeStream request) now x rest down old new sent ruled stories numbers right sends does a is =
+      (λ clean. held_by set a.b (call_at client k) job now (λ q d is_call waits. timely clean k q d waits (one_call a q is_call)) (rw (ruled, is) refl))
+  by_ask_row (MakeStream request) now x rest down old new sent ruled stories numbers right sends does a timely is =
       let job = new_job (old.state.jobs.last + 1) x.frame.message.header (without_payload request) (stream_body old.state.services.bare_openings x.frame.message.header.flags request.payload) in
       makes job x rest down old new sent stories numbers right sends does.1 refl (ap (λ (t : Server). t.jobs.list) does.0) (ap (λ (t : Server). t.jobs.last) does.0) a
       (record {
@@ -194,13 +228,16 @@ module _ {CO CI SO SI : Type 0} (c : Halves CO CI) (s : Halves SO SI) (set : Set
         stream = refl;
         kind = λ sync. let bad : SyncRules ≡ AsyncRules = sym sync ∙ is.1 in cc;
       }) (λ flags. inr (old.state.services.bare_openings, stream_is old.state.services.bare_openings flags is.0)) (λ stream. is.2)
+      (λ clean. no_held set a.b (call_at client x.frame.message.header.stream_id) job is.3)
     where
       stream_is : (bare : Bool) {flags flags2 : ℕ} {q q2 : Request} → flags ≡ flags2 → q ≡ q2 → stream_body bare flags q.payload ≡ stream_body bare flags2 q2.payload
       stream_is bare e same = rw (e, same) refl
-  by_ask_row (SendResponse response) now x rest down old new sent ruled stories numbers right sends does a is =
+  by_ask_row (SendResponse response) now x rest down old new sent ruled stories numbers right sends does a timely is =
+      let k : ℕ = x.frame.message.header.stream_id in
       refers x rest down old new stories numbers does.0
-      (own_refers c s old.state.rules x.frame.message.header.stream_id response sent old.outbox new.outbox a.known.server.within is does.1 sends) (inl a)
-  by_ask_row row now x rest down old new sent ruled stories numbers right sends does a is = absurd is
+      (own_refers c s old.state.rules k response sent old.outbox new.outbox a.known.server.within is.0 does.1 sends)
+      (inl (a, λ clean. refused_call set a.b x _ (a.known.tidy clean) is.1))
+  by_ask_row row now x rest down old new sent ruled stories numbers right sends does a timely is = absurd is
 
   -- and of data
   by_item_row : (row : Row) (now : ℕ) (x : Flying) (rest down : List Flying) (old new : Scene Server SO SI) (sent : List Sent) → Stories set had f trace (x ∷ rest) down old.state.jobs.list client
@@ -219,15 +256,16 @@ module _ {CO CI SO SI : Type 0} (c : Halves CO CI) (s : Halves SO SI) (set : Set
   abbrev row_at : Server → Flying → Row
   row_at t x = case_row t.rules t.services x.frame.message.header (case_of t.rules x.frame.message.header (Opened x.plain) (inlet_of (jobs_at t.jobs.list x.frame.message.header.stream_id)))
 
-  asked_row_is : (x : Flying) (rest down : List Flying) (t : Server) → t.rules ≡ set.rules → (a : HereUp x rest down t.jobs.list) → IsAskRow x.frame.message.header.stream_id set.rules (request_of a.b) (row_at t x)
-  asked_row_is x rest down t ruled a =
+  asked_row_is : (x : Flying) (rest down : List Flying) (t : Server) → t.rules ≡ set.rules → t.services ≡ set.services → (a : HereUp x rest down t.jobs.list) → IsRowOf set.services x.frame.message.header.stream_id set.rules (request_of a.b) (row_at t x)
+  asked_row_is x rest down t ruled served a =
       let h : MessageHeader = x.frame.message.header in
       let sent = a.known.server.is_work in
       let none : jobs_at t.jobs.list h.stream_id ≡ [] = a.known.server.jobs_is in
-      subst (λ (plain : List ℕ). IsAskRow h.stream_id set.rules (request_of a.b) (case_row t.rules t.services h (case_of t.rules h (Opened plain) (inlet_of (jobs_at t.jobs.list h.stream_id))))) (sym sent.plain)
-      (subst (λ (jobs : List ActiveJob). IsAskRow h.stream_id set.rules (request_of a.b) (case_row t.rules t.services h (case_of t.rules h (Opened (request_bytes (request_of a.b))) (inlet_of jobs)))) (sym none)
-      (subst (λ (r : Rules). IsAskRow h.stream_id set.rules (request_of a.b) (case_row r t.services h (case_of r h (Opened (request_bytes (request_of a.b))) Absent))) (sym ruled)
-      (ask_row set.rules t.services h (request_of a.b) sent.known sent.short sent.type_)))
+      subst (λ (v : Services). IsRowOf v h.stream_id set.rules (request_of a.b) (row_at t x)) served
+      (subst (λ (plain : List ℕ). IsRowOf t.services h.stream_id set.rules (request_of a.b) (case_row t.rules t.services h (case_of t.rules h (Opened plain) (inlet_of (jobs_at t.jobs.list h.stream_id))))) (sym sent.plain)
+      (subst (λ (jobs : List ActiveJob). IsRowOf t.services h.stream_id set.rules (request_of a.b) (case_row t.rules t.services h (case_of t.rules h (Opened (request_bytes (request_of a.b))) (inlet_of jobs)))) (sym none)
+      (subst (λ (r : Rules). IsRowOf t.services h.stream_id set.rules (request_of a.b) (case_row r t.services h (case_of r h (Opened (request_bytes (request_of a.b))) Absent))) (sym ruled)
+      (ask_row set.rules t.services h (request_of a.b) sent.known sent.short sent.type_))))
 
   passed_row_is : (x : Flying) (rest down : List Flying) (t : Server) → (a : HerePassed x rest down t.jobs.list) → IsItemRow x.frame.message.header.stream_id t.rules (inlet_of (jobs_at t.jobs.list x.frame.message.header.stream_id)) x.plain (row_at t x)
   passed_row_is x rest down t a =
@@ -236,31 +274,31 @@ module _ {CO CI SO SI : Type 0} (c : Halves CO CI) (s : Halves SO SI) (set : Set
       item_row t.rules t.services x.frame.message.header x.plain (inlet_of (jobs_at t.jobs.list k)) item.short item.type_
 
   -- one frame
-  comes_up : (now : ℕ) (x : Flying) (rest down : List Flying) (old new : Scene Server SO SI) (sent : List Sent) → old.state.rules ≡ set.rules
+  comes_up : (now : ℕ) (x : Flying) (rest down : List Flying) (old new : Scene Server SO SI) (sent : List Sent) → old.state.rules ≡ set.rules → old.state.services ≡ set.services → IsTimely set f trace client now
       → Does s.out (row_at old.state x) old.state old.outbox.half x.frame.message.header now sent new.state → SendsAll s.out old.outbox sent new.outbox
       → Stories set had f trace (x ∷ rest) down old.state.jobs.list client → Numbers f old.state.jobs.last (x ∷ rest) client.next → AreRight f new.state.jobs.list
       → ComesUp c s set had f trace rest down client old new
-  comes_up now x rest down old new sent ruled does sends stories numbers right =
+  comes_up now x rest down old new sent ruled served timely does sends stories numbers right =
       let k : ℕ = x.frame.message.header.stream_id in
       elim (comes_of x (parcels k rest) (stories k) (under_own id_of k x rest refl)) [
-        | inl a ↦ by_ask_row (row_at old.state x) now x rest down old new sent ruled stories numbers right sends does a (asked_row_is x rest down old.state ruled a)
+        | inl a ↦ by_ask_row (row_at old.state x) now x rest down old new sent ruled stories numbers right sends does a timely (asked_row_is x rest down old.state ruled served a)
         | inr a ↦ by_item_row (row_at old.state x) now x rest down old new sent stories numbers sends does a ruled (passed_row_is x rest down old.state a)
       ]
 
   -- frames, one after the other
-  pub feeds_up : (now : ℕ) (front rest down : List Flying) (old new : Scene Server SO SI) → old.state.rules ≡ set.rules
+  pub feeds_up : (now : ℕ) (front rest down : List Flying) (old new : Scene Server SO SI) → old.state.rules ≡ set.rules → old.state.services ≡ set.services → IsTimely set f trace client now
       → ActsOn (serving s.out s.in_) now old front new → Stories set had f trace (front ++ rest) down old.state.jobs.list client → Numbers f old.state.jobs.last (front ++ rest) client.next → AreRight f new.state.jobs.list
       → ComesUp c s set had f trace rest down client old new
-  feeds_up now [] rest down old new ruled p stories numbers right =
+  feeds_up now [] rest down old new ruled served timely p stories numbers right =
       subst (λ (x : Scene Server SO SI). ComesUp c s set had f trace rest down client old x) (sym p) (record {
         more = [];
         stories = subst (λ (d : List Flying). Stories set had f trace rest d old.state.jobs.list client) (sym (append-nil down)) stories;
         numbers = numbers;
         sent = λ y pipe flights way. rw append-nil way;
       })
-  feeds_up now (x ∷ front) rest down old new ruled p stories numbers right =
-      let first = comes_up now x (front ++ rest) down old p.0 p.1 ruled p.2 p.3 stories numbers (acts_right s f now front p.0 new p.4 right) in
-      let later = feeds_up now front rest (down ++ first.more) p.0 new (rules_stay s.out _ old.state _ _ now p.1 p.0.state p.2 ∙ ruled) p.4 first.stories first.numbers right in
+  feeds_up now (x ∷ front) rest down old new ruled served timely p stories numbers right =
+      let first = comes_up now x (front ++ rest) down old p.0 p.1 ruled served timely p.2 p.3 stories numbers (acts_right s f now front p.0 new p.4 right) in
+      let later = feeds_up now front rest (down ++ first.more) p.0 new (rules_stay s.out _ old.state _ _ now p.1 p.0.state p.2 ∙ ruled) (services_stay s.out _ old.state _ _ now p.1 p.0.state p.2 ∙ served) timely p.4 first.stories first.numbers right in
       record {
         more = first.more ++ later.more;
         stories = subst (λ (d : List Flying). Stories set had f trace rest d new.state.jobs.list client) (append_assoc down first.more later.more) later.stories;

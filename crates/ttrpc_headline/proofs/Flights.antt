@@ -6,7 +6,7 @@ use Rattle.ttrpc_story.proofs.AtClient.{status_cases}
 use Rattle.ttrpc_story.proofs.Upward.{thing_up}
 use Rattle.ttrpc_story.proofs.Downward.{IsSentAs, IsTurned, plain_status, thing_down, thing_of}
 use Rattle.ttrpc_story.proofs.Flowing.{Follows}
-use Rattle.ttrpc_pair.proofs.Words.{[], ap, arith, associated, Bool, by_status, Err, Error, false, fitted, Flying, Gives, inl, inr, IsCloseFrame, IsOwned, IsRequest, IsResponse, IsSound, landing_of, last_id, length, List, malformed_text, MESSAGE_LENGTH_MAX, MESSAGE_TYPE_REQUEST, MESSAGE_TYPE_RESPONSE, Ok, Opened, Others, OutboundTransform, Outbox, Queued, refl, Request, request_bytes, Responds, Response, response_bytes, Result, Rules, safe_limit, SendsAll, SendsData, SendsOne, Sent, subst, sym, true, with_frame, with_payload, ℕ, ◌<◌, ◌^◌, ◌∙◌, ◌∷◌, ◌≡◌, ◌≤◌, ◌⊎◌}
+use Rattle.ttrpc_pair.proofs.Words.{[], ap, arith, associated, Bool, by_status, Err, Error, false, fitted, Flying, Gives, inl, inr, IsCloseFrame, IsOwned, IsRequest, IsResponse, IsSound, landing_of, last_id, length, List, malformed_text, MESSAGE_LENGTH_MAX, MESSAGE_TYPE_REQUEST, MESSAGE_TYPE_RESPONSE, None, Ok, Opened, Option, Others, OutboundTransform, Outbox, Queued, refl, Request, request_bytes, Responds, Response, response_bytes, Result, Rules, safe_limit, SendsAll, SendsData, SendsOne, Sent, Some, subst, sym, true, with_frame, with_payload, ℕ, ◌<◌, ◌^◌, ◌∙◌, ◌∷◌, ◌≡◌, ◌≤◌, ◌⊎◌}
 use Rattle.ttrpc_story.proofs.Words.{Act, close_flags, closing_news, data_news, data_thing, HasOkStatus, last_thing, News, news_of, Thing, ThingEnd, ThingItem, ThingLast, told_by}
 
 -- A frame was sent: it is a flight such as this.
@@ -150,10 +150,16 @@ brings_as {r = r} {y = y} is f wanted =
     let news : news_of wanted y.frame.message.header (Opened y.plain) ≡ closing_news (by_status r.status r) = rw (f.plain) (response_news_is wanted y.frame.message.header r is f.short f.type_) in
     ap thing_of news
 
+-- where it is said what a frame gives a call, it gives that
+abbrev pub GivesSo : Option (Result Response Error) → Flying → Type 0
+GivesSo None y = Unit {0}
+GivesSo (Some outcome) y = landing_of y.frame.message.header (Opened y.plain) ≡ Gives outcome
+
 -- A frame of an answer: if it is an outcome that is Ok, it is the answer; and it brings what was put in.
-pub record IsAnswering (k : ℕ) (o : Origin) (done : List Act) (x : Thing) (y : Flying) : Type 0 where
+pub record IsAnswering (k : ℕ) (o : Origin) (done : List Act) (x : Thing) (given : Option (Result Response Error)) (y : Flying) : Type 0 where
   pub down : IsDown k true o done y
   pub goes : IsSentAs x y
+  pub gives : GivesSo given y
 
 well : (last : Response) (o : Origin) (done : List Act) → IsAnswerOf o done last → (x : Response) → by_status last.status last ≡ Ok x → (HasOkStatus last.status × (by_status last.status last ≡ Ok last)) ⊎ ((e : Error) × (by_status last.status last ≡ Err e))
     → HasOkStatus x.status × ((true ≡ true) × IsAnswer o done x)
@@ -172,38 +178,41 @@ last_follows r last other (inr h) = subst (λ (o : Result Response Error). Follo
 
 -- A response is such a flight.
 pub sends_response : {O : Type 0} (out : OutboundTransform O) (old : Outbox O) (rs : Rules) (k : ℕ) (r : Response) (sent : List Sent) (new : Outbox O) (o : Origin) (done : List Act) → k ≤ last_id → IsResponse r → IsAnswerOf o done r
-    → Responds rs (safe_limit out old.half) k r sent → SendsAll out old sent new → SendsFlight out old (IsAnswering k o done (last_thing (told_by rs (safe_limit out old.half) r) r)) new
+    → Responds rs (safe_limit out old.half) k r sent → SendsAll out old sent new → SendsFlight out old (IsAnswering k o done (last_thing (told_by rs (safe_limit out old.half) r) r) (Some (told_by rs (safe_limit out old.half) r))) new
 sends_response out old rs k r sent new o done within is answer p q =
     let limit = safe_limit out old.half in
     let last = fitted rs limit r in
     let m = fitted_is (MaySend o done) (may_refuse o done) rs limit r (omega arith) (record { is = is; answers = answer }) in
     let kept = fitted_is (λ (x : Response). (x ≡ r) ⊎ IsRefusal x) (λ x f. inr f) rs limit r (omega arith) (inl refl) in
-    flight_as (IsResponseFlight k last) (IsAnswering k o done (last_thing (told_by rs limit r) r))
+    flight_as (IsResponseFlight k last) (IsAnswering k o done (last_thing (told_by rs limit r) r) (Some (told_by rs limit r)))
     (λ y f. record {
       down = record { stream = f.stream; outcome = by_status last.status last; lands = lands_as m.is f; answer = λ x e. well last o done m.answers x e (status_cases last.status last) };
       goes = λ wanted. subst (λ (t : Thing). Follows (last_thing (told_by rs limit r) r ∷ []) (t ∷ [])) (sym (brings_as m.is f wanted)) (last_follows r last kept (status_cases last.status last));
+      gives = lands_as m.is f;
     }) (sends_last out old rs k r sent new within p q)
 
 -- A refusal is a flight that ends no call well, and brings a stream an error.
-pub record IsRefusing (k : ℕ) (y : Flying) : Type 0 where
+pub record IsRefusing (k : ℕ) (outcome : Result Response Error) (y : Flying) : Type 0 where
   pub never : IsNever k y
   pub turned : IsTurned y
+  pub gives : GivesSo (Some outcome) y
 
 refusal_gives : (last : Response) → IsRefusal last → (HasOkStatus last.status × (by_status last.status last ≡ Ok last)) ⊎ ((e : Error) × (by_status last.status last ≡ Err e)) → (e : Error) × (by_status last.status last ≡ Err e)
 refusal_gives last m (inl h) = absurd (m.never_ok h.0)
 refusal_gives last m (inr h) = h
 
-refusing : {k : ℕ} {y : Flying} (last : Response) → IsRefusal last → IsResponseFlight k last y → IsRefusing k y
+refusing : {k : ℕ} {y : Flying} (last : Response) → IsRefusal last → IsResponseFlight k last y → IsRefusing k (by_status last.status last) y
 refusing {k} {y} last m f =
     let h = refusal_gives last m (status_cases last.status last) in
     record {
       never = record { stream = f.stream; error = h.0; lands = lands_as m.is f ∙ ap (λ (o : Result Response Error). Gives o) h.1 };
       turned = λ wanted rest way. subst (λ (t : Thing). Follows rest (t ∷ way)) (sym (brings_as m.is f wanted ∙ ap (λ (o : Result Response Error). thing_of (closing_news o)) h.1)) (plain_status last.status last h.0 h.1);
+      gives = lands_as m.is f;
     }
 
 pub sends_refusal : {O : Type 0} (out : OutboundTransform O) (old : Outbox O) (rs : Rules) (k : ℕ) (r : Response) (sent : List Sent) (new : Outbox O) → k ≤ last_id → IsRefusal r
-    → Responds rs (safe_limit out old.half) k r sent → SendsAll out old sent new → SendsFlight out old (IsRefusing k) new
+    → Responds rs (safe_limit out old.half) k r sent → SendsAll out old sent new → SendsFlight out old (IsRefusing k (told_by rs (safe_limit out old.half) r)) new
 sends_refusal out old rs k r sent new within is p q =
     let limit = safe_limit out old.half in
     let last = fitted rs limit r in
-    flight_as (IsResponseFlight k last) (IsRefusing k) (λ y f. refusing last (fitted_is IsRefusal (λ x g. g) rs limit r (omega arith) is) f) (sends_last out old rs k r sent new within p q)
+    flight_as (IsResponseFlight k last) (IsRefusing k (told_by rs limit r)) (λ y f. refusing last (fitted_is IsRefusal (λ x g. g) rs limit r (omega arith) is) f) (sends_last out old rs k r sent new within p q)

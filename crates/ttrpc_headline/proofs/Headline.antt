@@ -1,33 +1,32 @@
--- THE HEADLINE, for any run from a fresh start: each step keeps the invariant, and the invariant has the headline in it.
+-- Each step of a run from a fresh start keeps the invariant; so at each place of it the items of each id are in order.
 use Rattle.ttrpc_headline.proofs.ByClient.{closed_sends, keeps_ask, keeps_call, keeps_drop, keeps_open, keeps_passes, keeps_recv, keeps_send, keeps_unheard, keeps_unsent}
 use Rattle.ttrpc_headline.proofs.ByServer.{IsSet, keeps_answer, keeps_drain, keeps_end, keeps_finish, keeps_hand, keeps_recv_up, keeps_respond, keeps_send_up, keeps_ticks, keeps_unheard_up}
-use Rattle.ttrpc_headline.proofs.Cleanly.{first_step, fresh_run, front_run, IsCleanRun, IsCleanStep, later_run}
+use Rattle.ttrpc_headline.proofs.Cleanly.{first_step, IsCleanRun, IsCleanStep, later_run}
 use Rattle.ttrpc_headline.proofs.Constants.{stepped}
-use Rattle.ttrpc_headline.proofs.Delivers.{IsQuiet}
+use Rattle.ttrpc_headline.proofs.Delivers.{IsQuiet, IsTimely}
+use Rattle.ttrpc_headline.proofs.Timed.{none_due, none_reached, passed_waits, was_timely}
 use Rattle.ttrpc_headline.proofs.Failing.{ArePlain, fresh_plain, plainly}
 use Rattle.ttrpc_headline.proofs.Keeps.{Keeps, keeps_still}
 use Rattle.ttrpc_headline.proofs.Moves.{break_down, break_up, carry_down, carry_up, client_fails, cut_down, cut_up, deliver_down, deliver_up, server_fails, stay_up}
-use Rattle.ttrpc_headline.proofs.Numbers.{AreRight, fresh_numbers, IsRightRun, Numbers, one_to_one, stream_of_run, streams_of}
+use Rattle.ttrpc_headline.proofs.Numbers.{AreRight, fresh_numbers, IsRightRun, Numbers}
 use Rattle.ttrpc_headline.proofs.OneWay.{starts}
-use Rattle.ttrpc_events.specs.Clean.{IsClean, IsDrained}
-use Rattle.ttrpc_events.specs.Told.{IsTold}
 use Rattle.ttrpc_story.proofs.Reading.{nothing_read}
 use Rattle.ttrpc_story.proofs.Place.{Settings}
-use Rattle.ttrpc_story.proofs.Events.{close_put, exactly_once, in_order_here, item_put}
+use Rattle.ttrpc_story.proofs.Events.{close_put, in_order_here, item_put}
 use Rattle.ttrpc_story.proofs.Here.{Idle, Unborn}
-use Rattle.ttrpc_pair.proofs.Words.{[], Answer, ap, append-nil, append_assoc, arith, Bool, call_at, CallEvent, Carry, ClientCore, ClientEnd, ClientSide, Close, Count, Cut, Deliver, Done, Drain, DropCall, DropReceiver, DropSender, EndStream, Entry, Event, Fail, failed_by_hand, false, Finish, given, Given, Halves, Handed, inl, inr, IsFresh, Item, jobs_at, List, Named, Net, OpenEvent, Outcome, Recv, refl, Refused, Reply, Respond, rules, Runs, safe_limit, Send, ServerCore, ServerEnd, ServerSide, Some, Steps, stream_at, subst, sym, Take, Tick, Ticket, Told, with_client, with_server, ℕ, ◌++◌, ◌∙◌, ◌∷◌, ◌≡◌}
-use Rattle.ttrpc_story.proofs.Words.{AreInOrder, ClosedUp, flows, SentUp, ThingEnd, ThingItem, with_entry}
+use Rattle.ttrpc_pair.proofs.Words.{[], Answer, ap, append-nil, append_assoc, arith, Bool, call_at, CallEvent, Carry, ClientCore, ClientEnd, ClientSide, Close, Count, Cut, Deliver, Done, Drain, DropCall, DropReceiver, DropSender, EndStream, Entry, Event, Fail, failed_by_hand, false, Finish, given, Given, Halves, Handed, inl, inr, IsFresh, Item, jobs_at, List, Named, Net, OpenEvent, Outcome, Recv, refl, Refused, Reply, Respond, rules, Runs, Send, ServerCore, ServerEnd, ServerSide, Some, Steps, stream_at, subst, sym, Take, Tick, Ticket, Told, true, with_client, with_server, ℕ, ◌++◌, ◌∙◌, ◌∷◌, ◌≡◌}
+use Rattle.ttrpc_story.proofs.Words.{act_of, AreInOrder, calls, ClosedUp, flows, SentUp, silent, ThingEnd, ThingItem, with_entry}
 
 module _ {CO CI SO SI : Type 0} (c : Halves CO CI) (s : Halves SO SI) (seals : Bool) (still : seals ≡ false → (from to : CO) (plain aad sealed : List ℕ) → c.out.seals from plain aad sealed to → to ≡ from)
     (fixed : (x y : SO) (plain aad sealed : List ℕ) → s.out.seals x plain aad sealed y → s.out.overhead y ≡ s.out.overhead x) (set : Settings) (f : ℕ → ℕ) where
-  abbrev Kept : List Entry → Net CO CI SO SI → Type 0
+  abbrev pub Kept : List Entry → Net CO CI SO SI → Type 0
   Kept trace w = Keeps c s set f trace w
 
-  abbrev Right : Net CO CI SO SI → Type 0
+  abbrev pub Right : Net CO CI SO SI → Type 0
   Right w = AreRight f w.server.state.jobs.list
 
   -- what is right of a step where the whole run is clean, and of what is left of a run
-  abbrev CleanStep : List Entry → Net CO CI SO SI → Event → Reply → Net CO CI SO SI → Type 0
+  abbrev pub CleanStep : List Entry → Net CO CI SO SI → Event → Reply → Net CO CI SO SI → Type 0
   CleanStep trace w event reply v = IsCleanStep c s seals set.rules f trace w event reply v
 
   abbrev pub CleanRun : List Entry → Net CO CI SO SI → List Entry → Net CO CI SO SI → Type 0
@@ -54,39 +53,47 @@ module _ {CO CI SO SI : Type 0} (c : Halves CO CI) (s : Halves SO SI) (seals : B
   at_moment : (t : List Entry) (w : Net CO CI SO SI) (now : ℕ) → Kept t w → Kept t (record w { moment = now })
   at_moment t w now i = record { up = i.up; down = i.down; stories = i.stories; numbers = i.numbers; own = i.own; upward = i.upward; downward = i.downward }
 
+  -- in a clean run calls are timely, once this happened, too
+  timely : (trace : List Entry) (w : Net CO CI SO SI) (event : Event) (reply : Reply) (v : Net CO CI SO SI) → ((k : ℕ) → act_of f k event reply ≡ []) → (set.clean → CleanStep trace w event reply v) → IsTimely set f (with_entry trace event reply) w.client.state w.moment
+  timely trace w event reply v quiet z clean k q d waits one =
+      was_timely f k q d trace w.moment ((z clean).timed.begun k d waits) (sym (ap calls (silent (act_of f k) trace event reply (quiet k))) ∙ one)
+
   -- a moment comes for both sides
-  ticks : (trace : List Entry) (w : Net CO CI SO SI) (now : ℕ) (v : Net CO CI SO SI) → Kept trace w → Steps c s seals w (Tick now) Done v → Kept (with_entry trace (Tick now) Done) v
-  ticks trace w now v i p =
+  ticks : (trace : List Entry) (w : Net CO CI SO SI) (now : ℕ) (v : Net CO CI SO SI) → Kept trace w → (set.clean → CleanStep trace w (Tick now) Done v) → Steps c s seals w (Tick now) Done v → Kept (with_entry trace (Tick now) Done) v
+  ticks trace w now v i z p =
       let x = with_client w v.client in
+      let undue = λ (clean : set.clean). none_reached c s seals set f trace w now i (z clean).timed (z clean).at.in_time in
       along _ _ v p.only (at_moment _ (with_server x v.server) now (quietly trace (with_server x v.server) (Tick now) Done (λ k. (refl, refl))
-      (keeps_ticks c s seals set f trace w.server.state.rules w.server.connection.failure x now v.server refl (keeps_passes c s seals still set f trace w now v.client w.client.connection.failure i p.does) p.serves)))
+      (keeps_ticks c s seals set f trace w.server.state.rules w.server.connection.failure x now v.server refl
+      (keeps_passes c s seals still set f trace w now v.client w.client.connection.failure i (λ clean. none_due c s seals set f trace w now i (z clean).timed (z clean).at.in_time) p.does)
+      (λ clean k d waits. undue clean k d (passed_waits c s seals w.client.connection.failure w.client now v.client k d p.does waits)) p.serves)))
 
   -- EACH STEP KEEPS IT, where the function is right before it and behind it.
   pub keeps : (trace : List Entry) (w : Net CO CI SO SI) (event : Event) (reply : Reply) (v : Net CO CI SO SI) → Kept trace w → Ruled w → Right w → Right v → (set.clean → CleanStep trace w event reply v) → Steps c s seals w event reply v → Kept (with_entry trace event reply) v
-  keeps trace w (CallEvent request) (Named id) v i u r r2 z p = along _ _ v p.2 (keeps_call c s seals still set f trace w request id v i p.0 p.1)
+  keeps trace w (CallEvent request) (Named id) v i u r r2 z p = along _ _ v p.2 (keeps_call c s seals still set f trace w request id v i p.0 p.1 p.3)
   keeps trace w (OpenEvent request up down) (Named id) v i u r r2 z p = along _ _ v p.2 (keeps_open c s seals still set f trace w request up down id v i p.0 p.1)
-  keeps trace w (Outcome id) (Given outcome) v i u r r2 z p = along _ _ v p.1 (keeps_ask c s seals still set f trace w id outcome v i p.0)
-  keeps trace w (DropCall id) Done v i u r r2 z p = along _ _ v p.only (keeps_drop c s seals still set f trace w id v i p)
+  keeps trace w (Outcome id) (Given outcome) v i u r r2 z p = along _ _ v p.1 (keeps_ask c s seals still set f trace w id outcome v i (λ clean. (z clean).before.client) p.0)
+  keeps trace w (DropCall id) Done v i u r r2 z p = along _ _ v p.only (keeps_drop c s seals still set f trace w id v i (λ clean. let bad : false ≡ true = (z clean).at.event_is in cc) p)
   keeps trace w (Recv (ClientEnd id)) (Item given) v i u r r2 z p = along _ _ v p.1 (keeps_recv c s seals still set f trace w id given v i u.plain.client p.0)
   keeps trace w (Recv (ServerEnd id)) (Item given) v i u r r2 z p = along _ _ v p.1 (keeps_recv_up c s seals set f trace w id given v.server i r u.plain.server p.0)
   keeps trace w (Send (ClientEnd id) item) (Ticket ticket) v i u r r2 z p = along _ _ v p.1 (keeps_send c s seals still set f trace w (Send (ClientEnd id) item) (Ticket ticket) id _ _ _ _ v (SentUp item) (ThingItem item) i (omega arith) p.0 (λ k. (refl, refl)) (item_put item) refl (λ e. refl))
   keeps trace w (Send (ServerEnd id) item) (Ticket ticket) v i u r r2 z p = along _ _ v p.1 (keeps_send_up c s seals set f trace w id item ticket v.server i r p.0)
   keeps trace w (Close id) (Ticket ticket) v i u r r2 z p = along _ _ v p.1 (keeps_send c s seals still set f trace w (Close id) (Ticket ticket) id _ _ _ _ v ClosedUp ThingEnd i (omega arith) p.0 (λ k. (refl, refl)) close_put refl (λ e. absurd (closed_sends (stream_at w.client.state id) e)))
   keeps trace w (DropReceiver (ClientEnd id)) Done v i u r r2 z p = along _ _ v p.1 (keeps_unheard c s seals still set f trace w id v i p.0)
-  keeps trace w (DropReceiver (ServerEnd id)) Done v i u r r2 z p = along _ _ v p.1 (keeps_unheard_up c s seals set f trace w id i)
+  keeps trace w (DropReceiver (ServerEnd id)) Done v i u r r2 z p = along _ _ v p.1 (keeps_unheard_up c s seals set f trace w id i (λ clean. let bad : false ≡ true = (z clean).at.event_is in cc))
   keeps trace w (DropSender id) Done v i u r r2 z p = along _ _ v p.1 (keeps_unsent c s seals still set f trace w id v i p.0)
   keeps trace w Take (Handed (Some job)) v i u r r2 z p = along _ _ v p.1 (keeps_hand c s seals set f trace w job v i p.0)
-  keeps trace w (Answer id result) Done v i u r r2 z p = along _ _ v p.1 (keeps_answer c s seals set f trace w id result v.server i u.is_set r p.0 p.2)
+  keeps trace w (Answer id result) Done v i u r r2 z p = along _ _ v p.1 (keeps_answer c s seals set f trace w id result v.server i u.is_set (λ clean. (z clean).at.answer_is) r p.0 p.2)
   keeps trace w (Respond id response) Done v i u r r2 z p = along _ _ v p.only (keeps_respond c s seals set f trace w id response v i u.is_set r p)
   keeps trace w (Finish id) Done v i u r r2 z p = along _ _ v p.1 (keeps_finish c s seals set f trace w id v.server i p.0)
   keeps trace w (EndStream id result) Done v i u r r2 z p = along _ _ v p.1 (keeps_end c s seals set f trace w id result v.server i u.is_set r p.0 p.2)
   keeps trace w Drain Done v i u r r2 z p = along _ _ v p (keeps_drain c s seals set f trace w i)
-  keeps trace w (Tick now) Done v i u r r2 z p = ticks trace w now v i p
+  keeps trace w (Tick now) Done v i u r r2 z p = ticks trace w now v i z p
   keeps trace w (Carry ClientSide n) (Count k) v i u r r2 z p = carry_up c s seals set f _ w n k v (quietly trace w (Carry ClientSide n) (Count k) (λ j. (refl, refl)) i) p
   keeps trace w (Carry ServerSide n) (Count k) v i u r r2 z p = carry_down c s seals set f _ w n k v (quietly trace w (Carry ServerSide n) (Count k) (λ j. (refl, refl)) i) p
-  keeps trace w (Deliver ServerSide n) (Count k) v i u r r2 z (inl p) = deliver_up c s seals set f _ w n k v (quietly trace w (Deliver ServerSide n) (Count k) (λ j. (refl, refl)) i) u.is_set.0 r2 p
+  keeps trace w (Deliver ServerSide n) (Count k) v i u r r2 z (inl p) = deliver_up c s seals set f _ w n k v (quietly trace w (Deliver ServerSide n) (Count k) (λ j. (refl, refl)) i) u.is_set.0 u.is_set.2 (timely trace w (Deliver ServerSide n) (Count k) v (λ j. refl) z) r2 p
   keeps trace w (Deliver ServerSide n) (Count k) v i u r r2 z (inr p) = stay_up c s seals set f _ w k v (quietly trace w (Deliver ServerSide n) (Count k) (λ j. (refl, refl)) i) p
-  keeps trace w (Deliver ServerSide n) (Refused told) v i u r r2 z (inl p) = break_up c s seals set f _ w n told v (quietly trace w (Deliver ServerSide n) (Refused told) (λ j. (refl, refl)) i) u.is_set.0 r2 p.0 p.1
+  keeps trace w (Deliver ServerSide n) (Refused told) v i u r r2 z (inl p) = break_up c s seals set f _ w n told v (quietly trace w (Deliver ServerSide n) (Refused told) (λ j. (refl, refl)) i) u.is_set.0 u.is_set.2 (timely trace w (Deliver ServerSide n) (Refused told) v (λ j. refl) z) r2 p.0 p.1
   keeps trace w (Deliver ServerSide n) (Refused told) v i u r r2 z (inr p) = same trace w (Deliver ServerSide n) (Refused told) v (λ k. (refl, refl)) i p.1
   keeps trace w (Deliver ClientSide n) (Count k) v i u r r2 z p = deliver_down c s seals set f _ w n k v (quietly trace w (Deliver ClientSide n) (Count k) (λ j. (refl, refl)) i) p
   keeps trace w (Deliver ClientSide n) (Refused told) v i u r r2 z (inl p) = break_down c s seals set f _ w n told v (quietly trace w (Deliver ClientSide n) (Refused told) (λ j. (refl, refl)) i) p.0 p.1
@@ -139,6 +146,7 @@ module _ {CO CI SO SI : Type 0} (c : Halves CO CI) (s : Halves SO SI) (seals : B
           downs = tt;
         };
         client = (ap (λ (x : ClientCore CO CI). call_at x.state k) n.client, ap (λ (x : ClientCore CO CI). stream_at x.state k) n.client, refl);
+        tidy = λ clean. refl;
         up = record { is = record { none = refl; errors = nothing_read } };
         down = record { is = (record { none = refl; errors = nothing_read }, refl) };
       };
@@ -165,28 +173,9 @@ module _ {CO CI SO SI : Type 0} (c : Halves CO CI) (s : Halves SO SI) (seals : B
   cut_at w (e ∷ front) back v p right = let l = cut_at p.0 front back v p.2 right.1 in record { mid = l.mid; before = (p.0, p.1, l.before); right = (right.0, l.right); behind = l.behind; later = l.later }
 
   -- AT EACH PLACE the items of each id are in order.
-  in_order : (w : Net CO CI SO SI) (trace : List Entry) (v : Net CO CI SO SI) → IsFresh c s w → Ruled w → (p : Runs c s seals w trace v) → IsRightRun c s seals f w trace v p → (set.clean → CleanRun [] w trace v)
+  pub in_order : (w : Net CO CI SO SI) (trace : List Entry) (v : Net CO CI SO SI) → IsFresh c s w → Ruled w → (p : Runs c s seals w trace v) → IsRightRun c s seals f w trace v p → (set.clean → ⊥)
       → (front back : List Entry) → trace ≡ front ++ back → (id : ℕ) → AreInOrder set.rules set.limit (flows f id front)
-  in_order w trace v n u p right z front back is id =
+  in_order w trace v n u p right never front back is id =
       let both = subst (λ (t : List Entry). (r : Runs c s seals w t v) × IsRightRun c s seals f w t v r) is (p, right) in
       let at = cut_at w front back v both.0 both.1 in
-      in_order_here ((keeps_all [] front w at.mid (fresh w n) u at.before at.right
-      (λ clean. front_run c s seals set.rules f [] w front back at.mid v at.behind (subst (λ (t : List Entry). CleanRun [] w t v) is (z clean)))).stories id)
-
-pub told : {CO CI SO SI : Type 0} (c : Halves CO CI) (s : Halves SO SI) (seals : Bool) (still : seals ≡ false → (from to : CO) (plain aad sealed : List ℕ) → c.out.seals from plain aad sealed to → to ≡ from)
-    (fixed : (x y : SO) (plain aad sealed : List ℕ) → s.out.seals x plain aad sealed y → s.out.overhead y ≡ s.out.overhead x)
-    (w v : Net CO CI SO SI) (trace : List Entry) → IsFresh c s w → Runs c s seals w trace v → (stream_of : ℕ → ℕ) × IsTold w.server.state.rules (safe_limit s.out w.server.connection.outbox.half) stream_of trace
-told c s seals still fixed w v trace n p =
-    let g = streams_of c s seals w trace v n p in
-    let set : Settings = record { rules = w.server.state.rules; services = w.server.state.services; limit = safe_limit s.out w.server.connection.outbox.half; clean = IsClean w.server.state.rules g.f trace × IsDrained trace } in
-    let u = starts_ruled c s seals still fixed set g.f w (refl, refl, refl) n in
-    let z : set.clean → IsCleanRun c s seals set.rules g.f [] w trace v = λ clean. fresh_run c s seals set.rules g.f w trace v n clean.0 clean.1 p in
-    let i = keeps_all c s seals still fixed set g.f [] trace w v (fresh c s seals still fixed set g.f w n) u p g.right z in (
-      g.f,
-      record {
-        agrees = stream_of_run c s seals g.f w trace v p g.right;
-        one_to_one = one_to_one g.f v.server.state.jobs.last i.numbers.low i.numbers.rise g.zero_ g.beyond i.numbers.within;
-        exactly_once = λ id. exactly_once (i.stories id);
-        in_order = in_order c s seals still fixed set g.f w trace v n u p g.right z;
-      },
-    )
+      in_order_here ((keeps_all [] front w at.mid (fresh w n) u at.before at.right (λ clean. absurd (never clean))).stories id)

@@ -3,8 +3,12 @@ use Rattle.std.specs.List.{list_any}
 use Rattle.ttrpc_headline.proofs.Numbers.{AreRight}
 use Rattle.ttrpc_story.proofs.Upward.{box_of, IsDeaf}
 use Rattle.ttrpc_story.proofs.Reading.{IsPlain}
-use Rattle.ttrpc_pair.proofs.Words.{[], ActiveJob, all_at, ap, astray, at_stays, between_other, between_own, Bool, cases_Bool, changed_at, EndsOne, eqb-true, Error, false, if◌then◌else◌, inl, inr, is_stream, IsTaken, job_at, jobs_at, List, Mail, mail_in, mail_of, MessageHeader, nat_eq, None, on_mail, Option, refl, Some, stream_id_of, subst, sym, true, under_both, under_other, unknown_stream, without_receiver, ℕ, ◌++◌, ◌∙◌, ◌∷◌, ◌≡◌, ◌≢◌, ◌⊎◌}
-use Rattle.ttrpc_story.proofs.Words.{Body, Dropped, past_error, StreamBody, UnaryBody, with_mail}
+use Rattle.ttrpc_pair.proofs.Words.{[], ActiveJob, all_at, AllByRecursion, ap, arith, astray, at_stays, between_other, between_own, Bool, cases_Bool, changed_at, due_jobs, EndsOne, eqb-true, Error, false, if◌then◌else◌, inl, inr, is_due, is_stream, IsTaken, job_at, jobs_at, List, Mail, mail_in, mail_of, MessageHeader, nat_eq, None, on_mail, Option, refl, Some, stream_id_of, subst, sym, true, under_both, under_other, unknown_stream, without_receiver, ℕ, ◌++◌, ◌∙◌, ◌∷◌, ◌≡◌, ◌≢◌, ◌⊎◌}
+use Rattle.ttrpc_story.proofs.Tidy.{IsPatient, IsTooSoon}
+use Rattle.ttrpc_story.proofs.Words.{Body, Call, deadline_in, Dropped, past_error, StreamBody, UnaryBody, Waiting, with_mail}
+use Rattle.ttrpc_events.specs.Clean.{reaches}
+use Rattle.std.specs.Prelude.{nat_le}
+use Rattle.std.proofs.lemmas.Bool.{leb-false, leb-true}
 
 -- ---- jobs around a job
 
@@ -94,3 +98,28 @@ gone_at old id j new p n = ap (λ js. jobs_at js n) p.jobs ∙ under_both stream
 
 pub gone_others : (old : List ActiveJob) (id : ℕ) (j : ActiveJob) (new : List ActiveJob) → (p : EndsOne old id j new) → (n : ℕ) → j.header.stream_id ≢ n → jobs_at new n ≡ jobs_at old n
 gone_others old id j new p n e = ap (λ js. jobs_at js n) p.jobs ∙ sym (ap (λ js. jobs_at js n) p.at.is ∙ not_here n p.at.front p.at.back j e)
+
+-- ---- jobs that are due
+
+-- those that are found due are
+pub all_due : (now : ℕ) (js : List ActiveJob) → AllByRecursion (λ (j : ActiveJob). is_due now j ≡ true) (due_jobs now js)
+all_due now [] = tt
+all_due now (j ∷ js) = by (is_due now j) refl (all_due now js)
+  where
+    by : (b : Bool) → is_due now j ≡ b → AllByRecursion (λ (i : ActiveJob). is_due now i ≡ true) (due_jobs now js) → AllByRecursion (λ (i : ActiveJob). is_due now i ≡ true) (if b then j ∷ due_jobs now js else due_jobs now js)
+    by true e later = (e, later)
+    by false e later = later
+
+-- A job that is due has an earlier deadline than a call that waits and isn't.
+pub too_soon : (now : ℕ) (call : Option Call) (j : ActiveJob) → is_due now j ≡ true → ((d : Option ℕ) → call ≡ Some (Waiting d) → reaches now d ≡ false) → IsTooSoon call j
+too_soon now call j due undue = by (deadline_in j.body) refl due
+  where
+    by : (at : Option ℕ) → deadline_in j.body ≡ at → reaches now at ≡ true → IsTooSoon call j
+    by None is due = cc
+    by (Some at) is due = (
+      λ none. let bad : Some at ≡ None = sym is ∙ none in cc,
+      λ d waits patient.
+          let p = subst (λ (o : Option ℕ). IsPatient d o) is patient in
+          let bad : nat_le p.0 now ≡ false = ap (reaches now) (sym p.1) ∙ undue d waits in
+          absurd (let no : ⊥ = omega (arith, leb-true at now due, leb-false p.0 now bad, p.2) in no),
+    )

@@ -18,3 +18,6 @@ pub mod Cleanly
 pub mod Ending
 pub mod Timed
 pub mod Behind
+pub mod Since
+pub mod Calls
+pub mod Telling

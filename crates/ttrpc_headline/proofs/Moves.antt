@@ -1,5 +1,5 @@
 -- Each event that moves bytes, cuts a pipe or fails a side keeps the invariant.
-use Rattle.ttrpc_headline.proofs.Delivers.{feeds_down, feeds_up}
+use Rattle.ttrpc_headline.proofs.Delivers.{feeds_down, feeds_up, IsTimely}
 use Rattle.ttrpc_headline.proofs.Keeps.{Keeps}
 use Rattle.ttrpc_headline.proofs.Numbers.{AreRight}
 use Rattle.ttrpc_headline.proofs.OneWay.{as_heard, breaks_land, carries, cuts, dead, feeds_land, kept_some, Lands, not_both, OneWay}
@@ -46,10 +46,10 @@ module _ {CO CI SO SI : Type 0} (c : Halves CO CI) (s : Halves SO SI) (seals : B
   -- WHAT FRAMES DO THAT COME TO A SIDE: the first flights have acted there, and the others still are in flight, unless it
   -- failed.
   served : (w : Net CO CI SO SI) (i : Kept w) (new : Scene Server SO SI) (l : Lands c.out (serving s.out s.in_) w.moment w.client.connection.outbox (scene w.server.state w.server.connection) new i.up)
-      (t : Server) (y : Connection SO SI) (p : Pipe) → w.server.state.rules ≡ set.rules → t ≡ new.state → AreRight f t.jobs.list → y.outbox ≡ new.outbox → OneWay c.out s.in_ w.client.connection.outbox y p l.rest
+      (t : Server) (y : Connection SO SI) (p : Pipe) → w.server.state.rules ≡ set.rules → w.server.state.services ≡ set.services → IsTimely set f trace w.client.state w.moment → t ≡ new.state → AreRight f t.jobs.list → y.outbox ≡ new.outbox → OneWay c.out s.in_ w.client.connection.outbox y p l.rest
       → Kept (record w { server = record { state = t; connection = y }; up = p })
-  served w i new l t y p ruled state right outbox upward =
-      let u = feeds_up c s set (has_response w) f trace w.client.state w.moment l.front l.rest i.down (scene w.server.state w.server.connection) new ruled l.acts (rw l.all i.stories) (rw l.all i.numbers) (rw (← state) right) in
+  served w i new l t y p ruled services timely state right outbox upward =
+      let u = feeds_up c s set (has_response w) f trace w.client.state w.moment l.front l.rest i.down (scene w.server.state w.server.connection) new ruled services timely l.acts (rw l.all i.stories) (rw l.all i.numbers) (rw (← state) right) in
       record {
         up = l.rest;
         down = i.down ++ u.more;
@@ -76,10 +76,10 @@ module _ {CO CI SO SI : Type 0} (c : Halves CO CI) (s : Halves SO SI) (seals : B
       }
 
   -- Bytes are delivered.
-  pub deliver_up : (w : Net CO CI SO SI) (n k : ℕ) (v : Net CO CI SO SI) → Kept w → w.server.state.rules ≡ set.rules → AreRight f v.server.state.jobs.list → DeliversUp c s seals w n k v → Kept v
-  deliver_up w n k v i ruled right p =
+  pub deliver_up : (w : Net CO CI SO SI) (n k : ℕ) (v : Net CO CI SO SI) → Kept w → w.server.state.rules ≡ set.rules → w.server.state.services ≡ set.services → IsTimely set f trace w.client.state w.moment → AreRight f v.server.state.jobs.list → DeliversUp c s seals w n k v → Kept v
+  deliver_up w n k v i ruled services timely right p =
       let l = feeds_land c.out (serving s.out s.in_) w.moment w.server.state w.client.connection.outbox w.server.connection w.up i.up k v.server.state p.does.mid i.upward p.does.does in
-      let is = λ (y : Connection SO SI). served w i (scene v.server.state p.does.mid) l.0 v.server.state y (taken_from w.up k) ruled refl right in
+      let is = λ (y : Connection SO SI). served w i (scene v.server.state p.does.mid) l.0 v.server.state y (taken_from w.up k) ruled services timely refl right in
       rw p.only (as_heard (λ y. Kept (record (with_server w (record { state = v.server.state; connection = y })) { up = taken_from w.up k })) (is_over (taken_from w.up k)) p.does.mid v.server.connection p.does.hears
       (is p.does.mid refl (record { bytes = λ alive. l.1; linked = λ alive. l.0.linked })) (λ why. is (failing p.does.mid why) refl (dead c.out s.in_ _ _ _ _ (kept_some p.does.mid.failure why))))
 
@@ -96,10 +96,10 @@ module _ {CO CI SO SI : Type 0} (c : Halves CO CI) (s : Halves SO SI) (seals : B
       (is p.does.mid refl (record { bytes = λ alive. l.1; linked = λ alive. l.0.linked })) (λ why. is (failing p.does.mid why) refl (dead s.out c.in_ _ _ _ _ (kept_some p.does.mid.failure why))))
 
   -- A side fails at bytes that are delivered.
-  pub break_up : (w : Net CO CI SO SI) (n : ℕ) (told : Error) (v : Net CO CI SO SI) → Kept w → w.server.state.rules ≡ set.rules → AreRight f v.server.state.jobs.list → BreaksAt (serving s.out s.in_) w.server.state w.server.connection w.up w.moment n told v.server.state v.server.connection → OnlyServer c s seals w v → Kept v
-  break_up w n told v i ruled right b only =
+  pub break_up : (w : Net CO CI SO SI) (n : ℕ) (told : Error) (v : Net CO CI SO SI) → Kept w → w.server.state.rules ≡ set.rules → w.server.state.services ≡ set.services → IsTimely set f trace w.client.state w.moment → AreRight f v.server.state.jobs.list → BreaksAt (serving s.out s.in_) w.server.state w.server.connection w.up w.moment n told v.server.state v.server.connection → OnlyServer c s seals w v → Kept v
+  break_up w n told v i ruled services timely right b only =
       let l = breaks_land c.out (serving s.out s.in_) w.moment w.server.state w.client.connection.outbox w.server.connection w.up i.up n told v.server.state v.server.connection i.upward b in
-      rw only (served w i b.mid l v.server.state v.server.connection w.up ruled b.state right b.outbox (dead c.out s.in_ _ _ _ _ (not_both v.server.connection.failure b.failure b.fails)))
+      rw only (served w i b.mid l v.server.state v.server.connection w.up ruled services timely b.state right b.outbox (dead c.out s.in_ _ _ _ _ (not_both v.server.connection.failure b.failure b.fails)))
 
   pub break_down : (w : Net CO CI SO SI) (n : ℕ) (told : Error) (v : Net CO CI SO SI) → Kept w → BreaksAt (calling c.out c.in_) w.client.state w.client.connection w.down 0 n told v.client.state v.client.connection → OnlyClient c s seals w v → Kept v
   break_down w n told v i b only =

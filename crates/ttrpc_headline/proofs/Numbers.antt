@@ -299,7 +299,7 @@ ends_go f old new id job last t p =
     stay_placed f old new last (subst (λ (js : List ActiveJob). AreBelow f old.last js) (sym t.jobs) (all_less (IsPlaced f old.last) t.at.front t.at.back job (subst (λ (js : List ActiveJob). AreBelow f old.last js) t.at.is p.below))) p
 
 -- a handler's error ends its job under either rules
-error_ends : {O I : Type 0} (out : OutboundTransform O) (rules : Rules) (old : ServerCore O I) (id : ℕ) (error : Error) (new : ServerCore O I) → AnswersError out rules old id error new
+pub error_ends : {O I : Type 0} (out : OutboundTransform O) (rules : Rules) (old : ServerCore O I) (id : ℕ) (error : Error) (new : ServerCore O I) → AnswersError out rules old id error new
     → (job : ActiveJob) × EndsOne old.state.jobs.list id job new.state.jobs.list × (new.state.jobs.last ≡ old.state.jobs.last)
 error_ends out SyncRules old id error new a = (a.job, a.ends, ap (λ (z : ServerCore _ _). z.state.jobs.last) a.same)
 error_ends out AsyncRules old id error new a = (a.2.job, a.2.ends, ap (λ (z : ServerCore _ _). z.state.jobs.last) a.2.same)

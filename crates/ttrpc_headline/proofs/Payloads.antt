@@ -82,12 +82,13 @@ inactive_refusal = refused inactive_text (plain_text inactive_text refl)
 
 -- ---- what the server makes of what comes
 
--- A request is a job of its kind, or is refused. A stream's job has an odd id.
-abbrev pub IsAskRow : ℕ → Rules → Request → Row → Type 0
-IsAskRow k r q (MakeJob request) = request ≡ q
-IsAskRow k r q (MakeStream request) = (request ≡ q) × (r ≡ AsyncRules) × (nat_eq (k % 2) 0 ≡ false)
-IsAskRow k r q (SendResponse response) = IsRefusal response
-IsAskRow k r q row = ⊥
+-- A request is a job of its kind, or is refused, which it isn't under an odd id if it names a method. A stream's job has an
+-- odd id.
+abbrev pub IsAskRow : (method : Bool) → ℕ → Rules → Request → Row → Type 0
+IsAskRow method k r q (MakeJob request) = request ≡ q
+IsAskRow method k r q (MakeStream request) = (request ≡ q) × (r ≡ AsyncRules) × (nat_eq (k % 2) 0 ≡ false) × (method ≡ false)
+IsAskRow method k r q (SendResponse response) = IsRefusal response × (nat_eq (k % 2) 0 ≡ false → method ≡ false)
+IsAskRow method k r q row = ⊥
 
 -- nobody takes data: under async rules and an odd id somebody would
 abbrev pub IsUntaken : ℕ → Rules → Inlet → Type 0
@@ -100,21 +101,25 @@ IsItemRow k r inlet plain (SendResponse response) = IsRefusal response × IsUnta
 IsItemRow k r inlet plain Ignore = IsUntaken k r inlet
 IsItemRow k r inlet plain row = ⊥
 
-other_asked : (k : ℕ) → nat_eq (k % 2) 0 ≡ false → (q : Request) → IsRequest q → (chat service : Bool) → IsAskRow k AsyncRules q (asked_row q (if chat then Chat else if service then NoMethod else NoService))
-other_asked k odd q is true service = (refl, refl, odd)
-other_asked k odd q is false true = method_refusal q is
-other_asked k odd q is false false = service_refusal q is
+other_asked : (method : Bool) → method ≡ false → (k : ℕ) → nat_eq (k % 2) 0 ≡ false → (q : Request) → IsRequest q → (chat service : Bool) → IsAskRow method k AsyncRules q (asked_row q (if chat then Chat else if service then NoMethod else NoService))
+other_asked method none k odd q is true service = (refl, refl, odd, none)
+other_asked method none k odd q is false true = (method_refusal q is, λ o. none)
+other_asked method none k odd q is false false = (service_refusal q is, λ o. none)
 
-other_is : (k : ℕ) (r : Rules) → (r ≡ AsyncRules → nat_eq (k % 2) 0 ≡ false) → (services : Services) (q : Request) → IsRequest q → IsAskRow k r q (asked_row q (other_of r services q))
-other_is k SyncRules odd services q is = path_refusal q is
-other_is k AsyncRules odd services q is = other_asked k (odd refl) q is (has_stream services q.service q.method) (has_service services q.service)
+other_is : (method : Bool) → method ≡ false → (k : ℕ) (r : Rules) → (r ≡ AsyncRules → nat_eq (k % 2) 0 ≡ false) → (services : Services) (q : Request) → IsRequest q → IsAskRow method k r q (asked_row q (other_of r services q))
+other_is method none k SyncRules odd services q is = (path_refusal q is, λ o. none)
+other_is method none k AsyncRules odd services q is = other_asked method none k (odd refl) q is (has_stream services q.service q.method) (has_service services q.service)
 
-asked_is : (k : ℕ) (r : Rules) → (r ≡ AsyncRules → nat_eq (k % 2) 0 ≡ false) → (services : Services) (q : Request) → IsRequest q → IsAskRow k r q (request_row r services (Some q))
-asked_is k r odd services q is = by (has_method services q.service q.method)
+-- such a row of a request to a server with these services
+abbrev pub IsRowOf : Services → ℕ → Rules → Request → Row → Type 0
+IsRowOf services k r q row = IsAskRow (has_method services q.service q.method) k r q row
+
+asked_is : (k : ℕ) (r : Rules) → (r ≡ AsyncRules → nat_eq (k % 2) 0 ≡ false) → (services : Services) (q : Request) → IsRequest q → IsRowOf services k r q (request_row r services (Some q))
+asked_is k r odd services q is = by (has_method services q.service q.method) refl
   where
-    by : (b : Bool) → IsAskRow k r q (asked_row q (if b then AskedCall else other_of r services q))
-    by true = refl
-    by false = other_is k r odd services q is
+    by : (b : Bool) → has_method services q.service q.method ≡ b → IsRowOf services k r q (asked_row q (if b then AskedCall else other_of r services q))
+    by true e = refl
+    by false e = other_is (has_method services q.service q.method) e k r odd services q is
 
 -- a request that is opened as it was sent reads back
 read_is : (r : Rules) (services : Services) (h : MessageHeader) (q : Request) → IsRequest q → length (request_bytes q) ≤ MESSAGE_LENGTH_MAX → case_row r services h (Asks (request_bytes q)) ≡ request_row r services (Some q)
@@ -123,21 +128,21 @@ read_is r services h q is short =
     rw (reads_back request_step empty_request q (request_fields q) (request_fits q is fits) (request_again q is fits)) refl
 
 even_or_asked : (services : Services) (h : MessageHeader) (q : Request) → IsRequest q → length (request_bytes q) ≤ MESSAGE_LENGTH_MAX → (even : Bool) → nat_eq (h.stream_id % 2) 0 ≡ even
-    → IsAskRow h.stream_id AsyncRules q (case_row AsyncRules services h (if even then EvenId else Asks (request_bytes q)))
-even_or_asked services h q is short true e = even_refusal
-even_or_asked services h q is short false e = subst (IsAskRow h.stream_id AsyncRules q) (sym (read_is AsyncRules services h q is short)) (asked_is h.stream_id AsyncRules (λ a. e) services q is)
+    → IsRowOf services h.stream_id AsyncRules q (case_row AsyncRules services h (if even then EvenId else Asks (request_bytes q)))
+even_or_asked services h q is short true e = (even_refusal, λ odd. let bad : true ≡ false = sym e ∙ odd in cc)
+even_or_asked services h q is short false e = subst (IsRowOf services h.stream_id AsyncRules q) (sym (read_is AsyncRules services h q is short)) (asked_is h.stream_id AsyncRules (λ a. e) services q is)
 
 pub ask_row : (r : Rules) (services : Services) (h : MessageHeader) (q : Request) → IsRequest q → length (request_bytes q) ≤ MESSAGE_LENGTH_MAX → h.type_ ≡ MESSAGE_TYPE_REQUEST
-    → IsAskRow h.stream_id r q (case_row r services h (case_of r h (Opened (request_bytes q)) Absent))
+    → IsRowOf services h.stream_id r q (case_row r services h (case_of r h (Opened (request_bytes q)) Absent))
 ask_row SyncRules services h q is short type_ =
     let within : nat_lt MESSAGE_LENGTH_MAX (length (request_bytes q)) ≡ false = le-ltb _ _ short in
     let case : case_of SyncRules h (Opened (request_bytes q)) Absent ≡ Asks (request_bytes q) = rw (within, type_) refl in
-    subst (λ (x : Case). IsAskRow h.stream_id SyncRules q (case_row SyncRules services h x)) (sym case)
-    (subst (IsAskRow h.stream_id SyncRules q) (sym (read_is SyncRules services h q is short)) (asked_is h.stream_id SyncRules (λ a. let bad : SyncRules ≡ AsyncRules = a in cc) services q is))
+    subst (λ (x : Case). IsRowOf services h.stream_id SyncRules q (case_row SyncRules services h x)) (sym case)
+    (subst (IsRowOf services h.stream_id SyncRules q) (sym (read_is SyncRules services h q is short)) (asked_is h.stream_id SyncRules (λ a. let bad : SyncRules ≡ AsyncRules = a in cc) services q is))
 ask_row AsyncRules services h q is short type_ =
     let within : nat_lt MESSAGE_LENGTH_MAX (length (request_bytes q)) ≡ false = le-ltb _ _ short in
     let case : case_of AsyncRules h (Opened (request_bytes q)) Absent ≡ (if nat_eq (h.stream_id % 2) 0 then EvenId else Asks (request_bytes q)) = rw (within, type_) refl in
-    subst (λ (x : Case). IsAskRow h.stream_id AsyncRules q (case_row AsyncRules services h x)) (sym case) (even_or_asked services h q is short (nat_eq (h.stream_id % 2) 0) refl)
+    subst (λ (x : Case). IsRowOf services h.stream_id AsyncRules q (case_row AsyncRules services h x)) (sym case) (even_or_asked services h q is short (nat_eq (h.stream_id % 2) 0) refl)
 
 even_or_item : (services : Services) (h : MessageHeader) (plain : List ℕ) (inlet : Inlet) (even : Bool) → nat_eq (h.stream_id % 2) 0 ≡ even
     → IsItemRow h.stream_id AsyncRules inlet plain (case_row AsyncRules services h (if even then EvenId else data_case plain inlet))

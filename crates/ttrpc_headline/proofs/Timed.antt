@@ -1,14 +1,16 @@
 -- A call that waits has the deadline of its call in the trace. So a moment that reaches no deadline finds none due, and changes
 -- nothing at the client.
 use Rattle.ttrpc_headline.proofs.Keeps.{Keeps}
-use Rattle.ttrpc_story.proofs.Here.{Born, ByCall, ByOpen, Origin, Unborn}
+use Rattle.ttrpc_story.proofs.Here.{Born, ByCall, ByOpen, only_one, Origin, Unborn}
+use Rattle.ttrpc_story.proofs.Tidy.{IsPatient}
+use Rattle.std.proofs.Common.{negsuc, pos, suc, zero}
 use Rattle.ttrpc_story.proofs.AtClient.{AtClient}
 use Rattle.ttrpc_story.proofs.Place.{Settings}
 use Rattle.ttrpc_events.specs.Clean.{is_clean_event, is_clean_reply, is_none_of, IsInTime, moment_after, moment_behind, reaches, reaches_at, reaches_one}
 use Rattle.ttrpc_events.specs.Told.{outcomes}
 use Rattle.std.specs.Prelude.{◌&&◌, ◌||◌}
-use Rattle.ttrpc_pair.proofs.Words.{[], ActsAll, ap, arrives, Bool, call_at, CallEvent, calling, cases_eq, Client, ClientCore, ClientEnd, ClientSide, Close, Count, deadline_of, Deliver, Done, DropCall, DropReceiver, DropSender, Entry, Event, Failure, false, Given, Halves, if◌then◌else◌, Incoming, inl, inr, is_some, IsFresh, Item, Landing, landing_of, LandsOn, List, Named, Net, None, OpenEvent, Option, Outcome, Passes, Recv, refl, Refused, Reply, Request, rules, Scene, scene, Send, ServerSide, Some, Steps, subst, sym, Tick, Ticket, true, ℕ, ◌∙◌, ◌∷◌, ◌≡◌, ◌≢◌, ◌⊎◌}
-use Rattle.ttrpc_story.proofs.Words.{Act, acts, Call, Ended, Expired, expired_at, is_due, left_of, Stream, Waiting, with_entry}
+use Rattle.ttrpc_pair.proofs.Words.{[], ActsAll, ap, append_assoc, arith, arrives, Bool, call_at, CallEvent, calling, cases_eq, Client, ClientCore, ClientEnd, ClientSide, Close, Count, deadline_of, Deliver, Done, DropCall, DropReceiver, DropSender, Entry, eq-eqb, Event, Failure, false, Given, Halves, if◌then◌else◌, Incoming, inl, inr, is_some, IsFresh, Item, Landing, landing_of, LandsOn, List, Named, Net, None, number_of, OpenEvent, Option, Outcome, Passes, Recv, refl, Refused, Reply, Request, rules, Scene, scene, Send, ServerSide, Some, Steps, subst, sym, Tick, Ticket, true, ℕ, ◌++◌, ◌+◌, ◌∙◌, ◌∷◌, ◌≡◌, ◌≢◌, ◌≤◌, ◌⊎◌}
+use Rattle.ttrpc_story.proofs.Words.{Act, act_of, acts, Call, Called, calls, calls_append, Ended, Expired, expired_at, is_due, left_of, only_if, said_then, Stream, Waiting, with_entry, ℤ}
 
 -- this is the call of an id, made at such a moment, and this is its deadline
 abbrev pub IsCallOf : ℕ → Option ℕ → ℕ → Event → Reply → Type 0
@@ -81,8 +83,55 @@ landed_waits landing (Some (Waiting x)) e2 d l h = let bad : Some (Ended l.0) �
 landed_waits landing (Some Expired) e2 d l h = sym l ∙ h
 landed_waits landing (Some (Ended o)) e2 d l h = sym l ∙ h
 
+-- ---- the moment of its call
+
+-- it was made at a moment that has passed by now, and is among the calls of its id
+pub record WasCalled (k : ℕ) (d : Option ℕ) (t : List Entry) (now : ℕ) : Type 0 where
+  pub moment : ℕ
+  pub request : Request
+  pub early : moment ≤ now
+  pub deadline : d ≡ deadline_of moment request.timeout_nano
+  pub named : (f : ℕ → ℕ) → (front back : List Request) × (calls (acts f k t) ≡ front ++ request ∷ back)
+
+calls_grow : (f : ℕ → ℕ) (k : ℕ) (t : List Entry) (event : Event) (reply : Reply) → calls (acts f k (with_entry t event reply)) ≡ calls (acts f k t) ++ calls (act_of f k event reply)
+calls_grow f k t event reply = ap calls (said_then (act_of f k) t event reply) ∙ calls_append (acts f k t) (act_of f k event reply)
+
+called_still : (k : ℕ) (d : Option ℕ) (t : List Entry) (now later : ℕ) (event : Event) (reply : Reply) → now ≤ later → WasCalled k d t now → WasCalled k d (with_entry t event reply) later
+called_still k d t now later event reply rises w = record {
+  moment = w.moment;
+  request = w.request;
+  early = omega (arith, w.early, rises);
+  deadline = w.deadline;
+  named = λ f. let n = w.named f in (n.0, n.1 ++ calls (act_of f k event reply), calls_grow f k t event reply ∙ ap (λ (xs : List Request). xs ++ calls (act_of f k event reply)) n.2 ∙ append_assoc n.0 (w.request ∷ n.1) (calls (act_of f k event reply)));
+}
+
+called_now : (k : ℕ) (d : Option ℕ) (t : List Entry) (now later : ℕ) (event : Event) (reply : Reply) → now ≤ later → IsCallOf k d now event reply → WasCalled k d (with_entry t event reply) later
+called_now k d t now later (CallEvent request) (Named id) rises is = record {
+  moment = now;
+  request = request;
+  early = rises;
+  deadline = is.1;
+  named = λ f. (calls (acts f k t), [], calls_grow f k t (CallEvent request) (Named id) ∙ ap (λ (b : Bool). calls (acts f k t) ++ calls (only_if b (Called request))) (eq-eqb id k is.0));
+}
+called_now k d t now later event reply rises is = absurd is
+
+-- what was made later is due no earlier
+later_due : (moment now : ℕ) (timeout : ℤ) → moment ≤ now → IsPatient (deadline_of moment timeout) (deadline_of now timeout)
+later_due moment now (pos zero) le = tt
+later_due moment now (pos (suc n)) le = (moment + number_of (pos (suc n)), refl, omega (arith, le))
+later_due moment now (negsuc n) le = (moment + number_of (negsuc n), refl, omega (arith, le))
+
+pub was_timely : (f : ℕ → ℕ) (k : ℕ) (q : Request) (d : Option ℕ) (t : List Entry) (now : ℕ) → WasCalled k d t now → calls (acts f k t) ≡ q ∷ [] → IsPatient d (deadline_of now q.timeout_nano)
+was_timely f k q d t now w one =
+    let n = w.named f in
+    let same : w.request ≡ q = (only_one n.0 n.1 w.request q (sym n.2 ∙ one)).1 in
+    rw (w.deadline, same) (later_due w.moment now q.timeout_nano w.early)
+
+same_least : (a b d : ℕ) → a ≤ b → d ≡ b → a ≤ d
+same_least a b d le is = omega (arith, le, is)
+
 module _ {CO CI SO SI : Type 0} (c : Halves CO CI) (s : Halves SO SI) (seals : Bool) where
-  passed_waits : (failure : Option Failure) (old : ClientCore CO CI) (now : ℕ) (new : ClientCore CO CI) (k : ℕ) (d : Option ℕ) → Passes seals failure old now new → call_at new.state k ≡ Some (Waiting d) → call_at old.state k ≡ Some (Waiting d)
+  pub passed_waits : (failure : Option Failure) (old : ClientCore CO CI) (now : ℕ) (new : ClientCore CO CI) (k : ℕ) (d : Option ℕ) → Passes seals failure old now new → call_at new.state k ≡ Some (Waiting d) → call_at old.state k ≡ Some (Waiting d)
   passed_waits None old now new k d p h = expired_waits now (call_at old.state k) d (sym (p.expires.calls k) ∙ h)
   passed_waits (Some why) old now new k d same h = sym (ap (λ (x : ClientCore CO CI). call_at x.state k) same) ∙ h
 
@@ -147,11 +196,17 @@ module _ {CO CI SO SI : Type 0} (c : Halves CO CI) (s : Halves SO SI) (seals : B
   moment_goes w (Deliver ClientSide n) (Refused told) v (inr p) = ap (λ (x : Net CO CI SO SI). x.moment) p.1
   moment_goes w event reply v p = first_of (cc, search rules)
 
+  -- no moment is earlier than the one before it
+  moment_rises : (w : Net CO CI SO SI) (event : Event) (reply : Reply) (v : Net CO CI SO SI) → Steps c s seals w event reply v → w.moment ≤ v.moment
+  moment_rises w (Tick now) Done v p = same_least w.moment now v.moment p.later (ap (λ (x : Net CO CI SO SI). x.moment) p.only)
+  moment_rises w event reply v p = same_least w.moment w.moment v.moment (omega arith) (moment_goes w event reply v p)
+
   -- THE DEADLINES OF A NET are those of its trace: its moment is the last one that came, and each call that waits has the
   -- deadline of its call.
   pub record IsTimed (t : List Entry) (w : Net CO CI SO SI) : Type 0 where
     pub moment : w.moment ≡ moment_behind 0 t
     pub calls : (k : ℕ) (d : Option ℕ) → call_at w.client.state k ≡ Some (Waiting d) → HasCall k d 0 t
+    pub begun : (k : ℕ) (d : Option ℕ) → call_at w.client.state k ≡ Some (Waiting d) → WasCalled k d t w.moment
 
   -- EACH CLEAN STEP KEEPS THEM.
   pub timed : (t : List Entry) (w : Net CO CI SO SI) (event : Event) (reply : Reply) (v : Net CO CI SO SI) → is_clean_event event ≡ true → is_clean_reply reply ≡ true → Steps c s seals w event reply v → IsTimed t w → IsTimed (with_entry t event reply) v
@@ -160,6 +215,10 @@ module _ {CO CI SO SI : Type 0} (c : Halves CO CI) (s : Halves SO SI) (seals : B
     calls = λ k d waits. elim (waited w event reply v k d e r p waits) [
       | inl was ↦ has_still k d 0 t event reply (h.calls k d was)
       | inr is ↦ has_now k d 0 t event reply (subst (λ (m : ℕ). IsCallOf k d m event reply) h.moment is)
+    ];
+    begun = λ k d waits. elim (waited w event reply v k d e r p waits) [
+      | inl was ↦ called_still k d t w.moment v.moment event reply (moment_rises w event reply v p) (h.begun k d was)
+      | inr is ↦ called_now k d t w.moment v.moment event reply (moment_rises w event reply v p) is
     ];
   }
 
@@ -183,13 +242,22 @@ module _ {CO CI SO SI : Type 0} (c : Halves CO CI) (s : Halves SO SI) (seals : B
   undue now (Some Expired) h = refl
   undue now (Some (Ended o)) h = refl
 
-  -- A CLEAN MOMENT FINDS NO CALL DUE.
+  -- A CLEAN MOMENT REACHES NO DEADLINE of a call that waits, so it finds none due.
+  pub none_reached : (set : Settings) (f : ℕ → ℕ) (t : List Entry) (w : Net CO CI SO SI) (now : ℕ) → Keeps c s set f t w → IsTimed t w → IsInTime f t (Tick now) Done → (k : ℕ) (d : Option ℕ) → call_at w.client.state k ≡ Some (Waiting d) → reaches now d ≡ false
+  none_reached set f t w now i h clean k d waits = in_time f t now 0 k d t (h.calls k d waits) (waits_ungiven k (i.stories k).origin _ _ _ d (i.stories k).known.client waits) clean
+
   pub none_due : (set : Settings) (f : ℕ → ℕ) (t : List Entry) (w : Net CO CI SO SI) (now : ℕ) → Keeps c s set f t w → IsTimed t w → IsInTime f t (Tick now) Done → (k : ℕ) → expired_at now (call_at w.client.state k) ≡ call_at w.client.state k
-  none_due set f t w now i h clean k = undue now (call_at w.client.state k)
-      (λ d waits. in_time f t now 0 k d t (h.calls k d waits) (waits_ungiven k (i.stories k).origin _ _ _ d (i.stories k).known.client waits) clean)
+  none_due set f t w now i h clean k = undue now (call_at w.client.state k) (none_reached set f t w now i h clean k)
 
 pub fresh_timed : {CO CI SO SI : Type 0} (c : Halves CO CI) (s : Halves SO SI) (seals : Bool) (w : Net CO CI SO SI) → IsFresh c s w → IsTimed c s seals [] w
 fresh_timed c s seals w n = record {
   moment = n.moment;
-  calls = λ k d waits. let none : call_at w.client.state k ≡ None = ap (λ (x : ClientCore _ _). call_at x.state k) n.client in let bad : None ≡ Some (Waiting d) = sym none ∙ waits in cc;
+  calls = λ k d waits. absurd (none k d waits);
+  begun = λ k d waits. absurd (none k d waits);
 }
+  where
+    none : (k : ℕ) (d : Option ℕ) → call_at w.client.state k ≡ Some (Waiting d) → ⊥
+    none k d waits =
+        let is : call_at w.client.state k ≡ None = ap (λ (x : ClientCore _ _). call_at x.state k) n.client in
+        let bad : None ≡ Some (Waiting d) = sym is ∙ waits in
+        cc

@@ -63,9 +63,12 @@ impl<
             self trace.items last) }
         // Under one function that gives each job its stream, no two the same: each call has at most one outcome, and an
         // `Ok` is the answer of its one run. At each place of the trace the items that a receiver was given are a beginning
-        // of those that were put in, in order, and where it was told an end, they are all.
+        // of those that were put in, in order, and where it was told an end, they are all. Where the run is clean and quiet
+        // each call that names a method of this server, and was asked for, is whole: one run, one answer, and what is told of
+        // that answer as its outcome.
         ensures told { IfOk result (λ trace. (stream_of : ℕ → ℕ) × IsTold
             self.server.state.rules
+            self.server.state.services
             (safe_limit SO.OutboundTransform self.server.connection.outbox.half)
             stream_of trace.items) }
         ensures refused { IfErr result (λ error. error ≡ AnError.NoMemory) }

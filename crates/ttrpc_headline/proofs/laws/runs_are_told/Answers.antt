@@ -1,4 +1,4 @@
-use Rattle.ttrpc_headline.proofs.Headline.{told}
+use Rattle.ttrpc_headline.proofs.Telling.{told}
 use Rattle.ttrpc_headline.proofs.laws.runs_are_told.Goals as goal
 
 pub returns : goal.returns
