@@ -4,7 +4,7 @@ use Rattle.ttrpc_headline.proofs.Keeps.{Keeps, keeps_still}
 use Rattle.ttrpc_headline.proofs.Numbers.{AreRight, Numbers}
 use Rattle.ttrpc_headline.proofs.OneWay.{goes_on, joins, not_both, OneWay}
 use Rattle.ttrpc_headline.proofs.Payloads.{too_late, unknown_never}
-use Rattle.ttrpc_headline.proofs.Flights.{flight_as, GivesSo, IsAnswering, IsData, IsGoing, IsRefusing, item_going, sends_close, sends_data, sends_refusal, sends_response, SendsFlight}
+use Rattle.ttrpc_headline.proofs.Flights.{down_at, down_own, flight_as, GivesSo, IsAnswering, IsData, IsGoing, IsRefusing, item_going, sends_close, sends_data, sends_refusal, sends_response, SendsFlight}
 use Rattle.ttrpc_headline.proofs.Jobs.{all_due, any_last, any_more, aside_plain, deaf, gone_at, gone_others, is_at, job_is, mailed, not_here, too_soon, untouched}
 use Rattle.ttrpc_story.proofs.AtServer.{IsDown, never_down}
 use Rattle.ttrpc_story.proofs.Here.{answered_work, Birth, Born, first_act, here_at, IsAnswer, Origin, request_of}
@@ -18,7 +18,7 @@ use Rattle.ttrpc_events.specs.Clean.{is_clean_answer, may_be_error, reaches}
 use Rattle.ttrpc_events.specs.Trace.{some_of}
 use Rattle.ttrpc_story.proofs.Events.{answers_here, ends_here, errs_up_here, HasNone, hears_up_here, job_within, responds_here, running_of, sends_down_here, takes_here, unheard_up_here}
 use Rattle.ttrpc_pair.proofs.Words.{unheard as unheard_of}
-use Rattle.ttrpc_pair.proofs.Words.{[], ActiveJob, all_at, all_in_front, AllByRecursion, Answer, Answers, AnswersBy, AnswersError, ap, append-nil, append_assoc, arith, AsyncRules, at_stays, between_own, Bool, call_at, changed_at, codes, Done, Drain, drained, DropReceiver, Drops, EndsOne, EndsStream, EndStream, Entry, eq-eqb, Err, Error, Event, ExpireAll, Failure, false, Finish, Finishes, Flying, given, Halves, Handed, HandlerError, Hands, has_response, id_of, if◌then◌else◌, inl, inr, is_due, is_stream, IsEnd, IsErrorResponse, IsResponse, IsSentFor, Item, Job, job_at, JobReceives, jobs_at, last_id, List, Mail, mapped_at, nat_eq, Net, None, Ok, Option, Others, Outbox, parcels, pushed_other, pushed_own, ReceivesBy, ReceivesFrom, Recv, refl, Respond, Responds, RespondsTo, Response, Result, Rules, safe_limit, Send, SendsAll, SendsItem, Sent, Server, ServerCore, ServerEnd, ServerPasses, ServerTicks, Some, stream_id_of, subst, sym, SyncRules, Take, Ticket, timeout_response, true, under_both, was_made, with_server, without_receiver, ℕ, ◌++◌, ◌∙◌, ◌∷◌, ◌≡◌, ◌≢◌, ◌≤◌}
+use Rattle.ttrpc_pair.proofs.Words.{[], ActiveJob, all_at, all_in_front, AllByRecursion, Answer, Answers, AnswersBy, AnswersError, ap, append-nil, append_assoc, arith, AsyncRules, at_stays, between_own, Bool, call_at, changed_at, codes, Done, Drain, drained, DropReceiver, Drops, EndsOne, EndsStream, EndStream, Entry, eq-eqb, Err, Error, Event, ExpireAll, Failure, false, Finish, Finishes, Flying, given, Halves, Handed, HandlerError, Hands, has_response, id_of, if◌then◌else◌, inl, inr, is_due, is_stream, IsEnd, IsErrorResponse, IsResponse, IsSentFor, Item, Job, job_at, JobReceives, jobs_at, last_id, List, Mail, mapped_at, nat_eq, Net, None, Ok, Option, Others, Outbox, parcels, pushed_other, pushed_own, ReceivesBy, ReceivesFrom, Recv, refl, Respond, Responds, RespondsTo, Response, Result, Rules, safe_limit, Send, SendsAll, SendsItem, Sent, Server, ServerCore, ServerEnd, ServerPasses, ServerTicks, Some, stream_id_of, subst, sym, SyncRules, Take, Ticket, timeout_response, true, under_both, was_made, with_server, without_receiver, ℕ, ◌++◌, ◌∙◌, ◌∷◌, ◌≡◌, ◌≤◌}
 use Rattle.ttrpc_story.proofs.Words.{Act, act_of, Answered, asked_by, EndedDown, ending_thing, flow_of, HasOkStatus, heard, HeardUp, last_thing, only_if, Ran, SentDown, silent, StreamBody, Thing, ThingEnd, ThingItem, told, told_by, unheard, untold, Waiting, with_entry, with_mail}
 use Rattle.std.specs.List.{list_any}
 
@@ -103,17 +103,6 @@ module _ {CO CI SO SI : Type 0} (c : Halves CO CI) (s : Halves SO SI) (seals : B
 
   of_nothing : (w : Net CO CI SO SI) (x : ServerCore SO SI) (j : ActiveJob) (kind : Bool) (o : Origin) (done : List Act) (error : Error) → (set.clean → ⊥) → x.connection.outbox ≡ w.server.connection.outbox → Concludes w x j kind o done (Err error)
   of_nothing w x j kind o done error never same = record { more = []; downs = tt; back = λ clean. absurd (never clean); goes = λ wanted. inr refl; sent = λ flights way. rw (same, append-nil) way }
-
-  down_at : (k i : ℕ) (o : Origin) (done : List Act) (down more : List Flying) → AllByRecursion (IsDown k true o done) more → k ≢ i → parcels i (down ++ more) ≡ parcels i down
-  down_at k i o done down [] downs e = ap (parcels i) (append-nil down)
-  down_at k i o done down (y ∷ more) downs e =
-      ap (parcels i) (sym (append_assoc down (y ∷ []) more)) ∙ down_at k i o done (down ++ y ∷ []) more downs.1 e ∙ pushed_other id_of i y down (λ same. e (sym downs.0.stream ∙ same))
-
-  down_own : (k : ℕ) (o : Origin) (done : List Act) (down more : List Flying) → AllByRecursion (IsDown k true o done) more → parcels k (down ++ more) ≡ parcels k down ++ more
-  down_own k o done down [] downs = ap (parcels k) (append-nil down) ∙ sym (append-nil (parcels k down))
-  down_own k o done down (y ∷ more) downs =
-      ap (parcels k) (sym (append_assoc down (y ∷ []) more)) ∙ down_own k o done (down ++ y ∷ []) more downs.1
-      ∙ ap (λ (xs : List Flying). xs ++ more) (pushed_own id_of k y down downs.0.stream) ∙ append_assoc (parcels k down) (y ∷ []) more
 
   -- what the event says of each id: that its job is answered or ends, if it is this one
   abbrev IsEnding : Event → ℕ → Bool → Result (Option Response) Error → Type 0

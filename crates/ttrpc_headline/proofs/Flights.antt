@@ -6,7 +6,7 @@ use Rattle.ttrpc_story.proofs.AtClient.{status_cases}
 use Rattle.ttrpc_story.proofs.Upward.{thing_up}
 use Rattle.ttrpc_story.proofs.Downward.{IsSentAs, IsTurned, plain_status, thing_down, thing_of}
 use Rattle.ttrpc_story.proofs.Flowing.{Follows}
-use Rattle.ttrpc_pair.proofs.Words.{[], ap, arith, associated, Bool, by_status, Err, Error, false, fitted, Flying, Gives, inl, inr, IsCloseFrame, IsOwned, IsRequest, IsResponse, IsSound, landing_of, last_id, length, List, malformed_text, MESSAGE_LENGTH_MAX, MESSAGE_TYPE_REQUEST, MESSAGE_TYPE_RESPONSE, None, Ok, Opened, Option, Others, OutboundTransform, Outbox, Queued, refl, Request, request_bytes, Responds, Response, response_bytes, Result, Rules, safe_limit, SendsAll, SendsData, SendsOne, Sent, Some, subst, sym, true, with_frame, with_payload, ℕ, ◌<◌, ◌^◌, ◌∙◌, ◌∷◌, ◌≡◌, ◌≤◌, ◌⊎◌}
+use Rattle.ttrpc_pair.proofs.Words.{[], AllByRecursion, ap, append-nil, append_assoc, arith, associated, Bool, by_status, Err, Error, false, fitted, Flying, Gives, id_of, inl, inr, IsCloseFrame, IsOwned, IsRequest, IsResponse, IsSound, landing_of, last_id, length, List, malformed_text, MESSAGE_LENGTH_MAX, MESSAGE_TYPE_REQUEST, MESSAGE_TYPE_RESPONSE, None, Ok, Opened, Option, Others, OutboundTransform, Outbox, parcels, pushed_other, pushed_own, Queued, refl, Request, request_bytes, Responds, Response, response_bytes, Result, Rules, safe_limit, SendsAll, SendsData, SendsOne, Sent, Some, subst, sym, true, with_frame, with_payload, ℕ, ◌++◌, ◌<◌, ◌^◌, ◌∙◌, ◌∷◌, ◌≡◌, ◌≢◌, ◌≤◌, ◌⊎◌}
 use Rattle.ttrpc_story.proofs.Words.{Act, close_flags, closing_news, data_news, data_thing, HasOkStatus, last_thing, News, news_of, Thing, ThingEnd, ThingItem, ThingLast, told_by}
 
 -- A frame was sent: it is a flight such as this.
@@ -216,3 +216,16 @@ sends_refusal out old rs k r sent new within is p q =
     let limit = safe_limit out old.half in
     let last = fitted rs limit r in
     flight_as (IsResponseFlight k last) (IsRefusing k (told_by rs limit r)) (λ y f. refusing last (fitted_is IsRefusal (λ x g. g) rs limit r (omega arith) is) f) (sends_last out old rs k r sent new within p q)
+
+-- ---- frames of an answer behind others
+
+pub down_at : (k i : ℕ) (o : Origin) (done : List Act) (down more : List Flying) → AllByRecursion (IsDown k true o done) more → k ≢ i → parcels i (down ++ more) ≡ parcels i down
+down_at k i o done down [] downs e = ap (parcels i) (append-nil down)
+down_at k i o done down (y ∷ more) downs e =
+    ap (parcels i) (sym (append_assoc down (y ∷ []) more)) ∙ down_at k i o done (down ++ y ∷ []) more downs.1 e ∙ pushed_other id_of i y down (λ same. e (sym downs.0.stream ∙ same))
+
+pub down_own : (k : ℕ) (o : Origin) (done : List Act) (down more : List Flying) → AllByRecursion (IsDown k true o done) more → parcels k (down ++ more) ≡ parcels k down ++ more
+down_own k o done down [] downs = ap (parcels k) (append-nil down) ∙ sym (append-nil (parcels k down))
+down_own k o done down (y ∷ more) downs =
+    ap (parcels k) (sym (append_assoc down (y ∷ []) more)) ∙ down_own k o done (down ++ y ∷ []) more downs.1
+    ∙ ap (λ (xs : List Flying). xs ++ more) (pushed_own id_of k y down downs.0.stream) ∙ append_assoc (parcels k down) (y ∷ []) more

@@ -186,8 +186,8 @@ IsOdd (ByOpen q up down) k = Unit {0}
 begins_tidy : (set : Settings) (b : Birth) (k : ℕ) (x : Flying) (h h2 : Here) → IsOdd b k → x.frame.message.header.stream_id ≡ k → IsBegun b h2.call h2.stream → outcomes h.acts ≡ [] → h.downs ≡ []
     → h2.acts ≡ h.acts ++ first_act b ∷ [] → h2.downs ≡ h.downs → TidyOf set (Born b) (Asking x) h2
 begins_tidy set (ByCall q) k x h h2 odd at begun none downs ha hd = λ method. (
-    record { downs = hd ∙ downs; deadline = begun.0.0; call = begun.0.1; ungiven = ap outcomes ha ∙ outcomes_append h.acts (Called q ∷ []) ∙ append-nil (outcomes h.acts) ∙ none },
-    rw at odd,
+  record { downs = hd ∙ downs; deadline = begun.0.0; call = begun.0.1; ungiven = ap outcomes ha ∙ outcomes_append h.acts (Called q ∷ []) ∙ append-nil (outcomes h.acts) ∙ none },
+  rw at odd,
 )
 begins_tidy set (ByOpen q up down) k x h h2 odd at begun none downs ha hd = tt
 

@@ -86,9 +86,9 @@ answered_whole : (rules : Rules) (limit : ℕ) (q : Request) (h : Here) → h.do
 answered_whole rules limit q h none asked a = elim a.comes [
   | inl w ↦ absurd (no_cons w.x [] (sym w.downs ∙ none))
   | inr (inl w) ↦ elim asked [
-      | inl some ↦ absurd (some (ap outcomes w.acts))
-      | inr never ↦ absurd (never a.outcome w.call)
-    ]
+    | inl some ↦ absurd (some (ap outcomes w.acts))
+    | inr never ↦ absurd (never a.outcome w.call)
+  ]
   | inr (inr w) ↦ (a.job, a.answer, a.outcome, w.acts, a.told)
 ]
 
@@ -205,6 +205,7 @@ tidy_lands rules limit q p h h2 x d was l ha hd t = by p t
   where
     none : Unanswered h → ⊥
     none u = no_cons x d (sym was ∙ u.downs)
+
     by : (p : Work) → Tidy rules limit q p h → Tidy rules limit q p h2
     by Idle t = absurd t
     by (Asking y) t = absurd (none t.0)
@@ -224,8 +225,10 @@ tidy_asked rules limit q p h h2 given g ha hd he t = by p t
     waits d is =
         let none : given ≡ None = subst (λ (e : Option Call). GivesOutcome None e given) is g in
         (ha ∙ ap (λ (x : Option (Result Response Error)). h.acts ++ gave_of x) none ∙ append-nil h.acts, he ∙ ap (left_of false) is ∙ sym is)
+
     stays : (p : Work) (u : Unanswered h) → Tidy rules limit q p h → Tidy rules limit q p h2
     stays p u t = let w = waits u.deadline u.call in tidy_stays rules limit q p h h2 w.0 hd w.1 t
+
     an : IsAnsweredCall rules limit q h → IsAnsweredCall rules limit q h2
     an a = record {
       job = a.job;
@@ -242,6 +245,7 @@ tidy_asked rules limit q p h h2 given g ha hd he t = by p t
             inr (inr (record { downs = hd ∙ w.downs; call = he ∙ ap (left_of false) w.call; acts = ha ∙ ap (λ (x : Option (Result Response Error)). h.acts ++ gave_of x) none ∙ append-nil h.acts ∙ w.acts }))
       ];
     }
+
     by : (p : Work) → Tidy rules limit q p h → Tidy rules limit q p h2
     by Idle t = absurd t
     by (Asking x) t = stays (Asking x) t.0 t
@@ -268,8 +272,10 @@ tidy_gone rules limit q p job h h2 down may only waits ha hd he t = by p only wa
   where
     none : down ≡ [] → h2.downs ≡ h.downs
     none e = hd ∙ ap (λ (xs : List Flying). h.downs ++ xs) e ∙ append-nil h.downs
+
     never : IsTooSoon h.call job → (j : ActiveJob) → j ≡ job → IsOwed rules j h → ⊥
     never f j same o = f.1 o.un.deadline o.un.call (subst (λ (i : ActiveJob). IsPatient o.un.deadline (deadline_in i.body)) same o.patient)
+
     by : (p : Work) → jobs_of p ≡ job ∷ [] → ((j : ActiveJob) → p ≡ Waits j → j.request ≡ None → ⊥) → MayGo down h.call job → Tidy rules limit q p h → Tidy rules limit q (Over (works_of (Born (ByCall q)) p)) h2
     by Idle e w f t = absurd t
     by (Asking x) e w f t = absurd (no_cons job [] (sym e))
