@@ -1,6 +1,6 @@
 -- A stream of one item each way, and its ends: the definitions say of it what it is, by computing alone.
 use Rattle.ttrpc_events.proofs.Words.{[], AreInOrder, Entry, Eof, Err, flows, Fresh, has_end, heard_down, heard_up, Item, List, None, Ok, put_down, put_up, refl, Request, Rules, Some, ThingEnd, ThingItem, true, ℕ, ◌∷◌, ◌≡◌, IsInOrder, RemoteClosed, false}
-use Rattle.ttrpc_events.proofs.Words.{acts, arith, calls, Event, inl, inr, sym, told_by, Given, MessageHeader, Ok, Outcome, pos, Reply, Response, SyncRules, ◌++◌}
+use Rattle.ttrpc_events.proofs.Words.{acts, arith, AsyncRules, calls, Event, inl, inr, sym, told_by, Given, MessageHeader, Ok, Outcome, pos, Reply, Response, SyncRules, ◌++◌}
 use Rattle.std.specs.Prelude.{◌+◌, ◌-◌}
 use Rattle.ttrpc_events.specs.Types.{Answer, CallEvent, Carry, Close, Count, Deliver, Done, EndStream, Handed, Named, Open, Recv, Send, Take, Tick, Ticket}
 use Rattle.ttrpc_events.specs.declared.events.Side.TheVariants.{Client as ClientSide, Server as ServerSide}
@@ -137,3 +137,42 @@ none_given bytes h = cc
 
 pub isnt_whole : (rules : Rules) (limit : ℕ) (q : Request) → IsWholeStream rules limit stream_of 1 (lossy q) → ⊥
 isnt_whole rules limit q w = none_given (97 ∷ []) (w.up (inr refl))
+
+-- ---- one that is clean and quiet: its job is told of an item and then of nothing yet, and its client of an item and an end
+
+-- it sends items itself
+abbrev opening : Request
+opening = record { service = []; method = []; payload = []; timeout_nano = pos 0; metadata = [] }
+
+abbrev two_ways : List Entry
+two_ways = e (Open opening true true) (Named 1) ∷ e (Send (end.Client 1) (97 ∷ [])) (Ticket 1) ∷ e (Carry ClientSide 40) (Count 30) ∷ e (Deliver ServerSide 40) (Count 30)
+    ∷ e Take (Handed (Some (record { id = 1; header = header_at 1; stream = true; request = opening }))) ∷ e Take (Handed None)
+    ∷ e (Recv (end.Server 1)) (Item (Some (Ok (97 ∷ [])))) ∷ e (Recv (end.Server 1)) (Item None) ∷ e (Send (end.Server 1) (98 ∷ [])) (Ticket 1) ∷ e (EndStream 1 (Ok None)) Done
+    ∷ e (Carry ServerSide 40) (Count 30) ∷ e (Deliver ClientSide 40) (Count 30) ∷ e (Recv (end.Client 1)) (Item (Some (Ok (98 ∷ [])))) ∷ e (Recv (end.Client 1)) (Item (Some (Err Eof))) ∷ []
+
+abbrev streamed : List Entry
+streamed = two_ways ++ last_four
+
+pub clean_stream : IsClean AsyncRules id_of streamed
+clean_stream = (clean_at _ _ _ _ _ refl refl refl tt, (clean_at _ _ _ _ _ refl refl refl tt, (clean_at _ _ _ _ _ refl refl refl tt, (clean_at _ _ _ _ _ refl refl refl tt, (clean_at _ _ _ _ _ refl refl refl tt, (clean_at _ _ _ _ _ refl refl refl tt, (clean_at _ _ _ _ _ refl refl refl tt, (clean_at _ _ _ _ _ refl refl refl tt, (clean_at _ _ _ _ _ refl refl refl tt, (clean_at _ _ _ _ _ refl refl refl tt, (clean_at _ _ _ _ _ refl refl refl tt, (clean_at _ _ _ _ _ refl refl refl tt, (clean_at _ _ _ _ _ refl refl refl tt, (clean_at _ _ _ _ _ refl refl refl tt, (clean_at _ _ _ _ _ refl refl refl tt, (clean_at _ _ _ _ _ refl refl refl tt, (clean_at _ _ _ _ _ refl refl refl tt, (clean_at _ _ _ _ _ refl refl refl tt, tt))))))))))))))))))
+
+pub quiet_stream : IsQuiet streamed
+quiet_stream = record {
+  drained = record { front = two_ways; from = ClientSide; to = ServerSide; a = 1; b = 1; c = 1; d = 1; some = (omega arith, omega arith, omega arith, omega arith); ends = refl };
+  answered = (tt, (tt, (tt, (tt, (refl, (tt, (tt, (tt, (tt, (tt, (tt, (tt, (tt, (tt, (tt, (tt, (tt, (tt, tt))))))))))))))))));
+  taken = refl;
+}
+
+pub asked_out : IsAskedOutUp id_of 1 streamed × IsAskedOutDown id_of 1 streamed
+asked_out = (inr refl, inl refl)
+
+pub is_whole_too : (rules : Rules) (limit : ℕ) → IsWholeStream rules limit id_of 1 streamed
+is_whole_too rules limit = record { up = λ out. refl; down = λ out. refl }
+
+-- Where nothing was there yet before the bytes came, the receiver isn't asked out.
+abbrev asked_early : List Entry
+asked_early = e (Recv (end.Server 1)) (Item None) ∷ e (Deliver ServerSide 40) (Count 30) ∷ last_four
+
+pub isnt_asked_out : IsAskedOutUp id_of 1 asked_early → ⊥
+isnt_asked_out (inl ends) = cc
+isnt_asked_out (inr late) = cc
