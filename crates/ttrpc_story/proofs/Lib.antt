@@ -10,3 +10,4 @@ pub mod Tidy
 pub mod Place
 pub mod Turns
 pub mod Events
+pub mod AllGiven

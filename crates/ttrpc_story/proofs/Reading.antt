@@ -25,7 +25,7 @@ items_append (ThingItem bytes ∷ xs) ys = ap (λ zs. bytes ∷ zs) (items_appen
 items_append (ThingLast bytes ∷ xs) ys = ap (λ zs. bytes ∷ zs) (items_append xs ys)
 items_append (x ∷ xs) ys = items_append xs ys
 
-got_append : (xs ys : List Word) → got (xs ++ ys) ≡ got xs ++ got ys
+pub got_append : (xs ys : List Word) → got (xs ++ ys) ≡ got xs ++ got ys
 got_append [] ys = refl
 got_append (Ok bytes ∷ xs) ys = ap (λ zs. bytes ∷ zs) (got_append xs ys)
 got_append (Err e ∷ xs) ys = got_append xs ys
