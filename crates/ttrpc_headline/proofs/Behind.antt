@@ -11,7 +11,7 @@ use Rattle.std.proofs.lemmas.Bool.{ltb-false}
 use Rattle.ttrpc_pair.proofs.Words.{[], ActiveJob, all_at, all_less, Answer, AnswersBy, ap, arith, AsyncRules, Bool, call_at, CallEvent, cases_eq, Client, ClientCore, ClientEnd, ClientSide, Close, Count, Cut, deadline_of, Deliver, Done, Drain, DropCall, DropReceiver, DropSender, EndsOne, EndStream, Entry, eqb-true, Err, Error, Event, ExpireAll, Failure, false, Finish, Given, Halves, Handed, if◌then◌else◌, inl, inr, is_some, Item, JobList, List, map, Named, Net, None, NoneWaits, Ok, OpenEvent, Option, Outbox, Outcome, Passes, Recv, Refused, Reply, Respond, Response, Result, rules, Rules, Send, Server, ServerCore, ServerEnd, ServerPasses, ServerSide, Some, StaysFound, Steps, subst, sym, SyncRules, Take, Tick, Ticket, true, ℕ, ◌∙◌, ◌∷◌, ◌≡◌, ◌≢◌, ◌≤◌}
 use Rattle.ttrpc_story.proofs.Words.{Call, Ended, Expired, expired_at, is_due, left_of, Waiting}
 
-none_taken : (k : ℕ) → nat_lt 0 k ≡ false → k ≡ 0
+pub none_taken : (k : ℕ) → nat_lt 0 k ≡ false → k ≡ 0
 none_taken k h = let le : k ≤ 0 = ltb-false 0 k h in omega (arith, le)
 
 -- asking leaves no outcome

@@ -6,7 +6,7 @@ use Rattle.ttrpc_headline.proofs.Delivers.{around}
 use Rattle.ttrpc_headline.proofs.Headline.{fresh, keeps_all, Ruled, starts_ruled}
 use Rattle.ttrpc_headline.proofs.Living.{stay_open}
 use Rattle.ttrpc_headline.proofs.Numbers.{IsRightRun, stream_of_run}
-use Rattle.ttrpc_headline.proofs.Since.{Lasts, since_all}
+use Rattle.ttrpc_headline.proofs.Since.{since_holds, Starts, Stays}
 use Rattle.ttrpc_headline.specs.Living.{IsEmpty}
 use Rattle.ttrpc_story.proofs.AtServer.{is_done}
 use Rattle.ttrpc_story.proofs.Here.{Born, ByCall, ByOpen, Here, here_at, Origin, Unborn, ups_of, Waits, Work}
@@ -154,21 +154,24 @@ whole_of {w} {k} {h} q p n clean method ups downs idle run asked =
 module _ {CO CI SO SI : Type 0} (c : Halves CO CI) (s : Halves SO SI) (seals : Bool) (still : seals ≡ false → (from to : CO) (plain aad sealed : List ℕ) → c.out.seals from plain aad sealed to → to ≡ from)
     (fixed : (x y : SO) (plain aad sealed : List ℕ) → s.out.seals x plain aad sealed y → s.out.overhead y ≡ s.out.overhead x) (set : Settings) (f : ℕ → ℕ) (clean : set.clean) where
   -- no job waits
-  idle_lasts : Lasts c s seals still fixed set f clean ServerSide takes_nothing (λ w. NoneWaits w.server.state.jobs.list)
-  idle_lasts = record {
-    made = λ t w event reply v z p is. none_waits c s seals w event reply v z.before is p;
-    kept = λ t w event reply v i z p none h. idle_still c s seals set f t w event reply v i z.whole z.at.event_is z.at.reply_is none p h;
-  }
+  abbrev NoneWaiting : List Entry → Net CO CI SO SI → Type 0
+  NoneWaiting t w = NoneWaits w.server.state.jobs.list
+
+  idle_stays : Stays c s seals still fixed set f ServerSide NoneWaiting
+  idle_stays t w event reply v i none h = idle_still c s seals set f t w event reply v i.before i.cleanly.whole i.cleanly.at.event_is i.cleanly.at.reply_is none i.does h
+
+  idle_starts : Starts c s seals still fixed set f takes_nothing NoneWaiting
+  idle_starts t w event reply v i is = none_waits c s seals w event reply v i.cleanly.before is i.does
 
   -- no outcome of this call is kept
-  abbrev NoneKept : ℕ → Net CO CI SO SI → Type 0
-  NoneKept k w = (o : Result Response Error) → call_at w.client.state k ≡ Some (Ended o) → ⊥
+  abbrev NoneKept : ℕ → List Entry → Net CO CI SO SI → Type 0
+  NoneKept k t w = (o : Result Response Error) → call_at w.client.state k ≡ Some (Ended o) → ⊥
 
-  asked_lasts : (k : ℕ) → Lasts c s seals still fixed set f clean ClientSide (asks_outcome k) (NoneKept k)
-  asked_lasts k = record {
-    made = λ t w event reply v z p is o. none_kept c s seals w event reply v k o z.at.reply_is is p;
-    kept = λ t w event reply v i z p none h o is. h o (kept_before c s seals set f t w event reply v k o i z.whole z.at.event_is z.at.reply_is none p is);
-  }
+  asked_stays : (k : ℕ) → Stays c s seals still fixed set f ClientSide (NoneKept k)
+  asked_stays k t w event reply v i none h o is = h o (kept_before c s seals set f t w event reply v k o i.before i.cleanly.whole i.cleanly.at.event_is i.cleanly.at.reply_is none i.does is)
+
+  asked_starts : (k : ℕ) → Starts c s seals still fixed set f (asks_outcome k) (NoneKept k)
+  asked_starts k t w event reply v i is o = none_kept c s seals w event reply v k o i.cleanly.at.reply_is is i.does
 
   -- A CALL IS WHOLE at the end of the run.
   pub whole_at_end : (w : Net CO CI SO SI) (trace : List Entry) (v : Net CO CI SO SI) → IsFresh c s w → Ruled c s seals still fixed set f w → (r : Runs c s seals w trace v) → IsRightRun c s seals f w trace v r → IsCleanRun c s seals set.rules f [] w trace v → IsEmpty v
@@ -177,16 +180,16 @@ module _ {CO CI SO SI : Type 0} (c : Halves CO CI) (s : Halves SO SI) (seals : B
       let start = fresh c s seals still fixed set f w n in
       let i = keeps_all c s seals still fixed set f [] trace w v start u r right (λ x. z) in
       let whole = stay_open c s seals set.rules f [] w trace v z.clean r z.whole in
-      let idle : NoneWaits v.server.state.jobs.list = since_all c s seals still fixed set f clean ServerSide takes_nothing (λ x. NoneWaits x.server.state.jobs.list) idle_lasts true [] trace w v
-      (λ e. subst (λ (x : ServerCore SO SI). NoneWaits x.state.jobs.list) (sym n.server) tt) start u r right z quiet.taken in
+      let idle : NoneWaits v.server.state.jobs.list = since_holds c s seals still fixed set f ServerSide takes_nothing NoneWaiting idle_stays idle_starts [] trace w v true start u r right z
+          (λ e. subst (λ (x : ServerCore SO SI). NoneWaits x.state.jobs.list) (sym n.server) tt) quiet.taken in
       let place = i.stories k in
       let known = subst (λ (o : Origin). Known (around set (has_response v) v.client.state.next) k (here_at f trace i.up i.down v.server.state.jobs.list v.client.state k) o place.so_far) (called_by place.origin place.so_far q place.known one) place.known in
       whole_of q place.so_far known clean method
-      (ap (parcels k) (none_up c s seals still fixed set f trace v i z.lives whole empty)) (ap (parcels k) (none_down c s seals still fixed set f trace v i z.lives whole empty)) (filtered_idle k v.server.state.jobs.list idle)
+      (ap (parcels k) (none_up c s seals still fixed set f trace v i z.lives whole empty.up_queue empty.up)) (ap (parcels k) (none_down c s seals still fixed set f trace v i z.lives whole empty.down_queue empty.down)) (filtered_idle k v.server.state.jobs.list idle)
       (λ job is. none_unanswered f k trace quiet (stream_of_run c s seals f w trace v r right) q job is)
       (elim asked [
         | inl some ↦ inl some
-        | inr late ↦ inr (since_all c s seals still fixed set f clean ClientSide (asks_outcome k) (NoneKept k) (asked_lasts k) false [] trace w v (λ e. let bad : false ≡ true = e in cc) start u r right z late)
+        | inr late ↦ inr (since_holds c s seals still fixed set f ClientSide (asks_outcome k) (NoneKept k) (asked_stays k) (asked_starts k) [] trace w v false start u r right z (λ e. cc) late)
       ])
 
 -- EACH CALL OF A CLEAN QUIET RUN IS WHOLE: of any run from a fresh start.

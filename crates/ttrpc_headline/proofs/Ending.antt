@@ -21,7 +21,7 @@ nil_of : {X : Type 0} (xs : List X) → length xs ≡ 0 → xs ≡ []
 nil_of [] h = refl
 nil_of (x ∷ xs) h = absurd (let no : ⊥ = omega (arith, h) in no)
 
-lent_alive : (failure : Option Failure) (n k : ℕ) (q : Queue) → failure ≡ None → k ≡ lent_of failure n q → k ≡ min n (length (open_part q))
+pub lent_alive : (failure : Option Failure) (n k : ℕ) (q : Queue) → failure ≡ None → k ≡ lent_of failure n q → k ≡ min n (length (open_part q))
 lent_alive None n k q e h = h
 lent_alive (Some why) n k q e h = cc
 
@@ -177,17 +177,17 @@ module _ {CO CI SO SI : Type 0} (c : Halves CO CI) (s : Halves SO SI) (seals : B
   no_flights : (transit queued flights : List Flying) → transit ++ queued ≡ flights → transit ≡ [] → queued ≡ [] → flights ≡ []
   no_flights transit queued flights all a b = sym all ∙ ap (λ (xs : List Flying). xs ++ queued) a ∙ b
 
-  -- SO NOTHING IS IN FLIGHT.
-  pub none_up : (t : List Entry) (v : Net CO CI SO SI) → (i : Keeps c s set f t v) → Lives v → IsOpen v → IsEmpty v → i.up ≡ []
-  none_up t v i a o e =
+  -- Where nothing is queued and nothing is in the pipe, NOTHING IS IN FLIGHT.
+  pub none_up : (t : List Entry) (v : Net CO CI SO SI) → (i : Keeps c s set f t v) → Lives v → IsOpen v → v.client.connection.outbox.queue.frames ≡ [] → v.up.bytes ≡ [] → i.up ≡ []
+  none_up t v i a o queued carried =
       let b = i.upward.bytes a.server in
-      let h = all_has_come v.server.connection.decoder v.up.bytes v.up.cut v.client.connection.outbox.queue b.transit b.queued e.up o.up e.up_queue b.bytes in
+      let h = all_has_come v.server.connection.decoder v.up.bytes v.up.cut v.client.connection.outbox.queue b.transit b.queued carried o.up queued b.bytes in
       no_flights b.transit b.queued i.up b.all h.0 h.1
 
-  pub none_down : (t : List Entry) (v : Net CO CI SO SI) → (i : Keeps c s set f t v) → Lives v → IsOpen v → IsEmpty v → i.down ≡ []
-  none_down t v i a o e =
+  pub none_down : (t : List Entry) (v : Net CO CI SO SI) → (i : Keeps c s set f t v) → Lives v → IsOpen v → v.server.connection.outbox.queue.frames ≡ [] → v.down.bytes ≡ [] → i.down ≡ []
+  none_down t v i a o queued carried =
       let b = i.downward.bytes a.client in
-      let h = all_has_come v.client.connection.decoder v.down.bytes v.down.cut v.server.connection.outbox.queue b.transit b.queued e.down o.down e.down_queue b.bytes in
+      let h = all_has_come v.client.connection.decoder v.down.bytes v.down.cut v.server.connection.outbox.queue b.transit b.queued carried o.down queued b.bytes in
       no_flights b.transit b.queued i.down b.all h.0 h.1
 
 -- for any run from a fresh start

@@ -21,3 +21,5 @@ pub mod Behind
 pub mod Since
 pub mod Calls
 pub mod Telling
+pub mod Emptied
+pub mod WholeStreams

@@ -1,34 +1,49 @@
--- What holds at the end of a run since an entry behind the last bytes that a side took.
-use Rattle.ttrpc_headline.proofs.Cleanly.{first_step, later_run}
-use Rattle.ttrpc_headline.proofs.Headline.{CleanRun, CleanStep, Kept, keeps, now_right, Ruled, ruled}
-use Rattle.ttrpc_headline.proofs.Numbers.{IsRightRun}
+-- What holds behind the last bytes that a side took: what an entry there starts, and the steps behind it keep. By induction
+-- over a clean run that ends drained.
+use Rattle.ttrpc_headline.proofs.Cleanly.{first_step, IsCleanRun, IsCleanStep, later_run}
+use Rattle.ttrpc_headline.proofs.Headline.{keeps, now_right, ruled, Ruled}
+use Rattle.ttrpc_headline.proofs.Keeps.{Keeps}
+use Rattle.ttrpc_headline.proofs.Numbers.{AreRight, IsRightRun}
 use Rattle.ttrpc_story.proofs.Place.{Settings}
 use Rattle.ttrpc_events.specs.Clean.{since, takes_bytes}
 use Rattle.ttrpc_events.specs.declared.events.Side.{Side}
 use Rattle.std.specs.Prelude.{◌||◌}
-use Rattle.ttrpc_pair.proofs.Words.{[], Bool, Entry, Event, false, Halves, if◌then◌else◌, List, Net, refl, Reply, Runs, Steps, subst, sym, true, ℕ, ◌++◌, ◌∷◌, ◌≡◌}
+use Rattle.ttrpc_pair.proofs.Words.{[], append-nil, append_assoc, Bool, Entry, Event, false, Halves, if◌then◌else◌, List, Net, refl, Reply, Runs, Steps, subst, sym, true, ℕ, ◌++◌, ◌∷◌, ◌≡◌}
+use Rattle.ttrpc_story.proofs.Words.{with_entry}
 
--- such an entry stood before, or is this one, and no bytes were taken at it
-since_next : {P : Type 0} (takes is_it before : Bool) → (is_it ≡ true → P) → (takes ≡ false → before ≡ true → P) → (if takes then false else (is_it || before)) ≡ true → P
-since_next true is_it before now was h = let bad : false ≡ true = h in cc
-since_next false true before now was h = now refl
-since_next false false before now was h = was refl h
+since_next : (P Q : Type 0) (takes is before : Bool) → (is ≡ true → Q) → (takes ≡ false → P → Q) → (before ≡ true → P) → (if takes then false else (is || before)) ≡ true → Q
+since_next P Q true is before start on had h = cc
+since_next P Q false true before start on had h = start refl
+since_next P Q false false before start on had h = on refl (had h)
 
 module _ {CO CI SO SI : Type 0} (c : Halves CO CI) (s : Halves SO SI) (seals : Bool) (still : seals ≡ false → (from to : CO) (plain aad sealed : List ℕ) → c.out.seals from plain aad sealed to → to ≡ from)
-    (fixed : (x y : SO) (plain aad sealed : List ℕ) → s.out.seals x plain aad sealed y → s.out.overhead y ≡ s.out.overhead x) (set : Settings) (f : ℕ → ℕ) (clean : set.clean) where
-  -- such an entry makes this so, and no clean step at which the side takes no bytes undoes it
-  pub record Lasts (at : Side) (is_it : Event → Reply → Bool) (P : Net CO CI SO SI → Type 0) : Type 0 where
-    pub made : (t : List Entry) (w : Net CO CI SO SI) (event : Event) (reply : Reply) (v : Net CO CI SO SI) → CleanStep c s seals still fixed set f t w event reply v → Steps c s seals w event reply v → is_it event reply ≡ true → P v
-    pub kept : (t : List Entry) (w : Net CO CI SO SI) (event : Event) (reply : Reply) (v : Net CO CI SO SI) → Kept c s seals still fixed set f t w → CleanStep c s seals still fixed set f t w event reply v → Steps c s seals w event reply v
-        → takes_bytes at event reply ≡ false → P w → P v
+    (fixed : (x y : SO) (plain aad sealed : List ℕ) → s.out.seals x plain aad sealed y → s.out.overhead y ≡ s.out.overhead x) (set : Settings) (f : ℕ → ℕ) where
+  -- WHAT IS KNOWN OF A STEP of such a run
+  pub record IsKnown (t : List Entry) (w : Net CO CI SO SI) (event : Event) (reply : Reply) (v : Net CO CI SO SI) : Type 0 where
+    pub does : Steps c s seals w event reply v
+    pub cleanly : IsCleanStep c s seals set.rules f t w event reply v
+    pub right : AreRight f w.server.state.jobs.list
+    pub before : Keeps c s set f t w
+    pub behind : Keeps c s set f (with_entry t event reply) v
 
-  -- IT HOLDS AT THE END where such an entry stands behind the last bytes.
-  pub since_all : (at : Side) (is_it : Event → Reply → Bool) (P : Net CO CI SO SI → Type 0) → Lasts at is_it P → (b : Bool) (t rest : List Entry) (w v : Net CO CI SO SI) → (b ≡ true → P w) → Kept c s seals still fixed set f t w → Ruled c s seals still fixed set f w
-      → (r : Runs c s seals w rest v) → IsRightRun c s seals f w rest v r → CleanRun c s seals still fixed set f t w rest v → since at is_it b rest ≡ true → P v
-  since_all at is_it P l b t [] w v was i u r right z h = subst P (sym r) (was h)
-  since_all at is_it P l b t (e ∷ rest) w v was i u r right z h =
-      let step = first_step c s seals set.rules f t w e rest v z r in
-      let next = keeps c s seals still fixed set f t w e.event e.reply r.0 i u right.0 (now_right c s seals still fixed set f r.0 rest v r.2 right.1) (λ x. step) r.1 in
-      since_all at is_it P l (if takes_bytes at e.event e.reply then false else (is_it e.event e.reply || b)) (t ++ e ∷ []) rest r.0 v
-      (since_next (takes_bytes at e.event e.reply) (is_it e.event e.reply) b (l.made t w e.event e.reply r.0 step r.1) (λ none before. l.kept t w e.event e.reply r.0 i step r.1 none (was before)))
-      next (ruled c s seals still fixed set f w e.event e.reply r.0 r.1 u) r.2 right.1 (later_run c s seals set.rules f t w e rest v z r) h
+  -- a step by which this side takes no bytes keeps it
+  abbrev pub Stays : Side → (List Entry → Net CO CI SO SI → Type 0) → Type 0
+  Stays at P = (t : List Entry) (w : Net CO CI SO SI) (event : Event) (reply : Reply) (v : Net CO CI SO SI) → IsKnown t w event reply v → takes_bytes at event reply ≡ false → P t w → P (with_entry t event reply) v
+
+  -- such an entry starts it
+  abbrev pub Starts : (Event → Reply → Bool) → (List Entry → Net CO CI SO SI → Type 0) → Type 0
+  Starts is_it P = (t : List Entry) (w : Net CO CI SO SI) (event : Event) (reply : Reply) (v : Net CO CI SO SI) → IsKnown t w event reply v → is_it event reply ≡ true → P (with_entry t event reply) v
+
+  -- IT HOLDS AT THE END, where such an entry stands behind the last bytes that this side took; or it held at first.
+  pub since_holds : (at : Side) (is_it : Event → Reply → Bool) (P : List Entry → Net CO CI SO SI → Type 0) → Stays at P → Starts is_it P → (t rest : List Entry) (w v : Net CO CI SO SI) (before : Bool) → Keeps c s set f t w → Ruled c s seals still fixed set f w
+      → (p : Runs c s seals w rest v) → IsRightRun c s seals f w rest v p → IsCleanRun c s seals set.rules f t w rest v → (before ≡ true → P t w) → since at is_it before rest ≡ true → P (t ++ rest) v
+  since_holds at is_it P stays starts t [] w v before i u p right z had h = subst (λ (x : List Entry). P x v) (sym (append-nil t)) (subst (λ (x : Net CO CI SO SI). P t x) (sym p) (had h))
+  since_holds at is_it P stays starts t (e ∷ rest) w v before i u p right z had h =
+      let step = first_step c s seals set.rules f t w e rest v z p in
+      let next = keeps c s seals still fixed set f t w e.event e.reply p.0 i u right.0 (now_right c s seals still fixed set f p.0 rest v p.2 right.1) (λ clean. step) p.1 in
+      let known : IsKnown t w e.event e.reply p.0 = record { does = p.1; cleanly = step; right = right.0; before = i; behind = next } in
+      let takes : Bool = takes_bytes at e.event e.reply in
+      let is : Bool = is_it e.event e.reply in
+      subst (λ (x : List Entry). P x v) (append_assoc t (e ∷ []) rest)
+      (since_holds at is_it P stays starts (t ++ e ∷ []) rest p.0 v (if takes then false else (is || before)) next (ruled c s seals still fixed set f w e.event e.reply p.0 p.1 u) p.2 right.1 (later_run c s seals set.rules f t w e rest v z p)
+      (since_next (P t w) (P (t ++ e ∷ []) p.0) takes is before (λ it. starts t w e.event e.reply p.0 known it) (λ none was. stays t w e.event e.reply p.0 known none was) had) h)

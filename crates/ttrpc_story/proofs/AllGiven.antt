@@ -1,6 +1,6 @@
 -- Where a receiver has nothing yet, and nothing is under way to it, it was given all that was put in. What was put in and
 -- never comes is a close at most, which is no item.
-use Rattle.ttrpc_story.proofs.Words.{[], ActiveJob, answer_of, ap, append-nil, Err, false, got, heard_down, heard_up, inl, inr, is_stream, IsInOrder, items, jobs_at, length, List, Mail, map, None, Open, Option, put_down, put_up, Receiver, Receives, ReceivesAt, refl, Some, Stream, StreamBody, subst, sym, Thing, ThingBreaking, ThingClosing, ThingEnd, ThingItem, ThingLast, true, Word, Broken, Closed, Dropped, ℕ, ◌++◌, ◌∙◌, ◌∷◌, ◌≡◌, arith, has_end, Fresh}
+use Rattle.ttrpc_story.proofs.Words.{[], ActiveJob, answer_of, ap, append-nil, false, got, heard_down, heard_up, inl, inr, is_stream, IsInOrder, items, length, List, Mail, map, None, Open, Option, put_down, put_up, Receiver, Receives, ReceivesAt, refl, Some, Stream, StreamBody, subst, sym, Thing, ThingBreaking, ThingClosing, ThingEnd, ThingItem, ThingLast, true, Word, Broken, Closed, Dropped, ℕ, ◌++◌, ◌∙◌, ◌∷◌, ◌≡◌, arith, has_end, Fresh}
 use Rattle.std.proofs.Common.{◌+◌, length-append}
 use Rattle.ttrpc_story.proofs.Here.{Birth, Born, Here, jobs_of, Left, no_cons, Origin, Runs, Unborn, Waits, Work}
 use Rattle.ttrpc_story.proofs.Reading.{got_append, items_append}
