@@ -8,7 +8,7 @@ use Rattle.ttrpc_headline.proofs.Timed.{none_due}
 use Rattle.ttrpc_headline.specs.Living.{IsOpen}
 use Rattle.ttrpc_story.proofs.Here.{never_empty}
 use Rattle.ttrpc_story.proofs.Place.{Settings}
-use Rattle.ttrpc_events.specs.Clean.{takes_bytes}
+use Rattle.ttrpc_events.specs.Clean.{is_clean_event, is_clean_reply, takes_bytes}
 use Rattle.std.proofs.Common.{length-take}
 use Rattle.ttrpc_pair.proofs.Idle.{IsQueue, none_reported, none_thrown}
 use Rattle.ttrpc_pair.proofs.Words.{[], ActiveJob, ActsAll, after_report, Answer, AnswersError, ap, arith, AsyncRules, Bool, call_at, CallEvent, calling, Carry, ClientCore, ClientEnd, ClientSide, Close, Connection, Count, Cut, Deliver, Done, Drain, DropCall, DropReceiver, DropSender, due_at, EndStream, Entry, Err, Error, Event, ExpireAll, Fail, Failure, false, Finish, Given, Halves, Handed, if◌then◌else◌, Incoming, inl, inr, is_over, Item, length, lent_of, List, min, Named, Net, None, Ok, open_part, OpenEvent, Option, Outbox, Outcome, OutboundTransform, Passes, Queue, Queued, Recv, refl, Refused, Reply, Respond, Responds, Response, Result, Rules, rules, Scene, scene, Send, SendsAll, SendsOne, Sent, Server, ServerCore, ServerEnd, ServerPasses, ServerSide, serving, Some, Steps, subst, sym, SyncRules, take, Take, taken_back, taken_from, throws, Tick, Ticket, true, Ways, with_lent, with_payload, ℕ, ◌++◌, ◌∙◌, ◌∷◌, ◌≡◌, AnswersBy, with_server, with_client, nat_eq, EndsStream, DeadlineDuringWrite}
@@ -158,40 +158,29 @@ module _ {CO CI SO SI : Type 0} (c : Halves CO CI) (s : Halves SO SI) (seals : B
   quiet_server w v only same i = idle_as (ap (λ (x : Connection SO SI). x.outbox.queue.frames) same) (ap (λ (x : Net CO CI SO SI). x.down.bytes) only) i
 
   -- BEHIND THE LAST BYTES THAT THE SERVER TOOK, upwards.
-  pub up_back : (t : List Entry) (w : Net CO CI SO SI) (event : Event) (reply : Reply) (v : Net CO CI SO SI) → IsKnown c s seals still fixed set f t w event reply v → takes_bytes ServerSide event reply ≡ false → Steps c s seals w event reply v → UpIdle v → UpIdle w × PutsUp event reply
-  up_back t w (CallEvent request) (Named id) v i z p idle = absurd (sent_one c.out w.client.connection.outbox _ _ v.client.connection.outbox p.1.sends idle.none_queued)
-  up_back t w (OpenEvent request up down) (Named id) v i z p idle = absurd (sent_one c.out w.client.connection.outbox _ _ v.client.connection.outbox p.1.sends idle.none_queued)
-  up_back t w (Send (ClientEnd id) item) (Ticket ticket) v i z p idle = absurd (sent_one c.out w.client.connection.outbox _ _ v.client.connection.outbox p.0.sends.sends idle.none_queued)
-  up_back t w (Close id) (Ticket ticket) v i z p idle = absurd (sent_one c.out w.client.connection.outbox _ _ v.client.connection.outbox p.0.sends.sends idle.none_queued)
-  up_back t w (Outcome id) (Given given) v i z p idle = (quiet_client w v p.1 (ap (λ (x : ClientCore CO CI). x.connection) p.0.same) idle, λ k. refl)
-  up_back t w (Recv (ClientEnd id)) (Item given) v i z p idle = (quiet_client w v p.1 (ap (λ (x : ClientCore CO CI). x.connection) p.0.same) idle, heard_none (λ xs. items (put_up xs)) refl (λ word. refl) (λ word. refl) (ClientEnd id) given)
-  up_back t w (Recv (ServerEnd id)) (Item given) v i z p idle = (same_server w v p.1 idle, heard_none (λ xs. items (put_up xs)) refl (λ word. refl) (λ word. refl) (ServerEnd id) given)
-  up_back t w (Send (ServerEnd id) item) (Ticket ticket) v i z p idle = (same_server w v p.1 idle, λ k. nothing_put (λ xs. items (put_up xs)) (nat_eq (f id) k) (SentDown item) refl refl)
-  up_back t w Take (Handed (Some job)) v i z p idle = (same_server w v p.1 idle, λ k. refl)
-  up_back t w (Answer id result) Done v i z p idle = (same_server w v p.1 idle, λ k. nothing_put (λ xs. items (put_up xs)) (nat_eq (f id) k) (EndedDown (some_of result)) refl refl)
-  up_back t w (Respond id response) Done v i z p idle = (idle_as (ap (λ (x : Net CO CI SO SI). x.client.connection.outbox.queue.frames) p.only) (ap (λ (x : Net CO CI SO SI). x.up.bytes) p.only) idle, λ k. nothing_put (λ xs. items (put_up xs)) (nat_eq (f id) k) (EndedDown (Ok (Some response))) refl refl)
-  up_back t w (Finish id) Done v i z p idle = (same_server w v p.1 idle, λ k. refl)
-  up_back t w (EndStream id result) Done v i z p idle = (same_server w v p.1 idle, λ k. nothing_put (λ xs. items (put_up xs)) (nat_eq (f id) k) (EndedDown result) refl refl)
-  up_back t w (Tick now) Done v i z p idle =
+  pub up_back : (t : List Entry) (w : Net CO CI SO SI) (event : Event) (reply : Reply) (v : Net CO CI SO SI) → IsKnown c s seals still fixed set f t w event reply v → is_clean_event event ≡ true → is_clean_reply reply ≡ true → takes_bytes ServerSide event reply ≡ false → Steps c s seals w event reply v → UpIdle v → UpIdle w × PutsUp event reply
+  up_back t w (CallEvent request) (Named id) v i a b z p idle = absurd (sent_one c.out w.client.connection.outbox _ _ v.client.connection.outbox p.1.sends idle.none_queued)
+  up_back t w (OpenEvent request up down) (Named id) v i a b z p idle = absurd (sent_one c.out w.client.connection.outbox _ _ v.client.connection.outbox p.1.sends idle.none_queued)
+  up_back t w (Send (ClientEnd id) item) (Ticket ticket) v i a b z p idle = absurd (sent_one c.out w.client.connection.outbox _ _ v.client.connection.outbox p.0.sends.sends idle.none_queued)
+  up_back t w (Close id) (Ticket ticket) v i a b z p idle = absurd (sent_one c.out w.client.connection.outbox _ _ v.client.connection.outbox p.0.sends.sends idle.none_queued)
+  up_back t w (Recv (ClientEnd id)) (Item given) v i a b z p idle = (quiet_client w v p.1 (ap (λ (x : ClientCore CO CI). x.connection) p.0.same) idle, heard_none (λ xs. items (put_up xs)) refl (λ word. refl) (λ word. refl) (ClientEnd id) given)
+  up_back t w (Recv (ServerEnd id)) (Item given) v i a b z p idle = (same_server w v p.1 idle, heard_none (λ xs. items (put_up xs)) refl (λ word. refl) (λ word. refl) (ServerEnd id) given)
+  up_back t w (Send (ServerEnd id) item) (Ticket ticket) v i a b z p idle = (same_server w v p.1 idle, λ k. nothing_put (λ xs. items (put_up xs)) (nat_eq (f id) k) (SentDown item) refl refl)
+  up_back t w (Answer id result) Done v i a b z p idle = (same_server w v p.1 idle, λ k. nothing_put (λ xs. items (put_up xs)) (nat_eq (f id) k) (EndedDown (some_of result)) refl refl)
+  up_back t w (Respond id response) Done v i a b z p idle = (idle_as (ap (λ (x : Net CO CI SO SI). x.client.connection.outbox.queue.frames) p.only) (ap (λ (x : Net CO CI SO SI). x.up.bytes) p.only) idle, λ k. nothing_put (λ xs. items (put_up xs)) (nat_eq (f id) k) (EndedDown (Ok (Some response))) refl refl)
+  up_back t w (EndStream id result) Done v i a b z p idle = (same_server w v p.1 idle, λ k. nothing_put (λ xs. items (put_up xs)) (nat_eq (f id) k) (EndedDown result) refl refl)
+  up_back t w (Tick now) Done v i a b z p idle =
       (idle_as (ticked_up w.client.connection.failure w.client now v.client (none_due c s seals set f t w now i.before i.cleanly.timed i.cleanly.at.in_time) p.does) (ap (λ (x : Net CO CI SO SI). x.up.bytes) p.only) idle, λ k. refl)
-  up_back t w (Carry ClientSide n) (Count k) v i z p idle = (
+  up_back t w (Carry ClientSide n) (Count k) v i a b z p idle = (
     carried w.client.connection.failure w.up.cut w.client.connection.outbox.queue w.up.bytes n k i.cleanly.before.client i.cleanly.whole.up (i.before.upward.bytes i.cleanly.before.server).bytes.valid p.count
         (idle_as (ap (λ (x : Net CO CI SO SI). x.client.connection.outbox.queue.frames) p.only) (ap (λ (x : Net CO CI SO SI). x.up.bytes) p.only) idle),
     λ j. refl,
   )
-  up_back t w (Carry ServerSide n) (Count k) v i z p idle = (idle_as (ap (λ (x : Net CO CI SO SI). x.client.connection.outbox.queue.frames) p.only) (ap (λ (x : Net CO CI SO SI). x.up.bytes) p.only) idle, λ j. refl)
-  up_back t w (Deliver ServerSide n) (Count k) v i z p idle =
+  up_back t w (Deliver ServerSide n) (Count k) v i a b z p idle =
       let none = idle_up c s seals set f t w v n k i.before i.cleanly.whole (none_taken k z) p in
       (idle_as (ap (λ (x : ClientCore CO CI). x.connection.outbox.queue.frames) none.2) none.3 idle, λ j. refl)
-  up_back t w (Deliver ClientSide n) (Count k) v i z p idle = (record { none_queued = delivered_down w v n k i.cleanly.whole p idle.none_queued; none_carried = sym (ap (λ (x : Net CO CI SO SI). x.up.bytes) p.only) ∙ idle.none_carried }, λ j. refl)
-  up_back t w (Deliver to n) (Refused told) v i z p idle = let bad : false ≡ true = i.cleanly.at.reply_is in cc
-  up_back t w (DropCall id) reply v i z p idle = let bad : false ≡ true = i.cleanly.at.event_is in cc
-  up_back t w (DropReceiver at) reply v i z p idle = let bad : false ≡ true = i.cleanly.at.event_is in cc
-  up_back t w (DropSender id) reply v i z p idle = let bad : false ≡ true = i.cleanly.at.event_is in cc
-  up_back t w Drain reply v i z p idle = let bad : false ≡ true = i.cleanly.at.event_is in cc
-  up_back t w (Cut to keep) reply v i z p idle = let bad : false ≡ true = i.cleanly.at.event_is in cc
-  up_back t w (Fail at) reply v i z p idle = let bad : false ≡ true = i.cleanly.at.event_is in cc
-  up_back t w event reply v i z p idle =
+  up_back t w (Deliver ClientSide n) (Count k) v i a b z p idle = (record { none_queued = delivered_down w v n k i.cleanly.whole p idle.none_queued; none_carried = sym (ap (λ (x : Net CO CI SO SI). x.up.bytes) p.only) ∙ idle.none_carried }, λ j. refl)
+  up_back t w event reply v i a b z p idle =
       let queue : v.client.connection.outbox.queue ≡ w.client.connection.outbox.queue = first_of (cc, search rules) in
       let pipe : v.up.bytes ≡ w.up.bytes = first_of (cc, search rules) in
       (same_up w v queue pipe idle, λ k. refl)
@@ -212,42 +201,31 @@ module _ {CO CI SO SI : Type 0} (c : Halves CO CI) (s : Halves SO SI) (seals : B
   ended_down old id (Err error) new p none = let q = p.sends.2 in responded s.out AsyncRules _ _ p.sends.0 q.0 old.connection.outbox new.connection.outbox q.1 q.2 none
 
   -- BEHIND THE LAST BYTES THAT THE CLIENT TOOK, downwards.
-  pub down_back : (t : List Entry) (w : Net CO CI SO SI) (event : Event) (reply : Reply) (v : Net CO CI SO SI) → IsKnown c s seals still fixed set f t w event reply v → takes_bytes ClientSide event reply ≡ false → Steps c s seals w event reply v → DownIdle v → DownIdle w × PutsDown event reply
-  down_back t w (CallEvent request) (Named id) v i z p idle = (same_client w v p.2 idle, λ k. nothing_put (λ xs. items (put_down set.rules set.limit xs)) (nat_eq id k) (Asked request) refl refl)
-  down_back t w (OpenEvent request up down) (Named id) v i z p idle = (same_client w v p.2 idle, λ k. nothing_put (λ xs. items (put_down set.rules set.limit xs)) (nat_eq id k) (Began request up) refl refl)
-  down_back t w (Send (ClientEnd id) item) (Ticket ticket) v i z p idle = (same_client w v p.1 idle, λ k. nothing_put (λ xs. items (put_down set.rules set.limit xs)) (nat_eq id k) (SentUp item) refl refl)
-  down_back t w (Close id) (Ticket ticket) v i z p idle = (same_client w v p.1 idle, λ k. nothing_put (λ xs. items (put_down set.rules set.limit xs)) (nat_eq id k) ClosedUp refl refl)
-  down_back t w (Outcome id) (Given given) v i z p idle = (same_client w v p.1 idle, λ k. refl)
-  down_back t w (Recv (ClientEnd id)) (Item given) v i z p idle = (same_client w v p.1 idle, heard_none (λ xs. items (put_down set.rules set.limit xs)) refl (λ word. refl) (λ word. refl) (ClientEnd id) given)
-  down_back t w (Recv (ServerEnd id)) (Item given) v i z p idle = (quiet_server w v p.1 (ap (λ (x : ServerCore SO SI). x.connection) p.0.same) idle, heard_none (λ xs. items (put_down set.rules set.limit xs)) refl (λ word. refl) (λ word. refl) (ServerEnd id) given)
-  down_back t w (Send (ServerEnd id) item) (Ticket ticket) v i z p idle = absurd (sent_one s.out w.server.connection.outbox _ _ v.server.connection.outbox p.0.sends.sends idle.none_queued)
-  down_back t w Take (Handed (Some job)) v i z p idle = (quiet_server w v p.1 (ap (λ (x : ServerCore SO SI). x.connection) p.0.same) idle, λ k. refl)
-  down_back t w (Answer id result) Done v i z p idle =
-      let b = answered_down w.server.state.rules w.server id result v.server refl p.0 idle.none_queued in
-      (record { none_queued = b.0; none_carried = sym (ap (λ (x : Net CO CI SO SI). x.down.bytes) p.1) ∙ idle.none_carried }, b.1)
-  down_back t w (Respond id response) Done v i z p idle = absurd (responded s.out w.server.state.rules _ _ response p.does.sent w.server.connection.outbox v.server.connection.outbox p.does.responds p.does.sends idle.none_queued)
-  down_back t w (Finish id) Done v i z p idle = (quiet_server w v p.1 (ap (λ (x : ServerCore SO SI). x.connection) p.0.same) idle, λ k. refl)
-  down_back t w (EndStream id result) Done v i z p idle = absurd (ended_down w.server id result v.server p.0 idle.none_queued)
-  down_back t w (Tick now) Done v i z p idle =
+  pub down_back : (t : List Entry) (w : Net CO CI SO SI) (event : Event) (reply : Reply) (v : Net CO CI SO SI) → IsKnown c s seals still fixed set f t w event reply v → is_clean_event event ≡ true → is_clean_reply reply ≡ true → takes_bytes ClientSide event reply ≡ false → Steps c s seals w event reply v → DownIdle v → DownIdle w × PutsDown event reply
+  down_back t w (CallEvent request) (Named id) v i a b z p idle = (same_client w v p.2 idle, λ k. nothing_put (λ xs. items (put_down set.rules set.limit xs)) (nat_eq id k) (Asked request) refl refl)
+  down_back t w (OpenEvent request up down) (Named id) v i a b z p idle = (same_client w v p.2 idle, λ k. nothing_put (λ xs. items (put_down set.rules set.limit xs)) (nat_eq id k) (Began request up) refl refl)
+  down_back t w (Send (ClientEnd id) item) (Ticket ticket) v i a b z p idle = (same_client w v p.1 idle, λ k. nothing_put (λ xs. items (put_down set.rules set.limit xs)) (nat_eq id k) (SentUp item) refl refl)
+  down_back t w (Close id) (Ticket ticket) v i a b z p idle = (same_client w v p.1 idle, λ k. nothing_put (λ xs. items (put_down set.rules set.limit xs)) (nat_eq id k) ClosedUp refl refl)
+  down_back t w (Recv (ClientEnd id)) (Item given) v i a b z p idle = (same_client w v p.1 idle, heard_none (λ xs. items (put_down set.rules set.limit xs)) refl (λ word. refl) (λ word. refl) (ClientEnd id) given)
+  down_back t w (Recv (ServerEnd id)) (Item given) v i a b z p idle = (quiet_server w v p.1 (ap (λ (x : ServerCore SO SI). x.connection) p.0.same) idle, heard_none (λ xs. items (put_down set.rules set.limit xs)) refl (λ word. refl) (λ word. refl) (ServerEnd id) given)
+  down_back t w (Send (ServerEnd id) item) (Ticket ticket) v i a b z p idle = absurd (sent_one s.out w.server.connection.outbox _ _ v.server.connection.outbox p.0.sends.sends idle.none_queued)
+  down_back t w (Answer id result) Done v i a b z p idle =
+      let y = answered_down w.server.state.rules w.server id result v.server refl p.0 idle.none_queued in
+      (record { none_queued = y.0; none_carried = sym (ap (λ (x : Net CO CI SO SI). x.down.bytes) p.1) ∙ idle.none_carried }, y.1)
+  down_back t w (Respond id response) Done v i a b z p idle = absurd (responded s.out w.server.state.rules _ _ response p.does.sent w.server.connection.outbox v.server.connection.outbox p.does.responds p.does.sends idle.none_queued)
+  down_back t w (EndStream id result) Done v i a b z p idle = absurd (ended_down w.server id result v.server p.0 idle.none_queued)
+  down_back t w (Tick now) Done v i a b z p idle =
       (record { none_queued = ticked_down w.server.state.rules w.server.connection.failure w.server now v.server p.serves idle.none_queued; none_carried = sym (ap (λ (x : Net CO CI SO SI). x.down.bytes) p.only) ∙ idle.none_carried }, λ k. refl)
-  down_back t w (Carry ServerSide n) (Count k) v i z p idle = (
+  down_back t w (Carry ServerSide n) (Count k) v i a b z p idle = (
     carried w.server.connection.failure w.down.cut w.server.connection.outbox.queue w.down.bytes n k i.cleanly.before.server i.cleanly.whole.down (i.before.downward.bytes i.cleanly.before.client).bytes.valid p.count
         (idle_as (ap (λ (x : Net CO CI SO SI). x.server.connection.outbox.queue.frames) p.only) (ap (λ (x : Net CO CI SO SI). x.down.bytes) p.only) idle),
     λ j. refl,
   )
-  down_back t w (Carry ClientSide n) (Count k) v i z p idle = (idle_as (ap (λ (x : Net CO CI SO SI). x.server.connection.outbox.queue.frames) p.only) (ap (λ (x : Net CO CI SO SI). x.down.bytes) p.only) idle, λ j. refl)
-  down_back t w (Deliver ClientSide n) (Count k) v i z p idle =
+  down_back t w (Deliver ClientSide n) (Count k) v i a b z p idle =
       let none = idle_down c s seals set f t w v n k i.before i.cleanly.whole (none_taken k z) p in
       (idle_as (ap (λ (x : ServerCore SO SI). x.connection.outbox.queue.frames) none.2) none.3 idle, λ j. refl)
-  down_back t w (Deliver ServerSide n) (Count k) v i z p idle = (record { none_queued = delivered_up w v n k i.cleanly.whole p idle.none_queued; none_carried = sym (down_same w v n k i.cleanly.whole p) ∙ idle.none_carried }, λ j. refl)
-  down_back t w (Deliver to n) (Refused told) v i z p idle = let bad : false ≡ true = i.cleanly.at.reply_is in cc
-  down_back t w (DropCall id) reply v i z p idle = let bad : false ≡ true = i.cleanly.at.event_is in cc
-  down_back t w (DropReceiver at) reply v i z p idle = let bad : false ≡ true = i.cleanly.at.event_is in cc
-  down_back t w (DropSender id) reply v i z p idle = let bad : false ≡ true = i.cleanly.at.event_is in cc
-  down_back t w Drain reply v i z p idle = let bad : false ≡ true = i.cleanly.at.event_is in cc
-  down_back t w (Cut to keep) reply v i z p idle = let bad : false ≡ true = i.cleanly.at.event_is in cc
-  down_back t w (Fail at) reply v i z p idle = let bad : false ≡ true = i.cleanly.at.event_is in cc
-  down_back t w event reply v i z p idle =
+  down_back t w (Deliver ServerSide n) (Count k) v i a b z p idle = (record { none_queued = delivered_up w v n k i.cleanly.whole p idle.none_queued; none_carried = sym (down_same w v n k i.cleanly.whole p) ∙ idle.none_carried }, λ j. refl)
+  down_back t w event reply v i a b z p idle =
       let queue : v.server.connection.outbox.queue ≡ w.server.connection.outbox.queue = first_of (cc, search rules) in
       let pipe : v.down.bytes ≡ w.down.bytes = first_of (cc, search rules) in
       (same_down w v queue pipe idle, λ k. refl)

@@ -34,7 +34,7 @@ module _ {CO CI SO SI : Type 0} (c : Halves CO CI) (s : Halves SO SI) (seals : B
 
   up_stays : (k : ℕ) → Stays c s seals still fixed set f ServerSide (AllUp k)
   up_stays k t w event reply v i none all = λ idle.
-      let b = up_back c s seals still fixed set f t w event reply v i none i.does idle in
+      let b = up_back c s seals still fixed set f t w event reply v i i.cleanly.at.event_is i.cleanly.at.reply_is none i.does idle in
       let old = flows f k t in
       let now = flows f k (with_entry t event reply) in
       let new = flow_of f k event reply in
@@ -42,7 +42,7 @@ module _ {CO CI SO SI : Type 0} (c : Halves CO CI) (s : Halves SO SI) (seals : B
 
   down_stays : (k : ℕ) → Stays c s seals still fixed set f ClientSide (AllDown k)
   down_stays k t w event reply v i none all = λ idle.
-      let b = down_back c s seals still fixed set f t w event reply v i none i.does idle in
+      let b = down_back c s seals still fixed set f t w event reply v i i.cleanly.at.event_is i.cleanly.at.reply_is none i.does idle in
       let old = flows f k t in
       let now = flows f k (with_entry t event reply) in
       let new = flow_of f k event reply in
@@ -74,7 +74,7 @@ module _ {CO CI SO SI : Type 0} (c : Halves CO CI) (s : Halves SO SI) (seals : B
 
   up_starts : (k : ℕ) → Starts c s seals still fixed set f (finds_nothing_up f k) (AllUp k)
   up_starts k t w (Recv (ServerEnd id)) (Item None) v i is = λ idle.
-      let b = up_back c s seals still fixed set f t w (Recv (ServerEnd id)) (Item None) v i refl i.does idle in
+      let b = up_back c s seals still fixed set f t w (Recv (ServerEnd id)) (Item None) v i refl refl refl i.does idle in
       let same = same_flows k t (Recv (ServerEnd id)) (Item None) refl in
       let none = none_up c s seals still fixed set f t w i.before i.cleanly.before i.cleanly.whole b.0.none_queued b.0.none_carried in
       ap (λ xs. got (heard_up xs)) same ∙ found_up w.server.state.rules w.server.connection.failure t w id k v.server.state.jobs.list i.before i.right i.cleanly.before.server (eqb-true (f id) k is) none i.does.0.own ∙ sym (ap (λ xs. items (put_up xs)) same)
@@ -82,7 +82,7 @@ module _ {CO CI SO SI : Type 0} (c : Halves CO CI) (s : Halves SO SI) (seals : B
 
   down_starts : (k : ℕ) → Starts c s seals still fixed set f (finds_nothing_down k) (AllDown k)
   down_starts k t w (Recv (ClientEnd id)) (Item None) v i is = λ idle.
-      let b = down_back c s seals still fixed set f t w (Recv (ClientEnd id)) (Item None) v i refl i.does idle in
+      let b = down_back c s seals still fixed set f t w (Recv (ClientEnd id)) (Item None) v i refl refl refl i.does idle in
       let same = same_flows k t (Recv (ClientEnd id)) (Item None) refl in
       let none = none_down c s seals still fixed set f t w i.before i.cleanly.before i.cleanly.whole b.0.none_queued b.0.none_carried in
       ap (λ xs. got (heard_down xs)) same ∙ found_down w.client.connection.failure t w id k (stream_at v.client.state id) i.before i.cleanly.before.client (eqb-true id k is) none i.does.0.own ∙ sym (ap (λ xs. items (put_down set.rules set.limit xs)) same)
