@@ -7,7 +7,7 @@ use Rattle.ttrpc_events.specs.Types.{Entry}
 use Rattle.ttrpc_events.specs.Trace.{acts, IsOneToOne, IsStreamOf}
 use Rattle.ttrpc_events.specs.Told.{IsExactlyOnce}
 use Rattle.ttrpc_events.specs.Flows.{AreInOrder, flows}
-use Rattle.ttrpc_events.specs.Clean.{AreWholeCalls}
+use Rattle.ttrpc_events.specs.Clean.{AreWholeCalls, AreWholeStreams}
 
 -- Under one function that gives each job its stream: it is right for each job that was handed out, no two jobs have the same,
 -- and each call has at most one outcome, an `Ok` being the answer of its one run. At each place of the trace the items that a
@@ -19,3 +19,4 @@ pub record IsTold (rules : Rules) (services : Services) (limit : ℕ) (stream_of
   pub exactly_once : (id : ℕ) → IsExactlyOnce (acts stream_of id trace)
   pub in_order : (front back : List Entry) → trace ≡ front ++ back → (id : ℕ) → AreInOrder rules limit (flows stream_of id front)
   pub whole_calls : AreWholeCalls rules services limit stream_of trace
+  pub whole_streams : AreWholeStreams rules limit stream_of trace

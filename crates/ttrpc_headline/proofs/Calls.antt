@@ -181,7 +181,7 @@ module _ {CO CI SO SI : Type 0} (c : Halves CO CI) (s : Halves SO SI) (seals : B
       let i = keeps_all c s seals still fixed set f [] trace w v start u r right (λ x. z) in
       let whole = stay_open c s seals set.rules f [] w trace v z.clean r z.whole in
       let idle : NoneWaits v.server.state.jobs.list = since_holds c s seals still fixed set f ServerSide takes_nothing NoneWaiting idle_stays idle_starts [] trace w v true start u r right z
-          (λ e. subst (λ (x : ServerCore SO SI). NoneWaits x.state.jobs.list) (sym n.server) tt) quiet.taken in
+      (λ e. subst (λ (x : ServerCore SO SI). NoneWaits x.state.jobs.list) (sym n.server) tt) quiet.taken in
       let place = i.stories k in
       let known = subst (λ (o : Origin). Known (around set (has_response v) v.client.state.next) k (here_at f trace i.up i.down v.server.state.jobs.list v.client.state k) o place.so_far) (called_by place.origin place.so_far q place.known one) place.known in
       whole_of q place.so_far known clean method

@@ -20,6 +20,6 @@ pub mod Timed
 pub mod Behind
 pub mod Since
 pub mod Calls
-pub mod Telling
 pub mod Emptied
 pub mod WholeStreams
+pub mod Telling

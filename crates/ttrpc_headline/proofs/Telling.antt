@@ -1,6 +1,7 @@
 -- THE HEADLINE, for any run from a fresh start.
 use Rattle.ttrpc_headline.proofs.Calls.{whole_calls}
 use Rattle.ttrpc_headline.proofs.Headline.{fresh, in_order, keeps_all, starts_ruled}
+use Rattle.ttrpc_headline.proofs.WholeStreams.{whole_streams}
 use Rattle.ttrpc_headline.proofs.Numbers.{one_to_one, stream_of_run, streams_of}
 use Rattle.ttrpc_events.specs.Headline.{IsTold}
 use Rattle.ttrpc_story.proofs.Events.{exactly_once}
@@ -22,5 +23,6 @@ told c s seals still fixed w v trace n p =
         exactly_once = λ id. exactly_once (i.stories id);
         in_order = in_order c s seals still fixed set g.f w trace v n u p g.right (λ never. never);
         whole_calls = whole_calls c s seals still fixed w v trace g.f n p g.right;
+        whole_streams = whole_streams c s seals still fixed w v trace g.f n p g.right;
       },
     )

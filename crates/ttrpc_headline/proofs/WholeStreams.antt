@@ -5,7 +5,7 @@ use Rattle.ttrpc_headline.proofs.Ending.{empty_at_end, none_down, none_up}
 use Rattle.ttrpc_headline.proofs.Headline.{fresh, keeps_all, Ruled, starts_ruled}
 use Rattle.ttrpc_headline.proofs.Jobs.{job_is, mailed}
 use Rattle.ttrpc_headline.proofs.Keeps.{Keeps}
-use Rattle.ttrpc_headline.proofs.Numbers.{AreRight, IsRightRun, stream_of_run, streams_of}
+use Rattle.ttrpc_headline.proofs.Numbers.{AreRight, IsRightRun}
 use Rattle.ttrpc_headline.proofs.Since.{since_holds, Starts, Stays}
 use Rattle.ttrpc_headline.specs.Living.{IsEmpty}
 use Rattle.ttrpc_story.proofs.AllGiven.{all_given_down, all_given_up, given_by_end, given_still}
@@ -13,9 +13,9 @@ use Rattle.ttrpc_story.proofs.Events.{in_order_here}
 use Rattle.ttrpc_story.proofs.Place.{Settings}
 use Rattle.ttrpc_story.proofs.Reading.{items_append}
 use Rattle.ttrpc_events.proofs.Traces.{said_then}
-use Rattle.ttrpc_events.specs.Clean.{AreWholeStreams, finds_nothing_down, finds_nothing_up, IsWholeStream}
+use Rattle.ttrpc_events.specs.Clean.{AreWholeStreams, finds_nothing_down, finds_nothing_up, IsClean, IsWholeStream}
 use Rattle.ttrpc_pair.proofs.Words.{[], ActiveJob, all_at, ap, append-nil, AsyncRules, between_own, Bool, ClientEnd, ClientSide, Entry, eqb-true, Event, Failure, false, Halves, inl, inr, IsFresh, Item, job_at, jobs_at, List, Net, None, Option, Recv, ReceivesBy, refl, Reply, Rules, Runs, safe_limit, ServerEnd, ServerSide, Some, Stream, stream_at, stream_id_of, subst, sym, SyncRules, true, ℕ, ◌++◌, ◌∙◌, ◌≡◌}
-use Rattle.ttrpc_story.proofs.Words.{Flow, flow_of, flows, got, heard_down, heard_down_append, heard_up, heard_up_append, IsStreamOf, items, parcels, put_down, put_down_append, put_up, put_up_append, ReceivesAt, Thing, with_entry}
+use Rattle.ttrpc_story.proofs.Words.{Flow, flow_of, flows, got, heard_down, heard_down_append, heard_up, heard_up_append, items, parcels, put_down, put_down_append, put_up, put_up_append, ReceivesAt, Thing, with_entry}
 
 module _ {CO CI SO SI : Type 0} (c : Halves CO CI) (s : Halves SO SI) (seals : Bool) (still : seals ≡ false → (from to : CO) (plain aad sealed : List ℕ) → c.out.seals from plain aad sealed to → to ≡ from)
     (fixed : (x y : SO) (plain aad sealed : List ℕ) → s.out.seals x plain aad sealed y → s.out.overhead y ≡ s.out.overhead x) (set : Settings) (f : ℕ → ℕ) where
@@ -107,16 +107,11 @@ module _ {CO CI SO SI : Type 0} (c : Halves CO CI) (s : Halves SO SI) (seals : B
         ];
       }
 
--- So under the function that gives each job its stream each of them is whole, in any clean quiet run.
+-- EACH STREAM OF A CLEAN QUIET RUN IS WHOLE: of any run from a fresh start.
 pub whole_streams : {CO CI SO SI : Type 0} (c : Halves CO CI) (s : Halves SO SI) (seals : Bool) (still : seals ≡ false → (from to : CO) (plain aad sealed : List ℕ) → c.out.seals from plain aad sealed to → to ≡ from)
-    (fixed : (x y : SO) (plain aad sealed : List ℕ) → s.out.seals x plain aad sealed y → s.out.overhead y ≡ s.out.overhead x) (w v : Net CO CI SO SI) (trace : List Entry) → IsFresh c s w → Runs c s seals w trace v
-    → (stream_of : ℕ → ℕ) × IsStreamOf stream_of trace × AreWholeStreams w.server.state.rules (safe_limit s.out w.server.connection.outbox.half) stream_of trace
-whole_streams c s seals still fixed w v trace n p =
-    let g = streams_of c s seals w trace v n p in
-    let rules = w.server.state.rules in
-    let set : Settings = record { rules = rules; services = w.server.state.services; limit = safe_limit s.out w.server.connection.outbox.half; clean = ⊥ } in (
-      g.f,
-      stream_of_run c s seals g.f w trace v p g.right,
-      λ clean quiet k. whole_stream c s seals still fixed set g.f w trace v n (starts_ruled c s seals still fixed set g.f w (refl, refl, refl) n) p g.right
-          (fresh_run c s seals rules g.f w trace v n clean quiet.drained p) (empty_at_end c s seals still fixed w v trace rules g.f n p clean quiet.drained) k,
-    )
+    (fixed : (x y : SO) (plain aad sealed : List ℕ) → s.out.seals x plain aad sealed y → s.out.overhead y ≡ s.out.overhead x)
+    (w v : Net CO CI SO SI) (trace : List Entry) (f : ℕ → ℕ) → IsFresh c s w → (r : Runs c s seals w trace v) → IsRightRun c s seals f w trace v r → AreWholeStreams w.server.state.rules (safe_limit s.out w.server.connection.outbox.half) f trace
+whole_streams c s seals still fixed w v trace f n r right clean quiet k =
+    let set : Settings = record { rules = w.server.state.rules; services = w.server.state.services; limit = safe_limit s.out w.server.connection.outbox.half; clean = IsClean w.server.state.rules f trace } in
+    whole_stream c s seals still fixed set f w trace v n (starts_ruled c s seals still fixed set f w (refl, refl, refl) n) r right
+    (fresh_run c s seals set.rules f w trace v n clean quiet.drained r) (empty_at_end c s seals still fixed w v trace set.rules f n r clean quiet.drained) k

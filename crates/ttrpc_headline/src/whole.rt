@@ -2,9 +2,7 @@
 ghost use Rattle.std.specs.Prelude.{◌≡◌, ◌++◌, ℕ, List};
 ghost use Rattle.ttrpc_headline.specs.Words.{Entry as AnEntry, IsFresh, Net, Runs, halves};
 ghost use Rattle.ttrpc_headline.specs.Living.{IsEmpty, IsOpen, Lives};
-ghost use Rattle.ttrpc_events.specs.Clean.{AreWholeStreams, IsClean, IsDrained};
-ghost use Rattle.ttrpc_events.specs.Trace.{IsStreamOf};
-ghost use Rattle.ttrpc_secure.specs.Sends.{safe_limit};
+ghost use Rattle.ttrpc_events.specs.Clean.{IsClean, IsDrained};
 
 use ttrpc_secure::{InboundTransform, OutboundTransform};
 
@@ -46,19 +44,4 @@ pub fn clean_drained_runs_end_empty<
         let s = halves SO.OutboundTransform SI.InboundTransform in
         (old new : Net CO CI SO SI) (trace : List AnEntry) (stream_of : ℕ → ℕ) → IsFresh c s old → Runs c s CO.SEALS old trace new
         → IsClean old.server.state.rules stream_of trace → IsDrained trace → IsEmpty new }
-{}
-
-/// In a clean quiet run each stream is whole: a receiver that was told of an end, or had nothing yet behind the last bytes that its
-/// side took, was given all that was put in. That is so under a function that gives each job that was handed out its stream.
-pub fn clean_quiet_streams_are_whole<
-    CO: OutboundTransform,
-    CI: InboundTransform,
-    SO: OutboundTransform,
-    SI: InboundTransform,
->()
-    ensures { let c = halves CO.OutboundTransform CI.InboundTransform in
-        let s = halves SO.OutboundTransform SI.InboundTransform in
-        (old new : Net CO CI SO SI) (trace : List AnEntry) → IsFresh c s old → Runs c s CO.SEALS old trace new
-        → (stream_of : ℕ → ℕ) × IsStreamOf stream_of trace
-        × AreWholeStreams old.server.state.rules (safe_limit SO.OutboundTransform old.server.connection.outbox.half) stream_of trace }
 {}

@@ -65,7 +65,7 @@ impl<
         // `Ok` is the answer of its one run. At each place of the trace the items that a receiver was given are a beginning
         // of those that were put in, in order, and where it was told an end, they are all. Where the run is clean and quiet
         // each call that names a method of this server, and was asked for, is whole: one run, one answer, and what is told of
-        // that answer as its outcome.
+        // that answer as its outcome; and a receiver that is asked out was given all items that were put in.
         ensures told { IfOk result (λ trace. (stream_of : ℕ → ℕ) × IsTold
             self.server.state.rules
             self.server.state.services
