@@ -11,7 +11,7 @@ use Rattle.ttrpc_story.proofs.Place.{Settings}
 use Rattle.ttrpc_events.specs.Clean.{is_clean_event, is_clean_reply, takes_bytes}
 use Rattle.std.proofs.Common.{length-take}
 use Rattle.ttrpc_pair.proofs.Idle.{IsQueue, none_reported, none_thrown}
-use Rattle.ttrpc_pair.proofs.Words.{[], ActiveJob, ActsAll, after_report, Answer, AnswersError, ap, arith, AsyncRules, Bool, call_at, CallEvent, calling, Carry, ClientCore, ClientEnd, ClientSide, Close, Connection, Count, Cut, Deliver, Done, Drain, DropCall, DropReceiver, DropSender, due_at, EndStream, Entry, Err, Error, Event, ExpireAll, Fail, Failure, false, Finish, Given, Halves, Handed, if◌then◌else◌, Incoming, inl, inr, is_over, Item, length, lent_of, List, min, Named, Net, None, Ok, open_part, OpenEvent, Option, Outbox, Outcome, OutboundTransform, Passes, Queue, Queued, Recv, refl, Refused, Reply, Respond, Responds, Response, Result, Rules, rules, Scene, scene, Send, SendsAll, SendsOne, Sent, Server, ServerCore, ServerEnd, ServerPasses, ServerSide, serving, Some, Steps, subst, sym, SyncRules, take, Take, taken_back, taken_from, throws, Tick, Ticket, true, Ways, with_lent, with_payload, ℕ, ◌++◌, ◌∙◌, ◌∷◌, ◌≡◌, AnswersBy, with_server, with_client, nat_eq, EndsStream, DeadlineDuringWrite}
+use Rattle.ttrpc_pair.proofs.Words.{[], ActiveJob, ActsAll, after_report, Answer, AnswersError, ap, arith, AsyncRules, Bool, call_at, CallEvent, calling, Carry, ClientCore, ClientEnd, ClientSide, Close, Connection, Count, Deliver, Done, due_at, EndStream, Entry, Err, Error, Event, ExpireAll, Failure, false, Halves, if◌then◌else◌, Incoming, inl, inr, is_over, Item, length, lent_of, List, min, Named, Net, None, Ok, open_part, OpenEvent, Option, Outbox, OutboundTransform, Passes, Queue, Queued, Recv, refl, Reply, Respond, Responds, Response, Result, Rules, rules, Scene, scene, Send, SendsAll, SendsOne, Sent, Server, ServerCore, ServerEnd, ServerPasses, ServerSide, serving, Some, Steps, subst, sym, SyncRules, take, taken_back, taken_from, throws, Tick, Ticket, true, Ways, with_lent, with_payload, ℕ, ◌++◌, ◌∙◌, ◌∷◌, ◌≡◌, AnswersBy, with_server, with_client, nat_eq, EndsStream, DeadlineDuringWrite}
 use Rattle.ttrpc_story.proofs.Words.{Asked, Began, Call, ClosedUp, EndedDown, Ended, Expired, expired_at, Flow, flow_of, HeardDown, HeardUp, is_due, items, only_if, put_down, put_up, SentDown, SentUp, Waiting, Word}
 use Rattle.ttrpc_events.specs.Trace.{some_of}
 use Rattle.ttrpc_events.specs.declared.events.StreamEnd.{StreamEnd}
