@@ -82,7 +82,7 @@ is_clean_word (Some (Err Eof)) = true
 is_clean_word (Some (Err RemoteClosed)) = true
 is_clean_word (Some (Err error)) = false
 
--- nothing is refused, and no memory
+-- nothing is refused, and no memory; that an event was no step is no refusal
 abbrev pub is_clean_reply : Reply → Bool
 is_clean_reply (Refused error) = false
 is_clean_reply NoMemory = false
@@ -94,7 +94,7 @@ abbrev pub may_be_error : Rules → Bool
 may_be_error Sync = false
 may_be_error Async = true
 
--- no answer is an error that may be none
+-- no answer that was accepted is an error, where none may be
 abbrev pub is_clean_answer : Rules → Event → Reply → Bool
 is_clean_answer rules (Answer job (Err error)) Done = may_be_error rules
 is_clean_answer rules (EndStream job (Err error)) Done = may_be_error rules
@@ -118,6 +118,7 @@ IsClean rules stream_of trace = AreClean rules stream_of [] trace
 
 -- ---- quiet
 
+-- the side across from this one
 abbrev pub other : Side → Side
 other side.Client = side.Server
 other side.Server = side.Client

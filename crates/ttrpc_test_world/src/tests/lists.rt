@@ -48,7 +48,7 @@ pub enum Order {
 }
 
 /// The stream of a job, by the place at which it was handed out.
-fn stream_of(trace: &[Entry], job: JobId) -> Option<CallId> {
+pub fn stream_of(trace: &[Entry], job: JobId) -> Option<CallId> {
     for entry in trace {
         if let (Event::Take, Reply::Handed(Some(handed))) = (&entry.event, &entry.reply) {
             if handed.id == job {
@@ -264,4 +264,14 @@ pub fn read_lists(trace: &[Entry]) -> Order {
         }
     }
     Order::Kept(counts)
+}
+
+/// Whether the receiver of a way was told of an end.
+pub fn was_ended(trace: &[Entry], way: Way) -> bool {
+    told_before(trace, trace, way).1
+}
+
+/// Whether the receiver of a way, whose items are in order, was given all that was put in.
+pub fn all_given(trace: &[Entry], way: Way) -> bool {
+    nth_put(trace, trace, way, given(trace, trace, way)).is_none()
 }

@@ -1,3 +1,4 @@
+mod gentle;
 mod lists;
 mod lists_tests;
 mod plainly;
@@ -5,3 +6,5 @@ mod random_tests;
 mod rows_tests;
 mod script;
 mod streams_tests;
+mod whole;
+mod whole_tests;

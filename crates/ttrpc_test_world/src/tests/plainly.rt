@@ -80,7 +80,7 @@ fn run_of(trace: &[Entry], id: CallId) -> Option<&Job> {
 }
 
 /// Whether a job has exactly this request; a stream's has it without its payload.
-fn has_request(job: &Job, request: &Request) -> bool {
+pub fn has_request(job: &Job, request: &Request) -> bool {
     if !job.stream {
         return job.request == *request;
     }
@@ -92,7 +92,7 @@ fn has_request(job: &Job, request: &Request) -> bool {
 }
 
 /// Whether an answer, a response or an end of this job was accepted here.
-fn is_answered(entry: &Entry, job: JobId) -> bool {
+pub fn is_answered(entry: &Entry, job: JobId) -> bool {
     match (&entry.event, &entry.reply) {
         (Event::Answer(id, _) | Event::Respond(id, _) | Event::EndStream(id, _), Reply::Done) => {
             *id == job
@@ -102,7 +102,7 @@ fn is_answered(entry: &Entry, job: JobId) -> bool {
 }
 
 /// How many answers and responses to this job were accepted.
-fn answers_of(trace: &[Entry], job: JobId) -> usize {
+pub fn answers_of(trace: &[Entry], job: JobId) -> usize {
     let mut count = 0usize;
     for entry in trace {
         if is_answered(entry, job) {
@@ -127,7 +127,7 @@ fn answer_of(trace: &[Entry], job: JobId) -> Option<&Response> {
 }
 
 /// How many outcomes were given of this id.
-fn outcomes_of(trace: &[Entry], id: CallId) -> usize {
+pub fn outcomes_of(trace: &[Entry], id: CallId) -> usize {
     let mut count = 0usize;
     for entry in trace {
         if let (Event::Outcome(asked), Reply::Outcome(Some(_))) = (&entry.event, &entry.reply) {

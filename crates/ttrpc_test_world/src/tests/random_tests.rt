@@ -1,11 +1,13 @@
 //! Lists of events by chance, from a fixed seed: the headline holds of each trace, as the plain program reads it.
 ghost use Rattle.std.specs.Prelude.{◌<◌};
 
+use crate::tests::gentle::gentle_by;
 use crate::tests::lists::{Counts, NONE, Order, has_unknown_sender, read_lists};
 use crate::tests::plainly::{Finding, read_headline};
 use crate::tests::script::{
     Ways, over_plain, over_stamps, put, request_named, request_of, response_of,
 };
+use crate::tests::whole::{Rest, read_rest};
 use std::alloc::Global;
 use std::process::Abort;
 use std::test::Fail;
@@ -29,13 +31,13 @@ const EVENTS: usize = 64;
 
 /// Numbers by chance, by shifts and exclusive ors.
 #[derive(Drop)]
-struct Chance {
-    state: u64,
+pub struct Chance {
+    pub state: u64,
 }
 
 impl Chance {
     /// A number below `n`; 0 where there is none.
-    fn below(&mut self, n: u64) -> u64
+    pub fn below(&mut self, n: u64) -> u64
         ensures { 0 < n → result < n }
     {
         self.state ^= self.state << 13;
@@ -65,7 +67,7 @@ impl Chance {
         }
     }
 
-    fn count(&mut self) -> usize {
+    pub fn count(&mut self) -> usize {
         self.below(96) as usize
     }
 
@@ -79,7 +81,7 @@ impl Chance {
 }
 
 /// What a handler gives: mostly a response that is OK.
-fn answer_of(alloc: Global, chance: &mut Chance) -> Result<Result<Response, Error>, Fail> {
+pub fn answer_of(alloc: Global, chance: &mut Chance) -> Result<Result<Response, Error>, Fail> {
     let payload = [chance.below(256) as u8];
     let mut response = response_of(alloc, &payload)?;
     match chance.below(40) {
@@ -119,7 +121,7 @@ fn open_of(alloc: Global, chance: &mut Chance) -> Result<Event, Fail> {
     Ok(Event::Open(request, up, chance.below(4) > 0))
 }
 
-fn item_of(alloc: Global, chance: &mut Chance) -> Result<Blob, Fail> {
+pub fn item_of(alloc: Global, chance: &mut Chance) -> Result<Blob, Fail> {
     let count = chance.below(3) as usize;
     Ok(Blob::from_slice(alloc, &b"ab"[..count])?)
 }
@@ -138,7 +140,7 @@ fn of_stream(alloc: Global, chance: &mut Chance) -> Result<Event, Fail> {
 }
 
 /// What a handler ends a stream by.
-fn end_of(alloc: Global, chance: &mut Chance) -> Result<Result<Option<Response>, Error>, Fail> {
+pub fn end_of(alloc: Global, chance: &mut Chance) -> Result<Result<Option<Response>, Error>, Fail> {
     let payload = [chance.below(256) as u8];
     Ok(match chance.below(8) {
         0 => Err(Error::Eof),
@@ -235,8 +237,11 @@ fn settle_job(alloc: Global, events: &mut Vec<Event>, chance: &mut Chance, job: 
     Ok(())
 }
 
-/// Events by chance; in every second list what is under way is then brought to its end.
-fn events_by(alloc: Global, chance: &mut Chance) -> Result<Vec<Event>, Fail> {
+/// Events by chance; in every second list what is under way is then brought to its end. One list in eight is a gentle one.
+fn events_by(alloc: Global, chance: &mut Chance, rules: Rules) -> Result<Vec<Event>, Fail> {
+    if chance.below(8) == 0 {
+        return gentle_by(alloc, chance, rules);
+    }
     let mut events = Vec::with_capacity(alloc, EVENTS)?;
     for _ in 0..EVENTS {
         put(&mut events, event_by(alloc, chance)?)?;
@@ -247,8 +252,8 @@ fn events_by(alloc: Global, chance: &mut Chance) -> Result<Vec<Event>, Fail> {
     Ok(events)
 }
 
-fn trace_by(alloc: Global, chance: &mut Chance) -> Result<Trace, Fail> {
-    let events = events_by(alloc, chance)?;
+/// A trace by chance, and the server's rules.
+fn trace_by(alloc: Global, chance: &mut Chance) -> Result<(Rules, Trace), Fail> {
     let ways = Ways {
         kind: match chance.below(2) {
             0 => ClientKind::Sync,
@@ -259,10 +264,21 @@ fn trace_by(alloc: Global, chance: &mut Chance) -> Result<Trace, Fail> {
             _ => Rules::Async,
         },
     };
-    if chance.below(2) == 0 {
-        over_plain(alloc, ways, events)
+    let events = events_by(alloc, chance, ways.rules)?;
+    let trace = if chance.below(2) == 0 {
+        over_plain(alloc, ways, events)?
     } else {
-        over_stamps(alloc, ways, events)
+        over_stamps(alloc, ways, events)?
+    };
+    Ok((ways.rules, trace))
+}
+
+/// Whether a trace is clean and quiet; then it is whole.
+fn is_at_rest(rules: Rules, trace: &[Entry]) -> Result<bool, Fail> {
+    match read_rest(rules, trace) {
+        Rest::Unsaid => Ok(false),
+        Rest::Whole(_, _) => Ok(true),
+        _ => Err("a clean quiet run isn't whole".into()),
     }
 }
 
@@ -288,19 +304,24 @@ fn both(one: Counts, other: Counts) -> Counts {
 }
 
 /// Over 1250 lists from this seed the headline holds, hundreds of calls end well, and each way hundreds of items and ends are
-/// given.
+/// given. One trace in twenty is clean and quiet, at least.
 fn holds_by_chance(rt: &impl Abort, alloc: Global, seed: u64) -> Tested {
     let mut chance = Chance { state: seed };
     let mut good = 0usize;
     let mut counts = NONE;
+    let mut at_rest = 0usize;
     for _ in 0..LISTS {
-        let trace = trace_by(alloc, &mut chance)?;
+        let (rules, trace) = trace_by(alloc, &mut chance)?;
         match read_headline(trace.as_slice()) {
             Finding::Whole(more) => good = good.saturating_add(more),
             _ => return Err("the headline doesn't hold".into()),
         }
         counts = both(counts, read_in_order(trace.as_slice())?);
+        if is_at_rest(rules, trace.as_slice())? {
+            at_rest = at_rest.saturating_add(1);
+        }
     }
+    assert!(rt; at_rest > LISTS / 20);
     assert!(rt; good > 200);
     assert!(rt; counts.items_up > 450 && counts.items_down > 450);
     assert!(rt; counts.ends_up > 450 && counts.ends_down > 450);

@@ -1,0 +1,149 @@
+//! Lists of events by chance by which nothing is refused, lost or late, and in which all comes to rest: so that many traces are
+//! clean and quiet.
+
+use crate::tests::random_tests::{Chance, answer_of, end_of, item_of};
+use crate::tests::script::{put, request_named, request_of, response_of};
+use std::alloc::Global;
+use std::test::Fail;
+use ttrpc_server::Rules;
+use ttrpc_world::{Event, Side, StreamEnd};
+
+type Tested = Result<(), Fail>;
+
+/// What a call or a stream is at both sides.
+#[derive(Clone, Copy, Debug)]
+struct Kind {
+    /// It is a call.
+    call: bool,
+    /// Its job is a stream's.
+    stream: bool,
+}
+
+/// The id of the call or stream of this number, counted from 0. Its job is the next number.
+fn id_of(number: u64) -> u32 {
+    (number.min(8) as u32).saturating_mul(2).saturating_add(1)
+}
+
+/// A call, or by chance a stream where there are streams. Each names what there is.
+fn begin(alloc: Global, events: &mut Vec<Event>, chance: &mut Chance, rules: Rules, id: u32) -> Result<Kind, Fail> {
+    let payload = [chance.below(256) as u8];
+    let streams = matches!(rules, Rules::Async);
+    match chance.below(6) {
+        0 | 1 if streams => {
+            put(events, Event::Open(request_named(alloc, "Chat", b"")?, true, true))?;
+            send_up(alloc, events, chance, id)?;
+            Ok(Kind { call: false, stream: true })
+        }
+        2 if streams => {
+            put(events, Event::Open(request_named(alloc, "Chat", &payload)?, false, true))?;
+            Ok(Kind { call: false, stream: true })
+        }
+        3 if streams => {
+            put(events, Event::Call(request_named(alloc, "Chat", &payload)?))?;
+            Ok(Kind { call: true, stream: true })
+        }
+        4 => {
+            put(events, Event::Open(request_named(alloc, "Echo", &payload)?, false, true))?;
+            Ok(Kind { call: false, stream: false })
+        }
+        _ => {
+            let timeout = if chance.below(2) == 0 { 20 } else { 0 };
+            put(events, Event::Call(request_of(alloc, &payload, timeout)?))?;
+            Ok(Kind { call: true, stream: false })
+        }
+    }
+}
+
+/// Items are sent, and then by chance the close.
+fn send_up(alloc: Global, events: &mut Vec<Event>, chance: &mut Chance, id: u32) -> Tested {
+    for _ in 0..chance.below(4) {
+        put(events, Event::Send(StreamEnd::Client(id), item_of(alloc, chance)?))?;
+    }
+    if chance.below(3) > 0 {
+        put(events, Event::Close(id))?;
+    }
+    Ok(())
+}
+
+/// Some bytes are carried from one side and delivered to the other, or all.
+fn moved(events: &mut Vec<Event>, chance: &mut Chance, side: Side, all: bool) -> Tested {
+    let to = match side {
+        Side::Client => Side::Server,
+        Side::Server => Side::Client,
+    };
+    for _ in 0..if all { 28 } else { 2 } {
+        put(events, Event::Carry(side, if all { 4096 } else { chance.count() }))?;
+    }
+    put(events, Event::Deliver(to, if all { 4096 } else { chance.count() }))
+}
+
+/// The job of this number is done.
+fn do_job(alloc: Global, events: &mut Vec<Event>, chance: &mut Chance, rules: Rules, job: u64, kind: Kind) -> Tested {
+    if kind.stream {
+        for _ in 0..5 {
+            put(events, Event::Recv(StreamEnd::Server(job)))?;
+        }
+        for _ in 0..chance.below(3) {
+            put(events, Event::Send(StreamEnd::Server(job), item_of(alloc, chance)?))?;
+        }
+        return put(events, Event::EndStream(job, end_of(alloc, chance)?));
+    }
+    if matches!(rules, Rules::Sync) && chance.below(2) == 0 {
+        put(events, Event::Respond(job, response_of(alloc, b"a")?))?;
+        return put(events, Event::Finish(job));
+    }
+    put(events, Event::Answer(job, answer_of(alloc, chance)?))
+}
+
+/// What came is asked for.
+fn ask(events: &mut Vec<Event>, id: u32, kind: Kind) -> Tested {
+    if kind.call {
+        return put(events, Event::Outcome(id));
+    }
+    for _ in 0..5 {
+        put(events, Event::Recv(StreamEnd::Client(id)))?;
+    }
+    Ok(())
+}
+
+/// Nothing more moves.
+fn rest(events: &mut Vec<Event>, chance: &mut Chance) -> Tested {
+    let n = chance.count().saturating_add(1);
+    let (first, second) = if chance.below(2) == 0 {
+        (Side::Client, Side::Server)
+    } else {
+        (Side::Server, Side::Client)
+    };
+    put(events, Event::Carry(first, n))?;
+    put(events, Event::Carry(second, n))?;
+    put(events, Event::Deliver(second, n))?;
+    put(events, Event::Deliver(first, n))
+}
+
+/// A list of up to four calls and streams, which all come to their ends.
+pub fn gentle_by(alloc: Global, chance: &mut Chance, rules: Rules) -> Result<Vec<Event>, Fail> {
+    let mut events = Vec::new(alloc);
+    let mut kinds = Vec::new(alloc);
+    let count = chance.below(4).saturating_add(1);
+    for number in 0..count {
+        let kind = begin(alloc, &mut events, chance, rules, id_of(number))?;
+        kinds.push(kind)?;
+        moved(&mut events, chance, Side::Client, false)?;
+        put(&mut events, Event::Tick(chance.below(5)))?;
+    }
+    moved(&mut events, chance, Side::Client, true)?;
+    for _ in 0..=count {
+        put(&mut events, Event::Take)?;
+    }
+    for (number, kind) in kinds.iter().enumerate() {
+        let job = (number as u64).saturating_add(1);
+        do_job(alloc, &mut events, chance, rules, job, *kind)?;
+        moved(&mut events, chance, Side::Server, false)?;
+    }
+    moved(&mut events, chance, Side::Server, true)?;
+    for (number, kind) in kinds.iter().enumerate() {
+        ask(&mut events, id_of(number as u64), *kind)?;
+    }
+    rest(&mut events, chance)?;
+    Ok(events)
+}

@@ -1,0 +1,405 @@
+//! Whether a run is clean, whether it is quiet, and whether it is whole then, read from a trace. Slow, and written from these
+//! sentences alone.
+
+use crate::tests::lists::{Way, all_given, stream_of, was_ended};
+use crate::tests::plainly::{answers_of, has_request, is_answered, is_ok, outcomes_of};
+use ttrpc_client::CallId;
+use ttrpc_proto::{Error, Request, Response};
+use ttrpc_server::{JobId, Rules};
+use ttrpc_world::{Entry, Event, Reply, Side, StreamEnd};
+
+/// What was read of a trace.
+#[derive(Clone, Copy, Debug, PartialEq, Eq)]
+pub enum Rest {
+    /// It isn't clean, or not quiet: nothing is said of it.
+    Unsaid,
+    /// It is clean, quiet and whole: of so many calls and receivers all came.
+    Whole(usize, usize),
+    /// A call that was asked for isn't whole.
+    BrokenCall,
+    /// A receiver that was asked out wasn't given all.
+    BrokenStream,
+}
+
+// ---- clean
+
+fn is_clean_event(event: &Event) -> bool {
+    !matches!(
+        event,
+        Event::DropCall(_)
+            | Event::DropReceiver(_)
+            | Event::DropSender(_)
+            | Event::Drain
+            | Event::Cut(_, _)
+            | Event::Fail(_)
+    )
+}
+
+/// Nothing is refused, and a receiver is told of an item, of an end, or of nothing yet.
+fn is_clean_reply(reply: &Reply) -> bool {
+    match reply {
+        Reply::Refused(_) | Reply::NoMemory => false,
+        Reply::Item(Some(Err(error))) => matches!(error, Error::Eof | Error::RemoteClosed),
+        _ => true,
+    }
+}
+
+/// Under sync rules no answer is an error.
+fn is_clean_answer(rules: Rules, entry: &Entry) -> bool {
+    match (&entry.event, &entry.reply) {
+        (Event::Answer(_, Err(_)) | Event::EndStream(_, Err(_)), Reply::Done) => {
+            matches!(rules, Rules::Async)
+        }
+        _ => true,
+    }
+}
+
+/// The moment by which something must have ended that began at this one; none where its timeout is 0, or so long that no
+/// moment reaches it.
+fn deadline_of(began: u64, timeout_nano: i64) -> Option<u64> {
+    if timeout_nano <= 0 {
+        return None;
+    }
+    began.checked_add(timeout_nano as u64)
+}
+
+fn moment_after(moment: u64, entry: &Entry) -> u64 {
+    match (&entry.event, &entry.reply) {
+        (Event::Tick(now), Reply::Done) => *now,
+        _ => moment,
+    }
+}
+
+/// Whether a job of this stream was answered.
+fn has_answer(trace: &[Entry], id: CallId) -> bool {
+    for entry in trace {
+        if let Reply::Handed(Some(job)) = &entry.reply {
+            if job.header.stream_id == id && answers_of(trace, job.id) > 0 {
+                return true;
+            }
+        }
+    }
+    false
+}
+
+/// Whether this moment reaches the deadline of what began here, and has no outcome or answer before it.
+fn is_reached(front: &[Entry], entry: &Entry, began: u64, now: u64) -> bool {
+    let (request, open) = match (&entry.event, &entry.reply) {
+        (Event::Call(request), Reply::Named(id)) => (request, outcomes_of(front, *id) == 0),
+        (Event::Open(request, _, _), Reply::Named(id)) => (request, !has_answer(front, *id)),
+        _ => return false,
+    };
+    match deadline_of(began, request.timeout_nano) {
+        Some(at) => open && at <= now,
+        None => false,
+    }
+}
+
+/// Whether a moment reaches a deadline of what is in front of it.
+fn reaches_one(front: &[Entry], now: u64) -> bool {
+    let mut moment = 0u64;
+    for entry in front {
+        if is_reached(front, entry, moment, now) {
+            return true;
+        }
+        moment = moment_after(moment, entry);
+    }
+    false
+}
+
+/// Whether nothing was refused, lost or late.
+pub fn is_clean(rules: Rules, trace: &[Entry]) -> bool {
+    for (at, entry) in trace.iter().enumerate() {
+        if !is_clean_event(&entry.event)
+            || !is_clean_reply(&entry.reply)
+            || !is_clean_answer(rules, entry)
+        {
+            return false;
+        }
+        if let (Event::Tick(now), Reply::Done) = (&entry.event, &entry.reply) {
+            if reaches_one(&trace[..at], *now) {
+                return false;
+            }
+        }
+    }
+    true
+}
+
+// ---- quiet
+
+/// The side from which nothing was carried here, though something might have been.
+fn carried_nothing(entry: &Entry) -> Option<Side> {
+    match (&entry.event, &entry.reply) {
+        (Event::Carry(side, n), Reply::Count(0)) if *n > 0 => Some(*side),
+        _ => None,
+    }
+}
+
+/// The same of a delivery.
+fn delivered_nothing(entry: &Entry) -> Option<Side> {
+    match (&entry.event, &entry.reply) {
+        (Event::Deliver(side, n), Reply::Count(0)) if *n > 0 => Some(*side),
+        _ => None,
+    }
+}
+
+/// Whether these are two sides.
+fn are_both(one: Option<Side>, other: Option<Side>) -> bool {
+    matches!(
+        (one, other),
+        (Some(Side::Client), Some(Side::Server)) | (Some(Side::Server), Some(Side::Client))
+    )
+}
+
+/// Whether the last four events are a carry from each side and a delivery to each, which moved nothing.
+fn is_drained(trace: &[Entry]) -> bool {
+    let n = trace.len();
+    if n < 4 {
+        return false;
+    }
+    are_both(
+        carried_nothing(&trace[n - 4]),
+        carried_nothing(&trace[n - 3]),
+    ) && are_both(
+        delivered_nothing(&trace[n - 2]),
+        delivered_nothing(&trace[n - 1]),
+    )
+}
+
+/// Whether a side took bytes here.
+fn takes_bytes(entry: &Entry, side: Side) -> bool {
+    match (&entry.event, &entry.reply) {
+        (Event::Deliver(to, _), Reply::Count(count)) => {
+            *count > 0 && are_both(Some(*to), Some(other(side)))
+        }
+        _ => false,
+    }
+}
+
+fn other(side: Side) -> Side {
+    match side {
+        Side::Client => Side::Server,
+        Side::Server => Side::Client,
+    }
+}
+
+/// Where what is behind the last bytes begins that a side took; 0 where it took none.
+fn behind_bytes(trace: &[Entry], side: Side) -> usize {
+    let mut begin = 0usize;
+    for (at, entry) in trace.iter().enumerate() {
+        if takes_bytes(entry, side) {
+            begin = at.saturating_add(1);
+        }
+    }
+    begin
+}
+
+/// Whether no job waited behind the last bytes that the server took, if it took any.
+fn is_taken(trace: &[Entry]) -> bool {
+    let begin = behind_bytes(trace, Side::Server);
+    if begin == 0 {
+        return true;
+    }
+    for entry in trace.iter().skip(begin) {
+        if matches!(&entry.reply, Reply::Handed(None)) {
+            return true;
+        }
+    }
+    false
+}
+
+/// Whether each job that was handed out was answered.
+fn are_answered(trace: &[Entry]) -> bool {
+    for entry in trace {
+        if let Reply::Handed(Some(job)) = &entry.reply {
+            if answers_of(trace, job.id) == 0 {
+                return false;
+            }
+        }
+    }
+    true
+}
+
+/// Whether nothing is left to be moved, to be run or to be answered.
+pub fn is_quiet(trace: &[Entry]) -> bool {
+    is_drained(trace) && are_answered(trace) && is_taken(trace)
+}
+
+// ---- whole
+
+/// Whether the outcome of a call was given, or asked for behind the last bytes that the client took.
+fn is_asked_for(trace: &[Entry], id: CallId) -> bool {
+    if outcomes_of(trace, id) > 0 {
+        return true;
+    }
+    for entry in trace.iter().skip(behind_bytes(trace, Side::Client)) {
+        if matches!(&entry.event, Event::Outcome(asked) if *asked == id) {
+            return true;
+        }
+    }
+    false
+}
+
+/// Whether this is what is told of a response: itself, its status, or that it is too long.
+fn is_told(response: &Response, outcome: &Result<Response, Error>) -> bool {
+    if response.payload.len() >= 4194304 {
+        return matches!(outcome, Err(Error::RpcStatus(status)) if status.code == 3);
+    }
+    match outcome {
+        Ok(given) => is_ok(response) && given == response,
+        Err(Error::RpcStatus(told)) => match &response.status {
+            Some(status) => !is_ok(response) && told == status,
+            None => false,
+        },
+        Err(_) => false,
+    }
+}
+
+/// Whether this is what is told of an answer: of an error a status of code UNKNOWN.
+fn is_told_of(answer: &Event, outcome: &Result<Response, Error>) -> bool {
+    match answer {
+        Event::Answer(_, Ok(response)) | Event::Respond(_, response) => is_told(response, outcome),
+        Event::Answer(_, Err(_)) => {
+            matches!(outcome, Err(Error::RpcStatus(status)) if status.code == 2)
+        }
+        _ => false,
+    }
+}
+
+/// What was read of a call so far.
+#[derive(Clone, Copy, Debug)]
+enum Read {
+    Nothing,
+    Called,
+    Ran(JobId),
+    /// The answer stands at this place.
+    Answered(JobId, usize),
+    Given,
+    Broken,
+}
+
+/// Whether a job of this call was answered here.
+fn answers(entry: &Entry, read: Read) -> bool {
+    match read {
+        Read::Ran(job) | Read::Answered(job, _) => is_answered(entry, job),
+        _ => false,
+    }
+}
+
+/// What one more entry makes of it.
+fn read_on(trace: &[Entry], at: usize, id: CallId, request: &Request, read: Read) -> Read {
+    let Some(entry) = trace.get(at) else {
+        return read;
+    };
+    match (&entry.event, &entry.reply, read) {
+        (Event::Call(_) | Event::Open(_, _, _), Reply::Named(named), _) if *named == id => {
+            match read {
+                Read::Nothing => Read::Called,
+                _ => Read::Broken,
+            }
+        }
+        (_, Reply::Handed(Some(job)), _) if job.header.stream_id == id => match read {
+            Read::Called if !job.stream && has_request(job, request) => Read::Ran(job.id),
+            _ => Read::Broken,
+        },
+        (Event::Outcome(asked), Reply::Outcome(Some(outcome)), _) if *asked == id => {
+            given_at(trace, outcome, read)
+        }
+        _ if answers(entry, read) => match read {
+            Read::Ran(job) => Read::Answered(job, at),
+            _ => Read::Broken,
+        },
+        _ => read,
+    }
+}
+
+/// What an outcome makes of it: it must be what is told of the answer.
+fn given_at(trace: &[Entry], outcome: &Result<Response, Error>, read: Read) -> Read {
+    let Read::Answered(_, at) = read else {
+        return Read::Broken;
+    };
+    match trace.get(at) {
+        Some(answer) if is_told_of(&answer.event, outcome) => Read::Given,
+        _ => Read::Broken,
+    }
+}
+
+/// Whether a call was made, run once, answered once, and given what is told of that answer, in this order and once each.
+fn is_whole_call(trace: &[Entry], id: CallId, request: &Request) -> bool {
+    let mut read = Read::Nothing;
+    for at in 0..trace.len() {
+        read = read_on(trace, at, id, request, read);
+    }
+    matches!(read, Read::Given)
+}
+
+/// Whether a request names the method that there is.
+fn names_method(request: &Request) -> bool {
+    request.service.as_str() == "demo.Echo" && request.method.as_str() == "Echo"
+}
+
+/// Whether a receiver had nothing yet here.
+fn finds_nothing(trace: &[Entry], entry: &Entry, way: Way) -> bool {
+    match (&entry.event, &entry.reply, way) {
+        (Event::Recv(StreamEnd::Server(job)), Reply::Item(None), Way::Up(id)) => {
+            stream_of(trace, *job) == Some(id)
+        }
+        (Event::Recv(StreamEnd::Client(asked)), Reply::Item(None), Way::Down(id)) => *asked == id,
+        _ => false,
+    }
+}
+
+/// Whether a receiver was told of an end, or had nothing yet behind the last bytes that its side took.
+fn is_asked_out(trace: &[Entry], way: Way) -> bool {
+    if was_ended(trace, way) {
+        return true;
+    }
+    let side = match way {
+        Way::Up(_) => Side::Server,
+        Way::Down(_) => Side::Client,
+    };
+    for entry in trace.iter().skip(behind_bytes(trace, side)) {
+        if finds_nothing(trace, entry, way) {
+            return true;
+        }
+    }
+    false
+}
+
+/// Of one way of an id: how many receivers are whole, none where it wasn't asked out.
+fn way_is_whole(trace: &[Entry], way: Way) -> Option<usize> {
+    if !is_asked_out(trace, way) {
+        return Some(0);
+    }
+    if all_given(trace, way) { Some(1) } else { None }
+}
+
+/// What is read of a trace: if it is clean and quiet, whether each call and each receiver is whole that was asked.
+pub fn read_rest(rules: Rules, trace: &[Entry]) -> Rest {
+    if !is_clean(rules, trace) || !is_quiet(trace) {
+        return Rest::Unsaid;
+    }
+    let mut calls = 0usize;
+    let mut receivers = 0usize;
+    for entry in trace {
+        let Reply::Named(id) = &entry.reply else {
+            continue;
+        };
+        if let Event::Call(request) = &entry.event {
+            if names_method(request) && is_asked_for(trace, *id) {
+                if !is_whole_call(trace, *id, request) {
+                    return Rest::BrokenCall;
+                }
+                calls = calls.saturating_add(1);
+            }
+        }
+        let (Some(up), Some(down)) = (
+            way_is_whole(trace, Way::Up(*id)),
+            way_is_whole(trace, Way::Down(*id)),
+        ) else {
+            return Rest::BrokenStream;
+        };
+        receivers = receivers.saturating_add(up).saturating_add(down);
+    }
+    Rest::Whole(calls, receivers)
+}
