@@ -1,7 +1,8 @@
 //! Lists of events by chance by which nothing is refused, lost or late, and in which all comes to rest: so that many traces are
 //! clean and quiet.
 
-use crate::tests::random_tests::{Chance, answer_of, end_of, item_of};
+use crate::tests::chance::Chance;
+use crate::tests::random_tests::{answer_of, end_of, item_of};
 use crate::tests::script::{put, request_named, request_of, response_of};
 use std::alloc::Global;
 use std::test::Fail;
@@ -25,31 +26,61 @@ fn id_of(number: u64) -> u32 {
 }
 
 /// A call, or by chance a stream where there are streams. Each names what there is.
-fn begin(alloc: Global, events: &mut Vec<Event>, chance: &mut Chance, rules: Rules, id: u32) -> Result<Kind, Fail> {
+fn begin(
+    alloc: Global,
+    events: &mut Vec<Event>,
+    chance: &mut Chance,
+    rules: Rules,
+    id: u32,
+) -> Result<Kind, Fail> {
     let payload = [chance.below(256) as u8];
     let streams = matches!(rules, Rules::Async);
     match chance.below(6) {
         0 | 1 if streams => {
-            put(events, Event::Open(request_named(alloc, "Chat", b"")?, true, true))?;
+            put(
+                events,
+                Event::Open(request_named(alloc, "Chat", b"")?, true, true),
+            )?;
             send_up(alloc, events, chance, id)?;
-            Ok(Kind { call: false, stream: true })
+            Ok(Kind {
+                call: false,
+                stream: true,
+            })
         }
         2 if streams => {
-            put(events, Event::Open(request_named(alloc, "Chat", &payload)?, false, true))?;
-            Ok(Kind { call: false, stream: true })
+            put(
+                events,
+                Event::Open(request_named(alloc, "Chat", &payload)?, false, true),
+            )?;
+            Ok(Kind {
+                call: false,
+                stream: true,
+            })
         }
         3 if streams => {
             put(events, Event::Call(request_named(alloc, "Chat", &payload)?))?;
-            Ok(Kind { call: true, stream: true })
+            Ok(Kind {
+                call: true,
+                stream: true,
+            })
         }
         4 => {
-            put(events, Event::Open(request_named(alloc, "Echo", &payload)?, false, true))?;
-            Ok(Kind { call: false, stream: false })
+            put(
+                events,
+                Event::Open(request_named(alloc, "Echo", &payload)?, false, true),
+            )?;
+            Ok(Kind {
+                call: false,
+                stream: false,
+            })
         }
         _ => {
             let timeout = if chance.below(2) == 0 { 20 } else { 0 };
             put(events, Event::Call(request_of(alloc, &payload, timeout)?))?;
-            Ok(Kind { call: true, stream: false })
+            Ok(Kind {
+                call: true,
+                stream: false,
+            })
         }
     }
 }
@@ -57,7 +88,10 @@ fn begin(alloc: Global, events: &mut Vec<Event>, chance: &mut Chance, rules: Rul
 /// Items are sent, and then by chance the close.
 fn send_up(alloc: Global, events: &mut Vec<Event>, chance: &mut Chance, id: u32) -> Tested {
     for _ in 0..chance.below(4) {
-        put(events, Event::Send(StreamEnd::Client(id), item_of(alloc, chance)?))?;
+        put(
+            events,
+            Event::Send(StreamEnd::Client(id), item_of(alloc, chance)?),
+        )?;
     }
     if chance.below(3) > 0 {
         put(events, Event::Close(id))?;
@@ -72,19 +106,35 @@ fn moved(events: &mut Vec<Event>, chance: &mut Chance, side: Side, all: bool) ->
         Side::Server => Side::Client,
     };
     for _ in 0..if all { 28 } else { 2 } {
-        put(events, Event::Carry(side, if all { 4096 } else { chance.count() }))?;
+        put(
+            events,
+            Event::Carry(side, if all { 4096 } else { chance.count() }),
+        )?;
     }
-    put(events, Event::Deliver(to, if all { 4096 } else { chance.count() }))
+    put(
+        events,
+        Event::Deliver(to, if all { 4096 } else { chance.count() }),
+    )
 }
 
 /// The job of this number is done.
-fn do_job(alloc: Global, events: &mut Vec<Event>, chance: &mut Chance, rules: Rules, job: u64, kind: Kind) -> Tested {
+fn do_job(
+    alloc: Global,
+    events: &mut Vec<Event>,
+    chance: &mut Chance,
+    rules: Rules,
+    job: u64,
+    kind: Kind,
+) -> Tested {
     if kind.stream {
         for _ in 0..5 {
             put(events, Event::Recv(StreamEnd::Server(job)))?;
         }
         for _ in 0..chance.below(3) {
-            put(events, Event::Send(StreamEnd::Server(job), item_of(alloc, chance)?))?;
+            put(
+                events,
+                Event::Send(StreamEnd::Server(job), item_of(alloc, chance)?),
+            )?;
         }
         return put(events, Event::EndStream(job, end_of(alloc, chance)?));
     }

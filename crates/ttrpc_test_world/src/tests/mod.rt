@@ -1,3 +1,4 @@
+mod chance;
 mod gentle;
 mod lists;
 mod lists_tests;

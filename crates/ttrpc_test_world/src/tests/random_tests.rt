@@ -1,6 +1,5 @@
 //! Lists of events by chance, from a fixed seed: the headline holds of each trace, as the plain program reads it.
-ghost use Rattle.std.specs.Prelude.{◌<◌};
-
+use crate::tests::chance::Chance;
 use crate::tests::gentle::gentle_by;
 use crate::tests::lists::{Counts, NONE, Order, has_unknown_sender, read_lists};
 use crate::tests::plainly::{Finding, read_headline};
@@ -28,57 +27,6 @@ const SEED: u64 = 20260101;
 const LISTS: usize = 1250;
 
 const EVENTS: usize = 64;
-
-/// Numbers by chance, by shifts and exclusive ors.
-#[derive(Drop)]
-pub struct Chance {
-    pub state: u64,
-}
-
-impl Chance {
-    /// A number below `n`; 0 where there is none.
-    pub fn below(&mut self, n: u64) -> u64
-        ensures { 0 < n → result < n }
-    {
-        self.state ^= self.state << 13;
-        self.state ^= self.state >> 7;
-        self.state ^= self.state << 17;
-        if n == 0 {
-            return 0;
-        }
-        self.state % n
-    }
-
-    /// An odd id of one of the first calls.
-    fn id(&mut self) -> u32 {
-        (self.below(4) as u32).saturating_mul(2).saturating_add(1)
-    }
-
-    fn job(&mut self) -> u64 {
-        self.below(4).saturating_add(1)
-    }
-
-    /// The client's end of one of the first streams, or the server's.
-    fn end(&mut self) -> StreamEnd {
-        if self.below(2) == 0 {
-            StreamEnd::Client(self.id())
-        } else {
-            StreamEnd::Server(self.job())
-        }
-    }
-
-    pub fn count(&mut self) -> usize {
-        self.below(96) as usize
-    }
-
-    fn side(&mut self) -> Side {
-        if self.below(2) == 0 {
-            Side::Client
-        } else {
-            Side::Server
-        }
-    }
-}
 
 /// What a handler gives: mostly a response that is OK.
 pub fn answer_of(alloc: Global, chance: &mut Chance) -> Result<Result<Response, Error>, Fail> {

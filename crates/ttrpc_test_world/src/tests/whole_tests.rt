@@ -1,7 +1,9 @@
 //! Runs that are clean and quiet, and whole; runs of which nothing is said; and traces from which something is kept back.
 
 use crate::tests::rows_tests::{ASYNC, SYNC, Tested};
-use crate::tests::script::{Act, Ways, event_of, had_memory, over_plain, over_stamps, put, response_of};
+use crate::tests::script::{
+    Act, Ways, event_of, had_memory, over_plain, over_stamps, put, response_of,
+};
 use crate::tests::whole::{Rest, is_clean, is_quiet, read_rest};
 use std::alloc::Global;
 use std::process::Abort;
@@ -243,7 +245,10 @@ fn a_response_too_long_comes_to_rest(rt: HostRuntime) -> Tested {
     }
     let trace = over_plain(alloc, ASYNC[0], events)?;
     had_memory(trace.as_slice())?;
-    assert_eq!(rt; read_rest(ASYNC[0].rules, trace.as_slice()), Rest::Whole(1, 0));
+    assert_eq!(rt;
+        read_rest(ASYNC[0].rules, trace.as_slice()),
+        Rest::Whole(1, 0)
+    );
     Ok(())
 }
 
