@@ -3,9 +3,10 @@
 
 use crate::tests::chance::Chance;
 use crate::tests::random_tests::{answer_of, end_of, item_of};
-use crate::tests::script::{put, request_named, request_of, response_of};
+use crate::tests::script::{put, request_named, response_of};
 use std::alloc::Global;
 use std::test::Fail;
+use ttrpc_proto::Request;
 use ttrpc_server::Rules;
 use ttrpc_world::{Event, Side, StreamEnd};
 
@@ -25,6 +26,20 @@ fn id_of(number: u64) -> u32 {
     (number.min(8) as u32).saturating_mul(2).saturating_add(1)
 }
 
+/// A request of this name, by chance with a timeout that is kept.
+fn request_by(
+    alloc: Global,
+    chance: &mut Chance,
+    method: &str,
+    payload: &[u8],
+) -> Result<Request, Fail> {
+    let mut request = request_named(alloc, method, payload)?;
+    if chance.below(2) == 0 {
+        request.timeout_nano = 20;
+    }
+    Ok(request)
+}
+
 /// A call, or by chance a stream where there are streams. Each names what there is.
 fn begin(
     alloc: Global,
@@ -35,54 +50,27 @@ fn begin(
 ) -> Result<Kind, Fail> {
     let payload = [chance.below(256) as u8];
     let streams = matches!(rules, Rules::Async);
-    match chance.below(6) {
-        0 | 1 if streams => {
-            put(
-                events,
-                Event::Open(request_named(alloc, "Chat", b"")?, true, true),
-            )?;
-            send_up(alloc, events, chance, id)?;
-            Ok(Kind {
-                call: false,
-                stream: true,
-            })
-        }
-        2 if streams => {
-            put(
-                events,
-                Event::Open(request_named(alloc, "Chat", &payload)?, false, true),
-            )?;
-            Ok(Kind {
-                call: false,
-                stream: true,
-            })
-        }
-        3 if streams => {
-            put(events, Event::Call(request_named(alloc, "Chat", &payload)?))?;
-            Ok(Kind {
-                call: true,
-                stream: true,
-            })
-        }
-        4 => {
-            put(
-                events,
-                Event::Open(request_named(alloc, "Echo", &payload)?, false, true),
-            )?;
-            Ok(Kind {
-                call: false,
-                stream: false,
-            })
-        }
-        _ => {
-            let timeout = if chance.below(2) == 0 { 20 } else { 0 };
-            put(events, Event::Call(request_of(alloc, &payload, timeout)?))?;
-            Ok(Kind {
-                call: true,
-                stream: false,
-            })
-        }
+    let (method, call, up) = match chance.below(6) {
+        0 | 1 if streams => ("Chat", false, true),
+        2 if streams => ("Chat", false, false),
+        3 if streams => ("Chat", true, false),
+        4 => ("Echo", false, false),
+        _ => ("Echo", true, false),
+    };
+    let count = if up { 0 } else { 1 };
+    let request = request_by(alloc, chance, method, &payload[..count])?;
+    if call {
+        put(events, Event::Call(request))?;
+    } else {
+        put(events, Event::Open(request, up, true))?;
     }
+    if up {
+        send_up(alloc, events, chance, id)?;
+    }
+    Ok(Kind {
+        call,
+        stream: method == "Chat",
+    })
 }
 
 /// Items are sent, and then by chance the close.
@@ -156,8 +144,9 @@ fn ask(events: &mut Vec<Event>, id: u32, kind: Kind) -> Tested {
     Ok(())
 }
 
-/// Nothing more moves.
+/// Time passes, and nothing more moves.
 fn rest(events: &mut Vec<Event>, chance: &mut Chance) -> Tested {
+    put(events, Event::Tick(chance.below(80)))?;
     let n = chance.count().saturating_add(1);
     let (first, second) = if chance.below(2) == 0 {
         (Side::Client, Side::Server)
