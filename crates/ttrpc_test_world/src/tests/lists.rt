@@ -271,7 +271,33 @@ pub fn was_ended(trace: &[Entry], way: Way) -> bool {
     told_before(trace, trace, way).1
 }
 
-/// Whether the receiver of a way, whose items are in order, was given all that was put in.
+/// The item of this number that the receiver of a way was given, counted from 0.
+fn nth_given<'a>(trace: &'a [Entry], way: Way, number: usize) -> Option<&'a [u8]> {
+    let mut count = 0usize;
+    for entry in trace {
+        if let Reply::Item(Some(Ok(item))) = &entry.reply {
+            if way_told(trace, entry) == Some(way) {
+                if count == number {
+                    return Some(item.as_slice());
+                }
+                count = count.saturating_add(1);
+            }
+        }
+    }
+    None
+}
+
+/// Whether the receiver of a way was given exactly what was put in.
 pub fn all_given(trace: &[Entry], way: Way) -> bool {
-    nth_put(trace, trace, way, given(trace, trace, way)).is_none()
+    for number in 0..=trace.len() {
+        match (
+            nth_put(trace, trace, way, number),
+            nth_given(trace, way, number),
+        ) {
+            (None, None) => return true,
+            (Some(put), Some(given)) if put == given => {}
+            _ => return false,
+        }
+    }
+    false
 }

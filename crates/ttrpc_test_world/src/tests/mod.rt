@@ -7,5 +7,6 @@ mod random_tests;
 mod rows_tests;
 mod script;
 mod streams_tests;
+mod told;
 mod whole;
 mod whole_tests;

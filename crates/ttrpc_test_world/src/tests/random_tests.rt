@@ -6,6 +6,7 @@ use crate::tests::plainly::{Finding, read_headline};
 use crate::tests::script::{
     Ways, over_plain, over_stamps, put, request_named, request_of, response_of,
 };
+use crate::tests::told::{Terms, plain_terms, stamped_terms};
 use crate::tests::whole::{Rest, read_rest};
 use std::alloc::Global;
 use std::process::Abort;
@@ -200,8 +201,8 @@ fn events_by(alloc: Global, chance: &mut Chance, rules: Rules) -> Result<Vec<Eve
     Ok(events)
 }
 
-/// A trace by chance, and the server's rules.
-fn trace_by(alloc: Global, chance: &mut Chance) -> Result<(Rules, Trace), Fail> {
+/// A trace by chance, and what its server keeps to.
+fn trace_by(alloc: Global, chance: &mut Chance) -> Result<(Terms, Trace), Fail> {
     let ways = Ways {
         kind: match chance.below(2) {
             0 => ClientKind::Sync,
@@ -213,19 +214,31 @@ fn trace_by(alloc: Global, chance: &mut Chance) -> Result<(Rules, Trace), Fail> 
         },
     };
     let events = events_by(alloc, chance, ways.rules)?;
-    let trace = if chance.below(2) == 0 {
-        over_plain(alloc, ways, events)?
-    } else {
-        over_stamps(alloc, ways, events)?
-    };
-    Ok((ways.rules, trace))
+    if chance.below(2) == 0 {
+        let trace = over_plain(alloc, ways, events)?;
+        return Ok((plain_terms(ways.rules), trace));
+    }
+    let trace = over_stamps(alloc, ways, events)?;
+    Ok((stamped_terms(ways.rules), trace))
 }
 
-/// Whether a trace is clean and quiet; then it is whole.
-fn is_at_rest(rules: Rules, trace: &[Entry]) -> Result<bool, Fail> {
-    match read_rest(rules, trace) {
-        Rest::Unsaid => Ok(false),
-        Rest::Whole(_, _) => Ok(true),
+/// How many traces are clean and quiet, and how many calls and receivers are whole in them.
+#[derive(Clone, Copy, Debug)]
+struct Rests {
+    traces: usize,
+    calls: usize,
+    receivers: usize,
+}
+
+/// The same with one more trace: if it is clean and quiet, it is whole.
+fn rested(alloc: Global, rests: Rests, terms: Terms, trace: &[Entry]) -> Result<Rests, Fail> {
+    match read_rest(alloc, terms, trace)? {
+        Rest::Unsaid => Ok(rests),
+        Rest::Whole(calls, receivers) => Ok(Rests {
+            traces: rests.traces.saturating_add(1),
+            calls: rests.calls.saturating_add(calls),
+            receivers: rests.receivers.saturating_add(receivers),
+        }),
         _ => Err("a clean quiet run isn't whole".into()),
     }
 }
@@ -252,24 +265,27 @@ fn both(one: Counts, other: Counts) -> Counts {
 }
 
 /// Over 1250 lists from this seed the headline holds, hundreds of calls end well, and each way hundreds of items and ends are
-/// given. One trace in twenty is clean and quiet, at least.
+/// given. Each clean quiet run is whole, and one trace in twenty is one, at least.
 fn holds_by_chance(rt: &impl Abort, alloc: Global, seed: u64) -> Tested {
     let mut chance = Chance { state: seed };
     let mut good = 0usize;
     let mut counts = NONE;
-    let mut at_rest = 0usize;
+    let mut rests = Rests {
+        traces: 0,
+        calls: 0,
+        receivers: 0,
+    };
     for _ in 0..LISTS {
-        let (rules, trace) = trace_by(alloc, &mut chance)?;
+        let (terms, trace) = trace_by(alloc, &mut chance)?;
         match read_headline(trace.as_slice()) {
             Finding::Whole(more) => good = good.saturating_add(more),
             _ => return Err("the headline doesn't hold".into()),
         }
         counts = both(counts, read_in_order(trace.as_slice())?);
-        if is_at_rest(rules, trace.as_slice())? {
-            at_rest = at_rest.saturating_add(1);
-        }
+        rests = rested(alloc, rests, terms, trace.as_slice())?;
     }
-    assert!(rt; at_rest > LISTS / 20);
+    assert!(rt; rests.traces > LISTS / 20);
+    assert!(rt; rests.calls > 100 && rests.receivers > 200);
     assert!(rt; good > 200);
     assert!(rt; counts.items_up > 450 && counts.items_down > 450);
     assert!(rt; counts.ends_up > 450 && counts.ends_down > 450);

@@ -38,7 +38,7 @@ pub const ASYNC: [Ways; 2] = [
 ];
 
 /// One call, carried and delivered whole. The request's frame has 30 bytes, the response's 15.
-const ONE_CALL: &[(Act, Said)] = &[
+pub const ONE_CALL: &[(Act, Said)] = &[
     (Act::Call(b"\x2a", 0), Said::Named(1)),
     (Act::CarryUp(30), Said::Count(30)),
     (Act::DeliverUp(30), Said::Count(30)),
@@ -55,7 +55,7 @@ const ONE_CALL: &[(Act, Said)] = &[
 ];
 
 /// The same with a stamp of one byte on each frame.
-const ONE_STAMPED_CALL: &[(Act, Said)] = &[
+pub const ONE_STAMPED_CALL: &[(Act, Said)] = &[
     (Act::Call(b"\x2a", 0), Said::Named(1)),
     (Act::CarryUp(64), Said::Count(31)),
     (Act::DeliverUp(64), Said::Count(31)),
@@ -72,7 +72,7 @@ const ONE_STAMPED_CALL: &[(Act, Said)] = &[
 ];
 
 /// A response in place of an answer: a second one is no step, nor is an answer, before and after the job ends.
-const ONE_RESPONSE: &[(Act, Said)] = &[
+pub const ONE_RESPONSE: &[(Act, Said)] = &[
     (Act::Call(b"\x2a", 0), Said::Named(1)),
     (Act::CarryUp(30), Said::Count(30)),
     (Act::DeliverUp(30), Said::Count(30)),

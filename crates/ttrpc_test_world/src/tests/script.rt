@@ -88,6 +88,8 @@ pub enum Said {
     NoJob,
     Done,
     Count(usize),
+    /// Some bytes were moved.
+    Moved,
     NoStep,
 }
 
@@ -238,7 +240,7 @@ fn has_job(reply: &Reply, id: u64, stream_id: u32, stream: bool, payload: &[u8])
     }
 }
 
-fn is_said(reply: &Reply, said: Said) -> bool {
+pub fn is_said(reply: &Reply, said: Said) -> bool {
     match said {
         Said::Named(id) => matches!(reply, Reply::Named(told) if *told == id),
         Said::Ticket(ticket) => matches!(reply, Reply::Ticket(told) if *told == ticket),
@@ -249,6 +251,7 @@ fn is_said(reply: &Reply, said: Said) -> bool {
         Said::NoJob => matches!(reply, Reply::Handed(None)),
         Said::Done => matches!(reply, Reply::Done),
         Said::Count(n) => matches!(reply, Reply::Count(told) if *told == n),
+        Said::Moved => matches!(reply, Reply::Count(told) if *told > 0),
         Said::NoStep => matches!(reply, Reply::NoStep),
         _ => has_error(reply, said),
     }

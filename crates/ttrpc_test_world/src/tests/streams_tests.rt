@@ -292,7 +292,7 @@ fn put_bytes(script: &mut Vec<(Act, Said)>, carry: Act, deliver: Act, bytes: usi
 }
 
 /// The same where this many bytes are moved between.
-fn byte_by_byte(alloc: Global, bytes: usize) -> Result<Vec<(Act, Said)>, Fail> {
+pub fn byte_by_byte(alloc: Global, bytes: usize) -> Result<Vec<(Act, Said)>, Fail> {
     let mut script = Vec::new(alloc);
     script.extend_from_slice(QUEUED)?;
     put_bytes(&mut script, Act::CarryUp(1), Act::DeliverUp(1), bytes)?;

@@ -2,7 +2,10 @@
 //! sentences alone.
 
 use crate::tests::lists::{Way, all_given, stream_of, was_ended};
-use crate::tests::plainly::{answers_of, has_request, is_answered, is_ok, outcomes_of};
+use crate::tests::plainly::{answers_of, has_request, is_answered, outcomes_of};
+use crate::tests::told::{Terms, tells};
+use std::alloc::Global;
+use std::test::Fail;
 use ttrpc_client::CallId;
 use ttrpc_proto::{Error, Request, Response};
 use ttrpc_server::{JobId, Rules};
@@ -54,13 +57,11 @@ fn is_clean_answer(rules: Rules, entry: &Entry) -> bool {
     }
 }
 
-/// The moment by which something must have ended that began at this one; none where its timeout is 0, or so long that no
-/// moment reaches it.
-fn deadline_of(began: u64, timeout_nano: i64) -> Option<u64> {
-    if timeout_nano <= 0 {
-        return None;
-    }
-    began.checked_add(timeout_nano as u64)
+/// Whether a moment reaches the deadline of what began at an earlier one. A timeout of 0 sets none, and a negative one is
+/// the `u64` of the same bits.
+fn is_due(began: u64, timeout_nano: i64, now: u64) -> bool {
+    timeout_nano != 0
+        && u128::from(began) + u128::from(timeout_nano.cast_unsigned()) <= u128::from(now)
 }
 
 fn moment_after(moment: u64, entry: &Entry) -> u64 {
@@ -89,10 +90,7 @@ fn is_reached(front: &[Entry], entry: &Entry, began: u64, now: u64) -> bool {
         (Event::Open(request, _, _), Reply::Named(id)) => (request, !has_answer(front, *id)),
         _ => return false,
     };
-    match deadline_of(began, request.timeout_nano) {
-        Some(at) => open && at <= now,
-        None => false,
-    }
+    open && is_due(began, request.timeout_nano, now)
 }
 
 /// Whether a moment reaches a deadline of what is in front of it.
@@ -240,32 +238,6 @@ fn is_asked_for(trace: &[Entry], id: CallId) -> bool {
     false
 }
 
-/// Whether this is what is told of a response: itself, its status, or that it is too long.
-fn is_told(response: &Response, outcome: &Result<Response, Error>) -> bool {
-    if response.payload.len() >= 4194304 {
-        return matches!(outcome, Err(Error::RpcStatus(status)) if status.code == 3);
-    }
-    match outcome {
-        Ok(given) => is_ok(response) && given == response,
-        Err(Error::RpcStatus(told)) => match &response.status {
-            Some(status) => !is_ok(response) && told == status,
-            None => false,
-        },
-        Err(_) => false,
-    }
-}
-
-/// Whether this is what is told of an answer: of an error a status of code UNKNOWN.
-fn is_told_of(answer: &Event, outcome: &Result<Response, Error>) -> bool {
-    match answer {
-        Event::Answer(_, Ok(response)) | Event::Respond(_, response) => is_told(response, outcome),
-        Event::Answer(_, Err(_)) => {
-            matches!(outcome, Err(Error::RpcStatus(status)) if status.code == 2)
-        }
-        _ => false,
-    }
-}
-
 /// What was read of a call so far.
 #[derive(Clone, Copy, Debug)]
 enum Read {
@@ -274,14 +246,15 @@ enum Read {
     Ran(JobId),
     /// The answer stands at this place.
     Answered(JobId, usize),
-    Given,
+    /// And the outcome at that one.
+    Given(JobId, usize, usize),
     Broken,
 }
 
 /// Whether a job of this call was answered here.
 fn answers(entry: &Entry, read: Read) -> bool {
     match read {
-        Read::Ran(job) | Read::Answered(job, _) => is_answered(entry, job),
+        Read::Ran(job) | Read::Answered(job, _) | Read::Given(job, _, _) => is_answered(entry, job),
         _ => false,
     }
 }
@@ -302,9 +275,10 @@ fn read_on(trace: &[Entry], at: usize, id: CallId, request: &Request, read: Read
             Read::Called if !job.stream && has_request(job, request) => Read::Ran(job.id),
             _ => Read::Broken,
         },
-        (Event::Outcome(asked), Reply::Outcome(Some(outcome)), _) if *asked == id => {
-            given_at(trace, outcome, read)
-        }
+        (Event::Outcome(asked), Reply::Outcome(Some(_)), _) if *asked == id => match read {
+            Read::Answered(job, answer) => Read::Given(job, answer, at),
+            _ => Read::Broken,
+        },
         _ if answers(entry, read) => match read {
             Read::Ran(job) => Read::Answered(job, at),
             _ => Read::Broken,
@@ -313,24 +287,28 @@ fn read_on(trace: &[Entry], at: usize, id: CallId, request: &Request, read: Read
     }
 }
 
-/// What an outcome makes of it: it must be what is told of the answer.
-fn given_at(trace: &[Entry], outcome: &Result<Response, Error>, read: Read) -> Read {
-    let Read::Answered(_, at) = read else {
-        return Read::Broken;
-    };
-    match trace.get(at) {
-        Some(answer) if is_told_of(&answer.event, outcome) => Read::Given,
-        _ => Read::Broken,
-    }
-}
-
 /// Whether a call was made, run once, answered once, and given what is told of that answer, in this order and once each.
-fn is_whole_call(trace: &[Entry], id: CallId, request: &Request) -> bool {
+fn is_whole_call(
+    alloc: Global,
+    terms: Terms,
+    trace: &[Entry],
+    id: CallId,
+    request: &Request,
+) -> Result<bool, Fail> {
     let mut read = Read::Nothing;
     for at in 0..trace.len() {
         read = read_on(trace, at, id, request, read);
     }
-    matches!(read, Read::Given)
+    let Read::Given(_, answer, outcome) = read else {
+        return Ok(false);
+    };
+    match (trace.get(answer), trace.get(outcome)) {
+        (Some(answer), Some(outcome)) => match &outcome.reply {
+            Reply::Outcome(Some(given)) => tells(alloc, terms, &answer.event, given),
+            _ => Ok(false),
+        },
+        _ => Ok(false),
+    }
 }
 
 /// Whether a request names the method that there is.
@@ -366,7 +344,7 @@ fn is_asked_out(trace: &[Entry], way: Way) -> bool {
     false
 }
 
-/// Of one way of an id: how many receivers are whole, none where it wasn't asked out.
+/// Of one way of an id: how many receivers are whole, 0 where it wasn't asked out.
 fn way_is_whole(trace: &[Entry], way: Way) -> Option<usize> {
     if !is_asked_out(trace, way) {
         return Some(0);
@@ -374,10 +352,42 @@ fn way_is_whole(trace: &[Entry], way: Way) -> Option<usize> {
     if all_given(trace, way) { Some(1) } else { None }
 }
 
+/// Of both ways of an id.
+fn ways_are_whole(trace: &[Entry], id: CallId) -> Option<usize> {
+    match (
+        way_is_whole(trace, Way::Up(id)),
+        way_is_whole(trace, Way::Down(id)),
+    ) {
+        (Some(up), Some(down)) => Some(up.saturating_add(down)),
+        _ => None,
+    }
+}
+
+/// Of an id: how many calls are whole, 0 where it is no call of a method, or wasn't asked for.
+fn call_is_whole(
+    alloc: Global,
+    terms: Terms,
+    trace: &[Entry],
+    id: CallId,
+    event: &Event,
+) -> Result<Option<usize>, Fail> {
+    let Event::Call(request) = event else {
+        return Ok(Some(0));
+    };
+    if !names_method(request) || !is_asked_for(trace, id) {
+        return Ok(Some(0));
+    }
+    Ok(if is_whole_call(alloc, terms, trace, id, request)? {
+        Some(1)
+    } else {
+        None
+    })
+}
+
 /// What is read of a trace: if it is clean and quiet, whether each call and each receiver is whole that was asked.
-pub fn read_rest(rules: Rules, trace: &[Entry]) -> Rest {
-    if !is_clean(rules, trace) || !is_quiet(trace) {
-        return Rest::Unsaid;
+pub fn read_rest(alloc: Global, terms: Terms, trace: &[Entry]) -> Result<Rest, Fail> {
+    if !is_clean(terms.rules, trace) || !is_quiet(trace) {
+        return Ok(Rest::Unsaid);
     }
     let mut calls = 0usize;
     let mut receivers = 0usize;
@@ -385,21 +395,14 @@ pub fn read_rest(rules: Rules, trace: &[Entry]) -> Rest {
         let Reply::Named(id) = &entry.reply else {
             continue;
         };
-        if let Event::Call(request) = &entry.event {
-            if names_method(request) && is_asked_for(trace, *id) {
-                if !is_whole_call(trace, *id, request) {
-                    return Rest::BrokenCall;
-                }
-                calls = calls.saturating_add(1);
-            }
+        match call_is_whole(alloc, terms, trace, *id, &entry.event)? {
+            Some(more) => calls = calls.saturating_add(more),
+            None => return Ok(Rest::BrokenCall),
         }
-        let (Some(up), Some(down)) = (
-            way_is_whole(trace, Way::Up(*id)),
-            way_is_whole(trace, Way::Down(*id)),
-        ) else {
-            return Rest::BrokenStream;
-        };
-        receivers = receivers.saturating_add(up).saturating_add(down);
+        match ways_are_whole(trace, *id) {
+            Some(more) => receivers = receivers.saturating_add(more),
+            None => return Ok(Rest::BrokenStream),
+        }
     }
-    Rest::Whole(calls, receivers)
+    Ok(Rest::Whole(calls, receivers))
 }
