@@ -183,8 +183,8 @@ impl GenMessage {
     }
 }
 
-// What is told of what was found, as a message.
-fn message_of(
+/// What is told of what was found, as a message.
+pub fn message_of(
     alloc: Global,
     took: std::result::Result<Found, StreamFailure>,
 ) -> std::result::Result<GenMessage, GenMessageError>

@@ -26,8 +26,8 @@ pub fn read_message<R: Source>(
     parts_of(alloc, take_frame(alloc, reader))
 }
 
-// What is told of what was found, as a header and its bytes.
-fn parts_of(
+/// What is told of what was found, as a header and its bytes.
+pub fn parts_of(
     alloc: Global,
     took: std::result::Result<Found, StreamFailure>,
 ) -> Result<(MessageHeader, Result<Vec<u8>>)>
@@ -86,8 +86,8 @@ pub fn write_message<W: Sink>(
     }
 }
 
-// The error that tells why a message wasn't written.
-fn write_error(alloc: Global, failure: StreamFailure) -> Error
+/// The error that tells why a message wasn't written.
+pub fn write_error(alloc: Global, failure: StreamFailure) -> Error
     ensures told { TellsFailure failure result }
     ensures zero { TellsZero failure result }
 {

@@ -11,5 +11,5 @@ mod message;
 pub use calls::{decode_request, merge_reply, request_of, response_of};
 pub use codec_cause::codec_error_of;
 pub use context::{Context, from_pb, to_pb, with_duration, with_metadata, with_timeout};
-pub use frames::{read_message, write_message};
-pub use message::Message;
+pub use frames::{parts_of, read_message, write_error, write_message};
+pub use message::{Message, encoded, value_of};

@@ -116,8 +116,8 @@ where
     }
 }
 
-// What is told of what was found, as a value.
-fn value_of<C: Codec>(
+/// What is told of what was found, as a value.
+pub fn value_of<C: Codec>(
     alloc: Global,
     took: std::result::Result<Found, StreamFailure>,
 ) -> Result<Message<C>>
@@ -146,7 +146,8 @@ where
     }
 }
 
-fn encoded<C: Codec>(alloc: Global, payload: &C) -> Result<Vec<u8>>
+/// The written form of a value, or why it has none.
+pub fn encoded<C: Codec>(alloc: Global, payload: &C) -> Result<Vec<u8>>
 where
     C::E: Display + Drop,
     ensures ok { IfOk result (λ v. v.items ≡ C.written payload.now) }
