@@ -3,6 +3,7 @@ pub mod Bytes
 pub mod Headers
 pub mod Frames
 pub mod Decoding
+pub mod Cuts
 pub mod Pieces
 pub mod Queues
 pub mod Departures

@@ -61,6 +61,12 @@ abbrev pub FedAll : Held → List (List ℕ) → List Incoming → Held → Type
 FedAll held [] frames new = (frames ≡ []) × (new ≡ held)
 FedAll held (p ∷ ps) frames new = (first : List Incoming) × (later : List Incoming) × (middle : Held) × (frames ≡ first ++ later) × Fed held p first middle × FedAll middle ps later new
 
+-- how many bytes are wanted next of a frame of which this is held: those left of its header, and then of its payload
+abbrev pub wanted : Held → ℕ
+wanted held =
+    if nat_lt (length held.bytes) MESSAGE_HEADER_LENGTH then MESSAGE_HEADER_LENGTH - length held.bytes else
+    MESSAGE_HEADER_LENGTH + (header_of held.bytes).length - (length held.bytes + held.counted)
+
 -- the frame as a list, which is empty where there is none
 abbrev pub given : Option Incoming → List Incoming
 given None = []

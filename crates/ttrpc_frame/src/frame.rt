@@ -2,10 +2,12 @@
 ghost use Rattle.std.specs.Prelude.{ℕ, List, flat_map, ◌≡◌, ◌≤◌, ◌<◌, ◌+◌, ◌-◌, ◌*◌, ◌++◌, ◌↔◌, true, take, length, min, max, vec_capacity, Some, IfOk, OnOk, IfErr, OnErr};
 ghost use Rattle.ttrpc_frame.specs.declared.frame.Incoming.{Incoming as AnIncoming};
 ghost use Rattle.ttrpc_frame.specs.Header.{header_of};
-ghost use Rattle.ttrpc_frame.specs.Frames.{Frames, IsRest, Held, Holds, Fed, FedAll, Grows, given, nothing};
+ghost use Rattle.ttrpc_frame.specs.Frames.{Frames, IsRest, Held, Holds, Fed, FedAll, Grows, given, nothing, wanted};
+ghost use Rattle.ttrpc_frame.specs.Streaming.{IsFound};
 
 use crate::gen_message::GenMessage;
 use crate::header::{DEFAULT_PAGE_SIZE, MESSAGE_HEADER_LENGTH, MESSAGE_LENGTH_MAX, MessageHeader};
+use crate::reading::Found;
 use std::alloc::{AllocError, Global};
 use std::marker::Model;
 use std::mem;
@@ -69,11 +71,40 @@ impl FrameDecoder {
         self.filled == 0
     }
 
+    #[tactic(auto, using(crate::proofs::Cuts::wanted_early, crate::proofs::Cuts::wanted_late, crate::proofs::Cuts::some_wanted))]
+    /// How many bytes are wanted next, at least one: those left of the header, and then of the payload. Takes no memory.
+    pub fn wanted(&self) -> usize
+        ensures wanted { result ≡ wanted self.now }
+        ensures some { 0 < result }
+    {
+        if self.filled < MESSAGE_HEADER_LENGTH {
+            return MESSAGE_HEADER_LENGTH - self.filled;
+        }
+        let header = MessageHeader::from(&self.head);
+        header.length as usize - self.body.len() - self.counted
+    }
+
+    #[tactic(auto, using(crate::proofs::Cuts::cut_early, crate::proofs::Cuts::cut_long, crate::proofs::Cuts::cut_late))]
+    /// What there is of a frame of which no more comes. Takes no memory.
+    pub fn cut(&self) -> Found
+        ensures { (rest : List ℕ) → Holds self.now rest → IsFound result rest }
+    {
+        if self.filled < MESSAGE_HEADER_LENGTH {
+            return Found::HeaderCut(self.filled);
+        }
+        let header = MessageHeader::from(&self.head);
+        if header.length as usize <= MESSAGE_LENGTH_MAX {
+            return Found::BodyCut(header, self.body.len());
+        }
+        Found::OversizeCut(header)
+    }
+
     /// Takes a front of the piece, at least one byte of one that isn't empty, and gives what its last byte made whole. An
     /// error is `NoMemory`, changes nothing, and comes only where bytes of a payload that is kept are to be held.
     pub fn feed(&mut self, alloc: Global, piece: &[u8]) -> Result<(usize, Option<Incoming>)>
         // A front of the piece was taken, and at most one frame is whole with it.
         ensures takes { IfOk result (λ r. (r.0 ≤ length piece.now) × (0 < length piece.now → 0 < r.0)) }
+        ensures all { IfOk result (λ r. length piece.now ≤ wanted self.old → r.0 ≡ length piece.now) }
         ensures frames { IfOk result (λ r. Fed self.old (take r.0 piece.now) (given r.1) self.new) }
         ensures at_its_end { IfOk result (λ r. (i : AnIncoming) → r.1 ≡ Some i → self.new ≡ nothing) }
         // It never holds more than a header and a greatest message.
@@ -100,6 +131,7 @@ impl FrameDecoder {
         requires { length self.old.bytes < MESSAGE_HEADER_LENGTH }
         // As `feed`.
         ensures takes { (result.0 ≤ length piece.now) × (0 < length piece.now → 0 < result.0) }
+        ensures all { length piece.now ≤ wanted self.old → result.0 ≡ length piece.now }
         ensures frames { Fed self.old (take result.0 piece.now) (given result.1) self.new }
         ensures at_its_end { (i : AnIncoming) → result.1 ≡ Some i → self.new ≡ nothing }
         ensures bound { length self.new.bytes ≤ MESSAGE_HEADER_LENGTH + MESSAGE_LENGTH_MAX }
@@ -126,6 +158,7 @@ impl FrameDecoder {
         requires long { MESSAGE_LENGTH_MAX < header.length }
         // As `feed`.
         ensures takes { (result.0 ≤ length piece.now) × (0 < length piece.now → 0 < result.0) }
+        ensures all { length piece.now ≤ wanted self.old → result.0 ≡ length piece.now }
         ensures frames { Fed self.old (take result.0 piece.now) (given result.1) self.new }
         ensures at_its_end { (i : AnIncoming) → result.1 ≡ Some i → self.new ≡ nothing }
         ensures bound { length self.new.bytes ≤ MESSAGE_HEADER_LENGTH + MESSAGE_LENGTH_MAX }
@@ -153,6 +186,7 @@ impl FrameDecoder {
         requires short { header.length ≤ MESSAGE_LENGTH_MAX }
         // As `feed`.
         ensures takes { IfOk result (λ r. (r.0 ≤ length piece.now) × (0 < length piece.now → 0 < r.0)) }
+        ensures all { IfOk result (λ r. length piece.now ≤ wanted self.old → r.0 ≡ length piece.now) }
         ensures frames { IfOk result (λ r. Fed self.old (take r.0 piece.now) (given r.1) self.new) }
         ensures at_its_end { IfOk result (λ r. (i : AnIncoming) → r.1 ≡ Some i → self.new ≡ nothing) }
         ensures bound { length self.new.bytes ≤ MESSAGE_HEADER_LENGTH + MESSAGE_LENGTH_MAX }
