@@ -1,0 +1,172 @@
+//! What is left of a frame, on its way to a writer that is polled.
+ghost use Rattle.std.specs.Prelude.{◌≡◌, ℕ, List, [], ◌++◌, drop, IfOk};
+ghost use Rattle.futures.specs.Poll.{OnPending};
+ghost use Rattle.futures.specs.Task.{Covers, Keeps};
+ghost use Rattle.tokio.specs.Io.Moved.{IfReadyErr, OnReadyOk, TakesWritten, WriteFails};
+ghost use Rattle.ttrpc_frame.specs.Header.{header_bytes};
+ghost use Rattle.ttrpc_polled_frames.specs.Writing.{left_of};
+
+use futures::task::{Context, Poll};
+use std::alloc::{AllocError, Global};
+use std::io::{self, ErrorKind};
+use tokio::io::AsyncWrite;
+use ttrpc_frame::MessageHeader;
+use ttrpc_frame::writing::PREFIX_PAYLOAD;
+use ttrpc_wire::values::slices::{behind, front};
+
+/// How many writes one poll makes before it lets other tasks go on.
+const WRITES: u32 = 64;
+
+/// What has bytes to be written.
+pub trait HasBytes: Drop {
+    // which bytes these are
+    ghost bytes: { Self → List ℕ };
+
+    /// These bytes.
+    fn bytes(&self) -> &[u8]
+        ensures { result.now ≡ bytes self.now };
+}
+
+impl HasBytes for &[u8] {
+    ghost bytes = { λ s. s.now };
+
+    fn bytes(&self) -> &[u8] {
+        self
+    }
+}
+
+impl HasBytes for Vec<u8> {
+    ghost bytes = { λ v. v.items };
+
+    fn bytes(&self) -> &[u8] {
+        self.as_slice()
+    }
+}
+
+impl HasBytes for [u8; 10] {
+    ghost bytes = { λ ten. ten };
+
+    fn bytes(&self) -> &[u8] {
+        self
+    }
+}
+
+/// A writer, and what is left of the two parts that are offered to it: what stands behind so many bytes of each.
+#[derive(Drop)]
+pub struct Offering<W, P> {
+    pub writer: W,
+    first: Vec<u8>,
+    at: usize,
+    payload: P,
+    payload_at: usize,
+}
+
+impl<W: AsyncWrite, P: HasBytes> Offering<W, P> {
+    /// A frame: the header as it stands with the first bytes of the payload, of which a page has both, and then the rest.
+    pub fn of_frame(
+        alloc: Global,
+        writer: W,
+        header: &MessageHeader,
+        payload: P,
+    ) -> Result<Offering<W, P>, AllocError>
+        ensures { IfOk result (λ f. (f.writer ≡ writer) × (left_of P.bytes f ≡ header_bytes header.now ++ P.bytes payload)) }
+    {
+        let first = first_of(alloc, header, front(payload.bytes(), PREFIX_PAYLOAD))?;
+        Ok(Offering {
+            writer,
+            first,
+            at: 0,
+            payload,
+            payload_at: PREFIX_PAYLOAD,
+        })
+    }
+
+    /// These bytes alone. Takes no memory.
+    pub fn of_bytes(alloc: Global, writer: W, payload: P) -> Offering<W, P>
+        ensures { (result.writer ≡ writer) × (left_of P.bytes result ≡ P.bytes payload) }
+    {
+        Offering {
+            writer,
+            first: Vec::new(alloc),
+            at: 0,
+            payload,
+            payload_at: 0,
+        }
+    }
+
+    /// Offers what is left. Ready: the writer took all of it, or failed, or took nothing.
+    pub fn poll_offer(&mut self, cx: &mut Context<'_>) -> Poll<io::Result<()>>
+        ensures writes { TakesWritten W.writes self.old.writer self.new.writer (left_of P.bytes self.old) (left_of P.bytes self.new) }
+        ensures all { OnReadyOk result (left_of P.bytes self.new ≡ []) }
+        ensures failed { IfReadyErr result (WriteFails W.fails W.is_full self.new.writer) }
+        ensures registered { OnPending result (Covers cx.new (W.needs self.new.writer)) }
+        ensures kept { Keeps cx.old cx.new }
+    {
+        match poll_behind(&mut self.writer, cx, self.first.as_slice(), &mut self.at) {
+            Poll::Ready(Ok(())) => {}
+            polled => return polled,
+        }
+        poll_behind(
+            &mut self.writer,
+            cx,
+            self.payload.bytes(),
+            &mut self.payload_at,
+        )
+    }
+
+    /// Offers what is left, and then flushes. Ready: both are done, or the writer failed, or took nothing.
+    pub fn poll_flushed(&mut self, cx: &mut Context<'_>) -> Poll<io::Result<()>>
+        ensures writes { TakesWritten W.writes self.old.writer self.new.writer (left_of P.bytes self.old) (left_of P.bytes self.new) }
+        ensures all { OnReadyOk result ((left_of P.bytes self.new ≡ []) × W.is_flushed self.new.writer) }
+        ensures failed { IfReadyErr result (WriteFails W.fails W.is_full self.new.writer) }
+        ensures registered { OnPending result (Covers cx.new (W.needs self.new.writer)) }
+        ensures kept { Keeps cx.old cx.new }
+    {
+        match self.poll_offer(cx) {
+            Poll::Ready(Ok(())) => self.writer.poll_flush(cx),
+            polled => polled,
+        }
+    }
+}
+
+/// Offers what stands behind so many of these bytes, and counts what the writer takes. Ready: it took all of it, or failed, or took
+/// nothing.
+fn poll_behind<W: AsyncWrite>(
+    writer: &mut W,
+    cx: &mut Context<'_>,
+    bytes: &[u8],
+    at: &mut usize,
+) -> Poll<io::Result<()>>
+    ensures writes { TakesWritten W.writes writer.old writer.new (drop at.old bytes.now) (drop at.new bytes.now) }
+    ensures all { OnReadyOk result (drop at.new bytes.now ≡ []) }
+    ensures failed { IfReadyErr result (WriteFails W.fails W.is_full writer.new) }
+    ensures registered { OnPending result (Covers cx.new (W.needs writer.new)) }
+    ensures kept { Keeps cx.old cx.new }
+{
+    for _ in 0..WRITES {
+        let part = behind(bytes, *at);
+        if part.is_empty() {
+            return Poll::Ready(Ok(()));
+        }
+        match writer.poll_write(cx, part) {
+            Poll::Pending => return Poll::Pending,
+            Poll::Ready(Ok(0)) => return Poll::Ready(Err(ErrorKind::WriteZero.into())),
+            Poll::Ready(Ok(taken)) => *at = bytes.len() - (part.len() - taken),
+            Poll::Ready(Err(error)) if error.kind() == ErrorKind::Interrupted => {
+                return cx.yield_now();
+            }
+            Poll::Ready(Err(error)) => return Poll::Ready(Err(error)),
+        }
+    }
+    cx.yield_now()
+}
+
+/// The header, and the first bytes of a payload.
+fn first_of(alloc: Global, header: &MessageHeader, payload: &[u8]) -> Result<Vec<u8>, AllocError>
+    ensures { IfOk result (λ first. first.items ≡ header_bytes header.now ++ payload.now) }
+{
+    let mut first = Vec::new(alloc);
+    first.extend_from_slice(&header.to_bytes())?;
+    first.extend_from_slice(payload)?;
+    Ok(first)
+}
