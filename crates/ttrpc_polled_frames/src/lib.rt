@@ -6,6 +6,8 @@ pub mod headers;
 pub mod offering;
 pub mod reads;
 pub mod taking;
+#[cfg(test)]
+mod tests;
 pub mod writes;
 
 pub use headers::{ReadHeader, WriteHeader};

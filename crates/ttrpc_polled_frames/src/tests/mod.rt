@@ -1,0 +1,3 @@
+mod ends;
+mod reading_tests;
+mod writing_tests;

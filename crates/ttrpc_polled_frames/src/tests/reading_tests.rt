@@ -1,0 +1,242 @@
+//! What is told of whole frames and of cut input, as the blocking forms tell it. All bytes are written by hand.
+use crate::tests::ends::{Slow, System, come};
+use crate::{AsMessage, AsParts, AsValue, PollRead, ReadHeader, Tells};
+use std::alloc::{AllocError, Global};
+use std::io::ErrorKind;
+use std::process::Abort;
+use std::test::Fail;
+use ttrpc_frame::{GenMessage, GenMessageError, MessageHeader};
+use ttrpc_message::Message;
+use ttrpc_proto::{Request, Result};
+
+/// A header of type 1 and flags 239, a request of 67 bytes, and two bytes of another frame.
+const ASKED: &[u8] =
+    b"\0\0\0\x43\0\x12\x34\x56\x01\xef\x0a\x11grpc.TestServices\x12\x04Test\x1a\x09\x01\x02\x03\x04\x05\x06\x07\x08\x09\x20\x80\xda\xc4\x09\x2a\x18\x0a\x09test_key1\x12\x0btest_value1\0\0";
+
+/// Three bytes of a header; a header of five bytes, and nothing; the same with two bytes.
+const SHORT: &[u8] = b"\0\0\0";
+
+const BARE: &[u8] = b"\0\0\0\x05\0\0\0\x01\x01\0";
+
+const CUT: &[u8] = b"\0\0\0\x05\0\0\0\x01\x01\0ab";
+
+/// A header that states one byte too many, and two of these.
+const LONG: &[u8] = b"\0\x40\0\x01\0\0\0\x05\x01\0ab";
+
+/// An empty message, and one that isn't a request.
+const EMPTY: &[u8] = b"\0\0\0\0\0\0\0\x03\x03\x05";
+
+const UNREADABLE: &[u8] = b"\0\0\0\x02\0\0\0\x01\x01\0\x1a\x05";
+
+const GONE: &str = "socket err: socket disconnected";
+
+const TOO_LONG: &str =
+    "rpc status: 3 message length 4194305 exceed maximum message size of 4194304";
+
+/// Some input, and what is told of it: as a header and its bytes, as a message, and as a request. Of an open text the beginning
+/// is given.
+type Row = (&'static [u8], &'static str, &'static str, &'static str);
+
+/// The row of this number, from 0.
+fn row(number: u8) -> Option<Row> {
+    Some(match number {
+        0 => (
+            ASKED,
+            "1193046 1 239 67",
+            "1193046 1 239 67",
+            "1193046 Test 20000000",
+        ),
+        1 => (b"", GONE, "internal socket err: ", "socket err: "),
+        2 => (
+            SHORT,
+            "rpc status: 3 Message header length 3 is too small",
+            "internal socket err: ",
+            "socket err: ",
+        ),
+        3 => (BARE, GONE, "internal socket err: ", "socket err: "),
+        4 => (
+            CUT,
+            "rpc status: 3 Message length 2 is not 5",
+            "internal socket err: ",
+            "socket err: ",
+        ),
+        5 => (LONG, TOO_LONG, "internal socket err: ", "socket err: "),
+        6 => (EMPTY, "3 3 5 0", "3 3 5 0", "3  0"),
+        7 => (
+            UNREADABLE,
+            "1 1 0 2",
+            "1 1 0 2",
+            "ttrpc err: Decode payload failed.",
+        ),
+        _ => return None,
+    })
+}
+
+/// What is told, as a text.
+trait Told: Tells {
+    fn told(alloc: Global, told: Self::Output) -> std::result::Result<String, AllocError>;
+}
+
+fn header_text(
+    alloc: Global,
+    header: MessageHeader,
+    length: usize,
+) -> std::result::Result<String, AllocError> {
+    let MessageHeader {
+        length: _,
+        stream_id,
+        type_,
+        flags,
+    } = header;
+    format!(in alloc; "{stream_id} {type_} {flags} {length}")
+}
+
+impl Told for AsParts {
+    fn told(
+        alloc: Global,
+        told: Result<(MessageHeader, Result<Vec<u8>>)>,
+    ) -> std::result::Result<String, AllocError> {
+        match told {
+            Ok((header, Ok(bytes))) => header_text(alloc, header, bytes.len()),
+            Ok((_, Err(error))) => format!(in alloc; "{error}"),
+            Err(error) => format!(in alloc; "{error}"),
+        }
+    }
+}
+
+impl Told for AsMessage {
+    fn told(
+        alloc: Global,
+        told: std::result::Result<GenMessage, GenMessageError>,
+    ) -> std::result::Result<String, AllocError> {
+        match told {
+            Ok(message) => header_text(alloc, message.header, message.payload.len()),
+            Err(GenMessageError::ReturnError(_, error)) => format!(in alloc; "return {error}"),
+            Err(GenMessageError::InternalError(error)) => format!(in alloc; "internal {error}"),
+        }
+    }
+}
+
+impl Told for AsValue<Request> {
+    fn told(
+        alloc: Global,
+        told: Result<Message<Request>>,
+    ) -> std::result::Result<String, AllocError> {
+        match told {
+            Ok(Message { header, payload }) => {
+                format!(in alloc;
+                    "{} {} {}",
+                    header.stream_id, payload.method, payload.timeout_nano
+                )
+            }
+            Err(error) => format!(in alloc; "{error}"),
+        }
+    }
+}
+
+/// What comes of these bytes, so many a read, is told so; and what follows a frame isn't read.
+fn holds<R: System + Abort, T: Told>(
+    rt: &R,
+    input: &[u8],
+    at_once: usize,
+    expected: &str,
+) -> std::result::Result<bool, Fail> {
+    let mut reader = Slow::new(input, at_once, None);
+    let reading: PollRead<_, T> = PollRead::new(rt.alloc(), &mut reader);
+    let told = T::told(rt.alloc(), come(rt, reading)?)?;
+    Ok(told.as_str().starts_with(expected) && reader.rest.len() == left_of(input))
+}
+
+/// How many bytes stand behind a first frame.
+fn left_of(input: &[u8]) -> usize {
+    match MessageHeader::try_from_slice(input) {
+        Some(header) => input
+            .len()
+            .saturating_sub(10)
+            .saturating_sub(header.length as usize),
+        None => 0,
+    }
+}
+
+#[test]
+fn input_is_told_as_it_is(rt: HostRuntime) -> std::result::Result<(), Fail> {
+    for number in 0..100 {
+        if let Some((input, parts, message, value)) = row(number) {
+            for at_once in [1, 7, 4096] {
+                assert!(rt;
+                    holds::<_, AsParts>(&rt, input, at_once, parts)?,
+                    "{number}, {at_once}"
+                );
+                assert!(rt;
+                    holds::<_, AsMessage>(&rt, input, at_once, message)?,
+                    "{number}, {at_once}"
+                );
+                assert!(rt;
+                    holds::<_, AsValue<Request>>(&rt, input, at_once, value)?,
+                    "{number}, {at_once}"
+                );
+            }
+        }
+    }
+    Ok(())
+}
+
+#[test]
+fn a_frame_that_is_too_long_is_read_to_its_end(rt: HostRuntime) -> std::result::Result<(), Fail> {
+    let mut input = vec![in rt.alloc(); 7u8; 4194316]?;
+    input[..10].copy_from_slice(b"\0\x40\0\x01\0\0\0\x05\x01\0");
+    assert!(rt; holds::<_, AsParts>(&rt, input.as_slice(), 4096, TOO_LONG)?);
+    assert!(rt;
+        holds::<_, AsMessage>(
+            &rt,
+            input.as_slice(),
+            4096,
+            "return rpc status: 3 message length 4194305"
+        )?
+    );
+    assert!(rt; holds::<_, AsValue<Request>>(&rt, input.as_slice(), 4096, "5  0")?);
+    Ok(())
+}
+
+#[test]
+fn a_readers_failure_is_told(rt: HostRuntime) -> std::result::Result<(), Fail> {
+    for input in [b"" as &[u8], SHORT, BARE, CUT, LONG] {
+        let reader = Slow::new(input, 3, Some(ErrorKind::ConnectionReset));
+        let reading: PollRead<_, AsParts> = PollRead::new(rt.alloc(), reader);
+        let told = AsParts::told(rt.alloc(), come(&rt, reading)?)?;
+        assert!(rt; told.as_str().starts_with("socket err: ") && told.as_str() != GONE);
+    }
+    Ok(())
+}
+
+#[test]
+fn headers_are_read_alone(rt: HostRuntime) -> std::result::Result<(), Fail> {
+    for at_once in [1, 4, 4096] {
+        let mut reader = Slow::new(ASKED, at_once, None);
+        let header = come(&rt, ReadHeader::new(&mut reader))??;
+        assert_eq!(rt;
+            header,
+            MessageHeader {
+                length: 67,
+                stream_id: 1193046,
+                type_: 1,
+                flags: 239
+            }
+        );
+        assert_eq!(rt; reader.rest.len(), 69);
+    }
+    let cut = come(&rt, ReadHeader::new(Slow::new(SHORT, 2, None)))?;
+    assert_eq!(rt;
+        cut.err().map(|error| error.kind()),
+        Some(ErrorKind::UnexpectedEof)
+    );
+    let failed = come(
+        &rt,
+        ReadHeader::new(Slow::new(SHORT, 2, Some(ErrorKind::ConnectionReset))),
+    )?;
+    assert_eq!(rt;
+        failed.err().map(|error| error.kind()),
+        Some(ErrorKind::ConnectionReset)
+    );
+    Ok(())
+}

@@ -1,0 +1,139 @@
+//! What a writer takes of frames, and what is told where it takes no more.
+use crate::tests::ends::{Narrow, System, come};
+use crate::{AsValue, PollRead, PollWrite, WriteHeader, WriteMessage};
+use std::alloc::Global;
+use std::io::ErrorKind;
+use std::test::Fail;
+use ttrpc_frame::{GenMessage, MessageHeader};
+use ttrpc_message::Message;
+use ttrpc_proto::{Request, Result};
+use ttrpc_wire::Blob;
+
+/// A header that states another length than its payload has, which is written as it stands, and the payload.
+const FRAME: &[u8] = b"\0\0\0\x09\0\0\0\x03\x03\x05abc";
+
+const HEADER: MessageHeader = MessageHeader {
+    length: 9,
+    stream_id: 3,
+    type_: 3,
+    flags: 5,
+};
+
+fn message_of(alloc: Global) -> std::result::Result<GenMessage, Fail> {
+    Ok(GenMessage {
+        header: HEADER,
+        payload: Blob::from_slice(alloc, b"abc")?,
+    })
+}
+
+/// What is told, as a text.
+fn told(alloc: Global, ended: Result<()>) -> std::result::Result<String, Fail> {
+    Ok(match ended {
+        Ok(()) => String::from_str(alloc, "ok")?,
+        Err(error) => format!(in alloc; "{error}")?,
+    })
+}
+
+/// Writes the frame to a writer with so much room, and says what was told, what it took, and how often it was flushed.
+fn write<R: System>(
+    rt: &R,
+    flushes: bool,
+    at_once: usize,
+    room: usize,
+    end: Option<ErrorKind>,
+) -> std::result::Result<(String, Narrow), Fail> {
+    let alloc = rt.alloc();
+    let mut writer = Narrow::new(Vec::new(alloc), at_once, room, end);
+    let message = message_of(alloc)?;
+    let ended = if flushes {
+        come(rt, WriteMessage::of_gen(alloc, &mut writer, &message)?)?
+    } else {
+        let payload: &[u8] = b"abc";
+        come(rt, PollWrite::new(alloc, &mut writer, &HEADER, payload)?)?
+    };
+    Ok((told(alloc, ended)?, writer))
+}
+
+#[test]
+fn frames_are_written_whole(rt: HostRuntime) -> std::result::Result<(), Fail> {
+    for flushes in [false, true] {
+        for at_once in [1, 4, 4096] {
+            let (told, writer) = write(&rt, flushes, at_once, 4096, None)?;
+            assert_eq!(rt; told.as_str(), "ok");
+            assert_eq!(rt; writer.took.as_slice(), FRAME);
+            assert_eq!(rt; writer.flushes, u32::from(flushes));
+        }
+    }
+    Ok(())
+}
+
+#[test]
+fn a_front_is_written_where_a_writer_fails(rt: HostRuntime) -> std::result::Result<(), Fail> {
+    for flushes in [false, true] {
+        for room in 0..13 {
+            let (told, writer) = write(&rt, flushes, 2, room, Some(ErrorKind::BrokenPipe))?;
+            assert!(rt; told.as_str().starts_with("socket err: "));
+            assert_eq!(rt; writer.took.as_slice(), &FRAME[..room]);
+            assert_eq!(rt; writer.flushes, 0);
+        }
+    }
+    Ok(())
+}
+
+#[test]
+fn a_writer_that_takes_nothing_is_told(rt: HostRuntime) -> std::result::Result<(), Fail> {
+    let (zero, _) = write(&rt, false, 4, 11, None)?;
+    assert_eq!(rt;
+        zero.as_str(),
+        "socket err: failed to write ttrpc frame: write zero"
+    );
+    let (open, _) = write(&rt, true, 4, 11, None)?;
+    assert!(rt; open.as_str().starts_with("socket err: "));
+    Ok(())
+}
+
+/// A header of type 1 and flags 239, and a request of 67 bytes.
+const ASKED: &[u8] =
+    b"\0\0\0\x43\0\x12\x34\x56\x01\xef\x0a\x11grpc.TestServices\x12\x04Test\x1a\x09\x01\x02\x03\x04\x05\x06\x07\x08\x09\x20\x80\xda\xc4\x09\x2a\x18\x0a\x09test_key1\x12\x0btest_value1";
+
+#[test]
+fn a_value_is_read_and_written_again(rt: HostRuntime) -> std::result::Result<(), Fail> {
+    let alloc = rt.alloc();
+    let reading: PollRead<_, AsValue<Request>> = PollRead::new(alloc, ASKED);
+    let message: Message<Request> = come(&rt, reading)??;
+    let mut writer = Narrow::new(Vec::new(alloc), 3, 4096, None);
+    come(&rt, WriteMessage::of_value(alloc, &mut writer, &message)?)??;
+    assert_eq!(rt; writer.took.as_slice(), ASKED);
+    assert_eq!(rt; writer.flushes, 1);
+    Ok(())
+}
+
+#[test]
+fn headers_are_written_alone(rt: HostRuntime) -> std::result::Result<(), Fail> {
+    let alloc = rt.alloc();
+    let mut writer = Narrow::new(Vec::new(alloc), 3, 4096, None);
+    come(&rt, WriteHeader::new(alloc, &mut writer, &HEADER))??;
+    assert_eq!(rt; writer.took.as_slice(), &FRAME[..10]);
+    assert_eq!(rt; writer.flushes, 1);
+    let mut full = Narrow::new(Vec::new(alloc), 3, 4, None);
+    let zero = come(&rt, WriteHeader::new(alloc, &mut full, &HEADER))?;
+    assert_eq!(rt;
+        zero.err().map(|error| error.kind()),
+        Some(ErrorKind::WriteZero)
+    );
+    Ok(())
+}
+
+/// The payloads whose frames a page has just, and one byte more: how many offers are made.
+#[test]
+fn a_page_has_the_first_offer(rt: HostRuntime) -> std::result::Result<(), Fail> {
+    for (length, offers) in [(4085, 1), (4086, 1), (4087, 2)] {
+        let alloc = rt.alloc();
+        let payload = vec![in alloc; 7u8; length]?;
+        let mut writer = Narrow::new(Vec::new(alloc), 8192, 8192, None);
+        come(&rt, PollWrite::new(alloc, &mut writer, &HEADER, payload)?)??;
+        assert_eq!(rt; writer.took.len(), length + 10);
+        assert_eq!(rt; writer.offers, offers);
+    }
+    Ok(())
+}
