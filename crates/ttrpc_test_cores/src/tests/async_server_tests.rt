@@ -204,6 +204,9 @@ const JOB_ROWS: &[Row] = &[
         ],
         ..FRESH
     },
+];
+
+const GREATEST_ROWS: &[Row] = &[
     // With six bytes of status and field around it, a payload of 4194297 bytes is the greatest.
     Row {
         name: "answers of the greatest length are sent",
@@ -274,25 +277,34 @@ const DRAINING_ROWS: &[Row] = &[
     },
 ];
 
+const DRAINS: &[Table<Rules>] = &[(BOTH, DRAINING_ROWS)];
+
 #[test]
 fn a_server_that_drains_takes_nothing(rt: HostRuntime) -> Tested {
-    let tables: &[Table<Rules>] = &[(BOTH, DRAINING_ROWS)];
-    hold::<Core>(&rt, rt.alloc(), tables)
+    hold::<Core>(&rt, rt.alloc(), DRAINS)
 }
 
 #[test]
+fn a_stamped_server_that_drains_takes_nothing(rt: HostRuntime) -> Tested {
+    hold_stamped::<ServerCore<StampOut, StampIn>>(&rt, rt.alloc(), DRAINS)
+}
+
+const TABLES: &[Table<Rules>] = &[(ASYNC, ANSWERED_ROWS), (ASYNC, JOB_ROWS)];
+
+#[test]
 fn a_polled_server_keeps_its_table(rt: HostRuntime) -> Tested {
-    let tables: &[Table<Rules>] = &[
-        (ASYNC, ANSWERED_ROWS),
-        (ASYNC, UNREADABLE_ROWS),
-        (ASYNC, JOB_ROWS),
-    ];
+    hold::<Core>(&rt, rt.alloc(), TABLES)
+}
+
+#[test]
+fn a_polled_server_answers_by_open_text_and_at_length(rt: HostRuntime) -> Tested {
+    let tables: &[Table<Rules>] = &[(ASYNC, UNREADABLE_ROWS), (ASYNC, GREATEST_ROWS)];
     hold::<Core>(&rt, rt.alloc(), tables)
 }
 
 #[test]
 fn a_polled_server_keeps_its_table_over_stamps(rt: HostRuntime) -> Tested {
-    hold_stamped::<ServerCore<StampOut, StampIn>>(&rt, rt.alloc(), &[(ASYNC, ANSWERED_ROWS)])
+    hold_stamped::<ServerCore<StampOut, StampIn>>(&rt, rt.alloc(), TABLES)
 }
 
 const LONG_ROWS: &[Row] = &[Row {
@@ -585,14 +597,20 @@ const UNTIMED_ROWS: &[Row] = &[Row {
     ..FRESH
 }];
 
+const TIMED_TABLES: &[Table<Rules>] = &[
+    (ASYNC, DEADLINE_ROWS),
+    (ASYNC, EXPIRY_ROWS),
+    (SYNC, UNTIMED_ROWS),
+];
+
 #[test]
 fn jobs_expire(rt: HostRuntime) -> Tested {
-    let tables: &[Table<Rules>] = &[
-        (ASYNC, DEADLINE_ROWS),
-        (ASYNC, EXPIRY_ROWS),
-        (SYNC, UNTIMED_ROWS),
-    ];
-    hold::<Core>(&rt, rt.alloc(), tables)
+    hold::<Core>(&rt, rt.alloc(), TIMED_TABLES)
+}
+
+#[test]
+fn stamped_jobs_expire(rt: HostRuntime) -> Tested {
+    hold_stamped::<ServerCore<StampOut, StampIn>>(&rt, rt.alloc(), TIMED_TABLES)
 }
 
 const UNSEALED_ROWS: &[Row] = &[Row {

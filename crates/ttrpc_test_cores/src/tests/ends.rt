@@ -3,7 +3,7 @@ use crate::server::registry;
 use crate::tests::client_steps::{client_refusal, client_step};
 use crate::tests::halves::Half;
 use crate::tests::script::{Start, Step};
-use crate::tests::server_steps::{server_refusal, server_step, serves};
+use crate::tests::server_steps::{feeds_at, server_refusal, server_step, serves};
 use crate::tests::under_test::{Client, Core, End, Items, Met, Server, Streaming};
 use std::alloc::Global;
 use std::test::Fail;
@@ -163,6 +163,10 @@ impl<O: OutboundTransform + Half + Drop, I: InboundTransform + Half + Drop> Core
         serves(alloc, self, bytes, size, expected)
     }
 
+    fn feeds_at(&mut self, alloc: Global, bytes: &[u8], now: u64, size: usize) -> Met {
+        feeds_at(alloc, self, bytes, now, size)
+    }
+
     fn own_step(&mut self, alloc: Global, step: &Step, cut: usize) -> Met {
         server_step(alloc, self, step, cut)
     }
@@ -290,6 +294,10 @@ impl<O: OutboundTransform + Half + Drop, I: InboundTransform + Half + Drop> Core
     }
 
     fn serves(&mut self, _alloc: Global, _bytes: &[u8], _size: usize, _expected: &[u8]) -> Met {
+        Ok(false)
+    }
+
+    fn feeds_at(&mut self, _alloc: Global, _bytes: &[u8], _now: u64, _size: usize) -> Met {
         Ok(false)
     }
 

@@ -1,7 +1,8 @@
 //! Each row of the server's table under sync rules, and each refusal, over plain halves. All bytes are written by hand.
 use crate::server::*;
 use crate::tests::script::{Cuts, FRESH, Row, Step, Told};
-use crate::tests::under_test::{Table, Tested, hold};
+use crate::tests::under_test::{Table, Tested, hold, hold_stamped};
+use ttrpc_bench::{StampIn, StampOut};
 use ttrpc_secure::Plain;
 use ttrpc_server::{Rules, ServerCore};
 
@@ -57,6 +58,9 @@ const ANSWERED_ROWS: &[Row] = &[
         steps: &[Step::Serves(SKIPPED, b"")],
         ..FRESH
     },
+];
+
+const UNREADABLE_ROWS: &[Row] = &[
     // How the text begins is stated, what follows isn't.
     Row {
         name: "unreadable requests are answered",
@@ -70,29 +74,6 @@ const ANSWERED_ROWS: &[Row] = &[
 ];
 
 const JOB_ROWS: &[Row] = &[
-    Row {
-        name: "a job is handed out and answered once, and its answer is lent in parts",
-        steps: &[
-            Step::TakesNone,
-            Step::Feed(ASKED),
-            Step::RefusesAnswer(1, UNKNOWN_JOB),
-            Step::Takes(1, 1, b"\x2a"),
-            Step::TakesNone,
-            Step::RefusesAnswer(2, UNKNOWN_JOB),
-            Step::Answers(1, b"\x2a"),
-            Step::RefusesAnswer(1, UNKNOWN_JOB),
-            Step::IsAlive,
-            Step::Lent(0),
-            Step::Lends(0, ECHOED, 0, 0),
-            Step::Lends(8, ECHOED, 0, 8),
-            Step::Lent(8),
-            Step::Reports,
-            Step::Lends(8, ECHOED, 8, 15),
-            Step::Reports,
-            Step::Lends(8, ECHOED, 15, 15),
-        ],
-        ..FRESH
-    },
     Row {
         name: "a job that was taken has a stream until it is answered",
         steps: &[
@@ -176,6 +157,32 @@ const JOB_ROWS: &[Row] = &[
             Step::Jobs(0, 0),
             Step::Writes(TWICE_ECHOED),
             Step::HasUnsent(false),
+        ],
+        ..FRESH
+    },
+];
+
+const LENT_ROWS: &[Row] = &[
+    Row {
+        name: "a job is handed out and answered once, and its answer is lent in parts",
+        steps: &[
+            Step::TakesNone,
+            Step::Feed(ASKED),
+            Step::RefusesAnswer(1, UNKNOWN_JOB),
+            Step::Takes(1, 1, b"\x2a"),
+            Step::TakesNone,
+            Step::RefusesAnswer(2, UNKNOWN_JOB),
+            Step::Answers(1, b"\x2a"),
+            Step::RefusesAnswer(1, UNKNOWN_JOB),
+            Step::IsAlive,
+            Step::Lent(0),
+            Step::Lends(0, ECHOED, 0, 0),
+            Step::Lends(8, ECHOED, 0, 8),
+            Step::Lent(8),
+            Step::Reports,
+            Step::Lends(8, ECHOED, 8, 15),
+            Step::Reports,
+            Step::Lends(8, ECHOED, 15, 15),
         ],
         ..FRESH
     },
@@ -364,16 +371,28 @@ const LONG_ROWS: &[Row] = &[Row {
 
 const SYNC: &[Rules] = &[Rules::Sync];
 
-const TABLES: &[Table<Rules>] = &[
-    (SYNC, ANSWERED_ROWS),
-    (SYNC, JOB_ROWS),
+const TABLES: &[Table<Rules>] = &[(SYNC, ANSWERED_ROWS), (SYNC, JOB_ROWS)];
+
+#[test]
+fn a_server_keeps_its_table(rt: HostRuntime) -> Tested {
+    hold::<Core>(&rt, rt.alloc(), TABLES)
+}
+
+#[test]
+fn a_server_keeps_its_table_over_stamps(rt: HostRuntime) -> Tested {
+    hold_stamped::<ServerCore<StampOut, StampIn>>(&rt, rt.alloc(), TABLES)
+}
+
+const PARTS: &[Table<Rules>] = &[
+    (SYNC, UNREADABLE_ROWS),
+    (SYNC, LENT_ROWS),
     (SYNC, FAILURE_ROWS),
     (SYNC, FRONT_ROWS),
 ];
 
 #[test]
-fn a_server_keeps_its_table(rt: HostRuntime) -> Tested {
-    hold::<Core>(&rt, rt.alloc(), TABLES)
+fn a_server_takes_parts_and_fails(rt: HostRuntime) -> Tested {
+    hold::<Core>(&rt, rt.alloc(), PARTS)
 }
 
 #[test]

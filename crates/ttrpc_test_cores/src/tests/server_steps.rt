@@ -76,7 +76,13 @@ pub fn ticks<S: Server>(alloc: Global, core: &mut S, now: u64) -> Met {
 }
 
 /// Bytes are taken whole at this moment, in pieces of this size.
-fn feeds_at<S: Server>(alloc: Global, core: &mut S, bytes: &[u8], now: u64, size: usize) -> Met {
+pub fn feeds_at<S: Server>(
+    alloc: Global,
+    core: &mut S,
+    bytes: &[u8],
+    now: u64,
+    size: usize,
+) -> Met {
     for piece in bytes.chunks(size.max(1)) {
         if core.feed_at(alloc, piece, now)? != piece.len() {
             return Ok(false);

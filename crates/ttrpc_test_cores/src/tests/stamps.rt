@@ -29,6 +29,41 @@ pub fn stamped(alloc: Global, frames: &[u8], next: &mut u8) -> Result<Vec<u8>, A
     Ok(stamped)
 }
 
+/// What stands between two places of these frames, each with its stamp: of the frames that end behind the first place and
+/// no later than the second, from this one on.
+pub fn stamped_part(
+    alloc: Global,
+    frames: &[u8],
+    from: usize,
+    to: usize,
+    next: &mut u8,
+) -> Result<Vec<u8>, AllocError> {
+    let (before, ended) = (ended_at(frames, from), ended_at(frames, to));
+    let mut first = next.wrapping_sub(before);
+    let bytes = stamped(alloc, frames, &mut first)?;
+    *next = next.wrapping_add(ended.wrapping_sub(before));
+    let to = to.saturating_add(usize::from(ended));
+    let from = from.saturating_add(usize::from(before));
+    let mut part = Vec::new(alloc);
+    part.extend_from_slice(behind(front(bytes.as_slice(), to), from))?;
+    Ok(part)
+}
+
+/// How many of these frames end at this place or before it.
+fn ended_at(frames: &[u8], place: usize) -> u8 {
+    let mut ended: u8 = 0;
+    let mut rest = front(frames, place);
+    for _ in 0..frames.len() {
+        let whole = 10_usize.saturating_add(length_of(rest) as usize);
+        if rest.len() < whole {
+            break;
+        }
+        ended = ended.wrapping_add(1);
+        rest = behind(rest, whole);
+    }
+    ended
+}
+
 /// The length that the first four bytes state.
 fn length_of(frames: &[u8]) -> u32 {
     let mut length: u32 = 0;

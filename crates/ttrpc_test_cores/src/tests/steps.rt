@@ -1,6 +1,6 @@
 //! The steps of either core.
 use crate::tests::script::{Step, Told};
-use crate::tests::stamps::{Stamps, stamped};
+use crate::tests::stamps::{Stamps, stamped, stamped_part};
 use crate::tests::under_test::{Core, End, Met};
 use std::alloc::Global;
 use ttrpc_proto::Error;
@@ -49,14 +49,44 @@ pub fn act_stamped<C: Core>(
             let bytes = stamped(alloc, frames, &mut stamps.comes)?;
             feeds(alloc, core, bytes.as_slice(), cut)
         }
-        Step::Writes(frames) => {
-            let bytes = stamped(alloc, frames, &mut stamps.leaves)?;
-            Ok(writes(core, bytes.as_slice()))
+        Step::FeedAt(frames, now) => {
+            let bytes = stamped(alloc, frames, &mut stamps.comes)?;
+            core.feeds_at(alloc, bytes.as_slice(), now, cut)
         }
         Step::Serves(frames, answers) => {
             let bytes = stamped(alloc, frames, &mut stamps.comes)?;
             let expected = stamped(alloc, answers, &mut stamps.leaves)?;
             core.serves(alloc, bytes.as_slice(), cut, expected.as_slice())
+        }
+        Step::Writes(frames) => {
+            let bytes = stamped(alloc, frames, &mut stamps.leaves)?;
+            Ok(writes(core, bytes.as_slice()))
+        }
+        Step::Leaves(frames, from, to) => {
+            let bytes = stamped_part(alloc, frames, from, to, &mut stamps.leaves)?;
+            Ok(leaves(core, bytes.as_slice()))
+        }
+        _ => act_cut(alloc, core, step, cut, stamps),
+    }
+}
+
+/// The same of a frame that comes in two pieces, whose cut stands before its stamp.
+fn act_cut<C: Core>(
+    alloc: Global,
+    core: &mut C,
+    step: &Step,
+    cut: usize,
+    stamps: &mut Stamps,
+) -> Met {
+    match *step {
+        Step::FeedToCut(frame) => {
+            let mut next = stamps.comes;
+            let bytes = stamped(alloc, frame, &mut next)?;
+            feeds(alloc, core, front(bytes.as_slice(), cut), usize::MAX)
+        }
+        Step::FeedFromCut(frame) => {
+            let bytes = stamped(alloc, frame, &mut stamps.comes)?;
+            feeds(alloc, core, behind(bytes.as_slice(), cut), usize::MAX)
         }
         _ => act(alloc, core, step, cut),
     }

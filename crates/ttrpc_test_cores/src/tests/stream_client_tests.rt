@@ -511,35 +511,34 @@ const FAILURE_ROWS: &[Row] = &[
     },
 ];
 
-const PART_ROWS: &[Row] = &[
-    Row {
-        name: "the input ends inside a frame",
-        cuts: Cuts::Inside(11),
-        steps: &[
-            Step::Opens(true, true, b"", 1),
-            Step::FeedToCut(DATA),
-            Step::EndsInput,
-            Step::ReceivesError(1, Told::Socket("socket disconnected inside a frame")),
-            Step::ReceivesError(1, PAST),
-        ],
-        ..FRESH
-    },
-    Row {
-        name: "nothing is reported, and items come all the same",
-        steps: &[
-            Step::Opens(true, true, b"", 1),
-            Step::Sends(1, b"a", 1),
-            Step::Lends(5, OPENED, 0, 5),
-            Step::Feed(ITEMS_AND_CLOSE),
-            Step::Receives(1, b"a"),
-            Step::Receives(1, b""),
-            Step::Receives(1, b"b"),
-            Step::ReceivesError(1, Told::Eof),
-            Step::IsUnsent(1),
-        ],
-        ..FRESH
-    },
-];
+const PART_ROWS: &[Row] = &[Row {
+    name: "the input ends inside a frame",
+    cuts: Cuts::Inside(11),
+    steps: &[
+        Step::Opens(true, true, b"", 1),
+        Step::FeedToCut(DATA),
+        Step::EndsInput,
+        Step::ReceivesError(1, Told::Socket("socket disconnected inside a frame")),
+        Step::ReceivesError(1, PAST),
+    ],
+    ..FRESH
+}];
+
+const LENT_ROWS: &[Row] = &[Row {
+    name: "nothing is reported, and items come all the same",
+    steps: &[
+        Step::Opens(true, true, b"", 1),
+        Step::Sends(1, b"a", 1),
+        Step::Lends(5, OPENED, 0, 5),
+        Step::Feed(ITEMS_AND_CLOSE),
+        Step::Receives(1, b"a"),
+        Step::Receives(1, b""),
+        Step::Receives(1, b"b"),
+        Step::ReceivesError(1, Told::Eof),
+        Step::IsUnsent(1),
+    ],
+    ..FRESH
+}];
 
 const LONG_ROWS: &[Row] = &[Row {
     name: "an oversized frame breaks its stream, and the next frame is read",
@@ -601,17 +600,23 @@ fn stamped_streams_end_and_are_refused(rt: HostRuntime) -> Tested {
     hold_stamped::<ClientCore<StampOut, StampIn>>(&rt, rt.alloc(), ENDS)
 }
 
-// What holds over plain halves alone.
-
-const SENDS: &[Table<ClientKind>] = &[
-    (BOTH, GREATEST_ROWS),
-    (BOTH, TICKET_ROWS),
-    (BOTH, PART_ROWS),
-];
+const SENDS: &[Table<ClientKind>] = &[(BOTH, TICKET_ROWS), (BOTH, PART_ROWS)];
 
 #[test]
 fn streams_send(rt: HostRuntime) -> Tested {
     hold::<ClientCore<Plain, Plain>>(&rt, rt.alloc(), SENDS)
+}
+
+#[test]
+fn stamped_streams_send(rt: HostRuntime) -> Tested {
+    hold_stamped::<ClientCore<StampOut, StampIn>>(&rt, rt.alloc(), SENDS)
+}
+
+// What holds over plain halves alone.
+
+#[test]
+fn streams_send_what_is_greatest_and_in_parts(rt: HostRuntime) -> Tested {
+    hold::<ClientCore<Plain, Plain>>(&rt, rt.alloc(), &[(BOTH, GREATEST_ROWS), (BOTH, LENT_ROWS)])
 }
 
 #[test]

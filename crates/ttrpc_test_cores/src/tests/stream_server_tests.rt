@@ -750,18 +750,23 @@ fn stamped_streams_end(rt: HostRuntime) -> Tested {
     hold_stamped::<ServerCore<StampOut, StampIn>>(&rt, rt.alloc(), ENDS)
 }
 
-// What holds over plain halves alone.
-
-const SENDS: &[Table<Rules>] = &[
-    (ASYNC, PART_ROWS),
-    (ASYNC, GREATEST_ROWS),
-    (ASYNC, TICKET_ROWS),
-    (ASYNC, TIME_ROWS),
-];
+const SENDS: &[Table<Rules>] = &[(ASYNC, PART_ROWS), (ASYNC, TICKET_ROWS), (ASYNC, TIME_ROWS)];
 
 #[test]
 fn streams_send(rt: HostRuntime) -> Tested {
     hold::<Core>(&rt, rt.alloc(), SENDS)
+}
+
+#[test]
+fn stamped_streams_send(rt: HostRuntime) -> Tested {
+    hold_stamped::<ServerCore<StampOut, StampIn>>(&rt, rt.alloc(), SENDS)
+}
+
+// What holds over plain halves alone.
+
+#[test]
+fn streams_send_what_is_greatest(rt: HostRuntime) -> Tested {
+    hold::<Core>(&rt, rt.alloc(), &[(ASYNC, GREATEST_ROWS)])
 }
 
 const LONG_ROWS: &[Row] = &[Row {

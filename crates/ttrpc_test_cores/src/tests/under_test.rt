@@ -136,6 +136,9 @@ pub trait Core: End + Sized + Drop {
     /// written then is the second bytes. A core without jobs serves nothing.
     fn serves(&mut self, alloc: Global, bytes: &[u8], size: usize, expected: &[u8]) -> Met;
 
+    /// Takes these bytes at this moment in pieces of this size. A core that isn't fed at a moment takes none.
+    fn feeds_at(&mut self, alloc: Global, bytes: &[u8], now: u64, size: usize) -> Met;
+
     /// A step that only this core knows.
     fn own_step(&mut self, alloc: Global, step: &Step, cut: usize) -> Met;
 }
