@@ -31,6 +31,14 @@ pub mod stream {
     };
 }
 
+/// Frames from a reader and to a writer that are polled.
+pub mod proto {
+    pub use ttrpc_polled_frames::{
+        AsMessage, AsParts, AsValue, PollRead, PollWrite, ReadHeader, Tells, WriteHeader,
+        WriteMessage,
+    };
+}
+
 /// Sockets of TCP that are polled.
 pub mod transport {
     pub use ttrpc_polled::{Listener, Socket, SocketConnect};

@@ -75,6 +75,10 @@ pub mod drivers {
 
 /// Client, server and streams that are polled.
 pub mod polled {
+    pub use ttrpc::asynchronous::proto::{
+        AsMessage, AsParts, AsValue, PollRead, PollWrite, ReadHeader, Tells, WriteHeader,
+        WriteMessage,
+    };
     pub use ttrpc::asynchronous::stream::{
         CSReceiver as ByteReceiver, ClientStream as ByteStream, StreamInner as Inner,
     };
