@@ -181,10 +181,16 @@ fn input_is_told_as_it_is(rt: HostRuntime) -> std::result::Result<(), Fail> {
     Ok(())
 }
 
+/// A header that states 4194305 bytes, and so many.
+fn oversized(alloc: Global, count: usize) -> std::result::Result<Vec<u8>, Fail> {
+    let mut input = Vec::from_slice(alloc, b"\0\x40\0\x01\0\0\0\x05\x01\0")?;
+    input.resize(count.saturating_add(10), 7)?;
+    Ok(input)
+}
+
 #[test]
 fn a_frame_that_is_too_long_is_read_to_its_end(rt: HostRuntime) -> std::result::Result<(), Fail> {
-    let mut input = vec![in rt.alloc(); 7u8; 4194316]?;
-    input[..10].copy_from_slice(b"\0\x40\0\x01\0\0\0\x05\x01\0");
+    let input = oversized(rt.alloc(), 4194306)?;
     assert!(rt; holds::<_, AsParts>(&rt, input.as_slice(), 4096, TOO_LONG)?);
     assert!(rt;
         holds::<_, AsMessage>(

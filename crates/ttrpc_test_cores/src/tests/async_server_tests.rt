@@ -322,6 +322,11 @@ fn a_polled_server_answers_oversized_requests(rt: HostRuntime) -> Tested {
     hold::<Core>(&rt, rt.alloc(), &[(ASYNC, LONG_ROWS)])
 }
 
+#[test]
+fn a_polled_server_answers_oversized_requests_over_stamps(rt: HostRuntime) -> Tested {
+    hold_stamped::<ServerCore<StampOut, StampIn>>(&rt, rt.alloc(), &[(ASYNC, LONG_ROWS)])
+}
+
 /// The request with a bad stamp, and with the right one.
 const BAD_STAMP_FIRST: &[u8] =
     b"\0\0\0\x15\0\0\0\x01\x01\0\x0a\x09demo.Echo\x12\x04Echo\x1a\x01\x2a\x07\0\0\0\x15\0\0\0\x01\x01\0\x0a\x09demo.Echo\x12\x04Echo\x1a\x01\x2a\0";

@@ -399,3 +399,8 @@ fn a_server_takes_parts_and_fails(rt: HostRuntime) -> Tested {
 fn oversized_requests_are_answered(rt: HostRuntime) -> Tested {
     hold::<Core>(&rt, rt.alloc(), &[(SYNC, LONG_ROWS)])
 }
+
+#[test]
+fn stamped_oversized_requests_are_answered(rt: HostRuntime) -> Tested {
+    hold_stamped::<ServerCore<StampOut, StampIn>>(&rt, rt.alloc(), &[(SYNC, LONG_ROWS)])
+}

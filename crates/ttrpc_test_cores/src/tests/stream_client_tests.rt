@@ -624,6 +624,11 @@ fn oversized_frames_break_their_streams(rt: HostRuntime) -> Tested {
     hold::<ClientCore<Plain, Plain>>(&rt, rt.alloc(), &[(BOTH, LONG_ROWS)])
 }
 
+#[test]
+fn stamped_oversized_frames_break_their_streams(rt: HostRuntime) -> Tested {
+    hold_stamped::<ClientCore<StampOut, StampIn>>(&rt, rt.alloc(), &[(BOTH, LONG_ROWS)])
+}
+
 // ---- over other halves
 
 /// A stamped item, an item with a bad stamp, and an item of the third stream with the next one.

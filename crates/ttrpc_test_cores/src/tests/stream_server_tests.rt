@@ -788,6 +788,11 @@ fn oversized_frames_leave_their_streams(rt: HostRuntime) -> Tested {
     hold::<Core>(&rt, rt.alloc(), &[(ASYNC, LONG_ROWS)])
 }
 
+#[test]
+fn stamped_oversized_frames_leave_their_streams(rt: HostRuntime) -> Tested {
+    hold_stamped::<ServerCore<StampOut, StampIn>>(&rt, rt.alloc(), &[(ASYNC, LONG_ROWS)])
+}
+
 // ---- over other halves
 
 /// A stamped request, an item, an item with a bad stamp, and one with the next stamp.
