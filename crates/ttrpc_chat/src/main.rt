@@ -1,0 +1,41 @@
+//! `ttrpc-chat`, a program of polled ends. Its words are `serve`, which serves the service `demo.Echo` and its streams, and
+//! `unary`, `chat`, `sum` and `count`, which call one.
+#![tactic(auto)]
+
+use std::env;
+use std::io::{ErrorKind, Result, Write};
+use std::net::{TcpListener, TcpStream};
+use std::process::ExitCode;
+use std::rt::Env;
+use ttrpc_polled_echo::run;
+use ttrpc_transport::nodelay_from;
+
+/// The words behind the program's name; none where one isn't UTF-8.
+fn given_words<R: Env + AllocGlobal>(rt: &R) -> Result<Vec<String>> {
+    let mut words = Vec::new(rt.alloc());
+    match env::args(rt) {
+        Ok(all) => {
+            for word in all.skip(1) {
+                words.push(word)?;
+            }
+            Ok(words)
+        }
+        Err(error) if error.kind() == ErrorKind::InvalidData => Ok(words),
+        Err(error) => Err(error),
+    }
+}
+
+fn main(rt: HostRuntime) -> ExitCode {
+    // The check of borrows covers a call whose bounds name types only where these are named here, too.
+    let _sockets: Option<(TcpListener, TcpStream)> = None;
+    let (mut output, mut errors) = (rt.stdout(), rt.stderr());
+    let setting = env::var(&rt, "TTRPC_TCP_NODELAY_ENABLED").ok();
+    let nodelay = nodelay_from(setting.as_deref());
+    match given_words(&rt) {
+        Ok(words) => ExitCode::from(run(rt, words.as_slice(), nodelay, &mut output, &mut errors)),
+        Err(error) => {
+            let _ = writeln!(errors, "ttrpc-chat: {error}");
+            ExitCode::from(1)
+        }
+    }
+}

@@ -1,0 +1,97 @@
+//! The stream `Chat`, which sends each item back.
+ghost use Rattle.futures.specs.Poll.{OnPending};
+ghost use Rattle.futures.specs.Task.{Covers, Keeps};
+ghost use Rattle.ttrpc_polled_echo.specs.Needs.{ChattingNeeds};
+
+use futures::Future;
+use futures::task::{Context, Poll};
+use std::mem::replace;
+use ttrpc_polled_streams::{SSReceiver, SSSender, Sending, ServerStream, StreamLine};
+use ttrpc_proto::{Error, Result};
+use ttrpc_wire::Blob;
+
+/// How many items are sent back at most before other tasks run.
+const TURNS: u32 = 64;
+
+/// Where a chat is.
+#[derive(Drop)]
+enum Turn {
+    /// It waits for an item.
+    Receives,
+    /// It sends one back.
+    Sends(Sending),
+    /// It has ended.
+    Done,
+}
+
+/// A chat that goes on.
+#[derive(Drop)]
+pub struct Chatting<L: StreamLine> {
+    sender: SSSender<Blob, L>,
+    receiver: SSReceiver<Blob, L>,
+    turn: Turn,
+}
+
+impl<L: StreamLine> Chatting<L> {
+    /// The chat on this stream.
+    pub fn new(stream: ServerStream<Blob, Blob, L>) -> Chatting<L> {
+        let (sender, receiver) = stream.split();
+        Chatting {
+            sender,
+            receiver,
+            turn: Turn::Receives,
+        }
+    }
+
+    /// Goes on by one turn. Ready: what came of it, which is the end unless it is none.
+    fn poll_turn(&mut self, cx: &mut Context<'_>) -> Poll<Option<Result<()>>>
+        ensures registered { OnPending result (Covers cx.new (ChattingNeeds L.came self.new)) }
+        ensures kept { Keeps cx.old cx.new }
+    {
+        match replace(&mut self.turn, Turn::Done) {
+            Turn::Receives => match self.receiver.poll_recv(cx) {
+                Poll::Pending => {
+                    self.turn = Turn::Receives;
+                    Poll::Pending
+                }
+                Poll::Ready(Ok(Some(item))) => {
+                    self.turn = Turn::Sends(Sending::Sends(item));
+                    Poll::Ready(None)
+                }
+                Poll::Ready(Ok(None)) => Poll::Ready(Some(Ok(()))),
+                Poll::Ready(Err(error)) => Poll::Ready(Some(Err(error))),
+            },
+            Turn::Sends(mut sending) => match self.sender.poll_sending(&mut sending, cx) {
+                Poll::Pending => {
+                    self.turn = Turn::Sends(sending);
+                    Poll::Pending
+                }
+                Poll::Ready(Ok(())) => {
+                    self.turn = Turn::Receives;
+                    Poll::Ready(None)
+                }
+                Poll::Ready(Err(error)) => Poll::Ready(Some(Err(error))),
+            },
+            Turn::Done => Poll::Ready(Some(Err(Error::LocalClosed))),
+        }
+    }
+}
+
+impl<L: StreamLine> Future for Chatting<L> {
+    type Output = Result<()>;
+
+    ghost use Rattle.ttrpc_polled_echo.specs.Needs.{ChattingNeeds};
+
+    ghost needs = { ChattingNeeds L.came };
+
+    fn poll(&mut self, cx: &mut Context<'_>) -> Poll<Result<()>> {
+        for _ in 0..TURNS {
+            match self.poll_turn(cx) {
+                Poll::Pending => return Poll::Pending,
+                Poll::Ready(Some(ended)) => return Poll::Ready(ended),
+                Poll::Ready(None) => {}
+            }
+        }
+        cx.yield_now()
+    }
+}

@@ -1,0 +1,118 @@
+//! The stream `Count`, which sends as many items as its request says.
+ghost use Rattle.futures.specs.Poll.{OnPending};
+ghost use Rattle.futures.specs.Task.{Covers, Keeps};
+ghost use Rattle.ttrpc_polled_echo.specs.Needs.{CountingNeeds};
+
+use futures::Future;
+use futures::task::{Context, Poll};
+use std::alloc::Global;
+use std::mem::replace;
+use ttrpc_polled_streams::{Sending, ServerStreamOpening, ServerStreamSender, StreamLine};
+use ttrpc_proto::{Error, Result};
+use ttrpc_wire::Blob;
+
+/// How many items are sent at most before other tasks run.
+const TURNS: u32 = 64;
+
+/// Where a count is.
+#[derive(Drop)]
+enum Counted<L: StreamLine> {
+    /// It waits for its request.
+    Opens(ServerStreamOpening<Blob, Blob, L>),
+    /// It sends an item, behind which so many others are still to be sent.
+    Sends(ServerStreamSender<Blob, L>, Sending, u64),
+    /// It has ended.
+    Done,
+}
+
+/// A count that goes on.
+#[derive(Drop)]
+pub struct Counting<L: StreamLine> {
+    alloc: Global,
+    sent: u32,
+    at: Counted<L>,
+}
+
+impl<L: StreamLine> Counting<L> {
+    /// The count of this stream.
+    pub fn new(alloc: Global, opening: ServerStreamOpening<Blob, Blob, L>) -> Counting<L> {
+        Counting {
+            alloc,
+            sent: 0,
+            at: Counted::Opens(opening),
+        }
+    }
+
+    /// Goes on by one turn. Ready: what came of it, which is the end unless it is none.
+    fn poll_turn(&mut self, cx: &mut Context<'_>) -> Poll<Option<Result<()>>>
+        ensures registered { OnPending result (Covers cx.new (CountingNeeds L.came self.new.at)) }
+        ensures kept { Keeps cx.old cx.new }
+    {
+        match replace(&mut self.at, Counted::Done) {
+            Counted::Opens(mut opening) => match opening.poll(cx) {
+                Poll::Pending => {
+                    self.at = Counted::Opens(opening);
+                    Poll::Pending
+                }
+                Poll::Ready(Ok((request, sender))) => {
+                    let left = number_in(request.as_slice());
+                    Poll::Ready(self.send_next(sender, left))
+                }
+                Poll::Ready(Err(error)) => Poll::Ready(Some(Err(error))),
+            },
+            Counted::Sends(sender, mut sending, left) => {
+                match sender.poll_sending(&mut sending, cx) {
+                    Poll::Pending => {
+                        self.at = Counted::Sends(sender, sending, left);
+                        Poll::Pending
+                    }
+                    Poll::Ready(Ok(())) => Poll::Ready(self.send_next(sender, left)),
+                    Poll::Ready(Err(error)) => Poll::Ready(Some(Err(error))),
+                }
+            }
+            Counted::Done => Poll::Ready(Some(Err(Error::LocalClosed))),
+        }
+    }
+
+    /// Begins to send the next of so many items, or ends.
+    fn send_next(&mut self, sender: ServerStreamSender<Blob, L>, left: u64) -> Option<Result<()>> {
+        if left == 0 {
+            return Some(Ok(()));
+        }
+        let item = match Blob::from_slice(self.alloc, &self.sent.to_be_bytes()) {
+            Ok(item) => item,
+            Err(refused) => return Some(Err(refused.into())),
+        };
+        self.sent = self.sent.wrapping_add(1);
+        self.at = Counted::Sends(sender, Sending::Sends(item), left - 1);
+        None
+    }
+}
+
+impl<L: StreamLine> Future for Counting<L> {
+    type Output = Result<()>;
+
+    ghost use Rattle.ttrpc_polled_echo.specs.Needs.{CountingNeeds};
+
+    ghost needs = { λ f. CountingNeeds L.came f.at };
+
+    fn poll(&mut self, cx: &mut Context<'_>) -> Poll<Result<()>> {
+        for _ in 0..TURNS {
+            match self.poll_turn(cx) {
+                Poll::Pending => return Poll::Pending,
+                Poll::Ready(Some(ended)) => return Poll::Ready(ended),
+                Poll::Ready(None) => {}
+            }
+        }
+        cx.yield_now()
+    }
+}
+
+/// The number that these bytes are, the greatest first; of more than eight the last eight count.
+fn number_in(bytes: &[u8]) -> u64 {
+    let mut number: u64 = 0;
+    for byte in bytes {
+        number = number.wrapping_mul(256).wrapping_add(u64::from(*byte));
+    }
+    number
+}

@@ -1,0 +1,53 @@
+//! A client of `demo.Echo`.
+use crate::system::System;
+use ttrpc_message::Context;
+use ttrpc_polled_client::{
+    Client, ClientCall, ClientLine, ClientOpening, ClientStreamReceiver, async_client_request,
+    async_client_stream, async_client_stream_receive, async_client_stream_send,
+};
+use ttrpc_polled_streams::{ClientStream, ClientStreamSender};
+use ttrpc_secure::Plain;
+use ttrpc_wire::Blob;
+
+/// A client of `demo.Echo`.
+#[derive(Drop)]
+pub struct EchoClient<R: System> {
+    pub client: Client<R, Plain, Plain>,
+}
+
+/// What the program's streams share.
+type Line = ClientLine<Plain, Plain>;
+
+/// A stream that is opened.
+type Opening<K, R> = ClientOpening<K, R, Plain, Plain>;
+
+impl<R: System> EchoClient<R> {
+    fn context(&self) -> Context {
+        Context::new(self.client.alloc())
+    }
+
+    /// Calls `Echo`.
+    pub fn echo(&self, req: &Blob) -> ClientCall<Plain, Plain, Blob> {
+        let ctx = self.context();
+        let reply = Blob::new(self.client.alloc());
+        async_client_request!(self, ctx, req, "demo.Echo", "Echo", reply)
+    }
+
+    /// Opens `Chat`.
+    pub fn chat(&self) -> Opening<ClientStream<Blob, Blob, Line>, R> {
+        let ctx = self.context();
+        async_client_stream!(self, ctx, "demo.Echo", "Chat")
+    }
+
+    /// Opens `Sum`.
+    pub fn sum(&self) -> Opening<ClientStreamSender<Blob, Blob, Line>, R> {
+        let ctx = self.context();
+        async_client_stream_send!(self, ctx, "demo.Echo", "Sum")
+    }
+
+    /// Opens `Count` with this request.
+    pub fn count(&self, req: &Blob) -> Opening<ClientStreamReceiver<Blob, R, Plain, Plain>, R> {
+        let ctx = self.context();
+        async_client_stream_receive!(self, ctx, req, "demo.Echo", "Count")
+    }
+}

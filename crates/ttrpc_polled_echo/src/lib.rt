@@ -1,0 +1,22 @@
+//! What the program `ttrpc-chat` does at its words, over the polled client and server: it serves the service `demo.Echo` and its
+//! streams, and calls one.
+#![tactic(auto)]
+
+mod beside;
+mod calls;
+mod chat;
+mod count;
+mod echo;
+mod echo_client;
+mod program;
+mod service;
+mod sum;
+mod system;
+mod telling;
+mod words;
+
+pub use calls::Site;
+pub use echo_client::EchoClient;
+pub use program::{EchoServer, run, server_at};
+pub use service::{EchoMethod, EchoStream, services};
+pub use system::{System, nix};

@@ -1,0 +1,105 @@
+//! The program at its words.
+use crate::calls::Site;
+use crate::service::{EchoMethod, EchoStream, services};
+use crate::system::{System, nix};
+use crate::words::{Asked, Call, read_words};
+use std::io::Write;
+use tokio::runtime::{Handle, LocalRuntime};
+use ttrpc_polled_server::Server;
+use ttrpc_proto::Result;
+
+const USAGE: &str =
+    "usage: ttrpc-chat serve ADDR | unary ADDR HEX | chat ADDR HEX.. | sum ADDR HEX.. | count ADDR N";
+
+/// Does what the words say, and tells on `errors` what went wrong. Whether each write goes out at once is `nodelay`. Gives the
+/// status: 0, 1 at a failure or a refused call, and 2 at wrong words.
+pub fn run<R: System, W: Write, X: Write>(
+    rt: R,
+    words: &[String],
+    nodelay: bool,
+    output: &mut W,
+    errors: &mut X,
+) -> u8 {
+    match perform(rt, words, nodelay, output, errors) {
+        Ok(status) => status,
+        Err(error) => {
+            let _ = writeln!(errors, "ttrpc-chat: {error}");
+            1
+        }
+    }
+}
+
+fn perform<R: System, W: Write, X: Write>(
+    rt: R,
+    words: &[String],
+    nodelay: bool,
+    output: &mut W,
+    errors: &mut X,
+) -> Result<u8> {
+    match read_words(rt.alloc(), words)? {
+        Asked::Serves(address) => serve(rt, address, nodelay, errors),
+        Asked::Calls(address, call) => call_at(rt, address, nodelay, &call, output),
+        Asked::Wrong => tell_usage(errors),
+    }
+}
+
+fn tell_usage<X: Write>(errors: &mut X) -> Result<u8> {
+    nix(writeln!(errors, "{USAGE}"))?;
+    Ok(2)
+}
+
+/// Connects to an address, and calls.
+fn call_at<R: System, W: Write>(
+    rt: R,
+    address: &str,
+    nodelay: bool,
+    call: &Call,
+    output: &mut W,
+) -> Result<u8> {
+    let mut site = Site::connect(rt, address, nodelay)?;
+    call_by(&mut site, call, output)
+}
+
+fn call_by<R: System, W: Write>(site: &mut Site<R>, call: &Call, output: &mut W) -> Result<u8> {
+    match call {
+        Call::Unary(item) => site.call(item, output),
+        Call::Chat(items) => site.chat(items.as_slice(), output),
+        Call::Sum(items) => site.sum(items.as_slice(), output),
+        Call::Count(count) => site.count(*count, output),
+    }
+}
+
+/// The server of the program.
+pub type EchoServer<R> = Server<R, EchoMethod, EchoStream>;
+
+/// A server at an address, with the services of the program. A stream that is opened without a payload begins without an item.
+pub fn server_at<R: System>(
+    rt: &R,
+    handle: &Handle,
+    address: &str,
+    nodelay: bool,
+) -> Result<EchoServer<R>> {
+    Ok(
+        Server::new(rt.clone()?, handle)?
+            .bind(address, nodelay)?
+            .register_service(services(rt.alloc())?)?
+            .set_bare_openings(true),
+    )
+}
+
+/// Serves until it is killed, and tells its address on `errors`.
+fn serve<R: System, X: Write>(rt: R, address: &str, nodelay: bool, errors: &mut X) -> Result<u8> {
+    let mut runtime = nix(LocalRuntime::new(&rt))?;
+    let mut server = server_at(&rt, runtime.handle(), address, nodelay)?;
+    tell_address(&server, errors)?;
+    let serving = server.start()?;
+    nix(runtime.run_all(&rt, serving))?;
+    Ok(0)
+}
+
+fn tell_address<R: System, X: Write>(server: &EchoServer<R>, errors: &mut X) -> Result<()> {
+    if let Some(address) = server.local_addr()? {
+        nix(writeln!(errors, "ttrpc-chat: listens at tcp://{address}"))?;
+    }
+    Ok(())
+}

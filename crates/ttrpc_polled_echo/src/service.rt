@@ -1,0 +1,164 @@
+//! The service `demo.Echo` and its handlers.
+ghost use Rattle.ttrpc_polled_echo.specs.Needs.{StreamCallCanPoll};
+
+use crate::chat::Chatting;
+use crate::count::Counting;
+use crate::echo::Echoing;
+use crate::sum::Summing;
+use futures::Future;
+use futures::task::{Context, Poll};
+use std::alloc::{AllocError, Global};
+use std::collections::BTreeMap;
+use ttrpc_polled_server::{
+    MethodHandler, Service, StreamHandler, TtrpcContext, async_client_streamimg_handler,
+    async_duplex_streamimg_handler, async_request_handler, async_server_streamimg_handler,
+};
+use ttrpc_polled_streams::{
+    Closes, EndsBy, Handling, Responds, ServerStream, ServerStreamOpening, ServerStreamReceiver,
+    StreamInner, StreamLine,
+};
+use ttrpc_proto::{Request, Response, Result};
+use ttrpc_wire::Blob;
+
+/// The service `demo.Echo`.
+#[derive(Clone, Copy, Debug)]
+pub struct Echo {}
+
+impl Echo {
+    /// Gives back what it was asked with.
+    fn echo(&self, _ctx: &TtrpcContext, item: Blob) -> Echoing {
+        Echoing { item: Some(item) }
+    }
+
+    /// Sends each item back.
+    fn chat<L: StreamLine>(
+        &self,
+        _ctx: &TtrpcContext,
+        stream: ServerStream<Blob, Blob, L>,
+    ) -> Chatting<L> {
+        Chatting::new(stream)
+    }
+
+    /// Tells how many items came, and how many bytes in all.
+    fn sum<L: StreamLine>(
+        &self,
+        ctx: &TtrpcContext,
+        stream: ServerStreamReceiver<Blob, L>,
+    ) -> Summing<L> {
+        Summing::new(ctx.alloc(), stream)
+    }
+
+    /// Sends as many items as the request says.
+    fn count<L: StreamLine>(
+        &self,
+        ctx: &TtrpcContext,
+        opening: ServerStreamOpening<Blob, Blob, L>,
+    ) -> Counting<L> {
+        Counting::new(ctx.alloc(), opening)
+    }
+}
+
+/// The handler of the method `Echo`.
+#[derive(Clone, Copy, Debug)]
+pub struct EchoMethod {
+    service: Echo,
+}
+
+impl MethodHandler for EchoMethod {
+    type Call = Handling<Echoing, Responds<Blob>>;
+
+    fn handler(&self, ctx: TtrpcContext, req: Request) -> Handling<Echoing, Responds<Blob>> {
+        async_request_handler!(self, ctx, req, Blob, echo)
+    }
+}
+
+/// The handlers of the streams.
+#[derive(Clone, Copy, Debug)]
+pub struct EchoStream {
+    service: Echo,
+    kind: StreamKind,
+}
+
+/// The streams.
+#[derive(Clone, Copy, Debug, PartialEq, Eq)]
+enum StreamKind {
+    Chat,
+    Sum,
+    Count,
+}
+
+/// The call of one of them.
+#[derive(Drop)]
+pub enum StreamCall<L: StreamLine> {
+    /// Of `Chat`.
+    Chats(Handling<Chatting<L>, Closes>),
+    /// Of `Sum`.
+    Sums(Handling<Summing<L>, EndsBy<Blob>>),
+    /// Of `Count`.
+    Counts(Handling<Counting<L>, Closes>),
+}
+
+impl<L: StreamLine> Future for StreamCall<L> {
+    type Output = Result<Option<Response>>;
+
+    ghost use Rattle.ttrpc_polled_echo.specs.Needs.{StreamCallCanPoll, StreamCallNeeds};
+
+    ghost can_poll = { StreamCallCanPoll };
+
+    ghost needs = { StreamCallNeeds L.came };
+
+    fn poll(&mut self, cx: &mut Context<'_>) -> Poll<Result<Option<Response>>> {
+        match self {
+            StreamCall::Chats(call) => call.poll(cx),
+            StreamCall::Sums(call) => call.poll(cx),
+            StreamCall::Counts(call) => call.poll(cx),
+        }
+    }
+}
+
+impl<L: StreamLine> StreamHandler<L> for EchoStream {
+    type Call = StreamCall<L>;
+
+    fn handler(&self, ctx: TtrpcContext, inner: StreamInner<L>) -> StreamCall<L>
+        ensures { StreamCallCanPoll result }
+    {
+        match self.kind {
+            StreamKind::Chat => {
+                StreamCall::Chats(async_duplex_streamimg_handler!(self, ctx, inner, chat))
+            }
+            StreamKind::Sum => {
+                StreamCall::Sums(async_client_streamimg_handler!(self, ctx, inner, sum))
+            }
+            StreamKind::Count => {
+                StreamCall::Counts(async_server_streamimg_handler!(self, ctx, inner, Blob, count))
+            }
+        }
+    }
+}
+
+/// The services of the program, each under its name.
+pub fn services(
+    alloc: Global,
+) -> std::result::Result<BTreeMap<String, Service<EchoMethod, EchoStream>>, AllocError> {
+    let mut service = Service::new(alloc);
+    let method = EchoMethod { service: Echo {} };
+    service
+        .methods
+        .insert(String::from_str(alloc, "Echo")?, method)?;
+    for (name, kind) in [
+        ("Chat", StreamKind::Chat),
+        ("Sum", StreamKind::Sum),
+        ("Count", StreamKind::Count),
+    ] {
+        let stream = EchoStream {
+            service: Echo {},
+            kind,
+        };
+        service
+            .streams
+            .insert(String::from_str(alloc, name)?, stream)?;
+    }
+    let mut services = BTreeMap::new(alloc);
+    services.insert(String::from_str(alloc, "demo.Echo")?, service)?;
+    Ok(services)
+}

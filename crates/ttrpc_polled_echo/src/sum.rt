@@ -1,0 +1,63 @@
+//! The stream `Sum`, which tells how many items came, and how many bytes in all.
+use futures::Future;
+use futures::task::{Context, Poll};
+use std::alloc::Global;
+use ttrpc_polled_streams::{ServerStreamReceiver, StreamLine};
+use ttrpc_proto::Result;
+use ttrpc_wire::Blob;
+
+/// How many items are counted at most before other tasks run.
+const TURNS: u32 = 64;
+
+/// A sum that goes on.
+#[derive(Drop)]
+pub struct Summing<L: StreamLine> {
+    alloc: Global,
+    receiver: ServerStreamReceiver<Blob, L>,
+    items: u64,
+    bytes: u64,
+}
+
+impl<L: StreamLine> Summing<L> {
+    /// The sum of this stream.
+    pub fn new(alloc: Global, receiver: ServerStreamReceiver<Blob, L>) -> Summing<L> {
+        Summing {
+            alloc,
+            receiver,
+            items: 0,
+            bytes: 0,
+        }
+    }
+
+    /// Both numbers, eight bytes each, the greatest first.
+    fn told(&self) -> Result<Blob> {
+        let mut told = Vec::with_capacity(self.alloc, 16)?;
+        told.extend_from_slice(&self.items.to_be_bytes())?;
+        told.extend_from_slice(&self.bytes.to_be_bytes())?;
+        Ok(Blob::from_vec(told))
+    }
+}
+
+impl<L: StreamLine> Future for Summing<L> {
+    type Output = Result<Blob>;
+
+    ghost use Rattle.std.specs.Prelude.{◌≡◌};
+    ghost use Rattle.ttrpc_polled_streams.specs.Needs.{receiver_source};
+
+    ghost needs = { λ f s. s ≡ receiver_source L.came f.receiver.rx };
+
+    fn poll(&mut self, cx: &mut Context<'_>) -> Poll<Result<Blob>> {
+        for _ in 0..TURNS {
+            match self.receiver.poll_recv(cx) {
+                Poll::Pending => return Poll::Pending,
+                Poll::Ready(Ok(Some(item))) => {
+                    self.items = self.items.saturating_add(1);
+                    self.bytes = self.bytes.saturating_add(item.len() as u64);
+                }
+                Poll::Ready(Ok(None)) => return Poll::Ready(self.told()),
+                Poll::Ready(Err(error)) => return Poll::Ready(Err(error)),
+            }
+        }
+        cx.yield_now()
+    }
+}

@@ -1,0 +1,75 @@
+//! Which words the program is called by.
+use hex::FromHexError;
+use std::alloc::Global;
+use ttrpc_proto::{Error, Result};
+use ttrpc_wire::Blob;
+
+/// What the words ask for.
+#[derive(Drop)]
+pub enum Asked<'a> {
+    /// To serve at an address.
+    Serves(&'a str),
+    /// To call a server at an address.
+    Calls(&'a str, Call),
+    /// Nothing that the program does.
+    Wrong,
+}
+
+/// What is called.
+#[derive(Drop)]
+pub enum Call {
+    Unary(Blob),
+    Chat(Vec<Blob>),
+    Sum(Vec<Blob>),
+    Count(u32),
+}
+
+/// What these words ask for. An error is want of memory.
+pub fn read_words(alloc: Global, words: &[String]) -> Result<Asked<'_>> {
+    let [first, address, rest @ ..] = words else {
+        return Ok(Asked::Wrong);
+    };
+    let address = address.as_str();
+    let call = match (first.as_str(), rest) {
+        ("serve", []) => return Ok(Asked::Serves(address)),
+        ("unary", [digits]) => match bytes_of(alloc, digits.as_str())? {
+            Some(item) => Call::Unary(item),
+            None => return Ok(Asked::Wrong),
+        },
+        ("chat", items) => match all_bytes(alloc, items)? {
+            Some(items) => Call::Chat(items),
+            None => return Ok(Asked::Wrong),
+        },
+        ("sum", items) => match all_bytes(alloc, items)? {
+            Some(items) => Call::Sum(items),
+            None => return Ok(Asked::Wrong),
+        },
+        ("count", [number]) => match number.as_str().parse::<u32>() {
+            Ok(number) => Call::Count(number),
+            Err(_) => return Ok(Asked::Wrong),
+        },
+        _ => return Ok(Asked::Wrong),
+    };
+    Ok(Asked::Calls(address, call))
+}
+
+/// The bytes of all these words, if each has digits alone.
+fn all_bytes(alloc: Global, words: &[String]) -> Result<Option<Vec<Blob>>> {
+    let mut items = Vec::new(alloc);
+    for word in words {
+        match bytes_of(alloc, word.as_str())? {
+            Some(item) => items.push(item)?,
+            None => return Ok(None),
+        }
+    }
+    Ok(Some(items))
+}
+
+/// The bytes of these hexadecimal digits, if there is an even number of digits and nothing else.
+fn bytes_of(alloc: Global, digits: &str) -> Result<Option<Blob>> {
+    match hex::decode(alloc, digits) {
+        Ok(bytes) => Ok(Some(Blob::from_vec(bytes))),
+        Err(FromHexError::OutOfMemory) => Err(Error::NoMemory),
+        Err(_) => Ok(None),
+    }
+}
