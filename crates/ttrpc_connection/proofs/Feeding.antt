@@ -60,14 +60,15 @@ core_says w at s old f a inbound failure opens header now (inr e) =
 
 -- a frame was whole, and acted
 pub took_frame : {S O I : Type 0} (w : Ways S O I) (s : S) (old : Connection O I) (front : List ℕ) (at : ℕ) (f : Incoming) (o : Option Incoming) (a : Arrived) (t : S) (new : Connection O I)
-    → o ≡ Some f → Fed old.decoder front (given o) new.decoder → Opens w.in_ old.inbound f a.opening new.inbound
+    → o ≡ Some f → Fed old.decoder front (given o) new.decoder → new.decoder ≡ nothing → Opens w.in_ old.inbound f a.opening new.inbound
     → a.header ≡ header_of_frame f → a.now ≡ at
     → (sent : List Sent) × w.core.reacts s old.outbox.half a sent t × SendsAll w.out old.outbox sent new.outbox
     → w.core.takes t ≡ w.core.takes s
     → FrontActs w s old front at t new
-took_frame w s old front at f o a t new is fed opens header now reacts kept = record {
+took_frame w s old front at f o a t new is fed ends opens header now reacts kept = record {
   frame = Some f;
   fed = subst (λ (x : Option Incoming). Fed old.decoder front (given x) new.decoder) is fed;
+  at_its_end = λ _. ends;
   acts = (
     scene t new,
     record {
@@ -88,6 +89,7 @@ pub took_part : {S O I : Type 0} (w : Ways S O I) (s : S) (old : Connection O I)
 took_part w s old front at o held is fed = record {
   frame = None;
   fed = subst (λ (x : Option Incoming). Fed old.decoder front (given x) held) is fed;
+  at_its_end = no_frame held;
   acts = refl;
 }
 

@@ -34,6 +34,12 @@ changes there old new id moment deadline is own others at k = rw is (elim (cases
 pub least : (p q : ℕ × ℕ) → is_gt (sooner p q) ≡ false → p.0 ≤ q.0
 least p q h = by_ranked _ _ _ (nat_cmp p.0 q.0) (ranked p.0 q.0 _ refl) (λ _ less. omega (arith, less)) (λ _ same. omega (arith, same)) (λ e _. let bad : true ≡ false = rw e at h in cc)
 
+-- of those at one moment
+pub least_id : (p : ℕ × ℕ) (id : ℕ) → is_gt (sooner p (p.0, id)) ≡ false → p.1 ≤ id
+least_id p id h = by_ranked _ _ _ (nat_cmp p.0 p.0) (ranked p.0 p.0 _ refl) (λ _ less. absurd (omega (arith, less)))
+    (λ e _. by_ranked _ _ _ (nat_cmp p.1 id) (ranked p.1 id _ refl) (λ _ less. omega (arith, less)) (λ _ same. omega (arith, same)) (λ f _. let bad : true ≡ false = rw (e, f) at h in cc))
+    (λ _ more. absurd (omega (arith, more)))
+
 -- ---- those that are due
 
 -- a deadline is where it is

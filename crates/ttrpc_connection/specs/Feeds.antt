@@ -67,13 +67,14 @@ pub record Feeds {S O I : Type 0} (w : Ways S O I) (s : S) (old : Connection O I
   pub fed : Fed old.decoder piece frames new.decoder
   pub acts : ActsAll w now (scene s old) frames (scene t new)
 
--- a front of a piece was taken, and at most one frame was whole with it
+-- a front of a piece was taken, and at most one frame was whole with it, of which its last byte is the last of the front
 pub record FeedsFront {S O I : Type 0} (w : Ways S O I) (s : S) (old : Connection O I) (front : List ℕ) (now : ℕ) (t : S) (new : Connection O I) : Type 0 where
   pub takes : w.core.takes s ≡ true
   pub alive : old.failure ≡ None
   pub still : new.failure ≡ None
   pub frame : Option Incoming
   pub fed : Fed old.decoder front (given frame) new.decoder
+  pub at_its_end : IsSome frame → new.decoder ≡ nothing
   pub acts : ActsAll w now (scene s old) (given frame) (scene t new)
 
 -- why a connection fails while it is fed: want of memory, or, at a frame, what the core says

@@ -56,6 +56,7 @@ impl Deadlines {
     pub fn first(&self) -> Option<(u128, u64)>
         ensures some { IfSome result (λ p. has_deadline self.now p.0 p.1 ≡ true) }
         ensures least { IfSome result (λ p. (at id : ℕ) → has_deadline self.now at id ≡ true → p.0 ≤ at) }
+        ensures least_id { IfSome result (λ p. (id : ℕ) → has_deadline self.now p.0 id ≡ true → p.1 ≤ id) }
         ensures none { IfNone result ((at id : ℕ) → has_deadline self.now at id ≡ false) }
     {
         self.pairs.first().copied()
