@@ -1,7 +1,7 @@
 -- Each event of the client keeps the invariant.
 use Rattle.ttrpc_headline.proofs.Delivers.{around, at_one, next_up, Stories}
 use Rattle.ttrpc_headline.proofs.Keeps.{Keeps, keeps_still}
-use Rattle.ttrpc_headline.proofs.Numbers.{asked_more, asks, Between, items_more, Numbers}
+use Rattle.ttrpc_headline.proofs.Numbers.{asked_more, asks, Between, items_more, Numbers, other_requests}
 use Rattle.ttrpc_headline.proofs.OneWay.{goes_on, joins}
 use Rattle.ttrpc_headline.proofs.Flights.{data_brings, IsData, IsRequestFlight, sends_data, sends_request, SendsFlight}
 use Rattle.ttrpc_headline.proofs.Throws.{AreSingle, back_stays, nothing_thrown, PartsOf, some_thrown, Stays, Thrown}
@@ -11,10 +11,10 @@ use Rattle.ttrpc_story.proofs.AtClient.{IsBegun}
 use Rattle.ttrpc_story.proofs.Upward.{flags_of, IsStarted}
 use Rattle.ttrpc_story.proofs.Downward.{box_down, wants}
 use Rattle.ttrpc_story.proofs.Flowing.{IsPlainFailure}
-use Rattle.ttrpc_story.proofs.Place.{begins_here, elsewhere, IsOdd, Later, Place, Settings, thrown_here}
+use Rattle.ttrpc_story.proofs.Place.{begins_here, elsewhere, IsOdd, Later, Place, Settings, thrown_here, unchanged}
 use Rattle.ttrpc_story.proofs.Events.{asks_here, drops_here, expires_here, GoesOn, hears_here, IsPut, one_request, sends_here, stream_within, unheard_here, unsent_here}
 use Rattle.ttrpc_pair.proofs.Words.{[], all_joined, ap, arith, AsyncKind, Bool, call_at, CallEvent, CancelledDuringWrite, Client, ClientCore, ClientEnd, ClientKind, closed_error, Connection, deadline_of, DeadlineDuringWrite, Done, DropCall, DropReceiver, DropSender, DropsReceiver, DropsSender, due_at, Entry, eqb-true, Error, Event, Failure, false, Flying, Forgot, given, Given, Halves, has_response, id_of, if◌then◌else◌, inl, inr, is_some, IsOwned, IsRequest, Item, last_id, List, Named, nat_eq, Net, None, OpenEvent, opening_flags, OpensStream, Option, Outbox, Outcome, parcels, Passes, pushed_other, pushed_own, Recv, refl, Reply, Request, Requests, Response, Result, Sender, SenderClosed, SendsOn, Some, Stream, stream_at, StreamReceives, subst, sym, SyncKind, taken_back, takes_back, TakesOutcome, throws, Ticks, true, unsendable, unsendable_error, waits, with_client, with_sender, ℕ, ◌++◌, ◌+◌, ◌<◌, ◌^◌, ◌∙◌, ◌∷◌, ◌≡◌, ◌≢◌, ◌≤◌, ◌⊎◌}
-use Rattle.ttrpc_story.proofs.Words.{act_of, asked, Call, calls, data_thing, Ended, Expired, expired_at, Flow, flow_of, heard, HeardDown, only_if, said, silent, Thing, told, unasked, unheard, untold, Waiting, with_entry, ◌%◌}
+use Rattle.ttrpc_story.proofs.Words.{act_of, asked, Call, calls, data_thing, Expired, expired_at, Flow, flow_of, heard, HeardDown, only_if, said, silent, Thing, told, unasked, unheard, untold, Waiting, with_entry, ◌%◌}
 
 -- dropping takes a request back only where requests are thrown away
 back_throws_only : (failed may waiting : Bool) → (if failed then false else if may then waiting else false) ≡ true → may ≡ true
@@ -103,8 +103,8 @@ module _ {CO CI SO SI : Type 0} (c : Halves CO CI) (s : Halves SO SI) (seals : B
       let stream : r.y.frame.message.header.stream_id ≡ id = r.is.sent.stream in
       sends_up w t x (IsRequestFlight id (request_of b) (flags_of b)) i r
       (at_one (PlaceOf w t (i.up ++ r.y ∷ []) i.down x.state) id
-      (begins_here b r.y (i.stories id) refl (λ j h. h) (omega (arith, id_is)) (λ y. absurd (let no : ⊥ = omega (arith, y, next) in no)) within r.is.sent r.is.flags_are odd begun
-      (heard (act_of f id) id id trace event (Named id) (first_act b) (birth id).0 refl) (heard (flow_of f id) id id trace event (Named id) (first_flow b) (birth id).1 refl) (pushed_own id_of id r.y i.up stream) refl refl)
+      (elsewhere (unchanged (around set (has_response w) x.state.next) id) (begins_here {e = call_at x.state id} {st = stream_at x.state id} b r.y (i.stories id) refl (λ j h. h) (omega (arith, id_is)) (λ y. absurd (let no : ⊥ = omega (arith, y, next) in no)) within r.is.sent r.is.flags_are odd begun)
+      (heard (act_of f id) id id trace event (Named id) (first_act b) (birth id).0 refl) (heard (flow_of f id) id id trace event (Named id) (first_flow b) (birth id).1 refl) (pushed_own id_of id r.y i.up stream) refl refl refl refl)
       (λ k e. let o = others k e in elsewhere (next_up set (has_response w) n x.state.next k (omega (arith, next, id_is))) (i.stories k)
       (unheard (act_of f k) k id trace event (Named id) (first_act b) (birth k).0 e) (unheard (flow_of f k) k id trace event (Named id) (first_flow b) (birth k).1 e)
       (pushed_other id_of k r.y i.up (λ same. e (sym stream ∙ same))) refl refl o.0 o.1))
@@ -153,8 +153,8 @@ module _ {CO CI SO SI : Type 0} (c : Halves CO CI) (s : Halves SO SI) (seals : B
       let box = sender_box sender (stream_at w.client.state id) in
       sends_up w t x (IsData id flags plain) i r
       (at_one (PlaceOf w t (i.up ++ r.y ∷ []) i.down x.state) id
-      (sends_here put thing r.y (later_of w x.state next id) (i.stories id) some r.is.item is_put (data_brings r.is ∙ brings) p.sendable (subst (GoesOn thing) (sym p.own) on) (ap box_down p.own ∙ box.0) (ap wants p.own ∙ box.1)
-      (silent (act_of f id) trace event reply (says id).0) (heard (flow_of f id) id id trace event reply put (says id).1 refl) (pushed_own id_of id r.y i.up stream) refl refl (calls id))
+      (elsewhere (later_of w x.state next id) (sends_here {st = stream_at x.state id} put thing r.y (i.stories id) some r.is.item is_put (data_brings r.is ∙ brings) p.sendable (subst (GoesOn thing) (sym p.own) on) (ap box_down p.own ∙ box.0) (ap wants p.own ∙ box.1))
+      (silent (act_of f id) trace event reply (says id).0) (heard (flow_of f id) id id trace event reply put (says id).1 refl) (pushed_own id_of id r.y i.up stream) refl refl (calls id) refl)
       (λ k e. elsewhere (later_of w x.state next k) (i.stories k) (silent (act_of f k) trace event reply (says k).0) (unheard (flow_of f k) k id trace event reply put (says k).1 e)
       (pushed_other id_of k r.y i.up (λ same. e (sym stream ∙ same))) refl refl (calls k) (p.others k (λ same. e (sym same)))))
       (subst (λ (n : ℕ). Numbers f w.server.state.jobs.last (i.up ++ r.y ∷ []) n) (sym next) (items_more f w.server.state.jobs.last i.up r.y w.client.state.next (item_asks r.is.item) i.numbers))
@@ -174,7 +174,7 @@ module _ {CO CI SO SI : Type 0} (c : Halves CO CI) (s : Halves SO SI) (seals : B
 
   -- the stories of what is left
   left_stories : (owners : ℕ → Bool) (w : Net CO CI SO SI) (x : Outbox CO) (i : Kept trace w) → AreKept owners w → (t : Left owners w x i.up) → StoriesOf w trace t.left i.down w.client.state
-  left_stories owners w x i some t = λ k. thrown_here (i.stories k) refl refl (same_or_none owners k i.up t.left (some k) (t.parts k)) refl refl refl refl
+  left_stories owners w x i some t = λ k. thrown_here (parcels k t.left) (i.stories k) (same_or_none owners k i.up t.left (some k) (t.parts k))
 
   -- what is kept changes, requests may be thrown away, and the connection may fail
   client_changes : (owners : ℕ → Bool) (w : Net CO CI SO SI) (t : List Entry) (x : ClientCore CO CI) → (i : Kept trace w) → x.connection.decoder ≡ w.client.connection.decoder → x.connection.inbound ≡ w.client.connection.inbound
@@ -185,12 +185,7 @@ module _ {CO CI SO SI : Type 0} (c : Halves CO CI) (s : Halves SO SI) (seals : B
     up = l.left;
     down = i.down;
     stories = stories (left_stories owners w x.connection.outbox i some l);
-    numbers = record {
-      low = i.numbers.low;
-      within = i.numbers.within;
-      rise = i.numbers.rise;
-      between = subst (λ (n : ℕ). Between i.numbers.low l.left n) (sym next) (l.rising i.numbers.low w.client.state.next i.numbers.between);
-    };
+    numbers = other_requests i.numbers (subst (λ (n : ℕ). Between i.numbers.low l.left n) (sym next) (l.rising i.numbers.low w.client.state.next i.numbers.between));
     own = l.own;
     upward = l.way;
     downward = goes_on s.out c.in_ _ _ w.client.connection x.connection w.down i.down refl held inbound lives i.downward;
@@ -212,7 +207,7 @@ module _ {CO CI SO SI : Type 0} (c : Halves CO CI) (s : Halves SO SI) (seals : B
       let t = with_entry trace (Outcome id) (Given given) in
       state_changes w t v.client i (ap (λ (x : ClientCore CO CI). x.connection) p.same) next
       (λ stories. at_one (PlaceOf w t i.up i.down v.client.state) id
-      (asks_here w.client.connection.failure given (later_of w v.client.state next id) (stories id) p.gives alive (asked f id id trace given refl) (silent (flow_of f id) trace (Outcome id) (Given given) refl) refl refl refl p.own (streams id))
+      (elsewhere (later_of w v.client.state next id) (asks_here w.client.connection.failure given (stories id) p.gives alive) (asked f id id trace given refl) (silent (flow_of f id) trace (Outcome id) (Given given) refl) refl refl refl p.own (streams id))
       (λ k e. elsewhere (later_of w v.client.state next k) (stories k) (unasked f k id trace given e) (silent (flow_of f k) trace (Outcome id) (Given given) refl) refl refl refl (p.others k (λ same. e (sym same))) (streams k)))
 
   -- What is kept of one stream changes, and no other id hears of it.
@@ -236,8 +231,8 @@ module _ {CO CI SO SI : Type 0} (c : Halves CO CI) (s : Halves SO SI) (seals : B
       let calls : (k : ℕ) → call_at v.client.state k ≡ call_at w.client.state k = λ k. ap (λ (x : ClientCore CO CI). call_at x.state k) p.same in
       keeps_stream w event (Item given) id v.client i (ap (λ (x : ClientCore CO CI). x.connection) p.same) next calls p.others (λ k. refl)
       (λ k e. untold (flow_of f k) k id trace event HeardDown given refl (λ word. refl) e)
-      (λ story. hears_here w.client.connection.failure given (later_of w v.client.state next id) story plain p.own (silent (act_of f id) trace event (Item given) refl)
-      (told (flow_of f id) id id trace event HeardDown given refl (λ word. refl) refl) refl refl refl (calls id))
+      (λ story. elsewhere (later_of w v.client.state next id) (hears_here {st = stream_at v.client.state id} w.client.connection.failure given story plain p.own) (silent (act_of f id) trace event (Item given) refl)
+      (told (flow_of f id) id id trace event HeardDown given refl (λ word. refl) refl) refl refl refl (calls id) refl)
 
   -- A receiver is dropped, or a sender.
   pub keeps_unheard : (w : Net CO CI SO SI) (id : ℕ) (v : Net CO CI SO SI) → Kept trace w → DropsReceiver w.client id v.client → Kept (with_entry trace (DropReceiver (ClientEnd id)) Done) (with_client w v.client)
@@ -246,7 +241,7 @@ module _ {CO CI SO SI : Type 0} (c : Halves CO CI) (s : Halves SO SI) (seals : B
       let next : v.client.state.next ≡ w.client.state.next = ap (λ (x : ClientCore CO CI). x.state.next) p.same in
       let calls : (k : ℕ) → call_at v.client.state k ≡ call_at w.client.state k = λ k. ap (λ (x : ClientCore CO CI). call_at x.state k) p.same in
       keeps_stream w event Done id v.client i (ap (λ (x : ClientCore CO CI). x.connection) p.same) next calls p.others (λ k. refl) (λ k e. silent (flow_of f k) trace event Done refl)
-      (λ story. unheard_here (later_of w v.client.state next id) story (silent (act_of f id) trace event Done refl) (silent (flow_of f id) trace event Done refl) refl refl refl (calls id) p.own)
+      (λ story. elsewhere (later_of w v.client.state next id) (unheard_here story) (silent (act_of f id) trace event Done refl) (silent (flow_of f id) trace event Done refl) refl refl refl (calls id) p.own)
 
   pub keeps_unsent : (w : Net CO CI SO SI) (id : ℕ) (v : Net CO CI SO SI) → Kept trace w → DropsSender w.client id v.client → Kept (with_entry trace (DropSender id) Done) (with_client w v.client)
   keeps_unsent w id v i p =
@@ -254,7 +249,7 @@ module _ {CO CI SO SI : Type 0} (c : Halves CO CI) (s : Halves SO SI) (seals : B
       let next : v.client.state.next ≡ w.client.state.next = ap (λ (x : ClientCore CO CI). x.state.next) p.same in
       let calls : (k : ℕ) → call_at v.client.state k ≡ call_at w.client.state k = λ k. ap (λ (x : ClientCore CO CI). call_at x.state k) p.same in
       keeps_stream w event Done id v.client i (ap (λ (x : ClientCore CO CI). x.connection) p.same) next calls p.others (λ k. refl) (λ k e. silent (flow_of f k) trace event Done refl)
-      (λ story. unsent_here (later_of w v.client.state next id) story (silent (act_of f id) trace event Done refl) (silent (flow_of f id) trace event Done refl) refl refl refl (calls id) p.own)
+      (λ story. elsewhere (later_of w v.client.state next id) (unsent_here story) (silent (act_of f id) trace event Done refl) (silent (flow_of f id) trace event Done refl) refl refl refl (calls id) p.own)
 
   -- ---- requests are taken back, where they may be
 
@@ -308,7 +303,7 @@ module _ {CO CI SO SI : Type 0} (c : Halves CO CI) (s : Halves SO SI) (seals : B
       (λ e k owner. (none_waits k id w (back_waits_only (is_some w.client.connection.failure) (throws w.client.state.kind seals) (waits (call_at w.client.state id)) e) owner, never))
       (ap (λ (x : ClientCore CO CI). x.connection) p.does.same) next
       (λ left stories. at_one (PlaceOf w trace left i.down v.client.state) id
-      (drops_here (later_of w v.client.state next id) (stories id) never refl refl refl refl refl p.does.own (streams id))
+      (elsewhere (later_of w v.client.state next id) (drops_here (stories id) never) refl refl refl refl refl p.does.own (streams id))
       (λ k e. elsewhere (later_of w v.client.state next k) (stories k) refl refl refl refl refl (p.does.others k (λ same. e (sym same))) (streams k))))
 
   -- A moment comes.
@@ -320,17 +315,15 @@ module _ {CO CI SO SI : Type 0} (c : Halves CO CI) (s : Halves SO SI) (seals : B
   NoneDue w now = set.clean → (k : ℕ) → expired_at now (call_at w.client.state k) ≡ call_at w.client.state k
 
   never_due : (now : ℕ) (e : Option Call) → expired_at now e ≡ e → due_at now e ≡ true → ⊥
-  never_due now None same due = cc
   never_due now (Some (Waiting d)) same due = let bad : Some Expired ≡ Some (Waiting d) = ap (λ (b : Bool). Some (if b then Expired else Waiting d)) (sym due) ∙ same in cc
-  never_due now (Some Expired) same due = cc
-  never_due now (Some (Ended o)) same due = cc
+  never_due now e same due = cc
 
   tick_lives : (w : Net CO CI SO SI) (now : ℕ) (x : ClientCore CO CI) → Kept trace w → NoneDue w now → Ticks seals w.client now x → Kept trace (with_client w x)
   tick_lives w now x i undue p =
       let next : x.state.next ≡ w.client.state.next = ap (λ (y : Client). y.next) p.expires.same in
       let streams : (k : ℕ) → stream_at x.state k ≡ stream_at w.client.state k = λ k. ap (λ (y : Client). stream_at y k) p.expires.same in
       taken_back_keeps w trace x (λ id. due_at now (call_at w.client.state id)) (throws w.client.state.kind seals) DeadlineDuringWrite i (λ e. e) (λ e k due. (due_some now k w due, λ clean. never_due now (call_at w.client.state k) (undue clean k) due)) p.connection next
-      (λ left stories k. expires_here now (later_of w x.state next k) (stories k) (λ clean. undue clean k) refl refl refl refl refl (p.expires.calls k) (streams k))
+      (λ left stories k. elsewhere (later_of w x.state next k) (expires_here now (stories k) (λ clean. undue clean k)) refl refl refl refl refl (p.expires.calls k) (streams k))
 
   pub keeps_passes : (w : Net CO CI SO SI) (now : ℕ) (x : ClientCore CO CI) (failure : Option Failure) → Kept trace w → NoneDue w now → Passes seals failure w.client now x → Kept trace (with_client w x)
   keeps_passes w now x None i undue p = tick_lives w now x i undue p

@@ -1,12 +1,12 @@
 -- Each event of the server keeps the invariant.
-use Rattle.ttrpc_headline.proofs.Delivers.{around, at_one, more_at, more_own, own_refers, Stories}
+use Rattle.ttrpc_headline.proofs.Delivers.{around, at_one, own_refers, Stories}
 use Rattle.ttrpc_headline.proofs.Keeps.{Keeps, keeps_still}
 use Rattle.ttrpc_headline.proofs.Numbers.{AreRight, Numbers}
 use Rattle.ttrpc_headline.proofs.OneWay.{goes_on, joins, not_both, OneWay}
 use Rattle.ttrpc_headline.proofs.Payloads.{too_late, unknown_never}
-use Rattle.ttrpc_headline.proofs.Flights.{down_at, down_own, flight_as, GivesSo, IsAnswering, IsData, IsGoing, IsRefusing, item_going, sends_close, sends_data, sends_refusal, sends_response, SendsFlight}
+use Rattle.ttrpc_headline.proofs.Flights.{behind_other, behind_own, flight_as, GivesSo, IsAnswering, IsData, IsGoing, IsRefusing, item_going, sends_close, sends_data, sends_refusal, sends_response, SendsFlight}
 use Rattle.ttrpc_headline.proofs.Jobs.{all_due, any_last, any_more, aside_plain, deaf, gone_at, gone_others, is_at, job_is, mailed, not_here, too_soon, untouched}
-use Rattle.ttrpc_story.proofs.AtServer.{IsDown, never_down}
+use Rattle.ttrpc_story.proofs.AtServer.{IsDown, IsNever, never_down}
 use Rattle.ttrpc_story.proofs.Here.{answered_work, Birth, Born, first_act, here_at, IsAnswer, Origin, request_of}
 use Rattle.ttrpc_story.proofs.Downward.{Goes, IsSentAs, told_plain}
 use Rattle.ttrpc_story.proofs.Reading.{IsPlain}
@@ -63,7 +63,7 @@ module _ {CO CI SO SI : Type 0} (c : Halves CO CI) (s : Halves SO SI) (seals : B
       let same = p.same in
       server_changes w t v.server w.responded i.down i
       (at_one (PlaceOf w (has_response w) t i.up i.down v.server.state.jobs.list) k
-      (takes_here (jobs_at h.front k) (jobs_at h.back k) j job.request (i.stories k) (was k ∙ between_own stream_id_of k h.front h.back j refl) h.request
+      (elsewhere (as_was w k) (takes_here (jobs_at h.front k) (jobs_at h.back k) j job.request (i.stories k) (was k ∙ between_own stream_id_of k h.front h.back j refl) h.request)
       (heard (act_of f k) k job.header.stream_id trace Take (Handed (Some job)) (Ran job.id job.stream job.request) refl at
       ∙ ap (λ (m : ℕ). (here_at f trace i.up i.down w.server.state.jobs.list w.client.state k).acts ++ Ran m job.stream job.request ∷ []) h.id
       ∙ ap (λ (b : Bool). (here_at f trace i.up i.down w.server.state.jobs.list w.client.state k).acts ++ Ran j.id b job.request ∷ []) h.stream)
@@ -124,10 +124,10 @@ module _ {CO CI SO SI : Type 0} (c : Halves CO CI) (s : Halves SO SI) (seals : B
       let done = answered_work running.b j kind result in
       server_changes w t x w.responded (i.down ++ r.more) i
       (at_one (PlaceOf w (has_response w) t i.up (i.down ++ r.more) x.state.jobs.list) k
-      (answers_here j kind result r.more running r.downs r.goes r.back (heard (act_of f k) k (f id) trace event Done (Answered kind result) (says k).0 a.stream) (heard (flow_of f k) k (f id) trace event Done (EndedDown result) (says k).1 a.stream) refl
-      (gone_at w.server.state.jobs.list id j x.state.jobs.list ends k) (down_own k (Born running.b) done i.down r.more r.downs) refl refl)
+      (elsewhere (as_was w k) (answers_here j kind result r.more running r.downs r.goes r.back) (heard (act_of f k) k (f id) trace event Done (Answered kind result) (says k).0 a.stream) (heard (flow_of f k) k (f id) trace event Done (EndedDown result) (says k).1 a.stream) refl
+      (gone_at w.server.state.jobs.list id j x.state.jobs.list ends k) (behind_own (IsDown k true (Born running.b) done) k (λ y d. d.stream) i.down r.more r.downs) refl refl)
       (λ n e. elsewhere (as_was w n) (i.stories n) (unheard (act_of f n) n (f id) trace event Done (Answered kind result) (says n).0 (λ same. e (sym a.stream ∙ same)))
-      (unheard (flow_of f n) n (f id) trace event Done (EndedDown result) (says n).1 (λ same. e (sym a.stream ∙ same))) refl (gone_others w.server.state.jobs.list id j x.state.jobs.list ends n e) (down_at k n (Born running.b) done i.down r.more r.downs e) refl refl))
+      (unheard (flow_of f n) n (f id) trace event Done (EndedDown result) (says n).1 (λ same. e (sym a.stream ∙ same))) refl (gone_others w.server.state.jobs.list id j x.state.jobs.list ends n e) (behind_other (IsDown k true (Born running.b) done) k n (λ y d. d.stream) i.down r.more r.downs e) refl refl))
       last held inbound lives (r.sent i.down i.downward)
 
   -- what a response puts in is by the settings
@@ -267,7 +267,7 @@ module _ {CO CI SO SI : Type 0} (c : Halves CO CI) (s : Halves SO SI) (seals : B
       (λ ok. is_answer running.b j false response unary) p.does.responds p.does.sends in
       server_changes w t x (w.responded ++ id ∷ []) (i.down ++ r.y ∷ []) i
       (at_one (PlaceOf w had2 t i.up (i.down ++ r.y ∷ []) x.state.jobs.list) k
-      (responds_here j response r.y running (later k) (any_last (λ m. nat_eq m j.id) w.responded id (eq-eqb id j.id (sym at.is_job))) unary r.is.down (subst (λ (t : Thing). IsSentAs t r.y) (same_ending w response ruled) r.is.goes) (sym ruled.0 ∙ p.rules) (λ one. (refl, sent_back w response (Ok response) ruled refl r.y r.is.gives))
+      (elsewhere (unchanged (around set had2 w.client.state.next) k) (responds_here j response r.y running (later k) (any_last (λ m. nat_eq m j.id) w.responded id (eq-eqb id j.id (sym at.is_job))) unary r.is.down (subst (λ (t : Thing). IsSentAs t r.y) (same_ending w response ruled) r.is.goes) (sym ruled.0 ∙ p.rules) (λ one. (refl, sent_back w response (Ok response) ruled refl r.y r.is.gives)))
       (heard (act_of f k) k (f id) trace (Respond id response) Done (Answered false (Ok (Some response))) refl a.stream) (heard (flow_of f k) k (f id) trace (Respond id response) Done (EndedDown (Ok (Some response))) refl a.stream)
       refl (is k) (pushed_own id_of k r.y i.down r.is.down.stream) refl refl)
       (λ n e. elsewhere (later n) (i.stories n) (unheard (act_of f n) n (f id) trace (Respond id response) Done (Answered false (Ok (Some response))) refl (λ h. e (sym a.stream ∙ h)))
@@ -286,7 +286,7 @@ module _ {CO CI SO SI : Type 0} (c : Halves CO CI) (s : Halves SO SI) (seals : B
       let own : jobs_at w.server.state.jobs.list k ≡ jobs_at p.ends.at.front k ++ j ∷ jobs_at p.ends.at.back k = ap (λ js. jobs_at js k) p.ends.at.is ∙ between_own stream_id_of k p.ends.at.front p.ends.at.back j refl in
       server_changes w trace x w.responded i.down i
       (at_one (PlaceOf w (has_response w) trace i.up i.down x.state.jobs.list) k
-      (ends_here (jobs_at p.ends.at.front k) (jobs_at p.ends.at.back k) j [] (i.stories k) own tt tt (λ clean. inl (refl, p.ends.at.taken)) refl refl refl (gone_at w.server.state.jobs.list id j x.state.jobs.list p.ends k) (sym (append-nil (parcels k i.down))) refl refl)
+      (elsewhere (as_was w k) (ends_here (jobs_at p.ends.at.front k) (jobs_at p.ends.at.back k) j [] (i.stories k) own tt tt (λ clean. inl (refl, p.ends.at.taken))) refl refl refl (gone_at w.server.state.jobs.list id j x.state.jobs.list p.ends k) (sym (append-nil (parcels k i.down))) refl refl)
       (λ n e. elsewhere (as_was w n) (i.stories n) refl refl refl (gone_others w.server.state.jobs.list id j x.state.jobs.list p.ends n e) refl refl refl))
       (ap (λ (y : ServerCore SO SI). y.state.jobs.last) p.same) (ap (λ (y : ServerCore SO SI). y.connection.decoder) p.same) (ap (λ (y : ServerCore SO SI). y.connection.inbound) p.same)
       (λ alive. p.alive) (rw p.same i.downward)
@@ -316,7 +316,7 @@ module _ {CO CI SO SI : Type 0} (c : Halves CO CI) (s : Halves SO SI) (seals : B
       let own : jobs_at jobs k ≡ jobs_at at.0 k ++ j ∷ jobs_at at.1 k = ap (λ js. jobs_at js k) at.2 ∙ between_own stream_id_of k at.0 at.1 j stream in
       let now : (g j).body ≡ StreamBody p.1 = ap (λ (b : Bool). (if b then record j { body = with_mail change j.body } else j).body) (eq-eqb j.id id at.3) ∙ ap (with_mail change) m.2 in
       at_one (PlaceOf w (has_response w) (with_entry trace event (Item given)) i.up i.down new) k
-      (hears_up_here g (at_stays id change) (jobs_at at.0 k) (jobs_at at.1 k) j w.server.connection.failure p.0 p.1 given (i.stories k) own m.2 now plain p.3 (silent (act_of f k) trace event (Item given) refl)
+      (elsewhere (as_was w k) (hears_up_here g (at_stays id change) (jobs_at at.0 k) (jobs_at at.1 k) j w.server.connection.failure p.0 p.1 given (i.stories k) own m.2 now plain p.3) (silent (act_of f k) trace event (Item given) refl)
       (told (flow_of f k) k k trace event HeardUp given refl (λ word. refl) refl) refl (ap (λ js. jobs_at js k) p.4 ∙ mapped_at g (at_stays id change) jobs k) refl refl refl)
       (λ n e. elsewhere (as_was w n) (i.stories n) (silent (act_of f n) trace event (Item given) refl) (untold (flow_of f n) n k trace event HeardUp given refl (λ word. refl) e)
       refl (ap (λ js. jobs_at js n) p.4 ∙ untouched f n id change jobs right e) refl refl refl)
@@ -330,7 +330,7 @@ module _ {CO CI SO SI : Type 0} (c : Halves CO CI) (s : Halves SO SI) (seals : B
       let reply = Item (Some (Err error)) in
       subst (λ (g : Option (Result (List ℕ) Error)). Stories set (has_response w) f (with_entry trace event (Item g)) i.up i.down new w.client.state) (sym is)
       (at_one (PlaceOf w (has_response w) (with_entry trace event reply) i.up i.down new) k
-      (errs_up_here error plain (i.stories k) (silent (act_of f k) trace event reply refl) (heard (flow_of f k) k k trace event reply (HeardUp (Err error)) refl refl) refl (ap (λ js. jobs_at js k) same) refl refl refl)
+      (elsewhere (as_was w k) (errs_up_here error plain (i.stories k)) (silent (act_of f k) trace event reply refl) (heard (flow_of f k) k k trace event reply (HeardUp (Err error)) refl refl) refl (ap (λ js. jobs_at js k) same) refl refl refl)
       (λ n e. elsewhere (as_was w n) (i.stories n) (silent (act_of f n) trace event reply refl) (unheard (flow_of f n) n k trace event reply (HeardUp (Err error)) refl e) refl (ap (λ js. jobs_at js n) same) refl refl refl))
 
   hears_by : (r : Rules) (w : Net CO CI SO SI) (id : ℕ) (given : Option (Result (List ℕ) Error)) (new : List ActiveJob) → (i : Kept trace w) → AreRight f w.server.state.jobs.list → IsPlainFailure w.server.connection.failure
@@ -353,7 +353,7 @@ module _ {CO CI SO SI : Type 0} (c : Halves CO CI) (s : Halves SO SI) (seals : B
       let event = DropReceiver (ServerEnd id) in
       let g = changed_at id without_receiver in
       jobs_change w (with_entry trace event Done) (unheard_of w.server id) i refl refl
-      (λ n. unheard_up_here g (at_stays id without_receiver) (deaf id) (i.stories n) never (silent (act_of f n) trace event Done refl) (silent (flow_of f n) trace event Done refl) refl
+      (λ n. elsewhere (as_was w n) (unheard_up_here g (at_stays id without_receiver) (deaf id) (i.stories n) never) (silent (act_of f n) trace event Done refl) (silent (flow_of f n) trace event Done refl) refl
       (mapped_at g (at_stays id without_receiver) w.server.state.jobs.list n) refl refl refl)
 
   -- The server takes no more.
@@ -378,7 +378,7 @@ module _ {CO CI SO SI : Type 0} (c : Halves CO CI) (s : Halves SO SI) (seals : B
       let is : (n : ℕ) → jobs_at x.state.jobs.list n ≡ jobs_at w.server.state.jobs.list n = λ n. ap (λ (y : Server). jobs_at y.jobs.list n) same in
       server_changes w t x w.responded (i.down ++ r.y ∷ []) i
       (at_one (PlaceOf w (has_response w) t i.up (i.down ++ r.y ∷ []) x.state.jobs.list) k
-      (sends_down_here (jobs_at at.0 k) (jobs_at at.1 k) j item r.y (i.stories k) own p.stream r.is.never r.is.goes (silent (act_of f k) trace event reply refl) (heard (flow_of f k) k (f id) trace event reply (SentDown item) refl stream)
+      (elsewhere (as_was w k) (sends_down_here (jobs_at at.0 k) (jobs_at at.1 k) j item r.y (i.stories k) own p.stream r.is.never r.is.goes) (silent (act_of f k) trace event reply refl) (heard (flow_of f k) k (f id) trace event reply (SentDown item) refl stream)
       refl (is k) (pushed_own id_of k r.y i.down r.is.never.stream) refl refl)
       (λ n e. elsewhere (as_was w n) (i.stories n) (silent (act_of f n) trace event reply refl) (unheard (flow_of f n) n (f id) trace event reply (SentDown item) refl (λ h. e (sym stream ∙ h)))
       refl (is n) (pushed_other id_of n r.y i.down (λ h. e (sym r.is.never.stream ∙ h))) refl refl))
@@ -415,9 +415,9 @@ module _ {CO CI SO SI : Type 0} (c : Halves CO CI) (s : Halves SO SI) (seals : B
       let r = own_refers c s old.rules k timeout_response one.sent from e.1 within too_late one.answers one.sends in
       let first : Stories set (has_response w) f trace up (down ++ r.more) mid.jobs.list w.client.state =
       at_one (PlaceOf w (has_response w) trace up (down ++ r.more) mid.jobs.list) k
-      (ends_here (jobs_at one.at.front k) (jobs_at one.at.back k) j r.more (stories k) own r.never r.turned (λ clean. inr (too_soon now (call_at w.client.state k) j due.0 (undue clean k))) refl refl refl (ap (λ xs. jobs_at xs k) list ∙ under_both stream_id_of k one.at.front one.at.back) (more_own k down r.more r.never) refl refl)
+      (elsewhere (as_was w k) (ends_here (jobs_at one.at.front k) (jobs_at one.at.back k) j r.more (stories k) own r.never r.turned (λ clean. inr (too_soon now (call_at w.client.state k) j due.0 (undue clean k)))) refl refl refl (ap (λ xs. jobs_at xs k) list ∙ under_both stream_id_of k one.at.front one.at.back) (behind_own (IsNever k) k (λ y d. d.stream) down r.more r.never) refl refl)
       (λ n d. elsewhere (as_was w n) (stories n) refl refl refl
-      (ap (λ xs. jobs_at xs n) list ∙ sym (ap (λ xs. jobs_at xs n) one.at.is ∙ not_here n one.at.front one.at.back j d)) (more_at k n down r.more r.never d) refl refl) in
+      (ap (λ xs. jobs_at xs n) list ∙ sym (ap (λ xs. jobs_at xs n) one.at.is ∙ not_here n one.at.front one.at.back j d)) (behind_other (IsNever k) k n (λ y d. d.stream) down r.more r.never d) refl refl) in
       let later = expires w now up (down ++ r.more) mid e.1 js new to first undue due.1 e.3 in
       record {
         more = r.more ++ later.more;

@@ -16,8 +16,9 @@ use Rattle.ttrpc_events.specs.Clean.{AreWholeCalls, asks_outcome, is_answer_of, 
 use Rattle.ttrpc_events.specs.Trace.{some_of}
 use Rattle.std.specs.List.{list_any}
 use Rattle.std.specs.Prelude.{◌||◌}
+use Rattle.std.proofs.lemmas.Bool.{or_cases, or_left, or_right}
 use Rattle.std.proofs.lemmas.List.Folds.{list_any-append}
-use Rattle.ttrpc_pair.proofs.Words.{[], ActiveJob, AllByRecursion, Answer, ap, Bool, call_at, CallEvent, ClientSide, Done, EndStream, Entry, eq-eqb, eqb-true, Error, Event, false, Given, Halves, Handed, has_method, has_response, if◌then◌else◌, inl, inr, IsFresh, Job, jobs_at, List, Named, nat_eq, Net, None, NoneWaits, Ok, OpenEvent, Outcome, parcels, refl, Reply, Request, Respond, Response, Result, Runs, safe_limit, ServerCore, ServerSide, Some, subst, sym, Take, true, ℕ, ◌++◌, ◌∙◌, ◌∷◌, ◌≡◌, ◌⊎◌}
+use Rattle.ttrpc_pair.proofs.Words.{[], ActiveJob, AllByRecursion, Answer, ap, Bool, call_at, CallEvent, ClientSide, Done, EndStream, Entry, eq-eqb, eqb-true, Error, Event, false, Given, Halves, Handed, has_method, has_response, if◌then◌else◌, inl, inr, IsFresh, Job, jobs_at, List, Named, nat_eq, Net, None, NoneWaits, Ok, OpenEvent, Outcome, parcels, refl, Reply, Request, Respond, Response, Result, Runs, safe_limit, ServerCore, ServerSide, Some, subst, sym, Take, true, ℕ, ◌++◌, ◌∙◌, ◌∷◌, ◌≡◌}
 use Rattle.ttrpc_story.proofs.Words.{Act, act_of, acts, Answered, asked_by, Called, calls, calls_work, Ended, Gave, IsRightAt, IsStreamOf, is_stream, names, only_if, Opened, Ran, work}
 
 -- ---- what a run of a job says of the trace
@@ -40,10 +41,6 @@ no_run : (job : ℕ) (b : Bool) (x : Act) → is_run job x ≡ false → list_an
 no_run job true x none h = let bad : false ≡ true = sym (rw none refl) ∙ h in cc
 no_run job false x none h = cc
 
-either : (a b : Bool) → (a || b) ≡ true → (a ≡ true) ⊎ (b ≡ true)
-either true b h = inl refl
-either false b h = inr h
-
 or_false : (a : Bool) → (a || false) ≡ true → a ≡ true
 or_false true h = refl
 or_false false h = h
@@ -61,14 +58,10 @@ module _ (f : ℕ → ℕ) (k : ℕ) where
   -- a job that was answered has an answer among the acts of its id
   was_answered : (job : ℕ) (es : List Entry) → f job ≡ k → HasAnswer job es → list_any is_answer (acts f k es) ≡ true
   was_answered job [] at h = cc
-  was_answered job (e ∷ es) at h = list_any-append is_answer (act_of f k e.event e.reply) (acts f k es) ∙ elim (either (is_answer_of job e.event e.reply) (list_any (λ (x : Entry). is_answer_of job x.event x.reply) es) h) [
-    | inl is ↦ ap (λ (b : Bool). b || list_any is_answer (acts f k es)) (one_answer job e.event e.reply at is)
-    | inr later ↦ later_true (list_any is_answer (act_of f k e.event e.reply)) (list_any is_answer (acts f k es)) (was_answered job es at later)
+  was_answered job (e ∷ es) at h = list_any-append is_answer (act_of f k e.event e.reply) (acts f k es) ∙ elim (or_cases (is_answer_of job e.event e.reply) (list_any (λ (x : Entry). is_answer_of job x.event x.reply) es) h) [
+    | inl is ↦ or_left (list_any is_answer (act_of f k e.event e.reply)) (list_any is_answer (acts f k es)) (one_answer job e.event e.reply at is)
+    | inr later ↦ or_right (list_any is_answer (act_of f k e.event e.reply)) (list_any is_answer (acts f k es)) (was_answered job es at later)
   ]
-    where
-      later_true : (a b : Bool) → b ≡ true → (a || b) ≡ true
-      later_true true b h = refl
-      later_true false b h = h
 
   -- a run is of a job that was handed out, under this id, and answered
   abbrev WasAnswered : List Entry → ℕ → Type 0
@@ -93,7 +86,7 @@ module _ (f : ℕ → ℕ) (k : ℕ) where
   ran_in : (trace : List Entry) (job : ℕ) (es : List Entry) → AllByRecursion (λ (e : Entry). IsAnsweredIn trace e.event e.reply) es → IsStreamOf f es → list_any (is_run job) (acts f k es) ≡ true → WasAnswered trace job
   ran_in trace job [] answered right h = cc
   ran_in trace job (e ∷ es) answered right h =
-      elim (either (list_any (is_run job) (act_of f k e.event e.reply)) (list_any (is_run job) (acts f k es)) (sym (list_any-append (is_run job) (act_of f k e.event e.reply) (acts f k es)) ∙ h)) [
+      elim (or_cases (list_any (is_run job) (act_of f k e.event e.reply)) (list_any (is_run job) (acts f k es)) (sym (list_any-append (is_run job) (act_of f k e.event e.reply) (acts f k es)) ∙ h)) [
         | inl here ↦ ran_at trace job e.event e.reply answered.0 right.0 here
         | inr later ↦ ran_in trace job es answered.1 right.1 later
       ]
@@ -141,9 +134,9 @@ filtered_idle k (j ∷ js) h = by (nat_eq j.header.stream_id k) (filtered_idle k
 
 -- it is whole where nothing is in flight, no job waits, none that ran is without an answer, and it was asked for
 whole_of : {w : Around} {k : ℕ} {h : Here} (q : Request) (p : Work) → Known w k h (Born (ByCall q)) p → w.set.clean → has_method w.set.services q.service q.method ≡ true → h.ups ≡ [] → h.downs ≡ [] → NoneWaits h.jobs
-    → ((job : ℕ) → work h.acts ≡ once q job → ⊥) → IsAsked h → IsWholeCall w.set.rules w.set.limit q h.acts
+    → ((job : ℕ) → work h.acts ≡ once q job → ⊥) → IsAsked h.acts h.call → IsWholeCall w.set.rules w.set.limit q h.acts
 whole_of {w} {k} {h} q p n clean method ups downs idle run asked =
-    whole_call w.set.rules w.set.limit q p h (n.tidy clean method) n.server.works_is (no_front (ups_of p) n.server.items (sym n.server.ups_is ∙ ups)) downs waiting run asked
+    whole_call w.set.rules w.set.limit q p h.acts h.downs h.call (n.tidy clean method) n.server.works_is (no_front (ups_of p) n.server.items (sym n.server.ups_is ∙ ups)) downs waiting run asked
   where
     waiting : (j : ActiveJob) → p ≡ Waits j → ⊥
     waiting j is =

@@ -1,5 +1,5 @@
 -- What stays the same in a run: the server's rules, its services, and the limit of its outbound half.
-use Rattle.ttrpc_pair.proofs.Words.{ActiveJob, ActsAll, Answer, AnswersBy, AnswersError, AsyncRules, Bool, ClientSide, Connection, Count, Cut, Deliver, Does, Done, Drain, DropReceiver, EndStream, EndsStream, Entry, Err, Error, Event, ExpireAll, Failure, Finish, Halves, Handed, Hears, Incoming, Item, List, MESSAGE_LENGTH_MAX, MakeJob, MakeStream, MessageHeader, Net, None, Ok, Option, OutboundTransform, Outbox, PutIn, Recv, Refused, Reply, Respond, Response, Result, Row, Rules, Runs, Scene, Send, SendsAll, Sent, Server, ServerCore, ServerEnd, ServerPasses, ServerSide, Some, Steps, SyncRules, Take, Tick, Ticket, [], ap, arrives, cut_to, header_of_frame, inl, inr, is_over, refl, row_of, rules, rules_stay, safe_limit, scene, serving, subst, taken_from, ℕ, ◌-◌, ◌∙◌, ◌∷◌, ◌≡◌}
+use Rattle.ttrpc_pair.proofs.Words.{ActiveJob, ActsAll, Answer, AnswersBy, AnswersError, AsyncRules, Bool, ClientSide, Connection, Count, Cut, Deliver, Does, Done, Drain, DropReceiver, EndStream, EndsStream, Entry, Err, Error, Event, ExpireAll, Failure, Finish, Halves, Handed, Hears, Incoming, Item, List, MESSAGE_LENGTH_MAX, MessageHeader, Net, None, Ok, Option, OutboundTransform, Outbox, PutIn, Recv, Refused, Reply, Respond, Response, Result, Row, Rules, Runs, Scene, Send, SendsAll, Sent, Server, ServerCore, ServerEnd, ServerPasses, ServerSide, Some, Steps, SyncRules, Take, Tick, Ticket, [], ap, arrives, cut_to, header_of_frame, inl, inr, is_over, refl, row_of, rules, rules_stay, safe_limit, scene, serving, subst, sym, taken_from, ℕ, ◌-◌, ◌∙◌, ◌∷◌, ◌≡◌}
 use Rattle.ttrpc_headline.proofs.OneWay.{as_heard}
 
 -- these stay
@@ -10,8 +10,6 @@ pub record Constant {O I : Type 0} (out : OutboundTransform O) (old new : Server
 
 pub services_stay : {O : Type 0} (out : OutboundTransform O) (row : Row) (old : Server) (o : O) (header : MessageHeader) (now : ℕ) (sent : List Sent) (new : Server) → Does out row old o header now sent new
     → new.services ≡ old.services
-services_stay out (MakeJob request) old o header now sent new does = ap (λ (s : Server). s.services) does.0
-services_stay out (MakeStream request) old o header now sent new does = ap (λ (s : Server). s.services) does.0
 services_stay out (PutIn payload) old o header now sent new does = ap (λ (s : Server). s.services) does.0
 services_stay out row old o header now sent new does = ap (λ (s : Server). s.services) does.0
 
@@ -19,6 +17,11 @@ limit_sent : {O : Type 0} (out : OutboundTransform O) (fixed : (s t : O) (plain 
     → safe_limit out new.half ≡ safe_limit out old.half
 limit_sent out fixed [] old new same = ap (λ (b : Outbox _). safe_limit out b.half) same
 limit_sent out fixed (s ∷ sent) old new sends = limit_sent out fixed sent sends.0 new sends.2 ∙ ap (λ n. MESSAGE_LENGTH_MAX - n) (fixed _ _ _ _ _ sends.1.seal)
+
+-- a server that is this one now
+as_this : {O I : Type 0} (out : OutboundTransform O) (old new : ServerCore O I) {this : ServerCore O I} → new ≡ this → this.state.rules ≡ old.state.rules → this.state.services ≡ old.state.services → safe_limit out new.connection.outbox.half ≡ safe_limit out old.connection.outbox.half
+    → Constant out old new
+as_this out old new is rules services limit = record { rules = ap (λ (x : ServerCore _ _). x.state.rules) is ∙ rules; services = ap (λ (x : ServerCore _ _). x.state.services) is ∙ services; limit = limit }
 
 stays_same : {O I : Type 0} (out : OutboundTransform O) (old new : ServerCore O I) → new.state ≡ old.state → new.connection.outbox ≡ old.connection.outbox → Constant out old new
 stays_same out old new state outbox = record { rules = ap (λ (s : Server). s.rules) state; services = ap (λ (s : Server). s.services) state; limit = ap (λ (b : Outbox _). safe_limit out b.half) outbox }
@@ -33,11 +36,7 @@ record SameScene {O I : Type 0} (out : OutboundTransform O) (old new : Scene Ser
 
 module _ {CO CI SO SI : Type 0} (c : Halves CO CI) (s : Halves SO SI) (seals : Bool) (fixed : (x y : SO) (plain aad sealed : List ℕ) → s.out.seals x plain aad sealed y → s.out.overhead y ≡ s.out.overhead x) where
   acted : (now : ℕ) (fs : List Incoming) (old new : Scene Server SO SI) → ActsAll (serving s.out s.in_) now old fs new → SameScene s.out old new
-  acted now [] old new same = record {
-    rules = ap (λ (x : Scene Server SO SI). x.state.rules) same;
-    services = ap (λ (x : Scene Server SO SI). x.state.services) same;
-    limit = ap (λ (x : Scene Server SO SI). safe_limit s.out x.outbox.half) same;
-  }
+  acted now [] old new same = subst (λ (x : Scene Server SO SI). SameScene s.out old x) (sym same) (record { rules = refl; services = refl; limit = refl })
   acted now (f ∷ fs) old new acts =
       let mid = acts.0 in
       let one = acts.1 in
@@ -50,25 +49,13 @@ module _ {CO CI SO SI : Type 0} (c : Halves CO CI) (s : Halves SO SI) (seals : B
       }
 
   answered : (old : ServerCore SO SI) (id : ℕ) (result : Result Response Error) (new : ServerCore SO SI) (r : Rules) → old.state.rules ≡ r → AnswersBy c s seals old id result new → Constant s.out old new
-  answered old id (Ok response) new r e p = record {
-    rules = ap (λ (x : ServerCore SO SI). x.state.rules) p.1.same;
-    services = ap (λ (x : ServerCore SO SI). x.state.services) p.1.same;
-    limit = limit_sent s.out fixed p.1.sent old.connection.outbox new.connection.outbox p.1.sends;
-  }
+  answered old id (Ok response) new r e p = as_this s.out old new p.1.same refl refl (limit_sent s.out fixed p.1.sent old.connection.outbox new.connection.outbox p.1.sends)
   answered old id (Err error) new SyncRules e p =
       let drops = subst (λ (x : Rules). AnswersError s.out x old id error new) e p in
-      record {
-        rules = ap (λ (x : ServerCore SO SI). x.state.rules) drops.same;
-        services = ap (λ (x : ServerCore SO SI). x.state.services) drops.same;
-        limit = ap (λ (x : ServerCore SO SI). safe_limit s.out x.connection.outbox.half) drops.same;
-      }
+      as_this s.out old new drops.same refl refl (ap (λ (x : ServerCore SO SI). safe_limit s.out x.connection.outbox.half) drops.same)
   answered old id (Err error) new AsyncRules e p =
-      let a = subst (λ (x : Rules). AnswersError s.out x old id error new) e p in
-      record {
-        rules = ap (λ (x : ServerCore SO SI). x.state.rules) a.2.same;
-        services = ap (λ (x : ServerCore SO SI). x.state.services) a.2.same;
-        limit = limit_sent s.out fixed a.2.sent old.connection.outbox new.connection.outbox a.2.sends;
-      }
+      let a = (subst (λ (x : Rules). AnswersError s.out x old id error new) e p).2 in
+      as_this s.out old new a.same refl refl (limit_sent s.out fixed a.sent old.connection.outbox new.connection.outbox a.sends)
 
   ended : (old : ServerCore SO SI) (id : ℕ) (result : Result (Option Response) Error) (new : ServerCore SO SI) → EndsStream s.out old id result new → safe_limit s.out new.connection.outbox.half ≡ safe_limit s.out old.connection.outbox.half
   ended old id (Ok None) new p = ap (λ n. MESSAGE_LENGTH_MAX - n) (fixed _ _ _ _ _ p.sends.2.seal)
@@ -105,56 +92,23 @@ module _ {CO CI SO SI : Type 0} (c : Halves CO CI) (s : Halves SO SI) (seals : B
   heard_same over old new h = as_heard (λ (y : Connection SO SI). y.outbox ≡ old.outbox) over old new h refl (λ why. refl)
 
   pub stepped : (w : Net CO CI SO SI) (event : Event) (reply : Reply) (v : Net CO CI SO SI) → Steps c s seals w event reply v → Constant s.out w.server v.server
-  stepped w Take (Handed (Some job)) v p = record {
-    rules = ap (λ (x : ServerCore SO SI). x.state.rules) p.0.same;
-    services = ap (λ (x : ServerCore SO SI). x.state.services) p.0.same;
-    limit = ap (λ (x : ServerCore SO SI). safe_limit s.out x.connection.outbox.half) p.0.same;
-  }
+  stepped w Take (Handed (Some job)) v p = as_this s.out w.server v.server p.0.same refl refl (ap (λ (x : ServerCore SO SI). safe_limit s.out x.connection.outbox.half) p.0.same)
   stepped w (Answer id result) Done v p = answered w.server id result v.server w.server.state.rules refl p.0
-  stepped w (Respond id response) Done v p = record {
-    rules = ap (λ (x : ServerCore SO SI). x.state.rules) p.does.same;
-    services = ap (λ (x : ServerCore SO SI). x.state.services) p.does.same;
-    limit = limit_sent s.out fixed p.does.sent w.server.connection.outbox v.server.connection.outbox p.does.sends;
-  }
-  stepped w (Finish id) Done v p = record {
-    rules = ap (λ (x : ServerCore SO SI). x.state.rules) p.0.same;
-    services = ap (λ (x : ServerCore SO SI). x.state.services) p.0.same;
-    limit = ap (λ (x : ServerCore SO SI). safe_limit s.out x.connection.outbox.half) p.0.same;
-  }
-  stepped w (EndStream id result) Done v p = record {
-    rules = ap (λ (x : ServerCore SO SI). x.state.rules) p.0.same;
-    services = ap (λ (x : ServerCore SO SI). x.state.services) p.0.same;
-    limit = ended w.server id result v.server p.0;
-  }
-  stepped w (Send (ServerEnd id) item) (Ticket ticket) v p = record {
-    rules = ap (λ (x : ServerCore SO SI). x.state.rules) p.0.same;
-    services = ap (λ (x : ServerCore SO SI). x.state.services) p.0.same;
-    limit = ap (λ n. MESSAGE_LENGTH_MAX - n) (fixed _ _ _ _ _ p.0.sends.sends.seal);
-  }
-  stepped w (Recv (ServerEnd id)) (Item given) v p = record {
-    rules = ap (λ (x : ServerCore SO SI). x.state.rules) p.0.same;
-    services = ap (λ (x : ServerCore SO SI). x.state.services) p.0.same;
-    limit = ap (λ (x : ServerCore SO SI). safe_limit s.out x.connection.outbox.half) p.0.same;
-  }
-  stepped w (DropReceiver (ServerEnd id)) Done v p = record {
-    rules = ap (λ (x : Net _ _ _ _). x.server.state.rules) p.1;
-    services = ap (λ (x : Net _ _ _ _). x.server.state.services) p.1;
-    limit = ap (λ (x : Net _ _ _ _). safe_limit s.out x.server.connection.outbox.half) p.1;
-  }
-  stepped w Drain Done v p = record {
-    rules = ap (λ (x : Net _ _ _ _). x.server.state.rules) p;
-    services = ap (λ (x : Net _ _ _ _). x.server.state.services) p;
-    limit = ap (λ (x : Net _ _ _ _). safe_limit s.out x.server.connection.outbox.half) p;
-  }
+  stepped w (Respond id response) Done v p = as_this s.out w.server v.server p.does.same refl refl (limit_sent s.out fixed p.does.sent w.server.connection.outbox v.server.connection.outbox p.does.sends)
+  stepped w (Finish id) Done v p = as_this s.out w.server v.server p.0.same refl refl (ap (λ (x : ServerCore SO SI). safe_limit s.out x.connection.outbox.half) p.0.same)
+  stepped w (EndStream id result) Done v p = as_this s.out w.server v.server p.0.same refl refl (ended w.server id result v.server p.0)
+  stepped w (Send (ServerEnd id) item) (Ticket ticket) v p = as_this s.out w.server v.server p.0.same refl refl (ap (λ n. MESSAGE_LENGTH_MAX - n) (fixed _ _ _ _ _ p.0.sends.sends.seal))
+  stepped w (Recv (ServerEnd id)) (Item given) v p = as_this s.out w.server v.server p.0.same refl refl (ap (λ (x : ServerCore SO SI). safe_limit s.out x.connection.outbox.half) p.0.same)
+  stepped w (DropReceiver (ServerEnd id)) Done v p = as_this s.out w.server v.server (ap (λ (x : Net _ _ _ _). x.server) p.1) refl refl (ap (λ (x : Net _ _ _ _). safe_limit s.out x.server.connection.outbox.half) p.1)
+  stepped w Drain Done v p = as_this s.out w.server v.server (ap (λ (x : Net _ _ _ _). x.server) p) refl refl (ap (λ (x : Net _ _ _ _). safe_limit s.out x.server.connection.outbox.half) p)
   stepped w (Tick now) Done v p = passed w.server now v.server w.server.state.rules w.server.connection.failure p.serves
   stepped w (Deliver ServerSide n) (Count k) v (inl p) =
       delivered w p.does.does.frames (scene v.server.state p.does.mid) v.server p.does.does.acts refl (heard_same (is_over (taken_from w.up k)) p.does.mid v.server.connection p.does.hears)
   stepped w (Deliver ServerSide n) (Count k) v (inr p) =
       stays_same s.out w.server v.server (ap (λ (x : Net _ _ _ _). x.server.state) p.only) (heard_same (is_over w.up) w.server.connection v.server.connection p.hears)
   stepped w (Deliver ServerSide n) (Refused told) v (inl p) = delivered w p.0.frames p.0.mid v.server p.0.acts p.0.state p.0.outbox
-  stepped w (Deliver ServerSide n) (Refused told) v (inr p) = stays_same s.out w.server v.server (ap (λ (x : Net _ _ _ _). x.server.state) p.1) (ap (λ (x : Net _ _ _ _). x.server.connection.outbox) p.1)
   stepped w (Deliver ClientSide n) (Refused told) v (inl p) = stays_same s.out w.server v.server (ap (λ (x : Net _ _ _ _). x.server.state) p.1) (ap (λ (x : Net _ _ _ _). x.server.connection.outbox) p.1)
-  stepped w (Deliver ClientSide n) (Refused told) v (inr p) = stays_same s.out w.server v.server (ap (λ (x : Net _ _ _ _). x.server.state) p.1) (ap (λ (x : Net _ _ _ _). x.server.connection.outbox) p.1)
+  stepped w (Deliver to n) (Refused told) v (inr p) = stays_same s.out w.server v.server (ap (λ (x : Net _ _ _ _). x.server.state) p.1) (ap (λ (x : Net _ _ _ _). x.server.connection.outbox) p.1)
   stepped w (Cut ServerSide keep) Done v p =
       stays_same s.out w.server v.server (ap (λ (x : Net _ _ _ _). x.server.state) p.only)
       (ap (λ (x : Net _ _ _ _). x.server.connection.outbox) p.only ∙ heard_same (is_over (cut_to w.up keep)) w.server.connection p.connection p.hears)

@@ -3,7 +3,7 @@ use Rattle.ttrpc_headline.proofs.Numbers.{acts_right, AreRight, asks, made_of, N
 use Rattle.ttrpc_headline.proofs.OneWay.{joins, OneWay}
 use Rattle.ttrpc_headline.proofs.Constants.{services_stay}
 use Rattle.ttrpc_headline.proofs.Payloads.{ask_row, IsItemRow, IsRefusal, IsRowOf, item_row}
-use Rattle.ttrpc_headline.proofs.Flights.{IsRefusing, sends_refusal, SendsFlight}
+use Rattle.ttrpc_headline.proofs.Flights.{behind_other, behind_own, IsRefusing, sends_refusal, SendsFlight}
 use Rattle.ttrpc_story.proofs.AtServer.{IsItem, IsJob, IsNever}
 use Rattle.ttrpc_story.proofs.Here.{Asking, Birth, Born, ByCall, ByOpen, first_act, Here, here_at, request_of}
 use Rattle.ttrpc_story.proofs.Tidy.{IsPatient}
@@ -11,8 +11,8 @@ use Rattle.ttrpc_story.proofs.Upward.{box_up, flags_of, IsMade}
 use Rattle.ttrpc_story.proofs.Downward.{IsTurned}
 use Rattle.ttrpc_story.proofs.Place.{Around, arrives_here, comes_of, elsewhere, IsAsked, IsHeldBy, IsNoMethod, IsPassed, Later, passes_here, Place, puts_here, refers_here, Settings, TidyOf, unchanged, untaken}
 use Rattle.ttrpc_story.proofs.Events.{down_of, lands_here}
-use Rattle.ttrpc_pair.proofs.Words.{[], Absent, ActiveJob, ActsOn, all_behind, AllByRecursion, ap, append-nil, append_assoc, arith, AsyncRules, Bool, brought_by, call_at, calling, case_of, case_row, cases_eq, changed_under, Client, Connection, deadline_of, Does, Entry, eq-eqb, Event, false, Flying, Halves, has_method, id_of, Ignore, inl, inlet_of, inr, is_stream, jobs_at, Landing, LandsOn, LandsOnce, last_id, List, MakeJob, MakeStream, MESSAGE_TYPE_REQUEST, MessageHeader, nat_eq, new_job, Opened, Option, OutboundTransform, Outbox, parcels, Pipe, pushed_other, pushed_own, PutIn, refl, Reply, Request, request_bytes, Response, Result, Row, row_elsewhere, row_made, Rules, rules, rules_stay, Scene, SendResponse, SendsAll, SendsOwnAnswer, Sent, Server, Services, serving, Some, stream_body, stream_id_of, subst, sym, SyncRules, true, unary_body, under_other, under_own, under_stays, without_payload, ℕ, ◌++◌, ◌+◌, ◌∙◌, ◌∷◌, ◌≡◌, ◌≢◌, ◌≤◌, ◌⊎◌}
-use Rattle.ttrpc_story.proofs.Words.{act_of, acts, asked_by, Call, calls, calls_work, deadline_in, Error, flow_of, Open, silent, Waiting, with_entry, with_mail, ◌%◌}
+use Rattle.ttrpc_pair.proofs.Words.{[], Absent, ActiveJob, ActsOn, all_behind, AllByRecursion, ap, append-nil, append_assoc, arith, AsyncRules, Bool, brought_by, call_at, calling, case_of, case_row, cases_eq, changed_under, Client, Connection, deadline_of, Does, Entry, eq-eqb, Event, false, Flying, Halves, has_method, id_of, Ignore, inl, inlet_of, inr, is_stream, jobs_at, Landing, LandsOn, LandsOnce, last_id, List, MakeJob, MakeStream, MESSAGE_TYPE_REQUEST, MessageHeader, nat_eq, new_job, Opened, Option, OutboundTransform, Outbox, parcels, Pipe, pushed_other, pushed_own, PutIn, refl, Reply, Request, request_bytes, Response, Result, Row, row_elsewhere, row_made, Rules, rules, rules_stay, Scene, SendResponse, SendsAll, SendsOwnAnswer, Sent, Server, Services, serving, Some, stream_at, stream_body, stream_id_of, subst, sym, SyncRules, true, unary_body, under_other, under_own, under_stays, without_payload, ℕ, ◌++◌, ◌+◌, ◌∙◌, ◌∷◌, ◌≡◌, ◌≢◌, ◌≤◌, ◌⊎◌}
+use Rattle.ttrpc_story.proofs.Words.{Act, act_of, acts, asked_by, Call, calls, calls_work, deadline_in, Error, flow_of, Open, silent, Waiting, with_entry, with_mail, ◌%◌}
 
 abbrev pub around : Settings → (ℕ → Bool) → ℕ → Around
 around set had next = record { set = set; had = had; next = next }
@@ -40,20 +40,6 @@ IsQuiet f event reply = (k : ℕ) → (act_of f k event reply ≡ []) × (flow_o
 pub stories_silent : (set : Settings) (had : ℕ → Bool) (f : ℕ → ℕ) (trace : List Entry) (event : Event) (reply : Reply) (up down : List Flying) (jobs : List ActiveJob) (client : Client)
     → IsQuiet f event reply → Stories set had f trace up down jobs client → Stories set had f (with_entry trace event reply) up down jobs client
 stories_silent set had f trace event reply up down jobs client q c = λ k. elsewhere (unchanged (around set had client.next) k) (c k) (silent (act_of f k) trace event reply (q k).0) (silent (flow_of f k) trace event reply (q k).1) refl refl refl refl refl
-
--- ---- frames that go down and end no call well
-
--- flights of an id behind others
-pub more_at : (k i : ℕ) (down more : List Flying) → AllByRecursion (IsNever k) more → k ≢ i → parcels i (down ++ more) ≡ parcels i down
-more_at k i down [] never e = ap (parcels i) (append-nil down)
-more_at k i down (y ∷ more) never e =
-    ap (parcels i) (sym (append_assoc down (y ∷ []) more)) ∙ more_at k i (down ++ y ∷ []) more never.1 e ∙ pushed_other id_of i y down (λ same. e (sym never.0.stream ∙ same))
-
-pub more_own : (k : ℕ) (down more : List Flying) → AllByRecursion (IsNever k) more → parcels k (down ++ more) ≡ parcels k down ++ more
-more_own k down [] never = ap (parcels k) (append-nil down) ∙ sym (append-nil (parcels k down))
-more_own k down (y ∷ more) never =
-    ap (parcels k) (sym (append_assoc down (y ∷ []) more)) ∙ more_own k (down ++ y ∷ []) more never.1
-    ∙ ap (λ (xs : List Flying). xs ++ more) (pushed_own id_of k y down never.0.stream) ∙ append_assoc (parcels k down) (y ∷ []) more
 
 -- ---- a frame comes to the server
 
@@ -117,9 +103,9 @@ no_held set (ByCall q) call job none = λ method. let bad : true ≡ false = sym
 no_held set (ByOpen q up down) call job none = tt
 
 -- and one that is refused under an odd id names none
-refused_call : (set : Settings) (b : Birth) (x : Flying) (h : Here) → TidyOf set (Born b) (Asking x) h → (nat_eq (x.frame.message.header.stream_id % 2) 0 ≡ false → has_method set.services (request_of b).service (request_of b).method ≡ false) → IsNoMethod set b
-refused_call set (ByCall q) x h t none = λ method. let bad : true ≡ false = sym method ∙ none (t method).1 in cc
-refused_call set (ByOpen q up down) x h t none = tt
+refused_call : (set : Settings) (b : Birth) (x : Flying) (a : List Act) (d : List Flying) (e : Option Call) → TidyOf set (Born b) (Asking x) a d e → (nat_eq (x.frame.message.header.stream_id % 2) 0 ≡ false → has_method set.services (request_of b).service (request_of b).method ≡ false) → IsNoMethod set b
+refused_call set (ByCall q) x a d e t none = λ method. let bad : true ≡ false = sym method ∙ none (t method).1 in cc
+refused_call set (ByOpen q up down) x a d e t none = tt
 
 -- the call that a request in flight is of
 one_call : {w : Around} {k : ℕ} {h : Here} {x : Flying} {u : List Flying} (a : IsAsked w k h x u) (q : Request) → a.b ≡ ByCall q → calls h.acts ≡ q ∷ []
@@ -138,7 +124,7 @@ module _ {CO CI SO SI : Type 0} (c : Halves CO CI) (s : Halves SO SI) (set : Set
   turns_up x rest down more old new story never here others =
       let k : ℕ = x.frame.message.header.stream_id in
       at_one (λ (n : ℕ). Place (around set had client.next) n (here_at f trace rest (down ++ more) new client n)) k here
-      (λ i e. elsewhere (unchanged (around set had client.next) i) (story i) refl refl (sym (under_other id_of i x rest e)) (others i e) (more_at k i down more never e) refl refl)
+      (λ i e. elsewhere (unchanged (around set had client.next) i) (story i) refl refl (sym (under_other id_of i x rest e)) (others i e) (behind_other (IsNever k) k i (λ y d. d.stream) down more never e) refl refl)
 
   abbrev HereUp : Flying → List Flying → List Flying → List ActiveJob → Type 0
   HereUp x rest down jobs = let k : ℕ = x.frame.message.header.stream_id in IsAsked (around set had client.next) k (here_at f trace (x ∷ rest) down jobs client k) x (parcels k rest)
@@ -161,7 +147,7 @@ module _ {CO CI SO SI : Type 0} (c : Halves CO CI) (s : Halves SO SI) (set : Set
       let asked : asks x ≡ true = eq-eqb x.frame.message.header.type_ MESSAGE_TYPE_REQUEST a.known.server.is_work.type_ in
       refers_comes k rest down old new (nothing_refers c s k old.outbox new.outbox (none_sent s.out old.outbox sent new.outbox none sends))
       (turns_up x rest down [] jobs new.state.jobs.list stories tt
-      (arrives_here job a is_job made odd held refl refl refl (ap (λ js. jobs_at js k) is ∙ pushed_own stream_id_of k job jobs is_job.stream) (ap (parcels k) (append-nil down)) refl refl)
+      (elsewhere (unchanged (around set had client.next) k) (arrives_here job a is_job made odd held) refl refl refl (ap (λ js. jobs_at js k) is ∙ pushed_own stream_id_of k job jobs is_job.stream) (ap (parcels k) (append-nil down)) refl refl)
       (λ i e. ap (λ js. jobs_at js i) is ∙ pushed_other stream_id_of i job jobs (λ same. e (sym is_job.stream ∙ same))))
       (subst (λ (n : ℕ). Numbers f n rest client.next) (sym last)
       (made_of f old.state.jobs.last x rest client.next asked (ap f (sym id) ∙ mine ∙ is_job.stream) a.known.server.within numbers))
@@ -177,8 +163,8 @@ module _ {CO CI SO SI : Type 0} (c : Halves CO CI) (s : Halves SO SI) (set : Set
       (subst (λ (js : List ActiveJob). Stories set had f trace rest (down ++ r.more) js client) (sym jobs)
       (turns_up x rest down r.more old.state.jobs.list old.state.jobs.list stories r.never
       (elim at [
-        | inl a ↦ refers_here r.more a.0 a.1 r.never r.turned refl refl refl refl (more_own k down r.more r.never) refl refl
-        | inr a ↦ passes_here r.more a.0 r.never r.turned a.1 refl refl refl refl (more_own k down r.more r.never) refl refl
+        | inl a ↦ elsewhere (unchanged (around set had client.next) k) (refers_here r.more a.0 a.1 r.never r.turned) refl refl refl refl (behind_own (IsNever k) k (λ y d. d.stream) down r.more r.never) refl refl
+        | inr a ↦ elsewhere (unchanged (around set had client.next) k) (passes_here r.more a.0 r.never r.turned a.1) refl refl refl refl (behind_own (IsNever k) k (λ y d. d.stream) down r.more r.never) refl refl
       ])
       (λ i e. refl)))
       (subst (λ (t : Server). Numbers f t.jobs.last rest client.next) (sym same) (passed_by f old.state.jobs.last x rest client.next numbers))
@@ -196,7 +182,7 @@ module _ {CO CI SO SI : Type 0} (c : Halves CO CI) (s : Halves SO SI) (set : Set
       let none = none_sent s.out old.outbox sent new.outbox does.1 sends in
       refers_comes k rest down old new (nothing_refers c s k old.outbox new.outbox none)
       (turns_up x rest down [] old.state.jobs.list new.state.jobs.list stories tt
-      (puts_here g (under_stays k (brought_by h payload)) a (λ j mine. changed_body k payload h j mine ∙ ap (λ (plain : List ℕ). with_mail (brought_by h plain) j.body) is) refl refl refl
+      (elsewhere (unchanged (around set had client.next) k) (puts_here g (under_stays k (brought_by h payload)) a (λ j mine. changed_body k payload h j mine ∙ ap (λ (plain : List ℕ). with_mail (brought_by h plain) j.body) is)) refl refl refl
       (row_made s.out (PutIn payload) old.state old.outbox.half h now sent new.state does) (ap (parcels k) (append-nil down)) refl refl)
       (λ i e. row_elsewhere s.out (PutIn payload) old.state old.outbox.half h now sent new.state i does (λ same. e (sym same))))
       (subst (λ (t : Server). Numbers f t.jobs.last rest client.next) (sym does.0) (passed_by f old.state.jobs.last x rest client.next numbers))
@@ -236,7 +222,7 @@ module _ {CO CI SO SI : Type 0} (c : Halves CO CI) (s : Halves SO SI) (set : Set
       let k : ℕ = x.frame.message.header.stream_id in
       refers x rest down old new stories numbers does.0
       (own_refers c s old.state.rules k response sent old.outbox new.outbox a.known.server.within is.0 does.1 sends)
-      (inl (a, λ clean. refused_call set a.b x _ (a.known.tidy clean) is.1))
+      (inl (a, λ clean. refused_call set a.b x _ _ _ (a.known.tidy clean) is.1))
   by_ask_row row now x rest down old new sent ruled stories numbers right sends does a timely is = absurd is
 
   -- and of data
@@ -324,7 +310,7 @@ module _ {CO CI : Type 0} (c : Halves CO CI) (set : Settings) (had : ℕ → Boo
       let next : new.next ≡ old.next = ap (λ (s : Client). s.next) p.same in
       let later : (i : ℕ) → Later (around set had old.next) (around set had new.next) i = λ i. next_up set had old.next new.next i (omega (arith, next)) in
       at_one (λ (n : ℕ). Place (around set had new.next) n (here_at f trace up rest jobs new n)) k
-      (lands_here x (parcels k rest) (later k) (stories k) was refl refl refl refl refl (subst (λ (l : Landing). LandsOn l (call_at old k) (call_at new k)) told.lands p.lands.own) p.reaches.own)
+      (elsewhere (later k) (lands_here {e = call_at new k} {st = stream_at new k} x (parcels k rest) (stories k) was (subst (λ (l : Landing). LandsOn l (call_at old k) (call_at new k)) told.lands p.lands.own) p.reaches.own) refl refl refl refl refl refl refl)
       (λ i e. elsewhere (later i) (stories i) refl refl refl refl (sym (under_other id_of i x rest e)) (p.lands.others i (λ same. e (sym same))) (p.reaches.others i (λ same. e (sym same))))
 
   pub feeds_down : (now : ℕ) (front up rest : List Flying) (jobs : List ActiveJob) (old new : Scene Client CO CI)

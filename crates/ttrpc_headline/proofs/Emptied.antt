@@ -11,8 +11,8 @@ use Rattle.ttrpc_story.proofs.Place.{Settings}
 use Rattle.ttrpc_events.specs.Clean.{is_clean_event, is_clean_reply, takes_bytes}
 use Rattle.std.proofs.Common.{length-take}
 use Rattle.ttrpc_pair.proofs.Idle.{IsQueue, none_reported, none_thrown}
-use Rattle.ttrpc_pair.proofs.Words.{[], ActiveJob, ActsAll, after_report, Answer, AnswersError, ap, arith, AsyncRules, Bool, call_at, CallEvent, calling, Carry, ClientCore, ClientEnd, ClientSide, Close, Connection, Count, Deliver, Done, due_at, EndStream, Entry, Err, Error, Event, ExpireAll, Failure, false, Halves, if◌then◌else◌, Incoming, inl, inr, is_over, Item, length, lent_of, List, min, Named, Net, None, Ok, open_part, OpenEvent, Option, Outbox, OutboundTransform, Passes, Queue, Queued, Recv, refl, Reply, Respond, Responds, Response, Result, Rules, rules, Scene, scene, Send, SendsAll, SendsOne, Sent, Server, ServerCore, ServerEnd, ServerPasses, ServerSide, serving, Some, Steps, subst, sym, SyncRules, take, taken_back, taken_from, throws, Tick, Ticket, true, Ways, with_lent, with_payload, ℕ, ◌++◌, ◌∙◌, ◌∷◌, ◌≡◌, AnswersBy, with_server, with_client, nat_eq, EndsStream, DeadlineDuringWrite}
-use Rattle.ttrpc_story.proofs.Words.{Asked, Began, Call, ClosedUp, EndedDown, Ended, Expired, expired_at, Flow, flow_of, HeardDown, HeardUp, is_due, items, only_if, put_down, put_up, SentDown, SentUp, Waiting, Word}
+use Rattle.ttrpc_pair.proofs.Words.{[], ActiveJob, ActsAll, after_report, Answer, AnswersError, ap, arith, AsyncRules, Bool, call_at, CallEvent, calling, Carry, ClientCore, ClientEnd, ClientSide, Close, Connection, Count, Deliver, Done, due_at, EndStream, Entry, Err, Error, Event, ExpireAll, Failure, false, Halves, if◌then◌else◌, Incoming, inl, inr, is_over, Item, length, lent_of, List, min, Named, Net, None, Ok, open_part, OpenEvent, Option, Outbox, OutboundTransform, Passes, Queue, Queued, Recv, refl, Reply, Respond, Responds, Response, Result, Rules, rules, Scene, scene, Send, SendsAll, SendsOne, Sent, Server, ServerCore, ServerEnd, ServerPasses, ServerSide, serving, Some, Steps, subst, sym, SyncRules, take, taken_back, taken_from, throws, Tick, Ticket, true, Ways, with_lent, with_payload, ℕ, ◌++◌, ◌∙◌, ◌∷◌, ◌≡◌, AnswersBy, nat_eq, EndsStream, DeadlineDuringWrite}
+use Rattle.ttrpc_story.proofs.Words.{Asked, Began, Call, ClosedUp, EndedDown, Expired, expired_at, Flow, flow_of, HeardDown, HeardUp, is_due, items, only_if, put_down, put_up, SentDown, SentUp, Waiting, Word}
 use Rattle.ttrpc_events.specs.Trace.{some_of}
 use Rattle.ttrpc_events.specs.declared.events.StreamEnd.{StreamEnd}
 
@@ -78,14 +78,12 @@ carried failure false q pipe n k alive whole is e i =
 -- ---- a moment
 
 due_not : (now : ℕ) (e : Option Call) → expired_at now e ≡ e → due_at now e ≡ false
-due_not now None h = refl
-due_not now (Some Expired) h = refl
-due_not now (Some (Ended o)) h = refl
 due_not now (Some (Waiting d)) h = by (is_due now (Waiting d)) h
   where
     by : (b : Bool) → Some (if b then Expired else Waiting d) ≡ Some (Waiting d) → b ≡ false
     by false same = refl
     by true same = cc
+due_not now e h = refl
 
 back_taken : {O I : Type 0} (b : Bool) (c : Connection O I) (ids : ℕ → Bool) (why : Failure) → ((k : ℕ) → ids k ≡ false) → (if b then taken_back c ids why else c).outbox.queue.frames ≡ c.outbox.queue.frames
 back_taken true c ids why none = none_thrown c.outbox.queue ids none
@@ -139,36 +137,18 @@ module _ {CO CI SO SI : Type 0} (c : Halves CO CI) (s : Halves SO SI) (seals : B
       let heard = heard_whole c s seals (is_over (taken_from w.down k)) p.does.mid v.client.connection (never_over c s seals (taken_from w.down k) o.down) p.does.hears in
       acted (calling c.out c.in_) 0 p.does.does.frames (scene w.client.state w.client.connection) (scene v.client.state p.does.mid) p.does.does.acts (sym (ap (λ (x : Connection CO CI). x.outbox.queue.frames) heard) ∙ e)
 
-  same_up : (w v : Net CO CI SO SI) → v.client.connection.outbox.queue ≡ w.client.connection.outbox.queue → v.up.bytes ≡ w.up.bytes → UpIdle v → UpIdle w
-  same_up w v q p i = idle_as (ap (λ (x : Queue). x.frames) q) p i
-
-  same_down : (w v : Net CO CI SO SI) → v.server.connection.outbox.queue ≡ w.server.connection.outbox.queue → v.down.bytes ≡ w.down.bytes → DownIdle v → DownIdle w
-  same_down w v q p i = idle_as (ap (λ (x : Queue). x.frames) q) p i
-
-  same_server : (w v : Net CO CI SO SI) → v ≡ with_server w v.server → UpIdle v → UpIdle w
-  same_server w v only i = idle_as (ap (λ (x : Net CO CI SO SI). x.client.connection.outbox.queue.frames) only) (ap (λ (x : Net CO CI SO SI). x.up.bytes) only) i
-
-  same_client : (w v : Net CO CI SO SI) → v ≡ with_client w v.client → DownIdle v → DownIdle w
-  same_client w v only i = idle_as (ap (λ (x : Net CO CI SO SI). x.server.connection.outbox.queue.frames) only) (ap (λ (x : Net CO CI SO SI). x.down.bytes) only) i
-
-  quiet_client : (w v : Net CO CI SO SI) → v ≡ with_client w v.client → v.client.connection ≡ w.client.connection → UpIdle v → UpIdle w
-  quiet_client w v only same i = idle_as (ap (λ (x : Connection CO CI). x.outbox.queue.frames) same) (ap (λ (x : Net CO CI SO SI). x.up.bytes) only) i
-
-  quiet_server : (w v : Net CO CI SO SI) → v ≡ with_server w v.server → v.server.connection ≡ w.server.connection → DownIdle v → DownIdle w
-  quiet_server w v only same i = idle_as (ap (λ (x : Connection SO SI). x.outbox.queue.frames) same) (ap (λ (x : Net CO CI SO SI). x.down.bytes) only) i
-
   -- BEHIND THE LAST BYTES THAT THE SERVER TOOK, upwards.
   pub up_back : (t : List Entry) (w : Net CO CI SO SI) (event : Event) (reply : Reply) (v : Net CO CI SO SI) → IsKnown c s seals still fixed set f t w event reply v → is_clean_event event ≡ true → is_clean_reply reply ≡ true → takes_bytes ServerSide event reply ≡ false → Steps c s seals w event reply v → UpIdle v → UpIdle w × PutsUp event reply
   up_back t w (CallEvent request) (Named id) v i a b z p idle = absurd (sent_one c.out w.client.connection.outbox _ _ v.client.connection.outbox p.1.sends idle.none_queued)
   up_back t w (OpenEvent request up down) (Named id) v i a b z p idle = absurd (sent_one c.out w.client.connection.outbox _ _ v.client.connection.outbox p.1.sends idle.none_queued)
   up_back t w (Send (ClientEnd id) item) (Ticket ticket) v i a b z p idle = absurd (sent_one c.out w.client.connection.outbox _ _ v.client.connection.outbox p.0.sends.sends idle.none_queued)
   up_back t w (Close id) (Ticket ticket) v i a b z p idle = absurd (sent_one c.out w.client.connection.outbox _ _ v.client.connection.outbox p.0.sends.sends idle.none_queued)
-  up_back t w (Recv (ClientEnd id)) (Item given) v i a b z p idle = (quiet_client w v p.1 (ap (λ (x : ClientCore CO CI). x.connection) p.0.same) idle, heard_none (λ xs. items (put_up xs)) refl (λ word. refl) (λ word. refl) (ClientEnd id) given)
-  up_back t w (Recv (ServerEnd id)) (Item given) v i a b z p idle = (same_server w v p.1 idle, heard_none (λ xs. items (put_up xs)) refl (λ word. refl) (λ word. refl) (ServerEnd id) given)
-  up_back t w (Send (ServerEnd id) item) (Ticket ticket) v i a b z p idle = (same_server w v p.1 idle, λ k. nothing_put (λ xs. items (put_up xs)) (nat_eq (f id) k) (SentDown item) refl refl)
-  up_back t w (Answer id result) Done v i a b z p idle = (same_server w v p.1 idle, λ k. nothing_put (λ xs. items (put_up xs)) (nat_eq (f id) k) (EndedDown (some_of result)) refl refl)
-  up_back t w (Respond id response) Done v i a b z p idle = (idle_as (ap (λ (x : Net CO CI SO SI). x.client.connection.outbox.queue.frames) p.only) (ap (λ (x : Net CO CI SO SI). x.up.bytes) p.only) idle, λ k. nothing_put (λ xs. items (put_up xs)) (nat_eq (f id) k) (EndedDown (Ok (Some response))) refl refl)
-  up_back t w (EndStream id result) Done v i a b z p idle = (same_server w v p.1 idle, λ k. nothing_put (λ xs. items (put_up xs)) (nat_eq (f id) k) (EndedDown result) refl refl)
+  up_back t w (Recv (ClientEnd id)) (Item given) v i a b z p idle = (idle_as (ap (λ (x : ClientCore CO CI). x.connection.outbox.queue.frames) p.0.same) (ap (λ (x : Net CO CI SO SI). x.up.bytes) p.1) idle, heard_none (λ xs. items (put_up xs)) refl (λ word. refl) (λ word. refl) (ClientEnd id) given)
+  up_back t w (Recv (ServerEnd id)) (Item given) v i a b z p idle = (subst (λ (x : Net CO CI SO SI). UpIdle x) p.1 idle, heard_none (λ xs. items (put_up xs)) refl (λ word. refl) (λ word. refl) (ServerEnd id) given)
+  up_back t w (Send (ServerEnd id) item) (Ticket ticket) v i a b z p idle = (subst (λ (x : Net CO CI SO SI). UpIdle x) p.1 idle, λ k. nothing_put (λ xs. items (put_up xs)) (nat_eq (f id) k) (SentDown item) refl refl)
+  up_back t w (Answer id result) Done v i a b z p idle = (subst (λ (x : Net CO CI SO SI). UpIdle x) p.1 idle, λ k. nothing_put (λ xs. items (put_up xs)) (nat_eq (f id) k) (EndedDown (some_of result)) refl refl)
+  up_back t w (Respond id response) Done v i a b z p idle = (subst (λ (x : Net CO CI SO SI). UpIdle x) p.only idle, λ k. nothing_put (λ xs. items (put_up xs)) (nat_eq (f id) k) (EndedDown (Ok (Some response))) refl refl)
+  up_back t w (EndStream id result) Done v i a b z p idle = (subst (λ (x : Net CO CI SO SI). UpIdle x) p.1 idle, λ k. nothing_put (λ xs. items (put_up xs)) (nat_eq (f id) k) (EndedDown result) refl refl)
   up_back t w (Tick now) Done v i a b z p idle =
       (idle_as (ticked_up w.client.connection.failure w.client now v.client (none_due c s seals set f t w now i.before i.cleanly.timed i.cleanly.at.in_time) p.does) (ap (λ (x : Net CO CI SO SI). x.up.bytes) p.only) idle, λ k. refl)
   up_back t w (Carry ClientSide n) (Count k) v i a b z p idle = (
@@ -183,7 +163,7 @@ module _ {CO CI SO SI : Type 0} (c : Halves CO CI) (s : Halves SO SI) (seals : B
   up_back t w event reply v i a b z p idle =
       let queue : v.client.connection.outbox.queue ≡ w.client.connection.outbox.queue = first_of (cc, search rules) in
       let pipe : v.up.bytes ≡ w.up.bytes = first_of (cc, search rules) in
-      (same_up w v queue pipe idle, λ k. refl)
+      (idle_as (ap (λ (x : Queue). x.frames) queue) pipe idle, λ k. refl)
 
   -- what an answer or an end queues
   answered_down : (r : Rules) (old : ServerCore SO SI) (id : ℕ) (result : Result Response Error) (new : ServerCore SO SI) → old.state.rules ≡ r → AnswersBy c s seals old id result new → new.connection.outbox.queue.frames ≡ [] → (old.connection.outbox.queue.frames ≡ []) × ((k : ℕ) → items (put_down set.rules set.limit (only_if (nat_eq (f id) k) (EndedDown (some_of result)))) ≡ [])
@@ -202,12 +182,12 @@ module _ {CO CI SO SI : Type 0} (c : Halves CO CI) (s : Halves SO SI) (seals : B
 
   -- BEHIND THE LAST BYTES THAT THE CLIENT TOOK, downwards.
   pub down_back : (t : List Entry) (w : Net CO CI SO SI) (event : Event) (reply : Reply) (v : Net CO CI SO SI) → IsKnown c s seals still fixed set f t w event reply v → is_clean_event event ≡ true → is_clean_reply reply ≡ true → takes_bytes ClientSide event reply ≡ false → Steps c s seals w event reply v → DownIdle v → DownIdle w × PutsDown event reply
-  down_back t w (CallEvent request) (Named id) v i a b z p idle = (same_client w v p.2 idle, λ k. nothing_put (λ xs. items (put_down set.rules set.limit xs)) (nat_eq id k) (Asked request) refl refl)
-  down_back t w (OpenEvent request up down) (Named id) v i a b z p idle = (same_client w v p.2 idle, λ k. nothing_put (λ xs. items (put_down set.rules set.limit xs)) (nat_eq id k) (Began request up) refl refl)
-  down_back t w (Send (ClientEnd id) item) (Ticket ticket) v i a b z p idle = (same_client w v p.1 idle, λ k. nothing_put (λ xs. items (put_down set.rules set.limit xs)) (nat_eq id k) (SentUp item) refl refl)
-  down_back t w (Close id) (Ticket ticket) v i a b z p idle = (same_client w v p.1 idle, λ k. nothing_put (λ xs. items (put_down set.rules set.limit xs)) (nat_eq id k) ClosedUp refl refl)
-  down_back t w (Recv (ClientEnd id)) (Item given) v i a b z p idle = (same_client w v p.1 idle, heard_none (λ xs. items (put_down set.rules set.limit xs)) refl (λ word. refl) (λ word. refl) (ClientEnd id) given)
-  down_back t w (Recv (ServerEnd id)) (Item given) v i a b z p idle = (quiet_server w v p.1 (ap (λ (x : ServerCore SO SI). x.connection) p.0.same) idle, heard_none (λ xs. items (put_down set.rules set.limit xs)) refl (λ word. refl) (λ word. refl) (ServerEnd id) given)
+  down_back t w (CallEvent request) (Named id) v i a b z p idle = (subst (λ (x : Net CO CI SO SI). DownIdle x) p.2 idle, λ k. nothing_put (λ xs. items (put_down set.rules set.limit xs)) (nat_eq id k) (Asked request) refl refl)
+  down_back t w (OpenEvent request up down) (Named id) v i a b z p idle = (subst (λ (x : Net CO CI SO SI). DownIdle x) p.2 idle, λ k. nothing_put (λ xs. items (put_down set.rules set.limit xs)) (nat_eq id k) (Began request up) refl refl)
+  down_back t w (Send (ClientEnd id) item) (Ticket ticket) v i a b z p idle = (subst (λ (x : Net CO CI SO SI). DownIdle x) p.1 idle, λ k. nothing_put (λ xs. items (put_down set.rules set.limit xs)) (nat_eq id k) (SentUp item) refl refl)
+  down_back t w (Close id) (Ticket ticket) v i a b z p idle = (subst (λ (x : Net CO CI SO SI). DownIdle x) p.1 idle, λ k. nothing_put (λ xs. items (put_down set.rules set.limit xs)) (nat_eq id k) ClosedUp refl refl)
+  down_back t w (Recv (ClientEnd id)) (Item given) v i a b z p idle = (subst (λ (x : Net CO CI SO SI). DownIdle x) p.1 idle, heard_none (λ xs. items (put_down set.rules set.limit xs)) refl (λ word. refl) (λ word. refl) (ClientEnd id) given)
+  down_back t w (Recv (ServerEnd id)) (Item given) v i a b z p idle = (idle_as (ap (λ (x : ServerCore SO SI). x.connection.outbox.queue.frames) p.0.same) (ap (λ (x : Net CO CI SO SI). x.down.bytes) p.1) idle, heard_none (λ xs. items (put_down set.rules set.limit xs)) refl (λ word. refl) (λ word. refl) (ServerEnd id) given)
   down_back t w (Send (ServerEnd id) item) (Ticket ticket) v i a b z p idle = absurd (sent_one s.out w.server.connection.outbox _ _ v.server.connection.outbox p.0.sends.sends idle.none_queued)
   down_back t w (Answer id result) Done v i a b z p idle =
       let y = answered_down w.server.state.rules w.server id result v.server refl p.0 idle.none_queued in
@@ -228,4 +208,4 @@ module _ {CO CI SO SI : Type 0} (c : Halves CO CI) (s : Halves SO SI) (seals : B
   down_back t w event reply v i a b z p idle =
       let queue : v.server.connection.outbox.queue ≡ w.server.connection.outbox.queue = first_of (cc, search rules) in
       let pipe : v.down.bytes ≡ w.down.bytes = first_of (cc, search rules) in
-      (same_down w v queue pipe idle, λ k. refl)
+      (idle_as (ap (λ (x : Queue). x.frames) queue) pipe idle, λ k. refl)

@@ -1,7 +1,8 @@
 -- THE FOUR ZEROS: at the end of a clean drained run both queues and both pipes are empty, and nothing is in flight.
+use Rattle.ttrpc_headline.proofs.Failing.{lives_back}
 use Rattle.ttrpc_headline.proofs.Headline.{cut_at, keeps, keeps_all, Ruled, ruled, fresh, starts_ruled}
 use Rattle.ttrpc_headline.proofs.Keeps.{Keeps}
-use Rattle.ttrpc_headline.proofs.Living.{clean_front, fresh_open, heard_whole, lives_at_end, lives_back, never_over, stay_open, stays_open}
+use Rattle.ttrpc_headline.proofs.Living.{clean_front, fresh_open, heard_whole, lives_at_end, never_over, stay_open, stays_open}
 use Rattle.ttrpc_headline.proofs.Numbers.{IsRightRun, streams_of}
 use Rattle.ttrpc_headline.specs.Living.{IsEmpty, IsOpen, Lives}
 use Rattle.ttrpc_story.proofs.Place.{Settings}
@@ -9,6 +10,7 @@ use Rattle.ttrpc_events.specs.Clean.{AreClean, IsDrained, other}
 use Rattle.ttrpc_events.specs.declared.events.Side.{Side}
 use Rattle.ttrpc_pair.proofs.Idle.{all_has_come, Fed, IsQueue, no_frames_come, none_to_lend, still_none}
 use Rattle.std.specs.Prelude.{◌<◌}
+use Rattle.std.proofs.lemmas.List.{nil_from_length}
 use Rattle.ttrpc_pair.proofs.Words.{[], ActsAll, after_report, ap, arith, Bool, calling, Carry, Client, ClientCore, ClientSide, Connection, Count, Deliver, drop, Entry, Failure, false, Halves, Incoming, inl, inr, is_over, length, lent_of, List, min, Net, None, open_part, Option, Outbox, Pipe, Queue, refl, IsFresh, safe_limit, Rules, Runs, Scene, scene, Server, ServerCore, ServerSide, serving, Some, Steps, subst, sym, take, taken_from, true, Ways, with_lent, ℕ, ◌++◌, ◌∙◌, ◌∷◌, ◌≡◌}
 use Rattle.ttrpc_story.proofs.Words.{Flying}
 
@@ -16,10 +18,6 @@ use Rattle.ttrpc_story.proofs.Words.{Flying}
 
 min_zero : (a n : ℕ) → 0 < a → 0 ≡ min a n → n ≡ 0
 min_zero a n h e = omega (arith, h, e)
-
-nil_of : {X : Type 0} (xs : List X) → length xs ≡ 0 → xs ≡ []
-nil_of [] h = refl
-nil_of (x ∷ xs) h = absurd (let no : ⊥ = omega (arith, h) in no)
 
 pub lent_alive : (failure : Option Failure) (n k : ℕ) (q : Queue) → failure ≡ None → k ≡ lent_of failure n q → k ≡ min n (length (open_part q))
 lent_alive None n k q e h = h
@@ -104,13 +102,13 @@ module _ {CO CI SO SI : Type 0} (c : Halves CO CI) (s : Halves SO SI) (seals : B
       → (pipe_to to v ≡ []) × (pipe_to (other to) v ≡ pipe_to (other to) w) × ((side : Side) → queue_of side v ≡ queue_of side w)
   deliver_zero set f ServerSide t w v n some i o p =
       let idle = idle_up set f t w v n 0 i o refl p in (
-        idle.3 ∙ nil_of w.up.bytes (min_zero n (length w.up.bytes) some (count_up w v n o p)),
+        idle.3 ∙ nil_from_length w.up.bytes (min_zero n (length w.up.bytes) some (count_up w v n o p)),
         ap (λ (x : Pipe). x.bytes) idle.4,
         by_side w v (ap (λ (x : ClientCore CO CI). x.connection.outbox.queue) idle.2) (ap (λ (x : Outbox SO). x.queue) idle.1),
       )
   deliver_zero set f ClientSide t w v n some i o p =
       let idle = idle_down set f t w v n 0 i o refl p in (
-        idle.3 ∙ nil_of w.down.bytes (min_zero n (length w.down.bytes) some p.does.count),
+        idle.3 ∙ nil_from_length w.down.bytes (min_zero n (length w.down.bytes) some p.does.count),
         ap (λ (x : Pipe). x.bytes) idle.4,
         by_side w v (ap (λ (x : Outbox CO). x.queue) idle.1) (ap (λ (x : ServerCore SO SI). x.connection.outbox.queue) idle.2),
       )

@@ -217,15 +217,15 @@ sends_refusal out old rs k r sent new within is p q =
     let last = fitted rs limit r in
     flight_as (IsResponseFlight k last) (IsRefusing k (told_by rs limit r)) (λ y f. refusing last (fitted_is IsRefusal (λ x g. g) rs limit r (omega arith) is) f) (sends_last out old rs k r sent new within p q)
 
--- ---- frames of an answer behind others
+-- ---- frames of one id behind others
 
-pub down_at : (k i : ℕ) (o : Origin) (done : List Act) (down more : List Flying) → AllByRecursion (IsDown k true o done) more → k ≢ i → parcels i (down ++ more) ≡ parcels i down
-down_at k i o done down [] downs e = ap (parcels i) (append-nil down)
-down_at k i o done down (y ∷ more) downs e =
-    ap (parcels i) (sym (append_assoc down (y ∷ []) more)) ∙ down_at k i o done (down ++ y ∷ []) more downs.1 e ∙ pushed_other id_of i y down (λ same. e (sym downs.0.stream ∙ same))
+pub behind_other : (P : Flying → Type 0) (k i : ℕ) → ((y : Flying) → P y → id_of y ≡ k) → (down more : List Flying) → AllByRecursion P more → k ≢ i → parcels i (down ++ more) ≡ parcels i down
+behind_other P k i own down [] are e = ap (parcels i) (append-nil down)
+behind_other P k i own down (y ∷ more) are e =
+    ap (parcels i) (sym (append_assoc down (y ∷ []) more)) ∙ behind_other P k i own (down ++ y ∷ []) more are.1 e ∙ pushed_other id_of i y down (λ same. e (sym (own y are.0) ∙ same))
 
-pub down_own : (k : ℕ) (o : Origin) (done : List Act) (down more : List Flying) → AllByRecursion (IsDown k true o done) more → parcels k (down ++ more) ≡ parcels k down ++ more
-down_own k o done down [] downs = ap (parcels k) (append-nil down) ∙ sym (append-nil (parcels k down))
-down_own k o done down (y ∷ more) downs =
-    ap (parcels k) (sym (append_assoc down (y ∷ []) more)) ∙ down_own k o done (down ++ y ∷ []) more downs.1
-    ∙ ap (λ (xs : List Flying). xs ++ more) (pushed_own id_of k y down downs.0.stream) ∙ append_assoc (parcels k down) (y ∷ []) more
+pub behind_own : (P : Flying → Type 0) (k : ℕ) → ((y : Flying) → P y → id_of y ≡ k) → (down more : List Flying) → AllByRecursion P more → parcels k (down ++ more) ≡ parcels k down ++ more
+behind_own P k own down [] are = ap (parcels k) (append-nil down) ∙ sym (append-nil (parcels k down))
+behind_own P k own down (y ∷ more) are =
+    ap (parcels k) (sym (append_assoc down (y ∷ []) more)) ∙ behind_own P k own (down ++ y ∷ []) more are.1
+    ∙ ap (λ (xs : List Flying). xs ++ more) (pushed_own id_of k y down (own y are.0)) ∙ append_assoc (parcels k down) (y ∷ []) more

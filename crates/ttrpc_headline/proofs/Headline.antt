@@ -143,7 +143,7 @@ module _ {CO CI SO SI : Type 0} (c : Halves CO CI) (s : Halves SO SI) (seals : B
           may_have = refl;
           ups_is = refl;
           jobs_is = ap (λ (x : ServerCore SO SI). jobs_at x.state.jobs.list k) n.server;
-          downs = tt;
+          down = tt;
         };
         client = (ap (λ (x : ClientCore CO CI). call_at x.state k) n.client, ap (λ (x : ClientCore CO CI). stream_at x.state k) n.client, refl);
         tidy = λ clean. refl;

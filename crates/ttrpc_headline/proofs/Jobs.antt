@@ -8,7 +8,8 @@ use Rattle.ttrpc_story.proofs.Tidy.{IsPatient, IsTooSoon}
 use Rattle.ttrpc_story.proofs.Words.{Body, Call, deadline_in, Dropped, past_error, StreamBody, UnaryBody, Waiting, with_mail}
 use Rattle.ttrpc_events.specs.Clean.{reaches}
 use Rattle.std.specs.Prelude.{nat_le}
-use Rattle.std.proofs.lemmas.Bool.{leb-false, leb-true}
+use Rattle.std.proofs.lemmas.Bool.{leb-false, leb-true, or_left, or_right}
+use Rattle.std.proofs.lemmas.List.Folds.{list_any-append}
 
 -- ---- jobs around a job
 
@@ -17,18 +18,10 @@ not_here k front back j other = between_other stream_id_of k front back j other 
 
 -- one more job has its response
 pub any_more : (p : ℕ → Bool) (xs : List ℕ) (x : ℕ) → list_any p xs ≡ true → list_any p (xs ++ x ∷ []) ≡ true
-any_more p [] x h = cc
-any_more p (y ∷ xs) x h = elim (cases_Bool (p y)) [
-  | inl e ↦ rw e refl
-  | inr e ↦ rw e (any_more p xs x (rw e at h))
-]
+any_more p xs x h = list_any-append p xs (x ∷ []) ∙ or_left (list_any p xs) (list_any p (x ∷ [])) h
 
 pub any_last : (p : ℕ → Bool) (xs : List ℕ) (x : ℕ) → p x ≡ true → list_any p (xs ++ x ∷ []) ≡ true
-any_last p [] x h = rw h refl
-any_last p (y ∷ xs) x h = elim (cases_Bool (p y)) [
-  | inl e ↦ rw e refl
-  | inr e ↦ rw e (any_last p xs x h)
-]
+any_last p xs x h = list_any-append p xs (x ∷ []) ∙ or_right (list_any p xs) (list_any p (x ∷ [])) (or_left (p x) false h)
 
 -- A job that was taken: the function gives its stream, and what there is under that.
 pub record IsAt (f : ℕ → ℕ) (jobs : List ActiveJob) (id : ℕ) (j : ActiveJob) (at : IsTaken jobs id j) : Type 0 where

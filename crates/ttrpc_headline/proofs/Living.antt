@@ -1,85 +1,17 @@
 -- Both sides live at each place of a clean quiet run: no step clears a failure, and the last deliveries found none. No pipe was
 -- cut, and the server takes what comes.
-use Rattle.ttrpc_headline.proofs.OneWay.{as_heard, kept_some}
+use Rattle.ttrpc_headline.proofs.Failing.{lives_back}
 use Rattle.ttrpc_headline.specs.Living.{IsOpen, Lives}
 use Rattle.ttrpc_events.specs.Clean.{AreClean, is_clean_event, is_clean_reply, IsDrained, other}
 use Rattle.ttrpc_events.specs.declared.events.Side.{Side}
 use Rattle.std.specs.Prelude.{not}
-use Rattle.ttrpc_pair.proofs.Words.{[], ActiveJob, ActsAll, Answer, append-nil, AnswersBy, AnswersError, ap, append_assoc, AsyncRules, Bool, CancelledDuringWrite, Carry, ClientCore, ClientSide, Connection, Count, Cut, cut_to, Deliver, Done, Drain, DropCall, DropReceiver, EndStream, Entry, Err, Error, Event, ExpireAll, Fail, failed_by_hand, failing, Failure, false, Finish, first_failure, Halves, Handed, has_begun, Hears, if◌then◌else◌, Incoming, inl, inr, is_over, is_over, IsFresh, Item, List, nat_eq, Net, None, Ok, Option, Outbox, Passes, Pipe, Recv, refl, Refused, Reply, Respond, Response, Result, rules, Rules, Runs, Scene, scene, Send, Server, ServerCore, ServerEnd, ServerPasses, ServerSide, serving, Some, Steps, subst, sym, SyncRules, Take, taken_back, taken_from, takes_back, Tick, Ticket, Told, true, ℕ, ◌++◌, ◌∙◌, ◌∷◌, ◌≡◌}
-
--- ---- a failure is kept
-
--- where requests were taken back
-back_lives : {O I : Type 0} (b begun : Bool) (c : Connection O I) (ids : ℕ → Bool) (why : Failure) → has_begun c.outbox.queue ids ≡ begun → (if b then taken_back c ids why else c).failure ≡ None → c.failure ≡ None
-back_lives false begun c ids why is h = h
-back_lives true true c ids why is h = absurd (kept_some c.failure why (subst (λ (x : Bool). (if x then first_failure c.failure why else c.failure) ≡ None) is h))
-back_lives true false c ids why is h = subst (λ (x : Bool). (if x then first_failure c.failure why else c.failure) ≡ None) is h
-
--- where the input may have ended
-heard_lives : {O I : Type 0} (over : Bool) (old new : Connection O I) → Hears over old new → new.failure ≡ None → old.failure ≡ None
-heard_lives over old new h = as_heard (λ (y : Connection _ _). y.failure ≡ None → old.failure ≡ None) over old new h (λ n. n) (λ why n. absurd (kept_some old.failure why n))
+use Rattle.ttrpc_pair.proofs.Words.{[], ActiveJob, ActsAll, Answer, append-nil, AnswersBy, AnswersError, ap, append_assoc, AsyncRules, Bool, Carry, ClientCore, ClientSide, Connection, Count, Cut, Deliver, Done, Drain, DropReceiver, Entry, Err, Error, Event, ExpireAll, Failure, false, Halves, Hears, Incoming, inl, inr, is_over, is_over, IsFresh, List, Net, None, Ok, Option, Outbox, Pipe, refl, Refused, Reply, Response, Result, rules, Rules, Runs, Scene, scene, Server, ServerCore, ServerPasses, ServerSide, serving, Some, Steps, subst, sym, SyncRules, taken_from, Tick, true, ℕ, ◌++◌, ◌∙◌, ◌∷◌, ◌≡◌}
 
 module _ {CO CI SO SI : Type 0} (c : Halves CO CI) (s : Halves SO SI) (seals : Bool) where
-  passes_client : (failure : Option Failure) (old : ClientCore CO CI) (now : ℕ) (new : ClientCore CO CI) → old.connection.failure ≡ failure → Passes seals failure old now new → new.connection.failure ≡ None → old.connection.failure ≡ None
-  passes_client None old now new e p h = e
-  passes_client (Some why) old now new e same h = sym (ap (λ (x : ClientCore CO CI). x.connection.failure) same) ∙ h
-
-  passes_server : (r : Rules) (failure : Option Failure) (old : ServerCore SO SI) (now : ℕ) (new : ServerCore SO SI) → old.connection.failure ≡ failure → ServerPasses s.out r failure old now new → new.connection.failure ≡ None → old.connection.failure ≡ None
-  passes_server SyncRules failure old now new e same h = sym (ap (λ (x : ServerCore SO SI). x.connection.failure) same) ∙ h
-  passes_server AsyncRules None old now new e p h = e
-  passes_server AsyncRules (Some why) old now new e same h = sym (ap (λ (x : ServerCore SO SI). x.connection.failure) same) ∙ h
-
-  answers_alive : (r : Rules) (old : ServerCore SO SI) (id : ℕ) (result : Result Response Error) (new : ServerCore SO SI) → old.state.rules ≡ r → AnswersBy c s seals old id result new → old.connection.failure ≡ None
-  answers_alive r old id (Ok response) new e p = p.1.alive
-  answers_alive SyncRules old id (Err error) new e p = let d = subst (λ (x : Rules). AnswersError s.out x old id error new) e p in d.alive
-  answers_alive AsyncRules old id (Err error) new e p = let d = subst (λ (x : Rules). AnswersError s.out x old id error new) e p in d.2.alive
-
-  -- the client failed by hand, or the server
-  failing_lives : {O I : Type 0} (old new : Connection O I) (why : Failure) → new ≡ failing old why → new.failure ≡ None → old.failure ≡ None
-  failing_lives old new why e h = absurd (kept_some old.failure why (sym (ap (λ (x : Connection _ _). x.failure) e) ∙ h))
-
-  by_client : (w v : Net CO CI SO SI) → v.server.connection.failure ≡ w.server.connection.failure → (v.client.connection.failure ≡ None → w.client.connection.failure ≡ None) → Lives v → Lives w
-  by_client w v server client h = record { client = client h.client; server = sym server ∙ h.server }
-
-  by_server : (w v : Net CO CI SO SI) → v.client.connection.failure ≡ w.client.connection.failure → (v.server.connection.failure ≡ None → w.server.connection.failure ≡ None) → Lives v → Lives w
-  by_server w v client server h = record { client = sym client ∙ h.client; server = server h.server }
-
-  -- NO STEP CLEARS A FAILURE: who lives behind it lived before it.
-  pub lives_back : (w : Net CO CI SO SI) (event : Event) (reply : Reply) (v : Net CO CI SO SI) → Steps c s seals w event reply v → Lives v → Lives w
-  lives_back w (DropCall id) Done v p h =
-      by_client w v (ap (λ (x : Net _ _ _ _). x.server.connection.failure) p.only)
-      (λ e. back_lives (takes_back seals w.client id) (has_begun w.client.connection.outbox.queue (λ k. nat_eq k id)) w.client.connection (λ k. nat_eq k id) CancelledDuringWrite refl (sym (ap (λ (x : ClientCore CO CI). x.connection.failure) p.does.same) ∙ e)) h
-  lives_back w (Answer id result) Done v p h = by_server w v (ap (λ (x : Net _ _ _ _). x.client.connection.failure) p.1) (λ e. answers_alive w.server.state.rules w.server id result v.server refl p.0) h
-  lives_back w (Tick now) Done v p h = record {
-    client = passes_client w.client.connection.failure w.client now v.client refl p.does h.client;
-    server = passes_server w.server.state.rules w.server.connection.failure w.server now v.server refl p.serves h.server;
-  }
-  lives_back w (Deliver ServerSide n) (Count k) v (inl p) h = by_server w v (ap (λ (x : Net _ _ _ _). x.client.connection.failure) p.only) (λ e. p.does.does.alive) h
-  lives_back w (Deliver ServerSide n) (Count k) v (inr p) h = by_server w v (ap (λ (x : Net _ _ _ _). x.client.connection.failure) p.only) (heard_lives (is_over w.up) w.server.connection v.server.connection p.hears) h
-  lives_back w (Deliver ServerSide n) (Refused told) v (inl p) h = by_server w v (ap (λ (x : Net _ _ _ _). x.client.connection.failure) p.1) (λ e. p.0.alive) h
-  lives_back w (Deliver ServerSide n) (Refused told) v (inr p) h = subst Lives p.1 h
-  lives_back w (Deliver ClientSide n) (Count k) v p h = by_client w v (ap (λ (x : Net _ _ _ _). x.server.connection.failure) p.only) (λ e. p.does.does.alive) h
-  lives_back w (Deliver ClientSide n) (Refused told) v (inl p) h = by_client w v (ap (λ (x : Net _ _ _ _). x.server.connection.failure) p.1) (λ e. p.0.alive) h
-  lives_back w (Deliver ClientSide n) (Refused told) v (inr p) h = subst Lives p.1 h
-  lives_back w (Cut ServerSide keep) Done v p h =
-      by_server w v (ap (λ (x : Net _ _ _ _). x.client.connection.failure) p.only)
-      (λ e. heard_lives (is_over (cut_to w.up keep)) w.server.connection p.connection p.hears (sym (ap (λ (x : Net _ _ _ _). x.server.connection.failure) p.only) ∙ e)) h
-  lives_back w (Cut ClientSide keep) Done v p h =
-      by_client w v (ap (λ (x : Net _ _ _ _). x.server.connection.failure) p.only)
-      (λ e. heard_lives (is_over (cut_to w.down keep)) w.client.connection p.connection p.hears (sym (ap (λ (x : Net _ _ _ _). x.client.connection.failure) p.only) ∙ e)) h
-  lives_back w (Fail ClientSide) Done v p h =
-      by_client w v (ap (λ (x : Net _ _ _ _). x.server.connection.failure) p) (failing_lives w.client.connection v.client.connection (Told failed_by_hand) (ap (λ (x : Net _ _ _ _). x.client.connection) p)) h
-  lives_back w (Fail ServerSide) Done v p h =
-      by_server w v (ap (λ (x : Net _ _ _ _). x.client.connection.failure) p) (failing_lives w.server.connection v.server.connection (Told failed_by_hand) (ap (λ (x : Net _ _ _ _). x.server.connection) p)) h
-  lives_back w event reply v p h =
-      let client : v.client.connection.failure ≡ w.client.connection.failure = first_of (cc, search rules) in
-      let server : v.server.connection.failure ≡ w.server.connection.failure = first_of (cc, search rules) in
-      record { client = sym client ∙ h.client; server = sym server ∙ h.server }
-
   -- who lives behind a run lived all along
   pub lived : (w : Net CO CI SO SI) (rest : List Entry) (v : Net CO CI SO SI) → Runs c s seals w rest v → Lives v → Lives w
   lived w [] v same h = subst Lives same h
-  lived w (e ∷ rest) v r h = lives_back w e.event e.reply r.0 r.1 (lived r.0 rest v r.2 h)
+  lived w (e ∷ rest) v r h = lives_back c s seals w e.event e.reply r.0 r.1 (lived r.0 rest v r.2 h)
 
   -- ---- pipes stay whole, and the server goes on taking
 
@@ -102,45 +34,29 @@ module _ {CO CI SO SI : Type 0} (c : Halves CO CI) (s : Halves SO SI) (seals : B
   drains_acted now (f ∷ fs) old new acts = drains_acted now fs acts.0 new acts.2 ∙ acts.1.takes
 
   takes_stay : (w : Net CO CI SO SI) (event : Event) (reply : Reply) (v : Net CO CI SO SI) → is_clean_event event ≡ true → is_clean_reply reply ≡ true → Steps c s seals w event reply v → not v.server.state.draining ≡ not w.server.state.draining
-  takes_stay w Take (Handed (Some job)) v e r p = ap (λ (x : ServerCore SO SI). not x.state.draining) p.0.same
   takes_stay w (Answer id result) Done v e r p = drains_answered w.server.state.rules w.server id result v.server refl p.0
-  takes_stay w (Respond id response) Done v e r p = ap (λ (x : ServerCore SO SI). not x.state.draining) p.does.same
-  takes_stay w (Finish id) Done v e r p = ap (λ (x : ServerCore SO SI). not x.state.draining) p.0.same
-  takes_stay w (EndStream id result) Done v e r p = ap (λ (x : ServerCore SO SI). not x.state.draining) p.0.same
-  takes_stay w (Send (ServerEnd id) item) (Ticket ticket) v e r p = ap (λ (x : ServerCore SO SI). not x.state.draining) p.0.same
-  takes_stay w (Recv (ServerEnd id)) (Item given) v e r p = ap (λ (x : ServerCore SO SI). not x.state.draining) p.0.same
   takes_stay w (DropReceiver at) reply v e r p = let bad : false ≡ true = e in cc
   takes_stay w Drain reply v e r p = let bad : false ≡ true = e in cc
   takes_stay w (Cut to keep) reply v e r p = let bad : false ≡ true = e in cc
   takes_stay w (Deliver to n) (Refused told) v e r p = let bad : false ≡ true = r in cc
+  takes_stay w (Deliver ServerSide n) (Count k) v e r (inr p) = ap (λ (x : Net _ _ _ _). not x.server.state.draining) p.only
   takes_stay w (Tick now) Done v e r p = drains_passed w.server.state.rules w.server.connection.failure w.server now v.server p.serves
   takes_stay w (Deliver ServerSide n) (Count k) v e r (inl p) = drains_acted w.moment p.does.does.frames (scene w.server.state w.server.connection) (scene v.server.state p.does.mid) p.does.does.acts
-  takes_stay w (Deliver ServerSide n) (Count k) v e r (inr p) = ap (λ (x : Net _ _ _ _). not x.server.state.draining) p.only
-  takes_stay w event reply v e r p = let state : v.server.state ≡ w.server.state = first_of (cc, search rules) in ap (λ (x : Server). not x.draining) state
+  takes_stay w event reply v e r p = first_of (cc, search rules)
 
-  up_stays : (w : Net CO CI SO SI) (event : Event) (reply : Reply) (v : Net CO CI SO SI) → is_clean_event event ≡ true → is_clean_reply reply ≡ true → Steps c s seals w event reply v → v.up.cut ≡ w.up.cut
-  up_stays w (Cut to keep) reply v e r p = let bad : false ≡ true = e in cc
-  up_stays w (Deliver to n) (Refused told) v e r p = let bad : false ≡ true = r in cc
-  up_stays w (Deliver ServerSide n) (Count k) v e r (inl p) = ap (λ (x : Net _ _ _ _). x.up.cut) p.only
-  up_stays w (Deliver ServerSide n) (Count k) v e r (inr p) = ap (λ (x : Net _ _ _ _). x.up.cut) p.only
-  up_stays w (Deliver ClientSide n) (Count k) v e r p = ap (λ (x : Net _ _ _ _). x.up.cut) p.only
-  up_stays w (Carry ClientSide n) (Count k) v e r p = ap (λ (x : Net _ _ _ _). x.up.cut) p.only
-  up_stays w (Carry ServerSide n) (Count k) v e r p = ap (λ (x : Net _ _ _ _). x.up.cut) p.only
-  up_stays w event reply v e r p = first_of (cc, search rules)
+  abbrev CutsStay : Net CO CI SO SI → Net CO CI SO SI → Type 0
+  CutsStay w v = (v.up.cut ≡ w.up.cut) × (v.down.cut ≡ w.down.cut)
 
-  down_stays : (w : Net CO CI SO SI) (event : Event) (reply : Reply) (v : Net CO CI SO SI) → is_clean_event event ≡ true → is_clean_reply reply ≡ true → Steps c s seals w event reply v → v.down.cut ≡ w.down.cut
-  down_stays w (Cut to keep) reply v e r p = let bad : false ≡ true = e in cc
-  down_stays w (Deliver to n) (Refused told) v e r p = let bad : false ≡ true = r in cc
-  down_stays w (Deliver ServerSide n) (Count k) v e r (inl p) = ap (λ (x : Net _ _ _ _). x.down.cut) p.only
-  down_stays w (Deliver ServerSide n) (Count k) v e r (inr p) = ap (λ (x : Net _ _ _ _). x.down.cut) p.only
-  down_stays w (Deliver ClientSide n) (Count k) v e r p = ap (λ (x : Net _ _ _ _). x.down.cut) p.only
-  down_stays w (Carry ClientSide n) (Count k) v e r p = ap (λ (x : Net _ _ _ _). x.down.cut) p.only
-  down_stays w (Carry ServerSide n) (Count k) v e r p = ap (λ (x : Net _ _ _ _). x.down.cut) p.only
-  down_stays w event reply v e r p = first_of (cc, search rules)
+  cuts_stay : (w : Net CO CI SO SI) (event : Event) (reply : Reply) (v : Net CO CI SO SI) → is_clean_event event ≡ true → is_clean_reply reply ≡ true → Steps c s seals w event reply v → CutsStay w v
+  cuts_stay w (Cut to keep) reply v e r p = let bad : false ≡ true = e in cc
+  cuts_stay w (Deliver to n) (Refused told) v e r p = let bad : false ≡ true = r in cc
+  cuts_stay w (Deliver ServerSide n) (Count k) v e r (inl p) = subst (λ (x : Net CO CI SO SI). CutsStay w x) (sym p.only) (refl, refl)
+  cuts_stay w (Deliver ServerSide n) (Count k) v e r (inr p) = subst (λ (x : Net CO CI SO SI). CutsStay w x) (sym p.only) (refl, refl)
+  cuts_stay w event reply v e r p = (first_of (cc, search rules), first_of (cc, search rules))
 
   -- A CLEAN STEP LEAVES BOTH PIPES WHOLE, and the server taking.
   pub stays_open : (w : Net CO CI SO SI) (event : Event) (reply : Reply) (v : Net CO CI SO SI) → is_clean_event event ≡ true → is_clean_reply reply ≡ true → Steps c s seals w event reply v → IsOpen w → IsOpen v
-  stays_open w event reply v e r p o = record { up = up_stays w event reply v e r p ∙ o.up; down = down_stays w event reply v e r p ∙ o.down; takes = takes_stay w event reply v e r p ∙ o.takes }
+  stays_open w event reply v e r p o = let cuts = cuts_stay w event reply v e r p in record { up = cuts.0 ∙ o.up; down = cuts.1 ∙ o.down; takes = takes_stay w event reply v e r p ∙ o.takes }
 
   pub stay_open : (rules : Rules) (f : ℕ → ℕ) (front : List Entry) (w : Net CO CI SO SI) (rest : List Entry) (v : Net CO CI SO SI) → AreClean rules f front rest → Runs c s seals w rest v → IsOpen w → IsOpen v
   stay_open rules f front w [] v clean same o = subst IsOpen (sym same) o

@@ -1,8 +1,8 @@
 -- The stream of each job. There is one function that is right at every state of a run; the streams of the jobs that were
 -- made rise, and so do the ids of the requests in flight, from above them to below the client's next. So no two jobs have
 -- the same stream.
-use Rattle.ttrpc_pair.proofs.Words.{ActiveJob, ActsAll, ActsOn, AllByRecursion, Answer, AnswersBy, AnswersError, AsyncRules, Bool, ClientSide, Count, Deliver, Does, Done, Drain, DropReceiver, EndStream, EndsOne, Entry, Err, Error, Event, ExpireAll, Failure, Finish, Flying, Halves, Handed, Incoming, IsFresh, Item, Job, JobList, List, MESSAGE_TYPE_REQUEST, Mail, MakeJob, MakeStream, MessageHeader, Net, None, Ok, Option, OutboundTransform, Outbox, PutIn, ReceivesBy, Recv, Refused, Reply, Respond, Result, Row, Rules, Runs, Scene, Send, Sent, Server, ServerCore, ServerEnd, ServerPasses, ServerSide, Some, StaysFound, Steps, SyncRules, Take, Tick, Ticket, [], all_at, all_changed, all_in_front, all_less, ap, arith, arrives, at_stays, brought_by, changed_at, changed_under, cond-false, cond-true, eq-eqb, false, filter, flying_without, header_of_frame, id_of, if◌then◌else◌, inl, inr, last_id, left_behind, map, nat_eq, ne_eqb, new_job, on_mail, refl, row_of, rules, scene, serving, stays, stream_body, subst, sym, true, unary_body, under_stays, unheard, with_server, without_payload, without_receiver, ℕ, ◌++◌, ◌+◌, ◌<◌, ◌∙◌, ◌∷◌, ◌≡◌, ◌≤◌, ◌⊎◌}
-use Rattle.std.proofs.Common.{suc, zero}
+use Rattle.ttrpc_pair.proofs.Words.{ActiveJob, ActsAll, ActsOn, AllByRecursion, Answer, AnswersBy, AnswersError, AsyncRules, Bool, ClientSide, Count, Deliver, Does, Done, DropReceiver, EndStream, EndsOne, Entry, Err, Error, Event, ExpireAll, Failure, Finish, Flying, Halves, Handed, Incoming, IsFresh, Item, Job, JobList, List, MESSAGE_TYPE_REQUEST, Mail, MakeJob, MakeStream, MessageHeader, Net, None, Ok, Option, OutboundTransform, Outbox, PutIn, ReceivesBy, Recv, Refused, Reply, Result, Row, Rules, Runs, Scene, Sent, Server, ServerCore, ServerEnd, ServerPasses, ServerSide, Some, StaysFound, Steps, SyncRules, Take, Tick, [], all_at, all_changed, all_in_front, all_less, ap, arith, arrives, at_stays, brought_by, changed_at, changed_under, cond-false, cond-true, eq-eqb, false, filter, flying_without, header_of_frame, id_of, if◌then◌else◌, inl, inr, last_id, left_behind, map, nat_eq, ne_eqb, new_job, on_mail, refl, row_of, rules, scene, serving, stays, stream_body, subst, sym, true, unary_body, under_stays, unheard, with_server, without_payload, without_receiver, ℕ, ◌++◌, ◌+◌, ◌<◌, ◌∙◌, ◌∷◌, ◌≡◌, ◌≤◌}
+use Rattle.std.proofs.lemmas.Bool.{cases_lt, cases_order}
 use Rattle.ttrpc_story.proofs.Words.{IsOneToOne, IsRightAt, IsStreamOf}
 
 -- ---- streams that rise
@@ -19,27 +19,16 @@ none_made f low = record {
   below = λ j a b. absurd (let no : ⊥ = omega (arith, a, b) in no);
 }
 
--- a number is up to the last one, or the next
-here_or : (last j : ℕ) → j ≤ last + 1 → (j ≤ last) ⊎ (j ≡ last + 1)
-here_or zero zero h = inl (omega arith)
-here_or zero (suc zero) h = inr refl
-here_or zero (suc (suc j)) h = absurd (let no : ⊥ = omega (arith, h) in no)
-here_or (suc last) zero h = inl (omega arith)
-here_or (suc last) (suc j) h = elim (here_or last j (omega (arith, h))) [
-  | inl e ↦ inl (omega (arith, e))
-  | inr e ↦ inr (omega (arith, e))
-]
-
 -- one more is made, of a stream above the others'
 one_made : (f : ℕ → ℕ) (last low s : ℕ) → f (last + 1) ≡ s → low ≤ s → Rise f last low → Rise f (last + 1) (s + 1)
 one_made f last low s is more n = record {
-  rise = λ i j a b c. elim (here_or last j c) [
-    | inl e ↦ n.rise i j a b e
-    | inr e ↦ omega (arith, n.below i a (omega (arith, b, e)), more, is, ap f e)
+  rise = λ i j a b c. elim (cases_lt last j) [
+    | inl e ↦ let top : j ≡ last + 1 = omega (arith, c, e) in omega (arith, n.below i a (omega (arith, b, top)), more, is, ap f top)
+    | inr e ↦ n.rise i j a b e
   ];
-  below = λ j a b. elim (here_or last j b) [
-    | inl e ↦ omega (arith, n.below j a e, more)
-    | inr e ↦ omega (arith, is, ap f e)
+  below = λ j a b. elim (cases_lt last j) [
+    | inl e ↦ let top : j ≡ last + 1 = omega (arith, b, e) in omega (arith, is, ap f top)
+    | inr e ↦ omega (arith, n.below j a e, more)
   ];
 }
 
@@ -106,14 +95,13 @@ pub record Numbers (f : ℕ → ℕ) (last : ℕ) (up : List Flying) (next : ℕ
 pub fresh_numbers : (f : ℕ → ℕ) (next : ℕ) → Numbers f 0 [] next
 fresh_numbers f next = record { low = 0; within = omega arith; rise = none_made f 0; between = omega arith }
 
+-- other requests are in flight
+pub other_requests : {f : ℕ → ℕ} {last next next2 : ℕ} {up up2 : List Flying} → (n : Numbers f last up next) → Between n.low up2 next2 → Numbers f last up2 next2
+other_requests n between = record { low = n.low; within = n.within; rise = n.rise; between = between }
+
 -- the first flight is gone, and no job was made of it
 pub passed_by : (f : ℕ → ℕ) (last : ℕ) (x : Flying) (up : List Flying) (next : ℕ) → Numbers f last (x ∷ up) next → Numbers f last up next
-passed_by f last x up next n = record {
-  low = n.low;
-  within = n.within;
-  rise = n.rise;
-  between = lower (past (asks x) n.low (id_of x)) n.low up next (past_up (asks x) n.low (id_of x) n.between.0) n.between.1;
-}
+passed_by f last x up next n = other_requests n (lower (past (asks x) n.low (id_of x)) n.low up next (past_up (asks x) n.low (id_of x) n.between.0) n.between.1)
 
 -- a job was made of it
 pub made_of : (f : ℕ → ℕ) (last : ℕ) (x : Flying) (up : List Flying) (next : ℕ) → asks x ≡ true → f (last + 1) ≡ id_of x → id_of x ≤ last_id → Numbers f last (x ∷ up) next → Numbers f (last + 1) up next
@@ -126,24 +114,15 @@ made_of f last x up next is_asked is within n = record {
 
 -- one more is queued, a request of the client's next id, or data
 pub asked_more : (f : ℕ → ℕ) (last : ℕ) (up : List Flying) (x : Flying) (next next2 : ℕ) → next ≤ id_of x → id_of x + 1 ≤ next2 → next ≤ next2 → Numbers f last up next → Numbers f last (up ++ x ∷ []) next2
-asked_more f last up x next next2 le lt more n = record {
-  low = n.low;
-  within = n.within;
-  rise = n.rise;
-  between = more_between n.low up x next next2 (λ e. le) (by (asks x)) n.between;
-}
+asked_more f last up x next next2 le lt more n = other_requests n (more_between n.low up x next next2 (λ e. le) (by (asks x)) n.between)
   where
     by : (t : Bool) → past t next (id_of x) ≤ next2
     by true = lt
     by false = more
 
 pub items_more : (f : ℕ → ℕ) (last : ℕ) (up : List Flying) (x : Flying) (next : ℕ) → asks x ≡ false → Numbers f last up next → Numbers f last (up ++ x ∷ []) next
-items_more f last up x next item n = record {
-  low = n.low;
-  within = n.within;
-  rise = n.rise;
-  between = more_between n.low up x next next (λ e. let bad : true ≡ false = sym e ∙ item in cc) (subst (λ (t : Bool). past t next (id_of x) ≤ next) (sym item) (omega arith)) n.between;
-}
+items_more f last up x next item n =
+    other_requests n (more_between n.low up x next next (λ e. let bad : true ≡ false = sym e ∙ item in cc) (subst (λ (t : Bool). past t next (id_of x) ≤ next) (sym item) (omega arith)) n.between)
 
 -- ---- a function that is right for the jobs that are left, and spare beyond the last
 
@@ -357,21 +336,18 @@ module _ {CO CI SO SI : Type 0} (c : Halves CO CI) (s : Halves SO SI) (seals : B
   goes : (f : ℕ → ℕ) (w : Net CO CI SO SI) (event : Event) (reply : Reply) (v : Net CO CI SO SI) → Placed f (jobs w) → Steps c s seals w event reply v → Goes f (jobs w) (jobs v)
   goes f w Take (Handed (Some job)) v p q = hand_goes f w v job q p
   goes f w (Answer id result) Done v p q = answer_goes f w.server v.server id result q.0 p
-  goes f w (Respond id response) Done v p q = same_placed f (jobs w) (jobs v) (ap (λ (z : ServerCore SO SI). z.state.jobs) q.does.same) p
   goes f w (EndStream id result) Done v p q = let t = q.0 in ends_go f (jobs w) (jobs v) id t.job (ap (λ (z : ServerCore SO SI). z.state.jobs.last) t.same) t.ends p
   goes f w (Recv (ServerEnd id)) (Item given) v p q =
       changed_goes f (jobs w) (jobs v) (ap (λ (z : ServerCore SO SI). z.state.jobs.last) q.0.same) (received w.server.state.rules w.server.connection.failure w.server.state id given v.server.state.jobs.list q.0.own) p
   goes f w (DropReceiver (ServerEnd id)) Done v p q =
       subst (λ (x : Net CO CI SO SI). Goes f (jobs w) (jobs x)) (sym q.1) (changed_goes f (jobs w) (jobs (with_server w (unheard w.server id))) refl (dropped w.server.state id) p)
-  goes f w (Send (ServerEnd id) item) (Ticket ticket) v p q = same_placed f (jobs w) (jobs v) (ap (λ (z : ServerCore SO SI). z.state.jobs) q.0.same) p
-  goes f w Drain Done v p q = same_placed f (jobs w) (jobs v) (ap jobs q) p
   goes f w (Tick now) Done v p q = passes_goes s.out f w.server.state.rules w.server.connection.failure w.server now v.server q.serves p
   goes f w (Finish id) Done v p q = let t = q.0 in ends_go f (jobs w) (jobs v) id t.job (ap (λ (z : ServerCore SO SI). z.state.jobs.last) t.same) t.ends p
   goes f w (Deliver ServerSide n) (Count k) v p (inl q) = acts_go s f w.moment q.does.does.frames (scene w.server.state w.server.connection) (scene v.server.state q.does.mid) q.does.does.acts p
   goes f w (Deliver ServerSide n) (Count k) v p (inr q) = same_placed f (jobs w) (jobs v) (ap jobs q.only) p
+  goes f w (Deliver at n) (Refused told) v p (inr q) = same_placed f (jobs w) (jobs v) (ap jobs q.1) p
   goes f w (Deliver ServerSide n) (Refused told) v p (inl q) =
       subst (λ (z : Server). Goes f (jobs w) z.jobs) (sym q.0.state) (acts_go s f w.moment q.0.frames (scene w.server.state w.server.connection) q.0.mid q.0.acts p)
-  goes f w (Deliver at n) (Refused told) v p (inr q) = same_placed f (jobs w) (jobs v) (ap jobs q.1) p
   goes f w (Deliver ClientSide n) (Refused told) v p (inl q) = same_placed f (jobs w) (jobs v) (ap jobs q.1) p
   goes f w event reply v p q = let same : jobs v ≡ jobs w = first_of (cc, search rules) in same_placed f (jobs w) (jobs v) same p
 
@@ -430,48 +406,26 @@ module _ {CO CI SO SI : Type 0} (c : Halves CO CI) (s : Halves SO SI) (seals : B
 
 -- ---- no two jobs the same
 
-number_cases : (last j : ℕ) → (j ≡ 0) ⊎ (((0 < j) × (j ≤ last)) ⊎ (last < j))
-number_cases last zero = inl refl
-number_cases zero (suc j) = inr (inr (omega arith))
-number_cases (suc last) (suc zero) = inr (inl (omega arith, omega arith))
-number_cases (suc last) (suc (suc j)) = elim (number_cases last (suc j)) [
-  | inl e ↦ absurd (let no : ⊥ = cc in no)
-  | inr (inl e) ↦ inr (inl (omega arith, omega (arith, e.1)))
-  | inr (inr e) ↦ inr (inr (omega (arith, e)))
-]
-
-order : (i j : ℕ) → (i < j) ⊎ ((i ≡ j) ⊎ (j < i))
-order zero zero = inr (inl refl)
-order zero (suc j) = inl (omega arith)
-order (suc i) zero = inr (inr (omega arith))
-order (suc i) (suc j) = elim (order i j) [
-  | inl e ↦ inl (omega (arith, e))
-  | inr (inl e) ↦ inr (inl (ap suc e))
-  | inr (inr e) ↦ inr (inr (omega (arith, e)))
-]
-
-both_made : (f : ℕ → ℕ) (last low i j : ℕ) → Rise f last low → (0 < i) × (i ≤ last) → (0 < j) × (j ≤ last) → f i ≡ f j → i ≡ j
-both_made f last low i j n a b same = elim (order i j) [
-  | inl o ↦ absurd (let no : ⊥ = omega (arith, n.rise i j a.0 o b.1, same) in no)
-  | inr (inl o) ↦ o
-  | inr (inr o) ↦ absurd (let no : ⊥ = omega (arith, n.rise j i b.0 o a.1, same) in no)
-]
-
 pub one_to_one : (f : ℕ → ℕ) (last low : ℕ) → Rise f last low → f 0 ≡ last_id + 1 → ((j : ℕ) → last < j → f j ≡ last_id + 1 + j) → low ≤ last_id + 1 → IsOneToOne f
-one_to_one f last low n none beyond top i j same = elim (number_cases last i) [
-  | inl a ↦ elim (number_cases last j) [
-    | inl b ↦ a ∙ sym b
-    | inr (inl b) ↦ absurd (let no : ⊥ = omega (arith, ap f a ∙ none, n.below j b.0 b.1, same, top) in no)
-    | inr (inr b) ↦ absurd (let no : ⊥ = omega (arith, ap f a ∙ none, beyond j b, same, b) in no)
-  ]
-  | inr (inl a) ↦ elim (number_cases last j) [
-    | inl b ↦ absurd (let no : ⊥ = omega (arith, ap f b ∙ none, n.below i a.0 a.1, same, top) in no)
-    | inr (inl b) ↦ both_made f last low i j n a b same
-    | inr (inr b) ↦ absurd (let no : ⊥ = omega (arith, beyond j b, n.below i a.0 a.1, same, top) in no)
-  ]
-  | inr (inr a) ↦ elim (number_cases last j) [
-    | inl b ↦ absurd (let no : ⊥ = omega (arith, ap f b ∙ none, beyond i a, same, a) in no)
-    | inr (inl b) ↦ absurd (let no : ⊥ = omega (arith, beyond i a, n.below j b.0 b.1, same, top) in no)
-    | inr (inr b) ↦ let e : last_id + 1 + i ≡ last_id + 1 + j = sym (beyond i a) ∙ same ∙ beyond j b in omega (arith, e)
-  ]
+one_to_one f last low n none beyond top i j same = elim (cases_order i j) [
+  | inl e ↦ e
+  | inr (inl less) ↦ absurd (apart i j less same)
+  | inr (inr more) ↦ absurd (apart j i more (sym same))
 ]
+  where
+    apart : (i j : ℕ) → i < j → f i ≡ f j → ⊥
+    apart i j less same = elim (cases_lt 0 i) [
+      | inl some ↦ elim (cases_lt last j) [
+        | inl far ↦ elim (cases_lt last i) [
+          | inl both ↦ omega (arith, beyond i both, beyond j far, same, less)
+          | inr made ↦ omega (arith, n.below i some made, beyond j far, same, top)
+        ]
+        | inr made ↦ omega (arith, n.rise i j some less made, same)
+      ]
+      | inr none_ ↦
+          let first : f i ≡ last_id + 1 = ap f (let zero_ : i ≡ 0 = omega (arith, none_) in zero_) ∙ none in
+          elim (cases_lt last j) [
+            | inl far ↦ omega (arith, first, beyond j far, same, far)
+            | inr made ↦ omega (arith, first, n.below j (omega (arith, less)) made, same, top)
+          ]
+    ]

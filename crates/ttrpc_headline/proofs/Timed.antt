@@ -8,8 +8,9 @@ use Rattle.ttrpc_story.proofs.AtClient.{AtClient}
 use Rattle.ttrpc_story.proofs.Place.{Settings}
 use Rattle.ttrpc_events.specs.Clean.{is_clean_event, is_clean_reply, is_none_of, IsInTime, moment_after, moment_behind, reaches, reaches_at, reaches_one}
 use Rattle.ttrpc_events.specs.Told.{outcomes}
-use Rattle.std.specs.Prelude.{◌&&◌, ◌||◌}
-use Rattle.ttrpc_pair.proofs.Words.{[], ActsAll, ap, append_assoc, arith, arrives, Bool, call_at, CallEvent, calling, cases_eq, Client, ClientCore, ClientEnd, ClientSide, Close, Count, deadline_of, Deliver, Done, DropCall, DropReceiver, DropSender, Entry, eq-eqb, Event, Failure, false, Given, Halves, if◌then◌else◌, Incoming, inl, inr, is_some, IsFresh, Item, Landing, landing_of, LandsOn, List, Named, Net, None, number_of, OpenEvent, Option, Outcome, Passes, Recv, refl, Refused, Reply, Request, rules, Scene, scene, Send, ServerSide, Some, Steps, subst, sym, Tick, Ticket, true, ℕ, ◌++◌, ◌+◌, ◌∙◌, ◌∷◌, ◌≡◌, ◌≢◌, ◌≤◌, ◌⊎◌}
+use Rattle.std.specs.Prelude.{◌&&◌}
+use Rattle.std.proofs.lemmas.Bool.{or_parts}
+use Rattle.ttrpc_pair.proofs.Words.{[], ActsAll, ap, append_assoc, arith, arrives, Bool, call_at, CallEvent, calling, cases_eq, Client, ClientCore, ClientSide, Count, deadline_of, Deliver, Done, DropCall, DropReceiver, DropSender, Entry, eq-eqb, Event, Failure, false, Given, Halves, if◌then◌else◌, Incoming, inl, inr, is_some, IsFresh, Landing, landing_of, LandsOn, List, Named, Net, None, number_of, Option, Outcome, Passes, refl, Refused, Reply, Request, rules, Scene, scene, ServerSide, Some, Steps, subst, sym, Tick, true, ℕ, ◌++◌, ◌+◌, ◌∙◌, ◌∷◌, ◌≡◌, ◌≢◌, ◌≤◌, ◌⊎◌}
 use Rattle.ttrpc_story.proofs.Words.{Act, act_of, acts, Call, Called, calls, calls_append, Ended, Expired, expired_at, is_due, left_of, only_if, said_then, Stream, Waiting, with_entry, ℤ}
 
 -- this is the call of an id, made at such a moment, and this is its deadline
@@ -37,10 +38,6 @@ behind_entry moment (e ∷ es) event reply = behind_entry (moment_after moment e
 
 -- ---- a moment that reaches no deadline
 
-or_false : (a b : Bool) → (a || b) ≡ false → (a ≡ false) × (b ≡ false)
-or_false false b h = (refl, h)
-or_false true b h = cc
-
 and_false : (a b : Bool) → b ≡ true → (a && b) ≡ false → a ≡ false
 and_false false b h e = refl
 and_false true b h e = let bad : true ≡ false = sym h ∙ e in cc
@@ -56,32 +53,29 @@ reaches_not f front now moment k d event reply is none h = absurd is
 pub in_time : (f : ℕ → ℕ) (front : List Entry) (now moment k : ℕ) (d : Option ℕ) (es : List Entry) → HasCall k d moment es → outcomes (acts f k front) ≡ [] → reaches_one f front now moment es ≡ false → reaches now d ≡ false
 in_time f front now moment k d [] is none h = absurd is
 in_time f front now moment k d (e ∷ es) (inl is) none h =
-    reaches_not f front now moment k d e.event e.reply is none (or_false (reaches_at f front now moment e.event e.reply) (reaches_one f front now (moment_after moment e.event e.reply) es) h).0
+    reaches_not f front now moment k d e.event e.reply is none (or_parts (reaches_at f front now moment e.event e.reply) (reaches_one f front now (moment_after moment e.event e.reply) es) h).0
 in_time f front now moment k d (e ∷ es) (inr has) none h =
-    in_time f front now (moment_after moment e.event e.reply) k d es has none (or_false (reaches_at f front now moment e.event e.reply) (reaches_one f front now (moment_after moment e.event e.reply) es) h).1
+    in_time f front now (moment_after moment e.event e.reply) k d es has none (or_parts (reaches_at f front now moment e.event e.reply) (reaches_one f front now (moment_after moment e.event e.reply) es) h).1
 
 -- ---- a call that waits waited before, or was made
 
 left_waits : (failed : Bool) (e : Option Call) (d : Option ℕ) → left_of failed e ≡ Some (Waiting d) → e ≡ Some (Waiting d)
-left_waits failed None d h = cc
 left_waits false (Some (Waiting x)) d h = h
 left_waits true (Some (Waiting x)) d h = cc
-left_waits failed (Some Expired) d h = cc
-left_waits failed (Some (Ended o)) d h = cc
+left_waits failed e d h = cc
 
-if_waits : (due : Bool) (c : Call) (d : Option ℕ) → Some (if due then Expired else c) ≡ Some (Waiting d) → Some c ≡ Some (Waiting d)
-if_waits false c d h = h
-if_waits true c d h = cc
+-- nothing but an expiry comes of a moment
+if_is : (due : Bool) (c x : Call) → (x ≡ Expired → ⊥) → Some (if due then Expired else c) ≡ Some x → Some c ≡ Some x
+if_is false c x never h = h
+if_is true c x never h = absurd (never (let same : Expired ≡ x = cc in sym same))
 
-expired_waits : (now : ℕ) (e : Option Call) (d : Option ℕ) → expired_at now e ≡ Some (Waiting d) → e ≡ Some (Waiting d)
-expired_waits now None d h = cc
-expired_waits now (Some c) d h = if_waits (is_due now c) c d h
+pub expired_is : (now : ℕ) (e : Option Call) (x : Call) → (x ≡ Expired → ⊥) → expired_at now e ≡ Some x → e ≡ Some x
+expired_is now None x never h = cc
+expired_is now (Some c) x never h = if_is (is_due now c) c x never h
 
 landed_waits : (landing : Landing) (e e2 : Option Call) (d : Option ℕ) → LandsOn landing e e2 → e2 ≡ Some (Waiting d) → e ≡ Some (Waiting d)
-landed_waits landing None e2 d l h = sym l ∙ h
 landed_waits landing (Some (Waiting x)) e2 d l h = let bad : Some (Ended l.0) ≡ Some (Waiting d) = sym l.2 ∙ h in cc
-landed_waits landing (Some Expired) e2 d l h = sym l ∙ h
-landed_waits landing (Some (Ended o)) e2 d l h = sym l ∙ h
+landed_waits landing e e2 d l h = sym l ∙ h
 
 -- ---- the moment of its call
 
@@ -130,11 +124,43 @@ was_timely f k q d t now w one =
 same_least : (a b d : ℕ) → a ≤ b → d ≡ b → a ≤ d
 same_least a b d le is = omega (arith, le, is)
 
-module _ {CO CI SO SI : Type 0} (c : Halves CO CI) (s : Halves SO SI) (seals : Bool) where
-  pub passed_waits : (failure : Option Failure) (old : ClientCore CO CI) (now : ℕ) (new : ClientCore CO CI) (k : ℕ) (d : Option ℕ) → Passes seals failure old now new → call_at new.state k ≡ Some (Waiting d) → call_at old.state k ≡ Some (Waiting d)
-  passed_waits None old now new k d p h = expired_waits now (call_at old.state k) d (sym (p.expires.calls k) ∙ h)
-  passed_waits (Some why) old now new k d same h = sym (ap (λ (x : ClientCore CO CI). call_at x.state k) same) ∙ h
+-- the call of this id is made at such a moment, and this is right of it
+abbrev pub Makes : (Option Call → Type 0) → ℕ → ℕ → Event → Reply → Type 0
+Makes P k moment (CallEvent request) (Named id) = (id ≡ k) × P (Some (Waiting (deadline_of moment request.timeout_nano)))
+Makes P k moment event reply = ⊥
 
+-- WHAT IS RIGHT OF A CALL BEHIND A CLEAN STEP was so before it, or the call was made: where it is so of what asking leaves, of what
+-- a moment leaves, and of what a delivery leaves.
+module _ {CO CI SO SI : Type 0} (c : Halves CO CI) (s : Halves SO SI) (seals : Bool) (P : Option Call → Type 0) (left : (failed : Bool) (e : Option Call) → P (left_of failed e) → P e) (passed : (now : ℕ) (e : Option Call) → P (expired_at now e) → P e) where
+  by_rule : (rule : Option Call → Option Call) → ((e : Option Call) → P (rule e) → P e) → (old new : Client) (id k : ℕ) → call_at new id ≡ rule (call_at old id) → ((j : ℕ) → j ≢ id → call_at new j ≡ call_at old j) → P (call_at new k) → P (call_at old k)
+  by_rule rule back old new id k own others h = elim (cases_eq id k) [
+    | inl e ↦ back (call_at old k) (subst P (subst (λ (i : ℕ). call_at new i ≡ rule (call_at old i)) e own) h)
+    | inr e ↦ subst P (others k (λ same. e (sym same))) h
+  ]
+
+  pub passed_back : (failure : Option Failure) (old : ClientCore CO CI) (now : ℕ) (new : ClientCore CO CI) (k : ℕ) → Passes seals failure old now new → P (call_at new.state k) → P (call_at old.state k)
+  passed_back None old now new k p h = passed now (call_at old.state k) (subst P (p.expires.calls k) h)
+  passed_back (Some why) old now new k same h = subst (λ (x : ClientCore CO CI). P (call_at x.state k)) same h
+
+  pub called_back : (w : Net CO CI SO SI) (event : Event) (reply : Reply) (v : Net CO CI SO SI) (k : ℕ) → is_clean_event event ≡ true → is_clean_reply reply ≡ true
+      → ((n j : ℕ) → event ≡ Deliver ClientSide n → reply ≡ Count j → Steps c s seals w (Deliver ClientSide n) (Count j) v → P (call_at v.client.state k) → P (call_at w.client.state k))
+      → Steps c s seals w event reply v → P (call_at v.client.state k) → P (call_at w.client.state k) ⊎ Makes P k w.moment event reply
+  called_back w (CallEvent request) (Named id) v k e r delivered p h = elim (cases_eq id k) [
+    | inl same ↦ inr (same, subst P (subst (λ (i : ℕ). call_at v.client.state i ≡ Some (Waiting (deadline_of w.moment request.timeout_nano))) same p.1.own) h)
+    | inr other ↦ inl (subst P (p.1.others k (λ same. other (sym same))) h)
+  ]
+  called_back w (Outcome id) (Given given) v k e r delivered p h = inl (by_rule (left_of (is_some w.client.connection.failure)) (left (is_some w.client.connection.failure)) w.client.state v.client.state id k p.0.own p.0.others h)
+  called_back w (DropCall id) reply v k e r delivered p h = let bad : false ≡ true = e in cc
+  called_back w (DropReceiver at) reply v k e r delivered p h = let bad : false ≡ true = e in cc
+  called_back w (DropSender id) reply v k e r delivered p h = let bad : false ≡ true = e in cc
+  called_back w (Tick now) Done v k e r delivered p h = inl (passed_back w.client.connection.failure w.client now v.client k p.does h)
+  called_back w (Deliver ClientSide n) (Count j) v k e r delivered p h = inl (delivered n j refl refl p h)
+  called_back w (Deliver to n) (Refused told) v k e r delivered p h = let bad : false ≡ true = r in cc
+  called_back w event reply v k e r delivered p h =
+      let same : call_at v.client.state k ≡ call_at w.client.state k = first_of (cc, search rules) in
+      inl (subst P same h)
+
+module _ {CO CI SO SI : Type 0} (c : Halves CO CI) (s : Halves SO SI) (seals : Bool) where
   acted_waits : (fs : List Incoming) (old new : Scene Client CO CI) (k : ℕ) (d : Option ℕ) → ActsAll (calling c.out c.in_) 0 old fs new → call_at new.state k ≡ Some (Waiting d) → call_at old.state k ≡ Some (Waiting d)
   acted_waits [] old new k d same h = sym (ap (λ (x : Scene Client CO CI). call_at x.state k) same) ∙ h
   acted_waits (f ∷ fs) old new k d acts h =
@@ -147,53 +173,32 @@ module _ {CO CI SO SI : Type 0} (c : Halves CO CI) (s : Halves SO SI) (seals : B
         | inr e ↦ sym (l.others k (λ same. e (sym same))) ∙ mid
       ]
 
-  -- what is kept of one id changed so, and nothing else
-  by_rule : (rule : Option Call → Option Call) → ((e : Option Call) (d : Option ℕ) → rule e ≡ Some (Waiting d) → e ≡ Some (Waiting d)) → (old new : Client) (id k : ℕ) (d : Option ℕ) → call_at new id ≡ rule (call_at old id)
-      → ((j : ℕ) → j ≢ id → call_at new j ≡ call_at old j) → call_at new k ≡ Some (Waiting d) → call_at old k ≡ Some (Waiting d)
-  by_rule rule back old new id k d own others h = elim (cases_eq id k) [
-    | inl e ↦ back (call_at old k) d (sym (subst (λ (i : ℕ). call_at new i ≡ rule (call_at old i)) e own) ∙ h)
-    | inr e ↦ sym (others k (λ same. e (sym same))) ∙ h
-  ]
+  made_call : (k : ℕ) (d : Option ℕ) (moment : ℕ) (event : Event) (reply : Reply) → Makes (λ (e : Option Call). e ≡ Some (Waiting d)) k moment event reply → IsCallOf k d moment event reply
+  made_call k d moment (CallEvent request) (Named id) made =
+      let same : Some (Waiting (deadline_of moment request.timeout_nano)) ≡ Some (Waiting d) = made.1 in
+      let is : deadline_of moment request.timeout_nano ≡ d = cc in
+      (made.0, sym is)
+  made_call k d moment event reply made = absurd made
 
-  called_waits : (request : Request) (old new : Client) (moment id k : ℕ) (d : Option ℕ) → call_at new id ≡ Some (Waiting (deadline_of moment request.timeout_nano)) → ((j : ℕ) → j ≢ id → call_at new j ≡ call_at old j) → call_at new k ≡ Some (Waiting d)
-      → (call_at old k ≡ Some (Waiting d)) ⊎ ((id ≡ k) × (d ≡ deadline_of moment request.timeout_nano))
-  called_waits request old new moment id k d own others h = elim (cases_eq id k) [
-    | inl e ↦
-        let same : Some (Waiting (deadline_of moment request.timeout_nano)) ≡ Some (Waiting d) = sym (subst (λ (i : ℕ). call_at new i ≡ Some (Waiting (deadline_of moment request.timeout_nano))) e own) ∙ h in
-        let is : deadline_of moment request.timeout_nano ≡ d = cc in
-        inr (e, sym is)
-    | inr e ↦ inl (sym (others k (λ same. e (sym same))) ∙ h)
-  ]
+  pub passed_waits : (failure : Option Failure) (old : ClientCore CO CI) (now : ℕ) (new : ClientCore CO CI) (k : ℕ) (d : Option ℕ) → Passes seals failure old now new → call_at new.state k ≡ Some (Waiting d) → call_at old.state k ≡ Some (Waiting d)
+  passed_waits failure old now new k d = passed_back c s seals (λ (e : Option Call). e ≡ Some (Waiting d)) (λ failed e. left_waits failed e d) (λ at e. expired_is at e (Waiting d) (λ same. cc)) failure old now new k
 
-  same_waits : (old new : ClientCore CO CI) (k : ℕ) (d : Option ℕ) → call_at new.state k ≡ call_at old.state k → call_at new.state k ≡ Some (Waiting d) → call_at old.state k ≡ Some (Waiting d)
-  same_waits old new k d e h = sym e ∙ h
-
-  pub waited : (w : Net CO CI SO SI) (event : Event) (reply : Reply) (v : Net CO CI SO SI) (k : ℕ) (d : Option ℕ) → is_clean_event event ≡ true → is_clean_reply reply ≡ true → Steps c s seals w event reply v
+  waited : (w : Net CO CI SO SI) (event : Event) (reply : Reply) (v : Net CO CI SO SI) (k : ℕ) (d : Option ℕ) → is_clean_event event ≡ true → is_clean_reply reply ≡ true → Steps c s seals w event reply v
       → call_at v.client.state k ≡ Some (Waiting d) → (call_at w.client.state k ≡ Some (Waiting d)) ⊎ IsCallOf k d w.moment event reply
-  waited w (CallEvent request) (Named id) v k d e r p h = called_waits request w.client.state v.client.state w.moment id k d p.1.own p.1.others h
-  waited w (Outcome id) (Given given) v k d e r p h = inl (by_rule (left_of (is_some w.client.connection.failure)) (left_waits (is_some w.client.connection.failure)) w.client.state v.client.state id k d p.0.own p.0.others h)
-  waited w (DropCall id) reply v k d e r p h = let bad : false ≡ true = e in cc
-  waited w (Tick now) Done v k d e r p h = inl (passed_waits w.client.connection.failure w.client now v.client k d p.does h)
-  waited w (Deliver ClientSide n) (Count j) v k d e r p h = inl (acted_waits p.does.does.frames (scene w.client.state w.client.connection) (scene v.client.state p.does.mid) k d p.does.does.acts h)
-  waited w (Deliver to n) (Refused told) v k d e r p h = let bad : false ≡ true = r in cc
-  waited w (OpenEvent request up down) (Named id) v k d e r p h = inl (same_waits w.client v.client k d (ap (λ (x : ClientCore CO CI). call_at x.state k) p.1.same) h)
-  waited w (Recv (ClientEnd id)) (Item given) v k d e r p h = inl (same_waits w.client v.client k d (ap (λ (x : ClientCore CO CI). call_at x.state k) p.0.same) h)
-  waited w (Send (ClientEnd id) bytes) (Ticket ticket) v k d e r p h = inl (same_waits w.client v.client k d (ap (λ (x : ClientCore CO CI). call_at x.state k) p.0.same) h)
-  waited w (Close id) (Ticket ticket) v k d e r p h = inl (same_waits w.client v.client k d (ap (λ (x : ClientCore CO CI). call_at x.state k) p.0.same) h)
-  waited w (DropReceiver at) reply v k d e r p h = let bad : false ≡ true = e in cc
-  waited w (DropSender id) reply v k d e r p h = let bad : false ≡ true = e in cc
   waited w event reply v k d e r p h =
-      let state : v.client.state ≡ w.client.state = first_of (cc, search rules) in
-      inl (same_waits w.client v.client k d (ap (λ (x : Client). call_at x k) state) h)
+      elim (called_back c s seals (λ (x : Option Call). x ≡ Some (Waiting d)) (λ failed x. left_waits failed x d) (λ at x. expired_is at x (Waiting d) (λ same. cc)) w event reply v k e r
+      (λ n j is count q. acted_waits q.does.does.frames (scene w.client.state w.client.connection) (scene v.client.state q.does.mid) k d q.does.does.acts) p h) [
+        | inl was ↦ inl was
+        | inr made ↦ inr (made_call k d w.moment event reply made)
+      ]
 
   moment_goes : (w : Net CO CI SO SI) (event : Event) (reply : Reply) (v : Net CO CI SO SI) → Steps c s seals w event reply v → v.moment ≡ moment_after w.moment event reply
   moment_goes w (Tick now) Done v p = ap (λ (x : Net CO CI SO SI). x.moment) p.only
   moment_goes w (Deliver ServerSide n) (Count k) v (inl p) = ap (λ (x : Net CO CI SO SI). x.moment) p.only
-  moment_goes w (Deliver ServerSide n) (Count k) v (inr p) = ap (λ (x : Net CO CI SO SI). x.moment) p.only
   moment_goes w (Deliver ServerSide n) (Refused told) v (inl p) = ap (λ (x : Net CO CI SO SI). x.moment) p.1
-  moment_goes w (Deliver ServerSide n) (Refused told) v (inr p) = ap (λ (x : Net CO CI SO SI). x.moment) p.1
   moment_goes w (Deliver ClientSide n) (Refused told) v (inl p) = ap (λ (x : Net CO CI SO SI). x.moment) p.1
-  moment_goes w (Deliver ClientSide n) (Refused told) v (inr p) = ap (λ (x : Net CO CI SO SI). x.moment) p.1
+  moment_goes w (Deliver ServerSide n) (Count k) v (inr p) = ap (λ (x : Net CO CI SO SI). x.moment) p.only
+  moment_goes w (Deliver to n) (Refused told) v (inr p) = ap (λ (x : Net CO CI SO SI). x.moment) p.1
   moment_goes w event reply v p = first_of (cc, search rules)
 
   -- no moment is earlier than the one before it
@@ -225,10 +230,8 @@ module _ {CO CI SO SI : Type 0} (c : Halves CO CI) (s : Halves SO SI) (seals : B
   -- a call that waits has given no outcome
   waits_ungiven : (k : ℕ) (o : Origin) (a : List Act) (e : Option Call) (st : Option Stream) (d : Option ℕ) → AtClient o a e st → e ≡ Some (Waiting d) → outcomes a ≡ []
   waits_ungiven k Unborn a e st d h is = h.2
-  waits_ungiven k (Born (ByCall q)) a None st d h is = cc
   waits_ungiven k (Born (ByCall q)) a (Some (Waiting x)) st d h is = h.0
-  waits_ungiven k (Born (ByCall q)) a (Some Expired) st d h is = cc
-  waits_ungiven k (Born (ByCall q)) a (Some (Ended o)) st d h is = cc
+  waits_ungiven k (Born (ByCall q)) a e st d h is = cc
   waits_ungiven k (Born (ByOpen q up down)) a e st d h is = h.1
 
   due_reaches : (now : ℕ) (d : Option ℕ) → is_due now (Waiting d) ≡ reaches now d
@@ -237,10 +240,8 @@ module _ {CO CI SO SI : Type 0} (c : Halves CO CI) (s : Halves SO SI) (seals : B
 
   -- what isn't due stays
   undue : (now : ℕ) (e : Option Call) → ((d : Option ℕ) → e ≡ Some (Waiting d) → reaches now d ≡ false) → expired_at now e ≡ e
-  undue now None h = refl
   undue now (Some (Waiting d)) h = ap (λ (b : Bool). Some (if b then Expired else Waiting d)) (due_reaches now d ∙ h d refl)
-  undue now (Some Expired) h = refl
-  undue now (Some (Ended o)) h = refl
+  undue now e h = refl
 
   -- A CLEAN MOMENT REACHES NO DEADLINE of a call that waits, so it finds none due.
   pub none_reached : (set : Settings) (f : ℕ → ℕ) (t : List Entry) (w : Net CO CI SO SI) (now : ℕ) → Keeps c s set f t w → IsTimed t w → IsInTime f t (Tick now) Done → (k : ℕ) (d : Option ℕ) → call_at w.client.state k ≡ Some (Waiting d) → reaches now d ≡ false

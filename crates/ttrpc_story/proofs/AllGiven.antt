@@ -1,7 +1,8 @@
 -- Where a receiver has nothing yet, and nothing is under way to it, it was given all that was put in. What was put in and
 -- never comes is a close at most, which is no item.
-use Rattle.ttrpc_story.proofs.Words.{[], ActiveJob, answer_of, ap, append-nil, false, got, heard_down, heard_up, inl, inr, is_stream, IsInOrder, items, length, List, Mail, map, None, Open, Option, put_down, put_up, Receiver, Receives, ReceivesAt, refl, Some, Stream, StreamBody, subst, sym, Thing, ThingBreaking, ThingClosing, ThingEnd, ThingItem, ThingLast, true, Word, Broken, Closed, Dropped, ℕ, ◌++◌, ◌∙◌, ◌∷◌, ◌≡◌, arith, has_end, Fresh}
+use Rattle.ttrpc_story.proofs.Words.{[], ActiveJob, answer_of, ap, append-nil, false, got, heard_down, heard_up, inl, inr, is_stream, IsInOrder, items, length, List, Mail, map, None, Open, Option, put_down, put_up, Receiver, Receives, ReceivesAt, refl, Some, Stream, StreamBody, subst, sym, Thing, ThingItem, true, Word, ℕ, ◌++◌, ◌∙◌, ◌∷◌, ◌≡◌, arith, has_end, Fresh}
 use Rattle.std.proofs.Common.{◌+◌, length-append}
+use Rattle.std.proofs.lemmas.List.{nil_from_length}
 use Rattle.ttrpc_story.proofs.Here.{Birth, Born, Here, jobs_of, Left, no_cons, Origin, Runs, Unborn, Waits, Work}
 use Rattle.ttrpc_story.proofs.Reading.{got_append, items_append}
 use Rattle.ttrpc_story.proofs.Flowing.{Flowing, Follows}
@@ -13,15 +14,9 @@ use Rattle.ttrpc_story.proofs.Events.{only_of}
 -- ---- one direction
 
 open_empty : (r : Receiver) (xs : List Thing) → None ≡ answer_of r xs → (r ≡ Open) × (xs ≡ [])
-open_empty Dropped xs h = cc
-open_empty Broken xs h = cc
-open_empty Closed xs h = cc
 open_empty Open [] h = (refl, refl)
 open_empty Open (ThingItem b ∷ xs) h = cc
-open_empty Open (ThingLast b ∷ xs) h = cc
-open_empty Open (ThingEnd ∷ xs) h = cc
-open_empty Open (ThingClosing e ∷ xs) h = cc
-open_empty Open (ThingBreaking e ∷ xs) h = cc
+open_empty r xs h = cc
 
 -- a receiver that has nothing yet is open, and its mailbox is empty
 found_nothing : (m left : Mail) → Receives None m None left → (m.receiver ≡ Open) × (m.things ≡ [])
@@ -80,14 +75,10 @@ all_given_down {h = h} st2 s r none = down_given s.origin s.so_far h.stream st2 
 pub given_by_end : {put : List Thing} {told : List Word} → IsInOrder put told → has_end Fresh told ≡ true → got told ≡ items put
 given_by_end {told = told} o e = sym (append-nil (got told)) ∙ ap (λ ys. got told ++ ys) (sym (o.whole e).0) ∙ sym o.beginning
 
-nil_of : {X : Type 0} (xs : List X) → length xs ≡ 0 → xs ≡ []
-nil_of [] h = refl
-nil_of (x ∷ xs) h = absurd (let no : ⊥ = omega (arith, h) in no)
-
 -- Where all was given and nothing more was put in, nothing more can be given.
 pub given_still : (put put2 : List Thing) (told told2 more : List Word) → items put2 ≡ items put → told2 ≡ told ++ more → IsInOrder put2 told2 → got told ≡ items put → got told2 ≡ items put2
 given_still put put2 told told2 more same grows o all =
     let whole : got told2 ≡ items put2 ++ got more = ap got grows ∙ got_append told more ∙ ap (λ ys. ys ++ got more) (all ∙ sym same) in
     let long : length (items put2) ≡ length (items put2 ++ got more) + length o.rest = ap length o.beginning ∙ length-append (got told2) o.rest ∙ ap (λ ys. length ys + length o.rest) whole in
     let parts : length (items put2 ++ got more) ≡ length (items put2) + length (got more) = length-append (items put2) (got more) in
-    whole ∙ ap (λ ys. items put2 ++ ys) (nil_of (got more) (omega (arith, long, parts))) ∙ append-nil (items put2)
+    whole ∙ ap (λ ys. items put2 ++ ys) (nil_from_length (got more) (omega (arith, long, parts))) ∙ append-nil (items put2)

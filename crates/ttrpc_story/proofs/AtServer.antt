@@ -1,7 +1,7 @@
 -- The server's side of one id: its request and the data behind it in flight, its job, what is in flight to the client, and the
 -- acts but for the outcome. It knows no outcome, and nothing of what the client keeps.
-use Rattle.ttrpc_story.proofs.Words.{◌++◌, ◌∙◌, ◌∷◌, ◌≡◌, ◌≤◌, ℕ, [], Act, ActiveJob, all_joined, AllByRecursion, Answered, ap, append-nil, arith, asked_by, Bool, calls, calls_work, Err, Error, false, Flying, Gives, HasOkStatus, is_stream, IsRequest, landing_of, last_id, length, List, map, MESSAGE_LENGTH_MAX, MESSAGE_TYPE_DATA, MESSAGE_TYPE_REQUEST, MessageHeader, names, names_work, None, Ok, OpenedPayload, Option, Ran, refl, Request, request_bytes, Response, Result, Rules, runs, runs_work, Some, StaysFound, subst, sym, SyncRules, true, work, work_append}
-use Rattle.ttrpc_story.proofs.Here.{Asking, Birth, Born, ByCall, ByOpen, first_act, Here, Idle, IsAnswer, jobs_of, Left, Origin, Over, ran_work, request_of, Runs, Unborn, ups_of, Waits, Work, works_of}
+use Rattle.ttrpc_story.proofs.Words.{◌++◌, ◌∙◌, ◌∷◌, ◌≡◌, ◌≤◌, ℕ, [], Act, ActiveJob, all_joined, AllByRecursion, Answered, ap, arith, asked_by, Bool, calls, calls_work, Err, Error, false, Flying, Gives, HasOkStatus, is_stream, IsRequest, landing_of, last_id, length, List, map, MESSAGE_LENGTH_MAX, MESSAGE_TYPE_DATA, MESSAGE_TYPE_REQUEST, MessageHeader, names, names_work, None, Ok, OpenedPayload, Option, Ran, refl, Request, request_bytes, Response, Result, Rules, runs, runs_work, Some, StaysFound, subst, sym, SyncRules, true, work}
+use Rattle.ttrpc_story.proofs.Here.{Asking, Birth, Born, ByCall, ByOpen, first_act, Idle, IsAnswer, jobs_of, Left, Origin, Over, request_of, Runs, Unborn, ups_of, Waits, Work, works_of}
 
 -- ---- what is in flight, and what is left to be done
 
@@ -78,17 +78,18 @@ pub record IsNever (k : ℕ) (x : Flying) : Type 0 where
 abbrev pub AreDown : ℕ → Origin → Work → List Flying → Type 0
 AreDown k o p downs = AllByRecursion (IsDown k (is_over p) o (works_of o p)) downs
 
--- THE SERVER'S SIDE, where the work has come this far. Any number of frames may be in flight to the client.
-pub record AtServer (rules : Rules) (had : ℕ → Bool) (k : ℕ) (o : Origin) (p : Work) (h : Here) : Type 0 where
+-- THE SERVER'S SIDE, where the work has come this far: of the acts but for the outcome, of what is in flight to it, of its jobs, and
+-- of what is in flight to the client. Any number of frames may be.
+pub record AtServer (rules : Rules) (had : ℕ → Bool) (k : ℕ) (o : Origin) (p : Work) (works : List Act) (ups : List Flying) (jobs : List ActiveJob) (downs : List Flying) : Type 0 where
   pub within : IsWithin o k
   pub is_work : IsWork rules had k o p
-  pub works_is : work h.acts ≡ works_of o p
+  pub works_is : works ≡ works_of o p
   pub items : List Flying
   pub are_items : AreItems k items
   pub may_have : MayHave o items
-  pub ups_is : h.ups ≡ ups_of p ++ items
-  pub jobs_is : h.jobs ≡ jobs_of p
-  pub downs : AreDown k o p h.downs
+  pub ups_is : ups ≡ ups_of p ++ items
+  pub jobs_is : jobs ≡ jobs_of p
+  pub down : AreDown k o p downs
 
 -- ---- its turns
 
@@ -105,26 +106,35 @@ pub never_downs : (k : ℕ) (over : Bool) (o : Origin) (done : List Act) (xs : L
 never_downs k over o done [] h = tt
 never_downs k over o done (x ∷ xs) h = (never_down h.0, never_downs k over o done xs h.1)
 
--- The work stays: more jobs may have a response, an outcome may be given, other data may be in flight, and more frames to the
--- client.
-pub goes_on : {rules : Rules} {had had2 : ℕ → Bool} {k : ℕ} {o : Origin} {p : Work} {h h2 : Here} (items down : List Flying) → ((i : ℕ) → had i ≡ true → had2 i ≡ true) → AtServer rules had k o p h
-    → AreItems k items → MayHave o items → work h2.acts ≡ work h.acts → h2.ups ≡ ups_of p ++ items → h2.jobs ≡ h.jobs → h2.downs ≡ h.downs ++ down → AreDown k o p down → AtServer rules had2 k o p h2
-goes_on {rules} {k = k} {o = o} {p = p} {h = h} items down more s are may ha hu hj hd new = record {
+-- More jobs may have a response.
+pub later : {rules : Rules} {had had2 : ℕ → Bool} {k : ℕ} {o : Origin} {p : Work} {works : List Act} {ups downs : List Flying} {jobs : List ActiveJob} → ((i : ℕ) → had i ≡ true → had2 i ≡ true)
+    → AtServer rules had k o p works ups jobs downs → AtServer rules had2 k o p works ups jobs downs
+later {rules} {k = k} {o = o} {p = p} more s = record {
   within = s.within;
   is_work = work_later rules more k o p s.is_work;
-  works_is = ha ∙ s.works_is;
+  works_is = s.works_is;
+  items = s.items;
+  are_items = s.are_items;
+  may_have = s.may_have;
+  ups_is = s.ups_is;
+  jobs_is = s.jobs_is;
+  down = s.down;
+}
+
+-- The work stays: other data may be in flight, and other frames to the client.
+pub goes_on : {rules : Rules} {had : ℕ → Bool} {k : ℕ} {o : Origin} {p : Work} {works : List Act} {ups downs ups2 : List Flying} {jobs : List ActiveJob} (items downs2 : List Flying) → AtServer rules had k o p works ups jobs downs
+    → AreItems k items → MayHave o items → ups2 ≡ ups_of p ++ items → AreDown k o p downs2 → AtServer rules had k o p works ups2 jobs downs2
+goes_on items downs2 s are may hu down = record {
+  within = s.within;
+  is_work = s.is_work;
+  works_is = s.works_is;
   items = items;
   are_items = are;
   may_have = may;
   ups_is = hu;
-  jobs_is = hj ∙ s.jobs_is;
-  downs = subst (λ (d : List Flying). AreDown k o p d) (sym hd) (all_joined (IsDown k (is_over p) o (works_of o p)) h.downs down s.downs new);
+  jobs_is = s.jobs_is;
+  down = down;
 }
-
--- and nothing new is in flight
-pub stays : {rules : Rules} {had had2 : ℕ → Bool} {k : ℕ} {o : Origin} {p : Work} {h h2 : Here} → ((i : ℕ) → had i ≡ true → had2 i ≡ true) → AtServer rules had k o p h
-    → work h2.acts ≡ work h.acts → h2.ups ≡ h.ups → h2.jobs ≡ h.jobs → h2.downs ≡ h.downs → AtServer rules had2 k o p h2
-stays {h = h} more s ha hu hj hd = goes_on s.items [] more s s.are_items s.may_have ha (hu ∙ s.ups_is) hj (hd ∙ sym (append-nil h.downs)) tt
 
 -- Before the work is over no frame ends a call well, so all stay right whatever the acts.
 kept_down : (k : ℕ) (o o2 : Origin) (a a2 : List Act) (over : Bool) (x : Flying) → IsDown k false o a x → IsDown k over o2 a2 x
@@ -140,23 +150,21 @@ kept_downs k o o2 a a2 over [] h = tt
 kept_downs k o o2 a a2 over (x ∷ d) h = (kept_down k o o2 a a2 over x h.0, kept_downs k o o2 a a2 over d h.1)
 
 -- THE TURN of work that isn't over, by acts and by what goes down with it.
-pub moves : {rules : Rules} {had had2 : ℕ → Bool} {k : ℕ} {o o2 : Origin} {p q : Work} {h h2 : Here} (more : List Act) (items down : List Flying) → AtServer rules had k o p h → is_over p ≡ false
-    → IsWithin o2 k → IsWork rules had2 k o2 q → AreItems k items → MayHave o2 items
-    → h2.acts ≡ h.acts ++ more → works_of o2 q ≡ works_of o p ++ work more → h2.ups ≡ ups_of q ++ items → h2.jobs ≡ jobs_of q → h2.downs ≡ h.downs ++ down → AreDown k o2 q down
-    → AtServer rules had2 k o2 q h2
-moves {k = k} {o = o} {o2 = o2} {p = p} {q = q} {h = h} more items down s undone within is are may ha grows hu hj hd new =
-    let old : AllByRecursion (IsDown k false o (works_of o p)) h.downs = subst (λ (b : Bool). AllByRecursion (IsDown k b o (works_of o p)) h.downs) undone s.downs in
+pub moves : {rules : Rules} {had had2 : ℕ → Bool} {k : ℕ} {o o2 : Origin} {p q : Work} {works works2 : List Act} {ups downs ups2 downs2 : List Flying} {jobs jobs2 : List ActiveJob} (more : List Act) (items down : List Flying) → AtServer rules had k o p works ups jobs downs → is_over p ≡ false
+    → IsWithin o2 k → IsWork rules had2 k o2 q → AreItems k items → MayHave o2 items → works_of o2 q ≡ works_of o p ++ more → works2 ≡ works ++ more → ups2 ≡ ups_of q ++ items → jobs2 ≡ jobs_of q → downs2 ≡ downs ++ down → AreDown k o2 q down
+    → AtServer rules had2 k o2 q works2 ups2 jobs2 downs2
+moves {k = k} {o = o} {o2 = o2} {p = p} {q = q} {downs = downs} more items down s undone within is are may grows hw hu hj hd new =
+    let old : AllByRecursion (IsDown k false o (works_of o p)) downs = subst (λ (b : Bool). AllByRecursion (IsDown k b o (works_of o p)) downs) undone s.down in
     record {
       within = within;
       is_work = is;
-      works_is = ap work ha ∙ work_append h.acts more ∙ ap (λ xs. xs ++ work more) s.works_is ∙ sym grows;
+      works_is = hw ∙ ap (λ xs. xs ++ more) s.works_is ∙ sym grows;
       items = items;
       are_items = are;
       may_have = may;
       ups_is = hu;
       jobs_is = hj;
-      downs = subst (λ (d : List Flying). AreDown k o2 q d) (sym hd)
-          (all_joined (IsDown k (is_over q) o2 (works_of o2 q)) h.downs down (kept_downs k o o2 (works_of o p) (works_of o2 q) (is_over q) h.downs old) new);
+      down = subst (λ (d : List Flying). AreDown k o2 q d) (sym hd) (all_joined (IsDown k (is_over q) o2 (works_of o2 q)) downs down (kept_downs k o o2 (works_of o p) (works_of o2 q) (is_over q) downs old) new);
     }
 
 -- what goes down stays right once the work is over
@@ -170,41 +178,22 @@ done_downs k over o a (x ∷ d) h = (done_down k over o a x h.0, done_downs k ov
 -- the work so far is one name and at most one run
 pub is_done : (rules : Rules) (had : ℕ → Bool) (k : ℕ) (b : Birth) (p : Work) → IsWork rules had k (Born b) p → IsDone b (works_of (Born b) p)
 is_done rules had k b Idle h = absurd h
-is_done rules had k b (Asking x) h = record { rest = []; is = refl; unnamed = refl; one_run = omega arith }
-is_done rules had k b (Waits j) h = record { rest = []; is = refl; unnamed = refl; one_run = omega arith }
-is_done rules had k b (Runs j) h = record { rest = _; is = refl; unnamed = refl; one_run = omega arith }
-is_done rules had k b (Left j response) h = record { rest = _; is = refl; unnamed = refl; one_run = omega arith }
 is_done rules had k b (Over done) h = h
+is_done rules had k b p h = record { rest = _; is = refl; unnamed = refl; one_run = omega arith }
 
 -- The work is over, and nothing more was done: no request and no job is left, and what may go down ends no call well.
-pub concludes : {rules : Rules} {had : ℕ → Bool} {k : ℕ} {b : Birth} {p : Work} {h h2 : Here} (items down : List Flying) → AtServer rules had k (Born b) p h → AreItems k items → MayHave (Born b) items
-    → h2.acts ≡ h.acts → h2.ups ≡ items → h2.jobs ≡ [] → h2.downs ≡ h.downs ++ down → AllByRecursion (IsNever k) down → AtServer rules had k (Born b) (Over (works_of (Born b) p)) h2
-concludes {rules} {had} {k} {b} {p} {h} items down s are may ha hu hj hd new = record {
+pub concludes : {rules : Rules} {had : ℕ → Bool} {k : ℕ} {b : Birth} {p : Work} {works : List Act} {ups downs ups2 : List Flying} {jobs jobs2 : List ActiveJob} (items down : List Flying) → AtServer rules had k (Born b) p works ups jobs downs → AreItems k items → MayHave (Born b) items
+    → ups2 ≡ items → jobs2 ≡ [] → AllByRecursion (IsNever k) down → AtServer rules had k (Born b) (Over (works_of (Born b) p)) works ups2 jobs2 (downs ++ down)
+concludes {rules} {had} {k} {b} {p} {downs = downs} items down s are may hu hj new = record {
   within = s.within;
   is_work = is_done rules had k b p s.is_work;
-  works_is = ap work ha ∙ s.works_is;
+  works_is = s.works_is;
   items = items;
   are_items = are;
   may_have = may;
   ups_is = hu;
   jobs_is = hj;
-  downs = subst (λ (d : List Flying). AllByRecursion (IsDown k true (Born b) (works_of (Born b) p)) d) (sym hd)
-      (all_joined (IsDown k true (Born b) (works_of (Born b) p)) h.downs down (done_downs k (is_over p) (Born b) (works_of (Born b) p) h.downs s.downs) (never_downs k true (Born b) (works_of (Born b) p) down new));
-}
-
--- The first frame has landed.
-pub lands_down : {rules : Rules} {had had2 : ℕ → Bool} {k : ℕ} {o : Origin} {p : Work} {h h2 : Here} (x : Flying) (d : List Flying) → ((i : ℕ) → had i ≡ true → had2 i ≡ true) → AtServer rules had k o p h → h.downs ≡ x ∷ d
-    → h2.acts ≡ h.acts → h2.ups ≡ h.ups → h2.jobs ≡ h.jobs → h2.downs ≡ d → AtServer rules had2 k o p h2
-lands_down {rules} {k = k} {o = o} {p = p} x d more s was ha hu hj hd = record {
-  within = s.within;
-  is_work = work_later rules more k o p s.is_work;
-  works_is = ap work ha ∙ s.works_is;
-  items = s.items;
-  are_items = s.are_items;
-  may_have = s.may_have;
-  ups_is = hu ∙ s.ups_is;
-  jobs_is = hj ∙ s.jobs_is;
-  downs = subst (λ (ds : List Flying). AreDown k o p ds) (sym hd) (subst (λ (ds : List Flying). AreDown k o p ds) was s.downs).1;
+  down = all_joined (IsDown k true (Born b) (works_of (Born b) p)) downs down (done_downs k (is_over p) (Born b) (works_of (Born b) p) downs s.down) (never_downs k true (Born b) (works_of (Born b) p) down new);
 }
 
 -- ---- mailboxes change
@@ -213,9 +202,7 @@ abbrev pub mapped : (ActiveJob → ActiveJob) → Work → Work
 mapped g (Waits j) = Waits (g j)
 mapped g (Runs j) = Runs (g j)
 mapped g (Left j response) = Left (g j) response
-mapped g Idle = Idle
-mapped g (Asking x) = Asking x
-mapped g (Over done) = Over done
+mapped g p = p
 
 module _ (g : ActiveJob → ActiveJob) (found : StaysFound g) where
   mapped_job : (rules : Rules) (k : ℕ) (asked : Option Request) (j : ActiveJob) → IsJob rules k asked j → IsJob rules k asked (g j)
@@ -223,63 +210,45 @@ module _ (g : ActiveJob → ActiveJob) (found : StaysFound g) where
 
   mapped_work : (rules : Rules) (had : ℕ → Bool) (k : ℕ) (o : Origin) (p : Work) → IsWork rules had k o p → IsWork rules had k o (mapped g p)
   mapped_work rules had k Unborn p h = ap (mapped g) h
-  mapped_work rules had k (Born b) Idle h = h
-  mapped_work rules had k (Born b) (Asking x) h = h
   mapped_work rules had k (Born b) (Waits j) h =
       subst (λ (t : Bool). IsJob rules k (Some (asked_by t (request_of b))) (g j)) (sym (found.stream j)) (mapped_job rules k (Some (asked_by (is_stream j.body) (request_of b))) j h)
   mapped_work rules had k (Born b) (Runs j) h = mapped_job rules k None j h
   mapped_work rules had k (Born b) (Left j response) h = (mapped_job rules k None j h.0, ap had (found.id j) ∙ h.1, found.stream j ∙ h.2)
-  mapped_work rules had k (Born b) (Over done) h = h
+  mapped_work rules had k (Born b) p h = h
 
   same_ran : (b : Birth) (j : ActiveJob) → Ran (g j).id (is_stream (g j).body) (asked_by (is_stream (g j).body) (request_of b)) ≡ Ran j.id (is_stream j.body) (asked_by (is_stream j.body) (request_of b))
   same_ran b j = ap (λ (n : ℕ). Ran n (is_stream (g j).body) (asked_by (is_stream (g j).body) (request_of b))) (found.id j) ∙ ap (λ (t : Bool). Ran j.id t (asked_by t (request_of b))) (found.stream j)
 
   same_works : (o : Origin) (p : Work) → works_of o (mapped g p) ≡ works_of o p
   same_works Unborn p = refl
-  same_works (Born b) Idle = refl
-  same_works (Born b) (Asking x) = refl
-  same_works (Born b) (Waits j) = refl
   same_works (Born b) (Runs j) = ap (λ (a : Act). first_act b ∷ a ∷ []) (same_ran b j)
   same_works (Born b) (Left j response) = ap (λ (a : Act). first_act b ∷ a ∷ Answered false (Ok (Some response)) ∷ []) (same_ran b j)
-  same_works (Born b) (Over done) = refl
+  same_works (Born b) p = refl
 
   pub same_over : (p : Work) → is_over (mapped g p) ≡ is_over p
-  same_over Idle = refl
-  same_over (Asking x) = refl
   same_over (Waits j) = refl
-  same_over (Runs j) = refl
-  same_over (Left j response) = refl
-  same_over (Over done) = refl
+  same_over p = refl
 
   same_ups : (p : Work) → ups_of (mapped g p) ≡ ups_of p
-  same_ups Idle = refl
-  same_ups (Asking x) = refl
   same_ups (Waits j) = refl
-  same_ups (Runs j) = refl
-  same_ups (Left j response) = refl
-  same_ups (Over done) = refl
+  same_ups p = refl
 
   same_jobs : (p : Work) → map g (jobs_of p) ≡ jobs_of (mapped g p)
-  same_jobs Idle = refl
-  same_jobs (Asking x) = refl
   same_jobs (Waits j) = refl
-  same_jobs (Runs j) = refl
-  same_jobs (Left j response) = refl
-  same_jobs (Over done) = refl
+  same_jobs p = refl
 
   -- Mailboxes change, and nothing else.
-  pub maps : {rules : Rules} {had : ℕ → Bool} {k : ℕ} {o : Origin} {p : Work} {h h2 : Here} → AtServer rules had k o p h
-      → h2.acts ≡ h.acts → h2.ups ≡ h.ups → h2.jobs ≡ map g h.jobs → h2.downs ≡ h.downs → AtServer rules had k o (mapped g p) h2
-  maps {rules} {had} {k} {o} {p} {h} {h2} s ha hu hj hd = record {
+  pub maps : {rules : Rules} {had : ℕ → Bool} {k : ℕ} {o : Origin} {p : Work} {works : List Act} {ups downs : List Flying} {jobs : List ActiveJob} → AtServer rules had k o p works ups jobs downs → AtServer rules had k o (mapped g p) works ups (map g jobs) downs
+  maps {rules} {had} {k} {o} {p} s = record {
     within = s.within;
     is_work = mapped_work rules had k o p s.is_work;
-    works_is = ap work ha ∙ s.works_is ∙ sym (same_works o p);
+    works_is = s.works_is ∙ sym (same_works o p);
     items = s.items;
     are_items = s.are_items;
     may_have = s.may_have;
-    ups_is = hu ∙ s.ups_is ∙ ap (λ (xs : List Flying). xs ++ s.items) (sym (same_ups p));
-    jobs_is = hj ∙ ap (map g) s.jobs_is ∙ same_jobs p;
-    downs = rw (hd, same_over p, same_works o p) s.downs;
+    ups_is = s.ups_is ∙ ap (λ (xs : List Flying). xs ++ s.items) (sym (same_ups p));
+    jobs_is = ap (map g) s.jobs_is ∙ same_jobs p;
+    down = rw (same_over p, same_works o p) s.down;
   }
 
 -- ---- what follows
@@ -287,12 +256,9 @@ module _ (g : ActiveJob → ActiveJob) (found : StaysFound g) where
 -- work that isn't over has no answer
 pub unanswered : (o : Origin) (p : Work) (r : Response) → is_over p ≡ false → IsAnswer o (works_of o p) r → ⊥
 unanswered Unborn p r e h = h
-unanswered (Born b) Idle r e h = let bad : [] ≡ first_act b ∷ Ran h.0 h.1 (asked_by h.1 (request_of b)) ∷ Answered h.1 (Ok (Some r)) ∷ [] = h.2 in cc
-unanswered (Born b) (Asking x) r e h = let bad : first_act b ∷ [] ≡ first_act b ∷ Ran h.0 h.1 (asked_by h.1 (request_of b)) ∷ Answered h.1 (Ok (Some r)) ∷ [] = h.2 in cc
-unanswered (Born b) (Waits j) r e h = let bad : first_act b ∷ [] ≡ first_act b ∷ Ran h.0 h.1 (asked_by h.1 (request_of b)) ∷ Answered h.1 (Ok (Some r)) ∷ [] = h.2 in cc
-unanswered (Born b) (Runs j) r e h = let bad : ran_work b j ≡ first_act b ∷ Ran h.0 h.1 (asked_by h.1 (request_of b)) ∷ Answered h.1 (Ok (Some r)) ∷ [] = h.2 in cc
 unanswered (Born b) (Left j x) r e h = let bad : true ≡ false = e in cc
 unanswered (Born b) (Over done) r e h = let bad : true ≡ false = e in cc
+unanswered (Born b) p r e h = let bad : works_of (Born b) p ≡ first_act b ∷ Ran h.0 h.1 (asked_by h.1 (request_of b)) ∷ Answered h.1 (Ok (Some r)) ∷ [] = h.2 in cc
 
 names_first : (b : Birth) (rest : List Act) → names (first_act b ∷ rest) ≡ request_of b ∷ names rest
 names_first (ByCall request) rest = refl
@@ -310,20 +276,20 @@ one_run_of : (rules : Rules) (had : ℕ → Bool) (k : ℕ) (o : Origin) (p : Wo
 one_run_of rules had k Unborn p h = omega arith
 one_run_of rules had k (Born b) p h = let d = is_done rules had k b p h in rw (d.is, runs_first b d.rest) d.one_run
 
-pub one_name : {rules : Rules} {had : ℕ → Bool} {k : ℕ} {o : Origin} {p : Work} {h : Here} → AtServer rules had k o p h → length (names h.acts) ≤ 1
-one_name {rules} {had} {k} {o} {p} {h} s = rw (names_work h.acts, s.works_is) (one_name_of rules had k o p s.is_work)
+pub one_name : {rules : Rules} {had : ℕ → Bool} {k : ℕ} {o : Origin} {p : Work} {ups downs : List Flying} {jobs : List ActiveJob} (acts : List Act) → AtServer rules had k o p (work acts) ups jobs downs → length (names acts) ≤ 1
+one_name {rules} {had} {k} {o} {p} acts s = rw (names_work acts, s.works_is) (one_name_of rules had k o p s.is_work)
 
-pub one_run : {rules : Rules} {had : ℕ → Bool} {k : ℕ} {o : Origin} {p : Work} {h : Here} → AtServer rules had k o p h → length (runs h.acts) ≤ 1
-one_run {rules} {had} {k} {o} {p} {h} s = rw (runs_work h.acts, s.works_is) (one_run_of rules had k o p s.is_work)
+pub one_run : {rules : Rules} {had : ℕ → Bool} {k : ℕ} {o : Origin} {p : Work} {ups downs : List Flying} {jobs : List ActiveJob} (acts : List Act) → AtServer rules had k o p (work acts) ups jobs downs → length (runs acts) ≤ 1
+one_run {rules} {had} {k} {o} {p} acts s = rw (runs_work acts, s.works_is) (one_run_of rules had k o p s.is_work)
 
 -- who has no call is no call
-pub uncalled : {rules : Rules} {had : ℕ → Bool} {k : ℕ} {q : Request} {p : Work} {h : Here} → AtServer rules had k (Born (ByCall q)) p h → calls h.acts ≡ [] → ⊥
-uncalled {rules} {had} {k} {q} {p} {h} s e =
+pub uncalled : {rules : Rules} {had : ℕ → Bool} {k : ℕ} {q : Request} {p : Work} {ups downs : List Flying} {jobs : List ActiveJob} (acts : List Act) → AtServer rules had k (Born (ByCall q)) p (work acts) ups jobs downs → calls acts ≡ [] → ⊥
+uncalled {rules} {had} {k} {q} {p} acts s e =
     let d = is_done rules had k (ByCall q) p s.is_work in
-    let bad : q ∷ calls d.rest ≡ [] = sym (calls_work h.acts ∙ ap calls (s.works_is ∙ d.is)) ∙ e in
+    let bad : q ∷ calls d.rest ≡ [] = sym (calls_work acts ∙ ap calls (s.works_is ∙ d.is)) ∙ e in
     cc
 
 -- a call has at most its request in flight
-pub one_up : {rules : Rules} {had : ℕ → Bool} {k : ℕ} {q : Request} {p : Work} {h : Here} → AtServer rules had k (Born (ByCall q)) p h → length h.ups ≤ 1
+pub one_up : {rules : Rules} {had : ℕ → Bool} {k : ℕ} {q : Request} {p : Work} {works : List Act} {ups downs : List Flying} {jobs : List ActiveJob} → AtServer rules had k (Born (ByCall q)) p works ups jobs downs → length ups ≤ 1
 one_up {p = Asking x} s = rw (s.ups_is, s.may_have) (omega arith)
 one_up {p = p} s = rw (s.ups_is, s.may_have) (omega arith)

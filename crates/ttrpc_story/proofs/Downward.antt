@@ -1,6 +1,6 @@
 -- The items of one id on their way to the client: the mailbox of its stream, what is under way to it, and whether the server may
 -- still put something in. It knows no outcome, and nothing of what goes up.
-use Rattle.ttrpc_story.proofs.Words.{[], AllByRecursion, ap, Bool, breaks_with, Brings, BringsBeginning, Broken, by_status, Closed, closed, closing_news, data_news, Dropped, empty_response, Err, Error, Failure, false, Flying, if◌then◌else◌, inl, inr, is_entered, IsInOrder, IsNews, IsToldBy, length, List, Mail, malformed_text, map, map-append, MESSAGE_LENGTH_MAX, MESSAGE_TYPE_DATA, MESSAGE_TYPE_RESPONSE, MessageHeader, nat_eq, nat_lt, News, news_of, None, not, Ok, Open, OpenedPayload, Option, Others, oversize_text, Reaches, read_from, Receiver, ReceivesAt, refl, Response, response_news, response_step, Result, Sender, SenderClosed, SenderDropped, SenderOpen, Some, Stream, subst, sym, Thing, ThingClosing, true, unknown_error, unless_dropped, unless_unheard, without_reader, without_receiver, without_sender, Word, words_of, ℕ, ◌++◌, ◌∙◌, ◌∷◌, ◌≡◌, by_code, pos, ℤ}
+use Rattle.ttrpc_story.proofs.Words.{[], AllByRecursion, ap, Bool, breaks_with, Brings, BringsBeginning, by_status, closed, closing_news, data_news, Dropped, empty_response, Err, Error, Failure, false, Flying, if◌then◌else◌, inl, inr, is_entered, IsInOrder, IsNews, IsToldBy, length, List, Mail, malformed_text, map, map-append, MESSAGE_LENGTH_MAX, MESSAGE_TYPE_DATA, MESSAGE_TYPE_RESPONSE, MessageHeader, nat_eq, nat_lt, News, news_of, None, not, Ok, Open, OpenedPayload, Option, Others, oversize_text, Reaches, read_from, Receiver, ReceivesAt, refl, Response, response_news, response_step, Result, Sender, SenderDropped, Some, Stream, subst, sym, Thing, ThingClosing, true, unknown_error, unless_dropped, unless_unheard, without_reader, without_receiver, without_sender, Word, words_of, ℕ, ◌++◌, ◌∙◌, ◌∷◌, ◌≡◌, by_code, pos, ℤ}
 use Rattle.std.proofs.Common.{zero}
 use Rattle.ttrpc_proto.specs.declared.error.Error.TheVariants.{RpcStatus}
 use Rattle.ttrpc_proto.specs.declared.status.Status.{Status}
@@ -200,9 +200,8 @@ deaf : {p : Work} {put : List Thing} {told : List Word} {downs : List Flying} {s
 deaf {downs = downs} st2 is d = record { flowing = drops (box_down st2) (map (thing_down (wants st2)) downs) is d.flowing; unended = d.unended }
 
 unless_sent : {p : Work} {put : List Thing} {told : List Word} {downs : List Flying} (s t : Stream) (sender : Sender) → t.mailbox.receiver ≡ Dropped → Down p put told downs (Some s) → Down p put told downs (unless_dropped sender t)
-unless_sent s t SenderOpen is d = deaf (Some t) is d
-unless_sent s t SenderClosed is d = deaf (Some t) is d
 unless_sent s t SenderDropped is d = deaf None refl d
+unless_sent s t sender is d = deaf (Some t) is d
 
 -- It is dropped.
 pub unheard : {o : Origin} {p : Work} {put : List Thing} {told : List Word} {downs : List Flying} (st : Option Stream) → Downward o p put told downs st → Downward o p put told downs (without_reader st)
@@ -217,7 +216,5 @@ unsent {o = Unborn} (Some s) d = record { is = d.is }
 unsent {o = Born b} {p} {put} {told} {downs} (Some s) d = record { is = by s.mailbox.receiver }
   where
     by : (r : Receiver) → Down p put told downs (unless_unheard r (record s { sender = SenderDropped }))
-    by Open = record { flowing = d.is.flowing; unended = d.is.unended }
-    by Closed = record { flowing = d.is.flowing; unended = d.is.unended }
-    by Broken = record { flowing = d.is.flowing; unended = d.is.unended }
     by Dropped = deaf None refl d.is
+    by r = record { flowing = d.is.flowing; unended = d.is.unended }

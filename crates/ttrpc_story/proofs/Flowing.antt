@@ -57,8 +57,7 @@ follows_more rest [] more x s c (inr h) = let bad : true ≡ false = sym (ap clo
 follows_more rest (ThingItem b ∷ way) more x s c h = (h.0 ++ x ∷ [], ap (λ r. r ++ x ∷ []) h.1, follows_more h.0 way more x s (sym (ap closed h.1) ∙ c) h.2)
 follows_more rest (ThingLast b ∷ way) more x s c h = let bad : true ≡ false = sym (ap closed h) ∙ c in cc
 follows_more rest (ThingEnd ∷ way) more x s c h = let bad : true ≡ false = sym (ap closed h) ∙ c in cc
-follows_more rest (ThingClosing e ∷ way) more x s c h = h
-follows_more rest (ThingBreaking e ∷ way) more x s c h = h
+follows_more rest (y ∷ way) more x s c h = h
 
 -- behind what is seen and closed nothing was put in, and nothing is where it isn't closed
 past_more : (seen rest : List Thing) (x : Thing) → closed (seen ++ rest) ≡ false → closed seen ≡ true → rest ++ x ∷ [] ≡ []
@@ -84,10 +83,7 @@ puts {m = m} {flight = flight} x more s c f =
 follows_cut : (rest xs way way2 : List Thing) (x : Thing) → IsTurning x → Follows rest (xs ++ way) → Follows rest (xs ++ x ∷ way2)
 follows_cut rest [] way way2 x n h = n rest way2
 follows_cut rest (ThingItem b ∷ xs) way way2 x n h = (h.0, h.1, follows_cut h.0 xs way way2 x n h.2)
-follows_cut rest (ThingLast b ∷ xs) way way2 x n h = h
-follows_cut rest (ThingEnd ∷ xs) way way2 x n h = h
-follows_cut rest (ThingClosing e ∷ xs) way way2 x n h = h
-follows_cut rest (ThingBreaking e ∷ xs) way way2 x n h = h
+follows_cut rest (y ∷ xs) way way2 x n h = h
 
 turns_one : {put : List Thing} {told : List Word} {m : Mail} {flight : List Thing} (x : Thing) → IsTurning x → Flowing put told m flight → Flowing put told m (flight ++ x ∷ [])
 turns_one {m = m} {flight = flight} x n f = record {
@@ -145,10 +141,7 @@ lands {m = m} {flight = flight} x y ends as_is last f =
 follows_past : (rest xs way way2 : List Thing) → has_closing xs ≡ true → Follows rest (xs ++ way) → Follows rest (xs ++ way2)
 follows_past rest [] way way2 e h = cc
 follows_past rest (ThingItem b ∷ xs) way way2 e h = (h.0, h.1, follows_past h.0 xs way way2 e h.2)
-follows_past rest (ThingLast b ∷ xs) way way2 e h = h
-follows_past rest (ThingEnd ∷ xs) way way2 e h = h
-follows_past rest (ThingClosing x ∷ xs) way way2 e h = h
-follows_past rest (ThingBreaking x ∷ xs) way way2 e h = h
+follows_past rest (x ∷ xs) way way2 e h = h
 
 -- Or it is passed over: a mailbox whose receiver is open has ended then.
 pub loses : {put : List Thing} {told : List Word} {m : Mail} {flight : List Thing} (x : Thing) → (m.receiver ≡ Open → m.ended ≡ true) → Flowing put told m (x ∷ flight) → Flowing put told m flight
@@ -229,16 +222,8 @@ word_at failure ended receiver things = answer_of receiver things
 
 word_is : (failure : Option Failure) (ended : Bool) (receiver : Receiver) (things : List Thing) → answer_by (broken failure (mail receiver things ended)) ≡ word_at failure ended receiver things
 word_is None ended receiver things = refl
-word_is (Some why) true receiver things = refl
-word_is (Some why) false Open [] = refl
 word_is (Some why) false Open (ThingItem b ∷ xs) = refl
-word_is (Some why) false Open (ThingLast b ∷ xs) = refl
-word_is (Some why) false Open (ThingEnd ∷ xs) = refl
-word_is (Some why) false Open (ThingClosing e ∷ xs) = refl
-word_is (Some why) false Open (ThingBreaking e ∷ xs) = refl
-word_is (Some why) false Closed things = refl
-word_is (Some why) false Broken things = refl
-word_is (Some why) false Dropped things = refl
+word_is (Some why) ended receiver things = refl
 
 -- nothing is told
 still : {put : List Thing} {told : List Word} {m : Mail} {flight : List Thing} → Flowing put told m flight → Flowing put (told ++ []) m flight
@@ -247,8 +232,6 @@ still {put} {told} {m} {flight} f = subst (λ (ws : List Word). Flowing put ws m
 -- what the first thing in the mailbox gives
 by_answer : {put : List Thing} {told : List Word} {flight : List Thing} (failure : Option Failure) (ended : Bool) (receiver : Receiver) (things : List Thing) → Flowing put told (mail receiver things ended) flight
     → Flowing put (told ++ words_of (answer_of receiver things)) (left_at failure ended receiver things) flight
-by_answer failure ended Dropped things f = fails _ past_error (λ m. refl) (λ o. cc) f
-by_answer failure ended Broken things f = fails _ past_error (λ m. refl) (λ o. cc) f
 by_answer failure ended Closed things f =
     record { seen = f.seen; rest = f.rest; all = f.all; reading = reads_stop f.reading; past = f.past; linked = λ o. cc; full = λ o. cc }
 by_answer None ended Open [] f = still f
@@ -260,6 +243,7 @@ by_answer failure ended Open (ThingLast b ∷ xs) f = sees_last (ThingLast b) (O
 by_answer failure ended Open (ThingEnd ∷ xs) f = sees_last ThingEnd (Err Eof) ended (λ s r. reads_close r) f (f.linked refl)
 by_answer failure ended Open (ThingClosing e ∷ xs) f = fails _ e (f.linked refl) (λ o. cc) f
 by_answer failure ended Open (ThingBreaking e ∷ xs) f = fails _ e (f.linked refl) (λ o. cc) f
+by_answer failure ended receiver things f = fails _ past_error (λ m. refl) (λ o. cc) f
 
 by_table : {put : List Thing} {told : List Word} {flight : List Thing} (failure : Option Failure) (ended : Bool) (receiver : Receiver) (things : List Thing) → IsPlainFailure failure → Flowing put told (mail receiver things ended) flight
     → Flowing put (told ++ words_of (word_at failure ended receiver things)) (left_at failure ended receiver things) flight

@@ -1,12 +1,12 @@
 -- One id: both sides of it, its items both ways, how it comes to be used, and what frames that come to the server do to it. What
 -- an event isn't about stays.
-use Rattle.ttrpc_story.proofs.Words.{[], Act, ActiveJob, AllByRecursion, ap, append-nil, asked_by, Bool, brought_by, Call, Called, deadline_in, false, Flow, Flying, heard_down, heard_down_append, heard_up, heard_up_append, has_method, inl, inr, is_stream, last_id, List, map, nat_eq, None, Open, Option, outcomes, outcomes_append, put_down, put_down_append, put_up, put_up_append, refl, Request, Rules, Services, Some, StaysFound, Stream, subst, sym, Thing, true, Waiting, with_mail, Word, work, ℕ, ◌%◌, ◌++◌, ◌∙◌, ◌∷◌, ◌≡◌, ◌≤◌, ◌⊎◌, inlet_by, inlet_in, inlet_of, Taking, AsyncRules, SyncRules, Body, UnaryBody, StreamBody}
-use Rattle.ttrpc_story.proofs.Here.{Asking, Birth, Born, ByCall, ByOpen, first_act, first_flow, Here, Idle, IsAnswer, jobs_of, Left, no_cons, Origin, Over, request_of, Runs, Unborn, ups_of, Waits, Work, works_of}
-use Rattle.ttrpc_story.proofs.AtServer.{AreItems, AtServer, concludes, goes_on, is_over, IsDown, IsJob, IsNever, IsSent, IsWork, mapped, maps, MayHave, moves, never_downs, stays, unanswered, same_over}
+use Rattle.ttrpc_story.proofs.Words.{[], Act, all_joined, work_append, ActiveJob, AllByRecursion, ap, append-nil, asked_by, Bool, brought_by, Call, Called, deadline_in, false, Flow, Flying, heard_down, heard_down_append, heard_up, heard_up_append, has_method, inl, inr, is_stream, last_id, List, map, nat_eq, None, Open, Option, outcomes, outcomes_append, put_down, put_down_append, put_up, put_up_append, refl, Request, Rules, Services, Some, StaysFound, Stream, subst, sym, Thing, true, Waiting, with_mail, Word, work, ℕ, ◌%◌, ◌++◌, ◌∙◌, ◌∷◌, ◌≡◌, ◌≤◌, ◌⊎◌, inlet_by, inlet_in, inlet_of, Taking, AsyncRules, SyncRules, Body, UnaryBody, StreamBody}
+use Rattle.ttrpc_story.proofs.Here.{Asking, Birth, Born, ByCall, ByOpen, first_act, first_flow, Here, Idle, IsAnswer, jobs_of, no_cons, Origin, Over, request_of, Runs, Unborn, ups_of, Waits, Work, works_of}
+use Rattle.ttrpc_story.proofs.AtServer.{AreItems, AtServer, concludes, goes_on, is_over, IsDown, IsJob, IsNever, IsSent, IsWork, later, mapped, maps, MayHave, moves, never_downs, unanswered, same_over}
 use Rattle.ttrpc_story.proofs.AtClient.{AtClient, IsBegun}
 use Rattle.ttrpc_story.proofs.Upward.{box_up, first_things, flags_of, IsMade, IsStarted, Upward, box_of}
 use Rattle.ttrpc_story.proofs.Downward.{Downward, IsTurned}
-use Rattle.ttrpc_story.proofs.Tidy.{IsPatient, Tidy, tidy_stays}
+use Rattle.ttrpc_story.proofs.Tidy.{IsPatient, Tidy}
 use Rattle.ttrpc_story.proofs.AtClient as client
 use Rattle.ttrpc_story.proofs.Upward as upward
 use Rattle.ttrpc_story.proofs.Downward as downward
@@ -33,10 +33,10 @@ abbrev pub DownOf : Settings → Origin → Work → Here → Type 0
 DownOf set o p h = Downward o p (put_down set.rules set.limit h.flows) (heard_down h.flows) h.downs h.stream
 
 -- In a clean run: nothing is in flight to the client before an id is used, and the call of a method is tidy.
-abbrev pub TidyOf : Settings → Origin → Work → Here → Type 0
-TidyOf set Unborn p h = h.downs ≡ []
-TidyOf set (Born (ByCall q)) p h = has_method set.services q.service q.method ≡ true → Tidy set.rules set.limit q p h
-TidyOf set (Born (ByOpen q up down)) p h = Unit {0}
+abbrev pub TidyOf : Settings → Origin → Work → List Act → List Flying → Option Call → Type 0
+TidyOf set Unborn p a d e = d ≡ []
+TidyOf set (Born (ByCall q)) p a d e = has_method set.services q.service q.method ≡ true → Tidy set.rules set.limit q p a d e
+TidyOf set (Born (ByOpen q up down)) p a d e = Unit {0}
 
 -- it is no call of a method
 abbrev pub IsNoMethod : Settings → Birth → Type 0
@@ -46,11 +46,11 @@ IsNoMethod set (ByOpen q up down) = Unit {0}
 -- both sides of an id, where it came to be used like this and its work has come this far, and its items both ways
 pub record Known (w : Around) (k : ℕ) (h : Here) (o : Origin) (p : Work) : Type 0 where
   pub young : w.next ≤ k → o ≡ Unborn
-  pub server : AtServer w.set.rules w.had k o p h
+  pub server : AtServer w.set.rules w.had k o p (work h.acts) h.ups h.jobs h.downs
   pub client : AtClient o h.acts h.call h.stream
   pub up : UpOf k o p h
   pub down : DownOf w.set o p h
-  pub tidy : w.set.clean → TidyOf w.set o p h
+  pub tidy : w.set.clean → TidyOf w.set o p h.acts h.downs h.call
 
 -- ONE ID, RIGHT
 pub record Place (w : Around) (k : ℕ) (h : Here) : Type 0 where
@@ -67,96 +67,75 @@ pub record Later (w w2 : Around) (k : ℕ) : Type 1 where
 pub unchanged : (w : Around) (k : ℕ) → Later w w k
 unchanged w k = record { set = refl; young = λ y. y; had = λ i h. h }
 
-pub client_at : (o : Origin) (a a2 : List Act) (e e2 : Option Call) (st st2 : Option Stream) → a2 ≡ a → e2 ≡ e → st2 ≡ st → AtClient o a e st → AtClient o a2 e2 st2
-client_at o a a2 e e2 st st2 ha he hs k =
-    subst (λ (x : List Act). AtClient o x e2 st2) (sym ha) (subst (λ (x : Option Call). AtClient o a x st2) (sym he) (subst (λ (x : Option Stream). AtClient o a e x) (sym hs) k))
-
 -- ---- the ways of its items
 
 -- what a list of what happened to items says, where more happened
-pub flows_grow : {X : Type 0} (says : List Flow → List X) → ((a b : List Flow) → says (a ++ b) ≡ says a ++ says b) → (f f2 more : List Flow) (xs : List X) → says more ≡ xs → f2 ≡ f ++ more → says f2 ≡ says f ++ xs
-flows_grow says append f f2 more xs is e = ap says e ∙ append f more ∙ ap (λ ys. says f ++ ys) is
+pub flows_grow : {X : Type 0} (says : List Flow → List X) → ((a b : List Flow) → says (a ++ b) ≡ says a ++ says b) → (f more : List Flow) (xs : List X) → says more ≡ xs → says (f ++ more) ≡ says f ++ xs
+flows_grow says append f more xs is = append f more ∙ ap (λ ys. says f ++ ys) is
 
-pub flows_stay : {X : Type 0} (says : List Flow → List X) → ((a b : List Flow) → says (a ++ b) ≡ says a ++ says b) → (f f2 more : List Flow) → says more ≡ [] → f2 ≡ f ++ more → says f2 ≡ says f
-flows_stay says append f f2 more is e = flows_grow says append f f2 more [] is e ∙ append-nil (says f)
+pub flows_stay : {X : Type 0} (says : List Flow → List X) → ((a b : List Flow) → says (a ++ b) ≡ says a ++ says b) → (f more : List Flow) → says more ≡ [] → says (f ++ more) ≡ says f
+flows_stay says append f more is = flows_grow says append f more [] is ∙ append-nil (says f)
 
--- the same way, of equal parts
-pub up_as : {k : ℕ} {o : Origin} {p : Work} {put put2 : List Thing} {told told2 : List Word} {ups ups2 : List Flying} {st st2 : Option Stream} → put2 ≡ put → told2 ≡ told → ups2 ≡ ups → st2 ≡ st → Upward k o p put told ups st → Upward k o p put2 told2 ups2 st2
-up_as hp ht hu hs u = rw (hp, ht, hu, hs) u
+-- the same way, where what was put in and told is the same
+pub up_as : {k : ℕ} {o : Origin} {p : Work} {put put2 : List Thing} {told told2 : List Word} {ups : List Flying} {st : Option Stream} → put2 ≡ put → told2 ≡ told → Upward k o p put told ups st → Upward k o p put2 told2 ups st
+up_as hp ht u = rw (hp, ht) u
 
-pub down_as : {o : Origin} {p : Work} {put put2 : List Thing} {told told2 : List Word} {downs downs2 : List Flying} {st st2 : Option Stream} → put2 ≡ put → told2 ≡ told → downs2 ≡ downs → st2 ≡ st → Downward o p put told downs st → Downward o p put2 told2 downs2 st2
-down_as hp ht hd hs d = rw (hp, ht, hd, hs) d
-
--- nothing happened to them
-pub same_up : {k : ℕ} {o : Origin} {p : Work} (h h2 : Here) → h2.flows ≡ h.flows → h2.ups ≡ h.ups → h2.stream ≡ h.stream → UpOf k o p h → UpOf k o p h2
-same_up h h2 hf hu hs u = up_as (ap put_up hf) (ap heard_up hf) hu hs u
-
-pub same_down : (set : Settings) {o : Origin} {p : Work} (h h2 : Here) → h2.flows ≡ h.flows → h2.downs ≡ h.downs → h2.stream ≡ h.stream → DownOf set o p h → DownOf set o p h2
-same_down set h h2 hf hd hs d = down_as (ap (put_down set.rules set.limit) hf) (ap heard_down hf) hd hs d
+pub down_as : {o : Origin} {p : Work} {put put2 : List Thing} {told told2 : List Word} {downs : List Flying} {st : Option Stream} → put2 ≡ put → told2 ≡ told → Downward o p put told downs st → Downward o p put2 told2 downs st
+down_as hp ht d = rw (hp, ht) d
 
 -- ---- in a clean run
 
--- nothing that is tidy changed
-pub tidy_same : (set : Settings) (o : Origin) (p : Work) (h h2 : Here) → h2.acts ≡ h.acts → h2.downs ≡ h.downs → h2.call ≡ h.call → TidyOf set o p h → TidyOf set o p h2
-tidy_same set Unborn p h h2 ha hd he t = hd ∙ t
-tidy_same set (Born (ByCall q)) p h h2 ha hd he t = λ method. tidy_stays set.rules set.limit q p h h2 ha hd he (t method)
-tidy_same set (Born (ByOpen q up down)) p h h2 ha hd he t = tt
-
 -- what is no call of a method is tidy
-pub untidy : (set : Settings) (b : Birth) (p : Work) (h : Here) → IsNoMethod set b → TidyOf set (Born b) p h
-untidy set (ByCall q) p h never = λ method. absurd (never method)
-untidy set (ByOpen q up down) p h never = tt
+pub untidy : (set : Settings) (b : Birth) (p : Work) (a : List Act) (d : List Flying) (e : Option Call) → IsNoMethod set b → TidyOf set (Born b) p a d e
+untidy set (ByCall q) p a d e never = λ method. absurd (never method)
+untidy set (ByOpen q up down) p a d e never = tt
 
 -- only a stream has data in flight
-passed_tidy : (set : Settings) (b : Birth) (p : Work) (h : Here) (x : Flying) (u : List Flying) → MayHave (Born b) (x ∷ u) → TidyOf set (Born b) p h
-passed_tidy set (ByCall q) p h x u may = absurd (no_cons x u may)
-passed_tidy set (ByOpen q up down) p h x u may = tt
+passed_tidy : (set : Settings) (b : Birth) (p : Work) (a : List Act) (d : List Flying) (e : Option Call) (x : Flying) (u : List Flying) → MayHave (Born b) (x ∷ u) → TidyOf set (Born b) p a d e
+passed_tidy set (ByCall q) p a d e x u may = absurd (no_cons x u may)
+passed_tidy set (ByOpen q up down) p a d e x u may = tt
 
 -- ---- both sides
 
--- the server's side changed, and the client's, and the ways
-pub joined : {w w2 : Around} {k : ℕ} {h h2 : Here} {o : Origin} {p q : Work} → Known w k h o p → Later w w2 k → AtServer w.set.rules w2.had k o q h2 → AtClient o h2.acts h2.call h2.stream → UpOf k o q h2 → DownOf w.set o q h2
-    → (w.set.clean → TidyOf w.set o q h2) → Place w2 k h2
+-- the server's side changed, and the client's, and the ways, and what is around
+pub joined : {w w2 : Around} {k : ℕ} {h h2 : Here} {o : Origin} {p q : Work} → Known w k h o p → Later w w2 k → AtServer w.set.rules w2.had k o q (work h2.acts) h2.ups h2.jobs h2.downs → AtClient o h2.acts h2.call h2.stream → UpOf k o q h2 → DownOf w.set o q h2
+    → (w.set.clean → TidyOf w.set o q h2.acts h2.downs h2.call) → Place w2 k h2
 joined {w} {w2} {k} {h} {h2} {o} {p} {q} n l server kept up down tidy = record {
   origin = o;
   so_far = q;
   known = record {
     young = λ y. n.young (l.young y);
-    server = subst (λ (s : Settings). AtServer s.rules w2.had k o q h2) (sym l.set) server;
+    server = subst (λ (s : Settings). AtServer s.rules w2.had k o q (work h2.acts) h2.ups h2.jobs h2.downs) (sym l.set) server;
     client = kept;
     up = up;
     down = subst (λ (s : Settings). DownOf s o q h2) (sym l.set) down;
-    tidy = subst (λ (s : Settings). s.clean → TidyOf s o q h2) (sym l.set) tidy;
+    tidy = subst (λ (s : Settings). s.clean → TidyOf s o q h2.acts h2.downs h2.call) (sym l.set) tidy;
   };
 }
 
--- the server's side changed, and the acts stay as they are
-pub at_server : {w : Around} {k : ℕ} {h h2 : Here} {o : Origin} {p q : Work} → Known w k h o p → AtServer w.set.rules w.had k o q h2 → h2.acts ≡ h.acts → h2.call ≡ h.call → h2.stream ≡ h.stream → UpOf k o q h2 → DownOf w.set o q h2 → (w.set.clean → TidyOf w.set o q h2) → Place w k h2
-at_server {w} {k} {h} {h2} {o} n server ha he hs up down tidy = joined n (unchanged w k) server (client_at o h.acts h2.acts h.call h2.call h.stream h2.stream ha he hs n.client) up down tidy
+-- and nothing is around that changed
+pub turned : {w : Around} {k : ℕ} {h h2 : Here} {o : Origin} {p q : Work} → Known w k h o p → AtServer w.set.rules w.had k o q (work h2.acts) h2.ups h2.jobs h2.downs → AtClient o h2.acts h2.call h2.stream → UpOf k o q h2 → DownOf w.set o q h2
+    → (w.set.clean → TidyOf w.set o q h2.acts h2.downs h2.call) → Place w k h2
+turned n server kept up down tidy = record { origin = _; so_far = _; known = record { young = n.young; server = server; client = kept; up = up; down = down; tidy = tidy } }
 
--- the client's side changed
-pub at_client : {w w2 : Around} {k : ℕ} {h h2 : Here} → Later w w2 k → (s : Place w k h) → work h2.acts ≡ work h.acts → h2.ups ≡ h.ups → h2.jobs ≡ h.jobs → h2.downs ≡ h.downs → AtClient s.origin h2.acts h2.call h2.stream
-    → UpOf k s.origin s.so_far h2 → DownOf w.set s.origin s.so_far h2 → (w.set.clean → TidyOf w.set s.origin s.so_far h2) → Place w2 k h2
-at_client l s ha hu hj hd kept up down tidy = joined s.known l (stays l.had s.known.server ha hu hj hd) kept up down tidy
-
--- and nothing of the ways
-pub at_calls : {w w2 : Around} {k : ℕ} {h h2 : Here} → Later w w2 k → (s : Place w k h) → work h2.acts ≡ work h.acts → h2.flows ≡ h.flows → h2.ups ≡ h.ups → h2.jobs ≡ h.jobs → h2.downs ≡ h.downs → h2.stream ≡ h.stream
-    → AtClient s.origin h2.acts h2.call h2.stream → (w.set.clean → TidyOf w.set s.origin s.so_far h2) → Place w2 k h2
-at_calls {w} {h = h} {h2 = h2} l s ha hf hu hj hd hs kept tidy = at_client l s ha hu hj hd kept (same_up h h2 hf hu hs s.known.up) (same_down w.set h h2 hf hd hs s.known.down) tidy
-
--- Nothing changes at an id that an event isn't about.
+-- An equal id, where what is around may have changed: so is one that an event isn't about.
 pub elsewhere : {w w2 : Around} {k : ℕ} {h h2 : Here} → Later w w2 k → Place w k h → h2.acts ≡ h.acts → h2.flows ≡ h.flows → h2.ups ≡ h.ups → h2.jobs ≡ h.jobs → h2.downs ≡ h.downs → h2.call ≡ h.call → h2.stream ≡ h.stream → Place w2 k h2
-elsewhere {w} {h = h} {h2 = h2} l s ha hf hu hj hd he hs =
-    at_calls l s (ap work ha) hf hu hj hd hs (client_at s.origin h.acts h2.acts h.call h2.call h.stream h2.stream ha he hs s.known.client) (λ clean. tidy_same w.set s.origin s.so_far h h2 ha hd he (s.known.tidy clean))
+elsewhere {w} {w2} {k} {h} {h2} l s ha hf hu hj hd he hs =
+    let n = s.known in
+    let same : h ≡ record { acts = h2.acts; flows = h2.flows; ups = h2.ups; jobs = h2.jobs; downs = h2.downs; call = h2.call; stream = h2.stream } = rw (ha, hf, hu, hj, hd, he, hs) refl in
+    subst (λ (x : Here). Place w2 k x) same (joined n l (later l.had n.server) n.client n.up n.down n.tidy)
+
+-- what the server's side reads of an id, given anew
+abbrev pub served : Here → List Act → List Flow → List Flying → List ActiveJob → List Flying → Here
+served h acts flows ups jobs downs = record h { acts = acts; flows = flows; ups = ups; jobs = jobs; downs = downs }
 
 -- THE TURN of work that isn't over, by acts that give no outcome, and by what goes down with it.
-pub turns : {w w2 : Around} {k : ℕ} {h h2 : Here} {o : Origin} {p : Work} (q : Work) (more : List Act) (down : List Flying) → (n : Known w k h o p) → Later w w2 k → is_over p ≡ false → outcomes more ≡ []
-    → IsWork w.set.rules w2.had k o q → works_of o q ≡ works_of o p ++ work more → h2.acts ≡ h.acts ++ more → h2.ups ≡ ups_of q ++ n.server.items → h2.jobs ≡ jobs_of q → h2.downs ≡ h.downs ++ down
-    → AllByRecursion (IsDown k (is_over q) o (works_of o q)) down → h2.call ≡ h.call → h2.stream ≡ h.stream → UpOf k o q h2 → DownOf w.set o q h2 → (w.set.clean → TidyOf w.set o q h2) → Place w2 k h2
-turns {h = h} {h2 = h2} {o = o} {p = p} q more down n l undone quiet is grows ha hu hj hd new he hs up down_of tidy =
-    joined n l (moves more n.server.items down n.server undone n.server.within is n.server.are_items n.server.may_have ha grows hu hj hd new)
-    (client_at o (h.acts ++ more) h2.acts h.call h2.call h.stream h2.stream ha he hs
-    (client.grows o h.acts more h.call h.stream quiet (λ r i. unanswered o p r undone (subst (λ (a : List Act). IsAnswer o a r) n.server.works_is i)) n.client)) up down_of tidy
+pub turns : {w w2 : Around} {k : ℕ} {h : Here} {o : Origin} {p : Work} {acts2 : List Act} {flows2 : List Flow} {ups2 downs2 : List Flying} {jobs2 : List ActiveJob} (q : Work) (more : List Act) (down : List Flying) → (n : Known w k h o p) → Later w w2 k → is_over p ≡ false → outcomes more ≡ []
+    → IsWork w.set.rules w2.had k o q → works_of o q ≡ works_of o p ++ work more → acts2 ≡ h.acts ++ more → ups2 ≡ ups_of q ++ n.server.items → jobs2 ≡ jobs_of q → downs2 ≡ h.downs ++ down → AllByRecursion (IsDown k (is_over q) o (works_of o q)) down
+    → UpOf k o q (served h acts2 flows2 ups2 jobs2 downs2) → DownOf w.set o q (served h acts2 flows2 ups2 jobs2 downs2) → (w.set.clean → TidyOf w.set o q acts2 downs2 h.call) → Place w2 k (served h acts2 flows2 ups2 jobs2 downs2)
+turns {h = h} {o = o} {p = p} q more down n l undone quiet is grows ha hu hj hd new up down_of tidy =
+    joined n l (moves (work more) n.server.items down n.server undone n.server.within is n.server.are_items n.server.may_have grows (ap work ha ∙ work_append h.acts more) hu hj hd new)
+    (subst (λ (a : List Act). AtClient o a h.call h.stream) (sym ha) (client.grows o h.acts more h.call h.stream quiet (λ r i. unanswered o p r undone (subst (λ (a : List Act). IsAnswer o a r) n.server.works_is i)) n.client)) up down_of tidy
 
 -- ---- an id is used
 
@@ -174,46 +153,41 @@ first_works (ByCall request) = refl
 first_works (ByOpen request up down) = refl
 
 first_says : (set : Settings) (b : Birth) → (put_up (first_flow b ∷ []) ≡ first_things b) × (heard_up (first_flow b ∷ []) ≡ []) × (put_down set.rules set.limit (first_flow b ∷ []) ≡ []) × (heard_down (first_flow b ∷ []) ≡ [])
-first_says set (ByCall request) = (refl, refl, refl, refl)
 first_says set (ByOpen request true down) = (refl, refl, refl, refl)
-first_says set (ByOpen request false down) = (refl, refl, refl, refl)
+first_says set b = (refl, refl, refl, refl)
 
 -- the id of a call is odd
 abbrev pub IsOdd : Birth → ℕ → Type 0
 IsOdd (ByCall q) k = nat_eq (k % 2) 0 ≡ false
 IsOdd (ByOpen q up down) k = Unit {0}
 
-begins_tidy : (set : Settings) (b : Birth) (k : ℕ) (x : Flying) (h h2 : Here) → IsOdd b k → x.frame.message.header.stream_id ≡ k → IsBegun b h2.call h2.stream → outcomes h.acts ≡ [] → h.downs ≡ []
-    → h2.acts ≡ h.acts ++ first_act b ∷ [] → h2.downs ≡ h.downs → TidyOf set (Born b) (Asking x) h2
-begins_tidy set (ByCall q) k x h h2 odd at begun none downs ha hd = λ method. (
-  record { downs = hd ∙ downs; deadline = begun.0.0; call = begun.0.1; ungiven = ap outcomes ha ∙ outcomes_append h.acts (Called q ∷ []) ∙ append-nil (outcomes h.acts) ∙ none },
-  rw at odd,
-)
-begins_tidy set (ByOpen q up down) k x h h2 odd at begun none downs ha hd = tt
+begins_tidy : (set : Settings) (b : Birth) (k : ℕ) (x : Flying) (a : List Act) (d : List Flying) (e : Option Call) (st : Option Stream) → IsOdd b k → x.frame.message.header.stream_id ≡ k → IsBegun b e st → outcomes a ≡ [] → d ≡ [] → TidyOf set (Born b) (Asking x) (a ++ first_act b ∷ []) d e
+begins_tidy set (ByCall q) k x a d e st odd at begun none downs = λ method. (record { downs = downs; deadline = begun.0.0; call = begun.0.1; ungiven = outcomes_append a (Called q ∷ []) ∙ append-nil (outcomes a) ∙ none }, rw at odd)
+begins_tidy set (ByOpen q up down) k x a d e st odd at begun none downs = tt
 
 -- A call is accepted, or a stream opened.
-pub begins_here : {w w2 : Around} {k : ℕ} {h h2 : Here} (b : Birth) (x : Flying) → Place w k h → w2.set ≡ w.set → ((i : ℕ) → w.had i ≡ true → w2.had i ≡ true) → w.next ≤ k → (w2.next ≤ k → ⊥) → k ≤ last_id → IsSent k (request_of b) x
-    → x.frame.message.header.flags ≡ flags_of b → IsOdd b k → (h.call ≡ None → h.stream ≡ None → IsBegun b h2.call h2.stream × IsStarted b h2.stream)
-    → h2.acts ≡ h.acts ++ first_act b ∷ [] → h2.flows ≡ h.flows ++ first_flow b ∷ [] → h2.ups ≡ h.ups ++ x ∷ [] → h2.jobs ≡ h.jobs → h2.downs ≡ h.downs → Place w2 k h2
-begins_here {w} {w2} {k} {h} {h2} b x s set had y y2 within sent flags odd begun ha hf hu hj hd =
+pub begins_here : {w w2 : Around} {k : ℕ} {h : Here} {e : Option Call} {st : Option Stream} (b : Birth) (x : Flying) → Place w k h → w2.set ≡ w.set → ((i : ℕ) → w.had i ≡ true → w2.had i ≡ true) → w.next ≤ k → (w2.next ≤ k → ⊥) → k ≤ last_id → IsSent k (request_of b) x
+    → x.frame.message.header.flags ≡ flags_of b → IsOdd b k → (h.call ≡ None → h.stream ≡ None → IsBegun b e st × IsStarted b st)
+    → Place w2 k (record h { acts = h.acts ++ first_act b ∷ []; flows = h.flows ++ first_flow b ∷ []; ups = h.ups ++ x ∷ []; call = e; stream = st })
+begins_here {w} {w2} {k} {h} {e} {st} b x s set had y y2 within sent flags odd begun =
     let n = born s.origin s.so_far s.known (s.known.young y) in
     let g = begun n.client.0 n.client.1 in
     let says = first_says w.set b in
-    let one : h2.ups ≡ x ∷ [] = hu ∙ ap (λ xs. xs ++ x ∷ []) (n.server.ups_is ∙ n.server.may_have) in
+    let more : List Flow = first_flow b ∷ [] in
+    let one : h.ups ++ x ∷ [] ≡ x ∷ [] = ap (λ xs. xs ++ x ∷ []) (n.server.ups_is ∙ n.server.may_have) in
     record {
       origin = Born b;
       so_far = Asking x;
       known = record {
         young = λ z. absurd (y2 z);
-        server = subst (λ (r : Settings). AtServer r.rules w2.had k (Born b) (Asking x) h2) (sym set)
-            (moves (first_act b ∷ []) [] [] n.server refl within sent tt (none_may b) ha (sym (first_works b)) one (hj ∙ n.server.jobs_is)
-            (hd ∙ sym (append-nil h.downs)) tt);
-        client = subst (λ (a : List Act). AtClient (Born b) a h2.call h2.stream) (sym ha)
-            (client.begins b h.acts h.call h2.call h.stream h2.stream g.0 n.client);
-        up = up_as (flows_grow put_up put_up_append h.flows h2.flows (first_flow b ∷ []) (first_things b) says.0 hf) (flows_stay heard_up heard_up_append h.flows h2.flows (first_flow b ∷ []) says.1 hf) one refl (upward.starts b x flags g.1 n.up);
-        down = subst (λ (r : Settings). DownOf r (Born b) (Asking x) h2) (sym set)
-            (down_as (flows_stay (put_down w.set.rules w.set.limit) (put_down_append w.set.rules w.set.limit) h.flows h2.flows (first_flow b ∷ []) says.2 hf) (flows_stay heard_down heard_down_append h.flows h2.flows (first_flow b ∷ []) says.3 hf) hd refl (downward.starts b (Asking x) h2.stream g.1 n.down));
-        tidy = subst (λ (r : Settings). r.clean → TidyOf r (Born b) (Asking x) h2) (sym set) (λ clean. begins_tidy w.set b k x h h2 odd sent.stream g.0 n.client.2 (n.tidy clean) ha hd);
+        server = subst (λ (r : Settings). AtServer r.rules w2.had k (Born b) (Asking x) (work (h.acts ++ first_act b ∷ [])) (h.ups ++ x ∷ []) h.jobs h.downs) (sym set)
+            (moves (first_act b ∷ []) [] [] n.server refl within sent tt (none_may b) refl (work_append h.acts (first_act b ∷ []) ∙ ap (λ xs. work h.acts ++ xs) (first_works b)) one n.server.jobs_is (sym (append-nil h.downs)) tt);
+        client = client.begins b h.acts h.call e h.stream st g.0 n.client;
+        up = subst (λ (xs : List Flying). Upward k (Born b) (Asking x) (put_up (h.flows ++ more)) (heard_up (h.flows ++ more)) xs st) (sym one)
+            (up_as (flows_grow put_up put_up_append h.flows more (first_things b) says.0) (flows_stay heard_up heard_up_append h.flows more says.1) (upward.starts b x flags g.1 n.up));
+        down = subst (λ (r : Settings). Downward (Born b) (Asking x) (put_down r.rules r.limit (h.flows ++ more)) (heard_down (h.flows ++ more)) h.downs st) (sym set)
+            (down_as (flows_stay (put_down w.set.rules w.set.limit) (put_down_append w.set.rules w.set.limit) h.flows more says.2) (flows_stay heard_down heard_down_append h.flows more says.3) (downward.starts b (Asking x) st g.1 n.down));
+        tidy = subst (λ (r : Settings). r.clean → TidyOf r (Born b) (Asking x) (h.acts ++ first_act b ∷ []) h.downs e) (sym set) (λ clean. begins_tidy w.set b k x h.acts h.downs e st odd sent.stream g.0 n.client.2 (n.tidy clean));
       };
     }
 
@@ -249,10 +223,7 @@ comes_by : {w : Around} {k : ℕ} {h : Here} (x : Flying) (u : List Flying) (o :
 comes_by x u Unborn p n e = absurd (no_cons x u (sym e ∙ n.server.ups_is ∙ ap (λ (q : Work). ups_of q ++ n.server.items) n.server.is_work ∙ n.server.may_have))
 comes_by x u (Born b) (Asking z) n e = inl (asks_by x u b z n (sym e ∙ n.server.ups_is))
 comes_by x u (Born b) Idle n e = absurd n.server.is_work
-comes_by x u (Born b) (Waits j) n e = inr (record { b = b; so_far = Waits j; known = n; none_else = refl; items = sym n.server.ups_is ∙ e })
-comes_by x u (Born b) (Runs j) n e = inr (record { b = b; so_far = Runs j; known = n; none_else = refl; items = sym n.server.ups_is ∙ e })
-comes_by x u (Born b) (Left j response) n e = inr (record { b = b; so_far = Left j response; known = n; none_else = refl; items = sym n.server.ups_is ∙ e })
-comes_by x u (Born b) (Over done) n e = inr (record { b = b; so_far = Over done; known = n; none_else = refl; items = sym n.server.ups_is ∙ e })
+comes_by x u (Born b) p n e = inr (record { b = b; so_far = p; known = n; none_else = refl; items = sym n.server.ups_is ∙ e })
 
 -- what comes first is the request, or data behind it
 pub comes_of : {w : Around} {k : ℕ} {h : Here} (x : Flying) (u : List Flying) → Place w k h → h.ups ≡ x ∷ u → IsAsked w k h x u ⊎ IsPassed w k h x u
@@ -275,39 +246,33 @@ abbrev pub IsHeldBy : Settings → Birth → Option Call → ActiveJob → Type 
 IsHeldBy set (ByCall q) call job = has_method set.services q.service q.method ≡ true → IsOwedBy set.rules call job
 IsHeldBy set (ByOpen q up down) call job = Unit {0}
 
-arrives_tidy : (set : Settings) (b : Birth) (x : Flying) (job : ActiveJob) (h h2 : Here) → IsHeldBy set b h.call job → h2.acts ≡ h.acts → h2.downs ≡ h.downs → h2.call ≡ h.call → TidyOf set (Born b) (Asking x) h → TidyOf set (Born b) (Waits job) h2
-arrives_tidy set (ByCall q) x job h h2 held ha hd he t = λ method.
+arrives_tidy : (set : Settings) (b : Birth) (x : Flying) (job : ActiveJob) (a : List Act) (d : List Flying) (e : Option Call) → IsHeldBy set b e job → TidyOf set (Born b) (Asking x) a d e → TidyOf set (Born b) (Waits job) a d e
+arrives_tidy set (ByCall q) x job a d e held t = λ method.
     let o = held method in
-    tidy_stays set.rules set.limit q (Waits job) h h2 ha hd he (record { un = (t method).0; unary = o.unary; patient = o.patient (t method).0.deadline (t method).0.call; untimed = o.untimed })
-arrives_tidy set (ByOpen q up down) x job h h2 held ha hd he t = tt
+    let un = (t method).0 in
+    record { un = un; unary = o.unary; patient = o.patient un.deadline un.call; untimed = o.untimed }
+arrives_tidy set (ByOpen q up down) x job a d e held t = tt
 
 -- The request is a job.
-pub arrives_here : {w : Around} {k : ℕ} {h h2 : Here} {x : Flying} {u : List Flying} (job : ActiveJob) → (a : IsAsked w k h x u) → IsJob w.set.rules k (Some (asked_by (is_stream job.body) (request_of a.b))) job
-    → (x.frame.message.header.flags ≡ flags_of a.b → IsMade a.b job.body) → (is_stream job.body ≡ true → nat_eq (k % 2) 0 ≡ false) → (w.set.clean → IsHeldBy w.set a.b h.call job)
-    → h2.acts ≡ h.acts → h2.flows ≡ h.flows → h2.ups ≡ u → h2.jobs ≡ h.jobs ++ job ∷ [] → h2.downs ≡ h.downs → h2.call ≡ h.call → h2.stream ≡ h.stream → Place w k h2
-arrives_here {w} {k} {h} {h2} {x} job a is made odd held ha hf hu hj hd he hs =
+pub arrives_here : {w : Around} {k : ℕ} {h : Here} {x : Flying} {u : List Flying} (job : ActiveJob) → (a : IsAsked w k h x u) → IsJob w.set.rules k (Some (asked_by (is_stream job.body) (request_of a.b))) job
+    → (x.frame.message.header.flags ≡ flags_of a.b → IsMade a.b job.body) → (is_stream job.body ≡ true → nat_eq (k % 2) 0 ≡ false) → (w.set.clean → IsHeldBy w.set a.b h.call job) → Place w k (record h { ups = u; jobs = h.jobs ++ job ∷ [] })
+arrives_here {w} {k} {h} {x} job a is made odd held =
     let n = a.known in
-    turns (Waits job) [] [] n (unchanged w k) refl refl is refl (ha ∙ sym (append-nil h.acts)) (hu ∙ sym a.items) (hj ∙ ap (λ (xs : List ActiveJob). xs ++ job ∷ []) n.server.jobs_is)
-    (hd ∙ sym (append-nil h.downs)) tt he hs
-    (up_as (ap put_up hf) (ap heard_up hf) hu hs (upward.makes job (asked_ups a) (made n.up.is.fit) odd n.up))
-    (down_as (ap (put_down w.set.rules w.set.limit) hf) (ap heard_down hf) hd hs (downward.stays (Waits job) h.stream (λ e. refl) refl refl n.down)) (λ clean. arrives_tidy w.set a.b x job h h2 (held clean) ha hd he (n.tidy clean))
+    turns (Waits job) [] [] n (unchanged w k) refl refl is refl (sym (append-nil h.acts)) (sym a.items) (ap (λ (xs : List ActiveJob). xs ++ job ∷ []) n.server.jobs_is) (sym (append-nil h.downs)) tt
+    (upward.makes job (asked_ups a) (made n.up.is.fit) odd n.up) (downward.stays (Waits job) h.stream (λ e. refl) refl refl n.down) (λ clean. arrives_tidy w.set a.b x job h.acts h.downs h.call (held clean) (n.tidy clean))
 
 -- Nothing more comes of an id: its request is refused, or thrown away, or its job is gone.
-pub concludes_here : {w : Around} {k : ℕ} {h h2 : Here} {b : Birth} {p : Work} (items down : List Flying) → Known w k h (Born b) p → AreItems k items → MayHave (Born b) items
-    → h2.acts ≡ h.acts → h2.flows ≡ h.flows → h2.ups ≡ items → h2.jobs ≡ [] → h2.downs ≡ h.downs ++ down → AllByRecursion (IsNever k) down → AllByRecursion IsTurned down → h2.call ≡ h.call → h2.stream ≡ h.stream
-    → (w.set.clean → TidyOf w.set (Born b) (Over (works_of (Born b) p)) h2) → Place w k h2
-concludes_here {w} {k} {h} {h2} {b} {p} items down n are may ha hf hu hj hd new turned he hs tidy =
+pub concludes_here : {w : Around} {k : ℕ} {h : Here} {b : Birth} {p : Work} {ups : List Flying} {jobs : List ActiveJob} (items down : List Flying) → Known w k h (Born b) p → AreItems k items → MayHave (Born b) items → ups ≡ items → jobs ≡ []
+    → AllByRecursion (IsNever k) down → AllByRecursion IsTurned down → (w.set.clean → TidyOf w.set (Born b) (Over (works_of (Born b) p)) h.acts (h.downs ++ down) h.call) → Place w k (record h { ups = ups; jobs = jobs; downs = h.downs ++ down })
+concludes_here {b = b} {p} {ups} items down n are may hu hj new goes tidy =
     let over : Work = Over (works_of (Born b) p) in
-    at_server n (concludes items down n.server are may ha hu hj hd new) ha he hs
-    (up_as (ap put_up hf) (ap heard_up hf) refl hs (upward.gone over h2.ups refl tt n.up))
-    (down_as (ap (put_down w.set.rules w.set.limit) hf) (ap heard_down hf) hd hs (downward.turned over down (λ e. let bad : true ≡ false = e in cc) turned n.down)) tidy
+    turned n (concludes items down n.server are may hu hj new) n.client (upward.gone over ups refl tt n.up) (downward.turned over down (λ e. let bad : true ≡ false = e in cc) goes n.down) tidy
 
 -- The server refuses the request, or does nothing with it.
-pub refers_here : {w : Around} {k : ℕ} {h h2 : Here} {x : Flying} {u : List Flying} (down : List Flying) → (a : IsAsked w k h x u) → (w.set.clean → IsNoMethod w.set a.b) → AllByRecursion (IsNever k) down → AllByRecursion IsTurned down
-    → h2.acts ≡ h.acts → h2.flows ≡ h.flows → h2.ups ≡ u → h2.jobs ≡ h.jobs → h2.downs ≡ h.downs ++ down → h2.call ≡ h.call → h2.stream ≡ h.stream → Place w k h2
-refers_here {w} {h2 = h2} {x = x} down a never new turned ha hf hu hj hd he hs =
-    concludes_here a.known.server.items down a.known a.known.server.are_items a.known.server.may_have ha hf (hu ∙ sym a.items) (hj ∙ a.known.server.jobs_is) hd new turned he hs
-    (λ clean. untidy w.set a.b (Over (works_of (Born a.b) (Asking x))) h2 (never clean))
+pub refers_here : {w : Around} {k : ℕ} {h : Here} {x : Flying} {u : List Flying} (down : List Flying) → (a : IsAsked w k h x u) → (w.set.clean → IsNoMethod w.set a.b) → AllByRecursion (IsNever k) down → AllByRecursion IsTurned down → Place w k (record h { ups = u; downs = h.downs ++ down })
+refers_here {w} {h = h} {x = x} down a never new goes =
+    concludes_here a.known.server.items down a.known a.known.server.are_items a.known.server.may_have (sym a.items) a.known.server.jobs_is new goes
+    (λ clean. untidy w.set a.b (Over (works_of (Born a.b) (Asking x))) h.acts (h.downs ++ down) h.call (never clean))
 
 fewer_may : (b : Birth) (x : Flying) (u : List Flying) → MayHave (Born b) (x ∷ u) → MayHave (Born b) u
 fewer_may (ByCall request) x u may = absurd (no_cons x u may)
@@ -332,59 +297,54 @@ untaken (Asking x) n plain none o = absurd (no_cons x [] plain)
 untaken p n plain none o = cc
 
 -- what is left at the server once data came
-left_items : {w : Around} {k : ℕ} {h h2 : Here} {x : Flying} {u : List Flying} (down : List Flying) → (a : IsPassed w k h x u) → AllByRecursion (IsNever k) down
-    → h2.acts ≡ h.acts → h2.ups ≡ u → h2.jobs ≡ h.jobs → h2.downs ≡ h.downs ++ down → AtServer w.set.rules w.had k (Born a.b) a.so_far h2
-left_items {k = k} {x = x} {u = u} down a new ha hu hj hd =
+left_items : {w : Around} {k : ℕ} {h : Here} {x : Flying} {u : List Flying} (down : List Flying) → (a : IsPassed w k h x u) → AllByRecursion (IsNever k) down → AtServer w.set.rules w.had k (Born a.b) a.so_far (work h.acts) u h.jobs (h.downs ++ down)
+left_items {k = k} {h} {x = x} {u = u} down a new =
     let n = a.known.server in
     let are : AreItems k (x ∷ u) = subst (λ (xs : List Flying). AreItems k xs) a.items n.are_items in
     let may : MayHave (Born a.b) (x ∷ u) = subst (λ (xs : List Flying). MayHave (Born a.b) xs) a.items n.may_have in
-    goes_on u down (λ i y. y) n are.1 (fewer_may a.b x u may) (ap work ha) (hu ∙ ap (λ (xs : List Flying). xs ++ u) (sym a.none_else)) hj hd (never_downs k (is_over a.so_far) (Born a.b) (works_of (Born a.b) a.so_far) down new)
+    let o : Origin = Born a.b in
+    let works = works_of o a.so_far in
+    goes_on u (h.downs ++ down) n are.1 (fewer_may a.b x u may) (ap (λ (xs : List Flying). xs ++ u) (sym a.none_else)) (all_joined (IsDown k (is_over a.so_far) o works) h.downs down n.down (never_downs k (is_over a.so_far) o works down new))
 
-passed_is_tidy : {w : Around} {k : ℕ} {h : Here} {x : Flying} {u : List Flying} (a : IsPassed w k h x u) (p : Work) (h2 : Here) → TidyOf w.set (Born a.b) p h2
-passed_is_tidy {w} {x = x} {u = u} a p h2 = passed_tidy w.set a.b p h2 x u (subst (λ (xs : List Flying). MayHave (Born a.b) xs) a.items a.known.server.may_have)
+passed_is_tidy : {w : Around} {k : ℕ} {h : Here} {x : Flying} {u : List Flying} (a : IsPassed w k h x u) (p : Work) (d : List Flying) → TidyOf w.set (Born a.b) p h.acts d h.call
+passed_is_tidy {w} {h = h} {x = x} {u = u} a p d = passed_tidy w.set a.b p h.acts d h.call x u (subst (λ (xs : List Flying). MayHave (Born a.b) xs) a.items a.known.server.may_have)
 
 -- Data came, and aren't put in: nobody receives them, or all came already. The server may refuse them.
-pub passes_here : {w : Around} {k : ℕ} {h h2 : Here} {x : Flying} {u : List Flying} (down : List Flying) → (a : IsPassed w k h x u) → AllByRecursion (IsNever k) down → AllByRecursion IsTurned down
-    → ((box_up a.so_far).receiver ≡ Open → (box_up a.so_far).ended ≡ true)
-    → h2.acts ≡ h.acts → h2.flows ≡ h.flows → h2.ups ≡ u → h2.jobs ≡ h.jobs → h2.downs ≡ h.downs ++ down → h2.call ≡ h.call → h2.stream ≡ h.stream → Place w k h2
-passes_here {w} {k} {h} {h2} down a new turned over ha hf hu hj hd he hs =
-    let n = a.known in
-    at_server n (left_items down a new ha hu hj hd) ha he hs
-    (up_as (ap put_up hf) (ap heard_up hf) hu hs (upward.passes (passed_ups a) a.none_else over n.up))
-    (down_as (ap (put_down w.set.rules w.set.limit) hf) (ap heard_down hf) hd hs (downward.turned a.so_far down (λ e. e) turned n.down)) (λ clean. passed_is_tidy a a.so_far h2)
+pub passes_here : {w : Around} {k : ℕ} {h : Here} {x : Flying} {u : List Flying} (down : List Flying) → (a : IsPassed w k h x u) → AllByRecursion (IsNever k) down → AllByRecursion IsTurned down
+    → ((box_up a.so_far).receiver ≡ Open → (box_up a.so_far).ended ≡ true) → Place w k (record h { ups = u; downs = h.downs ++ down })
+passes_here {h = h} down a new goes over =
+    turned a.known (left_items down a new) a.known.client (upward.passes (passed_ups a) a.none_else over a.known.up) (downward.turned a.so_far down (λ e. e) goes a.known.down) (λ clean. passed_is_tidy a a.so_far (h.downs ++ down))
 
 -- Data came, and are put in.
-pub puts_here : {w : Around} {k : ℕ} {h h2 : Here} {x : Flying} {u : List Flying} (g : ActiveJob → ActiveJob) → StaysFound g → (a : IsPassed w k h x u)
-    → ((j : ActiveJob) → j.header.stream_id ≡ k → (g j).body ≡ with_mail (brought_by x.frame.message.header x.plain) j.body)
-    → h2.acts ≡ h.acts → h2.flows ≡ h.flows → h2.ups ≡ u → h2.jobs ≡ map g h.jobs → h2.downs ≡ h.downs → h2.call ≡ h.call → h2.stream ≡ h.stream → Place w k h2
-puts_here {w} {k} {h} {h2} {x} {u} g found a change ha hf hu hj hd he hs =
+pub puts_here : {w : Around} {k : ℕ} {h : Here} {x : Flying} {u : List Flying} (g : ActiveJob → ActiveJob) → StaysFound g → (a : IsPassed w k h x u)
+    → ((j : ActiveJob) → j.header.stream_id ≡ k → (g j).body ≡ with_mail (brought_by x.frame.message.header x.plain) j.body) → Place w k (record h { ups = u; jobs = map g h.jobs })
+puts_here {w} {k} {h} {x} {u} g found a change =
     let n = a.known in
-    let mid : Here = record h { ups = u } in
-    at_server n (maps g found (left_items {h2 = mid} [] a tt refl refl refl (sym (append-nil h.downs))) ha hu hj hd) ha he hs
-    (up_as (ap put_up hf) (ap heard_up hf) hu hs (upward.brings g found w.set.rules w.had a.so_far (passed_ups a) a.none_else change n.server.is_work n.up))
-    (down_as (ap (put_down w.set.rules w.set.limit) hf) (ap heard_down hf) hd hs (downward.stays (mapped g a.so_far) h.stream (λ e. sym (same_over g found a.so_far) ∙ e) refl refl n.down)) (λ clean. passed_is_tidy a (mapped g a.so_far) h2)
+    let left = subst (λ (d : List Flying). AtServer w.set.rules w.had k (Born a.b) a.so_far (work h.acts) u h.jobs d) (append-nil h.downs) (left_items [] a tt) in
+    turned n (maps g found left) n.client (upward.brings g found w.set.rules w.had a.so_far (passed_ups a) a.none_else change n.server.is_work n.up)
+    (downward.stays (mapped g a.so_far) h.stream (λ e. sym (same_over g found a.so_far) ∙ e) refl refl n.down) (λ clean. passed_is_tidy a (mapped g a.so_far) h.downs)
 
 -- Mailboxes change, and something may be told.
-pub maps_here : {w : Around} {k : ℕ} {h h2 : Here} (g : ActiveJob → ActiveJob) → StaysFound g → (s : Place w k h) → UpOf k s.origin (mapped g s.so_far) h2 → (w.set.clean → TidyOf w.set s.origin (mapped g s.so_far) h2)
-    → h2.acts ≡ h.acts → put_down w.set.rules w.set.limit h2.flows ≡ put_down w.set.rules w.set.limit h.flows → heard_down h2.flows ≡ heard_down h.flows → h2.ups ≡ h.ups → h2.jobs ≡ map g h.jobs → h2.downs ≡ h.downs → h2.call ≡ h.call → h2.stream ≡ h.stream → Place w k h2
-maps_here {h = h} g found s up tidy ha hp ht hu hj hd he hs =
-    at_server s.known (maps g found s.known.server ha hu hj hd) ha he hs up
-    (down_as hp ht hd hs (downward.stays (mapped g s.so_far) h.stream (λ e. sym (same_over g found s.so_far) ∙ e) refl refl s.known.down)) tidy
+pub maps_here : {w : Around} {k : ℕ} {h : Here} {o : Origin} {p : Work} {f : List Flow} (g : ActiveJob → ActiveJob) → StaysFound g → (n : Known w k h o p) → UpOf k o (mapped g p) (record h { flows = f }) → (w.set.clean → TidyOf w.set o (mapped g p) h.acts h.downs h.call)
+    → put_down w.set.rules w.set.limit f ≡ put_down w.set.rules w.set.limit h.flows → heard_down f ≡ heard_down h.flows → Place w k (record h { flows = f; jobs = map g h.jobs })
+maps_here {h = h} {p = p} g found n up tidy hp ht =
+    turned n (maps g found n.server) n.client up (down_as hp ht (downward.stays (mapped g p) h.stream (λ e. sym (same_over g found p) ∙ e) refl refl n.down)) tidy
 
 -- ---- requests are thrown away
 
 -- a call that has no data in flight, and no request either
-thrown_call : {w : Around} {k : ℕ} {h h2 : Here} (q : Request) (p : Work) → Known w k h (Born (ByCall q)) p → (w.set.clean → ⊥) → h2.acts ≡ h.acts → h2.flows ≡ h.flows → h2.ups ≡ [] → h2.jobs ≡ h.jobs → h2.downs ≡ h.downs → h2.call ≡ h.call → h2.stream ≡ h.stream → Place w k h2
-thrown_call {h = h} q (Asking x) n never ha hf hu hj hd he hs = concludes_here [] [] n tt refl ha hf hu (hj ∙ n.server.jobs_is) (hd ∙ sym (append-nil h.downs)) tt tt he hs (λ clean. absurd (never clean))
-thrown_call {w} {k} q p n never ha hf hu hj hd he hs =
-    elsewhere (unchanged w k) (record { origin = Born (ByCall q); so_far = p; known = n }) ha hf (hu ∙ sym (n.server.ups_is ∙ n.server.may_have)) hj hd he hs
+thrown_call : {w : Around} {k : ℕ} {h : Here} (q : Request) (p : Work) → Known w k h (Born (ByCall q)) p → (w.set.clean → ⊥) → Place w k (record h { ups = [] })
+thrown_call {w} {k} {h} q (Asking x) n never = elsewhere (unchanged w k) (concludes_here {ups = []} {jobs = h.jobs} [] [] n tt refl refl n.server.jobs_is tt tt (λ clean. absurd (never clean))) refl refl refl refl (sym (append-nil h.downs)) refl refl
+thrown_call {w} {k} {h} q p n never =
+    let place : Place w k h = record { origin = Born (ByCall q); so_far = p; known = n } in
+    elsewhere (unchanged w k) place refl refl (sym (n.server.ups_is ∙ n.server.may_have)) refl refl refl refl
 
-thrown_at : {w : Around} {k : ℕ} {h h2 : Here} (o : Origin) (p : Work) → Known w k h o p → (h.call ≡ None → ⊥) → (w.set.clean → ⊥) → h2.acts ≡ h.acts → h2.flows ≡ h.flows → h2.ups ≡ [] → h2.jobs ≡ h.jobs → h2.downs ≡ h.downs → h2.call ≡ h.call → h2.stream ≡ h.stream → Place w k h2
-thrown_at Unborn p n some never ha hf hu hj hd he hs = absurd (some n.client.0)
-thrown_at (Born (ByCall q)) p n some never ha hf hu hj hd he hs = thrown_call q p n never ha hf hu hj hd he hs
-thrown_at (Born (ByOpen q up down)) p n some never ha hf hu hj hd he hs = absurd (some n.client.0)
+thrown_at : {w : Around} {k : ℕ} {h : Here} (o : Origin) (p : Work) → Known w k h o p → (h.call ≡ None → ⊥) → (w.set.clean → ⊥) → Place w k (record h { ups = [] })
+thrown_at (Born (ByCall q)) p n some never = thrown_call q p n never
+thrown_at Unborn p n some never = absurd (some n.client.0)
+thrown_at (Born (ByOpen q up down)) p n some never = absurd (some n.client.0)
 
 -- Requests of calls are thrown away, or none; in a clean run none.
-pub thrown_here : {w : Around} {k : ℕ} {h h2 : Here} → Place w k h → h2.acts ≡ h.acts → h2.flows ≡ h.flows → (h2.ups ≡ h.ups) ⊎ (((h.call ≡ None → ⊥) × (w.set.clean → ⊥)) × (h2.ups ≡ [])) → h2.jobs ≡ h.jobs → h2.downs ≡ h.downs → h2.call ≡ h.call → h2.stream ≡ h.stream → Place w k h2
-thrown_here {w} {k} s ha hf (inl hu) hj hd he hs = elsewhere (unchanged w k) s ha hf hu hj hd he hs
-thrown_here s ha hf (inr hu) hj hd he hs = thrown_at s.origin s.so_far s.known hu.0.0 hu.0.1 ha hf hu.1 hj hd he hs
+pub thrown_here : {w : Around} {k : ℕ} {h : Here} (u : List Flying) → Place w k h → (u ≡ h.ups) ⊎ (((h.call ≡ None → ⊥) × (w.set.clean → ⊥)) × (u ≡ [])) → Place w k (record h { ups = u })
+thrown_here {w} {k} u s (inl hu) = elsewhere (unchanged w k) s refl refl hu refl refl refl refl
+thrown_here {w} {k} u s (inr hu) = elsewhere (unchanged w k) (thrown_at s.origin s.so_far s.known hu.0.0 hu.0.1) refl refl hu.1 refl refl refl refl

@@ -1,7 +1,7 @@
 -- The items of one id on their way to the server: the mailbox of its job, what is under way to it, and whether the client may
 -- still put something in. It knows no outcome, and nothing of what goes down.
 use Rattle.ttrpc_story.proofs.Words.{[], ActiveJob, ap, append_assoc, Body, Bool, brought_by, closed, data_thing, Dropped, empty_mail, Err, Error, Failure, false, FLAG_NO_DATA, FLAG_REMOTE_CLOSED, Flying, has_flag, inl, inr, is_stream, IsInOrder, items, List, Mail, map, map-append, MessageHeader, nat_eq, new_stream, None, Open, opened_with, opening_flags, opening_thing, Option, Receives, refl, Response, Rules, Some, StaysFound, Stream, stream_body, StreamBody, subst, sym, Thing, thing_by, ThingItem, ThingLast, true, UnaryBody, unsendable, with_mail, with_thing, Word, words_of, ℕ, ◌%◌, ◌++◌, ◌∙◌, ◌∷◌, ◌≡◌, ◌⊎◌}
-use Rattle.ttrpc_story.proofs.Here.{Asking, Birth, Born, ByCall, ByOpen, Idle, jobs_of, Left, no_cons, Origin, Over, request_of, Runs, Unborn, ups_of, Waits, Work}
+use Rattle.ttrpc_story.proofs.Here.{Asking, Birth, Born, ByCall, ByOpen, jobs_of, Left, no_cons, Origin, request_of, Runs, Unborn, ups_of, Waits, Work}
 use Rattle.ttrpc_story.proofs.AtServer.{IsWork, mapped}
 use Rattle.ttrpc_story.proofs.Reading.{IsPlain, Reading, reads_error}
 use Rattle.ttrpc_story.proofs.Flowing.{aside, begins, closes, drops, Flowing, Follows, in_order, IsPlainFailure, lands, loses, mail, puts, reads}
@@ -120,9 +120,8 @@ first_flowing (ByOpen request true down) told r = begins r
 first_flowing (ByOpen request false down) told r = puts (ThingLast request.payload) (ThingLast request.payload ∷ []) refl refl (begins r)
 
 first_unclosed : (b : Birth) (st : Option Stream) → IsStarted b st → IsUnclosed st (first_things b)
-first_unclosed (ByCall request) st is e = refl
-first_unclosed (ByOpen request true down) st is e = refl
 first_unclosed (ByOpen request false down) st is e = let bad : unsendable (Some (new_stream false down)) ≡ None = sym (ap unsendable is) ∙ e in cc
+first_unclosed b st is e = refl
 
 pub starts : {k : ℕ} {p : Work} {put : List Thing} {told : List Word} {ups : List Flying} {st st2 : Option Stream} (b : Birth) (x : Flying) → x.frame.message.header.flags ≡ flags_of b → IsStarted b st2 → Upward k Unborn p put told ups st
     → Upward k (Born b) (Asking x) (put ++ first_things b) told (x ∷ []) st2
@@ -134,18 +133,15 @@ starts {k} {put = put} {told = told} {st2 = st2} b x flags is u =
 
 call_box : (bare : Bool) (payload : List ℕ) → opened_with (opening_thing bare 0 payload) (has_flag FLAG_REMOTE_CLOSED 0) ≡ with_thing empty_mail (ThingItem payload) false
 call_box true [] = refl
-call_box true (b ∷ bs) = refl
-call_box false payload = refl
+call_box bare payload = refl
 
 more_box : (bare : Bool) (payload : List ℕ) → opened_with (opening_thing bare (opening_flags true) payload) (has_flag FLAG_REMOTE_CLOSED (opening_flags true)) ≡ empty_mail
 more_box true [] = refl
-more_box true (b ∷ bs) = refl
-more_box false payload = refl
+more_box bare payload = refl
 
 last_box : (bare : Bool) (payload : List ℕ) → opened_with (opening_thing bare (opening_flags false) payload) (has_flag FLAG_REMOTE_CLOSED (opening_flags false)) ≡ with_thing empty_mail (ThingLast payload) true
 last_box true [] = refl
-last_box true (b ∷ bs) = refl
-last_box false payload = refl
+last_box bare payload = refl
 
 -- it is no stream's, or its mailbox has what the request brings
 abbrev pub IsMade : Birth → Body → Type 0
@@ -249,9 +245,7 @@ module _ (g : ActiveJob → ActiveJob) (found : StaysFound g) where
   brings rules had (Waits j) was none change is s = record { is = record { flowing = brings_job j was (change j is.stream) s.is.flowing; fit = λ e. s.is.fit (sym (found.stream j) ∙ e); unclosed = s.is.unclosed } }
   brings rules had (Runs j) was none change is s = record { is = record { flowing = brings_job j was (change j is.stream) s.is.flowing; fit = λ e. s.is.fit (sym (found.stream j) ∙ e); unclosed = s.is.unclosed } }
   brings rules had (Asking x) was none change is s = absurd (no_cons x [] none)
-  brings rules had {u = u} (Left j response) was none change is s = gone (Left (g j) response) u refl tt s
-  brings rules had {u = u} Idle was none change is s = gone Idle u refl tt s
-  brings rules had {u = u} (Over done) was none change is s = gone (Over done) u refl tt s
+  brings rules had {u = u} p was none change is s = gone (mapped g p) u refl tt s
 
   deaf_box : {put : List Thing} {told : List Word} {way : List Thing} (j : ActiveJob) → IsDeaf g j → Flowing put told (box_of j.body) way → Flowing put told (box_of (g j).body) way
   deaf_box {put} {told} {way} j (inl same) f = subst (λ (m : Mail). Flowing put told m way) (sym same) f
@@ -261,9 +255,7 @@ module _ (g : ActiveJob → ActiveJob) (found : StaysFound g) where
   deaf_born (Waits j) deaf s = record { is = record { flowing = deaf_box j (deaf j) s.is.flowing; fit = λ e. s.is.fit (sym (found.stream j) ∙ e); unclosed = s.is.unclosed } }
   deaf_born (Runs j) deaf s = record { is = record { flowing = deaf_box j (deaf j) s.is.flowing; fit = λ e. s.is.fit (sym (found.stream j) ∙ e); unclosed = s.is.unclosed } }
   deaf_born {ups = ups} (Left j response) deaf s = gone (Left (g j) response) ups refl tt s
-  deaf_born (Asking x) deaf s = s
-  deaf_born Idle deaf s = s
-  deaf_born (Over done) deaf s = s
+  deaf_born p deaf s = s
 
   -- A receiver is dropped.
   pub unheard : {k : ℕ} {o : Origin} {put : List Thing} {told : List Word} {ups : List Flying} {st : Option Stream} (p : Work) → ((j : ActiveJob) → IsDeaf g j) → Upward k o p put told ups st → Upward k o (mapped g p) put told ups st
