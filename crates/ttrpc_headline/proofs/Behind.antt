@@ -2,7 +2,7 @@
 -- none does.
 use Rattle.ttrpc_headline.proofs.Ending.{idle_down, idle_up}
 use Rattle.ttrpc_headline.proofs.Keeps.{Keeps}
-use Rattle.ttrpc_headline.proofs.Numbers.{AreChanged, error_ends, received}
+use Rattle.ttrpc_headline.proofs.Numbers.{error_ends, received}
 use Rattle.ttrpc_headline.proofs.Timed.{called_back, expired_is, Makes}
 use Rattle.ttrpc_headline.specs.Living.{IsOpen, Lives}
 use Rattle.ttrpc_story.proofs.Place.{Settings}
@@ -55,9 +55,6 @@ module _ {CO CI SO SI : Type 0} (c : Halves CO CI) (s : Halves SO SI) (seals : B
   maps_idle g found [] h = tt
   maps_idle g found (j ∷ js) h = (found.request j ∙ h.0, maps_idle g found js h.1)
 
-  changed_idle : (old new : List ActiveJob) → AreChanged old new → NoneWaits old → NoneWaits new
-  changed_idle old new x h = subst NoneWaits (sym x.is) (maps_idle x.g x.found old h)
-
   answered_idle : (x y : ServerCore SO SI) (id : ℕ) (result : Result Response Error) → AnswersBy c s seals x id result y → NoneWaits x.state.jobs.list → NoneWaits y.state.jobs.list
   answered_idle x y id (Ok response) a h = ends_idle x.state.jobs.list y.state.jobs.list id a.1.job a.1.ends h
   answered_idle x y id (Err error) a h = let e = error_ends s.out x.state.rules x id error y a in ends_idle x.state.jobs.list y.state.jobs.list id e.0 e.1 h
@@ -89,7 +86,8 @@ module _ {CO CI SO SI : Type 0} (c : Halves CO CI) (s : Halves SO SI) (seals : B
   idle_still set f t w (EndStream id result) Done v i u e r z p h = ends_idle w.server.state.jobs.list v.server.state.jobs.list id p.0.job p.0.ends h
   idle_still set f t w (Send (ServerEnd id) item) (Ticket ticket) v i u e r z p h = same_idle w v (ap (λ (x : ServerCore SO SI). x.state.jobs) p.0.same) h
   idle_still set f t w (Recv (ServerEnd id)) (Item given) v i u e r z p h =
-      changed_idle w.server.state.jobs.list v.server.state.jobs.list (received w.server.state.rules w.server.connection.failure w.server.state id given v.server.state.jobs.list p.0.own) h
+      let x = received w.server.state.rules w.server.connection.failure w.server.state id given v.server.state.jobs.list p.0.own in
+      subst NoneWaits (sym x.is) (maps_idle x.g x.found w.server.state.jobs.list h)
   idle_still set f t w (DropReceiver at) reply v i u e r z p h = let bad : false ≡ true = e in cc
   idle_still set f t w Drain reply v i u e r z p h = let bad : false ≡ true = e in cc
   idle_still set f t w (Cut to keep) reply v i u e r z p h = let bad : false ≡ true = e in cc

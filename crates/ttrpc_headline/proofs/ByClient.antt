@@ -1,11 +1,10 @@
 -- Each event of the client keeps the invariant.
 use Rattle.ttrpc_headline.proofs.Delivers.{around, at_one, next_up, Stories}
 use Rattle.ttrpc_headline.proofs.Keeps.{Keeps, keeps_still}
-use Rattle.ttrpc_headline.proofs.Numbers.{asked_more, asks, Between, items_more, Numbers, other_requests}
+use Rattle.ttrpc_headline.proofs.Numbers.{asked_more, Between, items_more, Numbers, other_requests}
 use Rattle.ttrpc_headline.proofs.OneWay.{goes_on, joins}
 use Rattle.ttrpc_headline.proofs.Flights.{data_brings, IsData, IsRequestFlight, sends_data, sends_request, SendsFlight}
 use Rattle.ttrpc_headline.proofs.Throws.{AreSingle, back_stays, nothing_thrown, PartsOf, some_thrown, Stays, Thrown}
-use Rattle.ttrpc_story.proofs.AtServer.{IsItem}
 use Rattle.ttrpc_story.proofs.Here.{Birth, ByCall, ByOpen, first_act, first_flow, here_at, request_of}
 use Rattle.ttrpc_story.proofs.AtClient.{IsBegun}
 use Rattle.ttrpc_story.proofs.Upward.{flags_of, IsStarted}
@@ -50,10 +49,6 @@ closed_sends (Some s) e = closed_for s.streaming_client e
 sender_box : (sender : Sender) (st : Option Stream) → (box_down (with_sender sender st) ≡ box_down st) × (wants (with_sender sender st) ≡ wants st)
 sender_box sender None = (refl, refl)
 sender_box sender (Some s) = (refl, refl)
-
--- a flight of data is no request
-item_asks : {k : ℕ} {y : Flying} → IsItem k y → asks y ≡ false
-item_asks i = rw i.type_ refl
 
 module _ {CO CI SO SI : Type 0} (c : Halves CO CI) (s : Halves SO SI) (seals : Bool) (still : seals ≡ false → (from to : CO) (plain aad sealed : List ℕ) → c.out.seals from plain aad sealed to → to ≡ from)
     (set : Settings) (f : ℕ → ℕ) (trace : List Entry) where
@@ -145,7 +140,7 @@ module _ {CO CI SO SI : Type 0} (c : Halves CO CI) (s : Halves SO SI) (seals : B
       let x = v.client in
       let t = with_entry trace event reply in
       let some : stream_at w.client.state id ≡ None → ⊥ = λ none. unsendable_none (stream_at w.client.state id) none p.sendable in
-      let within = stream_within (i.stories id) some in
+      let within = stream_within (i.stories id).origin (i.stories id).so_far (i.stories id).known some in
       let r = sends_data c.out w.client.connection.outbox id flags ticket plain x.connection.outbox within low p.sends in
       let stream : r.y.frame.message.header.stream_id ≡ id = r.is.item.stream in
       let next : x.state.next ≡ w.client.state.next = ap (λ (y : ClientCore CO CI). y.state.next) p.same in
@@ -153,11 +148,11 @@ module _ {CO CI SO SI : Type 0} (c : Halves CO CI) (s : Halves SO SI) (seals : B
       let box = sender_box sender (stream_at w.client.state id) in
       sends_up w t x (IsData id flags plain) i r
       (at_one (PlaceOf w t (i.up ++ r.y ∷ []) i.down x.state) id
-      (elsewhere (later_of w x.state next id) (sends_here {st = stream_at x.state id} put thing r.y (i.stories id) some r.is.item is_put (data_brings r.is ∙ brings) p.sendable (subst (GoesOn thing) (sym p.own) on) (ap box_down p.own ∙ box.0) (ap wants p.own ∙ box.1))
+      (elsewhere (later_of w x.state next id) (sends_here {st = stream_at x.state id} put thing r.y (i.stories id).origin (i.stories id).so_far (i.stories id).known some r.is.item is_put (data_brings r.is ∙ brings) p.sendable (subst (GoesOn thing) (sym p.own) on) (ap box_down p.own ∙ box.0) (ap wants p.own ∙ box.1))
       (silent (act_of f id) trace event reply (says id).0) (heard (flow_of f id) id id trace event reply put (says id).1 refl) (pushed_own id_of id r.y i.up stream) refl refl (calls id) refl)
       (λ k e. elsewhere (later_of w x.state next k) (i.stories k) (silent (act_of f k) trace event reply (says k).0) (unheard (flow_of f k) k id trace event reply put (says k).1 e)
       (pushed_other id_of k r.y i.up (λ same. e (sym stream ∙ same))) refl refl (calls k) (p.others k (λ same. e (sym same)))))
-      (subst (λ (n : ℕ). Numbers f w.server.state.jobs.last (i.up ++ r.y ∷ []) n) (sym next) (items_more f w.server.state.jobs.last i.up r.y w.client.state.next (item_asks r.is.item) i.numbers))
+      (subst (λ (n : ℕ). Numbers f w.server.state.jobs.last (i.up ++ r.y ∷ []) n) (sym next) (items_more f w.server.state.jobs.last i.up r.y w.client.state.next (rw r.is.item.type_ refl) i.numbers))
       (ap (λ (y : ClientCore CO CI). y.connection.decoder) p.same) (ap (λ (y : ClientCore CO CI). y.connection.inbound) p.same) (λ _. p.alive)
     where
       unsendable_none : (st : Option Stream) → st ≡ None → unsendable st ≡ None → ⊥
@@ -172,10 +167,6 @@ module _ {CO CI SO SI : Type 0} (c : Halves CO CI) (s : Halves SO SI) (seals : B
   abbrev AreKept : (ℕ → Bool) → Net CO CI SO SI → Type 0
   AreKept owners w = (k : ℕ) → owners k ≡ true → (call_at w.client.state k ≡ None → ⊥) × (set.clean → ⊥)
 
-  -- the stories of what is left
-  left_stories : (owners : ℕ → Bool) (w : Net CO CI SO SI) (x : Outbox CO) (i : Kept trace w) → AreKept owners w → (t : Left owners w x i.up) → StoriesOf w trace t.left i.down w.client.state
-  left_stories owners w x i some t = λ k. thrown_here (parcels k t.left) (i.stories k) (same_or_none owners k i.up t.left (some k) (t.parts k))
-
   -- what is kept changes, requests may be thrown away, and the connection may fail
   client_changes : (owners : ℕ → Bool) (w : Net CO CI SO SI) (t : List Entry) (x : ClientCore CO CI) → (i : Kept trace w) → x.connection.decoder ≡ w.client.connection.decoder → x.connection.inbound ≡ w.client.connection.inbound
       → (x.connection.failure ≡ None → w.client.connection.failure ≡ None) → x.state.next ≡ w.client.state.next → AreKept owners w → (l : Left owners w x.connection.outbox i.up)
@@ -184,7 +175,7 @@ module _ {CO CI SO SI : Type 0} (c : Halves CO CI) (s : Halves SO SI) (seals : B
   client_changes owners w t x i held inbound lives next some l stories = record {
     up = l.left;
     down = i.down;
-    stories = stories (left_stories owners w x.connection.outbox i some l);
+    stories = stories (λ k. thrown_here (parcels k l.left) (i.stories k) (same_or_none owners k i.up l.left (some k) (l.parts k)));
     numbers = other_requests i.numbers (subst (λ (n : ℕ). Between i.numbers.low l.left n) (sym next) (l.rising i.numbers.low w.client.state.next i.numbers.between));
     own = l.own;
     upward = l.way;
@@ -255,7 +246,7 @@ module _ {CO CI SO SI : Type 0} (c : Halves CO CI) (s : Halves SO SI) (seals : B
 
   -- an id whose request may be thrown away is a call's
   single : (owners : ℕ → Bool) (w : Net CO CI SO SI) → AreKept owners w → (i : Kept trace w) → AreSingle owners i.up
-  single owners w some i = λ k owner. one_request (i.stories k) (some k owner).0
+  single owners w some i = λ k owner. one_request (i.stories k).origin (i.stories k).so_far (i.stories k).known (some k owner).0
 
   -- what is taken back leaves this in flight, of these owners
   record TakesBack (w : Net CO CI SO SI) (x : Outbox CO) (flights : List Flying) : Type 0 where
@@ -268,7 +259,7 @@ module _ {CO CI SO SI : Type 0} (c : Halves CO CI) (s : Halves SO SI) (seals : B
   back_throws w ids true why may some i = record {
     owners = ids;
     some = some refl;
-    left = some_thrown c.out s.in_ w.client.connection.outbox w.server.connection w.up i.up (still (throws_unsealed w.client.state.kind seals (may refl))) ids (single ids w (some refl) i) i.own i.upward;
+    left = some_thrown c.out s.in_ w.client.connection.outbox w.server.connection w.up i.up w.server.connection.failure refl (still (throws_unsealed w.client.state.kind seals (may refl))) ids (single ids w (some refl) i) i.own i.upward;
   }
   back_throws w ids false why may some i = record {
     owners = λ k. false;

@@ -101,9 +101,6 @@ module _ {CO CI SO SI : Type 0} (c : Halves CO CI) (s : Halves SO SI) (seals : B
     sent = λ flights way. joins s.out c.in_ w.server.connection.outbox x.connection.outbox w.client.connection w.down flights r.y r.queue r.seal r.sound way;
   }
 
-  of_nothing : (w : Net CO CI SO SI) (x : ServerCore SO SI) (j : ActiveJob) (kind : Bool) (o : Origin) (done : List Act) (error : Error) → (set.clean → ⊥) → x.connection.outbox ≡ w.server.connection.outbox → Concludes w x j kind o done (Err error)
-  of_nothing w x j kind o done error never same = record { more = []; downs = tt; back = λ clean. absurd (never clean); goes = λ wanted. inr refl; sent = λ flights way. rw (same, append-nil) way }
-
   -- what the event says of each id: that its job is answered or ends, if it is this one
   abbrev IsEnding : Event → ℕ → Bool → Result (Option Response) Error → Type 0
   IsEnding event id kind result = (k : ℕ) → (act_of f k event Done ≡ only_if (nat_eq (f id) k) (Answered kind result)) × (flow_of f k event Done ≡ only_if (nat_eq (f id) k) (EndedDown result))
@@ -197,7 +194,7 @@ module _ {CO CI SO SI : Type 0} (c : Halves CO CI) (s : Halves SO SI) (seals : B
       → Kept (with_entry trace (Answer id (Err error)) Done) (with_server w x)
   keeps_drops w id error x i right p none never =
       concludes w (Answer id (Err error)) id false (Err error) x i right (λ k. (refl, refl)) p.job p.ends (none_yet w id p.job p.ends.at.is_job none)
-      (λ b within. of_nothing w x p.job false (Born b) (answered_work b p.job false (Err error)) error never (ap (λ (y : ServerCore SO SI). y.connection.outbox) p.same))
+      (λ b within. record { more = []; downs = tt; back = λ clean. absurd (never clean); goes = λ wanted. inr refl; sent = λ flights way. rw (ap (λ (y : ServerCore SO SI). y.connection.outbox) p.same, append-nil) way })
       (ap (λ (y : ServerCore SO SI). y.state.jobs.last) p.same) (ap (λ (y : ServerCore SO SI). y.connection.decoder) p.same) (ap (λ (y : ServerCore SO SI). y.connection.inbound) p.same)
       (λ alive. absurd (not_both x.connection.failure HandlerError (ap (λ (y : ServerCore SO SI). y.connection.failure) p.same) alive))
 

@@ -1,9 +1,9 @@
 -- EACH CALL OF A CLEAN QUIET RUN IS WHOLE, if it names a method of the server and was asked for.
 use Rattle.ttrpc_headline.proofs.Behind.{idle_still, kept_before, none_kept, none_waits}
-use Rattle.ttrpc_headline.proofs.Cleanly.{fresh_run, IsCleanRun}
+use Rattle.ttrpc_headline.proofs.Cleanly.{fresh_run}
 use Rattle.ttrpc_headline.proofs.Ending.{empty_at_end, none_down, none_up}
 use Rattle.ttrpc_headline.proofs.Delivers.{around}
-use Rattle.ttrpc_headline.proofs.Headline.{fresh, keeps_all, Ruled, starts_ruled}
+use Rattle.ttrpc_headline.proofs.Headline.{begins, kept_at_end, Stands}
 use Rattle.ttrpc_headline.proofs.Living.{stay_open}
 use Rattle.ttrpc_headline.proofs.Numbers.{IsRightRun, stream_of_run}
 use Rattle.ttrpc_headline.proofs.Since.{since_holds, Starts, Stays}
@@ -167,22 +167,22 @@ module _ {CO CI SO SI : Type 0} (c : Halves CO CI) (s : Halves SO SI) (seals : B
   asked_starts k t w event reply v i is o = none_kept c s seals w event reply v k o i.cleanly.at.reply_is is i.does
 
   -- A CALL IS WHOLE at the end of the run.
-  pub whole_at_end : (w : Net CO CI SO SI) (trace : List Entry) (v : Net CO CI SO SI) → IsFresh c s w → Ruled c s seals still fixed set f w → (r : Runs c s seals w trace v) → IsRightRun c s seals f w trace v r → IsCleanRun c s seals set.rules f [] w trace v → IsEmpty v
+  pub whole_at_end : (w : Net CO CI SO SI) (trace : List Entry) (v : Net CO CI SO SI) → IsFresh c s w → (x : Stands c s seals still fixed set f [] w trace v) → IsEmpty v
       → IsQuiet trace → (k : ℕ) (q : Request) → calls (acts f k trace) ≡ q ∷ [] → has_method set.services q.service q.method ≡ true → IsAskedFor f k trace → IsWholeCall set.rules set.limit q (acts f k trace)
-  whole_at_end w trace v n u r right z empty quiet k q one method asked =
-      let start = fresh c s seals still fixed set f w n in
-      let i = keeps_all c s seals still fixed set f [] trace w v start u r right (λ x. z) in
-      let whole = stay_open c s seals set.rules f [] w trace v z.clean r z.whole in
-      let idle : NoneWaits v.server.state.jobs.list = since_holds c s seals still fixed set f ServerSide takes_nothing NoneWaiting idle_stays idle_starts [] trace w v true start u r right z
-      (λ e. subst (λ (x : ServerCore SO SI). NoneWaits x.state.jobs.list) (sym n.server) tt) quiet.taken in
+  whole_at_end w trace v n x empty quiet k q one method asked =
+      let z = x.clean clean in
+      let i = kept_at_end c s seals still fixed set f [] trace w v x in
+      let whole = stay_open c s seals set.rules f [] w trace v z.clean x.run z.whole in
+      let idle : NoneWaits v.server.state.jobs.list = since_holds c s seals still fixed set f ServerSide takes_nothing NoneWaiting idle_stays idle_starts clean [] trace w v true x
+      (λ e. subst (λ (y : ServerCore SO SI). NoneWaits y.state.jobs.list) (sym n.server) tt) quiet.taken in
       let place = i.stories k in
       let known = subst (λ (o : Origin). Known (around set (has_response v) v.client.state.next) k (here_at f trace i.up i.down v.server.state.jobs.list v.client.state k) o place.so_far) (called_by place.origin place.so_far q place.known one) place.known in
       whole_of q place.so_far known clean method
       (ap (parcels k) (none_up c s seals still fixed set f trace v i z.lives whole empty.up_queue empty.up)) (ap (parcels k) (none_down c s seals still fixed set f trace v i z.lives whole empty.down_queue empty.down)) (filtered_idle k v.server.state.jobs.list idle)
-      (λ job is. none_unanswered f k trace quiet (stream_of_run c s seals f w trace v r right) q job is)
+      (λ job is. none_unanswered f k trace quiet (stream_of_run c s seals f w trace v x.run x.right) q job is)
       (elim asked [
         | inl some ↦ inl some
-        | inr late ↦ inr (since_holds c s seals still fixed set f ClientSide (asks_outcome k) (NoneKept k) (asked_stays k) (asked_starts k) [] trace w v false start u r right z (λ e. cc) late)
+        | inr late ↦ inr (since_holds c s seals still fixed set f ClientSide (asks_outcome k) (NoneKept k) (asked_stays k) (asked_starts k) clean [] trace w v false x (λ e. cc) late)
       ])
 
 -- EACH CALL OF A CLEAN QUIET RUN IS WHOLE: of any run from a fresh start.
@@ -191,5 +191,5 @@ pub whole_calls : {CO CI SO SI : Type 0} (c : Halves CO CI) (s : Halves SO SI) (
     (w v : Net CO CI SO SI) (trace : List Entry) (f : ℕ → ℕ) → IsFresh c s w → (r : Runs c s seals w trace v) → IsRightRun c s seals f w trace v r → AreWholeCalls w.server.state.rules w.server.state.services (safe_limit s.out w.server.connection.outbox.half) f trace
 whole_calls c s seals still fixed w v trace f n r right clean quiet k q one method asked =
     let set : Settings = record { rules = w.server.state.rules; services = w.server.state.services; limit = safe_limit s.out w.server.connection.outbox.half; clean = IsClean w.server.state.rules f trace × IsDrained trace } in
-    whole_at_end c s seals still fixed set f (clean, quiet.drained) w trace v n (starts_ruled c s seals still fixed set f w (refl, refl, refl) n) r right
-    (fresh_run c s seals set.rules f w trace v n clean quiet.drained r) (empty_at_end c s seals still fixed w v trace w.server.state.rules f n r clean quiet.drained) quiet k q one method asked
+    let x = begins c s seals still fixed set f w trace v (refl, refl, refl) n r right (λ z. fresh_run c s seals set.rules f w trace v n z.0 z.1 r) in
+    whole_at_end c s seals still fixed set f (clean, quiet.drained) w trace v n x (empty_at_end c s seals still fixed w v trace w.server.state.rules f n r clean quiet.drained) quiet k q one method asked

@@ -1,12 +1,12 @@
 -- What stays the same in a run: the server's rules, its services, and the limit of its outbound half.
-use Rattle.ttrpc_pair.proofs.Words.{ActiveJob, ActsAll, Answer, AnswersBy, AnswersError, AsyncRules, Bool, ClientSide, Connection, Count, Cut, Deliver, Does, Done, Drain, DropReceiver, EndStream, EndsStream, Entry, Err, Error, Event, ExpireAll, Failure, Finish, Halves, Handed, Hears, Incoming, Item, List, MESSAGE_LENGTH_MAX, MessageHeader, Net, None, Ok, Option, OutboundTransform, Outbox, PutIn, Recv, Refused, Reply, Respond, Response, Result, Row, Rules, Runs, Scene, Send, SendsAll, Sent, Server, ServerCore, ServerEnd, ServerPasses, ServerSide, Some, Steps, SyncRules, Take, Tick, Ticket, [], ap, arrives, cut_to, header_of_frame, inl, inr, is_over, refl, row_of, rules, rules_stay, safe_limit, scene, serving, subst, sym, taken_from, ℕ, ◌-◌, ◌∙◌, ◌∷◌, ◌≡◌}
+use Rattle.ttrpc_pair.proofs.Words.{ActiveJob, ActsAll, Answer, AnswersBy, AnswersError, AsyncRules, Bool, Connection, Count, Cut, Deliver, Does, Done, Drain, DropReceiver, EndStream, EndsStream, Entry, Err, Error, Event, ExpireAll, Failure, Finish, Halves, Handed, Hears, Incoming, Item, List, MESSAGE_LENGTH_MAX, MessageHeader, Net, None, Ok, Option, OutboundTransform, Outbox, PutIn, Recv, Refused, Reply, Respond, Response, Result, Row, Rules, Runs, Scene, Send, SendsAll, Sent, Server, ServerCore, ServerEnd, ServerPasses, ServerSide, Some, Steps, SyncRules, Take, Tick, Ticket, [], ap, arrives, cut_to, header_of_frame, inl, inr, is_over, refl, row_of, rules, rules_stay, safe_limit, scene, serving, subst, taken_from, ℕ, ◌-◌, ◌∙◌, ◌∷◌, ◌≡◌}
 use Rattle.ttrpc_headline.proofs.OneWay.{as_heard}
 
--- these stay
-pub record Constant {O I : Type 0} (out : OutboundTransform O) (old new : ServerCore O I) : Type 0 where
-  pub rules : new.state.rules ≡ old.state.rules
-  pub services : new.state.services ≡ old.state.services
-  pub limit : safe_limit out new.connection.outbox.half ≡ safe_limit out old.connection.outbox.half
+-- these stay, of a server's state and its outbox
+pub record Constant {O : Type 0} (out : OutboundTransform O) (old : Server) (from : Outbox O) (new : Server) (to : Outbox O) : Type 0 where
+  pub rules : new.rules ≡ old.rules
+  pub services : new.services ≡ old.services
+  pub limit : safe_limit out to.half ≡ safe_limit out from.half
 
 pub services_stay : {O : Type 0} (out : OutboundTransform O) (row : Row) (old : Server) (o : O) (header : MessageHeader) (now : ℕ) (sent : List Sent) (new : Server) → Does out row old o header now sent new
     → new.services ≡ old.services
@@ -20,35 +20,33 @@ limit_sent out fixed (s ∷ sent) old new sends = limit_sent out fixed sent send
 
 -- a server that is this one now
 as_this : {O I : Type 0} (out : OutboundTransform O) (old new : ServerCore O I) {this : ServerCore O I} → new ≡ this → this.state.rules ≡ old.state.rules → this.state.services ≡ old.state.services → safe_limit out new.connection.outbox.half ≡ safe_limit out old.connection.outbox.half
-    → Constant out old new
+    → Constant out old.state old.connection.outbox new.state new.connection.outbox
 as_this out old new is rules services limit = record { rules = ap (λ (x : ServerCore _ _). x.state.rules) is ∙ rules; services = ap (λ (x : ServerCore _ _). x.state.services) is ∙ services; limit = limit }
 
-stays_same : {O I : Type 0} (out : OutboundTransform O) (old new : ServerCore O I) → new.state ≡ old.state → new.connection.outbox ≡ old.connection.outbox → Constant out old new
-stays_same out old new state outbox = record { rules = ap (λ (s : Server). s.rules) state; services = ap (λ (s : Server). s.services) state; limit = ap (λ (b : Outbox _). safe_limit out b.half) outbox }
+stays_same : {O : Type 0} (out : OutboundTransform O) {old new : Server} {from to : Outbox O} → new ≡ old → to ≡ from → Constant out old from new to
+stays_same out state outbox = record { rules = ap (λ (s : Server). s.rules) state; services = ap (λ (s : Server). s.services) state; limit = ap (λ (b : Outbox _). safe_limit out b.half) outbox }
 
-both : {O I : Type 0} (out : OutboundTransform O) (a b d : ServerCore O I) → Constant out a b → Constant out b d → Constant out a d
-both out a b d one two = record { rules = two.rules ∙ one.rules; services = two.services ∙ one.services; limit = two.limit ∙ one.limit }
-
-record SameScene {O I : Type 0} (out : OutboundTransform O) (old new : Scene Server O I) : Type 0 where
-  rules : new.state.rules ≡ old.state.rules
-  services : new.state.services ≡ old.state.services
-  limit : safe_limit out new.outbox.half ≡ safe_limit out old.outbox.half
+both : {O : Type 0} {out : OutboundTransform O} {a b d : Server} {x y z : Outbox O} → Constant out a x b y → Constant out b y d z → Constant out a x d z
+both one two = record { rules = two.rules ∙ one.rules; services = two.services ∙ one.services; limit = two.limit ∙ one.limit }
 
 module _ {CO CI SO SI : Type 0} (c : Halves CO CI) (s : Halves SO SI) (seals : Bool) (fixed : (x y : SO) (plain aad sealed : List ℕ) → s.out.seals x plain aad sealed y → s.out.overhead y ≡ s.out.overhead x) where
-  acted : (now : ℕ) (fs : List Incoming) (old new : Scene Server SO SI) → ActsAll (serving s.out s.in_) now old fs new → SameScene s.out old new
-  acted now [] old new same = subst (λ (x : Scene Server SO SI). SameScene s.out old x) (sym same) (record { rules = refl; services = refl; limit = refl })
+  abbrev Stays : ServerCore SO SI → ServerCore SO SI → Type 0
+  Stays old new = Constant s.out old.state old.connection.outbox new.state new.connection.outbox
+
+  acted : (now : ℕ) (fs : List Incoming) (old new : Scene Server SO SI) → ActsAll (serving s.out s.in_) now old fs new → Constant s.out old.state old.outbox new.state new.outbox
+  acted now [] old new same = stays_same s.out (ap (λ (x : Scene Server SO SI). x.state) same) (ap (λ (x : Scene Server SO SI). x.outbox) same)
   acted now (f ∷ fs) old new acts =
       let mid = acts.0 in
       let one = acts.1 in
-      let later = acted now fs mid new acts.2 in
       let row = row_of old.state (arrives f one.opening now) in
-      record {
-        rules = later.rules ∙ rules_stay s.out row old.state old.outbox.half (header_of_frame f) now one.sent mid.state one.reacts;
-        services = later.services ∙ services_stay s.out row old.state old.outbox.half (header_of_frame f) now one.sent mid.state one.reacts;
-        limit = later.limit ∙ limit_sent s.out fixed one.sent old.outbox mid.outbox one.sends;
-      }
+      let first : Constant s.out old.state old.outbox mid.state mid.outbox = record {
+        rules = rules_stay s.out row old.state old.outbox.half (header_of_frame f) now one.sent mid.state one.reacts;
+        services = services_stay s.out row old.state old.outbox.half (header_of_frame f) now one.sent mid.state one.reacts;
+        limit = limit_sent s.out fixed one.sent old.outbox mid.outbox one.sends;
+      } in
+      both first (acted now fs mid new acts.2)
 
-  answered : (old : ServerCore SO SI) (id : ℕ) (result : Result Response Error) (new : ServerCore SO SI) (r : Rules) → old.state.rules ≡ r → AnswersBy c s seals old id result new → Constant s.out old new
+  answered : (old : ServerCore SO SI) (id : ℕ) (result : Result Response Error) (new : ServerCore SO SI) (r : Rules) → old.state.rules ≡ r → AnswersBy c s seals old id result new → Stays old new
   answered old id (Ok response) new r e p = as_this s.out old new p.1.same refl refl (limit_sent s.out fixed p.1.sent old.connection.outbox new.connection.outbox p.1.sends)
   answered old id (Err error) new SyncRules e p =
       let drops = subst (λ (x : Rules). AnswersError s.out x old id error new) e p in
@@ -63,35 +61,23 @@ module _ {CO CI SO SI : Type 0} (c : Halves CO CI) (s : Halves SO SI) (seals : B
   ended old id (Err error) new p = limit_sent s.out fixed p.sends.2.0 old.connection.outbox new.connection.outbox p.sends.2.2
 
   -- jobs expire
-  expired : (js : List ActiveJob) (old : Server) (from : Outbox SO) (new : Server) (to : Outbox SO) → ExpireAll s.out old from js new to → (new.rules ≡ old.rules) × (new.services ≡ old.services) × (safe_limit s.out to.half ≡ safe_limit s.out from.half)
-  expired [] old from new to e = (ap (λ (t : Server). t.rules) e.0, ap (λ (t : Server). t.services) e.0, ap (λ (b : Outbox SO). safe_limit s.out b.half) e.1)
+  expired : (js : List ActiveJob) (old : Server) (from : Outbox SO) (new : Server) (to : Outbox SO) → ExpireAll s.out old from js new to → Constant s.out old from new to
+  expired [] old from new to e = stays_same s.out e.0 e.1
   expired (j ∷ js) old from new to e =
       let one = e.2 in
-      let later = expired js e.0 e.1 new to e.3 in
-      (later.0 ∙ ap (λ (t : Server). t.rules) one.state, later.1 ∙ ap (λ (t : Server). t.services) one.state, later.2 ∙ limit_sent s.out fixed one.sent from e.1 one.sends)
+      let first : Constant s.out old from e.0 e.1 = record { rules = ap (λ (t : Server). t.rules) one.state; services = ap (λ (t : Server). t.services) one.state; limit = limit_sent s.out fixed one.sent from e.1 one.sends } in
+      both first (expired js e.0 e.1 new to e.3)
 
-  passed : (old : ServerCore SO SI) (now : ℕ) (new : ServerCore SO SI) (r : Rules) (failure : Option Failure) → ServerPasses s.out r failure old now new → Constant s.out old new
-  passed old now new SyncRules failure same = stays_same s.out old new (ap (λ (x : ServerCore SO SI). x.state) same) (ap (λ (x : ServerCore SO SI). x.connection.outbox) same)
-  passed old now new AsyncRules None p =
-      let e = expired p.expired old.state old.connection.outbox new.state new.connection.outbox p.expire in
-      record { rules = e.0; services = e.1; limit = e.2 }
-  passed old now new AsyncRules (Some why) same = stays_same s.out old new (ap (λ (x : ServerCore SO SI). x.state) same) (ap (λ (x : ServerCore SO SI). x.connection.outbox) same)
-
-  delivered : (w : Net CO CI SO SI) (fs : List Incoming) (new : Scene Server SO SI) (t : ServerCore SO SI) → ActsAll (serving s.out s.in_) w.moment (scene w.server.state w.server.connection) fs new
-      → t.state ≡ new.state → t.connection.outbox ≡ new.outbox → Constant s.out w.server t
-  delivered w fs new t acts state outbox =
-      let a = acted w.moment fs (scene w.server.state w.server.connection) new acts in
-      record {
-        rules = ap (λ (x : Server). x.rules) state ∙ a.rules;
-        services = ap (λ (x : Server). x.services) state ∙ a.services;
-        limit = ap (λ (x : Outbox SO). safe_limit s.out x.half) outbox ∙ a.limit;
-      }
+  passed : (old : ServerCore SO SI) (now : ℕ) (new : ServerCore SO SI) (r : Rules) (failure : Option Failure) → ServerPasses s.out r failure old now new → Stays old new
+  passed old now new AsyncRules None p = expired p.expired old.state old.connection.outbox new.state new.connection.outbox p.expire
+  passed old now new AsyncRules (Some why) same = stays_same s.out (ap (λ (x : ServerCore SO SI). x.state) same) (ap (λ (x : ServerCore SO SI). x.connection.outbox) same)
+  passed old now new SyncRules failure same = stays_same s.out (ap (λ (x : ServerCore SO SI). x.state) same) (ap (λ (x : ServerCore SO SI). x.connection.outbox) same)
 
   -- its input may have ended
   heard_same : (over : Bool) (old new : Connection SO SI) → Hears over old new → new.outbox ≡ old.outbox
   heard_same over old new h = as_heard (λ (y : Connection SO SI). y.outbox ≡ old.outbox) over old new h refl (λ why. refl)
 
-  pub stepped : (w : Net CO CI SO SI) (event : Event) (reply : Reply) (v : Net CO CI SO SI) → Steps c s seals w event reply v → Constant s.out w.server v.server
+  pub stepped : (w : Net CO CI SO SI) (event : Event) (reply : Reply) (v : Net CO CI SO SI) → Steps c s seals w event reply v → Stays w.server v.server
   stepped w Take (Handed (Some job)) v p = as_this s.out w.server v.server p.0.same refl refl (ap (λ (x : ServerCore SO SI). safe_limit s.out x.connection.outbox.half) p.0.same)
   stepped w (Answer id result) Done v p = answered w.server id result v.server w.server.state.rules refl p.0
   stepped w (Respond id response) Done v p = as_this s.out w.server v.server p.does.same refl refl (limit_sent s.out fixed p.does.sent w.server.connection.outbox v.server.connection.outbox p.does.sends)
@@ -103,14 +89,12 @@ module _ {CO CI SO SI : Type 0} (c : Halves CO CI) (s : Halves SO SI) (seals : B
   stepped w Drain Done v p = as_this s.out w.server v.server (ap (λ (x : Net _ _ _ _). x.server) p) refl refl (ap (λ (x : Net _ _ _ _). safe_limit s.out x.server.connection.outbox.half) p)
   stepped w (Tick now) Done v p = passed w.server now v.server w.server.state.rules w.server.connection.failure p.serves
   stepped w (Deliver ServerSide n) (Count k) v (inl p) =
-      delivered w p.does.does.frames (scene v.server.state p.does.mid) v.server p.does.does.acts refl (heard_same (is_over (taken_from w.up k)) p.does.mid v.server.connection p.does.hears)
-  stepped w (Deliver ServerSide n) (Count k) v (inr p) =
-      stays_same s.out w.server v.server (ap (λ (x : Net _ _ _ _). x.server.state) p.only) (heard_same (is_over w.up) w.server.connection v.server.connection p.hears)
-  stepped w (Deliver ServerSide n) (Refused told) v (inl p) = delivered w p.0.frames p.0.mid v.server p.0.acts p.0.state p.0.outbox
-  stepped w (Deliver ClientSide n) (Refused told) v (inl p) = stays_same s.out w.server v.server (ap (λ (x : Net _ _ _ _). x.server.state) p.1) (ap (λ (x : Net _ _ _ _). x.server.connection.outbox) p.1)
-  stepped w (Deliver to n) (Refused told) v (inr p) = stays_same s.out w.server v.server (ap (λ (x : Net _ _ _ _). x.server.state) p.1) (ap (λ (x : Net _ _ _ _). x.server.connection.outbox) p.1)
+      both (acted w.moment p.does.does.frames (scene w.server.state w.server.connection) (scene v.server.state p.does.mid) p.does.does.acts) (stays_same s.out refl (heard_same (is_over (taken_from w.up k)) p.does.mid v.server.connection p.does.hears))
+  stepped w (Deliver ServerSide n) (Count k) v (inr p) = stays_same s.out (ap (λ (x : Net _ _ _ _). x.server.state) p.only) (heard_same (is_over w.up) w.server.connection v.server.connection p.hears)
+  stepped w (Deliver ServerSide n) (Refused told) v (inl p) = both (acted w.moment p.0.frames (scene w.server.state w.server.connection) p.0.mid p.0.acts) (stays_same s.out p.0.state p.0.outbox)
+  stepped w (Deliver to n) (Refused told) v (inr p) = stays_same s.out (ap (λ (x : Net _ _ _ _). x.server.state) p.1) (ap (λ (x : Net _ _ _ _). x.server.connection.outbox) p.1)
   stepped w (Cut ServerSide keep) Done v p =
-      stays_same s.out w.server v.server (ap (λ (x : Net _ _ _ _). x.server.state) p.only)
+      stays_same s.out (ap (λ (x : Net _ _ _ _). x.server.state) p.only)
       (ap (λ (x : Net _ _ _ _). x.server.connection.outbox) p.only ∙ heard_same (is_over (cut_to w.up keep)) w.server.connection p.connection p.hears)
   stepped w event reply v p =
       let state : v.server.state ≡ w.server.state = first_of (cc, search rules) in
@@ -118,6 +102,6 @@ module _ {CO CI SO SI : Type 0} (c : Halves CO CI) (s : Halves SO SI) (seals : B
       record { rules = ap (λ (x : Server). x.rules) state; services = ap (λ (x : Server). x.services) state; limit = limit }
 
   -- in any run
-  pub constant : (w : Net CO CI SO SI) (trace : List Entry) (v : Net CO CI SO SI) → Runs c s seals w trace v → Constant s.out w.server v.server
-  constant w [] v same = stays_same s.out w.server v.server (ap (λ (x : Net _ _ _ _). x.server.state) same) (ap (λ (x : Net _ _ _ _). x.server.connection.outbox) same)
-  constant w (e ∷ trace) v r = both s.out w.server r.0.server v.server (stepped w e.event e.reply r.0 r.1) (constant r.0 trace v r.2)
+  pub constant : (w : Net CO CI SO SI) (trace : List Entry) (v : Net CO CI SO SI) → Runs c s seals w trace v → Stays w.server v.server
+  constant w [] v same = stays_same s.out (ap (λ (x : Net _ _ _ _). x.server.state) same) (ap (λ (x : Net _ _ _ _). x.server.connection.outbox) same)
+  constant w (e ∷ trace) v r = both (stepped w e.event e.reply r.0 r.1) (constant r.0 trace v r.2)

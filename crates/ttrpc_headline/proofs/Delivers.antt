@@ -3,7 +3,7 @@ use Rattle.ttrpc_headline.proofs.Numbers.{acts_right, AreRight, asks, made_of, N
 use Rattle.ttrpc_headline.proofs.OneWay.{joins, OneWay}
 use Rattle.ttrpc_headline.proofs.Constants.{services_stay}
 use Rattle.ttrpc_headline.proofs.Payloads.{ask_row, IsItemRow, IsRefusal, IsRowOf, item_row}
-use Rattle.ttrpc_headline.proofs.Flights.{behind_other, behind_own, IsRefusing, sends_refusal, SendsFlight}
+use Rattle.ttrpc_headline.proofs.Flights.{behind_other, behind_own, sends_refusal}
 use Rattle.ttrpc_story.proofs.AtServer.{IsItem, IsJob, IsNever}
 use Rattle.ttrpc_story.proofs.Here.{Asking, Birth, Born, ByCall, ByOpen, first_act, Here, here_at, request_of}
 use Rattle.ttrpc_story.proofs.Tidy.{IsPatient}
@@ -11,8 +11,8 @@ use Rattle.ttrpc_story.proofs.Upward.{box_up, flags_of, IsMade}
 use Rattle.ttrpc_story.proofs.Downward.{IsTurned}
 use Rattle.ttrpc_story.proofs.Place.{Around, arrives_here, comes_of, elsewhere, IsAsked, IsHeldBy, IsNoMethod, IsPassed, Later, passes_here, Place, puts_here, refers_here, Settings, TidyOf, unchanged, untaken}
 use Rattle.ttrpc_story.proofs.Events.{down_of, lands_here}
-use Rattle.ttrpc_pair.proofs.Words.{[], Absent, ActiveJob, ActsOn, all_behind, AllByRecursion, ap, append-nil, append_assoc, arith, AsyncRules, Bool, brought_by, call_at, calling, case_of, case_row, cases_eq, changed_under, Client, Connection, deadline_of, Does, Entry, eq-eqb, Event, false, Flying, Halves, has_method, id_of, Ignore, inl, inlet_of, inr, is_stream, jobs_at, Landing, LandsOn, LandsOnce, last_id, List, MakeJob, MakeStream, MESSAGE_TYPE_REQUEST, MessageHeader, nat_eq, new_job, Opened, Option, OutboundTransform, Outbox, parcels, Pipe, pushed_other, pushed_own, PutIn, refl, Reply, Request, request_bytes, Response, Result, Row, row_elsewhere, row_made, Rules, rules, rules_stay, Scene, SendResponse, SendsAll, SendsOwnAnswer, Sent, Server, Services, serving, Some, stream_at, stream_body, stream_id_of, subst, sym, SyncRules, true, unary_body, under_other, under_own, under_stays, without_payload, ℕ, ◌++◌, ◌+◌, ◌∙◌, ◌∷◌, ◌≡◌, ◌≢◌, ◌≤◌, ◌⊎◌}
-use Rattle.ttrpc_story.proofs.Words.{Act, act_of, acts, asked_by, Call, calls, calls_work, deadline_in, Error, flow_of, Open, silent, Waiting, with_entry, with_mail, ◌%◌}
+use Rattle.ttrpc_pair.proofs.Words.{[], Absent, ActiveJob, ActsOn, all_behind, AllByRecursion, ap, append-nil, append_assoc, arith, AsyncRules, Bool, brought_by, call_at, calling, case_of, case_row, cases_eq, changed_under, Client, Connection, deadline_of, Does, Entry, eq-eqb, Event, false, Flying, Halves, has_method, id_of, Ignore, inl, inlet_of, inr, is_stream, jobs_at, Landing, LandsOn, LandsOnce, last_id, List, MakeJob, MakeStream, MESSAGE_TYPE_REQUEST, MessageHeader, nat_eq, new_job, Opened, Option, OutboundTransform, Outbox, parcels, Pipe, pushed_other, pushed_own, PutIn, refl, Reply, Request, request_bytes, Response, Row, row_elsewhere, row_made, Rules, rules, rules_stay, Scene, SendResponse, SendsAll, SendsOwnAnswer, Sent, Server, Services, serving, Some, stream_at, stream_body, stream_id_of, subst, sym, SyncRules, true, unary_body, under_other, under_own, under_stays, without_payload, ℕ, ◌++◌, ◌+◌, ◌∙◌, ◌∷◌, ◌≡◌, ◌≢◌, ◌≤◌, ◌⊎◌}
+use Rattle.ttrpc_story.proofs.Words.{Act, act_of, acts, asked_by, Call, calls, calls_work, deadline_in, flow_of, Open, Waiting, with_mail, ◌%◌}
 
 abbrev pub around : Settings → (ℕ → Bool) → ℕ → Around
 around set had next = record { set = set; had = had; next = next }
@@ -35,11 +35,6 @@ at_one T k here there n = elim (cases_eq k n) [
 -- an entry that says nothing of any id
 abbrev pub IsQuiet : (ℕ → ℕ) → Event → Reply → Type 0
 IsQuiet f event reply = (k : ℕ) → (act_of f k event reply ≡ []) × (flow_of f k event reply ≡ [])
-
--- leaves the stories
-pub stories_silent : (set : Settings) (had : ℕ → Bool) (f : ℕ → ℕ) (trace : List Entry) (event : Event) (reply : Reply) (up down : List Flying) (jobs : List ActiveJob) (client : Client)
-    → IsQuiet f event reply → Stories set had f trace up down jobs client → Stories set had f (with_entry trace event reply) up down jobs client
-stories_silent set had f trace event reply up down jobs client q c = λ k. elsewhere (unchanged (around set had client.next) k) (c k) (silent (act_of f k) trace event reply (q k).0) (silent (flow_of f k) trace event reply (q k).1) refl refl refl refl refl
 
 -- ---- a frame comes to the server
 
@@ -72,12 +67,11 @@ module _ {CO CI SO SI : Type 0} (c : Halves CO CI) (s : Halves SO SI) where
   unfoldable pub nothing_refers : (k : ℕ) (old new : Outbox SO) → new ≡ old → Refers k old new
   nothing_refers k old new same = record { more = []; never = tt; turned = tt; sent = λ y pipe flights way. rw (same, append-nil) way }
 
-  pub flight_refers : (k : ℕ) (outcome : Result Response Error) (old new : Outbox SO) → SendsFlight s.out old (IsRefusing k outcome) new → Refers k old new
-  flight_refers k outcome old new r = record { more = r.y ∷ []; never = (r.is.never, tt); turned = (r.is.turned, tt); sent = λ y pipe flights way. joins s.out c.in_ old new y pipe flights r.y r.queue r.seal r.sound way }
-
   -- the core's own answer
   pub own_refers : (rules : Rules) (k : ℕ) (r : Response) (sent : List Sent) (old new : Outbox SO) → k ≤ last_id → IsRefusal r → SendsOwnAnswer rules s.out old.half k r sent → SendsAll s.out old sent new → Refers k old new
-  own_refers rules k r sent old new within is (inl responds) sends = flight_refers k _ old new (sends_refusal s.out old rules k r sent new within is responds sends)
+  own_refers rules k r sent old new within is (inl responds) sends =
+      let f = sends_refusal s.out old rules k r sent new within is responds sends in
+      record { more = f.y ∷ []; never = (f.is.never, tt); turned = (f.is.turned, tt); sent = λ y pipe flights way. joins s.out c.in_ old new y pipe flights f.y f.queue f.seal f.sound way }
   own_refers rules k r sent old new within is (inr left) sends = nothing_refers k old new (none_sent s.out old sent new left.0 sends)
 
 -- In a clean run a call that waits is due no later than it would be if it were made at this moment.
@@ -266,7 +260,7 @@ module _ {CO CI SO SI : Type 0} (c : Halves CO CI) (s : Halves SO SI) (set : Set
       → ComesUp c s set had f trace rest down client old new
   comes_up now x rest down old new sent ruled served timely does sends stories numbers right =
       let k : ℕ = x.frame.message.header.stream_id in
-      elim (comes_of x (parcels k rest) (stories k) (under_own id_of k x rest refl)) [
+      elim (comes_of x (parcels k rest) (stories k).origin (stories k).so_far (stories k).known (under_own id_of k x rest refl)) [
         | inl a ↦ by_ask_row (row_at old.state x) now x rest down old new sent ruled stories numbers right sends does a timely (asked_row_is x rest down old.state ruled served a)
         | inr a ↦ by_item_row (row_at old.state x) now x rest down old new sent stories numbers sends does a ruled (passed_row_is x rest down old.state a)
       ]

@@ -1,9 +1,8 @@
 -- THE FOUR ZEROS: at the end of a clean drained run both queues and both pipes are empty, and nothing is in flight.
-use Rattle.ttrpc_headline.proofs.Failing.{lives_back}
-use Rattle.ttrpc_headline.proofs.Headline.{cut_at, keeps, keeps_all, Ruled, ruled, fresh, starts_ruled}
+use Rattle.ttrpc_headline.proofs.Headline.{begins, Stands, stands_at, step_on}
 use Rattle.ttrpc_headline.proofs.Keeps.{Keeps}
-use Rattle.ttrpc_headline.proofs.Living.{clean_front, fresh_open, heard_whole, lives_at_end, never_over, stay_open, stays_open}
-use Rattle.ttrpc_headline.proofs.Numbers.{IsRightRun, streams_of}
+use Rattle.ttrpc_headline.proofs.Living.{clean_front, fresh_open, heard_whole, lived, lives_at_end, never_over, stay_open, stays_open}
+use Rattle.ttrpc_headline.proofs.Numbers.{streams_of}
 use Rattle.ttrpc_headline.specs.Living.{IsEmpty, IsOpen, Lives}
 use Rattle.ttrpc_story.proofs.Place.{Settings}
 use Rattle.ttrpc_events.specs.Clean.{AreClean, IsDrained, other}
@@ -129,48 +128,29 @@ module _ {CO CI SO SI : Type 0} (c : Halves CO CI) (s : Halves SO SI) (seals : B
 
 module _ {CO CI SO SI : Type 0} (c : Halves CO CI) (s : Halves SO SI) (seals : Bool) (still : seals ≡ false → (from to : CO) (plain aad sealed : List ℕ) → c.out.seals from plain aad sealed to → to ≡ from)
     (fixed : (x y : SO) (plain aad sealed : List ℕ) → s.out.seals x plain aad sealed y → s.out.overhead y ≡ s.out.overhead x) (set : Settings) (f : ℕ → ℕ) where
-  ruled_all : (w : Net CO CI SO SI) (rest : List Entry) (v : Net CO CI SO SI) → Runs c s seals w rest v → Ruled c s seals still fixed set f w → Ruled c s seals still fixed set f v
-  ruled_all w [] v same u = subst (λ (x : Net CO CI SO SI). Ruled c s seals still fixed set f x) (sym same) u
-  ruled_all w (e ∷ rest) v r u = ruled_all r.0 rest v r.2 (ruled c s seals still fixed set f w e.event e.reply r.0 r.1 u)
-
   -- AT THE END NOTHING IS QUEUED AND NOTHING IS IN A PIPE.
-  pub ends_empty : (set.clean → ⊥) → (rules : Rules) (g : ℕ → ℕ) (w : Net CO CI SO SI) (trace : List Entry) (v : Net CO CI SO SI) → IsFresh c s w → Ruled c s seals still fixed set f w
-      → (p : Runs c s seals w trace v) → IsRightRun c s seals f w trace v p → AreClean rules g [] trace → IsDrained trace → IsEmpty v
-  ends_empty never rules g w trace v n u p right clean d =
-      let last = record { event = Carry d.from d.a; reply = Count 0 } ∷ record { event = Carry (other d.from) d.b; reply = Count 0 } ∷ record { event = Deliver d.to d.c; reply = Count 0 } ∷ record { event = Deliver (other d.to) d.d; reply = Count 0 } ∷ [] in
-      let both = subst (λ (t : List Entry). (r : Runs c s seals w t v) × IsRightRun c s seals f w t v r) d.ends (p, right) in
+  pub ends_empty : (rules : Rules) (g : ℕ → ℕ) (w : Net CO CI SO SI) (trace : List Entry) (v : Net CO CI SO SI) → IsFresh c s w → Stands c s seals still fixed set f [] w trace v → AreClean rules g [] trace → IsDrained trace → IsEmpty v
+  ends_empty rules g w trace v n x clean d =
+      let later = record { event = Carry (other d.from) d.b; reply = Count 0 } ∷ record { event = Deliver d.to d.c; reply = Count 0 } ∷ record { event = Deliver (other d.to) d.d; reply = Count 0 } ∷ [] in
+      let last = record { event = Carry d.from d.a; reply = Count 0 } ∷ later in
       let all = subst (λ (t : List Entry). AreClean rules g [] t) d.ends clean in
-      let at = cut_at c s seals still fixed set f w d.front last v both.0 both.1 in
-      let t1 = at.behind in
-      let t2 = t1.2 in
-      let t3 = t2.2 in
-      let t4 = t3.2 in
-      let alive = lives_at_end c s seals rules g w trace v (fresh_open n) clean d p in
-      let a4 = subst Lives t4.2 alive in
-      let a3 = lives_back c s seals t3.0 (Deliver (other d.to) d.d) (Count 0) t4.0 t4.1 a4 in
-      let a2 = lives_back c s seals t2.0 (Deliver d.to d.c) (Count 0) t3.0 t3.1 a3 in
-      let a1 = lives_back c s seals t1.0 (Carry (other d.from) d.b) (Count 0) t2.0 t2.1 a2 in
-      let a0 = lives_back c s seals at.mid (Carry d.from d.a) (Count 0) t1.0 t1.1 a1 in
-      let o0 = stay_open c s seals rules g [] w d.front at.mid (clean_front c s seals rules g [] d.front last all) at.before (fresh_open n) in
-      let o1 = stays_open c s seals at.mid (Carry d.from d.a) (Count 0) t1.0 refl refl t1.1 o0 in
-      let o2 = stays_open c s seals t1.0 (Carry (other d.from) d.b) (Count 0) t2.0 refl refl t2.1 o1 in
-      let o3 = stays_open c s seals t2.0 (Deliver d.to d.c) (Count 0) t3.0 refl refl t3.1 o2 in
-      let i0 = keeps_all c s seals still fixed set f [] d.front w at.mid (fresh c s seals still fixed set f w n) u at.before at.right (λ x. absurd (never x)) in
-      let u0 = ruled_all w d.front at.mid at.before u in
-      let i1 = keeps c s seals still fixed set f d.front at.mid (Carry d.from d.a) (Count 0) t1.0 i0 u0 at.later.0 at.later.1.0 (λ x. absurd (never x)) t1.1 in
-      let u1 = ruled c s seals still fixed set f at.mid (Carry d.from d.a) (Count 0) t1.0 t1.1 u0 in
-      let i2 = keeps c s seals still fixed set f _ t1.0 (Carry (other d.from) d.b) (Count 0) t2.0 i1 u1 at.later.1.0 at.later.1.1.0 (λ x. absurd (never x)) t2.1 in
-      let u2 = ruled c s seals still fixed set f t1.0 (Carry (other d.from) d.b) (Count 0) t2.0 t2.1 u1 in
-      let i3 = keeps c s seals still fixed set f _ t2.0 (Deliver d.to d.c) (Count 0) t3.0 i2 u2 at.later.1.1.0 at.later.1.1.1.0 (λ x. absurd (never x)) t3.1 in
-      let z1 = carry_zero c s seals set f d.from d.front at.mid t1.0 d.a d.some.0 i0 a0 t1.1 in
-      let z2 = carry_zero c s seals set f (other d.from) _ t1.0 t2.0 d.b d.some.1 i1 a1 t2.1 in
-      let z3 = deliver_zero c s seals set f d.to _ t2.0 t3.0 d.c d.some.2 i2 o2 t3.1 in
-      let z4 = deliver_zero c s seals set f (other d.to) _ t3.0 t4.0 d.d d.some.3 i3 o3 t4.1 in
-      subst IsEmpty (sym t4.2) (empty_by c s seals d.from d.to t4.0
-      (ap (λ (x : Queue). x.frames) (z4.2 d.from ∙ z3.2 d.from ∙ queue_twice c s seals d.from t1.0 t2.0 z2.1) ∙ z1.0)
-      (ap (λ (x : Queue). x.frames) (z4.2 (other d.from) ∙ z3.2 (other d.from)) ∙ z2.0)
-      (pipe_twice c s seals d.to t3.0 t4.0 z4.1 ∙ z3.0)
-      z4.0)
+      let at = stands_at c s seals still fixed set f [] d.front last w v (subst (λ (t : List Entry). Stands c s seals still fixed set f [] w t v) d.ends x) in
+      let x1 = at.2 in
+      let x2 = step_on c s seals still fixed set f x1 in
+      let x3 = step_on c s seals still fixed set f x2 in
+      let x4 = step_on c s seals still fixed set f x3 in
+      let alive = lives_at_end c s seals rules g w trace v (fresh_open n) clean d x.run in
+      let o1 = stay_open c s seals rules g [] w d.front at.0 (clean_front c s seals rules g [] d.front last all) at.1 (fresh_open n) in
+      let o2 = stays_open c s seals at.0 (Carry d.from d.a) (Count 0) x1.run.0 refl refl x1.run.1 o1 in
+      let o3 = stays_open c s seals x1.run.0 (Carry (other d.from) d.b) (Count 0) x2.run.0 refl refl x2.run.1 o2 in
+      let o4 = stays_open c s seals x2.run.0 (Deliver d.to d.c) (Count 0) x3.run.0 refl refl x3.run.1 o3 in
+      let z1 = carry_zero c s seals set f d.from d.front at.0 x1.run.0 d.a d.some.0 x1.kept (lived c s seals at.0 last v x1.run alive) x1.run.1 in
+      let z2 = carry_zero c s seals set f (other d.from) _ x1.run.0 x2.run.0 d.b d.some.1 x2.kept (lived c s seals x1.run.0 later v x2.run alive) x2.run.1 in
+      let z3 = deliver_zero c s seals set f d.to _ x2.run.0 x3.run.0 d.c d.some.2 x3.kept o3 x3.run.1 in
+      let z4 = deliver_zero c s seals set f (other d.to) _ x3.run.0 x4.run.0 d.d d.some.3 x4.kept o4 x4.run.1 in
+      subst IsEmpty (sym x4.run.2) (empty_by c s seals d.from d.to x4.run.0
+      (ap (λ (y : Queue). y.frames) (z4.2 d.from ∙ z3.2 d.from ∙ queue_twice c s seals d.from x1.run.0 x2.run.0 z2.1) ∙ z1.0) (ap (λ (y : Queue). y.frames) (z4.2 (other d.from) ∙ z3.2 (other d.from)) ∙ z2.0)
+      (pipe_twice c s seals d.to x3.run.0 x4.run.0 z4.1 ∙ z3.0) z4.0)
 
   no_flights : (transit queued flights : List Flying) → transit ++ queued ≡ flights → transit ≡ [] → queued ≡ [] → flights ≡ []
   no_flights transit queued flights all a b = sym all ∙ ap (λ (xs : List Flying). xs ++ queued) a ∙ b
@@ -195,4 +175,4 @@ pub empty_at_end : {CO CI SO SI : Type 0} (c : Halves CO CI) (s : Halves SO SI) 
 empty_at_end c s seals still fixed w v trace rules f n p clean d =
     let g = streams_of c s seals w trace v n p in
     let set : Settings = record { rules = w.server.state.rules; services = w.server.state.services; limit = safe_limit s.out w.server.connection.outbox.half; clean = ⊥ } in
-    ends_empty c s seals still fixed set g.f (λ never. never) rules f w trace v n (starts_ruled c s seals still fixed set g.f w (refl, refl, refl) n) p g.right clean d
+    ends_empty c s seals still fixed set g.f rules f w trace v n (begins c s seals still fixed set g.f w trace v (refl, refl, refl) n p g.right (λ never. absurd never)) clean d

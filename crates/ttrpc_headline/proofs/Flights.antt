@@ -115,15 +115,6 @@ one_of out old rs k r sent new p q =
     let all = subst (λ (xs : List Sent). SendsAll out old xs new) p.is q in
     subst (λ (o : Outbox _). SendsOne out old p.frame (response_bytes (fitted rs (safe_limit out old.half) r)) o) (sym all.2) all.1
 
-sends_fitted : {O : Type 0} (out : OutboundTransform O) (old : Outbox O) (rs : Rules) (k : ℕ) (r : Response) (sent : List Sent) (new : Outbox O) (is_such : Flying → Type 0) → k ≤ last_id
-    → (p : Responds rs (safe_limit out old.half) k r sent) → SendsAll out old sent new
-    → ((y : Flying) → y.plain ≡ response_bytes (fitted rs (safe_limit out old.half) r) → y.frame.message.header.stream_id ≡ k → y.frame.message.header.type_ ≡ MESSAGE_TYPE_RESPONSE → is_such y) → SendsFlight out old is_such new
-sends_fitted out old rs k r sent new is_such within p q is =
-    let g = p.is_frame in
-    let one = one_of out old rs k r sent new p q in
-    sends_flight out old p.frame (response_bytes (fitted rs (safe_limit out old.half) r)) new is_such one (omega (arith, g.stream_id, within)) (omega (arith, g.type_)) (omega (arith, g.flags)) (λ unary. let bad : true ≡ false = sym unary ∙ g.is_unary_request in cc)
-    (is (flight_of p.frame one.sealed (response_bytes (fitted rs (safe_limit out old.half) r))) refl g.stream_id g.type_)
-
 -- how long it is
 fitted_short : (rs : Rules) (limit k : ℕ) (r : Response) (sent : List Sent) → limit ≤ MESSAGE_LENGTH_MAX → (p : Responds rs limit k r sent) → length (response_bytes (fitted rs limit r)) ≤ MESSAGE_LENGTH_MAX
 fitted_short rs limit k r sent low p = omega (arith, p.fits, low)
@@ -138,8 +129,10 @@ record IsResponseFlight (k : ℕ) (r : Response) (y : Flying) : Type 0 where
 sends_last : {O : Type 0} (out : OutboundTransform O) (old : Outbox O) (rs : Rules) (k : ℕ) (r : Response) (sent : List Sent) (new : Outbox O) → k ≤ last_id → Responds rs (safe_limit out old.half) k r sent → SendsAll out old sent new
     → SendsFlight out old (IsResponseFlight k (fitted rs (safe_limit out old.half) r)) new
 sends_last out old rs k r sent new within p q =
-    let limit = safe_limit out old.half in
-    sends_fitted out old rs k r sent new (IsResponseFlight k (fitted rs limit r)) within p q (λ y plain stream type_. record { plain = plain; stream = stream; type_ = type_; short = fitted_short rs limit k r sent (omega arith) p })
+    let last = fitted rs (safe_limit out old.half) r in
+    let g = p.is_frame in
+    sends_flight out old p.frame (response_bytes last) new (IsResponseFlight k last) (one_of out old rs k r sent new p q) (omega (arith, g.stream_id, within)) (omega (arith, g.type_)) (omega (arith, g.flags)) (λ unary. let bad : true ≡ false = sym unary ∙ g.is_unary_request in cc)
+    (record { plain = refl; stream = g.stream_id; type_ = g.type_; short = fitted_short rs (safe_limit out old.half) k r sent (omega arith) p })
 
 -- what it gives a call, and brings a stream
 lands_as : {k : ℕ} {r : Response} {y : Flying} → IsResponse r → IsResponseFlight k r y → landing_of y.frame.message.header (Opened y.plain) ≡ Gives (by_status r.status r)

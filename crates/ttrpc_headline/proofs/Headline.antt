@@ -117,12 +117,33 @@ module _ {CO CI SO SI : Type 0} (c : Halves CO CI) (s : Halves SO SI) (seals : B
   now_right w [] v p right = right
   now_right w (e ∷ rest) v p right = right.0
 
-  pub keeps_all : (before rest : List Entry) (w v : Net CO CI SO SI) → Kept before w → Ruled w → (p : Runs c s seals w rest v) → IsRightRun c s seals f w rest v p → (set.clean → CleanRun before w rest v) → Kept (before ++ rest) v
-  keeps_all before [] w v i u p right z = subst (λ (t : List Entry). Keeps c s set f t v) (sym (append-nil before)) (along before w v p i)
-  keeps_all before (e ∷ rest) w v i u p right z =
-      subst (λ (t : List Entry). Keeps c s set f t v) (append_assoc before (e ∷ []) rest)
-      (keeps_all (before ++ e ∷ []) rest p.0 v (keeps before w e.event e.reply p.0 i u right.0 (now_right p.0 rest v p.2 right.1) (λ clean. first_step c s seals set.rules f before w e rest v (z clean) p) p.1) (ruled w e.event e.reply p.0 p.1 u) p.2 right.1
-      (λ clean. later_run c s seals set.rules f before w e rest v (z clean) p))
+  -- WHERE A RUN STANDS: the invariant, what it needs to go on, and what is left of the run.
+  pub record Stands (t : List Entry) (w : Net CO CI SO SI) (rest : List Entry) (v : Net CO CI SO SI) : Type 0 where
+    pub kept : Kept t w
+    pub is_ruled : Ruled w
+    pub run : Runs c s seals w rest v
+    pub right : IsRightRun c s seals f w rest v run
+    pub clean : set.clean → CleanRun t w rest v
+
+  pub step_on : {t : List Entry} {w : Net CO CI SO SI} {e : Entry} {rest : List Entry} {v : Net CO CI SO SI} → (x : Stands t w (e ∷ rest) v) → Stands (t ++ e ∷ []) x.run.0 rest v
+  step_on {t} {w} {e} {rest} {v} x = record {
+    kept = keeps t w e.event e.reply x.run.0 x.kept x.is_ruled x.right.0 (now_right x.run.0 rest v x.run.2 x.right.1) (λ clean. first_step c s seals set.rules f t w e rest v (x.clean clean) x.run) x.run.1;
+    is_ruled = ruled w e.event e.reply x.run.0 x.run.1 x.is_ruled;
+    run = x.run.2;
+    right = x.right.1;
+    clean = λ clean. later_run c s seals set.rules f t w e rest v (x.clean clean) x.run;
+  }
+
+  pub kept_at_end : (t rest : List Entry) (w v : Net CO CI SO SI) → Stands t w rest v → Kept (t ++ rest) v
+  kept_at_end t [] w v x = subst (λ (y : List Entry). Kept y v) (sym (append-nil t)) (along t w v x.run x.kept)
+  kept_at_end t (e ∷ rest) w v x = subst (λ (y : List Entry). Kept y v) (append_assoc t (e ∷ []) rest) (kept_at_end (t ++ e ∷ []) rest x.run.0 v (step_on x))
+
+  -- up to a place, and where it stands there
+  pub stands_at : (t front back : List Entry) (w v : Net CO CI SO SI) → Stands t w (front ++ back) v → (mid : Net CO CI SO SI) × Runs c s seals w front mid × Stands (t ++ front) mid back v
+  stands_at t [] back w v x = (w, refl, subst (λ (y : List Entry). Stands y w back v) (sym (append-nil t)) x)
+  stands_at t (e ∷ front) back w v x =
+      let l = stands_at (t ++ e ∷ []) front back x.run.0 v (step_on x) in
+      (l.0, (x.run.0, x.run.1, l.1), subst (λ (y : List Entry). Stands y l.0 back v) (append_assoc t (e ∷ []) front) l.2)
 
   -- it holds at the start
   pub fresh : (w : Net CO CI SO SI) → IsFresh c s w → Kept [] w
@@ -134,17 +155,7 @@ module _ {CO CI SO SI : Type 0} (c : Halves CO CI) (s : Halves SO SI) (seals : B
       so_far = Idle;
       known = record {
         young = λ y. refl;
-        server = record {
-          within = tt;
-          is_work = refl;
-          works_is = refl;
-          items = [];
-          are_items = tt;
-          may_have = refl;
-          ups_is = refl;
-          jobs_is = ap (λ (x : ServerCore SO SI). jobs_at x.state.jobs.list k) n.server;
-          down = tt;
-        };
+        server = record { within = tt; is_work = refl; works_is = refl; items = []; are_items = tt; may_have = refl; ups_is = refl; jobs_is = ap (λ (x : ServerCore SO SI). jobs_at x.state.jobs.list k) n.server; down = tt };
         client = (ap (λ (x : ClientCore CO CI). call_at x.state k) n.client, ap (λ (x : ClientCore CO CI). stream_at x.state k) n.client, refl);
         tidy = λ clean. refl;
         up = record { is = record { none = refl; errors = nothing_read } };
@@ -157,25 +168,9 @@ module _ {CO CI SO SI : Type 0} (c : Halves CO CI) (s : Halves SO SI) (seals : B
     downward = starts s.out c.in_ w.server.connection w.client.connection w.down (ap (λ (x : ServerCore SO SI). x.connection.outbox.queue) n.server) (ap (λ (x : ClientCore CO CI). x.connection.decoder) n.client) n.down n.down_paired;
   }
 
-  pub starts_ruled : (w : Net CO CI SO SI) → IsSet c s seals set f [] w → IsFresh c s w → Ruled w
-  starts_ruled w is n = record { is_set = is; plain = fresh_plain n }
-
-  -- A right run is one up to a place, and one from there on.
-  pub record Parts (w : Net CO CI SO SI) (front back : List Entry) (v : Net CO CI SO SI) : Type 0 where
-    pub mid : Net CO CI SO SI
-    pub before : Runs c s seals w front mid
-    pub right : IsRightRun c s seals f w front mid before
-    pub behind : Runs c s seals mid back v
-    pub later : IsRightRun c s seals f mid back v behind
-
-  pub cut_at : (w : Net CO CI SO SI) (front back : List Entry) (v : Net CO CI SO SI) → (p : Runs c s seals w (front ++ back) v) → IsRightRun c s seals f w (front ++ back) v p → Parts w front back v
-  cut_at w [] back v p right = record { mid = w; before = refl; right = now_right w back v p right; behind = p; later = right }
-  cut_at w (e ∷ front) back v p right = let l = cut_at p.0 front back v p.2 right.1 in record { mid = l.mid; before = (p.0, p.1, l.before); right = (right.0, l.right); behind = l.behind; later = l.later }
+  pub begins : (w : Net CO CI SO SI) (trace : List Entry) (v : Net CO CI SO SI) → IsSet c s seals set f [] w → IsFresh c s w → (r : Runs c s seals w trace v) → IsRightRun c s seals f w trace v r → (set.clean → CleanRun [] w trace v) → Stands [] w trace v
+  begins w trace v is n r right clean = record { kept = fresh w n; is_ruled = record { is_set = is; plain = fresh_plain n }; run = r; right = right; clean = clean }
 
   -- AT EACH PLACE the items of each id are in order.
-  pub in_order : (w : Net CO CI SO SI) (trace : List Entry) (v : Net CO CI SO SI) → IsFresh c s w → Ruled w → (p : Runs c s seals w trace v) → IsRightRun c s seals f w trace v p → (set.clean → ⊥)
-      → (front back : List Entry) → trace ≡ front ++ back → (id : ℕ) → AreInOrder set.rules set.limit (flows f id front)
-  in_order w trace v n u p right never front back is id =
-      let both = subst (λ (t : List Entry). (r : Runs c s seals w t v) × IsRightRun c s seals f w t v r) is (p, right) in
-      let at = cut_at w front back v both.0 both.1 in
-      in_order_here ((keeps_all [] front w at.mid (fresh w n) u at.before at.right (λ clean. absurd (never clean))).stories id)
+  pub in_order : (w : Net CO CI SO SI) (trace : List Entry) (v : Net CO CI SO SI) → Stands [] w trace v → (front back : List Entry) → trace ≡ front ++ back → (id : ℕ) → AreInOrder set.rules set.limit (flows f id front)
+  in_order w trace v x front back is id = in_order_here ((stands_at [] front back w v (subst (λ (t : List Entry). Stands [] w t v) is x)).2.kept.stories id)

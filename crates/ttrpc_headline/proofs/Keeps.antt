@@ -1,10 +1,10 @@
 -- What holds of a client, a server and their pipes after any run.
-use Rattle.ttrpc_headline.proofs.Delivers.{IsQuiet, Stories, stories_silent}
+use Rattle.ttrpc_headline.proofs.Delivers.{around, IsQuiet, Stories}
 use Rattle.ttrpc_headline.proofs.Numbers.{Numbers}
 use Rattle.ttrpc_headline.proofs.OneWay.{OneWay}
-use Rattle.ttrpc_story.proofs.Place.{Settings}
-use Rattle.ttrpc_pair.proofs.Words.{AllByRecursion, Entry, Event, Flying, Halves, has_response, IsOwned, List, Net, Reply, ℕ}
-use Rattle.ttrpc_story.proofs.Words.{with_entry}
+use Rattle.ttrpc_story.proofs.Place.{elsewhere, Settings, unchanged}
+use Rattle.ttrpc_pair.proofs.Words.{AllByRecursion, Entry, Event, Flying, Halves, has_response, IsOwned, List, Net, refl, Reply, ℕ}
+use Rattle.ttrpc_story.proofs.Words.{act_of, flow_of, silent, with_entry}
 
 -- THE INVARIANT, under rules that stay. In flight are these frames each way, in order: as bytes, as seals, and each as a part
 -- of one call or stream. A side that failed takes no more, so nothing need be said of what is still in flight to it. `f`
@@ -24,7 +24,7 @@ pub keeps_still : {CO CI SO SI : Type 0} (c : Halves CO CI) (s : Halves SO SI) (
 keeps_still c s set f trace w event reply q i = record {
   up = i.up;
   down = i.down;
-  stories = stories_silent set (has_response w) f trace event reply i.up i.down w.server.state.jobs.list w.client.state q i.stories;
+  stories = λ k. elsewhere (unchanged (around set (has_response w) w.client.state.next) k) (i.stories k) (silent (act_of f k) trace event reply (q k).0) (silent (flow_of f k) trace event reply (q k).1) refl refl refl refl refl;
   numbers = i.numbers;
   own = i.own;
   upward = i.upward;

@@ -5,7 +5,7 @@ use Rattle.ttrpc_headline.specs.Living.{IsOpen, Lives}
 use Rattle.ttrpc_events.specs.Clean.{AreClean, is_clean_event, is_clean_reply, IsDrained, other}
 use Rattle.ttrpc_events.specs.declared.events.Side.{Side}
 use Rattle.std.specs.Prelude.{not}
-use Rattle.ttrpc_pair.proofs.Words.{[], ActiveJob, ActsAll, Answer, append-nil, AnswersBy, AnswersError, ap, append_assoc, AsyncRules, Bool, Carry, ClientCore, ClientSide, Connection, Count, Cut, Deliver, Done, Drain, DropReceiver, Entry, Err, Error, Event, ExpireAll, Failure, false, Halves, Hears, Incoming, inl, inr, is_over, is_over, IsFresh, List, Net, None, Ok, Option, Outbox, Pipe, refl, Refused, Reply, Response, Result, rules, Rules, Runs, Scene, scene, Server, ServerCore, ServerPasses, ServerSide, serving, Some, Steps, subst, sym, SyncRules, taken_from, Tick, true, ℕ, ◌++◌, ◌∙◌, ◌∷◌, ◌≡◌}
+use Rattle.ttrpc_pair.proofs.Words.{[], ActiveJob, ActsAll, Answer, AnswersBy, AnswersError, ap, AsyncRules, Bool, Carry, ClientCore, ClientSide, Connection, Count, Cut, Deliver, Done, Drain, DropReceiver, Entry, Err, Error, Event, ExpireAll, Failure, false, Halves, Hears, Incoming, inl, inr, is_over, is_over, IsFresh, List, Net, None, Ok, Option, Outbox, Pipe, refl, Refused, Reply, Response, Result, rules, Rules, Runs, Scene, scene, Server, ServerCore, ServerPasses, ServerSide, serving, Some, Steps, subst, sym, SyncRules, taken_from, Tick, true, ℕ, ◌++◌, ◌∙◌, ◌∷◌, ◌≡◌}
 
 module _ {CO CI SO SI : Type 0} (c : Halves CO CI) (s : Halves SO SI) (seals : Bool) where
   -- who lives behind a run lived all along
@@ -77,11 +77,6 @@ module _ {CO CI SO SI : Type 0} (c : Halves CO CI) (s : Halves SO SI) (seals : B
   pub runs_joined : (w : Net CO CI SO SI) (front : List Entry) (mid : Net CO CI SO SI) (back : List Entry) (v : Net CO CI SO SI) → Runs c s seals w front mid → Runs c s seals mid back v → Runs c s seals w (front ++ back) v
   runs_joined w [] mid back v same r = subst (λ (x : Net CO CI SO SI). Runs c s seals x back v) same r
   runs_joined w (e ∷ front) mid back v p r = (p.0, p.1, runs_joined p.0 front mid back v p.2 r)
-
-  -- of a clean trace what stands behind a place is clean there
-  pub clean_behind : (rules : Rules) (f : ℕ → ℕ) (done front back : List Entry) → AreClean rules f done (front ++ back) → AreClean rules f (done ++ front) back
-  clean_behind rules f done [] back clean = subst (λ (t : List Entry). AreClean rules f t back) (sym (append-nil done)) clean
-  clean_behind rules f done (e ∷ front) back clean = subst (λ (t : List Entry). AreClean rules f t back) (append_assoc done (e ∷ []) front) (clean_behind rules f (done ++ e ∷ []) front back clean.1)
 
   pub clean_front : (rules : Rules) (f : ℕ → ℕ) (done front back : List Entry) → AreClean rules f done (front ++ back) → AreClean rules f done front
   clean_front rules f done [] back clean = tt

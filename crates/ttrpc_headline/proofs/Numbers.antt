@@ -138,7 +138,6 @@ AreBelow f n jobs = AllByRecursion (IsPlaced f n) jobs
 
 record Placed (f : ℕ → ℕ) (jobs : JobList) : Type 0 where
   below : AreBelow f jobs.last jobs.list
-  zero_ : f 0 ≡ above
   beyond : (j : ℕ) → jobs.last < j → f j ≡ above + j
 
 -- what a step makes of it: it stays for the jobs that were made
@@ -156,7 +155,6 @@ stay_placed f old new last below p = record {
   more = omega (arith, last);
   placed = record {
     below = subst (λ (m : ℕ). AreBelow f m new.list) (sym last) below;
-    zero_ = p.zero_;
     beyond = λ j h. p.beyond j (omega (arith, h, last));
   };
 }
@@ -179,14 +177,11 @@ moved f n s j = if nat_eq j (n + 1) then s else f j
 moved_other : (f : ℕ → ℕ) (n s j : ℕ) → (j ≡ n + 1 → ⊥) → moved f n s j ≡ f j
 moved_other f n s j other = cond-false (nat_eq j (n + 1)) _ _ (ne_eqb j (n + 1) other)
 
-moved_at : (f : ℕ → ℕ) (n s j : ℕ) → j ≡ n + 1 → moved f n s j ≡ s
-moved_at f n s j h = cond-true (nat_eq j (n + 1)) _ _ (eq-eqb j (n + 1) h)
-
 moved_below : (f : ℕ → ℕ) (n s j : ℕ) → j ≤ n → moved f n s j ≡ f j
 moved_below f n s j h = moved_other f n s j (λ e. absurd (let no : ⊥ = omega (arith, h, e) in no))
 
 jobs_make : (f : ℕ → ℕ) (n : ℕ) (job : ActiveJob) (js : List ActiveJob) → job.id ≡ n + 1 → AreBelow f n js → AreBelow (moved f n job.header.stream_id) (n + 1) (js ++ job ∷ [])
-jobs_make f n job [] id h = ((moved_at f n job.header.stream_id job.id id, omega (arith, id)), tt)
+jobs_make f n job [] id h = ((cond-true (nat_eq job.id (n + 1)) _ _ (eq-eqb job.id (n + 1) id), omega (arith, id)), tt)
 jobs_make f n job (j ∷ js) id h = ((moved_below f n job.header.stream_id j.id h.0.1 ∙ h.0.0, omega (arith, h.0.1)), jobs_make f n job js id h.1)
 
 make_placed : (f : ℕ → ℕ) (old : JobList) (job : ActiveJob) → job.id ≡ old.last + 1 → Placed f old → Goes f old (record { last = old.last + 1; list = old.list ++ job ∷ [] })
@@ -196,7 +191,6 @@ make_placed f old job id p = record {
   more = omega arith;
   placed = record {
     below = jobs_make f old.last job old.list id p.below;
-    zero_ = moved_below f old.last job.header.stream_id 0 (omega arith) ∙ p.zero_;
     beyond = λ j h. moved_other f old.last job.header.stream_id j (λ e. absurd (let no : ⊥ = omega (arith, h, e) in no)) ∙ p.beyond j (omega (arith, h));
   };
 }
@@ -400,7 +394,7 @@ module _ {CO CI SO SI : Type 0} (c : Halves CO CI) (s : Halves SO SI) (seals : B
 
   pub streams_of : (w : Net CO CI SO SI) (trace : List Entry) (v : Net CO CI SO SI) → IsFresh c s w → (r : Runs c s seals w trace v) → Streams w trace v r
   streams_of w trace v fresh r =
-      let start : Placed (λ j. above + j) (jobs w) = subst (λ (x : ServerCore _ _). Placed (λ j. above + j) x.state.jobs) (sym fresh.server) (record { below = tt; zero_ = omega arith; beyond = λ j h. refl }) in
+      let start : Placed (λ j. above + j) (jobs w) = subst (λ (x : ServerCore _ _). Placed (λ j. above + j) x.state.jobs) (sym fresh.server) (record { below = tt; beyond = λ j h. refl }) in
       let seen = foresee (λ j. above + j) w trace v r start in
       record { f = seen.g; right = seen.right; zero_ = seen.agrees 0 (omega arith) ∙ omega arith; beyond = seen.beyond }
 

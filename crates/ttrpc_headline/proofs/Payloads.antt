@@ -55,9 +55,6 @@ pub record IsRefusal (r : Response) : Type 0 where
 refused : (text : List ℕ) → IsUtf8 text → IsRefusal (status_response INVALID_ARGUMENT text)
 refused text is = record { is = record { status = record { code = search rules; message = is; details = tt } }; never_ok = λ h. cc }
 
-unknown_method : (text : List ℕ) → IsUtf8 text → IsRefusal (status_response UNIMPLEMENTED text)
-unknown_method text is = record { is = record { status = record { code = search rules; message = is; details = tt } }; never_ok = λ h. cc }
-
 pub too_late : IsRefusal timeout_response
 too_late = record { is = record { status = record { code = search rules; message = plain_text (codes "timeout") refl; details = tt } }; never_ok = λ h. cc }
 
@@ -65,14 +62,10 @@ too_late = record { is = record { status = record { code = search rules; message
 pub unknown_never : (text : List ℕ) → HasOkStatus (status_response UNKNOWN text).status → ⊥
 unknown_never text h = cc
 
-path_refusal : (r : Request) → IsRequest r → IsRefusal (status_response INVALID_ARGUMENT (path_text r.service r.method))
-path_refusal r is = refused (path_text r.service r.method) (path_is_utf8 r is)
-
-service_refusal : (r : Request) → IsRequest r → IsRefusal (status_response INVALID_ARGUMENT (service_text r.service))
-service_refusal r is = refused (service_text r.service) (IsUtf8-append r.service (codes " service does not exist") is.service (plain_text (codes " service does not exist") refl))
-
 method_refusal : (r : Request) → IsRequest r → IsRefusal (status_response UNIMPLEMENTED (method_text r.method))
-method_refusal r is = unknown_method (method_text r.method) (IsUtf8-append r.method (codes " method") is.method (plain_text (codes " method") refl))
+method_refusal r is =
+    let text = IsUtf8-append r.method (codes " method") is.method (plain_text (codes " method") refl) in
+    record { is = record { status = record { code = search rules; message = text; details = tt } }; never_ok = λ h. cc }
 
 even_refusal : IsRefusal (status_response INVALID_ARGUMENT even_id_text)
 even_refusal = refused even_id_text (plain_text even_id_text refl)
@@ -104,10 +97,10 @@ IsItemRow k r inlet plain row = ⊥
 other_asked : (method : Bool) → method ≡ false → (k : ℕ) → nat_eq (k % 2) 0 ≡ false → (q : Request) → IsRequest q → (chat service : Bool) → IsAskRow method k AsyncRules q (asked_row q (if chat then Chat else if service then NoMethod else NoService))
 other_asked method none k odd q is true service = (refl, refl, odd, none)
 other_asked method none k odd q is false true = (method_refusal q is, λ o. none)
-other_asked method none k odd q is false false = (service_refusal q is, λ o. none)
+other_asked method none k odd q is false false = (refused (service_text q.service) (IsUtf8-append q.service (codes " service does not exist") is.service (plain_text (codes " service does not exist") refl)), λ o. none)
 
 other_is : (method : Bool) → method ≡ false → (k : ℕ) (r : Rules) → (r ≡ AsyncRules → nat_eq (k % 2) 0 ≡ false) → (services : Services) (q : Request) → IsRequest q → IsAskRow method k r q (asked_row q (other_of r services q))
-other_is method none k SyncRules odd services q is = (path_refusal q is, λ o. none)
+other_is method none k SyncRules odd services q is = (refused (path_text q.service q.method) (path_is_utf8 q is), λ o. none)
 other_is method none k AsyncRules odd services q is = other_asked method none k (odd refl) q is (has_stream services q.service q.method) (has_service services q.service)
 
 -- such a row of a request to a server with these services

@@ -1,14 +1,14 @@
 -- What holds behind the last bytes that a side took: what an entry there starts, and the steps behind it keep. By induction
 -- over a clean run that ends drained.
-use Rattle.ttrpc_headline.proofs.Cleanly.{first_step, IsCleanRun, IsCleanStep, later_run}
-use Rattle.ttrpc_headline.proofs.Headline.{keeps, now_right, ruled, Ruled}
+use Rattle.ttrpc_headline.proofs.Cleanly.{first_step, IsCleanStep}
+use Rattle.ttrpc_headline.proofs.Headline.{Stands, step_on}
 use Rattle.ttrpc_headline.proofs.Keeps.{Keeps}
-use Rattle.ttrpc_headline.proofs.Numbers.{AreRight, IsRightRun}
+use Rattle.ttrpc_headline.proofs.Numbers.{AreRight}
 use Rattle.ttrpc_story.proofs.Place.{Settings}
 use Rattle.ttrpc_events.specs.Clean.{since, takes_bytes}
 use Rattle.ttrpc_events.specs.declared.events.Side.{Side}
 use Rattle.std.specs.Prelude.{◌||◌}
-use Rattle.ttrpc_pair.proofs.Words.{[], append-nil, append_assoc, Bool, Entry, Event, false, Halves, if◌then◌else◌, List, Net, refl, Reply, Runs, Steps, subst, sym, true, ℕ, ◌++◌, ◌∷◌, ◌≡◌}
+use Rattle.ttrpc_pair.proofs.Words.{[], append-nil, append_assoc, Bool, Entry, Event, false, Halves, if◌then◌else◌, List, Net, refl, Reply, Steps, subst, sym, true, ℕ, ◌++◌, ◌∷◌, ◌≡◌}
 use Rattle.ttrpc_story.proofs.Words.{with_entry}
 
 since_next : (P Q : Type 0) (takes is before : Bool) → (is ≡ true → Q) → (takes ≡ false → P → Q) → (before ≡ true → P) → (if takes then false else (is || before)) ≡ true → Q
@@ -35,15 +35,15 @@ module _ {CO CI SO SI : Type 0} (c : Halves CO CI) (s : Halves SO SI) (seals : B
   Starts is_it P = (t : List Entry) (w : Net CO CI SO SI) (event : Event) (reply : Reply) (v : Net CO CI SO SI) → IsKnown t w event reply v → is_it event reply ≡ true → P (with_entry t event reply) v
 
   -- IT HOLDS AT THE END, where such an entry stands behind the last bytes that this side took; or it held at first.
-  pub since_holds : (at : Side) (is_it : Event → Reply → Bool) (P : List Entry → Net CO CI SO SI → Type 0) → Stays at P → Starts is_it P → (t rest : List Entry) (w v : Net CO CI SO SI) (before : Bool) → Keeps c s set f t w → Ruled c s seals still fixed set f w
-      → (p : Runs c s seals w rest v) → IsRightRun c s seals f w rest v p → IsCleanRun c s seals set.rules f t w rest v → (before ≡ true → P t w) → since at is_it before rest ≡ true → P (t ++ rest) v
-  since_holds at is_it P stays starts t [] w v before i u p right z had h = subst (λ (x : List Entry). P x v) (sym (append-nil t)) (subst (λ (x : Net CO CI SO SI). P t x) (sym p) (had h))
-  since_holds at is_it P stays starts t (e ∷ rest) w v before i u p right z had h =
-      let step = first_step c s seals set.rules f t w e rest v z p in
-      let next = keeps c s seals still fixed set f t w e.event e.reply p.0 i u right.0 (now_right c s seals still fixed set f p.0 rest v p.2 right.1) (λ clean. step) p.1 in
-      let known : IsKnown t w e.event e.reply p.0 = record { does = p.1; cleanly = step; right = right.0; before = i; behind = next } in
+  pub since_holds : (at : Side) (is_it : Event → Reply → Bool) (P : List Entry → Net CO CI SO SI → Type 0) → Stays at P → Starts is_it P → set.clean → (t rest : List Entry) (w v : Net CO CI SO SI) (before : Bool) → Stands c s seals still fixed set f t w rest v
+      → (before ≡ true → P t w) → since at is_it before rest ≡ true → P (t ++ rest) v
+  since_holds at is_it P stays starts clean t [] w v before x had h = subst (λ (y : List Entry). P y v) (sym (append-nil t)) (subst (λ (y : Net CO CI SO SI). P t y) (sym x.run) (had h))
+  since_holds at is_it P stays starts clean t (e ∷ rest) w v before x had h =
+      let next = step_on c s seals still fixed set f x in
+      let step = first_step c s seals set.rules f t w e rest v (x.clean clean) x.run in
+      let known : IsKnown t w e.event e.reply x.run.0 = record { does = x.run.1; cleanly = step; right = x.right.0; before = x.kept; behind = next.kept } in
       let takes : Bool = takes_bytes at e.event e.reply in
       let is : Bool = is_it e.event e.reply in
-      subst (λ (x : List Entry). P x v) (append_assoc t (e ∷ []) rest)
-      (since_holds at is_it P stays starts (t ++ e ∷ []) rest p.0 v (if takes then false else (is || before)) next (ruled c s seals still fixed set f w e.event e.reply p.0 p.1 u) p.2 right.1 (later_run c s seals set.rules f t w e rest v z p)
-      (since_next (P t w) (P (t ++ e ∷ []) p.0) takes is before (λ it. starts t w e.event e.reply p.0 known it) (λ none was. stays t w e.event e.reply p.0 known none was) had) h)
+      subst (λ (y : List Entry). P y v) (append_assoc t (e ∷ []) rest)
+      (since_holds at is_it P stays starts clean (t ++ e ∷ []) rest x.run.0 v (if takes then false else (is || before)) next
+      (since_next (P t w) (P (t ++ e ∷ []) x.run.0) takes is before (λ it. starts t w e.event e.reply x.run.0 known it) (λ none was. stays t w e.event e.reply x.run.0 known none was) had) h)

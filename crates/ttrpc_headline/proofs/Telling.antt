@@ -1,6 +1,6 @@
 -- THE HEADLINE, for any run from a fresh start.
 use Rattle.ttrpc_headline.proofs.Calls.{whole_calls}
-use Rattle.ttrpc_headline.proofs.Headline.{fresh, in_order, keeps_all, starts_ruled}
+use Rattle.ttrpc_headline.proofs.Headline.{begins, in_order, kept_at_end}
 use Rattle.ttrpc_headline.proofs.WholeStreams.{whole_streams}
 use Rattle.ttrpc_headline.proofs.Numbers.{one_to_one, stream_of_run, streams_of}
 use Rattle.ttrpc_events.specs.Headline.{IsTold}
@@ -14,14 +14,14 @@ pub told : {CO CI SO SI : Type 0} (c : Halves CO CI) (s : Halves SO SI) (seals :
 told c s seals still fixed w v trace n p =
     let g = streams_of c s seals w trace v n p in
     let set : Settings = record { rules = w.server.state.rules; services = w.server.state.services; limit = safe_limit s.out w.server.connection.outbox.half; clean = ⊥ } in
-    let u = starts_ruled c s seals still fixed set g.f w (refl, refl, refl) n in
-    let i = keeps_all c s seals still fixed set g.f [] trace w v (fresh c s seals still fixed set g.f w n) u p g.right (λ never. absurd never) in (
+    let x = begins c s seals still fixed set g.f w trace v (refl, refl, refl) n p g.right (λ never. absurd never) in
+    let i = kept_at_end c s seals still fixed set g.f [] trace w v x in (
       g.f,
       record {
         agrees = stream_of_run c s seals g.f w trace v p g.right;
         one_to_one = one_to_one g.f v.server.state.jobs.last i.numbers.low i.numbers.rise g.zero_ g.beyond i.numbers.within;
         exactly_once = λ id. exactly_once (i.stories id);
-        in_order = in_order c s seals still fixed set g.f w trace v n u p g.right (λ never. never);
+        in_order = in_order c s seals still fixed set g.f w trace v x;
         whole_calls = whole_calls c s seals still fixed w v trace g.f n p g.right;
         whole_streams = whole_streams c s seals still fixed w v trace g.f n p g.right;
       },

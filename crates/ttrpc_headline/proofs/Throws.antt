@@ -49,20 +49,16 @@ module _ {XO YO YI : Type 0} (out : OutboundTransform XO) (in_ : InboundTransfor
       }
 
   -- to a side that failed nothing need be in flight
-  thrown_if : (failure : Option Failure) → y.failure ≡ failure → (still : (s t : XO) (plain aad sealed : List ℕ) → out.seals s plain aad sealed t → t ≡ s) (owners : ℕ → Bool) → AreSingle owners flights → AllByRecursion IsOwned flights
+  pub some_thrown : (failure : Option Failure) → y.failure ≡ failure → (still : (s t : XO) (plain aad sealed : List ℕ) → out.seals s plain aad sealed t → t ≡ s) (owners : ℕ → Bool) → AreSingle owners flights → AllByRecursion IsOwned flights
       → OneWay out in_ x y p flights → Thrown out in_ owners (record x { queue = without x.queue owners }) y p flights
-  thrown_if None alive still owners single own way = lives_thrown still owners single own (way.bytes alive) (way.linked alive)
-  thrown_if (Some why) failed still owners single own way = record {
+  some_thrown None alive still owners single own way = lives_thrown still owners single own (way.bytes alive) (way.linked alive)
+  some_thrown (Some why) failed still owners single own way = record {
     left = flights;
     parts = λ k. inl refl;
     own = own;
     rising = λ low high b. b;
     way = dead out in_ _ y p flights (λ alive. not_both y.failure why failed alive);
   }
-
-  pub some_thrown : (still : (s t : XO) (plain aad sealed : List ℕ) → out.seals s plain aad sealed t → t ≡ s) (owners : ℕ → Bool) → AreSingle owners flights → AllByRecursion IsOwned flights
-      → OneWay out in_ x y p flights → Thrown out in_ owners (record x { queue = without x.queue owners }) y p flights
-  some_thrown still owners single own way = thrown_if y.failure refl still owners single own way
 
 -- ---- what taking requests back leaves of the connection
 

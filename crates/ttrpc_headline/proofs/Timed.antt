@@ -42,12 +42,9 @@ and_false : (a b : Bool) → b ≡ true → (a && b) ≡ false → a ≡ false
 and_false false b h e = refl
 and_false true b h e = let bad : true ≡ false = sym h ∙ e in cc
 
-none_is : {X : Type 0} (xs : List X) → xs ≡ [] → is_none_of xs ≡ true
-none_is xs e = rw e refl
-
 reaches_not : (f : ℕ → ℕ) (front : List Entry) (now moment k : ℕ) (d : Option ℕ) (event : Event) (reply : Reply) → IsCallOf k d moment event reply → outcomes (acts f k front) ≡ [] → reaches_at f front now moment event reply ≡ false → reaches now d ≡ false
 reaches_not f front now moment k d (CallEvent request) (Named id) is none h =
-    ap (reaches now) is.1 ∙ and_false (reaches now (deadline_of moment request.timeout_nano)) (is_none_of (outcomes (acts f id front))) (none_is (outcomes (acts f id front)) (ap (λ (i : ℕ). outcomes (acts f i front)) is.0 ∙ none)) h
+    ap (reaches now) is.1 ∙ and_false (reaches now (deadline_of moment request.timeout_nano)) (is_none_of (outcomes (acts f id front))) (ap is_none_of (ap (λ (i : ℕ). outcomes (acts f i front)) is.0 ∙ none)) h
 reaches_not f front now moment k d event reply is none h = absurd is
 
 pub in_time : (f : ℕ → ℕ) (front : List Entry) (now moment k : ℕ) (d : Option ℕ) (es : List Entry) → HasCall k d moment es → outcomes (acts f k front) ≡ [] → reaches_one f front now moment es ≡ false → reaches now d ≡ false

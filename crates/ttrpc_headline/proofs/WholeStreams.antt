@@ -1,15 +1,15 @@
 -- A CLEAN QUIET RUN IS WHOLE, of streams: a receiver that is asked out was given all that was put in.
-use Rattle.ttrpc_headline.proofs.Cleanly.{fresh_run, IsCleanRun}
+use Rattle.ttrpc_headline.proofs.Cleanly.{fresh_run}
 use Rattle.ttrpc_headline.proofs.Emptied.{down_back, DownIdle, up_back, UpIdle}
 use Rattle.ttrpc_headline.proofs.Ending.{empty_at_end, none_down, none_up}
-use Rattle.ttrpc_headline.proofs.Headline.{fresh, keeps_all, Ruled, starts_ruled}
+use Rattle.ttrpc_headline.proofs.Headline.{begins, kept_at_end, Stands}
 use Rattle.ttrpc_headline.proofs.Jobs.{job_is, mailed}
 use Rattle.ttrpc_headline.proofs.Keeps.{Keeps}
 use Rattle.ttrpc_headline.proofs.Numbers.{AreRight, IsRightRun}
 use Rattle.ttrpc_headline.proofs.Since.{since_holds, Starts, Stays}
 use Rattle.ttrpc_headline.specs.Living.{IsEmpty}
 use Rattle.ttrpc_story.proofs.AllGiven.{all_given_down, all_given_up, given_by_end, given_still}
-use Rattle.ttrpc_story.proofs.Events.{in_order_here}
+use Rattle.ttrpc_story.proofs.Events.{in_order_here, only_of}
 use Rattle.ttrpc_story.proofs.Place.{Settings}
 use Rattle.ttrpc_story.proofs.Reading.{items_append}
 use Rattle.ttrpc_events.proofs.Traces.{said_then}
@@ -61,12 +61,13 @@ module _ {CO CI SO SI : Type 0} (c : Halves CO CI) (s : Halves SO SI) (seals : B
       let j = m.0 in
       let at = job_is jobs id j m.1 in
       let stream : j.header.stream_id ≡ k = sym (ap f (sym at.3) ∙ all_at (λ (x : ActiveJob). f x.id ≡ x.header.stream_id) at.0 at.1 j (subst (λ (js : List ActiveJob). AreRight f js) at.2 right)) ∙ own in
-      all_given_up (jobs_at at.0 k) (jobs_at at.1 k) j p.0 p.1 (i.stories k) (ap (λ js. jobs_at js k) at.2 ∙ between_own stream_id_of k at.0 at.1 j stream) m.2 p.3 (ap (parcels k) none)
+      let o = only_of (jobs_at at.0 k) (jobs_at at.1 k) j (i.stories k) (ap (λ js. jobs_at js k) at.2 ∙ between_own stream_id_of k at.0 at.1 j stream) in
+      all_given_up j p.0 p.1 o.so_far o.known o.only m.2 p.3 (ap (parcels k) none)
   found_up AsyncRules None t w id k new i right alive own none (inr p) = let bad = p.0.4 in cc
 
   found_down : (failure : Option Failure) (t : List Entry) (w : Net CO CI SO SI) (id k : ℕ) (st : Option Stream) → (i : Keeps c s set f t w) → failure ≡ None → id ≡ k → i.down ≡ [] → ReceivesAt failure (stream_at w.client.state id) None st
       → got (heard_down (flows f k t)) ≡ items (put_down set.rules set.limit (flows f k t))
-  found_down None t w id k st i alive own none p = all_given_down st (i.stories k) (subst (λ (n : ℕ). ReceivesAt None (stream_at w.client.state n) None st) own p) (ap (parcels k) none)
+  found_down None t w id k st i alive own none p = let n = i.stories k in all_given_down n.origin n.so_far (stream_at w.client.state k) st refl n.known (subst (λ (n : ℕ). ReceivesAt None (stream_at w.client.state n) None st) own p) (ap (parcels k) none)
   found_down (Some why) t w id k st i alive own none p = cc
 
   same_flows : (k : ℕ) (t : List Entry) (event : Event) (reply : Reply) → flow_of f k event reply ≡ [] → flows f k (with_entry t event reply) ≡ flows f k t
@@ -91,19 +92,17 @@ module _ {CO CI SO SI : Type 0} (c : Halves CO CI) (s : Halves SO SI) (seals : B
   -- ---- at the end
 
   -- EACH STREAM IS WHOLE at the end of a clean run where nothing is queued and nothing is in a pipe.
-  pub whole_stream : (w : Net CO CI SO SI) (trace : List Entry) (v : Net CO CI SO SI) → IsFresh c s w → Ruled c s seals still fixed set f w → (p : Runs c s seals w trace v) → IsRightRun c s seals f w trace v p → IsCleanRun c s seals set.rules f [] w trace v → IsEmpty v
-      → (k : ℕ) → IsWholeStream set.rules set.limit f k trace
-  whole_stream w trace v n u p right z e k =
-      let first = fresh c s seals still fixed set f w n in
-      let order = in_order_here ((keeps_all c s seals still fixed set f [] trace w v first u p right (λ clean. z)).stories k) in
+  pub whole_stream : (w : Net CO CI SO SI) (trace : List Entry) (v : Net CO CI SO SI) → set.clean → Stands c s seals still fixed set f [] w trace v → IsEmpty v → (k : ℕ) → IsWholeStream set.rules set.limit f k trace
+  whole_stream w trace v clean x e k =
+      let order = in_order_here ((kept_at_end c s seals still fixed set f [] trace w v x).stories k) in
       record {
         up = λ asked. elim asked [
           | inl end ↦ given_by_end order.up end
-          | inr since_ ↦ since_holds c s seals still fixed set f ServerSide (finds_nothing_up f k) (AllUp k) (up_stays k) (up_starts k) [] trace w v false first u p right z (λ h. cc) since_ (record { none_queued = e.up_queue; none_carried = e.up })
+          | inr since_ ↦ since_holds c s seals still fixed set f ServerSide (finds_nothing_up f k) (AllUp k) (up_stays k) (up_starts k) clean [] trace w v false x (λ h. cc) since_ (record { none_queued = e.up_queue; none_carried = e.up })
         ];
         down = λ asked. elim asked [
           | inl end ↦ given_by_end order.down end
-          | inr since_ ↦ since_holds c s seals still fixed set f ClientSide (finds_nothing_down k) (AllDown k) (down_stays k) (down_starts k) [] trace w v false first u p right z (λ h. cc) since_ (record { none_queued = e.down_queue; none_carried = e.down })
+          | inr since_ ↦ since_holds c s seals still fixed set f ClientSide (finds_nothing_down k) (AllDown k) (down_stays k) (down_starts k) clean [] trace w v false x (λ h. cc) since_ (record { none_queued = e.down_queue; none_carried = e.down })
         ];
       }
 
@@ -113,5 +112,5 @@ pub whole_streams : {CO CI SO SI : Type 0} (c : Halves CO CI) (s : Halves SO SI)
     (w v : Net CO CI SO SI) (trace : List Entry) (f : ℕ → ℕ) → IsFresh c s w → (r : Runs c s seals w trace v) → IsRightRun c s seals f w trace v r → AreWholeStreams w.server.state.rules (safe_limit s.out w.server.connection.outbox.half) f trace
 whole_streams c s seals still fixed w v trace f n r right clean quiet k =
     let set : Settings = record { rules = w.server.state.rules; services = w.server.state.services; limit = safe_limit s.out w.server.connection.outbox.half; clean = IsClean w.server.state.rules f trace } in
-    whole_stream c s seals still fixed set f w trace v n (starts_ruled c s seals still fixed set f w (refl, refl, refl) n) r right
-    (fresh_run c s seals set.rules f w trace v n clean quiet.drained r) (empty_at_end c s seals still fixed w v trace set.rules f n r clean quiet.drained) k
+    let x = begins c s seals still fixed set f w trace v (refl, refl, refl) n r right (λ z. fresh_run c s seals set.rules f w trace v n z quiet.drained r) in
+    whole_stream c s seals still fixed set f w trace v clean x (empty_at_end c s seals still fixed w v trace set.rules f n r clean quiet.drained) k

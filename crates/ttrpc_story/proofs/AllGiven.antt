@@ -1,6 +1,6 @@
 -- Where a receiver has nothing yet, and nothing is under way to it, it was given all that was put in. What was put in and
 -- never comes is a close at most, which is no item.
-use Rattle.ttrpc_story.proofs.Words.{[], ActiveJob, answer_of, ap, append-nil, false, got, heard_down, heard_up, inl, inr, is_stream, IsInOrder, items, length, List, Mail, map, None, Open, Option, put_down, put_up, Receiver, Receives, ReceivesAt, refl, Some, Stream, StreamBody, subst, sym, Thing, ThingItem, true, Word, ℕ, ◌++◌, ◌∙◌, ◌∷◌, ◌≡◌, arith, has_end, Fresh}
+use Rattle.ttrpc_story.proofs.Words.{[], ActiveJob, Body, Flying, answer_of, ap, append-nil, false, got, heard_down, heard_up, inl, inr, is_stream, IsInOrder, items, length, List, Mail, map, None, Open, Option, put_down, put_up, Receiver, Receives, ReceivesAt, refl, Some, Stream, StreamBody, subst, sym, Thing, ThingItem, true, Word, ℕ, ◌++◌, ◌∙◌, ◌∷◌, ◌≡◌, arith, has_end, Fresh}
 use Rattle.std.proofs.Common.{◌+◌, length-append}
 use Rattle.std.proofs.lemmas.List.{nil_from_length}
 use Rattle.ttrpc_story.proofs.Here.{Birth, Born, Here, jobs_of, Left, no_cons, Origin, Runs, Unborn, Waits, Work}
@@ -8,8 +8,7 @@ use Rattle.ttrpc_story.proofs.Reading.{got_append, items_append}
 use Rattle.ttrpc_story.proofs.Flowing.{Flowing, Follows}
 use Rattle.ttrpc_story.proofs.Upward.{box_of, thing_up}
 use Rattle.ttrpc_story.proofs.Downward.{box_down, thing_down, wants}
-use Rattle.ttrpc_story.proofs.Place.{Around, Known, Place}
-use Rattle.ttrpc_story.proofs.Events.{only_of}
+use Rattle.ttrpc_story.proofs.Place.{Around, Known}
 
 -- ---- one direction
 
@@ -29,45 +28,36 @@ no_items rest (inr close) = ap items close
 
 given_all : {put : List Thing} {told : List Word} {m : Mail} {flight : List Thing} → m.receiver ≡ Open → m.things ≡ [] → flight ≡ [] → Flowing put told m flight → got told ≡ items put
 given_all {m = m} {flight = flight} is_open empty none f =
-    let left : items f.rest ≡ [] = no_items f.rest (subst (λ (way : List Thing). Follows f.rest way) (ap (λ (xs : List Thing). xs ++ flight) empty ∙ none) (f.linked is_open)) in
-    sym f.reading.items_are ∙ sym (append-nil (items f.seen)) ∙ ap (λ ys. items f.seen ++ ys) (sym left) ∙ sym (ap items f.all ∙ items_append f.seen f.rest)
+    let c = f.cut in
+    let left : items c.rest ≡ [] = no_items c.rest (subst (λ (way : List Thing). Follows c.rest way) (ap (λ (xs : List Thing). xs ++ flight) empty ∙ none) (f.linked is_open)) in
+    sym c.reading.items_are ∙ sym (append-nil (items c.seen)) ∙ ap (λ ys. items c.seen ++ ys) (sym left) ∙ sym (ap items c.all ∙ items_append c.seen c.rest)
 
 -- ---- both ways of an id
 
-up_given : {w : Around} {k : ℕ} {h : Here} {b : Birth} (job : ActiveJob) (m left : Mail) (p : Work) → Known w k h (Born b) p → jobs_of p ≡ job ∷ [] → job.body ≡ StreamBody m → Receives None m None left → h.ups ≡ []
+boxed_given : {put : List Thing} {told : List Word} {ups : List Flying} (j : ActiveJob) (m left : Mail) → j.body ≡ StreamBody m → Receives None m None left → ups ≡ [] → Flowing put told (box_of j.body) (map thing_up ups) → got told ≡ items put
+boxed_given j m left is r none f =
+    let found = found_nothing m left r in
+    given_all (ap (λ (b : Body). (box_of b).receiver) is ∙ found.0) (ap (λ (b : Body). (box_of b).things) is ∙ found.1) (ap (map thing_up) none) f
+
+-- The server's receiver of the only job of this id has nothing yet.
+pub all_given_up : {w : Around} {k : ℕ} {h : Here} {b : Birth} (job : ActiveJob) (m left : Mail) (p : Work) → Known w k h (Born b) p → jobs_of p ≡ job ∷ [] → job.body ≡ StreamBody m → Receives None m None left → h.ups ≡ []
     → got (heard_up h.flows) ≡ items (put_up h.flows)
-up_given job m left (Waits j) n only is r none =
-    let same : j ≡ job = cc in
-    let box : box_of j.body ≡ m = ap (λ (x : ActiveJob). box_of x.body) same ∙ ap box_of is in
-    let found = found_nothing m left r in
-    given_all (ap (λ (x : Mail). x.receiver) box ∙ found.0) (ap (λ (x : Mail). x.things) box ∙ found.1) (ap (map thing_up) none) n.up.is.flowing
-up_given job m left (Runs j) n only is r none =
-    let same : j ≡ job = cc in
-    let box : box_of j.body ≡ m = ap (λ (x : ActiveJob). box_of x.body) same ∙ ap box_of is in
-    let found = found_nothing m left r in
-    given_all (ap (λ (x : Mail). x.receiver) box ∙ found.0) (ap (λ (x : Mail). x.things) box ∙ found.1) (ap (map thing_up) none) n.up.is.flowing
-up_given job m left (Left j response) n only is r none =
+all_given_up job m left (Waits j) n only is r none = let same : j ≡ job = cc in boxed_given j m left (ap ActiveJob.body same ∙ is) r none n.up.is.flowing
+all_given_up job m left (Runs j) n only is r none = let same : j ≡ job = cc in boxed_given j m left (ap ActiveJob.body same ∙ is) r none n.up.is.flowing
+all_given_up job m left (Left j response) n only is r none =
     let same : j ≡ job = cc in
     let bad : true ≡ false = sym (ap (λ (x : ActiveJob). is_stream x.body) same ∙ ap is_stream is) ∙ n.server.is_work.2 in
     cc
-up_given job m left p n only is r none = absurd (no_cons job [] (sym only))
-
--- The server's receiver of a job of this id has nothing yet.
-pub all_given_up : {w : Around} {k : ℕ} {h : Here} (front back : List ActiveJob) (job : ActiveJob) (m left : Mail) → Place w k h → h.jobs ≡ front ++ job ∷ back → job.body ≡ StreamBody m → Receives None m None left → h.ups ≡ []
-    → got (heard_up h.flows) ≡ items (put_up h.flows)
-all_given_up front back job m left s was is r none = let i = only_of front back job s was in up_given job m left i.so_far i.known i.only is r none
-
-down_given : {w : Around} {k : ℕ} {h : Here} (o : Origin) (p : Work) (st st2 : Option Stream) → h.stream ≡ st → Known w k h o p → ReceivesAt None st None st2 → h.downs ≡ []
-    → got (heard_down h.flows) ≡ items (put_down w.set.rules w.set.limit h.flows)
-down_given o p None st2 is n r none = let bad = r.0.2 in cc
-down_given Unborn p (Some s) st2 is n r none = let bad : Some s ≡ None = sym is ∙ n.client.1 in cc
-down_given {h = h} (Born b) p (Some s) st2 is n r none =
-    let found = found_nothing s.mailbox r.0 r.1 in
-    given_all (ap (λ (x : Option Stream). (box_down x).receiver) is ∙ found.0) (ap (λ (x : Option Stream). (box_down x).things) is ∙ found.1) (ap (map (thing_down (wants h.stream))) none) n.down.is.flowing
+all_given_up job m left p n only is r none = absurd (no_cons job [] (sym only))
 
 -- The client's has.
-pub all_given_down : {w : Around} {k : ℕ} {h : Here} (st2 : Option Stream) → Place w k h → ReceivesAt None h.stream None st2 → h.downs ≡ [] → got (heard_down h.flows) ≡ items (put_down w.set.rules w.set.limit h.flows)
-all_given_down {h = h} st2 s r none = down_given s.origin s.so_far h.stream st2 refl s.known r none
+pub all_given_down : {w : Around} {k : ℕ} {h : Here} (o : Origin) (p : Work) (st st2 : Option Stream) → h.stream ≡ st → Known w k h o p → ReceivesAt None st None st2 → h.downs ≡ []
+    → got (heard_down h.flows) ≡ items (put_down w.set.rules w.set.limit h.flows)
+all_given_down o p None st2 is n r none = let bad = r.0.2 in cc
+all_given_down Unborn p (Some s) st2 is n r none = let bad : Some s ≡ None = sym is ∙ n.client.1 in cc
+all_given_down {h = h} (Born b) p (Some s) st2 is n r none =
+    let found = found_nothing s.mailbox r.0 r.1 in
+    given_all (ap (λ (x : Option Stream). (box_down x).receiver) is ∙ found.0) (ap (λ (x : Option Stream). (box_down x).things) is ∙ found.1) (ap (map (thing_down (wants h.stream))) none) n.down.is.flowing
 
 -- ---- in order
 

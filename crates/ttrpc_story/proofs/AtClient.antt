@@ -35,14 +35,10 @@ AtClient (Born (ByOpen q up down)) a e st = (e ≡ None) × (outcomes a ≡ [])
 quiet : (a more : List Act) → outcomes more ≡ [] → outcomes (a ++ more) ≡ outcomes a
 quiet a more h = outcomes_append a more ∙ ap (λ xs. outcomes a ++ xs) h ∙ append-nil (outcomes a)
 
--- whole acts have an answer
-whole_answer : (q : Request) (a : List Act) (r : Response) → IsWhole q a r → IsAnswered q (work a) r
-whole_answer q a r h = (h.1.0, h.1.1, ap work h.1.2)
-
 grows_kept : (q : Request) (a more : List Act) (e : Option Call) → outcomes more ≡ [] → ((r : Response) → IsAnswered q (work a) r → ⊥) → Keeps q a e → Keeps q (a ++ more) e
 grows_kept q a more None h never (inl k) = inl (quiet a more h ∙ k)
 grows_kept q a more None h never (inr (inl k)) = inr (inl (k.0, quiet a more h ∙ k.1))
-grows_kept q a more None h never (inr (inr k)) = absurd (never k.0 (whole_answer q a k.0 k.1))
+grows_kept q a more None h never (inr (inr k)) = absurd (never k.0 (k.1.1.0, k.1.1.1, ap work k.1.1.2))
 grows_kept q a more (Some (Ended (Ok r))) h never k = absurd (never r k.1.1)
 grows_kept q a more (Some call) h never k = quiet a more h ∙ k
 
@@ -51,10 +47,6 @@ pub grows : (o : Origin) (a more : List Act) (e : Option Call) (st : Option Stre
 grows Unborn a more e st h never k = (k.0, k.1, quiet a more h ∙ k.2)
 grows (Born (ByCall q)) a more e st h never k = (grows_kept q a more e h never k.0, k.1)
 grows (Born (ByOpen q up down)) a more e st h never k = (k.0, quiet a more h ∙ k.1)
-
-first_quiet : (b : Birth) → outcomes (first_act b ∷ []) ≡ []
-first_quiet (ByCall request) = refl
-first_quiet (ByOpen request up down) = refl
 
 -- what is kept once the id is used: the call, which waits, or the stream alone
 abbrev pub IsBegun : Birth → Option Call → Option Stream → Type 0

@@ -137,17 +137,10 @@ goes_on items downs2 s are may hu down = record {
 }
 
 -- Before the work is over no frame ends a call well, so all stay right whatever the acts.
-kept_down : (k : ℕ) (o o2 : Origin) (a a2 : List Act) (over : Bool) (x : Flying) → IsDown k false o a x → IsDown k over o2 a2 x
-kept_down k o o2 a a2 over x d = record {
-  stream = d.stream;
-  outcome = d.outcome;
-  lands = d.lands;
-  answer = λ r e. let bad : false ≡ true = (d.answer r e).1.0 in cc;
-}
-
 kept_downs : (k : ℕ) (o o2 : Origin) (a a2 : List Act) (over : Bool) (d : List Flying) → AllByRecursion (IsDown k false o a) d → AllByRecursion (IsDown k over o2 a2) d
 kept_downs k o o2 a a2 over [] h = tt
-kept_downs k o o2 a a2 over (x ∷ d) h = (kept_down k o o2 a a2 over x h.0, kept_downs k o o2 a a2 over d h.1)
+kept_downs k o o2 a a2 over (x ∷ d) h =
+    (record { stream = h.0.stream; outcome = h.0.outcome; lands = h.0.lands; answer = λ r e. let bad : false ≡ true = (h.0.answer r e).1.0 in cc }, kept_downs k o o2 a a2 over d h.1)
 
 -- THE TURN of work that isn't over, by acts and by what goes down with it.
 pub moves : {rules : Rules} {had had2 : ℕ → Bool} {k : ℕ} {o o2 : Origin} {p q : Work} {works works2 : List Act} {ups downs ups2 downs2 : List Flying} {jobs jobs2 : List ActiveJob} (more : List Act) (items down : List Flying) → AtServer rules had k o p works ups jobs downs → is_over p ≡ false
@@ -168,12 +161,10 @@ moves {k = k} {o = o} {o2 = o2} {p = p} {q = q} {downs = downs} more items down 
     }
 
 -- what goes down stays right once the work is over
-done_down : (k : ℕ) (over : Bool) (o : Origin) (a : List Act) (x : Flying) → IsDown k over o a x → IsDown k true o a x
-done_down k over o a x d = record { stream = d.stream; outcome = d.outcome; lands = d.lands; answer = λ r e. let y = d.answer r e in (y.0, (refl, y.1.1)) }
-
 done_downs : (k : ℕ) (over : Bool) (o : Origin) (a : List Act) (d : List Flying) → AllByRecursion (IsDown k over o a) d → AllByRecursion (IsDown k true o a) d
 done_downs k over o a [] h = tt
-done_downs k over o a (x ∷ d) h = (done_down k over o a x h.0, done_downs k over o a d h.1)
+done_downs k over o a (x ∷ d) h =
+    (record { stream = h.0.stream; outcome = h.0.outcome; lands = h.0.lands; answer = λ r e. let y = h.0.answer r e in (y.0, (refl, y.1.1)) }, done_downs k over o a d h.1)
 
 -- the work so far is one name and at most one run
 pub is_done : (rules : Rules) (had : ℕ → Bool) (k : ℕ) (b : Birth) (p : Work) → IsWork rules had k (Born b) p → IsDone b (works_of (Born b) p)

@@ -1,7 +1,7 @@
 -- What each event does to one id: to a job of it, at the client, and to the items of both receivers.
 use Rattle.ttrpc_story.proofs.Words.{[], Act, Call, ActiveJob, all_joined, AllByRecursion, Answered, ap, append-nil, append_assoc, AreInOrder, arith, asked_by, Bool, calls, closed, Dropped, EndedDown, ending_thing, Err, Error, expired_at, Failure, false, Flow, Flying, gave_of, Gives, GivesOutcome, heard_down, heard_up, HeardDown, HeardUp, is_entered, is_some, is_stream, IsExactlyOnce, LandsOn, last_id, left_of, length, List, Mail, map, None, Ok, OpenedPayload, Option, outcomes, put_down, put_up, Ran, Reaches, Receiver, Receives, ReceivesAt, refl, Request, Response, Result, Rules, Sender, SenderDropped, SentDown, Some, StaysFound, Stream, StreamBody, subst, sym, SyncRules, taken, Thing, ThingEnd, ThingItem, ThingLast, told_of, true, unless_dropped, unless_unheard, unsendable, without_reader, without_receiver, without_sender, Word, words_of, work, work_append, ℕ, ◌++◌, ◌∙◌, ◌∷◌, ◌≡◌, ◌≤◌, SentUp, ClosedUp, inl, heard_down_append, heard_up_append, put_down_append, put_up_append}
 use Rattle.ttrpc_story.proofs.Here.{answered_work, Asking, Birth, Born, ByCall, ByOpen, first_act, Here, IsAnswer, jobs_of, Left, never_empty, no_cons, only_one, Origin, Over, request_of, Runs, Unborn, ups_of, Waits, Work, works_of}
-use Rattle.ttrpc_story.proofs.AtServer.{AreItems, AtServer, goes_on, is_over, IsDown, IsItem, IsNever, mapped, never_down, one_name, one_run, one_up, uncalled}
+use Rattle.ttrpc_story.proofs.AtServer.{AtServer, goes_on, is_over, IsDown, IsItem, IsNever, mapped, never_down, one_name, one_run, one_up, uncalled}
 use Rattle.ttrpc_story.proofs.AtClient.{whole_given}
 use Rattle.ttrpc_story.proofs.Reading.{closed_item, IsPlain}
 use Rattle.ttrpc_story.proofs.Flowing.{Follows, IsPlainFailure}
@@ -190,10 +190,6 @@ reached_sender old new false x r = ap unsendable r
 reached_sender None new true x r = ap unsendable r
 reached_sender (Some s) new true x r = ap unsendable r.3
 
--- and no stream is made
-reached_none : (old new : Option Stream) (x : Flying) → Reaches (is_entered old) x.frame.message.header (OpenedPayload x.plain) old new → old ≡ None → new ≡ None
-reached_none old new x r none = subst (λ (z : Option Stream). Reaches (is_entered z) x.frame.message.header (OpenedPayload x.plain) z new) none r
-
 -- It lands. A call that was forgotten stays so.
 pub lands_here : {w : Around} {k : ℕ} {h : Here} {e : Option Call} {st : Option Stream} (x : Flying) (d : List Flying) → (s : Place w k h) → (was : h.downs ≡ x ∷ d) → LandsOn (Gives (down_of x d s was).outcome) h.call e
     → Reaches (is_entered h.stream) x.frame.message.header (OpenedPayload x.plain) h.stream st → Place w k (record h { downs = d; call = e; stream = st })
@@ -203,7 +199,7 @@ lands_here {w} {k} {h} {e} {st} x d s was on reaches =
     let left = (subst (λ (ds : List Flying). AllByRecursion (IsDown k (is_over s.so_far) s.origin (works_of s.origin s.so_far)) ds) was n.server.down).1 in
     turned n (goes_on n.server.items d n.server n.server.are_items n.server.may_have n.server.ups_is left)
     (client.lands s.origin h.acts down.outcome h.call e h.stream st
-    (λ r is. let y = down.answer r is in (y.0, subst (λ (a : List Act). IsAnswer s.origin a r) (sym n.server.works_is) y.1.1)) on (reached_none h.stream st x reaches) n.client)
+    (λ r is. let y = down.answer r is in (y.0, subst (λ (a : List Act). IsAnswer s.origin a r) (sym n.server.works_is) y.1.1)) on (λ none. subst (λ (z : Option Stream). Reaches (is_entered z) x.frame.message.header (OpenedPayload x.plain) z st) none reaches) n.client)
     (upward.stays st (λ is. sym (reached_sender h.stream st (is_entered h.stream) x reaches) ∙ is) n.up) (downward.comes x was reaches n.down)
     (λ clean. landed_tidy w.set s.origin s.so_far h.acts h.call e x h.downs d was (subst (λ g. LandsOn g h.call e) (sym down.lands) on) (n.tidy clean))
 
@@ -240,9 +236,6 @@ unborn_none : {w : Around} {k : ℕ} {h : Here} (o : Origin) (p : Work) → Know
 unborn_none Unborn p n e = n.client.1
 unborn_none (Born b) p n e = cc
 
-told_none : (failure : Option Failure) (old : Option Stream) (given : Option Word) (new : Option Stream) → ReceivesAt failure old given new → old ≡ None → new ≡ None
-told_none failure old given new h none = (subst (λ (x : Option Stream). ReceivesAt failure x given new) none h).1
-
 told_sender : (failure : Option Failure) (given : Option Word) (new old : Option Stream) → ReceivesAt failure old given new → unsendable new ≡ unsendable old
 told_sender failure given new None h = ap unsendable h.1
 told_sender failure given new (Some s) h = ap unsendable h.2
@@ -256,7 +249,7 @@ pub hears_here : {w : Around} {k : ℕ} {h : Here} {st : Option Stream} (failure
 hears_here {w} {h = h} {st} failure given s plain r =
     let more = told_of HeardDown given in
     let t = told_says w.set given in
-    streams_here s (told_none failure h.stream given st r)
+    streams_here s (λ none. (subst (λ (x : Option Stream). ReceivesAt failure x given st) none r).1)
     (up_as (flows_stay put_up put_up_append h.flows more t.0) (flows_stay heard_up heard_up_append h.flows more t.1) (upward.stays st (λ e. sym (told_sender failure given st h.stream r) ∙ e) s.known.up))
     (down_as (flows_stay (put_down w.set.rules w.set.limit) (put_down_append w.set.rules w.set.limit) h.flows more t.2) (flows_grow heard_down heard_down_append h.flows more (words_of given) t.3)
     (downward.hears h.stream failure given (unborn_none s.origin s.so_far s.known) plain r s.known.down))
@@ -295,11 +288,6 @@ up_told_says : (set : Settings) (given : Option Word) → (put_up (told_of Heard
 up_told_says set None = (refl, refl, refl, refl)
 up_told_says set (Some word) = (refl, refl, refl, refl)
 
-unary_left : {w : Around} {k : ℕ} {h : Here} {b : Birth} (job : ActiveJob) (p : Work) → Known w k h (Born b) p → jobs_of p ≡ job ∷ [] → is_stream job.body ≡ true → (i : ActiveJob) (response : Response) → p ≡ Left i response → ⊥
-unary_left job p n only stream i response is =
-    let bad : true ≡ false = sym (ap is_over is) ∙ stream_goes_on job p n only stream in
-    cc
-
 -- The server's receiver is told something.
 pub hears_up_here : {w : Around} {k : ℕ} {h : Here} (g : ActiveJob → ActiveJob) → StaysFound g → (front back : List ActiveJob) (job : ActiveJob) (failure : Option Failure) (m left : Mail) (given : Option Word) → Place w k h → h.jobs ≡ front ++ job ∷ back
     → job.body ≡ StreamBody m → (g job).body ≡ StreamBody left → IsPlainFailure failure → Receives failure m given left → Place w k (record h { flows = h.flows ++ told_of HeardUp given; jobs = map g h.jobs })
@@ -308,9 +296,10 @@ hears_up_here {w} {h = h} g found front back job failure m left given s was is n
     let more = told_of HeardUp given in
     let t = up_told_says w.set given in
     let streams = ap is_stream is in
+    let goes = stream_goes_on job i.so_far i.known i.only streams in
     maps_here g found i.known
-    (up_as (flows_stay put_up put_up_append h.flows more t.0) (flows_grow heard_up heard_up_append h.flows more (words_of given) t.1) (upward.hears g found i.so_far job failure m left given i.only (unary_left job i.so_far i.known i.only streams) is now plain r i.known.up))
-    (λ clean. stream_tidy w.set i.b i.so_far (mapped g i.so_far) job h.acts h.downs h.downs h.call i.only (stream_goes_on job i.so_far i.known i.only streams) streams (i.known.tidy clean))
+    (up_as (flows_stay put_up put_up_append h.flows more t.0) (flows_grow heard_up heard_up_append h.flows more (words_of given) t.1) (upward.hears g found i.so_far job failure m left given i.only (λ j response last. let bad : true ≡ false = sym (ap is_over last) ∙ goes in cc) is now plain r i.known.up))
+    (λ clean. stream_tidy w.set i.b i.so_far (mapped g i.so_far) job h.acts h.downs h.downs h.call i.only goes streams (i.known.tidy clean))
     (flows_stay (put_down w.set.rules w.set.limit) (put_down_append w.set.rules w.set.limit) h.flows more t.2) (flows_stay heard_down heard_down_append h.flows more t.3)
 
 -- It is told an error, and nothing else changes.
@@ -327,15 +316,9 @@ unheard_up_here g found deaf s never = maps_here g found s.known (upward.unheard
 -- ---- data are sent by the client
 
 -- the id of a stream is one
-within_by : {w : Around} {k : ℕ} {h : Here} (o : Origin) (p : Work) → Known w k h o p → (h.stream ≡ None → ⊥) → k ≤ last_id
-within_by Unborn p n some = absurd (some n.client.1)
-within_by (Born b) p n some = n.server.within
-
-pub stream_within : {w : Around} {k : ℕ} {h : Here} → Place w k h → (h.stream ≡ None → ⊥) → k ≤ last_id
-stream_within s some = within_by s.origin s.so_far s.known some
-
-more_items : {k : ℕ} {y : Flying} (items : List Flying) → AreItems k items → IsItem k y → AreItems k (items ++ y ∷ [])
-more_items {k} {y} items are is = all_joined (IsItem k) items (y ∷ []) are (is, tt)
+pub stream_within : {w : Around} {k : ℕ} {h : Here} (o : Origin) (p : Work) → Known w k h o p → (h.stream ≡ None → ⊥) → k ≤ last_id
+stream_within Unborn p n some = absurd (some n.client.1)
+stream_within (Born b) p n some = n.server.within
 
 -- what happened puts this in upwards, and is nothing else
 pub record IsPut (x : Flow) (thing : Thing) : Type 0 where
@@ -361,21 +344,18 @@ closed_behind (ThingLast bytes ∷ put) x a b = cc
 closed_behind (ThingEnd ∷ put) x a b = cc
 closed_behind (y ∷ put) x a b = closed_behind put x a b
 
-sends_by : {w : Around} {k : ℕ} {h : Here} {st : Option Stream} (x : Flow) (thing : Thing) (y : Flying) (o : Origin) (p : Work) → Known w k h o p → (h.stream ≡ None → ⊥) → IsItem k y → IsPut x thing → thing_up y ≡ thing → unsendable h.stream ≡ None → GoesOn thing st
+-- The client sends data on its stream.
+pub sends_here : {w : Around} {k : ℕ} {h : Here} {st : Option Stream} (x : Flow) (thing : Thing) (y : Flying) (o : Origin) (p : Work) → Known w k h o p → (h.stream ≡ None → ⊥) → IsItem k y → IsPut x thing → thing_up y ≡ thing → unsendable h.stream ≡ None → GoesOn thing st
     → box_down st ≡ box_down h.stream → wants st ≡ wants h.stream → Place w k (record h { flows = h.flows ++ x ∷ []; ups = h.ups ++ y ∷ []; stream = st })
-sends_by x thing y Unborn p n some is put comes may on box wanted = absurd (some n.client.1)
-sends_by x thing y (Born (ByCall q)) p n some is put comes may on box wanted = absurd (some n.client.1)
-sends_by {w} {h = h} {st} x thing y (Born (ByOpen q up down)) p n some is put comes may on box wanted =
+sends_here x thing y Unborn p n some is put comes may on box wanted = absurd (some n.client.1)
+sends_here x thing y (Born (ByCall q)) p n some is put comes may on box wanted = absurd (some n.client.1)
+sends_here {w} {k} {h} {st} x thing y (Born (ByOpen q up down)) p n some is put comes may on box wanted =
     let m = n.server in
     let more : List Flow = x ∷ [] in
-    turned n (goes_on (m.items ++ y ∷ []) h.downs m (more_items m.items m.are_items is) tt (ap (λ (xs : List Flying). xs ++ y ∷ []) m.ups_is ∙ append_assoc (ups_of p) m.items (y ∷ [])) m.down) n.client
+    turned n (goes_on (m.items ++ y ∷ []) h.downs m (all_joined (IsItem k) m.items (y ∷ []) m.are_items (is, tt)) tt (ap (λ (xs : List Flying). xs ++ y ∷ []) m.ups_is ∙ append_assoc (ups_of p) m.items (y ∷ [])) m.down) n.client
     (up_as (flows_grow put_up put_up_append h.flows more (thing ∷ []) put.puts) (flows_stay heard_up heard_up_append h.flows more put.tells)
     (upward.sends thing y m.items comes put.follows m.ups_is may (λ e. closed_behind (put_up h.flows) thing (n.up.is.unclosed may) (on e)) n.up))
     (down_as (flows_stay (put_down w.set.rules w.set.limit) (put_down_append w.set.rules w.set.limit) h.flows more (put.ends w.set.rules w.set.limit)) (flows_stay heard_down heard_down_append h.flows more put.told) (downward.stays p st (λ e. e) box wanted n.down)) (λ clean. tt)
-
-pub sends_here : {w : Around} {k : ℕ} {h : Here} {st : Option Stream} (x : Flow) (thing : Thing) (y : Flying) → Place w k h → (h.stream ≡ None → ⊥) → IsItem k y → IsPut x thing → thing_up y ≡ thing → unsendable h.stream ≡ None → GoesOn thing st
-    → box_down st ≡ box_down h.stream → wants st ≡ wants h.stream → Place w k (record h { flows = h.flows ++ x ∷ []; ups = h.ups ++ y ∷ []; stream = st })
-sends_here x thing y s = sends_by x thing y s.origin s.so_far s.known
 
 -- ---- the headline
 
@@ -397,11 +377,8 @@ exactly_once {h = h} s = record {
 pub in_order_here : {w : Around} {k : ℕ} {h : Here} → Place w k h → AreInOrder w.set.rules w.set.limit h.flows
 in_order_here s = record { up = up_order s.known.up; down = down_order s.known.down }
 
-one_by : {w : Around} {k : ℕ} {h : Here} (o : Origin) (p : Work) → Known w k h o p → (h.call ≡ None → ⊥) → length h.ups ≤ 1
-one_by Unborn p n some = absurd (some n.client.0)
-one_by (Born (ByCall q)) p n some = one_up n.server
-one_by (Born (ByOpen q up down)) p n some = absurd (some n.client.0)
-
 -- of a call that is kept at most one request is in flight
-pub one_request : {w : Around} {k : ℕ} {h : Here} → Place w k h → (h.call ≡ None → ⊥) → length h.ups ≤ 1
-one_request s some = one_by s.origin s.so_far s.known some
+pub one_request : {w : Around} {k : ℕ} {h : Here} (o : Origin) (p : Work) → Known w k h o p → (h.call ≡ None → ⊥) → length h.ups ≤ 1
+one_request (Born (ByCall q)) p n some = one_up n.server
+one_request Unborn p n some = absurd (some n.client.0)
+one_request (Born (ByOpen q up down)) p n some = absurd (some n.client.0)

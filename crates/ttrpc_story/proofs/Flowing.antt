@@ -1,7 +1,7 @@
 -- One direction of one call or stream, either way, over the table of a mailbox: what was put in and not seen follows what waits
 -- in the mailbox and then what is under way, up to the first thing that closes. No ids, no frames and no jobs.
 use Rattle.ttrpc_story.proofs.Words.{[], AllByRecursion, answer_by, answer_of, ap, append-nil, append_assoc, Bool, broken, Broken, Closed, closed, Dropped, empty_mail, Eof, Err, Error, error_of, Failure, false, inl, inr, IsInOrder, items, kept_for, left_at, List, Mail, MemoryRefused, None, Ok, Open, Option, past_error, Receiver, Receives, refl, Some, subst, sym, Thing, ThingBreaking, ThingClosing, ThingEnd, ThingItem, ThingLast, true, with_thing, Word, words_of, ℕ, ◌++◌, ◌||◌, ◌∙◌, ◌∷◌, ◌≡◌, ◌⊎◌}
-use Rattle.ttrpc_story.proofs.Reading.{closed_front, closed_item, closed_rest, either, IsPlain, items_append, Reading, reads_close, reads_error, reads_item, reads_last, reads_on, reads_stop}
+use Rattle.ttrpc_story.proofs.Reading.{closed_front, closed_item, closed_rest, either, IsPlain, items_append, Reading, reads_error, reads_item, reads_last, reads_on, reads_stop}
 
 -- behind this nothing comes
 abbrev pub closes : Thing → Bool
@@ -27,27 +27,33 @@ Follows rest (ThingBreaking error ∷ way) = IsPlain error
 abbrev pub IsTurning : Thing → Type 0
 IsTurning x = (rest way : List Thing) → Follows rest (x ∷ way)
 
--- THE INVARIANT OF ONE DIRECTION. Only a receiver that is open is tied to its mailbox and to what is under way.
-pub record Flowing (put : List Thing) (told : List Word) (m : Mail) (flight : List Thing) : Type 0 where
+-- what was put in is cut in two: what was seen, and what wasn't
+pub record Cut (put : List Thing) (told : List Word) (receiver : Receiver) : Type 0 where
   pub seen : List Thing
   pub rest : List Thing
   pub all : put ≡ seen ++ rest
-  pub reading : Reading seen told m.receiver
+  pub reading : Reading seen told receiver
   pub past : closed seen ≡ true → rest ≡ []
-  pub linked : m.receiver ≡ Open → Follows rest (m.things ++ flight)
+
+-- THE INVARIANT OF ONE DIRECTION. Only a receiver that is open is tied to its mailbox and to what is under way.
+pub record Flowing (put : List Thing) (told : List Word) (m : Mail) (flight : List Thing) : Type 0 where
+  pub cut : Cut put told m.receiver
+  pub linked : m.receiver ≡ Open → Follows cut.rest (m.things ++ flight)
   pub full : m.receiver ≡ Open → m.ended ≡ true → has_closing m.things ≡ true
 
 -- ITEMS IN ORDER
 pub in_order : {put : List Thing} {told : List Word} {m : Mail} {flight : List Thing} → Flowing put told m flight → IsInOrder put told
-in_order f = record {
-  rest = items f.rest;
-  beginning = ap items f.all ∙ items_append f.seen f.rest ∙ ap (λ xs. xs ++ items f.rest) f.reading.items_are;
-  whole = λ h. let done = f.reading.ends_are h in (ap items (f.past done), ap closed f.all ∙ closed_front f.seen f.rest done);
-}
+in_order f =
+    let c = f.cut in
+    record {
+      rest = items c.rest;
+      beginning = ap items c.all ∙ items_append c.seen c.rest ∙ ap (λ xs. xs ++ items c.rest) c.reading.items_are;
+      whole = λ h. let done = c.reading.ends_are h in (ap items (c.past done), ap closed c.all ∙ closed_front c.seen c.rest done);
+    }
 
 -- nothing was put in, and errors alone were told
 pub begins : {told : List Word} → Reading [] told Open → Flowing [] told empty_mail []
-begins r = record { seen = []; rest = []; all = refl; reading = r; past = λ e. refl; linked = λ o. inl refl; full = λ o e. cc }
+begins r = record { cut = record { seen = []; rest = []; all = refl; reading = r; past = λ e. refl }; linked = λ o. inl refl; full = λ o e. cc }
 
 -- ---- something is put in
 
@@ -59,21 +65,21 @@ follows_more rest (ThingLast b ∷ way) more x s c h = let bad : true ≡ false 
 follows_more rest (ThingEnd ∷ way) more x s c h = let bad : true ≡ false = sym (ap closed h) ∙ c in cc
 follows_more rest (y ∷ way) more x s c h = h
 
--- behind what is seen and closed nothing was put in, and nothing is where it isn't closed
-past_more : (seen rest : List Thing) (x : Thing) → closed (seen ++ rest) ≡ false → closed seen ≡ true → rest ++ x ∷ [] ≡ []
-past_more seen rest x c e = let bad : true ≡ false = sym (closed_front seen rest e) ∙ c in cc
-
 -- It goes as this: as itself, as an error, or not at all if it is the close.
 pub puts : {put : List Thing} {told : List Word} {m : Mail} {flight : List Thing} (x : Thing) (more : List Thing) → Follows (x ∷ []) more → closed put ≡ false → Flowing put told m flight → Flowing (put ++ x ∷ []) told m (flight ++ more)
 puts {m = m} {flight = flight} x more s c f =
-    let unclosed : closed (f.seen ++ f.rest) ≡ false = sym (ap closed f.all) ∙ c in
+    let seen = f.cut.seen in
+    let rest = f.cut.rest in
+    let unclosed : closed (seen ++ rest) ≡ false = sym (ap closed f.cut.all) ∙ c in
     record {
-      seen = f.seen;
-      rest = f.rest ++ x ∷ [];
-      all = ap (λ xs. xs ++ x ∷ []) f.all ∙ append_assoc f.seen f.rest (x ∷ []);
-      reading = f.reading;
-      past = past_more f.seen f.rest x unclosed;
-      linked = λ o. subst (λ (w : List Thing). Follows (f.rest ++ x ∷ []) w) (append_assoc m.things flight more) (follows_more f.rest (m.things ++ flight) more x s (closed_rest f.seen f.rest unclosed) (f.linked o));
+      cut = record {
+        seen = seen;
+        rest = rest ++ x ∷ [];
+        all = ap (λ xs. xs ++ x ∷ []) f.cut.all ∙ append_assoc seen rest (x ∷ []);
+        reading = f.cut.reading;
+        past = λ e. let bad : true ≡ false = sym (closed_front seen rest e) ∙ unclosed in cc;
+      };
+      linked = λ o. subst (λ (w : List Thing). Follows (rest ++ x ∷ []) w) (append_assoc m.things flight more) (follows_more rest (m.things ++ flight) more x s (closed_rest seen rest unclosed) (f.linked o));
       full = f.full;
     }
 
@@ -86,16 +92,10 @@ follows_cut rest (ThingItem b ∷ xs) way way2 x n h = (h.0, h.1, follows_cut h.
 follows_cut rest (y ∷ xs) way way2 x n h = h
 
 turns_one : {put : List Thing} {told : List Word} {m : Mail} {flight : List Thing} (x : Thing) → IsTurning x → Flowing put told m flight → Flowing put told m (flight ++ x ∷ [])
-turns_one {m = m} {flight = flight} x n f = record {
-  seen = f.seen;
-  rest = f.rest;
-  all = f.all;
-  reading = f.reading;
-  past = f.past;
-  full = f.full;
-  linked = λ o. subst (λ (w : List Thing). Follows f.rest w) (append_assoc m.things flight (x ∷ []))
-      (follows_cut f.rest (m.things ++ flight) [] [] x n (subst (λ (w : List Thing). Follows f.rest w) (sym (append-nil (m.things ++ flight))) (f.linked o)));
-}
+turns_one {m = m} {flight = flight} x n f =
+    let rest = f.cut.rest in
+    let cut_in = λ (o : m.receiver ≡ Open). follows_cut rest (m.things ++ flight) [] [] x n (subst (λ (w : List Thing). Follows rest w) (sym (append-nil (m.things ++ flight))) (f.linked o)) in
+    record { cut = f.cut; full = f.full; linked = λ o. subst (λ (w : List Thing). Follows rest w) (append_assoc m.things flight (x ∷ [])) (cut_in o) }
 
 -- Errors are under way, behind all else.
 pub turns : {put : List Thing} {told : List Word} {m : Mail} {flight : List Thing} (xs : List Thing) → AllByRecursion IsTurning xs → Flowing put told m flight → Flowing put told m (flight ++ xs)
@@ -126,14 +126,11 @@ follows_as rest xs way x y (inr n) h = follows_cut rest xs (x ∷ way) way y n h
 pub lands : {put : List Thing} {told : List Word} {m : Mail} {flight : List Thing} (x y : Thing) (ends : Bool) → ComesAs x y → (ends ≡ true → closes y ≡ true) → Flowing put told m (x ∷ flight) → Flowing put told (with_thing m y ends) flight
 lands {m = m} {flight = flight} x y ends as_is last f =
     let kept : m.receiver ≡ Open → kept_for m.receiver m.things y ≡ m.things ++ y ∷ [] = λ o. ap (λ r. kept_for r m.things y) o in
+    let rest = f.cut.rest in
     record {
-      seen = f.seen;
-      rest = f.rest;
-      all = f.all;
-      reading = f.reading;
-      past = f.past;
-      linked = λ o. subst (λ (w : List Thing). Follows f.rest (w ++ flight)) (sym (kept o))
-          (subst (λ (w : List Thing). Follows f.rest w) (sym (append_assoc m.things (y ∷ []) flight)) (follows_as f.rest m.things flight x y as_is (f.linked o)));
+      cut = f.cut;
+      linked = λ o. subst (λ (w : List Thing). Follows rest (w ++ flight)) (sym (kept o))
+          (subst (λ (w : List Thing). Follows rest w) (sym (append_assoc m.things (y ∷ []) flight)) (follows_as rest m.things flight x y as_is (f.linked o)));
       full = λ o e. ap has_closing (kept o) ∙ either m.ended ends (has_closing (m.things ++ y ∷ []) ≡ true) (λ b. closing_more m.things y (f.full o b)) (λ b. closing_last m.things y (last b)) e;
     }
 
@@ -145,70 +142,54 @@ follows_past rest (x ∷ xs) way way2 e h = h
 
 -- Or it is passed over: a mailbox whose receiver is open has ended then.
 pub loses : {put : List Thing} {told : List Word} {m : Mail} {flight : List Thing} (x : Thing) → (m.receiver ≡ Open → m.ended ≡ true) → Flowing put told m (x ∷ flight) → Flowing put told m flight
-loses {m = m} {flight = flight} x n f = record {
-  seen = f.seen;
-  rest = f.rest;
-  all = f.all;
-  reading = f.reading;
-  past = f.past;
-  full = f.full;
-  linked = λ o. follows_past f.rest m.things (x ∷ flight) flight (f.full o (n o)) (f.linked o);
-}
+loses {m = m} {flight = flight} x n f = record { cut = f.cut; full = f.full; linked = λ o. follows_past f.cut.rest m.things (x ∷ flight) flight (f.full o (n o)) (f.linked o) }
+
+-- what was told changes, or who is told, and nothing more is seen
+abbrev reads_so : {put : List Thing} {told told2 : List Word} {receiver receiver2 : Receiver} → (c : Cut put told receiver) → Reading c.seen told2 receiver2 → Cut put told2 receiver2
+reads_so c r = record { seen = c.seen; rest = c.rest; all = c.all; reading = r; past = c.past }
 
 -- The receiver is dropped, and anything may be under way.
 pub drops : {put : List Thing} {told : List Word} {m : Mail} {flight : List Thing} (m2 : Mail) (flight2 : List Thing) → m2.receiver ≡ Dropped → Flowing put told m flight → Flowing put told m2 flight2
 drops m2 flight2 gone f =
     let shut : m2.receiver ≡ Open → ⊥ = λ o. let bad : Open ≡ Dropped = sym o ∙ gone in cc in
-    record {
-      seen = f.seen;
-      rest = f.rest;
-      all = f.all;
-      reading = reads_on m2.receiver (λ e. let bad : Closed ≡ Dropped = sym e ∙ gone in cc) f.reading;
-      past = f.past;
-      linked = λ o. absurd (shut o);
-      full = λ o. absurd (shut o);
-    }
+    let reading = reads_on m2.receiver (λ e. let bad : Closed ≡ Dropped = sym e ∙ gone in cc) f.cut.reading in
+    record { cut = reads_so f.cut reading; linked = λ o. absurd (shut o); full = λ o. absurd (shut o) }
 
 -- ---- the receiver is told something
 
 -- An error is told that is no end, and the mailbox stays.
 pub aside : {put : List Thing} {told : List Word} {m : Mail} {flight : List Thing} (e : Error) → IsPlain e → Flowing put told m flight → Flowing put (told ++ Err e ∷ []) m flight
-aside e plain f = record { seen = f.seen; rest = f.rest; all = f.all; reading = reads_error e plain f.reading; past = f.past; linked = f.linked; full = f.full }
+aside e plain f = record { cut = reads_so f.cut (reads_error e plain f.cut.reading); linked = f.linked; full = f.full }
 
 -- and the receiver isn't open any more
 fails : {put : List Thing} {told : List Word} {m : Mail} {flight : List Thing} (m2 : Mail) (e : Error) → IsPlain e → (m2.receiver ≡ Open → ⊥) → Flowing put told m flight → Flowing put (told ++ Err e ∷ []) m2 flight
-fails m2 e plain shut f = record { seen = f.seen; rest = f.rest; all = f.all; reading = reads_error e plain f.reading; past = f.past; linked = λ o. absurd (shut o); full = λ o. absurd (shut o) }
+fails m2 e plain shut f = record { cut = reads_so f.cut (reads_error e plain f.cut.reading); linked = λ o. absurd (shut o); full = λ o. absurd (shut o) }
 
 abbrev pub mail : Receiver → List Thing → Bool → Mail
 mail receiver things ended = record { things = things; receiver = receiver; ended = ended }
 
-item_past : (seen rest more : List Thing) (b : List ℕ) → rest ≡ ThingItem b ∷ more → (closed seen ≡ true → rest ≡ []) → closed (seen ++ ThingItem b ∷ []) ≡ true → more ≡ []
-item_past seen rest more b l past e = let bad : ThingItem b ∷ more ≡ [] = sym l ∙ past (sym (closed_item seen b) ∙ e) in cc
-
 sees_item : {put : List Thing} {told : List Word} {flight : List Thing} (b : List ℕ) (xs : List Thing) (ended : Bool) → Flowing put told (mail Open (ThingItem b ∷ xs) ended) flight → Flowing put (told ++ Ok b ∷ []) (mail Open xs ended) flight
 sees_item b xs ended f =
     let l = f.linked refl in
+    let c = f.cut in
     record {
-      seen = f.seen ++ ThingItem b ∷ [];
-      rest = l.0;
-      all = f.all ∙ ap (λ zs. f.seen ++ zs) l.1 ∙ sym (append_assoc f.seen (ThingItem b ∷ []) l.0);
-      reading = reads_item b f.reading;
-      past = item_past f.seen f.rest l.0 b l.1 f.past;
+      cut = record {
+        seen = c.seen ++ ThingItem b ∷ [];
+        rest = l.0;
+        all = c.all ∙ ap (λ zs. c.seen ++ zs) l.1 ∙ sym (append_assoc c.seen (ThingItem b ∷ []) l.0);
+        reading = reads_item b c.reading;
+        past = λ e. let bad : ThingItem b ∷ l.0 ≡ [] = sym l.1 ∙ c.past (sym (closed_item c.seen b) ∙ e) in cc;
+      };
       linked = λ o. l.2;
       full = λ o e. f.full refl e;
     }
 
 sees_last : {put : List Thing} {told : List Word} {m : Mail} {flight : List Thing} (x : Thing) (w : Word) (ended : Bool) → ((seen : List Thing) → Reading seen told m.receiver → Reading (seen ++ x ∷ []) (told ++ w ∷ []) Closed)
-    → (f : Flowing put told m flight) → f.rest ≡ x ∷ [] → Flowing put (told ++ w ∷ []) (mail Closed [] ended) flight
-sees_last x w ended reads f l = record {
-  seen = f.seen ++ x ∷ [];
-  rest = [];
-  all = f.all ∙ ap (λ zs. f.seen ++ zs) l ∙ sym (append-nil (f.seen ++ x ∷ []));
-  reading = reads f.seen f.reading;
-  past = λ e. refl;
-  linked = λ o. cc;
-  full = λ o. cc;
-}
+    → (f : Flowing put told m flight) → f.cut.rest ≡ x ∷ [] → Flowing put (told ++ w ∷ []) (mail Closed [] ended) flight
+sees_last x w ended reads f l =
+    let seen = f.cut.seen ++ x ∷ [] in
+    let all = f.cut.all ∙ ap (λ zs. f.cut.seen ++ zs) l ∙ sym (append-nil seen) in
+    record { cut = record { seen = seen; rest = []; all = all; reading = reads f.cut.seen f.cut.reading; past = λ e. refl }; linked = λ o. cc; full = λ o. cc }
 
 -- a failure is no end
 abbrev pub IsPlainFailure : Option Failure → Type 0
@@ -233,14 +214,14 @@ still {put} {told} {m} {flight} f = subst (λ (ws : List Word). Flowing put ws m
 by_answer : {put : List Thing} {told : List Word} {flight : List Thing} (failure : Option Failure) (ended : Bool) (receiver : Receiver) (things : List Thing) → Flowing put told (mail receiver things ended) flight
     → Flowing put (told ++ words_of (answer_of receiver things)) (left_at failure ended receiver things) flight
 by_answer failure ended Closed things f =
-    record { seen = f.seen; rest = f.rest; all = f.all; reading = reads_stop f.reading; past = f.past; linked = λ o. cc; full = λ o. cc }
+    record { cut = reads_so f.cut (reads_stop f.cut.reading); linked = λ o. cc; full = λ o. cc }
 by_answer None ended Open [] f = still f
 by_answer (Some why) true Open [] f = still f
 by_answer (Some why) false Open [] f =
-    still (record { seen = f.seen; rest = f.rest; all = f.all; reading = reads_on Broken (λ e. cc) f.reading; past = f.past; linked = λ o. cc; full = λ o. cc })
+    still (record { cut = reads_so f.cut (reads_on Broken (λ e. cc) f.cut.reading); linked = λ o. cc; full = λ o. cc })
 by_answer failure ended Open (ThingItem b ∷ xs) f = sees_item b xs ended f
-by_answer failure ended Open (ThingLast b ∷ xs) f = sees_last (ThingLast b) (Ok b) ended (λ s r. reads_last b r) f (f.linked refl)
-by_answer failure ended Open (ThingEnd ∷ xs) f = sees_last ThingEnd (Err Eof) ended (λ s r. reads_close r) f (f.linked refl)
+by_answer failure ended Open (ThingLast b ∷ xs) f = sees_last (ThingLast b) (Ok b) ended (λ s r. reads_last (ThingLast b) (Ok b) refl refl r) f (f.linked refl)
+by_answer failure ended Open (ThingEnd ∷ xs) f = sees_last ThingEnd (Err Eof) ended (λ s r. reads_last ThingEnd (Err Eof) refl refl r) f (f.linked refl)
 by_answer failure ended Open (ThingClosing e ∷ xs) f = fails _ e (f.linked refl) (λ o. cc) f
 by_answer failure ended Open (ThingBreaking e ∷ xs) f = fails _ e (f.linked refl) (λ o. cc) f
 by_answer failure ended receiver things f = fails _ past_error (λ m. refl) (λ o. cc) f

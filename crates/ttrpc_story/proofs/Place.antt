@@ -207,9 +207,6 @@ pub record IsPassed (w : Around) (k : ℕ) (h : Here) (x : Flying) (u : List Fly
   pub none_else : ups_of so_far ≡ []
   pub items : known.server.items ≡ x ∷ u
 
-abbrev Comes : Around → ℕ → Here → Flying → List Flying → Type 0
-Comes w k h x u = IsAsked w k h x u ⊎ IsPassed w k h x u
-
 asks_by : {w : Around} {k : ℕ} {h : Here} (x : Flying) (u : List Flying) (b : Birth) (z : Flying) → (n : Known w k h (Born b) (Asking z)) → x ∷ u ≡ z ∷ n.server.items → IsAsked w k h x u
 asks_by {w} {k} {h} x u b z n e =
     let same : z ≡ x = cc in
@@ -219,20 +216,14 @@ asks_by {w} {k} {h} x u b z n e =
     moved : (y : Flying) → y ≡ x → (m : Known w k h (Born b) (Asking y)) → m.server.items ≡ u → IsAsked w k h x u
     moved y is m left = subst (λ (v : Flying). (l : Known w k h (Born b) (Asking v)) → l.server.items ≡ u → IsAsked w k h x u) (sym is) (λ l i. record { b = b; known = l; items = i }) m left
 
-comes_by : {w : Around} {k : ℕ} {h : Here} (x : Flying) (u : List Flying) (o : Origin) (p : Work) → Known w k h o p → h.ups ≡ x ∷ u → Comes w k h x u
-comes_by x u Unborn p n e = absurd (no_cons x u (sym e ∙ n.server.ups_is ∙ ap (λ (q : Work). ups_of q ++ n.server.items) n.server.is_work ∙ n.server.may_have))
-comes_by x u (Born b) (Asking z) n e = inl (asks_by x u b z n (sym e ∙ n.server.ups_is))
-comes_by x u (Born b) Idle n e = absurd n.server.is_work
-comes_by x u (Born b) p n e = inr (record { b = b; so_far = p; known = n; none_else = refl; items = sym n.server.ups_is ∙ e })
-
 -- what comes first is the request, or data behind it
-pub comes_of : {w : Around} {k : ℕ} {h : Here} (x : Flying) (u : List Flying) → Place w k h → h.ups ≡ x ∷ u → IsAsked w k h x u ⊎ IsPassed w k h x u
-comes_of x u s e = comes_by x u s.origin s.so_far s.known e
+pub comes_of : {w : Around} {k : ℕ} {h : Here} (x : Flying) (u : List Flying) (o : Origin) (p : Work) → Known w k h o p → h.ups ≡ x ∷ u → IsAsked w k h x u ⊎ IsPassed w k h x u
+comes_of x u Unborn p n e = absurd (no_cons x u (sym e ∙ n.server.ups_is ∙ ap (λ (q : Work). ups_of q ++ n.server.items) n.server.is_work ∙ n.server.may_have))
+comes_of x u (Born b) (Asking z) n e = inl (asks_by x u b z n (sym e ∙ n.server.ups_is))
+comes_of x u (Born b) Idle n e = absurd n.server.is_work
+comes_of x u (Born b) p n e = inr (record { b = b; so_far = p; known = n; none_else = refl; items = sym n.server.ups_is ∙ e })
 
 -- what is in flight to the server then
-asked_ups : {w : Around} {k : ℕ} {h : Here} {x : Flying} {u : List Flying} → (a : IsAsked w k h x u) → h.ups ≡ x ∷ u
-asked_ups {x = x} a = a.known.server.ups_is ∙ ap (λ (xs : List Flying). x ∷ xs) a.items
-
 passed_ups : {w : Around} {k : ℕ} {h : Here} {x : Flying} {u : List Flying} → (a : IsPassed w k h x u) → h.ups ≡ x ∷ u
 passed_ups a = a.known.server.ups_is ∙ ap (λ (xs : List Flying). xs ++ a.known.server.items) a.none_else ∙ a.items
 
@@ -259,7 +250,7 @@ pub arrives_here : {w : Around} {k : ℕ} {h : Here} {x : Flying} {u : List Flyi
 arrives_here {w} {k} {h} {x} job a is made odd held =
     let n = a.known in
     turns (Waits job) [] [] n (unchanged w k) refl refl is refl (sym (append-nil h.acts)) (sym a.items) (ap (λ (xs : List ActiveJob). xs ++ job ∷ []) n.server.jobs_is) (sym (append-nil h.downs)) tt
-    (upward.makes job (asked_ups a) (made n.up.is.fit) odd n.up) (downward.stays (Waits job) h.stream (λ e. refl) refl refl n.down) (λ clean. arrives_tidy w.set a.b x job h.acts h.downs h.call (held clean) (n.tidy clean))
+    (upward.makes job (n.server.ups_is ∙ ap (λ (xs : List Flying). x ∷ xs) a.items) (made n.up.is.fit) odd n.up) (downward.stays (Waits job) h.stream (λ e. refl) refl refl n.down) (λ clean. arrives_tidy w.set a.b x job h.acts h.downs h.call (held clean) (n.tidy clean))
 
 -- Nothing more comes of an id: its request is refused, or thrown away, or its job is gone.
 pub concludes_here : {w : Around} {k : ℕ} {h : Here} {b : Birth} {p : Work} {ups : List Flying} {jobs : List ActiveJob} (items down : List Flying) → Known w k h (Born b) p → AreItems k items → MayHave (Born b) items → ups ≡ items → jobs ≡ []

@@ -1,5 +1,5 @@
 -- How what a receiver was told follows what it saw of what was put in.
-use Rattle.ttrpc_story.proofs.Words.{[], after, after_closed, AfterError, ap, append-nil, Bool, Closed, closed, Eof, Err, Error, false, Fresh, got, has_end, inl, inr, is_end, items, List, Mood, Ok, Open, Receiver, refl, RemoteClosed, subst, sym, Thing, ThingEnd, ThingItem, ThingLast, true, Word, ℕ, ◌++◌, ◌||◌, ◌∙◌, ◌∷◌, ◌≡◌, ◌⊎◌}
+use Rattle.ttrpc_story.proofs.Words.{[], after, after_closed, AfterError, ap, append-nil, Bool, Closed, closed, Err, Error, false, Fresh, got, has_end, inl, inr, is_end, items, List, Mood, Ok, Open, Receiver, refl, RemoteClosed, subst, sym, Thing, ThingEnd, ThingItem, ThingLast, true, Word, ℕ, ◌++◌, ◌||◌, ◌∙◌, ◌∷◌, ◌≡◌, ◌⊎◌}
 
 -- an error that is no end
 abbrev pub IsPlain : Error → Type 0
@@ -88,15 +88,11 @@ told_more {seen} {seen2} {told} {receiver} {receiver2} x r i c e s = record {
 pub reads_item : {seen : List Thing} {told : List Word} (bytes : List ℕ) → Reading seen told Open → Reading (seen ++ ThingItem bytes ∷ []) (told ++ Ok bytes ∷ []) Open
 reads_item {seen} bytes r = told_more (Ok bytes) r (items_append seen (ThingItem bytes ∷ [])) (closed_front seen (ThingItem bytes ∷ [])) (λ e. cc) (λ e. cc)
 
-pub reads_last : {seen : List Thing} {told : List Word} (bytes : List ℕ) → Reading seen told Open → Reading (seen ++ ThingLast bytes ∷ []) (told ++ Ok bytes ∷ []) Closed
-reads_last {seen} bytes r =
-    let done : closed (seen ++ ThingLast bytes ∷ []) ≡ true = closed_back seen (ThingLast bytes ∷ []) refl in
-    told_more (Ok bytes) r (items_append seen (ThingLast bytes ∷ [])) (λ e. done) (λ e. done) (λ e. inl done)
-
-pub reads_close : {seen : List Thing} {told : List Word} → Reading seen told Open → Reading (seen ++ ThingEnd ∷ []) (told ++ Err Eof ∷ []) Closed
-reads_close {seen} r =
-    let done : closed (seen ++ ThingEnd ∷ []) ≡ true = closed_back seen (ThingEnd ∷ []) refl in
-    told_more (Err Eof) r (items_append seen (ThingEnd ∷ [])) (λ e. done) (λ e. done) (λ e. inl done)
+-- the last thing, by which it is closed
+pub reads_last : {seen : List Thing} {told : List Word} (x : Thing) (w : Word) → closed (x ∷ []) ≡ true → items (x ∷ []) ≡ got (w ∷ []) → Reading seen told Open → Reading (seen ++ x ∷ []) (told ++ w ∷ []) Closed
+reads_last {seen} x w last same r =
+    let done : closed (seen ++ x ∷ []) ≡ true = closed_back seen (x ∷ []) last in
+    told_more w r (items_append seen (x ∷ []) ∙ ap (λ ys. items seen ++ ys) same) (λ e. done) (λ e. done) (λ e. inl done)
 
 -- an error that is no end
 pub reads_error : {seen : List Thing} {told : List Word} {receiver receiver2 : Receiver} (e : Error) → IsPlain e → Reading seen told receiver → Reading seen (told ++ Err e ∷ []) receiver2

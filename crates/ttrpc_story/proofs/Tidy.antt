@@ -51,13 +51,16 @@ once q job = Called q ∷ Ran job false q ∷ []
 abbrev Comes : List Act → Result Response Error → List Act → List Flying → Option Call → Type 0
 Comes done outcome a d e = IsUnderWay done outcome a d e ⊎ (IsKept done outcome a d e ⊎ IsGiven done outcome a d e)
 
--- the call was answered by it
-pub record IsAnsweredCall (rules : Rules) (limit : ℕ) (q : Request) (a : List Act) (d : List Flying) (e : Option Call) : Type 0 where
+-- a job was answered by this, and this is told of it
+pub record Replied (rules : Rules) (limit : ℕ) : Type 0 where
   pub job : ℕ
   pub answer : Result Response Error
   pub outcome : Result Response Error
   pub told : Tells rules limit answer outcome
-  pub comes : Comes (once q job ++ Answered false (some_of answer) ∷ []) outcome a d e
+
+-- the call was answered by it
+abbrev pub IsAnsweredCall : Rules → ℕ → Request → List Act → List Flying → Option Call → Type 0
+IsAnsweredCall rules limit q a d e = (r : Replied rules limit) × Comes (once q r.job ++ Answered false (some_of r.answer) ∷ []) r.outcome a d e
 
 -- or that run ended without an answer
 pub record IsUnfinished (q : Request) (done a : List Act) (d : List Flying) (e : Option Call) : Type 0 where
@@ -81,13 +84,13 @@ abbrev pub IsAsked : List Act → Option Call → Type 0
 IsAsked a e = (outcomes a ≢ []) ⊎ ((o : Result Response Error) → e ≡ Some (Ended o) → ⊥)
 
 answered_whole : (rules : Rules) (limit : ℕ) (q : Request) (a : List Act) (d : List Flying) (e : Option Call) → d ≡ [] → IsAsked a e → IsAnsweredCall rules limit q a d e → IsWholeCall rules limit q a
-answered_whole rules limit q a d e none asked t = elim t.comes [
+answered_whole rules limit q a d e none asked t = elim t.1 [
   | inl w ↦ absurd (no_cons w.x [] (sym w.downs ∙ none))
   | inr (inl w) ↦ elim asked [
     | inl some ↦ absurd (some (ap outcomes w.2))
-    | inr never ↦ absurd (never t.outcome w.1)
+    | inr never ↦ absurd (never t.0.outcome w.1)
   ]
-  | inr (inr w) ↦ (t.job, t.answer, t.outcome, w.2, t.told)
+  | inr (inr w) ↦ (t.0.job, t.0.answer, t.0.outcome, w.2, t.0.told)
 ]
 
 -- what a run of a job that is no stream's is
@@ -126,42 +129,36 @@ pub record IsSentBack (rules : Rules) (limit : ℕ) (result : Result (Option Res
 -- It is answered: the response that is told so goes down.
 pub tidy_answers : (rules : Rules) (limit : ℕ) (q : Request) (j : ActiveJob) (a : List Act) (d : List Flying) (e : Option Call) (result : Result (Option Response) Error) (down : List Flying) → IsOwed rules j.body a d e → work a ≡ works_of (Born (ByCall q)) (Runs j)
     → IsSentBack rules limit result down → IsAnsweredCall rules limit q (a ++ Answered false result ∷ []) (d ++ down) e
-tidy_answers rules limit q j a d e result down o works b = record {
-  job = j.id;
-  answer = b.answer;
-  outcome = b.outcome;
-  told = b.told;
-  comes = inl (record {
+tidy_answers rules limit q j a d e result down o works b = (
+  record { job = j.id; answer = b.answer; outcome = b.outcome; told = b.told },
+  inl (record {
     x = b.x;
     downs = ap (λ (xs : List Flying). xs ++ down) o.un.downs ∙ b.down_is;
     lands = b.lands;
     deadline = o.un.deadline;
     call = o.un.call;
     acts = ap (λ (xs : List Act). xs ++ Answered false result ∷ []) (all_work a o.un.ungiven ∙ ran_once q j (work a) o.unary works) ∙ ap (λ (r : Result (Option Response) Error). once q j.id ++ Answered false r ∷ []) b.is;
-  });
-}
+  }),
+)
 
 -- The response lands: the call that waits keeps what it is told.
 answered_lands : (rules : Rules) (limit : ℕ) (q : Request) (a : List Act) (e e2 : Option Call) (x : Flying) (ds d : List Flying) → IsAnsweredCall rules limit q a ds e → ds ≡ x ∷ d → LandsOn (landing_of x.frame.message.header (OpenedPayload x.plain)) e e2
     → IsAnsweredCall rules limit q a d e2
-answered_lands rules limit q a e e2 x ds d t was l = record {
-  job = t.job;
-  answer = t.answer;
-  outcome = t.outcome;
-  told = t.told;
-  comes = elim t.comes [
+answered_lands rules limit q a e e2 x ds d t was l = (
+  t.0,
+  elim t.1 [
     | inl w ↦
         let both : w.x ∷ [] ≡ x ∷ d = sym w.downs ∙ was in
         let same : w.x ≡ x = cc in
         let none : [] ≡ d = cc in
-        let lands : landing_of x.frame.message.header (OpenedPayload x.plain) ≡ Gives t.outcome = subst (λ (y : Flying). landing_of y.frame.message.header (OpenedPayload y.plain) ≡ Gives t.outcome) same w.lands in
+        let lands : landing_of x.frame.message.header (OpenedPayload x.plain) ≡ Gives t.0.outcome = subst (λ (y : Flying). landing_of y.frame.message.header (OpenedPayload y.plain) ≡ Gives t.0.outcome) same w.lands in
         let on = subst (λ (c : Option Call). LandsOn (landing_of x.frame.message.header (OpenedPayload x.plain)) c e2) w.call l in
         let given = subst (λ g. LandsOn g (Some (Waiting w.deadline)) e2) lands on in
         inr (inl (sym none, given.2 ∙ ap (λ (o : Result Response Error). Some (Ended o)) given.1, w.acts))
     | inr (inl w) ↦ absurd (no_cons x d (sym was ∙ w.0))
     | inr (inr w) ↦ absurd (no_cons x d (sym was ∙ w.0))
-  ];
-}
+  ],
+)
 
 pub tidy_lands : (rules : Rules) (limit : ℕ) (q : Request) (p : Work) (a : List Act) (e e2 : Option Call) (x : Flying) (ds d : List Flying) → ds ≡ x ∷ d → LandsOn (landing_of x.frame.message.header (OpenedPayload x.plain)) e e2
     → Tidy rules limit q p a ds e → Tidy rules limit q p a d e2
@@ -191,21 +188,18 @@ tidy_asked rules limit q p a d e given g t = by p t
         (subst (λ (b : List Act). P b (Some (Waiting x))) (sym (append-nil a)) (subst (P a) is h)))
 
     an : IsAnsweredCall rules limit q a d e → IsAnsweredCall rules limit q (a ++ gave_of given) d (left_of false e)
-    an t = record {
-      job = t.job;
-      answer = t.answer;
-      outcome = t.outcome;
-      told = t.told;
-      comes = elim t.comes [
-        | inl w ↦ waits (λ x y. Comes (once q t.job ++ Answered false (some_of t.answer) ∷ []) t.outcome x d y) w.deadline w.call (inl w)
+    an t = (
+      t.0,
+      elim t.1 [
+        | inl w ↦ waits (λ x y. Comes (once q t.0.job ++ Answered false (some_of t.0.answer) ∷ []) t.0.outcome x d y) w.deadline w.call (inl w)
         | inr (inl w) ↦
-            let some : given ≡ Some t.outcome = subst (λ (c : Option Call). GivesOutcome None c given) w.1 g in
-            inr (inr (w.0, ap (left_of false) w.1, ap (λ (x : Option (Result Response Error)). a ++ gave_of x) some ∙ ap (λ (xs : List Act). xs ++ Gave t.outcome ∷ []) w.2))
+            let some : given ≡ Some t.0.outcome = subst (λ (c : Option Call). GivesOutcome None c given) w.1 g in
+            inr (inr (w.0, ap (left_of false) w.1, ap (λ (x : Option (Result Response Error)). a ++ gave_of x) some ∙ ap (λ (xs : List Act). xs ++ Gave t.0.outcome ∷ []) w.2))
         | inr (inr w) ↦
             let none : given ≡ None = subst (λ (c : Option Call). GivesOutcome None c given) w.1 g in
             inr (inr (w.0, ap (left_of false) w.1, ap (λ (x : Option (Result Response Error)). a ++ gave_of x) none ∙ append-nil a ∙ w.2))
-      ];
-    }
+      ],
+    )
 
     by : (p : Work) → Tidy rules limit q p a d e → Tidy rules limit q p (a ++ gave_of given) d (left_of false e)
     by Idle t = absurd t
