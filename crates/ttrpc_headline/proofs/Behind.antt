@@ -4,13 +4,7 @@ use Rattle.ttrpc_headline.proofs.Ending.{idle_down, idle_up}
 use Rattle.ttrpc_headline.proofs.Keeps.{Keeps}
 use Rattle.ttrpc_headline.proofs.Numbers.{error_ends, received}
 use Rattle.ttrpc_headline.proofs.Timed.{called_back, expired_is, Makes}
-use Rattle.ttrpc_headline.specs.Living.{IsOpen, Lives}
-use Rattle.ttrpc_story.proofs.Place.{Settings}
-use Rattle.ttrpc_events.specs.Clean.{asks_outcome, is_clean_event, is_clean_reply, takes_bytes, takes_nothing}
-use Rattle.std.specs.Prelude.{nat_lt}
-use Rattle.std.proofs.lemmas.Bool.{ltb-false}
-use Rattle.ttrpc_pair.proofs.Words.{[], ActiveJob, all_at, all_less, Answer, AnswersBy, ap, arith, AsyncRules, Bool, call_at, CallEvent, Client, ClientSide, Count, Cut, deadline_of, Deliver, Done, Drain, DropReceiver, EndsOne, EndStream, Entry, eqb-true, Err, Error, Event, ExpireAll, Failure, false, Finish, Given, Halves, Handed, inl, inr, is_some, Item, JobList, List, map, Named, Net, None, NoneWaits, Ok, Option, Outbox, Outcome, Recv, Refused, Reply, Respond, Response, Result, rules, Rules, Send, Server, ServerCore, ServerEnd, ServerPasses, ServerSide, Some, StaysFound, Steps, subst, sym, SyncRules, Take, Tick, Ticket, true, ℕ, ◌∙◌, ◌∷◌, ◌≡◌, ◌≤◌}
-use Rattle.ttrpc_story.proofs.Words.{Call, Ended, left_of, Waiting}
+use Rattle.ttrpc_headline.proofs.Words.{[], ActiveJob, all_at, all_less, Answer, AnswersBy, ap, arith, asks_outcome, AsyncRules, Bool, Call, call_at, CallEvent, Client, ClientSide, Count, Cut, deadline_of, Deliver, Done, Drain, DropReceiver, Ended, EndsOne, EndStream, Entry, eqb-true, Err, Error, Event, ExpireAll, Failure, false, Finish, Given, Halves, Handed, inl, inr, is_clean_event, is_clean_reply, is_some, IsOpen, Item, JobList, left_of, List, Lives, ltb-false, map, Named, nat_lt, Net, None, NoneWaits, Ok, Option, Outbox, Outcome, Recv, Refused, Reply, Respond, Response, Result, Rules, rules, Send, Server, ServerCore, ServerEnd, ServerPasses, ServerSide, Settings, Some, StaysFound, Steps, subst, sym, SyncRules, Take, takes_bytes, takes_nothing, Tick, Ticket, true, Waiting, ℕ, ◌∙◌, ◌∷◌, ◌≡◌, ◌≤◌}
 
 pub none_taken : (k : ℕ) → nat_lt 0 k ≡ false → k ≡ 0
 none_taken k h = let le : k ≤ 0 = ltb-false 0 k h in omega (arith, le)

@@ -5,15 +5,7 @@ use Rattle.ttrpc_headline.proofs.Numbers.{asked_more, Between, items_more, Numbe
 use Rattle.ttrpc_headline.proofs.OneWay.{goes_on, joins}
 use Rattle.ttrpc_headline.proofs.Flights.{data_brings, IsData, IsRequestFlight, sends_data, sends_request, SendsFlight}
 use Rattle.ttrpc_headline.proofs.Throws.{AreSingle, back_stays, nothing_thrown, PartsOf, some_thrown, Stays, Thrown}
-use Rattle.ttrpc_story.proofs.Here.{Birth, ByCall, ByOpen, first_act, first_flow, here_at, request_of}
-use Rattle.ttrpc_story.proofs.AtClient.{IsBegun}
-use Rattle.ttrpc_story.proofs.Upward.{flags_of, IsStarted}
-use Rattle.ttrpc_story.proofs.Downward.{box_down, wants}
-use Rattle.ttrpc_story.proofs.Flowing.{IsPlainFailure}
-use Rattle.ttrpc_story.proofs.Place.{begins_here, elsewhere, IsOdd, Later, Place, Settings, thrown_here, unchanged}
-use Rattle.ttrpc_story.proofs.Events.{asks_here, drops_here, expires_here, GoesOn, hears_here, IsPut, one_request, sends_here, stream_within, unheard_here, unsent_here}
-use Rattle.ttrpc_pair.proofs.Words.{[], all_joined, ap, arith, AsyncKind, Bool, call_at, CallEvent, CancelledDuringWrite, Client, ClientCore, ClientEnd, ClientKind, closed_error, Connection, deadline_of, DeadlineDuringWrite, Done, DropCall, DropReceiver, DropSender, DropsReceiver, DropsSender, due_at, Entry, eqb-true, Error, Event, Failure, false, Flying, Forgot, given, Given, Halves, has_response, id_of, if◌then◌else◌, inl, inr, is_some, IsOwned, IsRequest, Item, last_id, List, Named, nat_eq, Net, None, OpenEvent, opening_flags, OpensStream, Option, Outbox, Outcome, parcels, Passes, pushed_other, pushed_own, Recv, refl, Reply, Request, Requests, Response, Result, Sender, SenderClosed, SendsOn, Some, Stream, stream_at, StreamReceives, subst, sym, SyncKind, taken_back, takes_back, TakesOutcome, throws, Ticks, true, unsendable, unsendable_error, waits, with_client, with_sender, ℕ, ◌++◌, ◌+◌, ◌<◌, ◌^◌, ◌∙◌, ◌∷◌, ◌≡◌, ◌≢◌, ◌≤◌, ◌⊎◌}
-use Rattle.ttrpc_story.proofs.Words.{act_of, asked, Call, calls, data_thing, Expired, expired_at, Flow, flow_of, heard, HeardDown, only_if, said, silent, Thing, told, unasked, unheard, untold, Waiting, with_entry, ◌%◌}
+use Rattle.ttrpc_headline.proofs.Words.{[], act_of, all_joined, ap, arith, asked, asks_here, AsyncKind, begins_here, Birth, Bool, box_down, ByCall, ByOpen, Call, call_at, CallEvent, calls, CancelledDuringWrite, Client, ClientCore, ClientEnd, ClientKind, closed_error, Connection, data_thing, deadline_of, DeadlineDuringWrite, Done, DropCall, DropReceiver, drops_here, DropSender, DropsReceiver, DropsSender, due_at, elsewhere, Entry, eqb-true, Error, Event, Expired, expired_at, expires_here, Failure, false, first_act, first_flow, flags_of, Flow, flow_of, Flying, Forgot, Given, given, GoesOn, Halves, has_response, heard, HeardDown, hears_here, here_at, id_of, if◌then◌else◌, inl, inr, is_some, IsBegun, IsOdd, IsOwned, IsPlainFailure, IsPut, IsRequest, IsStarted, Item, last_id, Later, List, Named, nat_eq, Net, None, one_request, only_if, OpenEvent, opening_flags, OpensStream, Option, Outbox, Outcome, parcels, Passes, Place, pushed_other, pushed_own, Recv, refl, Reply, Request, request_of, Requests, Response, Result, said, Sender, SenderClosed, sends_here, SendsOn, Settings, silent, Some, Stream, stream_at, stream_within, StreamReceives, subst, sym, SyncKind, taken_back, takes_back, TakesOutcome, Thing, thrown_here, throws, Ticks, told, true, unasked, unchanged, unheard, unheard_here, unsendable, unsendable_error, unsent_here, untold, Waiting, waits, wants, with_client, with_entry, with_sender, ℕ, ◌%◌, ◌++◌, ◌+◌, ◌<◌, ◌^◌, ◌∙◌, ◌∷◌, ◌≡◌, ◌≢◌, ◌≤◌, ◌⊎◌}
 
 -- dropping takes a request back only where requests are thrown away
 back_throws_only : (failed may waiting : Bool) → (if failed then false else if may then waiting else false) ≡ true → may ≡ true

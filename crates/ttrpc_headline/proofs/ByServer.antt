@@ -6,21 +6,8 @@ use Rattle.ttrpc_headline.proofs.OneWay.{goes_on, joins, not_both, OneWay}
 use Rattle.ttrpc_headline.proofs.Payloads.{too_late, unknown_never}
 use Rattle.ttrpc_headline.proofs.Flights.{behind_other, behind_own, flight_as, GivesSo, IsAnswering, IsData, IsGoing, IsRefusing, item_going, sends_close, sends_data, sends_refusal, sends_response, SendsFlight}
 use Rattle.ttrpc_headline.proofs.Jobs.{all_due, any_last, any_more, aside_plain, deaf, gone_at, gone_others, is_at, job_is, mailed, not_here, too_soon, untouched}
-use Rattle.ttrpc_story.proofs.AtServer.{IsDown, IsNever, never_down}
-use Rattle.ttrpc_story.proofs.Here.{answered_work, Birth, Born, first_act, here_at, IsAnswer, Origin, request_of}
-use Rattle.ttrpc_story.proofs.Downward.{Goes, IsSentAs, told_plain}
-use Rattle.ttrpc_story.proofs.Reading.{IsPlain}
-use Rattle.ttrpc_story.proofs.Flowing.{IsPlainFailure}
-use Rattle.ttrpc_story.proofs.Place.{elsewhere, Later, Place, Settings, unchanged}
-use Rattle.ttrpc_story.proofs.Tidy.{IsSentBack}
-use Rattle.ttrpc_story.proofs.Turns.{IsAnsweredBy}
-use Rattle.ttrpc_events.specs.Clean.{is_clean_answer, may_be_error, reaches}
-use Rattle.ttrpc_events.specs.Trace.{some_of}
-use Rattle.ttrpc_story.proofs.Events.{answers_here, ends_here, errs_up_here, HasNone, hears_up_here, job_within, responds_here, running_of, sends_down_here, takes_here, unheard_up_here}
 use Rattle.ttrpc_pair.proofs.Words.{unheard as unheard_of}
-use Rattle.ttrpc_pair.proofs.Words.{[], ActiveJob, all_at, all_in_front, AllByRecursion, Answer, Answers, AnswersBy, AnswersError, ap, append-nil, append_assoc, arith, AsyncRules, at_stays, between_own, Bool, call_at, changed_at, codes, Done, Drain, drained, DropReceiver, Drops, EndsOne, EndsStream, EndStream, Entry, eq-eqb, Err, Error, Event, ExpireAll, Failure, false, Finish, Finishes, Flying, given, Halves, Handed, HandlerError, Hands, has_response, id_of, if◌then◌else◌, inl, inr, is_due, is_stream, IsEnd, IsErrorResponse, IsResponse, IsSentFor, Item, Job, job_at, JobReceives, jobs_at, last_id, List, Mail, mapped_at, nat_eq, Net, None, Ok, Option, Others, Outbox, parcels, pushed_other, pushed_own, ReceivesBy, ReceivesFrom, Recv, refl, Respond, Responds, RespondsTo, Response, Result, Rules, safe_limit, Send, SendsAll, SendsItem, Sent, Server, ServerCore, ServerEnd, ServerPasses, ServerTicks, Some, stream_id_of, subst, sym, SyncRules, Take, Ticket, timeout_response, true, under_both, was_made, with_server, without_receiver, ℕ, ◌++◌, ◌∙◌, ◌∷◌, ◌≡◌, ◌≤◌}
-use Rattle.ttrpc_story.proofs.Words.{Act, act_of, Answered, asked_by, EndedDown, ending_thing, flow_of, HasOkStatus, heard, HeardUp, last_thing, only_if, Ran, SentDown, silent, StreamBody, Thing, ThingEnd, ThingItem, told, told_by, unheard, untold, Waiting, with_entry, with_mail}
-use Rattle.std.specs.List.{list_any}
+use Rattle.ttrpc_headline.proofs.Words.{[], Act, act_of, ActiveJob, all_at, all_in_front, AllByRecursion, Answer, Answered, answered_work, Answers, answers_here, AnswersBy, AnswersError, ap, append-nil, append_assoc, arith, asked_by, AsyncRules, at_stays, between_own, Birth, Bool, Born, call_at, changed_at, codes, Done, Drain, drained, DropReceiver, Drops, elsewhere, EndedDown, ending_thing, ends_here, EndsOne, EndsStream, EndStream, Entry, eq-eqb, Err, Error, errs_up_here, Event, ExpireAll, Failure, false, Finish, Finishes, first_act, flow_of, Flying, given, Goes, Halves, Handed, HandlerError, Hands, has_response, HasNone, HasOkStatus, heard, HeardUp, hears_up_here, here_at, id_of, if◌then◌else◌, inl, inr, is_clean_answer, is_due, is_stream, IsAnswer, IsAnsweredBy, IsDown, IsEnd, IsErrorResponse, IsNever, IsPlain, IsPlainFailure, IsResponse, IsSentAs, IsSentBack, IsSentFor, Item, Job, job_at, job_within, JobReceives, jobs_at, last_id, last_thing, Later, List, list_any, Mail, mapped_at, may_be_error, nat_eq, Net, never_down, None, Ok, only_if, Option, Origin, Others, Outbox, parcels, Place, pushed_other, pushed_own, Ran, reaches, ReceivesBy, ReceivesFrom, Recv, refl, request_of, Respond, Responds, responds_here, RespondsTo, Response, Result, Rules, running_of, safe_limit, Send, sends_down_here, SendsAll, SendsItem, Sent, SentDown, Server, ServerCore, ServerEnd, ServerPasses, ServerTicks, Settings, silent, Some, some_of, stream_id_of, StreamBody, subst, sym, SyncRules, Take, takes_here, Thing, ThingEnd, ThingItem, Ticket, timeout_response, told, told_by, told_plain, true, unchanged, under_both, unheard, unheard_up_here, untold, Waiting, was_made, with_entry, with_mail, with_server, without_receiver, ℕ, ◌++◌, ◌∙◌, ◌∷◌, ◌≡◌, ◌≤◌}
 
 module _ {CO CI SO SI : Type 0} (c : Halves CO CI) (s : Halves SO SI) (seals : Bool) (set : Settings) (f : ℕ → ℕ) (trace : List Entry) where
   abbrev Kept : List Entry → Net CO CI SO SI → Type 0

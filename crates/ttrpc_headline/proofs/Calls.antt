@@ -7,19 +7,9 @@ use Rattle.ttrpc_headline.proofs.Headline.{begins, kept_at_end, Stands}
 use Rattle.ttrpc_headline.proofs.Living.{stay_open}
 use Rattle.ttrpc_headline.proofs.Numbers.{IsRightRun, stream_of_run}
 use Rattle.ttrpc_headline.proofs.Since.{since_holds, Starts, Stays}
-use Rattle.ttrpc_headline.specs.Living.{IsEmpty}
-use Rattle.ttrpc_story.proofs.AtServer.{is_done}
-use Rattle.ttrpc_story.proofs.Here.{Born, ByCall, ByOpen, Here, here_at, Origin, Unborn, ups_of, Waits, Work}
-use Rattle.ttrpc_story.proofs.Place.{Around, Known, Settings}
-use Rattle.ttrpc_story.proofs.Tidy.{IsAsked, once, whole_call}
-use Rattle.ttrpc_events.specs.Clean.{AreWholeCalls, asks_outcome, is_answer_of, IsAnsweredIn, IsAskedFor, IsClean, IsDrained, IsQuiet, IsWholeCall, takes_nothing}
-use Rattle.ttrpc_events.specs.Trace.{some_of}
-use Rattle.std.specs.List.{list_any}
-use Rattle.std.specs.Prelude.{◌||◌}
-use Rattle.std.proofs.lemmas.Bool.{or_cases, or_left, or_right}
-use Rattle.std.proofs.lemmas.List.Folds.{list_any-append}
-use Rattle.ttrpc_pair.proofs.Words.{[], ActiveJob, AllByRecursion, Answer, ap, Bool, call_at, CallEvent, ClientSide, Done, EndStream, Entry, eq-eqb, eqb-true, Error, Event, false, Given, Halves, Handed, has_method, has_response, if◌then◌else◌, inl, inr, IsFresh, Job, jobs_at, List, Named, nat_eq, Net, None, NoneWaits, Ok, OpenEvent, Outcome, parcels, refl, Reply, Request, Respond, Response, Result, Runs, safe_limit, ServerCore, ServerSide, Some, subst, sym, Take, true, ℕ, ◌++◌, ◌∙◌, ◌∷◌, ◌≡◌}
-use Rattle.ttrpc_story.proofs.Words.{Act, act_of, acts, Answered, asked_by, Called, calls, calls_work, Ended, Gave, IsRightAt, IsStreamOf, is_stream, names, only_if, Opened, Ran, work}
+use Rattle.ttrpc_story.proofs.Tidy.{IsAsked}
+use Rattle.ttrpc_story.proofs.Words.{Opened}
+use Rattle.ttrpc_headline.proofs.Words.{[], Act, act_of, ActiveJob, acts, AllByRecursion, Answer, Answered, ap, AreWholeCalls, Around, asked_by, asks_outcome, Bool, Born, ByCall, ByOpen, call_at, Called, CallEvent, calls, calls_work, ClientSide, Done, Ended, EndStream, Entry, eq-eqb, eqb-true, Error, Event, false, Gave, Given, Halves, Handed, has_method, has_response, Here, here_at, if◌then◌else◌, inl, inr, is_answer_of, is_done, is_stream, IsAnsweredIn, IsAskedFor, IsClean, IsDrained, IsEmpty, IsFresh, IsQuiet, IsRightAt, IsStreamOf, IsWholeCall, Job, jobs_at, Known, List, list_any, list_any-append, Named, names, nat_eq, Net, None, NoneWaits, Ok, once, only_if, OpenEvent, or_cases, or_left, or_right, Origin, Outcome, parcels, Ran, refl, Reply, Request, Respond, Response, Result, Runs, safe_limit, ServerCore, ServerSide, Settings, Some, some_of, subst, sym, Take, takes_nothing, true, Unborn, ups_of, Waits, whole_call, Work, work, ℕ, ◌++◌, ◌||◌, ◌∙◌, ◌∷◌, ◌≡◌}
 
 -- ---- what a run of a job says of the trace
 

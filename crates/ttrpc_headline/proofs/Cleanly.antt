@@ -2,9 +2,7 @@
 -- whole, and the deadlines are those of the trace.
 use Rattle.ttrpc_headline.proofs.Living.{fresh_open, lived, lives_at_end, stays_open}
 use Rattle.ttrpc_headline.proofs.Timed.{fresh_timed, IsTimed, timed}
-use Rattle.ttrpc_headline.specs.Living.{IsOpen, Lives}
-use Rattle.ttrpc_events.specs.Clean.{AreClean, IsClean, IsCleanAt, IsDrained}
-use Rattle.ttrpc_pair.proofs.Words.{[], Bool, Entry, Event, Halves, IsFresh, List, Net, Reply, Rules, Runs, ℕ, ◌++◌, ◌∷◌}
+use Rattle.ttrpc_headline.proofs.Words.{[], AreClean, Bool, Entry, Event, Halves, IsClean, IsCleanAt, IsDrained, IsFresh, IsOpen, List, Lives, Net, Reply, Rules, Runs, ℕ, ◌++◌, ◌∷◌}
 
 module _ {CO CI SO SI : Type 0} (c : Halves CO CI) (s : Halves SO SI) (seals : Bool) (rules : Rules) (f : ℕ → ℕ) where
   -- OF A STEP, behind this trace.

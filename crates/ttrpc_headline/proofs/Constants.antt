@@ -1,5 +1,5 @@
 -- What stays the same in a run: the server's rules, its services, and the limit of its outbound half.
-use Rattle.ttrpc_pair.proofs.Words.{ActiveJob, ActsAll, Answer, AnswersBy, AnswersError, AsyncRules, Bool, Connection, Count, Cut, Deliver, Does, Done, Drain, DropReceiver, EndStream, EndsStream, Entry, Err, Error, Event, ExpireAll, Failure, Finish, Halves, Handed, Hears, Incoming, Item, List, MESSAGE_LENGTH_MAX, MessageHeader, Net, None, Ok, Option, OutboundTransform, Outbox, PutIn, Recv, Refused, Reply, Respond, Response, Result, Row, Rules, Runs, Scene, Send, SendsAll, Sent, Server, ServerCore, ServerEnd, ServerPasses, ServerSide, Some, Steps, SyncRules, Take, Tick, Ticket, [], ap, arrives, cut_to, header_of_frame, inl, inr, is_over, refl, row_of, rules, rules_stay, safe_limit, scene, serving, subst, taken_from, ℕ, ◌-◌, ◌∙◌, ◌∷◌, ◌≡◌}
+use Rattle.ttrpc_headline.proofs.Words.{[], ActiveJob, ActsAll, Answer, AnswersBy, AnswersError, ap, arrives, AsyncRules, Bool, Connection, Count, Cut, cut_to, Deliver, Does, Done, Drain, DropReceiver, EndsStream, EndStream, Entry, Err, Error, Event, ExpireAll, Failure, Finish, Halves, Handed, header_of_frame, Hears, Incoming, inl, inr, is_over, Item, List, MESSAGE_LENGTH_MAX, MessageHeader, Net, None, Ok, Option, OutboundTransform, Outbox, PutIn, Recv, refl, Refused, Reply, Respond, Response, Result, Row, row_of, Rules, rules, rules_stay, Runs, safe_limit, Scene, scene, Send, SendsAll, Sent, Server, ServerCore, ServerEnd, ServerPasses, ServerSide, serving, Some, Steps, subst, SyncRules, Take, taken_from, Tick, Ticket, ℕ, ◌-◌, ◌∙◌, ◌∷◌, ◌≡◌}
 use Rattle.ttrpc_headline.proofs.OneWay.{as_heard}
 
 -- these stay, of a server's state and its outbox

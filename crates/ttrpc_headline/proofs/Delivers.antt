@@ -4,15 +4,7 @@ use Rattle.ttrpc_headline.proofs.OneWay.{joins, OneWay}
 use Rattle.ttrpc_headline.proofs.Constants.{services_stay}
 use Rattle.ttrpc_headline.proofs.Payloads.{ask_row, IsItemRow, IsRefusal, IsRowOf, item_row}
 use Rattle.ttrpc_headline.proofs.Flights.{behind_other, behind_own, sends_refusal}
-use Rattle.ttrpc_story.proofs.AtServer.{IsItem, IsJob, IsNever}
-use Rattle.ttrpc_story.proofs.Here.{Asking, Birth, Born, ByCall, ByOpen, first_act, Here, here_at, request_of}
-use Rattle.ttrpc_story.proofs.Tidy.{IsPatient}
-use Rattle.ttrpc_story.proofs.Upward.{box_up, flags_of, IsMade}
-use Rattle.ttrpc_story.proofs.Downward.{IsTurned}
-use Rattle.ttrpc_story.proofs.Place.{Around, arrives_here, comes_of, elsewhere, IsAsked, IsHeldBy, IsNoMethod, IsPassed, Later, passes_here, Place, puts_here, refers_here, Settings, TidyOf, unchanged, untaken}
-use Rattle.ttrpc_story.proofs.Events.{down_of, lands_here}
-use Rattle.ttrpc_pair.proofs.Words.{[], Absent, ActiveJob, ActsOn, all_behind, AllByRecursion, ap, append-nil, append_assoc, arith, AsyncRules, Bool, brought_by, call_at, calling, case_of, case_row, cases_eq, changed_under, Client, Connection, deadline_of, Does, Entry, eq-eqb, Event, false, Flying, Halves, has_method, id_of, Ignore, inl, inlet_of, inr, is_stream, jobs_at, Landing, LandsOn, LandsOnce, last_id, List, MakeJob, MakeStream, MESSAGE_TYPE_REQUEST, MessageHeader, nat_eq, new_job, Opened, Option, OutboundTransform, Outbox, parcels, Pipe, pushed_other, pushed_own, PutIn, refl, Reply, Request, request_bytes, Response, Row, row_elsewhere, row_made, Rules, rules, rules_stay, Scene, SendResponse, SendsAll, SendsOwnAnswer, Sent, Server, Services, serving, Some, stream_at, stream_body, stream_id_of, subst, sym, SyncRules, true, unary_body, under_other, under_own, under_stays, without_payload, ℕ, ◌++◌, ◌+◌, ◌∙◌, ◌∷◌, ◌≡◌, ◌≢◌, ◌≤◌, ◌⊎◌}
-use Rattle.ttrpc_story.proofs.Words.{Act, act_of, acts, asked_by, Call, calls, calls_work, deadline_in, flow_of, Open, Waiting, with_mail, ◌%◌}
+use Rattle.ttrpc_headline.proofs.Words.{[], Absent, Act, act_of, ActiveJob, acts, ActsOn, all_behind, AllByRecursion, ap, append-nil, append_assoc, arith, Around, arrives_here, asked_by, Asking, AsyncRules, Birth, Bool, Born, box_up, brought_by, ByCall, ByOpen, Call, call_at, calling, calls, calls_work, case_of, case_row, cases_eq, changed_under, Client, comes_of, Connection, deadline_in, deadline_of, Does, down_of, elsewhere, Entry, eq-eqb, Event, false, first_act, flags_of, flow_of, Flying, Halves, has_method, Here, here_at, id_of, Ignore, inl, inlet_of, inr, is_stream, IsAsked, IsHeldBy, IsItem, IsJob, IsMade, IsNever, IsNoMethod, IsPassed, IsPatient, IsTurned, jobs_at, Landing, lands_here, LandsOn, LandsOnce, last_id, Later, List, MakeJob, MakeStream, MESSAGE_TYPE_REQUEST, MessageHeader, nat_eq, new_job, Open, Opened, Option, OutboundTransform, Outbox, parcels, passes_here, Pipe, Place, pushed_other, pushed_own, PutIn, puts_here, refers_here, refl, Reply, Request, request_bytes, request_of, Response, Row, row_elsewhere, row_made, Rules, rules, rules_stay, Scene, SendResponse, SendsAll, SendsOwnAnswer, Sent, Server, Services, serving, Settings, Some, stream_at, stream_body, stream_id_of, subst, sym, SyncRules, TidyOf, true, unary_body, unchanged, under_other, under_own, under_stays, untaken, Waiting, with_mail, without_payload, ℕ, ◌%◌, ◌++◌, ◌+◌, ◌∙◌, ◌∷◌, ◌≡◌, ◌≢◌, ◌≤◌, ◌⊎◌}
 
 abbrev pub around : Settings → (ℕ → Bool) → ℕ → Around
 around set had next = record { set = set; had = had; next = next }

@@ -5,16 +5,7 @@ use Rattle.ttrpc_headline.proofs.Behind.{none_taken}
 use Rattle.ttrpc_headline.proofs.Living.{heard_whole, never_over}
 use Rattle.ttrpc_headline.proofs.Since.{IsKnown}
 use Rattle.ttrpc_headline.proofs.Timed.{none_due}
-use Rattle.ttrpc_headline.specs.Living.{IsOpen}
-use Rattle.ttrpc_story.proofs.Here.{never_empty}
-use Rattle.ttrpc_story.proofs.Place.{Settings}
-use Rattle.ttrpc_events.specs.Clean.{is_clean_event, is_clean_reply, takes_bytes}
-use Rattle.std.proofs.Common.{length-take}
-use Rattle.ttrpc_pair.proofs.Idle.{IsQueue, none_reported, none_thrown}
-use Rattle.ttrpc_pair.proofs.Words.{[], ActiveJob, ActsAll, after_report, Answer, AnswersError, ap, arith, AsyncRules, Bool, call_at, CallEvent, calling, Carry, ClientCore, ClientEnd, ClientSide, Close, Connection, Count, Deliver, Done, due_at, EndStream, Entry, Err, Error, Event, ExpireAll, Failure, false, Halves, if◌then◌else◌, Incoming, inl, inr, is_over, Item, length, lent_of, List, min, Named, Net, None, Ok, open_part, OpenEvent, Option, Outbox, OutboundTransform, Passes, Queue, Queued, Recv, refl, Reply, Respond, Responds, Response, Result, Rules, rules, Scene, scene, Send, SendsAll, SendsOne, Sent, Server, ServerCore, ServerEnd, ServerPasses, ServerSide, serving, Some, Steps, subst, sym, SyncRules, take, taken_back, taken_from, throws, Tick, Ticket, true, Ways, with_lent, with_payload, ℕ, ◌++◌, ◌∙◌, ◌∷◌, ◌≡◌, AnswersBy, nat_eq, EndsStream, DeadlineDuringWrite}
-use Rattle.ttrpc_story.proofs.Words.{Asked, Began, Call, ClosedUp, EndedDown, Expired, expired_at, Flow, flow_of, HeardDown, HeardUp, is_due, items, only_if, put_down, put_up, SentDown, SentUp, Waiting, Word}
-use Rattle.ttrpc_events.specs.Trace.{some_of}
-use Rattle.ttrpc_events.specs.declared.events.StreamEnd.{StreamEnd}
+use Rattle.ttrpc_headline.proofs.Words.{[], ActiveJob, ActsAll, after_report, Answer, AnswersBy, AnswersError, ap, arith, Asked, AsyncRules, Began, Bool, Call, call_at, CallEvent, calling, Carry, ClientCore, ClientEnd, ClientSide, Close, ClosedUp, Connection, Count, DeadlineDuringWrite, Deliver, Done, due_at, EndedDown, EndsStream, EndStream, Entry, Err, Error, Event, ExpireAll, Expired, expired_at, Failure, false, Flow, flow_of, Halves, HeardDown, HeardUp, if◌then◌else◌, Incoming, inl, inr, is_clean_event, is_clean_reply, is_call_due, is_over, IsOpen, IsQueue, Item, items, length, length-take, lent_of, List, min, Named, nat_eq, Net, never_empty, None, none_reported, none_thrown, Ok, only_if, open_part, OpenEvent, Option, OutboundTransform, Outbox, Passes, put_down, put_up, Queue, Queued, Recv, refl, Reply, Respond, Responds, Response, Result, Rules, rules, Scene, scene, Send, SendsAll, SendsOne, Sent, SentDown, SentUp, Server, ServerCore, ServerEnd, ServerPasses, ServerSide, serving, Settings, Some, some_of, Steps, StreamEnd, subst, sym, SyncRules, take, taken_back, taken_from, takes_bytes, throws, Tick, Ticket, true, Waiting, Ways, with_lent, with_payload, Word, ℕ, ◌++◌, ◌∙◌, ◌∷◌, ◌≡◌}
 
 -- NOTHING IS ON A WAY
 pub record IsIdle (queued : List Queued) (pipe : List ℕ) : Type 0 where
@@ -78,7 +69,7 @@ carried failure false q pipe n k alive whole is e i =
 -- ---- a moment
 
 due_not : (now : ℕ) (e : Option Call) → expired_at now e ≡ e → due_at now e ≡ false
-due_not now (Some (Waiting d)) h = by (is_due now (Waiting d)) h
+due_not now (Some (Waiting d)) h = by (is_call_due now (Waiting d)) h
   where
     by : (b : Bool) → Some (if b then Expired else Waiting d) ≡ Some (Waiting d) → b ≡ false
     by false same = refl

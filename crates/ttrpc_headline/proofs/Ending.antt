@@ -3,15 +3,7 @@ use Rattle.ttrpc_headline.proofs.Headline.{begins, Stands, stands_at, step_on}
 use Rattle.ttrpc_headline.proofs.Keeps.{Keeps}
 use Rattle.ttrpc_headline.proofs.Living.{clean_front, fresh_open, heard_whole, lived, lives_at_end, never_over, stay_open, stays_open}
 use Rattle.ttrpc_headline.proofs.Numbers.{streams_of}
-use Rattle.ttrpc_headline.specs.Living.{IsEmpty, IsOpen, Lives}
-use Rattle.ttrpc_story.proofs.Place.{Settings}
-use Rattle.ttrpc_events.specs.Clean.{AreClean, IsDrained, other}
-use Rattle.ttrpc_events.specs.declared.events.Side.{Side}
-use Rattle.ttrpc_pair.proofs.Idle.{all_has_come, Fed, IsQueue, no_frames_come, none_to_lend, still_none}
-use Rattle.std.specs.Prelude.{◌<◌}
-use Rattle.std.proofs.lemmas.List.{nil_from_length}
-use Rattle.ttrpc_pair.proofs.Words.{[], ActsAll, after_report, ap, arith, Bool, calling, Carry, Client, ClientCore, ClientSide, Connection, Count, Deliver, drop, Entry, Failure, false, Halves, Incoming, inl, inr, is_over, length, lent_of, List, min, Net, None, open_part, Option, Outbox, Pipe, Queue, refl, IsFresh, safe_limit, Rules, Runs, Scene, scene, Server, ServerCore, ServerSide, serving, Some, Steps, subst, sym, take, taken_from, true, Ways, with_lent, ℕ, ◌++◌, ◌∙◌, ◌∷◌, ◌≡◌}
-use Rattle.ttrpc_story.proofs.Words.{Flying}
+use Rattle.ttrpc_headline.proofs.Words.{[], ActsAll, after_report, all_has_come, ap, AreClean, arith, Bool, calling, Carry, Client, ClientCore, ClientSide, Connection, Count, Deliver, drop, Entry, Failure, false, Fed, Flying, Halves, Incoming, inl, inr, is_over, IsDrained, IsEmpty, IsFresh, IsOpen, IsQueue, length, lent_of, List, Lives, min, Net, nil_from_length, no_frames_come, None, none_to_lend, open_part, Option, other, Outbox, Pipe, Queue, refl, Rules, Runs, safe_limit, Scene, scene, Server, ServerCore, ServerSide, serving, Settings, Side, Some, Steps, still_none, subst, sym, take, taken_from, true, Ways, with_lent, ℕ, ◌++◌, ◌<◌, ◌∙◌, ◌∷◌, ◌≡◌}
 
 -- ---- nothing was lent, and nothing was taken
 

@@ -1,10 +1,6 @@
 -- How a side fails in a run: no step clears a failure, and what is told of one is no end of a stream.
 use Rattle.ttrpc_headline.proofs.OneWay.{either_way}
-use Rattle.ttrpc_headline.specs.Living.{Lives}
-use Rattle.ttrpc_story.proofs.Reading.{IsPlain}
-use Rattle.ttrpc_story.proofs.Flowing.{IsPlainFailure}
-use Rattle.ttrpc_pair.proofs.Words.{[], ActiveJob, Answer, AnswersBy, AnswersError, ap, AsyncRules, Bool, call_at, calling, CancelledDuringWrite, Client, ClientCore, ClientSide, Connection, Count, Cut, cut_to, DeadlineDuringWrite, Deliver, Disconnected, DisconnectedInside, Done, DropCall, due_at, Err, Error, error_of, Event, Fail, failed_by_hand, Failure, false, first_failure, Halves, has_begun, Hears, if◌then◌else◌, Incoming, inl, inr, is_over, IsFresh, List, nat_eq, Net, None, Ok, Option, Passes, refl, Refused, Reply, Response, Result, rules, Rules, Scene, Server, ServerCore, ServerPasses, ServerSide, serving, Some, Steps, subst, sym, SyncRules, taken_back, taken_from, takes_back, throws, Tick, Told, true, ℕ, ◌∙◌, ◌∷◌, ◌≡◌}
-use Rattle.ttrpc_story.proofs.Words.{IsWhy, told, want_for}
+use Rattle.ttrpc_headline.proofs.Words.{[], ActiveJob, Answer, AnswersBy, AnswersError, ap, AsyncRules, Bool, call_at, calling, CancelledDuringWrite, Client, ClientCore, ClientSide, Connection, Count, Cut, cut_to, DeadlineDuringWrite, Deliver, Disconnected, DisconnectedInside, Done, DropCall, due_at, Err, Error, error_of, Event, Fail, failed_by_hand, Failure, false, first_failure, Halves, has_begun, Hears, if◌then◌else◌, Incoming, inl, inr, is_over, IsFresh, IsPlain, IsPlainFailure, IsWhy, List, Lives, nat_eq, Net, None, Ok, Option, Passes, refl, Refused, Reply, Response, Result, Rules, rules, Scene, Server, ServerCore, ServerPasses, ServerSide, serving, Some, Steps, subst, sym, SyncRules, taken_back, taken_from, takes_back, throws, Tick, Told, told, true, want_for, ℕ, ◌∙◌, ◌∷◌, ◌≡◌}
 
 -- what becomes of the failure of a side: it is kept, and one that is no end stays so
 pub record Fails (old new : Option Failure) : Type 0 where

@@ -1,13 +1,6 @@
 -- The flights that requests, data and responses are sent as, and what they bring.
 use Rattle.ttrpc_headline.proofs.Payloads.{data_landing_is, data_news_is, fitted_is, IsAnswerOf, IsRefusal, may_refuse, MaySend, response_landing_is, response_news_is}
-use Rattle.ttrpc_story.proofs.AtServer.{IsDown, IsItem, IsNever, IsSent}
-use Rattle.ttrpc_story.proofs.Here.{IsAnswer, Origin}
-use Rattle.ttrpc_story.proofs.AtClient.{status_cases}
-use Rattle.ttrpc_story.proofs.Upward.{thing_up}
-use Rattle.ttrpc_story.proofs.Downward.{IsSentAs, IsTurned, plain_status, thing_down, thing_of}
-use Rattle.ttrpc_story.proofs.Flowing.{Follows}
-use Rattle.ttrpc_pair.proofs.Words.{[], AllByRecursion, ap, append-nil, append_assoc, arith, associated, Bool, by_status, Err, Error, false, fitted, Flying, Gives, id_of, inl, inr, IsCloseFrame, IsOwned, IsRequest, IsResponse, IsSound, landing_of, last_id, length, List, malformed_text, MESSAGE_LENGTH_MAX, MESSAGE_TYPE_REQUEST, MESSAGE_TYPE_RESPONSE, None, Ok, Opened, Option, Others, OutboundTransform, Outbox, parcels, pushed_other, pushed_own, Queued, refl, Request, request_bytes, Responds, Response, response_bytes, Result, Rules, safe_limit, SendsAll, SendsData, SendsOne, Sent, Some, subst, sym, true, with_frame, with_payload, ℕ, ◌++◌, ◌<◌, ◌^◌, ◌∙◌, ◌∷◌, ◌≡◌, ◌≢◌, ◌≤◌, ◌⊎◌}
-use Rattle.ttrpc_story.proofs.Words.{Act, close_flags, closing_news, data_news, data_thing, HasOkStatus, last_thing, News, news_of, Thing, ThingEnd, ThingItem, ThingLast, told_by}
+use Rattle.ttrpc_headline.proofs.Words.{[], Act, AllByRecursion, ap, append-nil, append_assoc, arith, associated, Bool, by_status, close_flags, closing_news, data_news, data_thing, Err, Error, false, fitted, Flying, Follows, Gives, HasOkStatus, id_of, inl, inr, IsAnswer, IsCloseFrame, IsDown, IsItem, IsNever, IsOwned, IsRequest, IsResponse, IsSent, IsSentAs, IsSound, IsTurned, landing_of, last_id, last_thing, length, List, malformed_text, MESSAGE_LENGTH_MAX, MESSAGE_TYPE_REQUEST, MESSAGE_TYPE_RESPONSE, News, news_of, None, Ok, Opened, Option, Origin, Others, OutboundTransform, Outbox, parcels, plain_status, pushed_other, pushed_own, Queued, refl, Request, request_bytes, Responds, Response, response_bytes, Result, Rules, safe_limit, SendsAll, SendsData, SendsOne, Sent, Some, status_cases, subst, sym, Thing, thing_down, thing_of, thing_up, ThingEnd, ThingItem, ThingLast, told_by, true, with_frame, with_payload, ℕ, ◌++◌, ◌<◌, ◌^◌, ◌∙◌, ◌∷◌, ◌≡◌, ◌≢◌, ◌≤◌, ◌⊎◌}
 
 -- A frame was sent: it is a flight such as this.
 pub record SendsFlight {O : Type 0} (out : OutboundTransform O) (old : Outbox O) (is_such : Flying → Type 0) (new : Outbox O) : Type 0 where

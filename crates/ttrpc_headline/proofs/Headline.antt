@@ -10,12 +10,7 @@ use Rattle.ttrpc_headline.proofs.Keeps.{Keeps, keeps_still}
 use Rattle.ttrpc_headline.proofs.Moves.{break_down, break_up, carry_down, carry_up, client_fails, cut_down, cut_up, deliver_down, deliver_up, server_fails, stay_up}
 use Rattle.ttrpc_headline.proofs.Numbers.{AreRight, fresh_numbers, IsRightRun, Numbers}
 use Rattle.ttrpc_headline.proofs.OneWay.{starts}
-use Rattle.ttrpc_story.proofs.Reading.{nothing_read}
-use Rattle.ttrpc_story.proofs.Place.{Settings}
-use Rattle.ttrpc_story.proofs.Events.{close_put, in_order_here, item_put}
-use Rattle.ttrpc_story.proofs.Here.{Idle, Unborn}
-use Rattle.ttrpc_pair.proofs.Words.{[], Answer, ap, append-nil, append_assoc, arith, Bool, call_at, CallEvent, Carry, ClientCore, ClientEnd, ClientSide, Close, Count, Cut, Deliver, Done, Drain, DropCall, DropReceiver, DropSender, EndStream, Entry, Event, Fail, failed_by_hand, false, Finish, given, Given, Halves, Handed, inl, inr, IsFresh, Item, jobs_at, List, Named, Net, OpenEvent, Outcome, Recv, refl, Refused, Reply, Respond, rules, Runs, Send, ServerCore, ServerEnd, ServerSide, Some, Steps, stream_at, subst, sym, Take, Tick, Ticket, Told, true, with_client, with_server, ℕ, ◌++◌, ◌∙◌, ◌∷◌, ◌≡◌}
-use Rattle.ttrpc_story.proofs.Words.{act_of, AreInOrder, calls, ClosedUp, flows, SentUp, silent, ThingEnd, ThingItem, with_entry}
+use Rattle.ttrpc_headline.proofs.Words.{[], act_of, Answer, ap, append-nil, append_assoc, AreInOrder, arith, Bool, call_at, CallEvent, calls, Carry, ClientCore, ClientEnd, ClientSide, Close, close_put, ClosedUp, Count, Cut, Deliver, Done, Drain, DropCall, DropReceiver, DropSender, EndStream, Entry, Event, Fail, failed_by_hand, false, Finish, flows, Given, given, Halves, Handed, Idle, in_order_here, inl, inr, IsFresh, Item, item_put, jobs_at, List, Named, Net, nothing_read, OpenEvent, Outcome, Recv, refl, Refused, Reply, Respond, rules, Runs, Send, SentUp, ServerCore, ServerEnd, ServerSide, Settings, silent, Some, Steps, stream_at, subst, sym, Take, ThingEnd, ThingItem, Tick, Ticket, Told, true, Unborn, with_client, with_entry, with_server, ℕ, ◌++◌, ◌∙◌, ◌∷◌, ◌≡◌}
 
 module _ {CO CI SO SI : Type 0} (c : Halves CO CI) (s : Halves SO SI) (seals : Bool) (still : seals ≡ false → (from to : CO) (plain aad sealed : List ℕ) → c.out.seals from plain aad sealed to → to ≡ from)
     (fixed : (x y : SO) (plain aad sealed : List ℕ) → s.out.seals x plain aad sealed y → s.out.overhead y ≡ s.out.overhead x) (set : Settings) (f : ℕ → ℕ) where

@@ -1,15 +1,6 @@
 -- A server's jobs: around a job, and what is told beside any.
-use Rattle.std.specs.List.{list_any}
+use Rattle.ttrpc_headline.proofs.Words.{[], ActiveJob, all_at, AllByRecursion, ap, arith, astray, at_stays, between_other, between_own, Body, Bool, box_of, Call, cases_Bool, changed_at, deadline_in, Dropped, due_jobs, EndsOne, eqb-true, Error, false, if◌then◌else◌, inl, inr, is_due, is_stream, IsDeaf, IsPatient, IsPlain, IsTaken, IsTooSoon, job_at, jobs_at, leb-false, leb-true, List, list_any, list_any-append, Mail, mail_in, mail_of, MessageHeader, nat_eq, nat_le, None, on_mail, Option, or_left, or_right, past_error, reaches, refl, Some, stream_id_of, StreamBody, subst, sym, true, UnaryBody, under_both, under_other, unknown_stream, Waiting, with_mail, without_receiver, ℕ, ◌++◌, ◌∙◌, ◌∷◌, ◌≡◌, ◌≢◌, ◌⊎◌}
 use Rattle.ttrpc_headline.proofs.Numbers.{AreRight}
-use Rattle.ttrpc_story.proofs.Upward.{box_of, IsDeaf}
-use Rattle.ttrpc_story.proofs.Reading.{IsPlain}
-use Rattle.ttrpc_pair.proofs.Words.{[], ActiveJob, all_at, AllByRecursion, ap, arith, astray, at_stays, between_other, between_own, Bool, cases_Bool, changed_at, due_jobs, EndsOne, eqb-true, Error, false, if◌then◌else◌, inl, inr, is_due, is_stream, IsTaken, job_at, jobs_at, List, Mail, mail_in, mail_of, MessageHeader, nat_eq, None, on_mail, Option, refl, Some, stream_id_of, subst, sym, true, under_both, under_other, unknown_stream, without_receiver, ℕ, ◌++◌, ◌∙◌, ◌∷◌, ◌≡◌, ◌≢◌, ◌⊎◌}
-use Rattle.ttrpc_story.proofs.Tidy.{IsPatient, IsTooSoon}
-use Rattle.ttrpc_story.proofs.Words.{Body, Call, deadline_in, Dropped, past_error, StreamBody, UnaryBody, Waiting, with_mail}
-use Rattle.ttrpc_events.specs.Clean.{reaches}
-use Rattle.std.specs.Prelude.{nat_le}
-use Rattle.std.proofs.lemmas.Bool.{leb-false, leb-true, or_left, or_right}
-use Rattle.std.proofs.lemmas.List.Folds.{list_any-append}
 
 -- ---- jobs around a job
 

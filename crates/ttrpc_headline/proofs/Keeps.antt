@@ -2,9 +2,7 @@
 use Rattle.ttrpc_headline.proofs.Delivers.{around, IsQuiet, Stories}
 use Rattle.ttrpc_headline.proofs.Numbers.{Numbers}
 use Rattle.ttrpc_headline.proofs.OneWay.{OneWay}
-use Rattle.ttrpc_story.proofs.Place.{elsewhere, Settings, unchanged}
-use Rattle.ttrpc_pair.proofs.Words.{AllByRecursion, Entry, Event, Flying, Halves, has_response, IsOwned, List, Net, refl, Reply, ℕ}
-use Rattle.ttrpc_story.proofs.Words.{act_of, flow_of, silent, with_entry}
+use Rattle.ttrpc_headline.proofs.Words.{act_of, AllByRecursion, elsewhere, Entry, Event, flow_of, Flying, Halves, has_response, IsOwned, List, Net, refl, Reply, Settings, silent, unchanged, with_entry, ℕ}
 
 -- THE INVARIANT, under rules that stay. In flight are these frames each way, in order: as bytes, as seals, and each as a part
 -- of one call or stream. A side that failed takes no more, so nothing need be said of what is still in flight to it. `f`

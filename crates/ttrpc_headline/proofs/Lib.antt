@@ -1,3 +1,4 @@
+pub mod Words
 pub mod OneWay
 pub mod Throws
 pub mod Payloads

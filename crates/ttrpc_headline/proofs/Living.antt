@@ -1,11 +1,7 @@
 -- Both sides live at each place of a clean quiet run: no step clears a failure, and the last deliveries found none. No pipe was
 -- cut, and the server takes what comes.
 use Rattle.ttrpc_headline.proofs.Failing.{lives_back}
-use Rattle.ttrpc_headline.specs.Living.{IsOpen, Lives}
-use Rattle.ttrpc_events.specs.Clean.{AreClean, is_clean_event, is_clean_reply, IsDrained, other}
-use Rattle.ttrpc_events.specs.declared.events.Side.{Side}
-use Rattle.std.specs.Prelude.{not}
-use Rattle.ttrpc_pair.proofs.Words.{[], ActiveJob, ActsAll, Answer, AnswersBy, AnswersError, ap, AsyncRules, Bool, Carry, ClientCore, ClientSide, Connection, Count, Cut, Deliver, Done, Drain, DropReceiver, Entry, Err, Error, Event, ExpireAll, Failure, false, Halves, Hears, Incoming, inl, inr, is_over, is_over, IsFresh, List, Net, None, Ok, Option, Outbox, Pipe, refl, Refused, Reply, Response, Result, rules, Rules, Runs, Scene, scene, Server, ServerCore, ServerPasses, ServerSide, serving, Some, Steps, subst, sym, SyncRules, taken_from, Tick, true, ℕ, ◌++◌, ◌∙◌, ◌∷◌, ◌≡◌}
+use Rattle.ttrpc_headline.proofs.Words.{[], ActiveJob, ActsAll, Answer, AnswersBy, AnswersError, ap, AreClean, AsyncRules, Bool, Carry, ClientCore, ClientSide, Connection, Count, Cut, Deliver, Done, Drain, DropReceiver, Entry, Err, Error, Event, ExpireAll, Failure, false, Halves, Hears, Incoming, inl, inr, is_clean_event, is_clean_reply, is_over, IsDrained, IsFresh, IsOpen, List, Lives, Net, None, not, Ok, Option, other, Outbox, Pipe, refl, Refused, Reply, Response, Result, Rules, rules, Runs, Scene, scene, Server, ServerCore, ServerPasses, ServerSide, serving, Side, Some, Steps, subst, sym, SyncRules, taken_from, Tick, true, ℕ, ◌++◌, ◌∙◌, ◌∷◌, ◌≡◌}
 
 module _ {CO CI SO SI : Type 0} (c : Halves CO CI) (s : Halves SO SI) (seals : Bool) where
   -- who lives behind a run lived all along

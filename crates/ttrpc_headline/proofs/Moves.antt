@@ -3,9 +3,7 @@ use Rattle.ttrpc_headline.proofs.Delivers.{feeds_down, feeds_up, IsTimely}
 use Rattle.ttrpc_headline.proofs.Keeps.{Keeps}
 use Rattle.ttrpc_headline.proofs.Numbers.{AreRight}
 use Rattle.ttrpc_headline.proofs.OneWay.{as_heard, breaks_land, carries, cuts, dead, feeds_land, kept_some, Lands, not_both, OneWay}
-use Rattle.ttrpc_story.proofs.Place.{Settings}
-use Rattle.ttrpc_pair.proofs.Words.{after_carry, all_behind, arith, Bool, BreaksAt, calling, CarriesDown, CarriesUp, Client, Connection, cut_to, CutsDown, CutsUp, DeliversDown, DeliversUp, Entry, Error, failing, Failure, Halves, has_response, is_over, IsOwned, length, lent_of, List, Net, None, OnlyClient, OnlyServer, open_part, Option, Pipe, pipe_after_carry, Queue, refl, Scene, scene, Server, serving, Some, StaysUp, taken_from, with_client, with_server, ℕ, ◌++◌, ◌≡◌, ◌≤◌}
-use Rattle.ttrpc_story.proofs.Words.{told}
+use Rattle.ttrpc_headline.proofs.Words.{after_carry, all_behind, arith, Bool, BreaksAt, calling, CarriesDown, CarriesUp, Client, Connection, cut_to, CutsDown, CutsUp, DeliversDown, DeliversUp, Entry, Error, failing, Failure, Halves, has_response, is_over, IsOwned, length, lent_of, List, Net, None, OnlyClient, OnlyServer, open_part, Option, Pipe, pipe_after_carry, Queue, refl, Scene, scene, Server, serving, Settings, Some, StaysUp, taken_from, told, with_client, with_server, ℕ, ◌++◌, ◌≡◌, ◌≤◌}
 
 -- no more is lent than is left of the first frame
 lent_fits : (failure : Option Failure) (n k : ℕ) (q : Queue) → k ≡ lent_of failure n q → k ≤ length (open_part q)

@@ -1,9 +1,8 @@
 -- The stream of each job. There is one function that is right at every state of a run; the streams of the jobs that were
 -- made rise, and so do the ids of the requests in flight, from above them to below the client's next. So no two jobs have
 -- the same stream.
-use Rattle.ttrpc_pair.proofs.Words.{ActiveJob, ActsAll, ActsOn, AllByRecursion, Answer, AnswersBy, AnswersError, AsyncRules, Bool, ClientSide, Count, Deliver, Does, Done, DropReceiver, EndStream, EndsOne, Entry, Err, Error, Event, ExpireAll, Failure, Finish, Flying, Halves, Handed, Incoming, IsFresh, Item, Job, JobList, List, MESSAGE_TYPE_REQUEST, Mail, MakeJob, MakeStream, MessageHeader, Net, None, Ok, Option, OutboundTransform, Outbox, PutIn, ReceivesBy, Recv, Refused, Reply, Result, Row, Rules, Runs, Scene, Sent, Server, ServerCore, ServerEnd, ServerPasses, ServerSide, Some, StaysFound, Steps, SyncRules, Take, Tick, [], all_at, all_changed, all_in_front, all_less, ap, arith, arrives, at_stays, brought_by, changed_at, changed_under, cond-false, cond-true, eq-eqb, false, filter, flying_without, header_of_frame, id_of, if◌then◌else◌, inl, inr, last_id, left_behind, map, nat_eq, ne_eqb, new_job, on_mail, refl, row_of, rules, scene, serving, stays, stream_body, subst, sym, true, unary_body, under_stays, unheard, with_server, without_payload, without_receiver, ℕ, ◌++◌, ◌+◌, ◌<◌, ◌∙◌, ◌∷◌, ◌≡◌, ◌≤◌}
-use Rattle.std.proofs.lemmas.Bool.{cases_lt, cases_order}
-use Rattle.ttrpc_story.proofs.Words.{IsOneToOne, IsRightAt, IsStreamOf}
+use Rattle.ttrpc_pair.proofs.Words.{unheard}
+use Rattle.ttrpc_headline.proofs.Words.{[], ActiveJob, ActsAll, ActsOn, all_at, all_changed, all_in_front, all_less, AllByRecursion, Answer, AnswersBy, AnswersError, ap, arith, arrives, AsyncRules, at_stays, Bool, brought_by, cases_lt, cases_order, changed_at, changed_under, ClientSide, cond-false, cond-true, Count, Deliver, Does, Done, DropReceiver, EndsOne, EndStream, Entry, eq-eqb, Err, Error, Event, ExpireAll, Failure, false, filter, Finish, Flying, flying_without, Halves, Handed, header_of_frame, id_of, if◌then◌else◌, Incoming, inl, inr, IsFresh, IsOneToOne, IsRightAt, IsStreamOf, Item, Job, JobList, last_id, left_behind, List, Mail, MakeJob, MakeStream, map, MESSAGE_TYPE_REQUEST, MessageHeader, nat_eq, ne_eqb, Net, new_job, None, Ok, on_mail, Option, OutboundTransform, Outbox, PutIn, ReceivesBy, Recv, refl, Refused, Reply, Result, Row, row_of, Rules, rules, Runs, Scene, scene, Sent, Server, ServerCore, ServerEnd, ServerPasses, ServerSide, serving, Some, stays, StaysFound, Steps, stream_body, subst, sym, SyncRules, Take, Tick, true, unary_body, under_stays, with_server, without_payload, without_receiver, ℕ, ◌++◌, ◌+◌, ◌<◌, ◌∙◌, ◌∷◌, ◌≡◌, ◌≤◌}
 
 -- ---- streams that rise
 

@@ -1,6 +1,5 @@
 -- What is in flight one way, from an outbox to a connection, as bytes and as seals, and what becomes of it.
-use Rattle.ttrpc_pair.proofs.Words.{[], act_as_sent, ActsAll, ActsOn, after_report, ap, append_assoc, AreInFlight, AreLinked, arrived, associated, Bool, BreaksAt, carried_in_flight, Connection, cut_in_flight, cut_to, Disconnected, DisconnectedInside, drop, empty_pipe, empty_queue, Error, failing, Failure, false, Fed, fed_in_flight, Feeds, first_failure, Flying, given, Hears, Held, InboundTransform, Incoming, inl, inr, IsPaired, IsSound, length, List, map, min, more_linked, None, none_in_flight, none_linked, nothing, open_part, Option, OutboundTransform, Outbox, Pipe, pipe_after_carry, placed_in_flight, Queue, refl, scene, Scene, Some, suc, sym, take, take-append-drop, taken_from, true, Ways, with_frame, with_lent, zero, ℕ, ◌++◌, ◌∙◌, ◌∷◌, ◌≡◌, ◌≢◌, ◌≤◌, ◌⊎◌}
-use Rattle.std.proofs.lemmas.List.{take_at, take-map}
+use Rattle.ttrpc_headline.proofs.Words.{[], act_as_sent, ActsAll, ActsOn, after_report, ap, append_assoc, AreInFlight, AreLinked, arrived, associated, Bool, BreaksAt, carried_in_flight, Connection, cut_in_flight, cut_to, Disconnected, DisconnectedInside, drop, empty_pipe, empty_queue, Error, failing, Failure, false, Fed, fed_in_flight, Feeds, first_failure, Flying, given, Hears, Held, InboundTransform, Incoming, inl, inr, IsPaired, IsSound, length, List, map, min, more_linked, None, none_in_flight, none_linked, nothing, open_part, Option, OutboundTransform, Outbox, Pipe, pipe_after_carry, placed_in_flight, Queue, refl, Scene, scene, Some, suc, sym, take, take-append-drop, take-map, take_at, taken_from, true, Ways, with_frame, with_lent, zero, ℕ, ◌++◌, ◌∙◌, ◌∷◌, ◌≡◌, ◌≢◌, ◌≤◌, ◌⊎◌}
 
 -- these flights are in transit, and behind them queued
 pub record InFlight (held : Held) (p : Pipe) (q : Queue) (flights : List Flying) : Type 0 where

@@ -1,11 +1,5 @@
 -- What is sent reads back, what a core makes of it then, and the flights that it is sent as.
-use Rattle.ttrpc_story.proofs.Here.{IsAnswer, Origin}
-use Rattle.ttrpc_pair.proofs.Words.{[], Absent, and_parts, arith, asked_row, AskedCall, Asks, AsyncRules, Bool, Busy, by_status, Case, case_of, case_row, Chat, codes, data_case, empty_request, empty_response, Err, even_id_text, EvenId, false, fit_to_message, fitted, Full, Gives, has_method, has_service, has_stream, if◌then◌else◌, Ignore, inactive_text, Inlet, INVALID_ARGUMENT, IsRequest, IsResponse, landing_of, le-ltb, length, limit_text, List, ltb-true, MakeJob, MakeStream, malformed_text, MESSAGE_LENGTH_MAX, MESSAGE_TYPE_DATA, MESSAGE_TYPE_REQUEST, MESSAGE_TYPE_RESPONSE, MessageHeader, method_text, nat_eq, nat_lt, NoMethod, NoService, Opened, other_of, Others, oversize_text, path_text, PutIn, reads_back, refl, Request, request_again, request_bytes, request_fields, request_fits, request_row, request_step, Response, response_again, response_bytes, response_fields, response_fits, response_size, response_step, Row, Rules, rules, SendResponse, service_text, Services, Skipped, Some, status_response, subst, suc, sym, SyncRules, Taking, timeout_response, true, UNIMPLEMENTED, UNKNOWN, zero, ℕ, ◌&&◌, ◌++◌, ◌-◌, ◌<◌, ◌^◌, ◌∙◌, ◌∷◌, ◌≡◌, ◌≤◌}
-use Rattle.ttrpc_story.proofs.Words.{Act, closing_news, data_news, HasOkStatus, news_of, ◌%◌}
-use Rattle.std.specs.Fmt.{decimal}
-use Rattle.std.proofs.lemmas.Fmt.{IsAscii-decimal}
-use Rattle.std.proofs.lemmas.Str.{IsUtf8-append, IsUtf8-from_ascii}
-use Rattle.std.specs.Str.{IsAscii, IsUtf8}
+use Rattle.ttrpc_headline.proofs.Words.{[], Absent, Act, and_parts, arith, asked_row, AskedCall, Asks, AsyncRules, Bool, Busy, by_status, Case, case_of, case_row, Chat, closing_news, codes, data_case, data_news, decimal, empty_request, empty_response, Err, even_id_text, EvenId, false, fit_to_message, fitted, Full, Gives, has_method, has_service, has_stream, HasOkStatus, if◌then◌else◌, Ignore, inactive_text, Inlet, INVALID_ARGUMENT, IsAnswer, IsAscii, IsAscii-decimal, IsRequest, IsResponse, IsUtf8, IsUtf8-append, IsUtf8-from_ascii, landing_of, le-ltb, length, limit_text, List, ltb-true, MakeJob, MakeStream, malformed_text, MESSAGE_LENGTH_MAX, MESSAGE_TYPE_DATA, MESSAGE_TYPE_REQUEST, MESSAGE_TYPE_RESPONSE, MessageHeader, method_text, nat_eq, nat_lt, news_of, NoMethod, NoService, Opened, Origin, other_of, Others, oversize_text, path_text, PutIn, reads_back, refl, Request, request_again, request_bytes, request_fields, request_fits, request_row, request_step, Response, response_again, response_bytes, response_fields, response_fits, response_size, response_step, Row, Rules, rules, SendResponse, service_text, Services, Skipped, Some, status_response, subst, suc, sym, SyncRules, Taking, timeout_response, true, UNIMPLEMENTED, UNKNOWN, zero, ℕ, ◌%◌, ◌&&◌, ◌++◌, ◌-◌, ◌<◌, ◌^◌, ◌∙◌, ◌∷◌, ◌≡◌, ◌≤◌}
 
 -- ---- texts
 

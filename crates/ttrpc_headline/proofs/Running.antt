@@ -1,5 +1,5 @@
 -- A run goes on by one step.
-use Rattle.ttrpc_pair.proofs.Words.{◌++◌, ◌∷◌, ◌≡◌, [], ap, Bool, Entry, Event, Halves, List, map, Net, refl, Reply, Runs, Steps, subst}
+use Rattle.ttrpc_headline.proofs.Words.{[], ap, Bool, Entry, Event, Halves, List, map, Net, refl, Reply, Runs, Steps, subst, ◌++◌, ◌∷◌, ◌≡◌}
 
 pub run_more : {CO CI SO SI : Type 0} (c : Halves CO CI) (s : Halves SO SI) (seals : Bool) (w : Net CO CI SO SI) (trace : List Entry) (x : Net CO CI SO SI) (event : Event) (reply : Reply) (v : Net CO CI SO SI)
     → Runs c s seals w trace x → Steps c s seals x event reply v → Runs c s seals w (trace ++ record { event = event; reply = reply } ∷ []) v

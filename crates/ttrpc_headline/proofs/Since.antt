@@ -4,12 +4,7 @@ use Rattle.ttrpc_headline.proofs.Cleanly.{first_step, IsCleanStep}
 use Rattle.ttrpc_headline.proofs.Headline.{Stands, step_on}
 use Rattle.ttrpc_headline.proofs.Keeps.{Keeps}
 use Rattle.ttrpc_headline.proofs.Numbers.{AreRight}
-use Rattle.ttrpc_story.proofs.Place.{Settings}
-use Rattle.ttrpc_events.specs.Clean.{since, takes_bytes}
-use Rattle.ttrpc_events.specs.declared.events.Side.{Side}
-use Rattle.std.specs.Prelude.{◌||◌}
-use Rattle.ttrpc_pair.proofs.Words.{[], append-nil, append_assoc, Bool, Entry, Event, false, Halves, if◌then◌else◌, List, Net, refl, Reply, Steps, subst, sym, true, ℕ, ◌++◌, ◌∷◌, ◌≡◌}
-use Rattle.ttrpc_story.proofs.Words.{with_entry}
+use Rattle.ttrpc_headline.proofs.Words.{[], append-nil, append_assoc, Bool, Entry, Event, false, Halves, if◌then◌else◌, List, Net, refl, Reply, Settings, Side, since, Steps, subst, sym, takes_bytes, true, with_entry, ℕ, ◌++◌, ◌||◌, ◌∷◌, ◌≡◌}
 
 since_next : (P Q : Type 0) (takes is before : Bool) → (is ≡ true → Q) → (takes ≡ false → P → Q) → (before ≡ true → P) → (if takes then false else (is || before)) ≡ true → Q
 since_next P Q true is before start on had h = cc

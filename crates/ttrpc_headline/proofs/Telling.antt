@@ -3,10 +3,7 @@ use Rattle.ttrpc_headline.proofs.Calls.{whole_calls}
 use Rattle.ttrpc_headline.proofs.Headline.{begins, in_order, kept_at_end}
 use Rattle.ttrpc_headline.proofs.WholeStreams.{whole_streams}
 use Rattle.ttrpc_headline.proofs.Numbers.{one_to_one, stream_of_run, streams_of}
-use Rattle.ttrpc_events.specs.Headline.{IsTold}
-use Rattle.ttrpc_story.proofs.Events.{exactly_once}
-use Rattle.ttrpc_story.proofs.Place.{Settings}
-use Rattle.ttrpc_pair.proofs.Words.{[], Bool, Entry, false, Halves, IsFresh, List, Net, refl, Runs, safe_limit, ℕ, ◌≡◌}
+use Rattle.ttrpc_headline.proofs.Words.{[], Bool, Entry, exactly_once, false, Halves, IsFresh, IsTold, List, Net, refl, Runs, safe_limit, Settings, ℕ, ◌≡◌}
 
 pub told : {CO CI SO SI : Type 0} (c : Halves CO CI) (s : Halves SO SI) (seals : Bool) (still : seals ≡ false → (from to : CO) (plain aad sealed : List ℕ) → c.out.seals from plain aad sealed to → to ≡ from)
     (fixed : (x y : SO) (plain aad sealed : List ℕ) → s.out.seals x plain aad sealed y → s.out.overhead y ≡ s.out.overhead x)

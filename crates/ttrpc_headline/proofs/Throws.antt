@@ -1,5 +1,5 @@
 -- Requests are thrown away: what stays in flight to the server.
-use Rattle.ttrpc_pair.proofs.Words.{◌++◌, ◌∙◌, ◌≡◌, ◌≤◌, ◌⊎◌, ℕ, [], all_behind, all_thrown, AllByRecursion, ap, AreLinked, begun_count, Bool, cases_Bool, Connection, Failure, false, first_failure, Flying, flying_without, has_begun, id_of, if◌then◌else◌, InboundTransform, inl, inr, IsOwned, length, List, None, Option, Outbox, OutboundTransform, parcels, parcels_thrown, parcels_thrown_elsewhere, Pipe, refl, Some, subst, sym, taken_back, thrown_in_flight, thrown_linked, true, under_both, without}
+use Rattle.ttrpc_headline.proofs.Words.{[], all_behind, all_thrown, AllByRecursion, ap, AreLinked, begun_count, Bool, cases_Bool, Connection, Failure, false, first_failure, Flying, flying_without, has_begun, id_of, if◌then◌else◌, InboundTransform, inl, inr, IsOwned, length, List, None, Option, OutboundTransform, Outbox, parcels, parcels_thrown, parcels_thrown_elsewhere, Pipe, refl, Some, subst, sym, taken_back, thrown_in_flight, thrown_linked, true, under_both, without, ℕ, ◌++◌, ◌∙◌, ◌≡◌, ◌≤◌, ◌⊎◌}
 use Rattle.ttrpc_headline.proofs.Numbers.{Between, thrown_between}
 use Rattle.ttrpc_headline.proofs.OneWay.{dead, InFlight, not_both, OneWay}
 

@@ -1,17 +1,7 @@
 -- A call that waits has the deadline of its call in the trace. So a moment that reaches no deadline finds none due, and changes
 -- nothing at the client.
 use Rattle.ttrpc_headline.proofs.Keeps.{Keeps}
-use Rattle.ttrpc_story.proofs.Here.{Born, ByCall, ByOpen, only_one, Origin, Unborn}
-use Rattle.ttrpc_story.proofs.Tidy.{IsPatient}
-use Rattle.std.proofs.Common.{negsuc, pos, suc, zero}
-use Rattle.ttrpc_story.proofs.AtClient.{AtClient}
-use Rattle.ttrpc_story.proofs.Place.{Settings}
-use Rattle.ttrpc_events.specs.Clean.{is_clean_event, is_clean_reply, is_none_of, IsInTime, moment_after, moment_behind, reaches, reaches_at, reaches_one}
-use Rattle.ttrpc_events.specs.Told.{outcomes}
-use Rattle.std.specs.Prelude.{◌&&◌}
-use Rattle.std.proofs.lemmas.Bool.{or_parts}
-use Rattle.ttrpc_pair.proofs.Words.{[], ActsAll, ap, append_assoc, arith, arrives, Bool, call_at, CallEvent, calling, cases_eq, Client, ClientCore, ClientSide, Count, deadline_of, Deliver, Done, DropCall, DropReceiver, DropSender, Entry, eq-eqb, Event, Failure, false, Given, Halves, if◌then◌else◌, Incoming, inl, inr, is_some, IsFresh, Landing, landing_of, LandsOn, List, Named, Net, None, number_of, Option, Outcome, Passes, refl, Refused, Reply, Request, rules, Scene, scene, ServerSide, Some, Steps, subst, sym, Tick, true, ℕ, ◌++◌, ◌+◌, ◌∙◌, ◌∷◌, ◌≡◌, ◌≢◌, ◌≤◌, ◌⊎◌}
-use Rattle.ttrpc_story.proofs.Words.{Act, act_of, acts, Call, Called, calls, calls_append, Ended, Expired, expired_at, is_due, left_of, only_if, said_then, Stream, Waiting, with_entry, ℤ}
+use Rattle.ttrpc_headline.proofs.Words.{[], Act, act_of, acts, ActsAll, ap, append_assoc, arith, arrives, AtClient, Bool, Born, ByCall, ByOpen, Call, call_at, Called, CallEvent, calling, calls, calls_append, cases_eq, Client, ClientCore, ClientSide, Count, deadline_of, Deliver, Done, DropCall, DropReceiver, DropSender, Ended, Entry, eq-eqb, Event, Expired, expired_at, Failure, false, Given, Halves, if◌then◌else◌, Incoming, inl, inr, is_clean_event, is_clean_reply, is_call_due, is_none_of, is_some, IsFresh, IsInTime, IsPatient, Landing, landing_of, LandsOn, left_of, List, moment_after, moment_behind, Named, negsuc, Net, None, number_of, only_if, only_one, Option, or_parts, Origin, Outcome, outcomes, Passes, pos, reaches, reaches_at, reaches_one, refl, Refused, Reply, Request, rules, said_then, Scene, scene, ServerSide, Settings, Some, Steps, Stream, subst, suc, sym, Tick, true, Unborn, Waiting, with_entry, zero, ℕ, ℤ, ◌&&◌, ◌++◌, ◌+◌, ◌∙◌, ◌∷◌, ◌≡◌, ◌≢◌, ◌≤◌, ◌⊎◌}
 
 -- this is the call of an id, made at such a moment, and this is its deadline
 abbrev pub IsCallOf : ℕ → Option ℕ → ℕ → Event → Reply → Type 0
@@ -68,7 +58,7 @@ if_is true c x never h = absurd (never (let same : Expired ≡ x = cc in sym sam
 
 pub expired_is : (now : ℕ) (e : Option Call) (x : Call) → (x ≡ Expired → ⊥) → expired_at now e ≡ Some x → e ≡ Some x
 expired_is now None x never h = cc
-expired_is now (Some c) x never h = if_is (is_due now c) c x never h
+expired_is now (Some c) x never h = if_is (is_call_due now c) c x never h
 
 landed_waits : (landing : Landing) (e e2 : Option Call) (d : Option ℕ) → LandsOn landing e e2 → e2 ≡ Some (Waiting d) → e ≡ Some (Waiting d)
 landed_waits landing (Some (Waiting x)) e2 d l h = let bad : Some (Ended l.0) ≡ Some (Waiting d) = sym l.2 ∙ h in cc
@@ -231,7 +221,7 @@ module _ {CO CI SO SI : Type 0} (c : Halves CO CI) (s : Halves SO SI) (seals : B
   waits_ungiven k (Born (ByCall q)) a e st d h is = cc
   waits_ungiven k (Born (ByOpen q up down)) a e st d h is = h.1
 
-  due_reaches : (now : ℕ) (d : Option ℕ) → is_due now (Waiting d) ≡ reaches now d
+  due_reaches : (now : ℕ) (d : Option ℕ) → is_call_due now (Waiting d) ≡ reaches now d
   due_reaches now None = refl
   due_reaches now (Some at) = refl
 

@@ -7,15 +7,7 @@ use Rattle.ttrpc_headline.proofs.Jobs.{job_is, mailed}
 use Rattle.ttrpc_headline.proofs.Keeps.{Keeps}
 use Rattle.ttrpc_headline.proofs.Numbers.{AreRight, IsRightRun}
 use Rattle.ttrpc_headline.proofs.Since.{since_holds, Starts, Stays}
-use Rattle.ttrpc_headline.specs.Living.{IsEmpty}
-use Rattle.ttrpc_story.proofs.AllGiven.{all_given_down, all_given_up, given_by_end, given_still}
-use Rattle.ttrpc_story.proofs.Events.{in_order_here, only_of}
-use Rattle.ttrpc_story.proofs.Place.{Settings}
-use Rattle.ttrpc_story.proofs.Reading.{items_append}
-use Rattle.ttrpc_events.proofs.Traces.{said_then}
-use Rattle.ttrpc_events.specs.Clean.{AreWholeStreams, finds_nothing_down, finds_nothing_up, IsClean, IsWholeStream}
-use Rattle.ttrpc_pair.proofs.Words.{[], ActiveJob, all_at, ap, append-nil, AsyncRules, between_own, Bool, ClientEnd, ClientSide, Entry, eqb-true, Event, Failure, false, Halves, inl, inr, IsFresh, Item, job_at, jobs_at, List, Net, None, Option, Recv, ReceivesBy, refl, Reply, Rules, Runs, safe_limit, ServerEnd, ServerSide, Some, Stream, stream_at, stream_id_of, subst, sym, SyncRules, true, ℕ, ◌++◌, ◌∙◌, ◌≡◌}
-use Rattle.ttrpc_story.proofs.Words.{Flow, flow_of, flows, got, heard_down, heard_down_append, heard_up, heard_up_append, items, parcels, put_down, put_down_append, put_up, put_up_append, ReceivesAt, Thing, with_entry}
+use Rattle.ttrpc_headline.proofs.Words.{[], ActiveJob, all_at, all_given_down, all_given_up, ap, append-nil, AreWholeStreams, AsyncRules, between_own, Bool, ClientEnd, ClientSide, Entry, eqb-true, Event, Failure, false, finds_nothing_down, finds_nothing_up, Flow, flow_of, flows, given_by_end, given_still, got, Halves, heard_down, heard_down_append, heard_up, heard_up_append, in_order_here, inl, inr, IsClean, IsEmpty, IsFresh, IsWholeStream, Item, items, items_append, job_at, jobs_at, List, Net, None, only_of, Option, parcels, put_down, put_down_append, put_up, put_up_append, ReceivesAt, ReceivesBy, Recv, refl, Reply, Rules, Runs, safe_limit, said_then, ServerEnd, ServerSide, Settings, Some, Stream, stream_at, stream_id_of, subst, sym, SyncRules, Thing, true, with_entry, ℕ, ◌++◌, ◌∙◌, ◌≡◌}
 
 module _ {CO CI SO SI : Type 0} (c : Halves CO CI) (s : Halves SO SI) (seals : Bool) (still : seals ≡ false → (from to : CO) (plain aad sealed : List ℕ) → c.out.seals from plain aad sealed to → to ≡ from)
     (fixed : (x y : SO) (plain aad sealed : List ℕ) → s.out.seals x plain aad sealed y → s.out.overhead y ≡ s.out.overhead x) (set : Settings) (f : ℕ → ℕ) where
