@@ -9,7 +9,7 @@ use Rattle.ttrpc_headline.proofs.Numbers.{IsRightRun, stream_of_run}
 use Rattle.ttrpc_headline.proofs.Since.{since_holds, Starts, Stays}
 use Rattle.ttrpc_story.proofs.Tidy.{IsAsked}
 use Rattle.ttrpc_story.proofs.Words.{Opened}
-use Rattle.ttrpc_headline.proofs.Words.{[], Act, act_of, ActiveJob, acts, AllByRecursion, Answer, Answered, ap, AreWholeCalls, Around, asked_by, asks_outcome, Bool, Born, ByCall, ByOpen, call_at, Called, CallEvent, calls, calls_work, ClientSide, Done, Ended, EndStream, Entry, eq-eqb, eqb-true, Error, Event, false, Gave, Given, Halves, Handed, has_method, has_response, Here, here_at, if◌then◌else◌, inl, inr, is_answer_of, is_done, is_stream, IsAnsweredIn, IsAskedFor, IsClean, IsDrained, IsEmpty, IsFresh, IsQuiet, IsRightAt, IsStreamOf, IsWholeCall, Job, jobs_at, Known, List, list_any, list_any-append, Named, names, nat_eq, Net, None, NoneWaits, Ok, once, only_if, OpenEvent, or_cases, or_left, or_right, Origin, Outcome, parcels, Ran, refl, Reply, Request, Respond, Response, Result, Runs, safe_limit, ServerCore, ServerSide, Settings, Some, some_of, subst, sym, Take, takes_nothing, true, Unborn, ups_of, Waits, whole_call, Work, work, ℕ, ◌++◌, ◌||◌, ◌∙◌, ◌∷◌, ◌≡◌}
+use Rattle.ttrpc_headline.proofs.Words.{[], Act, act_of, ActiveJob, acts, AllByRecursion, Answer, Answered, ap, AreWholeCalls, Around, asked_by, asks_outcome, Bool, Born, ByCall, ByOpen, call_at, Called, CallEvent, calls, calls_work, ClientSide, Done, Ended, EndStream, Entry, eq-eqb, eqb-true, Error, Event, false, Gave, Given, Halves, Handed, has_method, has_response, Here, here_at, if◌then◌else◌, inl, inr, is_answer_of, is_done, is_stream, IsAnsweredIn, IsAskedFor, IsClean, IsDrained, IsEmpty, IsFresh, IsQuiet, IsRightAt, IsStreamOf, IsWholeCall, Job, jobs_at, Known, List, list_any, list_any-append, Named, names, nat_eq, Net, nil_parts, None, NoneWaits, Ok, once, only_if, OpenEvent, or_cases, or_left, or_right, Origin, Outcome, parcels, Ran, refl, Reply, Request, Respond, Response, Result, Runs, safe_limit, ServerCore, ServerSide, Settings, Some, some_of, subst, sym, Take, takes_nothing, true, Unborn, ups_of, Waits, whole_call, Work, work, ℕ, ◌++◌, ◌||◌, ◌∙◌, ◌∷◌, ◌≡◌}
 
 -- ---- what a run of a job says of the trace
 
@@ -110,10 +110,6 @@ called_by {w} {k} {h} (Born (ByCall r)) p q n one =
     let same : r ≡ q = cc in
     ap (λ (x : Request). Born (ByCall x)) same
 
-no_front : {X : Type 0} (a b : List X) → a ++ b ≡ [] → a ≡ []
-no_front [] b h = refl
-no_front (x ∷ a) b h = cc
-
 filtered_idle : (k : ℕ) (js : List ActiveJob) → NoneWaits js → NoneWaits (jobs_at js k)
 filtered_idle k [] h = tt
 filtered_idle k (j ∷ js) h = by (nat_eq j.header.stream_id k) (filtered_idle k js h.1)
@@ -126,7 +122,7 @@ filtered_idle k (j ∷ js) h = by (nat_eq j.header.stream_id k) (filtered_idle k
 whole_of : {w : Around} {k : ℕ} {h : Here} (q : Request) (p : Work) → Known w k h (Born (ByCall q)) p → w.set.clean → has_method w.set.services q.service q.method ≡ true → h.ups ≡ [] → h.downs ≡ [] → NoneWaits h.jobs
     → ((job : ℕ) → work h.acts ≡ once q job → ⊥) → IsAsked h.acts h.call → IsWholeCall w.set.rules w.set.limit q h.acts
 whole_of {w} {k} {h} q p n clean method ups downs idle run asked =
-    whole_call w.set.rules w.set.limit q p h.acts h.downs h.call (n.tidy clean method) n.server.works_is (no_front (ups_of p) n.server.items (sym n.server.ups_is ∙ ups)) downs waiting run asked
+    whole_call w.set.rules w.set.limit q p h.acts h.downs h.call (n.tidy clean method) n.server.works_is (nil_parts (ups_of p) n.server.items (sym n.server.ups_is ∙ ups)).0 downs waiting run asked
   where
     waiting : (j : ActiveJob) → p ≡ Waits j → ⊥
     waiting j is =

@@ -5,7 +5,7 @@ use Rattle.ttrpc_headline.proofs.Behind.{none_taken}
 use Rattle.ttrpc_headline.proofs.Living.{heard_whole, never_over}
 use Rattle.ttrpc_headline.proofs.Since.{IsKnown}
 use Rattle.ttrpc_headline.proofs.Timed.{none_due}
-use Rattle.ttrpc_headline.proofs.Words.{[], ActiveJob, ActsAll, after_report, Answer, AnswersBy, AnswersError, ap, arith, Asked, AsyncRules, Began, Bool, Call, call_at, CallEvent, calling, Carry, ClientCore, ClientEnd, ClientSide, Close, ClosedUp, Connection, Count, DeadlineDuringWrite, Deliver, Done, due_at, EndedDown, EndsStream, EndStream, Entry, Err, Error, Event, ExpireAll, Expired, expired_at, Failure, false, Flow, flow_of, Halves, HeardDown, HeardUp, if◌then◌else◌, Incoming, inl, inr, is_clean_event, is_clean_reply, is_call_due, is_over, IsOpen, IsQueue, Item, items, length, length-take, lent_of, List, min, Named, nat_eq, Net, never_empty, None, none_reported, none_thrown, Ok, only_if, open_part, OpenEvent, Option, OutboundTransform, Outbox, Passes, put_down, put_up, Queue, Queued, Recv, refl, Reply, Respond, Responds, Response, Result, Rules, rules, Scene, scene, Send, SendsAll, SendsOne, Sent, SentDown, SentUp, Server, ServerCore, ServerEnd, ServerPasses, ServerSide, serving, Settings, Some, some_of, Steps, StreamEnd, subst, sym, SyncRules, take, taken_back, taken_from, takes_bytes, throws, Tick, Ticket, true, Waiting, Ways, with_lent, with_payload, Word, ℕ, ◌++◌, ◌∙◌, ◌∷◌, ◌≡◌}
+use Rattle.ttrpc_headline.proofs.Words.{[], ActiveJob, ActsAll, after_report, Answer, AnswersBy, AnswersError, ap, arith, Asked, AsyncRules, Began, Bool, Call, call_at, CallEvent, calling, Carry, ClientCore, ClientEnd, ClientSide, Close, ClosedUp, Connection, Count, DeadlineDuringWrite, Deliver, Done, due_at, EndedDown, EndsStream, EndStream, Entry, Err, Error, Event, ExpireAll, Expired, expired_at, Failure, false, Flow, flow_of, Halves, HeardDown, HeardUp, if◌then◌else◌, Incoming, inl, inr, is_clean_event, is_clean_reply, is_call_due, is_over, IsOpen, IsQueue, Item, items, length, length-take, lent_of, List, min, Named, nat_eq, Net, never_empty, nil_parts, None, none_reported, none_thrown, Ok, only_if, open_part, OpenEvent, Option, OutboundTransform, Outbox, Passes, put_down, put_up, Queue, Queued, Recv, refl, Reply, Respond, Responds, Response, Result, Rules, rules, Scene, scene, Send, SendsAll, SendsOne, Sent, SentDown, SentUp, Server, ServerCore, ServerEnd, ServerPasses, ServerSide, serving, Settings, Some, some_of, Steps, StreamEnd, subst, sym, SyncRules, take, taken_back, taken_from, takes_bytes, throws, Tick, Ticket, true, Waiting, Ways, with_lent, with_payload, Word, ℕ, ◌++◌, ◌∙◌, ◌∷◌, ◌≡◌}
 
 -- NOTHING IS ON A WAY
 pub record IsIdle (queued : List Queued) (pipe : List ℕ) : Type 0 where
@@ -46,14 +46,6 @@ expired out (j ∷ js) old from new to p e = sent_all out p.2.sent from p.1 p.2.
 
 -- ---- a carry
 
-left_nil : {X : Type 0} (xs ys : List X) → xs ++ ys ≡ [] → xs ≡ []
-left_nil [] ys h = refl
-left_nil (x ∷ xs) ys h = cc
-
-right_nil : {X : Type 0} (xs ys : List X) → xs ++ ys ≡ [] → ys ≡ []
-right_nil [] ys h = h
-right_nil (x ∷ xs) ys h = cc
-
 none_moved : (xs : List ℕ) (k n : ℕ) → k ≡ min n (length xs) → take k xs ≡ [] → k ≡ 0
 none_moved xs k n e h =
     let size : length (take k xs) ≡ min k (length xs) = length-take k xs in
@@ -63,8 +55,9 @@ none_moved xs k n e h =
 carried : (failure : Option Failure) (cut : Bool) (q : Queue) (pipe : List ℕ) (n k : ℕ) → failure ≡ None → cut ≡ false → IsQueue q → k ≡ lent_of failure n q → IsIdle (after_report (with_lent q k) k).frames (if cut then pipe else pipe ++ take k (open_part q)) → IsIdle q.frames pipe
 carried failure true q pipe n k alive whole is e i = cc
 carried failure false q pipe n k alive whole is e i =
-    let none : k ≡ 0 = none_moved (open_part q) k n (lent_alive failure n k q alive e) (right_nil pipe (take k (open_part q)) i.none_carried) in
-    record { none_queued = sym (none_reported q k is none) ∙ i.none_queued; none_carried = left_nil pipe (take k (open_part q)) i.none_carried }
+    let parts = nil_parts pipe (take k (open_part q)) i.none_carried in
+    let none : k ≡ 0 = none_moved (open_part q) k n (lent_alive failure n k q alive e) parts.1 in
+    record { none_queued = sym (none_reported q k is none) ∙ i.none_queued; none_carried = parts.0 }
 
 -- ---- a moment
 

@@ -110,13 +110,9 @@ module _ {CO CI SO SI : Type 0} (c : Halves CO CI) (s : Halves SO SI) (seals : B
   empty_by ServerSide ClientSide v a b x y = record { up_queue = b; down_queue = a; up = y; down = x }
   empty_by ServerSide ServerSide v a b x y = record { up_queue = b; down_queue = a; up = x; down = y }
 
-  queue_twice : (side : Side) (w v : Net CO CI SO SI) → queue_of (other (other side)) v ≡ queue_of (other (other side)) w → queue_of side v ≡ queue_of side w
-  queue_twice ClientSide w v e = e
-  queue_twice ServerSide w v e = e
-
-  pipe_twice : (side : Side) (w v : Net CO CI SO SI) → pipe_to (other (other side)) v ≡ pipe_to (other (other side)) w → pipe_to side v ≡ pipe_to side w
-  pipe_twice ClientSide w v e = e
-  pipe_twice ServerSide w v e = e
+other_other : (x : Side) → other (other x) ≡ x
+other_other ClientSide = refl
+other_other ServerSide = refl
 
 module _ {CO CI SO SI : Type 0} (c : Halves CO CI) (s : Halves SO SI) (seals : Bool) (still : seals ≡ false → (from to : CO) (plain aad sealed : List ℕ) → c.out.seals from plain aad sealed to → to ≡ from)
     (fixed : (x y : SO) (plain aad sealed : List ℕ) → s.out.seals x plain aad sealed y → s.out.overhead y ≡ s.out.overhead x) (set : Settings) (f : ℕ → ℕ) where
@@ -141,8 +137,8 @@ module _ {CO CI SO SI : Type 0} (c : Halves CO CI) (s : Halves SO SI) (seals : B
       let z3 = deliver_zero c s seals set f d.to _ x2.run.0 x3.run.0 d.c d.some.2 x3.kept o3 x3.run.1 in
       let z4 = deliver_zero c s seals set f (other d.to) _ x3.run.0 x4.run.0 d.d d.some.3 x4.kept o4 x4.run.1 in
       subst IsEmpty (sym x4.run.2) (empty_by c s seals d.from d.to x4.run.0
-      (ap (λ (y : Queue). y.frames) (z4.2 d.from ∙ z3.2 d.from ∙ queue_twice c s seals d.from x1.run.0 x2.run.0 z2.1) ∙ z1.0) (ap (λ (y : Queue). y.frames) (z4.2 (other d.from) ∙ z3.2 (other d.from)) ∙ z2.0)
-      (pipe_twice c s seals d.to x3.run.0 x4.run.0 z4.1 ∙ z3.0) z4.0)
+      (ap (λ (y : Queue). y.frames) (z4.2 d.from ∙ z3.2 d.from ∙ subst (λ (y : Side). queue_of y x2.run.0 ≡ queue_of y x1.run.0) (other_other d.from) z2.1) ∙ z1.0) (ap (λ (y : Queue). y.frames) (z4.2 (other d.from) ∙ z3.2 (other d.from)) ∙ z2.0)
+      (subst (λ (y : Side). pipe_to y x4.run.0 ≡ pipe_to y x3.run.0) (other_other d.to) z4.1 ∙ z3.0) z4.0)
 
   no_flights : (transit queued flights : List Flying) → transit ++ queued ≡ flights → transit ≡ [] → queued ≡ [] → flights ≡ []
   no_flights transit queued flights all a b = sym all ∙ ap (λ (xs : List Flying). xs ++ queued) a ∙ b

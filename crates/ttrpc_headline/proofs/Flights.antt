@@ -1,5 +1,5 @@
 -- The flights that requests, data and responses are sent as, and what they bring.
-use Rattle.ttrpc_headline.proofs.Payloads.{data_landing_is, data_news_is, fitted_is, IsAnswerOf, IsRefusal, may_refuse, MaySend, response_landing_is, response_news_is}
+use Rattle.ttrpc_headline.proofs.Payloads.{data_read, fitted_is, IsAnswerOf, IsRefusal, may_refuse, MaySend, response_read}
 use Rattle.ttrpc_headline.proofs.Words.{[], Act, AllByRecursion, ap, append-nil, append_assoc, arith, associated, Bool, by_status, close_flags, closing_news, data_news, data_thing, Err, Error, false, fitted, Flying, Follows, Gives, HasOkStatus, id_of, inl, inr, IsAnswer, IsCloseFrame, IsDown, IsItem, IsNever, IsOwned, IsRequest, IsResponse, IsSent, IsSentAs, IsSound, IsTurned, landing_of, last_id, last_thing, length, List, malformed_text, MESSAGE_LENGTH_MAX, MESSAGE_TYPE_REQUEST, MESSAGE_TYPE_RESPONSE, News, news_of, None, Ok, Opened, Option, Origin, Others, OutboundTransform, Outbox, parcels, plain_status, pushed_other, pushed_own, Queued, refl, Request, request_bytes, Responds, Response, response_bytes, Result, Rules, safe_limit, SendsAll, SendsData, SendsOne, Sent, Some, status_cases, subst, sym, Thing, thing_down, thing_of, thing_up, ThingEnd, ThingItem, ThingLast, told_by, true, with_frame, with_payload, ℕ, ◌++◌, ◌<◌, ◌^◌, ◌∙◌, ◌∷◌, ◌≡◌, ◌≢◌, ◌≤◌, ◌⊎◌}
 
 -- A frame was sent: it is a flight such as this.
@@ -66,12 +66,12 @@ data_brings d = rw (d.item.stream, d.flags_are, d.plain_is) refl
 
 -- a data frame that comes to the client is no end of a call
 pub item_never : {k : ℕ} {y : Flying} → IsItem k y → IsNever k y
-item_never {k} {y} i = record { stream = i.stream; error = Others (malformed_text y.frame.message.header); lands = data_landing_is y.frame.message.header y.plain i.short i.type_ }
+item_never {k} {y} i = record { stream = i.stream; error = Others (malformed_text y.frame.message.header); lands = (data_read y.frame.message.header y.plain i.short i.type_).0 }
 
 -- and what it brings a stream there, unless that was opened without items
 data_goes : {k flags : ℕ} {plain : List ℕ} {y : Flying} (x : Thing) → Follows (x ∷ []) (data_thing k flags plain ∷ []) → IsData k flags plain y → IsSentAs x y
 data_goes {y = y} x follows d wanted =
-    subst (λ (n : News). Follows (x ∷ []) (thing_of n ∷ [])) (sym (data_news_is wanted y.frame.message.header y.plain d.item.short d.item.type_)) (by wanted)
+    subst (λ (n : News). Follows (x ∷ []) (thing_of n ∷ [])) (sym ((data_read y.frame.message.header y.plain d.item.short d.item.type_).1 wanted)) (by wanted)
   where
     by : (b : Bool) → Follows (x ∷ []) (thing_of (data_news b y.frame.message.header y.plain) ∷ [])
     by true = subst (λ (t : Thing). Follows (x ∷ []) (t ∷ [])) (sym (data_brings d)) follows
@@ -129,11 +129,11 @@ sends_last out old rs k r sent new within p q =
 
 -- what it gives a call, and brings a stream
 lands_as : {k : ℕ} {r : Response} {y : Flying} → IsResponse r → IsResponseFlight k r y → landing_of y.frame.message.header (Opened y.plain) ≡ Gives (by_status r.status r)
-lands_as {r = r} {y = y} is f = rw (f.plain) (response_landing_is y.frame.message.header r is f.short f.type_)
+lands_as {r = r} {y = y} is f = rw (f.plain) (response_read y.frame.message.header r is f.short f.type_).0
 
 brings_as : {k : ℕ} {r : Response} {y : Flying} → IsResponse r → IsResponseFlight k r y → (wanted : Bool) → thing_down wanted y ≡ thing_of (closing_news (by_status r.status r))
 brings_as {r = r} {y = y} is f wanted =
-    let news : news_of wanted y.frame.message.header (Opened y.plain) ≡ closing_news (by_status r.status r) = rw (f.plain) (response_news_is wanted y.frame.message.header r is f.short f.type_) in
+    let news : news_of wanted y.frame.message.header (Opened y.plain) ≡ closing_news (by_status r.status r) = rw (f.plain) ((response_read y.frame.message.header r is f.short f.type_).1 wanted) in
     ap thing_of news
 
 -- where it is said what a frame gives a call, it gives that

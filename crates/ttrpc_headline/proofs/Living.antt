@@ -61,14 +61,9 @@ module _ {CO CI SO SI : Type 0} (c : Halves CO CI) (s : Halves SO SI) (seals : B
   -- ---- what the last four events are
 
   -- a run is a run up to a place, and one from there on
-  pub record Split (w : Net CO CI SO SI) (front back : List Entry) (v : Net CO CI SO SI) : Type 0 where
-    pub mid : Net CO CI SO SI
-    pub before : Runs c s seals w front mid
-    pub behind : Runs c s seals mid back v
-
-  pub split_at : (w : Net CO CI SO SI) (front back : List Entry) (v : Net CO CI SO SI) → Runs c s seals w (front ++ back) v → Split w front back v
-  split_at w [] back v r = record { mid = w; before = refl; behind = r }
-  split_at w (e ∷ front) back v r = let later = split_at r.0 front back v r.2 in record { mid = later.mid; before = (r.0, r.1, later.before); behind = later.behind }
+  split_at : (w : Net CO CI SO SI) (front back : List Entry) (v : Net CO CI SO SI) → Runs c s seals w (front ++ back) v → (mid : Net CO CI SO SI) × Runs c s seals w front mid × Runs c s seals mid back v
+  split_at w [] back v r = (w, refl, r)
+  split_at w (e ∷ front) back v r = let l = split_at r.0 front back v r.2 in (l.0, (r.0, r.1, l.1), l.2)
 
   pub runs_joined : (w : Net CO CI SO SI) (front : List Entry) (mid : Net CO CI SO SI) (back : List Entry) (v : Net CO CI SO SI) → Runs c s seals w front mid → Runs c s seals mid back v → Runs c s seals w (front ++ back) v
   runs_joined w [] mid back v same r = subst (λ (x : Net CO CI SO SI). Runs c s seals x back v) same r
@@ -116,9 +111,9 @@ module _ {CO CI SO SI : Type 0} (c : Halves CO CI) (s : Halves SO SI) (seals : B
       let last = record { event = Carry d.from d.a; reply = Count 0 } ∷ record { event = Carry (other d.from) d.b; reply = Count 0 } ∷ record { event = Deliver d.to d.c; reply = Count 0 } ∷ record { event = Deliver (other d.to) d.d; reply = Count 0 } ∷ [] in
       let at = split_at w d.front last v (subst (λ (t : List Entry). Runs c s seals w t v) d.ends run) in
       let all = subst (λ (t : List Entry). AreClean rules f [] t) d.ends clean in
-      let o0 = stay_open rules f [] w d.front at.mid (clean_front rules f [] d.front last all) at.before o in
-      let four = at.behind in
-      let o1 = stays_open at.mid (Carry d.from d.a) (Count 0) four.0 refl refl four.1 o0 in
+      let o0 = stay_open rules f [] w d.front at.0 (clean_front rules f [] d.front last all) at.1 o in
+      let four = at.2 in
+      let o1 = stays_open at.0 (Carry d.from d.a) (Count 0) four.0 refl refl four.1 o0 in
       let o2 = stays_open four.0 (Carry (other d.from) d.b) (Count 0) four.2.0 refl refl four.2.1 o1 in
       let o3 = stays_open four.2.0 (Deliver d.to d.c) (Count 0) four.2.2.0 refl refl four.2.2.1 o2 in
       subst Lives (sym four.2.2.2.2) (last_two d.to d.c d.d four.2.0 four.2.2.0 four.2.2.2.0 o2 o3 four.2.2.1 four.2.2.2.1)

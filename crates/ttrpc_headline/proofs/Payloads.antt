@@ -152,33 +152,22 @@ item_row AsyncRules services h plain inlet short type_ =
 
 -- ---- what the client makes of what comes
 
--- of a response it makes its outcome
-pub response_landing_is : (h : MessageHeader) (r : Response) → IsResponse r → length (response_bytes r) ≤ MESSAGE_LENGTH_MAX → h.type_ ≡ MESSAGE_TYPE_RESPONSE
-    → landing_of h (Opened (response_bytes r)) ≡ Gives (by_status r.status r)
-response_landing_is h r is short type_ =
+-- Of a response it makes its outcome, and brings a stream what closes it.
+pub response_read : (h : MessageHeader) (r : Response) → IsResponse r → length (response_bytes r) ≤ MESSAGE_LENGTH_MAX → h.type_ ≡ MESSAGE_TYPE_RESPONSE
+    → (landing_of h (Opened (response_bytes r)) ≡ Gives (by_status r.status r)) × ((wanted : Bool) → news_of wanted h (Opened (response_bytes r)) ≡ closing_news (by_status r.status r))
+response_read h r is short type_ =
     let within : nat_lt MESSAGE_LENGTH_MAX (length (response_bytes r)) ≡ false = le-ltb _ _ short in
     let fits : length (response_bytes r) < 2 ^ 64 - 1 = omega (arith, short) in
-    rw (within, type_, reads_back response_step empty_response r (response_fields r) (response_fits r is fits) (response_again r is fits)) refl
+    let again = reads_back response_step empty_response r (response_fields r) (response_fits r is fits) (response_again r is fits) in
+    (rw (within, type_, again) refl, λ wanted. rw (within, type_, again) refl)
 
--- and of data an error
-pub data_landing_is : (h : MessageHeader) (plain : List ℕ) → length plain ≤ MESSAGE_LENGTH_MAX → h.type_ ≡ MESSAGE_TYPE_DATA → landing_of h (Opened plain) ≡ Gives (Err (Others (malformed_text h)))
-data_landing_is h plain short type_ =
+-- Of data it makes an error, and brings a stream them.
+pub data_read : (h : MessageHeader) (plain : List ℕ) → length plain ≤ MESSAGE_LENGTH_MAX → h.type_ ≡ MESSAGE_TYPE_DATA
+    → (landing_of h (Opened plain) ≡ Gives (Err (Others (malformed_text h)))) × ((wanted : Bool) → news_of wanted h (Opened plain) ≡ data_news wanted h plain)
+data_read h plain short type_ =
     let within : nat_lt MESSAGE_LENGTH_MAX (length plain) ≡ false = le-ltb _ _ short in
     let other : nat_eq h.type_ MESSAGE_TYPE_RESPONSE ≡ false = rw type_ refl in
-    rw (within, other) refl
-
--- what a stream is brought by a response, and by data
-pub response_news_is : (wanted : Bool) (h : MessageHeader) (r : Response) → IsResponse r → length (response_bytes r) ≤ MESSAGE_LENGTH_MAX → h.type_ ≡ MESSAGE_TYPE_RESPONSE
-    → news_of wanted h (Opened (response_bytes r)) ≡ closing_news (by_status r.status r)
-response_news_is wanted h r is short type_ =
-    let within : nat_lt MESSAGE_LENGTH_MAX (length (response_bytes r)) ≡ false = le-ltb _ _ short in
-    let fits : length (response_bytes r) < 2 ^ 64 - 1 = omega (arith, short) in
-    rw (within, type_, reads_back response_step empty_response r (response_fields r) (response_fits r is fits) (response_again r is fits)) refl
-
-pub data_news_is : (wanted : Bool) (h : MessageHeader) (plain : List ℕ) → length plain ≤ MESSAGE_LENGTH_MAX → h.type_ ≡ MESSAGE_TYPE_DATA → news_of wanted h (Opened plain) ≡ data_news wanted h plain
-data_news_is wanted h plain short type_ =
-    let within : nat_lt MESSAGE_LENGTH_MAX (length plain) ≡ false = le-ltb _ _ short in
-    rw (within, type_) refl
+    (rw (within, other) refl, λ wanted. rw (within, type_) refl)
 
 -- if it is an outcome that is Ok, it is the answer of the one run
 abbrev pub IsAnswerOf : Origin → List Act → Response → Type 0

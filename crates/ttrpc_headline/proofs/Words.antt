@@ -23,7 +23,7 @@ pub use Rattle.ttrpc_story.proofs.AtServer.{is_done, IsDown, IsItem, IsJob, IsNe
 pub use Rattle.ttrpc_story.proofs.Downward.{box_down, Goes, IsSentAs, IsTurned, plain_status, thing_down, thing_of, told_plain, wants}
 pub use Rattle.ttrpc_story.proofs.Events.{answers_here, asks_here, close_put, down_of, drops_here, ends_here, errs_up_here, exactly_once, expires_here, GoesOn, HasNone, hears_here, hears_up_here, in_order_here, IsPut, item_put, job_within, lands_here, one_request, only_of, responds_here, running_of, sends_down_here, sends_here, stream_within, takes_here, unheard_here, unheard_up_here, unsent_here}
 pub use Rattle.ttrpc_story.proofs.Flowing.{Follows, IsPlainFailure}
-pub use Rattle.ttrpc_story.proofs.Here.{answered_work, Asking, Birth, Born, ByCall, ByOpen, first_act, first_flow, Here, here_at, Idle, IsAnswer, never_empty, only_one, Origin, request_of, Unborn, ups_of, Waits, Work}
+pub use Rattle.ttrpc_story.proofs.Here.{answered_work, Asking, Birth, Born, ByCall, ByOpen, first_act, first_flow, Here, here_at, Idle, IsAnswer, never_empty, nil_parts, only_one, Origin, request_of, Unborn, ups_of, Waits, Work}
 pub use Rattle.ttrpc_story.proofs.Place.{Around, arrives_here, begins_here, comes_of, elsewhere, IsAsked, IsHeldBy, IsNoMethod, IsOdd, IsPassed, Known, Later, passes_here, Place, puts_here, refers_here, Settings, thrown_here, TidyOf, unchanged, untaken}
 pub use Rattle.ttrpc_story.proofs.Reading.{IsPlain, items_append, nothing_read}
 pub use Rattle.ttrpc_story.proofs.Tidy.{IsPatient, IsSentBack, IsTooSoon, once, whole_call}

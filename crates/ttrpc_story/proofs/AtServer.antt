@@ -251,27 +251,24 @@ unanswered (Born b) (Left j x) r e h = let bad : true ≡ false = e in cc
 unanswered (Born b) (Over done) r e h = let bad : true ≡ false = e in cc
 unanswered (Born b) p r e h = let bad : works_of (Born b) p ≡ first_act b ∷ Ran h.0 h.1 (asked_by h.1 (request_of b)) ∷ Answered h.1 (Ok (Some r)) ∷ [] = h.2 in cc
 
-names_first : (b : Birth) (rest : List Act) → names (first_act b ∷ rest) ≡ request_of b ∷ names rest
-names_first (ByCall request) rest = refl
-names_first (ByOpen request up down) rest = refl
+-- the act that uses the id is its one name, and no run
+first_counts : (b : Birth) (rest : List Act) → (names (first_act b ∷ rest) ≡ request_of b ∷ names rest) × (runs (first_act b ∷ rest) ≡ runs rest)
+first_counts (ByCall request) rest = (refl, refl)
+first_counts (ByOpen request up down) rest = (refl, refl)
 
-runs_first : (b : Birth) (rest : List Act) → runs (first_act b ∷ rest) ≡ runs rest
-runs_first (ByCall request) rest = refl
-runs_first (ByOpen request up down) rest = refl
+abbrev IsOnce : List Act → Type 0
+IsOnce acts = (length (names acts) ≤ 1) × (length (runs acts) ≤ 1)
 
-one_name_of : (rules : Rules) (had : ℕ → Bool) (k : ℕ) (o : Origin) (p : Work) → IsWork rules had k o p → length (names (works_of o p)) ≤ 1
-one_name_of rules had k Unborn p h = omega arith
-one_name_of rules had k (Born b) p h = let d = is_done rules had k b p h in rw (d.is, names_first b d.rest, d.unnamed) (omega arith)
+works_once : (rules : Rules) (had : ℕ → Bool) (k : ℕ) (o : Origin) (p : Work) → IsWork rules had k o p → IsOnce (works_of o p)
+works_once rules had k Unborn p h = (omega arith, omega arith)
+works_once rules had k (Born b) p h =
+    let d = is_done rules had k b p h in
+    let first = first_counts b d.rest in
+    (rw (d.is, first.0, d.unnamed) (omega arith), rw (d.is, first.1) d.one_run)
 
-one_run_of : (rules : Rules) (had : ℕ → Bool) (k : ℕ) (o : Origin) (p : Work) → IsWork rules had k o p → length (runs (works_of o p)) ≤ 1
-one_run_of rules had k Unborn p h = omega arith
-one_run_of rules had k (Born b) p h = let d = is_done rules had k b p h in rw (d.is, runs_first b d.rest) d.one_run
-
-pub one_name : {rules : Rules} {had : ℕ → Bool} {k : ℕ} {o : Origin} {p : Work} {ups downs : List Flying} {jobs : List ActiveJob} (acts : List Act) → AtServer rules had k o p (work acts) ups jobs downs → length (names acts) ≤ 1
-one_name {rules} {had} {k} {o} {p} acts s = rw (names_work acts, s.works_is) (one_name_of rules had k o p s.is_work)
-
-pub one_run : {rules : Rules} {had : ℕ → Bool} {k : ℕ} {o : Origin} {p : Work} {ups downs : List Flying} {jobs : List ActiveJob} (acts : List Act) → AtServer rules had k o p (work acts) ups jobs downs → length (runs acts) ≤ 1
-one_run {rules} {had} {k} {o} {p} acts s = rw (runs_work acts, s.works_is) (one_run_of rules had k o p s.is_work)
+-- There is at most one name, and one run.
+pub acts_once : {rules : Rules} {had : ℕ → Bool} {k : ℕ} {o : Origin} {p : Work} {ups downs : List Flying} {jobs : List ActiveJob} (acts : List Act) → AtServer rules had k o p (work acts) ups jobs downs → (length (names acts) ≤ 1) × (length (runs acts) ≤ 1)
+acts_once {rules} {had} {k} {o} {p} acts s = let n = works_once rules had k o p s.is_work in (rw (names_work acts, s.works_is) n.0, rw (runs_work acts, s.works_is) n.1)
 
 -- who has no call is no call
 pub uncalled : {rules : Rules} {had : ℕ → Bool} {k : ℕ} {q : Request} {p : Work} {ups downs : List Flying} {jobs : List ActiveJob} (acts : List Act) → AtServer rules had k (Born (ByCall q)) p (work acts) ups jobs downs → calls acts ≡ [] → ⊥

@@ -1,7 +1,7 @@
 -- What each event does to one id: to a job of it, at the client, and to the items of both receivers.
 use Rattle.ttrpc_story.proofs.Words.{[], Act, Call, ActiveJob, all_joined, AllByRecursion, Answered, ap, append-nil, append_assoc, AreInOrder, arith, asked_by, Bool, calls, closed, Dropped, EndedDown, ending_thing, Err, Error, expired_at, Failure, false, Flow, Flying, gave_of, Gives, GivesOutcome, heard_down, heard_up, HeardDown, HeardUp, is_entered, is_some, is_stream, IsExactlyOnce, LandsOn, last_id, left_of, length, List, Mail, map, None, Ok, OpenedPayload, Option, outcomes, put_down, put_up, Ran, Reaches, Receiver, Receives, ReceivesAt, refl, Request, Response, Result, Rules, Sender, SenderDropped, SentDown, Some, StaysFound, Stream, StreamBody, subst, sym, SyncRules, taken, Thing, ThingEnd, ThingItem, ThingLast, told_of, true, unless_dropped, unless_unheard, unsendable, without_reader, without_receiver, without_sender, Word, words_of, work, work_append, ℕ, ◌++◌, ◌∙◌, ◌∷◌, ◌≡◌, ◌≤◌, SentUp, ClosedUp, inl, heard_down_append, heard_up_append, put_down_append, put_up_append}
 use Rattle.ttrpc_story.proofs.Here.{answered_work, Asking, Birth, Born, ByCall, ByOpen, first_act, Here, IsAnswer, jobs_of, Left, never_empty, no_cons, only_one, Origin, Over, request_of, Runs, Unborn, ups_of, Waits, Work, works_of}
-use Rattle.ttrpc_story.proofs.AtServer.{AtServer, goes_on, is_over, IsDown, IsItem, IsNever, mapped, never_down, one_name, one_run, one_up, uncalled}
+use Rattle.ttrpc_story.proofs.AtServer.{acts_once, AtServer, goes_on, is_over, IsDown, IsItem, IsNever, mapped, never_down, one_up, uncalled}
 use Rattle.ttrpc_story.proofs.AtClient.{whole_given}
 use Rattle.ttrpc_story.proofs.Reading.{closed_item, IsPlain}
 use Rattle.ttrpc_story.proofs.Flowing.{Follows, IsPlainFailure}
@@ -240,15 +240,18 @@ told_sender : (failure : Option Failure) (given : Option Word) (new old : Option
 told_sender failure given new None h = ap unsendable h.1
 told_sender failure given new (Some s) h = ap unsendable h.2
 
-told_says : (set : Settings) (given : Option Word) → (put_up (told_of HeardDown given) ≡ []) × (heard_up (told_of HeardDown given) ≡ []) × (put_down set.rules set.limit (told_of HeardDown given) ≡ []) × (heard_down (told_of HeardDown given) ≡ words_of given)
-told_says set None = (refl, refl, refl, refl)
-told_says set (Some word) = (refl, refl, refl, refl)
+-- what was told says nothing but that
+told_says : (set : Settings) (given : Option Word)
+    → ((put_up (told_of HeardDown given) ≡ []) × (heard_up (told_of HeardDown given) ≡ []) × (put_down set.rules set.limit (told_of HeardDown given) ≡ []) × (heard_down (told_of HeardDown given) ≡ words_of given))
+    × ((put_up (told_of HeardUp given) ≡ []) × (heard_up (told_of HeardUp given) ≡ words_of given) × (put_down set.rules set.limit (told_of HeardUp given) ≡ []) × (heard_down (told_of HeardUp given) ≡ []))
+told_says set None = ((refl, refl, refl, refl), (refl, refl, refl, refl))
+told_says set (Some word) = ((refl, refl, refl, refl), (refl, refl, refl, refl))
 
 -- The client's receiver is told something.
 pub hears_here : {w : Around} {k : ℕ} {h : Here} {st : Option Stream} (failure : Option Failure) (given : Option Word) → Place w k h → IsPlainFailure failure → ReceivesAt failure h.stream given st → Place w k (record h { flows = h.flows ++ told_of HeardDown given; stream = st })
 hears_here {w} {h = h} {st} failure given s plain r =
     let more = told_of HeardDown given in
-    let t = told_says w.set given in
+    let t = (told_says w.set given).0 in
     streams_here s (λ none. (subst (λ (x : Option Stream). ReceivesAt failure x given st) none r).1)
     (up_as (flows_stay put_up put_up_append h.flows more t.0) (flows_stay heard_up heard_up_append h.flows more t.1) (upward.stays st (λ e. sym (told_sender failure given st h.stream r) ∙ e) s.known.up))
     (down_as (flows_stay (put_down w.set.rules w.set.limit) (put_down_append w.set.rules w.set.limit) h.flows more t.2) (flows_grow heard_down heard_down_append h.flows more (words_of given) t.3)
@@ -284,17 +287,13 @@ unsent_here {h = h} s = streams_here s (ap without_sender) (upward.stays (withou
 
 -- ---- what is told at the server
 
-up_told_says : (set : Settings) (given : Option Word) → (put_up (told_of HeardUp given) ≡ []) × (heard_up (told_of HeardUp given) ≡ words_of given) × (put_down set.rules set.limit (told_of HeardUp given) ≡ []) × (heard_down (told_of HeardUp given) ≡ [])
-up_told_says set None = (refl, refl, refl, refl)
-up_told_says set (Some word) = (refl, refl, refl, refl)
-
 -- The server's receiver is told something.
 pub hears_up_here : {w : Around} {k : ℕ} {h : Here} (g : ActiveJob → ActiveJob) → StaysFound g → (front back : List ActiveJob) (job : ActiveJob) (failure : Option Failure) (m left : Mail) (given : Option Word) → Place w k h → h.jobs ≡ front ++ job ∷ back
     → job.body ≡ StreamBody m → (g job).body ≡ StreamBody left → IsPlainFailure failure → Receives failure m given left → Place w k (record h { flows = h.flows ++ told_of HeardUp given; jobs = map g h.jobs })
 hears_up_here {w} {h = h} g found front back job failure m left given s was is now plain r =
     let i = only_of front back job s was in
     let more = told_of HeardUp given in
-    let t = up_told_says w.set given in
+    let t = (told_says w.set given).1 in
     let streams = ap is_stream is in
     let goes = stream_goes_on job i.so_far i.known i.only streams in
     maps_here g found i.known
@@ -366,8 +365,8 @@ no_call_by (Born (ByOpen q up down)) p n none = n.client.1
 
 pub exactly_once : {w : Around} {k : ℕ} {h : Here} → Place w k h → IsExactlyOnce h.acts
 exactly_once {h = h} s = record {
-  one_name = one_name h.acts s.known.server;
-  one_run = one_run h.acts s.known.server;
+  one_name = (acts_once h.acts s.known.server).0;
+  one_run = (acts_once h.acts s.known.server).1;
   one_outcome = client.one_outcome s.origin h.acts h.call h.stream s.known.client;
   no_call = λ none. no_call_by s.origin s.so_far s.known none;
   whole = λ r g. client.whole_given s.origin h.acts h.call h.stream r s.known.client g;

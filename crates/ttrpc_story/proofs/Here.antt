@@ -108,6 +108,10 @@ pub never_empty : {X : Type 0} (front back : List X) (x : X) → front ++ x ∷ 
 never_empty [] back x h = cc
 never_empty (z ∷ front) back x h = cc
 
+pub nil_parts : {X : Type 0} (front back : List X) → front ++ back ≡ [] → (front ≡ []) × (back ≡ [])
+nil_parts [] back h = (refl, h)
+nil_parts (x ∷ front) back h = cc
+
 -- a list of one item, cut around an item
 pub only_one : {X : Type 0} (front back : List X) (x y : X) → front ++ x ∷ back ≡ y ∷ [] → (front ≡ []) × (x ≡ y) × (back ≡ [])
 only_one [] back x y h = (refl, cc, cc)
