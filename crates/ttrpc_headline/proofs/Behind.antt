@@ -82,12 +82,8 @@ module _ {CO CI SO SI : Type 0} (c : Halves CO CI) (s : Halves SO SI) (seals : B
   idle_still set f t w (Recv (ServerEnd id)) (Item given) v i u e r z p h =
       let x = received w.server.state.rules w.server.connection.failure w.server.state id given v.server.state.jobs.list p.0.own in
       subst NoneWaits (sym x.is) (maps_idle x.g x.found w.server.state.jobs.list h)
-  idle_still set f t w (DropReceiver at) reply v i u e r z p h = let bad : false ≡ true = e in cc
-  idle_still set f t w Drain reply v i u e r z p h = let bad : false ≡ true = e in cc
-  idle_still set f t w (Cut to keep) reply v i u e r z p h = let bad : false ≡ true = e in cc
   idle_still set f t w (Tick now) Done v i u e r z p h = passed_idle w.server.state.rules w.server.connection.failure w.server now v.server p.serves h
   idle_still set f t w (Deliver ServerSide n) (Count k) v i u e r z p h = same_idle w v (ap (λ (x : Server). x.jobs) (idle_up c s seals set f t w v n k i u (none_taken k z) p).0) h
-  idle_still set f t w (Deliver to n) (Refused told) v i u e r z p h = let bad : false ≡ true = r in cc
   idle_still set f t w event reply v i u e r z p h = let same : v.server.state.jobs ≡ w.server.state.jobs = first_of (cc, search rules) in same_idle w v same h
 
   -- Where none was found, none waits.

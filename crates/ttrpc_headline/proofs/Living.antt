@@ -31,10 +31,6 @@ module _ {CO CI SO SI : Type 0} (c : Halves CO CI) (s : Halves SO SI) (seals : B
 
   takes_stay : (w : Net CO CI SO SI) (event : Event) (reply : Reply) (v : Net CO CI SO SI) → is_clean_event event ≡ true → is_clean_reply reply ≡ true → Steps c s seals w event reply v → not v.server.state.draining ≡ not w.server.state.draining
   takes_stay w (Answer id result) Done v e r p = drains_answered w.server.state.rules w.server id result v.server refl p.0
-  takes_stay w (DropReceiver at) reply v e r p = let bad : false ≡ true = e in cc
-  takes_stay w Drain reply v e r p = let bad : false ≡ true = e in cc
-  takes_stay w (Cut to keep) reply v e r p = let bad : false ≡ true = e in cc
-  takes_stay w (Deliver to n) (Refused told) v e r p = let bad : false ≡ true = r in cc
   takes_stay w (Deliver ServerSide n) (Count k) v e r (inr p) = ap (λ (x : Net _ _ _ _). not x.server.state.draining) p.only
   takes_stay w (Tick now) Done v e r p = drains_passed w.server.state.rules w.server.connection.failure w.server now v.server p.serves
   takes_stay w (Deliver ServerSide n) (Count k) v e r (inl p) = drains_acted w.moment p.does.does.frames (scene w.server.state w.server.connection) (scene v.server.state p.does.mid) p.does.does.acts
@@ -44,8 +40,6 @@ module _ {CO CI SO SI : Type 0} (c : Halves CO CI) (s : Halves SO SI) (seals : B
   CutsStay w v = (v.up.cut ≡ w.up.cut) × (v.down.cut ≡ w.down.cut)
 
   cuts_stay : (w : Net CO CI SO SI) (event : Event) (reply : Reply) (v : Net CO CI SO SI) → is_clean_event event ≡ true → is_clean_reply reply ≡ true → Steps c s seals w event reply v → CutsStay w v
-  cuts_stay w (Cut to keep) reply v e r p = let bad : false ≡ true = e in cc
-  cuts_stay w (Deliver to n) (Refused told) v e r p = let bad : false ≡ true = r in cc
   cuts_stay w (Deliver ServerSide n) (Count k) v e r (inl p) = subst (λ (x : Net CO CI SO SI). CutsStay w x) (sym p.only) (refl, refl)
   cuts_stay w (Deliver ServerSide n) (Count k) v e r (inr p) = subst (λ (x : Net CO CI SO SI). CutsStay w x) (sym p.only) (refl, refl)
   cuts_stay w event reply v e r p = (first_of (cc, search rules), first_of (cc, search rules))

@@ -137,12 +137,8 @@ module _ {CO CI SO SI : Type 0} (c : Halves CO CI) (s : Halves SO SI) (seals : B
     | inr other ↦ inl (subst P (p.1.others k (λ same. other (sym same))) h)
   ]
   called_back w (Outcome id) (Given given) v k e r delivered p h = inl (by_rule (left_of (is_some w.client.connection.failure)) (left (is_some w.client.connection.failure)) w.client.state v.client.state id k p.0.own p.0.others h)
-  called_back w (DropCall id) reply v k e r delivered p h = let bad : false ≡ true = e in cc
-  called_back w (DropReceiver at) reply v k e r delivered p h = let bad : false ≡ true = e in cc
-  called_back w (DropSender id) reply v k e r delivered p h = let bad : false ≡ true = e in cc
   called_back w (Tick now) Done v k e r delivered p h = inl (passed_back w.client.connection.failure w.client now v.client k p.does h)
   called_back w (Deliver ClientSide n) (Count j) v k e r delivered p h = inl (delivered n j refl refl p h)
-  called_back w (Deliver to n) (Refused told) v k e r delivered p h = let bad : false ≡ true = r in cc
   called_back w event reply v k e r delivered p h =
       let same : call_at v.client.state k ≡ call_at w.client.state k = first_of (cc, search rules) in
       inl (subst P same h)

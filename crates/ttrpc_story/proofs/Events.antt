@@ -346,8 +346,6 @@ closed_behind (y ∷ put) x a b = closed_behind put x a b
 -- The client sends data on its stream.
 pub sends_here : {w : Around} {k : ℕ} {h : Here} {st : Option Stream} (x : Flow) (thing : Thing) (y : Flying) (o : Origin) (p : Work) → Known w k h o p → (h.stream ≡ None → ⊥) → IsItem k y → IsPut x thing → thing_up y ≡ thing → unsendable h.stream ≡ None → GoesOn thing st
     → box_down st ≡ box_down h.stream → wants st ≡ wants h.stream → Place w k (record h { flows = h.flows ++ x ∷ []; ups = h.ups ++ y ∷ []; stream = st })
-sends_here x thing y Unborn p n some is put comes may on box wanted = absurd (some n.client.1)
-sends_here x thing y (Born (ByCall q)) p n some is put comes may on box wanted = absurd (some n.client.1)
 sends_here {w} {k} {h} {st} x thing y (Born (ByOpen q up down)) p n some is put comes may on box wanted =
     let m = n.server in
     let more : List Flow = x ∷ [] in
@@ -355,6 +353,7 @@ sends_here {w} {k} {h} {st} x thing y (Born (ByOpen q up down)) p n some is put 
     (up_as (flows_grow put_up put_up_append h.flows more (thing ∷ []) put.puts) (flows_stay heard_up heard_up_append h.flows more put.tells)
     (upward.sends thing y m.items comes put.follows m.ups_is may (λ e. closed_behind (put_up h.flows) thing (n.up.is.unclosed may) (on e)) n.up))
     (down_as (flows_stay (put_down w.set.rules w.set.limit) (put_down_append w.set.rules w.set.limit) h.flows more (put.ends w.set.rules w.set.limit)) (flows_stay heard_down heard_down_append h.flows more put.told) (downward.stays p st (λ e. e) box wanted n.down)) (λ clean. tt)
+sends_here x thing y o p n some is put comes may on box wanted = absurd (some n.client.1)
 
 -- ---- the headline
 
@@ -379,5 +378,4 @@ in_order_here s = record { up = up_order s.known.up; down = down_order s.known.d
 -- of a call that is kept at most one request is in flight
 pub one_request : {w : Around} {k : ℕ} {h : Here} (o : Origin) (p : Work) → Known w k h o p → (h.call ≡ None → ⊥) → length h.ups ≤ 1
 one_request (Born (ByCall q)) p n some = one_up n.server
-one_request Unborn p n some = absurd (some n.client.0)
-one_request (Born (ByOpen q up down)) p n some = absurd (some n.client.0)
+one_request o p n some = absurd (some n.client.0)

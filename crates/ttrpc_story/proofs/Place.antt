@@ -332,8 +332,7 @@ thrown_call {w} {k} {h} q p n never =
 
 thrown_at : {w : Around} {k : ℕ} {h : Here} (o : Origin) (p : Work) → Known w k h o p → (h.call ≡ None → ⊥) → (w.set.clean → ⊥) → Place w k (record h { ups = [] })
 thrown_at (Born (ByCall q)) p n some never = thrown_call q p n never
-thrown_at Unborn p n some never = absurd (some n.client.0)
-thrown_at (Born (ByOpen q up down)) p n some never = absurd (some n.client.0)
+thrown_at o p n some never = absurd (some n.client.0)
 
 -- Requests of calls are thrown away, or none; in a clean run none.
 pub thrown_here : {w : Around} {k : ℕ} {h : Here} (u : List Flying) → Place w k h → (u ≡ h.ups) ⊎ (((h.call ≡ None → ⊥) × (w.set.clean → ⊥)) × (u ≡ [])) → Place w k (record h { ups = u })
