@@ -75,10 +75,8 @@ module _ {CO CI SO SI : Type 0} (c : Halves CO CI) (s : Halves SO SI) (seals : B
       let bad : Some job.request ≡ None = sym hands.request ∙ all_at (λ (j : ActiveJob). j.request ≡ None) hands.front hands.back hands.job (subst NoneWaits hands.was h) in
       cc
   idle_still set f t w (Answer id result) Done v i u e r z p h = answered_idle w.server v.server id result p.0 h
-  idle_still set f t w (Respond id response) Done v i u e r z p h = same_idle w v (ap (λ (x : ServerCore SO SI). x.state.jobs) p.does.same) h
   idle_still set f t w (Finish id) Done v i u e r z p h = ends_idle w.server.state.jobs.list v.server.state.jobs.list id p.0.job p.0.ends h
   idle_still set f t w (EndStream id result) Done v i u e r z p h = ends_idle w.server.state.jobs.list v.server.state.jobs.list id p.0.job p.0.ends h
-  idle_still set f t w (Send (ServerEnd id) item) (Ticket ticket) v i u e r z p h = same_idle w v (ap (λ (x : ServerCore SO SI). x.state.jobs) p.0.same) h
   idle_still set f t w (Recv (ServerEnd id)) (Item given) v i u e r z p h =
       let x = received w.server.state.rules w.server.connection.failure w.server.state id given v.server.state.jobs.list p.0.own in
       subst NoneWaits (sym x.is) (maps_idle x.g x.found w.server.state.jobs.list h)

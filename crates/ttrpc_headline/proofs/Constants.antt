@@ -78,15 +78,10 @@ module _ {CO CI SO SI : Type 0} (c : Halves CO CI) (s : Halves SO SI) (seals : B
   heard_same over old new h = as_heard (λ (y : Connection SO SI). y.outbox ≡ old.outbox) over old new h refl (λ why. refl)
 
   pub stepped : (w : Net CO CI SO SI) (event : Event) (reply : Reply) (v : Net CO CI SO SI) → Steps c s seals w event reply v → Stays w.server v.server
-  stepped w Take (Handed (Some job)) v p = as_this s.out w.server v.server p.0.same refl refl (ap (λ (x : ServerCore SO SI). safe_limit s.out x.connection.outbox.half) p.0.same)
   stepped w (Answer id result) Done v p = answered w.server id result v.server w.server.state.rules refl p.0
   stepped w (Respond id response) Done v p = as_this s.out w.server v.server p.does.same refl refl (limit_sent s.out fixed p.does.sent w.server.connection.outbox v.server.connection.outbox p.does.sends)
-  stepped w (Finish id) Done v p = as_this s.out w.server v.server p.0.same refl refl (ap (λ (x : ServerCore SO SI). safe_limit s.out x.connection.outbox.half) p.0.same)
   stepped w (EndStream id result) Done v p = as_this s.out w.server v.server p.0.same refl refl (ended w.server id result v.server p.0)
   stepped w (Send (ServerEnd id) item) (Ticket ticket) v p = as_this s.out w.server v.server p.0.same refl refl (ap (λ n. MESSAGE_LENGTH_MAX - n) (fixed _ _ _ _ _ p.0.sends.sends.seal))
-  stepped w (Recv (ServerEnd id)) (Item given) v p = as_this s.out w.server v.server p.0.same refl refl (ap (λ (x : ServerCore SO SI). safe_limit s.out x.connection.outbox.half) p.0.same)
-  stepped w (DropReceiver (ServerEnd id)) Done v p = as_this s.out w.server v.server (ap (λ (x : Net _ _ _ _). x.server) p.1) refl refl (ap (λ (x : Net _ _ _ _). safe_limit s.out x.server.connection.outbox.half) p.1)
-  stepped w Drain Done v p = as_this s.out w.server v.server (ap (λ (x : Net _ _ _ _). x.server) p) refl refl (ap (λ (x : Net _ _ _ _). safe_limit s.out x.server.connection.outbox.half) p)
   stepped w (Tick now) Done v p = passed w.server now v.server w.server.state.rules w.server.connection.failure p.serves
   stepped w (Deliver ServerSide n) (Count k) v (inl p) =
       both (acted w.moment p.does.does.frames (scene w.server.state w.server.connection) (scene v.server.state p.does.mid) p.does.does.acts) (stays_same s.out refl (heard_same (is_over (taken_from w.up k)) p.does.mid v.server.connection p.does.hears))
@@ -96,10 +91,7 @@ module _ {CO CI SO SI : Type 0} (c : Halves CO CI) (s : Halves SO SI) (seals : B
   stepped w (Cut ServerSide keep) Done v p =
       stays_same s.out (ap (λ (x : Net _ _ _ _). x.server.state) p.only)
       (ap (λ (x : Net _ _ _ _). x.server.connection.outbox) p.only ∙ heard_same (is_over (cut_to w.up keep)) w.server.connection p.connection p.hears)
-  stepped w event reply v p =
-      let state : v.server.state ≡ w.server.state = first_of (cc, search rules) in
-      let limit : safe_limit s.out v.server.connection.outbox.half ≡ safe_limit s.out w.server.connection.outbox.half = first_of (cc, search rules) in
-      record { rules = ap (λ (x : Server). x.rules) state; services = ap (λ (x : Server). x.services) state; limit = limit }
+  stepped w event reply v p = record { rules = first_of (cc, search rules); services = first_of (cc, search rules); limit = first_of (cc, search rules) }
 
   -- in any run
   pub constant : (w : Net CO CI SO SI) (trace : List Entry) (v : Net CO CI SO SI) → Runs c s seals w trace v → Stays w.server v.server

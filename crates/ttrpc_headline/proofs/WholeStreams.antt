@@ -54,7 +54,7 @@ module _ {CO CI SO SI : Type 0} (c : Halves CO CI) (s : Halves SO SI) (seals : B
       let at = job_is jobs id j m.1 in
       let stream : j.header.stream_id ≡ k = sym (ap f (sym at.3) ∙ all_at (λ (x : ActiveJob). f x.id ≡ x.header.stream_id) at.0 at.1 j (subst (λ (js : List ActiveJob). AreRight f js) at.2 right)) ∙ own in
       let o = only_of (jobs_at at.0 k) (jobs_at at.1 k) j (i.stories k) (ap (λ js. jobs_at js k) at.2 ∙ between_own stream_id_of k at.0 at.1 j stream) in
-      all_given_up j p.0 p.1 o.so_far o.known o.only m.2 p.3 (ap (parcels k) none)
+      all_given_up j p.0 p.1 o.holds m.2 p.3 (ap (parcels k) none)
   found_up AsyncRules None t w id k new i right alive own none (inr p) = let bad = p.0.4 in cc
 
   found_down : (failure : Option Failure) (t : List Entry) (w : Net CO CI SO SI) (id k : ℕ) (st : Option Stream) → (i : Keeps c s set f t w) → failure ≡ None → id ≡ k → i.down ≡ [] → ReceivesAt failure (stream_at w.client.state id) None st

@@ -8,7 +8,7 @@ use Rattle.ttrpc_story.proofs.Reading.{got_append, items_append}
 use Rattle.ttrpc_story.proofs.Flowing.{Flowing, Follows}
 use Rattle.ttrpc_story.proofs.Upward.{box_of, thing_up}
 use Rattle.ttrpc_story.proofs.Downward.{box_down, thing_down, wants}
-use Rattle.ttrpc_story.proofs.Place.{Around, Known}
+use Rattle.ttrpc_story.proofs.Place.{Around, Holds, InRest, InRun, InWait, Known}
 
 -- ---- one direction
 
@@ -40,15 +40,10 @@ boxed_given j m left is r none f =
     given_all (ap (λ (b : Body). (box_of b).receiver) is ∙ found.0) (ap (λ (b : Body). (box_of b).things) is ∙ found.1) (ap (map thing_up) none) f
 
 -- The server's receiver of the only job of this id has nothing yet.
-pub all_given_up : {w : Around} {k : ℕ} {h : Here} {b : Birth} (job : ActiveJob) (m left : Mail) (p : Work) → Known w k h (Born b) p → jobs_of p ≡ job ∷ [] → job.body ≡ StreamBody m → Receives None m None left → h.ups ≡ []
-    → got (heard_up h.flows) ≡ items (put_up h.flows)
-all_given_up job m left (Waits j) n only is r none = let same : j ≡ job = cc in boxed_given j m left (ap ActiveJob.body same ∙ is) r none n.up.is.flowing
-all_given_up job m left (Runs j) n only is r none = let same : j ≡ job = cc in boxed_given j m left (ap ActiveJob.body same ∙ is) r none n.up.is.flowing
-all_given_up job m left (Left j response) n only is r none =
-    let same : j ≡ job = cc in
-    let bad : true ≡ false = sym (ap (λ (x : ActiveJob). is_stream x.body) same ∙ ap is_stream is) ∙ n.server.is_work.2 in
-    cc
-all_given_up job m left p n only is r none = absurd (no_cons job [] (sym only))
+pub all_given_up : {w : Around} {k : ℕ} {h : Here} {b : Birth} (job : ActiveJob) (m left : Mail) → Holds w k h b job → job.body ≡ StreamBody m → Receives None m None left → h.ups ≡ [] → got (heard_up h.flows) ≡ items (put_up h.flows)
+all_given_up job m left (InWait n) is r none = boxed_given job m left is r none n.up.is.flowing
+all_given_up job m left (InRun n) is r none = boxed_given job m left is r none n.up.is.flowing
+all_given_up job m left (InRest response n) is r none = let bad : true ≡ false = sym (ap is_stream is) ∙ n.server.is_work.2 in cc
 
 -- The client's has.
 pub all_given_down : {w : Around} {k : ℕ} {h : Here} (o : Origin) (p : Work) (st st2 : Option Stream) → h.stream ≡ st → Known w k h o p → ReceivesAt None st None st2 → h.downs ≡ []

@@ -7,7 +7,7 @@ use Rattle.ttrpc_story.proofs.Reading.{closed_item, IsPlain}
 use Rattle.ttrpc_story.proofs.Flowing.{Follows, IsPlainFailure}
 use Rattle.ttrpc_story.proofs.Upward.{box_up, gone_mail, IsDeaf, IsFit, thing_up, up_order}
 use Rattle.ttrpc_story.proofs.Downward.{box_down, down_order, Goes, IsSentAs, IsTurned, wants}
-use Rattle.ttrpc_story.proofs.Place.{Around, concludes_here, down_as, DownOf, flows_grow, flows_stay, Known, Later, maps_here, Place, Settings, TidyOf, turned, turns, unchanged, up_as, UpOf}
+use Rattle.ttrpc_story.proofs.Place.{Around, concludes_here, down_as, DownOf, flows_grow, flows_stay, Holds, InRest, InRun, InWait, Known, known_in, Later, maps_here, only_in, Place, Settings, TidyOf, turned, turns, unchanged, up_as, UpOf, work_in}
 use Rattle.ttrpc_story.proofs.AtClient as client
 use Rattle.ttrpc_story.proofs.Upward as upward
 use Rattle.ttrpc_story.proofs.Tidy.{MayGo}
@@ -19,20 +19,18 @@ use Rattle.ttrpc_story.proofs.Downward as downward
 -- a job says of its id: it is the only one
 pub record IsOnly (w : Around) (k : ℕ) (h : Here) (front back : List ActiveJob) (job : ActiveJob) : Type 0 where
   pub b : Birth
-  pub so_far : Work
-  pub known : Known w k h (Born b) so_far
-  pub only : jobs_of so_far ≡ job ∷ []
+  pub holds : Holds w k h b job
   pub front_is : front ≡ []
   pub back_is : back ≡ []
 
-only_by : {w : Around} {k : ℕ} {h : Here} (front back : List ActiveJob) (job : ActiveJob) (b : Birth) (p : Work) → Known w k h (Born b) p → (j : ActiveJob) → jobs_of p ≡ j ∷ [] → front ++ job ∷ back ≡ j ∷ [] → IsOnly w k h front back job
-only_by front back job b p n j is was = let o = only_one front back job j was in record { b = b; so_far = p; known = n; only = is ∙ ap (λ (x : ActiveJob). x ∷ []) (sym o.1); front_is = o.0; back_is = o.2 }
+only_by : {w : Around} {k : ℕ} {h : Here} (front back : List ActiveJob) (job : ActiveJob) (b : Birth) (j : ActiveJob) → Holds w k h b j → front ++ job ∷ back ≡ j ∷ [] → IsOnly w k h front back job
+only_by {w} {k} {h} front back job b j holds was = let o = only_one front back job j was in record { b = b; holds = subst (λ (x : ActiveJob). Holds w k h b x) (sym o.1) holds; front_is = o.0; back_is = o.2 }
 
 only_at : {w : Around} {k : ℕ} {h : Here} (front back : List ActiveJob) (job : ActiveJob) (o : Origin) (p : Work) → Known w k h o p → h.jobs ≡ front ++ job ∷ back → IsOnly w k h front back job
 only_at front back job Unborn p n was = absurd (never_empty front back job (sym was ∙ n.server.jobs_is ∙ ap jobs_of n.server.is_work))
-only_at front back job (Born b) (Waits j) n was = only_by front back job b (Waits j) n j refl (sym was ∙ n.server.jobs_is)
-only_at front back job (Born b) (Runs j) n was = only_by front back job b (Runs j) n j refl (sym was ∙ n.server.jobs_is)
-only_at front back job (Born b) (Left j response) n was = only_by front back job b (Left j response) n j refl (sym was ∙ n.server.jobs_is)
+only_at front back job (Born b) (Waits j) n was = only_by front back job b j (InWait n) (sym was ∙ n.server.jobs_is)
+only_at front back job (Born b) (Runs j) n was = only_by front back job b j (InRun n) (sym was ∙ n.server.jobs_is)
+only_at front back job (Born b) (Left j response) n was = only_by front back job b j (InRest response n) (sym was ∙ n.server.jobs_is)
 only_at front back job (Born b) p n was = absurd (never_empty front back job (sym was ∙ n.server.jobs_is))
 
 pub only_of : {w : Around} {k : ℕ} {h : Here} (front back : List ActiveJob) (job : ActiveJob) → Place w k h → h.jobs ≡ front ++ job ∷ back → IsOnly w k h front back job
@@ -53,27 +51,18 @@ waits_taken {w} {k} {h} job request b m asked hj =
     hj (sym (append-nil h.downs)) tt (upward.takes job m.up) (downward.stays (Runs taken) h.stream (λ e. refl) refl refl m.down) (λ clean. taken_tidy w.set b job ran h.acts h.downs h.call refl (m.tidy clean))
 
 -- It is handed out.
-takes_by : {w : Around} {k : ℕ} {h : Here} {jobs : List ActiveJob} (job : ActiveJob) (request : Request) (b : Birth) (p : Work) → Known w k h (Born b) p → jobs_of p ≡ job ∷ [] → job.request ≡ Some request → jobs ≡ record job { request = None } ∷ []
+takes_in : {w : Around} {k : ℕ} {h : Here} {jobs : List ActiveJob} (job : ActiveJob) (request : Request) (b : Birth) → Holds w k h b job → job.request ≡ Some request → jobs ≡ record job { request = None } ∷ []
     → Place w k (record h { acts = h.acts ++ Ran job.id (is_stream job.body) request ∷ []; jobs = jobs })
-takes_by {w} {k} {h} job request b (Waits j) n only asked hj =
-    let same : j ≡ job = cc in
-    waits_taken job request b (subst (λ (x : ActiveJob). Known w k h (Born b) (Waits x)) same n) asked hj
-takes_by job request b (Runs j) n only asked hj =
-    let same : j ≡ job = cc in
-    let bad : Some request ≡ None = sym asked ∙ ap ActiveJob.request (sym same) ∙ n.server.is_work.request in
-    cc
-takes_by job request b (Left j response) n only asked hj =
-    let same : j ≡ job = cc in
-    let bad : Some request ≡ None = sym asked ∙ ap ActiveJob.request (sym same) ∙ n.server.is_work.0.request in
-    cc
-takes_by job request b p n only asked hj = absurd (no_cons job [] (sym only))
+takes_in job request b (InWait n) asked hj = waits_taken job request b n asked hj
+takes_in job request b (InRun n) asked hj = let bad : Some request ≡ None = sym asked ∙ n.server.is_work.request in cc
+takes_in job request b (InRest response n) asked hj = let bad : Some request ≡ None = sym asked ∙ n.server.is_work.0.request in cc
 
 pub takes_here : {w : Around} {k : ℕ} {h : Here} (front back : List ActiveJob) (job : ActiveJob) (request : Request) → Place w k h → h.jobs ≡ front ++ job ∷ back → job.request ≡ Some request
     → Place w k (record h { acts = h.acts ++ Ran job.id (is_stream job.body) request ∷ []; jobs = front ++ record job { request = None } ∷ back })
 takes_here front back job request s was asked =
     let i = only_of front back job s was in
     let taken : ActiveJob = record job { request = None } in
-    takes_by job request i.b i.so_far i.known i.only asked (ap (λ (xs : List ActiveJob). xs ++ taken ∷ back) i.front_is ∙ ap (λ (xs : List ActiveJob). taken ∷ xs) i.back_is)
+    takes_in job request i.b i.holds asked (ap (λ (xs : List ActiveJob). xs ++ taken ∷ back) i.front_is ∙ ap (λ (xs : List ActiveJob). taken ∷ xs) i.back_is)
 
 -- ---- a job that runs
 
@@ -87,22 +76,13 @@ pub record IsRunning (w : Around) (k : ℕ) (h : Here) (front back : List Active
 abbrev pub HasNone : Around → ActiveJob → Type 0
 HasNone w job = w.had job.id ≡ true → is_stream job.body ≡ false → ⊥
 
-running_by : {w : Around} {k : ℕ} {h : Here} {front back : List ActiveJob} (job : ActiveJob) (b : Birth) (p : Work) → Known w k h (Born b) p → jobs_of p ≡ job ∷ [] → front ++ back ≡ [] → job.request ≡ None → HasNone w job
-    → IsRunning w k h front back job
-running_by job b (Waits j) n only left taken none =
-    let same : j ≡ job = cc in
-    let bad : None ≡ Some (asked_by (is_stream j.body) (request_of b)) = sym taken ∙ ap ActiveJob.request (sym same) ∙ n.server.is_work.request in
-    cc
-running_by {w} {k} {h} job b (Runs j) n only left taken none =
-    let same : j ≡ job = cc in
-    record { b = b; known = subst (λ (x : ActiveJob). Known w k h (Born b) (Runs x)) same n; left = left }
-running_by {w} job b (Left j response) n only left taken none =
-    let same : j ≡ job = cc in
-    absurd (none (ap (λ (x : ActiveJob). w.had x.id) (sym same) ∙ n.server.is_work.1) (ap (λ (x : ActiveJob). is_stream x.body) (sym same) ∙ n.server.is_work.2))
-running_by job b p n only left taken none = absurd (no_cons job [] (sym only))
+running_by : {w : Around} {k : ℕ} {h : Here} {front back : List ActiveJob} (job : ActiveJob) (b : Birth) → Holds w k h b job → front ++ back ≡ [] → job.request ≡ None → HasNone w job → IsRunning w k h front back job
+running_by job b (InWait n) left taken none = let bad : None ≡ Some (asked_by (is_stream job.body) (request_of b)) = sym taken ∙ n.server.is_work.request in cc
+running_by job b (InRun n) left taken none = record { b = b; known = n; left = left }
+running_by job b (InRest response n) left taken none = absurd (none n.server.is_work.1 n.server.is_work.2)
 
 pub running_of : {w : Around} {k : ℕ} {h : Here} (front back : List ActiveJob) (job : ActiveJob) → Place w k h → h.jobs ≡ front ++ job ∷ back → job.request ≡ None → HasNone w job → IsRunning w k h front back job
-running_of front back job s was taken none = let i = only_of front back job s was in running_by job i.b i.so_far i.known i.only (around_it i) taken none
+running_of front back job s was taken none = let i = only_of front back job s was in running_by job i.b i.holds (around_it i) taken none
 
 -- what an answer does to the ways of its items: it is put in downwards, and goes as this; upwards nothing is received any more
 answered_down : {w : Around} {k : ℕ} {h : Here} {b : Birth} {p : Work} (q : Work) (result : Result (Option Response) Error) (down : List Flying) → Known w k h (Born b) p → is_over p ≡ false → is_over q ≡ true
@@ -142,41 +122,33 @@ pub ends_here : {w : Around} {k : ℕ} {h : Here} (front back : List ActiveJob) 
     → Place w k (record h { jobs = front ++ back; downs = h.downs ++ down })
 ends_here front back job down s was new goes may =
     let i = only_of front back job s was in
-    let n = i.known.server in
-    concludes_here n.items down i.known n.are_items n.may_have (n.ups_is ∙ ap (λ (xs : List Flying). xs ++ n.items) (no_ups i.so_far i.only)) (around_it i) new goes
-    (λ clean. gone_tidy i.b i.so_far job down i.known i.only (may clean) (i.known.tidy clean))
-  where
-    no_ups : (p : Work) → jobs_of p ≡ job ∷ [] → ups_of p ≡ []
-    no_ups (Asking x) e = absurd (no_cons job [] (sym e))
-    no_ups p e = refl
+    let n = known_in i.holds in
+    concludes_here n.server.items down n n.server.are_items n.server.may_have (n.server.ups_is ∙ ap (λ (xs : List Flying). xs ++ n.server.items) (only_in i.holds).1) (around_it i) new goes (λ clean. gone_tidy i.b job down i.holds (may clean) (n.tidy clean))
 
 -- a stream's job that is there isn't over
-stream_goes_on : {w : Around} {k : ℕ} {h : Here} {b : Birth} (job : ActiveJob) (p : Work) → Known w k h (Born b) p → jobs_of p ≡ job ∷ [] → is_stream job.body ≡ true → is_over p ≡ false
-stream_goes_on job (Left j response) n only stream =
-    let same : j ≡ job = cc in
-    let bad : true ≡ false = sym stream ∙ ap (λ (x : ActiveJob). is_stream x.body) (sym same) ∙ n.server.is_work.2 in
-    cc
-stream_goes_on job (Over done) n only stream = absurd (no_cons job [] (sym only))
-stream_goes_on job p n only stream = refl
+stream_goes_on : {w : Around} {k : ℕ} {h : Here} {b : Birth} (job : ActiveJob) (x : Holds w k h b job) → is_stream job.body ≡ true → is_over (work_in x) ≡ false
+stream_goes_on job (InRest response n) stream = let bad : true ≡ false = sym stream ∙ n.server.is_work.2 in cc
+stream_goes_on job x stream = refl
 
 -- The job's stream sends an item.
 pub sends_down_here : {w : Around} {k : ℕ} {h : Here} (front back : List ActiveJob) (job : ActiveJob) (bytes : List ℕ) (y : Flying) → Place w k h → h.jobs ≡ front ++ job ∷ back → is_stream job.body ≡ true → IsNever k y → IsSentAs (ThingItem bytes) y
     → Place w k (record h { flows = h.flows ++ SentDown bytes ∷ []; downs = h.downs ++ y ∷ [] })
 sends_down_here {w} {k} {h} front back job bytes y s was stream_is new goes =
     let i = only_of front back job s was in
-    let n = i.known in
+    let n = known_in i.holds in
+    let p = work_in i.holds in
     let more : List Flow = SentDown bytes ∷ [] in
-    let works = works_of (Born i.b) i.so_far in
-    let undone = stream_goes_on job i.so_far n i.only stream_is in
-    turned n (goes_on n.server.items (h.downs ++ y ∷ []) n.server n.server.are_items n.server.may_have n.server.ups_is (all_joined (IsDown k (is_over i.so_far) (Born i.b) works) h.downs (y ∷ []) n.server.down (never_down new, tt))) n.client
+    let works = works_of (Born i.b) p in
+    let undone = stream_goes_on job i.holds stream_is in
+    turned n (goes_on n.server.items (h.downs ++ y ∷ []) n.server n.server.are_items n.server.may_have n.server.ups_is (all_joined (IsDown k (is_over p) (Born i.b) works) h.downs (y ∷ []) n.server.down (never_down new, tt))) n.client
     (up_as (flows_stay put_up put_up_append h.flows more refl) (flows_stay heard_up heard_up_append h.flows more refl) n.up)
     (down_as (flows_grow (put_down w.set.rules w.set.limit) (put_down_append w.set.rules w.set.limit) h.flows more (ThingItem bytes ∷ []) refl) (flows_stay heard_down heard_down_append h.flows more refl)
-    (downward.goes i.so_far (ThingItem bytes) (y ∷ []) undone (λ e. closed_item (put_down w.set.rules w.set.limit h.flows) bytes ∙ n.down.is.unended undone) goes n.down))
-    (λ clean. stream_tidy w.set i.b i.so_far i.so_far job h.acts h.downs (h.downs ++ y ∷ []) h.call i.only undone stream_is (n.tidy clean))
+    (downward.goes p (ThingItem bytes) (y ∷ []) undone (λ e. closed_item (put_down w.set.rules w.set.limit h.flows) bytes ∙ n.down.is.unended undone) goes n.down))
+    (λ clean. stream_tidy i.b job p (h.downs ++ y ∷ []) i.holds stream_is (n.tidy clean))
 
 -- the id of a job is one
 pub job_within : {w : Around} {k : ℕ} {h : Here} (front back : List ActiveJob) (job : ActiveJob) → Place w k h → h.jobs ≡ front ++ job ∷ back → k ≤ last_id
-job_within front back job s was = (only_of front back job s was).known.server.within
+job_within front back job s was = (known_in (only_of front back job s was).holds).server.within
 
 -- ---- a frame lands
 
@@ -292,14 +264,15 @@ pub hears_up_here : {w : Around} {k : ℕ} {h : Here} (g : ActiveJob → ActiveJ
     → job.body ≡ StreamBody m → (g job).body ≡ StreamBody left → IsPlainFailure failure → Receives failure m given left → Place w k (record h { flows = h.flows ++ told_of HeardUp given; jobs = map g h.jobs })
 hears_up_here {w} {h = h} g found front back job failure m left given s was is now plain r =
     let i = only_of front back job s was in
+    let n = known_in i.holds in
+    let p = work_in i.holds in
     let more = told_of HeardUp given in
     let t = (told_says w.set given).1 in
-    let streams = ap is_stream is in
-    let goes = stream_goes_on job i.so_far i.known i.only streams in
-    maps_here g found i.known
-    (up_as (flows_stay put_up put_up_append h.flows more t.0) (flows_grow heard_up heard_up_append h.flows more (words_of given) t.1) (upward.hears g found i.so_far job failure m left given i.only (λ j response last. let bad : true ≡ false = sym (ap is_over last) ∙ goes in cc) is now plain r i.known.up))
-    (λ clean. stream_tidy w.set i.b i.so_far (mapped g i.so_far) job h.acts h.downs h.downs h.call i.only goes streams (i.known.tidy clean))
-    (flows_stay (put_down w.set.rules w.set.limit) (put_down_append w.set.rules w.set.limit) h.flows more t.2) (flows_stay heard_down heard_down_append h.flows more t.3)
+    let goes = stream_goes_on job i.holds (ap is_stream is) in
+    maps_here g found n
+    (up_as (flows_stay put_up put_up_append h.flows more t.0) (flows_grow heard_up heard_up_append h.flows more (words_of given) t.1)
+    (upward.hears g found p job failure m left given (only_in i.holds).0 (λ j response last. let bad : true ≡ false = sym (ap is_over last) ∙ goes in cc) is now plain r n.up))
+    (λ clean. stream_tidy i.b job (mapped g p) h.downs i.holds (ap is_stream is) (n.tidy clean)) (flows_stay (put_down w.set.rules w.set.limit) (put_down_append w.set.rules w.set.limit) h.flows more t.2) (flows_stay heard_down heard_down_append h.flows more t.3)
 
 -- It is told an error, and nothing else changes.
 pub errs_up_here : {w : Around} {k : ℕ} {h : Here} (e : Error) → IsPlain e → Place w k h → Place w k (record h { flows = h.flows ++ HeardUp (Err e) ∷ [] })

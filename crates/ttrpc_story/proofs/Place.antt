@@ -1,7 +1,7 @@
 -- One id: both sides of it, its items both ways, how it comes to be used, and what frames that come to the server do to it. What
 -- an event isn't about stays.
-use Rattle.ttrpc_story.proofs.Words.{[], Act, all_joined, work_append, ActiveJob, AllByRecursion, ap, append-nil, asked_by, Bool, brought_by, Call, Called, deadline_in, false, Flow, Flying, heard_down, heard_down_append, heard_up, heard_up_append, has_method, inl, inr, is_stream, last_id, List, map, nat_eq, None, Open, Option, outcomes, outcomes_append, put_down, put_down_append, put_up, put_up_append, refl, Request, Rules, Services, Some, StaysFound, Stream, subst, sym, Thing, true, Waiting, with_mail, Word, work, ℕ, ◌%◌, ◌++◌, ◌∙◌, ◌∷◌, ◌≡◌, ◌≤◌, ◌⊎◌, inlet_by, inlet_in, inlet_of, Taking, AsyncRules, SyncRules, Body, UnaryBody, StreamBody}
-use Rattle.ttrpc_story.proofs.Here.{Asking, Birth, Born, ByCall, ByOpen, first_act, first_flow, Here, Idle, IsAnswer, jobs_of, no_cons, Origin, Over, request_of, Runs, Unborn, ups_of, Waits, Work, works_of}
+use Rattle.ttrpc_story.proofs.Words.{[], Act, all_joined, work_append, ActiveJob, AllByRecursion, ap, append-nil, asked_by, Bool, brought_by, Call, Called, deadline_in, false, Flow, Flying, heard_down, heard_down_append, heard_up, heard_up_append, has_method, inl, inr, is_stream, last_id, List, map, nat_eq, None, Open, Option, outcomes, outcomes_append, put_down, put_down_append, put_up, put_up_append, refl, Request, Response, Rules, Services, Some, StaysFound, Stream, subst, sym, Thing, true, Waiting, with_mail, Word, work, ℕ, ◌%◌, ◌++◌, ◌∙◌, ◌∷◌, ◌≡◌, ◌≤◌, ◌⊎◌, inlet_by, inlet_in, inlet_of, Taking, AsyncRules, SyncRules, Body, UnaryBody, StreamBody}
+use Rattle.ttrpc_story.proofs.Here.{Asking, Birth, Born, ByCall, ByOpen, first_act, first_flow, Here, Idle, IsAnswer, jobs_of, Left, no_cons, Origin, Over, request_of, Runs, Unborn, ups_of, Waits, Work, works_of}
 use Rattle.ttrpc_story.proofs.AtServer.{AreItems, AtServer, concludes, goes_on, is_over, IsDown, IsJob, IsNever, IsSent, IsWork, later, mapped, maps, MayHave, moves, never_downs, unanswered, same_over}
 use Rattle.ttrpc_story.proofs.AtClient.{AtClient, IsBegun}
 use Rattle.ttrpc_story.proofs.Upward.{box_up, first_things, flags_of, IsMade, IsStarted, Upward, box_of}
@@ -136,6 +136,30 @@ pub turns : {w w2 : Around} {k : ℕ} {h : Here} {o : Origin} {p : Work} {acts2 
 turns {h = h} {o = o} {p = p} q more down n l undone quiet is grows ha hu hj hd new up down_of tidy =
     joined n l (moves (work more) n.server.items down n.server undone n.server.within is n.server.are_items n.server.may_have grows (ap work ha ∙ work_append h.acts more) hu hj hd new)
     (subst (λ (a : List Act). AtClient o a h.call h.stream) (sym ha) (client.grows o h.acts more h.call h.stream quiet (λ r i. unanswered o p r undone (subst (λ (a : List Act). IsAnswer o a r) n.server.works_is i)) n.client)) up down_of tidy
+
+-- ---- a job of the id
+
+-- it waits, or runs, or goes on behind its response
+pub data Holds (w : Around) (k : ℕ) (h : Here) (b : Birth) (job : ActiveJob) : Type 0 where
+  InWait : (n : Known w k h (Born b) (Waits job)) → Holds w k h b job
+  InRun : (n : Known w k h (Born b) (Runs job)) → Holds w k h b job
+  InRest : (response : Response) → (n : Known w k h (Born b) (Left job response)) → Holds w k h b job
+
+-- so far the work has come, and this is known of it
+abbrev pub work_in : {w : Around} {k : ℕ} {h : Here} {b : Birth} {job : ActiveJob} → Holds w k h b job → Work
+work_in {job = job} (InWait n) = Waits job
+work_in {job = job} (InRun n) = Runs job
+work_in {job = job} (InRest response n) = Left job response
+
+pub known_in : {w : Around} {k : ℕ} {h : Here} {b : Birth} {job : ActiveJob} (x : Holds w k h b job) → Known w k h (Born b) (work_in x)
+known_in (InWait n) = n
+known_in (InRun n) = n
+known_in (InRest response n) = n
+
+-- it is the only one, and no request is in flight
+pub only_in : {w : Around} {k : ℕ} {h : Here} {b : Birth} {job : ActiveJob} (x : Holds w k h b job) → (jobs_of (work_in x) ≡ job ∷ []) × (ups_of (work_in x) ≡ [])
+only_in (InWait n) = (refl, refl)
+only_in x = (refl, refl)
 
 -- ---- an id is used
 

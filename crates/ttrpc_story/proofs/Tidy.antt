@@ -220,24 +220,12 @@ IsTooSoon call job = (deadline_in job.body ≡ None → ⊥) × ((d : Option ℕ
 abbrev pub MayGo : List Flying → Option Call → ActiveJob → Type 0
 MayGo down call job = ((down ≡ []) × (job.request ≡ None)) ⊎ IsTooSoon call job
 
-pub tidy_gone : (rules : Rules) (limit : ℕ) (q : Request) (p : Work) (job : ActiveJob) (a : List Act) (d down : List Flying) (e : Option Call) → MayGo down e job → jobs_of p ≡ job ∷ [] → ((j : ActiveJob) → p ≡ Waits j → j.request ≡ None → ⊥)
-    → Tidy rules limit q p a d e → Tidy rules limit q (Over (works_of (Born (ByCall q)) p)) a (d ++ down) e
-tidy_gone rules limit q p job a d down e may only waits t = by p only waits may t
-  where
-    -- nothing goes down
-    none : (P : List Flying → Type 0) → down ≡ [] → P d → P (d ++ down)
-    none P is h = subst (λ (x : List Flying). P (d ++ x)) (sym is) (subst P (sym (append-nil d)) h)
+pub never_gone : {rules : Rules} {a : List Act} {d : List Flying} {e : Option Call} (job : ActiveJob) → IsTooSoon e job → IsOwed rules job.body a d e → ⊥
+never_gone job f o = f.1 o.un.deadline o.un.call o.patient
 
-    never : IsTooSoon e job → (j : ActiveJob) → j ≡ job → IsOwed rules j.body a d e → ⊥
-    never f j same o = f.1 o.un.deadline o.un.call (subst (λ (i : ActiveJob). IsPatient o.un.deadline (deadline_in i.body)) same o.patient)
+-- nothing goes down
+pub down_none : {d down : List Flying} (P : List Flying → Type 0) → down ≡ [] → P d → P (d ++ down)
+down_none {d} P is h = subst (λ (x : List Flying). P (d ++ x)) (sym is) (subst P (sym (append-nil d)) h)
 
-    by : (p : Work) → jobs_of p ≡ job ∷ [] → ((j : ActiveJob) → p ≡ Waits j → j.request ≡ None → ⊥) → MayGo down e job → Tidy rules limit q p a d e → Tidy rules limit q (Over (works_of (Born (ByCall q)) p)) a (d ++ down) e
-    by Idle is w f t = absurd t
-    by (Asking x) is w f t = absurd (no_cons job [] (sym is))
-    by (Waits j) is w (inl f) t = let same : j ≡ job = cc in absurd (w j refl (ap ActiveJob.request same ∙ f.1))
-    by (Waits j) is w (inr f) t = let same : j ≡ job = cc in absurd (never f j same t)
-    by (Runs j) is w (inl f) t = inr (record { un = none (λ x. Unanswered a x e) f.0 t.un; job = j.id; ran = ran_once q j (works_of (Born (ByCall q)) (Runs j)) t.unary refl })
-    by (Runs j) is w (inr f) t = let same : j ≡ job = cc in absurd (never f j same t)
-    by (Left j response) is w (inl f) t = inl (none (λ x. IsAnsweredCall rules limit q a x e) f.0 t.0)
-    by (Left j response) is w (inr f) t = let same : j ≡ job = cc in absurd (f.0 (ap (λ (i : ActiveJob). deadline_in i.body) (sym same) ∙ t.1))
-    by (Over done) is w f t = absurd (no_cons job [] (sym is))
+pub ran_gone : {rules : Rules} {a : List Act} {d : List Flying} {e : Option Call} (q : Request) (job : ActiveJob) (down : List Flying) → down ≡ [] → IsOwed rules job.body a d e → IsUnfinished q (works_of (Born (ByCall q)) (Runs job)) a (d ++ down) e
+ran_gone {a = a} {e = e} q job down none o = record { un = down_none (λ x. Unanswered a x e) none o.un; job = job.id; ran = ran_once q job (works_of (Born (ByCall q)) (Runs job)) o.unary refl }

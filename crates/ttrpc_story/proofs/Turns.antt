@@ -1,9 +1,9 @@
 -- What each event does to what is tidy of one id, in a clean run.
-use Rattle.ttrpc_story.proofs.Words.{[], Act, ActiveJob, Answered, Call, ap, asked_by, Bool, Error, Failure, false, Flying, gave_of, GivesOutcome, is_some, is_stream, landing_of, LandsOn, left_of, List, None, Ok, OpenedPayload, Option, outcomes, Response, Result, Some, subst, sym, SyncRules, true, work, ℕ, ◌++◌, ◌∙◌, ◌∷◌, ◌≡◌, inl}
+use Rattle.ttrpc_story.proofs.Words.{[], Act, ActiveJob, Answered, Call, ap, asked_by, Bool, Error, Failure, false, Flying, gave_of, GivesOutcome, is_some, is_stream, landing_of, LandsOn, left_of, List, None, Ok, OpenedPayload, Option, outcomes, Response, Result, Some, subst, sym, SyncRules, true, work, ℕ, ◌++◌, ◌∙◌, ◌∷◌, ◌≡◌, inl, inr}
 use Rattle.ttrpc_story.proofs.Here.{answered_work, Birth, Born, ByCall, ByOpen, Here, jobs_of, Left, no_cons, Origin, Over, Runs, Unborn, Waits, Work, works_of}
 use Rattle.ttrpc_story.proofs.AtServer.{is_over}
-use Rattle.ttrpc_story.proofs.Tidy.{IsAnsweredCall, IsSentBack, MayGo, Tidy, tidy_answers, tidy_asked, tidy_gone, tidy_lands, tidy_taken}
-use Rattle.ttrpc_story.proofs.Place.{Around, Known, Settings, TidyOf}
+use Rattle.ttrpc_story.proofs.Tidy.{down_none, IsAnsweredCall, IsSentBack, MayGo, never_gone, ran_gone, Tidy, tidy_answers, tidy_asked, tidy_lands, tidy_taken}
+use Rattle.ttrpc_story.proofs.Place.{Around, Holds, InRest, InRun, InWait, Settings, TidyOf, work_in}
 
 -- it is handed out
 pub taken_tidy : (set : Settings) (b : Birth) (job : ActiveJob) (x : Act) (a : List Act) (d : List Flying) (e : Option Call) → outcomes (x ∷ []) ≡ [] → TidyOf set (Born b) (Waits job) a d e → TidyOf set (Born b) (Runs (record job { request = None })) (a ++ x ∷ []) d e
@@ -30,24 +30,22 @@ responded_tidy set (ByCall q) job response down a d e sync by works t = λ metho
 responded_tidy set (ByOpen q up down_) job response down a d e sync by works t = tt
 
 -- it is gone
-pub gone_tidy : {w : Around} {k : ℕ} {h : Here} (b : Birth) (p : Work) (job : ActiveJob) (down : List Flying) → (n : Known w k h (Born b) p) → jobs_of p ≡ job ∷ [] → MayGo down h.call job
-    → TidyOf w.set (Born b) p h.acts h.downs h.call → TidyOf w.set (Born b) (Over (works_of (Born b) p)) h.acts (h.downs ++ down) h.call
-gone_tidy {w} {k} {h} (ByCall q) p job down n only may t = λ method. tidy_gone w.set.rules w.set.limit q p job h.acts h.downs down h.call may only (λ j is taken. waiting p n j is taken) (t method)
-  where
-    waiting : (p : Work) → Known w k h (Born (ByCall q)) p → (j : ActiveJob) → p ≡ Waits j → j.request ≡ None → ⊥
-    waiting p n j is taken =
-        let m = subst (λ (x : Work). Known w k h (Born (ByCall q)) x) is n in
-        let bad : None ≡ Some (asked_by (is_stream j.body) q) = sym taken ∙ m.server.is_work.request in
-        cc
-gone_tidy (ByOpen q up down_) p job down n only may t = tt
+pub gone_tidy : {w : Around} {k : ℕ} {h : Here} (b : Birth) (job : ActiveJob) (down : List Flying) (x : Holds w k h b job) → MayGo down h.call job
+    → TidyOf w.set (Born b) (work_in x) h.acts h.downs h.call → TidyOf w.set (Born b) (Over (works_of (Born b) (work_in x))) h.acts (h.downs ++ down) h.call
+gone_tidy (ByCall q) job down (InWait n) (inl f) t = let bad : None ≡ Some (asked_by (is_stream job.body) q) = sym f.1 ∙ n.server.is_work.request in cc
+gone_tidy (ByCall q) job down (InWait n) (inr f) t = λ method. absurd (never_gone job f (t method))
+gone_tidy (ByCall q) job down (InRun n) (inl f) t = λ method. inr (ran_gone q job down f.0 (t method))
+gone_tidy (ByCall q) job down (InRun n) (inr f) t = λ method. absurd (never_gone job f (t method))
+gone_tidy {w} {h = h} (ByCall q) job down (InRest response n) (inl f) t = λ method. inl (down_none (λ d. IsAnsweredCall w.set.rules w.set.limit q h.acts d h.call) f.0 (t method).0)
+gone_tidy (ByCall q) job down (InRest response n) (inr f) t = λ method. absurd (f.0 (t method).1)
+gone_tidy (ByOpen q up down_) job down x may t = tt
 
 -- a stream's job is no method's
-pub stream_tidy : (set : Settings) (b : Birth) (p q : Work) (job : ActiveJob) (a : List Act) (d d2 : List Flying) (e : Option Call) → jobs_of p ≡ job ∷ [] → is_over p ≡ false → is_stream job.body ≡ true → TidyOf set (Born b) p a d e → TidyOf set (Born b) q a d2 e
-stream_tidy set (ByCall r) (Waits j) q job a d d2 e only undone stream t = λ method. let same : j ≡ job = cc in let bad : false ≡ true = sym (t method).unary ∙ ap (λ (x : ActiveJob). is_stream x.body) same ∙ stream in cc
-stream_tidy set (ByCall r) (Runs j) q job a d d2 e only undone stream t = λ method. let same : j ≡ job = cc in let bad : false ≡ true = sym (t method).unary ∙ ap (λ (x : ActiveJob). is_stream x.body) same ∙ stream in cc
-stream_tidy set (ByCall r) (Left j response) q job a d d2 e only undone stream t = let bad : true ≡ false = undone in cc
-stream_tidy set (ByCall r) p q job a d d2 e only undone stream t = absurd (no_cons job [] (sym only))
-stream_tidy set (ByOpen r up down) p q job a d d2 e only undone stream t = tt
+pub stream_tidy : {w : Around} {k : ℕ} {h : Here} (b : Birth) (job : ActiveJob) (q : Work) (d : List Flying) (x : Holds w k h b job) → is_stream job.body ≡ true → TidyOf w.set (Born b) (work_in x) h.acts h.downs h.call → TidyOf w.set (Born b) q h.acts d h.call
+stream_tidy (ByCall r) job q d (InWait n) stream t = λ method. let bad : false ≡ true = sym (t method).unary ∙ stream in cc
+stream_tidy (ByCall r) job q d (InRun n) stream t = λ method. let bad : false ≡ true = sym (t method).unary ∙ stream in cc
+stream_tidy (ByCall r) job q d (InRest response n) stream t = let bad : true ≡ false = sym stream ∙ n.server.is_work.2 in cc
+stream_tidy (ByOpen r up down) job q d x stream t = tt
 
 -- a frame lands
 pub landed_tidy : (set : Settings) (o : Origin) (p : Work) (a : List Act) (e e2 : Option Call) (x : Flying) (ds d : List Flying) → ds ≡ x ∷ d → LandsOn (landing_of x.frame.message.header (OpenedPayload x.plain)) e e2 → TidyOf set o p a ds e → TidyOf set o p a d e2
