@@ -7,15 +7,10 @@ use Rattle.ttrpc_headline.proofs.Flights.{data_brings, IsData, IsRequestFlight, 
 use Rattle.ttrpc_headline.proofs.Throws.{AreSingle, back_stays, nothing_thrown, PartsOf, some_thrown, Stays, Thrown}
 use Rattle.ttrpc_headline.proofs.Words.{[], act_of, all_joined, ap, arith, asked, asks_here, AsyncKind, begins_here, Birth, Bool, box_down, ByCall, ByOpen, Call, call_at, CallEvent, calls, CancelledDuringWrite, Client, ClientCore, ClientEnd, ClientKind, closed_error, Connection, data_thing, deadline_of, DeadlineDuringWrite, Done, DropCall, DropReceiver, drops_here, DropSender, DropsReceiver, DropsSender, due_at, elsewhere, Entry, eqb-true, Error, Event, Expired, expired_at, expires_here, Failure, false, first_act, first_flow, flags_of, Flow, flow_of, Flying, Forgot, Given, given, GoesOn, Halves, has_response, heard, HeardDown, hears_here, here_at, id_of, if◌then◌else◌, inl, inr, is_some, IsBegun, IsOdd, IsOwned, IsPlainFailure, IsPut, IsRequest, IsStarted, Item, last_id, Later, List, Named, nat_eq, Net, None, one_request, only_if, OpenEvent, opening_flags, OpensStream, Option, Outbox, Outcome, parcels, Passes, Place, pushed_other, pushed_own, Recv, refl, Reply, Request, request_of, Requests, Response, Result, said, Sender, SenderClosed, sends_here, SendsOn, Settings, silent, Some, Stream, stream_at, stream_within, StreamReceives, subst, sym, SyncKind, taken_back, takes_back, TakesOutcome, Thing, thrown_here, throws, Ticks, told, true, unasked, unchanged, unheard, unheard_here, unsendable, unsendable_error, unsent_here, untold, Waiting, waits, wants, with_client, with_entry, with_sender, ℕ, ◌%◌, ◌++◌, ◌+◌, ◌<◌, ◌^◌, ◌∙◌, ◌∷◌, ◌≡◌, ◌≢◌, ◌≤◌, ◌⊎◌}
 
--- dropping takes a request back only where requests are thrown away
-back_throws_only : (failed may waiting : Bool) → (if failed then false else if may then waiting else false) ≡ true → may ≡ true
-back_throws_only false true waiting e = refl
-back_throws_only failed may waiting e = cc
-
--- and where the call waits
-back_waits_only : (failed may waiting : Bool) → (if failed then false else if may then waiting else false) ≡ true → waiting ≡ true
-back_waits_only false true waiting e = e
-back_waits_only failed may waiting e = cc
+-- dropping takes a request back only where requests are thrown away, and where the call waits
+back_only : (failed may waiting : Bool) → (if failed then false else if may then waiting else false) ≡ true → (may ≡ true) × (waiting ≡ true)
+back_only false true waiting e = (refl, e)
+back_only failed may waiting e = (cc, cc)
 
 -- requests are thrown away only where they aren't sealed
 throws_unsealed : (kind : ClientKind) (seals : Bool) → throws kind seals ≡ true → seals ≡ false
@@ -282,17 +277,14 @@ module _ {CO CI SO SI : Type 0} (c : Halves CO CI) (s : Halves SO SI) (seals : B
       let streams : (k : ℕ) → stream_at v.client.state k ≡ stream_at w.client.state k = λ k. ap (λ (x : ClientCore CO CI). stream_at x.state k) p.does.same in
       keeps_still c s set f trace (with_client w v.client) (DropCall id) Done (λ k. (refl, refl))
       (taken_back_keeps w trace v.client (λ k. nat_eq k id) (takes_back seals w.client id) CancelledDuringWrite i
-      (back_throws_only (is_some w.client.connection.failure) (throws w.client.state.kind seals) (waits (call_at w.client.state id)))
-      (λ e k owner. (none_waits k id w (back_waits_only (is_some w.client.connection.failure) (throws w.client.state.kind seals) (waits (call_at w.client.state id)) e) owner, never))
+      (λ e. (back_only (is_some w.client.connection.failure) (throws w.client.state.kind seals) (waits (call_at w.client.state id)) e).0)
+      (λ e k owner. (none_waits k id w (back_only (is_some w.client.connection.failure) (throws w.client.state.kind seals) (waits (call_at w.client.state id)) e).1 owner, never))
       (ap (λ (x : ClientCore CO CI). x.connection) p.does.same) next
       (λ left stories. at_one (PlaceOf w trace left i.down v.client.state) id
       (elsewhere (later_of w v.client.state next id) (drops_here (stories id) never) refl refl refl refl refl p.does.own (streams id))
       (λ k e. elsewhere (later_of w v.client.state next k) (stories k) refl refl refl refl refl (p.does.others k (λ same. e (sym same))) (streams k))))
 
   -- A moment comes.
-  due_some : (now k : ℕ) (w : Net CO CI SO SI) → due_at now (call_at w.client.state k) ≡ true → call_at w.client.state k ≡ None → ⊥
-  due_some now k w due none = let bad : due_at now None ≡ true = ap (due_at now) (sym none) ∙ due in cc
-
   -- in a clean run no call is due
   abbrev NoneDue : Net CO CI SO SI → ℕ → Type 0
   NoneDue w now = set.clean → (k : ℕ) → expired_at now (call_at w.client.state k) ≡ call_at w.client.state k
@@ -305,7 +297,7 @@ module _ {CO CI SO SI : Type 0} (c : Halves CO CI) (s : Halves SO SI) (seals : B
   tick_lives w now x i undue p =
       let next : x.state.next ≡ w.client.state.next = ap (λ (y : Client). y.next) p.expires.same in
       let streams : (k : ℕ) → stream_at x.state k ≡ stream_at w.client.state k = λ k. ap (λ (y : Client). stream_at y k) p.expires.same in
-      taken_back_keeps w trace x (λ id. due_at now (call_at w.client.state id)) (throws w.client.state.kind seals) DeadlineDuringWrite i (λ e. e) (λ e k due. (due_some now k w due, λ clean. never_due now (call_at w.client.state k) (undue clean k) due)) p.connection next
+      taken_back_keeps w trace x (λ id. due_at now (call_at w.client.state id)) (throws w.client.state.kind seals) DeadlineDuringWrite i (λ e. e) (λ e k due. (λ none. let bad : due_at now None ≡ true = ap (due_at now) (sym none) ∙ due in cc, λ clean. never_due now (call_at w.client.state k) (undue clean k) due)) p.connection next
       (λ left stories k. elsewhere (later_of w x.state next k) (expires_here now (stories k) (λ clean. undue clean k)) refl refl refl refl refl (p.expires.calls k) (streams k))
 
   pub keeps_passes : (w : Net CO CI SO SI) (now : ℕ) (x : ClientCore CO CI) (failure : Option Failure) → Kept trace w → NoneDue w now → Passes seals failure w.client now x → Kept trace (with_client w x)

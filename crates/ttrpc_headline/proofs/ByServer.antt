@@ -5,9 +5,9 @@ use Rattle.ttrpc_headline.proofs.Numbers.{AreRight, Numbers}
 use Rattle.ttrpc_headline.proofs.OneWay.{goes_on, joins, not_both, OneWay}
 use Rattle.ttrpc_headline.proofs.Payloads.{too_late, unknown_never}
 use Rattle.ttrpc_headline.proofs.Flights.{behind_other, behind_own, flight_as, GivesSo, IsAnswering, IsData, IsGoing, IsRefusing, item_going, sends_close, sends_data, sends_refusal, sends_response, SendsFlight}
-use Rattle.ttrpc_headline.proofs.Jobs.{all_due, any_last, any_more, aside_plain, deaf, gone_at, gone_others, is_at, job_is, mailed, not_here, too_soon, untouched}
+use Rattle.ttrpc_headline.proofs.Jobs.{all_due, aside_plain, deaf, gone_at, gone_others, is_at, job_is, mailed, not_here, too_soon, untouched}
 use Rattle.ttrpc_pair.proofs.Words.{unheard as unheard_of}
-use Rattle.ttrpc_headline.proofs.Words.{[], Act, act_of, ActiveJob, all_at, all_in_front, AllByRecursion, Answer, Answered, answered_work, Answers, answers_here, AnswersBy, AnswersError, ap, append-nil, append_assoc, arith, asked_by, AsyncRules, at_stays, between_own, Birth, Bool, Born, call_at, changed_at, codes, Done, Drain, drained, DropReceiver, Drops, elsewhere, EndedDown, ending_thing, ends_here, EndsOne, EndsStream, EndStream, Entry, eq-eqb, Err, Error, errs_up_here, Event, ExpireAll, Failure, false, Finish, Finishes, first_act, flow_of, Flying, given, Goes, Halves, Handed, HandlerError, Hands, has_response, HasNone, HasOkStatus, heard, HeardUp, hears_up_here, here_at, id_of, if◌then◌else◌, inl, inr, is_clean_answer, is_due, is_stream, IsAnswer, IsAnsweredBy, IsDown, IsEnd, IsErrorResponse, IsNever, IsPlain, IsPlainFailure, IsResponse, IsSentAs, IsSentBack, IsSentFor, Item, Job, job_at, job_within, JobReceives, jobs_at, last_id, last_thing, Later, List, list_any, Mail, mapped_at, may_be_error, nat_eq, Net, never_down, None, Ok, only_if, Option, Origin, Others, Outbox, parcels, Place, pushed_other, pushed_own, Ran, reaches, ReceivesBy, ReceivesFrom, Recv, refl, request_of, Respond, Responds, responds_here, RespondsTo, Response, Result, Rules, running_of, safe_limit, Send, sends_down_here, SendsAll, SendsItem, Sent, SentDown, Server, ServerCore, ServerEnd, ServerPasses, ServerTicks, Settings, silent, Some, some_of, stream_id_of, StreamBody, subst, sym, SyncRules, Take, takes_here, Thing, ThingEnd, ThingItem, Ticket, timeout_response, told, told_by, told_plain, true, unchanged, under_both, unheard, unheard_up_here, untold, Waiting, was_made, with_entry, with_mail, with_server, without_receiver, ℕ, ◌++◌, ◌∙◌, ◌∷◌, ◌≡◌, ◌≤◌}
+use Rattle.ttrpc_headline.proofs.Words.{[], Act, act_of, ActiveJob, all_at, all_in_front, AllByRecursion, Answer, Answered, answered_work, Answers, answers_here, AnswersBy, AnswersError, ap, append-nil, append_assoc, arith, asked_by, AsyncRules, at_stays, between_own, Birth, Bool, Born, call_at, changed_at, codes, Done, Drain, drained, DropReceiver, Drops, elsewhere, EndedDown, ending_thing, ends_here, EndsOne, EndsStream, EndStream, Entry, eq-eqb, Err, Error, errs_up_here, Event, ExpireAll, Failure, false, Finish, Finishes, first_act, flow_of, Flying, given, Goes, Halves, Handed, HandlerError, Hands, has_response, HasNone, HasOkStatus, heard, HeardUp, hears_up_here, here_at, id_of, if◌then◌else◌, inl, inr, is_clean_answer, is_due, is_stream, IsAnswer, IsAnsweredBy, IsDown, IsEnd, IsErrorResponse, IsNever, IsPlain, IsPlainFailure, IsResponse, IsSentAs, IsSentBack, IsSentFor, Item, Job, job_at, job_within, JobReceives, jobs_at, last_id, last_thing, Later, List, list_any, Mail, mapped_at, may_be_error, nat_eq, Net, never_down, None, Ok, only_if, Option, Origin, Others, Outbox, parcels, Place, pushed_other, pushed_own, Ran, reaches, ReceivesBy, ReceivesFrom, Recv, refl, request_of, Respond, Responds, responds_here, RespondsTo, Response, Result, Rules, running_of, safe_limit, Send, sends_down_here, SendsAll, SendsItem, Sent, SentDown, Server, ServerCore, ServerEnd, ServerPasses, ServerTicks, Settings, silent, Some, some_of, stream_id_of, StreamBody, subst, sym, SyncRules, Take, takes_here, Thing, ThingEnd, ThingItem, Ticket, timeout_response, told, told_by, told_plain, true, unchanged, under_both, unheard, unheard_up_here, untold, Waiting, was_made, with_entry, with_mail, with_server, without_receiver, ℕ, ◌++◌, ◌∙◌, ◌∷◌, ◌≡◌, ◌≤◌, list_any-append, or_left, or_right}
 
 module _ {CO CI SO SI : Type 0} (c : Halves CO CI) (s : Halves SO SI) (seals : Bool) (set : Settings) (f : ℕ → ℕ) (trace : List Entry) where
   abbrev Kept : List Entry → Net CO CI SO SI → Type 0
@@ -241,7 +241,7 @@ module _ {CO CI SO SI : Type 0} (c : Halves CO CI) (s : Halves SO SI) (seals : B
       let t = with_entry trace (Respond id response) Done in
       let a = is_at f w.server.state.jobs.list id j right at in
       let had2 : ℕ → Bool = λ job. list_any (λ n. nat_eq n job) (w.responded ++ id ∷ []) in
-      let later : (n : ℕ) → Later (around set (has_response w) w.client.state.next) (around set had2 w.client.state.next) n = λ n. record { set = refl; young = λ y. y; had = λ m h. any_more (λ q. nat_eq q m) w.responded id h } in
+      let later : (n : ℕ) → Later (around set (has_response w) w.client.state.next) (around set had2 w.client.state.next) n = λ n. record { set = refl; young = λ y. y; had = λ m h. list_any-append (λ q. nat_eq q m) w.responded (id ∷ []) ∙ or_left _ _ h } in
       let same : x.state ≡ w.server.state = ap (λ (y : ServerCore SO SI). y.state) p.does.same in
       let is : (n : ℕ) → jobs_at x.state.jobs.list n ≡ jobs_at w.server.state.jobs.list n = λ n. ap (λ (y : Server). jobs_at y.jobs.list n) same in
       let running = running_of (jobs_at at.front k) (jobs_at at.back k) j (i.stories k) a.own at.taken (none_yet w id j at.is_job p.awaits.none_yet) in
@@ -251,7 +251,7 @@ module _ {CO CI SO SI : Type 0} (c : Halves CO CI) (s : Halves SO SI) (seals : B
       (λ ok. is_answer running.b j false response unary) p.does.responds p.does.sends in
       server_changes w t x (w.responded ++ id ∷ []) (i.down ++ r.y ∷ []) i
       (at_one (PlaceOf w had2 t i.up (i.down ++ r.y ∷ []) x.state.jobs.list) k
-      (elsewhere (unchanged (around set had2 w.client.state.next) k) (responds_here j response r.y running (later k) (any_last (λ m. nat_eq m j.id) w.responded id (eq-eqb id j.id (sym at.is_job))) unary r.is.down (subst (λ (t : Thing). IsSentAs t r.y) (same_ending w response ruled) r.is.goes) (sym ruled.0 ∙ p.rules) (λ one. (refl, sent_back w response (Ok response) ruled refl r.y r.is.gives)))
+      (elsewhere (unchanged (around set had2 w.client.state.next) k) (responds_here j response r.y running (later k) (list_any-append (λ m. nat_eq m j.id) w.responded (id ∷ []) ∙ or_right _ _ (or_left _ _ (eq-eqb id j.id (sym at.is_job)))) unary r.is.down (subst (λ (t : Thing). IsSentAs t r.y) (same_ending w response ruled) r.is.goes) (sym ruled.0 ∙ p.rules) (λ one. (refl, sent_back w response (Ok response) ruled refl r.y r.is.gives)))
       (heard (act_of f k) k (f id) trace (Respond id response) Done (Answered false (Ok (Some response))) refl a.stream) (heard (flow_of f k) k (f id) trace (Respond id response) Done (EndedDown (Ok (Some response))) refl a.stream)
       refl (is k) (pushed_own id_of k r.y i.down r.is.down.stream) refl refl)
       (λ n e. elsewhere (later n) (i.stories n) (unheard (act_of f n) n (f id) trace (Respond id response) Done (Answered false (Ok (Some response))) refl (λ h. e (sym a.stream ∙ h)))

@@ -11,13 +11,6 @@ pub record SendsFlight {O : Type 0} (out : OutboundTransform O) (old : Outbox O)
   pub own : IsOwned y
   pub is : is_such y
 
-sealed_is_sound : (f : Queued) (sealed : List ℕ) → length sealed ≤ MESSAGE_LENGTH_MAX → f.message.header.stream_id ≤ last_id → f.message.header.type_ < 2 ^ 8 → f.message.header.flags < 2 ^ 8 → IsSound (with_payload f sealed)
-sealed_is_sound f sealed short stream type_ flags = record {
-  fits = record { length = omega (arith, short); stream_id = omega (arith, stream); type_ = type_; flags = flags };
-  stated = omega (arith, short);
-  short = short;
-}
-
 -- the flight of a frame and its data
 abbrev flight_of : Queued → List ℕ → List ℕ → Flying
 flight_of f sealed plain = record { frame = with_payload f sealed; plain = plain }
@@ -29,7 +22,7 @@ sends_flight out old f plain new is_such s stream type_ flags own is = record {
   y = flight_of f s.sealed plain;
   queue = s.queue;
   seal = s.seal;
-  sound = sealed_is_sound f s.sealed s.fits stream type_ flags;
+  sound = record { fits = record { length = let short : length s.sealed ≤ MESSAGE_LENGTH_MAX = s.fits in omega (arith, short); stream_id = omega (arith, stream); type_ = type_; flags = flags }; stated = let short : length s.sealed ≤ MESSAGE_LENGTH_MAX = s.fits in omega (arith, short); short = s.fits };
   own = own;
   is = is;
 }
@@ -183,13 +176,9 @@ pub record IsRefusing (k : ℕ) (outcome : Result Response Error) (y : Flying) :
   pub turned : IsTurned y
   pub gives : GivesSo (Some outcome) y
 
-refusal_gives : (last : Response) → IsRefusal last → (HasOkStatus last.status × (by_status last.status last ≡ Ok last)) ⊎ ((e : Error) × (by_status last.status last ≡ Err e)) → (e : Error) × (by_status last.status last ≡ Err e)
-refusal_gives last m (inl h) = absurd (m.never_ok h.0)
-refusal_gives last m (inr h) = h
-
 refusing : {k : ℕ} {y : Flying} (last : Response) → IsRefusal last → IsResponseFlight k last y → IsRefusing k (by_status last.status last) y
 refusing {k} {y} last m f =
-    let h = refusal_gives last m (status_cases last.status last) in
+    let h : (e : Error) × (by_status last.status last ≡ Err e) = elim (status_cases last.status last) [ inl ok ↦ absurd (m.never_ok ok.0) | inr fails ↦ fails ] in
     record {
       never = record { stream = f.stream; error = h.0; lands = lands_as m.is f ∙ ap (λ (o : Result Response Error). Gives o) h.1 };
       turned = λ wanted rest way. subst (λ (t : Thing). Follows rest (t ∷ way)) (sym (brings_as m.is f wanted ∙ ap (λ (o : Result Response Error). thing_of (closing_news o)) h.1)) (plain_status last.status last h.0 h.1);

@@ -7,13 +7,6 @@ use Rattle.ttrpc_headline.proofs.Numbers.{AreRight}
 pub not_here : (k : ℕ) (front back : List ActiveJob) (j : ActiveJob) → j.header.stream_id ≢ k → jobs_at (front ++ j ∷ back) k ≡ jobs_at (front ++ back) k
 not_here k front back j other = between_other stream_id_of k front back j other ∙ sym (under_both stream_id_of k front back)
 
--- one more job has its response
-pub any_more : (p : ℕ → Bool) (xs : List ℕ) (x : ℕ) → list_any p xs ≡ true → list_any p (xs ++ x ∷ []) ≡ true
-any_more p xs x h = list_any-append p xs (x ∷ []) ∙ or_left (list_any p xs) (list_any p (x ∷ [])) h
-
-pub any_last : (p : ℕ → Bool) (xs : List ℕ) (x : ℕ) → p x ≡ true → list_any p (xs ++ x ∷ []) ≡ true
-any_last p xs x h = list_any-append p xs (x ∷ []) ∙ or_right (list_any p xs) (list_any p (x ∷ [])) (or_left (p x) false h)
-
 -- A job that was taken: the function gives its stream, and what there is under that.
 pub record IsAt (f : ℕ → ℕ) (jobs : List ActiveJob) (id : ℕ) (j : ActiveJob) (at : IsTaken jobs id j) : Type 0 where
   pub stream : f id ≡ j.header.stream_id

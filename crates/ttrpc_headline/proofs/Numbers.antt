@@ -11,13 +11,6 @@ pub record Rise (f : ℕ → ℕ) (last low : ℕ) : Type 0 where
   pub rise : (i j : ℕ) → 0 < i → i < j → j ≤ last → f i < f j
   pub below : (j : ℕ) → 0 < j → j ≤ last → f j < low
 
--- no job is made yet
-none_made : (f : ℕ → ℕ) (low : ℕ) → Rise f 0 low
-none_made f low = record {
-  rise = λ i j a b c. absurd (let no : ⊥ = omega (arith, a, b, c) in no);
-  below = λ j a b. absurd (let no : ⊥ = omega (arith, a, b) in no);
-}
-
 -- one more is made, of a stream above the others'
 one_made : (f : ℕ → ℕ) (last low s : ℕ) → f (last + 1) ≡ s → low ≤ s → Rise f last low → Rise f (last + 1) (s + 1)
 one_made f last low s is more n = record {
@@ -92,7 +85,9 @@ pub record Numbers (f : ℕ → ℕ) (last : ℕ) (up : List Flying) (next : ℕ
   pub between : Between low up next
 
 pub fresh_numbers : (f : ℕ → ℕ) (next : ℕ) → Numbers f 0 [] next
-fresh_numbers f next = record { low = 0; within = omega arith; rise = none_made f 0; between = omega arith }
+fresh_numbers f next =
+    let none : Rise f 0 0 = record { rise = λ i j a b c. absurd (let no : ⊥ = omega (arith, a, b, c) in no); below = λ j a b. absurd (let no : ⊥ = omega (arith, a, b) in no) } in
+    record { low = 0; within = omega arith; rise = none; between = omega arith }
 
 -- other requests are in flight
 pub other_requests : {f : ℕ → ℕ} {last next next2 : ℕ} {up up2 : List Flying} → (n : Numbers f last up next) → Between n.low up2 next2 → Numbers f last up2 next2

@@ -57,12 +57,9 @@ down_order {o = Born b} d = in_order d.is.flowing
 pub stays : {o : Origin} {p : Work} {put : List Thing} {told : List Word} {downs : List Flying} {st : Option Stream} (q : Work) (st2 : Option Stream) → (is_over q ≡ false → is_over p ≡ false) → box_down st2 ≡ box_down st → wants st2 ≡ wants st
     → Downward o p put told downs st → Downward o q put told downs st2
 stays {o = Unborn} q st2 over box wanted d = record { is = d.is }
-stays {o = Born b} {put = put} {told = told} {downs = downs} {st = st} q st2 over box wanted d = record {
-  is = record {
-    flowing = subst (λ (m : Mail). Flowing put told m (map (thing_down (wants st2)) downs)) (sym box) (subst (λ (w : Bool). Flowing put told (box_down st) (map (thing_down w) downs)) (sym wanted) d.is.flowing);
-    unended = λ e. d.is.unended (over e);
-  };
-}
+stays {o = Born b} {put = put} {told = told} {downs = downs} {st = st} q st2 over box wanted d =
+    let same = subst (λ (w : Bool). Flowing put told (box_down st) (map (thing_down w) downs)) (sym wanted) d.is.flowing in
+    record { is = record { flowing = subst (λ (m : Mail). Flowing put told m (map (thing_down (wants st2)) downs)) (sym box) same; unended = λ e. d.is.unended (over e) } }
 
 -- An error is told that is no end.
 pub told_aside : {o : Origin} {p : Work} {put : List Thing} {told : List Word} {downs : List Flying} {st : Option Stream} (e : Error) → IsPlain e → Downward o p put told downs st → Downward o p put (told ++ Err e ∷ []) downs st
@@ -88,12 +85,10 @@ all_turned wanted (x ∷ more) h = (h.0 wanted, all_turned wanted more h.1)
 
 -- What the server answers itself is sent, and the work may go on.
 pub turned : {b : Birth} {p : Work} {put : List Thing} {told : List Word} {downs : List Flying} {st : Option Stream} (q : Work) (more : List Flying) → (is_over q ≡ false → is_over p ≡ false) → AllByRecursion IsTurned more → Downward (Born b) p put told downs st → Downward (Born b) q put told (downs ++ more) st
-turned {put = put} {told = told} {downs = downs} {st = st} q more over are d = record {
-  is = record {
-    flowing = subst (λ (w : List Thing). Flowing put told (box_down st) w) (sym (map-append (thing_down (wants st)) downs more)) (turns (map (thing_down (wants st)) more) (all_turned (wants st) more are) d.is.flowing);
-    unended = λ e. d.is.unended (over e);
-  };
-}
+turned {put = put} {told = told} {downs = downs} {st = st} q more over are d =
+    let w : Bool = wants st in
+    let flowing = subst (λ (way : List Thing). Flowing put told (box_down st) way) (sym (map-append (thing_down w) downs more)) (turns (map (thing_down w) more) (all_turned w more are) d.is.flowing) in
+    record { is = record { flowing = flowing; unended = λ e. d.is.unended (over e) } }
 
 -- it brings what was put in, or an error
 abbrev pub IsSentAs : Thing → Flying → Type 0
@@ -108,12 +103,8 @@ pub goes : {b : Birth} {p : Work} {put : List Thing} {told : List Word} {downs :
     → Downward (Born b) p put told downs st → Downward (Born b) q (put ++ x ∷ []) told (downs ++ more) st
 goes {put = put} {told = told} {downs = downs} {st = st} q x more undone over is d =
     let w : Bool = wants st in
-    record {
-      is = record {
-        flowing = subst (λ (way : List Thing). Flowing (put ++ x ∷ []) told (box_down st) way) (sym (map-append (thing_down w) downs more)) (puts x (map (thing_down w) more) (is w) (d.is.unended undone) d.is.flowing);
-        unended = over;
-      };
-    }
+    let flowing = subst (λ (way : List Thing). Flowing (put ++ x ∷ []) told (box_down st) way) (sym (map-append (thing_down w) downs more)) (puts x (map (thing_down w) more) (is w) (d.is.unended undone) d.is.flowing) in
+    record { is = record { flowing = flowing; unended = over } }
 
 -- ---- a frame comes to the client
 

@@ -40,20 +40,16 @@ only_of front back job s was = only_at front back job s.origin s.so_far s.known 
 around_it : {w : Around} {k : ℕ} {h : Here} {front back : List ActiveJob} {job : ActiveJob} → IsOnly w k h front back job → front ++ back ≡ []
 around_it {back = back} i = ap (λ (xs : List ActiveJob). xs ++ back) i.front_is ∙ i.back_is
 
-waits_taken : {w : Around} {k : ℕ} {h : Here} {jobs : List ActiveJob} (job : ActiveJob) (request : Request) (b : Birth) → Known w k h (Born b) (Waits job) → job.request ≡ Some request → jobs ≡ record job { request = None } ∷ []
-    → Place w k (record h { acts = h.acts ++ Ran job.id (is_stream job.body) request ∷ []; jobs = jobs })
-waits_taken {w} {k} {h} job request b m asked hj =
-    let taken : ActiveJob = record job { request = None } in
-    let ran : Act = Ran job.id (is_stream job.body) request in
-    let same_some : Some request ≡ Some (asked_by (is_stream job.body) (request_of b)) = sym asked ∙ m.server.is_work.request in
-    let is : request ≡ asked_by (is_stream job.body) (request_of b) = cc in
-    turns (Runs taken) (ran ∷ []) [] m (unchanged w k) refl refl (record { request = refl; stream = m.server.is_work.stream; kind = m.server.is_work.kind }) (ap (λ (q : Request). first_act b ∷ Ran job.id (is_stream job.body) q ∷ []) (sym is)) refl m.server.ups_is
-    hj (sym (append-nil h.downs)) tt (upward.takes job m.up) (downward.stays (Runs taken) h.stream (λ e. refl) refl refl m.down) (λ clean. taken_tidy w.set b job ran h.acts h.downs h.call refl (m.tidy clean))
-
 -- It is handed out.
 takes_in : {w : Around} {k : ℕ} {h : Here} {jobs : List ActiveJob} (job : ActiveJob) (request : Request) (b : Birth) → Holds w k h b job → job.request ≡ Some request → jobs ≡ record job { request = None } ∷ []
     → Place w k (record h { acts = h.acts ++ Ran job.id (is_stream job.body) request ∷ []; jobs = jobs })
-takes_in job request b (InWait n) asked hj = waits_taken job request b n asked hj
+takes_in {w} {k} {h} job request b (InWait n) asked hj =
+    let taken : ActiveJob = record job { request = None } in
+    let ran : Act = Ran job.id (is_stream job.body) request in
+    let same_some : Some request ≡ Some (asked_by (is_stream job.body) (request_of b)) = sym asked ∙ n.server.is_work.request in
+    let is : request ≡ asked_by (is_stream job.body) (request_of b) = cc in
+    turns (Runs taken) (ran ∷ []) [] n (unchanged w k) refl refl (record { request = refl; stream = n.server.is_work.stream; kind = n.server.is_work.kind }) (ap (λ (q : Request). first_act b ∷ Ran job.id (is_stream job.body) q ∷ []) (sym is)) refl n.server.ups_is
+    hj (sym (append-nil h.downs)) tt (upward.takes job n.up) (downward.stays (Runs taken) h.stream (λ e. refl) refl refl n.down) (λ clean. taken_tidy w.set b job ran h.acts h.downs h.call refl (n.tidy clean))
 takes_in job request b (InRun n) asked hj = let bad : Some request ≡ None = sym asked ∙ n.server.is_work.request in cc
 takes_in job request b (InRest response n) asked hj = let bad : Some request ≡ None = sym asked ∙ n.server.is_work.0.request in cc
 

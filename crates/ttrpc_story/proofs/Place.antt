@@ -168,17 +168,12 @@ born {w} {k} {h} o p n e =
     let m = subst (λ (x : Origin). Known w k h x p) e n in
     subst (λ (x : Work). Known w k h Unborn x) m.server.is_work m
 
-none_may : (b : Birth) → MayHave (Born b) []
-none_may (ByCall request) = refl
-none_may (ByOpen request up down) = tt
-
-first_works : (b : Birth) → work (first_act b ∷ []) ≡ first_act b ∷ []
-first_works (ByCall request) = refl
-first_works (ByOpen request up down) = refl
-
-first_says : (set : Settings) (b : Birth) → (put_up (first_flow b ∷ []) ≡ first_things b) × (heard_up (first_flow b ∷ []) ≡ []) × (put_down set.rules set.limit (first_flow b ∷ []) ≡ []) × (heard_down (first_flow b ∷ []) ≡ [])
-first_says set (ByOpen request true down) = (refl, refl, refl, refl)
-first_says set b = (refl, refl, refl, refl)
+-- there are no data yet, and this is what its first act says
+first_says : (set : Settings) (b : Birth) → MayHave (Born b) [] × (work (first_act b ∷ []) ≡ first_act b ∷ [])
+    × (put_up (first_flow b ∷ []) ≡ first_things b) × (heard_up (first_flow b ∷ []) ≡ []) × (put_down set.rules set.limit (first_flow b ∷ []) ≡ []) × (heard_down (first_flow b ∷ []) ≡ [])
+first_says set (ByCall request) = (refl, refl, refl, refl, refl, refl)
+first_says set (ByOpen request true down) = (tt, refl, refl, refl, refl, refl)
+first_says set (ByOpen request false down) = (tt, refl, refl, refl, refl, refl)
 
 -- the id of a call is odd
 abbrev pub IsOdd : Birth → ℕ → Type 0
@@ -205,12 +200,12 @@ begins_here {w} {w2} {k} {h} {e} {st} b x s set had y y2 within sent flags odd b
       known = record {
         young = λ z. absurd (y2 z);
         server = subst (λ (r : Settings). AtServer r.rules w2.had k (Born b) (Asking x) (work (h.acts ++ first_act b ∷ [])) (h.ups ++ x ∷ []) h.jobs h.downs) (sym set)
-            (moves (first_act b ∷ []) [] [] n.server refl within sent tt (none_may b) refl (work_append h.acts (first_act b ∷ []) ∙ ap (λ xs. work h.acts ++ xs) (first_works b)) one n.server.jobs_is (sym (append-nil h.downs)) tt);
+            (moves (first_act b ∷ []) [] [] n.server refl within sent tt says.0 refl (work_append h.acts (first_act b ∷ []) ∙ ap (λ xs. work h.acts ++ xs) says.1) one n.server.jobs_is (sym (append-nil h.downs)) tt);
         client = client.begins b h.acts h.call e h.stream st g.0 n.client;
         up = subst (λ (xs : List Flying). Upward k (Born b) (Asking x) (put_up (h.flows ++ more)) (heard_up (h.flows ++ more)) xs st) (sym one)
-            (up_as (flows_grow put_up put_up_append h.flows more (first_things b) says.0) (flows_stay heard_up heard_up_append h.flows more says.1) (upward.starts b x flags g.1 n.up));
+            (up_as (flows_grow put_up put_up_append h.flows more (first_things b) says.2) (flows_stay heard_up heard_up_append h.flows more says.3) (upward.starts b x flags g.1 n.up));
         down = subst (λ (r : Settings). Downward (Born b) (Asking x) (put_down r.rules r.limit (h.flows ++ more)) (heard_down (h.flows ++ more)) h.downs st) (sym set)
-            (down_as (flows_stay (put_down w.set.rules w.set.limit) (put_down_append w.set.rules w.set.limit) h.flows more says.2) (flows_stay heard_down heard_down_append h.flows more says.3) (downward.starts b (Asking x) st g.1 n.down));
+            (down_as (flows_stay (put_down w.set.rules w.set.limit) (put_down_append w.set.rules w.set.limit) h.flows more says.4) (flows_stay heard_down heard_down_append h.flows more says.5) (downward.starts b (Asking x) st g.1 n.down));
         tidy = subst (λ (r : Settings). r.clean → TidyOf r (Born b) (Asking x) (h.acts ++ first_act b ∷ []) h.downs e) (sym set) (λ clean. begins_tidy w.set b k x h.acts h.downs e st odd sent.stream g.0 n.client.2 (n.tidy clean));
       };
     }
@@ -347,15 +342,13 @@ maps_here {h = h} {p = p} g found n up tidy hp ht =
 
 -- ---- requests are thrown away
 
--- a call that has no data in flight, and no request either
-thrown_call : {w : Around} {k : ℕ} {h : Here} (q : Request) (p : Work) → Known w k h (Born (ByCall q)) p → (w.set.clean → ⊥) → Place w k (record h { ups = [] })
-thrown_call {w} {k} {h} q (Asking x) n never = elsewhere (unchanged w k) (concludes_here {ups = []} {jobs = h.jobs} [] [] n tt refl refl n.server.jobs_is tt tt (λ clean. absurd (never clean))) refl refl refl refl (sym (append-nil h.downs)) refl refl
-thrown_call {w} {k} {h} q p n never =
+-- a call has no data in flight, and then no request either
+thrown_at : {w : Around} {k : ℕ} {h : Here} (o : Origin) (p : Work) → Known w k h o p → (h.call ≡ None → ⊥) → (w.set.clean → ⊥) → Place w k (record h { ups = [] })
+thrown_at {w} {k} {h} (Born (ByCall q)) (Asking x) n some never =
+    elsewhere (unchanged w k) (concludes_here {ups = []} {jobs = h.jobs} [] [] n tt refl refl n.server.jobs_is tt tt (λ clean. absurd (never clean))) refl refl refl refl (sym (append-nil h.downs)) refl refl
+thrown_at {w} {k} {h} (Born (ByCall q)) p n some never =
     let place : Place w k h = record { origin = Born (ByCall q); so_far = p; known = n } in
     elsewhere (unchanged w k) place refl refl (sym (n.server.ups_is ∙ n.server.may_have)) refl refl refl refl
-
-thrown_at : {w : Around} {k : ℕ} {h : Here} (o : Origin) (p : Work) → Known w k h o p → (h.call ≡ None → ⊥) → (w.set.clean → ⊥) → Place w k (record h { ups = [] })
-thrown_at (Born (ByCall q)) p n some never = thrown_call q p n never
 thrown_at o p n some never = absurd (some n.client.0)
 
 -- Requests of calls are thrown away, or none; in a clean run none.

@@ -164,13 +164,9 @@ made_box {put} {told} b (StreamBody m) way (inr is) f = subst (λ (x : Body). Fl
 
 pub makes : {k : ℕ} {b : Birth} {put : List Thing} {told : List Word} {st : Option Stream} {x : Flying} {ups u : List Flying} (job : ActiveJob) → ups ≡ x ∷ u → IsMade b job.body → (is_stream job.body ≡ true → nat_eq (k % 2) 0 ≡ false)
     → Upward k (Born b) (Asking x) put told ups st → Upward k (Born b) (Waits job) put told u st
-makes {b = b} {put = put} {told = told} {x = x} {u = u} job was is odd s = record {
-  is = record {
-    flowing = made_box b job.body (map thing_up u) is (subst (λ (xs : List Flying). Flowing put told empty_mail (first_things b ++ map thing_up (behind xs))) was s.is.flowing);
-    fit = odd;
-    unclosed = s.is.unclosed;
-  };
-}
+makes {b = b} {put = put} {told = told} {x = x} {u = u} job was is odd s =
+    let flowing = made_box b job.body (map thing_up u) is (subst (λ (xs : List Flying). Flowing put told empty_mail (first_things b ++ map thing_up (behind xs))) was s.is.flowing) in
+    record { is = record { flowing = flowing; fit = odd; unclosed = s.is.unclosed } }
 
 -- ---- data come, or are sent
 
@@ -181,14 +177,9 @@ way_plain b p ups none = refl
 -- Data come that aren't put in.
 pub passes : {k : ℕ} {b : Birth} {p : Work} {put : List Thing} {told : List Word} {st : Option Stream} {x : Flying} {ups u : List Flying} → ups ≡ x ∷ u → ups_of p ≡ [] → ((box_up p).receiver ≡ Open → (box_up p).ended ≡ true)
     → Upward k (Born b) p put told ups st → Upward k (Born b) p put told u st
-passes {b = b} {p = p} {put = put} {told = told} {x = x} {ups = ups} {u = u} was none over s = record {
-  is = record {
-    flowing = subst (λ (w : List Thing). Flowing put told (box_up p) w) (sym (way_plain b p u none))
-        (loses (thing_up x) over (subst (λ (w : List Thing). Flowing put told (box_up p) w) (way_plain b p ups none ∙ ap (map thing_up) was) s.is.flowing));
-    fit = s.is.fit;
-    unclosed = s.is.unclosed;
-  };
-}
+passes {b = b} {p = p} {put = put} {told = told} {x = x} {ups = ups} {u = u} was none over s =
+    let came = loses (thing_up x) over (subst (λ (w : List Thing). Flowing put told (box_up p) w) (way_plain b p ups none ∙ ap (map thing_up) was) s.is.flowing) in
+    record { is = record { flowing = subst (λ (w : List Thing). Flowing put told (box_up p) w) (sym (way_plain b p u none)) came; fit = s.is.fit; unclosed = s.is.unclosed } }
 
 way_more : (b : Birth) (p : Work) (ups : List Flying) (y : Flying) → (items : List Flying) → ups ≡ ups_of p ++ items → way_up b p (ups ++ y ∷ []) ≡ way_up b p ups ++ thing_up y ∷ []
 way_more b (Asking x) ups y items was =
@@ -199,13 +190,10 @@ way_more b p ups y items was = map-append thing_up ups (y ∷ [])
 -- Data are sent, as they will come.
 pub sends : {k : ℕ} {b : Birth} {p : Work} {put : List Thing} {told : List Word} {ups : List Flying} {st st2 : Option Stream} (x : Thing) (y : Flying) (items : List Flying) → thing_up y ≡ x → Follows (x ∷ []) (x ∷ []) → ups ≡ ups_of p ++ items
     → unsendable st ≡ None → IsUnclosed st2 (put ++ x ∷ []) → Upward k (Born b) p put told ups st → Upward k (Born b) p (put ++ x ∷ []) told (ups ++ y ∷ []) st2
-sends {b = b} {p = p} {put = put} {told = told} {ups = ups} x y items is same was may unclosed s = record {
-  is = record {
-    flowing = subst (λ (w : List Thing). Flowing (put ++ x ∷ []) told (box_up p) w) (sym (way_more b p ups y items was ∙ ap (λ (t : Thing). way_up b p ups ++ t ∷ []) is)) (puts x (x ∷ []) same (s.is.unclosed may) s.is.flowing);
-    fit = s.is.fit;
-    unclosed = unclosed;
-  };
-}
+sends {b = b} {p = p} {put = put} {told = told} {ups = ups} x y items is same was may unclosed s =
+    let way : way_up b p (ups ++ y ∷ []) ≡ way_up b p ups ++ x ∷ [] = way_more b p ups y items was ∙ ap (λ (t : Thing). way_up b p ups ++ t ∷ []) is in
+    let flowing = subst (λ (w : List Thing). Flowing (put ++ x ∷ []) told (box_up p) w) (sym way) (puts x (x ∷ []) same (s.is.unclosed may) s.is.flowing) in
+    record { is = record { flowing = flowing; fit = s.is.fit; unclosed = unclosed } }
 
 -- ---- mailboxes change
 
