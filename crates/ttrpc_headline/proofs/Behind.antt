@@ -4,6 +4,7 @@ use Rattle.ttrpc_headline.proofs.Ending.{idle_down, idle_up}
 use Rattle.ttrpc_headline.proofs.Keeps.{Keeps}
 use Rattle.ttrpc_headline.proofs.Numbers.{error_ends, received}
 use Rattle.ttrpc_headline.proofs.Timed.{called_back, expired_is, Makes}
+use Rattle.ttrpc_headline.proofs.Serves.{passes_so}
 use Rattle.ttrpc_headline.proofs.Words.{[], ActiveJob, all_at, all_less, Answer, AnswersBy, ap, arith, asks_outcome, AsyncRules, Bool, Call, call_at, CallEvent, Client, ClientSide, Count, Cut, deadline_of, Deliver, Done, Drain, DropReceiver, Ended, EndsOne, EndStream, Entry, eqb-true, Err, Error, Event, ExpireAll, Failure, false, Finish, Given, Halves, Handed, inl, inr, is_clean_event, is_clean_reply, is_some, IsOpen, Item, JobList, left_of, List, Lives, ltb-false, map, Named, nat_lt, Net, None, NoneWaits, Ok, Option, Outbox, Outcome, Recv, Refused, Reply, Respond, Response, Result, Rules, rules, Send, Server, ServerCore, ServerEnd, ServerPasses, ServerSide, Settings, Some, StaysFound, Steps, subst, sym, SyncRules, Take, takes_bytes, takes_nothing, Tick, Ticket, true, Waiting, ℕ, ◌∙◌, ◌∷◌, ◌≡◌, ◌≤◌}
 
 pub none_taken : (k : ℕ) → nat_lt 0 k ≡ false → k ≡ 0
@@ -53,17 +54,6 @@ module _ {CO CI SO SI : Type 0} (c : Halves CO CI) (s : Halves SO SI) (seals : B
   answered_idle x y id (Ok response) a h = ends_idle x.state.jobs.list y.state.jobs.list id a.1.job a.1.ends h
   answered_idle x y id (Err error) a h = let e = error_ends s.out x.state.rules x id error y a in ends_idle x.state.jobs.list y.state.jobs.list id e.0 e.1 h
 
-  expired_idle : (js : List ActiveJob) (old : Server) (from : Outbox SO) (new : Server) (to : Outbox SO) → ExpireAll s.out old from js new to → NoneWaits old.jobs.list → NoneWaits new.jobs.list
-  expired_idle [] old from new to e h = subst (λ (t : Server). NoneWaits t.jobs.list) (sym e.0) h
-  expired_idle (j ∷ js) old from new to e h =
-      let one = e.2 in
-      expired_idle js e.0 e.1 new to e.3 (subst (λ (t : Server). NoneWaits t.jobs.list) (sym one.state) (all_less (λ (i : ActiveJob). i.request ≡ None) one.at.front one.at.back j (subst NoneWaits one.at.is h)))
-
-  passed_idle : (r : Rules) (failure : Option Failure) (old : ServerCore SO SI) (now : ℕ) (new : ServerCore SO SI) → ServerPasses s.out r failure old now new → NoneWaits old.state.jobs.list → NoneWaits new.state.jobs.list
-  passed_idle SyncRules failure old now new same h = subst (λ (x : ServerCore SO SI). NoneWaits x.state.jobs.list) (sym same) h
-  passed_idle AsyncRules None old now new p h = expired_idle p.expired old.state old.connection.outbox new.state new.connection.outbox p.expire h
-  passed_idle AsyncRules (Some why) old now new same h = subst (λ (x : ServerCore SO SI). NoneWaits x.state.jobs.list) (sym same) h
-
   same_idle : (w v : Net CO CI SO SI) → v.server.state.jobs ≡ w.server.state.jobs → NoneWaits w.server.state.jobs.list → NoneWaits v.server.state.jobs.list
   same_idle w v e h = subst (λ (x : JobList). NoneWaits x.list) (sym e) h
 
@@ -80,7 +70,10 @@ module _ {CO CI SO SI : Type 0} (c : Halves CO CI) (s : Halves SO SI) (seals : B
   idle_still set f t w (Recv (ServerEnd id)) (Item given) v i u e r z p h =
       let x = received w.server.state.rules w.server.connection.failure w.server.state id given v.server.state.jobs.list p.0.own in
       subst NoneWaits (sym x.is) (maps_idle x.g x.found w.server.state.jobs.list h)
-  idle_still set f t w (Tick now) Done v i u e r z p h = passed_idle w.server.state.rules w.server.connection.failure w.server now v.server p.serves h
+  idle_still set f t w (Tick now) Done v i u e r z p h =
+      passes_so s.out (λ a x b y. NoneWaits a.jobs.list → NoneWaits b.jobs.list) (λ a x none. none) (λ a b d x y z job one later none.
+          later (subst (λ (t : Server). NoneWaits t.jobs.list) (sym one.state) (all_less (λ (j : ActiveJob). j.request ≡ None) one.at.front one.at.back job (subst NoneWaits one.at.is none))))
+      w.server.state.rules w.server.connection.failure w.server now v.server p.serves h
   idle_still set f t w (Deliver ServerSide n) (Count k) v i u e r z p h = same_idle w v (ap (λ (x : Server). x.jobs) (idle_up c s seals set f t w v n k i u (none_taken k z) p).0) h
   idle_still set f t w event reply v i u e r z p h = let same : v.server.state.jobs ≡ w.server.state.jobs = first_of (cc, search rules) in same_idle w v same h
 

@@ -1,5 +1,6 @@
 -- What stays the same in a run: the server's rules, its services, and the limit of its outbound half.
-use Rattle.ttrpc_headline.proofs.Words.{[], ActiveJob, ActsAll, Answer, AnswersBy, AnswersError, ap, arrives, AsyncRules, Bool, Connection, Count, Cut, cut_to, Deliver, Does, Done, Drain, DropReceiver, EndsStream, EndStream, Entry, Err, Error, Event, ExpireAll, Failure, Finish, Halves, Handed, header_of_frame, Hears, Incoming, inl, inr, is_over, Item, List, MESSAGE_LENGTH_MAX, MessageHeader, Net, None, Ok, Option, OutboundTransform, Outbox, PutIn, Recv, refl, Refused, Reply, Respond, Response, Result, Row, row_of, Rules, rules, rules_stay, Runs, safe_limit, Scene, scene, Send, SendsAll, Sent, Server, ServerCore, ServerEnd, ServerPasses, ServerSide, serving, Some, Steps, subst, SyncRules, Take, taken_from, Tick, Ticket, ℕ, ◌-◌, ◌∙◌, ◌∷◌, ◌≡◌}
+use Rattle.ttrpc_headline.proofs.Serves.{passes_so}
+use Rattle.ttrpc_headline.proofs.Words.{[], ActiveJob, ActsAll, Answer, AnswersBy, AnswersError, ap, arrives, AsyncRules, Bool, Connection, Count, Cut, cut_to, Deliver, Does, Done, Drain, DropReceiver, EndsStream, EndStream, Entry, Err, Error, Event, ExpiresOne, Failure, Finish, Halves, Handed, header_of_frame, Hears, Incoming, inl, inr, is_over, Item, List, MESSAGE_LENGTH_MAX, MessageHeader, Net, None, Ok, Option, OutboundTransform, Outbox, PutIn, Recv, refl, Refused, Reply, Respond, Response, Result, Row, row_of, Rules, rules, rules_stay, Runs, safe_limit, Scene, scene, Send, SendsAll, Sent, Server, ServerCore, ServerEnd, ServerPasses, ServerSide, serving, Some, Steps, subst, SyncRules, Take, taken_from, Tick, Ticket, ℕ, ◌-◌, ◌∙◌, ◌∷◌, ◌≡◌}
 use Rattle.ttrpc_headline.proofs.OneWay.{as_heard}
 
 -- these stay, of a server's state and its outbox
@@ -60,18 +61,11 @@ module _ {CO CI SO SI : Type 0} (c : Halves CO CI) (s : Halves SO SI) (seals : B
   ended old id (Ok (Some response)) new p = limit_sent s.out fixed p.sends.0 old.connection.outbox new.connection.outbox p.sends.2
   ended old id (Err error) new p = limit_sent s.out fixed p.sends.2.0 old.connection.outbox new.connection.outbox p.sends.2.2
 
-  -- jobs expire
-  expired : (js : List ActiveJob) (old : Server) (from : Outbox SO) (new : Server) (to : Outbox SO) → ExpireAll s.out old from js new to → Constant s.out old from new to
-  expired [] old from new to e = stays_same s.out e.0 e.1
-  expired (j ∷ js) old from new to e =
-      let one = e.2 in
-      let first : Constant s.out old from e.0 e.1 = record { rules = ap (λ (t : Server). t.rules) one.state; services = ap (λ (t : Server). t.services) one.state; limit = limit_sent s.out fixed one.sent from e.1 one.sends } in
-      both first (expired js e.0 e.1 new to e.3)
-
-  passed : (old : ServerCore SO SI) (now : ℕ) (new : ServerCore SO SI) (r : Rules) (failure : Option Failure) → ServerPasses s.out r failure old now new → Stays old new
-  passed old now new AsyncRules None p = expired p.expired old.state old.connection.outbox new.state new.connection.outbox p.expire
-  passed old now new AsyncRules (Some why) same = stays_same s.out (ap (λ (x : ServerCore SO SI). x.state) same) (ap (λ (x : ServerCore SO SI). x.connection.outbox) same)
-  passed old now new SyncRules failure same = stays_same s.out (ap (λ (x : ServerCore SO SI). x.state) same) (ap (λ (x : ServerCore SO SI). x.connection.outbox) same)
+  -- one job expires
+  expired : (old mid new : Server) (from between to : Outbox SO) (job : ActiveJob) → ExpiresOne s.out old from job mid between → Constant s.out mid between new to → Constant s.out old from new to
+  expired old mid new from between to job e later =
+      let first : Constant s.out old from mid between = record { rules = ap (λ (t : Server). t.rules) e.state; services = ap (λ (t : Server). t.services) e.state; limit = limit_sent s.out fixed e.sent from between e.sends } in
+      both first later
 
   -- its input may have ended
   heard_same : (over : Bool) (old new : Connection SO SI) → Hears over old new → new.outbox ≡ old.outbox
@@ -82,7 +76,7 @@ module _ {CO CI SO SI : Type 0} (c : Halves CO CI) (s : Halves SO SI) (seals : B
   stepped w (Respond id response) Done v p = as_this s.out w.server v.server p.does.same refl refl (limit_sent s.out fixed p.does.sent w.server.connection.outbox v.server.connection.outbox p.does.sends)
   stepped w (EndStream id result) Done v p = as_this s.out w.server v.server p.0.same refl refl (ended w.server id result v.server p.0)
   stepped w (Send (ServerEnd id) item) (Ticket ticket) v p = as_this s.out w.server v.server p.0.same refl refl (ap (λ n. MESSAGE_LENGTH_MAX - n) (fixed _ _ _ _ _ p.0.sends.sends.seal))
-  stepped w (Tick now) Done v p = passed w.server now v.server w.server.state.rules w.server.connection.failure p.serves
+  stepped w (Tick now) Done v p = passes_so s.out (Constant s.out) (λ a x. stays_same s.out refl refl) expired w.server.state.rules w.server.connection.failure w.server now v.server p.serves
   stepped w (Deliver ServerSide n) (Count k) v (inl p) =
       both (acted w.moment p.does.does.frames (scene w.server.state w.server.connection) (scene v.server.state p.does.mid) p.does.does.acts) (stays_same s.out refl (heard_same (is_over (taken_from w.up k)) p.does.mid v.server.connection p.does.hears))
   stepped w (Deliver ServerSide n) (Count k) v (inr p) = stays_same s.out (ap (λ (x : Net _ _ _ _). x.server.state) p.only) (heard_same (is_over w.up) w.server.connection v.server.connection p.hears)

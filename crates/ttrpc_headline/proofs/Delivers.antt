@@ -307,8 +307,4 @@ module _ {CO CI : Type 0} (c : Halves CO CI) (set : Settings) (had : ℕ → Boo
   feeds_down now (x ∷ front) up rest jobs old new p stories =
       let first = comes_down x up (front ++ rest) jobs old.state p.0.state p.1 now p.2 stories in
       let later = feeds_down now front up rest jobs p.0 new p.4 first in
-      record {
-        stories = later.stories;
-        next = later.next ∙ ap (λ (s : Client). s.next) p.2.same;
-        outbox = later.outbox ∙ none_sent c.out old.outbox p.1 p.0.outbox p.2.sent_is p.3;
-      }
+      record { stories = later.stories; next = later.next ∙ ap (λ (s : Client). s.next) p.2.same; outbox = later.outbox ∙ none_sent c.out old.outbox p.1 p.0.outbox p.2.sent_is p.3 }

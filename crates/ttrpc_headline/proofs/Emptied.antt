@@ -5,6 +5,7 @@ use Rattle.ttrpc_headline.proofs.Behind.{none_taken}
 use Rattle.ttrpc_headline.proofs.Living.{heard_whole, never_over}
 use Rattle.ttrpc_headline.proofs.Since.{IsKnown}
 use Rattle.ttrpc_headline.proofs.Timed.{none_due}
+use Rattle.ttrpc_headline.proofs.Serves.{passes_so}
 use Rattle.ttrpc_headline.proofs.Words.{[], ActiveJob, ActsAll, after_report, Answer, AnswersBy, AnswersError, ap, arith, Asked, AsyncRules, Began, Bool, Call, call_at, CallEvent, calling, Carry, ClientCore, ClientEnd, ClientSide, Close, ClosedUp, Connection, Count, DeadlineDuringWrite, Deliver, Done, due_at, EndedDown, EndsStream, EndStream, Entry, Err, Error, Event, ExpireAll, Expired, expired_at, Failure, false, Flow, flow_of, Halves, HeardDown, HeardUp, if◌then◌else◌, Incoming, inl, inr, is_clean_event, is_clean_reply, is_call_due, is_over, IsOpen, IsQueue, Item, items, length, length-take, lent_of, List, min, Named, nat_eq, Net, never_empty, nil_parts, None, none_reported, none_thrown, Ok, only_if, open_part, OpenEvent, Option, OutboundTransform, Outbox, Passes, put_down, put_up, Queue, Queued, Recv, refl, Reply, Respond, Responds, Response, Result, Rules, rules, Scene, scene, Send, SendsAll, SendsOne, Sent, SentDown, SentUp, Server, ServerCore, ServerEnd, ServerPasses, ServerSide, serving, Settings, Some, some_of, Steps, StreamEnd, subst, sym, SyncRules, take, taken_back, taken_from, takes_bytes, throws, Tick, Ticket, true, Waiting, Ways, with_lent, with_payload, Word, ℕ, ◌++◌, ◌∙◌, ◌∷◌, ◌≡◌}
 
 -- NOTHING IS ON A WAY
@@ -39,10 +40,6 @@ responded out rs limit k r sent old new p sends e =
 acted : {S O I : Type 0} (w : Ways S O I) (now : ℕ) (fs : List Incoming) (old new : Scene S O I) → ActsAll w now old fs new → new.outbox.queue.frames ≡ [] → old.outbox.queue.frames ≡ []
 acted w now [] old new same e = sym (ap (λ (x : Scene _ _ _). x.outbox.queue.frames) same) ∙ e
 acted w now (f ∷ fs) old new p e = sent_all w.out p.1.sent old.outbox p.0.outbox p.1.sends (acted w now fs p.0 new p.2 e)
-
-expired : {O : Type 0} (out : OutboundTransform O) (js : List ActiveJob) (old : Server) (from : Outbox O) (new : Server) (to : Outbox O) → ExpireAll out old from js new to → to.queue.frames ≡ [] → from.queue.frames ≡ []
-expired out [] old from new to p e = sym (ap (λ (x : Outbox _). x.queue.frames) p.1) ∙ e
-expired out (j ∷ js) old from new to p e = sent_all out p.2.sent from p.1 p.2.sends (expired out js p.0 p.1 new to p.3 e)
 
 -- ---- a carry
 
@@ -100,11 +97,6 @@ module _ {CO CI SO SI : Type 0} (c : Halves CO CI) (s : Halves SO SI) (seals : B
       ap (λ (x : Connection CO CI). x.outbox.queue.frames) p.connection
       ∙ back_taken (throws old.state.kind seals) old.connection (λ k. due_at now (call_at old.state k)) DeadlineDuringWrite (λ k. due_not now (call_at old.state k) (none k))
   ticked_up (Some why) old now new none same = ap (λ (x : ClientCore CO CI). x.connection.outbox.queue.frames) same
-
-  ticked_down : (r : Rules) (failure : Option Failure) (old : ServerCore SO SI) (now : ℕ) (new : ServerCore SO SI) → ServerPasses s.out r failure old now new → new.connection.outbox.queue.frames ≡ [] → old.connection.outbox.queue.frames ≡ []
-  ticked_down SyncRules failure old now new same e = sym (ap (λ (x : ServerCore SO SI). x.connection.outbox.queue.frames) same) ∙ e
-  ticked_down AsyncRules None old now new p e = expired s.out p.expired old.state old.connection.outbox new.state new.connection.outbox p.expire e
-  ticked_down AsyncRules (Some why) old now new same e = sym (ap (λ (x : ServerCore SO SI). x.connection.outbox.queue.frames) same) ∙ e
 
   delivered_up : (w v : Net CO CI SO SI) (n k : ℕ) → IsOpen w → Steps c s seals w (Deliver ServerSide n) (Count k) v → v.server.connection.outbox.queue.frames ≡ [] → w.server.connection.outbox.queue.frames ≡ []
   delivered_up w v n k o (inl p) e =
@@ -179,7 +171,7 @@ module _ {CO CI SO SI : Type 0} (c : Halves CO CI) (s : Halves SO SI) (seals : B
   down_back t w (Respond id response) Done v i a b z p idle = absurd (responded s.out w.server.state.rules _ _ response p.does.sent w.server.connection.outbox v.server.connection.outbox p.does.responds p.does.sends idle.none_queued)
   down_back t w (EndStream id result) Done v i a b z p idle = absurd (ended_down w.server id result v.server p.0 idle.none_queued)
   down_back t w (Tick now) Done v i a b z p idle =
-      (record { none_queued = ticked_down w.server.state.rules w.server.connection.failure w.server now v.server p.serves idle.none_queued; none_carried = sym (ap (λ (x : Net CO CI SO SI). x.down.bytes) p.only) ∙ idle.none_carried }, λ k. refl)
+      (record { none_queued = passes_so s.out (λ a x b y. y.queue.frames ≡ [] → x.queue.frames ≡ []) (λ a x h. h) (λ a b d x y z job e later h. sent_all s.out e.sent x y e.sends (later h)) w.server.state.rules w.server.connection.failure w.server now v.server p.serves idle.none_queued; none_carried = sym (ap (λ (x : Net CO CI SO SI). x.down.bytes) p.only) ∙ idle.none_carried }, λ k. refl)
   down_back t w (Carry ServerSide n) (Count k) v i a b z p idle = (
     carried w.server.connection.failure w.down.cut w.server.connection.outbox.queue w.down.bytes n k i.cleanly.before.server i.cleanly.whole.down (i.before.downward.bytes i.cleanly.before.client).bytes.valid p.count
         (idle_as (ap (λ (x : Net CO CI SO SI). x.server.connection.outbox.queue.frames) p.only) (ap (λ (x : Net CO CI SO SI). x.down.bytes) p.only) idle),

@@ -3,6 +3,7 @@ pub mod OneWay
 pub mod Throws
 pub mod Payloads
 pub mod Flights
+pub mod Serves
 pub mod Numbers
 pub mod Jobs
 pub mod Failing

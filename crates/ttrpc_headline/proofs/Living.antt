@@ -1,6 +1,7 @@
 -- Both sides live at each place of a clean quiet run: no step clears a failure, and the last deliveries found none. No pipe was
 -- cut, and the server takes what comes.
 use Rattle.ttrpc_headline.proofs.Failing.{lives_back}
+use Rattle.ttrpc_headline.proofs.Serves.{passes_so}
 use Rattle.ttrpc_headline.proofs.Words.{[], ActiveJob, ActsAll, Answer, AnswersBy, AnswersError, ap, AreClean, AsyncRules, Bool, Carry, ClientCore, ClientSide, Connection, Count, Cut, Deliver, Done, Drain, DropReceiver, Entry, Err, Error, Event, ExpireAll, Failure, false, Halves, Hears, Incoming, inl, inr, is_clean_event, is_clean_reply, is_over, IsDrained, IsFresh, IsOpen, List, Lives, Net, None, not, Ok, Option, other, Outbox, Pipe, refl, Refused, Reply, Response, Result, Rules, rules, Runs, Scene, scene, Server, ServerCore, ServerPasses, ServerSide, serving, Side, Some, Steps, subst, sym, SyncRules, taken_from, Tick, true, ℕ, ◌++◌, ◌∙◌, ◌∷◌, ◌≡◌}
 
 module _ {CO CI SO SI : Type 0} (c : Halves CO CI) (s : Halves SO SI) (seals : Bool) where
@@ -16,15 +17,6 @@ module _ {CO CI SO SI : Type 0} (c : Halves CO CI) (s : Halves SO SI) (seals : B
   drains_answered SyncRules old id (Err error) new e p = let d = subst (λ (x : Rules). AnswersError s.out x old id error new) e p in ap (λ (x : ServerCore SO SI). not x.state.draining) d.same
   drains_answered AsyncRules old id (Err error) new e p = let d = subst (λ (x : Rules). AnswersError s.out x old id error new) e p in ap (λ (x : ServerCore SO SI). not x.state.draining) d.2.same
 
-  drains_expired : (js : List ActiveJob) (old : Server) (from : Outbox SO) (new : Server) (to : Outbox SO) → ExpireAll s.out old from js new to → not new.draining ≡ not old.draining
-  drains_expired [] old from new to e = ap (λ (t : Server). not t.draining) e.0
-  drains_expired (j ∷ js) old from new to e = drains_expired js e.0 e.1 new to e.3 ∙ ap (λ (t : Server). not t.draining) e.2.state
-
-  drains_passed : (r : Rules) (failure : Option Failure) (old : ServerCore SO SI) (now : ℕ) (new : ServerCore SO SI) → ServerPasses s.out r failure old now new → not new.state.draining ≡ not old.state.draining
-  drains_passed SyncRules failure old now new same = ap (λ (x : ServerCore SO SI). not x.state.draining) same
-  drains_passed AsyncRules None old now new p = drains_expired p.expired old.state old.connection.outbox new.state new.connection.outbox p.expire
-  drains_passed AsyncRules (Some why) old now new same = ap (λ (x : ServerCore SO SI). not x.state.draining) same
-
   drains_acted : (now : ℕ) (fs : List Incoming) (old new : Scene Server SO SI) → ActsAll (serving s.out s.in_) now old fs new → not new.state.draining ≡ not old.state.draining
   drains_acted now [] old new same = ap (λ (x : Scene Server SO SI). not x.state.draining) same
   drains_acted now (f ∷ fs) old new acts = drains_acted now fs acts.0 new acts.2 ∙ acts.1.takes
@@ -32,7 +24,8 @@ module _ {CO CI SO SI : Type 0} (c : Halves CO CI) (s : Halves SO SI) (seals : B
   takes_stay : (w : Net CO CI SO SI) (event : Event) (reply : Reply) (v : Net CO CI SO SI) → is_clean_event event ≡ true → is_clean_reply reply ≡ true → Steps c s seals w event reply v → not v.server.state.draining ≡ not w.server.state.draining
   takes_stay w (Answer id result) Done v e r p = drains_answered w.server.state.rules w.server id result v.server refl p.0
   takes_stay w (Deliver ServerSide n) (Count k) v e r (inr p) = ap (λ (x : Net _ _ _ _). not x.server.state.draining) p.only
-  takes_stay w (Tick now) Done v e r p = drains_passed w.server.state.rules w.server.connection.failure w.server now v.server p.serves
+  takes_stay w (Tick now) Done v e r p =
+      passes_so s.out (λ a x b y. not b.draining ≡ not a.draining) (λ a x. refl) (λ a b d x y z job e later. later ∙ ap (λ (t : Server). not t.draining) e.state) w.server.state.rules w.server.connection.failure w.server now v.server p.serves
   takes_stay w (Deliver ServerSide n) (Count k) v e r (inl p) = drains_acted w.moment p.does.does.frames (scene w.server.state w.server.connection) (scene v.server.state p.does.mid) p.does.does.acts
   takes_stay w event reply v e r p = first_of (cc, search rules)
 
@@ -113,11 +106,7 @@ module _ {CO CI SO SI : Type 0} (c : Halves CO CI) (s : Halves SO SI) (seals : B
       subst Lives (sym four.2.2.2.2) (last_two d.to d.c d.d four.2.0 four.2.2.0 four.2.2.2.0 o2 o3 four.2.2.1 four.2.2.2.1)
 
 pub fresh_open : {CO CI SO SI : Type 0} {c : Halves CO CI} {s : Halves SO SI} {w : Net CO CI SO SI} → IsFresh c s w → IsOpen w
-fresh_open n = record {
-  up = ap (λ (p : Pipe). p.cut) n.up;
-  down = ap (λ (p : Pipe). p.cut) n.down;
-  takes = ap (λ (x : ServerCore _ _). not x.state.draining) n.server;
-}
+fresh_open n = record { up = ap (λ (p : Pipe). p.cut) n.up; down = ap (λ (p : Pipe). p.cut) n.down; takes = ap (λ (x : ServerCore _ _). not x.state.draining) n.server }
 
 -- AT EACH PLACE of a clean run that ends drained both sides live, both pipes are whole and the server takes.
 pub lives_at : {CO CI SO SI : Type 0} (c : Halves CO CI) (s : Halves SO SI) (seals : Bool) (w mid v : Net CO CI SO SI) (front back : List Entry) (rules : Rules) (f : ℕ → ℕ) → IsFresh c s w → Runs c s seals w front mid → Runs c s seals mid back v

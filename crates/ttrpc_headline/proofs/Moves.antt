@@ -63,15 +63,7 @@ module _ {CO CI SO SI : Type 0} (c : Halves CO CI) (s : Halves SO SI) (seals : B
       → Kept (record w { client = record { state = t; connection = x }; down = q })
   landed w i new l t x q state outbox downward =
       let d = feeds_down c set (has_response w) f trace 0 l.front i.up l.rest w.server.state.jobs.list (scene w.client.state w.client.connection) new l.acts (rw l.all i.stories) in
-      record {
-        up = i.up;
-        down = l.rest;
-        stories = rw state d.stories;
-        numbers = rw (state, d.next) i.numbers;
-        own = i.own;
-        upward = rw (outbox, d.outbox) i.upward;
-        downward = downward;
-      }
+      record { up = i.up; down = l.rest; stories = rw state d.stories; numbers = rw (state, d.next) i.numbers; own = i.own; upward = rw (outbox, d.outbox) i.upward; downward = downward }
 
   -- Bytes are delivered.
   pub deliver_up : (w : Net CO CI SO SI) (n k : ℕ) (v : Net CO CI SO SI) → Kept w → w.server.state.rules ≡ set.rules → w.server.state.services ≡ set.services → IsTimely set f trace w.client.state w.moment → AreRight f v.server.state.jobs.list → DeliversUp c s seals w n k v → Kept v

@@ -2,7 +2,8 @@
 -- made rise, and so do the ids of the requests in flight, from above them to below the client's next. So no two jobs have
 -- the same stream.
 use Rattle.ttrpc_pair.proofs.Words.{unheard}
-use Rattle.ttrpc_headline.proofs.Words.{[], ActiveJob, ActsAll, ActsOn, all_at, all_changed, all_in_front, all_less, AllByRecursion, Answer, AnswersBy, AnswersError, ap, arith, arrives, AsyncRules, at_stays, Bool, brought_by, cases_lt, cases_order, changed_at, changed_under, ClientSide, cond-false, cond-true, Count, Deliver, Does, Done, DropReceiver, EndsOne, EndStream, Entry, eq-eqb, Err, Error, Event, ExpireAll, Failure, false, filter, Finish, Flying, flying_without, Halves, Handed, header_of_frame, id_of, if◌then◌else◌, Incoming, inl, inr, IsFresh, IsOneToOne, IsRightAt, IsStreamOf, Item, Job, JobList, last_id, left_behind, List, Mail, MakeJob, MakeStream, map, MESSAGE_TYPE_REQUEST, MessageHeader, nat_eq, ne_eqb, Net, new_job, None, Ok, on_mail, Option, OutboundTransform, Outbox, PutIn, ReceivesBy, Recv, refl, Refused, Reply, Result, Row, row_of, Rules, rules, Runs, Scene, scene, Sent, Server, ServerCore, ServerEnd, ServerPasses, ServerSide, serving, Some, stays, StaysFound, Steps, stream_body, subst, sym, SyncRules, Take, Tick, true, unary_body, under_stays, with_server, without_payload, without_receiver, ℕ, ◌++◌, ◌+◌, ◌<◌, ◌∙◌, ◌∷◌, ◌≡◌, ◌≤◌}
+use Rattle.ttrpc_headline.proofs.Serves.{passes_so}
+use Rattle.ttrpc_headline.proofs.Words.{[], ActiveJob, ActsAll, ActsOn, all_at, all_changed, all_in_front, all_less, AllByRecursion, Answer, AnswersBy, AnswersError, ap, arith, arrives, AsyncRules, at_stays, Bool, brought_by, cases_lt, cases_order, changed_at, changed_under, ClientSide, cond-false, cond-true, Count, Deliver, Does, Done, DropReceiver, EndsOne, EndStream, Entry, eq-eqb, Err, Error, Event, ExpiresOne, Failure, false, filter, Finish, Flying, flying_without, Halves, Handed, header_of_frame, id_of, if◌then◌else◌, Incoming, inl, inr, IsFresh, IsOneToOne, IsRightAt, IsStreamOf, Item, Job, JobList, last_id, left_behind, List, Mail, MakeJob, MakeStream, map, MESSAGE_TYPE_REQUEST, MessageHeader, nat_eq, ne_eqb, Net, new_job, None, Ok, on_mail, Option, OutboundTransform, Outbox, PutIn, ReceivesBy, Recv, refl, Refused, Reply, Result, Row, row_of, Rules, rules, Runs, Scene, scene, Sent, Server, ServerCore, ServerEnd, ServerPasses, ServerSide, serving, Some, stays, StaysFound, Steps, stream_body, subst, sym, SyncRules, Take, Tick, true, unary_body, under_stays, with_server, without_payload, without_receiver, ℕ, ◌++◌, ◌+◌, ◌<◌, ◌∙◌, ◌∷◌, ◌≡◌, ◌≤◌}
 
 -- ---- streams that rise
 
@@ -147,10 +148,7 @@ stay_placed f old new last below p = record {
   g = f;
   agrees = λ j h. refl;
   more = omega (arith, last);
-  placed = record {
-    below = subst (λ (m : ℕ). AreBelow f m new.list) (sym last) below;
-    beyond = λ j h. p.beyond j (omega (arith, h, last));
-  };
+  placed = record { below = subst (λ (m : ℕ). AreBelow f m new.list) (sym last) below; beyond = λ j h. p.beyond j (omega (arith, h, last)) };
 }
 
 same_placed : (f : ℕ → ℕ) (old new : JobList) → new ≡ old → Placed f old → Goes f old new
@@ -236,22 +234,13 @@ does_goes out f r old o header now sent new d p = same_placed f old.jobs new.job
 changed_goes : (f : ℕ → ℕ) (old new : JobList) → new.last ≡ old.last → AreChanged old.list new.list → Placed f old → Goes f old new
 changed_goes f old new last c p = stay_placed f old new last (subst (λ (js : List ActiveJob). AreBelow f old.last js) (sym c.is) (jobs_map f old.last c.g c.found old.list p.below)) p
 
--- jobs expire
-expire_goes : {O : Type 0} (out : OutboundTransform O) (f : ℕ → ℕ) (expired : List ActiveJob) (old : Server) (from : Outbox O) (new : Server) (to : Outbox O) → ExpireAll out old from expired new to → Placed f old.jobs → Goes f old.jobs new.jobs
-expire_goes out f [] old from new to e p = same_placed f old.jobs new.jobs (ap (λ (t : Server). t.jobs) e.0) p
-expire_goes out f (j ∷ js) old from new to e p =
-    let mid = e.0 in
-    let one = e.2 in
-    let last : mid.jobs.last ≡ old.jobs.last = ap (λ (t : Server). t.jobs.last) one.state in
-    let list : mid.jobs.list ≡ one.at.front ++ one.at.back = ap (λ (t : Server). t.jobs.list) one.state in
-    let first = stay_placed f old.jobs mid.jobs last
-    (subst (λ (xs : List ActiveJob). AreBelow f old.jobs.last xs) (sym list) (all_less (IsPlaced f old.jobs.last) one.at.front one.at.back j (subst (λ (xs : List ActiveJob). AreBelow f old.jobs.last xs) one.at.is p.below))) p in
-    then_goes f old.jobs mid.jobs new.jobs first (expire_goes out first.g js mid e.1 new to e.3 first.placed)
-
-passes_goes : {O I : Type 0} (out : OutboundTransform O) (f : ℕ → ℕ) (r : Rules) (failure : Option Failure) (old : ServerCore O I) (now : ℕ) (new : ServerCore O I) → ServerPasses out r failure old now new → Placed f old.state.jobs → Goes f old.state.jobs new.state.jobs
-passes_goes out f SyncRules failure old now new same p = same_placed f old.state.jobs new.state.jobs (ap (λ (x : ServerCore _ _). x.state.jobs) same) p
-passes_goes out f AsyncRules None old now new t p = expire_goes out f t.expired old.state old.connection.outbox new.state new.connection.outbox t.expire p
-passes_goes out f AsyncRules (Some why) old now new same p = same_placed f old.state.jobs new.state.jobs (ap (λ (x : ServerCore _ _). x.state.jobs) same) p
+-- one job expires
+expires_go : {O : Type 0} (out : OutboundTransform O) (old mid new : Server) (from between to : Outbox O) (job : ActiveJob) → ExpiresOne out old from job mid between → ((f : ℕ → ℕ) → Placed f mid.jobs → Goes f mid.jobs new.jobs) → (f : ℕ → ℕ) → Placed f old.jobs → Goes f old.jobs new.jobs
+expires_go out old mid new from between to job e later f p =
+    let list : mid.jobs.list ≡ e.at.front ++ e.at.back = ap (λ (t : Server). t.jobs.list) e.state in
+    let first = stay_placed f old.jobs mid.jobs (ap (λ (t : Server). t.jobs.last) e.state)
+    (subst (λ (xs : List ActiveJob). AreBelow f old.jobs.last xs) (sym list) (all_less (IsPlaced f old.jobs.last) e.at.front e.at.back job (subst (λ (xs : List ActiveJob). AreBelow f old.jobs.last xs) e.at.is p.below))) p in
+    then_goes f old.jobs mid.jobs new.jobs first (later first.g first.placed)
 
 acts_go : {O I : Type 0} (h : Halves O I) (f : ℕ → ℕ) (now : ℕ) (fs : List Incoming) (old new : Scene Server O I) → ActsAll (serving h.out h.in_) now old fs new
     → Placed f old.state.jobs → Goes f old.state.jobs new.state.jobs
@@ -329,7 +318,8 @@ module _ {CO CI SO SI : Type 0} (c : Halves CO CI) (s : Halves SO SI) (seals : B
       changed_goes f (jobs w) (jobs v) (ap (λ (z : ServerCore SO SI). z.state.jobs.last) q.0.same) (received w.server.state.rules w.server.connection.failure w.server.state id given v.server.state.jobs.list q.0.own) p
   goes f w (DropReceiver (ServerEnd id)) Done v p q =
       subst (λ (x : Net CO CI SO SI). Goes f (jobs w) (jobs x)) (sym q.1) (changed_goes f (jobs w) (jobs (with_server w (unheard w.server id))) refl (dropped w.server.state id) p)
-  goes f w (Tick now) Done v p q = passes_goes s.out f w.server.state.rules w.server.connection.failure w.server now v.server q.serves p
+  goes f w (Tick now) Done v p q =
+      passes_so s.out (λ a x b y. (g : ℕ → ℕ) → Placed g a.jobs → Goes g a.jobs b.jobs) (λ a x g placed. same_placed g a.jobs a.jobs refl placed) (expires_go s.out) w.server.state.rules w.server.connection.failure w.server now v.server q.serves f p
   goes f w (Finish id) Done v p q = let t = q.0 in ends_go f (jobs w) (jobs v) id t.job (ap (λ (z : ServerCore SO SI). z.state.jobs.last) t.same) t.ends p
   goes f w (Deliver ServerSide n) (Count k) v p (inl q) = acts_go s f w.moment q.does.does.frames (scene w.server.state w.server.connection) (scene v.server.state q.does.mid) q.does.does.acts p
   goes f w (Deliver ServerSide n) (Count k) v p (inr q) = same_placed f (jobs w) (jobs v) (ap jobs q.only) p
@@ -361,12 +351,7 @@ module _ {CO CI SO SI : Type 0} (c : Halves CO CI) (s : Halves SO SI) (seals : B
       let one = goes f w e.event e.reply r.0 p r.1 in
       let later = foresee one.g r.0 trace v r.2 one.placed in
       let same : (j : ℕ) → j ≤ w.server.state.jobs.last → later.g j ≡ f j = λ j h. later.agrees j (omega (arith, h, one.more)) ∙ one.agrees j h in
-      record {
-        g = later.g;
-        agrees = same;
-        right = (right_of f later.g w.server.state.jobs.last w.server.state.jobs.list same p.below, later.right);
-        beyond = later.beyond;
-      }
+      record { g = later.g; agrees = same; right = (right_of f later.g w.server.state.jobs.last w.server.state.jobs.list same p.below, later.right); beyond = later.beyond }
 
   -- what is right for the jobs of a state is right for the one that is handed out there
   handed_right : (f : ℕ → ℕ) (w : Net CO CI SO SI) (event : Event) (reply : Reply) (v : Net CO CI SO SI) → AreRight f w.server.state.jobs.list → Steps c s seals w event reply v → IsRightAt f event reply

@@ -234,11 +234,7 @@ module _ {CO CI SO SI : Type 0} (c : Halves CO CI) (s : Halves SO SI) (seals : B
   none_due set f t w now i h clean k = undue now (call_at w.client.state k) (none_reached set f t w now i h clean k)
 
 pub fresh_timed : {CO CI SO SI : Type 0} (c : Halves CO CI) (s : Halves SO SI) (seals : Bool) (w : Net CO CI SO SI) → IsFresh c s w → IsTimed c s seals [] w
-fresh_timed c s seals w n = record {
-  moment = n.moment;
-  calls = λ k d waits. absurd (none k d waits);
-  begun = λ k d waits. absurd (none k d waits);
-}
+fresh_timed c s seals w n = record { moment = n.moment; calls = λ k d waits. absurd (none k d waits); begun = λ k d waits. absurd (none k d waits) }
   where
     none : (k : ℕ) (d : Option ℕ) → call_at w.client.state k ≡ Some (Waiting d) → ⊥
     none k d waits =

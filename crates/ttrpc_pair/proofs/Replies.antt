@@ -1,5 +1,5 @@
 -- Why a piece was refused, and what an answer comes to by what the core says of it.
-use Rattle.ttrpc_pair.proofs.Words.{◌≡◌, ◌++◌, ◌∙◌, ◌∷◌, ◌⊎◌, [], ActiveJob, Answers, AnswersBy, AnswersError, ap, AsyncRules, Bool, cases_Bool, Connection, Err, Error, error_of, Failure, false, Halves, has_response, inl, inr, IsEnd, IsFailed, IsResponse, IsTaken, IsTold, IsUnknown, List, Net, None, Ok, Option, OutboundTransform, refl, RespondsTo, Response, Result, Rules, ServerCore, Some, subst, sym, SyncRules, true, Ways, with_server, ℕ}
+use Rattle.ttrpc_pair.proofs.Words.{◌≡◌, ◌++◌, ◌∙◌, ◌∷◌, ◌⊎◌, [], ActiveJob, Answers, AnswersBy, AnswersError, ap, AsyncRules, Bool, cases_Bool, Connection, Err, Error, error_of, Failure, false, Halves, has_response, inl, inr, IsEnd, IsFailed, IsResponse, IsTaken, IsTold, IsUnknown, List, Net, None, Ok, Option, refl, RespondsTo, Response, Result, Rules, ServerCore, Some, subst, sym, SyncRules, Ways, with_server, ℕ}
 use Rattle.ttrpc_connection.specs.OneEnd.{Drains, Takes, TakesOrDrains}
 use Rattle.ttrpc_server.specs.State.{IsNoUnary}
 use Rattle.ttrpc_server.specs.Protocol.{QueuesResponse, RefusesFinish, RefusesResponse}
@@ -15,16 +15,9 @@ pub breaks_or_failed : (Breaks Same : Type 0) (failure : Option Failure) (told :
 breaks_or_failed Breaks Same None told fails failed = inl (fails refl)
 breaks_or_failed Breaks Same (Some why) told fails failed = let f = failed why refl in inr (record { why = why; is = refl; is_told = f.0 }, f.1)
 
--- a side that has failed doesn't live
-pub never_alive : (failure : Option Failure) (told : Error) → IsFailed failure told → failure ≡ None → ⊥
-never_alive failure told f alive = let bad : Some f.why ≡ None = sym f.is ∙ alive in cc
-
 unknown_between : (front back : List ActiveJob) (id : ℕ) (job : ActiveJob) → job.id ≡ id → job.request ≡ None → IsUnknown (front ++ job ∷ back) id → ⊥
 unknown_between [] back id job is taken none = none.0 is taken
 unknown_between (j ∷ front) back id job is taken none = unknown_between front back id job is taken none.1
-
-taken_unknown : (jobs : List ActiveJob) (id : ℕ) (job : ActiveJob) → IsTaken jobs id job → IsUnknown jobs id → ⊥
-taken_unknown jobs id job t none = unknown_between t.front t.back id job t.is_job t.taken (subst (λ js. IsUnknown js id) t.is none)
 
 pub answers_by : {CO CI SO SI : Type 0} (c : Halves CO CI) (s : Halves SO SI) (seals : Bool) (old : ServerCore SO SI) (id : ℕ) (given : Result Response Error) (new : ServerCore SO SI)
     → ((r : Response) → given ≡ Ok r → IsResponse r) → ((r : Response) → given ≡ Ok r → Answers s.out old id r new) → ((e : Error) → given ≡ Err e → AnswersError s.out old.state.rules old id e new)
@@ -36,7 +29,9 @@ answers_by c s seals old id (Err e) new known answers drops = drops e refl
 pub refuses_finish : {O I : Type 0} (old : ServerCore O I) (id : ℕ) (job : ActiveJob) (told : Error) → old.state.rules ≡ SyncRules → IsTaken old.state.jobs.list id job → RefusesFinish old id told → IsFailed old.connection.failure told
 refuses_finish old id job told sync at (inl failed) = failed
 refuses_finish old id job told sync at (inr (inl other)) = let bad : SyncRules ≡ AsyncRules = sym sync ∙ other.rules in cc
-refuses_finish old id job told sync at (inr (inr none)) = absurd (taken_unknown old.state.jobs.list id job at (subst (λ (r : Rules). IsNoUnary r old.state.jobs.list id) none.0 none.1.unknown))
+refuses_finish old id job told sync at (inr (inr none)) =
+    let unknown = subst (λ (r : Rules). IsNoUnary r old.state.jobs.list id) none.0 none.1.unknown in
+    absurd (unknown_between at.front at.back id job at.is_job at.taken (subst (λ js. IsUnknown js id) at.is unknown))
 
 -- a response was queued for a job that awaits one
 pub responds_to : {CO CI SO SI : Type 0} (c : Halves CO CI) (s : Halves SO SI) (seals : Bool) (old : Net CO CI SO SI) (id k : ℕ) (response : Response) (job : ActiveJob) (server : ServerCore SO SI) (responded : List ℕ)

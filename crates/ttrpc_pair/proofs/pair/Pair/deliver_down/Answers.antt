@@ -4,12 +4,7 @@ use Rattle.ttrpc_pair.proofs.pair.Pair.deliver_down.Goals as goal
 
 pub returns-in-Ok : goal.returns-in-Ok
 returns-in-Ok g c = rw (← c.self.view_is) (record {
-  does = record {
-    count = search rules;
-    mid = c.feed.new.self.connection;
-    does = search rules;
-    hears = search rules;
-  };
+  does = record { count = search rules; mid = c.feed.new.self.connection; does = search rules; hears = search rules };
   only = search rules;
 })
 
