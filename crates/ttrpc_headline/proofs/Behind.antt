@@ -5,7 +5,7 @@ use Rattle.ttrpc_headline.proofs.Keeps.{Keeps}
 use Rattle.ttrpc_headline.proofs.Numbers.{error_ends, received}
 use Rattle.ttrpc_headline.proofs.Timed.{called_back, expired_is, Makes}
 use Rattle.ttrpc_headline.proofs.Serves.{passes_so}
-use Rattle.ttrpc_headline.proofs.Words.{[], ActiveJob, all_at, all_less, Answer, AnswersBy, ap, arith, asks_outcome, AsyncRules, Bool, Call, call_at, CallEvent, Client, ClientSide, Count, Cut, deadline_of, Deliver, Done, Drain, DropReceiver, Ended, EndsOne, EndStream, Entry, eqb-true, Err, Error, Event, ExpireAll, Failure, false, Finish, Given, Halves, Handed, inl, inr, is_clean_event, is_clean_reply, is_some, IsOpen, Item, JobList, left_of, List, Lives, ltb-false, map, Named, nat_lt, Net, None, NoneWaits, Ok, Option, Outbox, Outcome, Recv, Refused, Reply, Respond, Response, Result, Rules, rules, Send, Server, ServerCore, ServerEnd, ServerPasses, ServerSide, Settings, Some, StaysFound, Steps, subst, sym, SyncRules, Take, takes_bytes, takes_nothing, Tick, Ticket, true, Waiting, ℕ, ◌∙◌, ◌∷◌, ◌≡◌, ◌≤◌}
+use Rattle.ttrpc_headline.proofs.Words.{[], ActiveJob, all_at, all_less, Answer, AnswersBy, ap, arith, asks_outcome, Bool, Call, call_at, CallEvent, Client, ClientSide, Count, deadline_of, Deliver, Done, Ended, EndsOne, EndStream, Entry, eqb-true, Err, Error, Event, false, Finish, Given, Halves, Handed, inl, inr, is_clean_event, is_clean_reply, is_some, IsOpen, Item, JobList, left_of, List, Lives, ltb-false, map, Named, nat_lt, Net, None, NoneWaits, Ok, Option, Outcome, Recv, Reply, Response, Result, rules, Server, ServerCore, ServerEnd, ServerSide, Settings, Some, StaysFound, Steps, subst, sym, Take, takes_bytes, takes_nothing, Tick, true, Waiting, ℕ, ◌∙◌, ◌∷◌, ◌≡◌, ◌≤◌}
 
 pub none_taken : (k : ℕ) → nat_lt 0 k ≡ false → k ≡ 0
 none_taken k h = let le : k ≤ 0 = ltb-false 0 k h in omega (arith, le)
@@ -72,7 +72,7 @@ module _ {CO CI SO SI : Type 0} (c : Halves CO CI) (s : Halves SO SI) (seals : B
       subst NoneWaits (sym x.is) (maps_idle x.g x.found w.server.state.jobs.list h)
   idle_still set f t w (Tick now) Done v i u e r z p h =
       passes_so s.out (λ a x b y. NoneWaits a.jobs.list → NoneWaits b.jobs.list) (λ a x none. none) (λ a b d x y z job one later none.
-          later (subst (λ (t : Server). NoneWaits t.jobs.list) (sym one.state) (all_less (λ (j : ActiveJob). j.request ≡ None) one.at.front one.at.back job (subst NoneWaits one.at.is none))))
+      later (subst (λ (t : Server). NoneWaits t.jobs.list) (sym one.state) (all_less (λ (j : ActiveJob). j.request ≡ None) one.at.front one.at.back job (subst NoneWaits one.at.is none))))
       w.server.state.rules w.server.connection.failure w.server now v.server p.serves h
   idle_still set f t w (Deliver ServerSide n) (Count k) v i u e r z p h = same_idle w v (ap (λ (x : Server). x.jobs) (idle_up c s seals set f t w v n k i u (none_taken k z) p).0) h
   idle_still set f t w event reply v i u e r z p h = let same : v.server.state.jobs ≡ w.server.state.jobs = first_of (cc, search rules) in same_idle w v same h

@@ -1,6 +1,6 @@
 -- What stays the same in a run: the server's rules, its services, and the limit of its outbound half.
 use Rattle.ttrpc_headline.proofs.Serves.{passes_so}
-use Rattle.ttrpc_headline.proofs.Words.{[], ActiveJob, ActsAll, Answer, AnswersBy, AnswersError, ap, arrives, AsyncRules, Bool, Connection, Count, Cut, cut_to, Deliver, Does, Done, Drain, DropReceiver, EndsStream, EndStream, Entry, Err, Error, Event, ExpiresOne, Failure, Finish, Halves, Handed, header_of_frame, Hears, Incoming, inl, inr, is_over, Item, List, MESSAGE_LENGTH_MAX, MessageHeader, Net, None, Ok, Option, OutboundTransform, Outbox, PutIn, Recv, refl, Refused, Reply, Respond, Response, Result, Row, row_of, Rules, rules, rules_stay, Runs, safe_limit, Scene, scene, Send, SendsAll, Sent, Server, ServerCore, ServerEnd, ServerPasses, ServerSide, serving, Some, Steps, subst, SyncRules, Take, taken_from, Tick, Ticket, ℕ, ◌-◌, ◌∙◌, ◌∷◌, ◌≡◌}
+use Rattle.ttrpc_headline.proofs.Words.{[], ActiveJob, ActsAll, Answer, AnswersBy, AnswersError, ap, arrives, AsyncRules, Bool, Connection, Count, Cut, cut_to, Deliver, Does, Done, EndsStream, EndStream, Entry, Err, Error, Event, ExpiresOne, Halves, header_of_frame, Hears, Incoming, inl, inr, is_over, List, MESSAGE_LENGTH_MAX, MessageHeader, Net, None, Ok, Option, OutboundTransform, Outbox, PutIn, refl, Refused, Reply, Respond, Response, Result, Row, row_of, Rules, rules, rules_stay, Runs, safe_limit, Scene, scene, Send, SendsAll, Sent, Server, ServerCore, ServerEnd, ServerSide, serving, Some, Steps, subst, SyncRules, taken_from, Tick, Ticket, ℕ, ◌-◌, ◌∙◌, ◌∷◌, ◌≡◌}
 use Rattle.ttrpc_headline.proofs.OneWay.{as_heard}
 
 -- these stay, of a server's state and its outbox

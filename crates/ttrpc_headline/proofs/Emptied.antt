@@ -6,7 +6,7 @@ use Rattle.ttrpc_headline.proofs.Living.{heard_whole, never_over}
 use Rattle.ttrpc_headline.proofs.Since.{IsKnown}
 use Rattle.ttrpc_headline.proofs.Timed.{none_due}
 use Rattle.ttrpc_headline.proofs.Serves.{passes_so}
-use Rattle.ttrpc_headline.proofs.Words.{[], ActiveJob, ActsAll, after_report, Answer, AnswersBy, AnswersError, ap, arith, Asked, AsyncRules, Began, Bool, Call, call_at, CallEvent, calling, Carry, ClientCore, ClientEnd, ClientSide, Close, ClosedUp, Connection, Count, DeadlineDuringWrite, Deliver, Done, due_at, EndedDown, EndsStream, EndStream, Entry, Err, Error, Event, ExpireAll, Expired, expired_at, Failure, false, Flow, flow_of, Halves, HeardDown, HeardUp, if◌then◌else◌, Incoming, inl, inr, is_clean_event, is_clean_reply, is_call_due, is_over, IsOpen, IsQueue, Item, items, length, length-take, lent_of, List, min, Named, nat_eq, Net, never_empty, nil_parts, None, none_reported, none_thrown, Ok, only_if, open_part, OpenEvent, Option, OutboundTransform, Outbox, Passes, put_down, put_up, Queue, Queued, Recv, refl, Reply, Respond, Responds, Response, Result, Rules, rules, Scene, scene, Send, SendsAll, SendsOne, Sent, SentDown, SentUp, Server, ServerCore, ServerEnd, ServerPasses, ServerSide, serving, Settings, Some, some_of, Steps, StreamEnd, subst, sym, SyncRules, take, taken_back, taken_from, takes_bytes, throws, Tick, Ticket, true, Waiting, Ways, with_lent, with_payload, Word, ℕ, ◌++◌, ◌∙◌, ◌∷◌, ◌≡◌}
+use Rattle.ttrpc_headline.proofs.Words.{[], ActsAll, after_report, Answer, AnswersBy, AnswersError, ap, arith, Asked, AsyncRules, Began, Bool, Call, call_at, CallEvent, calling, Carry, ClientCore, ClientEnd, ClientSide, Close, ClosedUp, Connection, Count, DeadlineDuringWrite, Deliver, Done, due_at, EndedDown, EndsStream, EndStream, Entry, Err, Error, Event, Expired, expired_at, Failure, false, Flow, flow_of, Halves, HeardDown, HeardUp, if◌then◌else◌, Incoming, inl, inr, is_clean_event, is_clean_reply, is_call_due, is_over, IsOpen, IsQueue, Item, items, length, length-take, lent_of, List, min, Named, nat_eq, Net, never_empty, nil_parts, None, none_reported, none_thrown, Ok, only_if, open_part, OpenEvent, Option, OutboundTransform, Outbox, Passes, put_down, put_up, Queue, Queued, Recv, refl, Reply, Respond, Responds, Response, Result, Rules, rules, Scene, scene, Send, SendsAll, SendsOne, Sent, SentDown, SentUp, ServerCore, ServerEnd, ServerSide, serving, Settings, Some, some_of, Steps, StreamEnd, subst, sym, SyncRules, take, taken_back, taken_from, takes_bytes, throws, Tick, Ticket, true, Waiting, Ways, with_lent, with_payload, Word, ℕ, ◌++◌, ◌∙◌, ◌∷◌, ◌≡◌}
 
 -- NOTHING IS ON A WAY
 pub record IsIdle (queued : List Queued) (pipe : List ℕ) : Type 0 where

@@ -1,5 +1,5 @@
 -- A server's jobs: around a job, and what is told beside any.
-use Rattle.ttrpc_headline.proofs.Words.{[], ActiveJob, all_at, AllByRecursion, ap, arith, astray, at_stays, between_other, between_own, Body, Bool, box_of, Call, cases_Bool, changed_at, deadline_in, Dropped, due_jobs, EndsOne, eqb-true, Error, false, if◌then◌else◌, inl, inr, is_due, is_stream, IsDeaf, IsPatient, IsPlain, IsTaken, IsTooSoon, job_at, jobs_at, leb-false, leb-true, List, list_any, list_any-append, Mail, mail_in, mail_of, MessageHeader, nat_eq, nat_le, None, on_mail, Option, or_left, or_right, past_error, reaches, refl, Some, stream_id_of, StreamBody, subst, sym, true, UnaryBody, under_both, under_other, unknown_stream, Waiting, with_mail, without_receiver, ℕ, ◌++◌, ◌∙◌, ◌∷◌, ◌≡◌, ◌≢◌, ◌⊎◌}
+use Rattle.ttrpc_headline.proofs.Words.{[], ActiveJob, all_at, AllByRecursion, ap, arith, astray, at_stays, between_other, between_own, Body, Bool, box_of, Call, cases_Bool, changed_at, deadline_in, Dropped, due_jobs, EndsOne, eqb-true, Error, false, if◌then◌else◌, inl, inr, is_due, is_stream, IsDeaf, IsPatient, IsPlain, IsTaken, IsTooSoon, job_at, jobs_at, leb-false, leb-true, List, Mail, mail_in, mail_of, MessageHeader, nat_eq, nat_le, None, on_mail, Option, past_error, reaches, refl, Some, stream_id_of, StreamBody, subst, sym, true, UnaryBody, under_both, under_other, unknown_stream, Waiting, with_mail, without_receiver, ℕ, ◌++◌, ◌∙◌, ◌∷◌, ◌≡◌, ◌≢◌, ◌⊎◌}
 use Rattle.ttrpc_headline.proofs.Numbers.{AreRight}
 
 -- ---- jobs around a job

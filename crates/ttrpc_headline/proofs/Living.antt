@@ -2,7 +2,7 @@
 -- cut, and the server takes what comes.
 use Rattle.ttrpc_headline.proofs.Failing.{lives_back}
 use Rattle.ttrpc_headline.proofs.Serves.{passes_so}
-use Rattle.ttrpc_headline.proofs.Words.{[], ActiveJob, ActsAll, Answer, AnswersBy, AnswersError, ap, AreClean, AsyncRules, Bool, Carry, ClientCore, ClientSide, Connection, Count, Cut, Deliver, Done, Drain, DropReceiver, Entry, Err, Error, Event, ExpireAll, Failure, false, Halves, Hears, Incoming, inl, inr, is_clean_event, is_clean_reply, is_over, IsDrained, IsFresh, IsOpen, List, Lives, Net, None, not, Ok, Option, other, Outbox, Pipe, refl, Refused, Reply, Response, Result, Rules, rules, Runs, Scene, scene, Server, ServerCore, ServerPasses, ServerSide, serving, Side, Some, Steps, subst, sym, SyncRules, taken_from, Tick, true, ℕ, ◌++◌, ◌∙◌, ◌∷◌, ◌≡◌}
+use Rattle.ttrpc_headline.proofs.Words.{[], ActsAll, Answer, AnswersBy, AnswersError, ap, AreClean, AsyncRules, Bool, Carry, ClientCore, ClientSide, Connection, Count, Deliver, Done, Entry, Err, Error, Event, false, Halves, Hears, Incoming, inl, inr, is_clean_event, is_clean_reply, is_over, IsDrained, IsFresh, IsOpen, List, Lives, Net, None, not, Ok, other, Pipe, refl, Reply, Response, Result, Rules, rules, Runs, Scene, scene, Server, ServerCore, ServerSide, serving, Side, Steps, subst, sym, SyncRules, taken_from, Tick, true, ℕ, ◌++◌, ◌∙◌, ◌∷◌, ◌≡◌}
 
 module _ {CO CI SO SI : Type 0} (c : Halves CO CI) (s : Halves SO SI) (seals : Bool) where
   -- who lives behind a run lived all along

@@ -3,7 +3,7 @@
 -- the same stream.
 use Rattle.ttrpc_pair.proofs.Words.{unheard}
 use Rattle.ttrpc_headline.proofs.Serves.{passes_so}
-use Rattle.ttrpc_headline.proofs.Words.{[], ActiveJob, ActsAll, ActsOn, all_at, all_changed, all_in_front, all_less, AllByRecursion, Answer, AnswersBy, AnswersError, ap, arith, arrives, AsyncRules, at_stays, Bool, brought_by, cases_lt, cases_order, changed_at, changed_under, ClientSide, cond-false, cond-true, Count, Deliver, Does, Done, DropReceiver, EndsOne, EndStream, Entry, eq-eqb, Err, Error, Event, ExpiresOne, Failure, false, filter, Finish, Flying, flying_without, Halves, Handed, header_of_frame, id_of, if◌then◌else◌, Incoming, inl, inr, IsFresh, IsOneToOne, IsRightAt, IsStreamOf, Item, Job, JobList, last_id, left_behind, List, Mail, MakeJob, MakeStream, map, MESSAGE_TYPE_REQUEST, MessageHeader, nat_eq, ne_eqb, Net, new_job, None, Ok, on_mail, Option, OutboundTransform, Outbox, PutIn, ReceivesBy, Recv, refl, Refused, Reply, Result, Row, row_of, Rules, rules, Runs, Scene, scene, Sent, Server, ServerCore, ServerEnd, ServerPasses, ServerSide, serving, Some, stays, StaysFound, Steps, stream_body, subst, sym, SyncRules, Take, Tick, true, unary_body, under_stays, with_server, without_payload, without_receiver, ℕ, ◌++◌, ◌+◌, ◌<◌, ◌∙◌, ◌∷◌, ◌≡◌, ◌≤◌}
+use Rattle.ttrpc_headline.proofs.Words.{[], ActiveJob, ActsAll, ActsOn, all_at, all_changed, all_in_front, all_less, AllByRecursion, Answer, AnswersBy, AnswersError, ap, arith, arrives, AsyncRules, at_stays, Bool, brought_by, cases_lt, cases_order, changed_at, changed_under, ClientSide, cond-false, cond-true, Count, Deliver, Does, Done, DropReceiver, EndsOne, EndStream, Entry, eq-eqb, Err, Error, Event, ExpiresOne, Failure, false, filter, Finish, Flying, flying_without, Halves, Handed, header_of_frame, id_of, if◌then◌else◌, Incoming, inl, inr, IsFresh, IsOneToOne, IsRightAt, IsStreamOf, Item, Job, JobList, last_id, left_behind, List, Mail, MakeJob, MakeStream, map, MESSAGE_TYPE_REQUEST, MessageHeader, nat_eq, ne_eqb, Net, new_job, None, Ok, on_mail, Option, OutboundTransform, Outbox, PutIn, ReceivesBy, Recv, refl, Refused, Reply, Result, Row, row_of, Rules, rules, Runs, Scene, scene, Sent, Server, ServerCore, ServerEnd, ServerSide, serving, Some, stays, StaysFound, Steps, stream_body, subst, sym, SyncRules, Take, Tick, true, unary_body, under_stays, with_server, without_payload, without_receiver, ℕ, ◌++◌, ◌+◌, ◌<◌, ◌∙◌, ◌∷◌, ◌≡◌, ◌≤◌}
 
 -- ---- streams that rise
 

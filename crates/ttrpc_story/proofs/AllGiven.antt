@@ -3,7 +3,7 @@
 use Rattle.ttrpc_story.proofs.Words.{[], ActiveJob, Body, Flying, answer_of, ap, append-nil, false, got, heard_down, heard_up, inl, inr, is_stream, IsInOrder, items, length, List, Mail, map, None, Open, Option, put_down, put_up, Receiver, Receives, ReceivesAt, refl, Some, Stream, StreamBody, subst, sym, Thing, ThingItem, true, Word, ℕ, ◌++◌, ◌∙◌, ◌∷◌, ◌≡◌, arith, has_end, Fresh}
 use Rattle.std.proofs.Common.{◌+◌, length-append}
 use Rattle.std.proofs.lemmas.List.{nil_from_length}
-use Rattle.ttrpc_story.proofs.Here.{Birth, Born, Here, jobs_of, Left, no_cons, Origin, Runs, Unborn, Waits, Work}
+use Rattle.ttrpc_story.proofs.Here.{Birth, Born, Here, Origin, Unborn, Work}
 use Rattle.ttrpc_story.proofs.Reading.{got_append, items_append}
 use Rattle.ttrpc_story.proofs.Flowing.{Flowing, Follows}
 use Rattle.ttrpc_story.proofs.Upward.{box_of, thing_up}

@@ -106,27 +106,12 @@ pub never_downs : (k : ℕ) (over : Bool) (o : Origin) (done : List Act) (xs : L
 never_downs k over o done [] h = tt
 never_downs k over o done (x ∷ xs) h = (never_down h.0, never_downs k over o done xs h.1)
 
--- More jobs may have a response.
-pub later : {rules : Rules} {had had2 : ℕ → Bool} {k : ℕ} {o : Origin} {p : Work} {works : List Act} {ups downs : List Flying} {jobs : List ActiveJob} → ((i : ℕ) → had i ≡ true → had2 i ≡ true)
-    → AtServer rules had k o p works ups jobs downs → AtServer rules had2 k o p works ups jobs downs
-later {rules} {k = k} {o = o} {p = p} more s = record {
+-- The work stays: more jobs may have a response, other data may be in flight, and other frames to the client.
+pub goes_on : {rules : Rules} {had had2 : ℕ → Bool} {k : ℕ} {o : Origin} {p : Work} {works : List Act} {ups downs ups2 : List Flying} {jobs : List ActiveJob} (items downs2 : List Flying) → ((i : ℕ) → had i ≡ true → had2 i ≡ true) → AtServer rules had k o p works ups jobs downs
+    → AreItems k items → MayHave o items → ups2 ≡ ups_of p ++ items → AreDown k o p downs2 → AtServer rules had2 k o p works ups2 jobs downs2
+goes_on {rules} {k = k} {o = o} {p = p} items downs2 more s are may hu down = record {
   within = s.within;
   is_work = work_later rules more k o p s.is_work;
-  works_is = s.works_is;
-  items = s.items;
-  are_items = s.are_items;
-  may_have = s.may_have;
-  ups_is = s.ups_is;
-  jobs_is = s.jobs_is;
-  down = s.down;
-}
-
--- The work stays: other data may be in flight, and other frames to the client.
-pub goes_on : {rules : Rules} {had : ℕ → Bool} {k : ℕ} {o : Origin} {p : Work} {works : List Act} {ups downs ups2 : List Flying} {jobs : List ActiveJob} (items downs2 : List Flying) → AtServer rules had k o p works ups jobs downs
-    → AreItems k items → MayHave o items → ups2 ≡ ups_of p ++ items → AreDown k o p downs2 → AtServer rules had k o p works ups2 jobs downs2
-goes_on items downs2 s are may hu down = record {
-  within = s.within;
-  is_work = s.is_work;
   works_is = s.works_is;
   items = items;
   are_items = are;

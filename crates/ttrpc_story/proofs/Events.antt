@@ -1,6 +1,6 @@
 -- What each event does to one id: to a job of it, at the client, and to the items of both receivers.
 use Rattle.ttrpc_story.proofs.Words.{[], Act, Call, ActiveJob, all_joined, AllByRecursion, Answered, ap, append-nil, append_assoc, AreInOrder, arith, asked_by, Bool, calls, closed, Dropped, EndedDown, ending_thing, Err, Error, expired_at, Failure, false, Flow, Flying, gave_of, Gives, GivesOutcome, heard_down, heard_up, HeardDown, HeardUp, is_entered, is_some, is_stream, IsExactlyOnce, LandsOn, last_id, left_of, length, List, Mail, map, None, Ok, OpenedPayload, Option, outcomes, put_down, put_up, Ran, Reaches, Receiver, Receives, ReceivesAt, refl, Request, Response, Result, Rules, Sender, SenderDropped, SentDown, Some, StaysFound, Stream, StreamBody, subst, sym, SyncRules, taken, Thing, ThingEnd, ThingItem, ThingLast, told_of, true, unless_dropped, unless_unheard, unsendable, without_reader, without_receiver, without_sender, Word, words_of, work, work_append, ℕ, ◌++◌, ◌∙◌, ◌∷◌, ◌≡◌, ◌≤◌, SentUp, ClosedUp, inl, heard_down_append, heard_up_append, put_down_append, put_up_append}
-use Rattle.ttrpc_story.proofs.Here.{answered_work, Asking, Birth, Born, ByCall, ByOpen, first_act, Here, IsAnswer, jobs_of, Left, never_empty, no_cons, only_one, Origin, Over, request_of, Runs, Unborn, ups_of, Waits, Work, works_of}
+use Rattle.ttrpc_story.proofs.Here.{answered_work, Birth, Born, ByCall, ByOpen, first_act, Here, IsAnswer, jobs_of, Left, never_empty, only_one, Origin, Over, request_of, Runs, Unborn, ups_of, Waits, Work, works_of}
 use Rattle.ttrpc_story.proofs.AtServer.{acts_once, AtServer, goes_on, is_over, IsDown, IsItem, IsNever, mapped, never_down, one_up, uncalled}
 use Rattle.ttrpc_story.proofs.AtClient.{whole_given}
 use Rattle.ttrpc_story.proofs.Reading.{closed_item, IsPlain}
@@ -136,7 +136,7 @@ sends_down_here {w} {k} {h} front back job bytes y s was stream_is new goes =
     let more : List Flow = SentDown bytes ∷ [] in
     let works = works_of (Born i.b) p in
     let undone = stream_goes_on job i.holds stream_is in
-    turned n (goes_on n.server.items (h.downs ++ y ∷ []) n.server n.server.are_items n.server.may_have n.server.ups_is (all_joined (IsDown k (is_over p) (Born i.b) works) h.downs (y ∷ []) n.server.down (never_down new, tt))) n.client
+    turned n (goes_on n.server.items (h.downs ++ y ∷ []) (λ j had. had) n.server n.server.are_items n.server.may_have n.server.ups_is (all_joined (IsDown k (is_over p) (Born i.b) works) h.downs (y ∷ []) n.server.down (never_down new, tt))) n.client
     (up_as (flows_stay put_up put_up_append h.flows more refl) (flows_stay heard_up heard_up_append h.flows more refl) n.up)
     (down_as (flows_grow (put_down w.set.rules w.set.limit) (put_down_append w.set.rules w.set.limit) h.flows more (ThingItem bytes ∷ []) refl) (flows_stay heard_down heard_down_append h.flows more refl)
     (downward.goes p (ThingItem bytes) (y ∷ []) undone (λ e. closed_item (put_down w.set.rules w.set.limit h.flows) bytes ∙ n.down.is.unended undone) goes n.down))
@@ -165,7 +165,7 @@ lands_here {w} {k} {h} {e} {st} x d s was on reaches =
     let down = down_of x d s was in
     let n = s.known in
     let left = (subst (λ (ds : List Flying). AllByRecursion (IsDown k (is_over s.so_far) s.origin (works_of s.origin s.so_far)) ds) was n.server.down).1 in
-    turned n (goes_on n.server.items d n.server n.server.are_items n.server.may_have n.server.ups_is left)
+    turned n (goes_on n.server.items d (λ j had. had) n.server n.server.are_items n.server.may_have n.server.ups_is left)
     (client.lands s.origin h.acts down.outcome h.call e h.stream st
     (λ r is. let y = down.answer r is in (y.0, subst (λ (a : List Act). IsAnswer s.origin a r) (sym n.server.works_is) y.1.1)) on (λ none. subst (λ (z : Option Stream). Reaches (is_entered z) x.frame.message.header (OpenedPayload x.plain) z st) none reaches) n.client)
     (upward.stays st (λ is. sym (reached_sender h.stream st (is_entered h.stream) x reaches) ∙ is) n.up) (downward.comes x was reaches n.down)
@@ -318,7 +318,7 @@ pub sends_here : {w : Around} {k : ℕ} {h : Here} {st : Option Stream} (x : Flo
 sends_here {w} {k} {h} {st} x thing y (Born (ByOpen q up down)) p n some is put comes may on box wanted =
     let m = n.server in
     let more : List Flow = x ∷ [] in
-    turned n (goes_on (m.items ++ y ∷ []) h.downs m (all_joined (IsItem k) m.items (y ∷ []) m.are_items (is, tt)) tt (ap (λ (xs : List Flying). xs ++ y ∷ []) m.ups_is ∙ append_assoc (ups_of p) m.items (y ∷ [])) m.down) n.client
+    turned n (goes_on (m.items ++ y ∷ []) h.downs (λ j had. had) m (all_joined (IsItem k) m.items (y ∷ []) m.are_items (is, tt)) tt (ap (λ (xs : List Flying). xs ++ y ∷ []) m.ups_is ∙ append_assoc (ups_of p) m.items (y ∷ [])) m.down) n.client
     (up_as (flows_grow put_up put_up_append h.flows more (thing ∷ []) put.puts) (flows_stay heard_up heard_up_append h.flows more put.tells)
     (upward.sends thing y m.items comes put.follows m.ups_is may (λ e. closed_behind (put_up h.flows) thing (n.up.is.unclosed may) (on e)) n.up))
     (down_as (flows_stay (put_down w.set.rules w.set.limit) (put_down_append w.set.rules w.set.limit) h.flows more (put.ends w.set.rules w.set.limit)) (flows_stay heard_down heard_down_append h.flows more put.told) (downward.stays p st (λ e. e) box wanted n.down)) (λ clean. tt)

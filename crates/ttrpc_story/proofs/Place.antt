@@ -1,8 +1,8 @@
 -- One id: both sides of it, its items both ways, how it comes to be used, and what frames that come to the server do to it. What
 -- an event isn't about stays.
-use Rattle.ttrpc_story.proofs.Words.{[], Act, all_joined, work_append, ActiveJob, AllByRecursion, ap, append-nil, asked_by, Bool, brought_by, Call, Called, deadline_in, false, Flow, Flying, heard_down, heard_down_append, heard_up, heard_up_append, has_method, inl, inr, is_stream, last_id, List, map, nat_eq, None, Open, Option, outcomes, outcomes_append, put_down, put_down_append, put_up, put_up_append, refl, Request, Response, Rules, Services, Some, StaysFound, Stream, subst, sym, Thing, true, Waiting, with_mail, Word, work, ℕ, ◌%◌, ◌++◌, ◌∙◌, ◌∷◌, ◌≡◌, ◌≤◌, ◌⊎◌, inlet_by, inlet_in, inlet_of, Taking, AsyncRules, SyncRules, Body, UnaryBody, StreamBody}
+use Rattle.ttrpc_story.proofs.Words.{[], Act, all_joined, work_append, ActiveJob, AllByRecursion, ap, append-nil, asked_by, Bool, brought_by, Call, Called, deadline_in, false, Flow, Flying, heard_down, heard_down_append, heard_up, heard_up_append, has_method, inl, inr, is_stream, last_id, List, map, nat_eq, None, Open, Option, outcomes, outcomes_append, put_down, put_down_append, put_up, put_up_append, refl, Response, Rules, Services, Some, StaysFound, Stream, subst, sym, Thing, true, Waiting, with_mail, Word, work, ℕ, ◌%◌, ◌++◌, ◌∙◌, ◌∷◌, ◌≡◌, ◌≤◌, ◌⊎◌, inlet_by, inlet_in, inlet_of, Taking, AsyncRules, SyncRules, Body, UnaryBody, StreamBody}
 use Rattle.ttrpc_story.proofs.Here.{Asking, Birth, Born, ByCall, ByOpen, first_act, first_flow, Here, Idle, IsAnswer, jobs_of, Left, no_cons, Origin, Over, request_of, Runs, Unborn, ups_of, Waits, Work, works_of}
-use Rattle.ttrpc_story.proofs.AtServer.{AreItems, AtServer, concludes, goes_on, is_over, IsDown, IsJob, IsNever, IsSent, IsWork, later, mapped, maps, MayHave, moves, never_downs, unanswered, same_over}
+use Rattle.ttrpc_story.proofs.AtServer.{AreItems, AtServer, concludes, goes_on, is_over, IsDown, IsJob, IsNever, IsSent, IsWork, mapped, maps, MayHave, moves, never_downs, unanswered, same_over}
 use Rattle.ttrpc_story.proofs.AtClient.{AtClient, IsBegun}
 use Rattle.ttrpc_story.proofs.Upward.{box_up, first_things, flags_of, IsMade, IsStarted, Upward, box_of}
 use Rattle.ttrpc_story.proofs.Downward.{Downward, IsTurned}
@@ -123,7 +123,7 @@ pub elsewhere : {w w2 : Around} {k : ℕ} {h h2 : Here} → Later w w2 k → Pla
 elsewhere {w} {w2} {k} {h} {h2} l s ha hf hu hj hd he hs =
     let n = s.known in
     let same : h ≡ record { acts = h2.acts; flows = h2.flows; ups = h2.ups; jobs = h2.jobs; downs = h2.downs; call = h2.call; stream = h2.stream } = rw (ha, hf, hu, hj, hd, he, hs) refl in
-    subst (λ (x : Here). Place w2 k x) same (joined n l (later l.had n.server) n.client n.up n.down n.tidy)
+    subst (λ (x : Here). Place w2 k x) same (joined n l (goes_on n.server.items h.downs l.had n.server n.server.are_items n.server.may_have n.server.ups_is n.server.down) n.client n.up n.down n.tidy)
 
 -- what the server's side reads of an id, given anew
 abbrev pub served : Here → List Act → List Flow → List Flying → List ActiveJob → List Flying → Here
@@ -314,7 +314,7 @@ left_items {k = k} {h} {x = x} {u = u} down a new =
     let may : MayHave (Born a.b) (x ∷ u) = subst (λ (xs : List Flying). MayHave (Born a.b) xs) a.items n.may_have in
     let o : Origin = Born a.b in
     let works = works_of o a.so_far in
-    goes_on u (h.downs ++ down) n are.1 (fewer_may a.b x u may) (ap (λ (xs : List Flying). xs ++ u) (sym a.none_else)) (all_joined (IsDown k (is_over a.so_far) o works) h.downs down n.down (never_downs k (is_over a.so_far) o works down new))
+    goes_on u (h.downs ++ down) (λ i y. y) n are.1 (fewer_may a.b x u may) (ap (λ (xs : List Flying). xs ++ u) (sym a.none_else)) (all_joined (IsDown k (is_over a.so_far) o works) h.downs down n.down (never_downs k (is_over a.so_far) o works down new))
 
 passed_is_tidy : {w : Around} {k : ℕ} {h : Here} {x : Flying} {u : List Flying} (a : IsPassed w k h x u) (p : Work) (d : List Flying) → TidyOf w.set (Born a.b) p h.acts d h.call
 passed_is_tidy {w} {h = h} {x = x} {u = u} a p d = passed_tidy w.set a.b p h.acts d h.call x u (subst (λ (xs : List Flying). MayHave (Born a.b) xs) a.items a.known.server.may_have)

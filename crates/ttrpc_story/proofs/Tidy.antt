@@ -1,7 +1,7 @@
 -- A call of a method in a clean run, by how far its work has come: it waits while nothing was answered; once it was answered,
 -- exactly its response is under way, then kept, then given. So at a quiet end it is whole.
 use Rattle.ttrpc_story.proofs.Words.{[], Act, ActiveJob, all_work, Answered, append-nil, Call, Called, deadline_in, Ended, Error, false, Flying, Gave, gave_of, Gives, GivesOutcome, LandsOn, left_of, is_stream, landing_of, List, None, OpenedPayload, Option, outcomes, outcomes_append, Ran, refl, Request, Response, Result, Rules, Some, subst, sym, SyncRules, Waiting, work, ℕ, ◌++◌, ◌∙◌, ◌∷◌, ◌≡◌, ◌≤◌, ◌⊎◌, ap, inl, inr, nat_eq, ◌%◌, Body}
-use Rattle.ttrpc_story.proofs.Here.{Asking, Born, ByCall, Idle, jobs_of, Left, no_cons, Over, Runs, ups_of, Waits, Work, works_of}
+use Rattle.ttrpc_story.proofs.Here.{Asking, Born, ByCall, Idle, Left, no_cons, Over, Runs, ups_of, Waits, Work, works_of}
 use Rattle.ttrpc_events.specs.Trace.{some_of}
 use Rattle.ttrpc_events.specs.Flows.{Tells}
 use Rattle.ttrpc_events.specs.Clean.{IsWholeCall}

@@ -1,7 +1,6 @@
 -- What each event does to what is tidy of one id, in a clean run.
-use Rattle.ttrpc_story.proofs.Words.{[], Act, ActiveJob, Answered, Call, ap, asked_by, Bool, Error, Failure, false, Flying, gave_of, GivesOutcome, is_some, is_stream, landing_of, LandsOn, left_of, List, None, Ok, OpenedPayload, Option, outcomes, Response, Result, Some, subst, sym, SyncRules, true, work, ℕ, ◌++◌, ◌∙◌, ◌∷◌, ◌≡◌, inl, inr}
-use Rattle.ttrpc_story.proofs.Here.{answered_work, Birth, Born, ByCall, ByOpen, Here, jobs_of, Left, no_cons, Origin, Over, Runs, Unborn, Waits, Work, works_of}
-use Rattle.ttrpc_story.proofs.AtServer.{is_over}
+use Rattle.ttrpc_story.proofs.Words.{[], Act, ActiveJob, Answered, Call, asked_by, Bool, Error, Failure, false, Flying, gave_of, GivesOutcome, is_some, is_stream, landing_of, LandsOn, left_of, List, None, Ok, OpenedPayload, Option, outcomes, Response, Result, Some, subst, sym, SyncRules, true, work, ℕ, ◌++◌, ◌∙◌, ◌∷◌, ◌≡◌, inl, inr}
+use Rattle.ttrpc_story.proofs.Here.{answered_work, Birth, Born, ByCall, ByOpen, Here, Left, no_cons, Origin, Over, Runs, Unborn, Waits, Work, works_of}
 use Rattle.ttrpc_story.proofs.Tidy.{down_none, IsAnsweredCall, IsSentBack, MayGo, never_gone, ran_gone, Tidy, tidy_answers, tidy_asked, tidy_lands, tidy_taken}
 use Rattle.ttrpc_story.proofs.Place.{Around, Holds, InRest, InRun, InWait, Settings, TidyOf, work_in}
 
