@@ -7,6 +7,7 @@ use Rattle.ttrpc_headline.proofs.Payloads.{too_late, unknown_never}
 use Rattle.ttrpc_headline.proofs.Flights.{behind_other, behind_own, flight_as, GivesSo, IsAnswering, IsData, IsGoing, IsRefusing, item_going, sends_close, sends_data, sends_refusal, sends_response, SendsFlight}
 use Rattle.ttrpc_headline.proofs.Jobs.{all_due, aside_plain, deaf, gone_at, gone_others, is_at, job_is, mailed, not_here, too_soon, untouched}
 use Rattle.ttrpc_pair.proofs.Words.{unheard as unheard_of}
+use Rattle.ttrpc_headline.proofs.Serves.{expired_so}
 use Rattle.ttrpc_headline.proofs.Words.{[], Act, act_of, ActiveJob, all_at, all_in_front, AllByRecursion, Answer, Answered, answered_work, Answers, answers_here, AnswersBy, AnswersError, ap, append-nil, append_assoc, arith, asked_by, AsyncRules, at_stays, between_own, Birth, Bool, Born, call_at, changed_at, codes, Done, Drain, drained, DropReceiver, Drops, elsewhere, EndedDown, ending_thing, ends_here, EndsOne, EndsStream, EndStream, Entry, eq-eqb, Err, Error, errs_up_here, Event, ExpireAll, Failure, false, Finish, Finishes, first_act, flow_of, Flying, given, Goes, Halves, Handed, HandlerError, Hands, has_response, HasNone, HasOkStatus, heard, HeardUp, hears_up_here, here_at, id_of, if◌then◌else◌, inl, inr, is_clean_answer, is_due, is_stream, IsAnswer, IsAnsweredBy, IsDown, IsEnd, IsErrorResponse, IsNever, IsPlain, IsPlainFailure, IsResponse, IsSentAs, IsSentBack, IsSentFor, Item, Job, job_at, job_within, JobReceives, jobs_at, last_id, last_thing, Later, List, list_any, Mail, mapped_at, may_be_error, nat_eq, Net, never_down, None, Ok, only_if, Option, Origin, Others, Outbox, parcels, Place, pushed_other, pushed_own, Ran, reaches, ReceivesBy, ReceivesFrom, Recv, refl, request_of, Respond, Responds, responds_here, RespondsTo, Response, Result, Rules, running_of, safe_limit, Send, sends_down_here, SendsAll, SendsItem, Sent, SentDown, Server, ServerCore, ServerEnd, ServerPasses, ServerTicks, Settings, silent, Some, some_of, stream_id_of, StreamBody, subst, sym, SyncRules, Take, takes_here, Thing, ThingEnd, ThingItem, Ticket, timeout_response, told, told_by, told_plain, true, unchanged, under_both, unheard, unheard_up_here, untold, Waiting, was_made, with_entry, with_mail, with_server, without_receiver, ℕ, ◌++◌, ◌∙◌, ◌∷◌, ◌≡◌, ◌≤◌, list_any-append, or_left, or_right}
 
 module _ {CO CI SO SI : Type 0} (c : Halves CO CI) (s : Halves SO SI) (seals : Bool) (set : Settings) (f : ℕ → ℕ) (trace : List Entry) where
@@ -22,16 +23,16 @@ module _ {CO CI SO SI : Type 0} (c : Halves CO CI) (s : Halves SO SI) (seals : B
 
   -- the server's jobs change, and frames may be queued
   server_changes : (w : Net CO CI SO SI) (t : List Entry) (x : ServerCore SO SI) (responded : List ℕ) (down : List Flying) → (i : Kept trace w)
-      → Stories set (λ job. list_any (λ j. nat_eq j job) responded) f t i.up down x.state.jobs.list w.client.state → x.state.jobs.last ≡ w.server.state.jobs.last
-      → x.connection.decoder ≡ w.server.connection.decoder → x.connection.inbound ≡ w.server.connection.inbound → (x.connection.failure ≡ None → w.server.connection.failure ≡ None)
+      → Stories set (λ job. list_any (λ j. nat_eq j job) responded) f t i.up down x.state.jobs.list w.client.state → {this : ServerCore SO SI} → x ≡ this → this.state.jobs.last ≡ w.server.state.jobs.last
+      → this.connection.decoder ≡ w.server.connection.decoder → this.connection.inbound ≡ w.server.connection.inbound → (x.connection.failure ≡ None → w.server.connection.failure ≡ None)
       → OneWay s.out c.in_ x.connection.outbox w.client.connection w.down down → Kept t (record (with_server w x) { responded = responded })
-  server_changes w t x responded down i stories last held inbound lives downward = record {
+  server_changes w t x responded down i stories same last held inbound lives downward = record {
     up = i.up;
     down = down;
     stories = stories;
-    numbers = subst (λ (n : ℕ). Numbers f n i.up w.client.state.next) (sym last) i.numbers;
+    numbers = subst (λ (n : ℕ). Numbers f n i.up w.client.state.next) (sym (ap (λ (y : ServerCore SO SI). y.state.jobs.last) same ∙ last)) i.numbers;
     own = i.own;
-    upward = goes_on c.out s.in_ _ _ w.server.connection x.connection w.up i.up refl held inbound lives i.upward;
+    upward = goes_on c.out s.in_ _ _ w.server.connection x.connection w.up i.up refl (ap (λ (y : ServerCore SO SI). y.connection.decoder) same ∙ held) (ap (λ (y : ServerCore SO SI). y.connection.inbound) same ∙ inbound) lives i.upward;
     downward = downward;
   }
 
@@ -57,8 +58,7 @@ module _ {CO CI SO SI : Type 0} (c : Halves CO CI) (s : Halves SO SI) (seals : B
       (silent (flow_of f k) trace Take (Handed (Some job)) refl) refl (is k ∙ between_own stream_id_of k h.front h.back taken refl) refl refl refl)
       (λ n e. elsewhere (as_was w n) (i.stories n) (unheard (act_of f n) n job.header.stream_id trace Take (Handed (Some job)) (Ran job.id job.stream job.request) refl (λ same_id. e (sym at ∙ same_id)))
       (silent (flow_of f n) trace Take (Handed (Some job)) refl) refl (is n ∙ not_here n h.front h.back taken e ∙ sym (was n ∙ not_here n h.front h.back j e)) refl refl refl))
-      (ap (λ (x : ServerCore SO SI). x.state.jobs.last) same) (ap (λ (x : ServerCore SO SI). x.connection.decoder) same) (ap (λ (x : ServerCore SO SI). x.connection.inbound) same)
-      (λ alive. p.alive) (rw same i.downward)
+      same refl refl refl (λ alive. p.alive) (rw same i.downward)
 
   -- ---- a job that was taken is answered, or ends
 
@@ -97,9 +97,9 @@ module _ {CO CI SO SI : Type 0} (c : Halves CO CI) (s : Halves SO SI) (seals : B
       → IsEnding event id kind result → (j : ActiveJob) → (ends : EndsOne w.server.state.jobs.list id j x.state.jobs.list)
       → HasNone (around set (has_response w) w.client.state.next) j
       → ((b : Birth) → j.header.stream_id ≤ last_id → Concludes w x j kind (Born b) (answered_work b j kind result) result)
-      → x.state.jobs.last ≡ w.server.state.jobs.last → x.connection.decoder ≡ w.server.connection.decoder → x.connection.inbound ≡ w.server.connection.inbound → (x.connection.failure ≡ None → w.server.connection.failure ≡ None)
+      → {this : ServerCore SO SI} → x ≡ this → this.state.jobs.last ≡ w.server.state.jobs.last → this.connection.decoder ≡ w.server.connection.decoder → this.connection.inbound ≡ w.server.connection.inbound → (x.connection.failure ≡ None → w.server.connection.failure ≡ None)
       → Kept (with_entry trace event Done) (with_server w x)
-  concludes w event id kind result x i right says j ends none sends last held inbound lives =
+  concludes w event id kind result x i right says j ends none sends same last held inbound lives =
       let k : ℕ = j.header.stream_id in
       let t = with_entry trace event Done in
       let a = is_at f w.server.state.jobs.list id j right ends.at in
@@ -112,7 +112,7 @@ module _ {CO CI SO SI : Type 0} (c : Halves CO CI) (s : Halves SO SI) (seals : B
       (gone_at w.server.state.jobs.list id j x.state.jobs.list ends k) (behind_own (IsDown k true (Born running.b) done) k (λ y d. d.stream) i.down r.more r.downs) refl refl)
       (λ n e. elsewhere (as_was w n) (i.stories n) (unheard (act_of f n) n (f id) trace event Done (Answered kind result) (says n).0 (λ same. e (sym a.stream ∙ same)))
       (unheard (flow_of f n) n (f id) trace event Done (EndedDown result) (says n).1 (λ same. e (sym a.stream ∙ same))) refl (gone_others w.server.state.jobs.list id j x.state.jobs.list ends n e) (behind_other (IsDown k true (Born running.b) done) k n (λ y d. d.stream) i.down r.more r.downs e) refl refl))
-      last held inbound lives (r.sent i.down i.downward)
+      same last held inbound lives (r.sent i.down i.downward)
 
   -- what a response puts in is by the settings
   same_ending : (w : Net CO CI SO SI) (response : Response) → IsSet w → last_thing (told_by w.server.state.rules (safe_limit s.out w.server.connection.outbox.half) response) response ≡ ending (Ok (Some response))
@@ -173,8 +173,7 @@ module _ {CO CI SO SI : Type 0} (c : Halves CO CI) (s : Halves SO SI) (seals : B
       → (p : Answers s.out w.server id response x) → ((b : Birth) → p.job.header.stream_id ≤ last_id → Concludes w x p.job false (Born b) (answered_work b p.job false result) result) → has_response w id ≡ false
       → Kept (with_entry trace event Done) (with_server w x)
   by_answer w event id result response x i right says p sends none =
-      concludes w event id false result x i right says p.job p.ends (none_yet w id p.job p.ends.at.is_job none) sends
-      (ap (λ (y : ServerCore SO SI). y.state.jobs.last) p.same) (ap (λ (y : ServerCore SO SI). y.connection.decoder) p.same) (ap (λ (y : ServerCore SO SI). y.connection.inbound) p.same) (λ alive. p.alive)
+      concludes w event id false result x i right says p.job p.ends (none_yet w id p.job p.ends.at.is_job none) sends p.same refl refl refl (λ alive. p.alive)
 
   -- A handler failed, under sync rules.
   keeps_drops : (w : Net CO CI SO SI) (id : ℕ) (error : Error) (x : ServerCore SO SI) → Kept trace w → AreRight f w.server.state.jobs.list → Drops w.server id x → has_response w id ≡ false → (set.clean → ⊥)
@@ -182,8 +181,7 @@ module _ {CO CI SO SI : Type 0} (c : Halves CO CI) (s : Halves SO SI) (seals : B
   keeps_drops w id error x i right p none never =
       concludes w (Answer id (Err error)) id false (Err error) x i right (λ k. (refl, refl)) p.job p.ends (none_yet w id p.job p.ends.at.is_job none)
       (λ b within. record { more = []; downs = tt; back = λ clean. absurd (never clean); goes = λ wanted. inr refl; sent = λ flights way. rw (ap (λ (y : ServerCore SO SI). y.connection.outbox) p.same, append-nil) way })
-      (ap (λ (y : ServerCore SO SI). y.state.jobs.last) p.same) (ap (λ (y : ServerCore SO SI). y.connection.decoder) p.same) (ap (λ (y : ServerCore SO SI). y.connection.inbound) p.same)
-      (λ alive. absurd (not_both x.connection.failure HandlerError (ap (λ (y : ServerCore SO SI). y.connection.failure) p.same) alive))
+      p.same refl refl refl (λ alive. absurd (not_both x.connection.failure HandlerError (ap (λ (y : ServerCore SO SI). y.connection.failure) p.same) alive))
 
   keeps_error : (r : Rules) (w : Net CO CI SO SI) (id : ℕ) (error : Error) (x : ServerCore SO SI) → Kept trace w → IsSet w → w.server.state.rules ≡ r → (r ≡ SyncRules → set.clean → ⊥) → AreRight f w.server.state.jobs.list → AnswersError s.out r w.server id error x → has_response w id ≡ false
       → Kept (with_entry trace (Answer id (Err error)) Done) (with_server w x)
@@ -206,8 +204,7 @@ module _ {CO CI SO SI : Type 0} (c : Halves CO CI) (s : Halves SO SI) (seals : B
   by_end : (w : Net CO CI SO SI) (id : ℕ) (result : Result (Option Response) Error) (x : ServerCore SO SI) → Kept trace w → AreRight f w.server.state.jobs.list → (p : EndsStream s.out w.server id result x)
       → ((b : Birth) → p.job.header.stream_id ≤ last_id → Concludes w x p.job true (Born b) (answered_work b p.job true result) result) → Kept (with_entry trace (EndStream id result) Done) (with_server w x)
   by_end w id result x i right p sends =
-      concludes w (EndStream id result) id true result x i right (λ k. (refl, refl)) p.job p.ends (of_stream w p.job p.stream) sends
-      (ap (λ (y : ServerCore SO SI). y.state.jobs.last) p.same) (ap (λ (y : ServerCore SO SI). y.connection.decoder) p.same) (ap (λ (y : ServerCore SO SI). y.connection.inbound) p.same) (λ alive. p.alive)
+      concludes w (EndStream id result) id true result x i right (λ k. (refl, refl)) p.job p.ends (of_stream w p.job p.stream) sends p.same refl refl refl (λ alive. p.alive)
 
   -- what it sends, by the rules that are there
   by_rules : (w : Net CO CI SO SI) (k : ℕ) (response : Response) (sent : List Sent) → w.server.state.rules ≡ AsyncRules → Responds AsyncRules (safe_limit s.out w.server.connection.outbox.half) k response sent
@@ -257,8 +254,7 @@ module _ {CO CI SO SI : Type 0} (c : Halves CO CI) (s : Halves SO SI) (seals : B
       (λ n e. elsewhere (later n) (i.stories n) (unheard (act_of f n) n (f id) trace (Respond id response) Done (Answered false (Ok (Some response))) refl (λ h. e (sym a.stream ∙ h)))
       (unheard (flow_of f n) n (f id) trace (Respond id response) Done (EndedDown (Ok (Some response))) refl (λ h. e (sym a.stream ∙ h)))
       refl (is n) (pushed_other id_of n r.y i.down (λ h. e (sym r.is.down.stream ∙ h))) refl refl))
-      (ap (λ (y : Server). y.jobs.last) same) (ap (λ (y : ServerCore SO SI). y.connection.decoder) p.does.same) (ap (λ (y : ServerCore SO SI). y.connection.inbound) p.does.same)
-      (λ alive. p.does.alive) (joins s.out c.in_ w.server.connection.outbox x.connection.outbox w.client.connection w.down i.down r.y r.queue r.seal r.sound i.downward)
+      p.does.same refl refl refl (λ alive. p.does.alive) (joins s.out c.in_ w.server.connection.outbox x.connection.outbox w.client.connection w.down i.down r.y r.queue r.seal r.sound i.downward)
 
   -- ---- events that say nothing of an id
 
@@ -272,8 +268,7 @@ module _ {CO CI SO SI : Type 0} (c : Halves CO CI) (s : Halves SO SI) (seals : B
       (at_one (PlaceOf w (has_response w) trace i.up i.down x.state.jobs.list) k
       (elsewhere (as_was w k) (ends_here (jobs_at p.ends.at.front k) (jobs_at p.ends.at.back k) j [] (i.stories k) own tt tt (λ clean. inl (refl, p.ends.at.taken))) refl refl refl (gone_at w.server.state.jobs.list id j x.state.jobs.list p.ends k) (sym (append-nil (parcels k i.down))) refl refl)
       (λ n e. elsewhere (as_was w n) (i.stories n) refl refl refl (gone_others w.server.state.jobs.list id j x.state.jobs.list p.ends n e) refl refl refl))
-      (ap (λ (y : ServerCore SO SI). y.state.jobs.last) p.same) (ap (λ (y : ServerCore SO SI). y.connection.decoder) p.same) (ap (λ (y : ServerCore SO SI). y.connection.inbound) p.same)
-      (λ alive. p.alive) (rw p.same i.downward)
+      p.same refl refl refl (λ alive. p.alive) (rw p.same i.downward)
 
   pub keeps_finish : (w : Net CO CI SO SI) (id : ℕ) (x : ServerCore SO SI) → Kept trace w → Finishes w.server id x → Kept (with_entry trace (Finish id) Done) (with_server w x)
   keeps_finish w id x i p = keeps_still c s set f trace (with_server w x) (Finish id) Done (λ k. (refl, refl)) (finishes w id x i p)
@@ -282,7 +277,7 @@ module _ {CO CI SO SI : Type 0} (c : Halves CO CI) (s : Halves SO SI) (seals : B
   jobs_change : (w : Net CO CI SO SI) (t : List Entry) (x : ServerCore SO SI) → (i : Kept trace w) → x.state.jobs.last ≡ w.server.state.jobs.last → x.connection ≡ w.server.connection
       → Stories set (has_response w) f t i.up i.down x.state.jobs.list w.client.state → Kept t (with_server w x)
   jobs_change w t x i last connection stories =
-      server_changes w t x w.responded i.down i stories last (ap (λ d. d.decoder) connection) (ap (λ d. d.inbound) connection) (λ alive. ap (λ d. d.failure) (sym connection) ∙ alive) (rw connection i.downward)
+      server_changes w t x w.responded i.down i stories refl last (ap (λ d. d.decoder) connection) (ap (λ d. d.inbound) connection) (λ alive. ap (λ d. d.failure) (sym connection) ∙ alive) (rw connection i.downward)
 
   -- what a receiver is told, by its mailbox
   hears_box : (w : Net CO CI SO SI) (id : ℕ) (given : Option (Result (List ℕ) Error)) (new : List ActiveJob) → (i : Kept trace w) → AreRight f w.server.state.jobs.list → IsPlainFailure w.server.connection.failure
@@ -366,8 +361,7 @@ module _ {CO CI SO SI : Type 0} (c : Halves CO CI) (s : Halves SO SI) (seals : B
       refl (is k) (pushed_own id_of k r.y i.down r.is.never.stream) refl refl)
       (λ n e. elsewhere (as_was w n) (i.stories n) (silent (act_of f n) trace event reply refl) (unheard (flow_of f n) n (f id) trace event reply (SentDown item) refl (λ h. e (sym stream ∙ h)))
       refl (is n) (pushed_other id_of n r.y i.down (λ h. e (sym r.is.never.stream ∙ h))) refl refl))
-      (ap (λ (y : Server). y.jobs.last) same) (ap (λ (y : ServerCore SO SI). y.connection.decoder) p.same) (ap (λ (y : ServerCore SO SI). y.connection.inbound) p.same)
-      (λ alive. p.alive) (joins s.out c.in_ w.server.connection.outbox x.connection.outbox w.client.connection w.down i.down r.y r.queue r.seal r.sound i.downward)
+      p.same refl refl refl (λ alive. p.alive) (joins s.out c.in_ w.server.connection.outbox x.connection.outbox w.client.connection w.down i.down r.y r.queue r.seal r.sound i.downward)
 
   -- ---- jobs expire
 
@@ -409,16 +403,12 @@ module _ {CO CI SO SI : Type 0} (c : Halves CO CI) (s : Halves SO SI) (seals : B
         sent = λ flights way. rw (← append_assoc) (later.sent (flights ++ r.more) (r.sent w.client.connection w.down flights way));
       }
 
-  expire_last : (expired : List ActiveJob) (old : Server) (from : Outbox SO) (new : Server) (to : Outbox SO) → ExpireAll s.out old from expired new to → new.jobs.last ≡ old.jobs.last
-  expire_last [] old from new to e = ap (λ (t : Server). t.jobs.last) e.0
-  expire_last (j ∷ js) old from new to e = expire_last js e.0 e.1 new to e.3 ∙ ap (λ (t : Server). t.jobs.last) e.2.state
-
   ticks : (w : Net CO CI SO SI) (now : ℕ) (x : ServerCore SO SI) → (failure : w.server.connection.failure ≡ None) → Kept trace w → (set.clean → NoneIsDue w now) → ServerTicks s.out w.server now x → Kept trace (with_server w x)
   ticks w now x alive i undue p =
       let due = all_in_front (λ (j : ActiveJob). is_due now j ≡ true) p.expired p.left (subst (λ (js : List ActiveJob). AllByRecursion (λ (j : ActiveJob). is_due now j ≡ true) js) p.due (all_due now w.server.state.jobs.list)) in
       let e = expires w now i.up i.down w.server.state w.server.connection.outbox p.expired x.state x.connection.outbox i.stories undue due p.expire in
-      server_changes w trace x w.responded (i.down ++ e.more) i e.stories (expire_last p.expired w.server.state w.server.connection.outbox x.state x.connection.outbox p.expire)
-      (ap (λ (y : ServerCore SO SI). y.connection.decoder) p.same) (ap (λ (y : ServerCore SO SI). y.connection.inbound) p.same) (λ lives. alive) (e.sent i.down i.downward)
+      let last = expired_so s.out (λ a x b y. b.jobs.last ≡ a.jobs.last) (λ a x. refl) (λ a b d x y z job one later. later ∙ ap (λ (u : Server). u.jobs.last) one.state) p.expired w.server.state w.server.connection.outbox x.state x.connection.outbox p.expire in
+      server_changes w trace x w.responded (i.down ++ e.more) i e.stories p.same last refl refl (λ lives. alive) (e.sent i.down i.downward)
 
   -- A moment comes for the server.
   pub keeps_ticks : (r : Rules) (failure : Option Failure) (w : Net CO CI SO SI) (now : ℕ) (x : ServerCore SO SI) → w.server.connection.failure ≡ failure → Kept trace w → (set.clean → NoneIsDue w now) → ServerPasses s.out r failure w.server now x → Kept trace (with_server w x)
