@@ -22,7 +22,11 @@ sends_flight out old f plain new is_such s stream type_ flags own is = record {
   y = flight_of f s.sealed plain;
   queue = s.queue;
   seal = s.seal;
-  sound = record { fits = record { length = let short : length s.sealed ≤ MESSAGE_LENGTH_MAX = s.fits in omega (arith, short); stream_id = omega (arith, stream); type_ = type_; flags = flags }; stated = let short : length s.sealed ≤ MESSAGE_LENGTH_MAX = s.fits in omega (arith, short); short = s.fits };
+  sound = record {
+    fits = record { length = omega (arith, s.fits); stream_id = omega (arith, stream); type_ = type_; flags = flags };
+    stated = omega (arith, s.fits);
+    short = s.fits;
+  };
   own = own;
   is = is;
 }
