@@ -146,8 +146,9 @@ module _ {CO CI SO SI : Type 0} (c : Halves CO CI) (s : Halves SO SI) (seals : B
     pub does : Delivers (serving s.out s.in_) old.server.state old.server.connection old.up old.moment n k new.server.state new.server.connection
     pub only : new ≡ record (with_server old new.server) { up = taken_from old.up k }
 
-  -- Nothing was delivered to a server that takes no more.
+  -- Nothing was delivered to a server that lives and takes no more.
   pub record StaysUp (old : Net CO CI SO SI) (k : ℕ) (new : Net CO CI SO SI) : Type 0 where
+    pub alive : old.server.connection.failure ≡ None
     pub drains : takes_on old.server.state ≡ false
     pub none : k ≡ 0
     pub hears : Hears (is_over old.up) old.server.connection new.server.connection

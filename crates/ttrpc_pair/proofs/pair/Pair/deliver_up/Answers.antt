@@ -5,7 +5,7 @@ use Rattle.ttrpc_pair.proofs.pair.Pair.deliver_up.Goals as goal
 pub returns-in-Ok : goal.returns-in-Ok
 returns-in-Ok g c = rw (← c.self.view_is) (elim (by_taking _ _ _ _ _ _ _ _ c.in-Ok.ensures) [
   | inl takes ↦ inl (record { does = record { count = search rules; mid = c.feed.new.self.connection; does = search rules; hears = search rules }; only = search rules })
-  | inr drains ↦ inr (record { drains = drains.0; none = search rules; hears = search rules; only = search rules })
+  | inr drains ↦ inr (record { alive = search rules; drains = drains.0; none = search rules; hears = search rules; only = search rules })
 ])
 
 pub returns-in-Err : goal.returns-in-Err
