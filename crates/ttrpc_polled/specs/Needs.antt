@@ -2,6 +2,7 @@
 -- Source: this project's.
 use Rattle.std.specs.Prelude.{◌≡◌, ◌≢◌, ◌⊎◌, ℕ, [], IsSome, true}
 use Rattle.std.specs.Arc.{arc_value}
+use Rattle.std.specs.declared.io.Error.{Error}
 use Rattle.tokio.specs.Timers.{sleep_source}
 use Rattle.ttrpc_polled.specs.declared.link.Link.{Link}
 
@@ -16,3 +17,7 @@ LinkNeeds reads writes asked c s =
     OutNeeds writes asked c s
     ⊎ ((c.is_reading ≡ true) × reads c.inlet.reader s)
     ⊎ (IsSome c.alarm.set_for × (s ≡ sleep_source c.alarm.sleep))
+
+-- A connection that is over keeps nothing that is to be written; or its writer took none of it, or failed.
+abbrev pub IsOver : {R S W C : Type 0} → (W → Error → Type 0) → (W → Type 0) → Link R S W C → Type 0
+IsOver fails is_full c = (c.outlet.kept ≡ []) ⊎ is_full c.outlet.writer ⊎ ((e : Error) × fails c.outlet.writer e)

@@ -26,6 +26,10 @@ pub record TakesLoan {H : Type 0} (lends : H → List ℕ → ℕ → List ℕ �
   pub lent : lends old before count after new
   pub kept : kept_after ≡ kept_before ++ take count after
 
+-- A loan was asked for, and had no bytes.
+abbrev pub LendsNone : {H : Type 0} → (H → List ℕ → ℕ → List ℕ → H → Type 0) → H → Type 0
+LendsNone {H} lends new = (old : H) × (before : List ℕ) × (after : List ℕ) × lends old before 0 after new
+
 -- Loans were taken one after the other, of these bytes in order.
 pub data Gathers {H : Type 0} (lends : H → List ℕ → ℕ → List ℕ → H → Type 0) (first : H) : List ℕ → H → Type 0 where
   nothing : Gathers lends first [] first

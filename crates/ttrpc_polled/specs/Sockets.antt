@@ -8,6 +8,7 @@ use Rattle.ttrpc_transport.specs.Address.Addresses.{IsAddress}
 use Rattle.ttrpc_transport.specs.declared.address.domain.Domain.TheVariants.{Unix as UnixDomain}
 use Rattle.ttrpc_transport.specs.Address.Places.{IsNoPlace, IsPlace}
 use Rattle.ttrpc_transport.specs.declared.address.place.Place.TheVariants.{Tcp}
+use Rattle.ttrpc_transport.specs.Sockets.{IsFault}
 
 -- the address names this IP address and port
 abbrev pub IsTcp : List ℕ → SocketAddr → Type 0
@@ -20,3 +21,7 @@ IsUnsupported e = (e ≡ Others (codes "async unix sockets are not supported")) 
 -- the address names no place, or that of a Unix socket
 abbrev pub IsNoTcp : List ℕ → Error → Type 0
 IsNoTcp addr e = IsNoPlace addr e ⊎ (((name : List ℕ) × IsAddress addr UnixDomain name) × IsUnsupported e)
+
+-- what stands over a socket isn't made, since memory was refused, or the system refused
+abbrev pub IsNotMade : Error → Type 0
+IsNotMade e = (e ≡ NoMemory) ⊎ IsFault e

@@ -1,7 +1,7 @@
 //! When a core is to be told of the moment.
-ghost use Rattle.std.specs.Prelude.{◌≡◌, ◌⊎◌, None, Some, IfErr, IfOk};
+ghost use Rattle.std.specs.Prelude.{◌≡◌, ◌≤◌, ◌⊎◌, None, Some, IfErr, IfOk, IfSome, IsSome};
 ghost use Rattle.futures.specs.Task.{Covers, Keeps};
-ghost use Rattle.futures.specs.Poll.{OnPending};
+ghost use Rattle.futures.specs.Poll.{IfReady, OnPending};
 ghost use Rattle.tokio.specs.Timers.{sleep_source};
 ghost use Rattle.ttrpc_transport.specs.Sockets.{IsFault};
 
@@ -44,7 +44,9 @@ impl Alarm {
 
     /// Sets it, unless it is set for this moment or an earlier one.
     pub fn set<R: Clock>(&mut self, rt: &R, at: u64)
-        ensures { (self.new.set_for ≡ self.old.set_for) ⊎ (self.new.set_for ≡ Some at) }
+        ensures sets { (self.new.set_for ≡ self.old.set_for) ⊎ (self.new.set_for ≡ Some at) }
+        ensures sooner { IfSome self.old.set_for (λ was. IfSome self.new.set_for (λ is. is ≤ was)) }
+        ensures stays_set { IsSome self.old.set_for → IsSome self.new.set_for }
     {
         if self.set_for.is_some_and(|set_for| set_for <= at) {
             return;
@@ -60,6 +62,8 @@ impl Alarm {
 
     /// Ready once it rings: the moment. It isn't set any more then.
     pub fn poll_ring<R: Clock>(&mut self, rt: &R, cx: &mut Context<'_>) -> Poll<u64>
+        ensures rung { IfReady result (λ _. self.new.set_for ≡ None) }
+        ensures set { OnPending result (self.new.set_for ≡ self.old.set_for) }
         ensures registered { OnPending result (Covers cx.new (λ s. s ≡ sleep_source self.new.sleep)) }
         ensures kept { Keeps cx.old cx.new }
     {

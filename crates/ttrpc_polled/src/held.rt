@@ -9,7 +9,7 @@ use std::sync::Mutex;
 /// What stands under the lock of a polled connection: a core, and the wakers of those who wait for what it tells. Each call
 /// makes one call of the core, as its members say, and wakes whom that concerns.
 pub trait Held: Drop {
-    ghost use Rattle.std.specs.Prelude.{ℕ, List, Option};
+    ghost use Rattle.std.specs.Prelude.{ℕ, List, Option, Bool};
     ghost use Rattle.std.specs.declared.io.ErrorKind.{ErrorKind};
 
     // So many bytes of a piece were taken at a moment, or it was in vain, since the connection has failed.
@@ -29,6 +29,12 @@ pub trait Held: Drop {
 
     // A moment came.
     ghost ticks: { Self → ℕ → Self → Type 0 };
+
+    // This is the least moment at which a tick would change something, or there is none.
+    ghost expires: { Self → Option ℕ → Type 0 };
+
+    // Whether the connection has failed.
+    ghost failed: { Self → Bool };
 
     /// Takes a front of a piece at this moment, in nanoseconds, and says of how many bytes. `None`: the connection has failed.
     fn take(&mut self, alloc: Global, piece: &[u8], now: u64) -> Option<usize>
@@ -57,10 +63,12 @@ pub trait Held: Drop {
         ensures { ticks self.old now self.new };
 
     /// The least moment at which a tick would change something.
-    fn next_deadline(&self) -> Option<u64>;
+    fn next_deadline(&self) -> Option<u64>
+        ensures { expires self.now result };
 
     /// Whether the connection has failed.
-    fn has_failed(&self) -> bool;
+    fn has_failed(&self) -> bool
+        ensures { result ≡ failed self.now };
 
     /// The waker of the connection's future, which is woken by being dropped.
     fn driver(&mut self) -> &mut Option<Waker>;

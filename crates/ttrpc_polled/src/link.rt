@@ -1,11 +1,12 @@
 //! The future that reads, writes and ticks for one connection.
-ghost use Rattle.std.specs.Prelude.{◌≡◌, [], IfErr, IsSome, Ok, true, false, IfOk, None};
+ghost use Rattle.std.specs.Prelude.{◌≡◌, ◌≢◌, [], IfErr, IsSome, Ok, true, false, IfOk, None};
 ghost use Rattle.std.specs.Arc.{arc_value};
 ghost use Rattle.std.specs.IoError.{error_kind};
 ghost use Rattle.futures.specs.Task.{Covers, Hears, IsArmed, Keeps};
 ghost use Rattle.tokio.specs.Timers.{sleep_source};
-ghost use Rattle.ttrpc_polled.specs.Needs.{LinkNeeds, OutNeeds};
+ghost use Rattle.ttrpc_polled.specs.Needs.{IsOver, LinkNeeds, OutNeeds};
 ghost use Rattle.ttrpc_polled.specs.Passing.{IsHandedOn};
+ghost use Rattle.ttrpc_polled.specs.Sockets.{IsNotMade};
 
 use crate::alarm::{Alarm, moment};
 use crate::held::{Connected, Held};
@@ -47,8 +48,9 @@ pub struct Link<R: Clock + AllocGlobal + Drop, S, W, C> {
 impl<R: Clock + AllocGlobal + Drop, S: AsyncRead, W: AsyncWrite, C: Connected> Link<R, S, W, C> {
     /// The connection over this reader and this writer. Want of memory for their rooms at rest is `NoMemory`.
     pub fn new(rt: R, handle: &Handle, shared: Arc<C, Global>, reader: S, writer: W) -> Result<Self>
-        ensures { IfOk result (λ link. (link.shared ≡ shared) × (link.inlet.reader ≡ reader) × (link.inlet.piece ≡ []) × (link.is_reading ≡ true)
+        ensures ok { IfOk result (λ link. (link.shared ≡ shared) × (link.inlet.reader ≡ reader) × (link.inlet.piece ≡ []) × (link.is_reading ≡ true)
             × (link.outlet.writer ≡ writer) × (link.outlet.kept ≡ []) × (link.alarm.set_for ≡ None)) }
+        ensures err { IfErr result IsNotMade }
     {
         let alloc = rt.alloc();
         Ok(Link {
@@ -70,7 +72,8 @@ impl<R: Clock + AllocGlobal + Drop, S: AsyncRead, W: AsyncWrite, C: Connected> L
 
     /// Whether it keeps nothing that is to be written.
     pub fn keeps_nothing(&self) -> bool
-        ensures { result ≡ true → self.now.outlet.kept ≡ [] }
+        ensures yes { result ≡ true → self.now.outlet.kept ≡ [] }
+        ensures no { result ≡ false → self.now.outlet.kept ≢ [] }
     {
         self.outlet.kept.is_empty()
     }
@@ -79,6 +82,7 @@ impl<R: Clock + AllocGlobal + Drop, S: AsyncRead, W: AsyncWrite, C: Connected> L
     /// nothing of either it looks at its alarm. It is over once the connection has failed and what was lent is written.
     pub fn turn(&mut self, cx: &mut Context<'_>) -> Step
         ensures waits { result ≡ Step.Waits → Covers cx.new (LinkNeeds S.AsyncRead.needs W.AsyncWrite.needs C.asked self.new) }
+        ensures over { result ≡ Step.Over → IsOver W.AsyncWrite.fails W.AsyncWrite.is_full self.new }
         ensures kept { Keeps cx.old cx.new }
     {
         match self.poll_out(cx) {
@@ -97,6 +101,7 @@ impl<R: Clock + AllocGlobal + Drop, S: AsyncRead, W: AsyncWrite, C: Connected> L
     /// Writes what is kept, or else gathers what is queued. Also while the writer takes nothing it hears of new deadlines.
     fn poll_out(&mut self, cx: &mut Context<'_>) -> Step
         ensures waits { result ≡ Step.Waits → Covers cx.new (OutNeeds W.AsyncWrite.needs C.asked self.new) }
+        ensures over { result ≡ Step.Over → IsOver W.AsyncWrite.fails W.AsyncWrite.is_full self.new }
         ensures inlet { (self.new.inlet ≡ self.old.inlet) × (self.new.is_reading ≡ self.old.is_reading) }
         ensures kept { Keeps cx.old cx.new }
     {
@@ -125,6 +130,7 @@ impl<R: Clock + AllocGlobal + Drop, S: AsyncRead, W: AsyncWrite, C: Connected> L
     fn poll_queued(&mut self, cx: &mut Context<'_>) -> Step
         requires { self.old.outlet.kept ≡ [] }
         ensures waits { result ≡ Step.Waits → (self.new.outlet.kept ≡ []) × IsArmed cx.new × Hears cx.new (C.asked (arc_value self.new.shared)) }
+        ensures over { result ≡ Step.Over → self.new.outlet.kept ≡ [] }
         ensures inlet { (self.new.inlet ≡ self.old.inlet) × (self.new.is_reading ≡ self.old.is_reading) }
         ensures kept { Keeps cx.old cx.new }
     {
@@ -152,6 +158,7 @@ impl<R: Clock + AllocGlobal + Drop, S: AsyncRead, W: AsyncWrite, C: Connected> L
     /// Waits for new calls and deadlines, while the writer takes nothing.
     fn poll_asked(&mut self, cx: &mut Context<'_>) -> Step
         ensures waits { result ≡ Step.Waits → IsArmed cx.new × Hears cx.new (C.asked (arc_value self.new.shared)) }
+        ensures goes_on { result ≢ Step.Over }
         ensures rest { (self.new.inlet ≡ self.old.inlet) × (self.new.is_reading ≡ self.old.is_reading) × (self.new.outlet ≡ self.old.outlet) × (self.new.shared ≡ self.old.shared) }
         ensures kept { Keeps cx.old cx.new }
     {
@@ -172,6 +179,7 @@ impl<R: Clock + AllocGlobal + Drop, S: AsyncRead, W: AsyncWrite, C: Connected> L
     /// Reads a piece, and hands it to the core.
     fn poll_in(&mut self, cx: &mut Context<'_>) -> Step
         ensures waits { result ≡ Step.Waits → self.new.is_reading ≡ true → Covers cx.new (S.AsyncRead.needs self.new.inlet.reader) }
+        ensures goes_on { result ≢ Step.Over }
         ensures outlet { (self.new.outlet ≡ self.old.outlet) × (self.new.shared ≡ self.old.shared) × (self.new.alarm ≡ self.old.alarm) }
         ensures kept { Keeps cx.old cx.new }
     {
@@ -195,6 +203,7 @@ impl<R: Clock + AllocGlobal + Drop, S: AsyncRead, W: AsyncWrite, C: Connected> L
     /// Looks at the alarm, where it is set.
     fn poll_alarm(&mut self, cx: &mut Context<'_>) -> Step
         ensures waits { result ≡ Step.Waits → IsSome self.new.alarm.set_for → Covers cx.new (λ s. s ≡ sleep_source self.new.alarm.sleep) }
+        ensures goes_on { result ≢ Step.Over }
         ensures rest { (self.new.inlet ≡ self.old.inlet) × (self.new.is_reading ≡ self.old.is_reading) × (self.new.outlet ≡ self.old.outlet) × (self.new.shared ≡ self.old.shared) }
         ensures kept { Keeps cx.old cx.new }
     {

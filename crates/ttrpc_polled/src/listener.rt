@@ -1,6 +1,6 @@
 //! A listener for TCP that is polled.
 ghost use Rattle.std.specs.Prelude.{◌≡◌, ◌⊎◌, IfErr, IfOk};
-ghost use Rattle.futures.specs.Poll.{OnPending};
+ghost use Rattle.futures.specs.Poll.{IfReady, OnPending};
 ghost use Rattle.futures.specs.Task.{Covers, Keeps};
 ghost use Rattle.tokio.specs.Net.{listener_readable};
 ghost use Rattle.ttrpc_polled.specs.Sockets.{IsNoTcp};
@@ -77,6 +77,7 @@ impl Listener {
     /// Accepts a connection. Pending: the task is woken once there is one. A fault of the system is `Nix`; where no descriptor
     /// is left it comes at once.
     pub fn poll_accept(&mut self, cx: &mut Context<'_>) -> Poll<Result<Socket>>
+        ensures fault { IfReady result (λ accepted. IfErr accepted IsFault) }
         ensures registered { OnPending result (Covers cx.new (λ s. s ≡ listener_readable self.new.listener)) }
         ensures kept { Keeps cx.old cx.new }
         ensures same { self.new ≡ self.old }

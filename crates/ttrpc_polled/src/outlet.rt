@@ -1,9 +1,9 @@
 //! Bytes that a core lent, on their way to a writer.
-ghost use Rattle.std.specs.Prelude.{◌≡◌, ◌≢◌, ◌<◌, ◌++◌, [], List, ℕ, length, IfOk, Ok, true};
+ghost use Rattle.std.specs.Prelude.{◌≡◌, ◌≢◌, ◌<◌, ◌++◌, [], List, ℕ, length, IfOk, Ok, true, false};
 ghost use Rattle.futures.specs.Task.{Covers, Keeps};
 ghost use Rattle.futures.specs.Poll.{OnPending};
 ghost use Rattle.tokio.specs.Io.Moved.{IfReadyErr};
-ghost use Rattle.ttrpc_polled.specs.Passing.{Gathers, Writes};
+ghost use Rattle.ttrpc_polled.specs.Passing.{Gathers, LendsNone, Writes};
 
 use crate::held::Held;
 use crate::piece::Piece;
@@ -39,9 +39,11 @@ impl<W: AsyncWrite> Outlet<W> {
         })
     }
 
-    /// Takes loans, until nothing is lent or enough is kept. Where nothing is kept then, room above that at rest is let go.
+    /// Takes loans, until nothing is lent or enough is kept. Where nothing is kept then, nothing was lent, and room above that at
+    /// rest is let go.
     pub fn gather<H: Held>(&mut self, held: &mut H)
         ensures gathers { (bytes : List ℕ) × Gathers H.lends held.old bytes held.new × (self.new.kept ≡ self.old.kept ++ bytes) }
+        ensures none { self.new.kept ≡ [] → LendsNone H.lends held.new }
         ensures writer { self.new.writer ≡ self.old.writer }
     {
         self.take_loans(held);
@@ -52,6 +54,7 @@ impl<W: AsyncWrite> Outlet<W> {
     #[tactic(auto, using(crate::proofs::Gathering::gathers_more))]
     fn take_loans<H: Held>(&mut self, held: &mut H)
         ensures gathers { (bytes : List ℕ) × Gathers H.lends held.old bytes held.new × (self.new.kept ≡ self.old.kept ++ bytes) }
+        ensures none { self.new.kept ≡ [] → LendsNone H.lends held.new }
         ensures writer { self.new.writer ≡ self.old.writer }
     {
         for _ in 0..LOANS {
@@ -69,6 +72,7 @@ impl<W: AsyncWrite> Outlet<W> {
         ensures writes { Writes W.writes self.old.writer self.old.kept self.new.writer self.new.kept }
         ensures failed { IfReadyErr result (W.fails self.new.writer) }
         ensures registered { OnPending result (Covers cx.new (W.needs self.new.writer)) }
+        ensures full { result ≡ Poll.Ready (Ok false) → self.old.kept ≢ [] → W.is_full self.new.writer }
         ensures some { result ≡ Poll.Ready (Ok true) → length self.new.kept < length self.old.kept }
         ensures others { result ≢ Poll.Ready (Ok true) → self.new.kept ≡ self.old.kept }
         ensures kept { Keeps cx.old cx.new }

@@ -97,7 +97,8 @@ impl Piece {
 
     /// Takes a loan, of a whole frame where there is memory for it, and says of how many bytes.
     pub(crate) fn take_loan<H: Held>(&mut self, held: &mut H) -> usize
-        ensures { TakesLoan H.lends held.old result self.old held.new self.new }
+        ensures loan { TakesLoan H.lends held.old result self.old held.new self.new }
+        ensures count { length self.new ≡ length self.old + result }
     {
         self.make_room(held.lendable());
         let count = lend_at(held, self.bytes.as_mut_slice(), self.to);

@@ -4,7 +4,9 @@ ghost use Rattle.futures.specs.Poll.{OnPending};
 ghost use Rattle.futures.specs.Task.{Covers, Keeps};
 ghost use Rattle.tokio.specs.Io.Moved.{count_moved};
 ghost use Rattle.tokio.specs.Net.{stream_readable, stream_writable};
+ghost use Rattle.ttrpc_polled.specs.Connecting.{IsUnderWay, RefusesAddress};
 ghost use Rattle.ttrpc_polled.specs.Sockets.{IsNoTcp, IsTcp, IsUnsupported};
+ghost use Rattle.ttrpc_transport.specs.Sockets.{IsFault};
 
 use futures::Future;
 use futures::task::{Context, Poll};
@@ -40,7 +42,9 @@ impl Socket {
         handle: &Handle,
         sockaddr: &str,
         nodelay: bool,
-    ) -> SocketConnect {
+    ) -> SocketConnect
+        ensures { RefusesAddress sockaddr.now result.state }
+    {
         match tcp_of(alloc, sockaddr) {
             Ok(address) => Socket::connect_tcp(net, handle, address, nodelay),
             Err(refusal) => SocketConnect {
@@ -56,7 +60,9 @@ impl Socket {
         handle: &Handle,
         address: SocketAddr,
         nodelay: bool,
-    ) -> SocketConnect {
+    ) -> SocketConnect
+        ensures { IsUnderWay result.state }
+    {
         SocketConnect {
             state: Connecting::Connects(TcpStream::connect(net, address, handle)),
             nodelay,
@@ -64,7 +70,9 @@ impl Socket {
     }
 
     /// Its two halves, which are closed once both are dropped. A fault of the system is `Nix`.
-    pub fn into_split(self) -> Result<(OwnedReadHalf, OwnedWriteHalf)> {
+    pub fn into_split(self) -> Result<(OwnedReadHalf, OwnedWriteHalf)>
+        ensures { IfErr result IsFault }
+    {
         match self.stream.into_split() {
             Ok(halves) => Ok(halves),
             Err(error) => Err(Error::Nix(error.kind())),
@@ -150,9 +158,11 @@ pub struct SocketConnect {
 impl Future for SocketConnect {
     type Output = Result<Socket>;
 
-    ghost use Rattle.ttrpc_polled.specs.Connecting.{ConnectingNeeds};
+    ghost use Rattle.ttrpc_polled.specs.Connecting.{ConnectingGives, ConnectingNeeds};
 
     ghost needs = { λ f. ConnectingNeeds f.state };
+
+    ghost gives = { λ f r. ConnectingGives f.state r };
 
     fn poll(&mut self, cx: &mut Context<'_>) -> Poll<Result<Socket>> {
         match replace(&mut self.state, Connecting::Done) {
@@ -172,7 +182,8 @@ impl Future for SocketConnect {
 
 /// The socket of a stream that is connected, whose writes go out at once or not.
 pub(crate) fn ready_stream(stream: TcpStream, nodelay: bool) -> Result<Socket>
-    ensures { IfOk result (λ socket. socket.stream ≡ stream) }
+    ensures ok { IfOk result (λ socket. socket.stream ≡ stream) }
+    ensures err { IfErr result IsFault }
 {
     if nodelay {
         if let Err(error) = stream.set_nodelay(true) {

@@ -1,6 +1,6 @@
 -- What the future of a client's connection does to its core, under the lock.
 -- Source: this project's.
-use Rattle.std.specs.Prelude.{◌≡◌, ℕ, List, [], Bool, Option, Some, None, Result, is_ok, if◌then◌else◌}
+use Rattle.std.specs.Prelude.{◌≡◌, ◌<◌, ◌^◌, ℕ, List, [], Bool, Option, Some, None, Result, IfSome, IfNone, is_ok, if◌then◌else◌}
 use Rattle.std.specs.Result.{result_ok}
 use Rattle.std.specs.declared.io.ErrorKind.{ErrorKind}
 use Rattle.ttrpc_proto.specs.declared.error.Error.{Error}
@@ -11,7 +11,7 @@ use Rattle.ttrpc_connection.specs.declared.failure.Failure.{Failure}
 use Rattle.ttrpc_connection.specs.declared.failure.Failure.TheVariants.{Told}
 use Rattle.ttrpc_connection.specs.OneEnd.{Ends, Lends, Takes, failing, lending, reporting}
 use Rattle.ttrpc_client.specs.declared.client.ClientCore.{ClientCore}
-use Rattle.ttrpc_client.specs.Protocol.{Ticks, calling}
+use Rattle.ttrpc_client.specs.Protocol.{IsDeadline, Ticks, calling, due_ids}
 
 -- the core once it has told of all calls that ended, and of all streams for which something came
 abbrev pub all_told : {O I : Type 0} → ClientCore O I → ClientCore O I
@@ -46,3 +46,8 @@ pub record TicksAndTells {O I : Type 0} (seals : Bool) (old : ClientCore O I) (n
   pub failed : (f : Failure) → old.connection.failure ≡ Some f → ticked ≡ old
   pub alive : old.connection.failure ≡ None → Ticks seals old now ticked
   pub told : new ≡ record ticked { state = record ticked.state { ended = [] } }
+
+-- The least moment at which a tick would make a call expire, or that there is none.
+pub record ExpiresAt {O I : Type 0} (core : ClientCore O I) (at : Option ℕ) : Type 0 where
+  pub some : IfSome at (λ moment. (core.connection.failure ≡ None) × IsDeadline core.state.calls moment)
+  pub none : IfNone at (core.connection.failure ≡ None → (now : ℕ) → now < 2 ^ 64 → due_ids now core.state.calls ≡ [])

@@ -1,3 +1,4 @@
+pub mod Calling
 pub mod Held
 pub mod Making
 pub mod Steps

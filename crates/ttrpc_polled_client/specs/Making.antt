@@ -1,8 +1,12 @@
 -- A client that was made, and the future of its connection.
 -- Source: this project's.
-use Rattle.std.specs.Prelude.{◌≡◌, [], true, None}
+use Rattle.std.specs.Prelude.{◌≡◌, [], true, None, codes}
 use Rattle.std.specs.Arc.{arc_value}
+use Rattle.ttrpc_proto.specs.ErrorText.{IsOthers}
+use Rattle.ttrpc_proto.specs.declared.error.Error.{Error}
+use Rattle.ttrpc_secure.specs.Hooks.{hook_error_text}
 use Rattle.ttrpc_secure.specs.Hooks.Facts.{Facts, facts_of}
+use Rattle.ttrpc_secure.specs.declared.hooks.hook_error.HookError.{HookError}
 use Rattle.ttrpc_polled.specs.declared.link.Link.{Link}
 use Rattle.ttrpc_polled_client.specs.declared.line.ClientLine.{ClientLine}
 use Rattle.ttrpc_polled_client.specs.declared.shared.ClientShared.{ClientShared}
@@ -14,3 +18,7 @@ pub record IsMadeOver {R S W O I : Type 0} (reader : S) (writer : W) (known : Fa
   pub facts : facts_of line.connection_data.entries ≡ known
   pub reads : (link.inlet.reader ≡ reader) × (link.inlet.piece ≡ []) × (link.is_reading ≡ true)
   pub writes : (link.outlet.writer ≡ writer) × (link.outlet.kept ≡ []) × (link.alarm.set_for ≡ None)
+
+-- the hook refused the connection, for a reason that it gives
+abbrev pub IsRefusedByHook : (HookError → Type 0) → Error → Type 0
+IsRefusedByHook gives e = (why : HookError) × gives why × IsOthers (codes "client connect hook failed: ") (hook_error_text why) e

@@ -1,13 +1,19 @@
 -- What a step of a client's call does to the core that it is lent.
 -- Source: this project's.
-use Rattle.std.specs.Prelude.{◌≡◌, ℕ, Bool, true, false, Option, Some, None, Result, Ok, Err}
+use Rattle.std.specs.Prelude.{◌≡◌, ℕ, [], Bool, true, false, Option, Some, None, Result, Ok, Err}
 use Rattle.ttrpc_proto.specs.declared.error.Error.{Error}
 use Rattle.ttrpc_proto.specs.declared.error.Error.TheVariants.{LocalClosed}
 use Rattle.ttrpc_proto.specs.declared.request.Request.{Request}
 use Rattle.ttrpc_proto.specs.declared.response.Response.{Response}
 use Rattle.ttrpc_secure.specs.declared.transform.OutboundTransform.{Ghosts as OutboundTransform}
+use Rattle.ttrpc_connection.specs.Failure.{TellsSent}
+use Rattle.ttrpc_connection.specs.Items.{close_flags}
+use Rattle.ttrpc_connection.specs.Outbox.{is_sent}
 use Rattle.ttrpc_client.specs.declared.client.ClientCore.{ClientCore}
-use Rattle.ttrpc_client.specs.Protocol.{OpensStream, RefusesRequest, RefusesStream, Requests, TakesOutcome}
+use Rattle.ttrpc_client.specs.declared.streams.Sender.TheVariants as sender
+use Rattle.ttrpc_client.specs.Protocol.{OpensStream, RefusesRequest, RefusesSending, RefusesStream, Requests, SendsOn, TakesOutcome}
+use Rattle.ttrpc_polled_streams.specs.Steps as streams
+use Rattle.ttrpc_polled_streams.specs.declared.sending.Sending.{Sending}
 use Rattle.ttrpc_polled_client.specs.declared.asked.Asked.{Asked}
 use Rattle.ttrpc_polled_client.specs.declared.asked.Asked.TheVariants.{Asks, Waits, Refused, Done}
 
@@ -61,3 +67,15 @@ IsStep out old (Asks request now) given after new = Begins out old request now g
 IsStep out old (Waits id) given after new = Takes old id given after new
 IsStep out old (Refused e) given after new = IsOver e old given after new
 IsStep out old Done given after new = IsOver LocalClosed old given after new
+
+-- ---- a step of a call on a stream
+
+-- the one core call was made that a call on the stream of this id names
+abbrev pub IsSending : {O I : Type 0} → OutboundTransform O → ℕ → ClientCore O I → Sending → Option (Result (Unit {0}) Error) → Sending → ClientCore O I → Type 0
+IsSending out id old sending told after new = streams.IsStep
+    (λ o k item ticket n. SendsOn out o k 0 item sender.Open ticket n)
+    (λ o k item e. RefusesSending out o k 0 item e)
+    (λ o k ticket n. SendsOn out o k close_flags [] sender.Closed ticket n)
+    (λ o k e. RefusesSending out o k close_flags [] e)
+    (λ o ticket answer. TellsSent (is_sent o.connection.outbox.queue ticket) o.connection.failure answer)
+    id old sending told after new

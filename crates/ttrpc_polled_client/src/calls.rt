@@ -1,9 +1,11 @@
 //! Calls and streams whose values are messages.
-ghost use Rattle.std.specs.Prelude.{◌≡◌, IfErr, IfOk};
+ghost use Rattle.std.specs.Prelude.{◌≡◌, [], IfErr, IfOk};
 ghost use Rattle.std.specs.Arc.{arc_value};
 ghost use Rattle.futures.specs.Poll.{IfReady, OnPending};
 ghost use Rattle.futures.specs.Task.{Covers, Keeps};
+ghost use Rattle.ttrpc_proto.specs.declared.error.Error.{Error as AnError};
 ghost use Rattle.ttrpc_polled_streams.specs.Items.{GivesItemOrEnd};
+ghost use Rattle.ttrpc_polled_client.specs.Calling.{IsCalling, IsNotCalled, asks_for};
 ghost use Rattle.ttrpc_polled_client.specs.Needs.{line_source};
 ghost use Rattle.ttrpc_polled_streams.specs.Needs.{receiver_source};
 
@@ -62,6 +64,8 @@ where
     Q: Codec,
     Q::E: Display + Drop,
     P: Drop,
+    ensures { IsCalling (arc_value client.now.line) (asks_for service.now method.now context (Q.written message.now)) reply
+        (IsNotCalled Q.E.is_no_memory Q.E.output (Q.written message.now)) result.at }
 {
     let alloc = client.alloc();
     let made = match request_of(alloc, service, method, context, message) {
@@ -84,9 +88,12 @@ where
 {
     type Output = Result<P>;
 
+    ghost use Rattle.ttrpc_polled_client.specs.Calling.{CallGives};
     ghost use Rattle.ttrpc_polled_client.specs.Needs.{calling_needs};
 
     ghost needs = { λ call. calling_needs call.at };
+
+    ghost gives = { λ call r. CallGives P.written P.meaning call.at r };
 
     fn poll(&mut self, cx: &mut Context<'_>) -> Poll<Result<P>> {
         match replace(&mut self.at, Calling::Done) {
@@ -301,12 +308,10 @@ where
 }
 
 /// The request that opens a stream, without a payload.
-fn bare_request(
-    alloc: Global,
-    service: &str,
-    stream: &str,
-    context: CallContext,
-) -> Result<Request> {
+fn bare_request(alloc: Global, service: &str, stream: &str, context: CallContext) -> Result<Request>
+    ensures ok { IfOk result (λ request. request ≡ asks_for service.now stream.now context []) }
+    ensures only_memory { IfErr result (λ e. e ≡ AnError.NoMemory) }
+{
     let CallContext {
         metadata,
         timeout_nano,

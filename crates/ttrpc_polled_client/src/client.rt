@@ -1,9 +1,10 @@
 //! The client.
-ghost use Rattle.std.specs.Prelude.{◌≡◌, ℕ, IfErr, IfOk, IsSomeAnd};
+ghost use Rattle.std.specs.Prelude.{◌≡◌, ◌⊎◌, ℕ, Err, IfErr, IfOk, IsSomeAnd};
 ghost use Rattle.std.specs.Arc.{arc_value};
 ghost use Rattle.ttrpc_proto.specs.declared.error.Error.{Error as AnError};
 ghost use Rattle.ttrpc_secure.specs.Hooks.Facts.{facts_of};
-ghost use Rattle.ttrpc_polled_client.specs.Making.{IsMadeOver};
+ghost use Rattle.ttrpc_polled.specs.Sockets.{IsNotMade};
+ghost use Rattle.ttrpc_polled_client.specs.Making.{IsMadeOver, IsRefusedByHook};
 
 use crate::asked::Asked;
 use crate::connect::{ClientConnect, Spawns};
@@ -41,7 +42,9 @@ impl<R: Timed> Client<R, Plain, Plain> {
         rt: R,
         handle: &Handle,
         socket: Socket,
-    ) -> Result<(Client<R, Plain, Plain>, TcpConnection<R, Plain, Plain>)> {
+    ) -> Result<(Client<R, Plain, Plain>, TcpConnection<R, Plain, Plain>)>
+        ensures { IfErr result IsNotMade }
+    {
         let alloc = rt.alloc();
         let output = HookOutput::of_halves(alloc, Plain {}, Plain {});
         let (reader, writer) = socket.into_split()?;
@@ -70,6 +73,7 @@ impl<R: Timed> Client<R, Plain, Plain> {
     ) -> Result<ClientConnect<R>>
     where
         R: Net,
+        ensures { IfErr result (λ e. e ≡ AnError.NoMemory) }
     {
         let connecting = Socket::connect(&rt, rt.alloc(), handle.reactor(), sockaddr, nodelay);
         ClientConnect::new(rt, handle, connecting)
@@ -87,6 +91,7 @@ impl<R: Timed, O: OutboundTransform + Drop, I: InboundTransform + Drop> Client<R
     ) -> Result<(Client<R, O, I>, TcpConnection<R, O, I>)>
     where
         H: ConnectHook<Socket, Outbound = O, Inbound = I>,
+        ensures { IfErr result (λ e. IsRefusedByHook (λ why. H.gives hook.now socket (Err why)) e ⊎ IsNotMade e) }
     {
         let alloc = rt.alloc();
         let output = match hook.on_connect(alloc, &socket) {
@@ -105,7 +110,8 @@ impl<R: Timed, O: OutboundTransform + Drop, I: InboundTransform + Drop> Client<R
         writer: W,
         output: HookOutput<O, I>,
     ) -> Result<(Client<R, O, I>, ClientConnection<R, S, W, O, I>)>
-        ensures { IfOk result (λ made. IsMadeOver reader writer (facts_of output.connection_data.entries) (arc_value made.0.line) made.1.link) }
+        ensures ok { IfOk result (λ made. IsMadeOver reader writer (facts_of output.connection_data.entries) (arc_value made.0.line) made.1.link) }
+        ensures err { IfErr result IsNotMade }
     {
         let alloc = rt.alloc();
         let HookOutput {
@@ -161,7 +167,8 @@ impl<R: Timed, O: OutboundTransform + Drop, I: InboundTransform + Drop> Client<R
     /// whose code isn't 0 (`RpcStatus`), a refusal of the request, its deadline (`Others`), or what broke the connection. The
     /// request's `timeout_nano`, in nanoseconds, is counted from here on; 0 is no limit.
     pub fn request(&self, req: Request) -> Result<ClientRequest<O, I>>
-        ensures { IfOk result (λ call. (arc_value call.line ≡ arc_value self.now.line) × ((now : ℕ) × (call.asked ≡ Asked.Asks req now))) }
+        ensures ok { IfOk result (λ call. (arc_value call.line ≡ arc_value self.now.line) × ((now : ℕ) × (call.asked ≡ Asked.Asks req now))) }
+        ensures err { IfErr result IsNotMade }
     {
         let now = moment(&self.rt)?;
         let line = Arc::try_clone(&self.line)?;
@@ -176,9 +183,10 @@ impl<R: Timed, O: OutboundTransform + Drop, I: InboundTransform + Drop> Client<R
         streaming_client: bool,
         streaming_server: bool,
     ) -> Result<ClientNewStream<O, I>>
-        ensures { IfOk result (λ stream. IsSomeAnd stream.prepared (λ p.
+        ensures ok { IfOk result (λ stream. IsSomeAnd stream.prepared (λ p.
             (p.opening ≡ record { request = req; streaming_client = streaming_client; streaming_server = streaming_server })
             × (arc_value p.sends ≡ arc_value self.now.line) × (arc_value p.receives ≡ arc_value self.now.line))) }
+        ensures err { IfErr result (λ e. e ≡ AnError.NoMemory) }
     {
         let prepared = Prepared {
             opening: Opening {

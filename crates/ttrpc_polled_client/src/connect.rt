@@ -1,6 +1,7 @@
 //! A client that connects, and connections that a set of tasks polls.
 ghost use Rattle.std.specs.Prelude.{◌≡◌, IfErr, IfOk};
 ghost use Rattle.std.specs.Arc.{arc_value};
+ghost use Rattle.ttrpc_proto.specs.declared.error.Error.{Error as AnError};
 
 use crate::client::Client;
 use crate::connection::TcpConnection;
@@ -24,7 +25,8 @@ pub struct ClientConnect<R: Timed> {
 impl<R: Timed> ClientConnect<R> {
     /// Over the socket that is being connected.
     pub(crate) fn new(rt: R, handle: &Handle, connecting: SocketConnect) -> Result<Self>
-        ensures { IfOk result (λ connect. connect.connecting ≡ connecting) }
+        ensures ok { IfOk result (λ connect. connect.connecting ≡ connecting) }
+        ensures err { IfErr result (λ e. e ≡ AnError.NoMemory) }
     {
         Ok(ClientConnect {
             rt,

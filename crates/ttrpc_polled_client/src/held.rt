@@ -5,8 +5,10 @@ ghost use Rattle.futures.specs.Task.{Covers, Keeps};
 ghost use Rattle.ttrpc_proto.specs.declared.error.Error.{Error as AnError};
 ghost use Rattle.ttrpc_connection.specs.OneEnd.{failing};
 ghost use Rattle.ttrpc_connection.specs.declared.failure.Failure.{Failure as AFailure};
-ghost use Rattle.ttrpc_client.specs.Protocol.{DropsReceiver, Forgets};
-ghost use Rattle.ttrpc_polled_client.specs.Steps.{Opens};
+ghost use Rattle.ttrpc_client.specs.Protocol.{DropsReceiver, Forgets, ReceivesOne};
+ghost use Rattle.ttrpc_polled_streams.specs.Polling.{Polls, answer_of};
+ghost use Rattle.ttrpc_polled_streams.specs.Steps.{is_new as is_unsent};
+ghost use Rattle.ttrpc_polled_client.specs.Steps.{IsSending, IsStep, Opens, is_new};
 
 use crate::asked::Asked;
 use crate::opening::Opening;
@@ -52,6 +54,7 @@ impl<O: OutboundTransform + Drop, I: InboundTransform + Drop> ClientHeld<O, I> {
         came: &Source,
         cx: &mut Context<'_>,
     ) -> Poll<Result<Response>>
+        ensures polls { Polls is_new (IsStep O.OutboundTransform) self.old.core asked.old result asked.new self.new.core }
         ensures registered { OnPending result (Covers cx.new (λ s. s ≡ came.now.id)) }
         ensures kept { Keeps cx.old cx.new }
     {
@@ -84,6 +87,7 @@ impl<O: OutboundTransform + Drop, I: InboundTransform + Drop> ClientHeld<O, I> {
         came: &Source,
         cx: &mut Context<'_>,
     ) -> Poll<Result<()>>
+        ensures polls { Polls is_unsent (IsSending O.OutboundTransform id) self.old.core sending.old result sending.new self.new.core }
         ensures registered { OnPending result (Covers cx.new (λ s. s ≡ came.now.id)) }
         ensures kept { Keeps cx.old cx.new }
     {
@@ -99,6 +103,7 @@ impl<O: OutboundTransform + Drop, I: InboundTransform + Drop> ClientHeld<O, I> {
         came: &Source,
         cx: &mut Context<'_>,
     ) -> Poll<Result<Blob>>
+        ensures receives { ReceivesOne self.old.core id (answer_of result) self.new.core }
         ensures registered { OnPending result (Covers cx.new (λ s. s ≡ came.now.id)) }
         ensures kept { Keeps cx.old cx.new }
     {
@@ -167,9 +172,9 @@ impl<O: OutboundTransform + Drop, I: InboundTransform + Drop> ClientHeld<O, I> {
 }
 
 impl<O: OutboundTransform + Drop, I: InboundTransform + Drop> Held for ClientHeld<O, I> {
-    ghost use Rattle.std.specs.Prelude.{◌≡◌};
+    ghost use Rattle.std.specs.Prelude.{◌≡◌, is_some};
     ghost use Rattle.ttrpc_connection.specs.OneEnd.{lendable};
-    ghost use Rattle.ttrpc_polled_client.specs.Held.{EndsInput, LendsAndReports, TakesPiece, TicksAndTells, broken};
+    ghost use Rattle.ttrpc_polled_client.specs.Held.{EndsInput, ExpiresAt, LendsAndReports, TakesPiece, TicksAndTells, broken};
 
     ghost takes = { λ old piece _ count new. TakesPiece O.OutboundTransform I.InboundTransform old.core piece count new.core };
 
@@ -182,6 +187,10 @@ impl<O: OutboundTransform + Drop, I: InboundTransform + Drop> Held for ClientHel
     ghost lendable = { λ held. lendable held.core.connection };
 
     ghost ticks = { λ old now new. TicksAndTells O.SEALS old.core now new.core };
+
+    ghost expires = { λ held at. ExpiresAt held.core at };
+
+    ghost failed = { λ held. is_some held.core.connection.failure };
 
     fn take(&mut self, alloc: Global, piece: &[u8], _now: u64) -> Option<usize> {
         let Ok(count) = take_on(&mut self.core, alloc, piece) else {

@@ -1,6 +1,6 @@
 -- What the future of a server's connection does to its core, under the lock.
 -- Source: this project's.
-use Rattle.std.specs.Prelude.{◌≡◌, ℕ, List, [], Option, Result, is_ok, if◌then◌else◌}
+use Rattle.std.specs.Prelude.{◌≡◌, ◌<◌, ◌^◌, ℕ, List, [], Option, None, Result, IfSome, IfNone, is_ok, if◌then◌else◌}
 use Rattle.std.specs.Result.{result_ok}
 use Rattle.std.specs.declared.io.ErrorKind.{ErrorKind}
 use Rattle.ttrpc_proto.specs.declared.error.Error.{Error}
@@ -9,8 +9,9 @@ use Rattle.ttrpc_secure.specs.declared.transform.InboundTransform.{Ghosts as Inb
 use Rattle.ttrpc_secure.specs.declared.transform.OutboundTransform.{Ghosts as OutboundTransform}
 use Rattle.ttrpc_connection.specs.declared.failure.Failure.TheVariants.{Told}
 use Rattle.ttrpc_connection.specs.OneEnd.{Lends, TakesOrDrains, failing, lending, reporting}
+use Rattle.ttrpc_server.specs.declared.rules.Rules.TheVariants.{Async}
 use Rattle.ttrpc_server.specs.declared.server.ServerCore.{ServerCore}
-use Rattle.ttrpc_server.specs.Protocol.{Passes, serving}
+use Rattle.ttrpc_server.specs.Protocol.{IsDeadline, Passes, due_jobs, serving}
 
 -- the core once it has told of all streams for which something came
 abbrev pub all_told : {O I : Type 0} → ServerCore O I → ServerCore O I
@@ -39,3 +40,8 @@ pub record TicksAndTells {O I : Type 0} (seals : OutboundTransform O) (old : Ser
   pub ticked : ServerCore O I
   pub passes : Passes seals old.state.rules old.connection.failure old now ticked
   pub told : new ≡ record ticked { state = record ticked.state { expired = [] } }
+
+-- The least moment at which a tick would make a job expire, or that there is none.
+pub record ExpiresAt {O I : Type 0} (core : ServerCore O I) (at : Option ℕ) : Type 0 where
+  pub some : IfSome at (λ moment. (core.connection.failure ≡ None) × (core.state.rules ≡ Async) × IsDeadline core.state.jobs.list moment)
+  pub none : IfNone at (core.connection.failure ≡ None → core.state.rules ≡ Async → (now : ℕ) → now < 2 ^ 64 → due_jobs now core.state.jobs.list ≡ [])

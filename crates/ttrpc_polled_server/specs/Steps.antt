@@ -1,12 +1,20 @@
 -- What is done to a server's core as a handler ends.
 -- Source: this project's.
-use Rattle.std.specs.Prelude.{◌≡◌, ℕ, Result, Ok, Err, IfErr, OnErr, OnOk}
+use Rattle.std.specs.Prelude.{◌≡◌, ◌⊎◌, ℕ, codes, Option, Result, Ok, Err, IfErr, OnErr, OnOk}
 use Rattle.ttrpc_proto.specs.declared.error.Error.{Error}
+use Rattle.ttrpc_proto.specs.declared.error.Error.TheVariants.{Others}
 use Rattle.ttrpc_proto.specs.declared.response.Response.{Response}
 use Rattle.ttrpc_secure.specs.declared.transform.OutboundTransform.{Ghosts as OutboundTransform}
+use Rattle.ttrpc_connection.specs.Failure.{IsTold, TellsSent}
+use Rattle.ttrpc_connection.specs.OneEnd.{failing}
+use Rattle.ttrpc_connection.specs.Outbox.{is_sent}
+use Rattle.ttrpc_connection.specs.declared.failure.Failure.TheVariants.{Told}
 use Rattle.ttrpc_server.specs.declared.server.ServerCore.{ServerCore}
 use Rattle.ttrpc_server.specs.Protocol.{Answers as AnswersIt, AnswersError, RefusesAnswer}
-use Rattle.ttrpc_server.specs.Streaming.{EndsStream, RefusesEnd}
+use Rattle.ttrpc_server.specs.State.{IsUnknown}
+use Rattle.ttrpc_server.specs.Streaming.{EndsStream, RefusesEnd, RefusesItem, SendsItem}
+use Rattle.ttrpc_polled_streams.specs.Steps as streams
+use Rattle.ttrpc_polled_streams.specs.declared.sending.Sending.{Sending}
 use Rattle.ttrpc_polled_server.specs.declared.ended.Ended.{Ended}
 use Rattle.ttrpc_polled_server.specs.declared.ended.Ended.TheVariants.{Answers, Ends, Expired}
 
@@ -24,3 +32,33 @@ IsEnded out old id (Ends given) (Ok _) new = EndsStream out old id given new
 IsEnded out old id (Ends given) (Err e) new = (new ≡ old) × RefusesEnd out old id given e
 IsEnded out old id Expired (Ok _) new = new ≡ old
 IsEnded out old id Expired (Err e) new = ⊥
+
+-- the same handler's end, by an error in the place of what it gave
+abbrev pub failed_by : Ended → Error → Ended
+failed_by (Answers given) e = Answers (Err e)
+failed_by (Ends given) e = Ends (Err e)
+failed_by Expired e = Expired
+
+-- The end of a handler was refused for this. Then its job is over, and nothing changed; or the client is told why by a status; or
+-- that is refused, too, and for this the connection fails.
+abbrev pub FailsFor : {O I : Type 0} → OutboundTransform O → ServerCore O I → ℕ → Ended → Error → ServerCore O I → Type 0
+FailsFor out old id ended refusal new =
+    (IsUnknown old.state.jobs.list id × (new ≡ old))
+    ⊎ IsEnded out old id (failed_by ended refusal) (Ok tt) new
+    ⊎ ((last : Error) × IsEnded out old id (failed_by ended refusal) (Err last) old × (new ≡ record old { connection = failing old.connection (Told last) }))
+
+-- It was told to the core how the handler of a job ended, or what refused that.
+abbrev pub EndsJob : {O I : Type 0} → OutboundTransform O → ServerCore O I → ℕ → Ended → ServerCore O I → Type 0
+EndsJob out old id ended new =
+    IsEnded out old id ended (Ok tt) new
+    ⊎ ((refusal : Error) × IsEnded out old id ended (Err refusal) old × FailsFor out old id ended refusal new)
+
+-- the one core call was made that a call on the stream of this job names
+abbrev pub IsSending : {O I : Type 0} → OutboundTransform O → ℕ → ServerCore O I → Sending → Option (Result (Unit {0}) Error) → Sending → ServerCore O I → Type 0
+IsSending out id old sending told after new = streams.IsStep
+    (λ o k item ticket n. SendsItem out o k item ticket n)
+    (λ o k item e. RefusesItem out o k item e)
+    (λ o k ticket n. ⊥)
+    (λ o k e. IsTold (Others (codes "a server closes a stream by ending it")) e)
+    (λ o ticket answer. TellsSent (is_sent o.connection.outbox.queue ticket) o.connection.failure answer)
+    id old sending told after new

@@ -1,6 +1,6 @@
 //! How a handler ended.
 ghost use Rattle.std.specs.Prelude.{◌≡◌};
-ghost use Rattle.ttrpc_polled_server.specs.Steps.{IsEnded};
+ghost use Rattle.ttrpc_polled_server.specs.Steps.{IsEnded, failed_by};
 
 use std::alloc::Global;
 use ttrpc_proto::{Error, Response, Result};
@@ -36,7 +36,9 @@ impl Ended {
     }
 
     /// The same handler's end, by an error in the place of what it gave.
-    pub fn failed(&self, error: Error) -> Ended {
+    pub fn failed(&self, error: Error) -> Ended
+        ensures { result ≡ failed_by self.now error }
+    {
         match self {
             Ended::Answers(_) => Ended::Answers(Err(error)),
             Ended::Ends(_) => Ended::Ends(Err(error)),

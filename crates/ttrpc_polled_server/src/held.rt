@@ -1,11 +1,16 @@
 //! What stands under the lock of a server's connection.
 ghost use Rattle.std.specs.Prelude.{◌≡◌, [], true};
-ghost use Rattle.futures.specs.Poll.{OnPending};
+ghost use Rattle.futures.specs.Poll.{IfReady, OnPending};
 ghost use Rattle.futures.specs.Task.{Covers, Keeps};
 ghost use Rattle.ttrpc_proto.specs.declared.error.Error.{Error as AnError};
-ghost use Rattle.ttrpc_connection.specs.OneEnd.{failing};
+ghost use Rattle.ttrpc_connection.specs.OneEnd.{Ends, failing};
+ghost use Rattle.ttrpc_frame.specs.Queue.{unsent};
 ghost use Rattle.ttrpc_connection.specs.declared.failure.Failure.{Failure as AFailure};
-ghost use Rattle.ttrpc_server.specs.Streaming.{unheard};
+ghost use Rattle.ttrpc_server.specs.State.{IsUnknown};
+ghost use Rattle.ttrpc_server.specs.Streaming.{ReceivesOne, unheard};
+ghost use Rattle.ttrpc_polled_streams.specs.Polling.{Polls, answer_of};
+ghost use Rattle.ttrpc_polled_streams.specs.Steps.{is_new as is_unsent};
+ghost use Rattle.ttrpc_polled_server.specs.Steps.{EndsJob, IsSending};
 
 use crate::ended::Ended;
 use futures::task::{Context, Poll, Source, Waker};
@@ -47,7 +52,9 @@ impl<O: OutboundTransform + Drop, I: InboundTransform + Drop> ServerHeld<O, I> {
 
     /// Tells the core how the handler of a job ended. Where what it gave can't be sent, the client is told why by a status,
     /// and where that can't be sent either the connection fails, so that the client doesn't wait for ever.
-    pub fn end(&mut self, id: JobId, ended: &Ended) {
+    pub fn end(&mut self, id: JobId, ended: &Ended)
+        ensures { EndsJob O.OutboundTransform self.old.core id ended.now self.new.core }
+    {
         let Err(refusal) = ended.step(self.alloc, &mut self.core, id) else {
             return;
         };
@@ -64,6 +71,8 @@ impl<O: OutboundTransform + Drop, I: InboundTransform + Drop> ServerHeld<O, I> {
 
     /// Waits until the job of this number has expired.
     pub fn poll_expired(&mut self, id: JobId, came: &Source, cx: &mut Context<'_>) -> Poll<()>
+        ensures over { IfReady result (λ _. IsUnknown self.old.core.state.jobs.list id) }
+        ensures same { self.new.core ≡ self.old.core }
         ensures registered { OnPending result (Covers cx.new (λ s. s ≡ came.now.id)) }
         ensures kept { Keeps cx.old cx.new }
     {
@@ -81,6 +90,7 @@ impl<O: OutboundTransform + Drop, I: InboundTransform + Drop> ServerHeld<O, I> {
         came: &Source,
         cx: &mut Context<'_>,
     ) -> Poll<Result<()>>
+        ensures polls { Polls is_unsent (IsSending O.OutboundTransform id) self.old.core sending.old result sending.new self.new.core }
         ensures registered { OnPending result (Covers cx.new (λ s. s ≡ came.now.id)) }
         ensures kept { Keeps cx.old cx.new }
     {
@@ -96,6 +106,7 @@ impl<O: OutboundTransform + Drop, I: InboundTransform + Drop> ServerHeld<O, I> {
         came: &Source,
         cx: &mut Context<'_>,
     ) -> Poll<Result<Blob>>
+        ensures receives { ReceivesOne self.old.core id (answer_of result) self.new.core }
         ensures registered { OnPending result (Covers cx.new (λ s. s ≡ came.now.id)) }
         ensures kept { Keeps cx.old cx.new }
     {
@@ -113,12 +124,17 @@ impl<O: OutboundTransform + Drop, I: InboundTransform + Drop> ServerHeld<O, I> {
 
     /// Whether the input has ended and nothing more comes of what it brought: everything was written, and each of so many
     /// handlers waits for an item that won't come.
-    pub fn is_answered(&self, running: usize) -> bool {
+    pub fn is_answered(&self, running: usize) -> bool
+        ensures { result ≡ true → (self.now.input_ended ≡ true) × (unsent self.now.core.connection.outbox.queue ≡ []) }
+    {
         self.input_ended && !self.core.has_unsent() && running <= self.streams.receivers()
     }
 
     /// Tells the core that the input ended, once nothing more comes of what it brought.
-    pub fn finish_input(&mut self) {
+    pub fn finish_input(&mut self)
+        ensures ends { Ends self.old.core.connection self.new.core.connection }
+        ensures same { self.new.core ≡ record self.old.core { connection = self.new.core.connection } }
+    {
         ended_on(&mut self.core);
         self.wake_all();
     }
@@ -167,9 +183,9 @@ impl<O: OutboundTransform + Drop, I: InboundTransform + Drop> ServerHeld<O, I> {
 }
 
 impl<O: OutboundTransform + Drop, I: InboundTransform + Drop> Held for ServerHeld<O, I> {
-    ghost use Rattle.std.specs.Prelude.{◌≡◌, true};
+    ghost use Rattle.std.specs.Prelude.{◌≡◌, true, is_some};
     ghost use Rattle.ttrpc_connection.specs.OneEnd.{lendable};
-    ghost use Rattle.ttrpc_polled_server.specs.Held.{LendsAndReports, TakesPiece, TicksAndTells, broken};
+    ghost use Rattle.ttrpc_polled_server.specs.Held.{ExpiresAt, LendsAndReports, TakesPiece, TicksAndTells, broken};
 
     ghost takes = { λ old piece now count new. TakesPiece O.OutboundTransform I.InboundTransform old.core piece now count new.core };
 
@@ -183,6 +199,10 @@ impl<O: OutboundTransform + Drop, I: InboundTransform + Drop> Held for ServerHel
     ghost lendable = { λ held. lendable held.core.connection };
 
     ghost ticks = { λ old now new. TicksAndTells O.OutboundTransform old.core now new.core };
+
+    ghost expires = { λ held at. ExpiresAt held.core at };
+
+    ghost failed = { λ held. is_some held.core.connection.failure };
 
     fn take(&mut self, alloc: Global, piece: &[u8], now: u64) -> Option<usize> {
         let Ok(count) = take_on(&mut self.core, alloc, piece, now) else {

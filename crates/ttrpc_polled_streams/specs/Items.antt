@@ -1,9 +1,11 @@
 -- The messages of typed streams: what is sent for one, and what is told of one that is received.
 -- Source: the Rust crate, for the texts.
-use Rattle.std.specs.Prelude.{◌≡◌, ◌≢◌, ℕ, List, [], codes, Option, Some, None, Result, Ok, Err}
+use Rattle.std.specs.Prelude.{◌≡◌, ◌≢◌, ℕ, List, [], codes, Option, Some, None, Result, Ok, Err, IfOk}
 use Rattle.ttrpc_proto.specs.declared.error.Error.{Error}
-use Rattle.ttrpc_proto.specs.declared.error.Error.TheVariants.{NoMemory}
+use Rattle.ttrpc_proto.specs.declared.error.Error.TheVariants.{LocalClosed, NoMemory}
 use Rattle.ttrpc_message.specs.Calls.{IsUnwritten, TellsCause, TellsItem, TellsItemOrEnd}
+use Rattle.ttrpc_polled_streams.specs.declared.inner.StreamInner.{StreamInner}
+use Rattle.ttrpc_polled_streams.specs.declared.items.SSSender.{SSSender}
 use Rattle.ttrpc_polled_streams.specs.declared.sending.Sending.{Sending}
 use Rattle.ttrpc_polled_streams.specs.declared.sending.Sending.TheVariants.{Sends, Closes, Waits, Refused, Done}
 
@@ -27,3 +29,8 @@ GivesItemOrEnd meaning is_no_memory output told = (given : Result (List ℕ) Err
 abbrev pub TellsRequest : {M E : Type 0} → (List ℕ → Option M) → (E → Type 0) → (E → Option (List ℕ)) → List ℕ → Result M Error → Type 0
 TellsRequest meaning is_no_memory output bytes (Ok m) = meaning bytes ≡ Some m
 TellsRequest meaning is_no_memory output bytes (Err e) = (e ≢ NoMemory → meaning bytes ≡ None) × TellsCause [] is_no_memory output e
+
+-- of a stream that begins with a request there are its value and the half to send by; once it was given, it is closed
+abbrev pub OpeningGives : {L I Q P : Type 0} → (List ℕ → Option Q) → Option (StreamInner L I) → Result (Q × SSSender P L I) Error → Type 0
+OpeningGives meaning (Some stream) r = IfOk r (λ opened. ((bytes : List ℕ) × (meaning bytes ≡ Some opened.0)) × (opened.1.tx ≡ stream.sender))
+OpeningGives meaning None r = r ≡ Err LocalClosed

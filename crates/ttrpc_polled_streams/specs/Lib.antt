@@ -3,3 +3,4 @@ pub mod Handling
 pub mod Items
 pub mod Needs
 pub mod Steps
+pub mod Polling

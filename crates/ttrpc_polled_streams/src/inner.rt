@@ -5,6 +5,7 @@ ghost use Rattle.futures.specs.Poll.{OnPending};
 ghost use Rattle.futures.specs.Task.{Covers, Keeps};
 ghost use Rattle.ttrpc_proto.specs.declared.error.Error.{Error as AnError};
 ghost use Rattle.ttrpc_polled_streams.specs.Needs.{receiver_source};
+ghost use Rattle.ttrpc_polled_streams.specs.declared.sending.Sending.{Sending};
 
 use crate::line::StreamLine;
 use crate::receiver::{StreamReceiver, StreamReceiverRecv};
@@ -57,12 +58,16 @@ impl<L: StreamLine> StreamInner<L> {
     }
 
     /// Sends an item. Ready once its frame has left the core, or with why it doesn't.
-    pub fn send(&self, item: Vec<u8>) -> StreamSenderSend<'_, L> {
+    pub fn send(&self, item: Vec<u8>) -> StreamSenderSend<'_, L>
+        ensures { (result.sender.now ≡ self.now.sender) × (result.sending ≡ Sending.Sends item.items) }
+    {
         self.sender.send(item)
     }
 
     /// Says that no more items are sent. Ready once that has left the core, or with why it doesn't.
-    pub fn close_send(&self) -> StreamSenderCloseSend<'_, L> {
+    pub fn close_send(&self) -> StreamSenderCloseSend<'_, L>
+        ensures { (result.sender.now ≡ self.now.sender) × (result.sending ≡ Sending.Closes) }
+    {
         self.sender.close_send()
     }
 

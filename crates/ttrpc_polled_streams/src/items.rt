@@ -62,7 +62,9 @@ where
     }
 
     /// Says that no more messages are sent.
-    pub fn close_send(&self) -> StreamSenderCloseSend<'_, L> {
+    pub fn close_send(&self) -> StreamSenderCloseSend<'_, L>
+        ensures { (result.sender.now ≡ self.now.tx) × (result.sending ≡ Sending.Closes) }
+    {
         self.tx.close_send()
     }
 

@@ -2,6 +2,8 @@
 ghost use Rattle.std.specs.Prelude.{◌≡◌};
 ghost use Rattle.futures.specs.Poll.{OnPending};
 ghost use Rattle.futures.specs.Task.{Covers, Keeps};
+ghost use Rattle.ttrpc_polled_streams.specs.Polling.{Polls, answer_of};
+ghost use Rattle.ttrpc_polled_streams.specs.Steps.{IsStep, is_new};
 
 use crate::sending::Sending;
 use futures::task::{Context, Poll, Source};
@@ -118,6 +120,7 @@ impl<K: Ord + Copy + Drop> StreamWakers<K> {
         came: &Source,
         cx: &mut Context<'_>,
     ) -> Poll<Result<()>>
+        ensures polls { Polls is_new (IsStep C.sends C.refuses C.closes C.refuses_close C.tells_sent id) core.old sending.old result sending.new core.new }
         ensures registered { OnPending result (Covers cx.new (λ s. s ≡ came.now.id)) }
         ensures kept { Keeps cx.old cx.new }
     {
@@ -144,6 +147,7 @@ impl<K: Ord + Copy + Drop> StreamWakers<K> {
         came: &Source,
         cx: &mut Context<'_>,
     ) -> Poll<Result<Blob>>
+        ensures receives { C.receives core.old id (answer_of result) core.new }
         ensures registered { OnPending result (Covers cx.new (λ s. s ≡ came.now.id)) }
         ensures kept { Keeps cx.old cx.new }
     {

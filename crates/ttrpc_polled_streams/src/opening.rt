@@ -48,9 +48,12 @@ where
 {
     type Output = Result<(Q, ServerStreamSender<P, L>)>;
 
+    ghost use Rattle.ttrpc_polled_streams.specs.Items.{OpeningGives};
     ghost use Rattle.ttrpc_polled_streams.specs.Needs.{opening_needs};
 
     ghost needs = { λ f. opening_needs L.came f.stream };
+
+    ghost gives = { λ f r. OpeningGives Q.meaning f.stream r };
 
     fn poll(&mut self, cx: &mut Context<'_>) -> Poll<Result<(Q, ServerStreamSender<P, L>)>> {
         let Some(mut stream) = self.stream.take() else {

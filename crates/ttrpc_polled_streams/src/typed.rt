@@ -65,7 +65,9 @@ where
     }
 
     /// Says that no more messages are sent.
-    pub fn close_send(&self) -> StreamSenderCloseSend<'_, L> {
+    pub fn close_send(&self) -> StreamSenderCloseSend<'_, L>
+        ensures { (result.sender.now ≡ self.now.tx.tx) × (result.sending ≡ Sending.Closes) }
+    {
         self.tx.close_send()
     }
 
@@ -190,8 +192,11 @@ where
 
     ghost use Rattle.std.specs.Prelude.{◌≡◌};
     ghost use Rattle.ttrpc_polled_streams.specs.Closing.{closing_source};
+    ghost use Rattle.ttrpc_polled_streams.specs.Items.{GivesItem};
 
     ghost needs = { λ f s. s ≡ closing_source L.came f.stream.now f.at };
+
+    ghost gives = { λ _ told. GivesItem P.meaning P.E.is_no_memory P.E.output told };
 
     fn poll(&mut self, cx: &mut Context<'_>) -> Poll<Result<P>> {
         if let Closing::Closes(mut closing) = replace(&mut self.at, Closing::Receives) {

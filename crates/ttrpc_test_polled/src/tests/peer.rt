@@ -116,7 +116,7 @@ fn echo(alloc: Global, core: &mut ServerCore<Plain, Plain>, id: JobId) {
 }
 
 impl Held for PeerHeld {
-    ghost use Rattle.std.specs.Prelude.{⊤};
+    ghost use Rattle.std.specs.Prelude.{⊤, is_some};
     ghost use Rattle.ttrpc_connection.specs.OneEnd.{lendable};
 
     ghost takes = { λ _ _ _ _ _. ⊤ };
@@ -130,6 +130,10 @@ impl Held for PeerHeld {
     ghost lendable = { λ held. lendable held.core.connection };
 
     ghost ticks = { λ _ _ _. ⊤ };
+
+    ghost expires = { λ _ _. ⊤ };
+
+    ghost failed = { λ held. is_some held.core.connection.failure };
 
     fn take(&mut self, alloc: Global, piece: &[u8], _now: u64) -> Option<usize> {
         let count = self.core.feed(alloc, piece, 0).ok()?;

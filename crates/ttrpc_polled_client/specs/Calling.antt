@@ -1,0 +1,35 @@
+-- Calls and streams of a service: with which requests they are begun, and what a call gives.
+-- Source: this project's.
+use Rattle.std.specs.Prelude.{◌≡◌, ◌⊎◌, ℕ, List, [], ◌++◌, codes, Bool, Option, Some, Result, Err, IfOk, IsSomeAnd}
+use Rattle.std.specs.Arc.{arc_value}
+use Rattle.ttrpc_proto.specs.declared.error.Error.{Error}
+use Rattle.ttrpc_proto.specs.declared.error.Error.TheVariants.{LocalClosed}
+use Rattle.ttrpc_proto.specs.declared.request.Request.{Request}
+use Rattle.ttrpc_message.specs.Calls.{IsUnwritten}
+use Rattle.ttrpc_message.specs.Metadata.{Carried, pairs_of}
+use Rattle.ttrpc_polled.specs.Sockets.{IsNotMade}
+use Rattle.ttrpc_polled_client.specs.declared.asked.Asked.TheVariants.{Asks}
+use Rattle.ttrpc_polled_client.specs.declared.calls.Calling.{Calling}
+use Rattle.ttrpc_polled_client.specs.declared.calls.Calling.TheVariants.{Done, Refused, Waits}
+use Rattle.ttrpc_polled_client.specs.declared.line.ClientLine.{ClientLine}
+
+-- the request that asks a service's method with this payload, as the context says
+abbrev pub asks_for : List ℕ → List ℕ → Carried → List ℕ → Request
+asks_for service method context payload = record { service = service; method = method; payload = payload; timeout_nano = context.timeout_nano; metadata = pairs_of context.metadata }
+
+-- why a call isn't made: its value isn't written, or memory was refused, or the system refused
+abbrev pub IsNotCalled : {E : Type 0} → (E → Type 0) → (E → Option (List ℕ)) → List ℕ → Error → Type 0
+IsNotCalled is_no_memory output written e = IsUnwritten (codes "Encoding request ") is_no_memory output written e ⊎ IsNotMade e
+
+-- It is to be made by this request on this line, and its answer goes into this value; or it was refused for this.
+abbrev pub IsCalling : {O I P : Type 0} → ClientLine O I → Request → P → (Error → Type 0) → Calling O I P → Type 0
+IsCalling line request reply refuses (Waits call into) = (arc_value call.line ≡ line) × ((now : ℕ) × (call.asked ≡ Asks request now)) × (into ≡ reply)
+IsCalling line request reply refuses (Refused e) = refuses e
+IsCalling line request reply refuses Done = ⊥
+
+-- What it gives: where it was refused, the refusal; else, without an error, the value that its reply means with the payload of a
+-- response behind it.
+abbrev pub CallGives : {O I P : Type 0} → (P → List ℕ) → (List ℕ → Option P) → Calling O I P → Result P Error → Type 0
+CallGives written meaning (Waits call reply) r = IfOk r (λ value. (payload : List ℕ) × (meaning (written reply ++ payload) ≡ Some value))
+CallGives written meaning (Refused e) r = r ≡ Err e
+CallGives written meaning Done r = r ≡ Err LocalClosed
