@@ -1,0 +1,270 @@
+//! The recorded frames beside either core alone, without a reader, a writer or a handler.
+use crate::acts::{Act, Outcome, is_so, request};
+use crate::lines::Line;
+use crate::recorded::{
+    Conversation, Said, client_beside_go, client_beside_rust, served_to_go, served_to_go_bare,
+    served_to_rust,
+};
+use crate::registry::recorded_registry;
+use std::alloc::{AllocGlobal, Global};
+use std::process::Abort;
+use std::test::Fail;
+use ttrpc_client::{CallId, ClientCore, ClientKind, StreamId};
+use ttrpc_codec::Codec;
+use ttrpc_proto::{Error, Response, Result as RpcResult};
+use ttrpc_secure::{ConnectionContext, Plain};
+use ttrpc_server::{JobId, Rules, ServerCore};
+
+/// The job that a recorded server handled, and whether it is a stream's.
+type Handled = Option<(JobId, bool)>;
+
+/// The core of a server that knows what the recorded ones know.
+fn server(alloc: Global, bare: bool) -> RpcResult<ServerCore<Plain, Plain>> {
+    let mut registry = recorded_registry(alloc)?;
+    registry.set_bare_openings(bare);
+    let context = ConnectionContext::of_halves(alloc, Plain {}, Plain {});
+    Ok(ServerCore::new(alloc, Rules::Async, registry, context))
+}
+
+/// The response that a payload is.
+fn response_in(alloc: Global, payload: &[u8]) -> RpcResult<Response> {
+    match Response::decode(alloc, payload) {
+        Ok(response) => Ok(response),
+        Err(_) => Err(Error::Eof),
+    }
+}
+
+/// Does with the job what a handler did whose server said this frame: it sends an item, ends, or answers.
+fn handle(
+    alloc: Global,
+    core: &mut ServerCore<Plain, Plain>,
+    handled: Handled,
+    frame: &[u8],
+) -> RpcResult<()> {
+    let Some((id, is_stream)) = handled else {
+        return Ok(());
+    };
+    match frame {
+        [_, _, _, _, _, _, _, _, 3, 0, item @ ..] => {
+            core.send(alloc, id, item)?;
+            Ok(())
+        }
+        [_, _, _, _, _, _, _, _, 3, ..] => core.end_stream(alloc, id, &Ok(None)),
+        [_, _, _, _, _, _, _, _, _, _, payload @ ..] if is_stream => {
+            let response = response_in(alloc, payload)?;
+            core.end_stream(alloc, id, &Ok(Some(response)))
+        }
+        [_, _, _, _, _, _, _, _, _, _, payload @ ..] => {
+            let response = response_in(alloc, payload)?;
+            core.answer(alloc, id, &Ok(response))
+        }
+        _ => Ok(()),
+    }
+}
+
+/// Whether these bytes, and no others, are what the core of a server lends. They are reported.
+fn server_says(core: &mut ServerCore<Plain, Plain>, buffer: &mut [u8], frame: &[u8]) -> bool {
+    let count = core.lend(buffer);
+    let lent = core.lent();
+    core.wrote(lent);
+    buffer.get(..count) == Some(frame) && core.lendable() == 0
+}
+
+/// What the core does with the next line of a conversation: whether it is as stated.
+fn answer_line(
+    alloc: Global,
+    core: &mut ServerCore<Plain, Plain>,
+    handled: &mut Handled,
+    line: Line<'_>,
+) -> RpcResult<bool> {
+    match line {
+        Line::Up(frame) => {
+            let whole = core.feed(alloc, frame, 0)? == frame.len();
+            if let Some(job) = core.take_job() {
+                *handled = Some((job.id, job.stream));
+            }
+            Ok(whole)
+        }
+        Line::Down(frame) => {
+            if core.lendable() == 0 {
+                handle(alloc, core, *handled, frame)?;
+            }
+            let mut buffer = [0u8; 64];
+            Ok(server_says(core, &mut buffer, frame))
+        }
+        Line::UpEnds => {
+            core.end_of_input();
+            Ok(core.has_failed())
+        }
+        Line::DownEnds => Ok(core.lendable() == 0),
+    }
+}
+
+/// A server's core does as stated what was said to it.
+fn serve<R: Abort + AllocGlobal>(rt: &R, bare: bool, said: Said) -> Result<(), Fail> {
+    let (name, lines) = said;
+    let mut core = server(rt.alloc(), bare)?;
+    let mut handled = None;
+    for (at, line) in lines.iter().enumerate() {
+        let is_so = answer_line(rt.alloc(), &mut core, &mut handled, *line)?;
+        assert!(rt; is_so, "{name}, {bare}, {at}");
+    }
+    Ok(())
+}
+
+#[test]
+fn a_core_serves_recorded_clients(rt: HostRuntime) -> Result<(), Fail> {
+    for number in 0..100 {
+        if let Some(said) = served_to_rust(number) {
+            serve(&rt, false, said)?;
+            serve(&rt, true, said)?;
+        }
+        if let Some(said) = served_to_go(number) {
+            serve(&rt, false, said)?;
+        }
+        if let Some(said) = served_to_go_bare(number) {
+            serve(&rt, true, said)?;
+        }
+    }
+    Ok(())
+}
+
+/// A client's core, its last call or stream, and the lines that are still to be said.
+#[derive(Drop)]
+struct Caller {
+    core: ClientCore<Plain, Plain>,
+    call: CallId,
+    stream: StreamId,
+    lines: &'static [Line<'static>],
+    at: usize,
+}
+
+impl Caller {
+    fn new(alloc: Global, lines: &'static [Line<'static>]) -> Caller {
+        let context = ConnectionContext::of_halves(alloc, Plain {}, Plain {});
+        Caller {
+            core: ClientCore::new(alloc, ClientKind::Async, context),
+            call: 0,
+            stream: 0,
+            lines,
+            at: 0,
+        }
+    }
+
+    /// The line that is said next.
+    fn line(&self) -> Option<Line<'static>> {
+        match self.lines.get(self.at) {
+            Some(line) => Some(*line),
+            None => None,
+        }
+    }
+
+    fn pass(&mut self) {
+        self.at = self.at.saturating_add(1);
+    }
+
+    /// Does the act: whether it came to what is stated, unless nothing has come of it yet.
+    fn act(&mut self, alloc: Global, act: Act) -> RpcResult<Option<bool>> {
+        match act {
+            Act::Calls(name, payload, limit) => {
+                let request = request(alloc, name, payload, limit)?;
+                self.call = self.core.request(alloc, &request, 0)?;
+            }
+            Act::Opens(name, payload, sends, receives) => {
+                let request = request(alloc, name, payload, 0)?;
+                self.stream = self.core.new_stream(alloc, &request, sends, receives)?;
+            }
+            Act::Sends(_, item, _) => {
+                self.core.send(alloc, self.stream, item)?;
+            }
+            Act::Closes(_, _) => {
+                self.core.close_send(alloc, self.stream)?;
+            }
+            Act::Ends(_, expected) => return Ok(self.end(alloc, expected)),
+            Act::Receives(_, expected) => {
+                let given = self.core.recv(alloc, self.stream);
+                return Ok(given.map(|given| is_so(alloc, given, expected)));
+            }
+            _ => {}
+        }
+        Ok(Some(true))
+    }
+
+    fn end(&mut self, alloc: Global, expected: Outcome) -> Option<bool> {
+        let given = match self.core.take_outcome(alloc, self.call)? {
+            Ok(response) => Ok(response.payload),
+            Err(error) => Err(error),
+        };
+        Some(is_so(alloc, given, expected))
+    }
+
+    /// Whether what the core has to write is what the client says next. What the server says before it is heard.
+    fn says(&mut self, alloc: Global) -> RpcResult<bool> {
+        let mut buffer = [0u8; 64];
+        for _ in 0..=self.lines.len() {
+            if self.core.lendable() == 0 {
+                return Ok(true);
+            }
+            let count = self.core.lend(&mut buffer);
+            let lent = self.core.lent();
+            self.core.wrote(lent);
+            for _ in 0..self.lines.len() {
+                if !self.hears(alloc)? {
+                    break;
+                }
+            }
+            match self.line() {
+                Some(Line::Up(frame)) if buffer.get(..count) == Some(frame) => self.pass(),
+                _ => return Ok(false),
+            }
+        }
+        Ok(self.core.lendable() == 0)
+    }
+
+    /// Hears what the server says next: whether it says anything.
+    fn hears(&mut self, alloc: Global) -> RpcResult<bool> {
+        match self.line() {
+            Some(Line::Down(frame)) => {
+                self.pass();
+                Ok(self.core.feed(alloc, frame)? == frame.len())
+            }
+            Some(Line::DownEnds) => {
+                self.pass();
+                self.core.end_of_input();
+                Ok(true)
+            }
+            _ => Ok(false),
+        }
+    }
+}
+
+/// A client's core understands a conversation as stated.
+fn understand<R: Abort + AllocGlobal>(rt: &R, conversation: Conversation) -> Result<(), Fail> {
+    let (name, acts, lines) = conversation;
+    let mut caller = Caller::new(rt.alloc(), lines);
+    for act in acts.iter() {
+        let mut is_so = caller.act(rt.alloc(), *act)?;
+        for _ in 0..lines.len() {
+            if is_so.is_some() || !caller.hears(rt.alloc())? {
+                break;
+            }
+            is_so = caller.act(rt.alloc(), *act)?;
+        }
+        assert_eq!(rt; is_so, Some(true), "{name}");
+        assert!(rt; caller.says(rt.alloc())?, "{name}");
+    }
+    Ok(())
+}
+
+#[test]
+fn a_core_understands_recorded_servers(rt: HostRuntime) -> Result<(), Fail> {
+    for number in 0..100 {
+        if let Some(conversation) = client_beside_go(number) {
+            understand(&rt, conversation)?;
+        }
+        if let Some(conversation) = client_beside_rust(number) {
+            understand(&rt, conversation)?;
+        }
+    }
+    Ok(())
+}
