@@ -12,7 +12,7 @@ use Rattle.ttrpc_wire.specs.Field.{LengthDelimited, Field, Fits, fields_bytes, v
 use Rattle.ttrpc_wire.specs.Fold.{folded}
 use Rattle.ttrpc_wire.proofs.Folds.{reads_back}
 use Rattle.ttrpc_codec.proofs.Written.{int32_back, int32_small, int64_back, int64_small}
-use Rattle.ttrpc_members.specs.Items.{Coding, is_nil, text, bytes, nested, as_varint, as_fixed64, as_fixed32, int64, int32, uint64, uint32, boolean, boolean_code, boolean_of, zigzag, unzigzag, sint64, sint32, sfixed32}
+use Rattle.ttrpc_members.specs.Items.{Coding, is_nil, text, bytes, nested, enclosed, as_varint, as_fixed64, as_fixed32, int64, int32, uint64, uint32, boolean, boolean_code, boolean_of, zigzag, unzigzag, sint64, sint32, sfixed32}
 use Rattle.ttrpc_members.specs.Laws.{LawfulCoding, LawfulItem, AreShort}
 
 -- ---- texts, bytes and messages
@@ -54,6 +54,14 @@ nested_lawful is_value empty step fields again fits = record {
       let one = delimited_short (fields_bytes (fields x)) short in
       ap (λ o. option_map (λ x. Some x) o) (reads_back step empty x (fields x) (fits x is one) (again x is one));
   fits = λ x is short. delimited_fits (fields_bytes (fields x)) short;
+}
+
+pub enclosed_lawful : (takes : List ℕ → Option (Unit {0})) → LawfulItem (enclosed takes)
+enclosed_lawful takes = record {
+  firsts = λ x is e. absurd cc;
+  typed = λ x. refl;
+  back = λ x is short. rw is refl;
+  fits = λ x is short. delimited_fits x short;
 }
 
 -- ---- numbers

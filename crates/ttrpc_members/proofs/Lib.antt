@@ -8,3 +8,6 @@ pub mod ChoiceLaws
 pub mod Groups
 pub mod Lists
 pub mod Proved
+pub mod NestingLaws
+pub mod Takes
+pub mod Exact

@@ -1,6 +1,6 @@
 -- Items: what one value of a member is written as, and what the value of a field makes of it.
 -- Source: the Protocol Buffers encoding guide, "Message Structure", "More Integer Types" and "Length-Delimited Records".
-use Rattle.std.specs.Prelude.{ℕ, zero, suc, ◌+◌, ◌*◌, ◌/◌, ◌%◌, ◌<◌, ◌^◌, List, [], ◌∷◌, Option, Some, None, Bool, true, false, ◌==◌, if◌then◌else◌, ℤ, pos, negsuc, FitsSigned}
+use Rattle.std.specs.Prelude.{◌≡◌, ℕ, zero, suc, ◌+◌, ◌*◌, ◌/◌, ◌%◌, ◌<◌, ◌^◌, List, [], ◌∷◌, Option, Some, None, Bool, true, false, ◌==◌, if◌then◌else◌, ℤ, pos, negsuc, FitsSigned}
 use Rattle.std.specs.Option.{option_map}
 use Rattle.std.specs.Str.{is_utf8, IsUtf8}
 use Rattle.std.specs.Int.{w32, w64, cast_signed, cast_unsigned}
@@ -9,6 +9,7 @@ use Rattle.ttrpc_wire.specs.declared.field.WireType.TheVariants as wire
 use Rattle.ttrpc_wire.specs.Field.{Value, Varint, Fixed64, LengthDelimited, Fixed32, Field, fields_bytes}
 use Rattle.ttrpc_wire.specs.Number.{number_of, int32_of, int64_of}
 use Rattle.ttrpc_wire.specs.Fold.{read_from}
+use Rattle.ttrpc_members.specs.Nesting.{with_more}
 
 -- An item: its values, the one that an absent field stands for, the wire type and the value that are written for one, and
 -- what a field's value makes of the item before it: none, where that has another wire type; an item; or a refusal.
@@ -59,6 +60,18 @@ nested is_value empty step fields = record {
   wire_type = wire.LengthDelimited;
   value = λ m. LengthDelimited (fields_bytes (fields m));
   read = read_delimited (read_from step);
+}
+
+-- a message that may contain the one that it is in, kept as its bytes, where takes tells whether bytes are taken: more of it goes behind
+-- what there was
+abbrev pub enclosed : (List ℕ → Option (Unit {0})) → Item (List ℕ)
+enclosed takes = record {
+  is_value = λ b. takes b ≡ Some tt;
+  first = [];
+  is_first = λ b. false;
+  wire_type = wire.LengthDelimited;
+  value = LengthDelimited;
+  read = read_delimited (with_more takes);
 }
 
 -- ---- numbers

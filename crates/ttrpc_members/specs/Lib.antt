@@ -1,3 +1,4 @@
+pub mod Nesting
 pub mod Items
 pub mod Kinds
 pub mod Schema

@@ -62,14 +62,14 @@ pub trait ItemKind {
 }
 
 /// How long a length and as many bytes are.
-fn delimited_len(bytes: &[u8]) -> u64
+pub(crate) fn delimited_len(bytes: &[u8]) -> u64
     ensures { result ≡ min (length (value_bytes (LengthDelimited bytes.now))) (2 ^ 64 - 1) }
 {
     (varint_len(bytes.len() as u64) as u64).saturating_add(bytes.len() as u64)
 }
 
 /// Writes a length and as many bytes.
-fn put_delimited(out: &mut Vec<u8>, bytes: &[u8]) -> Result<(), AllocError>
+pub(crate) fn put_delimited(out: &mut Vec<u8>, bytes: &[u8]) -> Result<(), AllocError>
     ensures { OnOk result (out.new.items ≡ out.old.items ++ value_bytes (LengthDelimited bytes.now)) }
 {
     put_varint(out, bytes.len() as u64)?;

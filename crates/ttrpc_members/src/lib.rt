@@ -3,8 +3,10 @@
 
 pub mod choice;
 pub mod coding;
+pub mod enclosed;
 pub mod entries;
 pub mod item;
 pub mod kind;
 pub mod map;
+pub mod nesting;
 pub mod numbers;

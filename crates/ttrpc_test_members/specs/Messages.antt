@@ -1,8 +1,11 @@
 -- The messages of kinds.proto: the number, the kind and the place of each member. Written by tools/messages from kinds.proto: change that, and run the tool.
 -- Source: kinds.proto.
-use Rattle.std.specs.Prelude.{refl, ◌≡◌, ◌⊎◌, Bool, List, ℕ, ℤ}
+use Rattle.std.specs.Prelude.{refl, ◌≡◌, ◌⊎◌, Bool, List, [], ℕ, ℤ, ◌∷◌}
 use Rattle.std.proofs.Common.{inl, inr}
-use Rattle.ttrpc_members.proofs.Proved.{Message, OneOf, bits32, bits64, boolean, boolean_key, bytes, int32, int64, map, message, natural_key, nested, no_choice, none, one_of, optional, packed, repeated, signed32, signed64, signed_key, single, sint32, sint64, text, text_key, uint32, uint64, ◌&one◌, ◌&◌∶◌, ◌or◌is◌}
+use Rattle.ttrpc_members.proofs.Proved.{Message, OneOf, bits32, bits64, boolean, boolean_key, bytes, enclosed, int32, int64, map, message, natural_key, nested, no_choice, none, one_of, optional, packed, repeated, signed32, signed64, signed_key, single, sint32, sint64, text, text_key, uint32, uint64, ◌&one◌, ◌&◌∶◌, ◌or◌is◌}
+use Rattle.ttrpc_wire.specs.declared.field.WireType.TheVariants as wire
+use Rattle.ttrpc_members.specs.declared.nesting.Content.TheVariants as content
+use Rattle.ttrpc_members.specs.declared.nesting.Rule.{Rule}
 use Rattle.ttrpc_test_members.specs.declared.messages.Timestamp.{Timestamp}
 use Rattle.ttrpc_test_members.specs.declared.messages.Figures.{Figures}
 use Rattle.ttrpc_test_members.specs.declared.messages.Inner.{Inner}
@@ -11,8 +14,36 @@ use Rattle.ttrpc_test_members.specs.declared.messages.Options.{Options}
 use Rattle.ttrpc_test_members.specs.declared.messages.Tables.{Tables}
 use Rattle.ttrpc_test_members.specs.declared.messages.Choices.{Choices}
 use Rattle.ttrpc_test_members.specs.declared.messages.All.{All}
+use Rattle.ttrpc_test_members.specs.declared.messages.Tree.{Tree}
+use Rattle.ttrpc_test_members.specs.declared.messages.Sheet.{Sheet}
+use Rattle.ttrpc_test_members.specs.declared.messages.Cell.{Cell}
+use Rattle.ttrpc_test_members.specs.declared.messages.Row.{Row}
+use Rattle.ttrpc_test_members.specs.declared.messages.CellKind.{CellKind}
+use Rattle.ttrpc_test_members.specs.declared.messages.CellKind.TheVariants as cell_kind_variants
 use Rattle.ttrpc_test_members.specs.declared.messages.ChoicesFigure.{ChoicesFigure}
 use Rattle.ttrpc_test_members.specs.declared.messages.ChoicesFigure.TheVariants as choices_figure_variants
+
+-- what has to hold of the bytes of messages that may contain themselves, and of all that may be in them, by the place of a message:
+-- 0 `test.kinds.Tree`, 1 `test.kinds.Inner`, 2 `test.kinds.Sheet`, 3 `test.kinds.Cell`, 4 `test.kinds.Row`, 5 `test.kinds.Tree.named`, 6 `test.kinds.Sheet.cells`
+abbrev pub all_rules : List Rule
+all_rules =
+    record { message = 0; number = 1; content = content.Text } ∷
+    record { message = 0; number = 2; content = content.Message 0 } ∷
+    record { message = 0; number = 3; content = content.Message 0 } ∷
+    record { message = 0; number = 4; content = content.Message 5 } ∷
+    record { message = 0; number = 5; content = content.Message 1 } ∷
+    record { message = 0; number = 6; content = content.Numbers wire.Varint } ∷
+    record { message = 1; number = 1; content = content.Text } ∷
+    record { message = 2; number = 1; content = content.Message 6 } ∷
+    record { message = 3; number = 2; content = content.Text } ∷
+    record { message = 3; number = 3; content = content.Message 2 } ∷
+    record { message = 3; number = 4; content = content.Message 4 } ∷
+    record { message = 4; number = 1; content = content.Message 3 } ∷
+    record { message = 5; number = 1; content = content.Text } ∷
+    record { message = 5; number = 2; content = content.Message 0 } ∷
+    record { message = 6; number = 1; content = content.Text } ∷
+    record { message = 6; number = 2; content = content.Message 3 } ∷
+    []
 
 -- the message `Timestamp`: 1 seconds, 2 nanos
 abbrev pub timestamp : Message Timestamp
@@ -37,6 +68,10 @@ inner = message
     (λ m. (((tt, m.name), m.data), m.number))
     (λ x. record { name = x.0.0.1; «data» = x.0.1; number = x.1 })
     (λ x. refl) (λ m. refl) refl
+
+-- the rules want of `Inner` what makes them take the bytes that read as it, and no others
+pub inner_wants : inner.wants all_rules 1
+inner_wants = ((((tt, refl), refl), refl), refl)
 
 -- the message `Lists`: 1 ints, 2 zigzags, 3 doubles, 4 flags, 5 texts, 6 blobs, 7 ways, 8 inners, 9 fixeds
 abbrev pub lists : Message Lists
@@ -112,3 +147,77 @@ all = message
     (λ m. (((((tt, m.figures), m.lists), m.options), m.tables), m.choices))
     (λ x. record { figures = x.0.0.0.0.1; lists = x.0.0.0.1; options = x.0.0.1; tables = x.0.1; choices = x.1 })
     (λ x. refl) (λ m. refl) refl
+
+-- the message `Tree`: 1 name, 2 children, 3 best, 4 named, 5 inner, 6 numbers
+abbrev pub tree : Message Tree
+tree = message
+    (none & 1 ∶ single text & 2 ∶ repeated (enclosed all_rules 0) & 3 ∶ optional (enclosed all_rules 0) & 4 ∶ map text_key (enclosed all_rules 0) & 5 ∶ optional (nested inner) & 6 ∶ packed sint32)
+    (λ m. ((((((tt, m.name), m.children), m.best), m.named), m.inner), m.numbers))
+    (λ x. record { name = x.0.0.0.0.0.1; children = x.0.0.0.0.1; best = x.0.0.0.1; named = x.0.0.1; inner = x.0.1; numbers = x.1 })
+    (λ x. refl) (λ m. refl) refl
+
+-- the rules want of `Tree` what makes them take the bytes that read as it, and no others
+pub tree_wants : tree.wants all_rules 0
+tree_wants = (((((((tt, refl), (refl, refl)), (refl, refl)), (5, refl, refl, (refl, refl), refl)), (1, refl, inner_wants)), (refl, refl)), refl)
+
+-- the message `Sheet`: 1 cells
+abbrev pub sheet : Message Sheet
+sheet = message
+    (none & 1 ∶ map text_key (enclosed all_rules 3))
+    (λ m. (tt, m.cells))
+    (λ x. record { cells = x.1 })
+    (λ x. refl) (λ m. refl) refl
+
+-- the rules want of `Sheet` what makes them take the bytes that read as it, and no others
+pub sheet_wants : sheet.wants all_rules 2
+sheet_wants = ((tt, (6, refl, refl, (refl, refl), refl)), refl)
+
+-- what is set of `CellKind`, as one of several
+abbrev pub cell_kind_split : CellKind → (((⊥ ⊎ ℕ) ⊎ List ℕ) ⊎ List ℕ) ⊎ List ℕ
+cell_kind_split (cell_kind_variants.Number x) = inl (inl (inl (inr x)))
+cell_kind_split (cell_kind_variants.Text x) = inl (inl (inr x))
+cell_kind_split (cell_kind_variants.Sheet x) = inl (inr x)
+cell_kind_split (cell_kind_variants.Row x) = inr x
+
+-- the other way round
+abbrev pub cell_kind_join : (((⊥ ⊎ ℕ) ⊎ List ℕ) ⊎ List ℕ) ⊎ List ℕ → CellKind
+cell_kind_join (inl (inl (inl (inl x)))) = absurd x
+cell_kind_join (inl (inl (inl (inr x)))) = cell_kind_variants.Number x
+cell_kind_join (inl (inl (inr x))) = cell_kind_variants.Text x
+cell_kind_join (inl (inr x)) = cell_kind_variants.Sheet x
+cell_kind_join (inr x) = cell_kind_variants.Row x
+
+-- both ways give it back
+pub cell_kind_joined : (x : CellKind) → cell_kind_join (cell_kind_split x) ≡ x
+cell_kind_joined (cell_kind_variants.Number x) = refl
+cell_kind_joined (cell_kind_variants.Text x) = refl
+cell_kind_joined (cell_kind_variants.Sheet x) = refl
+cell_kind_joined (cell_kind_variants.Row x) = refl
+
+-- `CellKind`: one of 1 number, 2 text, 3 sheet, 4 row
+abbrev pub cell_kind : OneOf CellKind
+cell_kind = one_of (no_choice or 1 is bits64 or 2 is text or 3 is (enclosed all_rules 2) or 4 is (enclosed all_rules 4)) cell_kind_split cell_kind_join cell_kind_joined
+
+-- the message `Cell`: one of 1 number, 2 text, 3 sheet, 4 row
+abbrev pub cell : Message Cell
+cell = message
+    (none &one cell_kind)
+    (λ m. (tt, m.kind))
+    (λ x. record { kind = x.1 })
+    (λ x. refl) (λ m. refl) refl
+
+-- the rules want of `Cell` what makes them take the bytes that read as it, and no others
+pub cell_wants : cell.wants all_rules 3
+cell_wants = ((tt, ((((tt, refl), refl), (refl, refl)), (refl, refl))), refl)
+
+-- the message `Row`: 1 cells
+abbrev pub row : Message Row
+row = message
+    (none & 1 ∶ repeated (enclosed all_rules 3))
+    (λ m. (tt, m.cells))
+    (λ x. record { cells = x.1 })
+    (λ x. refl) (λ m. refl) refl
+
+-- the rules want of `Row` what makes them take the bytes that read as it, and no others
+pub row_wants : row.wants all_rules 4
+row_wants = ((tt, (refl, refl)), refl)

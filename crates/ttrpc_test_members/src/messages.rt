@@ -4,6 +4,7 @@
 use std::alloc::{AllocError, Global};
 use ttrpc_codec::message::WireMessage;
 use ttrpc_members::choice::Choice;
+use ttrpc_members::enclosed::{Enclosable, Enclosed, Enclosing};
 use ttrpc_members::entries::MapOf;
 use ttrpc_members::item::{
     Bits32, Bits64, Boolean, Bytes, Int32, Int64, ItemKind, Nested, Signed32, Signed64, Sint32,
@@ -11,8 +12,9 @@ use ttrpc_members::item::{
 };
 use ttrpc_members::kind::{MemberKind, Optional, Packed, Repeated, Single, item_len, put_item};
 use ttrpc_members::map::{Map, TextKey};
+use ttrpc_members::nesting::{Content, Recursive, Rule};
 use ttrpc_members::numbers::Numbers;
-use ttrpc_wire::{Blob, CodecError, Field, FieldNumber, Sequence, Text, TryClone, Value};
+use ttrpc_wire::{Blob, CodecError, Field, FieldNumber, Sequence, Text, TryClone, Value, WireType};
 
 /// The number of `UNKNOWN` of the enum `test.kinds.Way`.
 pub const WAY_UNKNOWN: i32 = 0;
@@ -1149,4 +1151,673 @@ impl WireMessage for All {
     ghost again = { all.laws.again all.valid };
 
     ghost fits = { all.laws.fits all.valid };
+}
+
+/// A message that contains itself.
+#[derive(Drop)]
+pub struct Tree {
+    /// Field 1.
+    pub name: Text,
+    /// Field 2.
+    pub children: Sequence<Enclosed<TreeRules>>,
+    /// Field 3.
+    pub best: Option<Enclosed<TreeRules>>,
+    /// Field 4.
+    pub named: Map<TextKey, Enclosed<TreeRules>>,
+    /// Field 5.
+    pub inner: Option<Inner>,
+    /// Field 6.
+    pub numbers: Numbers<i32>,
+}
+
+const TREE_NAME: FieldNumber = FieldNumber { value: 1 };
+
+const TREE_CHILDREN: FieldNumber = FieldNumber { value: 2 };
+
+const TREE_BEST: FieldNumber = FieldNumber { value: 3 };
+
+const TREE_NAMED: FieldNumber = FieldNumber { value: 4 };
+
+const TREE_INNER: FieldNumber = FieldNumber { value: 5 };
+
+const TREE_NUMBERS: FieldNumber = FieldNumber { value: 6 };
+
+impl TryClone for Tree {
+    fn try_clone(&self) -> Result<Tree, AllocError> {
+        Ok(Tree {
+            name: Single::<Utf8>::try_clone(&self.name)?,
+            children: Repeated::<Enclosing<TreeRules>>::try_clone(&self.children)?,
+            best: Optional::<Enclosing<TreeRules>>::try_clone(&self.best)?,
+            named: MapOf::<Utf8Key, Enclosing<TreeRules>>::try_clone(&self.named)?,
+            inner: Optional::<Nested<Inner>>::try_clone(&self.inner)?,
+            numbers: Packed::<Sint32>::try_clone(&self.numbers)?,
+        })
+    }
+}
+
+impl WireMessage for Tree {
+    ghost use Rattle.ttrpc_test_members.specs.Messages.{tree};
+
+    ghost is_value = { tree.part.is_value };
+
+    ghost empty = { tree.part.empty };
+
+    ghost step = { tree.part.step };
+
+    ghost fields = { tree.part.fields };
+
+    fn new(alloc: Global) -> Tree {
+        Tree {
+            name: Single::<Utf8>::empty(alloc),
+            children: Repeated::<Enclosing<TreeRules>>::empty(alloc),
+            best: Optional::<Enclosing<TreeRules>>::empty(alloc),
+            named: MapOf::<Utf8Key, Enclosing<TreeRules>>::empty(alloc),
+            inner: Optional::<Nested<Inner>>::empty(alloc),
+            numbers: Packed::<Sint32>::empty(alloc),
+        }
+    }
+
+    fn put(&mut self, alloc: Global, field: Field<'_>) -> Result<(), CodecError> {
+        match field.number.value {
+            1 => Single::<Utf8>::take(&mut self.name, alloc, field.value),
+            2 => Repeated::<Enclosing<TreeRules>>::take(&mut self.children, alloc, field.value),
+            3 => Optional::<Enclosing<TreeRules>>::take(&mut self.best, alloc, field.value),
+            4 => MapOf::<Utf8Key, Enclosing<TreeRules>>::take(&mut self.named, alloc, field.value),
+            5 => Optional::<Nested<Inner>>::take(&mut self.inner, alloc, field.value),
+            6 => Packed::<Sint32>::take(&mut self.numbers, alloc, field.value),
+            _ => Ok(()),
+        }
+    }
+
+    #[tactic(auto, using(ttrpc_members::proofs::Groups::flat_measured))]
+    fn length(&self) -> u64 {
+        let len: u64 = 0;
+        let len = len.saturating_add(Single::<Utf8>::length(&self.name, TREE_NAME));
+        let len = len.saturating_add(Repeated::<Enclosing<TreeRules>>::length(
+            &self.children,
+            TREE_CHILDREN,
+        ));
+        let len = len.saturating_add(Optional::<Enclosing<TreeRules>>::length(
+            &self.best, TREE_BEST,
+        ));
+        let len = len.saturating_add(MapOf::<Utf8Key, Enclosing<TreeRules>>::length(
+            &self.named,
+            TREE_NAMED,
+        ));
+        let len = len.saturating_add(Optional::<Nested<Inner>>::length(&self.inner, TREE_INNER));
+        len.saturating_add(Packed::<Sint32>::length(&self.numbers, TREE_NUMBERS))
+    }
+
+    #[tactic(auto, using(ttrpc_members::proofs::Groups::flat_written, ttrpc_members::proofs::Groups::flat_len))]
+    fn write(&self, out: &mut Vec<u8>) -> Result<(), CodecError> {
+        Single::<Utf8>::write(&self.name, TREE_NAME, out)?;
+        Repeated::<Enclosing<TreeRules>>::write(&self.children, TREE_CHILDREN, out)?;
+        Optional::<Enclosing<TreeRules>>::write(&self.best, TREE_BEST, out)?;
+        MapOf::<Utf8Key, Enclosing<TreeRules>>::write(&self.named, TREE_NAMED, out)?;
+        Optional::<Nested<Inner>>::write(&self.inner, TREE_INNER, out)?;
+        Packed::<Sint32>::write(&self.numbers, TREE_NUMBERS, out)
+    }
+
+    fn lemma_is_value(&self) {
+        Single::<Utf8>::lemma_is_value(&self.name);
+        Repeated::<Enclosing<TreeRules>>::lemma_is_value(&self.children);
+        Optional::<Enclosing<TreeRules>>::lemma_is_value(&self.best);
+        MapOf::<Utf8Key, Enclosing<TreeRules>>::lemma_is_value(&self.named);
+        Optional::<Nested<Inner>>::lemma_is_value(&self.inner);
+        Packed::<Sint32>::lemma_is_value(&self.numbers);
+    }
+
+    ghost again = { tree.laws.again tree.valid };
+
+    ghost fits = { tree.laws.fits tree.valid };
+}
+
+/// Messages that contain one another.
+#[derive(Drop)]
+pub struct Sheet {
+    /// Field 1.
+    pub cells: Map<TextKey, Enclosed<CellRules>>,
+}
+
+const SHEET_CELLS: FieldNumber = FieldNumber { value: 1 };
+
+impl TryClone for Sheet {
+    fn try_clone(&self) -> Result<Sheet, AllocError> {
+        Ok(Sheet {
+            cells: MapOf::<Utf8Key, Enclosing<CellRules>>::try_clone(&self.cells)?,
+        })
+    }
+}
+
+impl WireMessage for Sheet {
+    ghost use Rattle.ttrpc_test_members.specs.Messages.{sheet};
+
+    ghost is_value = { sheet.part.is_value };
+
+    ghost empty = { sheet.part.empty };
+
+    ghost step = { sheet.part.step };
+
+    ghost fields = { sheet.part.fields };
+
+    fn new(alloc: Global) -> Sheet {
+        Sheet {
+            cells: MapOf::<Utf8Key, Enclosing<CellRules>>::empty(alloc),
+        }
+    }
+
+    fn put(&mut self, alloc: Global, field: Field<'_>) -> Result<(), CodecError> {
+        match field.number.value {
+            1 => MapOf::<Utf8Key, Enclosing<CellRules>>::take(&mut self.cells, alloc, field.value),
+            _ => Ok(()),
+        }
+    }
+
+    #[tactic(auto, using(ttrpc_members::proofs::Groups::flat_measured))]
+    fn length(&self) -> u64 {
+        let len: u64 = 0;
+        len.saturating_add(MapOf::<Utf8Key, Enclosing<CellRules>>::length(&self.cells, SHEET_CELLS))
+    }
+
+    #[tactic(auto, using(ttrpc_members::proofs::Groups::flat_written, ttrpc_members::proofs::Groups::flat_len))]
+    fn write(&self, out: &mut Vec<u8>) -> Result<(), CodecError> {
+        MapOf::<Utf8Key, Enclosing<CellRules>>::write(&self.cells, SHEET_CELLS, out)
+    }
+
+    fn lemma_is_value(&self) {
+        MapOf::<Utf8Key, Enclosing<CellRules>>::lemma_is_value(&self.cells);
+    }
+
+    ghost again = { sheet.laws.again sheet.valid };
+
+    ghost fits = { sheet.laws.fits sheet.valid };
+}
+
+/// One of number, text, sheet, row.
+#[derive(Drop)]
+pub enum CellKind {
+    /// Field 1.
+    Number(u64),
+    /// Field 2.
+    Text(Text),
+    /// Field 3.
+    Sheet(Enclosed<SheetRules>),
+    /// Field 4.
+    Row(Enclosed<RowRules>),
+}
+
+/// The message `test.kinds.Cell`.
+#[derive(Drop)]
+pub struct Cell {
+    /// Field 1, 2, 3, 4.
+    pub kind: Option<CellKind>,
+}
+
+const CELL_NUMBER: FieldNumber = FieldNumber { value: 1 };
+
+const CELL_TEXT: FieldNumber = FieldNumber { value: 2 };
+
+const CELL_SHEET: FieldNumber = FieldNumber { value: 3 };
+
+const CELL_ROW: FieldNumber = FieldNumber { value: 4 };
+
+impl CellKind {
+    ghost use Rattle.ttrpc_wire.specs.Fold.{Gives};
+    ghost use Rattle.ttrpc_wire.specs.Seen.{seen_value};
+    ghost use Rattle.ttrpc_test_members.specs.Messages.{cell_kind};
+
+    /// Takes the value of a field of number 1 in.
+    fn take_number(
+        choice: &mut Option<CellKind>,
+        alloc: Global,
+        value: Value<'_>,
+    ) -> Result<(), CodecError>
+        ensures { Gives (λ _. choice.new) result (cell_kind.part.step choice.old (record { number = 1; value = seen_value value.entry })) }
+    {
+        if let Some(CellKind::Number(item)) = choice {
+            Bits64::read(item, alloc, value)?;
+            return Ok(());
+        }
+        let mut item = Bits64::first(alloc);
+        if Bits64::read(&mut item, alloc, value)? {
+            *choice = Some(CellKind::Number(item));
+        }
+        Ok(())
+    }
+
+    /// Takes the value of a field of number 2 in.
+    fn take_text(
+        choice: &mut Option<CellKind>,
+        alloc: Global,
+        value: Value<'_>,
+    ) -> Result<(), CodecError>
+        ensures { Gives (λ _. choice.new) result (cell_kind.part.step choice.old (record { number = 2; value = seen_value value.entry })) }
+    {
+        if let Some(CellKind::Text(item)) = choice {
+            Utf8::read(item, alloc, value)?;
+            return Ok(());
+        }
+        let mut item = Utf8::first(alloc);
+        if Utf8::read(&mut item, alloc, value)? {
+            *choice = Some(CellKind::Text(item));
+        }
+        Ok(())
+    }
+
+    /// Takes the value of a field of number 3 in.
+    fn take_sheet(
+        choice: &mut Option<CellKind>,
+        alloc: Global,
+        value: Value<'_>,
+    ) -> Result<(), CodecError>
+        ensures { Gives (λ _. choice.new) result (cell_kind.part.step choice.old (record { number = 3; value = seen_value value.entry })) }
+    {
+        if let Some(CellKind::Sheet(item)) = choice {
+            Enclosing::<SheetRules>::read(item, alloc, value)?;
+            return Ok(());
+        }
+        let mut item = Enclosing::<SheetRules>::first(alloc);
+        if Enclosing::<SheetRules>::read(&mut item, alloc, value)? {
+            *choice = Some(CellKind::Sheet(item));
+        }
+        Ok(())
+    }
+
+    /// Takes the value of a field of number 4 in.
+    fn take_row(
+        choice: &mut Option<CellKind>,
+        alloc: Global,
+        value: Value<'_>,
+    ) -> Result<(), CodecError>
+        ensures { Gives (λ _. choice.new) result (cell_kind.part.step choice.old (record { number = 4; value = seen_value value.entry })) }
+    {
+        if let Some(CellKind::Row(item)) = choice {
+            Enclosing::<RowRules>::read(item, alloc, value)?;
+            return Ok(());
+        }
+        let mut item = Enclosing::<RowRules>::first(alloc);
+        if Enclosing::<RowRules>::read(&mut item, alloc, value)? {
+            *choice = Some(CellKind::Row(item));
+        }
+        Ok(())
+    }
+}
+
+impl Choice for CellKind {
+    ghost use Rattle.ttrpc_test_members.specs.Messages.{cell_kind};
+
+    ghost part = { cell_kind.part };
+
+    fn put(
+        choice: &mut Option<CellKind>,
+        alloc: Global,
+        field: Field<'_>,
+    ) -> Result<(), CodecError> {
+        match field.number.value {
+            1 => CellKind::take_number(choice, alloc, field.value),
+            2 => CellKind::take_text(choice, alloc, field.value),
+            3 => CellKind::take_sheet(choice, alloc, field.value),
+            4 => CellKind::take_row(choice, alloc, field.value),
+            _ => Ok(()),
+        }
+    }
+
+    fn length(choice: &Option<CellKind>) -> u64 {
+        match choice {
+            None => 0,
+            Some(CellKind::Number(item)) => item_len::<Bits64>(item, CELL_NUMBER),
+            Some(CellKind::Text(item)) => item_len::<Utf8>(item, CELL_TEXT),
+            Some(CellKind::Sheet(item)) => item_len::<Enclosing<SheetRules>>(item, CELL_SHEET),
+            Some(CellKind::Row(item)) => item_len::<Enclosing<RowRules>>(item, CELL_ROW),
+        }
+    }
+
+    fn write(choice: &Option<CellKind>, out: &mut Vec<u8>) -> Result<(), CodecError> {
+        match choice {
+            None => Ok(()),
+            Some(CellKind::Number(item)) => put_item::<Bits64>(item, CELL_NUMBER, out),
+            Some(CellKind::Text(item)) => put_item::<Utf8>(item, CELL_TEXT, out),
+            Some(CellKind::Sheet(item)) => put_item::<Enclosing<SheetRules>>(item, CELL_SHEET, out),
+            Some(CellKind::Row(item)) => put_item::<Enclosing<RowRules>>(item, CELL_ROW, out),
+        }
+    }
+
+    fn try_clone(choice: &Option<CellKind>) -> Result<Option<CellKind>, AllocError> {
+        Ok(match choice {
+            None => None,
+            Some(CellKind::Number(item)) => Some(CellKind::Number(Bits64::try_clone(item)?)),
+            Some(CellKind::Text(item)) => Some(CellKind::Text(Utf8::try_clone(item)?)),
+            Some(CellKind::Sheet(item)) => {
+                Some(CellKind::Sheet(Enclosing::<SheetRules>::try_clone(item)?))
+            }
+            Some(CellKind::Row(item)) => {
+                Some(CellKind::Row(Enclosing::<RowRules>::try_clone(item)?))
+            }
+        })
+    }
+
+    fn lemma_is_value(choice: &Option<CellKind>) {
+        match choice {
+            None => {}
+            Some(CellKind::Number(item)) => Bits64::lemma_is_value(item),
+            Some(CellKind::Text(item)) => Utf8::lemma_is_value(item),
+            Some(CellKind::Sheet(item)) => Enclosing::<SheetRules>::lemma_is_value(item),
+            Some(CellKind::Row(item)) => Enclosing::<RowRules>::lemma_is_value(item),
+        }
+    }
+}
+
+impl TryClone for Cell {
+    fn try_clone(&self) -> Result<Cell, AllocError> {
+        Ok(Cell {
+            kind: CellKind::try_clone(&self.kind)?,
+        })
+    }
+}
+
+impl WireMessage for Cell {
+    ghost use Rattle.ttrpc_test_members.specs.Messages.{cell};
+
+    ghost is_value = { cell.part.is_value };
+
+    ghost empty = { cell.part.empty };
+
+    ghost step = { cell.part.step };
+
+    ghost fields = { cell.part.fields };
+
+    fn new(alloc: Global) -> Cell {
+        Cell { kind: None }
+    }
+
+    fn put(&mut self, alloc: Global, field: Field<'_>) -> Result<(), CodecError> {
+        match field.number.value {
+            1 | 2 | 3 | 4 => CellKind::put(&mut self.kind, alloc, field),
+            _ => Ok(()),
+        }
+    }
+
+    #[tactic(auto, using(ttrpc_members::proofs::Groups::flat_measured))]
+    fn length(&self) -> u64 {
+        let len: u64 = 0;
+        len.saturating_add(CellKind::length(&self.kind))
+    }
+
+    #[tactic(auto, using(ttrpc_members::proofs::Groups::flat_written, ttrpc_members::proofs::Groups::flat_len))]
+    fn write(&self, out: &mut Vec<u8>) -> Result<(), CodecError> {
+        CellKind::write(&self.kind, out)
+    }
+
+    fn lemma_is_value(&self) {
+        CellKind::lemma_is_value(&self.kind);
+    }
+
+    ghost again = { cell.laws.again cell.valid };
+
+    ghost fits = { cell.laws.fits cell.valid };
+}
+
+/// The message `test.kinds.Row`.
+#[derive(Drop)]
+pub struct Row {
+    /// Field 1.
+    pub cells: Sequence<Enclosed<CellRules>>,
+}
+
+const ROW_CELLS: FieldNumber = FieldNumber { value: 1 };
+
+impl TryClone for Row {
+    fn try_clone(&self) -> Result<Row, AllocError> {
+        Ok(Row {
+            cells: Repeated::<Enclosing<CellRules>>::try_clone(&self.cells)?,
+        })
+    }
+}
+
+impl WireMessage for Row {
+    ghost use Rattle.ttrpc_test_members.specs.Messages.{row};
+
+    ghost is_value = { row.part.is_value };
+
+    ghost empty = { row.part.empty };
+
+    ghost step = { row.part.step };
+
+    ghost fields = { row.part.fields };
+
+    fn new(alloc: Global) -> Row {
+        Row {
+            cells: Repeated::<Enclosing<CellRules>>::empty(alloc),
+        }
+    }
+
+    fn put(&mut self, alloc: Global, field: Field<'_>) -> Result<(), CodecError> {
+        match field.number.value {
+            1 => Repeated::<Enclosing<CellRules>>::take(&mut self.cells, alloc, field.value),
+            _ => Ok(()),
+        }
+    }
+
+    #[tactic(auto, using(ttrpc_members::proofs::Groups::flat_measured))]
+    fn length(&self) -> u64 {
+        let len: u64 = 0;
+        len.saturating_add(Repeated::<Enclosing<CellRules>>::length(&self.cells, ROW_CELLS))
+    }
+
+    #[tactic(auto, using(ttrpc_members::proofs::Groups::flat_written, ttrpc_members::proofs::Groups::flat_len))]
+    fn write(&self, out: &mut Vec<u8>) -> Result<(), CodecError> {
+        Repeated::<Enclosing<CellRules>>::write(&self.cells, ROW_CELLS, out)
+    }
+
+    fn lemma_is_value(&self) {
+        Repeated::<Enclosing<CellRules>>::lemma_is_value(&self.cells);
+    }
+
+    ghost again = { row.laws.again row.valid };
+
+    ghost fits = { row.laws.fits row.valid };
+}
+
+/// What has to hold of the bytes of messages that may contain themselves, and of all that may be in them, by the place of a message.
+const RULES: &[Rule] = &[
+    Rule {
+        message: 0,
+        number: 1,
+        content: Content::Text,
+    },
+    Rule {
+        message: 0,
+        number: 2,
+        content: Content::Message(0),
+    },
+    Rule {
+        message: 0,
+        number: 3,
+        content: Content::Message(0),
+    },
+    Rule {
+        message: 0,
+        number: 4,
+        content: Content::Message(5),
+    },
+    Rule {
+        message: 0,
+        number: 5,
+        content: Content::Message(1),
+    },
+    Rule {
+        message: 0,
+        number: 6,
+        content: Content::Numbers(WireType::Varint),
+    },
+    Rule {
+        message: 1,
+        number: 1,
+        content: Content::Text,
+    },
+    Rule {
+        message: 2,
+        number: 1,
+        content: Content::Message(6),
+    },
+    Rule {
+        message: 3,
+        number: 2,
+        content: Content::Text,
+    },
+    Rule {
+        message: 3,
+        number: 3,
+        content: Content::Message(2),
+    },
+    Rule {
+        message: 3,
+        number: 4,
+        content: Content::Message(4),
+    },
+    Rule {
+        message: 4,
+        number: 1,
+        content: Content::Message(3),
+    },
+    Rule {
+        message: 5,
+        number: 1,
+        content: Content::Text,
+    },
+    Rule {
+        message: 5,
+        number: 2,
+        content: Content::Message(0),
+    },
+    Rule {
+        message: 6,
+        number: 1,
+        content: Content::Text,
+    },
+    Rule {
+        message: 6,
+        number: 2,
+        content: Content::Message(3),
+    },
+];
+
+/// Stands for `Tree` where it is in another message, and kept as its bytes.
+pub struct TreeRules {}
+
+impl Recursive for TreeRules {
+    ghost use Rattle.ttrpc_test_members.specs.Messages.{all_rules};
+
+    ghost rules = { all_rules };
+
+    ghost message = { 0 };
+
+    fn rules() -> &'static [Rule] {
+        RULES
+    }
+
+    fn message() -> u32 {
+        0
+    }
+}
+
+impl Enclosable for Tree {
+    ghost use Rattle.ttrpc_test_members.specs.Messages.{all_rules, tree, tree_wants};
+    ghost use Rattle.ttrpc_members.proofs.Proved.{reads_deep, reads_within};
+
+    type Rules = TreeRules;
+
+    ghost reads = { reads_within tree all_rules 0 tree_wants };
+
+    ghost deep = { reads_deep tree all_rules 0 tree_wants };
+}
+
+/// Stands for `Sheet` where it is in another message, and kept as its bytes.
+pub struct SheetRules {}
+
+impl Recursive for SheetRules {
+    ghost use Rattle.ttrpc_test_members.specs.Messages.{all_rules};
+
+    ghost rules = { all_rules };
+
+    ghost message = { 2 };
+
+    fn rules() -> &'static [Rule] {
+        RULES
+    }
+
+    fn message() -> u32 {
+        2
+    }
+}
+
+impl Enclosable for Sheet {
+    ghost use Rattle.ttrpc_test_members.specs.Messages.{all_rules, sheet, sheet_wants};
+    ghost use Rattle.ttrpc_members.proofs.Proved.{reads_deep, reads_within};
+
+    type Rules = SheetRules;
+
+    ghost reads = { reads_within sheet all_rules 2 sheet_wants };
+
+    ghost deep = { reads_deep sheet all_rules 2 sheet_wants };
+}
+
+/// Stands for `Cell` where it is in another message, and kept as its bytes.
+pub struct CellRules {}
+
+impl Recursive for CellRules {
+    ghost use Rattle.ttrpc_test_members.specs.Messages.{all_rules};
+
+    ghost rules = { all_rules };
+
+    ghost message = { 3 };
+
+    fn rules() -> &'static [Rule] {
+        RULES
+    }
+
+    fn message() -> u32 {
+        3
+    }
+}
+
+impl Enclosable for Cell {
+    ghost use Rattle.ttrpc_test_members.specs.Messages.{all_rules, cell, cell_wants};
+    ghost use Rattle.ttrpc_members.proofs.Proved.{reads_deep, reads_within};
+
+    type Rules = CellRules;
+
+    ghost reads = { reads_within cell all_rules 3 cell_wants };
+
+    ghost deep = { reads_deep cell all_rules 3 cell_wants };
+}
+
+/// Stands for `Row` where it is in another message, and kept as its bytes.
+pub struct RowRules {}
+
+impl Recursive for RowRules {
+    ghost use Rattle.ttrpc_test_members.specs.Messages.{all_rules};
+
+    ghost rules = { all_rules };
+
+    ghost message = { 4 };
+
+    fn rules() -> &'static [Rule] {
+        RULES
+    }
+
+    fn message() -> u32 {
+        4
+    }
+}
+
+impl Enclosable for Row {
+    ghost use Rattle.ttrpc_test_members.specs.Messages.{all_rules, row, row_wants};
+    ghost use Rattle.ttrpc_members.proofs.Proved.{reads_deep, reads_within};
+
+    type Rules = RowRules;
+
+    ghost reads = { reads_within row all_rules 4 row_wants };
+
+    ghost deep = { reads_deep row all_rules 4 row_wants };
 }

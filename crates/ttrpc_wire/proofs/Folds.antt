@@ -119,6 +119,7 @@ refused errors.BadTag read h = h
 refused errors.BadWireType read h = h
 refused errors.BadUtf8 read h = h
 refused errors.TooLong read h = h
+refused errors.TooDeep read h = h
 refused errors.NoMemory read h = tt
 
 -- an error of one step, where the reading of the whole starts with it
@@ -129,6 +130,7 @@ refused_along errors.BadTag step read f h = f h
 refused_along errors.BadWireType step read f h = f h
 refused_along errors.BadUtf8 step read f h = f h
 refused_along errors.TooLong step read f h = f h
+refused_along errors.TooDeep step read f h = f h
 refused_along errors.NoMemory step read f h = tt
 
 -- ---- the loop's invariant, that what is still to be read gives the whole
@@ -151,4 +153,5 @@ refused_other errors.BadTag read h other = h
 refused_other errors.BadWireType read h other = h
 refused_other errors.BadUtf8 read h other = h
 refused_other errors.TooLong read h other = h
+refused_other errors.TooDeep read h other = h
 refused_other errors.NoMemory read h other = absurd (other refl)

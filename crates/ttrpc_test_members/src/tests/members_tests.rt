@@ -8,7 +8,7 @@ use ttrpc_codec::Codec;
 use ttrpc_codec::message::WireMessage;
 use ttrpc_wire::CodecError;
 
-type Tested = Result<(), Fail>;
+pub type Tested = Result<(), Fail>;
 
 /// Whether the numbers are equal.
 fn are_equal(a: &Figures, b: &Figures) -> bool {
@@ -19,7 +19,11 @@ fn are_equal(a: &Figures, b: &Figures) -> bool {
 }
 
 /// Each pair of bytes means one value, whose written form the first ones are.
-fn all_are_one<M: WireMessage>(rt: &impl Abort, alloc: Global, rows: &[(&[u8], &[u8])]) -> Tested {
+pub fn all_are_one<M: WireMessage>(
+    rt: &impl Abort,
+    alloc: Global,
+    rows: &[(&[u8], &[u8])],
+) -> Tested {
     for (canonical, other) in rows {
         for bytes in [*canonical, *other] {
             let message = M::decode(alloc, bytes)?;
@@ -129,7 +133,7 @@ const MERGED: &[(&[u8], &[u8])] = &[
 ];
 
 /// Each of the bytes is refused so.
-fn all_are_refused<M: WireMessage>(
+pub fn all_are_refused<M: WireMessage>(
     rt: &impl Abort,
     alloc: Global,
     rows: &[(&[u8], CodecError)],

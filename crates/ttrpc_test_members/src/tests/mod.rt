@@ -1,2 +1,3 @@
+mod depth_tests;
 mod members_tests;
 mod vectors;

@@ -38,6 +38,9 @@ pub enum CodecError {
     /// The written form is 2^32 bytes or longer.
     #[error("a message is longer than 4294967295 bytes")]
     TooLong,
+    /// A message that may contain itself is nested too deep.
+    #[error("a message is nested deeper than 100 levels")]
+    TooDeep,
     /// The allocator refused.
     #[error("out of memory")]
     NoMemory,

@@ -3,7 +3,7 @@ use Rattle.std.specs.Result.{IfOk, IfErr, IsErrOf}
 use Rattle.std.specs.Str.{is_utf8, IsUtf8}
 use Rattle.std.proofs.lemmas.Str.{is_utf8-from_IsUtf8, IsUtf8-from_is_utf8}
 use Rattle.ttrpc_wire.specs.declared.values.codec_error.CodecError.{CodecError}
-use Rattle.ttrpc_wire.specs.declared.values.codec_error.CodecError.TheVariants.{Truncated, BadVarint, BadTag, BadWireType, BadUtf8, TooLong, NoMemory}
+use Rattle.ttrpc_wire.specs.declared.values.codec_error.CodecError.TheVariants.{Truncated, BadVarint, BadTag, BadWireType, BadUtf8, TooLong, TooDeep, NoMemory}
 use Rattle.ttrpc_wire.specs.Fold.{Refused, Gives}
 use Rattle.ttrpc_codec.specs.Members.{text_of}
 use Rattle.ttrpc_codec.proofs.members.text_from.Goals as goal
@@ -23,6 +23,7 @@ refused_text b BadTag bad other = absurd (let e = other (λ h. cc) in cc)
 refused_text b BadWireType bad other = absurd (let e = other (λ h. cc) in cc)
 refused_text b BadUtf8 bad other = no_text b (bad refl)
 refused_text b TooLong bad other = absurd (let e = other (λ h. cc) in cc)
+refused_text b TooDeep bad other = absurd (let e = other (λ h. cc) in cc)
 refused_text b NoMemory bad other = tt
 
 text_gives : (b : List ℕ) (r : Result (List ℕ) CodecError) → IfOk r (λ t. (t ≡ b) × IsUtf8 b) → (IsErrOf r BadUtf8 → IsUtf8 b → ⊥) → IfErr r (λ e. e ≢ BadUtf8 → e ≡ NoMemory) → Gives (λ t. t) r (text_of b)

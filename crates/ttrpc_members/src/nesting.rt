@@ -1,0 +1,138 @@
+//! What the bytes of a message that may contain itself have to be, and how deep they may nest.
+ghost use Rattle.std.specs.Prelude.{◌≡◌, ◌-◌, ℕ, List, Option, IfErr};
+ghost use Rattle.ttrpc_wire.specs.Seen.{seen};
+ghost use Rattle.ttrpc_wire.specs.Fold.{Gives};
+ghost use Rattle.ttrpc_wire.specs.Reading.{Reads};
+ghost use Rattle.ttrpc_members.specs.Nesting.{TellsDepth, content_in, content_of as content_by, field_in, is_of as is_by, nested_upto, numbers_in, text_in, within};
+
+use ttrpc_wire::{CodecError, Field, Reader, Value, WireType};
+
+/// What a length-delimited value of a member has to be.
+#[derive(Clone, Copy)]
+pub enum Content {
+    /// A text.
+    Text,
+    /// Numbers of this wire type, one behind the other.
+    Numbers(WireType),
+    /// The message of this place among those that the rules are of.
+    Message(u32),
+}
+
+/// What the values of one member have to be: the place of its message, its number, and that.
+#[derive(Clone, Copy)]
+pub struct Rule {
+    pub message: u32,
+    pub number: u32,
+    pub content: Content,
+}
+
+/// A message that may contain the one that it is in: the rules of it and of all that may be in it.
+pub trait Recursive {
+    ghost use Rattle.ttrpc_members.specs.declared.nesting.Rule.{Rule};
+
+    /// The rules.
+    ghost rules: { List Rule };
+
+    /// Its place among the messages that the rules are of.
+    ghost message: { ℕ };
+
+    /// The rules.
+    fn rules() -> &'static [Rule]
+        ensures { result.now ≡ rules };
+
+    /// Its place among the messages that the rules are of.
+    fn message() -> u32
+        ensures { result ≡ message };
+}
+
+/// How many levels of messages may be in a message.
+const LEVELS: u32 = 100;
+
+/// Whether the bytes are fields of the message, and those in it, in at most 100 levels. An error other than `TooDeep` comes only
+/// where they are not, in whatever number of levels. Takes no memory.
+#[tactic(auto, unfolding(crate::specs::Nesting::within))]
+pub fn check<R: Recursive>(bytes: &[u8]) -> Result<(), CodecError>
+    ensures taken { Gives (λ _. tt) result (within R.rules R.message bytes.now) }
+    ensures told { IfErr result (λ e. TellsDepth e (λ k. nested_upto R.rules k R.message bytes.now)) }
+{
+    check_message(R::rules(), R::message(), bytes, LEVELS)
+}
+
+/// Whether the bytes are fields of the message, in at most so many levels.
+#[cycle(check)]
+fn check_message(rules: &[Rule], message: u32, bytes: &[u8], levels: u32) -> Result<(), CodecError>
+    ensures taken { Gives (λ _. tt) result (nested_upto rules.now levels message bytes.now) }
+    ensures told { IfErr result (λ e. TellsDepth e (λ k. nested_upto rules.now k message bytes.now)) }
+{
+    if levels == 0 {
+        return Err(CodecError::TooDeep);
+    }
+    let mut reader = Reader::new(bytes);
+    while !reader.is_empty() {
+        let field = reader.field()?;
+        check_field(rules, message, field, levels - 1)?;
+    }
+    Ok(())
+}
+
+/// Whether a field is what the rules want of it, and those in it, in at most so many levels.
+#[cycle(check)]
+fn check_field(
+    rules: &[Rule],
+    message: u32,
+    field: Field<'_>,
+    levels: u32,
+) -> Result<(), CodecError>
+    ensures taken { Gives (λ _. tt) result (field_in rules.now (λ m b. nested_upto rules.now levels m b) message tt (seen field.entry)) }
+    ensures told { IfErr result (λ e. TellsDepth e (λ k. field_in rules.now (λ m b. nested_upto rules.now k m b) message tt (seen field.entry))) }
+{
+    let Value::LengthDelimited(bytes) = field.value else {
+        return Ok(());
+    };
+    match content_of(rules, message, field.number.value) {
+        None => Ok(()),
+        Some(Content::Text) => check_text(bytes),
+        Some(Content::Numbers(wire_type)) => check_numbers(wire_type, bytes),
+        Some(Content::Message(inner)) => check_message(rules, inner, bytes, levels),
+    }
+}
+
+/// What the rules want of a member.
+fn content_of(rules: &[Rule], message: u32, number: u32) -> Option<Content>
+    ensures { result ≡ content_by rules.now message number }
+{
+    for rule in rules {
+        if is_of(message, number, *rule) {
+            return Some(rule.content);
+        }
+    }
+    None
+}
+
+/// Whether the rule is of this message's member of this number.
+fn is_of(message: u32, number: u32, rule: Rule) -> bool
+    ensures { result ≡ is_by message number rule }
+{
+    rule.message == message && rule.number == number
+}
+
+/// Whether the bytes are a text.
+fn check_text(bytes: &[u8]) -> Result<(), CodecError>
+    ensures { Reads (λ _. tt) result (text_in bytes.now) }
+{
+    match std::str::from_utf8(bytes) {
+        Ok(_) => Ok(()),
+        Err(_) => Err(CodecError::BadUtf8),
+    }
+}
+
+/// Whether the bytes are numbers of this wire type.
+fn check_numbers(wire_type: WireType, bytes: &[u8]) -> Result<(), CodecError>
+    ensures { Reads (λ _. tt) result (numbers_in wire_type bytes.now) }
+{
+    let mut reader = Reader::new(bytes);
+    while !reader.is_empty() {
+        reader.value(wire_type)?;
+    }
+    Ok(())
+}
