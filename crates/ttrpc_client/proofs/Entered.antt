@@ -13,7 +13,7 @@ use Rattle.ttrpc_secure.specs.declared.transform.TransformError.{TransformError}
 use Rattle.ttrpc_secure.specs.declared.transform.TransformError.TheVariants.{Refused, NoMemory}
 use Rattle.ttrpc_secure.specs.Halves.{MayFail}
 use Rattle.ttrpc_client.specs.Types.{Closed, Dropped, LocalClosed}
-use Rattle.ttrpc_client.specs.Protocol.{ReceivesAt, ReceivesOne, unsendable}
+use Rattle.ttrpc_client.specs.Streaming.{ReceivesAt, ReceivesOne, unsendable}
 use Rattle.ttrpc_connection.specs.Frames.{safe_limit}
 use Rattle.ttrpc_client.proofs.Entries.{at_or_apart, same_place, undone}
 

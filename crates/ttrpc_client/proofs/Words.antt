@@ -21,9 +21,10 @@ pub use Rattle.ttrpc_connection.specs.Calls.{Call as ACall}
 pub use Rattle.ttrpc_client.specs.Types.{Arrived, Call, CancelledDuringWrite, Connection, DeadlineDuringWrite, Expired, Failure, Stream, Waiting}
 pub use Rattle.ttrpc_client.specs.declared.client.ClientCore.{ClientCore}
 pub use Rattle.ttrpc_client.specs.Calls.{AreQueuedOnce, Asked, asked_by, AskedEnded, AskedHeard, Called, called, Causes, core, Does, Dropped, ids_asked, ids_used, Opened, outcomes_of, Passes, Received, ReceiverDropped, requests_in, RiseByTwo, SenderDropped, SentOn, thrown_at, thrown_if, Ticked, Told, told_by, used_by}
-pub use Rattle.ttrpc_client.specs.State.{call_at, call_in, Client, IsClient, OthersStay, stream_at, throws, told_left, waits}
+pub use Rattle.ttrpc_client.specs.State.{call_at, call_in, Client, IsClient, OthersStay, stream_at, throws, told_left, waits, due_at, due_ids, is_due, IsDeadline}
 pub use Rattle.ttrpc_client.specs.Streams.{AreStreams, stream_in, StreamsStay}
-pub use Rattle.ttrpc_client.specs.Protocol.{calling, due_at, due_ids, expired_at, Expires, forgotten, GivesOutcome, is_due, IsDeadline, LandsOnce, left_of, taken_back, takes_back, TakesOutcome, Ticks, IsOpeningFrame, IsRequestFrame, Landing, landing_of, LandsOn, last_id}
-pub use Rattle.ttrpc_client.specs.Inside.{Admits, AdmitsStream, ExpiresOne, Leaves, MayRefuse, Settles}
+pub use Rattle.ttrpc_client.specs.Protocol.{expired_at, Expires, forgotten, GivesOutcome, LandsOnce, left_of, taken_back, takes_back, TakesOutcome, Ticks, IsRequestFrame, Landing, landing_of, LandsOn, last_id}
+pub use Rattle.ttrpc_client.specs.Inside.{calling, Admits, AdmitsStream, ExpiresOne, Leaves, MayRefuse, Settles}
+pub use Rattle.ttrpc_client.specs.Streaming.{IsOpeningFrame}
 pub use Rattle.ttrpc_client.specs.Kept.{AreDeadlines, deadline_in, IsKept, waiting_in, weight}
 pub use Rattle.ttrpc_connection.specs.Deadlines.{ChangesTo, has_deadline, is_moment}

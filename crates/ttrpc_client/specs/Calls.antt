@@ -8,8 +8,9 @@ use Rattle.ttrpc_frame.specs.Queue.{Happening, Placed, Thrown}
 use Rattle.ttrpc_connection.specs.Calls.{Call, Did, Others, Queues}
 use Rattle.ttrpc_connection.specs.Items.{IsDataFrame}
 use Rattle.ttrpc_client.specs.declared.client.ClientCore.{ClientCore}
-use Rattle.ttrpc_client.specs.State.{Client, call_at, throws}
-use Rattle.ttrpc_client.specs.Protocol.{DropsReceiver, DropsSender, IsOpeningFrame, IsRequestFrame, last_id, Forgets, OpensStream, ReceivesOne, Requests, SendsOn, TakesOutcome, Ticks, due_at, takes_back}
+use Rattle.ttrpc_client.specs.State.{Client, call_at, throws, due_at}
+use Rattle.ttrpc_client.specs.Protocol.{IsRequestFrame, last_id, Forgets, Requests, TakesOutcome, Ticks, takes_back}
+use Rattle.ttrpc_client.specs.Streaming.{DropsReceiver, DropsSender, IsOpeningFrame, OpensStream, ReceivesOne, SendsOn}
 
 -- a call, with what it was given and what it gave; one that was refused changes nothing, and is none
 pub data Called : Type 0 where

@@ -1,21 +1,40 @@
 -- What the parts of a call do, which its users need not read.
 -- Source: this project's.
-use Rattle.std.specs.Prelude.{◌≡◌, ◌⊎◌, ◌≤◌, ℕ, ◌+◌, ◌++◌, List, [], ◌∷◌, ◌&&◌, not, if◌then◌else◌, Option, None, Some, Bool, IsPermutation}
+use Rattle.std.specs.Prelude.{◌≡◌, ◌⊎◌, ◌≤◌, ℕ, ◌+◌, ◌++◌, List, [], ◌∷◌, ◌&&◌, not, if◌then◌else◌, Option, None, Some, Bool, IsPermutation, true}
 use Rattle.std.specs.Ordering.{nat_cmp}
 use Rattle.std.specs.List.Sorted.{IsStrictlySortedBy}
 use Rattle.std.specs.BTreeMap.{insert_entry, is_at}
 use Rattle.std.specs.Map.{keys_of, remove_entry}
-use Rattle.ttrpc_client.specs.Types.{Error, NoMemory as MemoryRefused, Others, Queued, OutboundTransform, Request, Call, Waiting, Stream}
+use Rattle.ttrpc_client.specs.Types.{Error, NoMemory as MemoryRefused, Queued, OutboundTransform, Request, Call, Waiting, Stream, Arrived, Failure}
 use Rattle.ttrpc_secure.specs.declared.transform.TransformError.{TransformError}
 use Rattle.ttrpc_secure.specs.declared.transform.TransformError.TheVariants.{Refused, NoMemory}
-use Rattle.ttrpc_secure.specs.Context.Texts.{unsealed_text}
 use Rattle.ttrpc_secure.specs.Sends.{associated}
-use Rattle.ttrpc_connection.specs.Failure.{IsTold}
-use Rattle.ttrpc_connection.specs.Frames.{SendsOne, safe_limit}
+use Rattle.ttrpc_connection.specs.Frames.{SendsOne, safe_limit, Sent}
 use Rattle.ttrpc_client.specs.declared.client.ClientCore.{ClientCore}
-use Rattle.ttrpc_client.specs.State.{Client, OthersStay, call_at, stream_at, told_left, waits}
+use Rattle.ttrpc_client.specs.State.{Client, OthersStay, call_at, stream_at, told_left, waits, due_ids}
 use Rattle.ttrpc_client.specs.Streams.{StreamsStay, new_stream}
-use Rattle.ttrpc_client.specs.Protocol.{due_ids, expired_at, left_of, HasNoId, IsAboveLimit, IsOpeningFrame, IsRequestFrame, last_id, request_bytes, request_size}
+use Rattle.ttrpc_client.specs.Protocol.{expired_at, left_of, HasNoId, IsAboveLimit, IsRequestFrame, last_id, request_bytes, request_size, LandsOnce}
+use Rattle.ttrpc_secure.specs.declared.transform.InboundTransform.{Ghosts as InboundTransform}
+use Rattle.ttrpc_connection.specs.Feeds.{Ways}
+use Rattle.ttrpc_client.specs.Streaming.{IsOpeningFrame}
+
+-- ---- what clauses of a connection know of a client
+
+-- a frame lands, whatever the state of the outbound half
+abbrev pub lands_once : {O : Type 0} → Client → O → Arrived → List Sent → Client → Type 0
+lands_once old o a sent new = LandsOnce old a sent new
+
+-- A client's table fails at no frame: while a frame is handled, want of memory alone fails a client.
+abbrev pub fails_not : Client → Arrived → Failure → Type 0
+fails_not old a failure = ⊥
+
+-- a client takes whatever comes in
+abbrev pub takes_always : Client → Bool
+takes_always s = true
+
+-- what the clauses know of a client core over these halves
+abbrev pub calling : {O I : Type 0} → OutboundTransform O → InboundTransform I → Ways Client O I
+calling out in_ = record { out = out; in_ = in_; core = record { reacts = lands_once; fails = fails_not; takes = takes_always } }
 
 -- ---- what is done to it
 

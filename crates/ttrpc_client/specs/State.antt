@@ -1,6 +1,6 @@
 -- What a client core is, beside its connection: the calls and streams that it keeps, by their ids.
 -- Source: PROTOCOL.md of ttrpc, "Request", "Response" and "Streaming".
-use Rattle.std.specs.Prelude.{◌≡◌, ◌≢◌, ◌≤◌, ◌%◌, ◌^◌, ℕ, ◌+◌, List, [], ◌∷◌, Option, None, Some, Bool, false}
+use Rattle.std.specs.Prelude.{◌≡◌, ◌≢◌, ◌≤◌, ◌%◌, ◌^◌, ℕ, ◌+◌, List, [], ◌∷◌, Option, None, Some, Bool, false, ◌<◌, map, filter, nat_le}
 use Rattle.std.specs.Map.{lookup}
 use Rattle.std.specs.BTreeMap.{is_at}
 use Rattle.std.specs.Ordering.{nat_cmp}
@@ -62,3 +62,25 @@ throws kind seals = false
 abbrev pub told_left : List (ℕ × Call) → List ℕ → List ℕ
 told_left [] ended = []
 told_left (c ∷ cs) ended = ended
+
+-- ---- calls that are due
+-- Source: this project's.
+
+-- whether the call's deadline has passed at a moment
+abbrev pub is_due : ℕ → Call → Bool
+is_due now (Waiting (Some deadline)) = nat_le deadline now
+is_due now call = false
+
+-- the same of what is kept of an id
+abbrev pub due_at : ℕ → Option Call → Bool
+due_at now None = false
+due_at now (Some call) = is_due now call
+
+-- the ids of the calls that are due, by rising id
+abbrev pub due_ids : ℕ → List (ℕ × Call) → List ℕ
+due_ids now calls = map (λ c. c.0) (filter (λ c. is_due now c.1) calls)
+
+-- the least moment at which a call expires
+pub record IsDeadline (calls : List (ℕ × Call)) (at : ℕ) : Type 0 where
+  pub some : due_ids at calls ≢ []
+  pub earlier : (now : ℕ) → now < at → due_ids now calls ≡ []

@@ -1,6 +1,6 @@
 //! What a client keeps of a call.
 ghost use Rattle.std.specs.Prelude.{◌≡◌};
-ghost use Rattle.ttrpc_client.specs.Protocol.{is_due};
+ghost use Rattle.ttrpc_client.specs.State.{is_due};
 ghost use Rattle.ttrpc_client.specs.Kept.{deadline_in};
 
 use ttrpc_proto::{Error, Response};

@@ -7,9 +7,9 @@ ghost use Rattle.ttrpc_connection.specs.declared.failure.Failure.{Failure as AFa
 ghost use Rattle.ttrpc_connection.specs.Feeds.{IsFailed};
 ghost use Rattle.ttrpc_connection.specs.OneEnd.{Ends, Lends, Takes, failing, lendable, lending, reporting};
 ghost use Rattle.ttrpc_connection.specs.Frames.{safe_limit};
-ghost use Rattle.ttrpc_client.specs.State.{IsClient, throws};
-ghost use Rattle.ttrpc_client.specs.Protocol.{Forgets, IsDeadline, Requests, TakesOutcome, Ticks, calling, due_ids, new_core, taken_back, IsRequestFrame, IsSendable, IsTooLong, RefusesRequest, request_size};
-ghost use Rattle.ttrpc_client.specs.Inside.{Begins, IsUnwritten, IsWritten, MayRefuse};
+ghost use Rattle.ttrpc_client.specs.State.{IsClient, throws, IsDeadline, due_ids};
+ghost use Rattle.ttrpc_client.specs.Protocol.{Forgets, Requests, TakesOutcome, Ticks, new_core, taken_back, IsRequestFrame, IsSendable, IsTooLong, RefusesRequest, request_size};
+ghost use Rattle.ttrpc_client.specs.Inside.{calling, Begins, IsUnwritten, IsWritten, MayRefuse};
 ghost use Rattle.ttrpc_client.specs.Streams.{AreStreams};
 
 use crate::call::{Call, CallId};
@@ -349,8 +349,7 @@ struct DueCalls<'a> {
 }
 
 impl Owners for DueCalls<'_> {
-    ghost use Rattle.ttrpc_client.specs.State.{call_at};
-    ghost use Rattle.ttrpc_client.specs.Protocol.{due_at};
+    ghost use Rattle.ttrpc_client.specs.State.{call_at, due_at};
 
     ghost has = { λ due id. due_at due.moment (call_at due.state.now id) };
 

@@ -2,7 +2,8 @@
 ghost use Rattle.std.specs.Prelude.{◌≡◌, ◌++◌, ℕ, List, codes, IfOk};
 ghost use Rattle.ttrpc_proto.specs.ErrorText.{status_of};
 ghost use Rattle.ttrpc_connection.specs.Failure.{IsTold};
-ghost use Rattle.ttrpc_client.specs.Protocol.{advice, malformed_text, expired_error, unknown_error, unsendable_error};
+ghost use Rattle.ttrpc_client.specs.Protocol.{advice, malformed_text, expired_error};
+ghost use Rattle.ttrpc_client.specs.Streaming.{unknown_error, unsendable_error};
 ghost use Rattle.ttrpc_secure.specs.Context.Texts.{unsafe_payload_text};
 
 use crate::kind::ClientKind;

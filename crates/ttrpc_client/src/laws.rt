@@ -14,8 +14,10 @@ ghost use Rattle.ttrpc_connection.specs.Frames.{Sent};
 ghost use Rattle.ttrpc_connection.specs.Outbox.{is_sent};
 ghost use Rattle.ttrpc_client.specs.declared.client.ClientCore.{ClientCore as ACore};
 ghost use Rattle.ttrpc_client.specs.Calls.{AreQueuedOnce, Called, Causes, Does, RiseByTwo, called, ids_asked, ids_used, outcomes_of};
-ghost use Rattle.ttrpc_client.specs.State.{Client, IsClient, call_at, stream_at, throws};
-ghost use Rattle.ttrpc_client.specs.Protocol.{LandsOnce, ReceivesAt, ReceivesOne, Ticks, calling, due_at};
+ghost use Rattle.ttrpc_client.specs.State.{Client, IsClient, call_at, stream_at, throws, due_at};
+ghost use Rattle.ttrpc_client.specs.Protocol.{LandsOnce, Ticks};
+ghost use Rattle.ttrpc_client.specs.Inside.{calling};
+ghost use Rattle.ttrpc_client.specs.Streaming.{ReceivesAt, ReceivesOne};
 
 use ttrpc_secure::{InboundTransform, OutboundTransform};
 

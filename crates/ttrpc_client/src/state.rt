@@ -6,9 +6,10 @@ ghost use Rattle.std.specs.Ordering.{nat_cmp};
 ghost use Rattle.std.specs.Set.{remove_key};
 ghost use Rattle.ttrpc_proto.specs.declared.error.Error.{Error as AnError};
 ghost use Rattle.ttrpc_connection.specs.Failure.{IsTold};
-ghost use Rattle.ttrpc_client.specs.State.{Client, IsClient, call_at, new_client, stream_at, waits};
+ghost use Rattle.ttrpc_client.specs.State.{Client, IsClient, call_at, new_client, stream_at, waits, IsDeadline, due_at, due_ids};
 ghost use Rattle.ttrpc_client.specs.Streams.{AreStreams, StreamsStay, with_news, with_sender, without_reader, without_sender};
-ghost use Rattle.ttrpc_client.specs.Protocol.{Expires, IsDeadline, ReceivesAt, due_at, due_ids, heard_with, last_id, unsendable};
+ghost use Rattle.ttrpc_client.specs.Protocol.{Expires, heard_with, last_id};
+ghost use Rattle.ttrpc_client.specs.Streaming.{ReceivesAt, unsendable};
 ghost use Rattle.ttrpc_client.specs.Inside.{Admits, AdmitsStream, ExpiresOne, Leaves, Settles, Takes, given_of};
 ghost use Rattle.ttrpc_client.specs.declared.streams.Sender.{Sender as ASender};
 ghost use Rattle.ttrpc_client.specs.declared.streams.Stream.{Stream as AStream};
@@ -337,7 +338,7 @@ impl ClientState {
 }
 
 impl<O: OutboundTransform> Reacts<O> for ClientState {
-    ghost use Rattle.ttrpc_client.specs.Protocol.{fails_not, lands_once, takes_always};
+    ghost use Rattle.ttrpc_client.specs.Inside.{fails_not, lands_once, takes_always};
 
     ghost reacts = { lands_once };
 

@@ -12,7 +12,7 @@ impl<O: OutboundTransform + Drop, I: InboundTransform + Drop> StreamCore for Cli
     ghost use Rattle.ttrpc_connection.specs.Items.{close_flags};
     ghost use Rattle.ttrpc_connection.specs.Failure.{TellsSent};
     ghost use Rattle.ttrpc_connection.specs.Outbox.{is_sent};
-    ghost use Rattle.ttrpc_client.specs.Protocol.{DropsReceiver, DropsSender, ReceivesOne, RefusesSending, SendsOn};
+    ghost use Rattle.ttrpc_client.specs.Streaming.{DropsReceiver, DropsSender, ReceivesOne, RefusesSending, SendsOn};
     ghost use Rattle.ttrpc_client.specs.Types.{Closed, Open};
 
     type Id = StreamId;

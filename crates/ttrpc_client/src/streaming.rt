@@ -4,7 +4,7 @@ ghost use Rattle.ttrpc_connection.specs.Failure.{TellsSent};
 ghost use Rattle.ttrpc_connection.specs.Frames.{safe_limit};
 ghost use Rattle.ttrpc_connection.specs.Items.{close_flags};
 ghost use Rattle.ttrpc_connection.specs.Outbox.{is_sent};
-ghost use Rattle.ttrpc_client.specs.Protocol.{DropsReceiver, DropsSender, IsOpeningFrame, OpensStream, ReceivesOne, RefusesSending, RefusesStream, SendsOn, opening_flags};
+ghost use Rattle.ttrpc_client.specs.Streaming.{DropsReceiver, DropsSender, IsOpeningFrame, OpensStream, ReceivesOne, RefusesSending, RefusesStream, SendsOn, opening_flags};
 ghost use Rattle.ttrpc_client.specs.Inside.{BeginsStream, MayRefuse};
 ghost use Rattle.ttrpc_client.specs.declared.streams.Sender.{Sender as ASender};
 

@@ -7,7 +7,7 @@ ghost use Rattle.std.specs.Ordering.{nat_cmp};
 ghost use Rattle.ttrpc_proto.specs.declared.error.Error.{Error as AnError};
 ghost use Rattle.ttrpc_connection.specs.Failure.{IsTold};
 ghost use Rattle.ttrpc_client.specs.Streams.{StreamsStay, hears, is_entered, new_stream, stream_in, with_news, with_sender, without_reader, without_sender};
-ghost use Rattle.ttrpc_client.specs.Protocol.{ReceivesAt, unsendable};
+ghost use Rattle.ttrpc_client.specs.Streaming.{ReceivesAt, unsendable};
 
 use crate::errors::{unknown_error, unsendable_error};
 use std::alloc::{AllocError, Global};

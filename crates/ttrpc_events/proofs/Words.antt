@@ -25,7 +25,8 @@ pub use Rattle.ttrpc_server.specs.Types.{MESSAGE_TYPE_RESPONSE}
 pub use Rattle.ttrpc_server.specs.Protocol.{want_for}
 pub use Rattle.ttrpc_client.specs.declared.call.Call.{Call}
 pub use Rattle.ttrpc_client.specs.declared.call.Call.TheVariants.{Ended, Expired, Waiting}
-pub use Rattle.ttrpc_client.specs.Protocol.{by_code, by_status, expired_at, Gives, GivesOutcome, is_due, landing_of, LandsOn, last_id, left_of, request_bytes, TellsOutcome}
+pub use Rattle.ttrpc_client.specs.Protocol.{by_code, by_status, expired_at, Gives, GivesOutcome, landing_of, LandsOn, last_id, left_of, request_bytes, TellsOutcome}
+pub use Rattle.ttrpc_client.specs.State.{is_due}
 pub use Rattle.ttrpc_client.specs.declared.streams.Stream.{Stream}
 pub use Rattle.ttrpc_client.specs.State.{call_at, Client, stream_at}
 pub use Rattle.ttrpc_server.specs.declared.rules.Rules.{Rules}
@@ -35,7 +36,8 @@ pub use Rattle.ttrpc_server.specs.declared.rows.Inlet.TheVariants.{Taking}
 pub use Rattle.ttrpc_server.specs.State.{brought_by, deadline_in, has_method, is_stream, Services, stream_body, with_mail}
 pub use Rattle.ttrpc_server.specs.declared.job.Body.{Body}
 pub use Rattle.ttrpc_server.specs.declared.job.Body.TheVariants.{Stream as StreamBody, Unary as UnaryBody}
-pub use Rattle.ttrpc_client.specs.Protocol.{breaks_with, Brings, BringsBeginning, closing_news, data_news, IsNews, malformed_text, News, news_of, opening_flags, Reaches, ReceivesAt, response_news, unknown_error, unsendable}
+pub use Rattle.ttrpc_client.specs.Protocol.{breaks_with, Brings, BringsBeginning, closing_news, data_news, IsNews, malformed_text, News, news_of, Reaches, response_news}
+pub use Rattle.ttrpc_client.specs.Streaming.{opening_flags, ReceivesAt, unknown_error, unsendable}
 pub use Rattle.ttrpc_client.specs.Streams.{is_entered, new_stream, unless_dropped, unless_unheard, without_reader, without_sender}
 pub use Rattle.ttrpc_client.specs.declared.streams.Sender.{Sender}
 pub use Rattle.ttrpc_client.specs.declared.streams.Sender.TheVariants.{Closed as SenderClosed, Dropped as SenderDropped, Open as SenderOpen}

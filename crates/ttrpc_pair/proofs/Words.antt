@@ -52,8 +52,8 @@ pub use Rattle.ttrpc_server.proofs.Mapped.{at_stays, mapped_at, StaysFound, unde
 pub use Rattle.ttrpc_server.specs.Streaming.{astray, EndsStream, IsCloseFrame, ReceivesBy, SendsItem, unheard, unknown_stream, was_made}
 pub use Rattle.ttrpc_server.specs.Mailboxes.{mail_in, mail_of, ReceivesFrom}
 pub use Rattle.ttrpc_server.specs.Streaming.{ReceivesOne as JobReceives}
-pub use Rattle.ttrpc_client.specs.Protocol.{closed_error, DropsReceiver, DropsSender, malformed_text, opening_flags, OpensStream, SendsOn, unsendable, unsendable_error}
-pub use Rattle.ttrpc_client.specs.Protocol.{ReceivesOne as StreamReceives}
+pub use Rattle.ttrpc_client.specs.Protocol.{malformed_text}
+pub use Rattle.ttrpc_client.specs.Streaming.{closed_error, DropsReceiver, DropsSender, opening_flags, OpensStream, SendsOn, unsendable, unsendable_error, ReceivesOne as StreamReceives}
 pub use Rattle.ttrpc_client.specs.Streams.{with_sender}
 pub use Rattle.ttrpc_client.specs.declared.streams.Sender.TheVariants.{Closed as SenderClosed}
 pub use Rattle.ttrpc_client.specs.declared.streams.Sender.{Sender}

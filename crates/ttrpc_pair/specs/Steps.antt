@@ -17,8 +17,10 @@ use Rattle.ttrpc_server.specs.Protocol as server
 use Rattle.ttrpc_server.specs.Streaming.{EndsStream, RefusesEnd, RefusesItem, SendsItem, unheard}
 use Rattle.ttrpc_server.specs.Streaming as streams
 use Rattle.ttrpc_client.specs.declared.streams.Sender.TheVariants as sender
-use Rattle.ttrpc_client.specs.Protocol.{DropsReceiver, DropsSender, RefusesRequest, RefusesSending, RefusesStream, Forgets, OpensStream, Requests, SendsOn, TakesOutcome, calling}
-use Rattle.ttrpc_client.specs.Protocol as client
+use Rattle.ttrpc_client.specs.Protocol.{RefusesRequest, Forgets, Requests, TakesOutcome}
+use Rattle.ttrpc_client.specs.Inside.{calling}
+use Rattle.ttrpc_client.specs.Streaming.{DropsReceiver, DropsSender, RefusesSending, RefusesStream, OpensStream, SendsOn}
+use Rattle.ttrpc_client.specs.Streaming as streaming
 use Rattle.ttrpc_client.specs.Calls.{Passes}
 use Rattle.ttrpc_connection.specs.Items.{close_flags}
 use Rattle.ttrpc_flight.specs.Flight.{bytes_after_carry}
@@ -207,7 +209,7 @@ module _ {CO CI SO SI : Type 0} (c : Halves CO CI) (s : Halves SO SI) (seals : B
   -- the client's streams
   Steps old (Open request up down) (Named id) new = IsRequest request × OpensStream c.out old.client request up down id new.client × OnlyClient old new
   Steps old (Open request up down) (Refused told) new = RefusesStream c.out old.client request up told × (new ≡ old)
-  Steps old (Recv (end.Client id)) (Item given) new = client.ReceivesOne old.client id given new.client × OnlyClient old new
+  Steps old (Recv (end.Client id)) (Item given) new = streaming.ReceivesOne old.client id given new.client × OnlyClient old new
   Steps old (Send (end.Client id) bytes) (Ticket ticket) new = SendsOn c.out old.client id 0 bytes sender.Open ticket new.client × OnlyClient old new
   Steps old (Send (end.Client id) bytes) (Refused told) new = RefusesSending c.out old.client id 0 bytes told × (new ≡ old)
   Steps old (Close id) (Ticket ticket) new = SendsOn c.out old.client id close_flags [] sender.Closed ticket new.client × OnlyClient old new

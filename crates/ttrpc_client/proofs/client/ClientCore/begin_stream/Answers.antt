@@ -1,5 +1,5 @@
 use Rattle.ttrpc_client.proofs.Words.{rules}
-use Rattle.ttrpc_client.specs.Protocol.{IsOpeningFrame}
+use Rattle.ttrpc_client.specs.Streaming.{IsOpeningFrame}
 use Rattle.ttrpc_client.proofs.Entered.{may_refuse}
 use Rattle.ttrpc_client.proofs.client.ClientCore.begin_stream.Goals as goal
 
