@@ -5,18 +5,25 @@ use Rattle.std.specs.IoError.{error_kind}
 use Rattle.std.specs.declared.io.Error.{Error}
 use Rattle.std.specs.declared.io.ErrorKind.{ErrorKind}
 use Rattle.ttrpc_frame.specs.Streams.{Answered, Moved, FailsAs}
-use Rattle.ttrpc_sync.specs.declared.gather.TheConstants.{GATHER_LIMIT}
 
--- the writer to which bytes are handed on, those that are kept, for how many there is room, and how often memory was refused
+-- the writer to which bytes are handed on, those that are kept, for how many there is room, how many are kept at most, and how often memory was refused
 pub record Gathered (W : Type 0) : Type 0 where
   pub writer : W
   pub kept : List ℕ
   pub room : ℕ
+  pub limit : ℕ
   pub refusals : ℕ
 
--- Bytes aren't kept: they are more than a frame, or memory for them was refused.
+-- It keeps nothing yet, and so many bytes at most.
+pub record IsNewGather {W : Type 0} (most : ℕ) (behind : W) (made : Gathered W) : Type 0 where
+  pub writer : made.writer ≡ behind
+  pub kept : made.kept ≡ []
+  pub limit : made.limit ≡ most
+  pub refusals : made.refusals ≡ 0
+
+-- Bytes aren't kept: they are more than may be kept, or memory for them was refused.
 abbrev pub IsUnkept : {W : Type 0} → Gathered W → Gathered W → List ℕ → Type 0
-IsUnkept old new bytes = (GATHER_LIMIT < length bytes) ⊎ (new.refusals ≡ min (old.refusals + 1) (2 ^ 64 - 1))
+IsUnkept old new bytes = (old.limit < length bytes) ⊎ (new.refusals ≡ min (old.refusals + 1) (2 ^ 64 - 1))
 
 -- After a write of these bytes: they are kept behind what was kept, and the writer is as it was, or the writer took all that was kept, and they alone are kept, or nothing is since they can't be.
 abbrev pub IsGathered : {W : Type 0} → Gathered W → Gathered W → List ℕ → Type 0

@@ -3,7 +3,7 @@ ghost use Rattle.std.specs.Prelude.{◌≡◌, ◌+◌, ◌-◌, ◌^◌, ◌≤
 ghost use Rattle.std.specs.Io.{WritesAtMost};
 ghost use Rattle.std.specs.Io.KnownBytes.{Appends, Keeps, WriteAppends, append_known};
 ghost use Rattle.std.specs.IoError.{error_kind};
-ghost use Rattle.ttrpc_sync.specs.Gathered.{IsFlushOf, IsGathered, IsWriterFailure};
+ghost use Rattle.ttrpc_sync.specs.Gathered.{IsFlushOf, IsGathered, IsNewGather, IsWriterFailure};
 
 use std::alloc::Global;
 use std::io::{self, ErrorKind};
@@ -12,6 +12,10 @@ use ttrpc_frame::{MESSAGE_HEADER_LENGTH, MESSAGE_LENGTH_MAX, Sink};
 
 /// How many bytes a gathering writer keeps at most: one frame of the greatest length, with its header.
 pub const GATHER_LIMIT: usize = MESSAGE_HEADER_LENGTH + MESSAGE_LENGTH_MAX;
+
+/// How many it keeps where each write goes out at once: a longer frame leaves in parts, which the other side reads while
+/// the next is copied.
+pub const PART_LIMIT: usize = 65536;
 
 /// How many bytes' room it has at most behind a flush, so that a connection at rest doesn't hold the room of its longest
 /// frame.
@@ -25,13 +29,13 @@ pub struct Gather<W> {
     alloc: Global,
     writer: W,
     kept: Vec<u8>,
+    limit: usize,
     refusals: u64,
 }
 
 impl<W> Model for Gather<W> {
     ghost use Rattle.std.specs.Prelude.{◌≤◌, length, vec_capacity};
     ghost use Rattle.ttrpc_sync.specs.Gathered.{Gathered};
-    ghost use Rattle.ttrpc_sync.specs.declared.gather.TheConstants.{GATHER_LIMIT};
 
     ghost Value = { Gathered W };
 
@@ -39,23 +43,30 @@ impl<W> Model for Gather<W> {
       writer = g.writer;
       kept = g.kept.items;
       room = vec_capacity g.kept;
+      limit = g.limit;
       refusals = g.refusals;
     } };
 
-    ghost invariant = { λ g. length g.kept.items ≤ GATHER_LIMIT };
+    ghost invariant = { λ g. length g.kept.items ≤ g.limit };
 }
 
 impl<W> Gather<W> {
-    /// A gathering writer in front of this one, which keeps nothing yet. Takes no memory.
+    /// A gathering writer in front of this one, which keeps nothing yet, and a whole frame at most. Takes no memory.
     pub fn new(alloc: Global, writer: W) -> Gather<W>
-        ensures writer { result.writer ≡ writer }
-        ensures kept { result.kept ≡ [] }
-        ensures refusals { result.refusals ≡ 0 }
+        ensures { IsNewGather GATHER_LIMIT writer result }
+    {
+        Gather::with_limit(alloc, writer, GATHER_LIMIT)
+    }
+
+    /// The same, which keeps so many bytes at most.
+    pub fn with_limit(alloc: Global, writer: W, limit: usize) -> Gather<W>
+        ensures { IsNewGather limit writer result }
     {
         Gather {
             alloc,
             writer,
             kept: Vec::new(alloc),
+            limit,
             refusals: 0,
         }
     }
@@ -70,7 +81,7 @@ impl<W> Gather<W> {
     /// The bytes that are kept.
     pub fn kept(&self) -> &[u8]
         ensures bytes { result.now ≡ self.now.kept }
-        ensures bound { length result.now ≤ GATHER_LIMIT }
+        ensures bound { length result.now ≤ self.now.limit }
     {
         self.kept.as_slice()
     }
@@ -91,6 +102,7 @@ impl<W: Sink> Gather<W> {
         ensures ok { OnOk result (self.new.kept ≡ []) }
         ensures err { IfErr result (λ e. IsWriterFailure (W.last self.new.writer) (error_kind e)) }
         ensures refusals { self.new.refusals ≡ self.old.refusals }
+        ensures limit { self.new.limit ≡ self.old.limit }
     {
         let (taken, answer) = write_front(&mut self.writer, self.kept.as_slice());
         remove_front(&mut self.kept, taken);
@@ -110,11 +122,12 @@ impl<W: Sink> Sink for Gather<W> {
             (append_known (W.contents self.new.writer) self.new.kept) result bytes.now }
         ensures whole { OnOk result (IsGathered self.old self.new bytes.now) }
         ensures err { IfErr result (λ e. IsWriterFailure (W.last self.new.writer) (error_kind e)) }
+        ensures limit { self.new.limit ≡ self.old.limit }
     {
-        if bytes.len() > GATHER_LIMIT - self.kept.len() {
+        if bytes.len() > self.limit - self.kept.len() {
             self.hand_on()?;
         }
-        if bytes.len() <= GATHER_LIMIT {
+        if bytes.len() <= self.limit {
             if self.kept.extend_from_slice(bytes).is_ok() {
                 return Ok(bytes.len());
             }
@@ -131,6 +144,7 @@ impl<W: Sink> Sink for Gather<W> {
             (append_known (W.contents self.new.writer) self.new.kept) }
         ensures kept { OnOk result (self.new.kept ≡ []) }
         ensures room { OnOk result (self.new.room ≤ ROOM_AT_REST) }
+        ensures limit { self.new.limit ≡ self.old.limit }
         ensures answer { IsFlushOf (W.last self.new.writer) result }
     {
         self.hand_on()?;

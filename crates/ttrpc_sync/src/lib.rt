@@ -14,7 +14,7 @@ mod work;
 pub use ends::{
     BATCH_BYTES, BATCH_LOANS, Batch, Connected, Held, Loan, Next, ReadEnd, Taken, Turn, WriteEnd,
 };
-pub use gather::{GATHER_LIMIT, Gather, ROOM_AT_REST};
+pub use gather::{GATHER_LIMIT, Gather, PART_LIMIT, ROOM_AT_REST};
 pub use link::{AfterQueuing, Host, Link, Outlet, Runtime, after_queuing, moment};
 pub use loops::{read_loop, write_loop};
 pub use ports::{PortState, ReadPort, WritePort};

@@ -7,17 +7,17 @@ use Rattle.ttrpc_connection.specs.Deadlines.{deadline_of}
 use Rattle.ttrpc_client.specs.Protocol.{Requests}
 use Rattle.ttrpc_sync.specs.Queuing.{queuing_of, turn_after_queuing}
 use Rattle.ttrpc_sync_client.specs.Held.{manner_of}
-use Rattle.ttrpc_sync_client.specs.ReadTurns.{begun, is_alone, turn_waking, wakes_thread}
+use Rattle.ttrpc_sync_client.specs.ReadTurns.{begun, is_alone, may_write, turn_waking, wakes_thread}
 use Rattle.ttrpc_sync_client.specs.declared.connection.Asked.{Asked}
 use Rattle.ttrpc_sync_client.specs.declared.ports.client.ClientHeld.{ClientHeld}
 
--- The request of a call was queued at a moment. Its caller waits until the call's deadline, and writes and reads for itself
--- where it is alone and may; else who writes and who reads is woken, where that is to be.
+-- The request of a call was queued at a moment. Its caller waits until the call's deadline, writes for itself where it may, and
+-- reads for itself where it is alone, too; else who writes and who reads is woken, where that is to be.
 pub record Asks {O I : Type 0} (seals : OutboundTransform O) (old : ClientHeld O I) (request : Request) (now : ℕ) (asked : Asked) (new : ClientHeld O I) : Type 0 where
   pub requests : Requests seals old.core request now asked.waiting.id new.core
   pub deadline : asked.waiting.deadline ≡ deadline_of now request.timeout_nano
   pub alone : asked.waiting.is_alone ≡ is_alone old.reading (manner_of old.core request now new.core)
-  pub queued : asked.queued ≡ queuing_of old.turn asked.waiting.is_alone
-  pub turn : new.turn ≡ turn_after_queuing old.turn asked.waiting.is_alone
+  pub queued : asked.queued ≡ queuing_of old.turn (may_write old.reading (manner_of old.core request now new.core))
+  pub turn : new.turn ≡ turn_after_queuing old.turn (may_write old.reading (manner_of old.core request now new.core))
   pub wakes : asked.wakes ≡ (if asked.waiting.is_alone then false else wakes_thread (begun old.reading asked.waiting.id false))
   pub reading : new.reading ≡ (if asked.waiting.is_alone then begun old.reading asked.waiting.id true else turn_waking (begun old.reading asked.waiting.id false))

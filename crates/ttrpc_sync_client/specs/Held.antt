@@ -10,7 +10,9 @@ use Rattle.ttrpc_secure.specs.declared.transform.InboundTransform.{Ghosts as Inb
 use Rattle.ttrpc_secure.specs.declared.transform.OutboundTransform.{Ghosts as OutboundTransform}
 use Rattle.ttrpc_connection.specs.Deadlines.{deadline_of}
 use Rattle.ttrpc_connection.specs.OneEnd.{Takes, lendable}
-use Rattle.ttrpc_client.specs.Protocol.{Ticks, calling, due_ids}
+use Rattle.ttrpc_client.specs.Protocol.{Ticks}
+use Rattle.ttrpc_client.specs.State.{due_ids}
+use Rattle.ttrpc_client.specs.Inside.{calling}
 use Rattle.ttrpc_client.specs.declared.client.ClientCore.{ClientCore}
 use Rattle.ttrpc_sync.specs.declared.ends.connected.Taken.{Taken}
 use Rattle.ttrpc_sync_client.specs.ReadTurns.{ended, hands_over, onward_of, reads_on, turn_onward}
@@ -90,12 +92,12 @@ is_alive core = if is_some core.connection.failure then false else true
 
 -- ---- calls
 
--- how a call was made at a moment: its frame is short where nothing waits to be written before it, and at most so many bytes
--- do then
+-- how a call was made at a moment: whether nothing waited to be written before it, and whether at most so many bytes do then
 abbrev pub manner_of : {O I : Type 0} → ClientCore O I → Request → (now : ℕ) → ClientCore O I → Manner
 manner_of old request now new = record {
   has_deadline = is_some (deadline_of now request.timeout_nano);
-  is_short = if nat_eq (lendable old.connection) 0 then nat_le (lendable new.connection) LONE_FRAME else false;
+  is_next = nat_eq (lendable old.connection) 0;
+  is_short = nat_le (lendable new.connection) LONE_FRAME;
 }
 
 -- no call will ever expire

@@ -92,10 +92,11 @@ impl<O: OutboundTransform + Drop, I: InboundTransform + Drop> ClientConn<O, I> {
         let mut guard = shared.held().lock(rt);
         let asked = queue_request(&mut guard, rt.alloc(), request, now)?;
         drop(guard);
-        self.link.go_on(rt, asked.queued);
+        // First the reader: a peer that writes before it reads would hold who writes a long frame.
         if asked.wakes {
             shared.wake_reader();
         }
+        self.link.go_on(rt, asked.queued);
         Ok(asked.waiting)
     }
 
@@ -181,9 +182,9 @@ fn is_answer(outcome: &Result<Response>) -> bool
     matches!(outcome, Ok(_) | Err(Error::RpcStatus(_)))
 }
 
-/// Queues the request of a call, and says what is to be done next. Its caller writes and reads for itself where no other
-/// call is under way, it has no deadline, and the socket surely has room for its frame: a peer that writes or reads
-/// nothing would hold it.
+/// Queues the request of a call, and says what is to be done next. Its caller writes for itself where no other call is
+/// under way and it has no deadline, and reads for itself, too, where the socket surely has room for its frame: a peer
+/// that writes or reads nothing would hold it.
 fn queue_request<O: OutboundTransform + Drop, I: InboundTransform + Drop>(
     held: &mut ClientHeld<O, I>,
     alloc: Global,
@@ -199,10 +200,12 @@ fn queue_request<O: OutboundTransform + Drop, I: InboundTransform + Drop>(
     let id = held.request(alloc, request, now)?;
     let manner = Manner {
         has_deadline: deadline.is_some(),
-        is_short: nothing_waits && held.core.lendable() <= LONE_FRAME,
+        is_next: nothing_waits,
+        is_short: held.core.lendable() <= LONE_FRAME,
     };
+    let may_write = held.reading.may_write(manner);
     let is_alone = held.reading.begins(id, manner);
-    let queued = after_queuing(&mut held.turn, is_alone);
+    let queued = after_queuing(&mut held.turn, may_write);
     let wakes = !is_alone && held.reading.wakes();
     Ok(Asked {
         waiting: Waiting {

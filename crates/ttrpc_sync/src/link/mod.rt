@@ -11,7 +11,7 @@ pub use self::queuing::{AfterQueuing, after_queuing};
 pub use self::runtime::{Host, Runtime, moment};
 use crate::ends::{Connected, WriteEnd};
 use crate::link::inlet::Inlet;
-use crate::{Gather, ReadPort, read_loop, write_loop};
+use crate::{GATHER_LIMIT, Gather, PART_LIMIT, ReadPort, read_loop, write_loop};
 use std::alloc::{AllocError, Global};
 use std::io::BufReader;
 use std::sync::{Arc, Mutex, Wait};
@@ -32,6 +32,14 @@ pub struct Link<S: Connected> {
     intake: Mutex<BufReader<Inlet>>,
 }
 
+// How many bytes are kept before they leave: a whole frame, unless each write goes out at once.
+fn kept_of(stream: &PipeConnection) -> usize {
+    match stream.nodelay() {
+        Ok(true) => PART_LIMIT,
+        _ => GATHER_LIMIT,
+    }
+}
+
 impl<S: Connected> Link<S> {
     /// Wraps `stream`; its threads share `shared`.
     pub fn new(
@@ -44,10 +52,11 @@ impl<S: Connected> Link<S> {
         let Ok(intake) = BufReader::with_capacity(alloc, INTAKE, inlet) else {
             return Err(AllocError);
         };
+        let gather = Gather::with_limit(alloc, outlet, kept_of(&stream));
         Ok(Link {
             shared,
             stream,
-            gather: Mutex::new(Gather::new(alloc, outlet)),
+            gather: Mutex::new(gather),
             intake: Mutex::new(intake),
         })
     }
@@ -70,7 +79,8 @@ impl<S: Connected> Link<S> {
 
     /// Writes what is queued, each time when there is something and nobody else writes, until the connection has failed.
     pub fn write<X: Wait>(&self, rt: &X, alloc: Global) -> Result<(), AllocError> {
-        let mut gather = Gather::new(alloc, Outlet::new(Arc::try_clone(&self.stream)?));
+        let outlet = Outlet::new(Arc::try_clone(&self.stream)?);
+        let mut gather = Gather::with_limit(alloc, outlet, kept_of(&self.stream));
         let mut port = WriteEnd::staying(rt, &self.shared);
         write_loop(rt, &mut gather, &mut port);
         Ok(())

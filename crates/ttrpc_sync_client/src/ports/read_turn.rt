@@ -1,11 +1,11 @@
 //! Whose turn it is to read.
 ghost use Rattle.std.specs.Prelude.{◌≡◌, true, false, if◌then◌else◌};
-ghost use Rattle.ttrpc_sync_client.specs.ReadTurns.{begun, ended, finished, hands_over, is_alone, is_free, may_rest, may_take, new_turn, onward_of, reads_on, turn_onward, turn_waking, wakes_thread};
+ghost use Rattle.ttrpc_sync_client.specs.ReadTurns.{begun, ended, finished, hands_over, is_alone, is_free, may_rest, may_take, may_write, new_turn, onward_of, reads_on, turn_onward, turn_waking, wakes_thread};
 
 use ttrpc_client::CallId;
 
-/// The longest frame that a caller writes for itself. Each socket's buffer has room for it, so the write doesn't wait for a
-/// peer that writes before it reads.
+/// The longest frame that a caller writes before it reads for itself. Each socket's buffer has room for it, so the write
+/// doesn't wait for a peer that writes before it reads.
 pub const LONE_FRAME: usize = 4096;
 
 /// How many calls in a row are alone before the reader thread rests. Then callers read for themselves,
@@ -74,6 +74,8 @@ pub struct ReadTurn {
 pub struct Manner {
     /// Whether it may expire.
     pub has_deadline: bool,
+    /// Whether nothing waits to be written before its frame.
+    pub is_next: bool,
     /// Whether its frame is at most `LONE_FRAME` bytes long.
     pub is_short: bool,
 }
@@ -93,16 +95,21 @@ impl ReadTurn {
         }
     }
 
+    /// Whether the caller of a call that begins may write for itself: it has no deadline, no other call is under way, and
+    /// the peer has read all that was written before.
+    pub fn may_write(&self, manner: Manner) -> bool
+        ensures { result ≡ may_write self.now manner }
+    {
+        manner.is_next && !manner.has_deadline && self.unread.is_none() && self.callers == 0
+    }
+
     /// A call has begun. True: its caller is alone, and may write and read for itself. Neither can hold it: the peer has
     /// read all that was written before, so the socket has room for its short frame, and it has no deadline.
     pub fn begins(&mut self, id: CallId, manner: Manner) -> bool
         ensures result { result ≡ is_alone self.old manner }
         ensures turn { self.new ≡ begun self.old id (is_alone self.old manner) }
     {
-        let is_alone = manner.is_short
-            && !manner.has_deadline
-            && self.callers == 0
-            && self.unread.is_none();
+        let is_alone = manner.is_short && self.may_write(manner);
         self.callers = self.callers.saturating_add(1);
         self.alone = if is_alone {
             self.alone.saturating_add(1).min(CALLS_TO_REST)

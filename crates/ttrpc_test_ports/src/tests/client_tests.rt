@@ -46,6 +46,7 @@ fn a_caller_reads_for_itself(rt: HostRuntime) -> Tested {
     let id = call(&rt, rt.alloc(), &shared)?;
     let short = Manner {
         has_deadline: false,
+        is_next: true,
         is_short: true,
     };
     assert!(rt; shared.held().lock(&rt).reading.begins(id, short));

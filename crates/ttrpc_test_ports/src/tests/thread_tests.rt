@@ -43,6 +43,7 @@ fn make_lone_calls(rt: &impl Wait, shared: &Client) {
     for id in 0..CALLS_TO_REST {
         let short = Manner {
             has_deadline: false,
+            is_next: true,
             is_short: true,
         };
         let _ = held.reading.begins(id, short);
@@ -57,6 +58,7 @@ fn call_later<X: Wait + Clock>(rt: &X, shared: &Client) -> bool {
     let mut held = shared.held().lock(rt);
     let limited = Manner {
         has_deadline: true,
+        is_next: true,
         is_short: true,
     };
     let is_alone = held.reading.begins(99, limited);

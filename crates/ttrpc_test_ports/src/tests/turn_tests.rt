@@ -45,6 +45,7 @@ fn who_leaves_wakes_the_writer(rt: HostRuntime) -> Tested {
 /// A call that is short and never expires.
 const SHORT: Manner = Manner {
     has_deadline: false,
+    is_next: true,
     is_short: true,
 };
 
@@ -56,6 +57,12 @@ const LIMITED: Manner = Manner {
 
 const LONG: Manner = Manner {
     is_short: false,
+    ..SHORT
+};
+
+/// One before whose frame others wait.
+const BEHIND: Manner = Manner {
+    is_next: false,
     ..SHORT
 };
 
@@ -112,13 +119,19 @@ fn the_reader_rests_behind_lone_calls(rt: HostRuntime) -> Tested {
     Ok(())
 }
 
-/// A long call isn't alone, and neither is one behind a call that the peer hasn't answered: it may not have read that.
+/// A long call isn't alone, and neither is one behind a call that the peer hasn't answered: it may not have read that. A
+/// long call is still written by its caller.
 #[test]
 fn a_call_that_may_wait_is_not_alone(rt: HostRuntime) -> Tested {
     let mut turn = behind_one(&rt, LONG);
+    assert!(rt; turn.may_write(LONG));
+    assert!(rt; !turn.may_write(LIMITED));
+    assert!(rt; !turn.may_write(BEHIND));
     assert!(rt; turn.begins(3, SHORT));
+    assert!(rt; !turn.may_write(LONG));
     turn.ended(3);
     turn.finished(3, false);
+    assert!(rt; !turn.may_write(LONG));
     assert!(rt; !turn.begins(5, SHORT));
     turn.ended(5);
     turn.finished(5, true);

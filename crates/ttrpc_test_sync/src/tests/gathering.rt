@@ -9,7 +9,7 @@ use std::sync::Wait;
 use std::test::Fail;
 use ttrpc_bench::{AT_ONCE, Manner, Receiver};
 use ttrpc_frame::Sink;
-use ttrpc_sync::{GATHER_LIMIT, Gather, PortState, WritePort, write_loop};
+use ttrpc_sync::{GATHER_LIMIT, Gather, PART_LIMIT, PortState, WritePort, write_loop};
 use ttrpc_wire::values::slices::{behind, front};
 
 type Tested = Result<(), Fail>;
@@ -102,6 +102,23 @@ fn a_frame_of_the_greatest_length_is_kept_whole(rt: HostRuntime) -> Tested {
     assert!(rt; gather.flush().is_ok());
     assert_eq!(rt; through.calls.get(), 2);
     assert_eq!(rt; through.bytes.get(), 4194315);
+    keeps(&gather, 0)
+}
+
+/// With a lower limit the front of a long frame leaves before its end is there.
+#[test]
+fn a_long_frame_leaves_in_parts(rt: HostRuntime) -> Tested {
+    let through = Through::none();
+    let mut gather = Gather::with_limit(rt.alloc(), &through, PART_LIMIT);
+    for _ in 0..32 {
+        assert!(rt; matches!(gather.write(&[7; 4096]), Ok(4096)));
+    }
+    keeps(&gather, 65536)?;
+    assert_eq!(rt; through.calls.get(), 1);
+    assert_eq!(rt; through.bytes.get(), 65536);
+    assert!(rt; gather.flush().is_ok());
+    assert_eq!(rt; through.calls.get(), 2);
+    assert_eq!(rt; through.bytes.get(), 131072);
     keeps(&gather, 0)
 }
 

@@ -1,6 +1,6 @@
 use Rattle.std.proofs.Common.{rules, ◌≡◌, ℕ, false, None, Option, Some, IfSome, inl, subst}
 use Rattle.std.specs.Prelude.{is_none}
-use Rattle.ttrpc_client.specs.Protocol.{IsDeadline}
+use Rattle.ttrpc_client.specs.State.{IsDeadline}
 use Rattle.ttrpc_sync_client.specs.Held.{TellsEnded}
 use Rattle.ttrpc_sync_client.specs.declared.ports.read_turn.ReadTurn.{ReadTurn}
 use Rattle.ttrpc_sync_client.proofs.connection.ticked.Goals as goal
