@@ -2,3 +2,4 @@ pub mod Connecting
 pub mod Passing
 pub mod Needs
 pub mod Sockets
+pub mod Waiting

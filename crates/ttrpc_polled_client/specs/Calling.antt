@@ -11,7 +11,11 @@ use Rattle.ttrpc_polled.specs.Sockets.{IsNotMade}
 use Rattle.ttrpc_polled_client.specs.declared.asked.Asked.TheVariants.{Asks}
 use Rattle.ttrpc_polled_client.specs.declared.calls.Calling.{Calling}
 use Rattle.ttrpc_polled_client.specs.declared.calls.Calling.TheVariants.{Done, Refused, Waits}
+use Rattle.ttrpc_polled_client.specs.declared.calls.OpeningAt.{OpeningAt}
+use Rattle.ttrpc_polled_client.specs.declared.calls.OpeningAt.TheVariants as opening
 use Rattle.ttrpc_polled_client.specs.declared.line.ClientLine.{ClientLine}
+use Rattle.ttrpc_polled_client.specs.declared.opening.Opening.{Opening}
+use Rattle.ttrpc_polled_client.specs.declared.opening.Prepared.{Prepared}
 
 -- the request that asks a service's method with this payload, as the context says
 abbrev pub asks_for : List ℕ → List ℕ → Carried → List ℕ → Request
@@ -33,3 +37,13 @@ abbrev pub CallGives : {O I P : Type 0} → (P → List ℕ) → (List ℕ → O
 CallGives written meaning (Waits call reply) r = IfOk r (λ value. (payload : List ℕ) × (meaning (written reply ++ payload) ≡ Some value))
 CallGives written meaning (Refused e) r = r ≡ Err e
 CallGives written meaning Done r = r ≡ Err LocalClosed
+
+-- what a stream is opened with: this, and this line for each half
+abbrev pub IsPrepared : {O I : Type 0} → ClientLine O I → Opening → Prepared O I → Type 0
+IsPrepared line opens p = (p.opening ≡ opens) × (arc_value p.sends ≡ line) × (arc_value p.receives ≡ line)
+
+-- It is to be opened by this on this line, or it was refused for this.
+abbrev pub IsOpening : {R O I : Type 0} → ClientLine O I → Opening → (Error → Type 0) → OpeningAt R O I → Type 0
+IsOpening line opens refuses (opening.Opens stream client) = IsSomeAnd stream.prepared (IsPrepared line opens)
+IsOpening line opens refuses (opening.Refused e) = refuses e
+IsOpening line opens refuses opening.Done = ⊥

@@ -11,7 +11,9 @@ use Rattle.ttrpc_connection.specs.declared.failure.Failure.{Failure}
 use Rattle.ttrpc_connection.specs.declared.failure.Failure.TheVariants.{Told}
 use Rattle.ttrpc_connection.specs.OneEnd.{Ends, Lends, Takes, failing, lending, reporting}
 use Rattle.ttrpc_client.specs.declared.client.ClientCore.{ClientCore}
-use Rattle.ttrpc_client.specs.Protocol.{IsDeadline, Ticks, calling, due_ids}
+use Rattle.ttrpc_client.specs.Protocol.{Ticks}
+use Rattle.ttrpc_client.specs.State.{IsDeadline, due_ids}
+use Rattle.ttrpc_client.specs.Inside.{calling}
 
 -- the core once it has told of all calls that ended, and of all streams for which something came
 abbrev pub all_told : {O I : Type 0} → ClientCore O I → ClientCore O I

@@ -11,7 +11,8 @@ use Rattle.ttrpc_connection.specs.Items.{close_flags}
 use Rattle.ttrpc_connection.specs.Outbox.{is_sent}
 use Rattle.ttrpc_client.specs.declared.client.ClientCore.{ClientCore}
 use Rattle.ttrpc_client.specs.declared.streams.Sender.TheVariants as sender
-use Rattle.ttrpc_client.specs.Protocol.{OpensStream, RefusesRequest, RefusesSending, RefusesStream, Requests, SendsOn, TakesOutcome}
+use Rattle.ttrpc_client.specs.Protocol.{RefusesRequest, Requests, TakesOutcome}
+use Rattle.ttrpc_client.specs.Streaming.{OpensStream, RefusesSending, RefusesStream, SendsOn}
 use Rattle.ttrpc_polled_streams.specs.Steps as streams
 use Rattle.ttrpc_polled_streams.specs.declared.sending.Sending.{Sending}
 use Rattle.ttrpc_polled_client.specs.declared.asked.Asked.{Asked}

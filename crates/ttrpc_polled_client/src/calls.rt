@@ -1,11 +1,11 @@
 //! Calls and streams whose values are messages.
-ghost use Rattle.std.specs.Prelude.{◌≡◌, [], IfErr, IfOk};
+ghost use Rattle.std.specs.Prelude.{◌≡◌, [], true, false, IfErr, IfOk, IsSomeAnd};
 ghost use Rattle.std.specs.Arc.{arc_value};
 ghost use Rattle.futures.specs.Poll.{IfReady, OnPending};
 ghost use Rattle.futures.specs.Task.{Covers, Keeps};
 ghost use Rattle.ttrpc_proto.specs.declared.error.Error.{Error as AnError};
 ghost use Rattle.ttrpc_polled_streams.specs.Items.{GivesItemOrEnd};
-ghost use Rattle.ttrpc_polled_client.specs.Calling.{IsCalling, IsNotCalled, asks_for};
+ghost use Rattle.ttrpc_polled_client.specs.Calling.{IsCalling, IsNotCalled, IsOpening, IsPrepared, asks_for};
 ghost use Rattle.ttrpc_polled_client.specs.Needs.{line_source};
 ghost use Rattle.ttrpc_polled_streams.specs.Needs.{receiver_source};
 
@@ -242,13 +242,13 @@ where
     R: Timed,
     O: OutboundTransform + Drop,
     I: InboundTransform + Drop,
+    ensures { IsOpening (arc_value client.now.line) (record { request = asks_for service.now stream.now context []; streaming_client = true; streaming_server = streaming_server })
+        (λ e. e ≡ AnError.NoMemory) result.at }
 {
-    opening(
-        client,
-        bare_request(client.alloc(), service, stream, context),
-        true,
-        streaming_server,
-    )
+    match bare_request(client.alloc(), service, stream, context) {
+        Ok(request) => opening(client, request, true, streaming_server),
+        Err(error) => ClientOpening::of(OpeningAt::Refused(error)),
+    }
 }
 
 /// The stream of this name of a service, of which this value is the client's one item.
@@ -265,15 +265,36 @@ where
     I: InboundTransform + Drop,
     Q: Codec,
     Q::E: Display + Drop,
+    ensures { IsOpening (arc_value client.now.line) (record { request = asks_for service.now stream.now context (Q.written message.now); streaming_client = false; streaming_server = true })
+        (IsNotCalled Q.E.is_no_memory Q.E.output (Q.written message.now)) result.at }
 {
-    let request = request_of(client.alloc(), service, stream, context, message);
-    opening(client, request, false, true)
+    match request_of(client.alloc(), service, stream, context, message) {
+        Ok(request) => opening(client, request, false, true),
+        Err(error) => ClientOpening::of(OpeningAt::Refused(error)),
+    }
+}
+
+impl<K, R, O, I> ClientOpening<K, R, O, I>
+where
+    R: Timed,
+    O: OutboundTransform + Drop,
+    I: InboundTransform + Drop,
+{
+    /// A stream that is here.
+    fn of(at: OpeningAt<R, O, I>) -> Self
+        ensures { result.at ≡ at }
+    {
+        ClientOpening {
+            at,
+            kind: PhantomData,
+        }
+    }
 }
 
 /// The stream that this request opens.
 fn opening<K, R, O, I>(
     client: &Client<R, O, I>,
-    request: Result<Request>,
+    request: Request,
     streaming_client: bool,
     streaming_server: bool,
 ) -> ClientOpening<K, R, O, I>
@@ -281,30 +302,17 @@ where
     R: Timed,
     O: OutboundTransform + Drop,
     I: InboundTransform + Drop,
+    ensures { IsOpening (arc_value client.now.line) (record { request = request; streaming_client = streaming_client; streaming_server = streaming_server })
+        (λ e. e ≡ AnError.NoMemory) result.at }
 {
-    let at = match prepared(client, request, streaming_client, streaming_server) {
-        Ok((opens, client)) => OpeningAt::Opens(opens, client),
-        Err(error) => OpeningAt::Refused(error),
+    let opens = match client.new_stream(request, streaming_client, streaming_server) {
+        Ok(opens) => opens,
+        Err(error) => return ClientOpening::of(OpeningAt::Refused(error)),
     };
-    ClientOpening {
-        at,
-        kind: PhantomData,
-    }
-}
-
-fn prepared<R, O, I>(
-    client: &Client<R, O, I>,
-    request: Result<Request>,
-    streaming_client: bool,
-    streaming_server: bool,
-) -> Result<(ClientNewStream<O, I>, Client<R, O, I>)>
-where
-    R: Timed,
-    O: OutboundTransform + Drop,
-    I: InboundTransform + Drop,
-{
-    let opens = client.new_stream(request?, streaming_client, streaming_server)?;
-    Ok((opens, client.try_clone()?))
+    ClientOpening::of(match client.try_clone() {
+        Ok(client) => OpeningAt::Opens(opens, client),
+        Err(error) => OpeningAt::Refused(error),
+    })
 }
 
 /// The request that opens a stream, without a payload.

@@ -4,3 +4,4 @@ pub mod Items
 pub mod Needs
 pub mod Steps
 pub mod Polling
+pub mod Waiting

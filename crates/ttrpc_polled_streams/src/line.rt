@@ -1,13 +1,17 @@
 //! What the streams of a connection share with its future.
-ghost use Rattle.std.specs.Prelude.{◌≡◌};
+ghost use Rattle.std.specs.Prelude.{◌≡◌, ◌++◌, ℕ, List, [], None, length};
+ghost use Rattle.std.specs.BTreeMap.{is_at};
+ghost use Rattle.std.specs.Set.{remove_key};
 ghost use Rattle.futures.specs.Poll.{OnPending};
 ghost use Rattle.futures.specs.Task.{Covers, Keeps};
 ghost use Rattle.ttrpc_polled_streams.specs.Polling.{Polls, answer_of};
 ghost use Rattle.ttrpc_polled_streams.specs.Steps.{IsStep, is_new};
+ghost use Rattle.ttrpc_polled_streams.specs.Waiting.{IfUnsent, nobody};
 
 use crate::sending::Sending;
 use futures::task::{Context, Poll, Source};
 use std::alloc::Global;
+use std::marker::Model;
 use ttrpc_connection::{StreamCore, Ticket};
 use ttrpc_polled::Wakers;
 use ttrpc_proto::Result;
@@ -64,16 +68,26 @@ pub trait StreamLine: Drop {
     fn drop_sender(&self, id: Self::Id);
 }
 
-/// The wakers of those who use the streams of a connection.
+/// The wakers of those who use the streams of a connection, which contracts see as what they wait for.
 #[derive(Drop)]
 pub struct StreamWakers<K: Ord + Drop> {
     senders: Wakers<Ticket>,
     receivers: Wakers<K>,
 }
 
+impl<K: Ord + Drop> Model for StreamWakers<K> {
+    ghost use Rattle.ttrpc_polled_streams.specs.Waiting.{Waiting};
+
+    ghost Value = { Waiting K };
+
+    ghost view = { λ w. record { senders = w.senders; receivers = w.receivers } };
+}
+
 impl<K: Ord + Copy + Drop> StreamWakers<K> {
     /// Nobody waits.
-    pub fn new(alloc: Global) -> StreamWakers<K> {
+    pub fn new(alloc: Global) -> StreamWakers<K>
+        ensures { result ≡ nobody }
+    {
         StreamWakers {
             senders: Wakers::new(alloc),
             receivers: Wakers::new(alloc),
@@ -81,21 +95,26 @@ impl<K: Ord + Copy + Drop> StreamWakers<K> {
     }
 
     /// How many wait to receive.
-    pub fn receivers(&self) -> usize {
+    pub fn receivers(&self) -> usize
+        ensures { result ≡ length self.now.receivers }
+    {
         self.receivers.len()
     }
 
     /// Wakes who receives from this stream.
-    pub fn wake_receiver(&mut self, id: K) {
+    pub fn wake_receiver(&mut self, id: K)
+        ensures { self.new ≡ record self.old { receivers = remove_key (is_at (K.cmp id)) self.old.receivers } }
+    {
         self.receivers.wake(id);
     }
 
-    /// Wakes those whose frames have left the core.
-    pub fn wake_sent<C: StreamCore>(&mut self, alloc: Global, core: &C) {
-        for _ in 0..u64::MAX {
-            let Some(ticket) = self.senders.first() else {
-                return;
-            };
+    /// Wakes those whose frames have left the core, up to the first frame that hasn't.
+    pub fn wake_sent<C: StreamCore>(&mut self, alloc: Global, core: &C)
+        ensures first { IfUnsent (λ ticket. C.tells_sent core.now ticket None) self.new.senders }
+        ensures woken { (woken : List ℕ) × (self.old.senders ≡ woken ++ self.new.senders) }
+        ensures receivers { self.new.receivers ≡ self.old.receivers }
+    {
+        while let Some(ticket) = self.senders.first() {
             if core.item_sent(alloc, ticket).is_none() {
                 return;
             }
@@ -104,7 +123,9 @@ impl<K: Ord + Copy + Drop> StreamWakers<K> {
     }
 
     /// Wakes everybody, since the connection has failed.
-    pub fn wake_all(&mut self) {
+    pub fn wake_all(&mut self)
+        ensures { self.new ≡ nobody }
+    {
         self.senders.wake_all();
         self.receivers.wake_all();
     }
