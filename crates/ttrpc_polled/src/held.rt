@@ -36,6 +36,9 @@ pub trait Held: Drop {
     // Whether the connection has failed.
     ghost failed: { Self → Bool };
 
+    // So many wait for frames of streams to be sent.
+    ghost senders: { Self → ℕ };
+
     /// Takes a front of a piece at this moment, in nanoseconds, and says of how many bytes. `None`: the connection has failed.
     fn take(&mut self, alloc: Global, piece: &[u8], now: u64) -> Option<usize>
         ensures bound { IfSome result (λ n. n ≤ length piece.now) }
@@ -69,6 +72,10 @@ pub trait Held: Drop {
     /// Whether the connection has failed.
     fn has_failed(&self) -> bool
         ensures { result ≡ failed self.now };
+
+    /// How many wait for frames of streams to be sent. They may have more to send once these are lent.
+    fn senders(&self) -> usize
+        ensures { result ≡ senders self.now };
 
     /// The waker of the connection's future, which is woken by being dropped.
     fn driver(&mut self) -> &mut Option<Waker>;

@@ -28,6 +28,8 @@ use ttrpc_proto::Result;
 pub enum Step {
     /// Something was done: look again.
     Moved,
+    /// Something was lent that isn't written yet, and those who waited for that may send more for the same write.
+    Gathered,
     /// There is nothing to do, and each source of something is heard.
     Waits,
     /// The connection is over.
@@ -86,7 +88,6 @@ impl<R: Clock + AllocGlobal + Drop, S: AsyncRead, W: AsyncWrite, C: Connected> L
         ensures kept { Keeps cx.old cx.new }
     {
         match self.poll_out(cx) {
-            Step::Over => Step::Over,
             Step::Moved => {
                 let _ = self.poll_in(cx);
                 Step::Moved
@@ -95,6 +96,7 @@ impl<R: Clock + AllocGlobal + Drop, S: AsyncRead, W: AsyncWrite, C: Connected> L
                 Step::Waits => self.poll_alarm(cx),
                 step => step,
             },
+            step => step,
         }
     }
 
@@ -108,12 +110,34 @@ impl<R: Clock + AllocGlobal + Drop, S: AsyncRead, W: AsyncWrite, C: Connected> L
         if self.outlet.kept.is_empty() {
             return self.poll_queued(cx);
         }
+        if self.gathers_more() {
+            return Step::Gathered;
+        }
         match self.outlet.poll_rest(cx) {
             Poll::Pending => self.poll_asked(cx),
             Poll::Ready(Ok(true)) => Step::Moved,
             Poll::Ready(Ok(false)) => self.broke(ErrorKind::WriteZero),
             Poll::Ready(Err(error)) => self.broke(error.kind()),
         }
+    }
+
+    /// Gathers, behind what is kept, what those who wait for it to be sent have put in since. True: there was some.
+    fn gathers_more(&mut self) -> bool
+        ensures kept { self.old.outlet.kept ≢ [] → self.new.outlet.kept ≢ [] }
+        ensures rest { (self.new.inlet ≡ self.old.inlet) × (self.new.is_reading ≡ self.old.is_reading) }
+    {
+        if !self.outlet.has_room() {
+            return false;
+        }
+        let Some(mut held) = lock(self.shared.held()) else {
+            return false;
+        };
+        if held.has_failed() || held.senders() == 0 {
+            return false;
+        }
+        let before = self.outlet.kept.bytes().len();
+        self.outlet.gather(&mut *held);
+        before < self.outlet.kept.bytes().len()
     }
 
     /// The writer failed.
@@ -141,9 +165,14 @@ impl<R: Clock + AllocGlobal + Drop, S: AsyncRead, W: AsyncWrite, C: Connected> L
         if held.has_failed() {
             return Step::Over;
         }
+        let senders = held.senders();
         self.outlet.gather(&mut *held);
         if !self.outlet.kept.is_empty() {
-            return Step::Moved;
+            return if senders > 0 {
+                Step::Gathered
+            } else {
+                Step::Moved
+            };
         }
         wait_at(
             &self.rt,

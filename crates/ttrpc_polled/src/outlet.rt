@@ -18,6 +18,9 @@ pub const OUTLET_AT_REST: usize = 512;
 /// Once so many bytes are kept no further frame is added to them.
 pub const OUTLET_LIMIT: usize = 65536;
 
+/// While fewer bytes are kept more are gathered for the same write, where somebody may have more to send.
+pub const OUTLET_BATCH: usize = 32768;
+
 /// How many loans are taken at once at most, so that the lock is let go.
 const LOANS: u32 = 64;
 
@@ -39,11 +42,18 @@ impl<W: AsyncWrite> Outlet<W> {
         })
     }
 
+    /// Whether more is to be gathered for the same write: it has begun with nothing yet, and little is kept.
+    pub(crate) fn has_room(&self) -> bool {
+        self.kept.is_whole() && self.kept.bytes().len() < OUTLET_BATCH
+    }
+
+    #[tactic(auto, using(crate::proofs::Gathering::still_some))]
     /// Takes loans, until nothing is lent or enough is kept. Where nothing is kept then, nothing was lent, and room above that at
     /// rest is let go.
     pub fn gather<H: Held>(&mut self, held: &mut H)
         ensures gathers { (bytes : List ℕ) × Gathers H.lends held.old bytes held.new × (self.new.kept ≡ self.old.kept ++ bytes) }
         ensures none { self.new.kept ≡ [] → LendsNone H.lends held.new }
+        ensures some { self.old.kept ≢ [] → self.new.kept ≢ [] }
         ensures writer { self.new.writer ≡ self.old.writer }
     {
         self.take_loans(held);

@@ -57,6 +57,11 @@ impl Piece {
         self.from == self.to
     }
 
+    /// Whether none of them were taken yet.
+    pub(crate) fn is_whole(&self) -> bool {
+        self.from == 0
+    }
+
     /// How many more there is room for.
     pub(crate) fn room(&self) -> usize {
         self.bytes.len() - self.to

@@ -62,6 +62,8 @@ impl<
         for _ in 0..TURNS {
             match self.link.turn(cx) {
                 Step::Moved => {}
+                // Those who waited for what was lent come first, so that more goes out by one write.
+                Step::Gathered => return cx.yield_now(),
                 Step::Waits => return Poll::Pending,
                 Step::Over => return Poll::Ready(()),
             }

@@ -173,7 +173,7 @@ impl<O: OutboundTransform + Drop, I: InboundTransform + Drop> ClientHeld<O, I> {
 }
 
 impl<O: OutboundTransform + Drop, I: InboundTransform + Drop> Held for ClientHeld<O, I> {
-    ghost use Rattle.std.specs.Prelude.{◌≡◌, is_some};
+    ghost use Rattle.std.specs.Prelude.{◌≡◌, length, is_some};
     ghost use Rattle.ttrpc_connection.specs.OneEnd.{lendable};
     ghost use Rattle.ttrpc_polled_client.specs.Held.{EndsInput, ExpiresAt, LendsAndReports, TakesPiece, TicksAndTells, broken};
 
@@ -192,6 +192,8 @@ impl<O: OutboundTransform + Drop, I: InboundTransform + Drop> Held for ClientHel
     ghost expires = { λ held at. ExpiresAt held.core at };
 
     ghost failed = { λ held. is_some held.core.connection.failure };
+
+    ghost senders = { λ held. length held.streams.senders };
 
     fn take(&mut self, alloc: Global, piece: &[u8], _now: u64) -> Option<usize> {
         let Ok(count) = take_on(&mut self.core, alloc, piece) else {
@@ -236,6 +238,10 @@ impl<O: OutboundTransform + Drop, I: InboundTransform + Drop> Held for ClientHel
 
     fn has_failed(&self) -> bool {
         self.core.has_failed()
+    }
+
+    fn senders(&self) -> usize {
+        self.streams.senders()
     }
 
     fn driver(&mut self) -> &mut Option<Waker> {

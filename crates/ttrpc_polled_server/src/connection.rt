@@ -124,7 +124,7 @@ where
         if !self.is_over {
             match self.link.turn(cx) {
                 Step::Waits => {}
-                Step::Moved => return Step::Moved,
+                Step::Moved | Step::Gathered => return Step::Moved,
                 Step::Over => {
                     self.is_over = true;
                     return Step::Moved;
@@ -329,7 +329,7 @@ where
     fn poll(&mut self, cx: &mut Context<'_>) -> Poll<()> {
         for _ in 0..TURNS {
             match self.turn(cx) {
-                Step::Moved => {}
+                Step::Moved | Step::Gathered => {}
                 Step::Waits => return Poll::Pending,
                 Step::Over => return Poll::Ready(()),
             }

@@ -183,7 +183,7 @@ impl<O: OutboundTransform + Drop, I: InboundTransform + Drop> ServerHeld<O, I> {
 }
 
 impl<O: OutboundTransform + Drop, I: InboundTransform + Drop> Held for ServerHeld<O, I> {
-    ghost use Rattle.std.specs.Prelude.{◌≡◌, true, is_some};
+    ghost use Rattle.std.specs.Prelude.{◌≡◌, length, true, is_some};
     ghost use Rattle.ttrpc_connection.specs.OneEnd.{lendable};
     ghost use Rattle.ttrpc_polled_server.specs.Held.{ExpiresAt, LendsAndReports, TakesPiece, TicksAndTells, broken};
 
@@ -203,6 +203,8 @@ impl<O: OutboundTransform + Drop, I: InboundTransform + Drop> Held for ServerHel
     ghost expires = { λ held at. ExpiresAt held.core at };
 
     ghost failed = { λ held. is_some held.core.connection.failure };
+
+    ghost senders = { λ held. length held.streams.senders };
 
     fn take(&mut self, alloc: Global, piece: &[u8], now: u64) -> Option<usize> {
         let Ok(count) = take_on(&mut self.core, alloc, piece, now) else {
@@ -245,6 +247,10 @@ impl<O: OutboundTransform + Drop, I: InboundTransform + Drop> Held for ServerHel
 
     fn has_failed(&self) -> bool {
         self.core.has_failed()
+    }
+
+    fn senders(&self) -> usize {
+        self.streams.senders()
     }
 
     fn driver(&mut self) -> &mut Option<Waker> {

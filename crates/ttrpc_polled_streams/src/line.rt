@@ -94,6 +94,13 @@ impl<K: Ord + Copy + Drop> StreamWakers<K> {
         }
     }
 
+    /// How many wait for frames to be sent.
+    pub fn senders(&self) -> usize
+        ensures { result ≡ length self.now.senders }
+    {
+        self.senders.len()
+    }
+
     /// How many wait to receive.
     pub fn receivers(&self) -> usize
         ensures { result ≡ length self.now.receivers }

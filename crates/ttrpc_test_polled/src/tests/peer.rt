@@ -135,6 +135,8 @@ impl Held for PeerHeld {
 
     ghost failed = { λ held. is_some held.core.connection.failure };
 
+    ghost senders = { λ _. 0 };
+
     fn take(&mut self, alloc: Global, piece: &[u8], _now: u64) -> Option<usize> {
         let count = self.core.feed(alloc, piece, 0).ok()?;
         self.serve(alloc);
@@ -169,6 +171,10 @@ impl Held for PeerHeld {
 
     fn has_failed(&self) -> bool {
         self.core.has_failed()
+    }
+
+    fn senders(&self) -> usize {
+        0
     }
 
     fn driver(&mut self) -> &mut Option<Waker> {
