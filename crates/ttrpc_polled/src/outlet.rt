@@ -47,7 +47,6 @@ impl<W: AsyncWrite> Outlet<W> {
         self.kept.is_whole() && self.kept.bytes().len() < OUTLET_BATCH
     }
 
-    #[tactic(auto, using(crate::proofs::Gathering::still_some))]
     /// Takes loans, until nothing is lent or enough is kept. Where nothing is kept then, nothing was lent, and room above that at
     /// rest is let go.
     pub fn gather<H: Held>(&mut self, held: &mut H)

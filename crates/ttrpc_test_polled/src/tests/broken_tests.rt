@@ -2,14 +2,16 @@
 ghost use Rattle.std.specs.Prelude.{⊤};
 
 use crate::acts::{Act, Script};
-use crate::lines::Line;
+use crate::lines::{Line, Side, Speaker};
 use crate::parts::{Fault, Parts};
 use crate::tests::conversation_tests::speak;
 use crate::tests::sites::System;
+use futures::Future;
+use futures::future::Either;
 use futures::task::{Context, Poll, Source, Waker};
 use std::io::{self, ErrorKind};
 use std::test::Fail;
-use tokio::io::{AsyncRead, AsyncWrite};
+use tokio::io::{AsyncRead, AsyncWrite, DuplexStream, duplex};
 use tokio::runtime::LocalRuntime;
 use ttrpc_polled_client::Client;
 use ttrpc_secure::{HookOutput, Plain};
@@ -92,6 +94,75 @@ fn each_stream_is_told_once_that_its_connection_was_cut(rt: HostRuntime) -> Resu
         let fault = speak(&rt, 4096, acts.as_slice(), &lines)?;
         assert_eq!(rt; fault, None, "{cut}");
     }
+    Ok(())
+}
+
+/// A side of a conversation that stays behind its last line, and reads no more.
+#[derive(Drop)]
+struct Stays<'a> {
+    speaker: Option<Speaker<'a, DuplexStream, DuplexStream>>,
+    said: Option<Speaker<'a, DuplexStream, DuplexStream>>,
+    never: Source,
+    slot: Option<Waker>,
+}
+
+impl Future for Stays<'_> {
+    type Output = ();
+
+    fn poll(&mut self, cx: &mut Context<'_>) -> Poll<()> {
+        if let Some(mut speaker) = self.speaker.take() {
+            if speaker.poll(cx).is_pending() {
+                self.speaker = Some(speaker);
+                return Poll::Pending;
+            }
+            self.said = Some(speaker);
+        }
+        cx.register(&self.never, &mut self.slot)
+    }
+}
+
+/// Does these acts beside a server that says its part of these lines, and then reads nothing.
+fn run_beside_unread<R: System>(
+    rt: &R,
+    acts: &[Act],
+    lines: &[Line<'_>],
+) -> Result<Option<Fault>, Fail> {
+    let alloc = rt.alloc();
+    let mut runtime = LocalRuntime::new(rt)?;
+    let (up, up_far) = duplex(alloc, 100)?;
+    let (down, down_far) = duplex(alloc, 100)?;
+    let output = HookOutput::of_halves(alloc, Plain {}, Plain {});
+    let (client, connection) = Client::over(rt.clone()?, runtime.handle(), down_far, up, output)?;
+    let stays = Stays {
+        speaker: Some(Speaker::new(Side::Server, lines, up_far, down)),
+        said: None,
+        never: Source::new(),
+        slot: None,
+    };
+    let mut parts = Parts::new(alloc)?;
+    parts.does(Script::new(client, acts))?;
+    parts.goes(Either::Left(connection))?;
+    parts.goes(Either::Right(stays))?;
+    Ok(runtime.block_on(rt, parts)?)
+}
+
+/// What comes on two streams while the bytes of a call are never read.
+const BESIDE_UNREAD: &[Act] = &[
+    Act::Opens("Chat", b"", true, true),
+    Act::Opens("Chat", b"", true, true),
+    Act::CallsLong(250_000),
+    Act::Begins(0),
+    Act::Yields(100),
+    Act::Receives(1, Ok(b"b")),
+    Act::Receives(0, Ok(b"a")),
+    CLOSED,
+    REMOTE_CLOSED,
+];
+
+#[test]
+fn streams_receive_beside_bytes_that_are_never_read(rt: HostRuntime) -> Result<(), Fail> {
+    let lines = [Line::Up(TWO_STREAMS), Line::Down(SAID)];
+    assert_eq!(rt; run_beside_unread(&rt, BESIDE_UNREAD, &lines)?, None);
     Ok(())
 }
 

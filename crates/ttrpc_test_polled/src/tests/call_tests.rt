@@ -1,7 +1,8 @@
 use crate::tests::peer::Manners;
-use crate::tests::sites::{Site, done, make_site, request};
+use crate::tests::sites::{Site, System, done, make_site, request};
 use futures::future::{Either, join, select};
 use std::test::Fail;
+use std::time::{Duration, Instant};
 use ttrpc_proto::{Error, Response, Result as RpcResult};
 
 // Whether a call's deadline has passed.
@@ -41,25 +42,37 @@ fn a_long_call_passes_a_narrow_pipe(rt: HostRuntime) -> Result<(), Fail> {
     Ok(())
 }
 
-#[test]
-fn a_call_expires_whose_bytes_are_never_read(rt: HostRuntime) -> Result<(), Fail> {
+/// Whether a call with a limit of 50 ms is told within 500 ms that it has expired, behind one whose bytes are never read.
+fn expires_in_time<R: System>(rt: &R) -> Result<bool, Fail> {
     let Site {
         mut runtime,
         client,
         ends,
-    } = make_site(&rt, 100, Manners::ReadsNothing)?;
+    } = make_site(rt, 100, Manners::ReadsNothing)?;
     let long = vec![in rt.alloc(); 7; 250000]?;
     let other = client.request(request(rt.alloc(), "Echo", long.as_slice(), 0)?)?;
     let call = client.request(request(rt.alloc(), "Echo", b"2", 50_000_000)?)?;
-    let (first, _) = done(&rt, &mut runtime, ends, select(other, call))?;
+    let begun = Instant::now(rt)?;
+    let (first, _) = done(rt, &mut runtime, ends, select(other, call))?;
+    let elapsed = begun.elapsed(rt)?;
     match first {
         Either::Right(ended) => {
             let (outcome, _) = ended;
-            assert!(rt; has_expired(outcome));
-            Ok(())
+            Ok(has_expired(outcome) && elapsed <= Duration::from_millis(500))
         }
         Either::Left(_) => Err("the other call ended".into()),
     }
+}
+
+/// On a machine with other work one try may be late.
+#[test]
+fn a_call_expires_whose_bytes_are_never_read(rt: HostRuntime) -> Result<(), Fail> {
+    for _ in 0..5u8 {
+        if expires_in_time(&rt)? {
+            return Ok(());
+        }
+    }
+    Err("it comes late".into())
 }
 
 #[test]

@@ -4,5 +4,7 @@ mod conversation_tests;
 mod peer;
 mod recorded_tests;
 mod sites;
+mod socket_tests;
 mod stepped;
 mod stepped_tests;
+mod typed_tests;

@@ -230,7 +230,7 @@ impl<R: Clock + AllocGlobal + Drop> Future for Peer<R> {
         }
         for _ in 0..8 {
             match self.link.turn(cx) {
-                Step::Moved => {}
+                Step::Moved | Step::Gathered => {}
                 Step::Waits => return Poll::Pending,
                 Step::Over => return Poll::Ready(()),
             }

@@ -1,5 +1,5 @@
 //! The states of a client's calls and streams, stepped by hand on a core that is lent, beside the core of a server.
-use crate::acts::{Outcome, is_so, request};
+use crate::acts::{Outcome, request};
 use crate::registry::registry;
 use std::alloc::Global;
 use ttrpc_client::{CallId, ClientCore, ClientKind, StreamId};
@@ -33,6 +33,8 @@ pub enum Step {
     Down(&'static [u8], usize),
     /// Bytes that are not the server's own come to the client.
     Comes(&'static [u8]),
+    /// Bytes that are not the client's own come to the server.
+    Strays(&'static [u8]),
     /// The server takes a job: whether there is one.
     Takes(bool),
     /// The server receives from the stream of the job of this number: nothing yet, or this.
@@ -83,7 +85,7 @@ impl Bench {
                 self.calls.push(Asked::Asks(request, 0))?;
                 Ok(true)
             }
-            Step::Steps(number, expected) => Ok(self.step_call(number, expected)),
+            Step::Steps(number, expected) => self.step_call(number, expected),
             Step::Opens(name, payload, sends, receives) => {
                 self.open(name, payload, sends, receives)
             }
@@ -92,27 +94,27 @@ impl Bench {
                 self.add_sending(number, Sending::Sends(item))
             }
             Step::Closes(number) => self.add_sending(number, Sending::Closes),
-            Step::Stepped(number, expected) => Ok(self.step_sending(number, expected)),
-            Step::Receives(number, expected) => Ok(self.receive(number, expected)),
+            Step::Stepped(number, expected) => self.step_sending(number, expected),
+            Step::Receives(number, expected) => self.receive(number, expected),
             Step::Up(bytes, at_a_time) => self.pass_up(bytes, at_a_time),
             Step::Down(bytes, at_a_time) => self.pass_down(bytes, at_a_time),
             Step::Comes(bytes) => Ok(self.client.feed(self.alloc, bytes)? == bytes.len()),
+            Step::Strays(bytes) => Ok(self.server.feed(self.alloc, bytes, 0)? == bytes.len()),
             Step::Takes(is_there) => self.take_job(is_there),
-            Step::Hears(number, expected) => Ok(self.hear(number, expected)),
-            Step::Says(number, item, refusal) => Ok(self.say(number, item, refusal)),
+            Step::Hears(number, expected) => self.hear(number, expected),
+            Step::Says(number, item, refusal) => self.say(number, item, refusal),
             Step::Finishes(number, status, refusal) => self.finish(number, status, refusal),
             Step::Answers(number, payload) => self.answer(number, payload),
         }
     }
 
-    fn step_call(&mut self, number: usize, expected: Option<Outcome>) -> bool {
+    fn step_call(&mut self, number: usize, expected: Option<Outcome>) -> Result<bool> {
         let Some(call) = self.calls.get_mut(number) else {
-            return false;
+            return Ok(false);
         };
-        match (call.step(self.alloc, &mut self.client), expected) {
-            (Some(given), Some(expected)) => is_so(self.alloc, payload_of(given), expected),
-            (None, None) => true,
-            _ => false,
+        match call.step(self.alloc, &mut self.client) {
+            Some(given) => came_to(self.alloc, payload_of(given), expected),
+            None => Ok(expected.is_none()),
         }
     }
 
@@ -141,29 +143,30 @@ impl Bench {
         &mut self,
         number: usize,
         expected: Option<std::result::Result<(), &'static str>>,
-    ) -> bool {
+    ) -> Result<bool> {
         let Some(id) = self.senders.get(number) else {
-            return false;
+            return Ok(false);
         };
         let Some(sending) = self.sends.get_mut(number) else {
-            return false;
+            return Ok(false);
         };
-        match (sending.step(self.alloc, &mut self.client, *id), expected) {
-            (None, None) => true,
-            (Some(Ok(())), Some(Ok(()))) => true,
-            (Some(Err(error)), Some(Err(text))) => is_so(self.alloc, Err(error), Err(text)),
-            _ => false,
+        let Some(told) = sending.step(self.alloc, &mut self.client, *id) else {
+            return Ok(expected.is_none());
+        };
+        let told = memory_is_found(told)?;
+        match expected {
+            Some(expected) => is_told(self.alloc, told, expected.err()),
+            None => Ok(false),
         }
     }
 
-    fn receive(&mut self, number: usize, expected: Option<Outcome>) -> bool {
+    fn receive(&mut self, number: usize, expected: Option<Outcome>) -> Result<bool> {
         let Some(id) = self.streams.get(number) else {
-            return false;
+            return Ok(false);
         };
-        match (self.client.recv(self.alloc, *id), expected) {
-            (Some(given), Some(expected)) => is_so(self.alloc, given, expected),
-            (None, None) => true,
-            _ => false,
+        match self.client.recv(self.alloc, *id) {
+            Some(given) => came_to(self.alloc, given, expected),
+            None => Ok(expected.is_none()),
         }
     }
 
@@ -177,26 +180,22 @@ impl Bench {
         }
     }
 
-    fn hear(&mut self, number: usize, expected: Option<Outcome>) -> bool {
+    fn hear(&mut self, number: usize, expected: Option<Outcome>) -> Result<bool> {
         let Some(id) = self.jobs.get(number) else {
-            return false;
+            return Ok(false);
         };
-        match (self.server.recv(self.alloc, *id), expected) {
-            (Some(given), Some(expected)) => is_so(self.alloc, given, expected),
-            (None, None) => true,
-            _ => false,
+        match self.server.recv(self.alloc, *id) {
+            Some(given) => came_to(self.alloc, given, expected),
+            None => Ok(expected.is_none()),
         }
     }
 
-    fn say(&mut self, number: usize, item: &[u8], refusal: Option<&'static str>) -> bool {
+    fn say(&mut self, number: usize, item: &[u8], refusal: Option<&'static str>) -> Result<bool> {
         let Some(id) = self.jobs.get(number) else {
-            return false;
+            return Ok(false);
         };
-        match (self.server.send(self.alloc, *id, item), refusal) {
-            (Ok(_), None) => true,
-            (Err(error), Some(text)) => is_so(self.alloc, Err(error), Err(text)),
-            _ => false,
-        }
+        let said = self.server.send(self.alloc, *id, item);
+        is_told(self.alloc, said.map(|_| ()), refusal)
     }
 
     fn finish(
@@ -212,13 +211,8 @@ impl Bench {
             Some((code, message)) => Some(response_of(self.alloc, code, message)?),
             None => None,
         };
-        Ok(
-            match (self.server.end_stream(self.alloc, *id, &Ok(end)), refusal) {
-                (Ok(()), None) => true,
-                (Err(error), Some(text)) => is_so(self.alloc, Err(error), Err(text)),
-                _ => false,
-            },
-        )
+        let ended = self.server.end_stream(self.alloc, *id, &Ok(end));
+        is_told(self.alloc, ended, refusal)
     }
 
     fn answer(&mut self, number: usize, payload: &[u8]) -> Result<bool> {
@@ -265,6 +259,40 @@ impl Bench {
             self.client.feed(self.alloc, piece)?;
         }
         Ok(passed.as_slice() == bytes)
+    }
+}
+
+/// What was given, but that memory was refused, which ends the test: what follows is then another story.
+fn memory_is_found<T>(given: Result<T>) -> Result<Result<T>> {
+    match given {
+        Err(Error::NoMemory) => Err(Error::NoMemory),
+        given => Ok(given),
+    }
+}
+
+/// Whether the error has this text.
+fn has_text(alloc: Global, error: &Error, text: &str) -> Result<bool> {
+    match format!(in alloc; "{error}") {
+        Ok(told) => Ok(told.as_str() == text),
+        Err(_) => Err(Error::NoMemory),
+    }
+}
+
+/// Whether this was to be given.
+fn came_to(alloc: Global, given: Result<Blob>, expected: Option<Outcome>) -> Result<bool> {
+    match (memory_is_found(given)?, expected) {
+        (Ok(given), Some(Ok(bytes))) => Ok(given.as_slice() == bytes),
+        (Err(error), Some(Err(text))) => has_text(alloc, &error, text),
+        _ => Ok(false),
+    }
+}
+
+/// Whether it was done, or refused by this text.
+fn is_told(alloc: Global, told: Result<()>, refusal: Option<&'static str>) -> Result<bool> {
+    match (memory_is_found(told)?, refusal) {
+        (Ok(()), None) => Ok(true),
+        (Err(error), Some(text)) => has_text(alloc, &error, text),
+        _ => Ok(false),
     }
 }
 

@@ -119,12 +119,26 @@ const CALLS: &[Step] = &[
     Step::Steps(1, Some(Err(LOCAL_CLOSED))),
 ];
 
+/// An item of a stream that isn't there, and its answer.
+const STRAY: &[u8] = b"\0\0\0\x01\0\0\0\x03\x03\0\x7a";
+
+const NOT_ACTIVE: &[u8] =
+    b"\0\0\0\x20\0\0\0\x03\x02\0\x0a\x1e\x08\x03\x12\x1aStream is no longer active";
+
+/// A server that refuses what belongs to no stream.
+const SERVER_REFUSES: &[Step] = &[
+    Step::Strays(STRAY),
+    Step::Takes(false),
+    Step::Down(NOT_ACTIVE, 5),
+];
+
 const STEPS: &[(&str, &[Step])] = &[
     ("items", ITEMS),
     ("for the server", FOR_SERVER),
     ("last item", LAST_ITEM),
     ("server closes", SERVER_CLOSES),
     ("server fails", SERVER_FAILS),
+    ("server refuses", SERVER_REFUSES),
     ("calls", CALLS),
 ];
 

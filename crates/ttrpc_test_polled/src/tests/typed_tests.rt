@@ -1,0 +1,118 @@
+//! Messages that come on a stream.
+ghost use Rattle.futures.specs.Poll.{OnPending};
+ghost use Rattle.futures.specs.Task.{IsArmed, Keeps};
+
+use crate::acts::request;
+use crate::lines::{Line, Side, Speaker};
+use crate::parts::{Fault, Parts};
+use crate::tests::sites::System;
+use futures::Future;
+use futures::future::Either;
+use futures::task::{Context, Poll};
+use std::test::Fail;
+use tokio::io::duplex;
+use tokio::runtime::LocalRuntime;
+use ttrpc_polled_client::{Client, ClientLine, ClientNewStream};
+use ttrpc_polled_streams::ServerStreamReceiver;
+use ttrpc_proto::{Error, KeyValue, Result as RpcResult};
+use ttrpc_secure::{HookOutput, Plain};
+
+/// A stream that is opened, and what comes on it: a message, none, and why there is nothing more.
+#[derive(Drop)]
+struct Receipts {
+    opening: ClientNewStream<Plain, Plain>,
+    receiver: Option<ServerStreamReceiver<KeyValue, ClientLine<Plain, Plain>>>,
+    came: usize,
+}
+
+impl Receipts {
+    fn poll_opening(&mut self, cx: &mut Context<'_>) -> Poll<Option<Fault>>
+        ensures registered { OnPending result (IsArmed cx.new) }
+        ensures kept { Keeps cx.old cx.new }
+    {
+        match self.opening.poll(cx) {
+            Poll::Pending => Poll::Pending,
+            Poll::Ready(Ok(stream)) => {
+                self.receiver = Some(ServerStreamReceiver::new(stream));
+                cx.yield_now()
+            }
+            Poll::Ready(Err(_)) => Poll::Ready(Some(Fault::Stop)),
+        }
+    }
+
+    fn poll_receipt(&mut self, cx: &mut Context<'_>) -> Poll<Option<Fault>>
+        ensures registered { OnPending result (IsArmed cx.new) }
+        ensures kept { Keeps cx.old cx.new }
+    {
+        let Some(receiver) = &mut self.receiver else {
+            return Poll::Ready(Some(Fault::Stop));
+        };
+        match receiver.poll_recv(cx) {
+            Poll::Pending => Poll::Pending,
+            Poll::Ready(given) => {
+                if !is_stated(self.came, &given) {
+                    return Poll::Ready(Some(Fault::Act(self.came)));
+                }
+                if self.came == 2 {
+                    return Poll::Ready(None);
+                }
+                self.came = self.came.saturating_add(1);
+                cx.yield_now()
+            }
+        }
+    }
+}
+
+impl Future for Receipts {
+    type Output = Option<Fault>;
+
+    fn poll(&mut self, cx: &mut Context<'_>) -> Poll<Option<Fault>> {
+        if self.receiver.is_none() {
+            return self.poll_opening(cx);
+        }
+        self.poll_receipt(cx)
+    }
+}
+
+/// Whether this comes as the receipt of this number, from 0.
+fn is_stated(number: usize, given: &RpcResult<Option<KeyValue>>) -> bool {
+    match (number, given) {
+        (0, Ok(Some(pair))) => pair.key.as_str() == "k" && pair.value.as_str() == "v",
+        (1, Ok(None)) => true,
+        (2, Err(Error::RemoteClosed)) => true,
+        _ => false,
+    }
+}
+
+/// A stream, a pair on it, and its close.
+const LINES: &[Line<'static>] = &[
+    Line::Up(b"\0\0\0\x11\0\0\0\x01\x01\x06\x0a\x09demo.Echo\x12\x04Chat"),
+    Line::Down(b"\0\0\0\x06\0\0\0\x01\x03\0\x0a\x01k\x12\x01v"),
+    Line::Down(b"\0\0\0\0\0\0\0\x01\x03\x05"),
+];
+
+/// Receives beside a server that says its part of these lines.
+fn receive<R: System>(rt: &R, lines: &[Line<'_>]) -> Result<Option<Fault>, Fail> {
+    let alloc = rt.alloc();
+    let mut runtime = LocalRuntime::new(rt)?;
+    let (up, up_far) = duplex(alloc, 4096)?;
+    let (down, down_far) = duplex(alloc, 4096)?;
+    let output = HookOutput::of_halves(alloc, Plain {}, Plain {});
+    let (client, connection) = Client::over(rt.clone()?, runtime.handle(), down_far, up, output)?;
+    let receipts = Receipts {
+        opening: client.new_stream(request(alloc, "Chat", b"", 0)?, true, true)?,
+        receiver: None,
+        came: 0,
+    };
+    let mut parts = Parts::new(alloc)?;
+    parts.does(Either::Left(receipts))?;
+    parts.does(Either::Right(Speaker::new(Side::Server, lines, up_far, down)))?;
+    parts.goes(connection)?;
+    Ok(runtime.block_on(rt, parts)?)
+}
+
+#[test]
+fn messages_come_until_there_are_no_more(rt: HostRuntime) -> Result<(), Fail> {
+    assert_eq!(rt; receive(&rt, LINES)?, None);
+    Ok(())
+}
