@@ -72,6 +72,8 @@ pub enum Told {
     Figures(Figures),
     Moments(Moments),
     Rates(Rates),
+    /// So many clients rested.
+    Rested(usize),
 }
 
 impl fmt::Display for Told {
@@ -80,6 +82,7 @@ impl fmt::Display for Told {
             Told::Figures(figures) => figures.fmt(f),
             Told::Moments(moments) => moments.fmt(f),
             Told::Rates(rates) => rates.fmt(f),
+            Told::Rested(clients) => write!(f, "{clients} clients rested"),
         }
     }
 }

@@ -14,6 +14,8 @@ pub enum Target<'a> {
     Polled(&'a str),
     /// The streams of the server at this address, by such a client.
     Streams(&'a str),
+    /// Nobody: as many such clients as there are calls rest.
+    Rest,
 }
 
 /// How many calls are made, by how many callers, with how many bytes.
@@ -25,8 +27,8 @@ pub struct Load {
 }
 
 /// The load and its target that the words name: an address or `raw`, calls, callers and bytes; or `burst`, an address, calls
-/// and bytes; or `async` or `stream`, an address, calls or items, callers or streams, and bytes. There are calls and callers,
-/// and the calls' payload has at least one byte.
+/// and bytes; or `async` or `stream`, an address, calls or items, callers or streams, and bytes; or `rest` and how many clients.
+/// There are calls and callers, and the calls' payload has at least one byte.
 pub fn load_of(words: &[String]) -> Option<(Target<'_>, Load)>
     ensures { IfSome result (λ found. (0 < found.1.calls) × (0 < found.1.callers) × (0 < found.1.bytes)) }
 {
@@ -37,6 +39,9 @@ pub fn load_of(words: &[String]) -> Option<(Target<'_>, Load)>
             _ => return None,
         };
         return Some((target, load_by(calls, count_of(callers)?, bytes)?));
+    }
+    if let [word, clients] = words {
+        return rest_of(word, clients);
     }
     let [target, second, third, bytes] = words else {
         return None;
@@ -49,6 +54,20 @@ pub fn load_of(words: &[String]) -> Option<(Target<'_>, Load)>
         return Some((Target::Raw, load));
     }
     Some((Target::Server(target.as_str()), load))
+}
+
+fn rest_of<'a>(word: &String, clients: &String) -> Option<(Target<'a>, Load)>
+    ensures { IfSome result (λ found. (0 < found.1.calls) × (0 < found.1.callers) × (0 < found.1.bytes)) }
+{
+    if word.as_str() != "rest" {
+        return None;
+    }
+    let load = Load {
+        calls: count_of(clients)?,
+        callers: 1,
+        bytes: 1,
+    };
+    Some((Target::Rest, load))
 }
 
 fn load_by(calls: &String, callers: usize, bytes: &String) -> Option<Load>

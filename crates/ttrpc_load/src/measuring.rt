@@ -3,7 +3,7 @@ use crate::burst::burst;
 use crate::calling::{EchoClient, Echoes, times_of};
 use crate::figures::{Figures, Rates, Told, percentile, rate};
 use crate::load::{Load, Target, load_of, share};
-use crate::polled::{Looped, Ran, Work, run_polled};
+use crate::polled::{Looped, Ran, Work, rest, run_polled};
 use crate::raw::{connect_raw, start_raw};
 use std::alloc::Global;
 use std::io::{self, Write};
@@ -20,7 +20,7 @@ use ttrpc_sync_client::Client;
 
 const USAGE: &str =
     "usage: ttrpc-load ADDR CALLS CALLERS BYTES | raw CALLS CALLERS BYTES | burst ADDR CALLS BYTES
-       ttrpc-load async ADDR CALLS CALLERS BYTES | stream ADDR ITEMS STREAMS BYTES";
+       ttrpc-load async ADDR CALLS CALLERS BYTES | stream ADDR ITEMS STREAMS BYTES | rest CLIENTS";
 
 /// What `--help` tells behind the usage.
 const HELP: &str = "
@@ -35,6 +35,7 @@ Calls Echo of demo.Echo, and tells in a line how it went.
   stream ADDR ITEMS STREAMS BYTES
                              so many items by so many streams of such a client, on Chat, Sum and Count one after the other,
                              and how many items a second went over each
+  rest CLIENTS               so many such clients at rest, over readers and writers in memory, until it is killed
 
 Told are calls a second, and of the times of single calls the median and the 99th percentile, in microseconds. Where
 TTRPC_TCP_NODELAY_ENABLED is 1 or true, small writes by TCP go out at once.";
@@ -98,6 +99,10 @@ fn measure<R: Measured + 'static, X: Write>(
         Target::Burst(address) => return Ok(Told::Moments(burst(rt, address, load, nodelay)?)),
         Target::Polled(address) => return polled_calls(rt, address, load, nodelay),
         Target::Streams(address) => return stream_rates(rt, address, load, nodelay),
+        Target::Rest => {
+            rest(rt, load.calls)?;
+            return Ok(Told::Rested(load.calls));
+        }
     };
     if shows {
         show(rt, load, &*done, errors)?;

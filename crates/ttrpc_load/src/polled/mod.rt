@@ -2,6 +2,7 @@
 mod calls;
 mod counts;
 mod exchanges;
+mod rest;
 mod talks;
 mod tally;
 mod task;
@@ -12,6 +13,7 @@ use crate::polled::tally::Tally;
 use crate::polled::task::Tallied;
 pub use exchanges::Work;
 use futures::executor::TaskSet;
+pub use rest::rest;
 use std::alloc::Global;
 use std::io;
 use std::net::{Net, TcpListener, TcpStream};
