@@ -55,15 +55,51 @@ fn is_status<T>(answer: &Result<T>, expected: &str) -> std::result::Result<bool,
     }
 }
 
+/// The answer is an error of this text alone.
+fn is_told<T: Drop>(rt: &impl Abort, answer: Result<T>, expected: &str) -> Tested {
+    assert!(rt; is_others(&answer, expected)?);
+    Ok(())
+}
+
+/// The answer is a status of this text.
+fn is_status_told<T: Drop>(rt: &impl Abort, answer: Result<T>, expected: &str) -> Tested {
+    assert!(rt; is_status(&answer, expected)?);
+    Ok(())
+}
+
+/// The message is the data frame of this length and payload.
+fn is_frame(
+    rt: &impl Abort,
+    alloc: Global,
+    message: &GenMessage,
+    length: u32,
+    payload: &[u8],
+) -> Tested {
+    assert!(rt; *message == data_frame(alloc, length, payload)?);
+    Ok(())
+}
+
+/// The bytes are sealed to these, and these are opened to them, by the calls that bind or not.
+fn go_and_come(
+    rt: &impl Abort,
+    alloc: Global,
+    context: &mut ConnectionContext<StampOut, StampIn>,
+    bytes: &[u8],
+    sealed: &[u8],
+) -> Tested {
+    let there = context.outbound_buf(alloc, bytes, b"bound to", true)?;
+    assert!(rt; there.as_slice() == sealed);
+    let back = context.inbound_buf(alloc, sealed, b"bound to", true)?;
+    assert!(rt; back.as_slice() == bytes);
+    Ok(())
+}
+
 #[test]
 fn bytes_go_out_and_come_in(rt: HostRuntime) -> Tested {
     let alloc = rt.alloc();
     let mut context = stamped(alloc);
     assert_eq!(rt; context.max_raw_payload_len(), 4194303);
-    let sealed = context.outbound_buf(alloc, &[0x2a], b"bound to", true)?;
-    assert!(rt; sealed.as_slice() == [0x2a, 0].as_slice());
-    let opened = context.inbound_buf(alloc, &[0x2a, 0], b"bound to", true)?;
-    assert!(rt; opened.as_slice() == [0x2a].as_slice());
+    go_and_come(&rt, alloc, &mut context, &[0x2a], &[0x2a, 0])?;
     let sealed = context.transform_outbound(alloc, &[0x2b], b"bound to")?;
     assert!(rt; sealed.as_slice() == [0x2b, 1].as_slice());
     let opened = context.transform_inbound(alloc, &[0x2b, 1], b"bound to")?;
@@ -85,10 +121,9 @@ fn messages_are_sealed_and_opened(rt: HostRuntime) -> Tested {
     let mut context = stamped(alloc);
     let mut message = data_frame(alloc, 1, &[0x2a])?;
     context.outbound(alloc, &mut message, false)?;
-    assert!(rt; message == data_frame(alloc, 2, &[0x2a, 0])?);
+    is_frame(&rt, alloc, &message, 2, &[0x2a, 0])?;
     context.inbound(alloc, &mut message, false)?;
-    assert!(rt; message == data_frame(alloc, 1, &[0x2a])?);
-    Ok(())
+    is_frame(&rt, alloc, &message, 1, &[0x2a])
 }
 
 #[test]
@@ -110,28 +145,49 @@ fn messages_are_queued(rt: HostRuntime) -> Tested {
     Ok(())
 }
 
-/// A payload above the safe limit, and one that the half refuses, are told in these texts and change nothing.
+/// A payload above the safe limit is told by each call that seals, and changes nothing.
+#[test]
+fn a_payload_above_the_limit_is_told(rt: HostRuntime) -> Tested {
+    let alloc = rt.alloc();
+    let mut context = ConnectionContext::of_halves(alloc, Sealed { room: 23 }, Plain {});
+    let long = [7; 24];
+    let sealed = context.outbound_buf(alloc, &long, b"", true);
+    is_told(&rt, sealed, ABOVE_LIMIT)?;
+    let mut message = data_frame(alloc, 24, &long)?;
+    let sealed = context.outbound(alloc, &mut message, true);
+    is_told(&rt, sealed, ABOVE_LIMIT_ADVICE)?;
+    is_frame(&rt, alloc, &message, 24, &long)
+}
+
+/// The same of the calls that queue.
+#[test]
+fn a_payload_above_the_limit_is_not_queued(rt: HostRuntime) -> Tested {
+    let alloc = rt.alloc();
+    let mut context = ConnectionContext::of_halves(alloc, Sealed { room: 23 }, Plain {});
+    let mut outgoing = Outgoing::new(alloc);
+    let mut message = data_frame(alloc, 24, &[7; 24])?;
+    let sent = context.transform_send(alloc, &mut message, &mut outgoing);
+    is_told(&rt, sent, ABOVE_LIMIT_ADVICE)?;
+    is_frame(&rt, alloc, &message, 24, &[7; 24])?;
+    let header = MessageHeader::new_response(3, 0);
+    let sent = context.send_response_sync(alloc, &[7; 24], b"", &mut outgoing, header);
+    is_told(&rt, sent, ABOVE_LIMIT)?;
+    assert!(rt; outgoing.is_empty());
+    Ok(())
+}
+
+/// What the half refuses is told by its text, and isn't queued.
 #[test]
 fn what_is_not_sealed_is_told(rt: HostRuntime) -> Tested {
     let alloc = rt.alloc();
     let mut context = ConnectionContext::of_halves(alloc, Sealed { room: 23 }, Plain {});
     let mut outgoing = Outgoing::new(alloc);
-    let long = [7; 24];
-    assert!(rt; is_others(&context.outbound_buf(alloc, &long, b"", true), ABOVE_LIMIT)?);
-    let mut message = data_frame(alloc, 24, &long)?;
-    let sealed = context.outbound(alloc, &mut message, true);
-    assert!(rt; is_others(&sealed, ABOVE_LIMIT_ADVICE)?);
-    let sent = context.transform_send(alloc, &mut message, &mut outgoing);
-    assert!(rt; is_others(&sent, ABOVE_LIMIT_ADVICE)?);
-    assert!(rt; message == data_frame(alloc, 24, &long)?);
-    let header = MessageHeader::new_response(3, 0);
-    let sent = context.send_response_sync(alloc, &long, b"", &mut outgoing, header);
-    assert!(rt; is_others(&sent, ABOVE_LIMIT)?);
     let unsealed = "transform_outbound failed: sealed up";
-    assert!(rt; is_others(&context.outbound_buf(alloc, &[7; 23], b"", true), unsealed)?);
+    let sealed = context.outbound_buf(alloc, &[7; 23], b"", true);
+    is_told(&rt, sealed, unsealed)?;
     let mut message = data_frame(alloc, 23, &[7; 23])?;
     let sent = context.transform_send(alloc, &mut message, &mut outgoing);
-    assert!(rt; is_others(&sent, unsealed)?);
+    is_told(&rt, sent, unsealed)?;
     assert!(rt; outgoing.is_empty());
     Ok(())
 }
@@ -145,27 +201,32 @@ fn a_message_too_long_is_told(rt: HostRuntime) -> Tested {
     assert_eq!(rt; context.max_raw_payload_len(), 4194304);
     let long = vec![in alloc; 7; MESSAGE_LENGTH_MAX + 1]?;
     let long = long.as_slice();
-    assert!(rt; is_others(&context.outbound_buf(alloc, long, b"", false), LONG)?);
-    assert!(rt; is_status(&context.outbound_buf(alloc, long, b"", true), LONG)?);
-    assert!(rt; is_others(&context.inbound_buf(alloc, long, b"", false), LONG)?);
-    assert!(rt; is_status(&context.inbound_buf(alloc, long, b"", true), LONG)?);
-    Ok(())
+    is_told(&rt, context.outbound_buf(alloc, long, b"", false), LONG)?;
+    is_status_told(&rt, context.outbound_buf(alloc, long, b"", true), LONG)?;
+    is_told(&rt, context.inbound_buf(alloc, long, b"", false), LONG)?;
+    is_status_told(&rt, context.inbound_buf(alloc, long, b"", true), LONG)
 }
 
-/// What opens to more than a message may have isn't handed on, and what isn't opened is told; the message stays.
+/// What opens to more than a message may have isn't handed on, and the message stays.
 #[test]
-fn what_is_not_opened_is_told(rt: HostRuntime) -> Tested {
+fn what_swells_is_told(rt: HostRuntime) -> Tested {
     let alloc = rt.alloc();
     let mut context = ConnectionContext::of_halves(alloc, Plain {}, Swelling {});
     let mut message = data_frame(alloc, 1, &[1])?;
-    assert!(rt; is_status(&context.inbound(alloc, &mut message, true), LONG)?);
-    assert!(rt; is_others(&context.inbound(alloc, &mut message, false), LONG)?);
-    assert!(rt; message == data_frame(alloc, 1, &[1])?);
+    is_status_told(&rt, context.inbound(alloc, &mut message, true), LONG)?;
+    is_told(&rt, context.inbound(alloc, &mut message, false), LONG)?;
+    is_frame(&rt, alloc, &message, 1, &[1])
+}
+
+/// What isn't opened is told, and the half opens what comes next.
+#[test]
+fn what_is_not_opened_is_told(rt: HostRuntime) -> Tested {
+    let alloc = rt.alloc();
     let mut context = stamped(alloc);
     let bad = "transform_inbound failed: bad stamp";
-    assert!(rt; is_others(&context.inbound_buf(alloc, &[0x2a, 7], b"", true), bad)?);
+    let refused = context.inbound_buf(alloc, &[0x2a, 7], b"", true);
+    is_told(&rt, refused, bad)?;
     let mut message = data_frame(alloc, 2, &[0x2a, 0])?;
     context.inbound(alloc, &mut message, true)?;
-    assert!(rt; message == data_frame(alloc, 1, &[0x2a])?);
-    Ok(())
+    is_frame(&rt, alloc, &message, 1, &[0x2a])
 }

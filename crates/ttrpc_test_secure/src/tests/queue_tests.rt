@@ -166,18 +166,44 @@ fn is_too_long<O: OutboundTransform, I: InboundTransform>(
     advised: &str,
 ) -> Tested {
     assert!(rt; is_others(&context.outbound_buf(alloc, data, RESPONSE, true), told)?);
-    let mut message = data_frame(alloc, 0, data)?;
-    let refused = context.outbound(alloc, &mut message, true);
-    assert!(rt; message == data_frame(alloc, 0, data)?);
-    assert!(rt; is_others(&refused, advised)?);
+    is_left(rt, alloc, context, data, advised)?;
+    is_not_queued(rt, alloc, context, data, advised)?;
     let mut outgoing = Outgoing::new(alloc);
-    let refused = context.transform_send(alloc, &mut message, &mut outgoing);
-    assert!(rt; message == data_frame(alloc, 0, data)?);
-    assert!(rt; is_others(&refused, advised)?);
     let header = MessageHeader::new_response(3, 0);
     let refused = context.send_response_sync(alloc, data, RESPONSE, &mut outgoing, header);
     assert!(rt; outgoing.is_empty());
     assert!(rt; is_others(&refused, told)?);
+    Ok(())
+}
+
+/// A message above the limit is refused in this text, and left as it was.
+fn is_left<O: OutboundTransform, I: InboundTransform>(
+    rt: &impl Abort,
+    alloc: Global,
+    context: &mut ConnectionContext<O, I>,
+    data: &[u8],
+    advised: &str,
+) -> Tested {
+    let mut message = data_frame(alloc, 0, data)?;
+    let refused = context.outbound(alloc, &mut message, true);
+    assert!(rt; is_others(&refused, advised)?);
+    assert!(rt; message == data_frame(alloc, 0, data)?);
+    Ok(())
+}
+
+/// The same where it would be queued.
+fn is_not_queued<O: OutboundTransform, I: InboundTransform>(
+    rt: &impl Abort,
+    alloc: Global,
+    context: &mut ConnectionContext<O, I>,
+    data: &[u8],
+    advised: &str,
+) -> Tested {
+    let mut message = data_frame(alloc, 0, data)?;
+    let mut outgoing = Outgoing::new(alloc);
+    let refused = context.transform_send(alloc, &mut message, &mut outgoing);
+    assert!(rt; is_others(&refused, advised)?);
+    assert!(rt; message == data_frame(alloc, 0, data)?);
     Ok(())
 }
 
