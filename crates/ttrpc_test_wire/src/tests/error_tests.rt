@@ -117,20 +117,34 @@ fn is_told(
 ) -> Tested {
     let (error, printed, code, message) = row;
     let error = error_of(alloc, error)?;
-    assert!(rt; error.to_string(alloc)?.as_str() == *printed, "{printed}");
-    assert!(rt; error.text(alloc)?.as_str() == *printed, "{printed}");
-    assert!(rt; error.try_clone()? == error, "{printed} is copied");
+    is_printed(rt, alloc, &error, *printed)?;
     let told = error.try_clone()?.try_into_response(alloc)?;
+    is_response(rt, alloc, &told, *code, *message)?;
     let response = error.into_response(alloc);
     if has_no_message(&response) {
         return Err(Error::NoMemory.into());
     }
-    let expected = response_of(alloc, &(Some((*code, *message, &[])), b""))?;
-    assert!(rt; response == expected, "{printed} becomes a response");
-    assert!(rt;
-        told == expected,
-        "{printed} becomes a response with a text"
-    );
+    is_response(rt, alloc, &response, *code, *message)
+}
+
+/// The error prints so, by either call, and its copy is equal.
+fn is_printed(rt: &impl Abort, alloc: Global, error: &Error, printed: &str) -> Tested {
+    assert!(rt; error.to_string(alloc)?.as_str() == printed, "{printed}");
+    assert!(rt; error.text(alloc)?.as_str() == printed, "{printed}");
+    assert!(rt; error.try_clone()? == *error, "{printed} is copied");
+    Ok(())
+}
+
+/// It is a response of this status alone.
+fn is_response(
+    rt: &impl Abort,
+    alloc: Global,
+    response: &Response,
+    code: i32,
+    message: &'static str,
+) -> Tested {
+    let expected = response_of(alloc, &(Some((code, message, &[])), b""))?;
+    assert!(rt; *response == expected, "a response of {message}");
     Ok(())
 }
 
@@ -244,7 +258,12 @@ fn statuses_and_errors_are_made(rt: HostRuntime) -> Tested {
     let made = get_status(Code::NOT_FOUND, String::from_str(alloc, "no such task")?);
     assert!(rt; made == status_of(alloc, &(5, "no such task", &[]))?);
     let aborted = get_rpc_status(Code::ABORTED, String::from_str(alloc, "a")?);
-    is_error(&rt, alloc, aborted, ErrorRow::RpcStatus(10, "a"))?;
+    is_error(&rt, alloc, aborted, ErrorRow::RpcStatus(10, "a"))
+}
+
+#[test]
+fn errors_of_sockets_are_made(rt: HostRuntime) -> Tested {
+    let alloc = rt.alloc();
     let gone = sock_error_msg(0, String::from_str(alloc, "short")?);
     is_error(&rt, alloc, gone, ErrorRow::Socket("socket disconnected"))?;
     let cut = sock_error_msg(9, String::from_str(alloc, "short")?);

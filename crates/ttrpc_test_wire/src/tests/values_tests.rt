@@ -98,11 +98,23 @@ fn sequences(rt: HostRuntime) -> Tested {
     assert!(rt; texts.as_slice()[1].is_equal("b"));
     assert!(rt; texts.last().is_some_and(|text| text.is_equal("b")));
     assert!(rt; texts.is_equal(texts.as_slice()) && !texts.is_equal(&[]));
-    assert!(rt; listed(rt.alloc(), &[])?.is_empty());
+    Ok(())
+}
+
+#[test]
+fn sequences_are_compared(rt: HostRuntime) -> Tested {
+    let texts = listed(rt.alloc(), &["a", "b"])?;
     assert!(rt; texts.try_clone()? == texts);
-    assert!(rt; listed(rt.alloc(), &["a", "b", ""])? != texts);
+    differs(&rt, &texts, listed(rt.alloc(), &[])?)?;
+    differs(&rt, &texts, listed(rt.alloc(), &["a", "b", ""])?)?;
     let back = Sequence::from_vec(texts.into_vec());
     assert!(rt; back == listed(rt.alloc(), &["a", "b"])?);
+    Ok(())
+}
+
+/// The second is another one.
+fn differs(rt: &impl Abort, texts: &Sequence<Text>, other: Sequence<Text>) -> Tested {
+    assert!(rt; other != *texts);
     Ok(())
 }
 

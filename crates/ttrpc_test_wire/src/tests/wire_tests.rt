@@ -144,7 +144,12 @@ fn field_travels(rt: &impl Abort, alloc: Global, field: Field<'_>, bytes: &[u8])
     assert!(rt; out.as_slice() == bytes, "{field:?} is written");
     assert!(rt; field_len(field) == bytes.len(), "{field:?} is measured");
     put_field(&mut out, field)?;
-    let mut reader = Reader::new(out.as_slice());
+    is_read(rt, out.as_slice(), field, bytes)
+}
+
+/// The field is read from in front of these bytes, which are passed over.
+fn is_read(rt: &impl Abort, twice: &[u8], field: Field<'_>, bytes: &[u8]) -> Tested {
+    let mut reader = Reader::new(twice);
     assert!(rt; reader.field()? == field, "{field:?} is read");
     assert!(rt; reader.rest() == bytes, "what follows {field:?} is left");
     reader.tag()?;
@@ -202,11 +207,18 @@ fn values_are_read_by_their_wire_type(rt: HostRuntime) -> Tested {
     assert_eq!(rt; reader.fixed64()?, 0x0807060504030201);
     assert_eq!(rt; reader.fixed32()?, 0x04030201);
     assert_eq!(rt; reader.length_delimited()?, b"hi".as_slice());
+    assert_eq!(rt; reader.value(WireType::Varint)?, Value::Varint(7));
+    assert_eq!(rt; reader.value(WireType::Varint), Err(CodecError::Truncated));
+    Ok(())
+}
+
+#[test]
+fn values_that_are_cut_are_refused(rt: HostRuntime) -> Tested {
+    let mut reader = Reader::new(b"\x07");
     assert_eq!(rt; reader.fixed32(), Err(CodecError::Truncated));
     assert_eq!(rt; reader.fixed64(), Err(CodecError::Truncated));
     assert_eq!(rt; reader.length_delimited(), Err(CodecError::Truncated));
-    assert_eq!(rt; reader.value(WireType::Varint)?, Value::Varint(7));
-    assert_eq!(rt; reader.value(WireType::Varint), Err(CodecError::Truncated));
+    assert_eq!(rt; reader.rest(), b"\x07".as_slice());
     Ok(())
 }
 
