@@ -24,10 +24,23 @@ fn crosses<O: OutboundTransform, I: InboundTransform>(
     assert!(rt; sealed.as_slice() == expected);
     let opened = inbound.transform_inbound(alloc, sealed.as_slice(), b"header")?;
     assert!(rt; opened.as_slice() == data);
-    let sealed = outbound.transform_outbound_vec(alloc, opened, b"header")?;
+    crosses_as_it_is(rt, alloc, (outbound, inbound), opened, expected)
+}
+
+/// The same by the calls that take a vector.
+fn crosses_as_it_is<O: OutboundTransform, I: InboundTransform>(
+    rt: &impl Abort,
+    alloc: Global,
+    halves: (&mut O, &mut I),
+    data: Vec<u8>,
+    expected: &[u8],
+) -> Tested {
+    let (outbound, inbound) = halves;
+    let copy = Vec::from_slice(alloc, data.as_slice())?;
+    let sealed = outbound.transform_outbound_vec(alloc, data, b"header")?;
     assert!(rt; sealed.as_slice() == expected);
     let opened = inbound.transform_inbound_vec(alloc, sealed, b"header")?;
-    assert!(rt; opened.as_slice() == data);
+    assert!(rt; opened == copy);
     Ok(())
 }
 
@@ -72,20 +85,25 @@ fn a_payload_is_bound_to_its_header(rt: HostRuntime) {
     assert!(rt; associated_bytes(&header) == [1, 2, 3, 4, 3, 5]);
 }
 
+/// Sends so many bytes as they are.
+fn send_sevens(
+    alloc: Global,
+    outgoing: &mut Outgoing,
+    length: usize,
+) -> Result<Result<(), SendError>, Fail> {
+    let data = vec![in alloc; 7; length]?;
+    let frame = queued_of(alloc, &FrameRow(0, 1, 3, 0, b""), None)?;
+    Ok(send(alloc, &mut Plain {}, outgoing, frame, data))
+}
+
 /// The greatest payload is queued, and one byte more is refused.
 #[test]
 fn a_payload_too_long_is_not_queued(rt: HostRuntime) -> Tested {
-    let alloc = rt.alloc();
-    let mut half = Plain {};
-    let mut outgoing = Outgoing::new(alloc);
-    let data = vec![in alloc; 7; MESSAGE_LENGTH_MAX]?;
-    let longer = vec![in alloc; 7; MESSAGE_LENGTH_MAX + 1]?;
-    let frame = queued_of(alloc, &FrameRow(0, 1, 3, 0, b""), None)?;
-    let refused = send(alloc, &mut half, &mut outgoing, frame, longer);
+    let mut outgoing = Outgoing::new(rt.alloc());
+    let refused = send_sevens(rt.alloc(), &mut outgoing, MESSAGE_LENGTH_MAX + 1)?;
     assert!(rt; refused == Err(SendError::TooLong));
     assert!(rt; outgoing.is_empty());
-    let frame = queued_of(alloc, &FrameRow(0, 1, 3, 0, b""), None)?;
-    match send(alloc, &mut half, &mut outgoing, frame, data) {
+    match send_sevens(rt.alloc(), &mut outgoing, MESSAGE_LENGTH_MAX)? {
         Err(SendError::Failed(error)) => return Err(error.into()),
         sent => assert!(rt; sent.is_ok()),
     }

@@ -4,6 +4,7 @@ use crate::tests::members_tests::{Tested, all_are_one, all_are_refused};
 use crate::tests::vectors::TREE;
 use std::alloc::{AllocError, Global};
 use std::process::Abort;
+use std::test::Fail;
 use ttrpc_codec::Codec;
 use ttrpc_codec::message::WireMessage;
 use ttrpc_members::enclosed::Enclosed;
@@ -121,9 +122,20 @@ fn bytes_are_taken_and_joined(rt: HostRuntime) -> Tested {
     assert!(rt; tree.append(b"\x0a\x01\xff") == Err(CodecError::BadUtf8));
     assert_eq!(rt; tree.as_bytes(), &b"\x0a\x01a\x12\0"[..]);
     let copy = tree.try_clone()?;
-    let same: Enclosed<TreeRules> = Enclosed::from_bytes(alloc, copy.as_bytes())?;
+    is_read_again(&rt, alloc, copy.as_bytes())
+}
+
+/// These bytes are a tree of the name `a` with a child.
+fn is_read_again(rt: &impl Abort, alloc: Global, bytes: &[u8]) -> Tested {
+    let same: Enclosed<TreeRules> = Enclosed::from_bytes(alloc, bytes)?;
     let message: Tree = same.message(alloc)?;
     assert_eq!(rt; (message.name.as_str(), message.children.len()), ("a", 1));
+    Ok(())
+}
+
+#[test]
+fn deep_bytes_are_not_taken(rt: HostRuntime) -> Tested {
+    let alloc = rt.alloc();
     let deep = nested(alloc, CHILDREN, 100)?;
     let refused: Result<Enclosed<TreeRules>, CodecError> = Enclosed::from_bytes(
         alloc,
@@ -224,15 +236,22 @@ fn messages_contain_one_another(rt: HostRuntime) -> Tested {
     let alloc = rt.alloc();
     is_kept::<Row>(&rt, alloc, CELLS)?;
     let row = Row::decode(alloc, CELLS)?;
-    let mut has_sheet = false;
+    let mut sheets = 0;
     for cell in row.cells.iter() {
         let cell: Cell = cell.message(alloc)?;
-        if let Some(CellKind::Sheet(sheet)) = &cell.kind {
-            let sheet: Sheet = sheet.message(alloc)?;
-            assert_eq!(rt; sheet.cells.len(), 1);
-            has_sheet = true;
+        if has_small_sheet(alloc, &cell)? {
+            sheets = 1;
         }
     }
-    assert_eq!(rt; (row.cells.len(), has_sheet), (4, true));
+    assert_eq!(rt; (row.cells.len(), sheets), (4, 1));
     Ok(())
+}
+
+/// Whether there is a sheet of one cell in it.
+fn has_small_sheet(alloc: Global, cell: &Cell) -> Result<bool, Fail> {
+    let Some(CellKind::Sheet(sheet)) = &cell.kind else {
+        return Ok(false);
+    };
+    let sheet: Sheet = sheet.message(alloc)?;
+    Ok(sheet.cells.len() == 1)
 }

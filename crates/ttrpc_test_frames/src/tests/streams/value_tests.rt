@@ -1,6 +1,7 @@
 //! Values that become messages, and messages that become values.
 use crate::tests::streams::rows::{REQUEST, REQUEST_HEADER, REQUEST_PAYLOAD};
 use std::alloc::Global;
+use std::process::Abort;
 use std::test::Fail;
 use ttrpc_bench::{AT_ONCE, Giver};
 use ttrpc_frame::{GenMessage, MessageHeader};
@@ -23,10 +24,16 @@ fn is_others(answer: &ttrpc_proto::Result<Message<Request>>, told: &str) -> Resu
 fn a_request_goes_round(rt: HostRuntime) -> Tested {
     let alloc = rt.alloc();
     let (header, payload) = read_message(alloc, &mut Giver::new(REQUEST, AT_ONCE))?;
-    let message = Message::<Request>::read_from(alloc, &mut Giver::new(REQUEST, AT_ONCE))?;
-    assert!(rt; header == REQUEST_HEADER && message.header == REQUEST_HEADER);
+    assert!(rt; header == REQUEST_HEADER);
     assert_eq!(rt; payload?.as_slice(), REQUEST_PAYLOAD);
+    let message = Message::<Request>::read_from(alloc, &mut Giver::new(REQUEST, AT_ONCE))?;
+    assert!(rt; message.header == REQUEST_HEADER);
     assert_eq!(rt; message.payload.service.as_str(), "demo.Echo");
+    is_made_again(&rt, alloc, message)
+}
+
+/// Its frame has the bytes of the request, and makes it again.
+fn is_made_again(rt: &impl Abort, alloc: Global, message: Message<Request>) -> Tested {
     let copy = message.try_clone()?;
     let written = message.into_gen(alloc)?;
     assert_eq!(rt; written.payload.as_slice(), REQUEST_PAYLOAD);
