@@ -159,30 +159,79 @@ fn rest(events: &mut Vec<Event>, chance: &mut Chance) -> Tested {
     put(events, Event::Deliver(first, n))
 }
 
+/// The call or stream of this number begins, some bytes are moved up, and by chance time passes.
+fn begin_and_move(
+    alloc: Global,
+    events: &mut Vec<Event>,
+    chance: &mut Chance,
+    rules: Rules,
+    number: u64,
+) -> Result<Kind, Fail> {
+    let kind = begin(alloc, events, chance, rules, id_of(number))?;
+    moved(events, chance, Side::Client, false)?;
+    put(events, Event::Tick(chance.below(5)))?;
+    Ok(kind)
+}
+
+/// Up to four calls and streams begin.
+fn begin_all(
+    alloc: Global,
+    events: &mut Vec<Event>,
+    chance: &mut Chance,
+    rules: Rules,
+) -> Result<Vec<Kind>, Fail> {
+    let mut kinds = Vec::new(alloc);
+    for number in 0..chance.below(4).saturating_add(1) {
+        kinds.push(begin_and_move(alloc, events, chance, rules, number)?)?;
+    }
+    Ok(kinds)
+}
+
+/// All that is left is moved up, and each job is taken, with one try more.
+fn take_all(events: &mut Vec<Event>, chance: &mut Chance, count: usize) -> Tested {
+    moved(events, chance, Side::Client, true)?;
+    for _ in 0..=count {
+        put(events, Event::Take)?;
+    }
+    Ok(())
+}
+
+/// Each job is done, some bytes are moved down behind each, and all behind the last one.
+fn do_all(
+    alloc: Global,
+    events: &mut Vec<Event>,
+    chance: &mut Chance,
+    rules: Rules,
+    kinds: &[Kind],
+) -> Tested {
+    for (number, kind) in kinds.iter().enumerate() {
+        let job = (number as u64).saturating_add(1);
+        do_job(alloc, events, chance, rules, job, *kind)?;
+        moved(events, chance, Side::Server, false)?;
+    }
+    moved(events, chance, Side::Server, true)
+}
+
+/// What came for each is asked for.
+fn ask_all(events: &mut Vec<Event>, kinds: &[Kind]) -> Tested {
+    for (number, kind) in kinds.iter().enumerate() {
+        ask(events, id_of(number as u64), *kind)?;
+    }
+    Ok(())
+}
+
+/// Calls and streams begin, are done, and are asked for; then nothing more moves.
+fn put_gentle(alloc: Global, events: &mut Vec<Event>, chance: &mut Chance, rules: Rules) -> Tested {
+    let kinds = begin_all(alloc, events, chance, rules)?;
+    take_all(events, chance, kinds.len())?;
+    do_all(alloc, events, chance, rules, kinds.as_slice())?;
+    ask_all(events, kinds.as_slice())?;
+    rest(events, chance)
+}
+
 /// A list of up to four calls and streams, which all come to their ends.
 pub fn gentle_by(alloc: Global, chance: &mut Chance, rules: Rules) -> Result<Vec<Event>, Fail> {
     let mut events = Vec::new(alloc);
-    let mut kinds = Vec::new(alloc);
-    let count = chance.below(4).saturating_add(1);
-    for number in 0..count {
-        let kind = begin(alloc, &mut events, chance, rules, id_of(number))?;
-        kinds.push(kind)?;
-        moved(&mut events, chance, Side::Client, false)?;
-        put(&mut events, Event::Tick(chance.below(5)))?;
-    }
-    moved(&mut events, chance, Side::Client, true)?;
-    for _ in 0..=count {
-        put(&mut events, Event::Take)?;
-    }
-    for (number, kind) in kinds.iter().enumerate() {
-        let job = (number as u64).saturating_add(1);
-        do_job(alloc, &mut events, chance, rules, job, *kind)?;
-        moved(&mut events, chance, Side::Server, false)?;
-    }
-    moved(&mut events, chance, Side::Server, true)?;
-    for (number, kind) in kinds.iter().enumerate() {
-        ask(&mut events, id_of(number as u64), *kind)?;
-    }
-    rest(&mut events, chance)?;
+    put_gentle(alloc, &mut events, chance, rules)?;
     Ok(events)
 }

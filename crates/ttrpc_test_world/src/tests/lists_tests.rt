@@ -47,7 +47,7 @@ fn trace_of(alloc: Global, script: &[(Act, Said)]) -> Result<Trace, Fail> {
 }
 
 /// One more entry. In a function of its own, since a value that isn't taken is let go here.
-fn push(trace: &mut Trace, entry: Entry) -> Tested {
+pub fn push(trace: &mut Trace, entry: Entry) -> Tested {
     trace.push(entry)?;
     Ok(())
 }

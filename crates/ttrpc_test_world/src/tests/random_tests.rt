@@ -2,6 +2,7 @@
 use crate::tests::chance::Chance;
 use crate::tests::gentle::gentle_by;
 use crate::tests::lists::{Counts, NONE, Order, has_unknown_sender, read_lists};
+use crate::tests::lists_tests::push;
 use crate::tests::plainly::{Finding, read_headline};
 use crate::tests::script::{
     Ways, over_plain, over_stamps, put, request_named, request_of, response_of,
@@ -264,32 +265,71 @@ fn both(one: Counts, other: Counts) -> Counts {
     }
 }
 
-/// Over 1250 lists from this seed the headline holds, hundreds of calls end well, and each way hundreds of items and ends are
-/// given. Each clean quiet run is whole, and one trace in twenty is one, at least.
-fn holds_by_chance(rt: &impl Abort, alloc: Global, seed: u64) -> Tested {
-    let mut chance = Chance { state: seed };
-    let mut good = 0usize;
-    let mut counts = NONE;
-    let mut rests = Rests {
+/// What was counted over lists: the calls that end well, the items and ends that were given, and the clean quiet traces.
+#[derive(Clone, Copy, Debug)]
+struct Sums {
+    good: usize,
+    counts: Counts,
+    rests: Rests,
+}
+
+/// Nothing was counted yet.
+const NOTHING: Sums = Sums {
+    good: 0,
+    counts: NONE,
+    rests: Rests {
         traces: 0,
         calls: 0,
         receivers: 0,
-    };
-    for _ in 0..LISTS {
-        let (terms, trace) = trace_by(alloc, &mut chance)?;
-        match read_headline(trace.as_slice()) {
-            Finding::Whole(more) => good = good.saturating_add(more),
-            _ => return Err("the headline doesn't hold".into()),
-        }
-        counts = both(counts, read_in_order(trace.as_slice())?);
-        rests = rested(alloc, rests, terms, trace.as_slice())?;
+    },
+};
+
+/// How many calls of a trace end well, of which the headline holds.
+fn good_calls(trace: &[Entry]) -> Result<usize, Fail> {
+    match read_headline(trace) {
+        Finding::Whole(good) => Ok(good),
+        _ => Err("the headline doesn't hold".into()),
     }
+}
+
+/// The sums with one more trace.
+fn with_trace(alloc: Global, sums: Sums, terms: Terms, trace: &[Entry]) -> Result<Sums, Fail> {
+    let good = sums.good.saturating_add(good_calls(trace)?);
+    let counts = both(sums.counts, read_in_order(trace)?);
+    let rests = rested(alloc, sums.rests, terms, trace)?;
+    Ok(Sums {
+        good,
+        counts,
+        rests,
+    })
+}
+
+/// The same with one that is made by chance.
+fn with_chance(alloc: Global, sums: Sums, chance: &mut Chance) -> Result<Sums, Fail> {
+    let (terms, trace) = trace_by(alloc, chance)?;
+    with_trace(alloc, sums, terms, trace.as_slice())
+}
+
+/// Hundreds of calls end well, and each way hundreds of items and ends are given. One trace in twenty is a clean quiet one,
+/// at least.
+fn are_enough(rt: &impl Abort, sums: Sums) -> Tested {
+    let (rests, counts) = (sums.rests, sums.counts);
     assert!(rt; rests.traces > LISTS / 20);
     assert!(rt; rests.calls > 100 && rests.receivers > 200);
-    assert!(rt; good > 200);
+    assert!(rt; sums.good > 200);
     assert!(rt; counts.items_up > 450 && counts.items_down > 450);
     assert!(rt; counts.ends_up > 450 && counts.ends_down > 450);
     Ok(())
+}
+
+/// Over 1250 lists from this seed the headline holds, and enough is counted. Each clean quiet run is whole.
+fn holds_by_chance(rt: &impl Abort, alloc: Global, seed: u64) -> Tested {
+    let mut chance = Chance { state: seed };
+    let mut sums = NOTHING;
+    for _ in 0..LISTS {
+        sums = with_chance(alloc, sums, &mut chance)?;
+    }
+    are_enough(rt, sums)
 }
 
 #[test]
@@ -383,48 +423,68 @@ fn end_entry(alloc: Global) -> Result<Entry, Fail> {
     })
 }
 
-fn one(alloc: Global, entry: Entry) -> Result<Trace, Fail> {
-    let mut trace = Vec::with_capacity(alloc, 1)?;
-    trace.push_reserved(entry);
+/// An entry of a trace that is made by hand, of call, stream or job 1.
+#[derive(Clone, Copy, Debug)]
+enum Made {
+    Call,
+    Open,
+    Outcome,
+    Run,
+    Stream,
+    Answer,
+    End,
+}
+
+/// The entry of this kind.
+fn entry_of(alloc: Global, made: Made) -> Result<Entry, Fail> {
+    match made {
+        Made::Call => call_entry(alloc),
+        Made::Open => open_entry(alloc),
+        Made::Outcome => outcome_entry(alloc),
+        Made::Run => run_entry(alloc),
+        Made::Stream => stream_entry(alloc),
+        Made::Answer => Ok(answer_entry()),
+        Made::End => end_entry(alloc),
+    }
+}
+
+/// The trace of such entries.
+fn trace_of(alloc: Global, made: &[Made]) -> Result<Trace, Fail> {
+    let mut trace = Vec::with_capacity(alloc, made.len())?;
+    for made in made {
+        push(&mut trace, entry_of(alloc, *made)?)?;
+    }
     Ok(trace)
 }
 
-fn two(alloc: Global, first: Entry, second: Entry) -> Result<Trace, Fail> {
-    let mut trace = Vec::with_capacity(alloc, 2)?;
-    trace.push_reserved(first);
-    trace.push_reserved(second);
-    Ok(trace)
+/// Each fault, and a trace that has it.
+const FAULTS: &[(Finding, &[Made])] = &[
+    (Finding::IdUsedTwice, &[Made::Call, Made::Call]),
+    (Finding::IdUsedTwice, &[Made::Call, Made::Open]),
+    (Finding::RunOutOfPlace, &[Made::Run]),
+    (Finding::AnsweredTwice, &[Made::Answer, Made::Answer]),
+    (Finding::AnsweredTwice, &[Made::Answer, Made::End]),
+    (Finding::OutcomeOutOfPlace, &[Made::Outcome]),
+    (Finding::OutcomeOutOfPlace, &[Made::Open, Made::Outcome]),
+    (Finding::OtherAnswer, &[Made::Call, Made::Outcome]),
+    (
+        Finding::OtherAnswer,
+        &[Made::Call, Made::Stream, Made::End, Made::Outcome],
+    ),
+];
+
+/// The plain program sees this fault in such a trace.
+fn is_found(rt: &impl Abort, alloc: Global, finding: Finding, made: &[Made]) -> Tested {
+    let trace = trace_of(alloc, made)?;
+    assert_eq!(rt; read_headline(trace.as_slice()), finding);
+    Ok(())
 }
 
 /// The plain program sees each fault.
 #[test]
 fn faults_are_found(rt: HostRuntime) -> Tested {
-    let alloc = rt.alloc();
-    let used = two(alloc, call_entry(alloc)?, call_entry(alloc)?)?;
-    assert_eq!(rt; read_headline(used.as_slice()), Finding::IdUsedTwice);
-    let opened = two(alloc, call_entry(alloc)?, open_entry(alloc)?)?;
-    assert_eq!(rt; read_headline(opened.as_slice()), Finding::IdUsedTwice);
-    let run = one(alloc, run_entry(alloc)?)?;
-    assert_eq!(rt; read_headline(run.as_slice()), Finding::RunOutOfPlace);
-    let answered = two(alloc, answer_entry(), answer_entry())?;
-    assert_eq!(rt; read_headline(answered.as_slice()), Finding::AnsweredTwice);
-    let ended = two(alloc, answer_entry(), end_entry(alloc)?)?;
-    assert_eq!(rt; read_headline(ended.as_slice()), Finding::AnsweredTwice);
-    let uncalled = one(alloc, outcome_entry(alloc)?)?;
-    assert_eq!(rt;
-        read_headline(uncalled.as_slice()),
-        Finding::OutcomeOutOfPlace
-    );
-    let streamed = two(alloc, open_entry(alloc)?, outcome_entry(alloc)?)?;
-    assert_eq!(rt;
-        read_headline(streamed.as_slice()),
-        Finding::OutcomeOutOfPlace
-    );
-    let other = two(alloc, call_entry(alloc)?, outcome_entry(alloc)?)?;
-    assert_eq!(rt; read_headline(other.as_slice()), Finding::OtherAnswer);
-    let mut payload = two(alloc, call_entry(alloc)?, stream_entry(alloc)?)?;
-    payload.push(end_entry(alloc)?)?;
-    payload.push(outcome_entry(alloc)?)?;
-    assert_eq!(rt; read_headline(payload.as_slice()), Finding::OtherAnswer);
+    for (finding, made) in FAULTS {
+        is_found(&rt, rt.alloc(), *finding, made)?;
+    }
     Ok(())
 }
