@@ -5,16 +5,16 @@ use crate::acts::{Act, Script};
 use crate::lines::{Line, Side, Speaker};
 use crate::parts::{Fault, Parts};
 use crate::tests::conversation_tests::speak;
-use crate::tests::sites::System;
+use crate::tests::sites::{System, Wired, client_over, make_wired};
 use futures::Future;
 use futures::future::Either;
 use futures::task::{Context, Poll, Source, Waker};
+use std::alloc::Global;
 use std::io::{self, ErrorKind};
+use std::process::Abort;
 use std::test::Fail;
-use tokio::io::{AsyncRead, AsyncWrite, DuplexStream, duplex};
+use tokio::io::{AsyncRead, AsyncWrite, DuplexStream};
 use tokio::runtime::LocalRuntime;
-use ttrpc_polled_client::Client;
-use ttrpc_secure::{HookOutput, Plain};
 
 /// Two streams, and what a server says on them: an item of each, and the close of each.
 const TWO_STREAMS: &[u8] =
@@ -65,34 +65,42 @@ fn of_stream(act: Act, stream: usize) -> Act {
     }
 }
 
+/// The item, where the cut is behind its end.
+fn item_before(cut: usize, end: usize, item: &'static [u8]) -> Option<&'static [u8]> {
+    if cut >= end { Some(item) } else { None }
+}
+
+/// Two streams are opened, and what comes of them where the connection is cut behind so many bytes is received.
+fn cut_acts(alloc: Global, cut: usize) -> Result<Vec<Act>, Fail> {
+    let is_between = cut == 0 || ENDS.contains(&cut);
+    let mut acts = Vec::new(alloc);
+    acts.push(Act::Opens("Chat", b"", true, true))?;
+    acts.push(Act::Opens("Chat", b"", true, true))?;
+    let (first, second) = (item_before(cut, 11, b"a"), item_before(cut, 22, b"b"));
+    receipts(&mut acts, 0, first, cut >= 32, is_between)?;
+    receipts(&mut acts, 1, second, cut >= 42, is_between)?;
+    Ok(acts)
+}
+
+/// Each stream is told so where the connection is cut behind so many bytes.
+fn is_told_of_a_cut<R: System + Abort>(rt: &R, cut: usize) -> Result<(), Fail> {
+    let acts = cut_acts(rt.alloc(), cut)?;
+    let said = SAID.get(..cut).unwrap_or(&[]);
+    let lines = [
+        Line::Up(TWO_STREAMS),
+        Line::Down(said),
+        Line::DownEnds,
+        Line::UpEnds,
+    ];
+    let fault = speak(rt, 4096, acts.as_slice(), &lines)?;
+    assert_eq!(rt; fault, None, "{cut}");
+    Ok(())
+}
+
 #[test]
 fn each_stream_is_told_once_that_its_connection_was_cut(rt: HostRuntime) -> Result<(), Fail> {
     for cut in 0..=SAID.len() {
-        let is_between = cut == 0 || ENDS.contains(&cut);
-        let mut acts = Vec::new(rt.alloc());
-        acts.push(Act::Opens("Chat", b"", true, true))?;
-        acts.push(Act::Opens("Chat", b"", true, true))?;
-        let first = if cut >= 11 {
-            Some(b"a".as_slice())
-        } else {
-            None
-        };
-        let second = if cut >= 22 {
-            Some(b"b".as_slice())
-        } else {
-            None
-        };
-        receipts(&mut acts, 0, first, cut >= 32, is_between)?;
-        receipts(&mut acts, 1, second, cut >= 42, is_between)?;
-        let said = SAID.get(..cut).unwrap_or(&[]);
-        let lines = [
-            Line::Up(TWO_STREAMS),
-            Line::Down(said),
-            Line::DownEnds,
-            Line::UpEnds,
-        ];
-        let fault = speak(&rt, 4096, acts.as_slice(), &lines)?;
-        assert_eq!(rt; fault, None, "{cut}");
+        is_told_of_a_cut(&rt, cut)?;
     }
     Ok(())
 }
@@ -121,27 +129,34 @@ impl Future for Stays<'_> {
     }
 }
 
+impl<'a> Stays<'a> {
+    /// This side, before its first line.
+    fn new(speaker: Speaker<'a, DuplexStream, DuplexStream>) -> Stays<'a> {
+        Stays {
+            speaker: Some(speaker),
+            said: None,
+            never: Source::new(),
+            slot: None,
+        }
+    }
+}
+
 /// Does these acts beside a server that says its part of these lines, and then reads nothing.
 fn run_beside_unread<R: System>(
     rt: &R,
     acts: &[Act],
     lines: &[Line<'_>],
 ) -> Result<Option<Fault>, Fail> {
-    let alloc = rt.alloc();
     let mut runtime = LocalRuntime::new(rt)?;
-    let (up, up_far) = duplex(alloc, 100)?;
-    let (down, down_far) = duplex(alloc, 100)?;
-    let output = HookOutput::of_halves(alloc, Plain {}, Plain {});
-    let (client, connection) = Client::over(rt.clone()?, runtime.handle(), down_far, up, output)?;
-    let stays = Stays {
-        speaker: Some(Speaker::new(Side::Server, lines, up_far, down)),
-        said: None,
-        never: Source::new(),
-        slot: None,
-    };
-    let mut parts = Parts::new(alloc)?;
-    parts.does(Script::new(client, acts))?;
-    parts.goes(Either::Left(connection))?;
+    let Wired {
+        client,
+        connection,
+        reader,
+        writer,
+    } = make_wired(rt, runtime.handle(), 100)?;
+    let stays = Stays::new(Speaker::new(Side::Server, lines, reader, writer));
+    let script = Script::new(client, acts);
+    let mut parts = Parts::beside(rt.alloc(), script, Either::Left(connection))?;
     parts.goes(Either::Right(stays))?;
     Ok(runtime.block_on(rt, parts)?)
 }
@@ -162,7 +177,8 @@ const BESIDE_UNREAD: &[Act] = &[
 #[test]
 fn streams_receive_beside_bytes_that_are_never_read(rt: HostRuntime) -> Result<(), Fail> {
     let lines = [Line::Up(TWO_STREAMS), Line::Down(SAID)];
-    assert_eq!(rt; run_beside_unread(&rt, BESIDE_UNREAD, &lines)?, None);
+    let fault = run_beside_unread(&rt, BESIDE_UNREAD, &lines)?;
+    assert_eq!(rt; fault, None);
     Ok(())
 }
 
@@ -232,25 +248,21 @@ const FAILED: &[Act] = &[
 
 /// Does these acts over a writer that fails behind so many bytes.
 fn run_failing<R: System>(rt: &R, left: usize, acts: &[Act]) -> Result<Option<Fault>, Fail> {
-    let alloc = rt.alloc();
     let mut runtime = LocalRuntime::new(rt)?;
-    let output = HookOutput::of_halves(alloc, Plain {}, Plain {});
     let reader = Silent {
         source: Source::new(),
         slot: None,
     };
-    let writer = Failing { left };
-    let (client, connection) = Client::over(rt.clone()?, runtime.handle(), reader, writer, output)?;
-    let mut parts = Parts::new(alloc)?;
-    parts.does(Script::new(client, acts))?;
-    parts.lasts(connection)?;
+    let (client, connection) = client_over(rt, runtime.handle(), reader, Failing { left })?;
+    let parts = Parts::lasting(rt.alloc(), Script::new(client, acts), connection)?;
     Ok(runtime.block_on(rt, parts)?)
 }
 
 #[test]
 fn a_failing_writer_ends_all_calls(rt: HostRuntime) -> Result<(), Fail> {
     for left in 0..34 {
-        assert_eq!(rt; run_failing(&rt, left, FAILED)?, None, "{left}");
+        let fault = run_failing(&rt, left, FAILED)?;
+        assert_eq!(rt; fault, None, "{left}");
     }
     Ok(())
 }

@@ -1,9 +1,12 @@
 use crate::tests::peer::Manners;
 use crate::tests::sites::{Site, System, done, make_site, request};
 use futures::future::{Either, join, select};
+use std::process::Abort;
 use std::test::Fail;
 use std::time::{Duration, Instant};
+use ttrpc_polled_client::{Client, ClientRequest};
 use ttrpc_proto::{Error, Response, Result as RpcResult};
+use ttrpc_secure::Plain;
 
 // Whether a call's deadline has passed.
 fn has_expired(outcome: RpcResult<Response>) -> bool {
@@ -13,55 +16,117 @@ fn has_expired(outcome: RpcResult<Response>) -> bool {
     }
 }
 
-#[test]
-fn joined_calls_get_their_own_answers(rt: HostRuntime) -> Result<(), Fail> {
+/// A call of a client over no transform.
+type Call = ClientRequest<Plain, Plain>;
+
+/// What two calls came to.
+type Outcomes = (RpcResult<Response>, RpcResult<Response>);
+
+/// A call of `Echo` with this payload and timeout in nanoseconds.
+fn echo<R: System>(
+    rt: &R,
+    client: &Client<R, Plain, Plain>,
+    payload: &[u8],
+    timeout_nano: i64,
+) -> Result<Call, Fail> {
+    let request = request(rt.alloc(), "Echo", payload, timeout_nano)?;
+    Ok(client.request(request)?)
+}
+
+/// A call came to this payload.
+fn is_answered(rt: &impl Abort, outcome: RpcResult<Response>, payload: &[u8]) -> Result<(), Fail> {
+    let response = outcome?;
+    assert_eq!(rt; response.payload.as_slice(), payload);
+    Ok(())
+}
+
+/// Two calls.
+fn two_calls<R: System>(rt: &R, client: &Client<R, Plain, Plain>) -> Result<(Call, Call), Fail> {
+    let first = echo(rt, client, b"1", 0)?;
+    let second = echo(rt, client, b"2", 0)?;
+    Ok((first, second))
+}
+
+/// What two calls of a site come to.
+fn both_outcomes<R: System>(rt: &R, site: Site<R>, calls: (Call, Call)) -> Result<Outcomes, Fail> {
     let Site {
         mut runtime,
-        client,
+        client: _client,
         ends,
-    } = make_site(&rt, 4096, Manners::AnswersBackwards)?;
-    let first = client.request(request(rt.alloc(), "Echo", b"1", 0)?)?;
-    let second = client.request(request(rt.alloc(), "Echo", b"2", 0)?)?;
-    let ((first, second), _) = done(&rt, &mut runtime, ends, join(first, second))?;
-    assert_eq!(rt; first?.payload.as_slice(), b"1".as_slice());
-    assert_eq!(rt; second?.payload.as_slice(), b"2".as_slice());
-    Ok(())
+    } = site;
+    let (outcomes, _) = done(rt, &mut runtime, ends, join(calls.0, calls.1))?;
+    Ok(outcomes)
+}
+
+#[test]
+fn joined_calls_get_their_own_answers(rt: HostRuntime) -> Result<(), Fail> {
+    let site = make_site(&rt, 4096, Manners::AnswersBackwards)?;
+    let calls = two_calls(&rt, &site.client)?;
+    let (first, second) = both_outcomes(&rt, site, calls)?;
+    is_answered(&rt, first, b"1")?;
+    is_answered(&rt, second, b"2")
+}
+
+/// What a call of a site comes to.
+fn outcome_of<R: System>(rt: &R, site: Site<R>, call: Call) -> Result<RpcResult<Response>, Fail> {
+    let Site {
+        mut runtime,
+        client: _client,
+        ends,
+    } = site;
+    let (outcome, _) = done(rt, &mut runtime, ends, call)?;
+    Ok(outcome)
 }
 
 #[test]
 fn a_long_call_passes_a_narrow_pipe(rt: HostRuntime) -> Result<(), Fail> {
+    let long = vec![in rt.alloc(); 7; 100000]?;
+    let site = make_site(&rt, 100, Manners::Echoes)?;
+    let call = echo(&rt, &site.client, long.as_slice(), 0)?;
+    let outcome = outcome_of(&rt, site, call)?;
+    is_answered(&rt, outcome, long.as_slice())
+}
+
+/// A call whose bytes are many, and one with a limit of 50 ms.
+fn long_and_limited<R: System>(
+    rt: &R,
+    client: &Client<R, Plain, Plain>,
+) -> Result<(Call, Call), Fail> {
+    let long = vec![in rt.alloc(); 7; 250000]?;
+    let other = echo(rt, client, long.as_slice(), 0)?;
+    let call = echo(rt, client, b"2", 50_000_000)?;
+    Ok((other, call))
+}
+
+/// What the second of two calls of a site comes to, which ends before the first.
+fn second_outcome<R: System>(
+    rt: &R,
+    site: Site<R>,
+    calls: (Call, Call),
+) -> Result<RpcResult<Response>, Fail> {
     let Site {
         mut runtime,
-        client,
+        client: _client,
         ends,
-    } = make_site(&rt, 100, Manners::Echoes)?;
-    let long = vec![in rt.alloc(); 7; 100000]?;
-    let call = client.request(request(rt.alloc(), "Echo", long.as_slice(), 0)?)?;
-    let (outcome, _) = done(&rt, &mut runtime, ends, call)?;
-    assert_eq!(rt; outcome?.payload.as_slice(), long.as_slice());
-    Ok(())
+    } = site;
+    let (first, _) = done(rt, &mut runtime, ends, select(calls.0, calls.1))?;
+    match first {
+        Either::Right(ended) => {
+            let (outcome, _) = ended;
+            Ok(outcome)
+        }
+        Either::Left(_) => Err("the other call ended".into()),
+    }
 }
 
 /// Whether a call with a limit of 50 ms is told within 500 ms that it has expired, behind one whose bytes are never read.
 fn expires_in_time<R: System>(rt: &R) -> Result<bool, Fail> {
-    let Site {
-        mut runtime,
-        client,
-        ends,
-    } = make_site(rt, 100, Manners::ReadsNothing)?;
-    let long = vec![in rt.alloc(); 7; 250000]?;
-    let other = client.request(request(rt.alloc(), "Echo", long.as_slice(), 0)?)?;
-    let call = client.request(request(rt.alloc(), "Echo", b"2", 50_000_000)?)?;
+    let site = make_site(rt, 100, Manners::ReadsNothing)?;
+    let calls = long_and_limited(rt, &site.client)?;
     let begun = Instant::now(rt)?;
-    let (first, _) = done(rt, &mut runtime, ends, select(other, call))?;
+    let outcome = second_outcome(rt, site, calls)?;
     let elapsed = begun.elapsed(rt)?;
-    match first {
-        Either::Right(ended) => {
-            let (outcome, _) = ended;
-            Ok(has_expired(outcome) && elapsed <= Duration::from_millis(500))
-        }
-        Either::Left(_) => Err("the other call ended".into()),
-    }
+    Ok(has_expired(outcome) && elapsed <= Duration::from_millis(500))
 }
 
 /// On a machine with other work one try may be late.
@@ -75,16 +140,26 @@ fn a_call_expires_whose_bytes_are_never_read(rt: HostRuntime) -> Result<(), Fail
     Err("it comes late".into())
 }
 
-#[test]
-fn a_call_ends_whose_connection_is_dropped(rt: HostRuntime) -> Result<(), Fail> {
+/// What a call of a site comes to whose both ends are dropped.
+fn dropped_outcome<R: System>(
+    rt: &R,
+    site: Site<R>,
+    call: Call,
+) -> Result<RpcResult<Response>, Fail> {
     let Site {
         mut runtime,
-        client,
+        client: _client,
         ends,
-    } = make_site(&rt, 100, Manners::IsSilent)?;
-    let call = client.request(request(rt.alloc(), "Echo", b"2", 0)?)?;
+    } = site;
     drop(ends);
-    let outcome = runtime.block_on(&rt, call)?;
+    Ok(runtime.block_on(rt, call)?)
+}
+
+#[test]
+fn a_call_ends_whose_connection_is_dropped(rt: HostRuntime) -> Result<(), Fail> {
+    let site = make_site(&rt, 100, Manners::IsSilent)?;
+    let call = echo(&rt, &site.client, b"2", 0)?;
+    let outcome = dropped_outcome(&rt, site, call)?;
     assert!(rt; matches!(outcome, Err(Error::LocalClosed)));
     Ok(())
 }

@@ -2,14 +2,11 @@ use crate::acts::{Act, Script};
 use crate::lines::{Line, Side, Speaker};
 use crate::parts::{Fault, Parts};
 use crate::recorded::{Conversation, client_beside_go, client_beside_rust};
-use crate::tests::sites::System;
+use crate::tests::sites::{System, Wired, make_wired};
 use futures::future::Either;
 use std::process::Abort;
 use std::test::Fail;
-use tokio::io::duplex;
 use tokio::runtime::LocalRuntime;
-use ttrpc_polled_client::Client;
-use ttrpc_secure::{HookOutput, Plain};
 
 /// How many bytes are under way at most each way.
 const ROOMS: [usize; 3] = [1, 11, 4096];
@@ -21,16 +18,16 @@ pub fn speak<R: System>(
     acts: &[Act],
     lines: &[Line<'_>],
 ) -> Result<Option<Fault>, Fail> {
-    let alloc = rt.alloc();
     let mut runtime = LocalRuntime::new(rt)?;
-    let (up, up_far) = duplex(alloc, room.max(1))?;
-    let (down, down_far) = duplex(alloc, room.max(1))?;
-    let output = HookOutput::of_halves(alloc, Plain {}, Plain {});
-    let (client, connection) = Client::over(rt.clone()?, runtime.handle(), down_far, up, output)?;
-    let mut parts = Parts::new(alloc)?;
-    parts.does(Either::Left(Script::new(client, acts)))?;
-    parts.does(Either::Right(Speaker::new(Side::Server, lines, up_far, down)))?;
-    parts.goes(connection)?;
+    let Wired {
+        client,
+        connection,
+        reader,
+        writer,
+    } = make_wired(rt, runtime.handle(), room)?;
+    let script = Either::Left(Script::new(client, acts));
+    let speaker = Either::Right(Speaker::new(Side::Server, lines, reader, writer));
+    let parts = Parts::both(rt.alloc(), script, speaker, connection)?;
     Ok(runtime.block_on(rt, parts)?)
 }
 

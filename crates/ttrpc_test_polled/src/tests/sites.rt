@@ -11,8 +11,8 @@ use std::net::Net;
 use std::random::RandomSource;
 use std::sync::{Arc, Wait};
 use std::test::Fail;
-use tokio::io::{DuplexStream, duplex};
-use tokio::runtime::LocalRuntime;
+use tokio::io::{AsyncRead, AsyncWrite, DuplexStream, duplex};
+use tokio::runtime::{Handle, LocalRuntime};
 use ttrpc_polled::{Link, Timed};
 use ttrpc_polled_client::{Client, ClientConnection};
 use ttrpc_proto::{Request, RequestInit};
@@ -45,6 +45,72 @@ impl<R: Timed> Future for Ends<R> {
     }
 }
 
+/// A client over bytes in memory, and the far ends of both pipes.
+#[derive(Drop)]
+pub struct Wired<R: Timed> {
+    pub client: Client<R, Plain, Plain>,
+    pub connection: ClientConnection<R, DuplexStream, DuplexStream, Plain, Plain>,
+    pub reader: DuplexStream,
+    pub writer: DuplexStream,
+}
+
+/// A client that reads and writes here, over no transform.
+pub fn client_over<R: System, S: AsyncRead, W: AsyncWrite>(
+    rt: &R,
+    handle: &Handle,
+    reader: S,
+    writer: W,
+) -> Result<
+    (
+        Client<R, Plain, Plain>,
+        ClientConnection<R, S, W, Plain, Plain>,
+    ),
+    Fail,
+> {
+    let output = HookOutput::of_halves(rt.alloc(), Plain {}, Plain {});
+    Ok(Client::over(rt.clone()?, handle, reader, writer, output)?)
+}
+
+/// A client over bytes in memory, of which so many are under way at most.
+pub fn make_wired<R: System>(rt: &R, handle: &Handle, room: usize) -> Result<Wired<R>, Fail> {
+    let (up, up_far) = duplex(rt.alloc(), room.max(1))?;
+    let (down, down_far) = duplex(rt.alloc(), room.max(1))?;
+    let (client, connection) = client_over(rt, handle, down_far, up)?;
+    Ok(Wired {
+        client,
+        connection,
+        reader: up_far,
+        writer: down,
+    })
+}
+
+/// What a peer of these manners shares.
+fn peer_shared(alloc: Global, manners: Manners) -> Result<Arc<PeerShared, Global>, Fail> {
+    let registry = registry(alloc)?;
+    let context = ConnectionContext::of_halves(alloc, Plain {}, Plain {});
+    let core = ServerCore::new(alloc, Rules::Async, registry, context);
+    let held = PeerHeld::new(alloc, core, manners);
+    Ok(Arc::new(alloc, PeerShared::new(held))?)
+}
+
+/// A peer of these manners that reads and writes here.
+fn make_peer<R: System>(
+    rt: &R,
+    handle: &Handle,
+    manners: Manners,
+    reader: DuplexStream,
+    writer: DuplexStream,
+) -> Result<Peer<R>, Fail> {
+    let shared = peer_shared(rt.alloc(), manners)?;
+    let link = Link::new(rt.clone()?, handle, shared, reader, writer)?;
+    Ok(Peer {
+        link,
+        reads: manners != Manners::ReadsNothing,
+        never: Source::new(),
+        slot: None,
+    })
+}
+
 /// A client, its peer, and the event loop.
 #[derive(Drop)]
 pub struct Site<R: Timed> {
@@ -55,28 +121,18 @@ pub struct Site<R: Timed> {
 
 /// A client over bytes in memory, of which so many are under way at most, beside a peer of these manners.
 pub fn make_site<R: System>(rt: &R, room: usize, manners: Manners) -> Result<Site<R>, Fail> {
-    let alloc = rt.alloc();
     let runtime = LocalRuntime::new(rt)?;
-    let (up, up_far) = duplex(alloc, room.max(1))?;
-    let (down, down_far) = duplex(alloc, room.max(1))?;
-    let output = HookOutput::of_halves(alloc, Plain {}, Plain {});
-    let (client, connection) = Client::over(rt.clone()?, runtime.handle(), down_far, up, output)?;
-    let context = ConnectionContext::of_halves(alloc, Plain {}, Plain {});
-    let core = ServerCore::new(alloc, Rules::Async, registry(alloc)?, context);
-    let shared = Arc::new(alloc, PeerShared::new(PeerHeld::new(alloc, core, manners)))?;
-    let link = Link::new(rt.clone()?, runtime.handle(), shared, up_far, down)?;
+    let Wired {
+        client,
+        connection,
+        reader,
+        writer,
+    } = make_wired(rt, runtime.handle(), room)?;
+    let peer = make_peer(rt, runtime.handle(), manners, reader, writer)?;
     Ok(Site {
         runtime,
         client,
-        ends: Ends {
-            connection,
-            peer: Peer {
-                link,
-                reads: manners != Manners::ReadsNothing,
-                never: Source::new(),
-                slot: None,
-            },
-        },
+        ends: Ends { connection, peer },
     })
 }
 
@@ -104,9 +160,14 @@ pub fn request(
     payload: &[u8],
     timeout_nano: i64,
 ) -> Result<Request, Fail> {
-    let service = String::from_str(alloc, "demo.Echo")?;
-    let method = String::from_str(alloc, method)?;
-    let mut request = Request::init_request(alloc, service, method, timeout_nano, Vec::new(alloc));
+    let mut request = empty_request(alloc, method, timeout_nano)?;
     request.set_payload(Vec::from_slice(alloc, payload)?);
     Ok(request)
+}
+
+/// The same without a payload.
+fn empty_request(alloc: Global, method: &str, timeout_nano: i64) -> Result<Request, Fail> {
+    let service = String::from_str(alloc, "demo.Echo")?;
+    let method = String::from_str(alloc, method)?;
+    Ok(Request::init_request(alloc, service, method, timeout_nano, Vec::new(alloc)))
 }

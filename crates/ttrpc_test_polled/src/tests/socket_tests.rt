@@ -2,10 +2,11 @@
 ghost use Rattle.futures.specs.Poll.{OnPending};
 ghost use Rattle.futures.specs.Task.{IsArmed, Keeps};
 
+use crate::tests::sites::System;
 use futures::future::join;
 use futures::task::{Context, Poll};
 use futures::{Future, StreamExt};
-use std::alloc::AllocGlobal;
+use std::net::SocketAddr;
 use std::test::Fail;
 use tokio::runtime::LocalRuntime;
 use ttrpc_polled::{Listener, Socket};
@@ -96,20 +97,53 @@ impl Future for Talk {
     }
 }
 
-#[test]
-fn sockets_talk_by_polls(rt: HostRuntime) -> Result<(), Fail> {
-    let alloc = rt.alloc();
-    let mut runtime = LocalRuntime::new(&rt)?;
-    let reactor = runtime.handle().reactor();
-    let mut listener = Listener::bind(&rt, alloc, reactor, "tcp://127.0.0.1:0", true)?;
-    let address = listener.local_addr()?;
-    let connecting = Socket::connect_tcp(&rt, reactor, address, true);
-    let near = runtime.block_on(&rt, connecting)??;
-    let Some(far) = runtime.block_on(&rt, listener.next())? else {
+/// A socket that is connected to this address.
+fn connected<R: System>(
+    rt: &R,
+    runtime: &mut LocalRuntime,
+    address: SocketAddr,
+) -> Result<Socket, Fail> {
+    let connecting = Socket::connect_tcp(rt, runtime.handle().reactor(), address, true);
+    Ok(runtime.block_on(rt, connecting)??)
+}
+
+/// The next socket that a listener accepts.
+fn accepted<R: System>(
+    rt: &R,
+    runtime: &mut LocalRuntime,
+    listener: &mut Listener,
+) -> Result<Socket, Fail> {
+    let Some(far) = runtime.block_on(rt, listener.next())? else {
         return Err("nothing was accepted".into());
     };
+    Ok(far?)
+}
+
+/// Both ends of a connection to a listener.
+fn both_ends<R: System>(
+    rt: &R,
+    runtime: &mut LocalRuntime,
+    listener: &mut Listener,
+) -> Result<(Socket, Socket), Fail> {
+    let address = listener.local_addr()?;
+    let near = connected(rt, runtime, address)?;
+    let far = accepted(rt, runtime, listener)?;
+    Ok((near, far))
+}
+
+/// A listener at a free port.
+fn listening<R: System>(rt: &R, runtime: &LocalRuntime) -> Result<Listener, Fail> {
+    let reactor = runtime.handle().reactor();
+    Ok(Listener::bind(rt, rt.alloc(), reactor, "tcp://127.0.0.1:0", true)?)
+}
+
+#[test]
+fn sockets_talk_by_polls(rt: HostRuntime) -> Result<(), Fail> {
+    let mut runtime = LocalRuntime::new(&rt)?;
+    let mut listener = listening(&rt, &runtime)?;
+    let (near, far) = both_ends(&rt, &mut runtime, &mut listener)?;
     let asks = Talk::new(near, b"asked", b"told");
-    let tells = Talk::new(far?, b"told", b"asked");
+    let tells = Talk::new(far, b"told", b"asked");
     let talked = runtime.block_on(&rt, join(asks, tells))?;
     assert_eq!(rt; talked, (true, true));
     Ok(())

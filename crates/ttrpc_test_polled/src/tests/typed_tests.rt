@@ -5,17 +5,16 @@ ghost use Rattle.futures.specs.Task.{IsArmed, Keeps};
 use crate::acts::request;
 use crate::lines::{Line, Side, Speaker};
 use crate::parts::{Fault, Parts};
-use crate::tests::sites::System;
+use crate::tests::sites::{System, Wired, make_wired};
 use futures::Future;
 use futures::future::Either;
 use futures::task::{Context, Poll};
 use std::test::Fail;
-use tokio::io::duplex;
 use tokio::runtime::LocalRuntime;
 use ttrpc_polled_client::{Client, ClientLine, ClientNewStream};
 use ttrpc_polled_streams::ServerStreamReceiver;
 use ttrpc_proto::{Error, KeyValue, Result as RpcResult};
-use ttrpc_secure::{HookOutput, Plain};
+use ttrpc_secure::Plain;
 
 /// A stream that is opened, and what comes on it: a message, none, and why there is nothing more.
 #[derive(Drop)]
@@ -91,28 +90,35 @@ const LINES: &[Line<'static>] = &[
     Line::Down(b"\0\0\0\0\0\0\0\x01\x03\x05"),
 ];
 
-/// Receives beside a server that says its part of these lines.
-fn receive<R: System>(rt: &R, lines: &[Line<'_>]) -> Result<Option<Fault>, Fail> {
-    let alloc = rt.alloc();
-    let mut runtime = LocalRuntime::new(rt)?;
-    let (up, up_far) = duplex(alloc, 4096)?;
-    let (down, down_far) = duplex(alloc, 4096)?;
-    let output = HookOutput::of_halves(alloc, Plain {}, Plain {});
-    let (client, connection) = Client::over(rt.clone()?, runtime.handle(), down_far, up, output)?;
-    let receipts = Receipts {
-        opening: client.new_stream(request(alloc, "Chat", b"", 0)?, true, true)?,
+/// What comes on a stream that this client opens.
+fn make_receipts<R: System>(rt: &R, client: &Client<R, Plain, Plain>) -> Result<Receipts, Fail> {
+    let request = request(rt.alloc(), "Chat", b"", 0)?;
+    Ok(Receipts {
+        opening: client.new_stream(request, true, true)?,
         receiver: None,
         came: 0,
-    };
-    let mut parts = Parts::new(alloc)?;
-    parts.does(Either::Left(receipts))?;
-    parts.does(Either::Right(Speaker::new(Side::Server, lines, up_far, down)))?;
-    parts.goes(connection)?;
+    })
+}
+
+/// Receives beside a server that says its part of these lines.
+fn receive<R: System>(rt: &R, lines: &[Line<'_>]) -> Result<Option<Fault>, Fail> {
+    let mut runtime = LocalRuntime::new(rt)?;
+    let wired = make_wired(rt, runtime.handle(), 4096)?;
+    let receipts = Either::Left(make_receipts(rt, &wired.client)?);
+    let Wired {
+        client: _client,
+        connection,
+        reader,
+        writer,
+    } = wired;
+    let speaker = Either::Right(Speaker::new(Side::Server, lines, reader, writer));
+    let parts = Parts::both(rt.alloc(), receipts, speaker, connection)?;
     Ok(runtime.block_on(rt, parts)?)
 }
 
 #[test]
 fn messages_come_until_there_are_no_more(rt: HostRuntime) -> Result<(), Fail> {
-    assert_eq!(rt; receive(&rt, LINES)?, None);
+    let fault = receive(&rt, LINES)?;
+    assert_eq!(rt; fault, None);
     Ok(())
 }
