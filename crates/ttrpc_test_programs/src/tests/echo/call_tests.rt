@@ -1,12 +1,13 @@
 //! The word `call`, beside a server of this process.
-use crate::tests::echo::runs::{ROOM, Ran, Tester, run_words, words_of};
+use crate::tests::echo::runs::{ROOM, Ran, Tester, add_word, run_words, words_of};
+use std::alloc::Global;
 use std::process::Abort;
-use std::sync::Arc;
+use std::sync::{Arc, Wait};
 use std::test::Fail;
 use std::time::Duration;
 use std::{fs, thread};
 use ttrpc::sync::{NoWatch, Watch};
-use ttrpc_echo::{FaultKeeper, Faults, start_server, tell_address};
+use ttrpc_echo::{EchoServer, FaultKeeper, Faults, start_server, tell_address};
 use ttrpc_proto::Error;
 
 type Tested = Result<(), Fail>;
@@ -34,13 +35,18 @@ const CALLS: &[Call] = &[
     ),
 ];
 
-/// A run with the word `call`, the address and these words. It reads nothing.
-fn called<S: Tester + 'static>(rt: &S, address: &str, rest: &[&str]) -> Result<Ran, Fail> {
-    let mut words = words_of(rt.alloc(), &["call"])?;
-    words.push(String::from_str(rt.alloc(), address)?)?;
+/// The word `call`, the address and these words.
+fn call_words(alloc: Global, address: &str, rest: &[&str]) -> Result<Vec<String>, Fail> {
+    let mut words = words_of(alloc, &["call", address])?;
     for word in rest {
-        words.push(String::from_str(rt.alloc(), word)?)?;
+        add_word(alloc, &mut words, word)?;
     }
+    Ok(words)
+}
+
+/// A run with such words. It reads nothing.
+fn called<S: Tester + 'static>(rt: &S, address: &str, rest: &[&str]) -> Result<Ran, Fail> {
+    let words = call_words(rt.alloc(), address, rest)?;
     let mut input = b"unread".as_slice();
     let ran = run_words(rt, words.as_slice(), &mut input, ROOM)?;
     assert_eq!(rt; input.len(), 6);
@@ -56,14 +62,23 @@ fn is_told<S: Tester + 'static>(rt: &S, address: &str, call: &Call) -> Tested {
     Ok(())
 }
 
+/// What a server tells of its address.
+fn told_line<S: Tester>(
+    rt: &S,
+    server: &EchoServer<S, NoWatch>,
+    address: &str,
+) -> Result<String, Fail> {
+    let mut line = Vec::new(rt.alloc());
+    tell_address(server, address, &mut line)?;
+    Ok(String::from_utf8(line).map_err(|_| Fail::from("not UTF-8"))?)
+}
+
 /// A server at a path tells it in a line.
 #[test]
 fn a_path_is_told(rt: HostRuntime) -> Tested {
     let _ = fs::remove_file(&rt, "told.sock");
     let server = start_server(rt, "unix://told.sock", true, NoWatch {})?;
-    let mut line = Vec::new(rt.alloc());
-    tell_address(&server, "unix://told.sock", &mut line)?;
-    let line = String::from_utf8(line).map_err(|_| Fail::from("not UTF-8"))?;
+    let line = told_line(&rt, &server, "unix://told.sock")?;
     assert_eq!(rt;
         line.as_str(),
         "ttrpc-demo: listening at unix://told.sock\n"
@@ -71,6 +86,12 @@ fn a_path_is_told(rt: HostRuntime) -> Tested {
     server.shutdown();
     fs::remove_file(&rt, "told.sock")?;
     Ok(())
+}
+
+/// The next fault that is kept has this text.
+fn next_is<X: Wait + Abort>(rt: &X, faults: &Faults, text: &str) {
+    let next = faults.next(rt);
+    assert_eq!(rt; next.as_str(), text);
 }
 
 /// Faults are kept in order until they are told, up to 64; who is to tell them waits for the next.
@@ -83,17 +104,17 @@ fn faults_are_kept_until_they_are_told(rt: HostRuntime) -> Tested {
     for _ in 2..70 {
         keeper.handler_failed(&Error::RemoteClosed);
     }
-    let (first, second) = (faults.next(&rt), faults.next(&rt));
-    assert_eq!(rt; first.as_str(), "no connection was accepted: eof");
-    assert_eq!(rt;
-        second.as_str(),
-        "a worker is missing: ttrpc err: local stream closed"
+    next_is(&rt, &*faults, "no connection was accepted: eof");
+    next_is(
+        &rt,
+        &*faults,
+        "a worker is missing: ttrpc err: local stream closed",
     );
     for _ in 2..64 {
-        let next = faults.next(&rt);
-        assert_eq!(rt;
-            next.as_str(),
-            "a handler failed: ttrpc err: remote stream closed"
+        next_is(
+            &rt,
+            &*faults,
+            "a handler failed: ttrpc err: remote stream closed",
         );
     }
     let (last, ()) = thread::join(
@@ -108,30 +129,41 @@ fn faults_are_kept_until_they_are_told(rt: HostRuntime) -> Tested {
     Ok(())
 }
 
+/// The address that a line tells.
+fn address_in(line: &str) -> Result<&str, Fail> {
+    let address = line
+        .strip_prefix("ttrpc-demo: listening at ")
+        .ok_or("no address")?;
+    let address = address.strip_suffix('\n').ok_or("no line")?;
+    Ok(address)
+}
+
+/// Each row is called at this address.
+fn all_are_told<S: Tester + 'static>(rt: &S, address: &str) -> Tested {
+    for call in CALLS {
+        is_told(rt, address, call)?;
+    }
+    Ok(())
+}
+
+/// Nobody is called at this address.
+fn nobody_is_called<S: Tester + 'static>(rt: &S, address: &str) -> Tested {
+    let ran = called(rt, address, &["x", "y", "2a", "0"])?;
+    assert_eq!(rt; ran.status, 1);
+    assert!(rt; ran.output.is_empty());
+    let errors = ran.errors.as_slice();
+    assert!(rt; errors.starts_with(b"ttrpc-demo: Nix error: "));
+    Ok(())
+}
+
 /// A server with port 0 tells its address in a line, and is called there. Once it is shut down, nobody is.
 #[test]
 fn a_server_is_called(rt: HostRuntime) -> Tested {
     let free = "tcp://127.0.0.1:0";
     let server = start_server(rt, free, true, NoWatch {})?;
-    let mut line = Vec::new(rt.alloc());
-    tell_address(&server, free, &mut line)?;
-    let line = String::from_utf8(line).map_err(|_| Fail::from("not UTF-8"))?;
-    let address = line
-        .as_str()
-        .strip_prefix("ttrpc-demo: listening at ")
-        .ok_or("no address")?;
-    let address = address.strip_suffix('\n').ok_or("no line")?;
-    for call in CALLS {
-        is_told(&rt, address, call)?;
-    }
+    let line = told_line(&rt, &server, free)?;
+    let address = address_in(line.as_str())?;
+    all_are_told(&rt, address)?;
     server.shutdown();
-    let ran = called(&rt, address, &["x", "y", "2a", "0"])?;
-    assert_eq!(rt; ran.status, 1);
-    assert!(rt; ran.output.is_empty());
-    assert!(rt;
-        ran.errors
-            .as_slice()
-            .starts_with(b"ttrpc-demo: Nix error: ")
-    );
-    Ok(())
+    nobody_is_called(&rt, address)
 }

@@ -97,25 +97,27 @@ fn a_beginning_is_written_where_writing_fails(rt: HostRuntime) -> Tested {
     Ok(())
 }
 
-/// A front of the line is written where the writer fails, and the program ends with status 1.
-fn telling_fails_at<S: Tester + 'static>(rt: &S, count: usize) -> Tested {
-    let alloc = rt.alloc();
-    let words = words_of(alloc, &["loop", "2a"])?;
-    let mut errors = Vec::with_capacity(alloc, ROOM)?;
-    let manner = BYTEWISE.ending(count, Some(ErrorKind::BrokenPipe));
-    let mut output = StdWriter::new(alloc, manner)?;
+/// A run with these words that writes there: its status, and what it tells of errors.
+fn run_into<S: Tester + 'static>(
+    rt: &S,
+    words: &[String],
+    output: &mut StdWriter,
+) -> Result<(u8, Vec<u8>), Fail> {
+    let mut errors = Vec::with_capacity(rt.alloc(), ROOM)?;
     let mut input = ASKED;
-    let status = run(
-        rt.clone()?,
-        words.as_slice(),
-        true,
-        &mut input,
-        &mut output,
-        &mut errors,
-    );
+    let status = run(rt.clone()?, words, true, &mut input, output, &mut errors);
     if errors.as_slice() == NO_MEMORY_TEXT {
         return Err(Error::NoMemory.into());
     }
+    Ok((status, errors))
+}
+
+/// A front of the line is written where the writer fails, and the program ends with status 1.
+fn telling_fails_at<S: Tester + 'static>(rt: &S, count: usize) -> Tested {
+    let words = words_of(rt.alloc(), &["loop", "2a"])?;
+    let manner = BYTEWISE.ending(count, Some(ErrorKind::BrokenPipe));
+    let mut output = StdWriter::new(rt.alloc(), manner)?;
+    let (status, errors) = run_into(rt, words.as_slice(), &mut output)?;
     assert_eq!(rt; status, 1);
     assert!(rt;
         output.receiver.taken.as_slice() == front(LOOPED, count),

@@ -27,10 +27,17 @@ pub struct Ran {
     pub errors: Vec<u8>,
 }
 
+/// One more word.
+pub fn add_word(alloc: Global, words: &mut Vec<String>, word: &str) -> Result<(), Fail> {
+    let word = String::from_str(alloc, word)?;
+    words.push(word)?;
+    Ok(())
+}
+
 pub fn words_of(alloc: Global, words: &[&str]) -> Result<Vec<String>, Fail> {
     let mut given = Vec::new(alloc);
     for word in words {
-        given.push(String::from_str(alloc, word)?)?;
+        add_word(alloc, &mut given, word)?;
     }
     Ok(given)
 }

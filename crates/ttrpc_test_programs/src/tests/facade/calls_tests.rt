@@ -86,28 +86,40 @@ fn errors_of_codecs_have_their_prefixes(rt: HostRuntime) -> Tested {
 #[test]
 fn values_come_through(rt: HostRuntime) -> Tested {
     let alloc = rt.alloc();
+    let expected = pair(alloc)?;
     let decoded: KeyValue = decode_request(alloc, PAIR)?;
-    assert_eq!(rt; decoded, pair(alloc)?);
+    assert_eq!(rt; decoded, expected);
     let mut merged = nothing(alloc);
     merge_reply(alloc, &mut merged, PAIR)?;
-    assert_eq!(rt; merged, pair(alloc)?);
+    assert_eq!(rt; merged, expected);
     Ok(())
+}
+
+/// One more text under the key `t`.
+fn add_text(alloc: Global, context: &mut Context, text: &str) -> Tested {
+    let key = String::from_str(alloc, "t")?;
+    let text = String::from_str(alloc, text)?;
+    context.add(alloc, key, text)?;
+    Ok(())
+}
+
+/// A context of five nanoseconds, with the texts `a` and `b`.
+fn context_of(alloc: Global) -> Result<Context, Fail> {
+    let mut context = Context::new(alloc);
+    context.timeout_nano = 5;
+    for text in ["a", "b"] {
+        add_text(alloc, &mut context, text)?;
+    }
+    Ok(context)
 }
 
 #[test]
 fn request_says_what_its_context_says(rt: HostRuntime) -> Tested {
     let alloc = rt.alloc();
-    let mut context = Context::new(alloc);
-    context.timeout_nano = 5;
-    for text in ["a", "b"] {
-        let (key, value) = (
-            String::from_str(alloc, "t")?,
-            String::from_str(alloc, text)?,
-        );
-        context.add(alloc, key, value)?;
-    }
-    let request = request_of(alloc, "s", "m", context, &pair(alloc)?)?;
-    assert_eq!(rt; request.encode(alloc)?.as_slice(), REQUEST);
+    let pair = pair(alloc)?;
+    let request = request_of(alloc, "s", "m", context_of(alloc)?, &pair)?;
+    let bytes = request.encode(alloc)?;
+    assert_eq!(rt; bytes.as_slice(), REQUEST);
     Ok(())
 }
 

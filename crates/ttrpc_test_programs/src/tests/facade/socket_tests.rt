@@ -1,6 +1,6 @@
 //! A service over a socket, by the macros.
 use crate::tests::facade::calls_tests::error_of;
-use crate::tests::facade::pairs::{PairsClient, methods};
+use crate::tests::facade::pairs::{Handler, PairsClient, methods};
 use std::alloc::Global;
 use std::fs;
 use std::net::{Net, TcpListener, TcpStream};
@@ -10,7 +10,7 @@ use std::test::Fail;
 use std::time::Duration;
 use ttrpc::context::{Context, with_duration};
 use ttrpc::proto::{Blob, KeyValue, Sequence, Text};
-use ttrpc::sync::{Host, Runtime};
+use ttrpc::sync::{Host, NoHook, Runtime};
 use ttrpc::{Client, Error, Request, Result as Answer, Server};
 
 type Tested = Result<(), Fail>;
@@ -68,19 +68,41 @@ fn pairs_turn<R: Host + Abort>(rt: &R, client: &PairsClient<R>) -> Tested {
     Ok(())
 }
 
+/// A context of a call that may take a while, with the text `kind` under the key `Tone`.
+fn tone(alloc: Global) -> Result<Context, Fail> {
+    let mut context = with_duration(alloc, Duration::from_secs(60))?;
+    let key = String::from_str(alloc, "Tone")?;
+    let text = String::from_str(alloc, "kind")?;
+    context.add(alloc, key, text)?;
+    Ok(context)
+}
+
+/// `Find` comes to this for the pair `tone`, `none`.
+fn finds<R: Host + Abort>(
+    rt: &R,
+    client: &PairsClient<R>,
+    context: Context,
+    said: &Comes,
+) -> Tested {
+    let pair = pair_of(rt.alloc(), ("tone", "none"))?;
+    let found = client.find(context, &pair);
+    is_as_said(rt, found, said)
+}
+
 /// Metadata comes with a call that may take a while.
 fn metadata_comes_along<R: Host + Abort>(rt: &R, client: &PairsClient<R>) -> Tested {
-    let alloc = rt.alloc();
-    let mut context = with_duration(alloc, Duration::from_secs(60))?;
-    context.add(
-        alloc,
-        String::from_str(alloc, "Tone")?,
-        String::from_str(alloc, "kind")?,
+    finds(
+        rt,
+        client,
+        tone(rt.alloc())?,
+        &Comes::Pair(("tone", "kind")),
     )?;
-    let found = client.find(context, &pair_of(alloc, ("tone", "none"))?);
-    is_as_said(rt, found, &Comes::Pair(("tone", "kind")))?;
-    let missing = client.find(Context::new(alloc), &pair_of(alloc, ("tone", "none"))?);
-    is_as_said(rt, missing, &Comes::Pair(("tone", "none")))
+    finds(
+        rt,
+        client,
+        Context::new(rt.alloc()),
+        &Comes::Pair(("tone", "none")),
+    )
 }
 
 /// A request of a method with bytes that are no pair.
@@ -117,21 +139,40 @@ fn other_bytes_end_the_connection<R: Host + Abort>(rt: &R, client: &PairsClient<
     Ok(())
 }
 
-#[test]
-fn service_is_called_by_macros(rt: HostRuntime) -> Tested {
-    let alloc = rt.alloc();
-    let _ = fs::remove_file(&rt, "pairs.sock");
+/// What the test asks of the system.
+trait Machine: Runtime + Files + Net<Listener = TcpListener, Stream = TcpStream> {}
+
+impl<R: Runtime + Files + Net<Listener = TcpListener, Stream = TcpStream>> Machine for R {}
+
+/// The service's server, which listens.
+fn start_pairs<R: Machine>(rt: &R) -> Result<Server<R, Handler, NoHook>, Fail> {
     let mut server = Server::new(rt.clone()?)?
         .bind(ADDRESS, true)?
-        .register_service(methods(alloc)?)?;
+        .register_service(methods(rt.alloc())?)?;
     server.start()?;
-    let client = PairsClient {
-        client: Client::connect(rt.clone()?, ADDRESS, true)?,
-    };
-    other_bytes_are_refused(&rt, &client)?;
-    pairs_turn(&rt, &client)?;
-    metadata_comes_along(&rt, &client)?;
-    other_bytes_end_the_connection(&rt, &client)?;
+    Ok(server)
+}
+
+/// A client of it.
+fn connect<R: Machine>(rt: &R) -> Result<PairsClient<R>, Fail> {
+    let client = Client::connect(rt.clone()?, ADDRESS, true)?;
+    Ok(PairsClient { client })
+}
+
+/// All of it is called. The last call ends the connection.
+fn service_is_called<R: Host + Abort>(rt: &R, client: &PairsClient<R>) -> Tested {
+    other_bytes_are_refused(rt, client)?;
+    pairs_turn(rt, client)?;
+    metadata_comes_along(rt, client)?;
+    other_bytes_end_the_connection(rt, client)
+}
+
+#[test]
+fn service_is_called_by_macros(rt: HostRuntime) -> Tested {
+    let _ = fs::remove_file(&rt, "pairs.sock");
+    let server = start_pairs(&rt)?;
+    let client = connect(&rt)?;
+    service_is_called(&rt, &client)?;
     server.shutdown();
     fs::remove_file(&rt, "pairs.sock")?;
     Ok(())
