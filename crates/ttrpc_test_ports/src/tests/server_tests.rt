@@ -4,6 +4,7 @@ ghost use Rattle.std.specs.Prelude.{⊤};
 use crate::tests::ends::{Server, Tested, echo, is_socket, server, server_failure, written};
 use std::alloc::Global;
 use std::io::{self, ErrorKind};
+use std::process::Abort;
 use std::sync::{Arc, Wait};
 use ttrpc_pool::PoolCore;
 use ttrpc_proto::Error;
@@ -125,6 +126,30 @@ fn an_unknown_method_is_answered(rt: HostRuntime) -> Tested {
     Ok(())
 }
 
+/// The server reads these bytes, and then the end of its input.
+fn read_all<X: Wait>(rt: &X, alloc: Global, server: &Server, bytes: &[u8]) {
+    let mut port = ServerRead::new(rt, alloc, &**server);
+    let mut reader = bytes;
+    read_loop(rt, &mut reader, &mut port);
+}
+
+/// Nothing is left to be written, and the connection has failed by a socket's error of this text.
+fn is_over<X: Wait + Abort>(rt: &X, alloc: Global, server: &Server, text: &str) {
+    assert_eq!(rt; server.held().lock(rt).next(false), Next::Leaves);
+    let failure = server_failure(rt, alloc, server);
+    assert!(rt; is_socket(&failure, text));
+}
+
+/// At the end of so many bytes of input the connection fails by this text, and not before all is written.
+fn ends_behind<X: Wait + Abort>(rt: &X, alloc: Global, length: usize, text: &str) -> Tested {
+    let shared = server(alloc)?;
+    read_all(rt, alloc, &shared, front(NO_METHOD, length));
+    assert!(rt; server_failure(rt, alloc, &shared).is_none());
+    let _ = written(rt, alloc, &*shared);
+    is_over(rt, alloc, &shared, text);
+    Ok(())
+}
+
 /// At the end of its input the connection fails, between two frames and inside one, once nothing is left to be written.
 #[test]
 fn a_reader_ends(rt: HostRuntime) -> Tested {
@@ -132,35 +157,29 @@ fn a_reader_ends(rt: HostRuntime) -> Tested {
         (27, "socket disconnected"),
         (26, "socket disconnected inside a frame"),
     ] {
-        let shared = server(rt.alloc())?;
-        let mut port = ServerRead::new(&rt, rt.alloc(), &*shared);
-        let mut reader = front(NO_METHOD, length);
-        read_loop(&rt, &mut reader, &mut port);
-        assert!(rt; server_failure(&rt, rt.alloc(), &shared).is_none());
-        let _ = written(&rt, rt.alloc(), &*shared);
-        assert_eq!(rt; shared.held().lock(&rt).next(false), Next::Leaves);
-        assert!(rt; is_socket(&server_failure(&rt, rt.alloc(), &shared), text));
+        ends_behind(&rt, rt.alloc(), length, text)?;
     }
     Ok(())
+}
+
+/// The answer is written by who takes the turn, while the writer thread sleeps.
+fn is_answered<X: Wait + Abort>(rt: &X, alloc: Global, server: &Server) {
+    assert!(rt; server.held().lock(rt).turn.take());
+    assert_eq!(rt; server.held().lock(rt).next(false), Next::Sleeps);
+    let bytes = written(rt, alloc, &**server);
+    assert!(rt; bytes.as_slice() == ECHOED);
 }
 
 /// A job that was read before the input ended is handled, and its answer is written, before the connection fails.
 #[test]
 fn an_end_of_input_waits_for_jobs(rt: HostRuntime) -> Tested {
     let shared = server(rt.alloc())?;
-    let mut port = ServerRead::new(&rt, rt.alloc(), &*shared);
-    let mut reader = ASKED;
-    read_loop(&rt, &mut reader, &mut port);
+    read_all(&rt, rt.alloc(), &shared, ASKED);
     assert_eq!(rt; shared.held().lock(&rt).next(false), Next::Sleeps);
     work(rt, rt.alloc(), &shared, false)?;
     assert!(rt; server_failure(&rt, rt.alloc(), &shared).is_none());
-    assert!(rt; shared.held().lock(&rt).turn.take());
-    assert_eq!(rt; shared.held().lock(&rt).next(false), Next::Sleeps);
-    let bytes = written(&rt, rt.alloc(), &*shared);
-    assert!(rt; bytes.as_slice() == ECHOED);
-    assert_eq!(rt; shared.held().lock(&rt).next(false), Next::Leaves);
-    let failure = server_failure(&rt, rt.alloc(), &shared);
-    assert!(rt; is_socket(&failure, "socket disconnected"));
+    is_answered(&rt, rt.alloc(), &shared);
+    is_over(&rt, rt.alloc(), &shared, "socket disconnected");
     Ok(())
 }
 

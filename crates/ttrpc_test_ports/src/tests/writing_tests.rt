@@ -3,7 +3,9 @@ use crate::tests::ends::{Client, Server, Tested, call, client, request, server};
 use crate::tests::server_tests::feed;
 use std::alloc::Global;
 use std::io::{self, ErrorKind, Write};
+use std::process::Abort;
 use std::sync::{Arc, Wait};
+use std::test::Fail;
 use std::thread;
 use std::time::{Clock, Duration};
 use ttrpc_proto::Request;
@@ -44,28 +46,45 @@ impl<X: Wait> Write for Crowded<'_, X> {
     }
 }
 
-/// Who writes for himself leaves behind his own frame, and has the writer thread write what others queued meanwhile.
-#[test]
-fn a_caller_writes_its_own_frame_alone(rt: HostRuntime) -> Tested {
-    let shared = client(rt.alloc())?;
-    assert_eq!(rt; shared.held().lock(&rt).next(false), Next::Sleeps);
-    call(&rt, rt.alloc(), &shared)?;
-    assert!(rt; shared.held().lock(&rt).turn.take());
-    let request = request(rt.alloc(), 0)?;
+/// A client whose caller has taken the turn, while nobody else writes.
+fn turned_client<X: Wait + Abort>(rt: &X, alloc: Global) -> Result<Client, Fail> {
+    let shared = client(alloc)?;
+    assert_eq!(rt; shared.held().lock(rt).next(false), Next::Sleeps);
+    call(rt, alloc, &shared)?;
+    assert!(rt; shared.held().lock(rt).turn.take());
+    Ok(shared)
+}
+
+/// What who has the turn writes, while another caller queues a request.
+fn written_beside<X: Wait>(rt: &X, alloc: Global, client: &Client) -> Result<Vec<u8>, Fail> {
+    let request = request(alloc, 0)?;
     let mut crowded = Crowded {
-        rt: &rt,
-        alloc: rt.alloc(),
-        client: &shared,
+        rt,
+        alloc,
+        client,
         request: &request,
-        taken: Vec::new(rt.alloc()),
+        taken: Vec::new(alloc),
     };
-    let mut port = WriteEnd::leaving(&rt, &*shared);
-    write_loop(&rt, &mut crowded, &mut port);
-    assert!(rt; crowded.taken.as_slice() == ASKED);
-    let held = shared.held().lock(&rt);
+    let mut port = WriteEnd::leaving(rt, &**client);
+    write_loop(rt, &mut crowded, &mut port);
+    Ok(crowded.taken)
+}
+
+/// The turn is given back, and the writer thread is to write a request.
+fn is_left_to_the_writer<X: Wait + Abort>(rt: &X, client: &Client) {
+    let held = client.held().lock(rt);
     assert_eq!(rt; held.core.lendable(), 30);
     assert!(rt; !held.turn.is_taken);
     assert!(rt; !held.turn.sleeps);
+}
+
+/// Who writes for himself leaves behind his own frame, and has the writer thread write what others queued meanwhile.
+#[test]
+fn a_caller_writes_its_own_frame_alone(rt: HostRuntime) -> Tested {
+    let shared = turned_client(&rt, rt.alloc())?;
+    let taken = written_beside(&rt, rt.alloc(), &shared)?;
+    assert!(rt; taken.as_slice() == ASKED);
+    is_left_to_the_writer(&rt, &shared);
     Ok(())
 }
 
