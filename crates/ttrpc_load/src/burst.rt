@@ -22,18 +22,27 @@ pub fn burst<R: Measured + 'static>(
     load: Load,
     nodelay: bool,
 ) -> Result<Moments> {
-    let alloc = rt.alloc();
-    let client = ClientConnection::client_connect(rt, alloc, address, nodelay)?;
-    let connection = Arc::new(alloc, client.get_pipe_connection()?)?;
-    let alone = Load { calls: 1, ..load };
-    write_all(&connection, requests_of(alloc, alone)?.as_slice())?;
-    let _ = times_of_answers(rt, &connection, 1, 0)?;
-    let requests = requests_of(alloc, load)?;
+    let client = ClientConnection::client_connect(rt, rt.alloc(), address, nodelay)?;
+    let connection = Arc::new(rt.alloc(), client.get_pipe_connection()?)?;
+    call_alone(rt, &connection, load)?;
+    let requests = requests_of(rt.alloc(), load)?;
     let start = moment(rt)?;
     let writer = start_writer(rt, Arc::try_clone(&connection)?, requests)?;
     let times = times_of_answers(rt, &connection, load.calls, start)?;
     writer.join(rt)?;
     Ok(moments_of(times.as_slice()))
+}
+
+/// Makes one call of the load, and waits for its answer.
+fn call_alone<R: Measured + 'static>(
+    rt: &R,
+    connection: &Arc<PipeConnection, Global>,
+    load: Load,
+) -> Result<()> {
+    let alone = Load { calls: 1, ..load };
+    write_all(connection, requests_of(rt.alloc(), alone)?.as_slice())?;
+    let _ = times_of_answers(rt, connection, 1, 0)?;
+    Ok(())
 }
 
 /// The requests of the load, each in its frame, one behind the other.

@@ -22,8 +22,9 @@ use std::rc::Rc;
 use std::sync::Wait;
 use tokio::runtime::LocalRuntime;
 use ttrpc_polled::{Timed, moment};
-use ttrpc_polled_client::Client;
+use ttrpc_polled_client::{Client, TcpConnection};
 use ttrpc_proto::{Error, Result};
+use ttrpc_secure::Plain;
 
 /// What an event loop asks of the system.
 pub trait Looped: Timed + Wait + RandomSource + Net<Listener = TcpListener, Stream = TcpStream> {}
@@ -47,24 +48,47 @@ pub fn run_polled<R: Looped>(
     nodelay: bool,
 ) -> Result<Ran> {
     let mut runtime = nix(LocalRuntime::new(rt))?;
-    let connecting = Client::connect(rt.clone()?, runtime.handle(), address, nodelay)?;
-    let (client, connection) = nix(runtime.block_on(rt, connecting))??;
+    let (client, connection) = connect(rt, &mut runtime, address, nodelay)?;
     let tally = Rc::new(rt.alloc(), Tally::new(rt.alloc(), load.calls)?)?;
     let tasks = nix(runtime.task_set(rt))?;
     let start = moment(rt)?;
-    for caller in 0..load.callers {
-        let count = share(load, caller);
-        let exchanges = Exchanges::new(client.try_clone()?, work, count, load.bytes)?;
-        spawn(rt, &tasks, exchanges, start, &tally)?;
-    }
     // The connection is over once the last caller is.
-    drop(client);
+    spawn_all(rt, &tasks, client, work, load, start, &tally)?;
     nix(runtime.block_on_with(rt, &tasks, connection))?;
     let elapsed = moment(rt)?.saturating_sub(start);
     Ok(Ran {
         elapsed,
         times: tally.taken()?,
     })
+}
+
+/// A client that is connected there, and its connection.
+fn connect<R: Looped>(
+    rt: &R,
+    runtime: &mut LocalRuntime,
+    address: &str,
+    nodelay: bool,
+) -> Result<(Client<R, Plain, Plain>, TcpConnection<R, Plain, Plain>)> {
+    let connecting = Client::connect(rt.clone()?, runtime.handle(), address, nodelay)?;
+    nix(runtime.block_on(rt, connecting))?
+}
+
+/// Starts the callers of a client, and lets go of it.
+fn spawn_all<R: Looped>(
+    rt: &R,
+    tasks: &TaskSet<Tallied<R>>,
+    client: Client<R, Plain, Plain>,
+    work: Work,
+    load: Load,
+    began: u64,
+    tally: &Rc<Tally, Global>,
+) -> Result<()> {
+    for caller in 0..load.callers {
+        let count = share(load, caller);
+        let exchanges = Exchanges::new(client.try_clone()?, work, count, load.bytes)?;
+        spawn(rt, tasks, exchanges, began, tally)?;
+    }
+    Ok(())
 }
 
 /// Starts a caller in a task of its own.
