@@ -1,5 +1,6 @@
 //! Connections at rest, whose memory is looked at from outside.
 use crate::polled::{Looped, nix};
+use futures::executor::TaskSet;
 use tokio::io::{DuplexStream, duplex};
 use tokio::runtime::{Handle, LocalRuntime};
 use ttrpc_polled_client::{Client, ClientConnection};
@@ -21,17 +22,27 @@ struct Kept<R: Looped> {
 pub fn rest<R: Looped>(rt: &R, count: usize) -> Result<()> {
     let mut runtime = nix(LocalRuntime::new(rt))?;
     let tasks = nix(runtime.task_set(rt))?;
-    let (one, first) = resting(rt, runtime.handle())?;
     let mut kept = Vec::new(rt.alloc());
-    kept.push(one)?;
     for _ in 1..count {
-        let (one, connection) = resting(rt, runtime.handle())?;
-        kept.push(one)?;
-        if tasks.spawn(connection).is_err() {
-            return Err(Error::NoMemory);
-        }
+        rest_one(rt, runtime.handle(), &tasks, &mut kept)?;
     }
-    nix(runtime.block_on_with(rt, &tasks, first))
+    let (_kept, last) = resting(rt, runtime.handle())?;
+    nix(runtime.block_on_with(rt, &tasks, last))
+}
+
+/// One more of them.
+fn rest_one<R: Looped>(
+    rt: &R,
+    handle: &Handle,
+    tasks: &TaskSet<Resting<R>>,
+    kept: &mut Vec<Kept<R>>,
+) -> Result<()> {
+    let (one, connection) = resting(rt, handle)?;
+    kept.push(one)?;
+    match tasks.spawn(connection) {
+        Ok(()) => Ok(()),
+        Err(_) => Err(Error::NoMemory),
+    }
 }
 
 fn resting<R: Looped>(rt: &R, handle: &Handle) -> Result<(Kept<R>, Resting<R>)> {
