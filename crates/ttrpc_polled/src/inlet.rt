@@ -15,7 +15,7 @@ use tokio::io::AsyncRead;
 pub const INLET_AT_REST: usize = 1024;
 
 /// The room for a piece behind one that filled all there was, where memory is found.
-pub const INLET_AT_WORK: usize = 131072;
+pub const INLET_AT_WORK: usize = 65536;
 
 /// A reader, and what a core hasn't taken yet of the piece that it gave.
 #[derive(Drop)]
