@@ -100,7 +100,8 @@ impl<R: Clock + AllocGlobal + Drop, S: AsyncRead, W: AsyncWrite, C: Connected> L
         }
     }
 
-    /// Writes what is kept, or else gathers what is queued. Also while the writer takes nothing it hears of new deadlines.
+    /// Gathers what is queued, where nothing is kept, and writes what is kept. Also while the writer takes nothing it hears of new
+    /// deadlines.
     fn poll_out(&mut self, cx: &mut Context<'_>) -> Step
         ensures waits { result ≡ Step.Waits → Covers cx.new (OutNeeds W.AsyncWrite.needs C.asked self.new) }
         ensures over { result ≡ Step.Over → IsOver W.AsyncWrite.fails W.AsyncWrite.is_full self.new }
@@ -108,9 +109,14 @@ impl<R: Clock + AllocGlobal + Drop, S: AsyncRead, W: AsyncWrite, C: Connected> L
         ensures kept { Keeps cx.old cx.new }
     {
         if self.outlet.kept.is_empty() {
-            return self.poll_queued(cx);
-        }
-        if self.gathers_more() {
+            match self.poll_queued(cx) {
+                Step::Moved => {}
+                step => return step,
+            }
+            if self.outlet.kept.is_empty() {
+                return Step::Moved;
+            }
+        } else if self.gathers_more() {
             return Step::Gathered;
         }
         match self.outlet.poll_rest(cx) {
@@ -150,7 +156,7 @@ impl<R: Clock + AllocGlobal + Drop, S: AsyncRead, W: AsyncWrite, C: Connected> L
         Step::Over
     }
 
-    /// Gathers what is queued, or waits for some.
+    /// Gathers what is queued, or waits for some. It moved also where the lock couldn't be had.
     fn poll_queued(&mut self, cx: &mut Context<'_>) -> Step
         requires { self.old.outlet.kept ≡ [] }
         ensures waits { result ≡ Step.Waits → (self.new.outlet.kept ≡ []) × IsArmed cx.new × Hears cx.new (C.asked (arc_value self.new.shared)) }
