@@ -22,7 +22,7 @@ use ttrpc_polled::{Alarm, Link, Listener, Socket, Timed, moment};
 use ttrpc_proto::Result;
 use ttrpc_proto::error::causes::others_of;
 use ttrpc_secure::{
-    AcceptHook, ConnectionContext, HookOutput, InboundTransform, OutboundTransform,
+    AcceptHook, ConnectionContext, ConnectionData, HookOutput, InboundTransform, OutboundTransform,
 };
 use ttrpc_server::{Registry, Rules, ServerCore};
 
@@ -64,26 +64,64 @@ impl<R: Timed, M: MethodHandler, T: Drop, A> Service<R, M, T, A> {
         T: StreamHandler<ServerShared<O, I>>,
         ensures { IfOk result (CanPoll M.Call.Future.can_poll T.Call.Future.can_poll) }
     {
-        let alloc = self.rt.alloc();
         let HookOutput {
             connection_data,
             outbound,
             inbound,
         } = output;
+        let shared = self.shared(outbound, inbound)?;
+        let link = self.link(&shared, reader, writer)?;
+        let parts = self.parts(shared, connection_data)?;
+        ServerConnection::new(self.rt.clone()?, link, parts)
+    }
+
+    /// A core between these halves, to be shared.
+    fn shared<O, I>(&self, outbound: O, inbound: I) -> Result<Arc<ServerShared<O, I>, Global>>
+    where
+        O: OutboundTransform + Drop,
+        I: InboundTransform + Drop,
+    {
+        let alloc = self.rt.alloc();
         let context = ConnectionContext::of_halves(alloc, outbound, inbound);
         let core = ServerCore::new(alloc, Rules::Async, self.registry(alloc)?, context);
-        let shared = Arc::new(alloc, ServerShared::new(alloc, core))?;
-        let line = Arc::try_clone(&shared)?;
-        let link = Link::new(self.rt.clone()?, &self.handle, line, reader, writer)?;
-        let parts = Parts {
+        Ok(Arc::new(alloc, ServerShared::new(alloc, core))?)
+    }
+
+    /// What reads and writes for a core.
+    fn link<S, W, O, I>(
+        &self,
+        shared: &Arc<ServerShared<O, I>, Global>,
+        reader: S,
+        writer: W,
+    ) -> Result<Link<R, S, W, ServerShared<O, I>>>
+    where
+        S: AsyncRead,
+        W: AsyncWrite,
+        O: OutboundTransform + Drop,
+        I: InboundTransform + Drop,
+    {
+        let line = Arc::try_clone(shared)?;
+        Link::new(self.rt.clone()?, &self.handle, line, reader, writer)
+    }
+
+    /// What a connection is made of beside that.
+    fn parts<O, I>(
+        &self,
+        shared: Arc<ServerShared<O, I>, Global>,
+        connection_data: ConnectionData,
+    ) -> Result<Parts<M, T, O, I>>
+    where
+        O: OutboundTransform + Drop,
+        I: InboundTransform + Drop,
+    {
+        Ok(Parts {
             shared,
             services: Arc::try_clone(&self.services)?,
-            connection_data: Arc::new(alloc, connection_data)?,
+            connection_data: Arc::new(self.rt.alloc(), connection_data)?,
             seat: Stop::seat(&self.stop)?,
             grace: Alarm::new(&self.rt, &self.handle)?,
             limit: self.settings.connection_limit,
-        };
-        ServerConnection::new(self.rt.clone()?, link, parts)
+        })
     }
 
     /// The names of what is served, for a core.
