@@ -1,12 +1,14 @@
 //! The future of a server's connection.
-ghost use Rattle.std.specs.Prelude.{◌≡◌, ◌<◌, [], true, false, IfOk, None};
+ghost use Rattle.std.specs.Prelude.{◌≡◌, ◌<◌, ◌⊎◌, [], true, false, IfOk, None};
 ghost use Rattle.std.specs.Arc.{arc_value};
 ghost use Rattle.futures.specs.Task.{Covers, Keeps};
 ghost use Rattle.ttrpc_polled_server.specs.Handling.{HandledCanPoll};
-ghost use Rattle.ttrpc_polled_server.specs.Needs.{CanPoll, ConnectionNeeds, EndNeeds};
+ghost use Rattle.ttrpc_polled.specs.Needs.{LinkNeeds};
+ghost use Rattle.ttrpc_polled_server.specs.Needs.{CanPoll, ConnectionNeeds, EndNeeds, asked_source};
 
 use crate::ended::Ended;
 use crate::handler::{MethodHandler, StreamHandler, TtrpcContext};
+use crate::pace::Pace;
 use crate::running::{Handled, Running};
 use crate::services::Services;
 use crate::shared::ServerShared;
@@ -47,6 +49,7 @@ pub struct ServerConnection<
     connection_data: Arc<ConnectionData, Global>,
     seat: Seat,
     jobs: FuturesUnordered<Running<M::Call, T::Call, O, I>>,
+    pace: Pace,
     is_over: bool,
     is_ending: bool,
     grace: Alarm,
@@ -98,6 +101,7 @@ where
             services,
             connection_data,
             seat,
+            pace: Pace::new(),
             is_over: false,
             is_ending: false,
             grace,
@@ -117,21 +121,37 @@ where
             if let Poll::Ready(given) = self.jobs.poll_next(cx) {
                 if let Some((id, ended)) = given {
                     self.end(id, &ended);
+                    if self.pace.one_more() {
+                        let _ = self.poll_link(cx);
+                    }
                 }
                 return Step::Moved;
             }
         }
-        if !self.is_over {
-            match self.link.turn(cx) {
-                Step::Waits => {}
-                Step::Moved | Step::Gathered => return Step::Moved,
-                Step::Over => {
-                    self.is_over = true;
-                    return Step::Moved;
-                }
+        self.pace = Pace::new();
+        match self.poll_link(cx) {
+            Step::Waits => self.poll_end(cx),
+            step => step,
+        }
+    }
+
+    /// Moves bytes, unless the link is over. It waits, too, where that is over.
+    fn poll_link(&mut self, cx: &mut Context<'_>) -> Step
+        ensures waits { result ≡ Step.Waits → (self.new.is_over ≡ true) ⊎ Covers cx.new (LinkNeeds S.AsyncRead.needs W.AsyncWrite.needs asked_source self.new.link) }
+        ensures rest { (self.new.jobs ≡ self.old.jobs) × (self.new.seat ≡ self.old.seat) × (self.new.grace ≡ self.old.grace) × (self.new.is_ending ≡ self.old.is_ending) }
+        ensures kept { Keeps cx.old cx.new }
+    {
+        if self.is_over {
+            return Step::Waits;
+        }
+        match self.link.turn(cx) {
+            Step::Waits => Step::Waits,
+            Step::Moved | Step::Gathered => Step::Moved,
+            Step::Over => {
+                self.is_over = true;
+                Step::Moved
             }
         }
-        self.poll_end(cx)
     }
 
     /// Begins the jobs that wait.
@@ -357,6 +377,7 @@ where
             connection_data: _,
             seat,
             jobs,
+            pace: _,
             is_over: _,
             is_ending: _,
             grace: _,

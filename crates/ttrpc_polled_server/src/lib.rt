@@ -7,6 +7,7 @@ mod handler;
 mod held;
 mod hook;
 mod macros;
+mod pace;
 mod running;
 mod server;
 mod services;
