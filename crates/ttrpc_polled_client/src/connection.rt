@@ -24,6 +24,7 @@ pub struct ClientConnection<
     I: InboundTransform + Drop,
 > {
     link: Link<R, S, W, ClientShared<O, I>>,
+    gives_way: bool,
 }
 
 /// The future of a client's connection over TCP.
@@ -40,7 +41,10 @@ impl<
     pub(crate) fn new(link: Link<R, S, W, ClientShared<O, I>>) -> Self
         ensures { result.link ≡ link }
     {
-        ClientConnection { link }
+        ClientConnection {
+            link,
+            gives_way: false,
+        }
     }
 }
 
@@ -59,11 +63,19 @@ impl<
     ghost needs = { λ c. LinkNeeds S.AsyncRead.needs W.AsyncWrite.needs asked_source c.link };
 
     fn poll(&mut self, cx: &mut Context<'_>) -> Poll<()> {
+        if self.gives_way {
+            self.gives_way = false;
+            return cx.yield_now();
+        }
         for _ in 0..TURNS {
             match self.link.turn(cx) {
                 Step::Moved => {}
-                // Those who waited for what was lent come first, so that more goes out by one write.
-                Step::Gathered => return cx.yield_now(),
+                // Those who waited for what was lent come first, so that more goes out by one write. An event loop may take
+                // them in behind whoever yielded meanwhile, so this gives way twice.
+                Step::Gathered => {
+                    self.gives_way = true;
+                    return cx.yield_now();
+                }
                 Step::Waits => return Poll::Pending,
                 Step::Over => return Poll::Ready(()),
             }
@@ -80,7 +92,7 @@ impl<
     I: InboundTransform + Drop,
 > Drop for ClientConnection<R, S, W, O, I> {
     fn drop(self) {
-        let Self { link } = self;
+        let Self { link, gives_way: _ } = self;
         if let Some(mut held) = lock(&link.shared().held) {
             (&mut *held).abandon();
         }
