@@ -1,9 +1,6 @@
 //! Connections that break: cut at each byte, and with a writer that fails behind each.
 ghost use Rattle.std.specs.Prelude.{⊤};
 
-use crate::acts::{Act, Script};
-use crate::lines::{Line, Side, Speaker};
-use crate::parts::{Fault, Parts};
 use crate::tests::conversation_tests::speak;
 use crate::tests::sites::{System, Wired, client_over, make_wired};
 use futures::Future;
@@ -15,6 +12,9 @@ use std::process::Abort;
 use std::test::Fail;
 use tokio::io::{AsyncRead, AsyncWrite, DuplexStream};
 use tokio::runtime::LocalRuntime;
+use ttrpc_bench_polled::acts::{Act, Script};
+use ttrpc_bench_polled::lines::{Line, Side, Speaker};
+use ttrpc_bench_polled::parts::{Fault, Parts};
 
 /// Two streams, and what a server says on them: an item of each, and the close of each.
 const TWO_STREAMS: &[u8] =

@@ -1,12 +1,12 @@
-use crate::acts::{Act, Script};
-use crate::lines::{Line, Side, Speaker};
-use crate::parts::{Fault, Parts};
-use crate::recorded::{Conversation, client_beside_go, client_beside_rust};
 use crate::tests::sites::{System, Wired, make_wired};
 use futures::future::Either;
 use std::process::Abort;
 use std::test::Fail;
 use tokio::runtime::LocalRuntime;
+use ttrpc_bench_polled::acts::{Act, Script};
+use ttrpc_bench_polled::lines::{Line, Side, Speaker};
+use ttrpc_bench_polled::parts::{Fault, Parts};
+use ttrpc_bench_polled::recorded::{Conversation, client_beside_go, client_beside_rust};
 
 /// How many bytes are under way at most each way.
 const ROOMS: [usize; 3] = [1, 11, 4096];

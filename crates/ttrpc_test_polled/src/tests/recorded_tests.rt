@@ -1,14 +1,14 @@
 //! The recorded frames beside either core alone, without a reader, a writer or a handler.
-use crate::acts::{Act, Outcome, is_so, request};
-use crate::lines::Line;
-use crate::recorded::{
-    Conversation, Said, client_beside_go, client_beside_rust, served_to_go, served_to_go_bare,
-    served_to_rust,
-};
-use crate::registry::recorded_registry;
 use std::alloc::{AllocGlobal, Global};
 use std::process::Abort;
 use std::test::Fail;
+use ttrpc_bench_polled::acts::{Act, Outcome, is_so, request};
+use ttrpc_bench_polled::lines::Line;
+use ttrpc_bench_polled::recorded::{
+    Conversation, Said, client_beside_go, client_beside_rust, served_to_go, served_to_go_bare,
+    served_to_rust,
+};
+use ttrpc_bench_polled::registry::recorded_registry;
 use ttrpc_client::{CallId, ClientCore, ClientKind, StreamId};
 use ttrpc_codec::Codec;
 use ttrpc_proto::{Error, Response, Result as RpcResult};

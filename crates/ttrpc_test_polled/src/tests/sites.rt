@@ -1,7 +1,6 @@
 //! A client and its peer, in one event loop.
 ghost use Rattle.std.specs.Prelude.{⊤};
 
-use crate::registry::registry;
 use crate::tests::peer::{Manners, Peer, PeerHeld, PeerShared};
 use futures::Future;
 use futures::future::{Either, select};
@@ -13,6 +12,7 @@ use std::sync::{Arc, Wait};
 use std::test::Fail;
 use tokio::io::{AsyncRead, AsyncWrite, DuplexStream, duplex};
 use tokio::runtime::{Handle, LocalRuntime};
+use ttrpc_bench_polled::registry::registry;
 use ttrpc_polled::{Link, Timed};
 use ttrpc_polled_client::{Client, ClientConnection};
 use ttrpc_proto::{Request, RequestInit};

@@ -1,7 +1,7 @@
 //! The states of a client's calls and streams, stepped by hand on a core that is lent, beside the core of a server.
-use crate::acts::{Outcome, request};
-use crate::registry::registry;
 use std::alloc::Global;
+use ttrpc_bench_polled::acts::{Outcome, request};
+use ttrpc_bench_polled::registry::registry;
 use ttrpc_client::{CallId, ClientCore, ClientKind, StreamId};
 use ttrpc_polled_client::{Asked, Opening};
 use ttrpc_polled_streams::Sending;

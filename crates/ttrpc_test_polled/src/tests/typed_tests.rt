@@ -2,15 +2,15 @@
 ghost use Rattle.futures.specs.Poll.{OnPending};
 ghost use Rattle.futures.specs.Task.{IsArmed, Keeps};
 
-use crate::acts::request;
-use crate::lines::{Line, Side, Speaker};
-use crate::parts::{Fault, Parts};
 use crate::tests::sites::{System, Wired, make_wired};
 use futures::Future;
 use futures::future::Either;
 use futures::task::{Context, Poll};
 use std::test::Fail;
 use tokio::runtime::LocalRuntime;
+use ttrpc_bench_polled::acts::request;
+use ttrpc_bench_polled::lines::{Line, Side, Speaker};
+use ttrpc_bench_polled::parts::{Fault, Parts};
 use ttrpc_polled_client::{Client, ClientLine, ClientNewStream};
 use ttrpc_polled_streams::ServerStreamReceiver;
 use ttrpc_proto::{Error, KeyValue, Result as RpcResult};

@@ -1,6 +1,6 @@
 use Rattle.futures.specs.Task.{Keeps}
-use Rattle.ttrpc_test_polled.specs.Parts.{PartsCanPoll}
-use Rattle.ttrpc_test_polled.proofs.parts.PartsFuture.poll.Given as goal
+use Rattle.ttrpc_bench_polled.specs.Parts.{PartsCanPoll}
+use Rattle.ttrpc_bench_polled.proofs.parts.PartsFuture.poll.Given as goal
 
 -- each part may still be polled, and it is still a poll of the same task
 abbrev pub invariant-loop : goal.invariant-loop

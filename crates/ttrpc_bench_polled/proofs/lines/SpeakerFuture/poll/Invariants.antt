@@ -1,5 +1,5 @@
 use Rattle.futures.specs.Task.{Keeps}
-use Rattle.ttrpc_test_polled.proofs.acts.ScriptFuture.poll.Given as goal
+use Rattle.ttrpc_bench_polled.proofs.lines.SpeakerFuture.poll.Given as goal
 
 -- it is still a poll of the same task
 abbrev pub invariant-loop : goal.invariant-loop

@@ -1,7 +1,7 @@
 //! Parts that run side by side, each polled only once it is woken.
 ghost use Rattle.std.specs.Prelude.{IfOk};
 ghost use Rattle.futures.specs.Queued.{AllPollable, set_places};
-ghost use Rattle.ttrpc_test_polled.specs.Parts.{PartsCanPoll};
+ghost use Rattle.ttrpc_bench_polled.specs.Parts.{PartsCanPoll};
 
 use futures::stream::FuturesUnordered;
 use futures::task::{Context, Poll};
@@ -40,7 +40,7 @@ pub enum PartEnded {
 impl<D: Future<Output = Option<Fault>>, E: Future<Output = ()>> Future for Part<D, E> {
     type Output = PartEnded;
 
-    ghost use Rattle.ttrpc_test_polled.specs.Parts.{PartCanPoll, PartNeeds};
+    ghost use Rattle.ttrpc_bench_polled.specs.Parts.{PartCanPoll, PartNeeds};
 
     ghost can_poll = { PartCanPoll D.can_poll E.can_poll };
 
@@ -163,7 +163,7 @@ const TURNS: u32 = 64;
 impl<D: Future<Output = Option<Fault>>, E: Future<Output = ()>> Future for Parts<D, E> {
     type Output = Option<Fault>;
 
-    ghost use Rattle.ttrpc_test_polled.specs.Parts.{PartsCanPoll};
+    ghost use Rattle.ttrpc_bench_polled.specs.Parts.{PartsCanPoll};
 
     ghost can_poll = { PartsCanPoll D.can_poll E.can_poll };
 

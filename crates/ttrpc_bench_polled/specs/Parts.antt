@@ -2,9 +2,9 @@
 -- Source: this project's.
 use Rattle.std.specs.Prelude.{ℕ}
 use Rattle.futures.specs.Queued.{AllPollable, set_places}
-use Rattle.ttrpc_test_polled.specs.declared.parts.Part.{Part}
-use Rattle.ttrpc_test_polled.specs.declared.parts.Part.TheVariants.{Does, Goes, Lasts}
-use Rattle.ttrpc_test_polled.specs.declared.parts.Parts.{Parts}
+use Rattle.ttrpc_bench_polled.specs.declared.parts.Part.{Part}
+use Rattle.ttrpc_bench_polled.specs.declared.parts.Part.TheVariants.{Does, Goes, Lasts}
+use Rattle.ttrpc_bench_polled.specs.declared.parts.Parts.{Parts}
 
 -- a part may be polled where what it is may be
 abbrev pub PartCanPoll : {D E : Type 0} → (D → Type 0) → (E → Type 0) → Part D E → Type 0
