@@ -2,18 +2,17 @@
 //! clean and quiet.
 
 use crate::tests::chance::Chance;
-use crate::tests::random_tests::{answer_of, end_of, item_of};
-use crate::tests::script::{put, request_named, response_of};
+use crate::tests::random_tests::{answer_by, end_by, send_by};
+use crate::tests::script::{Act, put, put_made, put_times, request_of, respond};
 use std::alloc::Global;
 use std::test::Fail;
-use ttrpc_proto::Request;
 use ttrpc_server::Rules;
 use ttrpc_world::{Event, Side, StreamEnd};
 
 type Tested = Result<(), Fail>;
 
 /// What a call or a stream is at both sides.
-#[derive(Clone, Copy, Debug)]
+#[derive(Clone, Copy)]
 struct Kind {
     /// It is a call.
     call: bool,
@@ -26,29 +25,16 @@ fn id_of(number: u64) -> u32 {
     (number.min(8) as u32).saturating_mul(2).saturating_add(1)
 }
 
-/// A request of this name, by chance with a timeout that is kept.
-fn request_by(
-    alloc: Global,
-    chance: &mut Chance,
-    method: &str,
-    payload: &[u8],
-) -> Result<Request, Fail> {
-    let mut request = request_named(alloc, method, payload)?;
-    if chance.below(2) == 0 {
-        request.timeout_nano = 20;
-    }
-    Ok(request)
+/// What begins: of which name, whether it is a call, and whether items are sent.
+#[derive(Clone, Copy)]
+struct Asked {
+    method: &'static str,
+    call: bool,
+    up: bool,
 }
 
 /// A call, or by chance a stream where there are streams. Each names what there is.
-fn begin(
-    alloc: Global,
-    events: &mut Vec<Event>,
-    chance: &mut Chance,
-    rules: Rules,
-    id: u32,
-) -> Result<Kind, Fail> {
-    let payload = [chance.below(256) as u8];
+fn asked_by(chance: &mut Chance, rules: Rules) -> Asked {
     let streams = matches!(rules, Rules::Async);
     let (method, call, up) = match chance.below(6) {
         0 | 1 if streams => ("Chat", false, true),
@@ -57,52 +43,104 @@ fn begin(
         4 => ("Echo", false, false),
         _ => ("Echo", true, false),
     };
-    let count = if up { 0 } else { 1 };
-    let request = request_by(alloc, chance, method, &payload[..count])?;
-    if call {
-        put(events, Event::Call(request))?;
+    Asked { method, call, up }
+}
+
+/// Its event, by chance with a timeout that is kept.
+fn event_by(
+    alloc: Global,
+    chance: &mut Chance,
+    asked: Asked,
+    payload: &[u8],
+) -> Result<Event, Fail> {
+    let timeout = if chance.below(2) == 0 { 20 } else { 0 };
+    let request = request_of(alloc, asked.method, payload, timeout)?;
+    Ok(if asked.call {
+        Event::Call(request)
     } else {
-        put(events, Event::Open(request, up, true))?;
-    }
-    if up {
-        send_up(alloc, events, chance, id)?;
-    }
-    Ok(Kind {
-        call,
-        stream: method == "Chat",
+        Event::Open(request, asked.up, true)
     })
 }
 
-/// Items are sent, and then by chance the close.
-fn send_up(alloc: Global, events: &mut Vec<Event>, chance: &mut Chance, id: u32) -> Tested {
-    for _ in 0..chance.below(4) {
-        put(
-            events,
-            Event::Send(StreamEnd::Client(id), item_of(alloc, chance)?),
-        )?;
+/// One begins.
+fn begin(
+    alloc: Global,
+    events: &mut Vec<Event>,
+    chance: &mut Chance,
+    rules: Rules,
+    id: u32,
+) -> Result<Kind, Fail> {
+    let payload = [chance.below(256) as u8];
+    let asked = asked_by(chance, rules);
+    let payload: &[u8] = if asked.up { b"" } else { &payload };
+    put_made(events, event_by(alloc, chance, asked, payload))?;
+    if asked.up {
+        send_up(alloc, events, chance, id)?;
     }
-    if chance.below(3) > 0 {
-        put(events, Event::Close(id))?;
+    Ok(Kind {
+        call: asked.call,
+        stream: asked.method == "Chat",
+    })
+}
+
+/// So many items are sent on an end.
+fn send_items(
+    alloc: Global,
+    events: &mut Vec<Event>,
+    chance: &mut Chance,
+    end: StreamEnd,
+    count: u64,
+) -> Tested {
+    for _ in 0..count {
+        put_made(events, send_by(alloc, chance, end))?;
     }
     Ok(())
 }
 
-/// Some bytes are carried from one side and delivered to the other, or all.
-fn moved(events: &mut Vec<Event>, chance: &mut Chance, side: Side, all: bool) -> Tested {
-    let to = match side {
-        Side::Client => Side::Server,
-        Side::Server => Side::Client,
-    };
-    for _ in 0..if all { 28 } else { 2 } {
-        put(
-            events,
-            Event::Carry(side, if all { 4096 } else { chance.count() }),
-        )?;
+/// Items are sent, and then by chance the close.
+fn send_up(alloc: Global, events: &mut Vec<Event>, chance: &mut Chance, id: u32) -> Tested {
+    let count = chance.below(4);
+    send_items(alloc, events, chance, StreamEnd::Client(id), count)?;
+    if chance.below(3) > 0 {
+        return put(events, Event::Close(id));
     }
-    put(
-        events,
-        Event::Deliver(to, if all { 4096 } else { chance.count() }),
-    )
+    Ok(())
+}
+
+/// Some bytes are carried from one side and delivered to the other.
+fn move_some(events: &mut Vec<Event>, chance: &mut Chance, from: Side, to: Side) -> Tested {
+    put(events, Event::Carry(from, chance.count()))?;
+    put(events, Event::Carry(from, chance.count()))?;
+    put(events, Event::Deliver(to, chance.count()))
+}
+
+/// All are, by these acts.
+fn move_all(events: &mut Vec<Event>, carry: Act, deliver: Act) -> Tested {
+    put_times(events, carry, 28)?;
+    put_times(events, deliver, 1)
+}
+
+/// A stream's job is done.
+fn do_stream(alloc: Global, events: &mut Vec<Event>, chance: &mut Chance, job: u64) -> Tested {
+    put_times(events, Act::RecvUp(job), 5)?;
+    let count = chance.below(3);
+    send_items(alloc, events, chance, StreamEnd::Server(job), count)?;
+    put_made(events, end_by(alloc, chance, job))
+}
+
+/// A call's is, under sync rules by chance by a response.
+fn do_call(
+    alloc: Global,
+    events: &mut Vec<Event>,
+    chance: &mut Chance,
+    rules: Rules,
+    job: u64,
+) -> Tested {
+    if matches!(rules, Rules::Sync) && chance.below(2) == 0 {
+        put_made(events, respond(alloc, job, b"a"))?;
+        return put(events, Event::Finish(job));
+    }
+    put_made(events, answer_by(alloc, chance, job))
 }
 
 /// The job of this number is done.
@@ -115,22 +153,10 @@ fn do_job(
     kind: Kind,
 ) -> Tested {
     if kind.stream {
-        for _ in 0..5 {
-            put(events, Event::Recv(StreamEnd::Server(job)))?;
-        }
-        for _ in 0..chance.below(3) {
-            put(
-                events,
-                Event::Send(StreamEnd::Server(job), item_of(alloc, chance)?),
-            )?;
-        }
-        return put(events, Event::EndStream(job, end_of(alloc, chance)?));
+        do_stream(alloc, events, chance, job)
+    } else {
+        do_call(alloc, events, chance, rules, job)
     }
-    if matches!(rules, Rules::Sync) && chance.below(2) == 0 {
-        put(events, Event::Respond(job, response_of(alloc, b"a")?))?;
-        return put(events, Event::Finish(job));
-    }
-    put(events, Event::Answer(job, answer_of(alloc, chance)?))
 }
 
 /// What came is asked for.
@@ -138,25 +164,26 @@ fn ask(events: &mut Vec<Event>, id: u32, kind: Kind) -> Tested {
     if kind.call {
         return put(events, Event::Outcome(id));
     }
-    for _ in 0..5 {
-        put(events, Event::Recv(StreamEnd::Client(id)))?;
-    }
-    Ok(())
+    put_times(events, Act::Recv(id), 5)
+}
+
+/// So many bytes are carried from both sides and delivered to both, and are none.
+fn try_both(events: &mut Vec<Event>, first: Side, second: Side, n: usize) -> Tested {
+    put(events, Event::Carry(first, n))?;
+    put(events, Event::Carry(second, n))?;
+    put(events, Event::Deliver(second, n))?;
+    put(events, Event::Deliver(first, n))
 }
 
 /// Time passes, and nothing more moves.
 fn rest(events: &mut Vec<Event>, chance: &mut Chance) -> Tested {
     put(events, Event::Tick(chance.below(80)))?;
     let n = chance.count().saturating_add(1);
-    let (first, second) = if chance.below(2) == 0 {
-        (Side::Client, Side::Server)
+    if chance.below(2) == 0 {
+        try_both(events, Side::Client, Side::Server, n)
     } else {
-        (Side::Server, Side::Client)
-    };
-    put(events, Event::Carry(first, n))?;
-    put(events, Event::Carry(second, n))?;
-    put(events, Event::Deliver(second, n))?;
-    put(events, Event::Deliver(first, n))
+        try_both(events, Side::Server, Side::Client, n)
+    }
 }
 
 /// The call or stream of this number begins, some bytes are moved up, and by chance time passes.
@@ -168,7 +195,7 @@ fn begin_and_move(
     number: u64,
 ) -> Result<Kind, Fail> {
     let kind = begin(alloc, events, chance, rules, id_of(number))?;
-    moved(events, chance, Side::Client, false)?;
+    move_some(events, chance, Side::Client, Side::Server)?;
     put(events, Event::Tick(chance.below(5)))?;
     Ok(kind)
 }
@@ -188,12 +215,9 @@ fn begin_all(
 }
 
 /// All that is left is moved up, and each job is taken, with one try more.
-fn take_all(events: &mut Vec<Event>, chance: &mut Chance, count: usize) -> Tested {
-    moved(events, chance, Side::Client, true)?;
-    for _ in 0..=count {
-        put(events, Event::Take)?;
-    }
-    Ok(())
+fn take_all(events: &mut Vec<Event>, count: usize) -> Tested {
+    move_all(events, Act::CarryUp(4096), Act::DeliverUp(4096))?;
+    put_times(events, Act::Take, count.saturating_add(1))
 }
 
 /// Each job is done, some bytes are moved down behind each, and all behind the last one.
@@ -207,9 +231,9 @@ fn do_all(
     for (number, kind) in kinds.iter().enumerate() {
         let job = (number as u64).saturating_add(1);
         do_job(alloc, events, chance, rules, job, *kind)?;
-        moved(events, chance, Side::Server, false)?;
+        move_some(events, chance, Side::Server, Side::Client)?;
     }
-    moved(events, chance, Side::Server, true)
+    move_all(events, Act::CarryDown(4096), Act::DeliverDown(4096))
 }
 
 /// What came for each is asked for.
@@ -223,7 +247,7 @@ fn ask_all(events: &mut Vec<Event>, kinds: &[Kind]) -> Tested {
 /// Calls and streams begin, are done, and are asked for; then nothing more moves.
 fn put_gentle(alloc: Global, events: &mut Vec<Event>, chance: &mut Chance, rules: Rules) -> Tested {
     let kinds = begin_all(alloc, events, chance, rules)?;
-    take_all(events, chance, kinds.len())?;
+    take_all(events, kinds.len())?;
     do_all(alloc, events, chance, rules, kinds.as_slice())?;
     ask_all(events, kinds.as_slice())?;
     rest(events, chance)

@@ -1,59 +1,16 @@
 //! Traces made by hand, whose items are in order or aren't: the plain program finds each fault.
 
 use crate::tests::lists::{Counts, NONE, Order, has_unknown_sender, read_lists};
-use crate::tests::script::{Act, Said, event_of, request_named};
+use crate::tests::made::trace_of;
+use crate::tests::script::{Act, Rows, Said};
 use std::alloc::Global;
 use std::process::Abort;
 use std::test::Fail;
-use ttrpc_frame::MessageHeader;
-use ttrpc_proto::Error;
-use ttrpc_server::Job;
-use ttrpc_wire::{Blob, Text};
-use ttrpc_world::{Entry, Reply, Trace};
 
 type Tested = Result<(), Fail>;
 
-/// A reply, as it is told.
-fn reply_of(alloc: Global, said: Said) -> Result<Reply, Fail> {
-    Ok(match said {
-        Said::Named(id) => Reply::Named(id),
-        Said::Ticket(ticket) => Reply::Ticket(ticket),
-        Said::Payload(item) => Reply::Item(Some(Ok(Blob::from_slice(alloc, item)?))),
-        Said::Eof => Reply::Item(Some(Err(Error::Eof))),
-        Said::RemoteClosed => Reply::Item(Some(Err(Error::RemoteClosed))),
-        Said::Socket(text) => Reply::Item(Some(Err(Error::Socket(Text::from_str(alloc, text)?)))),
-        Said::StreamJob(id, stream_id) => Reply::Handed(Some(Job {
-            id,
-            header: MessageHeader::new_request(stream_id, 0),
-            stream: true,
-            request: request_named(alloc, "Chat", b"")?,
-        })),
-        Said::Waits => Reply::Item(None),
-        _ => Reply::Done,
-    })
-}
-
-/// The trace that a script tells.
-fn trace_of(alloc: Global, script: &[(Act, Said)]) -> Result<Trace, Fail> {
-    let mut trace = Vec::with_capacity(alloc, script.len())?;
-    for (act, said) in script {
-        let entry = Entry {
-            event: event_of(alloc, *act)?,
-            reply: reply_of(alloc, *said)?,
-        };
-        push(&mut trace, entry)?;
-    }
-    Ok(trace)
-}
-
-/// One more entry. In a function of its own, since a value that isn't taken is let go here.
-pub fn push(trace: &mut Trace, entry: Entry) -> Tested {
-    trace.push(entry)?;
-    Ok(())
-}
-
 /// Both receivers of a stream are given all, and their ends.
-const GIVEN: &[(Act, Said)] = &[
+const GIVEN: Rows = &[
     (Act::Open("Chat"), Said::Named(1)),
     (Act::Send(1, b"a"), Said::Ticket(1)),
     (Act::Send(1, b""), Said::Ticket(2)),
@@ -72,7 +29,7 @@ const GIVEN: &[(Act, Said)] = &[
 ];
 
 /// The pipe breaks, which is no end, and neither is what is told after it.
-const BROKEN: &[(Act, Said)] = &[
+const BROKEN: Rows = &[
     (Act::Open("Chat"), Said::Named(1)),
     (Act::Take, Said::StreamJob(1, 1)),
     (Act::SendDown(1, b"a"), Said::Ticket(1)),
@@ -83,7 +40,7 @@ const BROKEN: &[(Act, Said)] = &[
 ];
 
 /// A first item is lost.
-const LOST: &[(Act, Said)] = &[
+const LOST: Rows = &[
     (Act::Open("Chat"), Said::Named(1)),
     (Act::Take, Said::StreamJob(1, 1)),
     (Act::Send(1, b"a"), Said::Ticket(1)),
@@ -92,7 +49,7 @@ const LOST: &[(Act, Said)] = &[
 ];
 
 /// An item is given twice.
-const TWICE: &[(Act, Said)] = &[
+const TWICE: Rows = &[
     (Act::Open("Chat"), Said::Named(1)),
     (Act::Take, Said::StreamJob(1, 1)),
     (Act::SendDown(1, b"a"), Said::Ticket(1)),
@@ -101,7 +58,7 @@ const TWICE: &[(Act, Said)] = &[
 ];
 
 /// Two items come in another order.
-const SWAPPED: &[(Act, Said)] = &[
+const SWAPPED: Rows = &[
     (Act::Open("Chat"), Said::Named(1)),
     (Act::Take, Said::StreamJob(1, 1)),
     (Act::SendDown(1, b"a"), Said::Ticket(1)),
@@ -111,7 +68,7 @@ const SWAPPED: &[(Act, Said)] = &[
 ];
 
 /// An item of another stream is given.
-const OTHERS: &[(Act, Said)] = &[
+const OTHERS: Rows = &[
     (Act::Open("Chat"), Said::Named(1)),
     (Act::Open("Chat"), Said::Named(3)),
     (Act::Take, Said::StreamJob(1, 1)),
@@ -121,7 +78,7 @@ const OTHERS: &[(Act, Said)] = &[
 ];
 
 /// An item is given that isn't sent yet.
-const TOO_SOON: &[(Act, Said)] = &[
+const TOO_SOON: Rows = &[
     (Act::Open("Chat"), Said::Named(1)),
     (Act::Take, Said::StreamJob(1, 1)),
     (Act::RecvUp(1), Said::Payload(b"a")),
@@ -129,7 +86,7 @@ const TOO_SOON: &[(Act, Said)] = &[
 ];
 
 /// A last item is lost: the end is told before it.
-const EARLY: &[(Act, Said)] = &[
+const EARLY: Rows = &[
     (Act::Open("Chat"), Said::Named(1)),
     (Act::Take, Said::StreamJob(1, 1)),
     (Act::Send(1, b"a"), Said::Ticket(1)),
@@ -138,7 +95,7 @@ const EARLY: &[(Act, Said)] = &[
 ];
 
 /// The same of the payload by which a job ends.
-const EARLY_DOWN: &[(Act, Said)] = &[
+const EARLY_DOWN: Rows = &[
     (Act::Open("Chat"), Said::Named(1)),
     (Act::Take, Said::StreamJob(1, 1)),
     (Act::EndWith(1, b"a"), Said::Done),
@@ -146,7 +103,7 @@ const EARLY_DOWN: &[(Act, Said)] = &[
 ];
 
 /// An end is told where nobody closed.
-const UNCLOSED: &[(Act, Said)] = &[
+const UNCLOSED: Rows = &[
     (Act::Open("Chat"), Said::Named(1)),
     (Act::Take, Said::StreamJob(1, 1)),
     (Act::Send(1, b"a"), Said::Ticket(1)),
@@ -155,7 +112,7 @@ const UNCLOSED: &[(Act, Said)] = &[
 ];
 
 /// The same where the pipe to the client breaks.
-const UNCLOSED_DOWN: &[(Act, Said)] = &[
+const UNCLOSED_DOWN: Rows = &[
     (Act::Open("Chat"), Said::Named(1)),
     (Act::Take, Said::StreamJob(1, 1)),
     (Act::CutDown(0), Said::Done),
@@ -163,7 +120,7 @@ const UNCLOSED_DOWN: &[(Act, Said)] = &[
 ];
 
 /// Something is sent behind an end that was told.
-const BEHIND: &[(Act, Said)] = &[
+const BEHIND: Rows = &[
     (Act::Open("Chat"), Said::Named(1)),
     (Act::Take, Said::StreamJob(1, 1)),
     (Act::End(1), Said::Done),
@@ -172,7 +129,7 @@ const BEHIND: &[(Act, Said)] = &[
 ];
 
 /// Each fault, and a trace that has it.
-const FAULTS: &[(Order, &[(Act, Said)])] = &[
+const FAULTS: &[(Order, Rows)] = &[
     (Order::OtherItem, LOST),
     (Order::OtherItem, TWICE),
     (Order::OtherItem, SWAPPED),
@@ -185,35 +142,55 @@ const FAULTS: &[(Order, &[(Act, Said)])] = &[
     (Order::PutBehindEnd, BEHIND),
 ];
 
-fn is_read(rt: &impl Abort, alloc: Global, order: Order, script: &[(Act, Said)]) -> Tested {
-    let trace = trace_of(alloc, script)?;
+/// Traces whose items are in order, and what was given.
+const KEPT: &[(Order, Rows)] = &[
+    (
+        Order::Kept(Counts {
+            items_up: 2,
+            ends_up: 2,
+            items_down: 2,
+            ends_down: 1,
+        }),
+        GIVEN,
+    ),
+    (
+        Order::Kept(Counts {
+            items_down: 1,
+            ..NONE
+        }),
+        BROKEN,
+    ),
+];
+
+fn is_read(rt: &impl Abort, alloc: Global, order: Order, rows: Rows) -> Tested {
+    let trace = trace_of(alloc, rows)?;
     assert_eq!(rt; read_lists(trace.as_slice()), order);
     Ok(())
 }
 
-#[test]
-fn lists_that_are_not_in_order_are_found(rt: HostRuntime) -> Tested {
-    for (order, script) in FAULTS {
-        is_read(&rt, rt.alloc(), *order, script)?;
+fn are_read(rt: &impl Abort, alloc: Global, orders: &[(Order, Rows)]) -> Tested {
+    for (order, rows) in orders {
+        is_read(rt, alloc, *order, rows)?;
     }
     Ok(())
 }
 
 #[test]
-fn lists_in_order_are_counted(rt: HostRuntime) -> Tested {
-    let given = Counts {
-        items_up: 2,
-        ends_up: 2,
-        items_down: 2,
-        ends_down: 1,
-    };
-    is_read(&rt, rt.alloc(), Order::Kept(given), GIVEN)?;
-    let broken = Counts {
-        items_down: 1,
-        ..NONE
-    };
-    is_read(&rt, rt.alloc(), Order::Kept(broken), BROKEN)?;
-    let untaken = trace_of(rt.alloc(), &[(Act::SendDown(1, b"a"), Said::Ticket(1))])?;
-    assert!(rt; has_unknown_sender(untaken.as_slice()));
+fn lists_that_are_not_in_order_are_found(rt: HostRuntime) -> Tested {
+    are_read(&rt, rt.alloc(), FAULTS)
+}
+
+/// An item is sent on the stream of a job that is never handed out.
+const UNTAKEN: Rows = &[(Act::SendDown(1, b"a"), Said::Ticket(1))];
+
+fn has_unknown(rt: &impl Abort, alloc: Global, rows: Rows) -> Tested {
+    let trace = trace_of(alloc, rows)?;
+    assert!(rt; has_unknown_sender(trace.as_slice()));
     Ok(())
+}
+
+#[test]
+fn lists_in_order_are_counted(rt: HostRuntime) -> Tested {
+    are_read(&rt, rt.alloc(), KEPT)?;
+    has_unknown(&rt, rt.alloc(), UNTAKEN)
 }

@@ -2,6 +2,7 @@ mod chance;
 mod gentle;
 mod lists;
 mod lists_tests;
+mod made;
 mod plainly;
 mod random_tests;
 mod rows_tests;

@@ -2,23 +2,22 @@
 use crate::tests::chance::Chance;
 use crate::tests::gentle::gentle_by;
 use crate::tests::lists::{Counts, NONE, Order, has_unknown_sender, read_lists};
-use crate::tests::lists_tests::push;
+use crate::tests::made::trace_of;
 use crate::tests::plainly::{Finding, read_headline};
 use crate::tests::script::{
-    Ways, over_plain, over_stamps, put, request_named, request_of, response_of,
+    Act, Over, Rows, Said, Ways, answer, call, end_with, open, put, put_made, put_times, respond,
+    run_over, send,
 };
-use crate::tests::told::{Terms, plain_terms, stamped_terms};
+use crate::tests::told::{Terms, terms_of};
 use crate::tests::whole::{Rest, read_rest};
 use std::alloc::Global;
 use std::process::Abort;
 use std::test::Fail;
 use ttrpc_client::ClientKind;
-use ttrpc_codec::message::WireMessage;
-use ttrpc_frame::MessageHeader;
 use ttrpc_proto::{Error, Response, Status};
-use ttrpc_server::{Job, Rules};
-use ttrpc_wire::Blob;
-use ttrpc_world::{Entry, Event, Reply, Side, StreamEnd, Trace};
+use ttrpc_server::Rules;
+use ttrpc_wire::{Blob, Sequence, Text};
+use ttrpc_world::{Entry, Event, Side, StreamEnd, Trace};
 
 type Tested = Result<(), Fail>;
 
@@ -30,73 +29,108 @@ const LISTS: usize = 1250;
 
 const EVENTS: usize = 64;
 
-/// What a handler gives: mostly a response that is OK.
-pub fn answer_of(alloc: Global, chance: &mut Chance) -> Result<Result<Response, Error>, Fail> {
-    let payload = [chance.below(256) as u8];
-    let mut response = response_of(alloc, &payload)?;
-    match chance.below(40) {
-        0 => return Ok(Err(Error::Eof)),
-        1 => response.status = None,
-        2 => {
-            let mut status = Status::new(alloc);
-            status.code = 5;
-            response.status = Some(status);
-        }
-        _ => {}
+/// A response with this status, or with none.
+fn answer_as(
+    alloc: Global,
+    job: u64,
+    status: Option<Status>,
+    payload: &[u8],
+) -> Result<Event, Fail> {
+    let payload = Blob::from_slice(alloc, payload)?;
+    Ok(Event::Answer(job, Ok(Response { status, payload })))
+}
+
+/// A status that says that the call didn't end well.
+fn bad_status(alloc: Global) -> Status {
+    Status {
+        code: 5,
+        message: Text::new(alloc),
+        details: Sequence::new(alloc),
     }
-    Ok(Ok(response))
+}
+
+/// What a handler gives: mostly a response that is OK.
+pub fn answer_by(alloc: Global, chance: &mut Chance, job: u64) -> Result<Event, Fail> {
+    let payload = [chance.below(256) as u8];
+    match chance.below(40) {
+        0 => Ok(Event::Answer(job, Err(Error::Eof))),
+        1 => answer_as(alloc, job, None, &payload),
+        2 => answer_as(alloc, job, Some(bad_status(alloc)), &payload),
+        _ => answer(alloc, job, &payload),
+    }
 }
 
 /// A call of a method that there is, or by chance of a stream, or of one that isn't.
-fn call_of(alloc: Global, chance: &mut Chance) -> Result<Event, Fail> {
+fn call_by(alloc: Global, chance: &mut Chance) -> Result<Event, Fail> {
     let payload = [chance.below(256) as u8];
     let timeout = if chance.below(4) == 0 { 20 } else { 0 };
     match chance.below(10) {
-        0 => Ok(Event::Call(request_named(alloc, "Nope", &payload)?)),
-        1 | 2 => Ok(Event::Call(request_named(alloc, "Chat", &payload)?)),
-        _ => Ok(Event::Call(request_of(alloc, &payload, timeout)?)),
+        0 => call(alloc, "Nope", &payload, 0),
+        1 | 2 => call(alloc, "Chat", &payload, 0),
+        _ => call(alloc, "Echo", &payload, timeout),
     }
 }
 
-/// A stream, mostly of a name that there is.
-fn open_of(alloc: Global, chance: &mut Chance) -> Result<Event, Fail> {
-    let method = match chance.below(8) {
+/// The name of a stream, mostly one that there is.
+fn name_by(chance: &mut Chance) -> &'static str {
+    match chance.below(8) {
         0 => "Nope",
         1 | 2 => "Echo",
         _ => "Chat",
-    };
-    let up = chance.below(2) == 0;
-    let payload = if up { 0 } else { chance.below(2) as usize };
-    let request = request_named(alloc, method, &b"a"[..payload])?;
-    Ok(Event::Open(request, up, chance.below(4) > 0))
+    }
 }
 
-pub fn item_of(alloc: Global, chance: &mut Chance) -> Result<Blob, Fail> {
-    let count = chance.below(3) as usize;
-    Ok(Blob::from_slice(alloc, &b"ab"[..count])?)
+fn open_by(alloc: Global, chance: &mut Chance) -> Result<Event, Fail> {
+    let method = name_by(chance);
+    let up = chance.below(2) == 0;
+    let payload: &[u8] = if up || chance.below(2) == 0 {
+        b""
+    } else {
+        b"a"
+    };
+    open(alloc, method, payload, up, chance.below(4) > 0)
+}
+
+fn item_by(chance: &mut Chance) -> &'static [u8] {
+    match chance.below(3) {
+        0 => b"",
+        1 => b"a",
+        _ => b"ab",
+    }
+}
+
+/// An item that is sent on this end.
+pub fn send_by(alloc: Global, chance: &mut Chance, end: StreamEnd) -> Result<Event, Fail> {
+    send(alloc, end, item_by(chance))
 }
 
 /// An event of a stream.
 fn of_stream(alloc: Global, chance: &mut Chance) -> Result<Event, Fail> {
-    Ok(match chance.below(24) {
-        0..5 => open_of(alloc, chance)?,
-        5..10 => Event::Send(chance.end(), item_of(alloc, chance)?),
-        10..16 => Event::Recv(chance.end()),
-        16..18 => Event::Close(chance.id()),
-        18 => Event::DropReceiver(chance.end()),
-        19 => Event::DropSender(chance.id()),
-        _ => Event::EndStream(chance.job(), end_of(alloc, chance)?),
-    })
+    match chance.below(24) {
+        0..5 => open_by(alloc, chance),
+        5..10 => {
+            let end = chance.end();
+            send_by(alloc, chance, end)
+        }
+        10..16 => Ok(Event::Recv(chance.end())),
+        16..18 => Ok(Event::Close(chance.id())),
+        18 => Ok(Event::DropReceiver(chance.end())),
+        19 => Ok(Event::DropSender(chance.id())),
+        _ => {
+            let job = chance.job();
+            end_by(alloc, chance, job)
+        }
+    }
 }
 
 /// What a handler ends a stream by.
-pub fn end_of(alloc: Global, chance: &mut Chance) -> Result<Result<Option<Response>, Error>, Fail> {
+pub fn end_by(alloc: Global, chance: &mut Chance, job: u64) -> Result<Event, Fail> {
     let payload = [chance.below(256) as u8];
-    Ok(match chance.below(8) {
-        0 => Err(Error::Eof),
-        1 | 2 => Ok(None),
-        _ => Ok(Some(response_of(alloc, &payload)?)),
-    })
+    match chance.below(8) {
+        0 => Ok(Event::EndStream(job, Err(Error::Eof))),
+        1 | 2 => Ok(Event::EndStream(job, Ok(None))),
+        _ => end_with(alloc, job, &payload),
+    }
 }
 
 /// An event that ends something: rare, so that most lists come far.
@@ -117,52 +151,50 @@ fn responding(alloc: Global, chance: &mut Chance) -> Result<Event, Fail> {
     if chance.below(4) == 0 {
         return Ok(Event::Finish(chance.job()));
     }
-    Ok(Event::Respond(chance.job(), response_of(alloc, &payload)?))
+    respond(alloc, chance.job(), &payload)
+}
+
+fn answering(alloc: Global, chance: &mut Chance) -> Result<Event, Fail> {
+    let job = chance.job();
+    answer_by(alloc, chance, job)
 }
 
 fn event_by(alloc: Global, chance: &mut Chance) -> Result<Event, Fail> {
-    Ok(match chance.below(20) {
-        0 => call_of(alloc, chance)?,
-        1..4 => Event::Carry(Side::Client, chance.count()),
-        4..6 => Event::Deliver(Side::Server, chance.count()),
-        6 | 7 => Event::Take,
-        8 | 9 => Event::Answer(chance.job(), answer_of(alloc, chance)?),
-        10 => responding(alloc, chance)?,
-        11 | 12 => Event::Carry(Side::Server, chance.count()),
-        13 | 14 => Event::Deliver(Side::Client, chance.count()),
-        15..19 => of_stream(alloc, chance)?,
-        _ => ending(chance),
-    })
+    match chance.below(20) {
+        0 => call_by(alloc, chance),
+        1..4 => Ok(Event::Carry(Side::Client, chance.count())),
+        4..6 => Ok(Event::Deliver(Side::Server, chance.count())),
+        6 | 7 => Ok(Event::Take),
+        8 | 9 => answering(alloc, chance),
+        10 => responding(alloc, chance),
+        11 | 12 => Ok(Event::Carry(Side::Server, chance.count())),
+        13 | 14 => Ok(Event::Deliver(Side::Client, chance.count())),
+        15..19 => of_stream(alloc, chance),
+        _ => Ok(ending(chance)),
+    }
 }
 
-/// What is under way is brought to its end.
-fn settle(alloc: Global, events: &mut Vec<Event>, chance: &mut Chance) -> Tested {
-    for id in [1, 3, 5, 7] {
-        put(
-            events,
-            Event::Send(StreamEnd::Client(id), item_of(alloc, chance)?),
-        )?;
+/// The ids of the first calls and streams.
+const IDS: [u32; 4] = [1, 3, 5, 7];
+
+/// An item is sent on each of the first streams, and one is closed.
+fn settle_items(alloc: Global, events: &mut Vec<Event>, chance: &mut Chance) -> Tested {
+    for id in IDS {
+        put_made(events, send_by(alloc, chance, StreamEnd::Client(id)))?;
     }
-    put(events, Event::Close(chance.id()))?;
-    for _ in 0..16 {
-        put(events, Event::Carry(Side::Client, 4096))?;
-    }
-    put(events, Event::Deliver(Side::Server, 4096))?;
-    for job in 1..5 {
-        settle_job(alloc, events, chance, job)?;
-    }
-    put(events, Event::Deliver(Side::Client, 4096))?;
-    for id in [1, 3, 5, 7] {
-        put(events, Event::Outcome(id))?;
-        put_recv(events, StreamEnd::Client(id))?;
-    }
-    Ok(())
+    put(events, Event::Close(chance.id()))
 }
 
-/// Three items are asked for.
-fn put_recv(events: &mut Vec<Event>, end: StreamEnd) -> Tested {
-    for _ in 0..3 {
-        put(events, Event::Recv(end))?;
+/// A job may be responded to, and ends.
+fn settle_response(
+    alloc: Global,
+    events: &mut Vec<Event>,
+    chance: &mut Chance,
+    job: u64,
+) -> Tested {
+    if chance.below(4) == 0 {
+        put_made(events, respond(alloc, job, b"a"))?;
+        return put(events, Event::Finish(job));
     }
     Ok(())
 }
@@ -170,61 +202,88 @@ fn put_recv(events: &mut Vec<Event>, end: StreamEnd) -> Tested {
 /// A job is taken, and answered or ended.
 fn settle_job(alloc: Global, events: &mut Vec<Event>, chance: &mut Chance, job: u64) -> Tested {
     put(events, Event::Take)?;
-    put_recv(events, StreamEnd::Server(job))?;
-    put(
-        events,
-        Event::Send(StreamEnd::Server(job), item_of(alloc, chance)?),
-    )?;
-    if chance.below(4) == 0 {
-        put(events, Event::Respond(job, response_of(alloc, b"a")?))?;
-        put(events, Event::Finish(job))?;
-    }
-    put(events, Event::Answer(job, answer_of(alloc, chance)?))?;
-    put(events, Event::EndStream(job, end_of(alloc, chance)?))?;
-    for _ in 0..4 {
-        put(events, Event::Carry(Side::Server, 4096))?;
+    put_times(events, Act::RecvUp(job), 3)?;
+    put_made(events, send_by(alloc, chance, StreamEnd::Server(job)))?;
+    settle_response(alloc, events, chance, job)?;
+    put_made(events, answer_by(alloc, chance, job))?;
+    put_made(events, end_by(alloc, chance, job))?;
+    put_times(events, Act::CarryDown(4096), 4)
+}
+
+fn settle_jobs(alloc: Global, events: &mut Vec<Event>, chance: &mut Chance) -> Tested {
+    for job in 1..5 {
+        settle_job(alloc, events, chance, job)?;
     }
     Ok(())
 }
 
-/// Events by chance; in every second list what is under way is then brought to its end. One list in eight is a gentle one.
+/// The outcome of each of the first calls is asked for, and three items of each stream.
+fn settle_outcomes(events: &mut Vec<Event>) -> Tested {
+    for id in IDS {
+        put(events, Event::Outcome(id))?;
+        put_times(events, Act::Recv(id), 3)?;
+    }
+    Ok(())
+}
+
+/// What is under way is brought to its end.
+fn settle(alloc: Global, events: &mut Vec<Event>, chance: &mut Chance) -> Tested {
+    settle_items(alloc, events, chance)?;
+    put_times(events, Act::CarryUp(4096), 16)?;
+    put(events, Event::Deliver(Side::Server, 4096))?;
+    settle_jobs(alloc, events, chance)?;
+    put(events, Event::Deliver(Side::Client, 4096))?;
+    settle_outcomes(events)
+}
+
+/// Events by chance; in every second list what is under way is then brought to its end.
+fn put_by_chance(alloc: Global, events: &mut Vec<Event>, chance: &mut Chance) -> Tested {
+    for _ in 0..EVENTS {
+        put_made(events, event_by(alloc, chance))?;
+    }
+    if chance.below(2) == 0 {
+        return settle(alloc, events, chance);
+    }
+    Ok(())
+}
+
+/// Such events. One list in eight is a gentle one.
 fn events_by(alloc: Global, chance: &mut Chance, rules: Rules) -> Result<Vec<Event>, Fail> {
     if chance.below(8) == 0 {
         return gentle_by(alloc, chance, rules);
     }
-    let mut events = Vec::with_capacity(alloc, EVENTS)?;
-    for _ in 0..EVENTS {
-        put(&mut events, event_by(alloc, chance)?)?;
-    }
-    if chance.below(2) == 0 {
-        settle(alloc, &mut events, chance)?;
-    }
+    let mut events = Vec::new(alloc);
+    put_by_chance(alloc, &mut events, chance)?;
     Ok(events)
+}
+
+/// What the cores keep to.
+fn ways_by(chance: &mut Chance) -> Ways {
+    let kind = match chance.below(2) {
+        0 => ClientKind::Sync,
+        _ => ClientKind::Async,
+    };
+    let rules = match chance.below(3) {
+        0 => Rules::Sync,
+        _ => Rules::Async,
+    };
+    Ways { kind, rules }
 }
 
 /// A trace by chance, and what its server keeps to.
 fn trace_by(alloc: Global, chance: &mut Chance) -> Result<(Terms, Trace), Fail> {
-    let ways = Ways {
-        kind: match chance.below(2) {
-            0 => ClientKind::Sync,
-            _ => ClientKind::Async,
-        },
-        rules: match chance.below(3) {
-            0 => Rules::Sync,
-            _ => Rules::Async,
-        },
-    };
+    let ways = ways_by(chance);
     let events = events_by(alloc, chance, ways.rules)?;
-    if chance.below(2) == 0 {
-        let trace = over_plain(alloc, ways, events)?;
-        return Ok((plain_terms(ways.rules), trace));
-    }
-    let trace = over_stamps(alloc, ways, events)?;
-    Ok((stamped_terms(ways.rules), trace))
+    let over = match chance.below(2) {
+        0 => Over::Plain,
+        _ => Over::Stamps,
+    };
+    let trace = run_over(alloc, over, ways, events)?;
+    Ok((terms_of(over, ways.rules), trace))
 }
 
 /// How many traces are clean and quiet, and how many calls and receivers are whole in them.
-#[derive(Clone, Copy, Debug)]
+#[derive(Clone, Copy)]
 struct Rests {
     traces: usize,
     calls: usize,
@@ -266,7 +325,7 @@ fn both(one: Counts, other: Counts) -> Counts {
 }
 
 /// What was counted over lists: the calls that end well, the items and ends that were given, and the clean quiet traces.
-#[derive(Clone, Copy, Debug)]
+#[derive(Clone, Copy)]
 struct Sums {
     good: usize,
     counts: Counts,
@@ -352,130 +411,40 @@ fn the_headline_holds_by_a_fourth_chance(rt: HostRuntime) -> Tested {
     holds_by_chance(&rt, rt.alloc(), SEED + 3)
 }
 
-fn call_entry(alloc: Global) -> Result<Entry, Fail> {
-    let request = request_of(alloc, b"a", 0)?;
-    Ok(Entry {
-        event: Event::Call(request),
-        reply: Reply::Named(1),
-    })
-}
-
-/// A stream was opened under the same id.
-fn open_entry(alloc: Global) -> Result<Entry, Fail> {
-    let request = request_of(alloc, b"", 0)?;
-    Ok(Entry {
-        event: Event::Open(request, true, true),
-        reply: Reply::Named(1),
-    })
-}
-
-fn outcome_entry(alloc: Global) -> Result<Entry, Fail> {
-    let response = response_of(alloc, b"a")?;
-    Ok(Entry {
-        event: Event::Outcome(1),
-        reply: Reply::Outcome(Some(Ok(response))),
-    })
-}
-
-/// A stream's job of call 1 was handed out, with the payload of its request still in it.
-fn stream_entry(alloc: Global) -> Result<Entry, Fail> {
-    let request = request_of(alloc, b"a", 0)?;
-    let job = Job {
-        id: 1,
-        header: MessageHeader::new_request(1, 0),
-        stream: true,
-        request,
-    };
-    Ok(Entry {
-        event: Event::Take,
-        reply: Reply::Handed(Some(job)),
-    })
-}
-
-/// A job of call 1 was handed out.
-fn run_entry(alloc: Global) -> Result<Entry, Fail> {
-    let request = request_of(alloc, b"a", 0)?;
-    let job = Job {
-        id: 1,
-        header: MessageHeader::new_request(1, 0),
-        stream: false,
-        request,
-    };
-    Ok(Entry {
-        event: Event::Take,
-        reply: Reply::Handed(Some(job)),
-    })
-}
-
-fn answer_entry() -> Entry {
-    Entry {
-        event: Event::Answer(1, Err(Error::Eof)),
-        reply: Reply::Done,
-    }
-}
-
-/// The same by a stream's end.
-fn end_entry(alloc: Global) -> Result<Entry, Fail> {
-    let response = response_of(alloc, b"a")?;
-    Ok(Entry {
-        event: Event::EndStream(1, Ok(Some(response))),
-        reply: Reply::Done,
-    })
-}
-
-/// An entry of a trace that is made by hand, of call, stream or job 1.
-#[derive(Clone, Copy, Debug)]
-enum Made {
-    Call,
-    Open,
-    Outcome,
-    Run,
-    Stream,
-    Answer,
-    End,
-}
-
-/// The entry of this kind.
-fn entry_of(alloc: Global, made: Made) -> Result<Entry, Fail> {
-    match made {
-        Made::Call => call_entry(alloc),
-        Made::Open => open_entry(alloc),
-        Made::Outcome => outcome_entry(alloc),
-        Made::Run => run_entry(alloc),
-        Made::Stream => stream_entry(alloc),
-        Made::Answer => Ok(answer_entry()),
-        Made::End => end_entry(alloc),
-    }
-}
-
-/// The trace of such entries.
-fn trace_of(alloc: Global, made: &[Made]) -> Result<Trace, Fail> {
-    let mut trace = Vec::with_capacity(alloc, made.len())?;
-    for made in made {
-        push(&mut trace, entry_of(alloc, *made)?)?;
-    }
-    Ok(trace)
-}
-
-/// Each fault, and a trace that has it.
-const FAULTS: &[(Finding, &[Made])] = &[
-    (Finding::IdUsedTwice, &[Made::Call, Made::Call]),
-    (Finding::IdUsedTwice, &[Made::Call, Made::Open]),
-    (Finding::RunOutOfPlace, &[Made::Run]),
-    (Finding::AnsweredTwice, &[Made::Answer, Made::Answer]),
-    (Finding::AnsweredTwice, &[Made::Answer, Made::End]),
-    (Finding::OutcomeOutOfPlace, &[Made::Outcome]),
-    (Finding::OutcomeOutOfPlace, &[Made::Open, Made::Outcome]),
-    (Finding::OtherAnswer, &[Made::Call, Made::Outcome]),
-    (
-        Finding::OtherAnswer,
-        &[Made::Call, Made::Stream, Made::End, Made::Outcome],
-    ),
+/// Each fault, and a trace that has it, of call, stream or job 1.
+const FAULTS: &[(Finding, Rows)] = &[
+    (Finding::IdUsedTwice, &[CALLED, CALLED]),
+    (Finding::IdUsedTwice, &[CALLED, OPENED]),
+    (Finding::RunOutOfPlace, &[RUN]),
+    (Finding::AnsweredTwice, &[BROKEN, BROKEN]),
+    (Finding::AnsweredTwice, &[BROKEN, ENDED]),
+    (Finding::OutcomeOutOfPlace, &[GIVEN]),
+    (Finding::OutcomeOutOfPlace, &[OPENED, GIVEN]),
+    (Finding::OtherAnswer, &[CALLED, GIVEN]),
+    (Finding::OtherAnswer, &[CALLED, STREAM_RUN, ENDED, GIVEN]),
 ];
 
+const CALLED: (Act, Said) = (Act::Call(b"a", 0), Said::Named(1));
+
+/// A stream was opened under the same id.
+const OPENED: (Act, Said) = (Act::Open("Echo"), Said::Named(1));
+
+/// A job of call 1 was handed out.
+const RUN: (Act, Said) = (Act::Take, Said::Job(1, 1, b"a"));
+
+/// A stream's, with the payload of its request still in it.
+const STREAM_RUN: (Act, Said) = (Act::Take, Said::FullStreamJob(1, 1, b"a"));
+
+const BROKEN: (Act, Said) = (Act::Break(1), Said::Done);
+
+/// The job is answered by a stream's end.
+const ENDED: (Act, Said) = (Act::EndWith(1, b"a"), Said::Done);
+
+const GIVEN: (Act, Said) = (Act::Outcome(1), Said::Payload(b"a"));
+
 /// The plain program sees this fault in such a trace.
-fn is_found(rt: &impl Abort, alloc: Global, finding: Finding, made: &[Made]) -> Tested {
-    let trace = trace_of(alloc, made)?;
+fn is_found(rt: &impl Abort, alloc: Global, finding: Finding, rows: Rows) -> Tested {
+    let trace = trace_of(alloc, rows)?;
     assert_eq!(rt; read_headline(trace.as_slice()), finding);
     Ok(())
 }
@@ -483,8 +452,8 @@ fn is_found(rt: &impl Abort, alloc: Global, finding: Finding, made: &[Made]) -> 
 /// The plain program sees each fault.
 #[test]
 fn faults_are_found(rt: HostRuntime) -> Tested {
-    for (finding, made) in FAULTS {
-        is_found(&rt, rt.alloc(), *finding, made)?;
+    for (finding, rows) in FAULTS {
+        is_found(&rt, rt.alloc(), *finding, rows)?;
     }
     Ok(())
 }

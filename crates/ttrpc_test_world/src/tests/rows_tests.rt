@@ -1,15 +1,12 @@
 //! Scripts with their replies, over plain halves and over halves that stamp.
 use crate::tests::plainly::{Finding, read_headline};
-use crate::tests::script::{
-    Act, Said, Ways, events_of, first_fault, had_memory, over_plain, over_stamps, put, request_of,
-    response_of,
-};
+use crate::tests::script::{Act, Over, Rows, Said, Ways, first_fault, had_memory, run_script};
 use std::alloc::Global;
 use std::process::Abort;
 use std::test::Fail;
 use ttrpc_client::ClientKind;
 use ttrpc_server::Rules;
-use ttrpc_world::{Event, Side, Trace};
+use ttrpc_world::Entry;
 
 pub type Tested = Result<(), Fail>;
 
@@ -37,8 +34,20 @@ pub const ASYNC: [Ways; 2] = [
     },
 ];
 
+/// The async client, to a server with sync rules and to one with async rules.
+const ASYNC_CLIENT: [Ways; 2] = [
+    Ways {
+        kind: ClientKind::Async,
+        rules: Rules::Sync,
+    },
+    Ways {
+        kind: ClientKind::Async,
+        rules: Rules::Async,
+    },
+];
+
 /// One call, carried and delivered whole. The request's frame has 30 bytes, the response's 15.
-pub const ONE_CALL: &[(Act, Said)] = &[
+pub const ONE_CALL: Rows = &[
     (Act::Call(b"\x2a", 0), Said::Named(1)),
     (Act::CarryUp(30), Said::Count(30)),
     (Act::DeliverUp(30), Said::Count(30)),
@@ -55,7 +64,7 @@ pub const ONE_CALL: &[(Act, Said)] = &[
 ];
 
 /// The same with a stamp of one byte on each frame.
-pub const ONE_STAMPED_CALL: &[(Act, Said)] = &[
+pub const ONE_STAMPED_CALL: Rows = &[
     (Act::Call(b"\x2a", 0), Said::Named(1)),
     (Act::CarryUp(64), Said::Count(31)),
     (Act::DeliverUp(64), Said::Count(31)),
@@ -72,7 +81,7 @@ pub const ONE_STAMPED_CALL: &[(Act, Said)] = &[
 ];
 
 /// A response in place of an answer: a second one is no step, nor is an answer, before and after the job ends.
-pub const ONE_RESPONSE: &[(Act, Said)] = &[
+pub const ONE_RESPONSE: Rows = &[
     (Act::Call(b"\x2a", 0), Said::Named(1)),
     (Act::CarryUp(30), Said::Count(30)),
     (Act::DeliverUp(30), Said::Count(30)),
@@ -92,7 +101,7 @@ pub const ONE_RESPONSE: &[(Act, Said)] = &[
 ];
 
 /// With a stamp, and the job goes on until its call has its outcome.
-const ONE_STAMPED_RESPONSE: &[(Act, Said)] = &[
+const ONE_STAMPED_RESPONSE: Rows = &[
     (Act::Call(b"\x2a", 0), Said::Named(1)),
     (Act::CarryUp(64), Said::Count(31)),
     (Act::DeliverUp(64), Said::Count(31)),
@@ -112,7 +121,7 @@ const ONE_STAMPED_RESPONSE: &[(Act, Said)] = &[
 ];
 
 /// A job that ends without a response leaves its call without an outcome.
-const NO_RESPONSE: &[(Act, Said)] = &[
+const NO_RESPONSE: Rows = &[
     (Act::Call(b"\x2a", 0), Said::Named(1)),
     (Act::CarryUp(30), Said::Count(30)),
     (Act::DeliverUp(30), Said::Count(30)),
@@ -128,7 +137,7 @@ const NO_RESPONSE: &[(Act, Said)] = &[
 ];
 
 /// The pipe to the server is cut inside the request's frame.
-const CUT_INSIDE: &[(Act, Said)] = &[
+const CUT_INSIDE: Rows = &[
     (Act::Call(b"\x2a", 0), Said::Named(1)),
     (Act::CarryUp(64), Said::Count(30)),
     (Act::CutUp(12), Said::Done),
@@ -141,7 +150,7 @@ const CUT_INSIDE: &[(Act, Said)] = &[
 ];
 
 /// It is cut before anything is in flight, and what is carried then is lost.
-const CUT_BEFORE: &[(Act, Said)] = &[
+const CUT_BEFORE: Rows = &[
     (Act::CutUp(0), Said::Done),
     (Act::DeliverUp(1), Said::Socket("socket disconnected")),
     (Act::Call(b"\x2a", 0), Said::Named(1)),
@@ -152,7 +161,7 @@ const CUT_BEFORE: &[(Act, Said)] = &[
 ];
 
 /// A call expires while its job runs; its answer finds nothing, and the next call gets its own.
-const LATE_ANSWER: &[(Act, Said)] = &[
+const LATE_ANSWER: Rows = &[
     (Act::Call(b"\x2a", 10), Said::Named(1)),
     (Act::CarryUp(4096), Said::Count(32)),
     (Act::DeliverUp(4096), Said::Count(32)),
@@ -176,7 +185,7 @@ const LATE_ANSWER: &[(Act, Said)] = &[
 ];
 
 /// The same with stamps.
-const LATE_STAMPED_ANSWER: &[(Act, Said)] = &[
+const LATE_STAMPED_ANSWER: Rows = &[
     (Act::Call(b"\x2a", 10), Said::Named(1)),
     (Act::CarryUp(4096), Said::Count(33)),
     (Act::DeliverUp(4096), Said::Count(33)),
@@ -198,7 +207,7 @@ const LATE_STAMPED_ANSWER: &[(Act, Said)] = &[
 ];
 
 /// A request of 34 bytes expires when 12 of them have left, and the connection fails.
-const EXPIRES_INSIDE: &[(Act, Said)] = &[
+const EXPIRES_INSIDE: Rows = &[
     (Act::Call(b"\x01\x02\x03", 10), Said::Named(1)),
     (Act::CarryUp(12), Said::Count(12)),
     (Act::Tick(10), Said::Done),
@@ -212,7 +221,7 @@ const EXPIRES_INSIDE: &[(Act, Said)] = &[
 ];
 
 /// One that is sealed goes out whole, and the connection lives.
-const SEALED_EXPIRES_INSIDE: &[(Act, Said)] = &[
+const SEALED_EXPIRES_INSIDE: Rows = &[
     (Act::Call(b"\x01\x02\x03", 10), Said::Named(1)),
     (Act::CarryUp(12), Said::Count(12)),
     (Act::Tick(10), Said::Done),
@@ -224,7 +233,7 @@ const SEALED_EXPIRES_INSIDE: &[(Act, Said)] = &[
 ];
 
 /// A request that hasn't begun is thrown away with its call, and never runs.
-const DROPPED_BEFORE: &[(Act, Said)] = &[
+const DROPPED_BEFORE: Rows = &[
     (Act::Call(b"\x2a", 0), Said::Named(1)),
     (Act::Call(b"\x2b", 0), Said::Named(3)),
     (Act::DropCall(1), Said::Done),
@@ -236,7 +245,7 @@ const DROPPED_BEFORE: &[(Act, Said)] = &[
 ];
 
 /// What can't happen is no step, and a handler's error fails the server.
-const NO_STEPS: &[(Act, Said)] = &[
+const NO_STEPS: Rows = &[
     (Act::Answer(1, b"\x2a"), Said::NoStep),
     (Act::Tick(5), Said::Done),
     (Act::Tick(4), Said::NoStep),
@@ -257,7 +266,7 @@ const NO_STEPS: &[(Act, Said)] = &[
 ];
 
 /// Sides that are failed.
-const FAILED: &[(Act, Said)] = &[
+const FAILED: Rows = &[
     (Act::Call(b"\x2a", 0), Said::Named(1)),
     (Act::FailClient, Said::Done),
     (Act::CarryUp(64), Said::Count(0)),
@@ -270,7 +279,7 @@ const FAILED: &[(Act, Said)] = &[
 ];
 
 /// A call's deadline comes while its job runs: both sides give it up, and the next call gets its own answer.
-const JOB_EXPIRES: &[(Act, Said)] = &[
+const JOB_EXPIRES: Rows = &[
     (Act::Call(b"\x2a", 10), Said::Named(1)),
     (Act::CarryUp(4096), Said::Count(32)),
     (Act::DeliverUp(4096), Said::Count(32)),
@@ -292,7 +301,7 @@ const JOB_EXPIRES: &[(Act, Said)] = &[
 ];
 
 /// The same with stamps.
-const STAMPED_JOB_EXPIRES: &[(Act, Said)] = &[
+const STAMPED_JOB_EXPIRES: Rows = &[
     (Act::Call(b"\x2a", 10), Said::Named(1)),
     (Act::CarryUp(4096), Said::Count(33)),
     (Act::DeliverUp(4096), Said::Count(33)),
@@ -314,7 +323,7 @@ const STAMPED_JOB_EXPIRES: &[(Act, Said)] = &[
 ];
 
 /// A job that expires before it was given is never given. The client isn't told of a moment in between.
-const UNTAKEN_EXPIRES: &[(Act, Said)] = &[
+const UNTAKEN_EXPIRES: Rows = &[
     (Act::Call(b"\x2a", 10), Said::Named(1)),
     (Act::CarryUp(4096), Said::Count(32)),
     (Act::DeliverUp(4096), Said::Count(32)),
@@ -326,7 +335,7 @@ const UNTAKEN_EXPIRES: &[(Act, Said)] = &[
 ];
 
 /// Events of async rules are no step under sync rules, nor is an item that is asked for of a failed side.
-const SYNC_NO_STEPS: &[(Act, Said)] = &[
+const SYNC_NO_STEPS: Rows = &[
     (Act::RecvUp(1), Said::NoStep),
     (Act::SendDown(1, b"a"), Said::NoStep),
     (Act::DropReceiverUp(1), Said::NoStep),
@@ -349,7 +358,7 @@ const SYNC_NO_STEPS: &[(Act, Said)] = &[
 ];
 
 /// Events of sync rules are no step under async rules, and the end of a stream is none for a job that wasn't taken.
-const ASYNC_NO_STEPS: &[(Act, Said)] = &[
+const ASYNC_NO_STEPS: Rows = &[
     (Act::Respond(1, b"\x2a"), Said::NoStep),
     (Act::Finish(1), Said::NoStep),
     (Act::End(1), Said::NoStep),
@@ -376,7 +385,7 @@ const ASYNC_NO_STEPS: &[(Act, Said)] = &[
 ];
 
 /// A server that drains takes none of the bytes in its pipe, and answers what it has taken.
-const DRAINED: &[(Act, Said)] = &[
+const DRAINED: Rows = &[
     (Act::Call(b"\x2a", 0), Said::Named(1)),
     (Act::Call(b"\x2b", 0), Said::Named(3)),
     (Act::CarryUp(64), Said::Count(30)),
@@ -395,157 +404,200 @@ const DRAINED: &[(Act, Said)] = &[
     (Act::DeliverUp(1), Said::Socket("socket disconnected")),
 ];
 
+// ---- tables of scripts
+
+/// Scripts, each with the halves that it runs over, and the ways in which each is run.
+pub type Table = (&'static [Ways], &'static [Script]);
+
+/// A script and its halves. Its rows follow one another.
+pub type Script = (Over, &'static [Rows]);
+
 /// The headline holds of the trace, and each reply is the one of the script.
-fn is_told(rt: &impl Abort, trace: &Trace, script: &[(Act, Said)]) -> Tested {
-    assert!(rt; matches!(read_headline(trace.as_slice()), Finding::Whole(_)));
-    had_memory(trace.as_slice())?;
-    assert_eq!(rt; first_fault(trace.as_slice(), script), None);
+fn is_told(rt: &impl Abort, trace: &[Entry], script: &[Rows]) -> Tested {
+    assert!(rt; matches!(read_headline(trace), Finding::Whole(_)));
+    had_memory(trace)?;
+    assert_eq!(rt; first_fault(trace, script), None);
     Ok(())
 }
 
-/// Over plain halves.
-pub fn plain(rt: &impl Abort, alloc: Global, ways: Ways, script: &[(Act, Said)]) -> Tested {
-    let trace = over_plain(alloc, ways, events_of(alloc, script)?)?;
-    is_told(rt, &trace, script)
+fn is_told_so(rt: &impl Abort, alloc: Global, ways: Ways, script: &Script) -> Tested {
+    let (over, rows) = *script;
+    let trace = run_script(alloc, over, ways, rows)?;
+    is_told(rt, trace.as_slice(), rows)
 }
 
-/// And over halves that stamp.
-pub fn stamped(rt: &impl Abort, alloc: Global, ways: Ways, script: &[(Act, Said)]) -> Tested {
-    let trace = over_stamps(alloc, ways, events_of(alloc, script)?)?;
-    is_told(rt, &trace, script)
+fn are_told_so(rt: &impl Abort, alloc: Global, ways: Ways, scripts: &[Script]) -> Tested {
+    for script in scripts {
+        is_told_so(rt, alloc, ways, script)?;
+    }
+    Ok(())
 }
+
+fn is_told_in_all(rt: &impl Abort, alloc: Global, table: &Table) -> Tested {
+    let (all, scripts) = *table;
+    for ways in all {
+        are_told_so(rt, alloc, *ways, scripts)?;
+    }
+    Ok(())
+}
+
+/// What is told holds of each script of these tables, in each way.
+pub fn are_told(rt: &impl Abort, alloc: Global, tables: &[Table]) -> Tested {
+    for table in tables {
+        is_told_in_all(rt, alloc, table)?;
+    }
+    Ok(())
+}
+
+const CALLS: &[Script] = &[
+    (Over::Plain, &[ONE_CALL]),
+    (Over::Stamps, &[ONE_STAMPED_CALL]),
+];
 
 #[test]
 fn a_call_is_answered(rt: HostRuntime) -> Tested {
-    for ways in SYNC {
-        plain(&rt, rt.alloc(), ways, ONE_CALL)?;
-        stamped(&rt, rt.alloc(), ways, ONE_STAMPED_CALL)?;
-    }
-    for ways in ASYNC {
-        plain(&rt, rt.alloc(), ways, ONE_CALL)?;
-        stamped(&rt, rt.alloc(), ways, ONE_STAMPED_CALL)?;
-    }
-    Ok(())
+    are_told(&rt, rt.alloc(), &[(&SYNC, CALLS), (&ASYNC, CALLS)])
 }
+
+const RESPONSES: &[Script] = &[
+    (Over::Plain, &[ONE_RESPONSE]),
+    (Over::Stamps, &[ONE_STAMPED_RESPONSE]),
+    (Over::Plain, &[NO_RESPONSE]),
+];
 
 #[test]
 fn a_response_stands_for_an_answer(rt: HostRuntime) -> Tested {
-    for ways in SYNC {
-        plain(&rt, rt.alloc(), ways, ONE_RESPONSE)?;
-        stamped(&rt, rt.alloc(), ways, ONE_STAMPED_RESPONSE)?;
-        plain(&rt, rt.alloc(), ways, NO_RESPONSE)?;
-    }
-    Ok(())
+    are_told(&rt, rt.alloc(), &[(&SYNC, RESPONSES)])
 }
+
+const CUTS: &[Script] = &[(Over::Plain, &[CUT_INSIDE]), (Over::Plain, &[CUT_BEFORE])];
 
 #[test]
 fn pipes_are_cut(rt: HostRuntime) -> Tested {
-    for ways in SYNC {
-        plain(&rt, rt.alloc(), ways, CUT_INSIDE)?;
-        plain(&rt, rt.alloc(), ways, CUT_BEFORE)?;
-    }
-    for ways in ASYNC {
-        plain(&rt, rt.alloc(), ways, CUT_INSIDE)?;
-        plain(&rt, rt.alloc(), ways, CUT_BEFORE)?;
-    }
-    Ok(())
+    are_told(&rt, rt.alloc(), &[(&SYNC, CUTS), (&ASYNC, CUTS)])
 }
+
+const LATE_ANSWERS: &[Script] = &[
+    (Over::Plain, &[LATE_ANSWER]),
+    (Over::Stamps, &[LATE_STAMPED_ANSWER]),
+];
 
 #[test]
 fn a_late_answer_finds_no_call(rt: HostRuntime) -> Tested {
-    for ways in SYNC {
-        plain(&rt, rt.alloc(), ways, LATE_ANSWER)?;
-        stamped(&rt, rt.alloc(), ways, LATE_STAMPED_ANSWER)?;
-    }
-    Ok(())
+    are_told(&rt, rt.alloc(), &[(&SYNC, LATE_ANSWERS)])
 }
+
+const EXPIRED_JOBS: &[Script] = &[
+    (Over::Plain, &[JOB_EXPIRES]),
+    (Over::Stamps, &[STAMPED_JOB_EXPIRES]),
+    (Over::Plain, &[UNTAKEN_EXPIRES]),
+];
 
 #[test]
 fn a_job_expires(rt: HostRuntime) -> Tested {
-    for ways in ASYNC {
-        plain(&rt, rt.alloc(), ways, JOB_EXPIRES)?;
-        stamped(&rt, rt.alloc(), ways, STAMPED_JOB_EXPIRES)?;
-        plain(&rt, rt.alloc(), ways, UNTAKEN_EXPIRES)?;
-    }
-    Ok(())
+    are_told(&rt, rt.alloc(), &[(&ASYNC, EXPIRED_JOBS)])
 }
+
+const EXPIRED_REQUESTS: &[Script] = &[(Over::Plain, &[EXPIRES_INSIDE])];
+
+const SEALED_REQUESTS: &[Script] = &[(Over::Stamps, &[SEALED_EXPIRES_INSIDE])];
+
+const EXPIRED_TABLES: &[Table] = &[
+    (&ASYNC_CLIENT, EXPIRED_REQUESTS),
+    (&SYNC, SEALED_REQUESTS),
+    (&ASYNC, SEALED_REQUESTS),
+];
 
 #[test]
 fn a_request_expires_inside_its_frame(rt: HostRuntime) -> Tested {
-    for [sync, async_] in [SYNC, ASYNC] {
-        plain(&rt, rt.alloc(), async_, EXPIRES_INSIDE)?;
-        stamped(&rt, rt.alloc(), async_, SEALED_EXPIRES_INSIDE)?;
-        stamped(&rt, rt.alloc(), sync, SEALED_EXPIRES_INSIDE)?;
-    }
-    Ok(())
+    are_told(&rt, rt.alloc(), EXPIRED_TABLES)
 }
+
+const DROPPED: &[Script] = &[(Over::Plain, &[DROPPED_BEFORE])];
 
 #[test]
 fn a_request_that_has_not_begun_is_thrown_away(rt: HostRuntime) -> Tested {
-    plain(&rt, rt.alloc(), SYNC[1], DROPPED_BEFORE)?;
-    plain(&rt, rt.alloc(), ASYNC[1], DROPPED_BEFORE)
+    are_told(&rt, rt.alloc(), &[(&ASYNC_CLIENT, DROPPED)])
 }
+
+const NO_STEP_TABLES: &[Table] = &[
+    (
+        &SYNC,
+        &[
+            (Over::Plain, &[NO_STEPS]),
+            (Over::Plain, &[FAILED]),
+            (Over::Plain, &[SYNC_NO_STEPS]),
+        ],
+    ),
+    (
+        &ASYNC,
+        &[(Over::Plain, &[FAILED]), (Over::Plain, &[ASYNC_NO_STEPS])],
+    ),
+];
 
 #[test]
 fn what_cannot_happen_is_no_step(rt: HostRuntime) -> Tested {
-    for ways in SYNC {
-        plain(&rt, rt.alloc(), ways, NO_STEPS)?;
-        plain(&rt, rt.alloc(), ways, FAILED)?;
-        plain(&rt, rt.alloc(), ways, SYNC_NO_STEPS)?;
-    }
-    for ways in ASYNC {
-        plain(&rt, rt.alloc(), ways, FAILED)?;
-        plain(&rt, rt.alloc(), ways, ASYNC_NO_STEPS)?;
-    }
-    Ok(())
+    are_told(&rt, rt.alloc(), NO_STEP_TABLES)
 }
+
+const DRAINS: &[Script] = &[(Over::Plain, &[DRAINED])];
 
 #[test]
 fn a_server_drains(rt: HostRuntime) -> Tested {
-    for ways in SYNC {
-        plain(&rt, rt.alloc(), ways, DRAINED)?;
-    }
-    for ways in ASYNC {
-        plain(&rt, rt.alloc(), ways, DRAINED)?;
-    }
+    are_told(&rt, rt.alloc(), &[(&SYNC, DRAINS), (&ASYNC, DRAINS)])
+}
+
+/// A call whose bytes are carried and delivered one by one, once more than there are.
+const BYTE_BY_BYTE: Rows = &[
+    (Act::Call(b"\x2a", 0), Said::Named(1)),
+    (Act::BytesUp(30), Said::Count(1)),
+    (Act::BytesUp(1), Said::Count(0)),
+    (Act::Take, Said::Job(1, 1, b"\x2a")),
+    (Act::Answer(1, b"\x2a"), Said::Done),
+    (Act::BytesDown(15), Said::Count(1)),
+    (Act::BytesDown(1), Said::Count(0)),
+    (Act::Outcome(1), Said::Payload(b"\x2a")),
+];
+
+/// The same with stamps, where there are as many.
+const STAMPED_BYTE_BY_BYTE: Rows = &[
+    (Act::Call(b"\x2a", 0), Said::Named(1)),
+    (Act::BytesUp(31), Said::Count(1)),
+    (Act::Take, Said::Job(1, 1, b"\x2a")),
+    (Act::Answer(1, b"\x2a"), Said::Done),
+    (Act::BytesDown(16), Said::Count(1)),
+    (Act::Outcome(1), Said::Payload(b"\x2a")),
+];
+
+const BYTES: &[Script] = &[
+    (Over::Plain, &[BYTE_BY_BYTE]),
+    (Over::Stamps, &[STAMPED_BYTE_BY_BYTE]),
+];
+
+/// One call was answered.
+fn ends_well(rt: &impl Abort, trace: &[Entry]) -> Tested {
+    had_memory(trace)?;
+    assert_eq!(rt; read_headline(trace), Finding::Whole(1));
     Ok(())
 }
 
-/// A call whose bytes are carried and delivered one by one.
-fn byte_by_byte(alloc: Global) -> Result<Vec<Event>, Fail> {
-    let mut events = Vec::new(alloc);
-    put(&mut events, Event::Call(request_of(alloc, b"\x2a", 0)?))?;
-    for _ in 0..31 {
-        put(&mut events, Event::Carry(Side::Client, 1))?;
-        put(&mut events, Event::Deliver(Side::Server, 1))?;
-    }
-    put(&mut events, Event::Take)?;
-    put(
-        &mut events,
-        Event::Answer(1, Ok(response_of(alloc, b"\x2a")?)),
-    )?;
-    for _ in 0..16 {
-        put(&mut events, Event::Carry(Side::Server, 1))?;
-        put(&mut events, Event::Deliver(Side::Client, 1))?;
-    }
-    put(&mut events, Event::Outcome(1))?;
-    Ok(events)
+/// One call is answered by a script, each of whose replies is as it is told.
+fn answers_one(rt: &impl Abort, alloc: Global, ways: Ways, script: &Script) -> Tested {
+    let (over, rows) = *script;
+    let trace = run_script(alloc, over, ways, rows)?;
+    ends_well(rt, trace.as_slice())?;
+    is_told(rt, trace.as_slice(), rows)
 }
 
-/// One call was answered.
-fn ends_well(rt: &impl Abort, trace: &Trace) -> Tested {
-    had_memory(trace.as_slice())?;
-    assert_eq!(rt; read_headline(trace.as_slice()), Finding::Whole(1));
+fn each_answers_one(rt: &impl Abort, alloc: Global, ways: Ways) -> Tested {
+    for script in BYTES {
+        answers_one(rt, alloc, ways, script)?;
+    }
     Ok(())
 }
 
 #[test]
 fn a_call_is_answered_byte_by_byte(rt: HostRuntime) -> Tested {
-    for ways in [SYNC[0], ASYNC[1]] {
-        let plain = over_plain(rt.alloc(), ways, byte_by_byte(rt.alloc())?)?;
-        ends_well(&rt, &plain)?;
-        let stamped = over_stamps(rt.alloc(), ways, byte_by_byte(rt.alloc())?)?;
-        ends_well(&rt, &stamped)?;
-    }
-    Ok(())
+    each_answers_one(&rt, rt.alloc(), SYNC[0])?;
+    each_answers_one(&rt, rt.alloc(), ASYNC[1])
 }

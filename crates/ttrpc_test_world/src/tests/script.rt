@@ -9,11 +9,11 @@ use ttrpc_secure::plain::plain_is_paired;
 use ttrpc_secure::{ConnectionContext, plain_context};
 use ttrpc_server::{Rules, ServerCore};
 use ttrpc_test_cores::server::registry;
-use ttrpc_wire::{Blob, Text};
+use ttrpc_wire::{Blob, Sequence, Text};
 use ttrpc_world::{Entry, Event, Reply, Side, StreamEnd, Trace, World};
 
 /// One event of a script. A call or a stream is one of the service `demo.Echo`.
-#[derive(Clone, Copy, Debug)]
+#[derive(Clone, Copy)]
 pub enum Act {
     /// A call of the method `Echo` with this payload and timeout.
     Call(&'static [u8], i64),
@@ -35,6 +35,8 @@ pub enum Act {
     Take,
     /// An answer with this payload.
     Answer(u64, &'static [u8]),
+    /// An answer with so many bytes 7.
+    AnswerSevens(u64, usize),
     /// A handler's error.
     Break(u64),
     /// A response with this payload.
@@ -59,12 +61,16 @@ pub enum Act {
     DeliverDown(usize),
     CutUp(usize),
     CutDown(usize),
+    /// So many bytes are carried up and delivered, one by one: two events each.
+    BytesUp(usize),
+    /// The same downwards.
+    BytesDown(usize),
     FailClient,
     FailServer,
 }
 
 /// What is told of a reply.
-#[derive(Clone, Copy, Debug)]
+#[derive(Clone, Copy)]
 pub enum Said {
     Named(u32),
     Ticket(u64),
@@ -85,6 +91,8 @@ pub enum Said {
     Job(u64, u32, &'static [u8]),
     /// This stream's job, of this stream. It has no payload.
     StreamJob(u64, u32),
+    /// The same with a payload that is still in it.
+    FullStreamJob(u64, u32, &'static [u8]),
     NoJob,
     Done,
     Count(usize),
@@ -93,74 +101,122 @@ pub enum Said {
     NoStep,
 }
 
-/// A request of this name.
-pub fn request_named(alloc: Global, method: &str, payload: &[u8]) -> Result<Request, Fail> {
-    let mut request = Request::new(alloc);
-    request.service = Text::from_str(alloc, "demo.Echo")?;
-    request.method = Text::from_str(alloc, method)?;
-    request.payload = Blob::from_slice(alloc, payload)?;
-    Ok(request)
-}
+/// Acts, each with what is told of its reply.
+pub type Rows = &'static [(Act, Said)];
 
-/// A request of the echo.
-pub fn request_of(alloc: Global, payload: &[u8], timeout_nano: i64) -> Result<Request, Fail> {
-    let mut request = request_named(alloc, "Echo", payload)?;
-    request.timeout_nano = timeout_nano;
-    Ok(request)
+/// A request of this name.
+pub fn request_of(
+    alloc: Global,
+    method: &str,
+    payload: &[u8],
+    timeout_nano: i64,
+) -> Result<Request, Fail> {
+    let service = Text::from_str(alloc, "demo.Echo")?;
+    let method = Text::from_str(alloc, method)?;
+    let payload = Blob::from_slice(alloc, payload)?;
+    Ok(Request {
+        service,
+        method,
+        payload,
+        timeout_nano,
+        metadata: Sequence::new(alloc),
+    })
 }
 
 /// A response with a status that is present and empty, and this payload.
 pub fn response_of(alloc: Global, payload: &[u8]) -> Result<Response, Fail> {
-    let mut response = Response::new(alloc);
-    response.status = Some(Status::new(alloc));
-    response.payload = Blob::from_slice(alloc, payload)?;
-    Ok(response)
+    let payload = Blob::from_slice(alloc, payload)?;
+    Ok(Response {
+        status: Some(Status::new(alloc)),
+        payload,
+    })
 }
 
-/// The event of an act.
+// ---- events, each made by a function of its own, which owns nothing where it may fail
+
+pub fn call(alloc: Global, method: &str, payload: &[u8], timeout_nano: i64) -> Result<Event, Fail> {
+    let request = request_of(alloc, method, payload, timeout_nano)?;
+    Ok(Event::Call(request))
+}
+
+/// A stream, and whether the client sends on it, and the server.
+pub fn open(
+    alloc: Global,
+    method: &str,
+    payload: &[u8],
+    up: bool,
+    down: bool,
+) -> Result<Event, Fail> {
+    let request = request_of(alloc, method, payload, 0)?;
+    Ok(Event::Open(request, up, down))
+}
+
+pub fn send(alloc: Global, end: StreamEnd, item: &[u8]) -> Result<Event, Fail> {
+    let item = Blob::from_slice(alloc, item)?;
+    Ok(Event::Send(end, item))
+}
+
+pub fn answer(alloc: Global, id: u64, payload: &[u8]) -> Result<Event, Fail> {
+    let response = response_of(alloc, payload)?;
+    Ok(Event::Answer(id, Ok(response)))
+}
+
+fn answer_sevens(alloc: Global, id: u64, count: usize) -> Result<Event, Fail> {
+    let payload = vec![in alloc; 7u8; count]?;
+    answer(alloc, id, payload.as_slice())
+}
+
+pub fn respond(alloc: Global, id: u64, payload: &[u8]) -> Result<Event, Fail> {
+    let response = response_of(alloc, payload)?;
+    Ok(Event::Respond(id, response))
+}
+
+pub fn end_with(alloc: Global, id: u64, payload: &[u8]) -> Result<Event, Fail> {
+    let response = response_of(alloc, payload)?;
+    Ok(Event::EndStream(id, Ok(Some(response))))
+}
+
+/// The event of an act that is one event.
 pub fn event_of(alloc: Global, act: Act) -> Result<Event, Fail> {
-    Ok(match act {
-        Act::Call(payload, timeout) => Event::Call(request_of(alloc, payload, timeout)?),
-        Act::CallOf(method, payload) => Event::Call(request_named(alloc, method, payload)?),
+    match act {
+        Act::Call(payload, timeout) => call(alloc, "Echo", payload, timeout),
+        Act::CallOf(method, payload) => call(alloc, method, payload, 0),
+        Act::Open(method) => open(alloc, method, b"", true, true),
+        Act::Ask(method, payload) => open(alloc, method, payload, false, true),
+        Act::Send(id, item) => send(alloc, StreamEnd::Client(id), item),
+        Act::SendDown(id, item) => send(alloc, StreamEnd::Server(id), item),
+        Act::Answer(id, payload) => answer(alloc, id, payload),
+        Act::AnswerSevens(id, count) => answer_sevens(alloc, id, count),
+        Act::Respond(id, payload) => respond(alloc, id, payload),
+        Act::EndWith(id, payload) => end_with(alloc, id, payload),
+        _ => Ok(plain_event(act)),
+    }
+}
+
+/// The same of an event that takes no memory.
+pub fn plain_event(act: Act) -> Event {
+    match act {
         Act::Outcome(id) => Event::Outcome(id),
         Act::DropCall(id) => Event::DropCall(id),
         Act::Take => Event::Take,
-        Act::Answer(id, payload) => Event::Answer(id, Ok(response_of(alloc, payload)?)),
         Act::Break(id) => Event::Answer(id, Err(Error::Eof)),
-        Act::Respond(id, payload) => Event::Respond(id, response_of(alloc, payload)?),
         Act::Finish(id) => Event::Finish(id),
-        Act::Tick(now) => Event::Tick(now),
-        _ => stream_event(alloc, act)?,
-    })
-}
-
-/// The same of events of streams.
-fn stream_event(alloc: Global, act: Act) -> Result<Event, Fail> {
-    Ok(match act {
-        Act::Open(method) => Event::Open(request_named(alloc, method, b"")?, true, true),
-        Act::Ask(method, payload) => {
-            Event::Open(request_named(alloc, method, payload)?, false, true)
-        }
+        Act::End(id) => Event::EndStream(id, Ok(None)),
+        Act::EndBroken(id) => Event::EndStream(id, Err(Error::Eof)),
         Act::Recv(id) => Event::Recv(StreamEnd::Client(id)),
-        Act::Send(id, item) => Event::Send(StreamEnd::Client(id), Blob::from_slice(alloc, item)?),
+        Act::RecvUp(id) => Event::Recv(StreamEnd::Server(id)),
         Act::Close(id) => Event::Close(id),
         Act::DropReceiver(id) => Event::DropReceiver(StreamEnd::Client(id)),
-        Act::DropSender(id) => Event::DropSender(id),
-        Act::RecvUp(id) => Event::Recv(StreamEnd::Server(id)),
-        Act::SendDown(id, item) => {
-            Event::Send(StreamEnd::Server(id), Blob::from_slice(alloc, item)?)
-        }
         Act::DropReceiverUp(id) => Event::DropReceiver(StreamEnd::Server(id)),
-        Act::End(id) => Event::EndStream(id, Ok(None)),
-        Act::EndWith(id, payload) => Event::EndStream(id, Ok(Some(response_of(alloc, payload)?))),
-        Act::EndBroken(id) => Event::EndStream(id, Err(Error::Eof)),
+        Act::DropSender(id) => Event::DropSender(id),
         _ => side_event(act),
-    })
+    }
 }
 
 /// The same of events of a pipe or a side.
 fn side_event(act: Act) -> Event {
     match act {
+        Act::Tick(now) => Event::Tick(now),
         Act::CarryUp(n) => Event::Carry(Side::Client, n),
         Act::CarryDown(n) => Event::Carry(Side::Server, n),
         Act::DeliverUp(n) => Event::Deliver(Side::Server, n),
@@ -173,20 +229,67 @@ fn side_event(act: Act) -> Event {
     }
 }
 
+// ---- lists of events
+
 /// One more event. In a function of its own, since a value that isn't taken is let go here.
 pub fn put(events: &mut Vec<Event>, event: Event) -> Result<(), Fail> {
     events.push(event)?;
     Ok(())
 }
 
-/// The events of a script.
-pub fn events_of(alloc: Global, script: &[(Act, Said)]) -> Result<Vec<Event>, Fail> {
-    let mut events = Vec::with_capacity(alloc, script.len())?;
-    for (act, _) in script {
-        put(&mut events, event_of(alloc, *act)?)?;
+/// One more event, if there was memory for it.
+pub fn put_made(events: &mut Vec<Event>, event: Result<Event, Fail>) -> Result<(), Fail> {
+    put(events, event?)
+}
+
+/// The event of this act, which takes no memory, so many times.
+pub fn put_times(events: &mut Vec<Event>, act: Act, count: usize) -> Result<(), Fail> {
+    for _ in 0..count {
+        put(events, plain_event(act))?;
     }
+    Ok(())
+}
+
+/// So many bytes are carried by the one act and delivered by the other, one by one.
+fn put_bytes(events: &mut Vec<Event>, carry: Act, deliver: Act, count: usize) -> Result<(), Fail> {
+    for _ in 0..count {
+        put(events, plain_event(carry))?;
+        put(events, plain_event(deliver))?;
+    }
+    Ok(())
+}
+
+/// The events of an act.
+fn put_act(alloc: Global, events: &mut Vec<Event>, act: Act) -> Result<(), Fail> {
+    match act {
+        Act::BytesUp(count) => put_bytes(events, Act::CarryUp(1), Act::DeliverUp(1), count),
+        Act::BytesDown(count) => put_bytes(events, Act::CarryDown(1), Act::DeliverDown(1), count),
+        _ => put_made(events, event_of(alloc, act)),
+    }
+}
+
+fn put_rows(alloc: Global, events: &mut Vec<Event>, rows: Rows) -> Result<(), Fail> {
+    for (act, _) in rows {
+        put_act(alloc, events, *act)?;
+    }
+    Ok(())
+}
+
+fn put_script(alloc: Global, events: &mut Vec<Event>, script: &[Rows]) -> Result<(), Fail> {
+    for rows in script {
+        put_rows(alloc, events, rows)?;
+    }
+    Ok(())
+}
+
+/// The events of a script.
+pub fn events_of(alloc: Global, script: &[Rows]) -> Result<Vec<Event>, Fail> {
+    let mut events = Vec::new(alloc);
+    put_script(alloc, &mut events, script)?;
     Ok(events)
 }
+
+// ---- replies
 
 /// Whether the error is a status of this code and text.
 fn is_status(error: &Error, code: i32, told: &str) -> bool {
@@ -248,6 +351,9 @@ pub fn is_said(reply: &Reply, said: Said) -> bool {
         Said::Waits => matches!(reply, Reply::Outcome(None) | Reply::Item(None)),
         Said::Job(id, stream_id, payload) => has_job(reply, id, stream_id, false, payload),
         Said::StreamJob(id, stream_id) => has_job(reply, id, stream_id, true, b""),
+        Said::FullStreamJob(id, stream_id, payload) => {
+            has_job(reply, id, stream_id, true, payload)
+        }
         Said::NoJob => matches!(reply, Reply::Handed(None)),
         Said::Done => matches!(reply, Reply::Done),
         Said::Count(n) => matches!(reply, Reply::Count(told) if *told == n),
@@ -261,9 +367,9 @@ pub fn is_said(reply: &Reply, said: Said) -> bool {
 fn is_want_of_memory(reply: &Reply) -> bool {
     match reply {
         Reply::NoMemory => true,
-        Reply::Refused(error) => *error == Error::NoMemory,
-        Reply::Outcome(Some(Err(error))) => *error == Error::NoMemory,
-        Reply::Item(Some(Err(error))) => *error == Error::NoMemory,
+        Reply::Refused(error) => matches!(error, Error::NoMemory),
+        Reply::Outcome(Some(Err(error))) => matches!(error, Error::NoMemory),
+        Reply::Item(Some(Err(error))) => matches!(error, Error::NoMemory),
         _ => false,
     }
 }
@@ -278,26 +384,70 @@ pub fn had_memory(trace: &[Entry]) -> Result<(), Fail> {
     Ok(())
 }
 
-/// The place of the first reply that isn't the one that the script says; none, if all are.
-pub fn first_fault(trace: &[Entry], script: &[(Act, Said)]) -> Option<usize> {
-    if trace.len() != script.len() {
-        return Some(trace.len());
+/// Whether the reply at this place is what is said.
+fn is_said_at(trace: &[Entry], at: usize, said: Said) -> bool {
+    match trace.get(at) {
+        Some(entry) => is_said(&entry.reply, said),
+        None => false,
     }
-    for (at, (entry, (_, said))) in trace.iter().zip(script).enumerate() {
-        if !is_said(&entry.reply, *said) {
-            return Some(at);
+}
+
+/// How many events an act is.
+fn events_in(act: Act) -> usize {
+    match act {
+        Act::BytesUp(count) | Act::BytesDown(count) => count.saturating_mul(2),
+        _ => 1,
+    }
+}
+
+/// The place behind the replies to an act that begin here, or as an error the place of the first one that isn't what is said.
+fn place_behind(trace: &[Entry], begin: usize, act: Act, said: Said) -> Result<usize, usize> {
+    let mut at = begin;
+    for _ in 0..events_in(act) {
+        if !is_said_at(trace, at, said) {
+            return Err(at);
+        }
+        at = at.saturating_add(1);
+    }
+    Ok(at)
+}
+
+/// The same of rows.
+fn place_behind_rows(trace: &[Entry], begin: usize, rows: Rows) -> Result<usize, usize> {
+    let mut at = begin;
+    for (act, said) in rows {
+        at = place_behind(trace, at, *act, *said)?;
+    }
+    Ok(at)
+}
+
+/// The place of the first reply that isn't the one that the script says; none, if all are.
+pub fn first_fault(trace: &[Entry], script: &[Rows]) -> Option<usize> {
+    let mut at = 0usize;
+    for rows in script {
+        match place_behind_rows(trace, at, rows) {
+            Ok(next) => at = next,
+            Err(fault) => return Some(fault),
         }
     }
-    None
+    if at < trace.len() { Some(at) } else { None }
 }
 
 // ---- worlds
 
 /// What the two cores of a world keep to.
-#[derive(Clone, Copy, Debug)]
+#[derive(Clone, Copy)]
 pub struct Ways {
     pub kind: ClientKind,
     pub rules: Rules,
+}
+
+/// The halves that a script runs over.
+#[derive(Clone, Copy)]
+pub enum Over {
+    Plain,
+    /// Halves that stamp.
+    Stamps,
 }
 
 /// Runs events over plain halves.
@@ -319,4 +469,17 @@ pub fn over_stamps(alloc: Global, ways: Ways, events: Vec<Event>) -> Result<Trac
     let client = ClientCore::new(alloc, ways.kind, up);
     let server = ServerCore::new(alloc, ways.rules, registry, down);
     Ok(World::new(alloc, client, server).run(alloc, events)?)
+}
+
+/// Runs events over these halves.
+pub fn run_over(alloc: Global, over: Over, ways: Ways, events: Vec<Event>) -> Result<Trace, Fail> {
+    match over {
+        Over::Plain => over_plain(alloc, ways, events),
+        Over::Stamps => over_stamps(alloc, ways, events),
+    }
+}
+
+/// Runs a script over these halves.
+pub fn run_script(alloc: Global, over: Over, ways: Ways, script: &[Rows]) -> Result<Trace, Fail> {
+    run_over(alloc, over, ways, events_of(alloc, script)?)
 }

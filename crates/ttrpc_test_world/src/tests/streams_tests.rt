@@ -1,15 +1,13 @@
 //! Scripts of streams with their replies, over plain halves and over halves that stamp.
-use crate::tests::rows_tests::{ASYNC, SYNC, Tested, plain, stamped};
-use crate::tests::script::{Act, Said};
-use std::alloc::Global;
-use std::test::Fail;
+use crate::tests::rows_tests::{ASYNC, SYNC, Script, Table, Tested, are_told};
+use crate::tests::script::{Act, Over, Rows, Said};
 
 /// What a receiver is told behind an error.
 const PAST: &str = "Receive packet from Receiver error";
 
 /// What opens a stream both ways is a frame of 27 bytes. The client sends two items and an empty one between them, and
 /// closes; the server receives them, and their end.
-const ITEMS_UP: &[(Act, Said)] = &[
+const ITEMS_UP: Rows = &[
     (Act::Open("Chat"), Said::Named(1)),
     (Act::Send(1, b"a"), Said::Ticket(1)),
     (Act::Send(1, b""), Said::Ticket(2)),
@@ -37,7 +35,7 @@ const ITEMS_UP: &[(Act, Said)] = &[
 ];
 
 /// A server sends two items of 11 bytes each, of which one arrives.
-const CUT_BETWEEN: &[(Act, Said)] = &[
+const CUT_BETWEEN: Rows = &[
     (Act::Open("Chat"), Said::Named(1)),
     (Act::CarryUp(64), Said::Count(27)),
     (Act::DeliverUp(64), Said::Count(27)),
@@ -54,7 +52,7 @@ const CUT_BETWEEN: &[(Act, Said)] = &[
 ];
 
 /// One arrives, and a part of the other.
-const CUT_INSIDE: &[(Act, Said)] = &[
+const CUT_INSIDE: Rows = &[
     (Act::Open("Chat"), Said::Named(1)),
     (Act::CarryUp(64), Said::Count(27)),
     (Act::DeliverUp(64), Said::Count(27)),
@@ -74,7 +72,7 @@ const CUT_INSIDE: &[(Act, Said)] = &[
 ];
 
 /// A call that meets a stream gets its payload as the first item, and no end. Data that come back are no outcome.
-const CALL_GETS_DATA: &[(Act, Said)] = &[
+const CALL_GETS_DATA: Rows = &[
     (Act::CallOf("Chat", b"\x2a"), Said::Named(1)),
     (Act::CarryUp(64), Said::Count(30)),
     (Act::DeliverUp(64), Said::Count(30)),
@@ -95,7 +93,7 @@ const CALL_GETS_DATA: &[(Act, Said)] = &[
 ];
 
 /// A response alone is its outcome.
-const CALL_GETS_RESPONSE: &[(Act, Said)] = &[
+const CALL_GETS_RESPONSE: Rows = &[
     (Act::CallOf("Chat", b"\x2a"), Said::Named(1)),
     (Act::CarryUp(64), Said::Count(30)),
     (Act::DeliverUp(64), Said::Count(30)),
@@ -108,7 +106,7 @@ const CALL_GETS_RESPONSE: &[(Act, Said)] = &[
 ];
 
 /// A close is none, and neither is a handler's error.
-const CALL_GETS_CLOSE: &[(Act, Said)] = &[
+const CALL_GETS_CLOSE: Rows = &[
     (Act::CallOf("Chat", b"\x2a"), Said::Named(1)),
     (Act::CallOf("Chat", b"\x2a"), Said::Named(3)),
     (Act::CarryUp(64), Said::Count(30)),
@@ -129,7 +127,7 @@ const CALL_GETS_CLOSE: &[(Act, Said)] = &[
 ];
 
 /// A stream that meets a method: its items are refused, the first refusal ends it, and the answer comes too late.
-const STREAM_MEETS_METHOD: &[(Act, Said)] = &[
+const STREAM_MEETS_METHOD: Rows = &[
     (Act::Open("Echo"), Said::Named(1)),
     (Act::Send(1, b"a"), Said::Ticket(1)),
     (Act::CarryUp(64), Said::Count(27)),
@@ -149,7 +147,7 @@ const STREAM_MEETS_METHOD: &[(Act, Said)] = &[
 ];
 
 /// A stream under sync rules: it meets a method, its items are passed over, and the answer is its one item.
-const STREAM_UNDER_SYNC: &[(Act, Said)] = &[
+const STREAM_UNDER_SYNC: Rows = &[
     (Act::Open("Echo"), Said::Named(1)),
     (Act::Send(1, b"a"), Said::Ticket(1)),
     (Act::Open("Chat"), Said::Named(3)),
@@ -172,7 +170,7 @@ const STREAM_UNDER_SYNC: &[(Act, Said)] = &[
 ];
 
 /// A server sends on the stream of a job that waits, and asks it for items.
-const JOB_THAT_WAITS: &[(Act, Said)] = &[
+const JOB_THAT_WAITS: Rows = &[
     (Act::Ask("Chat", b"\x2a"), Said::Named(1)),
     (Act::Send(1, b"a"), Said::Others("stream is not sendable")),
     (Act::SendDown(1, b"a"), Said::Others("unknown stream")),
@@ -196,7 +194,7 @@ const JOB_THAT_WAITS: &[(Act, Said)] = &[
 
 /// Halves of a stream are dropped: what comes for a receiver that is dropped is refused at the server, and lost at the
 /// client.
-const DROPPED: &[(Act, Said)] = &[
+const DROPPED: Rows = &[
     (Act::Open("Chat"), Said::Named(1)),
     (Act::Open("Chat"), Said::Named(3)),
     (Act::CarryUp(64), Said::Count(27)),
@@ -221,7 +219,7 @@ const DROPPED: &[(Act, Said)] = &[
 ];
 
 /// A stream that is opened by an empty item has it, and nothing behind it. With stamps the frame has a byte more.
-const EMPTY_ITEM: &[(Act, Said)] = &[
+const EMPTY_ITEM: Rows = &[
     (Act::Ask("Chat", b""), Said::Named(1)),
     (Act::CarryUp(64), Said::Count(27)),
     (Act::DeliverUp(64), Said::Count(27)),
@@ -229,7 +227,7 @@ const EMPTY_ITEM: &[(Act, Said)] = &[
     (Act::RecvUp(1), Said::RemoteClosed),
 ];
 
-const STAMPED_EMPTY_ITEM: &[(Act, Said)] = &[
+const STAMPED_EMPTY_ITEM: Rows = &[
     (Act::Ask("Chat", b""), Said::Named(1)),
     (Act::CarryUp(64), Said::Count(28)),
     (Act::DeliverUp(64), Said::Count(28)),
@@ -238,7 +236,7 @@ const STAMPED_EMPTY_ITEM: &[(Act, Said)] = &[
 ];
 
 /// The same with stamps, where no bytes are counted.
-const STAMPED_ITEMS: &[(Act, Said)] = &[
+const STAMPED_ITEMS: Rows = &[
     (Act::Open("Chat"), Said::Named(1)),
     (Act::Send(1, b"a"), Said::Ticket(1)),
     (Act::Send(1, b""), Said::Ticket(2)),
@@ -264,7 +262,7 @@ const STAMPED_ITEMS: &[(Act, Said)] = &[
 ];
 
 /// A stream is opened, and two items, an empty one between them and the close are queued.
-const QUEUED: &[(Act, Said)] = &[
+pub const QUEUED: Rows = &[
     (Act::Open("Chat"), Said::Named(1)),
     (Act::Send(1, b"a"), Said::Ticket(1)),
     (Act::Send(1, b""), Said::Ticket(2)),
@@ -272,8 +270,20 @@ const QUEUED: &[(Act, Said)] = &[
     (Act::Close(1), Said::Ticket(4)),
 ];
 
+/// They are moved byte by byte, and there are no more.
+pub const MOVED: Rows = &[
+    (Act::BytesUp(69), Said::Count(1)),
+    (Act::CarryUp(1), Said::Count(0)),
+];
+
+/// The same with stamps.
+pub const STAMPED_MOVED: Rows = &[
+    (Act::BytesUp(74), Said::Count(1)),
+    (Act::CarryUp(1), Said::Count(0)),
+];
+
 /// They are received.
-const RECEIVED: &[(Act, Said)] = &[
+pub const RECEIVED: Rows = &[
     (Act::RecvUp(1), Said::Payload(b"a")),
     (Act::RecvUp(1), Said::Payload(b"")),
     (Act::RecvUp(1), Said::Payload(b"b")),
@@ -281,27 +291,8 @@ const RECEIVED: &[(Act, Said)] = &[
     (Act::RecvUp(1), Said::RemoteClosed),
 ];
 
-/// This many bytes are carried and delivered, one by one, and there are no more.
-fn put_bytes(script: &mut Vec<(Act, Said)>, carry: Act, deliver: Act, bytes: usize) -> Tested {
-    for _ in 0..bytes {
-        script.push((carry, Said::Count(1)))?;
-        script.push((deliver, Said::Count(1)))?;
-    }
-    script.push((carry, Said::Count(0)))?;
-    Ok(())
-}
-
-/// The same where this many bytes are moved between.
-pub fn byte_by_byte(alloc: Global, bytes: usize) -> Result<Vec<(Act, Said)>, Fail> {
-    let mut script = Vec::new(alloc);
-    script.extend_from_slice(QUEUED)?;
-    put_bytes(&mut script, Act::CarryUp(1), Act::DeliverUp(1), bytes)?;
-    script.extend_from_slice(RECEIVED)?;
-    Ok(script)
-}
-
 /// The frames of two streams alternate: two items of each, and its close.
-const ALTERNATE_UP: &[(Act, Said)] = &[
+const ALTERNATE_UP: Rows = &[
     (Act::Open("Chat"), Said::Named(1)),
     (Act::Open("Chat"), Said::Named(3)),
     (Act::Send(1, b"a"), Said::Ticket(1)),
@@ -313,7 +304,7 @@ const ALTERNATE_UP: &[(Act, Said)] = &[
 ];
 
 /// Each receiver is given its own, and then the frames alternate that go back.
-const ALTERNATE_DOWN: &[(Act, Said)] = &[
+const ALTERNATE_DOWN: Rows = &[
     (Act::RecvUp(2), Said::Payload(b"b")),
     (Act::RecvUp(1), Said::Payload(b"a")),
     (Act::RecvUp(1), Said::Payload(b"c")),
@@ -330,7 +321,7 @@ const ALTERNATE_DOWN: &[(Act, Said)] = &[
 ];
 
 /// And come to the client.
-const ALTERNATE_BACK: &[(Act, Said)] = &[
+const ALTERNATE_BACK: Rows = &[
     (Act::Recv(1), Said::Payload(b"f")),
     (Act::Recv(1), Said::Payload(b"h")),
     (Act::Recv(1), Said::RemoteClosed),
@@ -339,107 +330,112 @@ const ALTERNATE_BACK: &[(Act, Said)] = &[
     (Act::Recv(3), Said::Eof),
 ];
 
-/// So many bytes go up and down, one by one.
-fn alternating(alloc: Global, up: usize, down: usize) -> Result<Vec<(Act, Said)>, Fail> {
-    let mut script = Vec::new(alloc);
-    script.extend_from_slice(ALTERNATE_UP)?;
-    put_bytes(&mut script, Act::CarryUp(1), Act::DeliverUp(1), up)?;
-    script.extend_from_slice(ALTERNATE_DOWN)?;
-    put_bytes(&mut script, Act::CarryDown(1), Act::DeliverDown(1), down)?;
-    script.extend_from_slice(ALTERNATE_BACK)?;
-    Ok(script)
-}
+/// The bytes of each go up, one by one, and down.
+const ALTERNATING: &[Script] = &[
+    (
+        Over::Plain,
+        &[
+            ALTERNATE_UP,
+            &[
+                (Act::BytesUp(118), Said::Count(1)),
+                (Act::CarryUp(1), Said::Count(0)),
+            ],
+            ALTERNATE_DOWN,
+            &[
+                (Act::BytesDown(58), Said::Count(1)),
+                (Act::CarryDown(1), Said::Count(0)),
+            ],
+            ALTERNATE_BACK,
+        ],
+    ),
+    (
+        Over::Stamps,
+        &[
+            ALTERNATE_UP,
+            &[
+                (Act::BytesUp(126), Said::Count(1)),
+                (Act::CarryUp(1), Said::Count(0)),
+            ],
+            ALTERNATE_DOWN,
+            &[
+                (Act::BytesDown(63), Said::Count(1)),
+                (Act::CarryDown(1), Said::Count(0)),
+            ],
+            ALTERNATE_BACK,
+        ],
+    ),
+];
 
 #[test]
 fn frames_of_two_streams_alternate(rt: HostRuntime) -> Tested {
-    for ways in ASYNC {
-        let script = alternating(rt.alloc(), 118, 58)?;
-        plain(&rt, rt.alloc(), ways, script.as_slice())?;
-        let script = alternating(rt.alloc(), 126, 63)?;
-        stamped(&rt, rt.alloc(), ways, script.as_slice())?;
-    }
-    Ok(())
+    are_told(&rt, rt.alloc(), &[(&ASYNC, ALTERNATING)])
 }
+
+const EMPTY_ITEMS: &[Script] = &[
+    (Over::Plain, &[EMPTY_ITEM]),
+    (Over::Stamps, &[STAMPED_EMPTY_ITEM]),
+];
 
 #[test]
 fn a_stream_is_opened_by_an_empty_item(rt: HostRuntime) -> Tested {
-    for ways in ASYNC {
-        plain(&rt, rt.alloc(), ways, EMPTY_ITEM)?;
-        stamped(&rt, rt.alloc(), ways, STAMPED_EMPTY_ITEM)?;
-    }
-    Ok(())
+    are_told(&rt, rt.alloc(), &[(&ASYNC, EMPTY_ITEMS)])
 }
+
+const BYTE_BY_BYTE: &[Script] = &[
+    (Over::Plain, &[QUEUED, MOVED, RECEIVED]),
+    (Over::Stamps, &[QUEUED, STAMPED_MOVED, RECEIVED]),
+];
 
 #[test]
 fn items_go_byte_by_byte(rt: HostRuntime) -> Tested {
-    for ways in ASYNC {
-        plain(
-            &rt,
-            rt.alloc(),
-            ways,
-            byte_by_byte(rt.alloc(), 69)?.as_slice(),
-        )?;
-        stamped(
-            &rt,
-            rt.alloc(),
-            ways,
-            byte_by_byte(rt.alloc(), 74)?.as_slice(),
-        )?;
-    }
-    Ok(())
+    are_told(&rt, rt.alloc(), &[(&ASYNC, BYTE_BY_BYTE)])
 }
+
+const BOTH_WAYS: &[Script] = &[(Over::Plain, &[ITEMS_UP]), (Over::Stamps, &[STAMPED_ITEMS])];
 
 #[test]
 fn items_go_both_ways(rt: HostRuntime) -> Tested {
-    for ways in ASYNC {
-        plain(&rt, rt.alloc(), ways, ITEMS_UP)?;
-        stamped(&rt, rt.alloc(), ways, STAMPED_ITEMS)?;
-    }
-    Ok(())
+    are_told(&rt, rt.alloc(), &[(&ASYNC, BOTH_WAYS)])
 }
+
+const CUTS: &[Script] = &[(Over::Plain, &[CUT_BETWEEN]), (Over::Plain, &[CUT_INSIDE])];
 
 #[test]
 fn a_pipe_is_cut_under_a_stream(rt: HostRuntime) -> Tested {
-    for ways in ASYNC {
-        plain(&rt, rt.alloc(), ways, CUT_BETWEEN)?;
-        plain(&rt, rt.alloc(), ways, CUT_INSIDE)?;
-    }
-    Ok(())
+    are_told(&rt, rt.alloc(), &[(&ASYNC, CUTS)])
 }
+
+const CALLS: &[Script] = &[
+    (Over::Plain, &[CALL_GETS_DATA]),
+    (Over::Plain, &[CALL_GETS_RESPONSE]),
+    (Over::Plain, &[CALL_GETS_CLOSE]),
+];
 
 #[test]
 fn a_call_meets_a_stream(rt: HostRuntime) -> Tested {
-    for ways in ASYNC {
-        plain(&rt, rt.alloc(), ways, CALL_GETS_DATA)?;
-        plain(&rt, rt.alloc(), ways, CALL_GETS_RESPONSE)?;
-        plain(&rt, rt.alloc(), ways, CALL_GETS_CLOSE)?;
-    }
-    Ok(())
+    are_told(&rt, rt.alloc(), &[(&ASYNC, CALLS)])
 }
+
+const MEETINGS: &[Table] = &[
+    (&ASYNC, &[(Over::Plain, &[STREAM_MEETS_METHOD])]),
+    (&SYNC, &[(Over::Plain, &[STREAM_UNDER_SYNC])]),
+];
 
 #[test]
 fn a_stream_meets_a_method(rt: HostRuntime) -> Tested {
-    for ways in ASYNC {
-        plain(&rt, rt.alloc(), ways, STREAM_MEETS_METHOD)?;
-    }
-    for ways in SYNC {
-        plain(&rt, rt.alloc(), ways, STREAM_UNDER_SYNC)?;
-    }
-    Ok(())
+    are_told(&rt, rt.alloc(), MEETINGS)
 }
+
+const WAITING: &[Script] = &[(Over::Plain, &[JOB_THAT_WAITS])];
 
 #[test]
 fn a_job_that_waits_has_a_stream(rt: HostRuntime) -> Tested {
-    for ways in ASYNC {
-        plain(&rt, rt.alloc(), ways, JOB_THAT_WAITS)?;
-    }
-    Ok(())
+    are_told(&rt, rt.alloc(), &[(&ASYNC, WAITING)])
 }
+
+const DROPS: &[Script] = &[(Over::Plain, &[DROPPED])];
 
 #[test]
 fn halves_are_dropped(rt: HostRuntime) -> Tested {
-    for ways in ASYNC {
-        plain(&rt, rt.alloc(), ways, DROPPED)?;
-    }
-    Ok(())
+    are_told(&rt, rt.alloc(), &[(&ASYNC, DROPS)])
 }

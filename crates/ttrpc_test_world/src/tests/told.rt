@@ -1,6 +1,7 @@
 //! What a caller is told of what a handler gave. Slow, and written from these sentences alone.
 
 use crate::tests::plainly::is_ok;
+use crate::tests::script::Over;
 use std::alloc::Global;
 use std::test::Fail;
 use ttrpc_codec::Codec;
@@ -12,26 +13,19 @@ use ttrpc_world::Event;
 const LONGEST: usize = 4194304;
 
 /// What a server keeps to: its rules, and the most bytes that it may seal.
-#[derive(Clone, Copy, Debug)]
+#[derive(Clone, Copy)]
 pub struct Terms {
     pub rules: Rules,
     pub limit: usize,
 }
 
-/// What one over plain halves keeps to.
-pub fn plain_terms(rules: Rules) -> Terms {
-    Terms {
-        rules,
-        limit: LONGEST,
-    }
-}
-
-/// And over halves that stamp, of which each stamp is a byte.
-pub fn stamped_terms(rules: Rules) -> Terms {
-    Terms {
-        rules,
-        limit: LONGEST - 1,
-    }
+/// What a server over these halves keeps to. Each stamp is a byte.
+pub fn terms_of(over: Over, rules: Rules) -> Terms {
+    let limit = match over {
+        Over::Plain => LONGEST,
+        Over::Stamps => LONGEST - 1,
+    };
+    Terms { rules, limit }
 }
 
 /// What is told of a response of so many bytes in its place; nothing where they aren't too many.

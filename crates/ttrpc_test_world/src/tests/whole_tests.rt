@@ -1,27 +1,24 @@
 //! Runs that are clean and quiet, and whole; runs of which nothing is said; and traces from which something is kept back.
 
 use crate::tests::lists::{Counts, Order, read_lists};
+use crate::tests::made::reply_of;
 use crate::tests::rows_tests::{ASYNC, ONE_CALL, ONE_RESPONSE, ONE_STAMPED_CALL, SYNC, Tested};
-use crate::tests::script::{
-    Act, Said, Ways, event_of, events_of, first_fault, had_memory, is_said, over_plain,
-    over_stamps, put, response_of,
-};
-use crate::tests::streams_tests::byte_by_byte;
-use crate::tests::told::{Terms, plain_terms, stamped_terms};
+use crate::tests::script::{Act, Over, Rows, Said, Ways, first_fault, had_memory, run_script};
+use crate::tests::streams_tests::{MOVED, QUEUED, RECEIVED, STAMPED_MOVED};
+use crate::tests::told::{Terms, terms_of};
 use crate::tests::whole::{Rest, is_clean, is_quiet, read_rest};
 use std::alloc::Global;
+use std::mem;
 use std::process::Abort;
 use std::test::Fail;
-use ttrpc_codec::message::WireMessage;
-use ttrpc_proto::{Error, Status};
-use ttrpc_wire::{Blob, Text};
-use ttrpc_world::{Event, Reply, Trace};
+use ttrpc_server::Rules;
+use ttrpc_world::{Entry, Reply, Trace};
 
 /// Bytes enough for any frame here but the longest.
 const ALL: usize = 4096;
 
 /// Nothing more moves.
-const AT_REST: &[(Act, Said)] = &[
+const AT_REST: Rows = &[
     (Act::CarryUp(1), Said::Count(0)),
     (Act::CarryDown(1), Said::Count(0)),
     (Act::DeliverUp(1), Said::Count(0)),
@@ -29,20 +26,26 @@ const AT_REST: &[(Act, Said)] = &[
 ];
 
 /// The same, asked for in another order.
-const AT_REST_TOO: &[(Act, Said)] = &[
+const AT_REST_TOO: Rows = &[
     (Act::CarryDown(9), Said::Count(0)),
     (Act::CarryUp(8), Said::Count(0)),
     (Act::DeliverDown(7), Said::Count(0)),
     (Act::DeliverUp(6), Said::Count(0)),
 ];
 
-/// A call is answered.
-const ANSWERED: &[(Act, Said)] = &[
+/// A call is made, and its job taken.
+const ASKED: Rows = &[
     (Act::Call(b"\x2a", 0), Said::Named(1)),
     (Act::CarryUp(ALL), Said::Moved),
     (Act::DeliverUp(ALL), Said::Moved),
     (Act::Take, Said::Job(1, 1, b"\x2a")),
-    (Act::Take, Said::NoJob),
+];
+
+/// No other one waits.
+const NO_JOB: Rows = &[(Act::Take, Said::NoJob)];
+
+/// The call is answered.
+const GIVEN: Rows = &[
     (Act::Answer(1, b"\x2b"), Said::Done),
     (Act::CarryDown(ALL), Said::Moved),
     (Act::DeliverDown(ALL), Said::Moved),
@@ -50,7 +53,7 @@ const ANSWERED: &[(Act, Said)] = &[
 ];
 
 /// It is answered by a response, under sync rules.
-const RESPONDED: &[(Act, Said)] = &[
+const RESPONDED: Rows = &[
     (Act::Call(b"\x2a", 0), Said::Named(1)),
     (Act::CarryUp(ALL), Said::Moved),
     (Act::DeliverUp(ALL), Said::Moved),
@@ -66,7 +69,7 @@ const RESPONDED: &[(Act, Said)] = &[
 ];
 
 /// The outcome is asked for before it is there, and not again: nothing is said of the call.
-const ASKED_EARLY: &[(Act, Said)] = &[
+const ASKED_EARLY: Rows = &[
     (Act::Call(b"\x2a", 0), Said::Named(1)),
     (Act::CarryUp(ALL), Said::Moved),
     (Act::DeliverUp(ALL), Said::Moved),
@@ -79,7 +82,7 @@ const ASKED_EARLY: &[(Act, Said)] = &[
 ];
 
 /// A handler gives an error.
-const BROKEN_HANDLER: &[(Act, Said)] = &[
+const BROKEN_HANDLER: Rows = &[
     (Act::Call(b"\x2a", 0), Said::Named(1)),
     (Act::CarryUp(ALL), Said::Moved),
     (Act::DeliverUp(ALL), Said::Moved),
@@ -92,7 +95,7 @@ const BROKEN_HANDLER: &[(Act, Said)] = &[
 ];
 
 /// A timeout is kept, and passes once the outcome was given. One of -1 isn't reached.
-const KEPT_TIMEOUT: &[(Act, Said)] = &[
+const KEPT_TIMEOUT: Rows = &[
     (Act::Call(b"\x2a", 10), Said::Named(1)),
     (Act::Call(b"\x2c", -1), Said::Named(3)),
     (Act::Tick(4), Said::Done),
@@ -115,7 +118,7 @@ const KEPT_TIMEOUT: &[(Act, Said)] = &[
 ];
 
 /// One passes before the outcome is asked for: nothing is said of the run, though the outcome had come.
-const LATE: &[(Act, Said)] = &[
+const LATE: Rows = &[
     (Act::Call(b"\x2a", 10), Said::Named(1)),
     (Act::CarryUp(ALL), Said::Moved),
     (Act::DeliverUp(ALL), Said::Moved),
@@ -129,7 +132,7 @@ const LATE: &[(Act, Said)] = &[
 ];
 
 /// A stream that meets a method is given its response.
-const OPEN_MEETS_METHOD: &[(Act, Said)] = &[
+const OPEN_MEETS_METHOD: Rows = &[
     (Act::Ask("Echo", b"a"), Said::Named(1)),
     (Act::CarryUp(ALL), Said::Moved),
     (Act::DeliverUp(ALL), Said::Moved),
@@ -143,7 +146,7 @@ const OPEN_MEETS_METHOD: &[(Act, Said)] = &[
 ];
 
 /// Items go both ways, and their ends.
-const ITEMS: &[(Act, Said)] = &[
+const ITEMS: Rows = &[
     (Act::Open("Chat"), Said::Named(1)),
     (Act::Send(1, b"a"), Said::Ticket(1)),
     (Act::Send(1, b""), Said::Ticket(2)),
@@ -175,7 +178,7 @@ const ITEMS: &[(Act, Said)] = &[
 ];
 
 /// The client doesn't close, and the server asks until it has nothing yet. No item comes down.
-const UNCLOSED: &[(Act, Said)] = &[
+const UNCLOSED: Rows = &[
     (Act::Open("Chat"), Said::Named(1)),
     (Act::Send(1, b"a"), Said::Ticket(1)),
     (Act::CarryUp(ALL), Said::Moved),
@@ -192,7 +195,7 @@ const UNCLOSED: &[(Act, Said)] = &[
 ];
 
 /// The server asks before the item is there, and not again: nothing is said of its receiver.
-const UNASKED: &[(Act, Said)] = &[
+const UNASKED: Rows = &[
     (Act::Open("Chat"), Said::Named(1)),
     (Act::Send(1, b"a"), Said::Ticket(1)),
     (Act::CarryUp(ALL), Said::Moved),
@@ -209,7 +212,7 @@ const UNASKED: &[(Act, Said)] = &[
 ];
 
 /// A stream's job ends, and its client is told.
-const ENDED: &[(Act, Said)] = &[
+const ENDED: Rows = &[
     (Act::Take, Said::StreamJob(1, 1)),
     (Act::Take, Said::NoJob),
     (Act::End(1), Said::Done),
@@ -218,16 +221,16 @@ const ENDED: &[(Act, Said)] = &[
     (Act::Recv(1), Said::Eof),
 ];
 
-/// These acts with their replies, and then those.
-fn joined(
-    alloc: Global,
-    first: &[(Act, Said)],
-    then: &[(Act, Said)],
-) -> Result<Vec<(Act, Said)>, Fail> {
-    let mut script = Vec::with_capacity(alloc, first.len())?;
-    script.extend_from_slice(first)?;
-    script.extend_from_slice(then)?;
-    Ok(script)
+// ---- what is read of runs
+
+/// A script, and what is read of its trace.
+type Run = (Over, &'static [Rows], Rest);
+
+/// This is read of a trace.
+fn is_rest(rt: &impl Abort, alloc: Global, terms: Terms, trace: &[Entry], rest: Rest) -> Tested {
+    let read = read_rest(alloc, terms, trace)?;
+    assert_eq!(rt; read, rest);
+    Ok(())
 }
 
 /// Each reply is the one of the script, and this is read of the trace.
@@ -235,214 +238,238 @@ fn reads(
     rt: &impl Abort,
     alloc: Global,
     terms: Terms,
-    trace: &Trace,
-    script: &[(Act, Said)],
+    trace: &[Entry],
+    script: &[Rows],
     rest: Rest,
 ) -> Tested {
-    had_memory(trace.as_slice())?;
-    assert_eq!(rt; first_fault(trace.as_slice(), script), None);
-    assert_eq!(rt; read_rest(alloc, terms, trace.as_slice())?, rest);
+    had_memory(trace)?;
+    assert_eq!(rt; first_fault(trace, script), None);
+    is_rest(rt, alloc, terms, trace, rest)
+}
+
+/// The same of a run, under these rules.
+fn rests_under(rt: &impl Abort, alloc: Global, rules: Rules, ways: Ways, run: &Run) -> Tested {
+    let (over, script, rest) = *run;
+    let trace = run_script(alloc, over, ways, script)?;
+    let terms = terms_of(over, rules);
+    reads(rt, alloc, terms, trace.as_slice(), script, rest)
+}
+
+/// The same of each of these runs.
+fn rest_in(rt: &impl Abort, alloc: Global, ways: Ways, runs: &[Run]) -> Tested {
+    for run in runs {
+        rests_under(rt, alloc, ways.rules, ways, run)?;
+    }
     Ok(())
 }
 
-/// What is read of the trace over plain halves.
-fn rests_plain(
-    rt: &impl Abort,
-    alloc: Global,
-    ways: Ways,
-    script: &[(Act, Said)],
-    rest: Rest,
-) -> Tested {
-    let trace = over_plain(alloc, ways, events_of(alloc, script)?)?;
-    reads(rt, alloc, plain_terms(ways.rules), &trace, script, rest)
+/// The same in each of these ways.
+fn rest(rt: &impl Abort, alloc: Global, all: &[Ways], runs: &[Run]) -> Tested {
+    for ways in all {
+        rest_in(rt, alloc, *ways, runs)?;
+    }
+    Ok(())
 }
 
-/// And over halves that stamp.
-fn rests_stamped(
-    rt: &impl Abort,
-    alloc: Global,
-    ways: Ways,
-    script: &[(Act, Said)],
-    rest: Rest,
-) -> Tested {
-    let trace = over_stamps(alloc, ways, events_of(alloc, script)?)?;
-    reads(rt, alloc, stamped_terms(ways.rules), &trace, script, rest)
-}
-
-/// What is read once nothing more moves, over both.
-fn rests(rt: &impl Abort, alloc: Global, ways: Ways, script: &[(Act, Said)], rest: Rest) -> Tested {
-    let plain = joined(alloc, script, AT_REST)?;
-    rests_plain(rt, alloc, ways, plain.as_slice(), rest)?;
-    let stamped = joined(alloc, script, AT_REST_TOO)?;
-    rests_stamped(rt, alloc, ways, stamped.as_slice(), rest)
-}
+const CALLS: &[Run] = &[
+    (Over::Plain, &[ONE_CALL], Rest::Whole(1, 0)),
+    (Over::Stamps, &[ONE_STAMPED_CALL], Rest::Whole(1, 0)),
+    (
+        Over::Plain,
+        &[ASKED, NO_JOB, GIVEN, AT_REST],
+        Rest::Whole(1, 0),
+    ),
+    (
+        Over::Stamps,
+        &[ASKED, NO_JOB, GIVEN, AT_REST_TOO],
+        Rest::Whole(1, 0),
+    ),
+    (Over::Plain, &[KEPT_TIMEOUT, AT_REST], Rest::Whole(2, 0)),
+    (
+        Over::Stamps,
+        &[KEPT_TIMEOUT, AT_REST_TOO],
+        Rest::Whole(2, 0),
+    ),
+    (Over::Plain, &[ASKED_EARLY, AT_REST], Rest::Whole(0, 0)),
+    (Over::Stamps, &[ASKED_EARLY, AT_REST_TOO], Rest::Whole(0, 0)),
+    (Over::Plain, &[LATE, AT_REST], Rest::Unsaid),
+    (Over::Stamps, &[LATE, AT_REST_TOO], Rest::Unsaid),
+];
 
 #[test]
 fn a_call_comes_to_rest(rt: HostRuntime) -> Tested {
-    for [sync, async_] in [SYNC, ASYNC] {
-        for ways in [sync, async_] {
-            rests_plain(&rt, rt.alloc(), ways, ONE_CALL, Rest::Whole(1, 0))?;
-            rests_stamped(&rt, rt.alloc(), ways, ONE_STAMPED_CALL, Rest::Whole(1, 0))?;
-            rests(&rt, rt.alloc(), ways, ANSWERED, Rest::Whole(1, 0))?;
-            rests(&rt, rt.alloc(), ways, KEPT_TIMEOUT, Rest::Whole(2, 0))?;
-            rests(&rt, rt.alloc(), ways, ASKED_EARLY, Rest::Whole(0, 0))?;
-            rests(&rt, rt.alloc(), ways, LATE, Rest::Unsaid)?;
-        }
-    }
-    Ok(())
+    rest(&rt, rt.alloc(), &SYNC, CALLS)?;
+    rest(&rt, rt.alloc(), &ASYNC, CALLS)
 }
+
+const RESPONSES: &[Run] = &[
+    (Over::Plain, &[ONE_RESPONSE], Rest::Whole(1, 0)),
+    (Over::Plain, &[RESPONDED, AT_REST], Rest::Whole(1, 0)),
+    (Over::Stamps, &[RESPONDED, AT_REST_TOO], Rest::Whole(1, 0)),
+];
 
 #[test]
 fn a_response_comes_to_rest(rt: HostRuntime) -> Tested {
-    for ways in SYNC {
-        rests_plain(&rt, rt.alloc(), ways, ONE_RESPONSE, Rest::Whole(1, 0))?;
-        rests(&rt, rt.alloc(), ways, RESPONDED, Rest::Whole(1, 0))?;
-    }
-    Ok(())
+    rest(&rt, rt.alloc(), &SYNC, RESPONSES)
 }
+
+const ERRORS: &[Run] = &[
+    (Over::Plain, &[BROKEN_HANDLER, AT_REST], Rest::Whole(1, 0)),
+    (
+        Over::Stamps,
+        &[BROKEN_HANDLER, AT_REST_TOO],
+        Rest::Whole(1, 0),
+    ),
+];
+
+const UNSAID_ERROR: Run = (Over::Plain, &[BROKEN_HANDLER, AT_REST], Rest::Unsaid);
 
 /// Under sync rules nothing is said where a handler gives an error.
 #[test]
 fn an_error_comes_to_rest_under_async_rules(rt: HostRuntime) -> Tested {
-    let alloc = rt.alloc();
-    for ways in ASYNC {
-        rests(&rt, alloc, ways, BROKEN_HANDLER, Rest::Whole(1, 0))?;
-    }
-    let script = joined(alloc, BROKEN_HANDLER, AT_REST)?;
-    let trace = over_plain(alloc, ASYNC[0], events_of(alloc, script.as_slice())?)?;
-    let terms = plain_terms(SYNC[0].rules);
-    reads(&rt, alloc, terms, &trace, script.as_slice(), Rest::Unsaid)
+    rest(&rt, rt.alloc(), &ASYNC, ERRORS)?;
+    rests_under(&rt, rt.alloc(), Rules::Sync, ASYNC[0], &UNSAID_ERROR)
 }
+
+const STREAMS: &[Run] = &[
+    (Over::Plain, &[ITEMS, AT_REST], Rest::Whole(0, 2)),
+    (Over::Stamps, &[ITEMS, AT_REST_TOO], Rest::Whole(0, 2)),
+    (Over::Plain, &[UNCLOSED, AT_REST], Rest::Whole(0, 2)),
+    (Over::Stamps, &[UNCLOSED, AT_REST_TOO], Rest::Whole(0, 2)),
+    (Over::Plain, &[UNASKED, AT_REST], Rest::Whole(0, 1)),
+    (Over::Stamps, &[UNASKED, AT_REST_TOO], Rest::Whole(0, 1)),
+];
+
+const MEETINGS: &[Run] = &[
+    (
+        Over::Plain,
+        &[OPEN_MEETS_METHOD, AT_REST],
+        Rest::Whole(0, 1),
+    ),
+    (
+        Over::Stamps,
+        &[OPEN_MEETS_METHOD, AT_REST_TOO],
+        Rest::Whole(0, 1),
+    ),
+];
 
 #[test]
 fn streams_come_to_rest(rt: HostRuntime) -> Tested {
-    for ways in ASYNC {
-        rests(&rt, rt.alloc(), ways, ITEMS, Rest::Whole(0, 2))?;
-        rests(&rt, rt.alloc(), ways, UNCLOSED, Rest::Whole(0, 2))?;
-        rests(&rt, rt.alloc(), ways, UNASKED, Rest::Whole(0, 1))?;
-    }
-    for [sync, async_] in [SYNC, ASYNC] {
-        rests(&rt, rt.alloc(), sync, OPEN_MEETS_METHOD, Rest::Whole(0, 1))?;
-        rests(
-            &rt,
-            rt.alloc(),
-            async_,
-            OPEN_MEETS_METHOD,
-            Rest::Whole(0, 1),
-        )?;
-    }
-    Ok(())
+    rest(&rt, rt.alloc(), &ASYNC, STREAMS)?;
+    rest(&rt, rt.alloc(), &SYNC, MEETINGS)?;
+    rest(&rt, rt.alloc(), &ASYNC, MEETINGS)
 }
 
-/// Nothing is said of a run with one of these acts, though its call is answered, and nothing moves in the end.
-const UNSAID: &[(Act, Said)] = &[
-    (Act::DropCall(1), Said::Done),
-    (Act::Drain, Said::Done),
-    (Act::Send(1, b"a"), Said::Others("unknown stream")),
-    (Act::Recv(1), Said::Others("unknown stream")),
+/// Acts by which nothing is said of a run, though its call is answered, and nothing moves in the end.
+const DROPS: Rows = &[(Act::DropCall(1), Said::Done)];
+
+const DRAINS: Rows = &[(Act::Drain, Said::Done)];
+
+const SENDS: Rows = &[(Act::Send(1, b"a"), Said::Others("unknown stream"))];
+
+const RECEIVES: Rows = &[(Act::Recv(1), Said::Others("unknown stream"))];
+
+/// Runs with one of them, without the last try for a job, or without an answer; and one that nothing says is at rest.
+const UNSAID: &[Run] = &[
+    (
+        Over::Plain,
+        &[ASKED, NO_JOB, GIVEN, DROPS, AT_REST],
+        Rest::Unsaid,
+    ),
+    (
+        Over::Stamps,
+        &[ASKED, NO_JOB, GIVEN, DROPS, AT_REST_TOO],
+        Rest::Unsaid,
+    ),
+    (
+        Over::Plain,
+        &[ASKED, NO_JOB, GIVEN, DRAINS, AT_REST],
+        Rest::Unsaid,
+    ),
+    (
+        Over::Stamps,
+        &[ASKED, NO_JOB, GIVEN, DRAINS, AT_REST_TOO],
+        Rest::Unsaid,
+    ),
+    (
+        Over::Plain,
+        &[ASKED, NO_JOB, GIVEN, SENDS, AT_REST],
+        Rest::Unsaid,
+    ),
+    (
+        Over::Stamps,
+        &[ASKED, NO_JOB, GIVEN, SENDS, AT_REST_TOO],
+        Rest::Unsaid,
+    ),
+    (
+        Over::Plain,
+        &[ASKED, NO_JOB, GIVEN, RECEIVES, AT_REST],
+        Rest::Unsaid,
+    ),
+    (
+        Over::Stamps,
+        &[ASKED, NO_JOB, GIVEN, RECEIVES, AT_REST_TOO],
+        Rest::Unsaid,
+    ),
+    (Over::Plain, &[ASKED, GIVEN, AT_REST], Rest::Unsaid),
+    (Over::Stamps, &[ASKED, GIVEN, AT_REST_TOO], Rest::Unsaid),
+    (Over::Plain, &[ASKED, NO_JOB, AT_REST], Rest::Unsaid),
+    (Over::Stamps, &[ASKED, NO_JOB, AT_REST_TOO], Rest::Unsaid),
+    (Over::Plain, &[ASKED, NO_JOB, GIVEN], Rest::Unsaid),
 ];
 
 #[test]
 fn nothing_is_said_of_other_runs(rt: HostRuntime) -> Tested {
-    let alloc = rt.alloc();
-    let unsaid = Rest::Unsaid;
-    for act in UNSAID {
-        let script = joined(alloc, ANSWERED, &[*act])?;
-        rests(&rt, alloc, ASYNC[0], script.as_slice(), unsaid)?;
-    }
-    let untaken = joined(alloc, &ANSWERED[..4], &ANSWERED[5..])?;
-    rests(&rt, alloc, ASYNC[0], untaken.as_slice(), unsaid)?;
-    rests(&rt, alloc, ASYNC[0], &ANSWERED[..5], unsaid)?;
-    rests_plain(&rt, alloc, ASYNC[0], ANSWERED, unsaid)
+    rest_in(&rt, rt.alloc(), ASYNC[0], UNSAID)
 }
 
 /// Items are moved up byte by byte, their stream ends, and nothing more moves.
-fn moved_to_rest(alloc: Global, bytes: usize) -> Result<Vec<(Act, Said)>, Fail> {
-    let moved = byte_by_byte(alloc, bytes)?;
-    let ended = joined(alloc, moved.as_slice(), ENDED)?;
-    joined(alloc, ended.as_slice(), AT_REST)
-}
+const MOVED_TO_REST: &[(Over, &[Rows])] = &[
+    (Over::Plain, &[QUEUED, MOVED, RECEIVED, ENDED, AT_REST]),
+    (
+        Over::Stamps,
+        &[QUEUED, STAMPED_MOVED, RECEIVED, ENDED, AT_REST],
+    ),
+];
+
+/// Three items were given upwards.
+const THREE_ITEMS: Counts = Counts {
+    items_up: 3,
+    ends_up: 2,
+    items_down: 0,
+    ends_down: 1,
+};
 
 /// Three items were given upwards, and all that was put in.
-fn is_given(rt: &impl Abort, alloc: Global, terms: Terms, trace: &Trace, bytes: usize) -> Tested {
-    let script = moved_to_rest(alloc, bytes)?;
+fn is_given(rt: &impl Abort, alloc: Global, ways: Ways, over: Over, script: &[Rows]) -> Tested {
+    let trace = run_script(alloc, over, ways, script)?;
+    let terms = terms_of(over, ways.rules);
     reads(
         rt,
         alloc,
         terms,
-        trace,
-        script.as_slice(),
+        trace.as_slice(),
+        script,
         Rest::Whole(0, 2),
     )?;
-    let counts = Counts {
-        items_up: 3,
-        ends_up: 2,
-        items_down: 0,
-        ends_down: 1,
-    };
-    assert_eq!(rt; read_lists(trace.as_slice()), Order::Kept(counts));
+    assert_eq!(rt; read_lists(trace.as_slice()), Order::Kept(THREE_ITEMS));
+    Ok(())
+}
+
+fn are_given(rt: &impl Abort, alloc: Global, ways: Ways) -> Tested {
+    for (over, script) in MOVED_TO_REST {
+        is_given(rt, alloc, ways, *over, script)?;
+    }
     Ok(())
 }
 
 #[test]
 fn items_come_to_rest_byte_by_byte(rt: HostRuntime) -> Tested {
-    let alloc = rt.alloc();
-    for ways in ASYNC {
-        let script = moved_to_rest(alloc, 69)?;
-        let plain = over_plain(alloc, ways, events_of(alloc, script.as_slice())?)?;
-        is_given(&rt, alloc, plain_terms(ways.rules), &plain, 69)?;
-        let script = moved_to_rest(alloc, 74)?;
-        let stamped = over_stamps(alloc, ways, events_of(alloc, script.as_slice())?)?;
-        is_given(&rt, alloc, stamped_terms(ways.rules), &stamped, 74)?;
-    }
-    Ok(())
+    are_given(&rt, rt.alloc(), ASYNC[0])?;
+    are_given(&rt, rt.alloc(), ASYNC[1])
 }
 
 // ---- responses that are too long
-
-/// A call whose response has a present empty status, and a payload of so many bytes.
-fn long_call(alloc: Global, bytes: usize) -> Result<Vec<Event>, Fail> {
-    let mut events = events_of(alloc, &ANSWERED[..5])?;
-    let payload = vec![in alloc; 7u8; bytes]?;
-    let response = response_of(alloc, payload.as_slice())?;
-    put(&mut events, Event::Answer(1, Ok(response)))?;
-    for (act, _) in &ANSWERED[6..] {
-        put(&mut events, event_of(alloc, *act)?)?;
-    }
-    for (act, _) in AT_REST {
-        put(&mut events, event_of(alloc, *act)?)?;
-    }
-    Ok(events)
-}
-
-/// It is replaced: its call is told this, and the run is whole.
-fn is_replaced(
-    rt: &impl Abort,
-    alloc: Global,
-    terms: Terms,
-    trace: &Trace,
-    text: &'static str,
-) -> Tested {
-    had_memory(trace.as_slice())?;
-    assert_eq!(rt;
-        read_rest(alloc, terms, trace.as_slice())?,
-        Rest::Whole(1, 0)
-    );
-    let told = Said::Status(3, text);
-    assert!(rt; trace.iter().any(|entry| is_said(&entry.reply, told)));
-    Ok(())
-}
-
-#[test]
-fn a_response_too_long_comes_to_rest(rt: HostRuntime) -> Tested {
-    let alloc = rt.alloc();
-    let trace = over_plain(alloc, ASYNC[0], long_call(alloc, 4194298)?)?;
-    let terms = plain_terms(ASYNC[0].rules);
-    is_replaced(&rt, alloc, terms, &trace, ABOVE_MESSAGE)?;
-    let trace = over_stamps(alloc, SYNC[0], long_call(alloc, 4194297)?)?;
-    let terms = stamped_terms(SYNC[0].rules);
-    is_replaced(&rt, alloc, terms, &trace, ABOVE_LIMIT)
-}
 
 /// What stands for a response of a byte more than a message may have.
 const ABOVE_MESSAGE: &str = "message length 4194305 exceed maximum message size of 4194304";
@@ -451,111 +478,226 @@ const ABOVE_MESSAGE: &str = "message length 4194305 exceed maximum message size 
 const ABOVE_LIMIT: &str =
     "response payload 4194304 bytes exceeds safe limit 4194303 bytes (after transform overhead)";
 
+/// The call's response has a present empty status, and a payload that is too long: its call is told this instead.
+const TOO_LONG: Rows = &[
+    (Act::AnswerSevens(1, 4194298), Said::Done),
+    (Act::CarryDown(ALL), Said::Moved),
+    (Act::DeliverDown(ALL), Said::Moved),
+    (Act::Outcome(1), Said::Status(3, ABOVE_MESSAGE)),
+];
+
+const STAMPED_TOO_LONG: Rows = &[
+    (Act::AnswerSevens(1, 4194297), Said::Done),
+    (Act::CarryDown(ALL), Said::Moved),
+    (Act::DeliverDown(ALL), Said::Moved),
+    (Act::Outcome(1), Said::Status(3, ABOVE_LIMIT)),
+];
+
+const LONG_RUN: Run = (
+    Over::Plain,
+    &[ASKED, NO_JOB, TOO_LONG, AT_REST],
+    Rest::Whole(1, 0),
+);
+
+const LONG_STAMPED_RUN: Run = (
+    Over::Stamps,
+    &[ASKED, NO_JOB, STAMPED_TOO_LONG, AT_REST],
+    Rest::Whole(1, 0),
+);
+
+#[test]
+fn a_response_too_long_comes_to_rest(rt: HostRuntime) -> Tested {
+    rest_in(&rt, rt.alloc(), ASYNC[0], &[LONG_RUN])?;
+    rest_in(&rt, rt.alloc(), SYNC[0], &[LONG_STAMPED_RUN])
+}
+
 // ---- traces from which something is kept back
 
-/// The script's trace, brought to rest.
-fn trace_of(alloc: Global, script: &[(Act, Said)]) -> Result<Trace, Fail> {
-    let script = joined(alloc, script, AT_REST)?;
-    let trace = over_plain(alloc, ASYNC[0], events_of(alloc, script.as_slice())?)?;
-    had_memory(trace.as_slice())?;
-    Ok(trace)
+/// At a place of a trace, the act whose reply is another one, and what is told of that.
+type Other = (usize, Act, Said);
+
+/// A script, what is told otherwise in its trace, and what is read then.
+type Fault = (&'static [Rows], &'static [Other], Rest);
+
+/// Another reply for an entry. The first one is let go by a call, so that the proof needn't read how.
+fn put_reply(entry: &mut Entry, reply: Reply) {
+    mem::drop(mem::replace(&mut entry.reply, reply));
 }
 
 /// Another reply at a place.
-fn tamper(trace: &mut Trace, at: usize, reply: Reply) {
-    if let Some(entry) = trace.get_mut(at) {
-        entry.reply = reply;
-    }
-}
-
-/// Such a trace is clean and quiet, and this is wrong with it.
-fn is_found(rt: &impl Abort, alloc: Global, trace: &Trace, rest: Rest) -> Tested {
-    let terms = plain_terms(ASYNC[0].rules);
-    assert!(rt; is_clean(terms.rules, trace.as_slice()));
-    assert!(rt; is_quiet(trace.as_slice()));
-    assert_eq!(rt; read_rest(alloc, terms, trace.as_slice())?, rest);
+fn tamper(alloc: Global, trace: &mut Trace, other: Other) -> Tested {
+    let (at, act, said) = other;
+    let reply = reply_of(alloc, act, said)?;
+    let Some(entry) = trace.get_mut(at) else {
+        return Err("no such entry".into());
+    };
+    put_reply(entry, reply);
     Ok(())
 }
 
-/// The trace of the script with another reply at a place is found.
-fn finds(
-    rt: &impl Abort,
-    alloc: Global,
-    script: &[(Act, Said)],
-    at: usize,
-    reply: Reply,
-    rest: Rest,
-) -> Tested {
-    let mut trace = trace_of(alloc, script)?;
-    tamper(&mut trace, at, reply);
-    is_found(rt, alloc, &trace, rest)
+fn tamper_all(alloc: Global, trace: &mut Trace, others: &[Other]) -> Tested {
+    for other in others {
+        tamper(alloc, trace, *other)?;
+    }
+    Ok(())
 }
 
-/// An outcome that is an error of this code and text.
-fn told_status(alloc: Global, code: i32, text: &str) -> Result<Reply, Fail> {
-    let mut status = Status::new(alloc);
-    status.code = code;
-    status.message = Text::from_str(alloc, text)?;
-    Ok(Reply::Outcome(Some(Err(Error::RpcStatus(status)))))
+/// Such a trace is clean and quiet, and this is wrong with it.
+fn is_found(rt: &impl Abort, alloc: Global, trace: &[Entry], rest: Rest) -> Tested {
+    let terms = terms_of(Over::Plain, ASYNC[0].rules);
+    assert!(rt; is_clean(terms.rules, trace));
+    assert!(rt; is_quiet(trace));
+    is_rest(rt, alloc, terms, trace, rest)
 }
+
+/// The fault is found.
+fn finds(rt: &impl Abort, alloc: Global, fault: &Fault) -> Tested {
+    let (script, others, rest) = *fault;
+    let mut trace = run_script(alloc, Over::Plain, ASYNC[0], script)?;
+    had_memory(trace.as_slice())?;
+    tamper_all(alloc, &mut trace, others)?;
+    is_found(rt, alloc, trace.as_slice(), rest)
+}
+
+/// Each of these is.
+fn finds_all(rt: &impl Abort, alloc: Global, faults: &[Fault]) -> Tested {
+    for fault in faults {
+        finds(rt, alloc, fault)?;
+    }
+    Ok(())
+}
+
+const ANSWERED: &[Rows] = &[ASKED, NO_JOB, GIVEN, AT_REST];
+
+const BROKEN: &[Rows] = &[BROKEN_HANDLER, AT_REST];
 
 /// A response is kept back, or another outcome is given.
+const BROKEN_CALLS: &[Fault] = &[
+    (
+        ANSWERED,
+        &[(8, Act::Outcome(1), Said::Waits)],
+        Rest::BrokenCall,
+    ),
+    (
+        ANSWERED,
+        &[(8, Act::Outcome(1), Said::Payload(b"c"))],
+        Rest::BrokenCall,
+    ),
+    (
+        ANSWERED,
+        &[(8, Act::Outcome(1), Said::Status(2, "eof"))],
+        Rest::BrokenCall,
+    ),
+    (
+        BROKEN,
+        &[(8, Act::Outcome(1), Said::Status(2, ""))],
+        Rest::BrokenCall,
+    ),
+    (
+        BROKEN,
+        &[(8, Act::Outcome(1), Said::Status(3, "eof"))],
+        Rest::BrokenCall,
+    ),
+    (
+        BROKEN,
+        &[(8, Act::Outcome(1), Said::Payload(b"\x2a"))],
+        Rest::BrokenCall,
+    ),
+];
+
 #[test]
 fn calls_that_are_not_whole_are_found(rt: HostRuntime) -> Tested {
-    let alloc = rt.alloc();
-    let broken = Rest::BrokenCall;
-    finds(&rt, alloc, ANSWERED, 8, Reply::Outcome(None), broken)?;
-    let other = Reply::Outcome(Some(Ok(response_of(alloc, b"c")?)));
-    finds(&rt, alloc, ANSWERED, 8, other, broken)?;
-    finds(
-        &rt,
-        alloc,
-        ANSWERED,
-        8,
-        told_status(alloc, 2, "eof")?,
-        broken,
-    )?;
-    finds(
-        &rt,
-        alloc,
-        BROKEN_HANDLER,
-        8,
-        told_status(alloc, 2, "")?,
-        broken,
-    )?;
-    finds(
-        &rt,
-        alloc,
-        BROKEN_HANDLER,
-        8,
-        told_status(alloc, 3, "eof")?,
-        broken,
-    )?;
-    let good = Reply::Outcome(Some(Ok(response_of(alloc, b"\x2a")?)));
-    finds(&rt, alloc, BROKEN_HANDLER, 8, good, broken)
+    finds_all(&rt, rt.alloc(), BROKEN_CALLS)
 }
 
 /// A server runs no handler, and answers by a status.
+const UNRUN_CALL: Fault = (
+    ANSWERED,
+    &[
+        (3, Act::Take, Said::NoJob),
+        (5, Act::Answer(1, b"\x2b"), Said::NoStep),
+        (8, Act::Outcome(1), Said::Status(3, "no")),
+    ],
+    Rest::BrokenCall,
+);
+
 #[test]
 fn a_call_that_is_not_run_is_found(rt: HostRuntime) -> Tested {
-    let alloc = rt.alloc();
-    let mut trace = trace_of(alloc, ANSWERED)?;
-    tamper(&mut trace, 3, Reply::Handed(None));
-    tamper(&mut trace, 5, Reply::NoStep);
-    tamper(&mut trace, 8, told_status(alloc, 3, "no")?);
-    is_found(&rt, alloc, &trace, Rest::BrokenCall)
+    finds(&rt, rt.alloc(), &UNRUN_CALL)
 }
 
-/// An item is kept back, or another one is given.
+const ITEMS_AT_REST: &[Rows] = &[ITEMS, AT_REST];
+
+/// An item is kept back.
+const NO_ITEM: &[Fault] = &[
+    (
+        ITEMS_AT_REST,
+        &[(12, Act::RecvUp(1), Said::Waits)],
+        Rest::BrokenStream,
+    ),
+    (
+        ITEMS_AT_REST,
+        &[(15, Act::RecvUp(1), Said::Waits)],
+        Rest::BrokenStream,
+    ),
+    (
+        ITEMS_AT_REST,
+        &[(16, Act::RecvUp(1), Said::Waits)],
+        Rest::BrokenStream,
+    ),
+    (
+        ITEMS_AT_REST,
+        &[(24, Act::Recv(1), Said::Waits)],
+        Rest::BrokenStream,
+    ),
+    (
+        ITEMS_AT_REST,
+        &[(25, Act::Recv(1), Said::Waits)],
+        Rest::BrokenStream,
+    ),
+    (
+        &[UNCLOSED, AT_REST],
+        &[(7, Act::RecvUp(1), Said::Waits)],
+        Rest::BrokenStream,
+    ),
+    (
+        &[OPEN_MEETS_METHOD, AT_REST],
+        &[(8, Act::Recv(1), Said::Waits)],
+        Rest::BrokenStream,
+    ),
+];
+
+/// Another one is given.
+const OTHER_ITEM: &[Fault] = &[
+    (
+        ITEMS_AT_REST,
+        &[(12, Act::RecvUp(1), Said::Payload(b"e"))],
+        Rest::BrokenStream,
+    ),
+    (
+        ITEMS_AT_REST,
+        &[(15, Act::RecvUp(1), Said::Payload(b"e"))],
+        Rest::BrokenStream,
+    ),
+    (
+        ITEMS_AT_REST,
+        &[(16, Act::RecvUp(1), Said::Payload(b"e"))],
+        Rest::BrokenStream,
+    ),
+    (
+        ITEMS_AT_REST,
+        &[(24, Act::Recv(1), Said::Payload(b"e"))],
+        Rest::BrokenStream,
+    ),
+    (
+        ITEMS_AT_REST,
+        &[(25, Act::Recv(1), Said::Payload(b"e"))],
+        Rest::BrokenStream,
+    ),
+];
+
 #[test]
 fn streams_that_are_not_whole_are_found(rt: HostRuntime) -> Tested {
-    let alloc = rt.alloc();
-    let broken = Rest::BrokenStream;
-    for at in [12, 15, 16, 24, 25] {
-        finds(&rt, alloc, ITEMS, at, Reply::Item(None), broken)?;
-        let other = Blob::from_slice(alloc, b"e")?;
-        finds(&rt, alloc, ITEMS, at, Reply::Item(Some(Ok(other))), broken)?;
-    }
-    finds(&rt, alloc, UNCLOSED, 7, Reply::Item(None), broken)?;
-    finds(&rt, alloc, OPEN_MEETS_METHOD, 8, Reply::Item(None), broken)
+    finds_all(&rt, rt.alloc(), NO_ITEM)?;
+    finds_all(&rt, rt.alloc(), OTHER_ITEM)
 }

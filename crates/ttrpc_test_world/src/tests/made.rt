@@ -1,0 +1,140 @@
+//! Traces that are made by hand, of acts and what is told of their replies.
+
+use crate::tests::script::{Act, Rows, Said, event_of, request_of, response_of};
+use std::alloc::Global;
+use std::test::Fail;
+use ttrpc_frame::MessageHeader;
+use ttrpc_proto::{Error, Status};
+use ttrpc_server::Job;
+use ttrpc_wire::{Blob, Sequence, Text};
+use ttrpc_world::{Entry, Reply, Trace};
+
+fn job_of(
+    alloc: Global,
+    id: u64,
+    stream_id: u32,
+    stream: bool,
+    method: &str,
+    payload: &[u8],
+) -> Result<Reply, Fail> {
+    let request = request_of(alloc, method, payload, 0)?;
+    let header = MessageHeader::new_request(stream_id, 0);
+    Ok(Reply::Handed(Some(Job {
+        id,
+        header,
+        stream,
+        request,
+    })))
+}
+
+/// An outcome that is `Ok` with this payload.
+fn outcome_of(alloc: Global, payload: &[u8]) -> Result<Reply, Fail> {
+    let response = response_of(alloc, payload)?;
+    Ok(Reply::Outcome(Some(Ok(response))))
+}
+
+/// An outcome that is a status of this code and text.
+fn told_status(alloc: Global, code: i32, text: &str) -> Result<Reply, Fail> {
+    let message = Text::from_str(alloc, text)?;
+    let details = Sequence::new(alloc);
+    Ok(Reply::Outcome(Some(Err(Error::RpcStatus(Status {
+        code,
+        message,
+        details,
+    })))))
+}
+
+fn item_of(alloc: Global, item: &[u8]) -> Result<Reply, Fail> {
+    let item = Blob::from_slice(alloc, item)?;
+    Ok(Reply::Item(Some(Ok(item))))
+}
+
+/// In place of an item, an error of a socket.
+fn told_socket(alloc: Global, text: &str) -> Result<Reply, Fail> {
+    let text = Text::from_str(alloc, text)?;
+    Ok(Reply::Item(Some(Err(Error::Socket(text)))))
+}
+
+/// The outcome of a call, as it is told.
+fn told_outcome(alloc: Global, said: Said) -> Result<Reply, Fail> {
+    match said {
+        Said::Payload(payload) => outcome_of(alloc, payload),
+        Said::Status(code, text) => told_status(alloc, code, text),
+        _ => Ok(Reply::Outcome(None)),
+    }
+}
+
+/// What a receiver is told.
+fn told_item(alloc: Global, said: Said) -> Result<Reply, Fail> {
+    match said {
+        Said::Payload(item) => item_of(alloc, item),
+        Said::Socket(text) => told_socket(alloc, text),
+        Said::Eof => Ok(Reply::Item(Some(Err(Error::Eof)))),
+        Said::RemoteClosed => Ok(Reply::Item(Some(Err(Error::RemoteClosed)))),
+        _ => Ok(Reply::Item(None)),
+    }
+}
+
+/// The job that is handed out.
+fn told_job(alloc: Global, said: Said) -> Result<Reply, Fail> {
+    match said {
+        Said::Job(id, stream_id, payload) => job_of(alloc, id, stream_id, false, "Echo", payload),
+        Said::StreamJob(id, stream_id) => job_of(alloc, id, stream_id, true, "Chat", b""),
+        Said::FullStreamJob(id, stream_id, payload) => {
+            job_of(alloc, id, stream_id, true, "Echo", payload)
+        }
+        _ => Ok(Reply::Handed(None)),
+    }
+}
+
+/// Any other reply.
+fn told_plainly(said: Said) -> Reply {
+    match said {
+        Said::Named(id) => Reply::Named(id),
+        Said::Ticket(ticket) => Reply::Ticket(ticket),
+        Said::NoStep => Reply::NoStep,
+        _ => Reply::Done,
+    }
+}
+
+/// The reply to an act, as it is told.
+pub fn reply_of(alloc: Global, act: Act, said: Said) -> Result<Reply, Fail> {
+    match act {
+        Act::Outcome(_) => told_outcome(alloc, said),
+        Act::Recv(_) | Act::RecvUp(_) => told_item(alloc, said),
+        Act::Take => told_job(alloc, said),
+        _ => Ok(told_plainly(said)),
+    }
+}
+
+/// The entry of an act with its reply.
+fn entry_of(alloc: Global, act: Act, said: Said) -> Result<Entry, Fail> {
+    let reply = reply_of(alloc, act, said)?;
+    let event = event_of(alloc, act)?;
+    Ok(Entry { event, reply })
+}
+
+/// One more entry. In a function of its own, since a value that isn't taken is let go here.
+fn push(trace: &mut Trace, entry: Entry) -> Result<(), Fail> {
+    trace.push(entry)?;
+    Ok(())
+}
+
+/// One more entry, if there was memory for it.
+fn push_made(trace: &mut Trace, entry: Result<Entry, Fail>) -> Result<(), Fail> {
+    push(trace, entry?)
+}
+
+fn push_rows(alloc: Global, trace: &mut Trace, rows: Rows) -> Result<(), Fail> {
+    for (act, said) in rows {
+        push_made(trace, entry_of(alloc, *act, *said))?;
+    }
+    Ok(())
+}
+
+/// The trace that rows tell.
+pub fn trace_of(alloc: Global, rows: Rows) -> Result<Trace, Fail> {
+    let mut trace = Vec::new(alloc);
+    push_rows(alloc, &mut trace, rows)?;
+    Ok(trace)
+}
