@@ -9,7 +9,7 @@ use ttrpc_wire::Blob;
 use ttrpc_world::{Entry, Event, Reply, StreamEnd};
 
 /// The items of one call or stream one way: to the server, or to the client.
-#[derive(Clone, Copy, Debug, PartialEq, Eq)]
+#[derive(Clone, Copy, PartialEq, Eq)]
 pub enum Way {
     Up(CallId),
     Down(CallId),
@@ -156,7 +156,7 @@ fn given(trace: &[Entry], before: &[Entry], way: Way) -> usize {
 }
 
 /// What a receiver was told last.
-#[derive(Clone, Copy, Debug, PartialEq, Eq)]
+#[derive(Clone, Copy, PartialEq, Eq)]
 enum Last {
     Item,
     End,

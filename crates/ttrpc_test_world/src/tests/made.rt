@@ -2,6 +2,7 @@
 
 use crate::tests::script::{Act, Rows, Said, event_of, request_of, response_of};
 use std::alloc::Global;
+use std::mem;
 use std::test::Fail;
 use ttrpc_frame::MessageHeader;
 use ttrpc_proto::{Error, Status};
@@ -107,11 +108,16 @@ pub fn reply_of(alloc: Global, act: Act, said: Said) -> Result<Reply, Fail> {
     }
 }
 
-/// The entry of an act with its reply.
+/// The entry of an act with its reply. What isn't needed is let go by a call, so that the proof needn't read how.
 fn entry_of(alloc: Global, act: Act, said: Said) -> Result<Entry, Fail> {
     let reply = reply_of(alloc, act, said)?;
-    let event = event_of(alloc, act)?;
-    Ok(Entry { event, reply })
+    match event_of(alloc, act) {
+        Ok(event) => Ok(Entry { event, reply }),
+        Err(fail) => {
+            mem::drop(reply);
+            Err(fail)
+        }
+    }
 }
 
 /// One more entry. In a function of its own, since a value that isn't taken is let go here.

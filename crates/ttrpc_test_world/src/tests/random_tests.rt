@@ -4,6 +4,7 @@ use crate::tests::gentle::gentle_by;
 use crate::tests::lists::{Counts, NONE, Order, has_unknown_sender, read_lists};
 use crate::tests::made::trace_of;
 use crate::tests::plainly::{Finding, read_headline};
+use crate::tests::rows_tests::has_finding;
 use crate::tests::script::{
     Act, Over, Rows, Said, Ways, answer, call, end_with, open, put, put_made, put_times, respond,
     run_over, send,
@@ -29,17 +30,6 @@ const LISTS: usize = 1250;
 
 const EVENTS: usize = 64;
 
-/// A response with this status, or with none.
-fn answer_as(
-    alloc: Global,
-    job: u64,
-    status: Option<Status>,
-    payload: &[u8],
-) -> Result<Event, Fail> {
-    let payload = Blob::from_slice(alloc, payload)?;
-    Ok(Event::Answer(job, Ok(Response { status, payload })))
-}
-
 /// A status that says that the call didn't end well.
 fn bad_status(alloc: Global) -> Status {
     Status {
@@ -49,13 +39,20 @@ fn bad_status(alloc: Global) -> Status {
     }
 }
 
+/// An answer without a status, or with a bad one.
+fn odd_answer(alloc: Global, job: u64, bad: bool, payload: &[u8]) -> Result<Event, Fail> {
+    let payload = Blob::from_slice(alloc, payload)?;
+    let status = if bad { Some(bad_status(alloc)) } else { None };
+    Ok(Event::Answer(job, Ok(Response { status, payload })))
+}
+
 /// What a handler gives: mostly a response that is OK.
 pub fn answer_by(alloc: Global, chance: &mut Chance, job: u64) -> Result<Event, Fail> {
     let payload = [chance.below(256) as u8];
     match chance.below(40) {
         0 => Ok(Event::Answer(job, Err(Error::Eof))),
-        1 => answer_as(alloc, job, None, &payload),
-        2 => answer_as(alloc, job, Some(bad_status(alloc)), &payload),
+        1 => odd_answer(alloc, job, false, &payload),
+        2 => odd_answer(alloc, job, true, &payload),
         _ => answer(alloc, job, &payload),
     }
 }
@@ -445,7 +442,7 @@ const GIVEN: (Act, Said) = (Act::Outcome(1), Said::Payload(b"a"));
 /// The plain program sees this fault in such a trace.
 fn is_found(rt: &impl Abort, alloc: Global, finding: Finding, rows: Rows) -> Tested {
     let trace = trace_of(alloc, rows)?;
-    assert_eq!(rt; read_headline(trace.as_slice()), finding);
+    has_finding(rt, trace.as_slice(), finding);
     Ok(())
 }
 

@@ -34,6 +34,26 @@ pub const ASYNC: [Ways; 2] = [
     },
 ];
 
+/// Both kinds of client, to a server with either rules.
+pub const ALL: [Ways; 4] = [
+    Ways {
+        kind: ClientKind::Sync,
+        rules: Rules::Sync,
+    },
+    Ways {
+        kind: ClientKind::Async,
+        rules: Rules::Sync,
+    },
+    Ways {
+        kind: ClientKind::Sync,
+        rules: Rules::Async,
+    },
+    Ways {
+        kind: ClientKind::Async,
+        rules: Rules::Async,
+    },
+];
+
 /// The async client, to a server with sync rules and to one with async rules.
 const ASYNC_CLIENT: [Ways; 2] = [
     Ways {
@@ -412,11 +432,26 @@ pub type Table = (&'static [Ways], &'static [Script]);
 /// A script and its halves. Its rows follow one another.
 pub type Script = (Over, &'static [Rows]);
 
+/// This is found in the trace.
+pub fn has_finding(rt: &impl Abort, trace: &[Entry], finding: Finding) {
+    assert_eq!(rt; read_headline(trace), finding);
+}
+
+/// Each reply is the one of the script.
+pub fn has_replies(rt: &impl Abort, trace: &[Entry], script: &[Rows]) {
+    assert_eq!(rt; first_fault(trace, script), None);
+}
+
+/// The headline holds of the trace.
+fn is_whole(trace: &[Entry]) -> bool {
+    matches!(read_headline(trace), Finding::Whole(_))
+}
+
 /// The headline holds of the trace, and each reply is the one of the script.
 fn is_told(rt: &impl Abort, trace: &[Entry], script: &[Rows]) -> Tested {
-    assert!(rt; matches!(read_headline(trace), Finding::Whole(_)));
+    assert!(rt; is_whole(trace));
     had_memory(trace)?;
-    assert_eq!(rt; first_fault(trace, script), None);
+    has_replies(rt, trace, script);
     Ok(())
 }
 
@@ -456,7 +491,7 @@ const CALLS: &[Script] = &[
 
 #[test]
 fn a_call_is_answered(rt: HostRuntime) -> Tested {
-    are_told(&rt, rt.alloc(), &[(&SYNC, CALLS), (&ASYNC, CALLS)])
+    are_told(&rt, rt.alloc(), &[(&ALL, CALLS)])
 }
 
 const RESPONSES: &[Script] = &[
@@ -474,7 +509,7 @@ const CUTS: &[Script] = &[(Over::Plain, &[CUT_INSIDE]), (Over::Plain, &[CUT_BEFO
 
 #[test]
 fn pipes_are_cut(rt: HostRuntime) -> Tested {
-    are_told(&rt, rt.alloc(), &[(&SYNC, CUTS), (&ASYNC, CUTS)])
+    are_told(&rt, rt.alloc(), &[(&ALL, CUTS)])
 }
 
 const LATE_ANSWERS: &[Script] = &[
@@ -502,11 +537,7 @@ const EXPIRED_REQUESTS: &[Script] = &[(Over::Plain, &[EXPIRES_INSIDE])];
 
 const SEALED_REQUESTS: &[Script] = &[(Over::Stamps, &[SEALED_EXPIRES_INSIDE])];
 
-const EXPIRED_TABLES: &[Table] = &[
-    (&ASYNC_CLIENT, EXPIRED_REQUESTS),
-    (&SYNC, SEALED_REQUESTS),
-    (&ASYNC, SEALED_REQUESTS),
-];
+const EXPIRED_TABLES: &[Table] = &[(&ASYNC_CLIENT, EXPIRED_REQUESTS), (&ALL, SEALED_REQUESTS)];
 
 #[test]
 fn a_request_expires_inside_its_frame(rt: HostRuntime) -> Tested {
@@ -523,16 +554,10 @@ fn a_request_that_has_not_begun_is_thrown_away(rt: HostRuntime) -> Tested {
 const NO_STEP_TABLES: &[Table] = &[
     (
         &SYNC,
-        &[
-            (Over::Plain, &[NO_STEPS]),
-            (Over::Plain, &[FAILED]),
-            (Over::Plain, &[SYNC_NO_STEPS]),
-        ],
+        &[(Over::Plain, &[NO_STEPS]), (Over::Plain, &[SYNC_NO_STEPS])],
     ),
-    (
-        &ASYNC,
-        &[(Over::Plain, &[FAILED]), (Over::Plain, &[ASYNC_NO_STEPS])],
-    ),
+    (&ASYNC, &[(Over::Plain, &[ASYNC_NO_STEPS])]),
+    (&ALL, &[(Over::Plain, &[FAILED])]),
 ];
 
 #[test]
@@ -544,7 +569,7 @@ const DRAINS: &[Script] = &[(Over::Plain, &[DRAINED])];
 
 #[test]
 fn a_server_drains(rt: HostRuntime) -> Tested {
-    are_told(&rt, rt.alloc(), &[(&SYNC, DRAINS), (&ASYNC, DRAINS)])
+    are_told(&rt, rt.alloc(), &[(&ALL, DRAINS)])
 }
 
 /// A call whose bytes are carried and delivered one by one, once more than there are.
@@ -577,7 +602,7 @@ const BYTES: &[Script] = &[
 /// One call was answered.
 fn ends_well(rt: &impl Abort, trace: &[Entry]) -> Tested {
     had_memory(trace)?;
-    assert_eq!(rt; read_headline(trace), Finding::Whole(1));
+    has_finding(rt, trace, Finding::Whole(1));
     Ok(())
 }
 

@@ -239,7 +239,7 @@ fn is_asked_for(trace: &[Entry], id: CallId) -> bool {
 }
 
 /// What was read of a call so far.
-#[derive(Clone, Copy, Debug)]
+#[derive(Clone, Copy)]
 enum Read {
     Nothing,
     Called,

@@ -1,9 +1,12 @@
 //! Runs that are clean and quiet, and whole; runs of which nothing is said; and traces from which something is kept back.
 
-use crate::tests::lists::{Counts, Order, read_lists};
+use crate::tests::lists::{Counts, Order};
+use crate::tests::lists_tests::has_order;
 use crate::tests::made::reply_of;
-use crate::tests::rows_tests::{ASYNC, ONE_CALL, ONE_RESPONSE, ONE_STAMPED_CALL, SYNC, Tested};
-use crate::tests::script::{Act, Over, Rows, Said, Ways, first_fault, had_memory, run_script};
+use crate::tests::rows_tests::{
+    ALL as ALL_WAYS, ASYNC, ONE_CALL, ONE_RESPONSE, ONE_STAMPED_CALL, SYNC, Tested, has_replies,
+};
+use crate::tests::script::{Act, Over, Rows, Said, Ways, had_memory, run_script};
 use crate::tests::streams_tests::{MOVED, QUEUED, RECEIVED, STAMPED_MOVED};
 use crate::tests::told::{Terms, terms_of};
 use crate::tests::whole::{Rest, is_clean, is_quiet, read_rest};
@@ -11,7 +14,6 @@ use std::alloc::Global;
 use std::mem;
 use std::process::Abort;
 use std::test::Fail;
-use ttrpc_server::Rules;
 use ttrpc_world::{Entry, Reply, Trace};
 
 /// Bytes enough for any frame here but the longest.
@@ -33,23 +35,38 @@ const AT_REST_TOO: Rows = &[
     (Act::DeliverUp(6), Said::Count(0)),
 ];
 
-/// A call is made, and its job taken.
-const ASKED: Rows = &[
+/// A call is answered.
+const ANSWERED: Rows = &[
     (Act::Call(b"\x2a", 0), Said::Named(1)),
     (Act::CarryUp(ALL), Said::Moved),
     (Act::DeliverUp(ALL), Said::Moved),
     (Act::Take, Said::Job(1, 1, b"\x2a")),
-];
-
-/// No other one waits.
-const NO_JOB: Rows = &[(Act::Take, Said::NoJob)];
-
-/// The call is answered.
-const GIVEN: Rows = &[
+    (Act::Take, Said::NoJob),
     (Act::Answer(1, b"\x2b"), Said::Done),
     (Act::CarryDown(ALL), Said::Moved),
     (Act::DeliverDown(ALL), Said::Moved),
     (Act::Outcome(1), Said::Payload(b"\x2b")),
+];
+
+/// The same without the last try for a job.
+const UNTAKEN: Rows = &[
+    (Act::Call(b"\x2a", 0), Said::Named(1)),
+    (Act::CarryUp(ALL), Said::Moved),
+    (Act::DeliverUp(ALL), Said::Moved),
+    (Act::Take, Said::Job(1, 1, b"\x2a")),
+    (Act::Answer(1, b"\x2b"), Said::Done),
+    (Act::CarryDown(ALL), Said::Moved),
+    (Act::DeliverDown(ALL), Said::Moved),
+    (Act::Outcome(1), Said::Payload(b"\x2b")),
+];
+
+/// And without its answer.
+const UNANSWERED: Rows = &[
+    (Act::Call(b"\x2a", 0), Said::Named(1)),
+    (Act::CarryUp(ALL), Said::Moved),
+    (Act::DeliverUp(ALL), Said::Moved),
+    (Act::Take, Said::Job(1, 1, b"\x2a")),
+    (Act::Take, Said::NoJob),
 ];
 
 /// It is answered by a response, under sync rules.
@@ -223,8 +240,11 @@ const ENDED: Rows = &[
 
 // ---- what is read of runs
 
-/// A script, and what is read of its trace.
-type Run = (Over, &'static [Rows], Rest);
+/// A script, and what is read of its trace once nothing more moves.
+type Run = (Rows, Rest);
+
+/// A script that says itself that nothing more moves, the halves that it runs over, and what is read of its trace.
+type Whole = (Over, Rows, Rest);
 
 /// This is read of a trace.
 fn is_rest(rt: &impl Abort, alloc: Global, terms: Terms, trace: &[Entry], rest: Rest) -> Tested {
@@ -243,184 +263,157 @@ fn reads(
     rest: Rest,
 ) -> Tested {
     had_memory(trace)?;
-    assert_eq!(rt; first_fault(trace, script), None);
+    has_replies(rt, trace, script);
     is_rest(rt, alloc, terms, trace, rest)
 }
 
-/// The same of a run, under these rules.
-fn rests_under(rt: &impl Abort, alloc: Global, rules: Rules, ways: Ways, run: &Run) -> Tested {
-    let (over, script, rest) = *run;
+/// The same of a run over these halves.
+fn rests_over(
+    rt: &impl Abort,
+    alloc: Global,
+    over: Over,
+    ways: Ways,
+    script: &[Rows],
+    rest: Rest,
+) -> Tested {
     let trace = run_script(alloc, over, ways, script)?;
-    let terms = terms_of(over, rules);
+    let terms = terms_of(over, ways.rules);
     reads(rt, alloc, terms, trace.as_slice(), script, rest)
 }
 
+/// The same of two scripts, one behind the other, over both halves, once nothing more moves.
+fn rests_behind(
+    rt: &impl Abort,
+    alloc: Global,
+    ways: Ways,
+    first: Rows,
+    then: Rows,
+    rest: Rest,
+) -> Tested {
+    let script = [first, then, AT_REST];
+    rests_over(rt, alloc, Over::Plain, ways, &script, rest)?;
+    let script = [first, then, AT_REST_TOO];
+    rests_over(rt, alloc, Over::Stamps, ways, &script, rest)
+}
+
 /// The same of each of these runs.
-fn rest_in(rt: &impl Abort, alloc: Global, ways: Ways, runs: &[Run]) -> Tested {
-    for run in runs {
-        rests_under(rt, alloc, ways.rules, ways, run)?;
+fn rests_in(rt: &impl Abort, alloc: Global, ways: Ways, runs: &[Run]) -> Tested {
+    for (rows, rest) in runs {
+        rests_behind(rt, alloc, ways, rows, &[], *rest)?;
     }
     Ok(())
 }
 
 /// The same in each of these ways.
-fn rest(rt: &impl Abort, alloc: Global, all: &[Ways], runs: &[Run]) -> Tested {
+fn rests(rt: &impl Abort, alloc: Global, all: &[Ways], runs: &[Run]) -> Tested {
     for ways in all {
-        rest_in(rt, alloc, *ways, runs)?;
+        rests_in(rt, alloc, *ways, runs)?;
     }
     Ok(())
 }
 
+/// Each of these scripts comes to rest by itself.
+fn rests_itself_in(rt: &impl Abort, alloc: Global, ways: Ways, runs: &[Whole]) -> Tested {
+    for (over, rows, rest) in runs {
+        rests_over(rt, alloc, *over, ways, &[*rows], *rest)?;
+    }
+    Ok(())
+}
+
+/// The same in each of these ways.
+fn rests_itself(rt: &impl Abort, alloc: Global, all: &[Ways], runs: &[Whole]) -> Tested {
+    for ways in all {
+        rests_itself_in(rt, alloc, *ways, runs)?;
+    }
+    Ok(())
+}
+
+const WHOLE_CALLS: &[Whole] = &[
+    (Over::Plain, ONE_CALL, Rest::Whole(1, 0)),
+    (Over::Stamps, ONE_STAMPED_CALL, Rest::Whole(1, 0)),
+];
+
 const CALLS: &[Run] = &[
-    (Over::Plain, &[ONE_CALL], Rest::Whole(1, 0)),
-    (Over::Stamps, &[ONE_STAMPED_CALL], Rest::Whole(1, 0)),
-    (
-        Over::Plain,
-        &[ASKED, NO_JOB, GIVEN, AT_REST],
-        Rest::Whole(1, 0),
-    ),
-    (
-        Over::Stamps,
-        &[ASKED, NO_JOB, GIVEN, AT_REST_TOO],
-        Rest::Whole(1, 0),
-    ),
-    (Over::Plain, &[KEPT_TIMEOUT, AT_REST], Rest::Whole(2, 0)),
-    (
-        Over::Stamps,
-        &[KEPT_TIMEOUT, AT_REST_TOO],
-        Rest::Whole(2, 0),
-    ),
-    (Over::Plain, &[ASKED_EARLY, AT_REST], Rest::Whole(0, 0)),
-    (Over::Stamps, &[ASKED_EARLY, AT_REST_TOO], Rest::Whole(0, 0)),
-    (Over::Plain, &[LATE, AT_REST], Rest::Unsaid),
-    (Over::Stamps, &[LATE, AT_REST_TOO], Rest::Unsaid),
+    (ANSWERED, Rest::Whole(1, 0)),
+    (KEPT_TIMEOUT, Rest::Whole(2, 0)),
+    (ASKED_EARLY, Rest::Whole(0, 0)),
+    (LATE, Rest::Unsaid),
 ];
 
 #[test]
 fn a_call_comes_to_rest(rt: HostRuntime) -> Tested {
-    rest(&rt, rt.alloc(), &SYNC, CALLS)?;
-    rest(&rt, rt.alloc(), &ASYNC, CALLS)
+    rests_itself(&rt, rt.alloc(), &ALL_WAYS, WHOLE_CALLS)?;
+    rests(&rt, rt.alloc(), &ALL_WAYS, CALLS)
 }
 
-const RESPONSES: &[Run] = &[
-    (Over::Plain, &[ONE_RESPONSE], Rest::Whole(1, 0)),
-    (Over::Plain, &[RESPONDED, AT_REST], Rest::Whole(1, 0)),
-    (Over::Stamps, &[RESPONDED, AT_REST_TOO], Rest::Whole(1, 0)),
-];
+const WHOLE_RESPONSES: &[Whole] = &[(Over::Plain, ONE_RESPONSE, Rest::Whole(1, 0))];
 
 #[test]
 fn a_response_comes_to_rest(rt: HostRuntime) -> Tested {
-    rest(&rt, rt.alloc(), &SYNC, RESPONSES)
+    rests_itself(&rt, rt.alloc(), &SYNC, WHOLE_RESPONSES)?;
+    rests(&rt, rt.alloc(), &SYNC, &[(RESPONDED, Rest::Whole(1, 0))])
 }
 
-const ERRORS: &[Run] = &[
-    (Over::Plain, &[BROKEN_HANDLER, AT_REST], Rest::Whole(1, 0)),
-    (
-        Over::Stamps,
-        &[BROKEN_HANDLER, AT_REST_TOO],
-        Rest::Whole(1, 0),
-    ),
-];
-
-const UNSAID_ERROR: Run = (Over::Plain, &[BROKEN_HANDLER, AT_REST], Rest::Unsaid);
+/// Under sync rules nothing would be said of this run.
+fn is_unsaid_under_sync_rules(rt: &impl Abort, alloc: Global, script: &[Rows]) -> Tested {
+    let trace = run_script(alloc, Over::Plain, ASYNC[0], script)?;
+    let terms = terms_of(Over::Plain, SYNC[0].rules);
+    reads(rt, alloc, terms, trace.as_slice(), script, Rest::Unsaid)
+}
 
 /// Under sync rules nothing is said where a handler gives an error.
 #[test]
 fn an_error_comes_to_rest_under_async_rules(rt: HostRuntime) -> Tested {
-    rest(&rt, rt.alloc(), &ASYNC, ERRORS)?;
-    rests_under(&rt, rt.alloc(), Rules::Sync, ASYNC[0], &UNSAID_ERROR)
+    rests(
+        &rt,
+        rt.alloc(),
+        &ASYNC,
+        &[(BROKEN_HANDLER, Rest::Whole(1, 0))],
+    )?;
+    is_unsaid_under_sync_rules(&rt, rt.alloc(), &[BROKEN_HANDLER, AT_REST])
 }
 
 const STREAMS: &[Run] = &[
-    (Over::Plain, &[ITEMS, AT_REST], Rest::Whole(0, 2)),
-    (Over::Stamps, &[ITEMS, AT_REST_TOO], Rest::Whole(0, 2)),
-    (Over::Plain, &[UNCLOSED, AT_REST], Rest::Whole(0, 2)),
-    (Over::Stamps, &[UNCLOSED, AT_REST_TOO], Rest::Whole(0, 2)),
-    (Over::Plain, &[UNASKED, AT_REST], Rest::Whole(0, 1)),
-    (Over::Stamps, &[UNASKED, AT_REST_TOO], Rest::Whole(0, 1)),
+    (ITEMS, Rest::Whole(0, 2)),
+    (UNCLOSED, Rest::Whole(0, 2)),
+    (UNASKED, Rest::Whole(0, 1)),
 ];
 
-const MEETINGS: &[Run] = &[
-    (
-        Over::Plain,
-        &[OPEN_MEETS_METHOD, AT_REST],
-        Rest::Whole(0, 1),
-    ),
-    (
-        Over::Stamps,
-        &[OPEN_MEETS_METHOD, AT_REST_TOO],
-        Rest::Whole(0, 1),
-    ),
-];
+const MEETINGS: &[Run] = &[(OPEN_MEETS_METHOD, Rest::Whole(0, 1))];
 
 #[test]
 fn streams_come_to_rest(rt: HostRuntime) -> Tested {
-    rest(&rt, rt.alloc(), &ASYNC, STREAMS)?;
-    rest(&rt, rt.alloc(), &SYNC, MEETINGS)?;
-    rest(&rt, rt.alloc(), &ASYNC, MEETINGS)
+    rests(&rt, rt.alloc(), &ASYNC, STREAMS)?;
+    rests(&rt, rt.alloc(), &ALL_WAYS, MEETINGS)
 }
 
-/// Acts by which nothing is said of a run, though its call is answered, and nothing moves in the end.
-const DROPS: Rows = &[(Act::DropCall(1), Said::Done)];
-
-const DRAINS: Rows = &[(Act::Drain, Said::Done)];
-
-const SENDS: Rows = &[(Act::Send(1, b"a"), Said::Others("unknown stream"))];
-
-const RECEIVES: Rows = &[(Act::Recv(1), Said::Others("unknown stream"))];
-
-/// Runs with one of them, without the last try for a job, or without an answer; and one that nothing says is at rest.
-const UNSAID: &[Run] = &[
-    (
-        Over::Plain,
-        &[ASKED, NO_JOB, GIVEN, DROPS, AT_REST],
-        Rest::Unsaid,
-    ),
-    (
-        Over::Stamps,
-        &[ASKED, NO_JOB, GIVEN, DROPS, AT_REST_TOO],
-        Rest::Unsaid,
-    ),
-    (
-        Over::Plain,
-        &[ASKED, NO_JOB, GIVEN, DRAINS, AT_REST],
-        Rest::Unsaid,
-    ),
-    (
-        Over::Stamps,
-        &[ASKED, NO_JOB, GIVEN, DRAINS, AT_REST_TOO],
-        Rest::Unsaid,
-    ),
-    (
-        Over::Plain,
-        &[ASKED, NO_JOB, GIVEN, SENDS, AT_REST],
-        Rest::Unsaid,
-    ),
-    (
-        Over::Stamps,
-        &[ASKED, NO_JOB, GIVEN, SENDS, AT_REST_TOO],
-        Rest::Unsaid,
-    ),
-    (
-        Over::Plain,
-        &[ASKED, NO_JOB, GIVEN, RECEIVES, AT_REST],
-        Rest::Unsaid,
-    ),
-    (
-        Over::Stamps,
-        &[ASKED, NO_JOB, GIVEN, RECEIVES, AT_REST_TOO],
-        Rest::Unsaid,
-    ),
-    (Over::Plain, &[ASKED, GIVEN, AT_REST], Rest::Unsaid),
-    (Over::Stamps, &[ASKED, GIVEN, AT_REST_TOO], Rest::Unsaid),
-    (Over::Plain, &[ASKED, NO_JOB, AT_REST], Rest::Unsaid),
-    (Over::Stamps, &[ASKED, NO_JOB, AT_REST_TOO], Rest::Unsaid),
-    (Over::Plain, &[ASKED, NO_JOB, GIVEN], Rest::Unsaid),
+/// Nothing is said of a run with one of these acts, though its call is answered, and nothing moves in the end.
+const UNSAID: &[Rows] = &[
+    &[(Act::DropCall(1), Said::Done)],
+    &[(Act::Drain, Said::Done)],
+    &[(Act::Send(1, b"a"), Said::Others("unknown stream"))],
+    &[(Act::Recv(1), Said::Others("unknown stream"))],
 ];
+
+/// Nor of one whose call is answered, with one of these acts.
+fn are_unsaid(rt: &impl Abort, alloc: Global, acts: &[Rows]) -> Tested {
+    for act in acts {
+        rests_behind(rt, alloc, ASYNC[0], ANSWERED, act, Rest::Unsaid)?;
+    }
+    Ok(())
+}
+
+/// Nor of one without the last try for a job, or without an answer.
+const UNDONE: &[Run] = &[(UNTAKEN, Rest::Unsaid), (UNANSWERED, Rest::Unsaid)];
+
+/// Nor of one that doesn't say that nothing more moves.
+const RESTLESS: &[Whole] = &[(Over::Plain, ANSWERED, Rest::Unsaid)];
 
 #[test]
 fn nothing_is_said_of_other_runs(rt: HostRuntime) -> Tested {
-    rest_in(&rt, rt.alloc(), ASYNC[0], UNSAID)
+    are_unsaid(&rt, rt.alloc(), UNSAID)?;
+    rests_in(&rt, rt.alloc(), ASYNC[0], UNDONE)?;
+    rests_itself_in(&rt, rt.alloc(), ASYNC[0], RESTLESS)
 }
 
 /// Items are moved up byte by byte, their stream ends, and nothing more moves.
@@ -452,7 +445,7 @@ fn is_given(rt: &impl Abort, alloc: Global, ways: Ways, over: Over, script: &[Ro
         script,
         Rest::Whole(0, 2),
     )?;
-    assert_eq!(rt; read_lists(trace.as_slice()), Order::Kept(THREE_ITEMS));
+    has_order(rt, trace.as_slice(), Order::Kept(THREE_ITEMS));
     Ok(())
 }
 
@@ -493,22 +486,16 @@ const STAMPED_TOO_LONG: Rows = &[
     (Act::Outcome(1), Said::Status(3, ABOVE_LIMIT)),
 ];
 
-const LONG_RUN: Run = (
-    Over::Plain,
-    &[ASKED, NO_JOB, TOO_LONG, AT_REST],
-    Rest::Whole(1, 0),
-);
-
-const LONG_STAMPED_RUN: Run = (
-    Over::Stamps,
-    &[ASKED, NO_JOB, STAMPED_TOO_LONG, AT_REST],
-    Rest::Whole(1, 0),
-);
+/// The run is whole.
+fn is_replaced(rt: &impl Abort, alloc: Global, over: Over, ways: Ways, answer: Rows) -> Tested {
+    let script = [UNANSWERED, answer, AT_REST];
+    rests_over(rt, alloc, over, ways, &script, Rest::Whole(1, 0))
+}
 
 #[test]
 fn a_response_too_long_comes_to_rest(rt: HostRuntime) -> Tested {
-    rest_in(&rt, rt.alloc(), ASYNC[0], &[LONG_RUN])?;
-    rest_in(&rt, rt.alloc(), SYNC[0], &[LONG_STAMPED_RUN])
+    is_replaced(&rt, rt.alloc(), Over::Plain, ASYNC[0], TOO_LONG)?;
+    is_replaced(&rt, rt.alloc(), Over::Stamps, SYNC[0], STAMPED_TOO_LONG)
 }
 
 // ---- traces from which something is kept back
@@ -516,8 +503,8 @@ fn a_response_too_long_comes_to_rest(rt: HostRuntime) -> Tested {
 /// At a place of a trace, the act whose reply is another one, and what is told of that.
 type Other = (usize, Act, Said);
 
-/// A script, what is told otherwise in its trace, and what is read then.
-type Fault = (&'static [Rows], &'static [Other], Rest);
+/// A script, each way in which its trace is told otherwise, and what is read then.
+type Fault = (Rows, &'static [&'static [Other]], Rest);
 
 /// Another reply for an entry. The first one is let go by a call, so that the proof needn't read how.
 fn put_reply(entry: &mut Entry, reply: Reply) {
@@ -550,57 +537,48 @@ fn is_found(rt: &impl Abort, alloc: Global, trace: &[Entry], rest: Rest) -> Test
     is_rest(rt, alloc, terms, trace, rest)
 }
 
-/// The fault is found.
-fn finds(rt: &impl Abort, alloc: Global, fault: &Fault) -> Tested {
-    let (script, others, rest) = *fault;
-    let mut trace = run_script(alloc, Over::Plain, ASYNC[0], script)?;
+/// What is wrong with the trace that is told otherwise is found.
+fn finds(rt: &impl Abort, alloc: Global, rows: Rows, others: &[Other], rest: Rest) -> Tested {
+    let mut trace = run_script(alloc, Over::Plain, ASYNC[0], &[rows, AT_REST])?;
     had_memory(trace.as_slice())?;
     tamper_all(alloc, &mut trace, others)?;
     is_found(rt, alloc, trace.as_slice(), rest)
 }
 
-/// Each of these is.
-fn finds_all(rt: &impl Abort, alloc: Global, faults: &[Fault]) -> Tested {
-    for fault in faults {
-        finds(rt, alloc, fault)?;
+/// It is in each way.
+fn finds_each(rt: &impl Abort, alloc: Global, fault: &Fault) -> Tested {
+    let (rows, each, rest) = *fault;
+    for others in each {
+        finds(rt, alloc, rows, others, rest)?;
     }
     Ok(())
 }
 
-const ANSWERED: &[Rows] = &[ASKED, NO_JOB, GIVEN, AT_REST];
-
-const BROKEN: &[Rows] = &[BROKEN_HANDLER, AT_REST];
+fn finds_all(rt: &impl Abort, alloc: Global, faults: &[Fault]) -> Tested {
+    for fault in faults {
+        finds_each(rt, alloc, fault)?;
+    }
+    Ok(())
+}
 
 /// A response is kept back, or another outcome is given.
 const BROKEN_CALLS: &[Fault] = &[
     (
         ANSWERED,
-        &[(8, Act::Outcome(1), Said::Waits)],
+        &[
+            &[(8, Act::Outcome(1), Said::Waits)],
+            &[(8, Act::Outcome(1), Said::Payload(b"c"))],
+            &[(8, Act::Outcome(1), Said::Status(2, "eof"))],
+        ],
         Rest::BrokenCall,
     ),
     (
-        ANSWERED,
-        &[(8, Act::Outcome(1), Said::Payload(b"c"))],
-        Rest::BrokenCall,
-    ),
-    (
-        ANSWERED,
-        &[(8, Act::Outcome(1), Said::Status(2, "eof"))],
-        Rest::BrokenCall,
-    ),
-    (
-        BROKEN,
-        &[(8, Act::Outcome(1), Said::Status(2, ""))],
-        Rest::BrokenCall,
-    ),
-    (
-        BROKEN,
-        &[(8, Act::Outcome(1), Said::Status(3, "eof"))],
-        Rest::BrokenCall,
-    ),
-    (
-        BROKEN,
-        &[(8, Act::Outcome(1), Said::Payload(b"\x2a"))],
+        BROKEN_HANDLER,
+        &[
+            &[(8, Act::Outcome(1), Said::Status(2, ""))],
+            &[(8, Act::Outcome(1), Said::Status(3, "eof"))],
+            &[(8, Act::Outcome(1), Said::Payload(b"\x2a"))],
+        ],
         Rest::BrokenCall,
     ),
 ];
@@ -611,93 +589,48 @@ fn calls_that_are_not_whole_are_found(rt: HostRuntime) -> Tested {
 }
 
 /// A server runs no handler, and answers by a status.
-const UNRUN_CALL: Fault = (
-    ANSWERED,
-    &[
-        (3, Act::Take, Said::NoJob),
-        (5, Act::Answer(1, b"\x2b"), Said::NoStep),
-        (8, Act::Outcome(1), Said::Status(3, "no")),
-    ],
-    Rest::BrokenCall,
-);
+const UNRUN_CALL: &[Other] = &[
+    (3, Act::Take, Said::NoJob),
+    (5, Act::Answer(1, b"\x2b"), Said::NoStep),
+    (8, Act::Outcome(1), Said::Status(3, "no")),
+];
 
 #[test]
 fn a_call_that_is_not_run_is_found(rt: HostRuntime) -> Tested {
-    finds(&rt, rt.alloc(), &UNRUN_CALL)
+    finds(&rt, rt.alloc(), ANSWERED, UNRUN_CALL, Rest::BrokenCall)
 }
 
-const ITEMS_AT_REST: &[Rows] = &[ITEMS, AT_REST];
-
-/// An item is kept back.
-const NO_ITEM: &[Fault] = &[
+/// An item is kept back, or another one is given.
+const BROKEN_STREAMS: &[Fault] = &[
     (
-        ITEMS_AT_REST,
-        &[(12, Act::RecvUp(1), Said::Waits)],
+        ITEMS,
+        &[
+            &[(12, Act::RecvUp(1), Said::Waits)],
+            &[(12, Act::RecvUp(1), Said::Payload(b"e"))],
+            &[(15, Act::RecvUp(1), Said::Waits)],
+            &[(15, Act::RecvUp(1), Said::Payload(b"e"))],
+            &[(16, Act::RecvUp(1), Said::Waits)],
+            &[(16, Act::RecvUp(1), Said::Payload(b"e"))],
+            &[(24, Act::Recv(1), Said::Waits)],
+            &[(24, Act::Recv(1), Said::Payload(b"e"))],
+            &[(25, Act::Recv(1), Said::Waits)],
+            &[(25, Act::Recv(1), Said::Payload(b"e"))],
+        ],
         Rest::BrokenStream,
     ),
     (
-        ITEMS_AT_REST,
-        &[(15, Act::RecvUp(1), Said::Waits)],
+        UNCLOSED,
+        &[&[(7, Act::RecvUp(1), Said::Waits)]],
         Rest::BrokenStream,
     ),
     (
-        ITEMS_AT_REST,
-        &[(16, Act::RecvUp(1), Said::Waits)],
-        Rest::BrokenStream,
-    ),
-    (
-        ITEMS_AT_REST,
-        &[(24, Act::Recv(1), Said::Waits)],
-        Rest::BrokenStream,
-    ),
-    (
-        ITEMS_AT_REST,
-        &[(25, Act::Recv(1), Said::Waits)],
-        Rest::BrokenStream,
-    ),
-    (
-        &[UNCLOSED, AT_REST],
-        &[(7, Act::RecvUp(1), Said::Waits)],
-        Rest::BrokenStream,
-    ),
-    (
-        &[OPEN_MEETS_METHOD, AT_REST],
-        &[(8, Act::Recv(1), Said::Waits)],
-        Rest::BrokenStream,
-    ),
-];
-
-/// Another one is given.
-const OTHER_ITEM: &[Fault] = &[
-    (
-        ITEMS_AT_REST,
-        &[(12, Act::RecvUp(1), Said::Payload(b"e"))],
-        Rest::BrokenStream,
-    ),
-    (
-        ITEMS_AT_REST,
-        &[(15, Act::RecvUp(1), Said::Payload(b"e"))],
-        Rest::BrokenStream,
-    ),
-    (
-        ITEMS_AT_REST,
-        &[(16, Act::RecvUp(1), Said::Payload(b"e"))],
-        Rest::BrokenStream,
-    ),
-    (
-        ITEMS_AT_REST,
-        &[(24, Act::Recv(1), Said::Payload(b"e"))],
-        Rest::BrokenStream,
-    ),
-    (
-        ITEMS_AT_REST,
-        &[(25, Act::Recv(1), Said::Payload(b"e"))],
+        OPEN_MEETS_METHOD,
+        &[&[(8, Act::Recv(1), Said::Waits)]],
         Rest::BrokenStream,
     ),
 ];
 
 #[test]
 fn streams_that_are_not_whole_are_found(rt: HostRuntime) -> Tested {
-    finds_all(&rt, rt.alloc(), NO_ITEM)?;
-    finds_all(&rt, rt.alloc(), OTHER_ITEM)
+    finds_all(&rt, rt.alloc(), BROKEN_STREAMS)
 }
