@@ -3,13 +3,11 @@
 
 use crate::tests::chance::Chance;
 use crate::tests::random_tests::{answer_by, end_by, send_by};
-use crate::tests::script::{Act, put, put_made, put_times, request_of, respond};
-use std::alloc::Global;
+use crate::tests::script::{Act, Events, put, put_made, put_times, request_of, respond};
+use std::alloc::{AllocError, Global};
 use std::test::Fail;
 use ttrpc_server::Rules;
 use ttrpc_world::{Event, Side, StreamEnd};
-
-type Tested = Result<(), Fail>;
 
 /// What a call or a stream is at both sides.
 #[derive(Clone, Copy)]
@@ -52,7 +50,7 @@ fn event_by(
     chance: &mut Chance,
     asked: Asked,
     payload: &[u8],
-) -> Result<Event, Fail> {
+) -> Result<Event, AllocError> {
     let timeout = if chance.below(2) == 0 { 20 } else { 0 };
     let request = request_of(alloc, asked.method, payload, timeout)?;
     Ok(if asked.call {
@@ -63,81 +61,61 @@ fn event_by(
 }
 
 /// One begins.
-fn begin(
-    alloc: Global,
-    events: &mut Vec<Event>,
-    chance: &mut Chance,
-    rules: Rules,
-    id: u32,
-) -> Result<Kind, Fail> {
+fn begin(alloc: Global, events: &mut Events, chance: &mut Chance, rules: Rules, id: u32) -> Kind {
     let payload = [chance.below(256) as u8];
     let asked = asked_by(chance, rules);
     let payload: &[u8] = if asked.up { b"" } else { &payload };
-    put_made(events, event_by(alloc, chance, asked, payload))?;
+    put_made(events, event_by(alloc, chance, asked, payload));
     if asked.up {
-        send_up(alloc, events, chance, id)?;
+        send_up(alloc, events, chance, id);
     }
-    Ok(Kind {
+    Kind {
         call: asked.call,
         stream: asked.method == "Chat",
-    })
+    }
 }
 
 /// So many items are sent on an end.
-fn send_items(
-    alloc: Global,
-    events: &mut Vec<Event>,
-    chance: &mut Chance,
-    end: StreamEnd,
-    count: u64,
-) -> Tested {
+fn send_items(alloc: Global, events: &mut Events, chance: &mut Chance, end: StreamEnd, count: u64) {
     for _ in 0..count {
-        put_made(events, send_by(alloc, chance, end))?;
+        put_made(events, send_by(alloc, chance, end));
     }
-    Ok(())
 }
 
 /// Items are sent, and then by chance the close.
-fn send_up(alloc: Global, events: &mut Vec<Event>, chance: &mut Chance, id: u32) -> Tested {
+fn send_up(alloc: Global, events: &mut Events, chance: &mut Chance, id: u32) {
     let count = chance.below(4);
-    send_items(alloc, events, chance, StreamEnd::Client(id), count)?;
+    send_items(alloc, events, chance, StreamEnd::Client(id), count);
     if chance.below(3) > 0 {
         return put(events, Event::Close(id));
     }
-    Ok(())
 }
 
 /// Some bytes are carried from one side and delivered to the other.
-fn move_some(events: &mut Vec<Event>, chance: &mut Chance, from: Side, to: Side) -> Tested {
-    put(events, Event::Carry(from, chance.count()))?;
-    put(events, Event::Carry(from, chance.count()))?;
+fn move_some(events: &mut Events, chance: &mut Chance, from: Side, to: Side) {
+    put(events, Event::Carry(from, chance.count()));
+    put(events, Event::Carry(from, chance.count()));
     put(events, Event::Deliver(to, chance.count()))
 }
 
 /// All are, by these acts.
-fn move_all(events: &mut Vec<Event>, carry: Act, deliver: Act) -> Tested {
-    put_times(events, carry, 28)?;
+fn move_all(events: &mut Events, carry: Act, deliver: Act) {
+    put_times(events, carry, 28);
     put_times(events, deliver, 1)
 }
 
 /// A stream's job is done.
-fn do_stream(alloc: Global, events: &mut Vec<Event>, chance: &mut Chance, job: u64) -> Tested {
-    put_times(events, Act::RecvUp(job), 5)?;
+fn do_stream(alloc: Global, events: &mut Events, chance: &mut Chance, job: u64) {
+    put_times(events, Act::RecvUp(job), 5);
     let count = chance.below(3);
-    send_items(alloc, events, chance, StreamEnd::Server(job), count)?;
+    send_items(alloc, events, chance, StreamEnd::Server(job), count);
     put_made(events, end_by(alloc, chance, job))
 }
 
 /// A call's is, under sync rules by chance by a response.
-fn do_call(
-    alloc: Global,
-    events: &mut Vec<Event>,
-    chance: &mut Chance,
-    rules: Rules,
-    job: u64,
-) -> Tested {
+fn do_call(alloc: Global, events: &mut Events, chance: &mut Chance, rules: Rules, job: u64) {
     if matches!(rules, Rules::Sync) && chance.below(2) == 0 {
-        put_made(events, respond(alloc, job, b"a"))?;
+        put_made(events, respond(alloc, job, b"a"));
         return put(events, Event::Finish(job));
     }
     put_made(events, answer_by(alloc, chance, job))
@@ -146,12 +124,12 @@ fn do_call(
 /// The job of this number is done.
 fn do_job(
     alloc: Global,
-    events: &mut Vec<Event>,
+    events: &mut Events,
     chance: &mut Chance,
     rules: Rules,
     job: u64,
     kind: Kind,
-) -> Tested {
+) {
     if kind.stream {
         do_stream(alloc, events, chance, job)
     } else {
@@ -160,7 +138,7 @@ fn do_job(
 }
 
 /// What came is asked for.
-fn ask(events: &mut Vec<Event>, id: u32, kind: Kind) -> Tested {
+fn ask(events: &mut Events, id: u32, kind: Kind) {
     if kind.call {
         return put(events, Event::Outcome(id));
     }
@@ -168,16 +146,16 @@ fn ask(events: &mut Vec<Event>, id: u32, kind: Kind) -> Tested {
 }
 
 /// So many bytes are carried from both sides and delivered to both, and are none.
-fn try_both(events: &mut Vec<Event>, first: Side, second: Side, n: usize) -> Tested {
-    put(events, Event::Carry(first, n))?;
-    put(events, Event::Carry(second, n))?;
-    put(events, Event::Deliver(second, n))?;
+fn try_both(events: &mut Events, first: Side, second: Side, n: usize) {
+    put(events, Event::Carry(first, n));
+    put(events, Event::Carry(second, n));
+    put(events, Event::Deliver(second, n));
     put(events, Event::Deliver(first, n))
 }
 
 /// Time passes, and nothing more moves.
-fn rest(events: &mut Vec<Event>, chance: &mut Chance) -> Tested {
-    put(events, Event::Tick(chance.below(80)))?;
+fn rest(events: &mut Events, chance: &mut Chance) {
+    put(events, Event::Tick(chance.below(80)));
     let n = chance.count().saturating_add(1);
     if chance.below(2) == 0 {
         try_both(events, Side::Client, Side::Server, n)
@@ -189,73 +167,66 @@ fn rest(events: &mut Vec<Event>, chance: &mut Chance) -> Tested {
 /// The call or stream of this number begins, some bytes are moved up, and by chance time passes.
 fn begin_and_move(
     alloc: Global,
-    events: &mut Vec<Event>,
+    events: &mut Events,
     chance: &mut Chance,
     rules: Rules,
     number: u64,
-) -> Result<Kind, Fail> {
-    let kind = begin(alloc, events, chance, rules, id_of(number))?;
-    move_some(events, chance, Side::Client, Side::Server)?;
-    put(events, Event::Tick(chance.below(5)))?;
-    Ok(kind)
+) -> Kind {
+    let kind = begin(alloc, events, chance, rules, id_of(number));
+    move_some(events, chance, Side::Client, Side::Server);
+    put(events, Event::Tick(chance.below(5)));
+    kind
 }
 
 /// Up to four calls and streams begin.
 fn begin_all(
     alloc: Global,
-    events: &mut Vec<Event>,
+    events: &mut Events,
     chance: &mut Chance,
     rules: Rules,
 ) -> Result<Vec<Kind>, Fail> {
     let mut kinds = Vec::new(alloc);
     for number in 0..chance.below(4).saturating_add(1) {
-        kinds.push(begin_and_move(alloc, events, chance, rules, number)?)?;
+        kinds.push(begin_and_move(alloc, events, chance, rules, number))?;
     }
     Ok(kinds)
 }
 
 /// All that is left is moved up, and each job is taken, with one try more.
-fn take_all(events: &mut Vec<Event>, count: usize) -> Tested {
-    move_all(events, Act::CarryUp(4096), Act::DeliverUp(4096))?;
-    put_times(events, Act::Take, count.saturating_add(1))
+fn take_all(events: &mut Events, count: usize) {
+    move_all(events, Act::CarryUp(4096), Act::DeliverUp(4096));
+    put_times(events, Act::Take, count.saturating_add(1));
 }
 
 /// Each job is done, some bytes are moved down behind each, and all behind the last one.
-fn do_all(
-    alloc: Global,
-    events: &mut Vec<Event>,
-    chance: &mut Chance,
-    rules: Rules,
-    kinds: &[Kind],
-) -> Tested {
+fn do_all(alloc: Global, events: &mut Events, chance: &mut Chance, rules: Rules, kinds: &[Kind]) {
     for (number, kind) in kinds.iter().enumerate() {
         let job = (number as u64).saturating_add(1);
-        do_job(alloc, events, chance, rules, job, *kind)?;
-        move_some(events, chance, Side::Server, Side::Client)?;
+        do_job(alloc, events, chance, rules, job, *kind);
+        move_some(events, chance, Side::Server, Side::Client);
     }
-    move_all(events, Act::CarryDown(4096), Act::DeliverDown(4096))
+    move_all(events, Act::CarryDown(4096), Act::DeliverDown(4096));
 }
 
 /// What came for each is asked for.
-fn ask_all(events: &mut Vec<Event>, kinds: &[Kind]) -> Tested {
+fn ask_all(events: &mut Events, kinds: &[Kind]) {
     for (number, kind) in kinds.iter().enumerate() {
-        ask(events, id_of(number as u64), *kind)?;
+        ask(events, id_of(number as u64), *kind);
     }
-    Ok(())
 }
 
-/// Calls and streams begin, are done, and are asked for; then nothing more moves.
-fn put_gentle(alloc: Global, events: &mut Vec<Event>, chance: &mut Chance, rules: Rules) -> Tested {
-    let kinds = begin_all(alloc, events, chance, rules)?;
-    take_all(events, kinds.len())?;
-    do_all(alloc, events, chance, rules, kinds.as_slice())?;
-    ask_all(events, kinds.as_slice())?;
-    rest(events, chance)
+/// What began is done, and is asked for; then nothing more moves.
+fn end_all(alloc: Global, events: &mut Events, chance: &mut Chance, rules: Rules, kinds: &[Kind]) {
+    take_all(events, kinds.len());
+    do_all(alloc, events, chance, rules, kinds);
+    ask_all(events, kinds);
+    rest(events, chance);
 }
 
 /// A list of up to four calls and streams, which all come to their ends.
 pub fn gentle_by(alloc: Global, chance: &mut Chance, rules: Rules) -> Result<Vec<Event>, Fail> {
-    let mut events = Vec::new(alloc);
-    put_gentle(alloc, &mut events, chance, rules)?;
-    Ok(events)
+    let mut events = Events::new(alloc);
+    let kinds = begin_all(alloc, &mut events, chance, rules)?;
+    end_all(alloc, &mut events, chance, rules, kinds.as_slice());
+    events.list()
 }

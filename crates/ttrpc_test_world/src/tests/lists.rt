@@ -59,6 +59,22 @@ pub fn stream_of(trace: &[Entry], job: JobId) -> Option<CallId> {
     None
 }
 
+/// The way to the client of a job's stream.
+fn way_down(trace: &[Entry], job: JobId) -> Option<Way> {
+    match stream_of(trace, job) {
+        Some(id) => Some(Way::Down(id)),
+        None => None,
+    }
+}
+
+/// And the one to the server.
+fn way_up(trace: &[Entry], job: JobId) -> Option<Way> {
+    match stream_of(trace, job) {
+        Some(id) => Some(Way::Up(id)),
+        None => None,
+    }
+}
+
 /// The way on which an entry puts something in.
 fn way_put(trace: &[Entry], entry: &Entry) -> Option<Way> {
     match (&entry.event, &entry.reply) {
@@ -66,11 +82,9 @@ fn way_put(trace: &[Entry], entry: &Entry) -> Option<Way> {
         (Event::Send(StreamEnd::Client(id), _) | Event::Close(id), Reply::Ticket(_)) => {
             Some(Way::Up(*id))
         }
-        (Event::Send(StreamEnd::Server(job), _), Reply::Ticket(_)) => {
-            stream_of(trace, *job).map(|id| Way::Down(id))
-        }
+        (Event::Send(StreamEnd::Server(job), _), Reply::Ticket(_)) => { way_down(trace, *job) }
         (Event::Answer(job, _) | Event::Respond(job, _) | Event::EndStream(job, _), Reply::Done) =>
-            { stream_of(trace, *job).map(|id| Way::Down(id)) }
+            { way_down(trace, *job) }
         _ => None,
     }
 }
@@ -111,9 +125,7 @@ fn closes(entry: &Entry) -> bool {
 fn way_told(trace: &[Entry], entry: &Entry) -> Option<Way> {
     match (&entry.event, &entry.reply) {
         (Event::Recv(StreamEnd::Client(id)), Reply::Item(Some(_))) => Some(Way::Down(*id)),
-        (Event::Recv(StreamEnd::Server(job)), Reply::Item(Some(_))) => {
-            stream_of(trace, *job).map(|id| Way::Up(id))
-        }
+        (Event::Recv(StreamEnd::Server(job)), Reply::Item(Some(_))) => { way_up(trace, *job) }
         _ => None,
     }
 }

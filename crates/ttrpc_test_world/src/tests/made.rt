@@ -113,9 +113,9 @@ fn entry_of(alloc: Global, act: Act, said: Said) -> Result<Entry, Fail> {
     let reply = reply_of(alloc, act, said)?;
     match event_of(alloc, act) {
         Ok(event) => Ok(Entry { event, reply }),
-        Err(fail) => {
+        Err(error) => {
             mem::drop(reply);
-            Err(fail)
+            Err(error.into())
         }
     }
 }

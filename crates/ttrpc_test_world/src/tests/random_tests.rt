@@ -6,12 +6,12 @@ use crate::tests::made::trace_of;
 use crate::tests::plainly::{Finding, read_headline};
 use crate::tests::rows_tests::has_finding;
 use crate::tests::script::{
-    Act, Over, Rows, Said, Ways, answer, call, end_with, open, put, put_made, put_times, respond,
-    run_over, send,
+    Act, Events, Over, Rows, Said, Ways, answer, call, end_with, open, put, put_made, put_times,
+    respond, run_over, send,
 };
 use crate::tests::told::{Terms, terms_of};
 use crate::tests::whole::{Rest, read_rest};
-use std::alloc::Global;
+use std::alloc::{AllocError, Global};
 use std::process::Abort;
 use std::test::Fail;
 use ttrpc_client::ClientKind;
@@ -40,14 +40,14 @@ fn bad_status(alloc: Global) -> Status {
 }
 
 /// An answer without a status, or with a bad one.
-fn odd_answer(alloc: Global, job: u64, bad: bool, payload: &[u8]) -> Result<Event, Fail> {
+fn odd_answer(alloc: Global, job: u64, bad: bool, payload: &[u8]) -> Result<Event, AllocError> {
     let payload = Blob::from_slice(alloc, payload)?;
     let status = if bad { Some(bad_status(alloc)) } else { None };
     Ok(Event::Answer(job, Ok(Response { status, payload })))
 }
 
 /// What a handler gives: mostly a response that is OK.
-pub fn answer_by(alloc: Global, chance: &mut Chance, job: u64) -> Result<Event, Fail> {
+pub fn answer_by(alloc: Global, chance: &mut Chance, job: u64) -> Result<Event, AllocError> {
     let payload = [chance.below(256) as u8];
     match chance.below(40) {
         0 => Ok(Event::Answer(job, Err(Error::Eof))),
@@ -58,7 +58,7 @@ pub fn answer_by(alloc: Global, chance: &mut Chance, job: u64) -> Result<Event, 
 }
 
 /// A call of a method that there is, or by chance of a stream, or of one that isn't.
-fn call_by(alloc: Global, chance: &mut Chance) -> Result<Event, Fail> {
+fn call_by(alloc: Global, chance: &mut Chance) -> Result<Event, AllocError> {
     let payload = [chance.below(256) as u8];
     let timeout = if chance.below(4) == 0 { 20 } else { 0 };
     match chance.below(10) {
@@ -77,7 +77,7 @@ fn name_by(chance: &mut Chance) -> &'static str {
     }
 }
 
-fn open_by(alloc: Global, chance: &mut Chance) -> Result<Event, Fail> {
+fn open_by(alloc: Global, chance: &mut Chance) -> Result<Event, AllocError> {
     let method = name_by(chance);
     let up = chance.below(2) == 0;
     let payload: &[u8] = if up || chance.below(2) == 0 {
@@ -97,12 +97,12 @@ fn item_by(chance: &mut Chance) -> &'static [u8] {
 }
 
 /// An item that is sent on this end.
-pub fn send_by(alloc: Global, chance: &mut Chance, end: StreamEnd) -> Result<Event, Fail> {
+pub fn send_by(alloc: Global, chance: &mut Chance, end: StreamEnd) -> Result<Event, AllocError> {
     send(alloc, end, item_by(chance))
 }
 
 /// An event of a stream.
-fn of_stream(alloc: Global, chance: &mut Chance) -> Result<Event, Fail> {
+fn of_stream(alloc: Global, chance: &mut Chance) -> Result<Event, AllocError> {
     match chance.below(24) {
         0..5 => open_by(alloc, chance),
         5..10 => {
@@ -121,7 +121,7 @@ fn of_stream(alloc: Global, chance: &mut Chance) -> Result<Event, Fail> {
 }
 
 /// What a handler ends a stream by.
-pub fn end_by(alloc: Global, chance: &mut Chance, job: u64) -> Result<Event, Fail> {
+pub fn end_by(alloc: Global, chance: &mut Chance, job: u64) -> Result<Event, AllocError> {
     let payload = [chance.below(256) as u8];
     match chance.below(8) {
         0 => Ok(Event::EndStream(job, Err(Error::Eof))),
@@ -143,7 +143,7 @@ fn ending(chance: &mut Chance) -> Event {
 }
 
 /// A response to a job, or by chance the end of one.
-fn responding(alloc: Global, chance: &mut Chance) -> Result<Event, Fail> {
+fn responding(alloc: Global, chance: &mut Chance) -> Result<Event, AllocError> {
     let payload = [chance.below(256) as u8];
     if chance.below(4) == 0 {
         return Ok(Event::Finish(chance.job()));
@@ -151,12 +151,12 @@ fn responding(alloc: Global, chance: &mut Chance) -> Result<Event, Fail> {
     respond(alloc, chance.job(), &payload)
 }
 
-fn answering(alloc: Global, chance: &mut Chance) -> Result<Event, Fail> {
+fn answering(alloc: Global, chance: &mut Chance) -> Result<Event, AllocError> {
     let job = chance.job();
     answer_by(alloc, chance, job)
 }
 
-fn event_by(alloc: Global, chance: &mut Chance) -> Result<Event, Fail> {
+fn event_by(alloc: Global, chance: &mut Chance) -> Result<Event, AllocError> {
     match chance.below(20) {
         0 => call_by(alloc, chance),
         1..4 => Ok(Event::Carry(Side::Client, chance.count())),
@@ -175,73 +175,64 @@ fn event_by(alloc: Global, chance: &mut Chance) -> Result<Event, Fail> {
 const IDS: [u32; 4] = [1, 3, 5, 7];
 
 /// An item is sent on each of the first streams, and one is closed.
-fn settle_items(alloc: Global, events: &mut Vec<Event>, chance: &mut Chance) -> Tested {
+fn settle_items(alloc: Global, events: &mut Events, chance: &mut Chance) {
     for id in IDS {
-        put_made(events, send_by(alloc, chance, StreamEnd::Client(id)))?;
+        put_made(events, send_by(alloc, chance, StreamEnd::Client(id)));
     }
     put(events, Event::Close(chance.id()))
 }
 
 /// A job may be responded to, and ends.
-fn settle_response(
-    alloc: Global,
-    events: &mut Vec<Event>,
-    chance: &mut Chance,
-    job: u64,
-) -> Tested {
+fn settle_response(alloc: Global, events: &mut Events, chance: &mut Chance, job: u64) {
     if chance.below(4) == 0 {
-        put_made(events, respond(alloc, job, b"a"))?;
+        put_made(events, respond(alloc, job, b"a"));
         return put(events, Event::Finish(job));
     }
-    Ok(())
 }
 
 /// A job is taken, and answered or ended.
-fn settle_job(alloc: Global, events: &mut Vec<Event>, chance: &mut Chance, job: u64) -> Tested {
-    put(events, Event::Take)?;
-    put_times(events, Act::RecvUp(job), 3)?;
-    put_made(events, send_by(alloc, chance, StreamEnd::Server(job)))?;
-    settle_response(alloc, events, chance, job)?;
-    put_made(events, answer_by(alloc, chance, job))?;
-    put_made(events, end_by(alloc, chance, job))?;
+fn settle_job(alloc: Global, events: &mut Events, chance: &mut Chance, job: u64) {
+    put(events, Event::Take);
+    put_times(events, Act::RecvUp(job), 3);
+    put_made(events, send_by(alloc, chance, StreamEnd::Server(job)));
+    settle_response(alloc, events, chance, job);
+    put_made(events, answer_by(alloc, chance, job));
+    put_made(events, end_by(alloc, chance, job));
     put_times(events, Act::CarryDown(4096), 4)
 }
 
-fn settle_jobs(alloc: Global, events: &mut Vec<Event>, chance: &mut Chance) -> Tested {
+fn settle_jobs(alloc: Global, events: &mut Events, chance: &mut Chance) {
     for job in 1..5 {
-        settle_job(alloc, events, chance, job)?;
+        settle_job(alloc, events, chance, job);
     }
-    Ok(())
 }
 
 /// The outcome of each of the first calls is asked for, and three items of each stream.
-fn settle_outcomes(events: &mut Vec<Event>) -> Tested {
+fn settle_outcomes(events: &mut Events) {
     for id in IDS {
-        put(events, Event::Outcome(id))?;
-        put_times(events, Act::Recv(id), 3)?;
+        put(events, Event::Outcome(id));
+        put_times(events, Act::Recv(id), 3);
     }
-    Ok(())
 }
 
 /// What is under way is brought to its end.
-fn settle(alloc: Global, events: &mut Vec<Event>, chance: &mut Chance) -> Tested {
-    settle_items(alloc, events, chance)?;
-    put_times(events, Act::CarryUp(4096), 16)?;
-    put(events, Event::Deliver(Side::Server, 4096))?;
-    settle_jobs(alloc, events, chance)?;
-    put(events, Event::Deliver(Side::Client, 4096))?;
+fn settle(alloc: Global, events: &mut Events, chance: &mut Chance) {
+    settle_items(alloc, events, chance);
+    put_times(events, Act::CarryUp(4096), 16);
+    put(events, Event::Deliver(Side::Server, 4096));
+    settle_jobs(alloc, events, chance);
+    put(events, Event::Deliver(Side::Client, 4096));
     settle_outcomes(events)
 }
 
 /// Events by chance; in every second list what is under way is then brought to its end.
-fn put_by_chance(alloc: Global, events: &mut Vec<Event>, chance: &mut Chance) -> Tested {
+fn put_by_chance(alloc: Global, events: &mut Events, chance: &mut Chance) {
     for _ in 0..EVENTS {
-        put_made(events, event_by(alloc, chance))?;
+        put_made(events, event_by(alloc, chance));
     }
     if chance.below(2) == 0 {
         return settle(alloc, events, chance);
     }
-    Ok(())
 }
 
 /// Such events. One list in eight is a gentle one.
@@ -249,9 +240,9 @@ fn events_by(alloc: Global, chance: &mut Chance, rules: Rules) -> Result<Vec<Eve
     if chance.below(8) == 0 {
         return gentle_by(alloc, chance, rules);
     }
-    let mut events = Vec::new(alloc);
-    put_by_chance(alloc, &mut events, chance)?;
-    Ok(events)
+    let mut events = Events::new(alloc);
+    put_by_chance(alloc, &mut events, chance);
+    events.list()
 }
 
 /// What the cores keep to.
@@ -368,14 +359,16 @@ fn with_chance(alloc: Global, sums: Sums, chance: &mut Chance) -> Result<Sums, F
 
 /// Hundreds of calls end well, and each way hundreds of items and ends are given. One trace in twenty is a clean quiet one,
 /// at least.
-fn are_enough(rt: &impl Abort, sums: Sums) -> Tested {
+fn are_enough(sums: Sums) -> bool {
     let (rests, counts) = (sums.rests, sums.counts);
-    assert!(rt; rests.traces > LISTS / 20);
-    assert!(rt; rests.calls > 100 && rests.receivers > 200);
-    assert!(rt; sums.good > 200);
-    assert!(rt; counts.items_up > 450 && counts.items_down > 450);
-    assert!(rt; counts.ends_up > 450 && counts.ends_down > 450);
-    Ok(())
+    rests.traces > LISTS / 20
+        && rests.calls > 100
+        && rests.receivers > 200
+        && sums.good > 200
+        && counts.items_up > 450
+        && counts.items_down > 450
+        && counts.ends_up > 450
+        && counts.ends_down > 450
 }
 
 /// Over 1250 lists from this seed the headline holds, and enough is counted. Each clean quiet run is whole.
@@ -385,7 +378,8 @@ fn holds_by_chance(rt: &impl Abort, alloc: Global, seed: u64) -> Tested {
     for _ in 0..LISTS {
         sums = with_chance(alloc, sums, &mut chance)?;
     }
-    are_enough(rt, sums)
+    assert!(rt; are_enough(sums));
+    Ok(())
 }
 
 #[test]

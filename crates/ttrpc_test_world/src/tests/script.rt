@@ -1,5 +1,6 @@
 //! Events in a short form, and replies as they are told.
-use std::alloc::Global;
+use std::alloc::{AllocError, Global};
+use std::mem;
 use std::test::Fail;
 use ttrpc_bench::stamps;
 use ttrpc_client::{ClientCore, ClientKind};
@@ -110,7 +111,7 @@ pub fn request_of(
     method: &str,
     payload: &[u8],
     timeout_nano: i64,
-) -> Result<Request, Fail> {
+) -> Result<Request, AllocError> {
     let service = Text::from_str(alloc, "demo.Echo")?;
     let method = Text::from_str(alloc, method)?;
     let payload = Blob::from_slice(alloc, payload)?;
@@ -124,7 +125,7 @@ pub fn request_of(
 }
 
 /// A response with a status that is present and empty, and this payload.
-pub fn response_of(alloc: Global, payload: &[u8]) -> Result<Response, Fail> {
+pub fn response_of(alloc: Global, payload: &[u8]) -> Result<Response, AllocError> {
     let payload = Blob::from_slice(alloc, payload)?;
     Ok(Response {
         status: Some(Status::new(alloc)),
@@ -134,7 +135,12 @@ pub fn response_of(alloc: Global, payload: &[u8]) -> Result<Response, Fail> {
 
 // ---- events, each made by a function of its own, which owns nothing where it may fail
 
-pub fn call(alloc: Global, method: &str, payload: &[u8], timeout_nano: i64) -> Result<Event, Fail> {
+pub fn call(
+    alloc: Global,
+    method: &str,
+    payload: &[u8],
+    timeout_nano: i64,
+) -> Result<Event, AllocError> {
     let request = request_of(alloc, method, payload, timeout_nano)?;
     Ok(Event::Call(request))
 }
@@ -146,38 +152,38 @@ pub fn open(
     payload: &[u8],
     up: bool,
     down: bool,
-) -> Result<Event, Fail> {
+) -> Result<Event, AllocError> {
     let request = request_of(alloc, method, payload, 0)?;
     Ok(Event::Open(request, up, down))
 }
 
-pub fn send(alloc: Global, end: StreamEnd, item: &[u8]) -> Result<Event, Fail> {
+pub fn send(alloc: Global, end: StreamEnd, item: &[u8]) -> Result<Event, AllocError> {
     let item = Blob::from_slice(alloc, item)?;
     Ok(Event::Send(end, item))
 }
 
-pub fn answer(alloc: Global, id: u64, payload: &[u8]) -> Result<Event, Fail> {
+pub fn answer(alloc: Global, id: u64, payload: &[u8]) -> Result<Event, AllocError> {
     let response = response_of(alloc, payload)?;
     Ok(Event::Answer(id, Ok(response)))
 }
 
-fn answer_sevens(alloc: Global, id: u64, count: usize) -> Result<Event, Fail> {
+fn answer_sevens(alloc: Global, id: u64, count: usize) -> Result<Event, AllocError> {
     let payload = vec![in alloc; 7u8; count]?;
     answer(alloc, id, payload.as_slice())
 }
 
-pub fn respond(alloc: Global, id: u64, payload: &[u8]) -> Result<Event, Fail> {
+pub fn respond(alloc: Global, id: u64, payload: &[u8]) -> Result<Event, AllocError> {
     let response = response_of(alloc, payload)?;
     Ok(Event::Respond(id, response))
 }
 
-pub fn end_with(alloc: Global, id: u64, payload: &[u8]) -> Result<Event, Fail> {
+pub fn end_with(alloc: Global, id: u64, payload: &[u8]) -> Result<Event, AllocError> {
     let response = response_of(alloc, payload)?;
     Ok(Event::EndStream(id, Ok(Some(response))))
 }
 
 /// The event of an act that is one event.
-pub fn event_of(alloc: Global, act: Act) -> Result<Event, Fail> {
+pub fn event_of(alloc: Global, act: Act) -> Result<Event, AllocError> {
     match act {
         Act::Call(payload, timeout) => call(alloc, "Echo", payload, timeout),
         Act::CallOf(method, payload) => call(alloc, method, payload, 0),
@@ -231,36 +237,73 @@ fn side_event(act: Act) -> Event {
 
 // ---- lists of events
 
-/// One more event. In a function of its own, since a value that isn't taken is let go here.
-pub fn put(events: &mut Vec<Event>, event: Event) -> Result<(), Fail> {
-    events.push(event)?;
-    Ok(())
+/// Events that are put together. Who puts them needs no way out where memory is refused: the list keeps that it was.
+#[derive(Drop)]
+pub struct Events {
+    list: Vec<Event>,
+    refused: bool,
+}
+
+impl Events {
+    pub fn new(alloc: Global) -> Events {
+        Events {
+            list: Vec::new(alloc),
+            refused: false,
+        }
+    }
+
+    /// The events, if memory was never refused.
+    pub fn list(self) -> Result<Vec<Event>, Fail> {
+        if self.refused {
+            return Err(Error::NoMemory.into());
+        }
+        Ok(self.list)
+    }
+}
+
+/// Whether there was room for one more event. In a function of its own, since a value that isn't taken is let go here.
+fn is_put(events: &mut Vec<Event>, event: Event) -> bool {
+    match events.push(event) {
+        Ok(()) => true,
+        Err(error) => {
+            mem::drop(error);
+            false
+        }
+    }
+}
+
+/// One more event.
+pub fn put(events: &mut Events, event: Event) {
+    if !is_put(&mut events.list, event) {
+        events.refused = true;
+    }
 }
 
 /// One more event, if there was memory for it.
-pub fn put_made(events: &mut Vec<Event>, event: Result<Event, Fail>) -> Result<(), Fail> {
-    put(events, event?)
+pub fn put_made(events: &mut Events, event: Result<Event, AllocError>) {
+    match event {
+        Ok(event) => put(events, event),
+        Err(AllocError) => events.refused = true,
+    }
 }
 
 /// The event of this act, which takes no memory, so many times.
-pub fn put_times(events: &mut Vec<Event>, act: Act, count: usize) -> Result<(), Fail> {
+pub fn put_times(events: &mut Events, act: Act, count: usize) {
     for _ in 0..count {
-        put(events, plain_event(act))?;
+        put(events, plain_event(act));
     }
-    Ok(())
 }
 
 /// So many bytes are carried by the one act and delivered by the other, one by one.
-fn put_bytes(events: &mut Vec<Event>, carry: Act, deliver: Act, count: usize) -> Result<(), Fail> {
+fn put_bytes(events: &mut Events, carry: Act, deliver: Act, count: usize) {
     for _ in 0..count {
-        put(events, plain_event(carry))?;
-        put(events, plain_event(deliver))?;
+        put(events, plain_event(carry));
+        put(events, plain_event(deliver));
     }
-    Ok(())
 }
 
 /// The events of an act.
-fn put_act(alloc: Global, events: &mut Vec<Event>, act: Act) -> Result<(), Fail> {
+fn put_act(alloc: Global, events: &mut Events, act: Act) {
     match act {
         Act::BytesUp(count) => put_bytes(events, Act::CarryUp(1), Act::DeliverUp(1), count),
         Act::BytesDown(count) => put_bytes(events, Act::CarryDown(1), Act::DeliverDown(1), count),
@@ -268,25 +311,19 @@ fn put_act(alloc: Global, events: &mut Vec<Event>, act: Act) -> Result<(), Fail>
     }
 }
 
-fn put_rows(alloc: Global, events: &mut Vec<Event>, rows: Rows) -> Result<(), Fail> {
+fn put_rows(alloc: Global, events: &mut Events, rows: Rows) {
     for (act, _) in rows {
-        put_act(alloc, events, *act)?;
+        put_act(alloc, events, *act);
     }
-    Ok(())
-}
-
-fn put_script(alloc: Global, events: &mut Vec<Event>, script: &[Rows]) -> Result<(), Fail> {
-    for rows in script {
-        put_rows(alloc, events, rows)?;
-    }
-    Ok(())
 }
 
 /// The events of a script.
 pub fn events_of(alloc: Global, script: &[Rows]) -> Result<Vec<Event>, Fail> {
-    let mut events = Vec::new(alloc);
-    put_script(alloc, &mut events, script)?;
-    Ok(events)
+    let mut events = Events::new(alloc);
+    for rows in script {
+        put_rows(alloc, &mut events, rows);
+    }
+    events.list()
 }
 
 // ---- replies
