@@ -16,7 +16,7 @@ pub enum Way {
 }
 
 /// How many items and ends were given, at the server and at the client.
-#[derive(Clone, Copy, Debug, PartialEq, Eq)]
+#[derive(Clone, Copy, PartialEq, Eq)]
 pub struct Counts {
     pub items_up: usize,
     pub ends_up: usize,
@@ -33,7 +33,7 @@ pub const NONE: Counts = Counts {
 };
 
 /// What was read of a trace so far: what is wrong with it, or what was given.
-#[derive(Clone, Copy, Debug, PartialEq, Eq)]
+#[derive(Clone, Copy, PartialEq, Eq)]
 pub enum Order {
     /// All items are in order.
     Kept(Counts),

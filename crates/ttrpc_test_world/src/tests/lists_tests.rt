@@ -165,7 +165,7 @@ const KEPT: &[(Order, Rows)] = &[
 
 /// This order is read of the trace.
 pub fn has_order(rt: &impl Abort, trace: &[Entry], order: Order) {
-    assert_eq!(rt; read_lists(trace), order);
+    assert!(rt; read_lists(trace) == order);
 }
 
 fn is_read(rt: &impl Abort, alloc: Global, order: Order, rows: Rows) -> Tested {

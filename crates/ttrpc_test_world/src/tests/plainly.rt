@@ -7,7 +7,7 @@ use ttrpc_server::{Job, JobId};
 use ttrpc_world::{Entry, Event, Reply};
 
 /// What was read of a trace so far: what is wrong with it, or how many outcomes were `Ok`.
-#[derive(Clone, Copy, Debug, PartialEq, Eq)]
+#[derive(Clone, Copy, PartialEq, Eq)]
 pub enum Finding {
     /// Nothing is wrong, and so many outcomes were `Ok`.
     Whole(usize),

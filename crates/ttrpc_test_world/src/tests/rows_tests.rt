@@ -434,7 +434,7 @@ pub type Script = (Over, &'static [Rows]);
 
 /// This is found in the trace.
 pub fn has_finding(rt: &impl Abort, trace: &[Entry], finding: Finding) {
-    assert_eq!(rt; read_headline(trace), finding);
+    assert!(rt; read_headline(trace) == finding);
 }
 
 /// Each reply is the one of the script.

@@ -12,7 +12,7 @@ use ttrpc_server::{JobId, Rules};
 use ttrpc_world::{Entry, Event, Reply, Side, StreamEnd};
 
 /// What was read of a trace.
-#[derive(Clone, Copy, Debug, PartialEq, Eq)]
+#[derive(Clone, Copy, PartialEq, Eq)]
 pub enum Rest {
     /// It isn't clean, or not quiet: nothing is said of it.
     Unsaid,

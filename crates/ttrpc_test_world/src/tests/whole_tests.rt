@@ -249,7 +249,7 @@ type Whole = (Over, Rows, Rest);
 /// This is read of a trace.
 fn is_rest(rt: &impl Abort, alloc: Global, terms: Terms, trace: &[Entry], rest: Rest) -> Tested {
     let read = read_rest(alloc, terms, trace)?;
-    assert_eq!(rt; read, rest);
+    assert!(rt; read == rest);
     Ok(())
 }
 
