@@ -514,11 +514,10 @@ fn put_reply(entry: &mut Entry, reply: Reply) {
 /// Another reply at a place.
 fn tamper(alloc: Global, trace: &mut Trace, other: Other) -> Tested {
     let (at, act, said) = other;
-    let reply = reply_of(alloc, act, said)?;
     let Some(entry) = trace.get_mut(at) else {
         return Err("no such entry".into());
     };
-    put_reply(entry, reply);
+    put_reply(entry, reply_of(alloc, act, said)?);
     Ok(())
 }
 
