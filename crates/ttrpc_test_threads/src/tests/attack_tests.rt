@@ -1,8 +1,8 @@
 //! Hostile peers, and peers that do one thing after the other: nobody waits for what somebody else wants.
 use crate::tests::handlers::comes;
-use crate::tests::peers::{answer, read_frame, requests, write_all};
+use crate::tests::peers::{answer, next_id, read_frame, requests, write_all};
 use crate::tests::sites::{
-    Machine, PlainClient, Tested, a_while, call, client, listening, request, serving,
+    Machine, PlainClient, Site, Tested, a_while, call, client, listening, request, serving,
 };
 use std::alloc::Global;
 use std::net::{Shutdown, SocketAddr, TcpStream};
@@ -13,7 +13,7 @@ use std::time::{Clock, Duration, Instant};
 use std::{fs, thread};
 use ttrpc_proto::{Error, Result as Answered};
 use ttrpc_sync::{Host, moment};
-use ttrpc_sync_client::Client;
+use ttrpc_sync_server::NoHook;
 use ttrpc_transport::{PipeConnection, PipeListener, Stream};
 
 /// The next connection of a listener.
@@ -28,12 +28,12 @@ fn accepted(listener: &PipeListener) -> Answered<PipeConnection> {
 /// Answers the first call after a while, and reads no more. It goes away once the caller has returned.
 fn answers_one_and_stalls<R: Clock + AllocGlobal>(rt: &R, listener: &PipeListener) -> Answered<()> {
     let connection = accepted(listener)?;
+    let asked = next_id(rt.alloc(), &connection)?;
+    a_while(rt);
+    a_while(rt);
+    a_while(rt);
     let mut stream = &connection;
-    let asked = read_frame(rt.alloc(), &mut stream)?;
-    a_while(rt);
-    a_while(rt);
-    a_while(rt);
-    answer(rt.alloc(), &mut stream, asked.header.stream_id, 1)?;
+    answer(rt.alloc(), &mut stream, asked, 1)?;
     thread::sleep(rt, Duration::from_millis(700));
     connection.close()
 }
@@ -53,51 +53,73 @@ fn queues_much<R: Host + Abort>(rt: &R, client: &PlainClient<R>) -> Answered<()>
     Ok(())
 }
 
+/// Queues four megabytes to a peer that answers one call and reads no more.
+fn queues_to_a_stalled_peer<R: Machine>(
+    rt: &R,
+    client: &PlainClient<R>,
+    listener: &PipeListener,
+) -> Answered<()> {
+    let (queued, stalled) = thread::join(
+        rt,
+        || queues_much(rt, client),
+        || answers_one_and_stalls(rt, listener),
+    );
+    queued?;
+    stalled
+}
+
+/// How long the call of the first client takes meanwhile.
+fn timed_beside<R: Machine>(
+    rt: &R,
+    first: &PlainClient<R>,
+    second: &PlainClient<R>,
+    listener: &PipeListener,
+) -> Answered<u64> {
+    let (passed, queued) = thread::join(
+        rt,
+        || timed(rt, first),
+        || queues_to_a_stalled_peer(rt, second, listener),
+    );
+    queued?;
+    passed
+}
+
 /// A caller has its answer while four megabytes of another's are queued, and the peer reads no more: it returns at once.
 #[test]
 fn a_caller_returns_with_its_answer(rt: HostRuntime) -> Tested {
     let (listener, address) = listening(&rt)?;
     let first = client(&rt, address.as_str())?;
     let second = first.try_clone()?;
-    let (passed, (queued, stalled)) = thread::join(
-        &rt,
-        || timed(&rt, &first),
-        || {
-            thread::join(
-                &rt,
-                || queues_much(&rt, &second),
-                || answers_one_and_stalls(&rt, &listener),
-            )
-        },
-    );
-    queued?;
-    stalled?;
-    assert!(rt; passed? < 500000000);
+    let passed = timed_beside(&rt, &first, &second, &listener)?;
+    assert!(rt; passed < 500000000);
     Ok(())
 }
 
 /// How many calls are alone, so that nobody reads but callers.
 const LONE_CALLS: usize = 20;
 
+/// Reads a call, and answers it with a byte.
+fn answer_next(alloc: Global, connection: &PipeConnection) -> Answered<()> {
+    let asked = next_id(alloc, connection)?;
+    let mut stream = connection;
+    answer(alloc, &mut stream, asked, 1)
+}
+
 /// Reads, answers, and does nothing beside: the first call, which has expired, it answers late, with much, before it reads on.
 fn one_after_the_other<R: Clock + AllocGlobal>(rt: &R, listener: &PipeListener) -> Answered<()> {
     let connection = accepted(listener)?;
-    let mut stream = &connection;
-    let expired = read_frame(rt.alloc(), &mut stream)?;
+    let expired = next_id(rt.alloc(), &connection)?;
     for _ in 0..LONE_CALLS {
-        let asked = read_frame(rt.alloc(), &mut stream)?;
-        answer(rt.alloc(), &mut stream, asked.header.stream_id, 1)?;
+        answer_next(rt.alloc(), &connection)?;
     }
     thread::sleep(rt, Duration::from_millis(300));
-    answer(rt.alloc(), &mut stream, expired.header.stream_id, 600000)?;
-    let asked = read_frame(rt.alloc(), &mut stream)?;
-    answer(rt.alloc(), &mut stream, asked.header.stream_id, 1)
+    let mut stream = &connection;
+    answer(rt.alloc(), &mut stream, expired, 600000)?;
+    answer_next(rt.alloc(), &connection)
 }
 
-/// Lets a call expire, calls alone, and sends much.
-fn expires_and_sends_much<R: Host + Abort>(rt: &R, client: &PlainClient<R>) -> Answered<()> {
-    let late = client.request(request(rt.alloc(), "Echo", b"", 500000000)?);
-    assert!(rt; matches!(late, Err(Error::Others(_))));
+/// Calls alone, and sends much.
+fn sends_much<R: Host>(rt: &R, client: &PlainClient<R>) -> Answered<()> {
     for _ in 0..LONE_CALLS {
         call(rt, client, "Echo", b"2")?;
     }
@@ -106,19 +128,35 @@ fn expires_and_sends_much<R: Host + Abort>(rt: &R, client: &PlainClient<R>) -> A
     Ok(())
 }
 
+/// Lets a call expire, calls alone, and sends much.
+fn expires_and_sends_much<R: Host + Abort>(rt: &R, client: &PlainClient<R>) -> Answered<()> {
+    let late = client.request(request(rt.alloc(), "Echo", b"", 500000000)?);
+    assert!(rt; matches!(late, Err(Error::Others(_))));
+    sends_much(rt, client)
+}
+
+/// The client does so, while its peer does one thing after the other.
+fn both_go_on<R: Machine>(
+    rt: &R,
+    client: &PlainClient<R>,
+    listener: &PipeListener,
+) -> Answered<()> {
+    let (called, served) = thread::join(
+        rt,
+        || expires_and_sends_much(rt, client),
+        || one_after_the_other(rt, listener),
+    );
+    called?;
+    served
+}
+
 /// A peer of one thread writes before it reads, while the client writes: both go on.
 #[test]
 fn a_peer_may_write_before_it_reads(rt: HostRuntime) -> Tested {
     let _ = fs::remove_file(&rt, "late.sock");
     let listener = PipeListener::new(&rt, rt.alloc(), "unix://late.sock", true)?;
-    let client = Client::connect(rt, "unix://late.sock", true)?;
-    let (called, served) = thread::join(
-        &rt,
-        || expires_and_sends_much(&rt, &client),
-        || one_after_the_other(&rt, &listener),
-    );
-    called?;
-    served?;
+    let client = client(&rt, "unix://late.sock")?;
+    both_go_on(&rt, &client, &listener)?;
     Ok(fs::remove_file(&rt, "late.sock")?)
 }
 
@@ -129,6 +167,20 @@ fn stream<R: Machine>(rt: &R, address: &str) -> Result<TcpStream, Fail> {
         Ok(place) => Ok(TcpStream::connect(rt, place)?),
         Err(_) => Err("no address".into()),
     }
+}
+
+/// Writes all of it to a bare stream.
+fn write_bare(bare: &TcpStream, bytes: &[u8]) -> Tested {
+    let connection = PipeConnection::new(Stream::Tcp(bare.try_clone()?));
+    Ok(write_all(&connection, bytes)?)
+}
+
+/// A bare stream to the server at this address, on which so many requests of this method were written.
+fn asking<R: Machine>(rt: &R, address: &str, method: &str, count: u32) -> Result<TcpStream, Fail> {
+    let bare = stream(rt, address)?;
+    let asked = requests(rt.alloc(), method, count)?;
+    write_bare(&bare, asked.as_slice())?;
+    Ok(bare)
 }
 
 /// How many frames come until the end.
@@ -149,21 +201,33 @@ const ASKED: &[u32] = &[
     200, 1, 1, 1, 1, 1, 1, 1, 1, 1, 1, 1, 1, 1, 1, 1, 1, 1, 1, 1, 1, 2, 3, 4, 5,
 ];
 
+/// A client that asks so often and then ends its half gets so many answers.
+fn each_is_answered_once<R: Machine>(rt: &R, address: &str, count: u32) -> Tested {
+    let bare = asking(rt, address, "Echo", count)?;
+    bare.shutdown(Shutdown::Write)?;
+    assert_eq!(rt; frames_until_the_end(rt.alloc(), &bare), count as usize);
+    Ok(())
+}
+
 /// A client that asks and then ends its half gets each of its answers, once.
 #[test]
 fn a_half_closed_client_is_answered(rt: HostRuntime) -> Tested {
     let site = serving(&rt)?;
     for &count in ASKED {
-        let asked = requests(rt.alloc(), "Echo", count)?;
-        let bare = stream(&rt, site.address.as_str())?;
-        let written = bare.try_clone()?;
-        let connection = PipeConnection::new(Stream::Tcp(written));
-        write_all(&connection, asked.as_slice())?;
-        bare.shutdown(Shutdown::Write)?;
-        assert_eq!(rt; frames_until_the_end(rt.alloc(), &bare), count as usize);
+        each_is_answered_once(&rt, site.address.as_str(), count)?;
     }
     assert!(rt; comes(&rt, || site.server.connection_count() == 0));
     site.server.shutdown();
+    Ok(())
+}
+
+/// Once the client sends nothing more, the connection ends within five seconds.
+fn ends_with_its_client<R: Machine>(rt: &R, site: &Site<R, NoHook>, bare: &TcpStream) -> Tested {
+    let start = Instant::now(rt)?;
+    bare.shutdown(Shutdown::Write)?;
+    assert!(rt; comes(rt, || site.server.connection_count() == 0));
+    let passed = start.elapsed(rt)?;
+    assert!(rt; passed < Duration::from_secs(5));
     Ok(())
 }
 
@@ -171,15 +235,9 @@ fn a_half_closed_client_is_answered(rt: HostRuntime) -> Tested {
 #[test]
 fn a_handler_sees_the_end_of_its_client(rt: HostRuntime) -> Tested {
     let site = serving(&rt)?;
-    let asked = requests(rt.alloc(), "Waits", 1)?;
-    let bare = stream(&rt, site.address.as_str())?;
-    let connection = PipeConnection::new(Stream::Tcp(bare.try_clone()?));
-    write_all(&connection, asked.as_slice())?;
+    let bare = asking(&rt, site.address.as_str(), "Waits", 1)?;
     assert!(rt; comes(&rt, || site.board.waiting.load(Ordering::SeqCst) == 1));
-    let start = Instant::now(&rt)?;
-    bare.shutdown(Shutdown::Write)?;
-    assert!(rt; comes(&rt, || site.server.connection_count() == 0));
-    assert!(rt; start.elapsed(&rt)? < Duration::from_secs(5));
+    ends_with_its_client(&rt, &site, &bare)?;
     assert_eq!(rt; site.board.cancelled.load(Ordering::SeqCst), 1);
     site.server.shutdown();
     Ok(())

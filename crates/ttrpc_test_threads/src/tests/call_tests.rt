@@ -1,19 +1,21 @@
 //! Calls over sockets: of threads that share a client, of a client with a limit of time, of any size, and by a path.
-use crate::tests::handlers::Board;
+use crate::tests::handlers::{Board, Method};
 use crate::tests::sites::{
-    Machine, Tested, answers, call, client, is_told, request, serving, serving_one, serving_two,
-    unbound,
+    Machine, PlainClient, Tested, answered_client, answers, call, is_told, request, serving,
+    serving_one, serving_two, unbound,
 };
 use std::net::SocketAddr;
 use std::process::Abort;
 use std::sync::atomic::Ordering;
 use std::sync::{Arc, Wait};
+use std::test::Fail;
 use std::time::{Duration, Instant};
 use std::{fs, thread};
 use ttrpc_proto::Result as Answered;
 use ttrpc_secure::{InboundTransform, OutboundTransform};
 use ttrpc_sync::Host;
 use ttrpc_sync_client::Client;
+use ttrpc_sync_server::{NoHook, Server};
 
 /// How many calls each of two threads makes.
 const CALLS: u8 = 100;
@@ -31,39 +33,78 @@ where
     Ok(())
 }
 
+/// How often this payload was seen.
+fn times_seen(seen: &[(u32, Vec<u8>)], sent: &[u8]) -> usize {
+    seen.iter()
+        .filter(|(_, payload)| payload.as_slice() == sent)
+        .count()
+}
+
+/// How often a request was seen under this id.
+fn times_named(seen: &[(u32, Vec<u8>)], named: u32) -> usize {
+    seen.iter().filter(|(id, _)| *id == named).count()
+}
+
 /// Each payload was seen once, under the odd ids up to 399.
-fn all_are_seen<R: Wait + Abort>(rt: &R, board: &Board) -> Tested {
-    let seen = board.seen.lock(rt);
+fn each_is_seen(rt: &impl Abort, seen: &[(u32, Vec<u8>)]) {
     assert_eq!(rt; seen.len(), 200);
     for caller in 0..2 {
         for number in 0..CALLS {
-            let count = seen
-                .iter()
-                .filter(|(_, payload)| payload.as_slice() == [caller, number].as_slice())
-                .count();
-            assert_eq!(rt; count, 1);
+            assert_eq!(rt; times_seen(seen, &[caller, number]), 1);
         }
     }
     for index in 0..200 {
-        let count = seen.iter().filter(|(id, _)| *id == 2 * index + 1).count();
-        assert_eq!(rt; count, 1);
+        assert_eq!(rt; times_named(seen, 2 * index + 1), 1);
     }
-    Ok(())
+}
+
+/// The same of all that the board has.
+fn all_are_seen<R: Wait + Abort>(rt: &R, board: &Board) {
+    let seen = board.seen.lock(rt);
+    each_is_seen(rt, seen.as_slice());
+}
+
+/// Two threads with these numbers make a hundred calls each, over one connection.
+fn calls_by_both<R: Machine>(
+    rt: &R,
+    first: &PlainClient<R>,
+    second: &PlainClient<R>,
+    callers: (u8, u8),
+) -> Answered<()> {
+    let (one, other) = thread::join(
+        rt,
+        || calls_by(rt, first, callers.0),
+        || calls_by(rt, second, callers.1),
+    );
+    one?;
+    other
 }
 
 #[test]
 fn two_threads_share_a_client(rt: HostRuntime) -> Tested {
     let (site, first, second) = serving_two(&rt)?;
-    let (one, other) = thread::join(
-        &rt,
-        || calls_by(&rt, &first, 0),
-        || calls_by(&rt, &second, 1),
-    );
-    one?;
-    other?;
-    all_are_seen(&rt, &*site.board)?;
+    calls_by_both(&rt, &first, &second, (0, 1))?;
+    all_are_seen(&rt, &*site.board);
     site.server.shutdown();
     Ok(())
+}
+
+/// A call with a limit of time is answered.
+fn limited_is_answered<R: Host + Abort>(rt: &R, client: &PlainClient<R>) -> Answered<()> {
+    let limited = client.request(request(rt.alloc(), "Echo", b"2", 5000000000)?)?;
+    assert!(rt; limited.payload.as_slice() == b"2".as_slice());
+    Ok(())
+}
+
+/// Calls alone are answered, then one with a limit of time, and then calls together.
+fn each_is_answered<R: Machine>(
+    rt: &R,
+    first: &PlainClient<R>,
+    second: &PlainClient<R>,
+) -> Answered<()> {
+    calls_by(rt, first, 0)?;
+    limited_is_answered(rt, first)?;
+    calls_by_both(rt, first, second, (1, 2))
 }
 
 /// Callers read for themselves while each is alone. For a call with a limit of time, and for callers that aren't alone,
@@ -72,16 +113,7 @@ fn two_threads_share_a_client(rt: HostRuntime) -> Tested {
 fn calls_alone_and_together_are_answered(rt: HostRuntime) -> Tested {
     let (site, first, second) = serving_two(&rt)?;
     for _ in 0..3 {
-        calls_by(&rt, &first, 0)?;
-        let limited = first.request(request(rt.alloc(), "Echo", b"2", 5000000000)?)?;
-        assert!(rt; limited.payload.as_slice() == b"2".as_slice());
-        let (one, other) = thread::join(
-            &rt,
-            || calls_by(&rt, &first, 1),
-            || calls_by(&rt, &second, 2),
-        );
-        one?;
-        other?;
+        each_is_answered(&rt, &first, &second)?;
     }
     site.server.shutdown();
     Ok(())
@@ -115,16 +147,22 @@ fn calls_run_at_the_same_time(rt: HostRuntime) -> Tested {
     Ok(())
 }
 
+/// A call of 50 milliseconds is told that its time is up, then and not later.
+fn is_late<R: Machine>(rt: &R, client: &PlainClient<R>) -> Tested {
+    let start = Instant::now(rt)?;
+    let late = client.request(request(rt.alloc(), "Waits", b"", 50000000)?);
+    let passed = start.elapsed(rt)?;
+    is_told(rt, late, "ttrpc err: Request deadline elapsed")?;
+    assert!(rt; passed >= Duration::from_millis(50));
+    assert!(rt; passed < Duration::from_millis(500));
+    Ok(())
+}
+
 /// A call whose time is up ends then, though its handler goes on; and the connection serves more calls.
 #[test]
 fn a_deadline_is_met(rt: HostRuntime) -> Tested {
     let (site, client) = serving_one(&rt)?;
-    let start = Instant::now(&rt)?;
-    let late = client.request(request(rt.alloc(), "Waits", b"", 50000000)?);
-    let passed = start.elapsed(&rt)?;
-    is_told(&rt, late, "ttrpc err: Request deadline elapsed")?;
-    assert!(rt; passed >= Duration::from_millis(50));
-    assert!(rt; passed < Duration::from_millis(500));
+    is_late(&rt, &client)?;
     answers(&rt, &client, "Echo", b"2", b"2")?;
     site.server.shutdown();
     Ok(())
@@ -133,19 +171,29 @@ fn a_deadline_is_met(rt: HostRuntime) -> Tested {
 /// Lengths of payloads around the sizes of buffers, and one near the limit.
 const LENGTHS: &[usize] = &[0, 1, 4085, 4086, 65536, 4000000];
 
+/// A payload of so many bytes is answered.
+fn size_passes<R: Host + Abort>(rt: &R, client: &PlainClient<R>, length: usize) -> Answered<()> {
+    let payload = Vec::from_elem(rt.alloc(), 7u8, length)?;
+    answers(rt, client, "Echo", payload.as_slice(), payload.as_slice())
+}
+
+/// A payload above the limit is refused.
+fn too_much_is_refused<R: Host + Abort>(rt: &R, client: &PlainClient<R>) -> Tested {
+    let payload = Vec::from_elem(rt.alloc(), 7u8, 4194304)?;
+    is_told(
+        rt,
+        call(rt, client, "Echo", payload.as_slice()),
+        "ttrpc err: message length 4194326 exceed maximum message size of 4194304",
+    )
+}
+
 /// Payloads of any size are answered, whether writes go out at once or not; one above the limit is refused.
 fn sizes_pass<R: Machine + 'static>(rt: &R, address: &str, nodelay: bool) -> Tested {
     let client = Client::connect(rt.clone()?, address, nodelay)?;
     for &length in LENGTHS {
-        let payload = Vec::from_elem(rt.alloc(), 7u8, length)?;
-        answers(rt, &client, "Echo", payload.as_slice(), payload.as_slice())?;
+        size_passes(rt, &client, length)?;
     }
-    let payload = Vec::from_elem(rt.alloc(), 7u8, 4194304)?;
-    is_told(
-        rt,
-        call(rt, &client, "Echo", payload.as_slice()),
-        "ttrpc err: message length 4194326 exceed maximum message size of 4194304",
-    )?;
+    too_much_is_refused(rt, &client)?;
     Ok(answers(rt, &client, "Echo", b"2", b"2")?)
 }
 
@@ -172,15 +220,24 @@ fn an_unknown_method_is_refused(rt: HostRuntime) -> Tested {
     Ok(())
 }
 
+/// A server that listens at this path.
+fn serving_at<R: Machine + 'static>(
+    rt: &R,
+    address: &str,
+) -> Result<Server<R, Method<R>, NoHook>, Fail> {
+    let board = Arc::new(rt.alloc(), Board::new(rt.alloc()))?;
+    let mut server = unbound(rt, &board)?.bind(address, false)?;
+    server.start()?;
+    Ok(server)
+}
+
 #[test]
 fn a_path_is_an_address(rt: HostRuntime) -> Tested {
     let _ = fs::remove_file(&rt, "calls.sock");
-    let board = Arc::new(rt.alloc(), Board::new(rt.alloc()))?;
-    let mut server = unbound(&rt, &board)?.bind("unix://calls.sock", false)?;
-    server.start()?;
-    assert_eq!(rt; server.local_addr()?, None::<SocketAddr>);
-    let client = client(&rt, "unix://calls.sock")?;
-    answers(&rt, &client, "Echo", b"2", b"2")?;
+    let server = serving_at(&rt, "unix://calls.sock")?;
+    let place = server.local_addr()?;
+    assert_eq!(rt; place, None::<SocketAddr>);
+    let _client = answered_client(&rt, "unix://calls.sock")?;
     server.shutdown();
     Ok(fs::remove_file(&rt, "calls.sock")?)
 }

@@ -1,10 +1,10 @@
 //! The threads of a connection: how many there are, which jobs they take, and what a server's settings are to them.
 use crate::tests::fakes::Failing;
-use crate::tests::handlers::{Board, Method, comes};
-use crate::tests::peers::{read_frame, requests, write_all};
+use crate::tests::handlers::{Board, comes};
+use crate::tests::peers::{next_id, requests, write_all};
 use crate::tests::sites::{
-    Machine, PlainClient, Site, Tested, a_while, answers, client, connection, serving, serving_one,
-    started, unbound,
+    Machine, PlainClient, Site, Tested, a_while, answered_client, answers, answers_often, client,
+    connection, hooked_at_once, serving, serving_one, started, unbound,
 };
 use std::alloc::Global;
 use std::io::ErrorKind;
@@ -20,8 +20,9 @@ use ttrpc_proto::Result as Answered;
 use ttrpc_secure::{AcceptHook, HookError, HookOutput, Plain};
 use ttrpc_sync::{Connected, Host};
 use ttrpc_sync_server::accept::{Stop, next_connection};
-use ttrpc_sync_server::{NoHook, NoWatch, Server};
+use ttrpc_sync_server::{NoHook, NoWatch};
 use ttrpc_transport::{PipeConnection, PipeListener};
+use ttrpc_wire::values::slices::behind;
 
 /// How many threads this process has.
 fn threads<R: Files + Host>(rt: &R) -> Option<usize> {
@@ -74,21 +75,41 @@ fn more_workers_are_started(rt: HostRuntime) -> Tested {
     Ok(())
 }
 
+/// The bytes of a request of `Gate` under id 1, and of one of `Echo` under id 3.
+fn gate_and_echo(alloc: Global) -> Answered<Vec<u8>> {
+    let mut asked = requests(alloc, "Gate", 1)?;
+    let both = requests(alloc, "Echo", 2)?;
+    asked.extend_from_slice(behind(both.as_slice(), both.len() / 2))?;
+    Ok(asked)
+}
+
+/// A bare connection on which both were written in one piece, after a while.
+fn asking_both<R: Machine>(rt: &R, address: &str) -> Answered<PipeConnection> {
+    let bare = connection(rt, address)?;
+    let asked = gate_and_echo(rt.alloc())?;
+    a_while(rt);
+    write_all(&bare, asked.as_slice())?;
+    Ok(bare)
+}
+
+/// The ids of the frames that come before the gate is opened, and then.
+fn ids_around_the_gate(
+    alloc: Global,
+    bare: &PipeConnection,
+    board: &Board,
+) -> Answered<(u32, u32)> {
+    let first = next_id(alloc, bare)?;
+    board.is_open.store(true, Ordering::SeqCst);
+    Ok((first, next_id(alloc, bare)?))
+}
+
 /// Two requests come in one piece: the second is answered while the first one's handler waits.
 #[test]
 fn each_job_of_a_piece_has_a_worker(rt: HostRuntime) -> Tested {
     let site = serving(&rt)?;
-    let bare = connection(&rt, site.address.as_str())?;
-    let mut asked = requests(rt.alloc(), "Gate", 1)?;
-    let both = requests(rt.alloc(), "Echo", 2)?;
-    asked.extend_from_slice(ttrpc_wire::values::slices::behind(both.as_slice(), both.len() / 2))?;
-    a_while(&rt);
-    write_all(&bare, asked.as_slice())?;
-    let mut reader = &bare;
-    let first = read_frame(rt.alloc(), &mut reader)?;
-    site.board.is_open.store(true, Ordering::SeqCst);
-    let second = read_frame(rt.alloc(), &mut reader)?;
-    assert_eq!(rt; (first.header.stream_id, second.header.stream_id), (3, 1));
+    let bare = asking_both(&rt, site.address.as_str())?;
+    let ids = ids_around_the_gate(rt.alloc(), &bare, &*site.board)?;
+    assert_eq!(rt; ids, (3, 1));
     site.server.shutdown();
     Ok(())
 }
@@ -99,27 +120,33 @@ fn a_client_at_rest_leaves_no_threads(rt: HostRuntime) -> Tested {
     let site = serving(&rt)?;
     let before = threads(&rt).ok_or("no threads")?;
     let client = client(&rt, site.address.as_str())?;
-    for _ in 0..20 {
-        answers(&rt, &client, "Echo", b"2", b"2")?;
-    }
+    answers_often(&rt, &client, 20)?;
     drop(client);
     assert!(rt; has_more_threads(&rt, before, 0));
     site.server.shutdown();
     Ok(())
 }
 
-/// A server whose connections begin with so many workers, and one connection of it.
-fn crowd<R: Machine + 'static>(
+/// A server whose connections begin with so many workers.
+fn crowded<R: Machine + 'static>(
     rt: &R,
     counts: (usize, usize, usize),
-) -> Result<(Site<R, NoHook>, PipeConnection), Fail> {
+) -> Result<Site<R, NoHook>, Fail> {
     let board = Arc::new(rt.alloc(), Board::new(rt.alloc()))?;
     let server = unbound(rt, &board)?
         .set_thread_count_default(counts.0)
         .set_thread_count_min(counts.1)
         .set_thread_count_max(counts.2)
         .bind("tcp://127.0.0.1:0", true)?;
-    let site = started(rt, server, board)?;
+    started(rt, server, board)
+}
+
+/// The same, and one connection of it.
+fn crowd<R: Machine + 'static>(
+    rt: &R,
+    counts: (usize, usize, usize),
+) -> Result<(Site<R, NoHook>, PipeConnection), Fail> {
+    let site = crowded(rt, counts)?;
     let bare = connection(rt, site.address.as_str())?;
     Ok((site, bare))
 }
@@ -140,24 +167,38 @@ fn a_connection_begins_with_its_workers(rt: HostRuntime) -> Tested {
     Ok(())
 }
 
+/// A listener at a free port that never waits.
+fn hasty_listener<R: Machine>(rt: &R) -> Result<PipeListener, Fail> {
+    let listener = TcpListener::bind(rt, "127.0.0.1:0")?;
+    listener.set_nonblocking(true)?;
+    Ok(PipeListener::from_tcp(listener)?)
+}
+
+/// A server that looks at such a listener every five milliseconds.
+fn hasty<R: Machine + 'static>(rt: &R) -> Result<Site<R, NoHook>, Fail> {
+    let board = Arc::new(rt.alloc(), Board::new(rt.alloc()))?;
+    let server = unbound(rt, &board)?
+        .set_accept_retry_interval(Duration::from_millis(5))
+        .add_listener(hasty_listener(rt)?)?;
+    started(rt, server, board)
+}
+
+/// A client of the server at this address that is answered within five seconds.
+fn soon_answered<R: Machine + 'static>(rt: &R, address: &str) -> Result<PlainClient<R>, Fail> {
+    let start = Instant::now(rt)?;
+    let client = answered_client(rt, address)?;
+    let passed = start.elapsed(rt)?;
+    assert!(rt; passed < Duration::from_secs(5));
+    Ok(client)
+}
+
 /// Where the system gives no connection, the server looks again behind its own interval, and not only behind 10 seconds.
 #[test]
 fn the_interval_of_a_server_is_its_own(rt: HostRuntime) -> Tested {
-    let listener = TcpListener::bind(&rt, "127.0.0.1:0")?;
-    listener.set_nonblocking(true)?;
-    let address = listener.local_addr()?;
-    let address = format!(in rt.alloc(); "tcp://{address}")?;
-    let board = Arc::new(rt.alloc(), Board::new(rt.alloc()))?;
-    let mut server = unbound(&rt, &board)?
-        .set_accept_retry_interval(Duration::from_millis(5))
-        .add_listener(PipeListener::from_tcp(listener)?)?;
-    server.start()?;
+    let site = hasty(&rt)?;
     a_while(&rt);
-    let start = Instant::now(&rt)?;
-    let client = client(&rt, address.as_str())?;
-    answers(&rt, &client, "Echo", b"2", b"2")?;
-    assert!(rt; start.elapsed(&rt)? < Duration::from_secs(5));
-    server.shutdown();
+    let _client = soon_answered(&rt, site.address.as_str())?;
+    site.server.shutdown();
     Ok(())
 }
 
@@ -183,21 +224,25 @@ impl AcceptHook<PipeConnection> for SeesNodelay {
     }
 }
 
+/// A server whose hook keeps whether writes go out at once, which they do or not, and where it keeps that.
+fn seeing<R: Machine + 'static>(
+    rt: &R,
+    nodelay: bool,
+) -> Result<(Site<R, SeesNodelay>, Arc<AtomicBool, Global>), Fail> {
+    let seen = Arc::new(rt.alloc(), AtomicBool::new(!nodelay))?;
+    let hook = SeesNodelay {
+        nodelay: Arc::try_clone(&seen)?,
+    };
+    let site = hooked_at_once(rt, hook, nodelay)?;
+    Ok((site, seen))
+}
+
 /// Each connection's writes go out at once where the server was bound so, and not otherwise.
 #[test]
 fn nodelay_is_handed_on(rt: HostRuntime) -> Tested {
     for nodelay in [true, false] {
-        let seen = Arc::new(rt.alloc(), AtomicBool::new(!nodelay))?;
-        let board = Arc::new(rt.alloc(), Board::new(rt.alloc()))?;
-        let hook = SeesNodelay {
-            nodelay: Arc::try_clone(&seen)?,
-        };
-        let server = unbound(&rt, &board)?
-            .set_accept_hook(hook)?
-            .bind("tcp://127.0.0.1:0", nodelay)?;
-        let site = started(&rt, server, board)?;
-        let client = client(&rt, site.address.as_str())?;
-        answers(&rt, &client, "Echo", b"2", b"2")?;
+        let (site, seen) = seeing(&rt, nodelay)?;
+        let _client = answered_client(&rt, site.address.as_str())?;
         assert_eq!(rt; seen.load(Ordering::SeqCst), nodelay);
         site.server.shutdown();
     }
@@ -225,6 +270,7 @@ fn an_end_lets_a_server_accept_again(rt: HostRuntime) -> Tested {
         || ends_later(&rt, &stop),
     );
     assert!(rt; accepted.is_none());
-    assert!(rt; start.elapsed(&rt)? < Duration::from_secs(5));
+    let passed = start.elapsed(&rt)?;
+    assert!(rt; passed < Duration::from_secs(5));
     Ok(())
 }

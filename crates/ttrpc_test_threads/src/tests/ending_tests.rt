@@ -2,13 +2,16 @@
 use crate::tests::handlers::comes;
 use crate::tests::peers::write_all;
 use crate::tests::sites::{
-    Machine, Site, Tested, a_while, answers, call, client, connection, is_told, listening, serving,
-    serving_one,
+    Machine, PlainClient, Site, Tested, a_while, address_in, answered_client, answers,
+    answers_often, call, client, connection, is_told, listening, serving, serving_one,
 };
+use std::alloc::Global;
 use std::process::Abort;
 use std::sync::atomic::{AtomicBool, Ordering};
+use std::test::Fail;
 use std::thread;
-use ttrpc_proto::Result as Answered;
+use ttrpc_proto::{Response, Result as Answered};
+use ttrpc_sync::Host;
 use ttrpc_sync_server::NoHook;
 use ttrpc_transport::{PipeConnection, PipeListener};
 
@@ -27,16 +30,39 @@ fn has_connections<R: Machine>(rt: &R, site: &Site<R, NoHook>, count: usize) -> 
     Ok(())
 }
 
+/// A request of `Echo` with a megabyte.
+fn much(alloc: Global) -> Answered<Vec<u8>> {
+    let mut request = Vec::from_slice(alloc, b"\0\x10\0\x15\0\0\0\x01\x01\0")?;
+    request.extend_from_slice(b"\x0a\x09demo.Echo\x12\x04Echo\x1a\x80\x80\x40")?;
+    request.resize(1048607, 7)?;
+    Ok(request)
+}
+
+/// Writes sixteen such requests.
+fn asks_much(alloc: Global, connection: &PipeConnection) -> Answered<()> {
+    let request = much(alloc)?;
+    for _ in 0..16 {
+        write_all(connection, request.as_slice())?;
+    }
+    Ok(())
+}
+
 /// A peer that asks much, and reads nothing.
 fn stalls<R: Machine>(rt: &R, address: &str) -> Answered<PipeConnection> {
     let stalled = connection(rt, address)?;
-    let mut request = Vec::from_slice(rt.alloc(), b"\0\x10\0\x15\0\0\0\x01\x01\0")?;
-    request.extend_from_slice(b"\x0a\x09demo.Echo\x12\x04Echo\x1a\x80\x80\x40")?;
-    request.resize(1048607, 7)?;
-    for _ in 0..16 {
-        write_all(&stalled, request.as_slice())?;
-    }
+    asks_much(rt.alloc(), &stalled)?;
     Ok(stalled)
+}
+
+/// A new client of a server that has another connection, which is answered a hundred times.
+fn served_beside<R: Machine + 'static>(
+    rt: &R,
+    site: &Site<R, NoHook>,
+) -> Result<PlainClient<R>, Fail> {
+    let client = client(rt, site.address.as_str())?;
+    answers_often(rt, &client, 100)?;
+    has_connections(rt, site, 2)?;
+    Ok(client)
 }
 
 /// A peer that reads no answers keeps no other connection from being served, and its own ends with it.
@@ -44,28 +70,21 @@ fn stalls<R: Machine>(rt: &R, address: &str) -> Answered<PipeConnection> {
 fn a_stalled_peer_is_alone_with_that(rt: HostRuntime) -> Tested {
     let site = serving(&rt)?;
     let stalled = stalls(&rt, site.address.as_str())?;
-    let client = client(&rt, site.address.as_str())?;
-    for _ in 0..100 {
-        answers(&rt, &client, "Echo", b"2", b"2")?;
-    }
-    has_connections(&rt, &site, 2)?;
+    let _client = served_beside(&rt, &site)?;
     drop(stalled);
     has_connections(&rt, &site, 1)?;
     site.server.shutdown();
     Ok(())
 }
 
-/// The `wait` of a server returns once its stopper asks, and not before. It serves until it is shut down.
-#[test]
-fn a_server_waits_for_its_stop(rt: HostRuntime) -> Tested {
-    let site = serving(&rt)?;
+/// The `wait` of a server returns behind the stop of another thread, and not before.
+fn waits_for_its_stop<R: Machine>(rt: &R, site: &Site<R, NoHook>) -> Tested {
     let stopper = site.server.stopper()?;
-    let client = client(&rt, site.address.as_str())?;
     let has_waited = AtomicBool::new(false);
     let (early, ()) = thread::join(
-        &rt,
+        rt,
         || {
-            a_while(&rt);
+            a_while(rt);
             let early = has_waited.load(Ordering::SeqCst);
             stopper.stop();
             early
@@ -75,7 +94,15 @@ fn a_server_waits_for_its_stop(rt: HostRuntime) -> Tested {
             has_waited.store(true, Ordering::SeqCst);
         },
     );
-    assert!(&rt; !early);
+    assert!(rt; !early);
+    Ok(())
+}
+
+/// The `wait` of a server returns once its stopper asks, and not before. It serves until it is shut down.
+#[test]
+fn a_server_waits_for_its_stop(rt: HostRuntime) -> Tested {
+    let (site, client) = serving_one(&rt)?;
+    waits_for_its_stop(&rt, &site)?;
     site.server.wait();
     answers(&rt, &client, "Echo", b"2", b"2")?;
     site.server.shutdown();
@@ -91,48 +118,58 @@ fn dies_inside_an_answer(listener: &PipeListener) -> Tested {
     Ok(accepted.close()?)
 }
 
+/// What a call comes to whose server goes away inside the answer.
+fn cut_call<R: Machine>(
+    rt: &R,
+    client: &PlainClient<R>,
+    listener: &PipeListener,
+) -> Result<Answered<Response>, Fail> {
+    let (cut, died) = thread::join(
+        rt,
+        || call(rt, client, "Echo", b"2"),
+        || dies_inside_an_answer(listener),
+    );
+    died?;
+    Ok(cut)
+}
+
+/// What such a call is told.
+const INSIDE: &str = "socket err: socket disconnected inside a frame";
+
 /// Each later call is told the same.
 #[test]
 fn a_client_whose_server_dies_inside_an_answer_is_told(rt: HostRuntime) -> Tested {
     let (listener, address) = listening(&rt)?;
     let client = client(&rt, address.as_str())?;
-    let (first, died) = thread::join(
-        &rt,
-        || call(&rt, &client, "Echo", b"2"),
-        || dies_inside_an_answer(&listener),
-    );
-    died?;
-    is_told(&rt, first, "socket err: socket disconnected inside a frame")?;
-    let second = call(&rt, &client, "Echo", b"2");
-    is_told(
-        &rt,
-        second,
-        "socket err: socket disconnected inside a frame",
-    )
+    is_told(&rt, cut_call(&rt, &client, &listener)?, INSIDE)?;
+    is_told(&rt, call(&rt, &client, "Echo", b"2"), INSIDE)
 }
 
 /// A connection that ended while nobody read it is told to the next call.
 #[test]
 fn a_server_that_goes_away_unseen_is_told(rt: HostRuntime) -> Tested {
     let (site, client) = serving_one(&rt)?;
-    for _ in 0..20 {
-        answers(&rt, &client, "Echo", b"2", b"2")?;
-    }
+    answers_often(&rt, &client, 20)?;
     site.server.shutdown();
     assert!(rt; call(&rt, &client, "Echo", b"2").is_err());
     assert!(rt; call(&rt, &client, "Echo", b"2").is_err());
     Ok(())
 }
 
+/// A second connection goes away inside a request, and is let go.
+fn dies_inside_a_request<R: Machine>(rt: &R, site: &Site<R, NoHook>) -> Tested {
+    let dying = connection(rt, site.address.as_str())?;
+    write_all(&dying, ASKED.split_at(12).0)?;
+    has_connections(rt, site, 2)?;
+    dying.close()?;
+    has_connections(rt, site, 1)
+}
+
 /// A client that goes away inside a request ends its connection, and no other.
 #[test]
 fn a_client_that_dies_inside_a_request_is_let_go(rt: HostRuntime) -> Tested {
     let (site, client) = serving_one(&rt)?;
-    let dying = connection(&rt, site.address.as_str())?;
-    write_all(&dying, ASKED.split_at(12).0)?;
-    has_connections(&rt, &site, 2)?;
-    dying.close()?;
-    has_connections(&rt, &site, 1)?;
+    dies_inside_a_request(&rt, &site)?;
     answers(&rt, &client, "Echo", b"2", b"2")?;
     site.server.shutdown();
     Ok(())
@@ -149,28 +186,49 @@ fn an_error_of_a_handler_ends_its_connection(rt: HostRuntime) -> Tested {
     Ok(())
 }
 
-/// A server that listens no more serves the connections that it has, and accepts others once it starts again.
-#[test]
-fn stop_listen_keeps_connections(rt: HostRuntime) -> Tested {
+/// A server that listens no more, and the client that it goes on serving. Nobody else comes to it.
+fn stopped<R: Machine + 'static>(rt: &R) -> Result<(Site<R, NoHook>, PlainClient<R>), Fail> {
     let Site {
         server,
         address,
         board,
-    } = serving(&rt)?;
-    let kept = client(&rt, address.as_str())?;
-    answers(&rt, &kept, "Echo", b"2", b"2")?;
+    } = serving(rt)?;
+    let kept = answered_client(rt, address.as_str())?;
     let server = server.stop_listen();
-    answers(&rt, &kept, "Echo", b"2", b"2")?;
-    assert!(rt; connection(&rt, address.as_str()).is_err());
+    answers(rt, &kept, "Echo", b"2", b"2")?;
+    assert!(rt; connection(rt, address.as_str()).is_err());
+    let site = Site {
+        server,
+        address,
+        board,
+    };
+    Ok((site, kept))
+}
+
+/// The server listens again.
+fn listen_again<R: Machine + 'static>(
+    rt: &R,
+    site: Site<R, NoHook>,
+) -> Result<Site<R, NoHook>, Fail> {
+    let Site { server, board, .. } = site;
     let mut server = server.bind("tcp://127.0.0.1:0", true)?;
     server.start_listen()?;
-    let address = server.local_addr()?.ok_or("no port")?;
-    let address = format!(in rt.alloc(); "tcp://{address}")?;
-    let other = client(&rt, address.as_str())?;
-    answers(&rt, &other, "Echo", b"2", b"2")?;
-    assert_eq!(rt; server.connection_count(), 2);
-    drop(board);
-    server.shutdown();
+    let address = address_in(rt.alloc(), server.local_addr()?)?;
+    Ok(Site {
+        server,
+        address,
+        board,
+    })
+}
+
+/// A server that listens no more serves the connections that it has, and accepts others once it starts again.
+#[test]
+fn stop_listen_keeps_connections(rt: HostRuntime) -> Tested {
+    let (site, _kept) = stopped(&rt)?;
+    let site = listen_again(&rt, site)?;
+    let _other = answered_client(&rt, site.address.as_str())?;
+    assert_eq!(rt; site.server.connection_count(), 2);
+    site.server.shutdown();
     Ok(())
 }
 
@@ -201,17 +259,33 @@ fn a_shutdown_ends_calls_in_flight(rt: HostRuntime) -> Tested {
     is_told(&rt, ended, "socket err: socket disconnected")
 }
 
+/// So many clients of the server at this address.
+fn many_clients<R: Machine + 'static>(
+    rt: &R,
+    address: &str,
+    count: u32,
+) -> Result<Vec<PlainClient<R>>, Fail> {
+    let mut clients = Vec::new(rt.alloc());
+    for _ in 0..count {
+        clients.push(client(rt, address)?)?;
+    }
+    Ok(clients)
+}
+
+/// Each of these clients is answered.
+fn each_is_answered<R: Host + Abort>(rt: &R, clients: &[PlainClient<R>]) -> Answered<()> {
+    for client in clients {
+        answers(rt, client, "Echo", b"2", b"2")?;
+    }
+    Ok(())
+}
+
 /// Two hundred connections are open at once, each with a call. As their clients are dropped, all are let go.
 #[test]
 fn many_connections_are_open_at_once(rt: HostRuntime) -> Tested {
     let site = serving(&rt)?;
-    let mut clients = Vec::new(rt.alloc());
-    for _ in 0..200 {
-        clients.push(client(&rt, site.address.as_str())?)?;
-    }
-    for client in clients.iter() {
-        answers(&rt, client, "Echo", b"2", b"2")?;
-    }
+    let clients = many_clients(&rt, site.address.as_str(), 200)?;
+    each_is_answered(&rt, clients.as_slice())?;
     assert_eq!(rt; site.server.connection_count(), 200);
     drop(clients);
     has_connections(&rt, &site, 0)?;

@@ -1,13 +1,19 @@
 //! Hooks of servers and clients, and connections that aren't accepted at once.
 use crate::tests::fakes::{Failing, Moments};
-use crate::tests::sites::{Tested, answers, call, client, connection, hooked, is_told};
+use crate::tests::sites::{
+    Machine, Tested, answers, answers_often, call_fails, connection, hooked, is_told,
+};
+use std::alloc::Global;
 use std::io::ErrorKind;
 use std::process::Abort;
+use std::sync::Wait;
 use std::sync::atomic::AtomicU64;
+use std::test::Fail;
 use std::thread;
 use std::time::{Clock, Duration, Instant};
-use ttrpc_bench::{Rejects, Stamps};
+use ttrpc_bench::{Rejects, StampIn, StampOut, Stamps};
 use ttrpc_secure::{ConnectionDataExt, HookError};
+use ttrpc_sync::Host;
 use ttrpc_sync_client::Client;
 use ttrpc_sync_server::accept::{Stop, next_connection};
 use ttrpc_sync_server::admission::admit;
@@ -25,60 +31,77 @@ fn is_timeout<T>(admitted: &Result<T, HookError>) -> bool {
     matches!(admitted, Err(HookError::Timeout))
 }
 
+/// A hook that begins and ends at these moments is in time, or not.
+fn is_in_time(rt: &impl Abort, alloc: Global, row: &(u64, u64, bool)) {
+    let &(first, second, in_time) = row;
+    let clock = Moments {
+        first: AtomicU64::new(first),
+        second,
+    };
+    let admitted = admit(&clock, alloc, &NoHook {}, &());
+    assert!(rt; is_timeout(&admitted) != in_time, "{first} {second}");
+    assert!(rt; admitted.is_ok() == in_time, "{first} {second}");
+}
+
 #[test]
 fn a_hook_has_thirty_seconds(rt: HostRuntime) -> Tested {
-    for &(first, second, in_time) in MOMENTS {
-        let clock = Moments {
-            first: AtomicU64::new(first),
-            second,
-        };
-        let admitted = admit(&clock, rt.alloc(), &NoHook {}, &());
-        assert!(rt; is_timeout(&admitted) != in_time, "{first} {second}");
-        assert!(rt; admitted.is_ok() == in_time, "{first} {second}");
+    for row in MOMENTS {
+        is_in_time(&rt, rt.alloc(), row);
     }
     Ok(())
+}
+
+/// A client whose hook refuses its connection to the server at this address isn't made.
+fn client_refuses<R: Machine + 'static>(rt: &R, address: &str) -> Tested {
+    let bare = connection(rt, address)?;
+    is_told(
+        rt,
+        Client::with_hook(rt.clone()?, bare, &Rejects {}),
+        "ttrpc err: client connect hook failed: connection rejected: no",
+    )
 }
 
 /// A connection that the hook refuses is closed, and a client whose hook refuses isn't made.
 #[test]
 fn a_refused_connection_is_closed(rt: HostRuntime) -> Tested {
     let site = hooked(&rt, Rejects {})?;
-    let first = client(&rt, site.address.as_str())?;
-    let closed = call(&rt, &first, "Echo", b"2");
-    assert!(rt; closed.is_err());
-    let bare = connection(&rt, site.address.as_str())?;
-    is_told(
-        &rt,
-        Client::with_hook(rt, bare, &Rejects {}),
-        "ttrpc err: client connect hook failed: connection rejected: no",
-    )?;
+    call_fails(&rt, site.address.as_str(), "Echo")?;
+    client_refuses(&rt, site.address.as_str())?;
     site.server.shutdown();
+    Ok(())
+}
+
+/// A client of the server at this address, which stamps.
+fn stamping_client<R: Machine + 'static>(
+    rt: &R,
+    address: &str,
+) -> Result<Client<R, StampOut, StampIn>, Fail> {
+    let bare = connection(rt, address)?;
+    let stamps = Stamps {
+        name: "of the client",
+    };
+    Ok(Client::with_hook(rt.clone()?, bare, &stamps)?)
+}
+
+/// Each side knows its connection by the name that its own hook gave.
+fn names_are_known<R: Host + Abort>(rt: &R, client: &Client<R, StampOut, StampIn>) -> Tested {
+    answers(rt, client, "Name", b"", b"of the server")?;
+    let name: Option<&String> = client.connection_data().get_typed("name");
+    let name = name.ok_or("no name")?;
+    assert_eq!(rt; name.as_str(), "of the client");
     Ok(())
 }
 
 /// Both sides stamp what they send, and each knows its connection by the name that its own hook gave.
 #[test]
 fn hooks_give_halves_and_names(rt: HostRuntime) -> Tested {
-    let site = hooked(
-        &rt,
-        Stamps {
-            name: "of the server",
-        },
-    )?;
-    let bare = connection(&rt, site.address.as_str())?;
-    let client = Client::with_hook(
-        rt,
-        bare,
-        &Stamps {
-            name: "of the client",
-        },
-    )?;
-    for _ in 0..300 {
-        answers(&rt, &client, "Echo", b"2", b"2")?;
-    }
-    answers(&rt, &client, "Name", b"", b"of the server")?;
-    let name: Option<&String> = client.connection_data().get_typed("name");
-    assert_eq!(rt; name.ok_or("no name")?.as_str(), "of the client");
+    let stamps = Stamps {
+        name: "of the server",
+    };
+    let site = hooked(&rt, stamps)?;
+    let client = stamping_client(&rt, site.address.as_str())?;
+    answers_often(&rt, &client, 300)?;
+    names_are_known(&rt, &client)?;
     site.server.shutdown();
     Ok(())
 }
@@ -91,20 +114,27 @@ const FAULTS: &[(u64, ErrorKind, bool)] = &[
     (3, ErrorKind::Interrupted, true),
 ];
 
+/// Such faults are tried again behind the interval of 10 milliseconds, or at once.
+fn is_tried_again<R: Clock + Wait + Abort>(rt: &R, row: &(u64, ErrorKind, bool)) -> Tested {
+    let &(count, kind, at_once) = row;
+    let failing = Failing {
+        kind,
+        left: AtomicU64::new(count),
+    };
+    let interval = Duration::from_millis(10);
+    let start = Instant::now(rt)?;
+    assert!(rt; next_connection(rt, &failing, &Stop::new(), &NoWatch {}, interval).is_none());
+    let passed = start.elapsed(rt)?;
+    assert!(rt; at_once || passed >= Duration::from_millis(30), "{count}");
+    assert_eq!(rt; failing.left.into_inner(), 0);
+    Ok(())
+}
+
 /// Where the system gives no connection, a server tries again after its interval.
 #[test]
 fn accept_is_tried_again(rt: HostRuntime) -> Tested {
-    let interval = Duration::from_millis(10);
-    for &(count, kind, at_once) in FAULTS {
-        let failing = Failing {
-            kind,
-            left: AtomicU64::new(count),
-        };
-        let start = Instant::now(&rt)?;
-        assert!(rt; next_connection(&rt, &failing, &Stop::new(), &NoWatch {}, interval).is_none());
-        let passed = start.elapsed(&rt)?;
-        assert!(rt; at_once || passed >= Duration::from_millis(30), "{count}");
-        assert_eq!(rt; failing.left.into_inner(), 0);
+    for row in FAULTS {
+        is_tried_again(&rt, row)?;
     }
     Ok(())
 }

@@ -33,6 +33,12 @@ pub fn read_frame<R: Read>(alloc: Global, reader: &mut R) -> Answered<GenMessage
     }
 }
 
+/// Reads a frame, and says its stream id.
+pub fn next_id(alloc: Global, connection: &PipeConnection) -> Answered<u32> {
+    let mut reader = connection;
+    Ok(read_frame(alloc, &mut reader)?.header.stream_id)
+}
+
 /// The bytes of a message, of which nothing but memory may be wanting.
 fn encoded<M: WireMessage>(alloc: Global, message: &M) -> Answered<Vec<u8>>
     ensures { IfOk result (λ bytes. length bytes.items < 2 ^ 32) }

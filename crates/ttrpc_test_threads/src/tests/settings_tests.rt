@@ -1,8 +1,14 @@
 //! What a server refuses by its settings.
 use crate::tests::handlers::{Board, Method, Way};
-use crate::tests::sites::{Tested, answers, client, is_told, serving, started, unbound};
+use crate::tests::sites::{
+    Machine, Site, Tested, add_method, answered_client, answers, is_told, serving, started, unbound,
+};
+use std::alloc::Global;
 use std::collections::BTreeMap;
+use std::process::Abort;
 use std::sync::Arc;
+use std::test::Fail;
+use ttrpc_sync::{Host, Runtime};
 use ttrpc_sync_server::{NoHook, Server};
 
 /// Counts of workers, default, least and greatest, and how the start of a server without an address is refused.
@@ -22,34 +28,54 @@ const STARTS: &[(usize, usize, usize, &str)] = &[
     (3, 1, 5, "ttrpc err: ttrpc-rust not bind"),
 ];
 
+/// The start of a server with these counts and without an address is refused so.
+fn start_is_refused<R: Runtime + Abort>(
+    rt: &R,
+    board: &Arc<Board, Global>,
+    row: &(usize, usize, usize, &str),
+) -> Tested {
+    let &(default, min, max, text) = row;
+    let mut server = unbound(rt, board)?
+        .set_thread_count_default(default)
+        .set_thread_count_min(min)
+        .set_thread_count_max(max);
+    is_told(rt, server.start(), text)
+}
+
 #[test]
 fn counts_and_an_address_are_wanted(rt: HostRuntime) -> Tested {
     let board = Arc::new(rt.alloc(), Board::new(rt.alloc()))?;
-    for &(default, min, max, text) in STARTS {
-        let mut server = unbound(&rt, &board)?
-            .set_thread_count_default(default)
-            .set_thread_count_min(min)
-            .set_thread_count_max(max);
-        is_told(&rt, server.start(), text)?;
+    for row in STARTS {
+        start_is_refused(&rt, &board, row)?;
     }
     Ok(())
+}
+
+/// A server of the tests.
+type Tried<R> = Server<R, Method<R>, NoHook>;
+
+/// A server that has started is refused another start.
+fn started_once<R: Machine + 'static>(rt: &R) -> Result<Tried<R>, Fail> {
+    let mut server = serving(rt)?.server;
+    is_told(rt, server.start(), "ttrpc err: server is already listening")?;
+    Ok(server)
+}
+
+/// The server listens no more, and then at another address.
+fn listening_elsewhere<R: Machine + 'static>(server: Tried<R>) -> Result<Tried<R>, Fail> {
+    let mut server = server
+        .stop_listen()
+        .stop_listen()
+        .bind("tcp://127.0.0.1:0", true)?;
+    server.start_listen()?;
+    Ok(server)
 }
 
 /// Once it has started, a server is refused another start, another address and other services, also where it listens no
 /// more and has another address.
 #[test]
 fn a_server_starts_once_at_a_time(rt: HostRuntime) -> Tested {
-    let mut server = serving(&rt)?.server;
-    is_told(
-        &rt,
-        server.start(),
-        "ttrpc err: server is already listening",
-    )?;
-    let mut server = server
-        .stop_listen()
-        .stop_listen()
-        .bind("tcp://127.0.0.1:0", true)?;
-    server.start_listen()?;
+    let server = listening_elsewhere(started_once(&rt)?)?;
     is_told(
         &rt,
         server.bind("tcp://127.0.0.1:0", true),
@@ -67,27 +93,47 @@ fn services_are_fixed_by_a_start(rt: HostRuntime) -> Tested {
     )
 }
 
+/// A service of one method, which echoes under this path.
+fn echo_at<R: Host>(
+    rt: &R,
+    board: &Arc<Board, Global>,
+    path: &str,
+) -> Result<BTreeMap<String, Method<R>>, Fail> {
+    let mut methods = BTreeMap::new(rt.alloc());
+    add_method(rt, board, &mut methods, path, Way::Echo)?;
+    Ok(methods)
+}
+
+/// A server where a service without methods was registered, and then one of another echo.
+fn with_others<R: Machine + 'static>(rt: &R, board: &Arc<Board, Global>) -> Result<Tried<R>, Fail> {
+    let server = unbound(rt, board)?.register_service(BTreeMap::new(rt.alloc()))?;
+    let others = echo_at(rt, board, "/demo.Echo/Other")?;
+    Ok(server.register_service(others)?)
+}
+
+/// The same, which listens.
+fn serving_others<R: Machine + 'static>(rt: &R) -> Result<Site<R, NoHook>, Fail> {
+    let board = Arc::new(rt.alloc(), Board::new(rt.alloc()))?;
+    let server = with_others(rt, &board)?.bind("tcp://127.0.0.1:0", true)?;
+    started(rt, server, board)
+}
+
 /// Where services are registered twice, both stand.
 #[test]
 fn a_second_service_stands_beside_the_first(rt: HostRuntime) -> Tested {
-    let board = Arc::new(rt.alloc(), Board::new(rt.alloc()))?;
-    let mut server = unbound(&rt, &board)?.register_service(BTreeMap::new(rt.alloc()))?;
-    let mut methods = BTreeMap::new(rt.alloc());
-    let method = Method {
-        rt,
-        board: Arc::try_clone(&board)?,
-        way: Way::Echo,
-    };
-    methods.insert(String::from_str(rt.alloc(), "/demo.Echo/Other")?, method)?;
-    server = server
-        .register_service(methods)?
-        .bind("tcp://127.0.0.1:0", true)?;
-    let site = started(&rt, server, board)?;
-    let client = client(&rt, site.address.as_str())?;
-    answers(&rt, &client, "Echo", b"2", b"2")?;
+    let site = serving_others(&rt)?;
+    let client = answered_client(&rt, site.address.as_str())?;
     answers(&rt, &client, "Other", b"3", b"3")?;
     site.server.shutdown();
     Ok(())
+}
+
+/// A service under this path is refused.
+fn path_is_refused<R: Host + Abort>(rt: &R, board: &Arc<Board, Global>, path: &str) -> Tested {
+    let server: Tried<R> = unbound(rt, board)?;
+    let methods = echo_at(rt, board, path)?;
+    let text = format!(in rt.alloc(); "ttrpc err: method path {path} is not /SERVICE/METHOD")?;
+    is_told(rt, server.register_service(methods), text.as_str())
 }
 
 /// A path of another form is refused.
@@ -95,16 +141,7 @@ fn a_second_service_stands_beside_the_first(rt: HostRuntime) -> Tested {
 fn a_path_has_a_service_and_a_method(rt: HostRuntime) -> Tested {
     let board = Arc::new(rt.alloc(), Board::new(rt.alloc()))?;
     for path in ["", "demo.Echo/Echo", "/Echo"] {
-        let server: Server<HostRuntime, Method<HostRuntime>, NoHook> = unbound(&rt, &board)?;
-        let mut methods = BTreeMap::new(rt.alloc());
-        let method = Method {
-            rt,
-            board: Arc::try_clone(&board)?,
-            way: Way::Echo,
-        };
-        methods.insert(String::from_str(rt.alloc(), path)?, method)?;
-        let text = format!(in rt.alloc(); "ttrpc err: method path {path} is not /SERVICE/METHOD")?;
-        is_told(&rt, server.register_service(methods), text.as_str())?;
+        path_is_refused(&rt, &board, path)?;
     }
     Ok(())
 }

@@ -2,7 +2,7 @@
 use crate::tests::handlers::{Board, Method, Way};
 use std::alloc::Global;
 use std::collections::BTreeMap;
-use std::net::{Net, TcpListener, TcpStream};
+use std::net::{Net, SocketAddr, TcpListener, TcpStream};
 use std::process::Abort;
 use std::rt::Files;
 use std::sync::Arc;
@@ -44,18 +44,30 @@ const METHODS: &[(&str, Way)] = &[
     ("/demo.Echo/Name", Way::Name),
 ];
 
+/// Adds a method under this path.
+pub fn add_method<R: Host>(
+    rt: &R,
+    board: &Arc<Board, Global>,
+    methods: &mut BTreeMap<String, Method<R>>,
+    path: &str,
+    way: Way,
+) -> Tested {
+    let method = Method {
+        rt: rt.clone()?,
+        board: Arc::try_clone(board)?,
+        way,
+    };
+    methods.insert(String::from_str(rt.alloc(), path)?, method)?;
+    Ok(())
+}
+
 fn methods<R: Host>(
     rt: &R,
     board: &Arc<Board, Global>,
 ) -> Result<BTreeMap<String, Method<R>>, Fail> {
     let mut methods = BTreeMap::new(rt.alloc());
     for &(path, way) in METHODS {
-        let method = Method {
-            rt: rt.clone()?,
-            board: Arc::try_clone(board)?,
-            way,
-        };
-        methods.insert(String::from_str(rt.alloc(), path)?, method)?;
+        add_method(rt, board, &mut methods, path, way)?;
     }
     Ok(methods)
 }
@@ -81,10 +93,21 @@ where
     I: SendInbound,
     A: SharedHook<Outbound = O, Inbound = I>,
 {
+    hooked_at_once(rt, hook, true)
+}
+
+/// The same, and each write of its connections goes out at once, or not.
+pub fn hooked_at_once<R, O, I, A>(rt: &R, hook: A, nodelay: bool) -> Result<Site<R, A>, Fail>
+where
+    R: Machine + 'static,
+    O: SendOutbound,
+    I: SendInbound,
+    A: SharedHook<Outbound = O, Inbound = I>,
+{
     let board = Arc::new(rt.alloc(), Board::new(rt.alloc()))?;
     let server = unbound(rt, &board)?
         .set_accept_hook(hook)?
-        .bind("tcp://127.0.0.1:0", true)?;
+        .bind("tcp://127.0.0.1:0", nodelay)?;
     started(rt, server, board)
 }
 
@@ -102,17 +125,33 @@ where
 {
     let mut server = server;
     server.start()?;
-    let address = server.local_addr()?.ok_or("no port")?;
+    let address = address_in(rt.alloc(), server.local_addr()?)?;
     Ok(Site {
         server,
-        address: format!(in rt.alloc(); "tcp://{address}")?,
+        address,
         board,
     })
+}
+
+/// The address of this place, which there is.
+pub fn address_in(alloc: Global, place: Option<SocketAddr>) -> Result<String, Fail> {
+    let place = place.ok_or("no port")?;
+    Ok(format!(in alloc; "tcp://{place}")?)
 }
 
 /// A client of the server at this address.
 pub fn client<R: Machine + 'static>(rt: &R, address: &str) -> Result<PlainClient<R>, Fail> {
     Ok(Client::connect(rt.clone()?, address, true)?)
+}
+
+/// A client of the server at this address, of which one call was answered.
+pub fn answered_client<R: Machine + 'static>(
+    rt: &R,
+    address: &str,
+) -> Result<PlainClient<R>, Fail> {
+    let client = client(rt, address)?;
+    answers(rt, &client, "Echo", b"2", b"2")?;
+    Ok(client)
 }
 
 /// A server that listens at a free port, and a client of it.
@@ -136,8 +175,7 @@ pub fn serving_two<R: Machine + 'static>(
 /// A listener at a free port that no server stands behind, and its address.
 pub fn listening<R: Machine>(rt: &R) -> Result<(PipeListener, String), Fail> {
     let listener = PipeListener::new(rt, rt.alloc(), "tcp://127.0.0.1:0", true)?;
-    let address = listener.local_addr()?.ok_or("no port")?;
-    let address = format!(in rt.alloc(); "tcp://{address}")?;
+    let address = address_in(rt.alloc(), listener.local_addr()?)?;
     Ok((listener, address))
 }
 
@@ -210,6 +248,26 @@ pub fn is_told<R: Abort + AllocGlobal, T: Drop>(
             Ok(())
         }
     }
+}
+
+/// A call of a new client fails.
+pub fn call_fails<R: Machine + 'static>(rt: &R, address: &str, method: &str) -> Tested {
+    let client = client(rt, address)?;
+    assert!(rt; call(rt, &client, method, b"2").is_err());
+    Ok(())
+}
+
+/// So many calls of the echo are answered, one behind the other.
+pub fn answers_often<R, O, I>(rt: &R, client: &Client<R, O, I>, count: u32) -> Answered<()>
+where
+    R: Host + Abort,
+    O: OutboundTransform + Drop,
+    I: InboundTransform + Drop,
+{
+    for _ in 0..count {
+        answers(rt, client, "Echo", b"2", b"2")?;
+    }
+    Ok(())
 }
 
 /// A while in which another thread comes to wait.

@@ -1,7 +1,7 @@
 //! Who is told of a server's faults.
 use crate::tests::fakes::Failing;
 use crate::tests::handlers::{Board, Method, comes};
-use crate::tests::sites::{Machine, Tested, call, client, unbound};
+use crate::tests::sites::{Machine, Tested, address_in, call_fails, unbound};
 use std::alloc::Global;
 use std::io::ErrorKind;
 use std::process::Abort;
@@ -66,29 +66,34 @@ impl<R: Host> Watch for Notes<R> {
     }
 }
 
+/// How often three failures of this kind to accept are told.
+fn told_accepts<R: Host + Abort>(rt: &R, kind: ErrorKind) -> Result<u64, Fail> {
+    let notes = Notes::new(rt)?;
+    let failing = Failing {
+        kind,
+        left: AtomicU64::new(3),
+    };
+    let interval = Duration::from_millis(1);
+    let next = next_connection(rt, &failing, &Stop::new(), &notes, interval);
+    assert!(rt; next.is_none());
+    Ok(notes.told.accepts.load(Ordering::SeqCst))
+}
+
 /// Each try to accept that fails is told, but for those that only a signal ended.
 #[test]
 fn failed_accepts_are_told(rt: HostRuntime) -> Tested {
     for (kind, count) in [(ErrorKind::Other, 3), (ErrorKind::Interrupted, 0)] {
-        let notes = Notes::new(&rt)?;
-        let failing = Failing {
-            kind,
-            left: AtomicU64::new(3),
-        };
-        let interval = Duration::from_millis(1);
-        let next = next_connection(&rt, &failing, &Stop::new(), &notes, interval);
-        assert!(rt; next.is_none());
-        assert_eq!(rt; notes.told.accepts.load(Ordering::SeqCst), count);
+        let told = told_accepts(&rt, kind)?;
+        assert_eq!(rt; told, count);
     }
     Ok(())
 }
 
-/// A server with this hook and this watch, and its address.
-fn watched<R, O, I, A>(
-    rt: &R,
-    hook: A,
-    notes: Notes<R>,
-) -> Result<(Server<R, Method<R>, A, Notes<R>>, String), Fail>
+/// A server with a hook of this type and a watch that notes.
+type Watched<R, A> = Server<R, Method<R>, A, Notes<R>>;
+
+/// A server with this hook and this watch, which doesn't listen yet.
+fn bound<R, O, I, A>(rt: &R, hook: A, notes: Notes<R>) -> Result<Watched<R, A>, Fail>
 where
     R: Machine + 'static,
     O: SendOutbound,
@@ -96,29 +101,62 @@ where
     A: SharedHook<Outbound = O, Inbound = I>,
 {
     let board = Arc::new(rt.alloc(), Board::new(rt.alloc()))?;
-    let mut server = unbound(rt, &board)?
+    let server = unbound(rt, &board)?
         .set_watch(notes)?
         .set_accept_hook(hook)?
         .bind("tcp://127.0.0.1:0", true)?;
+    Ok(server)
+}
+
+/// The same, which listens, and its address.
+fn watched<R, O, I, A>(rt: &R, hook: A, notes: Notes<R>) -> Result<(Watched<R, A>, String), Fail>
+where
+    R: Machine + 'static,
+    O: SendOutbound,
+    I: SendInbound,
+    A: SharedHook<Outbound = O, Inbound = I>,
+{
+    let mut server = bound(rt, hook, notes)?;
     server.start()?;
-    let port = server.local_addr()?.ok_or("no port")?;
-    Ok((server, format!(in rt.alloc(); "tcp://{port}")?))
+    let address = address_in(rt.alloc(), server.local_addr()?)?;
+    Ok((server, address))
+}
+
+/// The last refusal comes to be told, with its reason.
+fn refusal_is_told<R: Host + Abort>(rt: &R, told: &Told) -> Tested {
+    assert!(rt; comes(rt, || told.refusal.lock(rt).is_some()));
+    let text = told.refusal.lock(rt).take().ok_or("not told")?;
+    assert_eq!(rt;
+        text.as_str(),
+        "ttrpc err: accept hook failed: connection rejected: no"
+    );
+    Ok(())
+}
+
+/// A call of a server with this hook fails. The server is given back, with what its watch is told.
+fn failed<R, O, I, A>(
+    rt: &R,
+    hook: A,
+    method: &str,
+) -> Result<(Watched<R, A>, Arc<Told, Global>), Fail>
+where
+    R: Machine + 'static,
+    O: SendOutbound,
+    I: SendInbound,
+    A: SharedHook<Outbound = O, Inbound = I>,
+{
+    let notes = Notes::new(rt)?;
+    let told = Arc::try_clone(&notes.told)?;
+    let (server, address) = watched(rt, hook, notes)?;
+    call_fails(rt, address.as_str(), method)?;
+    Ok((server, told))
 }
 
 /// A hook's refusal is told, with its reason.
 #[test]
 fn a_refusal_is_told(rt: HostRuntime) -> Tested {
-    let notes = Notes::new(&rt)?;
-    let told = Arc::try_clone(&notes.told)?;
-    let (server, address) = watched(&rt, Rejects {}, notes)?;
-    let refused = call(&rt, &client(&rt, address.as_str())?, "Echo", b"2");
-    assert!(rt; refused.is_err());
-    assert!(rt; comes(&rt, || told.refusal.lock(&rt).is_some()));
-    let text = told.refusal.lock(&rt).take().ok_or("not told")?;
-    assert_eq!(rt;
-        text.as_str(),
-        "ttrpc err: accept hook failed: connection rejected: no"
-    );
+    let (server, told) = failed(&rt, Rejects {}, "Echo")?;
+    refusal_is_told(&rt, &*told)?;
     server.shutdown();
     Ok(())
 }
@@ -126,11 +164,7 @@ fn a_refusal_is_told(rt: HostRuntime) -> Tested {
 /// A handler's failure is told, once.
 #[test]
 fn a_failure_is_told(rt: HostRuntime) -> Tested {
-    let notes = Notes::new(&rt)?;
-    let told = Arc::try_clone(&notes.told)?;
-    let (server, address) = watched(&rt, NoHook {}, notes)?;
-    let failed = call(&rt, &client(&rt, address.as_str())?, "Fails", b"2");
-    assert!(rt; failed.is_err());
+    let (server, told) = failed(&rt, NoHook {}, "Fails")?;
     server.shutdown();
     assert_eq!(rt; told.handlers.load(Ordering::SeqCst), 1);
     Ok(())
