@@ -1,0 +1,328 @@
+//! What a server says to a client that speaks line by line. Frames are written by hand.
+use crate::tests::gate::Gate;
+use crate::tests::runs::{System, pipes, run_beside, run_lines, speaker};
+use crate::tests::sites::{Behind, make_server};
+use futures::Future;
+use futures::task::{Context, Poll};
+use std::alloc::{AllocGlobal, Global};
+use std::process::Abort;
+use std::sync::Arc;
+use std::test::Fail;
+use tokio::runtime::LocalRuntime;
+use ttrpc_bench_polled::lines::Line;
+use ttrpc_bench_polled::parts::Fault;
+use ttrpc_bench_polled::recorded::{Said, served_to_go, served_to_go_bare, served_to_rust};
+
+/// A request of `Echo` with the payload 2a, and its answer.
+const ASKED: &[u8] = b"\0\0\0\x14\0\0\0\x01\x01\0\x0a\x09demo.Echo\x12\x04Echo\x1a\x01\x2a";
+
+const ECHOED: &[u8] = b"\0\0\0\x05\0\0\0\x01\x02\0\x0a\0\x12\x01\x2a";
+
+/// A request under an even id, and its answer.
+const EVEN: &[u8] = b"\0\0\0\x06\0\0\0\x02\x01\0\x0a\x01x\x12\x01y";
+
+const ANSWER_TO_EVEN: &[u8] =
+    b"\0\0\0\x1b\0\0\0\x02\x02\0\x0a\x19\x08\x03\x12\x15stream id must be odd";
+
+/// A request for a method that isn't there, and its answer.
+const NO_METHOD: &[u8] = b"\0\0\0\x11\0\0\0\x01\x01\0\x0a\x09demo.Echo\x12\x04Nope";
+
+const ANSWER_TO_NO_METHOD: &[u8] = b"\0\0\0\x11\0\0\0\x01\x02\0\x0a\x0f\x08\x0c\x12\x0bNope method";
+
+/// The first request twice, in one write, and the answer to the second.
+const TWICE: &[u8] =
+    b"\0\0\0\x14\0\0\0\x01\x01\0\x0a\x09demo.Echo\x12\x04Echo\x1a\x01\x2a\0\0\0\x14\0\0\0\x01\x01\0\x0a\x09demo.Echo\x12\x04Echo\x1a\x01\x2a";
+
+const IN_USE: &[u8] = b"\0\0\0\x1b\0\0\0\x01\x02\0\x0a\x19\x08\x03\x12\x15stream id 1 is in use";
+
+/// Data under an id without a stream, and its answer.
+const DATA: &[u8] = b"\0\0\0\x01\0\0\0\x03\x03\0\x7a";
+
+const ANSWER_TO_DATA: &[u8] =
+    b"\0\0\0\x20\0\0\0\x03\x02\0\x0a\x1e\x08\x03\x12\x1aStream is no longer active";
+
+/// A request of a handler that never ends, with a limit of 20 ms, and its answer.
+const LIMITED: &[u8] =
+    b"\0\0\0\x1b\0\0\0\x01\x01\0\x0a\x09demo.Echo\x12\x09NeverEnds\x20\x80\xda\xc4\x09";
+
+const EXPIRED: &[u8] = b"\0\0\0\x0d\0\0\0\x01\x02\0\x0a\x0b\x08\x04\x12\x07timeout";
+
+/// A stream that the client closes, with what it sends, and what comes back.
+const STREAM: &[u8] =
+    b"\0\0\0\x11\0\0\0\x01\x01\x06\x0a\x09demo.Echo\x12\x04Chat\0\0\0\x01\0\0\0\x01\x03\0a\0\0\0\0\0\0\0\x01\x03\0\0\0\0\x01\0\0\0\x01\x03\0b\0\0\0\0\0\0\0\x01\x03\x05";
+
+const STREAM_BACK: &[u8] =
+    b"\0\0\0\x01\0\0\0\x01\x03\0a\0\0\0\0\0\0\0\x01\x03\0\0\0\0\x01\0\0\0\x01\x03\0b\0\0\0\0\0\0\0\x01\x03\x05";
+
+/// A stream, and items of it: `a`, an empty one, and `b`; and its close.
+const OPENS: &[u8] = b"\0\0\0\x11\0\0\0\x01\x01\x06\x0a\x09demo.Echo\x12\x04Chat";
+
+const ITEMS: &[u8] =
+    b"\0\0\0\x01\0\0\0\x01\x03\0a\0\0\0\0\0\0\0\x01\x03\0\0\0\0\x01\0\0\0\x01\x03\0b";
+
+const CLOSES: &[u8] = b"\0\0\0\0\0\0\0\x01\x03\x05";
+
+/// The frames of this number, from 0, with what answers them.
+fn row(number: u8) -> Option<(&'static [u8], &'static [u8])> {
+    Some(match number {
+        0 => (ASKED, ECHOED),
+        1 => (EVEN, ANSWER_TO_EVEN),
+        2 => (NO_METHOD, ANSWER_TO_NO_METHOD),
+        3 => (DATA, ANSWER_TO_DATA),
+        4 => (LIMITED, EXPIRED),
+        5 => (STREAM, STREAM_BACK),
+        _ => return None,
+    })
+}
+
+#[test]
+fn frames_have_their_answers(rt: HostRuntime) -> Result<(), Fail> {
+    let gate = Arc::new(rt.alloc(), Gate::new(rt.alloc()))?;
+    for number in 0..100 {
+        if let Some((frames, answers)) = row(number) {
+            for room in [1, 4096] {
+                let lines = [
+                    Line::Up(frames),
+                    Line::Down(answers),
+                    Line::UpEnds,
+                    Line::DownEnds,
+                ];
+                let fault = run_lines(&rt, &gate, room, false, &lines)?;
+                assert_eq!(rt; fault, None, "{number}, {room}");
+            }
+        }
+    }
+    Ok(())
+}
+
+/// Frames in one write, and an answer behind the end of the input; a stream that waits in vain has none.
+const AT_ONCE: &[Line<'static>] = &[
+    Line::Up(TWICE),
+    Line::UpEnds,
+    Line::Down(IN_USE),
+    Line::Down(ECHOED),
+    Line::DownEnds,
+];
+
+const IN_VAIN: &[Line<'static>] = &[Line::Up(OPENS), Line::UpEnds, Line::DownEnds];
+
+#[test]
+fn answers_come_behind_the_end_of_input(rt: HostRuntime) -> Result<(), Fail> {
+    let gate = Arc::new(rt.alloc(), Gate::new(rt.alloc()))?;
+    assert_eq!(rt; run_lines(&rt, &gate, 4096, false, AT_ONCE)?, None);
+    assert_eq!(rt; run_lines(&rt, &gate, 4096, false, IN_VAIN)?, None);
+    Ok(())
+}
+
+/// This conversation goes as stated.
+fn hold<R: System + Abort>(
+    rt: &R,
+    gate: &Arc<Gate, Global>,
+    bare: bool,
+    said: Said,
+) -> Result<(), Fail> {
+    let (name, lines) = said;
+    let fault = run_lines(rt, gate, 4096, bare, lines)?;
+    assert_eq!(rt; fault, None, "{name}, {bare}");
+    Ok(())
+}
+
+#[test]
+fn recorded_clients_are_answered(rt: HostRuntime) -> Result<(), Fail> {
+    let gate = Arc::new(rt.alloc(), Gate::new(rt.alloc()))?;
+    for number in 0..100 {
+        if let Some(said) = served_to_rust(number) {
+            hold(&rt, &gate, false, said)?;
+            hold(&rt, &gate, true, said)?;
+        }
+        if let Some(said) = served_to_go(number) {
+            hold(&rt, &gate, false, said)?;
+        }
+        if let Some(said) = served_to_go_bare(number) {
+            hold(&rt, &gate, true, said)?;
+        }
+    }
+    Ok(())
+}
+
+/// The frame with the id of this number, and with this byte in the place of the last where one is given.
+fn put(frames: &mut Vec<u8>, frame: &[u8], number: u32, last: Option<u8>) -> Result<(), Fail> {
+    let id = number.saturating_mul(2).saturating_add(1).to_be_bytes();
+    let [a, b, c, d, _, _, _, _, rest @ ..] = frame else {
+        return Err("a frame has a header".into());
+    };
+    frames.extend_from_slice(&[*a, *b, *c, *d])?;
+    frames.extend_from_slice(&id)?;
+    frames.extend_from_slice(rest)?;
+    if let (Some(byte), Some(end)) = (last, frames.last_mut()) {
+        *end = byte;
+    }
+    Ok(())
+}
+
+#[test]
+fn all_calls_are_answered_behind_the_end_of_input(rt: HostRuntime) -> Result<(), Fail> {
+    let gate = Arc::new(rt.alloc(), Gate::new(rt.alloc()))?;
+    let (mut asked, mut echoed) = (Vec::new(rt.alloc()), Vec::new(rt.alloc()));
+    for number in 0..200u8 {
+        put(&mut asked, ASKED, u32::from(number), Some(number))?;
+        put(&mut echoed, ECHOED, u32::from(number), Some(number))?;
+    }
+    let fault = answer_behind(&rt, &gate, asked.as_slice(), echoed.as_slice())?;
+    assert_eq!(rt; fault, None);
+    Ok(())
+}
+
+/// These frames are answered so behind the end of the input.
+fn answer_behind<'a, R: System>(
+    rt: &R,
+    gate: &Arc<Gate, Global>,
+    asked: &'a [u8],
+    echoed: &'a [u8],
+) -> Result<Option<Fault>, Fail> {
+    let lines = [
+        Line::Up(asked),
+        Line::UpEnds,
+        Line::Down(echoed),
+        Line::DownEnds,
+    ];
+    run_lines(rt, gate, 50, false, &lines)
+}
+
+/// A client that goes away in the middle of a stream, while the handler waits for an item.
+const LEAVES: &[Line<'static>] = &[
+    Line::Up(OPENS),
+    Line::Up(ITEMS),
+    Line::Down(ITEMS),
+    Line::UpEnds,
+    Line::DownEnds,
+];
+
+/// A client that goes away without having read.
+const LEAVES_UNREAD: &[Line<'static>] = &[Line::Up(OPENS), Line::Up(ITEMS), Line::Up(ITEMS)];
+
+#[test]
+fn a_handler_is_told_that_its_client_went_away(rt: HostRuntime) -> Result<(), Fail> {
+    let gate = Arc::new(rt.alloc(), Gate::new(rt.alloc()))?;
+    assert_eq!(rt; run_lines(&rt, &gate, 4096, false, LEAVES)?, None);
+    assert!(rt; gate.was_told("socket err: socket disconnected"));
+    // Nothing of the handler stays.
+    assert_eq!(rt; Arc::strong_count(&gate), 1);
+
+    gate.note(String::new(rt.alloc()));
+    assert_eq!(rt; run_lines(&rt, &gate, 4, false, LEAVES_UNREAD)?, None);
+    assert!(rt; !gate.was_told(""));
+    assert_eq!(rt; Arc::strong_count(&gate), 1);
+    Ok(())
+}
+
+/// A request of a handler that never ends, without a limit, and one that is answered behind it.
+const UNLIMITED: &[u8] = b"\0\0\0\x16\0\0\0\x01\x01\0\x0a\x09demo.Echo\x12\x09NeverEnds";
+
+const ASKED_BEHIND: &[u8] = b"\0\0\0\x14\0\0\0\x03\x01\0\x0a\x09demo.Echo\x12\x04Echo\x1a\x01\x2a";
+
+const ECHOED_BEHIND: &[u8] = b"\0\0\0\x05\0\0\0\x03\x02\0\x0a\0\x12\x01\x2a";
+
+const IS_OVER: &[Line<'static>] = &[Line::Up(LIMITED), Line::Down(EXPIRED)];
+
+const GOES_ON: &[Line<'static>] = &[
+    Line::Up(UNLIMITED),
+    Line::Up(ASKED_BEHIND),
+    Line::Down(ECHOED_BEHIND),
+];
+
+/// Whether a gate has so many users.
+#[derive(Drop)]
+struct Users {
+    gate: Arc<Gate, Global>,
+    count: usize,
+}
+
+impl Future for Users {
+    type Output = Option<Fault>;
+
+    fn poll(&mut self, _cx: &mut Context<'_>) -> Poll<Option<Fault>> {
+        if Arc::strong_count(&self.gate) == self.count {
+            Poll::Ready(None)
+        } else {
+            Poll::Ready(Some(Fault::Stop))
+        }
+    }
+}
+
+/// Says a client's part of these lines. Behind them, while the connection lasts, so many handlers are there.
+fn count_handlers<R: System>(
+    rt: &R,
+    handlers: usize,
+    lines: &[Line<'_>],
+) -> Result<Option<Fault>, Fail> {
+    let mut runtime = LocalRuntime::new(rt)?;
+    let gate = Arc::new(rt.alloc(), Gate::new(rt.alloc()))?;
+    let mut server = make_server(rt, runtime.handle(), &gate)?;
+    let (near, far) = pipes(rt.alloc(), 4096)?;
+    let count = Arc::strong_count(&gate).saturating_add(handlers);
+    let both = Behind {
+        first: Some(speaker(lines, near)),
+        second: Users { gate, count },
+    };
+    run_beside(rt, &mut runtime, &mut server, far, both)
+}
+
+#[test]
+fn a_handler_whose_time_is_over_is_dropped(rt: HostRuntime) -> Result<(), Fail> {
+    assert_eq!(rt; count_handlers(&rt, 1, GOES_ON)?, None);
+    assert_eq!(rt; count_handlers(&rt, 0, IS_OVER)?, None);
+    Ok(())
+}
+
+/// A stream, and what answers it: that 250 items came, all of them in order.
+const ORDERS: &[u8] = b"\0\0\0\x12\0\0\0\x01\x01\x06\x0a\x09demo.Echo\x12\x05Order";
+
+const ITEM: &[u8] = b"\0\0\0\x01\0\0\0\x01\x03\0a";
+
+const ALL_IN_ORDER: &[u8] =
+    b"\0\0\0\x14\0\0\0\x01\x02\0\x0a\0\x12\x10\0\0\0\0\0\0\0\xfa\0\0\0\0\0\0\0\xfa";
+
+/// 250 items of the stream of this number, and its close.
+fn items_of(alloc: Global, number: u32) -> Result<Vec<u8>, Fail> {
+    let mut frames = Vec::new(alloc);
+    put(&mut frames, ORDERS, number, None)?;
+    for item in 0..250u8 {
+        put(&mut frames, ITEM, number, Some(item))?;
+    }
+    put(&mut frames, CLOSES, number, None)?;
+    Ok(frames)
+}
+
+/// All that 1,000 streams of this connection say, and what answers each.
+fn thousand_streams(alloc: Global) -> Result<(Vec<Vec<u8>>, Vec<Vec<u8>>), Fail> {
+    let (mut ups, mut downs) = (Vec::new(alloc), Vec::new(alloc));
+    for number in 0..1000u32 {
+        ups.push(items_of(alloc, number)?)?;
+        downs.push(answer_of(alloc, number)?)?;
+    }
+    Ok((ups, downs))
+}
+
+/// What answers the stream of this number.
+fn answer_of(alloc: Global, number: u32) -> Result<Vec<u8>, Fail> {
+    let mut answer = Vec::new(alloc);
+    put(&mut answer, ALL_IN_ORDER, number, None)?;
+    Ok(answer)
+}
+
+#[test]
+fn items_and_a_close_in_one_write_keep_their_order(rt: HostRuntime) -> Result<(), Fail> {
+    let gate = Arc::new(rt.alloc(), Gate::new(rt.alloc()))?;
+    let (ups, downs) = thousand_streams(rt.alloc())?;
+    let mut lines = Vec::new(rt.alloc());
+    for (up, down) in ups.iter().zip(downs.iter()) {
+        lines.push(Line::Up(up.as_slice()))?;
+        lines.push(Line::Down(down.as_slice()))?;
+    }
+    lines.push(Line::UpEnds)?;
+    lines.push(Line::DownEnds)?;
+    let fault = run_lines(&rt, &gate, 16384, false, lines.as_slice())?;
+    assert_eq!(rt; fault, None);
+    Ok(())
+}

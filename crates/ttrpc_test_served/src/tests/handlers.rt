@@ -1,0 +1,185 @@
+//! The methods of the service `demo.Echo`, as the tests have it.
+ghost use Rattle.futures.specs.Poll.{OnPending};
+ghost use Rattle.futures.specs.Task.{IsArmed, Keeps};
+
+use crate::tests::gate::Gate;
+use futures::Future;
+use futures::task::{Context, Poll, Source, Waker};
+use std::alloc::{AllocError, Global};
+use std::sync::Arc;
+use tokio::time::Interval;
+use ttrpc_polled_server::{MethodHandler, ServerShared, TtrpcContext};
+use ttrpc_proto::{Error, Request, Response, ResponseInit, Result, Status, get_status};
+use ttrpc_secure::Plain;
+use ttrpc_wire::{Blob, Code, Sequence, Text};
+
+/// The connection of a test.
+pub type Shared = ServerShared<Plain, Plain>;
+
+/// What a method does.
+#[derive(Clone, Copy, Debug, PartialEq, Eq)]
+pub enum Does {
+    /// It answers with the payload.
+    Answers,
+    /// It answers with what it was handed beside the payload.
+    Tells,
+    /// It fails by `Eof`.
+    Ends,
+    /// It fails by the status that its payload is: a code, and a message.
+    Fails,
+    /// It answers with the payload once the gate is open.
+    Waits,
+    /// It looks at each tick whether the gate is open, and then answers with the payload. Behind 10,000 looks it fails.
+    Looks,
+    /// It opens the gate, and answers with the payload.
+    Opens,
+    /// It never ends.
+    NeverEnds,
+}
+
+/// A method.
+#[derive(Drop)]
+pub struct Method {
+    pub does: Does,
+    pub gate: Arc<Gate, Global>,
+}
+
+/// A request that is being handled.
+#[derive(Drop)]
+pub struct MethodCall {
+    alloc: Global,
+    does: Does,
+    payload: Option<Blob>,
+    gate: Option<Arc<Gate, Global>>,
+    ticks: Option<Interval>,
+    looks: u32,
+    never: Source,
+    slot: Option<Waker>,
+}
+
+impl MethodHandler for Method {
+    type Call = MethodCall;
+
+    fn handler(&self, ctx: TtrpcContext, req: Request) -> MethodCall {
+        let payload = match self.does {
+            Does::Tells => handed(&ctx, &req).ok(),
+            _ => Some(req.payload),
+        };
+        let ticks = match self.does {
+            Does::Looks => self.gate.take_ticks(),
+            _ => None,
+        };
+        MethodCall {
+            alloc: ctx.alloc(),
+            does: self.does,
+            payload,
+            gate: Arc::try_clone(&self.gate).ok(),
+            ticks,
+            looks: 0,
+            never: Source::new(),
+            slot: None,
+        }
+    }
+}
+
+/// How often a handler looks at most.
+const LOOKS: u32 = 10_000;
+
+impl MethodCall {
+    /// Looks at a tick whether the gate is open, and then lets others go on.
+    fn poll_look(&mut self, cx: &mut Context<'_>) -> Poll<Result<Response>>
+        ensures registered { OnPending result (IsArmed cx.new) }
+        ensures kept { Keeps cx.old cx.new }
+    {
+        let Some(ticks) = &mut self.ticks else {
+            return Poll::Ready(Err(Error::LocalClosed));
+        };
+        if ticks.poll_tick(cx).is_pending() {
+            return Poll::Pending;
+        }
+        if self.is_open() {
+            return Poll::Ready(Ok(answer(self.alloc, self.payload.take())));
+        }
+        if self.looks >= LOOKS {
+            return Poll::Ready(Err(Error::LocalClosed));
+        }
+        self.looks = self.looks.saturating_add(1);
+        cx.yield_now()
+    }
+
+    fn is_open(&self) -> bool {
+        match &self.gate {
+            Some(gate) => gate.is_open(),
+            None => false,
+        }
+    }
+}
+
+impl Future for MethodCall {
+    type Output = Result<Response>;
+
+    fn poll(&mut self, cx: &mut Context<'_>) -> Poll<Result<Response>> {
+        match self.does {
+            Does::NeverEnds => return cx.register(&self.never, &mut self.slot),
+            Does::Looks => return self.poll_look(cx),
+            Does::Ends => return Poll::Ready(Err(Error::Eof)),
+            Does::Fails => return Poll::Ready(Ok(failure(self.alloc, self.payload.take()))),
+            Does::Waits => {
+                if let Some(gate) = &self.gate {
+                    if gate.poll_open(cx).is_pending() {
+                        return Poll::Pending;
+                    }
+                }
+            }
+            Does::Opens => {
+                if let Some(gate) = &self.gate {
+                    gate.open();
+                }
+            }
+            Does::Answers | Does::Tells => {}
+        }
+        Poll::Ready(Ok(answer(self.alloc, self.payload.take())))
+    }
+}
+
+/// The stream's id, the limit in nanoseconds, how many keys the metadata has, and the method.
+fn handed(ctx: &TtrpcContext, req: &Request) -> std::result::Result<Blob, AllocError> {
+    let (id, limit, keys) = (ctx.mh.stream_id, ctx.timeout_nano, ctx.metadata.len());
+    let told = format!(in ctx.alloc(); "{id} {limit} {keys} {}", req.method)?;
+    Blob::from_slice(ctx.alloc(), told.as_bytes())
+}
+
+/// The response of an OK status with this payload.
+pub fn answer(alloc: Global, payload: Option<Blob>) -> Response {
+    let status = get_status(Code::OK, String::new(alloc));
+    let mut response = Response::init_status(alloc, status);
+    if let Some(payload) = payload {
+        response.set_payload(payload.into_vec());
+    }
+    response
+}
+
+/// The response of the status whose code is the first byte and whose message the rest; of no bytes, that of a plain error.
+pub fn failure(alloc: Global, payload: Option<Blob>) -> Response {
+    failure_of(alloc, payload).into_response(alloc)
+}
+
+fn failure_of(alloc: Global, payload: Option<Blob>) -> Error {
+    let Some(payload) = payload else {
+        return Error::LocalClosed;
+    };
+    let [code, message @ ..] = payload.as_slice() else {
+        return match Text::from_str(alloc, "plain error") {
+            Ok(text) => Error::Others(text),
+            Err(_) => Error::NoMemory,
+        };
+    };
+    match Text::from_utf8(alloc, message) {
+        Ok(message) => Error::RpcStatus(Status {
+            code: i32::from(*code),
+            message,
+            details: Sequence::new(alloc),
+        }),
+        Err(_) => Error::NoMemory,
+    }
+}

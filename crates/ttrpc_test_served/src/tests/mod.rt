@@ -1,0 +1,9 @@
+mod bytes_tests;
+mod gate;
+mod handlers;
+mod joined_tests;
+mod runs;
+mod script_tests;
+mod sites;
+mod stop_tests;
+mod streams;

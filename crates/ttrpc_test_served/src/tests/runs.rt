@@ -1,0 +1,127 @@
+//! What the tests run: the acts of a client beside a server, and the lines of a client to a server.
+use crate::tests::gate::Gate;
+use crate::tests::sites::{Ends, Near, TestServer, make_server};
+use futures::Future;
+use std::alloc::{AllocError, Global};
+use std::net::Net;
+use std::random::RandomSource;
+use std::sync::{Arc, Wait};
+use std::test::Fail;
+use tokio::io::{DuplexStream, duplex};
+use tokio::runtime::{Handle, LocalRuntime};
+use ttrpc_bench_polled::acts::{Act, Script};
+use ttrpc_bench_polled::lines::{Line, Side, Speaker};
+use ttrpc_bench_polled::parts::{Fault, Parts};
+use ttrpc_polled::Timed;
+use ttrpc_polled_client::Client;
+use ttrpc_secure::{HookOutput, Plain};
+
+/// What a test needs of the system.
+pub trait System: Timed + Wait + Net + RandomSource {}
+
+impl<R: Timed + Wait + Net + RandomSource> System for R {}
+
+/// One side's ends of bytes in memory.
+#[derive(Drop)]
+pub struct Pipe {
+    pub reader: DuplexStream,
+    pub writer: DuplexStream,
+}
+
+/// The client's ends and the server's, between which so many bytes are under way each way at most.
+pub fn pipes(alloc: Global, room: usize) -> Result<(Pipe, Pipe), AllocError> {
+    let (up, up_far) = duplex(alloc, room.max(1))?;
+    let (down, down_far) = duplex(alloc, room.max(1))?;
+    let near = Pipe {
+        reader: down_far,
+        writer: up,
+    };
+    let far = Pipe {
+        reader: up_far,
+        writer: down,
+    };
+    Ok((near, far))
+}
+
+/// Does these acts of a client beside a server, with so many bytes under way each way at most.
+pub fn run_acts<R: System>(rt: &R, room: usize, acts: &[Act]) -> Result<Option<Fault>, Fail> {
+    let alloc = rt.alloc();
+    let mut runtime = LocalRuntime::new(rt)?;
+    let gate = Arc::new(alloc, Gate::new(alloc))?;
+    let mut server = make_server(rt, runtime.handle(), &gate)?;
+    let (near, far) = pipes(alloc, room)?;
+    let (client, connection) = client_of(rt, runtime.handle(), near)?;
+    let script = Script::new(client, acts);
+    run_beside_client(rt, &mut runtime, &mut server, far, connection, script)
+}
+
+/// A client that reads and writes here, and its connection.
+pub fn client_of<R: System>(
+    rt: &R,
+    handle: &Handle,
+    pipe: Pipe,
+) -> Result<(Client<R, Plain, Plain>, Near<R>), Fail> {
+    let Pipe { reader, writer } = pipe;
+    let output = HookOutput::of_halves(rt.alloc(), Plain {}, Plain {});
+    Ok(Client::over(rt.clone()?, handle, reader, writer, output)?)
+}
+
+/// Runs this, with the connection of its client and one of the server, until it is done.
+pub fn run_beside_client<R: System, D: Future<Output = Option<Fault>>>(
+    rt: &R,
+    runtime: &mut LocalRuntime,
+    server: &mut TestServer<R>,
+    pipe: Pipe,
+    near: Near<R>,
+    does: D,
+) -> Result<Option<Fault>, Fail>
+    requires { D.can_poll does }
+{
+    let Pipe { reader, writer } = pipe;
+    let output = HookOutput::of_halves(rt.alloc(), Plain {}, Plain {});
+    let far = server.over(reader, writer, output)?;
+    let parts = Parts::beside(rt.alloc(), does, Ends::new(near, far))?;
+    Ok(runtime.block_on(rt, parts)?)
+}
+
+/// Runs this beside a connection of the server, until it is done.
+pub fn run_beside<R: System, D: Future<Output = Option<Fault>>>(
+    rt: &R,
+    runtime: &mut LocalRuntime,
+    server: &mut TestServer<R>,
+    pipe: Pipe,
+    does: D,
+) -> Result<Option<Fault>, Fail>
+    requires { D.can_poll does }
+{
+    let Pipe { reader, writer } = pipe;
+    let output = HookOutput::of_halves(rt.alloc(), Plain {}, Plain {});
+    let far = server.over(reader, writer, output)?;
+    let parts = Parts::beside(rt.alloc(), does, far)?;
+    Ok(runtime.block_on(rt, parts)?)
+}
+
+/// Says a client's part of these lines to a server, with so many bytes under way each way at most, until both are done. Streams
+/// begin bare, or with an item.
+pub fn run_lines<R: System>(
+    rt: &R,
+    gate: &Arc<Gate, Global>,
+    room: usize,
+    bare: bool,
+    lines: &[Line<'_>],
+) -> Result<Option<Fault>, Fail> {
+    let mut runtime = LocalRuntime::new(rt)?;
+    let mut server = make_server(rt, runtime.handle(), gate)?.set_bare_openings(bare);
+    let (near, far) = pipes(rt.alloc(), room)?;
+    let Pipe { reader, writer } = far;
+    let output = HookOutput::of_halves(rt.alloc(), Plain {}, Plain {});
+    let served = server.over(reader, writer, output)?;
+    let parts = Parts::lasting(rt.alloc(), speaker(lines, near), served)?;
+    Ok(runtime.block_on(rt, parts)?)
+}
+
+/// Who says a client's part of these lines here.
+pub fn speaker<'a>(lines: &'a [Line<'a>], pipe: Pipe) -> Speaker<'a, DuplexStream, DuplexStream> {
+    let Pipe { reader, writer } = pipe;
+    Speaker::new(Side::Client, lines, reader, writer)
+}

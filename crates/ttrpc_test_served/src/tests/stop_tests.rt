@@ -1,0 +1,178 @@
+//! Connections that a server ends: with jobs under way, at rest, with a handler that never ends, and with a peer that doesn't read.
+use crate::tests::gate::Gate;
+use crate::tests::runs::{System, client_of, pipes, run_beside, run_beside_client, speaker};
+use crate::tests::sites::make_server;
+use futures::Future;
+use futures::future::Either;
+use futures::task::{Context, Poll};
+use std::alloc::Global;
+use std::sync::Arc;
+use std::test::Fail;
+use std::time::Duration;
+use tokio::io::DuplexStream;
+use tokio::runtime::LocalRuntime;
+use ttrpc_bench_polled::acts::{Act, Script};
+use ttrpc_bench_polled::lines::{Line, Speaker};
+use ttrpc_bench_polled::parts::Fault;
+use ttrpc_polled::Timed;
+use ttrpc_polled_server::Disconnect;
+use ttrpc_proto::{Error, Result as RpcResult};
+
+/// What goes on before a server disconnects.
+type Before<'a, R> = Either<Script<'a, R>, Speaker<'a, DuplexStream, DuplexStream>>;
+
+/// What goes on, then a server that disconnects, at which a gate is opened, and then other acts.
+#[derive(Drop)]
+struct Stopping<'a, R: Timed> {
+    doer: Before<'a, R>,
+    disconnect: Option<Disconnect>,
+    gate: Arc<Gate, Global>,
+    leaves_waiters: bool,
+    after: &'a [Act],
+}
+
+impl<R: Timed> Future for Stopping<'_, R> {
+    type Output = Option<Fault>;
+
+    fn poll(&mut self, cx: &mut Context<'_>) -> Poll<Option<Fault>> {
+        match self.doer.poll(cx) {
+            Poll::Pending => return Poll::Pending,
+            Poll::Ready(Some(fault)) => return Poll::Ready(Some(fault)),
+            Poll::Ready(None) => {}
+        }
+        let Some(mut disconnect) = self.disconnect.take() else {
+            return Poll::Ready(None);
+        };
+        match disconnect.poll(cx) {
+            Poll::Pending => {
+                self.gate.open();
+                self.disconnect = Some(disconnect);
+                return Poll::Pending;
+            }
+            Poll::Ready(ended) if has_left(&ended) == self.leaves_waiters => {}
+            Poll::Ready(_) => return Poll::Ready(Some(Fault::Stop)),
+        }
+        if let Either::Left(script) = &mut self.doer {
+            script.go_on(self.after);
+        }
+        self.doer.poll(cx)
+    }
+}
+
+/// Whether connections are left.
+fn has_left(ended: &RpcResult<()>) -> bool {
+    match ended {
+        Err(Error::Others(text)) => text.as_str() == "waiters are left",
+        _ => false,
+    }
+}
+
+/// Does these acts beside a server, disconnects that, within this limit, and does the other acts.
+fn stop<'a, R: System>(
+    rt: &R,
+    limit: Duration,
+    before: &'a [Act],
+    leaves_waiters: bool,
+    after: &'a [Act],
+) -> Result<Option<Fault>, Fail> {
+    let mut runtime = LocalRuntime::new(rt)?;
+    let gate = Arc::new(rt.alloc(), Gate::new(rt.alloc()))?;
+    let mut server = make_server(rt, runtime.handle(), &gate)?.set_disconnect_limit(limit);
+    let (near, far) = pipes(rt.alloc(), 4096)?;
+    let (client, connection) = client_of(rt, runtime.handle(), near)?;
+    let stopping = Stopping {
+        doer: Either::Left(Script::new(client, before)),
+        disconnect: Some(server.disconnect()?),
+        gate,
+        leaves_waiters,
+        after,
+    };
+    run_beside_client(rt, &mut runtime, &mut server, far, connection, stopping)
+}
+
+const GONE: &str = "socket err: socket disconnected";
+
+const NOTHING: &[Act] = &[];
+
+const ECHOED: &[Act] = &[Act::Calls("Echo", b"1", 0), Act::Ends(0, Ok(b"1"))];
+
+const GONE_BEHIND: &[Act] = &[
+    Act::Yields(100),
+    Act::Calls("Echo", b"2", 0),
+    Act::Ends(1, Err(GONE)),
+];
+
+const WAITS: &[Act] = &[
+    Act::Calls("Waits", b"1", 0),
+    Act::Begins(0),
+    Act::Yields(100),
+];
+
+const NEVER_ENDS: &[Act] = &[
+    Act::Calls("NeverEnds", b"1", 0),
+    Act::Begins(0),
+    Act::Yields(100),
+];
+
+const STREAMS: &[Act] = &[
+    Act::Opens("Chat", b"", true, true),
+    Act::Sends(0, b"1", None),
+    Act::Receives(0, Ok(b"1")),
+];
+
+const ENDED: &[Act] = &[Act::Ends(0, Ok(b"1"))];
+
+const GONE_CALL: &[Act] = &[Act::Ends(0, Err(GONE))];
+
+const GONE_STREAM: &[Act] = &[Act::Receives(0, Err(GONE))];
+
+/// A name, a limit in milliseconds, what is done before, whether connections are left, and what is done behind.
+type Stopped = (&'static str, u64, &'static [Act], bool, &'static [Act]);
+
+/// The end of this number, from 0.
+fn end(number: u8) -> Option<Stopped> {
+    Some(match number {
+        0 => ("at rest", 400, ECHOED, false, GONE_BEHIND),
+        1 => ("a job under way", 400, WAITS, false, ENDED),
+        2 => ("never ends", 400, NEVER_ENDS, false, GONE_CALL),
+        3 => ("never ends, short limit", 20, NEVER_ENDS, true, NOTHING),
+        4 => ("a stream under way", 400, STREAMS, false, GONE_STREAM),
+        _ => return None,
+    })
+}
+
+#[test]
+fn a_server_ends_its_connections(rt: HostRuntime) -> Result<(), Fail> {
+    for number in 0..100 {
+        if let Some((name, limit, before, leaves_waiters, after)) = end(number) {
+            let limit = Duration::from_millis(limit);
+            let fault = stop(&rt, limit, before, leaves_waiters, after)?;
+            assert_eq!(rt; fault, None, "{name}");
+        }
+    }
+    Ok(())
+}
+
+/// A request of `Echo` with the payload 2a, twice as often as its answers have room.
+const ASKED_OFTEN: &[Line<'static>] = &[Line::Up(
+    b"\0\0\0\x14\0\0\0\x01\x01\0\x0a\x09demo.Echo\x12\x04Echo\x1a\x01\x2a\0\0\0\x14\0\0\0\x03\x01\0\x0a\x09demo.Echo\x12\x04Echo\x1a\x01\x2b",
+)];
+
+#[test]
+fn a_server_ends_the_connection_of_a_peer_that_reads_nothing(rt: HostRuntime) -> Result<(), Fail> {
+    let mut runtime = LocalRuntime::new(&rt)?;
+    let gate = Arc::new(rt.alloc(), Gate::new(rt.alloc()))?;
+    let mut server = make_server(&rt, runtime.handle(), &gate)?;
+    let (near, far) = pipes(rt.alloc(), 15)?;
+    let doer: Before<'_, HostRuntime> = Either::Right(speaker(ASKED_OFTEN, near));
+    let stopping = Stopping {
+        doer,
+        disconnect: Some(server.disconnect()?),
+        gate,
+        leaves_waiters: false,
+        after: NOTHING,
+    };
+    let fault = run_beside(&rt, &mut runtime, &mut server, far, stopping)?;
+    assert_eq!(rt; fault, None);
+    Ok(())
+}

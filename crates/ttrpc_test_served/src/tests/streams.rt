@@ -1,0 +1,256 @@
+//! The streams of the service `demo.Echo`, as the tests have it.
+ghost use Rattle.std.specs.Prelude.{⊤};
+ghost use Rattle.futures.specs.Poll.{OnPending};
+ghost use Rattle.futures.specs.Task.{IsArmed, Keeps};
+
+use crate::tests::gate::Gate;
+use crate::tests::handlers::{Shared, answer, failure};
+use futures::Future;
+use futures::task::{Context, Poll};
+use std::alloc::{AllocError, Global};
+use std::mem::replace;
+use std::sync::Arc;
+use ttrpc_polled_server::{StreamHandler, TtrpcContext};
+use ttrpc_polled_streams::{Sending, StreamInner};
+use ttrpc_proto::{Error, Response, Result};
+use ttrpc_wire::Blob;
+
+/// What a stream does.
+#[derive(Clone, Copy, Debug, PartialEq, Eq)]
+pub enum Streams {
+    /// It sends each item back, and then closes.
+    Chat,
+    /// It sends each item back, and then ends with a message.
+    Last,
+    /// It sends each item back, and that there are no more; then it ends by what it hears behind that.
+    Hears,
+    /// It ends with how many items came, and how many bytes in all.
+    Sum,
+    /// It ends with how many items came, and how many of them ended with their own number, from 0.
+    Order,
+    /// It sends as many items as its first one says, and then closes.
+    Count,
+    /// It fails by the status that its first item is.
+    Fail,
+    /// It closes at once.
+    Early,
+}
+
+/// A stream.
+#[derive(Drop)]
+pub struct Streaming {
+    pub does: Streams,
+    pub gate: Arc<Gate, Global>,
+}
+
+/// Where a stream's handler is.
+#[derive(Drop)]
+enum Turn {
+    /// It waits for an item.
+    Receives,
+    /// It sends one.
+    Sends(Sending),
+    /// It has ended.
+    Done,
+}
+
+/// A stream that is being handled.
+#[derive(Drop)]
+pub struct StreamingCall {
+    alloc: Global,
+    does: Streams,
+    stream: StreamInner<Shared>,
+    gate: Option<Arc<Gate, Global>>,
+    turn: Turn,
+    items: u64,
+    bytes: u64,
+    left: u64,
+}
+
+impl StreamHandler<Shared> for Streaming {
+    type Call = StreamingCall;
+
+    fn handler(&self, ctx: TtrpcContext, stream: StreamInner<Shared>) -> StreamingCall
+        ensures { ⊤ }
+    {
+        StreamingCall {
+            alloc: ctx.alloc(),
+            does: self.does,
+            stream,
+            gate: Arc::try_clone(&self.gate).ok(),
+            turn: Turn::Receives,
+            items: 0,
+            bytes: 0,
+            left: 0,
+        }
+    }
+}
+
+/// What a turn came to: the end of the stream, unless it is none.
+type Turned = Option<Result<Option<Response>>>;
+
+impl StreamingCall {
+    /// Goes on by one turn.
+    fn poll_turn(&mut self, cx: &mut Context<'_>) -> Poll<Turned>
+        ensures registered { OnPending result (IsArmed cx.new) }
+        ensures kept { Keeps cx.old cx.new }
+    {
+        if self.does == Streams::Early {
+            return Poll::Ready(Some(Ok(None)));
+        }
+        match replace(&mut self.turn, Turn::Done) {
+            Turn::Receives => self.poll_item(cx),
+            Turn::Sends(sending) => self.poll_sending(sending, cx),
+            Turn::Done => Poll::Ready(Some(Err(Error::LocalClosed))),
+        }
+    }
+
+    fn poll_item(&mut self, cx: &mut Context<'_>) -> Poll<Turned>
+        ensures registered { OnPending result (IsArmed cx.new) }
+        ensures kept { Keeps cx.old cx.new }
+    {
+        match self.stream.poll_recv(cx) {
+            Poll::Pending => {
+                self.turn = Turn::Receives;
+                Poll::Pending
+            }
+            Poll::Ready(Ok(item)) => Poll::Ready(self.on_item(item)),
+            Poll::Ready(Err(Error::Eof)) => Poll::Ready(self.on_end()),
+            Poll::Ready(Err(error)) => {
+                self.note(&error);
+                Poll::Ready(Some(Err(error)))
+            }
+        }
+    }
+
+    fn poll_sending(&mut self, sending: Sending, cx: &mut Context<'_>) -> Poll<Turned>
+        ensures registered { OnPending result (IsArmed cx.new) }
+        ensures kept { Keeps cx.old cx.new }
+    {
+        let mut sending = sending;
+        match self.stream.sender().poll_sending(&mut sending, cx) {
+            Poll::Pending => {
+                self.turn = Turn::Sends(sending);
+                Poll::Pending
+            }
+            Poll::Ready(Ok(())) => Poll::Ready(self.on_sent()),
+            Poll::Ready(Err(error)) => {
+                self.note(&error);
+                Poll::Ready(Some(Err(error)))
+            }
+        }
+    }
+
+    fn on_item(&mut self, item: Blob) -> Turned {
+        match self.does {
+            Streams::Chat | Streams::Last | Streams::Hears => {
+                self.turn = Turn::Sends(Sending::Sends(item));
+                None
+            }
+            Streams::Sum => {
+                self.items = self.items.saturating_add(1);
+                self.bytes = self.bytes.saturating_add(item.len() as u64);
+                self.turn = Turn::Receives;
+                None
+            }
+            Streams::Order => {
+                let number = item.as_slice().last().map(|byte| u64::from(*byte));
+                if number == Some(self.items) {
+                    self.bytes = self.bytes.saturating_add(1);
+                }
+                self.items = self.items.saturating_add(1);
+                self.turn = Turn::Receives;
+                None
+            }
+            Streams::Count => {
+                self.left = item.as_slice().last().map_or(0, |count| u64::from(*count));
+                self.send_next()
+            }
+            Streams::Fail => Some(Ok(Some(failure(self.alloc, Some(item))))),
+            Streams::Early => Some(Ok(None)),
+        }
+    }
+
+    fn on_end(&mut self) -> Turned {
+        if self.does != Streams::Hears {
+            return Some(self.at_end());
+        }
+        match Blob::from_slice(self.alloc, b"eof") {
+            Ok(item) => {
+                self.turn = Turn::Sends(Sending::Sends(item));
+                None
+            }
+            Err(_) => Some(Err(Error::NoMemory)),
+        }
+    }
+
+    fn on_sent(&mut self) -> Turned {
+        if self.does == Streams::Count {
+            return self.send_next();
+        }
+        self.turn = Turn::Receives;
+        None
+    }
+
+    /// Begins to send the next of the items that are counted, or closes.
+    fn send_next(&mut self) -> Turned {
+        if self.left == 0 {
+            return Some(Ok(None));
+        }
+        let number = u32::try_from(self.items).unwrap_or(u32::MAX);
+        let item = match Blob::from_slice(self.alloc, &number.to_be_bytes()) {
+            Ok(item) => item,
+            Err(_) => return Some(Err(Error::NoMemory)),
+        };
+        self.items = self.items.saturating_add(1);
+        self.left -= 1;
+        self.turn = Turn::Sends(Sending::Sends(item));
+        None
+    }
+
+    /// How it ends once the client sends no more.
+    fn at_end(&self) -> Result<Option<Response>> {
+        match self.does {
+            Streams::Last => Ok(Some(answer(
+                self.alloc,
+                Some(Blob::from_slice(self.alloc, b"\xff")?),
+            ))),
+            Streams::Sum | Streams::Order => Ok(Some(answer(self.alloc, Some(self.sums()?)))),
+            Streams::Chat | Streams::Hears | Streams::Count | Streams::Fail | Streams::Early => Ok(
+                None,
+            ),
+        }
+    }
+
+    /// Both sums, eight bytes each, the greatest first.
+    fn sums(&self) -> std::result::Result<Blob, AllocError> {
+        let mut told = Vec::with_capacity(self.alloc, 16)?;
+        told.extend_from_slice(&self.items.to_be_bytes())?;
+        told.extend_from_slice(&self.bytes.to_be_bytes())?;
+        Ok(Blob::from_vec(told))
+    }
+
+    fn note(&self, error: &Error) {
+        if let (Some(gate), Ok(text)) = (&self.gate, format!(in self.alloc; "{error}")) {
+            gate.note(text);
+        }
+    }
+}
+
+/// How many turns are done at most before other tasks go on.
+const TURNS: u32 = 64;
+
+impl Future for StreamingCall {
+    type Output = Result<Option<Response>>;
+
+    fn poll(&mut self, cx: &mut Context<'_>) -> Poll<Result<Option<Response>>> {
+        for _ in 0..TURNS {
+            match self.poll_turn(cx) {
+                Poll::Pending => return Poll::Pending,
+                Poll::Ready(Some(ended)) => return Poll::Ready(ended),
+                Poll::Ready(None) => {}
+            }
+        }
+        cx.yield_now()
+    }
+}
