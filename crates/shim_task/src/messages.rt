@@ -7,6 +7,9 @@ use ttrpc_members::entries::MapOf;
 use ttrpc_members::item::{Boolean, Bytes, Int32, Int64, Nested, Uint32, Utf8, Utf8Key};
 use ttrpc_members::kind::{MemberKind, Optional, Repeated, Single};
 use ttrpc_members::map::{Map, TextKey};
+use ttrpc_members::several::{
+    clone_eight, clone_four, clone_two, write_eight, write_four, write_two,
+};
 use ttrpc_wire::{Blob, CodecError, Field, FieldNumber, Sequence, Text, TryClone};
 
 /// The number of `UNKNOWN` of the enum `containerd.task.v2.Status`.
@@ -42,10 +45,9 @@ const ANY_VALUE: FieldNumber = FieldNumber { value: 2 };
 
 impl TryClone for Any {
     fn try_clone(&self) -> Result<Any, AllocError> {
-        Ok(Any {
-            type_url: Single::<Utf8>::try_clone(&self.type_url)?,
-            value: Single::<Bytes>::try_clone(&self.value)?,
-        })
+        let type_url = Single::<Utf8>::try_clone(&self.type_url)?;
+        let value = Single::<Bytes>::try_clone(&self.value)?;
+        Ok(Any { type_url, value })
     }
 }
 
@@ -238,11 +240,17 @@ const MOUNT_OPTIONS: FieldNumber = FieldNumber { value: 4 };
 
 impl TryClone for Mount {
     fn try_clone(&self) -> Result<Mount, AllocError> {
+        let (type_, source, target, options) = clone_four::<
+            Single<Utf8>,
+            Single<Utf8>,
+            Single<Utf8>,
+            Repeated<Utf8>,
+        >(&self.type_, &self.source, &self.target, &self.options)?;
         Ok(Mount {
-            type_: Single::<Utf8>::try_clone(&self.type_)?,
-            source: Single::<Utf8>::try_clone(&self.source)?,
-            target: Single::<Utf8>::try_clone(&self.target)?,
-            options: Repeated::<Utf8>::try_clone(&self.options)?,
+            type_,
+            source,
+            target,
+            options,
         })
     }
 }
@@ -288,10 +296,13 @@ impl WireMessage for Mount {
 
     #[tactic(auto, using(ttrpc_members::proofs::Groups::flat_written, ttrpc_members::proofs::Groups::flat_len))]
     fn write(&self, out: &mut Vec<u8>) -> Result<(), CodecError> {
-        Single::<Utf8>::write(&self.type_, MOUNT_TYPE, out)?;
-        Single::<Utf8>::write(&self.source, MOUNT_SOURCE, out)?;
-        Single::<Utf8>::write(&self.target, MOUNT_TARGET, out)?;
-        Repeated::<Utf8>::write(&self.options, MOUNT_OPTIONS, out)
+        write_four::<Single<Utf8>, Single<Utf8>, Single<Utf8>, Repeated<Utf8>>(
+            (&self.type_, MOUNT_TYPE),
+            (&self.source, MOUNT_SOURCE),
+            (&self.target, MOUNT_TARGET),
+            (&self.options, MOUNT_OPTIONS),
+            out,
+        )
     }
 
     fn lemma_is_value(&self) {
@@ -321,9 +332,10 @@ const PROCESS_INFO_INFO: FieldNumber = FieldNumber { value: 2 };
 
 impl TryClone for ProcessInfo {
     fn try_clone(&self) -> Result<ProcessInfo, AllocError> {
+        let info = Optional::<Nested<Any>>::try_clone(&self.info)?;
         Ok(ProcessInfo {
             pid: self.pid,
-            info: Optional::<Nested<Any>>::try_clone(&self.info)?,
+            info,
         })
     }
 }
@@ -424,17 +436,38 @@ const CREATE_TASK_REQUEST_OPTIONS: FieldNumber = FieldNumber { value: 10 };
 
 impl TryClone for CreateTaskRequest {
     fn try_clone(&self) -> Result<CreateTaskRequest, AllocError> {
+        let id = Single::<Utf8>::try_clone(&self.id)?;
+        let (bundle, rootfs, stdin, stdout, stderr, checkpoint, parent_checkpoint, options) =
+            clone_eight::<
+                Single<Utf8>,
+                Repeated<Nested<Mount>>,
+                Single<Utf8>,
+                Single<Utf8>,
+                Single<Utf8>,
+                Single<Utf8>,
+                Single<Utf8>,
+                Optional<Nested<Any>>,
+            >(
+                &self.bundle,
+                &self.rootfs,
+                &self.stdin,
+                &self.stdout,
+                &self.stderr,
+                &self.checkpoint,
+                &self.parent_checkpoint,
+                &self.options,
+            )?;
         Ok(CreateTaskRequest {
-            id: Single::<Utf8>::try_clone(&self.id)?,
-            bundle: Single::<Utf8>::try_clone(&self.bundle)?,
-            rootfs: Repeated::<Nested<Mount>>::try_clone(&self.rootfs)?,
+            id,
+            bundle,
+            rootfs,
             terminal: self.terminal,
-            stdin: Single::<Utf8>::try_clone(&self.stdin)?,
-            stdout: Single::<Utf8>::try_clone(&self.stdout)?,
-            stderr: Single::<Utf8>::try_clone(&self.stderr)?,
-            checkpoint: Single::<Utf8>::try_clone(&self.checkpoint)?,
-            parent_checkpoint: Single::<Utf8>::try_clone(&self.parent_checkpoint)?,
-            options: Optional::<Nested<Any>>::try_clone(&self.options)?,
+            stdin,
+            stdout,
+            stderr,
+            checkpoint,
+            parent_checkpoint,
+            options,
         })
     }
 }
@@ -525,20 +558,34 @@ impl WireMessage for CreateTaskRequest {
 
     #[tactic(auto, using(ttrpc_members::proofs::Groups::flat_written, ttrpc_members::proofs::Groups::flat_len))]
     fn write(&self, out: &mut Vec<u8>) -> Result<(), CodecError> {
-        Single::<Utf8>::write(&self.id, CREATE_TASK_REQUEST_ID, out)?;
-        Single::<Utf8>::write(&self.bundle, CREATE_TASK_REQUEST_BUNDLE, out)?;
-        Repeated::<Nested<Mount>>::write(&self.rootfs, CREATE_TASK_REQUEST_ROOTFS, out)?;
-        Single::<Boolean>::write(&self.terminal, CREATE_TASK_REQUEST_TERMINAL, out)?;
-        Single::<Utf8>::write(&self.stdin, CREATE_TASK_REQUEST_STDIN, out)?;
-        Single::<Utf8>::write(&self.stdout, CREATE_TASK_REQUEST_STDOUT, out)?;
-        Single::<Utf8>::write(&self.stderr, CREATE_TASK_REQUEST_STDERR, out)?;
-        Single::<Utf8>::write(&self.checkpoint, CREATE_TASK_REQUEST_CHECKPOINT, out)?;
-        Single::<Utf8>::write(
-            &self.parent_checkpoint,
-            CREATE_TASK_REQUEST_PARENT_CHECKPOINT,
+        write_eight::<
+            Single<Utf8>,
+            Single<Utf8>,
+            Repeated<Nested<Mount>>,
+            Single<Boolean>,
+            Single<Utf8>,
+            Single<Utf8>,
+            Single<Utf8>,
+            Single<Utf8>,
+        >(
+            (&self.id, CREATE_TASK_REQUEST_ID),
+            (&self.bundle, CREATE_TASK_REQUEST_BUNDLE),
+            (&self.rootfs, CREATE_TASK_REQUEST_ROOTFS),
+            (&self.terminal, CREATE_TASK_REQUEST_TERMINAL),
+            (&self.stdin, CREATE_TASK_REQUEST_STDIN),
+            (&self.stdout, CREATE_TASK_REQUEST_STDOUT),
+            (&self.stderr, CREATE_TASK_REQUEST_STDERR),
+            (&self.checkpoint, CREATE_TASK_REQUEST_CHECKPOINT),
             out,
         )?;
-        Optional::<Nested<Any>>::write(&self.options, CREATE_TASK_REQUEST_OPTIONS, out)
+        write_two::<Single<Utf8>, Optional<Nested<Any>>>(
+            (
+                &self.parent_checkpoint,
+                CREATE_TASK_REQUEST_PARENT_CHECKPOINT,
+            ),
+            (&self.options, CREATE_TASK_REQUEST_OPTIONS),
+            out,
+        )
     }
 
     fn lemma_is_value(&self) {
@@ -633,10 +680,9 @@ const DELETE_REQUEST_EXEC_ID: FieldNumber = FieldNumber { value: 2 };
 
 impl TryClone for DeleteRequest {
     fn try_clone(&self) -> Result<DeleteRequest, AllocError> {
-        Ok(DeleteRequest {
-            id: Single::<Utf8>::try_clone(&self.id)?,
-            exec_id: Single::<Utf8>::try_clone(&self.exec_id)?,
-        })
+        let id = Single::<Utf8>::try_clone(&self.id)?;
+        let exec_id = Single::<Utf8>::try_clone(&self.exec_id)?;
+        Ok(DeleteRequest { id, exec_id })
     }
 }
 
@@ -708,10 +754,11 @@ const DELETE_RESPONSE_EXITED_AT: FieldNumber = FieldNumber { value: 3 };
 
 impl TryClone for DeleteResponse {
     fn try_clone(&self) -> Result<DeleteResponse, AllocError> {
+        let exited_at = Optional::<Nested<Timestamp>>::try_clone(&self.exited_at)?;
         Ok(DeleteResponse {
             pid: self.pid,
             exit_status: self.exit_status,
-            exited_at: Optional::<Nested<Timestamp>>::try_clone(&self.exited_at)?,
+            exited_at,
         })
     }
 }
@@ -811,14 +858,21 @@ const EXEC_PROCESS_REQUEST_SPEC: FieldNumber = FieldNumber { value: 7 };
 
 impl TryClone for ExecProcessRequest {
     fn try_clone(&self) -> Result<ExecProcessRequest, AllocError> {
+        let (id, exec_id) = clone_two::<Single<Utf8>, Single<Utf8>>(&self.id, &self.exec_id)?;
+        let (stdin, stdout, stderr, spec) = clone_four::<
+            Single<Utf8>,
+            Single<Utf8>,
+            Single<Utf8>,
+            Optional<Nested<Any>>,
+        >(&self.stdin, &self.stdout, &self.stderr, &self.spec)?;
         Ok(ExecProcessRequest {
-            id: Single::<Utf8>::try_clone(&self.id)?,
-            exec_id: Single::<Utf8>::try_clone(&self.exec_id)?,
+            id,
+            exec_id,
             terminal: self.terminal,
-            stdin: Single::<Utf8>::try_clone(&self.stdin)?,
-            stdout: Single::<Utf8>::try_clone(&self.stdout)?,
-            stderr: Single::<Utf8>::try_clone(&self.stderr)?,
-            spec: Optional::<Nested<Any>>::try_clone(&self.spec)?,
+            stdin,
+            stdout,
+            stderr,
+            spec,
         })
     }
 }
@@ -888,12 +942,18 @@ impl WireMessage for ExecProcessRequest {
 
     #[tactic(auto, using(ttrpc_members::proofs::Groups::flat_written, ttrpc_members::proofs::Groups::flat_len))]
     fn write(&self, out: &mut Vec<u8>) -> Result<(), CodecError> {
-        Single::<Utf8>::write(&self.id, EXEC_PROCESS_REQUEST_ID, out)?;
-        Single::<Utf8>::write(&self.exec_id, EXEC_PROCESS_REQUEST_EXEC_ID, out)?;
-        Single::<Boolean>::write(&self.terminal, EXEC_PROCESS_REQUEST_TERMINAL, out)?;
-        Single::<Utf8>::write(&self.stdin, EXEC_PROCESS_REQUEST_STDIN, out)?;
-        Single::<Utf8>::write(&self.stdout, EXEC_PROCESS_REQUEST_STDOUT, out)?;
-        Single::<Utf8>::write(&self.stderr, EXEC_PROCESS_REQUEST_STDERR, out)?;
+        write_four::<Single<Utf8>, Single<Utf8>, Single<Boolean>, Single<Utf8>>(
+            (&self.id, EXEC_PROCESS_REQUEST_ID),
+            (&self.exec_id, EXEC_PROCESS_REQUEST_EXEC_ID),
+            (&self.terminal, EXEC_PROCESS_REQUEST_TERMINAL),
+            (&self.stdin, EXEC_PROCESS_REQUEST_STDIN),
+            out,
+        )?;
+        write_two::<Single<Utf8>, Single<Utf8>>(
+            (&self.stdout, EXEC_PROCESS_REQUEST_STDOUT),
+            (&self.stderr, EXEC_PROCESS_REQUEST_STDERR),
+            out,
+        )?;
         Optional::<Nested<Any>>::write(&self.spec, EXEC_PROCESS_REQUEST_SPEC, out)
     }
 
@@ -981,9 +1041,11 @@ const RESIZE_PTY_REQUEST_HEIGHT: FieldNumber = FieldNumber { value: 4 };
 
 impl TryClone for ResizePtyRequest {
     fn try_clone(&self) -> Result<ResizePtyRequest, AllocError> {
+        let id = Single::<Utf8>::try_clone(&self.id)?;
+        let exec_id = Single::<Utf8>::try_clone(&self.exec_id)?;
         Ok(ResizePtyRequest {
-            id: Single::<Utf8>::try_clone(&self.id)?,
-            exec_id: Single::<Utf8>::try_clone(&self.exec_id)?,
+            id,
+            exec_id,
             width: self.width,
             height: self.height,
         })
@@ -1037,10 +1099,13 @@ impl WireMessage for ResizePtyRequest {
 
     #[tactic(auto, using(ttrpc_members::proofs::Groups::flat_written, ttrpc_members::proofs::Groups::flat_len))]
     fn write(&self, out: &mut Vec<u8>) -> Result<(), CodecError> {
-        Single::<Utf8>::write(&self.id, RESIZE_PTY_REQUEST_ID, out)?;
-        Single::<Utf8>::write(&self.exec_id, RESIZE_PTY_REQUEST_EXEC_ID, out)?;
-        Single::<Uint32>::write(&self.width, RESIZE_PTY_REQUEST_WIDTH, out)?;
-        Single::<Uint32>::write(&self.height, RESIZE_PTY_REQUEST_HEIGHT, out)
+        write_four::<Single<Utf8>, Single<Utf8>, Single<Uint32>, Single<Uint32>>(
+            (&self.id, RESIZE_PTY_REQUEST_ID),
+            (&self.exec_id, RESIZE_PTY_REQUEST_EXEC_ID),
+            (&self.width, RESIZE_PTY_REQUEST_WIDTH),
+            (&self.height, RESIZE_PTY_REQUEST_HEIGHT),
+            out,
+        )
     }
 
     fn lemma_is_value(&self) {
@@ -1070,10 +1135,9 @@ const STATE_REQUEST_EXEC_ID: FieldNumber = FieldNumber { value: 2 };
 
 impl TryClone for StateRequest {
     fn try_clone(&self) -> Result<StateRequest, AllocError> {
-        Ok(StateRequest {
-            id: Single::<Utf8>::try_clone(&self.id)?,
-            exec_id: Single::<Utf8>::try_clone(&self.exec_id)?,
-        })
+        let id = Single::<Utf8>::try_clone(&self.id)?;
+        let exec_id = Single::<Utf8>::try_clone(&self.exec_id)?;
+        Ok(StateRequest { id, exec_id })
     }
 }
 
@@ -1177,18 +1241,26 @@ const STATE_RESPONSE_EXEC_ID: FieldNumber = FieldNumber { value: 11 };
 
 impl TryClone for StateResponse {
     fn try_clone(&self) -> Result<StateResponse, AllocError> {
+        let id = Single::<Utf8>::try_clone(&self.id)?;
+        let (bundle, stdin) = clone_two::<Single<Utf8>, Single<Utf8>>(&self.bundle, &self.stdin)?;
+        let (stdout, stderr, exited_at, exec_id) = clone_four::<
+            Single<Utf8>,
+            Single<Utf8>,
+            Optional<Nested<Timestamp>>,
+            Single<Utf8>,
+        >(&self.stdout, &self.stderr, &self.exited_at, &self.exec_id)?;
         Ok(StateResponse {
-            id: Single::<Utf8>::try_clone(&self.id)?,
-            bundle: Single::<Utf8>::try_clone(&self.bundle)?,
+            id,
+            bundle,
             pid: self.pid,
             status: self.status,
-            stdin: Single::<Utf8>::try_clone(&self.stdin)?,
-            stdout: Single::<Utf8>::try_clone(&self.stdout)?,
-            stderr: Single::<Utf8>::try_clone(&self.stderr)?,
+            stdin,
+            stdout,
+            stderr,
             terminal: self.terminal,
             exit_status: self.exit_status,
-            exited_at: Optional::<Nested<Timestamp>>::try_clone(&self.exited_at)?,
-            exec_id: Single::<Utf8>::try_clone(&self.exec_id)?,
+            exited_at,
+            exec_id,
         })
     }
 }
@@ -1264,16 +1336,31 @@ impl WireMessage for StateResponse {
 
     #[tactic(auto, using(ttrpc_members::proofs::Groups::flat_written, ttrpc_members::proofs::Groups::flat_len))]
     fn write(&self, out: &mut Vec<u8>) -> Result<(), CodecError> {
-        Single::<Utf8>::write(&self.id, STATE_RESPONSE_ID, out)?;
-        Single::<Utf8>::write(&self.bundle, STATE_RESPONSE_BUNDLE, out)?;
-        Single::<Uint32>::write(&self.pid, STATE_RESPONSE_PID, out)?;
-        Single::<Int32>::write(&self.status, STATE_RESPONSE_STATUS, out)?;
-        Single::<Utf8>::write(&self.stdin, STATE_RESPONSE_STDIN, out)?;
-        Single::<Utf8>::write(&self.stdout, STATE_RESPONSE_STDOUT, out)?;
-        Single::<Utf8>::write(&self.stderr, STATE_RESPONSE_STDERR, out)?;
-        Single::<Boolean>::write(&self.terminal, STATE_RESPONSE_TERMINAL, out)?;
-        Single::<Uint32>::write(&self.exit_status, STATE_RESPONSE_EXIT_STATUS, out)?;
-        Optional::<Nested<Timestamp>>::write(&self.exited_at, STATE_RESPONSE_EXITED_AT, out)?;
+        write_eight::<
+            Single<Utf8>,
+            Single<Utf8>,
+            Single<Uint32>,
+            Single<Int32>,
+            Single<Utf8>,
+            Single<Utf8>,
+            Single<Utf8>,
+            Single<Boolean>,
+        >(
+            (&self.id, STATE_RESPONSE_ID),
+            (&self.bundle, STATE_RESPONSE_BUNDLE),
+            (&self.pid, STATE_RESPONSE_PID),
+            (&self.status, STATE_RESPONSE_STATUS),
+            (&self.stdin, STATE_RESPONSE_STDIN),
+            (&self.stdout, STATE_RESPONSE_STDOUT),
+            (&self.stderr, STATE_RESPONSE_STDERR),
+            (&self.terminal, STATE_RESPONSE_TERMINAL),
+            out,
+        )?;
+        write_two::<Single<Uint32>, Optional<Nested<Timestamp>>>(
+            (&self.exit_status, STATE_RESPONSE_EXIT_STATUS),
+            (&self.exited_at, STATE_RESPONSE_EXITED_AT),
+            out,
+        )?;
         Single::<Utf8>::write(&self.exec_id, STATE_RESPONSE_EXEC_ID, out)
     }
 
@@ -1319,9 +1406,11 @@ const KILL_REQUEST_ALL: FieldNumber = FieldNumber { value: 4 };
 
 impl TryClone for KillRequest {
     fn try_clone(&self) -> Result<KillRequest, AllocError> {
+        let id = Single::<Utf8>::try_clone(&self.id)?;
+        let exec_id = Single::<Utf8>::try_clone(&self.exec_id)?;
         Ok(KillRequest {
-            id: Single::<Utf8>::try_clone(&self.id)?,
-            exec_id: Single::<Utf8>::try_clone(&self.exec_id)?,
+            id,
+            exec_id,
             signal: self.signal,
             all: self.all,
         })
@@ -1369,10 +1458,13 @@ impl WireMessage for KillRequest {
 
     #[tactic(auto, using(ttrpc_members::proofs::Groups::flat_written, ttrpc_members::proofs::Groups::flat_len))]
     fn write(&self, out: &mut Vec<u8>) -> Result<(), CodecError> {
-        Single::<Utf8>::write(&self.id, KILL_REQUEST_ID, out)?;
-        Single::<Utf8>::write(&self.exec_id, KILL_REQUEST_EXEC_ID, out)?;
-        Single::<Uint32>::write(&self.signal, KILL_REQUEST_SIGNAL, out)?;
-        Single::<Boolean>::write(&self.all, KILL_REQUEST_ALL, out)
+        write_four::<Single<Utf8>, Single<Utf8>, Single<Uint32>, Single<Boolean>>(
+            (&self.id, KILL_REQUEST_ID),
+            (&self.exec_id, KILL_REQUEST_EXEC_ID),
+            (&self.signal, KILL_REQUEST_SIGNAL),
+            (&self.all, KILL_REQUEST_ALL),
+            out,
+        )
     }
 
     fn lemma_is_value(&self) {
@@ -1406,9 +1498,11 @@ const CLOSE_IO_REQUEST_STDIN: FieldNumber = FieldNumber { value: 3 };
 
 impl TryClone for CloseIORequest {
     fn try_clone(&self) -> Result<CloseIORequest, AllocError> {
+        let id = Single::<Utf8>::try_clone(&self.id)?;
+        let exec_id = Single::<Utf8>::try_clone(&self.exec_id)?;
         Ok(CloseIORequest {
-            id: Single::<Utf8>::try_clone(&self.id)?,
-            exec_id: Single::<Utf8>::try_clone(&self.exec_id)?,
+            id,
+            exec_id,
             stdin: self.stdin,
         })
     }
@@ -1482,9 +1576,8 @@ const PIDS_REQUEST_ID: FieldNumber = FieldNumber { value: 1 };
 
 impl TryClone for PidsRequest {
     fn try_clone(&self) -> Result<PidsRequest, AllocError> {
-        Ok(PidsRequest {
-            id: Single::<Utf8>::try_clone(&self.id)?,
-        })
+        let id = Single::<Utf8>::try_clone(&self.id)?;
+        Ok(PidsRequest { id })
     }
 }
 
@@ -1543,9 +1636,8 @@ const PIDS_RESPONSE_PROCESSES: FieldNumber = FieldNumber { value: 1 };
 
 impl TryClone for PidsResponse {
     fn try_clone(&self) -> Result<PidsResponse, AllocError> {
-        Ok(PidsResponse {
-            processes: Repeated::<Nested<ProcessInfo>>::try_clone(&self.processes)?,
-        })
+        let processes = Repeated::<Nested<ProcessInfo>>::try_clone(&self.processes)?;
+        Ok(PidsResponse { processes })
     }
 }
 
@@ -1615,11 +1707,10 @@ const CHECKPOINT_TASK_REQUEST_OPTIONS: FieldNumber = FieldNumber { value: 3 };
 
 impl TryClone for CheckpointTaskRequest {
     fn try_clone(&self) -> Result<CheckpointTaskRequest, AllocError> {
-        Ok(CheckpointTaskRequest {
-            id: Single::<Utf8>::try_clone(&self.id)?,
-            path: Single::<Utf8>::try_clone(&self.path)?,
-            options: Optional::<Nested<Any>>::try_clone(&self.options)?,
-        })
+        let id = Single::<Utf8>::try_clone(&self.id)?;
+        let path = Single::<Utf8>::try_clone(&self.path)?;
+        let options = Optional::<Nested<Any>>::try_clone(&self.options)?;
+        Ok(CheckpointTaskRequest { id, path, options })
     }
 }
 
@@ -1702,10 +1793,13 @@ const UPDATE_TASK_REQUEST_ANNOTATIONS: FieldNumber = FieldNumber { value: 3 };
 
 impl TryClone for UpdateTaskRequest {
     fn try_clone(&self) -> Result<UpdateTaskRequest, AllocError> {
+        let id = Single::<Utf8>::try_clone(&self.id)?;
+        let resources = Optional::<Nested<Any>>::try_clone(&self.resources)?;
+        let annotations = MapOf::<Utf8Key, Utf8>::try_clone(&self.annotations)?;
         Ok(UpdateTaskRequest {
-            id: Single::<Utf8>::try_clone(&self.id)?,
-            resources: Optional::<Nested<Any>>::try_clone(&self.resources)?,
-            annotations: MapOf::<Utf8Key, Utf8>::try_clone(&self.annotations)?,
+            id,
+            resources,
+            annotations,
         })
     }
 }
@@ -1785,10 +1879,9 @@ const START_REQUEST_EXEC_ID: FieldNumber = FieldNumber { value: 2 };
 
 impl TryClone for StartRequest {
     fn try_clone(&self) -> Result<StartRequest, AllocError> {
-        Ok(StartRequest {
-            id: Single::<Utf8>::try_clone(&self.id)?,
-            exec_id: Single::<Utf8>::try_clone(&self.exec_id)?,
-        })
+        let id = Single::<Utf8>::try_clone(&self.id)?;
+        let exec_id = Single::<Utf8>::try_clone(&self.exec_id)?;
+        Ok(StartRequest { id, exec_id })
     }
 }
 
@@ -1915,10 +2008,9 @@ const WAIT_REQUEST_EXEC_ID: FieldNumber = FieldNumber { value: 2 };
 
 impl TryClone for WaitRequest {
     fn try_clone(&self) -> Result<WaitRequest, AllocError> {
-        Ok(WaitRequest {
-            id: Single::<Utf8>::try_clone(&self.id)?,
-            exec_id: Single::<Utf8>::try_clone(&self.exec_id)?,
-        })
+        let id = Single::<Utf8>::try_clone(&self.id)?;
+        let exec_id = Single::<Utf8>::try_clone(&self.exec_id)?;
+        Ok(WaitRequest { id, exec_id })
     }
 }
 
@@ -1986,9 +2078,10 @@ const WAIT_RESPONSE_EXITED_AT: FieldNumber = FieldNumber { value: 2 };
 
 impl TryClone for WaitResponse {
     fn try_clone(&self) -> Result<WaitResponse, AllocError> {
+        let exited_at = Optional::<Nested<Timestamp>>::try_clone(&self.exited_at)?;
         Ok(WaitResponse {
             exit_status: self.exit_status,
-            exited_at: Optional::<Nested<Timestamp>>::try_clone(&self.exited_at)?,
+            exited_at,
         })
     }
 }
@@ -2059,9 +2152,8 @@ const STATS_REQUEST_ID: FieldNumber = FieldNumber { value: 1 };
 
 impl TryClone for StatsRequest {
     fn try_clone(&self) -> Result<StatsRequest, AllocError> {
-        Ok(StatsRequest {
-            id: Single::<Utf8>::try_clone(&self.id)?,
-        })
+        let id = Single::<Utf8>::try_clone(&self.id)?;
+        Ok(StatsRequest { id })
     }
 }
 
@@ -2120,9 +2212,8 @@ const STATS_RESPONSE_STATS: FieldNumber = FieldNumber { value: 1 };
 
 impl TryClone for StatsResponse {
     fn try_clone(&self) -> Result<StatsResponse, AllocError> {
-        Ok(StatsResponse {
-            stats: Optional::<Nested<Any>>::try_clone(&self.stats)?,
-        })
+        let stats = Optional::<Nested<Any>>::try_clone(&self.stats)?;
+        Ok(StatsResponse { stats })
     }
 }
 
@@ -2181,9 +2272,8 @@ const CONNECT_REQUEST_ID: FieldNumber = FieldNumber { value: 1 };
 
 impl TryClone for ConnectRequest {
     fn try_clone(&self) -> Result<ConnectRequest, AllocError> {
-        Ok(ConnectRequest {
-            id: Single::<Utf8>::try_clone(&self.id)?,
-        })
+        let id = Single::<Utf8>::try_clone(&self.id)?;
+        Ok(ConnectRequest { id })
     }
 }
 
@@ -2250,10 +2340,11 @@ const CONNECT_RESPONSE_VERSION: FieldNumber = FieldNumber { value: 3 };
 
 impl TryClone for ConnectResponse {
     fn try_clone(&self) -> Result<ConnectResponse, AllocError> {
+        let version = Single::<Utf8>::try_clone(&self.version)?;
         Ok(ConnectResponse {
             shim_pid: self.shim_pid,
             task_pid: self.task_pid,
-            version: Single::<Utf8>::try_clone(&self.version)?,
+            version,
         })
     }
 }
@@ -2333,10 +2424,8 @@ const SHUTDOWN_REQUEST_NOW: FieldNumber = FieldNumber { value: 2 };
 
 impl TryClone for ShutdownRequest {
     fn try_clone(&self) -> Result<ShutdownRequest, AllocError> {
-        Ok(ShutdownRequest {
-            id: Single::<Utf8>::try_clone(&self.id)?,
-            now: self.now,
-        })
+        let id = Single::<Utf8>::try_clone(&self.id)?;
+        Ok(ShutdownRequest { id, now: self.now })
     }
 }
 
@@ -2400,9 +2489,8 @@ const PAUSE_REQUEST_ID: FieldNumber = FieldNumber { value: 1 };
 
 impl TryClone for PauseRequest {
     fn try_clone(&self) -> Result<PauseRequest, AllocError> {
-        Ok(PauseRequest {
-            id: Single::<Utf8>::try_clone(&self.id)?,
-        })
+        let id = Single::<Utf8>::try_clone(&self.id)?;
+        Ok(PauseRequest { id })
     }
 }
 
@@ -2461,9 +2549,8 @@ const RESUME_REQUEST_ID: FieldNumber = FieldNumber { value: 1 };
 
 impl TryClone for ResumeRequest {
     fn try_clone(&self) -> Result<ResumeRequest, AllocError> {
-        Ok(ResumeRequest {
-            id: Single::<Utf8>::try_clone(&self.id)?,
-        })
+        let id = Single::<Utf8>::try_clone(&self.id)?;
+        Ok(ResumeRequest { id })
     }
 }
 

@@ -26,9 +26,11 @@ const ENTRY_VERSION: FieldNumber = FieldNumber { value: 3 };
 
 impl TryClone for Entry {
     fn try_clone(&self) -> Result<Entry, AllocError> {
+        let key = Single::<Utf8>::try_clone(&self.key)?;
+        let value = Single::<Bytes>::try_clone(&self.value)?;
         Ok(Entry {
-            key: Single::<Utf8>::try_clone(&self.key)?,
-            value: Single::<Bytes>::try_clone(&self.value)?,
+            key,
+            value,
             version: self.version,
         })
     }
@@ -99,9 +101,8 @@ const GET_REQUEST_KEY: FieldNumber = FieldNumber { value: 1 };
 
 impl TryClone for GetRequest {
     fn try_clone(&self) -> Result<GetRequest, AllocError> {
-        Ok(GetRequest {
-            key: Single::<Utf8>::try_clone(&self.key)?,
-        })
+        let key = Single::<Utf8>::try_clone(&self.key)?;
+        Ok(GetRequest { key })
     }
 }
 
@@ -160,9 +161,8 @@ const GET_RESPONSE_ENTRY: FieldNumber = FieldNumber { value: 1 };
 
 impl TryClone for GetResponse {
     fn try_clone(&self) -> Result<GetResponse, AllocError> {
-        Ok(GetResponse {
-            entry: Optional::<Nested<Entry>>::try_clone(&self.entry)?,
-        })
+        let entry = Optional::<Nested<Entry>>::try_clone(&self.entry)?;
+        Ok(GetResponse { entry })
     }
 }
 

@@ -3,12 +3,7 @@ use Rattle.std.proofs.Common.{◌≡◌, ◌≤◌, ◌^◌, ◌-◌, ◌+◌, �
 use Rattle.std.proofs.lemmas.List.{append-nil}
 use Rattle.ttrpc_wire.specs.Field.{Field, field_bytes, fields_bytes}
 use Rattle.ttrpc_codec.proofs.Written.{fields_bytes-append, length-fields_bytes-append}
-use Rattle.ttrpc_members.specs.Schema.{flat}
-
--- bytes with those of each group behind them, one group at a time
-abbrev pub appended : List ℕ → List (List Field) → List ℕ
-appended out [] = out
-appended out (fs ∷ groups) = appended (out ++ fields_bytes fs) groups
+use Rattle.ttrpc_members.specs.Schema.{appended, flat, total}
 
 -- what is written behind some bytes
 pub flat_written : (out : List ℕ) (groups : List (List Field)) → out ++ fields_bytes (flat groups) ≡ appended out groups
@@ -33,11 +28,6 @@ measured_is n (fs ∷ groups) small =
 -- the length of what is written
 pub flat_measured : (groups : List (List Field)) → min (length (fields_bytes (flat groups))) (2 ^ 64 - 1) ≡ measured 0 groups
 flat_measured groups = let e = measured_is 0 groups (omega arith) in omega (arith, e)
-
--- the length of each group's bytes, and of those behind it
-abbrev pub total : List (List Field) → ℕ
-total [] = 0
-total (fs ∷ groups) = length (fields_bytes fs) + total groups
 
 pub flat_len : (groups : List (List Field)) → length (fields_bytes (flat groups)) ≡ total groups
 unfolding flat

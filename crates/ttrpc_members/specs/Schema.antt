@@ -1,8 +1,8 @@
 -- A message's schema: its members, each with its number. What a field makes of the message, and the fields that are written.
 -- Source: the Protocol Buffers language guide for proto3, "Defining A Message Type", and the encoding guide, "Message Structure".
-use Rattle.std.specs.Prelude.{ℕ, List, [], ◌∷◌, ◌++◌, Option, Some, ◌==◌, if◌then◌else◌, map}
+use Rattle.std.specs.Prelude.{ℕ, ◌+◌, List, [], ◌∷◌, ◌++◌, length, Option, Some, ◌==◌, if◌then◌else◌, map}
 use Rattle.std.specs.Option.{option_map}
-use Rattle.ttrpc_wire.specs.Field.{Value, Field}
+use Rattle.ttrpc_wire.specs.Field.{Value, Field, fields_bytes}
 use Rattle.ttrpc_wire.specs.Reading.{◌>>=◌}
 use Rattle.ttrpc_members.specs.Kinds.{Kind}
 
@@ -35,6 +35,16 @@ member k kind = record {
 unfoldable pub flat : List (List Field) → List Field
 flat [] = []
 flat (fs ∷ groups) = fs ++ flat groups
+
+-- bytes with those of each group behind them, one group at a time
+abbrev pub appended : List ℕ → List (List Field) → List ℕ
+appended out [] = out
+appended out (fs ∷ groups) = appended (out ++ fields_bytes fs) groups
+
+-- the length of each group's bytes, and of those behind it
+abbrev pub total : List (List Field) → ℕ
+total [] = 0
+total (fs ∷ groups) = length (fields_bytes fs) + total groups
 
 -- Parts: as a part, with the fields of each in a group of its own.
 pub record Parts (P : Type 0) : Type 1 where

@@ -10,3 +10,4 @@ pub mod kind;
 pub mod map;
 pub mod nesting;
 pub mod numbers;
+pub mod several;

@@ -14,6 +14,9 @@ use ttrpc_members::kind::{MemberKind, Optional, Packed, Repeated, Single, item_l
 use ttrpc_members::map::{Map, TextKey};
 use ttrpc_members::nesting::{Content, Recursive, Rule};
 use ttrpc_members::numbers::Numbers;
+use ttrpc_members::several::{
+    clone_eight, clone_four, clone_two, write_eight, write_four, write_two,
+};
 use ttrpc_wire::{Blob, CodecError, Field, FieldNumber, Sequence, Text, TryClone, Value, WireType};
 
 /// The number of `UNKNOWN` of the enum `test.kinds.Way`.
@@ -249,20 +252,34 @@ impl WireMessage for Figures {
 
     #[tactic(auto, using(ttrpc_members::proofs::Groups::flat_written, ttrpc_members::proofs::Groups::flat_len))]
     fn write(&self, out: &mut Vec<u8>) -> Result<(), CodecError> {
-        Single::<Int32>::write(&self.a, FIGURES_A, out)?;
-        Single::<Int64>::write(&self.b, FIGURES_B, out)?;
-        Single::<Uint32>::write(&self.c, FIGURES_C, out)?;
-        Single::<Uint64>::write(&self.d, FIGURES_D, out)?;
-        Single::<Sint32>::write(&self.e, FIGURES_E, out)?;
-        Single::<Sint64>::write(&self.f, FIGURES_F, out)?;
-        Single::<Boolean>::write(&self.g, FIGURES_G, out)?;
-        Single::<Bits32>::write(&self.h, FIGURES_H, out)?;
-        Single::<Bits64>::write(&self.i, FIGURES_I, out)?;
-        Single::<Signed32>::write(&self.j, FIGURES_J, out)?;
-        Single::<Signed64>::write(&self.k, FIGURES_K, out)?;
-        Single::<Bits32>::write(&self.l, FIGURES_L, out)?;
-        Single::<Bits64>::write(&self.m, FIGURES_M, out)?;
-        Single::<Int32>::write(&self.n, FIGURES_N, out)
+        write_eight::<
+            Single<Int32>,
+            Single<Int64>,
+            Single<Uint32>,
+            Single<Uint64>,
+            Single<Sint32>,
+            Single<Sint64>,
+            Single<Boolean>,
+            Single<Bits32>,
+        >(
+            (&self.a, FIGURES_A),
+            (&self.b, FIGURES_B),
+            (&self.c, FIGURES_C),
+            (&self.d, FIGURES_D),
+            (&self.e, FIGURES_E),
+            (&self.f, FIGURES_F),
+            (&self.g, FIGURES_G),
+            (&self.h, FIGURES_H),
+            out,
+        )?;
+        write_four::<Single<Bits64>, Single<Signed32>, Single<Signed64>, Single<Bits32>>(
+            (&self.i, FIGURES_I),
+            (&self.j, FIGURES_J),
+            (&self.k, FIGURES_K),
+            (&self.l, FIGURES_L),
+            out,
+        )?;
+        write_two::<Single<Bits64>, Single<Int32>>((&self.m, FIGURES_M), (&self.n, FIGURES_N), out)
     }
 
     fn lemma_is_value(&self) {
@@ -306,9 +323,11 @@ const INNER_NUMBER: FieldNumber = FieldNumber { value: 16 };
 
 impl TryClone for Inner {
     fn try_clone(&self) -> Result<Inner, AllocError> {
+        let name = Single::<Utf8>::try_clone(&self.name)?;
+        let data = Single::<Bytes>::try_clone(&self.data)?;
         Ok(Inner {
-            name: Single::<Utf8>::try_clone(&self.name)?,
-            data: Single::<Bytes>::try_clone(&self.data)?,
+            name,
+            data,
             number: self.number,
         })
     }
@@ -411,16 +430,36 @@ const LISTS_FIXEDS: FieldNumber = FieldNumber { value: 9 };
 
 impl TryClone for Lists {
     fn try_clone(&self) -> Result<Lists, AllocError> {
+        let ints = Packed::<Int32>::try_clone(&self.ints)?;
+        let (zigzags, doubles, flags, texts, blobs, ways, inners, fixeds) = clone_eight::<
+            Packed<Sint64>,
+            Packed<Bits64>,
+            Packed<Boolean>,
+            Repeated<Utf8>,
+            Repeated<Bytes>,
+            Packed<Int32>,
+            Repeated<Nested<Inner>>,
+            Packed<Bits32>,
+        >(
+            &self.zigzags,
+            &self.doubles,
+            &self.flags,
+            &self.texts,
+            &self.blobs,
+            &self.ways,
+            &self.inners,
+            &self.fixeds,
+        )?;
         Ok(Lists {
-            ints: Packed::<Int32>::try_clone(&self.ints)?,
-            zigzags: Packed::<Sint64>::try_clone(&self.zigzags)?,
-            doubles: Packed::<Bits64>::try_clone(&self.doubles)?,
-            flags: Packed::<Boolean>::try_clone(&self.flags)?,
-            texts: Repeated::<Utf8>::try_clone(&self.texts)?,
-            blobs: Repeated::<Bytes>::try_clone(&self.blobs)?,
-            ways: Packed::<Int32>::try_clone(&self.ways)?,
-            inners: Repeated::<Nested<Inner>>::try_clone(&self.inners)?,
-            fixeds: Packed::<Bits32>::try_clone(&self.fixeds)?,
+            ints,
+            zigzags,
+            doubles,
+            flags,
+            texts,
+            blobs,
+            ways,
+            inners,
+            fixeds,
         })
     }
 }
@@ -481,14 +520,26 @@ impl WireMessage for Lists {
 
     #[tactic(auto, using(ttrpc_members::proofs::Groups::flat_written, ttrpc_members::proofs::Groups::flat_len))]
     fn write(&self, out: &mut Vec<u8>) -> Result<(), CodecError> {
-        Packed::<Int32>::write(&self.ints, LISTS_INTS, out)?;
-        Packed::<Sint64>::write(&self.zigzags, LISTS_ZIGZAGS, out)?;
-        Packed::<Bits64>::write(&self.doubles, LISTS_DOUBLES, out)?;
-        Packed::<Boolean>::write(&self.flags, LISTS_FLAGS, out)?;
-        Repeated::<Utf8>::write(&self.texts, LISTS_TEXTS, out)?;
-        Repeated::<Bytes>::write(&self.blobs, LISTS_BLOBS, out)?;
-        Packed::<Int32>::write(&self.ways, LISTS_WAYS, out)?;
-        Repeated::<Nested<Inner>>::write(&self.inners, LISTS_INNERS, out)?;
+        write_eight::<
+            Packed<Int32>,
+            Packed<Sint64>,
+            Packed<Bits64>,
+            Packed<Boolean>,
+            Repeated<Utf8>,
+            Repeated<Bytes>,
+            Packed<Int32>,
+            Repeated<Nested<Inner>>,
+        >(
+            (&self.ints, LISTS_INTS),
+            (&self.zigzags, LISTS_ZIGZAGS),
+            (&self.doubles, LISTS_DOUBLES),
+            (&self.flags, LISTS_FLAGS),
+            (&self.texts, LISTS_TEXTS),
+            (&self.blobs, LISTS_BLOBS),
+            (&self.ways, LISTS_WAYS),
+            (&self.inners, LISTS_INNERS),
+            out,
+        )?;
         Packed::<Bits32>::write(&self.fixeds, LISTS_FIXEDS, out)
     }
 
@@ -540,13 +591,19 @@ const OPTIONS_FLAG: FieldNumber = FieldNumber { value: 536870911 };
 
 impl TryClone for Options {
     fn try_clone(&self) -> Result<Options, AllocError> {
+        let (text, blob, inner, at) = clone_four::<
+            Optional<Utf8>,
+            Optional<Bytes>,
+            Optional<Nested<Inner>>,
+            Optional<Nested<Timestamp>>,
+        >(&self.text, &self.blob, &self.inner, &self.at)?;
         Ok(Options {
-            number: Optional::<Int32>::try_clone(&self.number)?,
-            text: Optional::<Utf8>::try_clone(&self.text)?,
-            blob: Optional::<Bytes>::try_clone(&self.blob)?,
-            inner: Optional::<Nested<Inner>>::try_clone(&self.inner)?,
-            at: Optional::<Nested<Timestamp>>::try_clone(&self.at)?,
-            flag: Optional::<Boolean>::try_clone(&self.flag)?,
+            number: self.number,
+            text,
+            blob,
+            inner,
+            at,
+            flag: self.flag,
         })
     }
 }
@@ -598,12 +655,18 @@ impl WireMessage for Options {
 
     #[tactic(auto, using(ttrpc_members::proofs::Groups::flat_written, ttrpc_members::proofs::Groups::flat_len))]
     fn write(&self, out: &mut Vec<u8>) -> Result<(), CodecError> {
-        Optional::<Int32>::write(&self.number, OPTIONS_NUMBER, out)?;
-        Optional::<Utf8>::write(&self.text, OPTIONS_TEXT, out)?;
-        Optional::<Bytes>::write(&self.blob, OPTIONS_BLOB, out)?;
-        Optional::<Nested<Inner>>::write(&self.inner, OPTIONS_INNER, out)?;
-        Optional::<Nested<Timestamp>>::write(&self.at, OPTIONS_AT, out)?;
-        Optional::<Boolean>::write(&self.flag, OPTIONS_FLAG, out)
+        write_four::<Optional<Int32>, Optional<Utf8>, Optional<Bytes>, Optional<Nested<Inner>>>(
+            (&self.number, OPTIONS_NUMBER),
+            (&self.text, OPTIONS_TEXT),
+            (&self.blob, OPTIONS_BLOB),
+            (&self.inner, OPTIONS_INNER),
+            out,
+        )?;
+        write_two::<Optional<Nested<Timestamp>>, Optional<Boolean>>(
+            (&self.at, OPTIONS_AT),
+            (&self.flag, OPTIONS_FLAG),
+            out,
+        )
     }
 
     fn lemma_is_value(&self) {
@@ -647,12 +710,19 @@ const TABLES_FLOATS: FieldNumber = FieldNumber { value: 5 };
 
 impl TryClone for Tables {
     fn try_clone(&self) -> Result<Tables, AllocError> {
+        let labels = MapOf::<Utf8Key, Utf8>::try_clone(&self.labels)?;
+        let (inners, flags, ways, floats) = clone_four::<
+            MapOf<Int32, Nested<Inner>>,
+            MapOf<Boolean, Bytes>,
+            MapOf<Bits64, Int32>,
+            MapOf<Sint64, Bits32>,
+        >(&self.inners, &self.flags, &self.ways, &self.floats)?;
         Ok(Tables {
-            labels: MapOf::<Utf8Key, Utf8>::try_clone(&self.labels)?,
-            inners: MapOf::<Int32, Nested<Inner>>::try_clone(&self.inners)?,
-            flags: MapOf::<Boolean, Bytes>::try_clone(&self.flags)?,
-            ways: MapOf::<Bits64, Int32>::try_clone(&self.ways)?,
-            floats: MapOf::<Sint64, Bits32>::try_clone(&self.floats)?,
+            labels,
+            inners,
+            flags,
+            ways,
+            floats,
         })
     }
 }
@@ -704,10 +774,18 @@ impl WireMessage for Tables {
 
     #[tactic(auto, using(ttrpc_members::proofs::Groups::flat_written, ttrpc_members::proofs::Groups::flat_len))]
     fn write(&self, out: &mut Vec<u8>) -> Result<(), CodecError> {
-        MapOf::<Utf8Key, Utf8>::write(&self.labels, TABLES_LABELS, out)?;
-        MapOf::<Int32, Nested<Inner>>::write(&self.inners, TABLES_INNERS, out)?;
-        MapOf::<Boolean, Bytes>::write(&self.flags, TABLES_FLAGS, out)?;
-        MapOf::<Bits64, Int32>::write(&self.ways, TABLES_WAYS, out)?;
+        write_four::<
+            MapOf<Utf8Key, Utf8>,
+            MapOf<Int32, Nested<Inner>>,
+            MapOf<Boolean, Bytes>,
+            MapOf<Bits64, Int32>,
+        >(
+            (&self.labels, TABLES_LABELS),
+            (&self.inners, TABLES_INNERS),
+            (&self.flags, TABLES_FLAGS),
+            (&self.ways, TABLES_WAYS),
+            out,
+        )?;
         MapOf::<Sint64, Bits32>::write(&self.floats, TABLES_FLOATS, out)
     }
 
@@ -990,10 +1068,9 @@ impl Choice for ChoicesFigure {
 
 impl TryClone for Choices {
     fn try_clone(&self) -> Result<Choices, AllocError> {
-        Ok(Choices {
-            figure: ChoicesFigure::try_clone(&self.figure)?,
-            behind: Single::<Utf8>::try_clone(&self.behind)?,
-        })
+        let figure = ChoicesFigure::try_clone(&self.figure)?;
+        let behind = Single::<Utf8>::try_clone(&self.behind)?;
+        Ok(Choices { figure, behind })
     }
 }
 
@@ -1073,12 +1150,19 @@ const ALL_CHOICES: FieldNumber = FieldNumber { value: 5 };
 
 impl TryClone for All {
     fn try_clone(&self) -> Result<All, AllocError> {
+        let figures = Optional::<Nested<Figures>>::try_clone(&self.figures)?;
+        let (lists, options, tables, choices) = clone_four::<
+            Optional<Nested<Lists>>,
+            Optional<Nested<Options>>,
+            Optional<Nested<Tables>>,
+            Optional<Nested<Choices>>,
+        >(&self.lists, &self.options, &self.tables, &self.choices)?;
         Ok(All {
-            figures: Optional::<Nested<Figures>>::try_clone(&self.figures)?,
-            lists: Optional::<Nested<Lists>>::try_clone(&self.lists)?,
-            options: Optional::<Nested<Options>>::try_clone(&self.options)?,
-            tables: Optional::<Nested<Tables>>::try_clone(&self.tables)?,
-            choices: Optional::<Nested<Choices>>::try_clone(&self.choices)?,
+            figures,
+            lists,
+            options,
+            tables,
+            choices,
         })
     }
 }
@@ -1133,10 +1217,18 @@ impl WireMessage for All {
 
     #[tactic(auto, using(ttrpc_members::proofs::Groups::flat_written, ttrpc_members::proofs::Groups::flat_len))]
     fn write(&self, out: &mut Vec<u8>) -> Result<(), CodecError> {
-        Optional::<Nested<Figures>>::write(&self.figures, ALL_FIGURES, out)?;
-        Optional::<Nested<Lists>>::write(&self.lists, ALL_LISTS, out)?;
-        Optional::<Nested<Options>>::write(&self.options, ALL_OPTIONS, out)?;
-        Optional::<Nested<Tables>>::write(&self.tables, ALL_TABLES, out)?;
+        write_four::<
+            Optional<Nested<Figures>>,
+            Optional<Nested<Lists>>,
+            Optional<Nested<Options>>,
+            Optional<Nested<Tables>>,
+        >(
+            (&self.figures, ALL_FIGURES),
+            (&self.lists, ALL_LISTS),
+            (&self.options, ALL_OPTIONS),
+            (&self.tables, ALL_TABLES),
+            out,
+        )?;
         Optional::<Nested<Choices>>::write(&self.choices, ALL_CHOICES, out)
     }
 
@@ -1184,13 +1276,23 @@ const TREE_NUMBERS: FieldNumber = FieldNumber { value: 6 };
 
 impl TryClone for Tree {
     fn try_clone(&self) -> Result<Tree, AllocError> {
+        let (name, children) = clone_two::<Single<Utf8>, Repeated<Enclosing<TreeRules>>>(
+            &self.name,
+            &self.children,
+        )?;
+        let (best, named, inner, numbers) = clone_four::<
+            Optional<Enclosing<TreeRules>>,
+            MapOf<Utf8Key, Enclosing<TreeRules>>,
+            Optional<Nested<Inner>>,
+            Packed<Sint32>,
+        >(&self.best, &self.named, &self.inner, &self.numbers)?;
         Ok(Tree {
-            name: Single::<Utf8>::try_clone(&self.name)?,
-            children: Repeated::<Enclosing<TreeRules>>::try_clone(&self.children)?,
-            best: Optional::<Enclosing<TreeRules>>::try_clone(&self.best)?,
-            named: MapOf::<Utf8Key, Enclosing<TreeRules>>::try_clone(&self.named)?,
-            inner: Optional::<Nested<Inner>>::try_clone(&self.inner)?,
-            numbers: Packed::<Sint32>::try_clone(&self.numbers)?,
+            name,
+            children,
+            best,
+            named,
+            inner,
+            numbers,
         })
     }
 }
@@ -1250,12 +1352,23 @@ impl WireMessage for Tree {
 
     #[tactic(auto, using(ttrpc_members::proofs::Groups::flat_written, ttrpc_members::proofs::Groups::flat_len))]
     fn write(&self, out: &mut Vec<u8>) -> Result<(), CodecError> {
-        Single::<Utf8>::write(&self.name, TREE_NAME, out)?;
-        Repeated::<Enclosing<TreeRules>>::write(&self.children, TREE_CHILDREN, out)?;
-        Optional::<Enclosing<TreeRules>>::write(&self.best, TREE_BEST, out)?;
-        MapOf::<Utf8Key, Enclosing<TreeRules>>::write(&self.named, TREE_NAMED, out)?;
-        Optional::<Nested<Inner>>::write(&self.inner, TREE_INNER, out)?;
-        Packed::<Sint32>::write(&self.numbers, TREE_NUMBERS, out)
+        write_four::<
+            Single<Utf8>,
+            Repeated<Enclosing<TreeRules>>,
+            Optional<Enclosing<TreeRules>>,
+            MapOf<Utf8Key, Enclosing<TreeRules>>,
+        >(
+            (&self.name, TREE_NAME),
+            (&self.children, TREE_CHILDREN),
+            (&self.best, TREE_BEST),
+            (&self.named, TREE_NAMED),
+            out,
+        )?;
+        write_two::<Optional<Nested<Inner>>, Packed<Sint32>>(
+            (&self.inner, TREE_INNER),
+            (&self.numbers, TREE_NUMBERS),
+            out,
+        )
     }
 
     fn lemma_is_value(&self) {
@@ -1283,9 +1396,8 @@ const SHEET_CELLS: FieldNumber = FieldNumber { value: 1 };
 
 impl TryClone for Sheet {
     fn try_clone(&self) -> Result<Sheet, AllocError> {
-        Ok(Sheet {
-            cells: MapOf::<Utf8Key, Enclosing<CellRules>>::try_clone(&self.cells)?,
-        })
+        let cells = MapOf::<Utf8Key, Enclosing<CellRules>>::try_clone(&self.cells)?;
+        Ok(Sheet { cells })
     }
 }
 
@@ -1509,9 +1621,8 @@ impl Choice for CellKind {
 
 impl TryClone for Cell {
     fn try_clone(&self) -> Result<Cell, AllocError> {
-        Ok(Cell {
-            kind: CellKind::try_clone(&self.kind)?,
-        })
+        let kind = CellKind::try_clone(&self.kind)?;
+        Ok(Cell { kind })
     }
 }
 
@@ -1568,9 +1679,8 @@ const ROW_CELLS: FieldNumber = FieldNumber { value: 1 };
 
 impl TryClone for Row {
     fn try_clone(&self) -> Result<Row, AllocError> {
-        Ok(Row {
-            cells: Repeated::<Enclosing<CellRules>>::try_clone(&self.cells)?,
-        })
+        let cells = Repeated::<Enclosing<CellRules>>::try_clone(&self.cells)?;
+        Ok(Row { cells })
     }
 }
 

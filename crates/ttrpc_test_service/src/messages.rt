@@ -22,10 +22,9 @@ const ITEM_CONTENT: FieldNumber = FieldNumber { value: 2 };
 
 impl TryClone for Item {
     fn try_clone(&self) -> Result<Item, AllocError> {
-        Ok(Item {
-            name: Single::<Utf8>::try_clone(&self.name)?,
-            content: Single::<Bytes>::try_clone(&self.content)?,
-        })
+        let name = Single::<Utf8>::try_clone(&self.name)?;
+        let content = Single::<Bytes>::try_clone(&self.content)?;
+        Ok(Item { name, content })
     }
 }
 
