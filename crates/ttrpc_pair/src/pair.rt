@@ -1,5 +1,5 @@
 //! A client, a server and two pipes, and what happens to them at an event.
-ghost use Rattle.std.specs.Prelude.{◌≡◌, ◌<◌, [], length, true, false, ◌⊎◌, IfOk, OnErr, IfSome, IfNone, Ok, Some};
+ghost use Rattle.std.specs.Prelude.{◌≡◌, ◌<◌, [], length, true, false, ◌⊎◌, IfOk, OnErr, IfSome, IfNone, None, Ok, Some};
 ghost use Rattle.ttrpc_proto.specs.declared.response.Response.{Response as AResponse};
 ghost use Rattle.ttrpc_proto.specs.Messages.{IsResponse};
 ghost use Rattle.ttrpc_server.specs.declared.job.ActiveJob.{ActiveJob as AJob};
@@ -229,9 +229,20 @@ impl<
             (halves SO.OutboundTransform SI.InboundTransform) CO.SEALS
             self.old (AnEvent.Answer id given.now) result self.new }
     {
-        if let Some(error) = self.server.failure(alloc) {
-            return Reply::Refused(error);
+        match self.server.failure(alloc) {
+            Some(why) => Reply::Refused(why),
+            None => self.answer_living(alloc, id, given),
         }
+    }
+
+    /// The same of a server that lives.
+    fn answer_living(&mut self, alloc: Global, id: JobId, given: &Result<Response, Error>) -> Reply
+        requires { self.old.server.connection.failure ≡ None }
+        ensures { Steps
+            (halves CO.OutboundTransform CI.InboundTransform)
+            (halves SO.OutboundTransform SI.InboundTransform) CO.SEALS
+            self.old (AnEvent.Answer id given.now) result self.new }
+    {
         let Some(_) = self.awaiting(id) else {
             return Reply::NoStep;
         };
