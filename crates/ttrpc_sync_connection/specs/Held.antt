@@ -9,6 +9,8 @@ use Rattle.ttrpc_server.specs.Protocol.{AnswersError, Finishes, RefusesAnswer, R
 use Rattle.ttrpc_server.specs.State.{waits}
 use Rattle.ttrpc_server.specs.Types.{Ends, TakesOrDrains}
 use Rattle.ttrpc_server.specs.declared.server.ServerCore.{ServerCore}
+use Rattle.ttrpc_sync.specs.declared.ends.turn.Turn.{Turn}
+use Rattle.ttrpc_sync_connection.specs.declared.ports.server.Woken.{Woken}
 
 -- ---- jobs
 
@@ -74,6 +76,24 @@ is_alive core = if is_some core.connection.failure then false else true
 -- the core, after a report that so many of the lent bytes were written, and at most all of these
 abbrev pub reported_to : {O I : Type 0} → ServerCore O I → ℕ → ServerCore O I
 reported_to core n = record core { connection = record core.connection { outbox = record core.connection.outbox { queue = after_report core.connection.outbox.queue (min n core.connection.outbox.queue.lent) } } }
+
+-- ---- who is woken
+
+-- whether the writer thread is woken where something is there for it: it sleeps, and nobody has the turn
+abbrev pub wakes_writer : Turn → (is_wanted : Bool) → Bool
+wakes_writer turn is_wanted = if is_wanted then (if turn.is_taken then false else turn.sleeps) else false
+
+-- the turn then: of the thread that is woken known that it was
+abbrev pub turn_waking : Turn → (is_wanted : Bool) → Turn
+turn_waking turn is_wanted = if is_wanted then record turn { sleeps = if turn.is_taken then turn.sleeps else false } else turn
+
+-- who is woken for a piece: of so many workers that sleep one for each job that waits, and the writer thread where bytes
+-- wait
+abbrev pub woken_for : {O I : Type 0} → ServerCore O I → (sleeping : ℕ) → Turn → Woken
+woken_for core sleeping turn = record {
+  workers = min (length (filter waits core.state.jobs.list)) sleeping;
+  writer = wakes_writer turn (has_bytes core);
+}
 
 -- whether the thread that queued an answer writes it itself: nothing waited to be written before, no other job is under
 -- way, and none waits

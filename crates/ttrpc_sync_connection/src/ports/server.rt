@@ -1,10 +1,10 @@
 //! What the threads of a server's connection share.
-ghost use Rattle.std.specs.Prelude.{◌≡◌, ◌↔◌, ◌+◌, ◌-◌, ◌^◌, ◌<◌, ◌≤◌, ◌||◌, min, length, if◌then◌else◌, is_some, false, true, Err, IfNone, IfSome, IsFalse, IsTrue, None, Ok};
-ghost use Rattle.ttrpc_server.specs.Types.{Failure as AFailure, failing};
+ghost use Rattle.std.specs.Prelude.{◌≡◌, ◌↔◌, ◌+◌, ◌-◌, ◌^◌, ◌<◌, ◌≤◌, ◌||◌, min, length, if◌then◌else◌, is_some, false, true, Err, IfNone, IfSome, IsFalse, IsTrue, MatchOption, None, Ok};
+ghost use Rattle.ttrpc_server.specs.Types.{Ends, Failure as AFailure, failing};
 ghost use Rattle.ttrpc_proto.specs.declared.error.Error.{Error as AnError};
 ghost use Rattle.ttrpc_server.specs.Protocol.{Hands};
 ghost use Rattle.ttrpc_server.specs.State.{NoneWaits};
-ghost use Rattle.ttrpc_sync_connection.specs.Held.{IsDropped, IsFed, IsFinished, IsQuiet, LendsFrame, MayTellEnd, has_bytes, is_alive, reported_to};
+ghost use Rattle.ttrpc_sync_connection.specs.Held.{IsDropped, IsFed, IsFinished, IsQuiet, LendsFrame, MayTellEnd, has_bytes, is_alive, reported_to, turn_waking, wakes_writer, woken_for};
 ghost use Rattle.ttrpc_pool.specs.Pool.{with_waiting};
 ghost use Rattle.ttrpc_sync.specs.Turns.{given_back, next_of, turn_after, wakes_behind};
 
@@ -54,6 +54,7 @@ impl<O: OutboundTransform + Drop, I: InboundTransform + Drop> ServerHeld<O, I> {
         ensures turn { result.turn ≡ record { is_taken = false; sleeps = false } }
         ensures pool { result.pool ≡ pool }
         ensures starting { result.starting ≡ 0 }
+        ensures sleeping { result.sleeping ≡ 0 }
         ensures has_ended { result.has_ended ≡ false }
     {
         ServerHeld {
@@ -88,15 +89,17 @@ impl<O: OutboundTransform + Drop, I: InboundTransform + Drop> ServerHeld<O, I> {
     pub(crate) fn done(&mut self, alloc: Global, id: JobId, outcome: Result<(), Error>) -> bool
         ensures finished { outcome ≡ Ok tt → IsFinished self.old.core id self.new.core }
         ensures failed { (e : AnError) → outcome ≡ Err e → IsDropped O.OutboundTransform self.old.core id e self.new.core }
-        ensures rest { self.new ≡ record self.old { core = self.new.core; turn = self.new.turn } }
+        ensures wakes { result ≡ wakes_writer self.old.turn self.old.has_ended }
+        ensures rest { self.new ≡ record self.old { core = self.new.core; turn = turn_waking self.old.turn self.old.has_ended } }
     {
         let _ = jobs_on::done_on(&mut self.core, alloc, id, outcome);
         self.has_ended && self.turn.wakes()
     }
 
+    #[tactic(auto, using(ttrpc_server::proofs::Keyed::filter_fewer))]
     // No job is under way, and all that was queued was written.
     fn is_quiet(&self) -> bool
-        ensures { IsTrue result → IsQuiet self.now.core }
+        ensures { IsTrue result ↔ IsQuiet self.now.core }
     {
         self.core.jobs_taken() == 0 && self.core.jobs_waiting() == 0 && self.core.lendable() == 0
     }
@@ -105,6 +108,8 @@ impl<O: OutboundTransform + Drop, I: InboundTransform + Drop> ServerHeld<O, I> {
     // of it then.
     fn tell_end(&mut self, has_turn: bool)
         ensures told { MayTellEnd self.old.has_ended self.old.core self.new.core }
+        ensures tells { self.old.has_ended ≡ true → (self.old.turn.is_taken ≡ true → has_turn ≡ true) → IsQuiet self.old.core
+            → Ends self.old.core.connection self.new.core.connection }
         ensures rest { self.new ≡ record self.old { core = self.new.core } }
     {
         let others_write = self.turn.is_taken && !has_turn;
@@ -168,7 +173,11 @@ impl<O: OutboundTransform + Drop, I: InboundTransform + Drop> ServerHeld<O, I> {
 
     /// The threads to wake: one sleeping worker for each waiting job, and the writer.
     fn woken(&mut self) -> Woken
-        ensures { self.new ≡ record self.old { turn = self.new.turn; sleeping = self.new.sleeping } }
+        ensures woken { result ≡ woken_for self.old.core self.old.sleeping self.old.turn }
+        ensures rest { self.new ≡ record self.old {
+          turn = turn_waking self.old.turn (has_bytes self.old.core);
+          sleeping = self.old.sleeping - result.workers;
+        } }
     {
         let workers = self.core.jobs_waiting().min(self.sleeping);
         self.sleeping -= workers;
@@ -184,9 +193,13 @@ impl<O: OutboundTransform + Drop, I: InboundTransform + Drop> Held for ServerHel
     fn take(&mut self, alloc: Global, piece: &[u8]) -> Option<Taken<Woken>>
         ensures whole { IfSome result (λ taken. taken.count ≡ length piece.now) }
         ensures fed { IsFed O.OutboundTransform I.InboundTransform self.old.core piece.now (is_some result) self.new.core }
-        ensures pool { self.new.pool ≡ self.old.pool }
-        ensures starting { self.new.starting ≡ self.old.starting }
-        ensures has_ended { self.new.has_ended ≡ self.old.has_ended }
+        ensures woken { IfSome result (λ taken. (taken.reads_on ≡ true)
+            × (taken.woken ≡ woken_for self.new.core self.old.sleeping self.old.turn)) }
+        ensures rest { MatchOption result (self.new ≡ record self.old { core = self.new.core }) (λ taken. self.new ≡ record self.old {
+          core = self.new.core;
+          turn = turn_waking self.old.turn (has_bytes self.new.core);
+          sleeping = self.old.sleeping - taken.woken.workers;
+        }) }
     {
         match take_on(&mut self.core, alloc, piece, 0) {
             Ok(count) if count == piece.len() => Some(Taken {
@@ -235,6 +248,8 @@ impl<O: OutboundTransform + Drop, I: InboundTransform + Drop> Held for ServerHel
 
     fn next(&mut self, has_turn: bool) -> Next
         ensures told { MayTellEnd self.old.has_ended self.old.core self.new.core }
+        ensures tells { self.old.has_ended ≡ true → (self.old.turn.is_taken ≡ true → has_turn ≡ true) → IsQuiet self.old.core
+            → Ends self.old.core.connection self.new.core.connection }
         ensures result { result ≡ next_of self.old.turn.is_taken has_turn (is_alive self.new.core) (has_bytes self.new.core) }
         ensures turn { self.new.turn ≡ turn_after self.old.turn has_turn (is_alive self.new.core) (has_bytes self.new.core) }
         ensures rest { self.new ≡ record self.old { core = self.new.core; turn = self.new.turn } }
