@@ -220,6 +220,16 @@ fn an_unknown_method_is_refused(rt: HostRuntime) -> Tested {
     Ok(())
 }
 
+/// A handler may answer by an error, which the caller is told by its text.
+#[test]
+fn an_error_is_an_answer(rt: HostRuntime) -> Tested {
+    let (site, client) = serving_one(&rt)?;
+    let told = call(&rt, &client, "Tells", b"");
+    is_told(&rt, told, "rpc status: 2 eof")?;
+    site.server.shutdown();
+    Ok(())
+}
+
 /// A server that listens at this path.
 fn serving_at<R: Machine + 'static>(
     rt: &R,

@@ -8,7 +8,7 @@ use ttrpc_codec::message::WireMessage;
 use ttrpc_proto::{Error, Request, Response, Result, Status};
 use ttrpc_secure::{ConnectionData, ConnectionDataExt, InboundTransform, OutboundTransform};
 use ttrpc_sync::Host;
-use ttrpc_sync_server::{MethodHandler, TtrpcContext};
+use ttrpc_sync_server::{MethodHandler, TtrpcContext, response_error_to_channel};
 use ttrpc_wire::Blob;
 
 /// How often a test looks at most, a millisecond after each look.
@@ -72,6 +72,8 @@ pub enum Way {
     Fails,
     /// It answers what is known of its connection as `name`.
     Name,
+    /// It answers by an error.
+    Tells,
 }
 
 /// A method of a test's server.
@@ -142,6 +144,7 @@ where
                 let name = name_in(ctx.conn.connection_data());
                 ctx.respond(id, response_of(alloc, name)?)
             }
+            Way::Tells => response_error_to_channel(id, Error::Eof, &*ctx.conn),
         }
     }
 }

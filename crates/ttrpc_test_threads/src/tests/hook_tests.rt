@@ -122,8 +122,11 @@ fn is_tried_again<R: Clock + Wait + Abort>(rt: &R, row: &(u64, ErrorKind, bool))
         left: AtomicU64::new(count),
     };
     let interval = Duration::from_millis(10);
+    let stop = Stop::new();
+    // A connection that had ended before is no reason to look sooner.
+    stop.note_end(rt);
     let start = Instant::now(rt)?;
-    assert!(rt; next_connection(rt, &failing, &Stop::new(), &NoWatch {}, interval).is_none());
+    assert!(rt; next_connection(rt, &failing, &stop, &NoWatch {}, interval).is_none());
     let passed = start.elapsed(rt)?;
     assert!(rt; at_once || passed >= Duration::from_millis(30), "{count}");
     assert_eq!(rt; failing.left.into_inner(), 0);

@@ -42,6 +42,7 @@ const METHODS: &[(&str, Way)] = &[
     ("/demo.Echo/Waits", Way::Waits),
     ("/demo.Echo/Fails", Way::Fails),
     ("/demo.Echo/Name", Way::Name),
+    ("/demo.Echo/Tells", Way::Tells),
 ];
 
 /// Adds a method under this path.
