@@ -1,13 +1,17 @@
 -- A client that was made, and the future of its connection.
 -- Source: this project's.
-use Rattle.std.specs.Prelude.{◌≡◌, [], true, None, codes}
+use Rattle.std.specs.Prelude.{◌≡◌, [], true, None, Result, Ok, Err, IfErr, codes}
 use Rattle.std.specs.Arc.{arc_value}
 use Rattle.ttrpc_proto.specs.ErrorText.{IsOthers}
 use Rattle.ttrpc_proto.specs.declared.error.Error.{Error}
 use Rattle.ttrpc_secure.specs.Hooks.{hook_error_text}
 use Rattle.ttrpc_secure.specs.Hooks.Facts.{Facts, facts_of}
 use Rattle.ttrpc_secure.specs.declared.hooks.hook_error.HookError.{HookError}
+use Rattle.ttrpc_polled.specs.Connecting.{ConnectingGives}
+use Rattle.ttrpc_polled.specs.Sockets.{IsNotMade}
 use Rattle.ttrpc_polled.specs.declared.link.Link.{Link}
+use Rattle.ttrpc_polled.specs.declared.socket.Connecting.{Connecting}
+use Rattle.ttrpc_polled.specs.declared.socket.Socket.{Socket}
 use Rattle.ttrpc_polled_client.specs.declared.line.ClientLine.{ClientLine}
 use Rattle.ttrpc_polled_client.specs.declared.shared.ClientShared.{ClientShared}
 
@@ -22,3 +26,12 @@ pub record IsMadeOver {R S W O I : Type 0} (reader : S) (writer : W) (known : Fa
 -- the hook refused the connection, for a reason that it gives
 abbrev pub IsRefusedByHook : (HookError → Type 0) → Error → Type 0
 IsRefusedByHook gives e = (why : HookError) × gives why × IsOthers (codes "client connect hook failed: ") (hook_error_text why) e
+
+-- of a socket a client is made, if memory and the system allow it; and else what was given in its place is told
+abbrev pub MakesOf : {A : Type 0} → Result Socket Error → Result A Error → Type 0
+MakesOf (Ok socket) r = IfErr r IsNotMade
+MakesOf (Err e) r = r ≡ Err e
+
+-- a client that connects tells of what its socket gave
+abbrev pub ConnectGives : {A : Type 0} → Connecting → Result A Error → Type 0
+ConnectGives state r = (given : Result Socket Error) × ConnectingGives state given × MakesOf given r

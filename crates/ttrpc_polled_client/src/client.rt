@@ -1,8 +1,10 @@
 //! The client.
-ghost use Rattle.std.specs.Prelude.{◌≡◌, ◌⊎◌, ℕ, Err, IfErr, IfOk, IsSomeAnd};
+ghost use Rattle.std.specs.Prelude.{◌≡◌, ◌⊎◌, ℕ, [], Err, Ok, IfErr, IfOk, IsSomeAnd};
 ghost use Rattle.std.specs.Arc.{arc_value};
 ghost use Rattle.ttrpc_proto.specs.declared.error.Error.{Error as AnError};
 ghost use Rattle.ttrpc_secure.specs.Hooks.Facts.{facts_of};
+ghost use Rattle.ttrpc_secure.specs.declared.hooks.HookOutput.{HookOutput as AnOutput};
+ghost use Rattle.ttrpc_polled.specs.Connecting.{RefusesAddress};
 ghost use Rattle.ttrpc_polled.specs.Sockets.{IsNotMade};
 ghost use Rattle.ttrpc_polled_client.specs.Making.{IsMadeOver, IsRefusedByHook};
 
@@ -43,7 +45,9 @@ impl<R: Timed> Client<R, Plain, Plain> {
         handle: &Handle,
         socket: Socket,
     ) -> Result<(Client<R, Plain, Plain>, TcpConnection<R, Plain, Plain>)>
-        ensures { IfErr result IsNotMade }
+        ensures shared { IfOk result (λ made. arc_value made.1.link.shared ≡ arc_value (arc_value made.0.line).shared) }
+        ensures known { IfOk result (λ made. facts_of (arc_value made.0.line).connection_data.entries ≡ []) }
+        ensures err { IfErr result IsNotMade }
     {
         let alloc = rt.alloc();
         let output = HookOutput::of_halves(alloc, Plain {}, Plain {});
@@ -57,7 +61,9 @@ impl<R: Timed> Client<R, Plain, Plain> {
         handle: &Handle,
         socket: Socket,
         tasks: &P,
-    ) -> Result<Client<R, Plain, Plain>> {
+    ) -> Result<Client<R, Plain, Plain>>
+        ensures known { IfOk result (λ client. facts_of (arc_value client.line).connection_data.entries ≡ []) }
+    {
         let (client, connection) = Client::new(rt, handle, socket)?;
         tasks.spawn(connection)?;
         Ok(client)
@@ -73,7 +79,8 @@ impl<R: Timed> Client<R, Plain, Plain> {
     ) -> Result<ClientConnect<R>>
     where
         R: Net,
-        ensures { IfErr result (λ e. e ≡ AnError.NoMemory) }
+        ensures ok { IfOk result (λ connect. RefusesAddress sockaddr.now connect.connecting.state) }
+        ensures err { IfErr result (λ e. e ≡ AnError.NoMemory) }
     {
         let connecting = Socket::connect(&rt, rt.alloc(), handle.reactor(), sockaddr, nodelay);
         ClientConnect::new(rt, handle, connecting)
@@ -91,7 +98,9 @@ impl<R: Timed, O: OutboundTransform + Drop, I: InboundTransform + Drop> Client<R
     ) -> Result<(Client<R, O, I>, TcpConnection<R, O, I>)>
     where
         H: ConnectHook<Socket, Outbound = O, Inbound = I>,
-        ensures { IfErr result (λ e. IsRefusedByHook (λ why. H.gives hook.now socket (Err why)) e ⊎ IsNotMade e) }
+        ensures shared { IfOk result (λ made. arc_value made.1.link.shared ≡ arc_value (arc_value made.0.line).shared) }
+        ensures known { IfOk result (λ made. (output : AnOutput O I) × H.gives hook.now socket (Ok output) × (facts_of (arc_value made.0.line).connection_data.entries ≡ facts_of output.connection_data.entries)) }
+        ensures err { IfErr result (λ e. IsRefusedByHook (λ why. H.gives hook.now socket (Err why)) e ⊎ IsNotMade e) }
     {
         let alloc = rt.alloc();
         let output = match hook.on_connect(alloc, &socket) {

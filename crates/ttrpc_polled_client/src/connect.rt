@@ -2,6 +2,7 @@
 ghost use Rattle.std.specs.Prelude.{◌≡◌, IfErr, IfOk};
 ghost use Rattle.std.specs.Arc.{arc_value};
 ghost use Rattle.ttrpc_proto.specs.declared.error.Error.{Error as AnError};
+ghost use Rattle.ttrpc_polled.specs.Sockets.{IsNotMade};
 
 use crate::client::Client;
 use crate::connection::TcpConnection;
@@ -40,8 +41,11 @@ impl<R: Timed> Future for ClientConnect<R> {
     type Output = Result<(Client<R, Plain, Plain>, TcpConnection<R, Plain, Plain>)>;
 
     ghost use Rattle.ttrpc_polled.specs.Connecting.{ConnectingNeeds};
+    ghost use Rattle.ttrpc_polled_client.specs.Making.{ConnectGives};
 
     ghost needs = { λ f. ConnectingNeeds f.connecting.state };
+
+    ghost gives = { λ f r. ConnectGives f.connecting.state r };
 
     fn poll(&mut self, cx: &mut Context<'_>) -> Poll<Self::Output> {
         match self.connecting.poll(cx) {
@@ -57,7 +61,9 @@ impl<R: Timed> ClientConnect<R> {
     fn client_of(
         &self,
         socket: Socket,
-    ) -> Result<(Client<R, Plain, Plain>, TcpConnection<R, Plain, Plain>)> {
+    ) -> Result<(Client<R, Plain, Plain>, TcpConnection<R, Plain, Plain>)>
+        ensures { IfErr result IsNotMade }
+    {
         Client::new(self.rt.clone()?, &self.handle, socket)
     }
 }
