@@ -1,6 +1,6 @@
 -- What runs for a job.
 -- Source: this project's.
-use Rattle.std.specs.Prelude.{◌≡◌, ◌⊎◌, ℕ, Option, Result}
+use Rattle.std.specs.Prelude.{◌≡◌, ◌⊎◌, ℕ, Bool, true, Option, Result}
 use Rattle.ttrpc_proto.specs.declared.error.Error.{Error}
 use Rattle.ttrpc_proto.specs.declared.response.Response.{Response}
 use Rattle.ttrpc_polled_server.specs.declared.ended.Ended.{Ended}
@@ -27,7 +27,7 @@ HandledGives method stream (Stream call) (Answers answer) = ⊥
 HandledGives method stream (Stream call) (Ends end) = stream call end
 HandledGives method stream (Stream call) Expired = ⊥
 
--- its own job's number is given, with what its own handler gave, or with that the job had expired
-pub record RunningGives {F G : Type 0} (method : F → Result Response Error → Type 0) (stream : G → Result (Option Response) Error → Type 0) (id : ℕ) (handled : Handled F G) (given : ℕ × Ended) : Type 0 where
+-- its own job's number is given, with what its own handler gave, or with that the job had expired, if it may expire
+pub record RunningGives {F G : Type 0} (method : F → Result Response Error → Type 0) (stream : G → Result (Option Response) Error → Type 0) (id : ℕ) (expires : Bool) (handled : Handled F G) (given : ℕ × Ended) : Type 0 where
   pub own : given.0 ≡ id
-  pub ended : HandledGives method stream handled given.1 ⊎ (given.1 ≡ Expired)
+  pub ended : HandledGives method stream handled given.1 ⊎ ((expires ≡ true) × (given.1 ≡ Expired))

@@ -1,7 +1,8 @@
 //! The future of a server's connection.
-ghost use Rattle.std.specs.Prelude.{◌≡◌, ◌<◌, ◌⊎◌, [], true, false, IfOk, None};
+ghost use Rattle.std.specs.Prelude.{◌≡◌, ◌<◌, ◌⊎◌, [], true, false, IfErr, IfOk, None};
 ghost use Rattle.std.specs.Arc.{arc_value};
 ghost use Rattle.futures.specs.Task.{Covers, Keeps};
+ghost use Rattle.ttrpc_proto.specs.declared.error.Error.{Error as AnError};
 ghost use Rattle.ttrpc_polled_server.specs.Handling.{HandledCanPoll};
 ghost use Rattle.ttrpc_polled.specs.Needs.{LinkNeeds};
 ghost use Rattle.ttrpc_polled_server.specs.Needs.{CanPoll, ConnectionNeeds, EndNeeds, asked_source};
@@ -83,7 +84,10 @@ where
         link: Link<R, S, W, ServerShared<O, I>>,
         parts: Parts<M, T, O, I>,
     ) -> Result<Self>
-        ensures { IfOk result (CanPoll M.Call.Future.can_poll T.Call.Future.can_poll) }
+        ensures can { IfOk result (CanPoll M.Call.Future.can_poll T.Call.Future.can_poll) }
+        ensures made { IfOk result (λ c. (c.link ≡ link) × (c.shared ≡ parts.shared) × (c.services ≡ parts.services) × (c.connection_data ≡ parts.connection_data)
+            × (c.limit ≡ parts.limit) × (c.is_over ≡ false) × (c.is_ending ≡ false)) }
+        ensures err { IfErr result (λ e. e ≡ AnError.NoMemory) }
     {
         let Parts {
             shared,

@@ -1,12 +1,13 @@
 //! What stands under the lock of a server's connection.
-ghost use Rattle.std.specs.Prelude.{◌≡◌, [], true};
+ghost use Rattle.std.specs.Prelude.{◌≡◌, ◌≤◌, ◌<◌, [], length, true, false};
 ghost use Rattle.futures.specs.Poll.{IfReady, OnPending};
 ghost use Rattle.futures.specs.Task.{Covers, Keeps};
 ghost use Rattle.ttrpc_proto.specs.declared.error.Error.{Error as AnError};
 ghost use Rattle.ttrpc_connection.specs.OneEnd.{Ends, failing};
 ghost use Rattle.ttrpc_frame.specs.Queue.{unsent};
 ghost use Rattle.ttrpc_connection.specs.declared.failure.Failure.{Failure as AFailure};
-ghost use Rattle.ttrpc_server.specs.State.{IsUnknown};
+ghost use Rattle.ttrpc_server.specs.State.{IsTaken, IsUnknown};
+ghost use Rattle.ttrpc_server.specs.declared.job.ActiveJob.{ActiveJob as AJob};
 ghost use Rattle.ttrpc_server.specs.Streaming.{ReceivesOne, unheard};
 ghost use Rattle.ttrpc_polled_streams.specs.Polling.{Polls, answer_of};
 ghost use Rattle.ttrpc_polled_streams.specs.Steps.{is_new as is_unsent};
@@ -72,6 +73,7 @@ impl<O: OutboundTransform + Drop, I: InboundTransform + Drop> ServerHeld<O, I> {
     /// Waits until the job of this number has expired.
     pub fn poll_expired(&mut self, id: JobId, came: &Source, cx: &mut Context<'_>) -> Poll<()>
         ensures over { IfReady result (λ _. IsUnknown self.old.core.state.jobs.list id) }
+        ensures runs { OnPending result ((job : AJob) × IsTaken self.old.core.state.jobs.list id job) }
         ensures same { self.new.core ≡ self.old.core }
         ensures registered { OnPending result (Covers cx.new (λ s. s ≡ came.now.id)) }
         ensures kept { Keeps cx.old cx.new }
@@ -125,7 +127,8 @@ impl<O: OutboundTransform + Drop, I: InboundTransform + Drop> ServerHeld<O, I> {
     /// Whether the input has ended and nothing more comes of what it brought: everything was written, and each of so many
     /// handlers waits for an item that won't come.
     pub fn is_answered(&self, running: usize) -> bool
-        ensures { result ≡ true → (self.now.input_ended ≡ true) × (unsent self.now.core.connection.outbox.queue ≡ []) }
+        ensures yes { result ≡ true → (self.now.input_ended ≡ true) × (unsent self.now.core.connection.outbox.queue ≡ []) × (running ≤ length self.now.streams.receivers) }
+        ensures no { result ≡ false → self.now.input_ended ≡ true → unsent self.now.core.connection.outbox.queue ≡ [] → length self.now.streams.receivers < running }
     {
         self.input_ended && !self.core.has_unsent() && running <= self.streams.receivers()
     }

@@ -76,7 +76,7 @@ where
 
     ghost needs = { λ r s. HandledNeeds F.needs G.needs r.handled s ⊎ ((r.expires ≡ true) × (s ≡ (arc_value r.shared).came.id)) };
 
-    ghost gives = { λ r given. RunningGives F.gives G.gives r.id r.handled given };
+    ghost gives = { λ r given. RunningGives F.gives G.gives r.id r.expires r.handled given };
 
     fn poll(&mut self, cx: &mut Context<'_>) -> Poll<(JobId, Ended)> {
         if let Poll::Ready(ended) = self.handled.poll(cx) {

@@ -1,11 +1,14 @@
 //! The server.
-ghost use Rattle.std.specs.Prelude.{◌≡◌, ◌⊎◌, IfErr, IfOk, IsSome, OnErr, OnOk, Ok, None, Some, true};
+ghost use Rattle.std.specs.Prelude.{◌≡◌, ◌⊎◌, IfErr, IfOk, IfSome, IsSome, OnErr, OnOk, Ok, None, Some, true};
 ghost use Rattle.std.specs.Arc.{arc_value};
 ghost use Rattle.ttrpc_polled.specs.Sockets.{IsNoTcp};
 ghost use Rattle.ttrpc_polled.specs.declared.listener.Listener.{Listener as AListener};
 ghost use Rattle.ttrpc_polled_server.specs.Built.{Adds, IsLack, IsNewServer, IsNotAdded, IsNotStarted, listening, silent, with_listener};
 ghost use Rattle.ttrpc_polled_server.specs.Needs.{CanPoll};
+ghost use Rattle.ttrpc_polled_server.specs.Opened.{IsNotOpened, IsOpened};
+ghost use Rattle.ttrpc_polled_server.specs.Stopping.{BeginsStop};
 ghost use Rattle.ttrpc_proto.specs.declared.error.Error.TheVariants.{NoMemory};
+ghost use Rattle.ttrpc_secure.specs.Hooks.Facts.{facts_of};
 ghost use Rattle.ttrpc_transport.specs.Sockets.{IsFault};
 
 use crate::connection::ServerConnection;
@@ -90,6 +93,8 @@ impl<R: Timed, M: MethodHandler, T: Drop, A: Drop> Server<R, M, T, A> {
         I: InboundTransform + Drop,
         T: StreamHandler<ServerShared<O, I>>,
         ensures can { IfOk result (CanPoll M.Call.Future.can_poll T.Call.Future.can_poll) }
+        ensures opened { IfOk result (IsOpened reader writer (facts_of output.connection_data.entries) self.old.services self.old.settings) }
+        ensures err { IfErr result IsNotOpened }
         ensures fixed { self.new ≡ record self.old { settings = record self.old.settings { is_fixed = true } } }
     {
         self.settings.is_fixed = true;
@@ -220,6 +225,7 @@ impl<R: Timed, M: Drop, T: Drop, A: Drop> Server<R, M, T, A> {
     /// fixed. It is refused without a listener, as of a server that has started and didn't stop listening since.
     pub fn start(&mut self) -> Result<Serving<R, M, T, A>>
         ensures ok { OnOk result (self.new ≡ listening self.old) }
+        ensures listener { IfOk result (λ serving. IfSome self.old.listener (λ listener. serving.listener ≡ listener)) }
         ensures served { IfOk result (λ serving. (serving.with.settings ≡ self.old.settings) × (arc_value serving.with.services ≡ self.old.services) × (arc_value serving.with.hook ≡ self.old.hook)) }
         ensures refused { IfErr result (IsNotStarted self.old.listener) }
     {
@@ -272,6 +278,7 @@ impl<R: Timed, M: Drop, T: Drop, A: Drop> Server<R, M, T, A> {
     /// server may start again. Where it doesn't listen nothing happens.
     pub fn stop_listen(&mut self) -> Result<StopListen>
         ensures ok { OnOk result (self.new ≡ silent self.old) }
+        ensures stops { IfOk result (λ stops. stops.is_listening ≡ self.old.settings.is_listening) }
         ensures err { OnErr result (self.new ≡ self.old) }
         ensures only_memory { IfErr result (λ e. e ≡ NoMemory) }
     {
@@ -302,6 +309,7 @@ impl<R: Timed, M: Drop, T: Drop, A: Drop> Server<R, M, T, A> {
     /// Stops listening, closes the listener, and ends all connections.
     pub fn shutdown(&mut self) -> Result<Shutdown>
         ensures ok { OnOk result (self.new ≡ record (silent self.old) { listener = None }) }
+        ensures stops { IfOk result (λ shutdown. BeginsStop self.old.settings.is_listening shutdown.at) }
         ensures err { IfErr result IsLack }
     {
         let connections = self.disconnect()?;

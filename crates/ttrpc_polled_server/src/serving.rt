@@ -1,8 +1,13 @@
 //! The connections of a server, one after another.
-ghost use Rattle.std.specs.Prelude.{◌≡◌, IfOk, IfSome};
+ghost use Rattle.std.specs.Prelude.{◌≡◌, [], true, IfErr, IfOk, IfSome, None};
+ghost use Rattle.std.specs.Arc.{arc_value};
 ghost use Rattle.futures.specs.Poll.{OnPending, IfReady};
 ghost use Rattle.futures.specs.Task.{Covers, Keeps};
+ghost use Rattle.ttrpc_proto.specs.declared.error.Error.{Error as AnError};
+ghost use Rattle.ttrpc_secure.specs.Hooks.Facts.{facts_of};
+ghost use Rattle.ttrpc_polled.specs.Sockets.{IsNotMade};
 ghost use Rattle.ttrpc_polled_server.specs.Needs.{CanPoll, ServingNeeds};
+ghost use Rattle.ttrpc_polled_server.specs.Opened.{IsNotOpened, IsOpened};
 
 use crate::connection::{Parts, ServerConnection};
 use crate::handler::{MethodHandler, StreamHandler};
@@ -62,7 +67,9 @@ impl<R: Timed, M: MethodHandler, T: Drop, A> Service<R, M, T, A> {
         O: OutboundTransform + Drop,
         I: InboundTransform + Drop,
         T: StreamHandler<ServerShared<O, I>>,
-        ensures { IfOk result (CanPoll M.Call.Future.can_poll T.Call.Future.can_poll) }
+        ensures can { IfOk result (CanPoll M.Call.Future.can_poll T.Call.Future.can_poll) }
+        ensures opened { IfOk result (IsOpened reader writer (facts_of output.connection_data.entries) (arc_value self.now.services) self.now.settings) }
+        ensures err { IfErr result IsNotOpened }
     {
         let HookOutput {
             connection_data,
@@ -80,6 +87,7 @@ impl<R: Timed, M: MethodHandler, T: Drop, A> Service<R, M, T, A> {
     where
         O: OutboundTransform + Drop,
         I: InboundTransform + Drop,
+        ensures { IfErr result (λ e. e ≡ AnError.NoMemory) }
     {
         let alloc = self.rt.alloc();
         let context = ConnectionContext::of_halves(alloc, outbound, inbound);
@@ -99,6 +107,9 @@ impl<R: Timed, M: MethodHandler, T: Drop, A> Service<R, M, T, A> {
         W: AsyncWrite,
         O: OutboundTransform + Drop,
         I: InboundTransform + Drop,
+        ensures ok { IfOk result (λ link. (arc_value link.shared ≡ arc_value shared.now) × (link.inlet.reader ≡ reader) × (link.inlet.piece ≡ []) × (link.is_reading ≡ true)
+            × (link.outlet.writer ≡ writer) × (link.outlet.kept ≡ []) × (link.alarm.set_for ≡ None)) }
+        ensures err { IfErr result IsNotMade }
     {
         let line = Arc::try_clone(shared)?;
         Link::new(self.rt.clone()?, &self.handle, line, reader, writer)
@@ -113,6 +124,9 @@ impl<R: Timed, M: MethodHandler, T: Drop, A> Service<R, M, T, A> {
     where
         O: OutboundTransform + Drop,
         I: InboundTransform + Drop,
+        ensures ok { IfOk result (λ parts. (parts.shared ≡ shared) × (arc_value parts.services ≡ arc_value self.now.services)
+            × (arc_value parts.connection_data ≡ connection_data) × (parts.limit ≡ self.now.settings.connection_limit)) }
+        ensures err { IfErr result IsNotOpened }
     {
         Ok(Parts {
             shared,
@@ -125,7 +139,9 @@ impl<R: Timed, M: MethodHandler, T: Drop, A> Service<R, M, T, A> {
     }
 
     /// The names of what is served, for a core.
-    fn registry(&self, alloc: Global) -> Result<Registry> {
+    fn registry(&self, alloc: Global) -> Result<Registry>
+        ensures { IfErr result (λ e. e ≡ AnError.NoMemory) }
+    {
         let mut registry = self.services.registry(alloc)?;
         registry.set_bare_openings(self.settings.bare_openings);
         Ok(registry)

@@ -1,11 +1,12 @@
 //! How a server is stopped, and how its connections are told.
-ghost use Rattle.std.specs.Prelude.{◌≡◌, IsFalse, IfErr};
+ghost use Rattle.std.specs.Prelude.{◌≡◌, ◌⊎◌, IsFalse, IfErr, IfOk};
 ghost use Rattle.std.specs.Arc.{arc_value};
 ghost use Rattle.futures.specs.Task.{Hears, IsArmed, Keeps};
 ghost use Rattle.futures.specs.Task.{Covers};
-ghost use Rattle.futures.specs.Poll.{OnPending};
+ghost use Rattle.futures.specs.Poll.{IfReady, OnPending};
 ghost use Rattle.ttrpc_proto.specs.declared.error.Error.{Error as AnError};
 ghost use Rattle.ttrpc_polled_server.specs.Stopping.{IsLeftOver, StoppingNeeds};
+ghost use Rattle.ttrpc_polled_server.specs.declared.stop.Disconnect.{Disconnect as ADisconnect};
 
 use futures::Future;
 use futures::spin::lock;
@@ -76,7 +77,10 @@ impl Stop {
     }
 
     /// A place for a connection. `LocalClosed` once all have ended behind a `disconnect`.
-    pub fn seat(this: &Arc<Stop, Global>) -> Result<Seat> {
+    pub fn seat(this: &Arc<Stop, Global>) -> Result<Seat>
+        ensures ok { IfOk result (λ seat. arc_value seat.stop ≡ arc_value this.now) }
+        ensures err { IfErr result (λ e. (e ≡ AnError.NoMemory) ⊎ (e ≡ AnError.LocalClosed)) }
+    {
         let stop = Arc::try_clone(this)?;
         let Some(mut guard) = lock(&this.held) else {
             return Err(Error::LocalClosed);
@@ -329,11 +333,14 @@ impl Disconnect {
 impl Future for Disconnect {
     type Output = Result<()>;
 
-    ghost use Rattle.std.specs.Prelude.{◌≡◌, ◌⊎◌};
+    ghost use Rattle.std.specs.Prelude.{◌≡◌, ◌⊎◌, IfErr};
     ghost use Rattle.std.specs.Arc.{arc_value};
     ghost use Rattle.tokio.specs.Timers.{sleep_source};
+    ghost use Rattle.ttrpc_polled_server.specs.Stopping.{IsLeftOver};
 
     ghost needs = { λ d s. (s ≡ (arc_value d.stop).left.id) ⊎ (s ≡ sleep_source d.limit) };
+
+    ghost gives = { λ _ r. IfErr r IsLeftOver };
 
     fn poll(&mut self, cx: &mut Context<'_>) -> Poll<Result<()>> {
         self.stop.tell();
@@ -381,7 +388,9 @@ impl Shutdown {
         stop: Arc<Stop, Global>,
         listener: StopListen,
         connections: Disconnect,
-    ) -> Shutdown {
+    ) -> Shutdown
+        ensures { result.at ≡ Stopping.Listens listener connections }
+    {
         Shutdown {
             stop,
             at: Stopping::Listens(listener, connections),
@@ -392,9 +401,11 @@ impl Shutdown {
 impl Future for Shutdown {
     type Output = Result<()>;
 
-    ghost use Rattle.ttrpc_polled_server.specs.Stopping.{StoppingNeeds};
+    ghost use Rattle.ttrpc_polled_server.specs.Stopping.{StoppingGives, StoppingNeeds};
 
     ghost needs = { λ f. StoppingNeeds f.at };
+
+    ghost gives = { λ f r. StoppingGives f.at r };
 
     fn poll(&mut self, cx: &mut Context<'_>) -> Poll<Result<()>> {
         match replace(&mut self.at, Stopping::Done) {
@@ -421,6 +432,8 @@ impl Shutdown {
         mut connections: Disconnect,
         cx: &mut Context<'_>,
     ) -> Poll<Result<()>>
+        ensures ended { IfReady result (λ ended. IfErr ended IsLeftOver) }
+        ensures goes_on { OnPending result ((left : ADisconnect) × (self.new.at ≡ Stopping.Disconnects left)) }
         ensures registered { OnPending result (Covers cx.new (StoppingNeeds self.new.at)) }
         ensures kept { Keeps cx.old cx.new }
     {
