@@ -1,9 +1,11 @@
-//! What `tools/messages` writes for polled ends of an rpc of each kind, and a service of them. That it is proved shows that
-//! nothing has to be added to what is written.
+//! Tests of what `tools/messages` writes for polled ends: an rpc of each kind reaches its method, and is told as its kind is.
 #![tactic(auto)]
 
 mod messages;
 mod polled;
+mod streams;
+#[cfg(test)]
+mod tests;
 mod told;
 
 pub use messages::{Count, Item};
@@ -11,4 +13,5 @@ pub use polled::{
     Flows, FlowsClient, Plainly, PlainlyClient, Talks, TalksClient, flows_service, plainly_service,
     talks_service,
 };
+pub use streams::{Listing, Loading, Talking};
 pub use told::Told;

@@ -37,7 +37,7 @@ type Line = ClientLine<Plain, Plain>;
 /// A stream that a server fills.
 type Filled<P, R> = ClientStreamReceiver<P, R, Plain, Plain>;
 
-/// An rpc of each kind. Streams are answered unread.
+/// An rpc of each kind.
 pub trait Talks: Drop {
     /// A call of `Same`.
     type Same: Future<Output = Result<Item>>;
@@ -64,7 +64,7 @@ pub trait Talks: Drop {
     fn same(&self, ctx: &TtrpcContext, request: Item) -> Self::Same
         ensures { Self.Same.can_poll result };
 
-    /// How many bytes the item has.
+    /// How many bytes the item's content has.
     fn size(&self, ctx: &TtrpcContext, request: Item) -> Self::Size
         ensures { Self.Size.can_poll result };
 
@@ -72,7 +72,7 @@ pub trait Talks: Drop {
     fn fail(&self, ctx: &TtrpcContext, request: Item) -> Self::Fail
         ensures { Self.Fail.can_poll result };
 
-    /// Gives no item.
+    /// Gives an item of so many bytes.
     fn list(
         &self,
         ctx: &TtrpcContext,
@@ -80,7 +80,7 @@ pub trait Talks: Drop {
     ) -> Self::List
         ensures { Self.List.can_poll result };
 
-    /// Fails.
+    /// Fails, with its request unread.
     fn watch(
         &self,
         ctx: &TtrpcContext,
@@ -88,11 +88,11 @@ pub trait Talks: Drop {
     ) -> Self::Watch
         ensures { Self.Watch.can_poll result };
 
-    /// Counts no item.
+    /// How many bytes the contents of all items have.
     fn load(&self, ctx: &TtrpcContext, stream: ServerStreamReceiver<Item, ServerLine>) -> Self::Load
         ensures { Self.Load.can_poll result };
 
-    /// Ends at once.
+    /// Gives each item back.
     fn talk(&self, ctx: &TtrpcContext, stream: ServerStream<Item, Item, ServerLine>) -> Self::Talk
         ensures { Self.Talk.can_poll result };
 }

@@ -1,6 +1,7 @@
-//! A service of an rpc of each kind.
+//! The services of the tests.
 use crate::messages::{Count, Item};
 use crate::polled::{Flows, Plainly, Talks};
+use crate::streams::{Listing, Loading, Talking};
 use futures::future::{Ready, ready};
 use ttrpc::asynchronous::{
     ServerShared, ServerStream, ServerStreamOpening, ServerStreamReceiver, TtrpcContext,
@@ -10,7 +11,7 @@ use ttrpc::{Error, Result};
 
 type Line = ServerShared<Plain, Plain>;
 
-/// What each rpc does.
+/// What each rpc of the tests does.
 #[derive(Clone, Copy, Debug)]
 pub struct Told {}
 
@@ -21,13 +22,13 @@ impl Talks for Told {
 
     type Fail = Ready<Result<Item>>;
 
-    type List = Ready<Result<()>>;
+    type List = Listing;
 
     type Watch = Ready<Result<()>>;
 
-    type Load = Ready<Result<Count>>;
+    type Load = Loading;
 
-    type Talk = Ready<Result<()>>;
+    type Talk = Talking;
 
     fn same(&self, _ctx: &TtrpcContext, request: Item) -> Ready<Result<Item>> {
         ready(Ok(request))
@@ -42,12 +43,8 @@ impl Talks for Told {
         ready(Err(Error::Eof))
     }
 
-    fn list(
-        &self,
-        _ctx: &TtrpcContext,
-        _stream: ServerStreamOpening<Count, Item, Line>,
-    ) -> Ready<Result<()>> {
-        ready(Ok(()))
+    fn list(&self, ctx: &TtrpcContext, stream: ServerStreamOpening<Count, Item, Line>) -> Listing {
+        Listing::new(ctx.alloc(), stream)
     }
 
     fn watch(
@@ -58,20 +55,13 @@ impl Talks for Told {
         ready(Err(Error::Eof))
     }
 
-    fn load(
-        &self,
-        _ctx: &TtrpcContext,
-        _stream: ServerStreamReceiver<Item, Line>,
-    ) -> Ready<Result<Count>> {
-        ready(Ok(Count { count: 7 }))
+    fn load(&self, _ctx: &TtrpcContext, receiver: ServerStreamReceiver<Item, Line>) -> Loading {
+        let count = 0;
+        Loading { receiver, count }
     }
 
-    fn talk(
-        &self,
-        _ctx: &TtrpcContext,
-        _stream: ServerStream<Item, Item, Line>,
-    ) -> Ready<Result<()>> {
-        ready(Ok(()))
+    fn talk(&self, ctx: &TtrpcContext, stream: ServerStream<Item, Item, Line>) -> Talking {
+        Talking::new(ctx.alloc(), stream)
     }
 }
 

@@ -1,0 +1,3 @@
+mod alone_tests;
+mod sites;
+mod talks_tests;
