@@ -6,16 +6,21 @@ use Rattle.ttrpc_proto.specs.declared.error.Error.{Error}
 use Rattle.ttrpc_proto.specs.declared.error.Error.TheVariants.{NoMemory}
 use Rattle.ttrpc_secure.specs.Hooks.{hook_error_text}
 use Rattle.ttrpc_secure.specs.declared.hooks.hook_error.HookError.{HookError}
-use Rattle.ttrpc_transport.specs.Opened.{IsNotOpened}
+use Rattle.ttrpc_transport.specs.Address.Places.{IsNoPlace, IsPlace}
 use Rattle.ttrpc_transport.specs.Sockets.{IsFault}
+use Rattle.ttrpc_transport.specs.declared.address.place.Place.{Place}
 
 -- the system refused a thread, or memory was refused
 abbrev pub IsNotMade : Error → Type 0
 IsNotMade e = IsFault e ⊎ (e ≡ NoMemory)
 
--- the address wasn't opened, or the client of its connection wasn't made
+-- the address names a place to connect to
+abbrev pub NamesPlace : List ℕ → Type 0
+NamesPlace addr = (place : Place) × IsPlace addr place
+
+-- the address names no place, or it names one, and the connection to it or its client wasn't made
 abbrev pub IsNotConnected : List ℕ → Error → Type 0
-IsNotConnected addr e = IsNotOpened addr e ⊎ IsNotMade e
+IsNotConnected addr e = IsNoPlace addr e ⊎ (NamesPlace addr × IsNotMade e)
 
 -- the hook refused the connection, for a reason that it gives
 abbrev pub IsRefusedByHook : (HookError → Type 0) → Error → Type 0

@@ -1,10 +1,11 @@
 //! The client.
-ghost use Rattle.std.specs.Prelude.{◌≡◌, ◌⊎◌, [], Err, IfErr, IfOk, Ok};
+ghost use Rattle.std.specs.Prelude.{◌≡◌, ◌⊎◌, [], Err, IfErr, IfOk, Ok, OnOk};
 ghost use Rattle.std.specs.IoError.{error_kind};
+ghost use Rattle.ttrpc_client.specs.Protocol.{new_core};
 ghost use Rattle.ttrpc_proto.specs.declared.error.Error.{Error as AnError};
 ghost use Rattle.ttrpc_secure.specs.Hooks.Facts.{facts_of};
 ghost use Rattle.ttrpc_secure.specs.declared.hooks.HookOutput.{HookOutput as AnOutput};
-ghost use Rattle.ttrpc_sync_client.specs.Making.{IsNotConnected, IsNotMade, IsRefusedByHook};
+ghost use Rattle.ttrpc_sync_client.specs.Making.{IsNotConnected, IsNotMade, IsRefusedByHook, NamesPlace};
 
 use crate::connection::ClientConn;
 use crate::ports::{ClientRead, ClientShared};
@@ -47,6 +48,7 @@ impl<R: Runtime> Client<R, Plain, Plain> {
     pub fn connect(rt: R, sockaddr: &str, nodelay: bool) -> Result<Client<R, Plain, Plain>>
     where
         R: Net<Stream = TcpStream>,
+        ensures named { OnOk result (NamesPlace sockaddr.now) }
         ensures known { IfOk result (λ client. client ≡ []) }
         ensures err { IfErr result (IsNotConnected sockaddr.now) }
     {
@@ -137,10 +139,9 @@ where
         outbound,
         inbound,
     } = output;
-    let context = ConnectionContext::of_halves(alloc, outbound, inbound);
-    let core = ClientCore::new(alloc, ClientKind::Sync, context);
+    let shared = ClientShared::new(core_of(alloc, outbound, inbound));
     let stream = Arc::new(alloc, stream)?;
-    let link = Arc::new(alloc, Link::new(alloc, ClientShared::new(core), stream)?)?;
+    let link = Arc::new(alloc, Link::new(alloc, shared, stream)?)?;
     let connection = ClientConn::new(Arc::try_clone(&link)?, connection_data);
     let client = Client {
         rt: rt.clone()?,
@@ -149,6 +150,18 @@ where
     start_reader(&rt, Arc::try_clone(&link)?)?;
     start_writer(&rt, link)?;
     Ok(client)
+}
+
+/// The core of a client with threads, whose bytes go through these halves, and whose first call has the id 1. What is known
+/// of the connection stands beside the lock, and not in the core.
+fn core_of<O, I>(alloc: Global, outbound: O, inbound: I) -> ClientCore<O, I>
+where
+    O: OutboundTransform + Drop,
+    I: InboundTransform + Drop,
+    ensures { result ≡ new_core ClientKind.Sync 1 [] outbound inbound }
+{
+    let context = ConnectionContext::of_halves(alloc, outbound, inbound);
+    ClientCore::new(alloc, ClientKind::Sync, context)
 }
 
 /// The error for a thread that the system refused.

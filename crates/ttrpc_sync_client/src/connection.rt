@@ -1,6 +1,7 @@
 //! A client's connection, which lives as long as a client of it.
 ghost use Rattle.std.specs.Prelude.{◌≡◌, IfErr, IfOk, OnErr, OnOk, false};
 ghost use Rattle.ttrpc_client.specs.Protocol.{Forgets, RefusesRequest, TakesOutcome};
+ghost use Rattle.ttrpc_connection.specs.Deadlines.{deadline_of};
 ghost use Rattle.ttrpc_secure.specs.Hooks.Facts.{facts_of};
 ghost use Rattle.ttrpc_sync_client.specs.Asking.{Asks};
 ghost use Rattle.ttrpc_sync_client.specs.Held.{HasTicked};
@@ -87,7 +88,9 @@ impl<O: OutboundTransform + Drop, I: InboundTransform + Drop> ClientConn<O, I> {
     }
 
     /// Queues the request of a call, has it written, and has a thread read.
-    fn ask<R: Host>(&self, rt: &R, request: &Request, now: u64) -> Result<Waiting> {
+    fn ask<R: Host>(&self, rt: &R, request: &Request, now: u64) -> Result<Waiting>
+        ensures { IfOk result (λ waiting. waiting.deadline ≡ deadline_of now request.now.timeout_nano) }
+    {
         let shared = self.link.shared();
         let mut guard = shared.held().lock(rt);
         let asked = queue_request(&mut guard, rt.alloc(), request, now)?;
