@@ -1,4 +1,7 @@
 //! What accepts a server's connections.
+ghost use Rattle.std.specs.Prelude.{◌↔◌, IsTrue};
+ghost use Rattle.ttrpc_sync_server.specs.Accepting.{IsRetriedAtOnce};
+
 use std::io::{self, ErrorKind};
 use std::sync::{Condvar, Mutex, Wait};
 use std::time::{Clock, Duration};
@@ -120,7 +123,10 @@ pub fn next_connection<X: Wait + Clock, L: Accepts, W: Watch>(
     unreachable!()
 }
 
-fn is_passing(kind: ErrorKind) -> bool {
+/// Whether only a signal came, or the other side went away.
+fn is_passing(kind: ErrorKind) -> bool
+    ensures { IsTrue result ↔ IsRetriedAtOnce kind }
+{
     matches!(
         kind,
         ErrorKind::Interrupted | ErrorKind::ConnectionAborted | ErrorKind::ConnectionReset

@@ -1,6 +1,7 @@
 //! Whether a hook accepts a connection, and its time limit.
-ghost use Rattle.std.specs.Prelude.{◌≡◌, ◌⊎◌, IfErr};
+ghost use Rattle.std.specs.Prelude.{◌≡◌, IfErr};
 ghost use Rattle.std.specs.declared.io.Error.{Error as IoError};
+ghost use Rattle.ttrpc_sync_server.specs.Accepting.{IsAdmission};
 
 use std::alloc::Global;
 use std::io;
@@ -37,7 +38,7 @@ pub fn admit<C: Clock, S, A: AcceptHook<S>>(
     hook: &A,
     stream: &S,
 ) -> Result<HookOutput<A::Outbound, A::Inbound>, HookError>
-    ensures { A.gives hook.now stream.now result ⊎ (result ≡ Err HookError.Timeout) ⊎ ((e : IoError) × (result ≡ Err (HookError.Io e))) }
+    ensures { IsAdmission (λ hooked. A.gives hook.now stream.now hooked) result }
 {
     let started = read_clock(clock)?;
     let hooked = hook.on_accept(alloc, stream);

@@ -2,6 +2,7 @@
 ghost use Rattle.std.specs.Prelude.{◌≡◌, IfErr, IfOk};
 ghost use Rattle.std.specs.Arc.{arc_value};
 ghost use Rattle.ttrpc_proto.specs.declared.error.Error.TheVariants.{NoMemory};
+ghost use Rattle.ttrpc_sync_server.specs.Accepting.{IsCoreFor};
 ghost use Rattle.ttrpc_sync_server.specs.Built.{IsNotStarted};
 
 use crate::accept::Stop;
@@ -173,13 +174,31 @@ where
         outbound,
         inbound,
     } = output;
-    let registry = service.serving.methods.registry(alloc)?;
-    let context = ConnectionContext::of_halves(alloc, outbound, inbound);
-    let core = ServerCore::new(alloc, Rules::Sync, registry, context);
+    let core = core_of(alloc, &service.serving.methods, outbound, inbound)?;
     let shared = ServerShared::new(core, pool_of(&service.settings));
     let link = Link::new(alloc, shared, Arc::try_clone(stream)?)?;
     let conn = Conn::new(rt.clone()?, link, connection_data, crew)?;
     Ok(Arc::new(alloc, conn)?)
+}
+
+/// The core of a connection that is served by these methods, and whose bytes go through these halves. What is known of the
+/// connection stands beside the lock, and not in the core.
+fn core_of<H, O, I>(
+    alloc: Global,
+    methods: &Methods<H>,
+    outbound: O,
+    inbound: I,
+) -> Result<ServerCore<O, I>>
+where
+    H: Drop,
+    O: OutboundTransform + Drop,
+    I: InboundTransform + Drop,
+    ensures ok { IfOk result (IsCoreFor methods.now outbound inbound) }
+    ensures err { IfErr result (λ e. e ≡ NoMemory) }
+{
+    let registry = methods.registry(alloc)?;
+    let context = ConnectionContext::of_halves(alloc, outbound, inbound);
+    Ok(ServerCore::new(alloc, Rules::Sync, registry, context))
 }
 
 /// The workers of a connection, of whom none waits yet, by the server's three counts.
