@@ -1,7 +1,9 @@
 -- What the reads of a header come to.
-use Rattle.std.proofs.Common.{◌≡◌, ◌<◌, ◌≤◌, ◌++◌, length, Result, Ok, Err, sym, ap, subst, ◌∙◌, arith, append_assoc, length-take}
+use Rattle.std.proofs.Common.{◌≡◌, ◌≢◌, ◌<◌, ◌≤◌, ◌++◌, length, Result, Ok, Err, sym, ap, subst, ◌∙◌, arith, append_assoc, length-take}
 use Rattle.std.proofs.lemmas.List.{take_all}
+use Rattle.std.specs.IoError.{error_kind}
 use Rattle.std.specs.declared.io.Error.{Error}
+use Rattle.std.specs.declared.io.ErrorKind.TheVariants.{Interrupted}
 use Rattle.tokio.specs.Io.Moved.{FillFails, Passes, PassesInOrder}
 use Rattle.ttrpc_frame.specs.declared.header.MessageHeader.{MessageHeader}
 use Rattle.ttrpc_frame.specs.Header.{header_of}
@@ -20,10 +22,10 @@ heads_later reads order ends fails a b r x w = (
 )
 
 -- it ends with so many bytes
-pub heads_short : {S : Type 0} (reads : Passes S) (ends : S → Type 0) (fails : S → Error → Type 0) (a b : ReadHeader S) (e : Error) → FillsHeader reads a b → b.filled < 10 → FillFails fails ends b.reader e → WillHead reads ends fails a (Err e)
-heads_short reads ends fails a b e x less why =
+pub heads_short : {S : Type 0} (reads : Passes S) (ends : S → Type 0) (fails : S → Error → Type 0) (a b : ReadHeader S) (e : Error) → FillsHeader reads a b → b.filled < 10 → FillFails fails ends b.reader e → error_kind e ≢ Interrupted → WillHead reads ends fails a (Err e)
+heads_short reads ends fails a b e x less why lasting =
     let size : length (came_of a ++ x.0) ≡ length (came_of b) = ap length (sym x.2) in
-    (x.0, b.reader, x.1, (omega (arith, size, length-take b.filled b.bytes, less), why))
+    (x.0, b.reader, x.1, (omega (arith, size, length-take b.filled b.bytes, less), why, lasting))
 
 -- it is whole
 pub heads_whole : {S : Type 0} (reads : Passes S) (ends : S → Type 0) (fails : S → Error → Type 0) (a b : ReadHeader S) (h : MessageHeader) → FillsHeader reads a b → 10 ≤ b.filled → length b.bytes ≡ 10 → h ≡ header_of b.bytes → WillHead reads ends fails a (Ok h)

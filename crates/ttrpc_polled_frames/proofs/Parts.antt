@@ -35,7 +35,7 @@ writes_part writes order a b c x bytes part at n then_at polled is f wrote bound
 pub writes_before : {W : Type 0} (writes : Passes W) (a b : W) (x y behind : List ℕ) → TakesWritten writes a b x y → TakesWritten writes a b (x ++ behind) (y ++ behind)
 writes_before writes a b x y behind f = (f.0, f.1, ap (λ r. r ++ behind) f.2 ∙ append_assoc f.0 y behind)
 
-pub ends_later : {W E : Type 0} (writes : Passes W) → PassesInOrder writes → (done : W → Type 0) (tells : W → E → Type 0) (a b : W) (x y : List ℕ) (r : Result (Unit {0}) E) → TakesWritten writes a b x y → WillEnd writes done tells b y r → WillEnd writes done tells a x r
+pub ends_later : {W E : Type 0} (writes : Passes W) → PassesInOrder writes → (done : W → Type 0) (tells : List ℕ → W → E → Type 0) (a b : W) (x y : List ℕ) (r : Result (Unit {0}) E) → TakesWritten writes a b x y → WillEnd writes done tells b y r → WillEnd writes done tells a x r
 ends_later writes order done tells a b x y r f e = (e.0, e.1, writes_more writes order a b e.0 x y e.1 f e.2, e.3)
 
 -- the one part is taken whole, and then some of the other
@@ -44,7 +44,7 @@ writes_both writes order a b c x y u v f none s =
     writes_more writes order a b c (x ++ u) (y ++ u) (y ++ v) (writes_before writes a b x y u f) (subst (λ k. TakesWritten writes b c (k ++ u) (k ++ v)) (sym none) s)
 
 -- it failed
-pub ends_failed : {W E : Type 0} (writes : Passes W) (done : W → Type 0) (tells : W → E → Type 0) (a b : W) (x y : List ℕ) (e : E) → TakesWritten writes a b x y → tells b e → WillEnd writes done tells a x (Err e)
+pub ends_failed : {W E : Type 0} (writes : Passes W) (done : W → Type 0) (tells : List ℕ → W → E → Type 0) (a b : W) (x y : List ℕ) (e : E) → TakesWritten writes a b x y → tells y b e → WillEnd writes done tells a x (Err e)
 ends_failed writes done tells a b x y e f told = (b, y, f, told)
 
 -- what is offered of a frame is all of it

@@ -1,7 +1,9 @@
 -- What polled reads make of a reader's bytes.
 -- Source: PROTOCOL.md of ttrpc, "Message Frame"; what is told of cut input is this project's.
-use Rattle.std.specs.Prelude.{ℕ, ◌+◌, ◌≤◌, List, ◌++◌, length, Result, Ok, Err}
+use Rattle.std.specs.Prelude.{◌≢◌, ℕ, ◌+◌, ◌≤◌, List, ◌++◌, length, Result, Ok, Err}
+use Rattle.std.specs.IoError.{error_kind}
 use Rattle.std.specs.declared.io.Error.{Error}
+use Rattle.std.specs.declared.io.ErrorKind.TheVariants.{Interrupted}
 use Rattle.tokio.specs.Io.Moved.{Passes}
 use Rattle.ttrpc_frame.specs.declared.header.TheConstants.{MESSAGE_HEADER_LENGTH, MESSAGE_LENGTH_MAX}
 use Rattle.ttrpc_frame.specs.declared.failure.StreamFailure.{StreamFailure}
@@ -31,10 +33,11 @@ Makes (Ok found) bytes = ⊥
 Makes (Err (Io e)) bytes = ⊥
 Makes (Err NoMemory) bytes = IsWithin bytes
 
--- The bytes are this, and it was cut only where the reader ends; or the reader failed inside a frame, or room was refused.
+-- The bytes are this, and it was cut only where the reader ends; or the reader failed inside a frame, not by an interruption, or
+-- room was refused.
 abbrev pub IsTaken : {S : Type 0} → (S → Type 0) → (S → Error → Type 0) → Result Found StreamFailure → List ℕ → S → Type 0
 IsTaken ends fails (Ok found) bytes last = IsFound found bytes × IfCut found (ends last)
-IsTaken ends fails (Err (Io e)) bytes last = IsRest bytes × fails last e
+IsTaken ends fails (Err (Io e)) bytes last = IsRest bytes × fails last e × (error_kind e ≢ Interrupted)
 IsTaken ends fails (Err NoMemory) bytes last = IsWithin bytes
 
 -- Of a frame of which so much has come the rest was read, as far as it goes, and nothing behind it.

@@ -100,14 +100,13 @@ impl<W: AsyncWrite> WriteHeader<W> {
 }
 
 impl<W: AsyncWrite> Future for WriteHeader<W> {
-    ghost use Rattle.tokio.specs.Io.Moved.{WriteFails};
-    ghost use Rattle.ttrpc_polled_frames.specs.Writing.{WillEnd, left_of};
+    ghost use Rattle.ttrpc_polled_frames.specs.Writing.{FailsToFlush, WillEnd, left_of};
 
     type Output = io::Result<()>;
 
     ghost needs = { λ f source. W.needs f.offering.writer source };
 
-    ghost gives = { λ f r. WillEnd W.writes W.is_flushed (WriteFails W.fails W.is_full) f.offering.writer (left_of (λ ten. ten) f.offering) r };
+    ghost gives = { λ f r. WillEnd W.writes W.is_flushed (FailsToFlush W.fails W.is_full) f.offering.writer (left_of (λ ten. ten) f.offering) r };
 
     fn poll(&mut self, cx: &mut Context<'_>) -> Poll<io::Result<()>> {
         self.offering.poll_flushed(cx)

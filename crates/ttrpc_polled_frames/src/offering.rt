@@ -2,9 +2,9 @@
 ghost use Rattle.std.specs.Prelude.{◌≡◌, ℕ, List, [], ◌++◌, drop, IfOk};
 ghost use Rattle.futures.specs.Poll.{OnPending};
 ghost use Rattle.futures.specs.Task.{Covers, Keeps};
-ghost use Rattle.tokio.specs.Io.Moved.{IfReadyErr, OnReadyOk, TakesWritten, WriteFails};
+ghost use Rattle.tokio.specs.Io.Moved.{IfReadyErr, OnReadyOk, TakesWritten};
 ghost use Rattle.ttrpc_frame.specs.Header.{header_bytes};
-ghost use Rattle.ttrpc_polled_frames.specs.Writing.{left_of};
+ghost use Rattle.ttrpc_polled_frames.specs.Writing.{BreaksOff, FailsToFlush, left_of};
 
 use futures::task::{Context, Poll};
 use std::alloc::{AllocError, Global};
@@ -96,9 +96,11 @@ impl<W: AsyncWrite, P: HasBytes> Offering<W, P> {
 
     /// Offers what is left. Ready: the writer took all of it, or failed, or took nothing.
     pub fn poll_offer(&mut self, cx: &mut Context<'_>) -> Poll<io::Result<()>>
+        // The writer took all of it, or a front, and why no more is told.
         ensures writes { TakesWritten W.writes self.old.writer self.new.writer (left_of P.bytes self.old) (left_of P.bytes self.new) }
         ensures all { OnReadyOk result (left_of P.bytes self.new ≡ []) }
-        ensures failed { IfReadyErr result (WriteFails W.fails W.is_full self.new.writer) }
+        ensures failed { IfReadyErr result (BreaksOff W.fails W.is_full (left_of P.bytes self.new) self.new.writer) }
+        // A pending poll has registered with the writer.
         ensures registered { OnPending result (Covers cx.new (W.needs self.new.writer)) }
         ensures kept { Keeps cx.old cx.new }
     {
@@ -116,9 +118,11 @@ impl<W: AsyncWrite, P: HasBytes> Offering<W, P> {
 
     /// Offers what is left, and then flushes. Ready: both are done, or the writer failed, or took nothing.
     pub fn poll_flushed(&mut self, cx: &mut Context<'_>) -> Poll<io::Result<()>>
+        // The writer took all of it and was flushed, or what kept it from that is told.
         ensures writes { TakesWritten W.writes self.old.writer self.new.writer (left_of P.bytes self.old) (left_of P.bytes self.new) }
         ensures all { OnReadyOk result ((left_of P.bytes self.new ≡ []) × W.is_flushed self.new.writer) }
-        ensures failed { IfReadyErr result (WriteFails W.fails W.is_full self.new.writer) }
+        ensures failed { IfReadyErr result (FailsToFlush W.fails W.is_full (left_of P.bytes self.new) self.new.writer) }
+        // A pending poll has registered with the writer.
         ensures registered { OnPending result (Covers cx.new (W.needs self.new.writer)) }
         ensures kept { Keeps cx.old cx.new }
     {
@@ -137,9 +141,11 @@ fn poll_behind<W: AsyncWrite>(
     bytes: &[u8],
     at: &mut usize,
 ) -> Poll<io::Result<()>>
+    // The writer took all of it, or a front, and why no more is told.
     ensures writes { TakesWritten W.writes writer.old writer.new (drop at.old bytes.now) (drop at.new bytes.now) }
     ensures all { OnReadyOk result (drop at.new bytes.now ≡ []) }
-    ensures failed { IfReadyErr result (WriteFails W.fails W.is_full writer.new) }
+    ensures failed { IfReadyErr result (BreaksOff W.fails W.is_full (drop at.new bytes.now) writer.new) }
+    // A pending poll has registered with the writer.
     ensures registered { OnPending result (Covers cx.new (W.needs writer.new)) }
     ensures kept { Keeps cx.old cx.new }
 {

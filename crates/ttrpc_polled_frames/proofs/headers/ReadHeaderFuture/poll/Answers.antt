@@ -19,13 +19,13 @@ pub returns-in-Ready-Ok-eq0-clause-value : goal.returns-in-Ready-Ok-eq0-clause-v
 returns-in-Ready-Ok-eq0-clause-value g c =
     let reads = g.S.AsyncRead.reads in
     let order = g.met.S.AsyncRead.reads_in_order in
-    heads_short reads g.S.AsyncRead.is_at_end g.S.AsyncRead.fails c.args.self.now c.poll_more.new.self _ (fills_more reads order c.args.self.now c.loop-self.self c.poll_more.new.self c.loop-self.invariant.0 c.poll_more.ensures.fills) (search rules) (inr (search rules, search rules))
+    heads_short reads g.S.AsyncRead.is_at_end g.S.AsyncRead.fails c.args.self.now c.poll_more.new.self _ (fills_more reads order c.args.self.now c.loop-self.self c.poll_more.new.self c.loop-self.invariant.0 c.poll_more.ensures.fills) (search rules) (inr (search rules, search rules)) (search rules)
 
 pub returns-in-Ready-Err-2-clause-value : goal.returns-in-Ready-Err-2-clause-value
 returns-in-Ready-Err-2-clause-value g c =
     let reads = g.S.AsyncRead.reads in
     let order = g.met.S.AsyncRead.reads_in_order in
-    heads_short reads g.S.AsyncRead.is_at_end g.S.AsyncRead.fails c.args.self.now c.poll_more.new.self _ (fills_more reads order c.args.self.now c.loop-self.self c.poll_more.new.self c.loop-self.invariant.0 c.poll_more.ensures.fills) (search rules) (inl (search rules))
+    heads_short reads g.S.AsyncRead.is_at_end g.S.AsyncRead.fails c.args.self.now c.poll_more.new.self _ (fills_more reads order c.args.self.now c.loop-self.self c.poll_more.new.self c.loop-self.invariant.0 c.poll_more.ensures.fills) (search rules) (inl (search rules)) (search rules)
 
 pub returns-clause-value : goal.returns-clause-value
 returns-clause-value g c =
