@@ -9,13 +9,15 @@ use Rattle.ttrpc_transport.specs.Sockets.{IsFault}
 use Rattle.ttrpc_polled_server.specs.Served.{Served, ServesAll}
 use Rattle.ttrpc_polled_server.specs.declared.services.Service.{Service}
 use Rattle.ttrpc_polled_server.specs.declared.settings.Settings.{Settings}
+use Rattle.ttrpc_polled_server.specs.declared.stop.Stop.{Stop}
 
--- a server: its settings, its listener, what it serves, and its hook
+-- a server: its settings, its listener, what it serves, its hook, and what its connections stop by
 pub record Built (M T A : Type 0) : Type 0 where
   pub settings : Settings
   pub listener : Option Listener
   pub services : Served M T
   pub hook : A
+  pub stop : Stop
 
 -- the settings of a new server
 pub record IsNewSettings (s : Settings) : Type 0 where

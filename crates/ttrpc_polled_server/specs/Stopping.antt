@@ -2,10 +2,14 @@
 -- Source: the Rust crate, for the text.
 use Rattle.std.specs.Prelude.{◌≡◌, ◌⊎◌, ℕ, Bool, Result, Err, IfErr, codes}
 use Rattle.std.specs.Arc.{arc_value}
-use Rattle.tokio.specs.Timers.{sleep_source}
+use Rattle.std.specs.declared.time.Duration.{Duration}
+use Rattle.tokio.specs.Timers.{IsDelayedBy, sleep_deadline, sleep_source}
 use Rattle.ttrpc_proto.specs.declared.error.Error.{Error}
 use Rattle.ttrpc_proto.specs.declared.error.Error.TheVariants.{LocalClosed, NoMemory, Others}
 use Rattle.ttrpc_polled_server.specs.declared.stop.Disconnect.{Disconnect as ADisconnect}
+use Rattle.ttrpc_polled_server.specs.declared.stop.Shutdown.{Shutdown as AShutdown}
+use Rattle.ttrpc_polled_server.specs.declared.stop.Stop.{Stop}
+use Rattle.ttrpc_polled_server.specs.declared.stop.StopListen.{StopListen as AStopListen}
 use Rattle.ttrpc_polled_server.specs.declared.stop.Stopping.{Stopping}
 use Rattle.ttrpc_polled_server.specs.declared.stop.Stopping.TheVariants.{Listens, Disconnects, Done}
 
@@ -29,8 +33,22 @@ StoppingGives (Listens listener connections) r = IfErr r IsLeftOver
 StoppingGives (Disconnects connections) r = IfErr r IsLeftOver
 StoppingGives Done r = r ≡ Err LocalClosed
 
--- it is to begin, and waits for the listener just where one listens
-abbrev pub BeginsStop : Bool → Stopping → Type 0
-BeginsStop is_listening (Listens listener connections) = listener.is_listening ≡ is_listening
-BeginsStop is_listening (Disconnects connections) = ⊥
-BeginsStop is_listening Done = ⊥
+-- It waits for the listener of a server that stops by this, just where one listens.
+pub record StopsListening (stop : Stop) (is_listening : Bool) (s : AStopListen) : Type 0 where
+  pub own : arc_value s.stop ≡ stop
+  pub waits : s.is_listening ≡ is_listening
+
+-- It ends the connections of a server that stops by this, and waits so long for them.
+pub record EndsConnections (stop : Stop) (limit : Duration) (d : ADisconnect) : Type 0 where
+  pub own : arc_value d.stop ≡ stop
+  pub delay : IsDelayedBy limit (sleep_deadline d.limit)
+
+-- it is to begin: first with the listener, and then with the connections
+abbrev pub BeginsStop : Stop → Bool → Duration → Stopping → Type 0
+BeginsStop stop is_listening limit (Listens listener connections) = StopsListening stop is_listening listener × EndsConnections stop limit connections
+BeginsStop stop is_listening limit (Disconnects connections) = ⊥
+BeginsStop stop is_listening limit Done = ⊥
+
+-- it stops a server that stops by this, and is to begin
+abbrev pub IsShutdown : Stop → Bool → Duration → AShutdown → Type 0
+IsShutdown stop is_listening limit s = (arc_value s.stop ≡ stop) × BeginsStop stop is_listening limit s.at

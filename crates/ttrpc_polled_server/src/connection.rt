@@ -1,5 +1,5 @@
 //! The future of a server's connection.
-ghost use Rattle.std.specs.Prelude.{◌≡◌, ◌<◌, ◌⊎◌, [], true, false, IfErr, IfOk, None};
+ghost use Rattle.std.specs.Prelude.{◌≡◌, ◌≢◌, ◌<◌, ◌⊎◌, ◌↔◌, [], pos, true, false, IfErr, IfOk, None};
 ghost use Rattle.std.specs.Arc.{arc_value};
 ghost use Rattle.futures.specs.Task.{Covers, Keeps};
 ghost use Rattle.ttrpc_proto.specs.declared.error.Error.{Error as AnError};
@@ -86,7 +86,7 @@ where
     ) -> Result<Self>
         ensures can { IfOk result (CanPoll M.Call.Future.can_poll T.Call.Future.can_poll) }
         ensures made { IfOk result (λ c. (c.link ≡ link) × (c.shared ≡ parts.shared) × (c.services ≡ parts.services) × (c.connection_data ≡ parts.connection_data)
-            × (c.limit ≡ parts.limit) × (c.is_over ≡ false) × (c.is_ending ≡ false)) }
+            × (c.seat ≡ parts.seat) × (c.limit ≡ parts.limit) × (c.is_over ≡ false) × (c.is_ending ≡ false)) }
         ensures err { IfErr result (λ e. e ≡ AnError.NoMemory) }
     {
         let Parts {
@@ -208,7 +208,9 @@ where
 
     /// The handler of a method, begun.
     fn method_call(&self, job: Job) -> Result<Running<M::Call, T::Call, O, I>>
-        ensures { IfOk result (λ running. HandledCanPoll M.Call.Future.can_poll T.Call.Future.can_poll running.handled × (running.id ≡ job.id)) }
+        ensures can { IfOk result (λ running. HandledCanPoll M.Call.Future.can_poll T.Call.Future.can_poll running.handled) }
+        ensures own { IfOk result (λ running. (running.id ≡ job.id) × (arc_value running.shared ≡ arc_value self.now.shared)) }
+        ensures limited { IfOk result (λ running. (running.expires ≡ true) ↔ (job.request.timeout_nano ≢ pos 0)) }
     {
         let Job {
             id,
@@ -235,7 +237,9 @@ where
 
     /// The handler of a stream, begun.
     fn stream_call(&self, job: Job) -> Result<Running<M::Call, T::Call, O, I>>
-        ensures { IfOk result (λ running. HandledCanPoll M.Call.Future.can_poll T.Call.Future.can_poll running.handled × (running.id ≡ job.id)) }
+        ensures can { IfOk result (λ running. HandledCanPoll M.Call.Future.can_poll T.Call.Future.can_poll running.handled) }
+        ensures own { IfOk result (λ running. (running.id ≡ job.id) × (arc_value running.shared ≡ arc_value self.now.shared)) }
+        ensures unlimited { IfOk result (λ running. running.expires ≡ false) }
     {
         let Job {
             id,

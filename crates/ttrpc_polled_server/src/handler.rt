@@ -1,5 +1,5 @@
 //! What handles requests and streams.
-ghost use Rattle.std.specs.Prelude.{◌≡◌, ℕ, List, IfErr, IfOk, IsSome};
+ghost use Rattle.std.specs.Prelude.{◌≡◌, ℕ, List, IfErr, IfOk, IsSome, Some, None, Ok, Err};
 ghost use Rattle.std.specs.Arc.{arc_value};
 ghost use Rattle.ttrpc_message.specs.Metadata.{seen, some_texts, texts_of, values_at};
 
@@ -101,7 +101,10 @@ pub struct NoMethods {}
 impl MethodHandler for NoMethods {
     type Call = Ready<Result<Response>>;
 
-    fn handler(&self, _ctx: TtrpcContext, _req: Request) -> Ready<Result<Response>> {
+    fn handler(&self, _ctx: TtrpcContext, _req: Request) -> Ready<Result<Response>>
+        ensures can { IsSome result.0 }
+        ensures closed { result.0 ≡ Some (Err Error.LocalClosed) }
+    {
         ready(Err(Error::LocalClosed))
     }
 }
@@ -118,7 +121,8 @@ impl<L: StreamLine> StreamHandler<L> for NoStreams {
         _ctx: TtrpcContext,
         _stream: StreamInner<L>,
     ) -> Ready<Result<Option<Response>>>
-        ensures { IsSome result.0 }
+        ensures can { IsSome result.0 }
+        ensures closes { result.0 ≡ Some (Ok None) }
     {
         ready(Ok(None))
     }

@@ -39,7 +39,7 @@ pub struct ServerHeld<O, I> {
 impl<O: OutboundTransform + Drop, I: InboundTransform + Drop> ServerHeld<O, I> {
     /// This core, for which nobody waits.
     pub fn new(alloc: Global, core: ServerCore<O, I>) -> Self
-        ensures { result.core ≡ core }
+        ensures { (result.core ≡ core) × (result.input_ended ≡ false) }
     {
         ServerHeld {
             core,

@@ -1,5 +1,5 @@
 //! When answers leave while others are not ready.
-ghost use Rattle.std.specs.Prelude.{◌≡◌, ◌≤◌, ◌<◌, ◌+◌, true, false};
+ghost use Rattle.std.specs.Prelude.{◌≡◌, ◌≤◌, ◌<◌, ◌+◌, ◌*◌, ◌-◌, ◌^◌, min, true, false};
 
 /// So many answers leave before others are ready, at first.
 const FIRST: u32 = 4;
@@ -25,7 +25,7 @@ impl Pace {
 
     /// One more is ready. True: those that are ready are to leave now.
     pub(crate) fn one_more(&mut self) -> bool
-        ensures leave { result ≡ true → (self.old.enough ≤ self.old.ready + 1) × (self.new.ready ≡ 0) }
+        ensures leave { result ≡ true → (self.old.enough ≤ self.old.ready + 1) × (self.new ≡ record { ready = 0; enough = min (self.old.enough * 2) (2 ^ 32 - 1) }) }
         ensures stay { result ≡ false → (self.old.ready + 1 < self.old.enough) × (self.new ≡ record self.old { ready = self.old.ready + 1 }) }
     {
         self.ready = self.ready.saturating_add(1);

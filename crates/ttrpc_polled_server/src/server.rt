@@ -1,12 +1,12 @@
 //! The server.
-ghost use Rattle.std.specs.Prelude.{◌≡◌, ◌⊎◌, IfErr, IfOk, IfSome, IsSome, OnErr, OnOk, Ok, None, Some, true};
+ghost use Rattle.std.specs.Prelude.{◌≡◌, ◌⊎◌, ◌↔◌, IfErr, IfOk, IfSome, IsSome, OnErr, OnOk, Ok, None, Some, true};
 ghost use Rattle.std.specs.Arc.{arc_value};
 ghost use Rattle.ttrpc_polled.specs.Sockets.{IsNoTcp};
 ghost use Rattle.ttrpc_polled.specs.declared.listener.Listener.{Listener as AListener};
 ghost use Rattle.ttrpc_polled_server.specs.Built.{Adds, IsLack, IsNewServer, IsNotAdded, IsNotStarted, listening, silent, with_listener};
 ghost use Rattle.ttrpc_polled_server.specs.Needs.{CanPoll};
 ghost use Rattle.ttrpc_polled_server.specs.Opened.{IsNotOpened, IsOpened};
-ghost use Rattle.ttrpc_polled_server.specs.Stopping.{BeginsStop};
+ghost use Rattle.ttrpc_polled_server.specs.Stopping.{EndsConnections, IsShutdown, StopsListening};
 ghost use Rattle.ttrpc_proto.specs.declared.error.Error.TheVariants.{NoMemory};
 ghost use Rattle.ttrpc_secure.specs.Hooks.Facts.{facts_of};
 ghost use Rattle.ttrpc_transport.specs.Sockets.{IsFault};
@@ -31,8 +31,8 @@ use ttrpc_polled::{Alarm, Listener, Timed};
 use ttrpc_proto::{Error, Result};
 use ttrpc_secure::{HookOutput, InboundTransform, OutboundTransform};
 
-/// A server whose connections are polled, which contracts see as what it was built with: its settings, its listener, its services
-/// and its hook.
+/// A server whose connections are polled, which contracts see as what it was built with: its settings, its listener, its services,
+/// its hook, and what its connections stop by.
 #[derive(Drop)]
 pub struct Server<R: Timed, M: Drop, T: Drop, A: Drop = NoHook> {
     rt: R,
@@ -55,6 +55,7 @@ impl<R: Timed, M: Drop, T: Drop, A: Drop> Model for Server<R, M, T, A> {
       listener = server.listener;
       services = arc_value server.services;
       hook = arc_value server.hook;
+      stop = arc_value server.stop;
     } };
 }
 
@@ -93,7 +94,7 @@ impl<R: Timed, M: MethodHandler, T: Drop, A: Drop> Server<R, M, T, A> {
         I: InboundTransform + Drop,
         T: StreamHandler<ServerShared<O, I>>,
         ensures can { IfOk result (CanPoll M.Call.Future.can_poll T.Call.Future.can_poll) }
-        ensures opened { IfOk result (IsOpened reader writer (facts_of output.connection_data.entries) self.old.services self.old.settings) }
+        ensures opened { IfOk result (IsOpened reader writer (facts_of output.connection_data.entries) self.old.services self.old.settings self.old.stop) }
         ensures err { IfErr result IsNotOpened }
         ensures fixed { self.new ≡ record self.old { settings = record self.old.settings { is_fixed = true } } }
     {
@@ -135,6 +136,7 @@ impl<R: Timed, M: Drop, T: Drop, A: Drop> Server<R, M, T, A> {
 
     /// Where it will listen, and `None` without a listener or once it has started. A fault of the system is `Nix`.
     pub fn local_addr(&self) -> Result<Option<SocketAddr>>
+        ensures ok { IfOk result (λ address. IsSome address ↔ IsSome self.now.listener) }
         ensures none { self.now.listener ≡ None → result ≡ Ok None }
         ensures err { IfErr result IsFault }
     {
@@ -166,7 +168,7 @@ impl<R: Timed, M: Drop, T: Drop, A: Drop> Server<R, M, T, A> {
     /// Lets this hook look at each connection first. What it gives after 30 seconds comes too late, and the connection is
     /// closed. While it looks nothing else of its thread goes on: one that never returns holds that for ever.
     pub fn set_accept_hook<B: Drop>(self, hook: B) -> Result<Server<R, M, T, B>>
-        ensures ok { IfOk result (λ server. server ≡ record { settings = self.settings; listener = self.listener; services = self.services; hook = hook }) }
+        ensures ok { IfOk result (λ server. server ≡ record { settings = self.settings; listener = self.listener; services = self.services; hook = hook; stop = self.stop }) }
         ensures err { IfErr result (λ e. e ≡ NoMemory) }
     {
         let Server {
@@ -226,7 +228,8 @@ impl<R: Timed, M: Drop, T: Drop, A: Drop> Server<R, M, T, A> {
     pub fn start(&mut self) -> Result<Serving<R, M, T, A>>
         ensures ok { OnOk result (self.new ≡ listening self.old) }
         ensures listener { IfOk result (λ serving. IfSome self.old.listener (λ listener. serving.listener ≡ listener)) }
-        ensures served { IfOk result (λ serving. (serving.with.settings ≡ self.old.settings) × (arc_value serving.with.services ≡ self.old.services) × (arc_value serving.with.hook ≡ self.old.hook)) }
+        ensures served { IfOk result (λ serving. (serving.with.settings ≡ self.old.settings) × (arc_value serving.with.services ≡ self.old.services) × (arc_value serving.with.hook ≡ self.old.hook)
+            × (arc_value serving.with.stop ≡ self.old.stop)) }
         ensures refused { IfErr result (IsNotStarted self.old.listener) }
     {
         self.restore_listener();
@@ -247,10 +250,11 @@ impl<R: Timed, M: Drop, T: Drop, A: Drop> Server<R, M, T, A> {
 
     /// What each of its connections is served with: all that it was built with.
     fn served(&self) -> Result<Served<R, M, T, A>>
-        // its settings, its services and its hook
+        // its settings, its services, its hook, and what its connections stop by
         ensures settings { IfOk result (λ with. with.settings ≡ self.now.settings) }
         ensures services { IfOk result (λ with. arc_value with.services ≡ self.now.services) }
         ensures hook { IfOk result (λ with. arc_value with.hook ≡ self.now.hook) }
+        ensures stop { IfOk result (λ with. arc_value with.stop ≡ self.now.stop) }
         // An error is want of memory.
         ensures err { IfErr result (λ e. e ≡ NoMemory) }
     {
@@ -278,7 +282,7 @@ impl<R: Timed, M: Drop, T: Drop, A: Drop> Server<R, M, T, A> {
     /// server may start again. Where it doesn't listen nothing happens.
     pub fn stop_listen(&mut self) -> Result<StopListen>
         ensures ok { OnOk result (self.new ≡ silent self.old) }
-        ensures stops { IfOk result (λ stops. stops.is_listening ≡ self.old.settings.is_listening) }
+        ensures stops { IfOk result (StopsListening self.old.stop self.old.settings.is_listening) }
         ensures err { OnErr result (self.new ≡ self.old) }
         ensures only_memory { IfErr result (λ e. e ≡ NoMemory) }
     {
@@ -295,6 +299,7 @@ impl<R: Timed, M: Drop, T: Drop, A: Drop> Server<R, M, T, A> {
     /// ended, or by `Others("waiters are left")` behind its own limit.
     pub fn disconnect(&mut self) -> Result<Disconnect>
         ensures same { self.new ≡ self.old }
+        ensures ends { IfOk result (EndsConnections self.old.stop self.old.settings.disconnect_limit) }
         ensures err { IfErr result IsLack }
     {
         let limit = self.settings.disconnect_limit;
@@ -309,7 +314,7 @@ impl<R: Timed, M: Drop, T: Drop, A: Drop> Server<R, M, T, A> {
     /// Stops listening, closes the listener, and ends all connections.
     pub fn shutdown(&mut self) -> Result<Shutdown>
         ensures ok { OnOk result (self.new ≡ record (silent self.old) { listener = None }) }
-        ensures stops { IfOk result (λ shutdown. BeginsStop self.old.settings.is_listening shutdown.at) }
+        ensures stops { IfOk result (IsShutdown self.old.stop self.old.settings.is_listening self.old.settings.disconnect_limit) }
         ensures err { IfErr result IsLack }
     {
         let connections = self.disconnect()?;

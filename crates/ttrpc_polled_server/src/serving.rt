@@ -1,5 +1,5 @@
 //! The connections of a server, one after another.
-ghost use Rattle.std.specs.Prelude.{◌≡◌, [], true, IfErr, IfOk, IfSome, None};
+ghost use Rattle.std.specs.Prelude.{◌≡◌, [], true, false, IfErr, IfOk, IfSome, None};
 ghost use Rattle.std.specs.Arc.{arc_value};
 ghost use Rattle.futures.specs.Poll.{OnPending, IfReady};
 ghost use Rattle.futures.specs.Task.{Covers, Keeps};
@@ -7,7 +7,7 @@ ghost use Rattle.ttrpc_proto.specs.declared.error.Error.{Error as AnError};
 ghost use Rattle.ttrpc_secure.specs.Hooks.Facts.{facts_of};
 ghost use Rattle.ttrpc_polled.specs.Sockets.{IsNotMade};
 ghost use Rattle.ttrpc_polled_server.specs.Needs.{CanPoll, ServingNeeds};
-ghost use Rattle.ttrpc_polled_server.specs.Opened.{IsNotOpened, IsOpened};
+ghost use Rattle.ttrpc_polled_server.specs.Opened.{IsAccepted, IsNotOpened, IsOpened};
 
 use crate::connection::{Parts, ServerConnection};
 use crate::handler::{MethodHandler, StreamHandler};
@@ -68,7 +68,7 @@ impl<R: Timed, M: MethodHandler, T: Drop, A> Service<R, M, T, A> {
         I: InboundTransform + Drop,
         T: StreamHandler<ServerShared<O, I>>,
         ensures can { IfOk result (CanPoll M.Call.Future.can_poll T.Call.Future.can_poll) }
-        ensures opened { IfOk result (IsOpened reader writer (facts_of output.connection_data.entries) (arc_value self.now.services) self.now.settings) }
+        ensures opened { IfOk result (IsOpened reader writer (facts_of output.connection_data.entries) (arc_value self.now.services) self.now.settings (arc_value self.now.stop)) }
         ensures err { IfErr result IsNotOpened }
     {
         let HookOutput {
@@ -125,7 +125,7 @@ impl<R: Timed, M: MethodHandler, T: Drop, A> Service<R, M, T, A> {
         O: OutboundTransform + Drop,
         I: InboundTransform + Drop,
         ensures ok { IfOk result (λ parts. (parts.shared ≡ shared) × (arc_value parts.services ≡ arc_value self.now.services)
-            × (arc_value parts.connection_data ≡ connection_data) × (parts.limit ≡ self.now.settings.connection_limit)) }
+            × (arc_value parts.connection_data ≡ connection_data) × (arc_value parts.seat.stop ≡ arc_value self.now.stop) × (parts.limit ≡ self.now.settings.connection_limit)) }
         ensures err { IfErr result IsNotOpened }
     {
         Ok(Parts {
@@ -160,7 +160,7 @@ pub struct Serving<R: Timed, M: Drop, T: Drop, A: Drop> {
 impl<R: Timed, M: Drop, T: Drop, A: Drop> Serving<R, M, T, A> {
     /// Those of this listener.
     pub(crate) fn new(with: Service<R, M, T, A>, listener: Listener, rest: Alarm) -> Self
-        ensures { (result.with ≡ with) × (result.listener ≡ listener) }
+        ensures { (result.with ≡ with) × (result.listener ≡ listener) × (result.rests ≡ false) }
     {
         Serving {
             with,
@@ -219,7 +219,8 @@ where
 {
     /// The connection of a socket, where the hook accepts it and memory is found.
     fn begin(&self, socket: Socket) -> Result<TcpServerConnection<R, M, T, O, I>>
-        ensures { IfOk result (CanPoll M.Call.Future.can_poll T.Call.Future.can_poll) }
+        ensures can { IfOk result (CanPoll M.Call.Future.can_poll T.Call.Future.can_poll) }
+        ensures accepted { IfOk result (IsAccepted (A.gives (arc_value self.now.with.hook) socket) (arc_value self.now.with.services) self.now.with.settings (arc_value self.now.with.stop)) }
     {
         let with = &self.with;
         let alloc = with.rt.alloc();

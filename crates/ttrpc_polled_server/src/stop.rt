@@ -389,7 +389,7 @@ impl Shutdown {
         listener: StopListen,
         connections: Disconnect,
     ) -> Shutdown
-        ensures { result.at ≡ Stopping.Listens listener connections }
+        ensures { (result.stop ≡ stop) × (result.at ≡ Stopping.Listens listener connections) }
     {
         Shutdown {
             stop,
