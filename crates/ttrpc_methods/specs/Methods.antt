@@ -27,6 +27,10 @@ abbrev pub PutsAll : {A H : Type 0} → Handlers H → List ℕ → List (String
 PutsAll {A} {H} old service [] new = new ≡ old
 PutsAll {A} {H} old service (more ∷ rest) new = (mid : Handlers H) × Puts old service (string_bytes more.0) more.1 mid × PutsAll mid service rest new
 
+-- this holds of some front of the list
+abbrev pub SomeFront : {X : Type 0} → List X → (List X → Type 0) → Type 0
+SomeFront {X} xs P = (front : List X) × (rest : List X) × (xs ≡ front ++ rest) × P front
+
 -- ---- the names that a core knows
 
 -- those of methods, or of streams

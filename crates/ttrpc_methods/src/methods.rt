@@ -5,7 +5,7 @@ ghost use Rattle.std.specs.Option.{option_copied};
 ghost use Rattle.std.specs.Str.{bytes_eq};
 ghost use Rattle.ttrpc_proto.specs.declared.error.Error.{Error as AnError};
 ghost use Rattle.ttrpc_server.specs.State.{AddsName, has_method, has_name};
-ghost use Rattle.ttrpc_methods.specs.Methods.{Adds, AddsAll, IsNoPath, IsNotAdded, IsNotAllAdded, IsPath, Puts, PutsAll, handler_of, names_in, no_path_text, others_in};
+ghost use Rattle.ttrpc_methods.specs.Methods.{Adds, AddsAll, IsNoPath, IsNotAdded, IsNotAllAdded, IsPath, Puts, PutsAll, SomeFront, handler_of, names_in, no_path_text, others_in};
 
 use std::alloc::{AllocError, Global};
 use std::collections::BTreeMap;
@@ -53,10 +53,11 @@ impl<H: Drop> Methods<H> {
         Ok(())
     }
 
-    /// Adds these handlers, each under its path, as `add` does. At an `Err` some of them may have been added.
+    /// Adds these handlers, each under its path, as `add` does. At an `Err` the first of them, by rising path, have been added.
     pub fn add_all(&mut self, alloc: Global, handlers: BTreeMap<String, H>) -> Result<()>
         ensures ok { OnOk result (AddsAll self.old handlers.entries self.new) }
         ensures refused { IfErr result (IsNotAllAdded handlers.entries) }
+        ensures err { OnErr result (SomeFront handlers.entries (λ front. AddsAll self.old front self.new)) }
     {
         for (path, handler) in handlers {
             self.add(alloc, path.as_str(), handler)?;
@@ -65,7 +66,7 @@ impl<H: Drop> Methods<H> {
     }
 
     /// Adds the handlers of a service, each under its name. One of a name that stands already takes the place of that. At an
-    /// `Err` some of them may have been added.
+    /// `Err` the first of them, by rising name, have been added.
     pub fn put_all(
         &mut self,
         alloc: Global,
@@ -73,6 +74,7 @@ impl<H: Drop> Methods<H> {
         handlers: BTreeMap<String, H>,
     ) -> std::result::Result<(), AllocError>
         ensures ok { OnOk result (PutsAll self.old service.now handlers.entries self.new) }
+        ensures err { OnErr result (SomeFront handlers.entries (λ front. PutsAll self.old service.now front self.new)) }
     {
         for (name, handler) in handlers {
             self.put(alloc, service, name.as_str(), handler)?;
