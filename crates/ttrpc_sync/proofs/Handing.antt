@@ -4,7 +4,6 @@ use Rattle.std.proofs.lemmas.List.{append-nil, length-drop}
 use Rattle.std.proofs.Math.Seq.{take-add, take-length}
 use Rattle.std.proofs.KnownBytes.{Appends-nil, Appends-trans, Appends-kept, Consumes-nil, Consumes-trans, Consumes-kept}
 use Rattle.std.specs.Io.KnownBytes.{Appends, Consumes, Keeps}
-use Rattle.ttrpc_frame.specs.declared.header.TheConstants.{DEFAULT_PAGE_SIZE}
 use Rattle.ttrpc_sync.specs.Loops.{Handed, HandedAll}
 
 -- The slice of a list from a place on.
@@ -49,8 +48,8 @@ handed_more a b c p q r piece h read taken = record {
   taken = Appends-trans p q r h.bytes piece h.taken taken;
 }
 
-pub handed_all : (a b p q : Option (List ℕ)) → HandedAll a b p q → Handed a b p q
-handed_all a b p q h = record {
+pub handed_all : (room : ℕ) (a b p q : Option (List ℕ)) → HandedAll a b p q → Handed room a b p q
+handed_all room a b p q h = record {
   bytes = h.bytes;
   rest = [];
   short = omega arith;
@@ -58,10 +57,20 @@ handed_all a b p q h = record {
   taken = h.taken;
 }
 
+-- A rest that is no longer than a piece is no longer than a greater one.
+pub handed_within : (room greater : ℕ) (a b p q : Option (List ℕ)) → room ≤ greater → Handed room a b p q → Handed greater a b p q
+handed_within room greater a b p q le h = record {
+  bytes = h.bytes;
+  rest = h.rest;
+  short = omega (arith, le, h.short);
+  read = h.read;
+  taken = h.taken;
+}
+
 -- Of the last piece that was read the port took a beginning.
-pub handed_in_part : (a b c p q r : Option (List ℕ)) (piece : List ℕ)
-    → length piece ≤ DEFAULT_PAGE_SIZE → HandedAll a b p q → Consumes b c piece → ((n : ℕ) × Appends q r (take n piece)) → Handed a c p r
-handed_in_part a b c p q r piece fits h read part = record {
+pub handed_in_part : (room : ℕ) (a b c p q r : Option (List ℕ)) (piece : List ℕ)
+    → length piece ≤ room → HandedAll a b p q → Consumes b c piece → ((n : ℕ) × Appends q r (take n piece)) → Handed room a c p r
+handed_in_part room a b c p q r piece fits h read part = record {
   bytes = h.bytes ++ take part.0 piece;
   rest = drop part.0 piece;
   short = omega (arith, length-drop part.0 piece, fits);

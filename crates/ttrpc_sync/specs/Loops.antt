@@ -3,16 +3,15 @@
 use Rattle.std.specs.Prelude.{◌≡◌, ◌≢◌, ◌⊎◌, ◌+◌, ◌<◌, ◌≤◌, ℕ, List, [], ◌∷◌, length, ◌++◌, All, Option, None, Some, ⊤}
 use Rattle.std.specs.Io.KnownBytes.{Appends, Consumes}
 use Rattle.std.specs.declared.io.ErrorKind.TheVariants.{Interrupted, WriteZero}
-use Rattle.ttrpc_frame.specs.declared.header.TheConstants.{DEFAULT_PAGE_SIZE}
 use Rattle.ttrpc_frame.specs.Streams.{Answered, Moved, Failed, Called, Offered, Flushed}
 use Rattle.ttrpc_sync.specs.declared.ports.PortState.{PortState}
 use Rattle.ttrpc_sync.specs.declared.ports.PortState.TheVariants.{Open, Ended, Broke, Stopped}
 
 -- The port took what the reader gave, in order, but for a rest that is no longer than one piece.
-pub record Handed (before after old new : Option (List ℕ)) : Type 0 where
+pub record Handed (piece : ℕ) (before after old new : Option (List ℕ)) : Type 0 where
   pub bytes : List ℕ
   pub rest : List ℕ
-  pub short : length rest ≤ DEFAULT_PAGE_SIZE
+  pub short : length rest ≤ piece
   pub read : Consumes before after (bytes ++ rest)
   pub taken : Appends old new bytes
 

@@ -1,5 +1,5 @@
 //! The two loops, over any reader, any writer and any port.
-ghost use Rattle.std.specs.Prelude.{◌≡◌, ◌≢◌, ◌⊎◌, ℕ, true, take, IfSome, MatchBool};
+ghost use Rattle.std.specs.Prelude.{◌≡◌, ◌≢◌, ◌⊎◌, ◌<◌, ℕ, true, length, take, IfSome, MatchBool};
 ghost use Rattle.std.specs.Io.{ReadsAtMost};
 ghost use Rattle.std.specs.Io.KnownBytes.{Appends, IsAtEnd, ReadConsumes};
 ghost use Rattle.std.specs.declared.io.ErrorKind.{ErrorKind};
@@ -12,13 +12,13 @@ use std::io::{self, ErrorKind};
 use std::sync::Wait;
 use ttrpc_frame::{DEFAULT_PAGE_SIZE, Sink, Source};
 
-#[tactic(auto, using(crate::proofs::Handing::handed_nothing, crate::proofs::Handing::handed_still, crate::proofs::Handing::handed_no_more, crate::proofs::Handing::handed_more, crate::proofs::Handing::handed_all, crate::proofs::Counting::one_more_still))]
-/// Reads pieces and hands each to the port, until it has reported an end or a break of the reader, or the port wants no
-/// more, which it is asked before each read. A rest that the port doesn't take is offered again, and an interrupted read
-/// is tried again, if the port still wants more.
+#[tactic(auto, using(crate::proofs::Handing::handed_within))]
+/// Reads pieces of at most `DEFAULT_PAGE_SIZE` bytes and hands each to the port, until it has reported an end or a break of
+/// the reader, or the port wants no more, which it is asked before each read. A rest that the port doesn't take is offered
+/// again, and an interrupted read is tried again, if the port still wants more.
 pub fn read_loop<X: Wait, R: Source, P: ReadPort>(rt: &X, reader: &mut R, port: &mut P)
     // What the port took was read, in order, and all of it unless the port stopped.
-    ensures handed { Handed (R.remaining reader.old) (R.remaining reader.new) (P.taken port.old) (P.taken port.new) }
+    ensures handed { Handed DEFAULT_PAGE_SIZE (R.remaining reader.old) (R.remaining reader.new) (P.taken port.old) (P.taken port.new) }
     ensures all { P.state port.new ≢ PortState.Stopped
         → HandedAll (R.remaining reader.old) (R.remaining reader.new) (P.taken port.old) (P.taken port.new) }
     // The port is told an end where the reader is at its end, and a break where it failed.
@@ -29,12 +29,36 @@ pub fn read_loop<X: Wait, R: Source, P: ReadPort>(rt: &X, reader: &mut R, port: 
     ensures over { P.state port.new ≢ PortState.Open }
 {
     let mut buffer = [0u8; DEFAULT_PAGE_SIZE];
+    read_pieces(rt, reader, port, &mut buffer);
+}
+
+#[tactic(auto, using(crate::proofs::Handing::handed_nothing, crate::proofs::Handing::handed_still, crate::proofs::Handing::handed_no_more, crate::proofs::Handing::handed_more, crate::proofs::Handing::handed_all, crate::proofs::Counting::one_more_still))]
+/// The same, with pieces of at most this buffer's length.
+pub(crate) fn read_pieces<X: Wait, R: Source, P: ReadPort>(
+    rt: &X,
+    reader: &mut R,
+    port: &mut P,
+    buffer: &mut [u8],
+)
+    // There is room for a piece.
+    requires room { 0 < length buffer.old }
+    // What the port took was read, in order, and all of it unless the port stopped.
+    ensures handed { Handed (length buffer.old) (R.remaining reader.old) (R.remaining reader.new) (P.taken port.old) (P.taken port.new) }
+    ensures all { P.state port.new ≢ PortState.Stopped
+        → HandedAll (R.remaining reader.old) (R.remaining reader.new) (P.taken port.old) (P.taken port.new) }
+    // The port is told an end where the reader is at its end, and a break where it failed.
+    ensures end { P.state port.new ≡ PortState.Ended → IsAtEnd (R.remaining reader.new) }
+    ensures last { IfSome (R.last reader.new) (λ a. EndsReading a (P.state port.new)) }
+    // It was one loop, and it is over.
+    ensures once { IsOneMore (P.begun port.old) (P.begun port.new) }
+    ensures over { P.state port.new ≢ PortState.Open }
+{
     port.begin();
     for _ in rt.forever() {
         if !port.wants() {
             return;
         }
-        match read_wanted(reader, port, &mut buffer) {
+        match read_wanted(reader, port, buffer) {
             Ok(0) => {
                 port.ended();
                 return;

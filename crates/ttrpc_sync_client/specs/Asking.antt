@@ -17,7 +17,7 @@ pub record Asks {O I : Type 0} (seals : OutboundTransform O) (old : ClientHeld O
   pub requests : Requests seals old.core request now asked.waiting.id new.core
   pub deadline : asked.waiting.deadline ≡ deadline_of now request.timeout_nano
   pub alone : asked.waiting.is_alone ≡ is_alone old.reading (manner_of old.core request now new.core)
-  pub queued : asked.queued ≡ queuing_of old.turn (may_write old.reading (manner_of old.core request now new.core))
-  pub turn : new.turn ≡ turn_after_queuing old.turn (may_write old.reading (manner_of old.core request now new.core))
+  pub queued : asked.queued ≡ queuing_of old.turn (may_write (manner_of old.core request now new.core))
+  pub turn : new.turn ≡ turn_after_queuing old.turn (may_write (manner_of old.core request now new.core))
   pub wakes : asked.wakes ≡ (if asked.waiting.is_alone then false else wakes_thread (begun old.reading asked.waiting.id false))
   pub reading : new.reading ≡ (if asked.waiting.is_alone then begun old.reading asked.waiting.id true else turn_waking (begun old.reading asked.waiting.id false))

@@ -33,14 +33,17 @@ abbrev pub is_call : Option ℕ → ℕ → Bool
 is_call None id = false
 is_call (Some other) id = nat_eq other id
 
--- A caller may write for itself: nothing waits before its frame, it has no deadline, past which a write or a read could hold it, no other call is under way, and the peer has read all that was written, since it answered the last call.
-abbrev pub may_write : ReadTurn → Manner → Bool
-may_write turn manner =
-    if manner.is_next then (if manner.has_deadline then false else (if is_some turn.unread then false else nat_eq turn.callers 0)) else false
+-- A caller may write for itself: nothing waits before its frame, and it has no deadline, past which a write could hold it.
+abbrev pub may_write : Manner → Bool
+may_write manner = if manner.is_next then (if manner.has_deadline then false else true) else false
 
--- Where its frame is short, too, it may then read for itself.
+-- No other call is under way, and the peer has read all that was written, since it answered the last call.
+abbrev pub is_first : ReadTurn → Bool
+is_first turn = if is_some turn.unread then false else nat_eq turn.callers 0
+
+-- A caller that writes for itself may read for itself, too, where its frame is short, and it is the first.
 abbrev pub is_alone : ReadTurn → Manner → Bool
-is_alone turn manner = if manner.is_short then may_write turn manner else false
+is_alone turn manner = if manner.is_short then (if is_first turn then may_write manner else false) else false
 
 -- the turn once a call has begun
 abbrev pub begun : ReadTurn → ℕ → (is_alone : Bool) → ReadTurn

@@ -185,9 +185,9 @@ fn is_answer(outcome: &Result<Response>) -> bool
     matches!(outcome, Ok(_) | Err(Error::RpcStatus(_)))
 }
 
-/// Queues the request of a call, and says what is to be done next. Its caller writes for itself where no other call is
-/// under way and it has no deadline, and reads for itself, too, where the socket surely has room for its frame: a peer
-/// that writes or reads nothing would hold it.
+/// Queues the request of a call, and says what is to be done next. Its caller writes for itself where nothing waits before its
+/// frame and it has no deadline, past which a peer that reads nothing would hold it. It reads for itself, too, where no other
+/// call is under way and the socket surely has room for its frame: else a peer that writes before it reads would hold it.
 fn queue_request<O: OutboundTransform + Drop, I: InboundTransform + Drop>(
     held: &mut ClientHeld<O, I>,
     alloc: Global,
@@ -206,9 +206,8 @@ fn queue_request<O: OutboundTransform + Drop, I: InboundTransform + Drop>(
         is_next: nothing_waits,
         is_short: held.core.lendable() <= LONE_FRAME,
     };
-    let may_write = held.reading.may_write(manner);
     let is_alone = held.reading.begins(id, manner);
-    let queued = after_queuing(&mut held.turn, may_write);
+    let queued = after_queuing(&mut held.turn, manner.may_write());
     let wakes = !is_alone && held.reading.wakes();
     Ok(Asked {
         waiting: Waiting {

@@ -1,6 +1,6 @@
 -- What the calls of a server's ports do to its core, under the lock.
 -- Source: this project's.
-use Rattle.std.specs.Prelude.{◌≡◌, ◌⊎◌, ℕ, List, filter, length, take, drop, min, is_some, if◌then◌else◌, Bool, true, false, nat_eq, nat_lt, Ok, Err, Result}
+use Rattle.std.specs.Prelude.{◌≡◌, ◌⊎◌, ◌-◌, ℕ, List, filter, length, take, drop, min, is_some, if◌then◌else◌, Bool, true, false, nat_eq, nat_lt, Ok, Err, Result}
 use Rattle.ttrpc_frame.specs.Queue.{after_report, open_part, with_lent}
 use Rattle.ttrpc_proto.specs.declared.error.Error.{Error}
 use Rattle.ttrpc_secure.specs.declared.transform.InboundTransform.{Ghosts as InboundTransform}
@@ -87,11 +87,28 @@ wakes_writer turn is_wanted = if is_wanted then (if turn.is_taken then false els
 abbrev pub turn_waking : Turn → (is_wanted : Bool) → Turn
 turn_waking turn is_wanted = if is_wanted then record turn { sleeps = if turn.is_taken then turn.sleeps else false } else turn
 
--- who is woken for a piece: of so many workers that sleep one for each job that waits, and the writer thread where bytes
--- wait
-abbrev pub woken_for : {O I : Type 0} → ServerCore O I → (sleeping : ℕ) → Turn → Woken
-woken_for core sleeping turn = record {
-  workers = min (length (filter waits core.state.jobs.list)) sleeping;
+-- how many jobs the reader of a piece handles itself: one, where one waits and another thread looks for what comes next
+abbrev pub kept_of : {O I : Type 0} → ServerCore O I → (lookers : ℕ) → ℕ
+kept_of core lookers = min (length (filter waits core.state.jobs.list)) (min lookers 1)
+
+-- whether a worker is woken, of so many that sleep, where so many jobs have their thread: another job waits, and no worker
+-- is on its way
+abbrev pub calls_worker : {O I : Type 0} → ServerCore O I → (kept sleeping coming : ℕ) → Bool
+calls_worker core kept sleeping coming =
+    if nat_lt kept (length (filter waits core.state.jobs.list)) then (if nat_lt 0 sleeping then nat_eq coming 0 else false) else false
+
+-- how many workers sleep then
+abbrev pub asleep : (calls : Bool) → ℕ → ℕ
+asleep calls sleeping = if calls then sleeping - 1 else sleeping
+
+-- how many are on their way then
+abbrev pub on_their_way : (calls : Bool) → ℕ → ℕ
+on_their_way calls coming = if calls then 1 else coming
+
+-- who is woken for a piece: a worker where that is so, and the writer thread where bytes wait
+abbrev pub woken_for : {O I : Type 0} → ServerCore O I → (kept sleeping coming : ℕ) → Turn → Woken
+woken_for core kept sleeping coming turn = record {
+  worker = calls_worker core kept sleeping coming;
   writer = wakes_writer turn (has_bytes core);
 }
 

@@ -104,8 +104,8 @@ impl<R: Host, O: OutboundTransform + Drop, I: InboundTransform + Drop> Conn<R, O
     }
 }
 
-/// Queues a response, and says what is to be done next. A worker writes it itself where no other job is under way, and
-/// nothing else waits to be written.
+/// Queues a response, and says what is to be done next. Who handles a job writes it itself where no other job is under way,
+/// and nothing else waits to be written.
 fn responded<O: OutboundTransform + Drop, I: InboundTransform + Drop>(
     held: &mut ServerHeld<O, I>,
     alloc: Global,

@@ -1,6 +1,7 @@
 //! The context that a handler gets with the request, and how it answers.
-ghost use Rattle.std.specs.Prelude.{◌≡◌, ℕ, List, IfErr, IfOk};
+ghost use Rattle.std.specs.Prelude.{◌≡◌, ◌⊎◌, ℕ, List, [], IfErr, IfOk, IsSomeAnd};
 ghost use Rattle.std.specs.Arc.{arc_value};
+ghost use Rattle.ttrpc_proto.specs.ErrorText.{StandsFor, Tells};
 ghost use Rattle.ttrpc_message.specs.Metadata.{seen, some_texts, texts_of, values_at};
 
 use crate::conn::Conn;
@@ -107,10 +108,16 @@ pub fn response_error_to_channel<R: Host, O: OutboundTransform + Drop, I: Inboun
     e: Error,
     conn: &Conn<R, O, I>,
 ) -> Result<()> {
-    let alloc = conn.alloc();
-    let told = match e.try_into_response(alloc) {
+    send_response(stream_id, response_of(conn.alloc(), e), conn)
+}
+
+/// The response that an error makes, or that which tells that memory for it was refused.
+fn response_of(alloc: Global, e: Error) -> Response
+    ensures status { IsSomeAnd result.status (Tells e) ⊎ IsSomeAnd result.status (StandsFor Error.NoMemory) }
+    ensures payload { result.payload ≡ [] }
+{
+    match e.try_into_response(alloc) {
         Ok(told) => told,
-        Err(refused) => Error::from(refused).into_response(alloc),
-    };
-    send_response(stream_id, told, conn)
+        Err(_) => Error::NoMemory.into_response(alloc),
+    }
 }

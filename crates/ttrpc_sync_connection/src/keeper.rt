@@ -2,7 +2,7 @@
 use crate::conn::Conn;
 use crate::context::MethodHandler;
 use crate::crew::{Crew, Order};
-use crate::ports::ServerRead;
+use crate::reader::read;
 use crate::serving::Serving;
 use crate::shared::SharedHandler;
 use crate::watch::{SharedWatch, Watch};
@@ -14,6 +14,9 @@ use std::thread::Builder;
 use ttrpc_proto::{Error, Result};
 use ttrpc_secure::{InboundTransform, OutboundTransform, SendInbound, SendOutbound};
 use ttrpc_sync::{Connected, Host, Runtime};
+
+/// How many threads read a connection: one reads, and another looks for what comes next.
+const READERS: usize = 2;
 
 /// Serves the connection until it ends: starts the threads that read it and write to it and `workers` workers, and starts
 /// more when too few wait. Then it waits until all of them have ended.
@@ -87,7 +90,9 @@ where
     H: SharedHandler<R, O, I>,
     W: SharedWatch,
 {
-    start_reader(conn)?;
+    for _ in 0..READERS {
+        start_reader(conn, serving)?;
+    }
     start_writer(conn)?;
     start_workers(conn, serving, workers)
 }
@@ -109,18 +114,25 @@ where
     }
 }
 
-fn start_reader<R, O, I>(conn: &Arc<Conn<R, O, I>, Global>) -> Result<()>
+fn start_reader<R, O, I, H, W>(
+    conn: &Arc<Conn<R, O, I>, Global>,
+    serving: &Serving<H, W>,
+) -> Result<()>
 where
     R: Runtime,
     O: SendOutbound,
     I: SendInbound,
+    H: SharedHandler<R, O, I>,
+    W: SharedWatch,
 {
     let seat = Seat::new(conn)?;
+    let serving = serving.try_clone()?;
     conn.crew().joins(conn.rt());
     started(
         &**conn,
         Builder::new().spawn(conn.rt(), move || {
-            read(&*seat.conn);
+            read_on(&seat.conn, &serving);
+            drop(serving);
             seat.leave();
         }),
     )
@@ -185,22 +197,22 @@ where
     started(
         &**conn,
         Builder::new().spawn(conn.rt(), move || {
-            work_on(&seat.conn, serving);
+            work_on(&seat.conn, &serving);
+            drop(serving);
             seat.leave();
         }),
     )
 }
 
-/// Reads until the client sends nothing more, or the connection has failed. What was asked is still answered.
-fn read<R, O, I>(conn: &Conn<R, O, I>)
+fn read_on<R, O, I, H, W>(conn: &Arc<Conn<R, O, I>, Global>, serving: &Serving<H, W>)
 where
     R: Host,
     O: OutboundTransform + Drop,
     I: InboundTransform + Drop,
+    H: MethodHandler<R, O, I> + Drop,
+    W: Watch + Drop,
 {
-    let rt = conn.rt();
-    let mut port = ServerRead::new(rt, rt.alloc(), conn.link().shared());
-    conn.link().read_on(rt, &mut port);
+    read(conn, serving);
     conn.cancel();
     conn.end_if_failed();
 }
@@ -217,7 +229,7 @@ where
     conn.end();
 }
 
-fn work_on<R, O, I, H, W>(conn: &Arc<Conn<R, O, I>, Global>, serving: Serving<H, W>)
+fn work_on<R, O, I, H, W>(conn: &Arc<Conn<R, O, I>, Global>, serving: &Serving<H, W>)
 where
     R: Host,
     O: OutboundTransform + Drop,
@@ -225,8 +237,6 @@ where
     H: MethodHandler<R, O, I> + Drop,
     W: Watch + Drop,
 {
-    if work(conn, serving).is_err() {
-        conn.end();
-    }
+    work(conn, serving);
     conn.end_if_failed();
 }

@@ -1,15 +1,14 @@
-//! A worker: the handler of its jobs, and the gate that it waits behind.
-ghost use Rattle.std.specs.Prelude.{◌≡◌, ⊤, IfErr};
-ghost use Rattle.ttrpc_proto.specs.declared.error.Error.TheVariants.{NoMemory};
+//! The handler of a connection's jobs; and a worker, with the gate that it waits behind.
+ghost use Rattle.std.specs.Prelude.{◌≡◌, ⊤};
 
 use crate::conn::Conn;
 use crate::context::{MethodHandler, TtrpcContext, response_error_to_channel, send_response};
-use crate::ports::ServerJobs;
+use crate::ports::{ServerJobs, report, waiting_job};
 use crate::serving::Serving;
 use crate::watch::Watch;
 use std::alloc::Global;
 use std::sync::Arc;
-use ttrpc_proto::{Error, Result};
+use ttrpc_proto::Result;
 use ttrpc_secure::{InboundTransform, OutboundTransform};
 use ttrpc_server::Job;
 use ttrpc_server::responses::path_response;
@@ -17,18 +16,19 @@ use ttrpc_sync::{Connected, Gate, Handler, Host, work_loop};
 
 /// Hands each request to the handler of its method.
 #[derive(Drop)]
-struct Dispatch<
+pub struct Dispatch<
+    'a,
     R: Host,
     O: OutboundTransform + Drop,
     I: InboundTransform + Drop,
     H: Drop,
     W: Drop,
 > {
-    conn: Arc<Conn<R, O, I>, Global>,
-    serving: Serving<H, W>,
+    conn: &'a Arc<Conn<R, O, I>, Global>,
+    serving: &'a Serving<H, W>,
 }
 
-impl<R, O, I, H, W> Handler for Dispatch<R, O, I, H, W>
+impl<R, O, I, H, W> Handler for Dispatch<'_, R, O, I, H, W>
 where
     R: Host,
     O: OutboundTransform + Drop,
@@ -56,12 +56,12 @@ where
         let Some(handler) = found else {
             let alloc = self.conn.alloc();
             let unknown = path_response(alloc, &request.service, &request.method)?;
-            return send_response(header.stream_id, unknown, &*self.conn);
+            return send_response(header.stream_id, unknown, &**self.conn);
         };
-        let ctx = match TtrpcContext::new(&self.conn, header, &request) {
+        let ctx = match TtrpcContext::new(self.conn, header, &request) {
             Ok(ctx) => ctx,
             Err(error) => {
-                return response_error_to_channel(header.stream_id, error, &*self.conn);
+                return response_error_to_channel(header.stream_id, error, &**self.conn);
             }
         };
         let handled = handler.handler(ctx, request);
@@ -72,15 +72,51 @@ where
     }
 }
 
+impl<R, O, I, H, W> Dispatch<'_, R, O, I, H, W>
+where
+    R: Host,
+    O: OutboundTransform + Drop,
+    I: InboundTransform + Drop,
+    H: MethodHandler<R, O, I> + Drop,
+    W: Watch + Drop,
+{
+    /// The handler of this connection's jobs.
+    pub fn new<'a>(
+        conn: &'a Arc<Conn<R, O, I>, Global>,
+        serving: &'a Serving<H, W>,
+    ) -> Dispatch<'a, R, O, I, H, W>
+        ensures { (result.conn.now ≡ conn.now) × (result.serving.now ≡ serving.now) }
+    {
+        Dispatch { conn, serving }
+    }
+
+    /// Handles the jobs that wait, in a thread that is no worker. True: the connection has failed.
+    pub fn handle_waiting(&self) -> bool {
+        let (rt, shared) = (self.conn.rt(), self.conn.link().shared());
+        for _ in rt.forever() {
+            let Some(job) = waiting_job(rt, shared) else {
+                return false;
+            };
+            let id = job.id;
+            let outcome = self.handle(job);
+            if report(rt, self.conn.alloc(), shared, id, outcome) {
+                return true;
+            }
+        }
+        unreachable!()
+    }
+}
+
 /// Lets workers wait as far as the pool allows, and reports when too few wait.
 #[derive(Drop)]
-struct PoolGate<R: Host, O: OutboundTransform + Drop, I: InboundTransform + Drop> {
-    conn: Arc<Conn<R, O, I>, Global>,
+struct PoolGate<'a, R: Host, O: OutboundTransform + Drop, I: InboundTransform + Drop> {
+    conn: &'a Conn<R, O, I>,
     is_new: bool,
     is_shut: bool,
 }
 
-impl<R: Host, O: OutboundTransform + Drop, I: InboundTransform + Drop> Gate for PoolGate<R, O, I> {
+impl<R: Host, O: OutboundTransform + Drop, I: InboundTransform + Drop> Gate
+    for PoolGate<'_, R, O, I> {
     ghost is_shut = { λ g. g.is_shut };
 
     fn enter(&mut self) -> bool {
@@ -101,26 +137,21 @@ impl<R: Host, O: OutboundTransform + Drop, I: InboundTransform + Drop> Gate for 
 }
 
 /// Works on the connection's jobs, until the gate sends the worker away or the connection has failed.
-pub fn work<R, O, I, H, W>(conn: &Arc<Conn<R, O, I>, Global>, serving: Serving<H, W>) -> Result<()>
+pub fn work<R, O, I, H, W>(conn: &Arc<Conn<R, O, I>, Global>, serving: &Serving<H, W>)
 where
     R: Host,
     O: OutboundTransform + Drop,
     I: InboundTransform + Drop,
     H: MethodHandler<R, O, I> + Drop,
     W: Watch + Drop,
-    ensures { IfErr result (λ e. e ≡ NoMemory) }
 {
     let rt = conn.rt();
-    let dispatch = Dispatch {
-        conn: Arc::try_clone(conn)?,
-        serving,
-    };
+    let dispatch = Dispatch::new(conn, serving);
     let mut gate = PoolGate {
-        conn: Arc::try_clone(conn)?,
+        conn: &**conn,
         is_new: true,
         is_shut: false,
     };
     let mut port = ServerJobs::new(rt, rt.alloc(), conn.link().shared());
     work_loop(rt, &mut port, &dispatch, &mut gate);
-    Ok(())
 }

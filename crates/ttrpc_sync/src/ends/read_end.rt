@@ -1,4 +1,5 @@
 //! The port to which a connection's reader hands what it read.
+ghost use Rattle.std.specs.Prelude.{◌≡◌};
 ghost use Rattle.ttrpc_sync.specs.declared.ports.PortState.{PortState};
 
 use crate::ends::connected::{Connected, Held, Taken};
@@ -18,6 +19,13 @@ pub struct ReadEnd<'a, X: Wait, S: Connected> {
 }
 
 impl<X: Wait, S: Connected> ReadEnd<'_, X, S> {
+    /// Whether its thread still has the turn to read. It hasn't behind a piece whose reader was told not to read on.
+    pub fn has_turn(&self) -> bool
+        ensures { result ≡ self.now.has_turn }
+    {
+        self.has_turn
+    }
+
     /// The port for the thread that has the turn to read when a loop begins.
     pub fn new<'a>(rt: &'a X, alloc: Global, shared: &'a S) -> ReadEnd<'a, X, S> {
         ReadEnd {

@@ -1,8 +1,15 @@
 //! Where the bytes of a connection come in.
-use std::alloc::Global;
+ghost use Rattle.std.specs.Prelude.{◌<◌, length};
+
+use crate::ReadPort;
+use crate::loops::read_pieces;
+use std::alloc::{AllocError, Global};
 use std::io::{self, Read};
-use std::sync::Arc;
+use std::sync::{Arc, Wait};
 use ttrpc_transport::PipeConnection;
+
+/// How many bytes of a connection are read at once at most.
+const PIECE: usize = 32768;
 
 /// Reads from a connection.
 #[derive(Drop)]
@@ -21,5 +28,28 @@ impl Read for Inlet {
     fn read(&mut self, buf: &mut [u8]) -> io::Result<usize> {
         let mut stream = &*self.stream;
         Read::read(&mut stream, buf)
+    }
+}
+
+/// An inlet, and the room for a piece of what it reads.
+#[derive(Drop)]
+pub struct Intake {
+    inlet: Inlet,
+    piece: Vec<u8>,
+    ghost room: { 0 < length piece.items },
+}
+
+impl Intake {
+    /// The intake of this inlet.
+    pub fn new(alloc: Global, inlet: Inlet) -> Result<Intake, AllocError> {
+        Ok(Intake {
+            inlet,
+            piece: Vec::from_elem(alloc, 0u8, PIECE)?,
+        })
+    }
+
+    /// Reads as long as the port wants more.
+    pub fn read_on<X: Wait, P: ReadPort>(&mut self, rt: &X, port: &mut P) {
+        read_pieces(rt, &mut self.inlet, port, self.piece.as_mut_slice());
     }
 }

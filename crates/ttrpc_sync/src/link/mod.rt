@@ -10,15 +10,12 @@ pub use self::outlet::Outlet;
 pub use self::queuing::{AfterQueuing, after_queuing};
 pub use self::runtime::{Host, Runtime, moment};
 use crate::ends::{Connected, WriteEnd};
-use crate::link::inlet::Inlet;
-use crate::{GATHER_LIMIT, Gather, PART_LIMIT, ReadPort, read_loop, write_loop};
+use crate::link::inlet::{Inlet, Intake};
+use crate::{GATHER_LIMIT, Gather, PART_LIMIT, ReadPort, write_loop};
 use std::alloc::{AllocError, Global};
-use std::io::BufReader;
 use std::sync::{Arc, Mutex, Wait};
+use ttrpc_proto::Error;
 use ttrpc_transport::PipeConnection;
-
-/// How many bytes of a connection are read at once at most.
-const INTAKE: usize = 32768;
 
 /// A connection over a socket, with what its threads share. Each frame goes out by one write, or a batch of short ones does,
 /// where memory for that is found. No thread reads or writes while it has the lock of the core.
@@ -28,8 +25,9 @@ pub struct Link<S: Connected> {
     stream: Arc<PipeConnection, Global>,
     // The bytes that are about to be written. Only who has the turn to write locks it.
     gather: Mutex<Gather<Outlet>>,
-    // The bytes that were read and not handed on yet. Only who has the turn to read locks it.
-    intake: Mutex<BufReader<Inlet>>,
+    // Where bytes are read to. Of a client's threads only who has the turn to read locks it; a server's readers have no other
+    // turn than this lock.
+    intake: Mutex<Intake>,
 }
 
 // How many bytes are kept before they leave: a whole frame, unless each write goes out at once.
@@ -48,10 +46,7 @@ impl<S: Connected> Link<S> {
         stream: Arc<PipeConnection, Global>,
     ) -> Result<Link<S>, AllocError> {
         let outlet = Outlet::new(Arc::try_clone(&stream)?);
-        let inlet = Inlet::new(Arc::try_clone(&stream)?);
-        let Ok(intake) = BufReader::with_capacity(alloc, INTAKE, inlet) else {
-            return Err(AllocError);
-        };
+        let intake = Intake::new(alloc, Inlet::new(Arc::try_clone(&stream)?))?;
         let gather = Gather::with_limit(alloc, outlet, kept_of(&stream));
         Ok(Link {
             shared,
@@ -73,8 +68,21 @@ impl<S: Connected> Link<S> {
 
     /// Reads the connection as long as the port wants more, and hands what it reads to it. The connection stays open.
     pub fn read_on<X: Wait, P: ReadPort>(&self, rt: &X, port: &mut P) {
-        let mut intake = self.intake.lock(rt);
-        read_loop(rt, &mut *intake, port);
+        self.intake.lock(rt).read_on(rt, port);
+    }
+
+    /// The same, unless another thread reads. False: one does, and nothing was done.
+    pub fn try_read_on<X: Wait, P: ReadPort>(&self, rt: &X, port: &mut P) -> bool {
+        let Some(mut intake) = self.intake.try_lock() else {
+            return false;
+        };
+        intake.read_on(rt, port);
+        true
+    }
+
+    /// Waits until something comes that isn't read yet, or no more comes. An error is the system's.
+    pub fn look(&self) -> Result<(), Error> {
+        self.stream.look()
     }
 
     /// Writes what is queued, each time when there is something and nobody else writes, until the connection has failed.

@@ -80,6 +80,16 @@ pub struct Manner {
     pub is_short: bool,
 }
 
+impl Manner {
+    /// Whether the caller may write for itself: it has no deadline, and nothing waits before its frame. Where it isn't alone
+    /// another thread reads meanwhile, so a peer that writes before it reads holds nobody.
+    pub fn may_write(self) -> bool
+        ensures { result ≡ may_write self }
+    {
+        self.is_next && !self.has_deadline
+    }
+}
+
 impl ReadTurn {
     /// Nobody's, and no call is under way.
     pub fn new() -> ReadTurn
@@ -95,21 +105,14 @@ impl ReadTurn {
         }
     }
 
-    /// Whether the caller of a call that begins may write for itself: it has no deadline, no other call is under way, and
-    /// the peer has read all that was written before.
-    pub fn may_write(&self, manner: Manner) -> bool
-        ensures { result ≡ may_write self.now manner }
-    {
-        manner.is_next && !manner.has_deadline && self.unread.is_none() && self.callers == 0
-    }
-
     /// A call has begun. True: its caller is alone, and may write and read for itself. Neither can hold it: the peer has
     /// read all that was written before, so the socket has room for its short frame, and it has no deadline.
     pub fn begins(&mut self, id: CallId, manner: Manner) -> bool
         ensures result { result ≡ is_alone self.old manner }
         ensures turn { self.new ≡ begun self.old id (is_alone self.old manner) }
     {
-        let is_alone = manner.is_short && self.may_write(manner);
+        let is_first = self.unread.is_none() && self.callers == 0;
+        let is_alone = manner.is_short && is_first && manner.may_write();
         self.callers = self.callers.saturating_add(1);
         self.alone = if is_alone {
             self.alone.saturating_add(1).min(CALLS_TO_REST)

@@ -1,4 +1,4 @@
-//! The port from which a server's workers take jobs.
+//! The port from which a server's workers take jobs, and how any thread takes and reports one.
 ghost use Rattle.std.specs.Prelude.{Some, None};
 ghost use Rattle.ttrpc_sync.specs.declared.ports.PortState.{PortState};
 
@@ -69,17 +69,44 @@ impl<
     }
 
     fn done(&mut self, key: JobId, outcome: Result<(), Error>) {
-        let mut guard = self.shared.held().lock(self.rt);
-        let wakes = guard.done(self.alloc, key, outcome);
-        let has_failed = guard.core.has_failed();
-        drop(guard);
-        if has_failed {
-            self.shared.wake_all();
-        } else if wakes {
-            self.shared.to_write().notify_one();
-        }
+        report(self.rt, self.alloc, self.shared, key, outcome);
         self.current = None;
     }
+}
+
+/// Reports what came of a job. True: the connection has failed.
+pub(crate) fn report<X: Wait, O: OutboundTransform + Drop, I: InboundTransform + Drop>(
+    rt: &X,
+    alloc: Global,
+    shared: &ServerShared<O, I>,
+    id: JobId,
+    outcome: Result<(), Error>,
+) -> bool {
+    let mut guard = shared.held().lock(rt);
+    let wakes = guard.done(alloc, id, outcome);
+    let has_failed = guard.core.has_failed();
+    drop(guard);
+    if has_failed {
+        shared.wake_all();
+    } else if wakes {
+        shared.to_write().notify_one();
+    }
+    has_failed
+}
+
+/// The job that waits longest, if there is one. Where another waits behind it, a worker is woken.
+pub(crate) fn waiting_job<X: Wait, O: OutboundTransform + Drop, I: InboundTransform + Drop>(
+    rt: &X,
+    shared: &ServerShared<O, I>,
+) -> Option<Job> {
+    let mut guard = shared.held().lock(rt);
+    let job = guard.next_job()?;
+    let calls = guard.calls_worker(0);
+    drop(guard);
+    if calls {
+        shared.to_work().notify_one();
+    }
+    Some(job)
 }
 
 /// Waits until there is a job. None: the connection has failed.
@@ -87,16 +114,30 @@ fn wait_for_job<X: Wait, O: OutboundTransform + Drop, I: InboundTransform + Drop
     rt: &X,
     shared: &ServerShared<O, I>,
 ) -> Option<Job> {
-    let mut guard = shared.held().lock(rt);
     for _ in rt.forever() {
-        if let Some(job) = guard.next_job() {
+        if let Some(job) = waiting_job(rt, shared) {
             return Some(job);
         }
-        if guard.core.has_failed() {
+        if !sleep_for_job(rt, shared) {
             return None;
         }
-        guard.sleep();
-        guard = shared.to_work().wait(rt, guard);
     }
     unreachable!()
+}
+
+/// Sleeps until a job may wait. False: the connection has failed.
+fn sleep_for_job<X: Wait, O: OutboundTransform + Drop, I: InboundTransform + Drop>(
+    rt: &X,
+    shared: &ServerShared<O, I>,
+) -> bool {
+    let mut guard = shared.held().lock(rt);
+    if guard.core.has_failed() {
+        return false;
+    }
+    if guard.core.jobs_waiting() == 0 {
+        guard.sleep();
+        guard = shared.to_work().wait(rt, guard);
+        guard.comes();
+    }
+    true
 }

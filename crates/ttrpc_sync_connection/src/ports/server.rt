@@ -1,10 +1,10 @@
 //! What the threads of a server's connection share.
-ghost use Rattle.std.specs.Prelude.{◌≡◌, ◌↔◌, ◌+◌, ◌-◌, ◌^◌, ◌<◌, ◌≤◌, ◌||◌, min, length, if◌then◌else◌, is_some, false, true, Err, IfNone, IfSome, IsFalse, IsTrue, MatchOption, None, Ok};
+ghost use Rattle.std.specs.Prelude.{◌≡◌, ◌↔◌, ◌+◌, ◌-◌, ◌^◌, ◌<◌, ◌≤◌, ◌||◌, min, length, if◌then◌else◌, is_some, false, nat_eq, true, Err, IfNone, IfSome, IsFalse, IsTrue, MatchOption, None, Ok};
 ghost use Rattle.ttrpc_server.specs.Types.{Ends, Failure as AFailure, failing};
 ghost use Rattle.ttrpc_proto.specs.declared.error.Error.{Error as AnError};
 ghost use Rattle.ttrpc_server.specs.Protocol.{Hands};
 ghost use Rattle.ttrpc_server.specs.State.{NoneWaits};
-ghost use Rattle.ttrpc_sync_connection.specs.Held.{IsDropped, IsFed, IsFinished, IsQuiet, LendsFrame, MayTellEnd, has_bytes, is_alive, reported_to, turn_waking, wakes_writer, woken_for};
+ghost use Rattle.ttrpc_sync_connection.specs.Held.{IsDropped, IsFed, IsFinished, IsQuiet, LendsFrame, MayTellEnd, asleep, calls_worker, has_bytes, is_alive, kept_of, on_their_way, reported_to, turn_waking, wakes_writer, woken_for};
 ghost use Rattle.ttrpc_pool.specs.Pool.{with_waiting};
 ghost use Rattle.ttrpc_sync.specs.Turns.{given_back, next_of, turn_after, wakes_behind};
 
@@ -18,7 +18,7 @@ use ttrpc_server::server_on::{broke_on, ended_on, lend_on, take_on, wrote_on};
 use ttrpc_server::{Job, JobId, ServerCore, jobs_on};
 use ttrpc_sync::{Connected, Held, Loan, Next, ReadEnd, Taken, Turn, WriteEnd};
 
-/// The port of a server's reader. It wakes workers and the writer.
+/// The port of a server's reader. It wakes a worker and the writer.
 pub type ServerRead<'a, X, O, I> = ReadEnd<'a, X, ServerShared<O, I>>;
 
 /// The port of one of a server's writers.
@@ -27,8 +27,8 @@ pub type ServerWrite<'a, X, O, I> = WriteEnd<'a, X, ServerShared<O, I>>;
 /// Who is to be woken for a piece.
 #[derive(Clone, Copy, Debug)]
 pub struct Woken {
-    /// So many of the workers that sleep.
-    pub workers: u64,
+    /// One of the workers that sleep.
+    pub worker: bool,
     /// The writer thread.
     pub writer: bool,
 }
@@ -43,6 +43,10 @@ pub struct ServerHeld<O, I> {
     pub starting: usize,
     // Workers that sleep, and weren't woken yet.
     sleeping: u64,
+    // Workers that were woken, and haven't looked for a job since.
+    coming: u64,
+    /// Threads that look for what comes next, and read it where nobody else does.
+    pub lookers: u64,
     /// Whether the reader is at its end. The core isn't told before all jobs have ended and all answers have left.
     pub has_ended: bool,
 }
@@ -55,6 +59,8 @@ impl<O: OutboundTransform + Drop, I: InboundTransform + Drop> ServerHeld<O, I> {
         ensures pool { result.pool ≡ pool }
         ensures starting { result.starting ≡ 0 }
         ensures sleeping { result.sleeping ≡ 0 }
+        ensures coming { result.coming ≡ 0 }
+        ensures lookers { result.lookers ≡ 0 }
         ensures has_ended { result.has_ended ≡ false }
     {
         ServerHeld {
@@ -63,6 +69,8 @@ impl<O: OutboundTransform + Drop, I: InboundTransform + Drop> ServerHeld<O, I> {
             pool,
             starting: 0,
             sleeping: 0,
+            coming: 0,
+            lookers: 0,
             has_ended: false,
         }
     }
@@ -75,6 +83,32 @@ impl<O: OutboundTransform + Drop, I: InboundTransform + Drop> ServerHeld<O, I> {
         ensures rest { self.new ≡ record self.old { core = self.new.core } }
     {
         jobs_on::take_on(&mut self.core)
+    }
+
+    /// Whether a worker is to be woken for a job that still waits, where none is on its way. It wakes the next one, so no job
+    /// waits behind another's handler while a worker sleeps, and fast handlers leave nothing to most of them.
+    pub(crate) fn calls_worker(&mut self, kept: u64) -> bool
+        ensures result { result ≡ calls_worker self.old.core kept self.old.sleeping self.old.coming }
+        ensures rest { self.new ≡ record self.old { sleeping = asleep result self.old.sleeping; coming = on_their_way result self.old.coming } }
+    {
+        let calls = self.core.jobs_waiting() > kept && self.sleeping > 0 && self.coming == 0;
+        if calls {
+            self.sleeping -= 1;
+            self.coming = 1;
+        }
+        calls
+    }
+
+    /// A worker that slept looks for a job: the one that was woken, or one that woke by itself.
+    pub(crate) fn comes(&mut self)
+        ensures { self.new ≡ (if nat_eq self.old.coming 0 then record self.old { sleeping = self.old.sleeping - 1 }
+            else record self.old { coming = self.old.coming - 1 }) }
+    {
+        if self.coming == 0 {
+            self.sleeping = self.sleeping.saturating_sub(1);
+        } else {
+            self.coming -= 1;
+        }
     }
 
     /// A worker goes to sleep.
@@ -171,18 +205,39 @@ impl<O: OutboundTransform + Drop, I: InboundTransform + Drop> ServerHeld<O, I> {
         self.pool.leave()
     }
 
-    /// The threads to wake: one sleeping worker for each waiting job, and the writer.
-    fn woken(&mut self) -> Woken
-        ensures woken { result ≡ woken_for self.old.core self.old.sleeping self.old.turn }
+    /// A thread begins to look for what comes next.
+    pub fn looks(&mut self)
+        ensures { self.new ≡ record self.old { lookers = min (self.old.lookers + 1) (2 ^ 64 - 1) } }
+    {
+        self.lookers = self.lookers.saturating_add(1);
+    }
+
+    /// One that looked reads.
+    pub fn looks_no_more(&mut self)
+        ensures { self.new ≡ record self.old { lookers = self.old.lookers - 1 } }
+    {
+        self.lookers = self.lookers.saturating_sub(1);
+    }
+
+    /// How many jobs the reader of a piece handles itself: one or none.
+    fn kept(&self) -> u64
+        ensures { result ≡ kept_of self.now.core self.now.lookers }
+    {
+        self.core.jobs_waiting().min(self.lookers.min(1))
+    }
+
+    /// The threads to wake where the reader handles so many jobs itself.
+    fn woken(&mut self, kept: u64) -> Woken
+        ensures woken { result ≡ woken_for self.old.core kept self.old.sleeping self.old.coming self.old.turn }
         ensures rest { self.new ≡ record self.old {
           turn = turn_waking self.old.turn (has_bytes self.old.core);
-          sleeping = self.old.sleeping - result.workers;
+          sleeping = asleep result.worker self.old.sleeping;
+          coming = on_their_way result.worker self.old.coming;
         } }
     {
-        let workers = self.core.jobs_waiting().min(self.sleeping);
-        self.sleeping -= workers;
+        let worker = self.calls_worker(kept);
         let writer = self.core.lendable() > 0 && self.turn.wakes();
-        Woken { workers, writer }
+        Woken { worker, writer }
     }
 }
 
@@ -193,20 +248,25 @@ impl<O: OutboundTransform + Drop, I: InboundTransform + Drop> Held for ServerHel
     fn take(&mut self, alloc: Global, piece: &[u8]) -> Option<Taken<Woken>>
         ensures whole { IfSome result (λ taken. taken.count ≡ length piece.now) }
         ensures fed { IsFed O.OutboundTransform I.InboundTransform self.old.core piece.now (is_some result) self.new.core }
-        ensures woken { IfSome result (λ taken. (taken.reads_on ≡ true)
-            × (taken.woken ≡ woken_for self.new.core self.old.sleeping self.old.turn)) }
+        ensures reads_on { IfSome result (λ taken. taken.reads_on ≡ nat_eq (kept_of self.new.core self.old.lookers) 0) }
+        ensures woken { IfSome result (λ taken. taken.woken
+            ≡ woken_for self.new.core (kept_of self.new.core self.old.lookers) self.old.sleeping self.old.coming self.old.turn) }
         ensures rest { MatchOption result (self.new ≡ record self.old { core = self.new.core }) (λ taken. self.new ≡ record self.old {
           core = self.new.core;
           turn = turn_waking self.old.turn (has_bytes self.new.core);
-          sleeping = self.old.sleeping - taken.woken.workers;
+          sleeping = asleep taken.woken.worker self.old.sleeping;
+          coming = on_their_way taken.woken.worker self.old.coming;
         }) }
     {
         match take_on(&mut self.core, alloc, piece, 0) {
-            Ok(count) if count == piece.len() => Some(Taken {
-                count,
-                reads_on: true,
-                woken: self.woken(),
-            }),
+            Ok(count) if count == piece.len() => {
+                let kept = self.kept();
+                Some(Taken {
+                    count,
+                    reads_on: kept == 0,
+                    woken: self.woken(kept),
+                })
+            }
             _ => None,
         }
     }
@@ -312,7 +372,7 @@ impl<O: OutboundTransform + Drop, I: InboundTransform + Drop> Connected for Serv
     }
 
     fn wake(&self, woken: Woken) {
-        for _ in 0..woken.workers {
+        if woken.worker {
             self.to_work.notify_one();
         }
         if woken.writer {

@@ -6,12 +6,13 @@ use std::alloc::Global;
 use std::io::{self, ErrorKind};
 use std::process::Abort;
 use std::sync::{Arc, Wait};
+use std::test::Fail;
 use ttrpc_pool::PoolCore;
 use ttrpc_proto::Error;
 use ttrpc_secure::plain_context;
 use ttrpc_server::{Job, Rules, ServerCore};
 use ttrpc_sync::{Connected, Gate, Handler, Held, Next, ReadPort, read_loop, work_loop};
-use ttrpc_sync_connection::{ServerHeld, ServerJobs, ServerRead};
+use ttrpc_sync_connection::{ServerHeld, ServerJobs, ServerRead, ServerReads};
 use ttrpc_test_cores::server::{ASKED, ECHOED, NO_METHOD, NO_METHOD_ANSWER, registry};
 use ttrpc_wire::values::slices::front;
 
@@ -113,6 +114,32 @@ fn a_failed_handler_fails_the_server(rt: HostRuntime) -> Tested {
     work(rt, rt.alloc(), &shared, false)?;
     let bytes = written(&rt, rt.alloc(), &*shared);
     assert!(rt; bytes.is_empty());
+    Ok(())
+}
+
+/// Whether a reader of one request handles it itself, where another thread looked for what comes next, and where that
+/// thread read since.
+fn keeps<X: Wait>(rt: &X, alloc: Global, looked: bool, read: bool) -> Result<bool, Fail> {
+    let shared = server(alloc)?;
+    let mut other = ServerReads::new(rt, alloc, &*shared);
+    if looked {
+        other.looks();
+    }
+    if read {
+        other.begin();
+    }
+    let mut port = ServerReads::new(rt, alloc, &*shared);
+    port.begin();
+    port.take(ASKED);
+    Ok(port.keeps_job())
+}
+
+/// A reader handles a job itself only while another thread looks for what comes next.
+#[test]
+fn a_reader_keeps_a_job_beside_one_that_looks(rt: HostRuntime) -> Tested {
+    assert!(rt; keeps(&rt, rt.alloc(), true, false)?);
+    assert!(rt; !keeps(&rt, rt.alloc(), false, false)?);
+    assert!(rt; !keeps(&rt, rt.alloc(), true, true)?);
     Ok(())
 }
 

@@ -119,19 +119,17 @@ fn the_reader_rests_behind_lone_calls(rt: HostRuntime) -> Tested {
     Ok(())
 }
 
-/// A long call isn't alone, and neither is one behind a call that the peer hasn't answered: it may not have read that. A
-/// long call is still written by its caller.
+/// A long call isn't alone, and neither is one behind a call that the peer hasn't answered: it may not have read that. Its
+/// caller still writes it, unless it has a limit, or something waits before it.
 #[test]
 fn a_call_that_may_wait_is_not_alone(rt: HostRuntime) -> Tested {
     let mut turn = behind_one(&rt, LONG);
-    assert!(rt; turn.may_write(LONG));
-    assert!(rt; !turn.may_write(LIMITED));
-    assert!(rt; !turn.may_write(BEHIND));
+    assert!(rt; LONG.may_write());
+    assert!(rt; !LIMITED.may_write());
+    assert!(rt; !BEHIND.may_write());
     assert!(rt; turn.begins(3, SHORT));
-    assert!(rt; !turn.may_write(LONG));
     turn.ended(3);
     turn.finished(3, false);
-    assert!(rt; !turn.may_write(LONG));
     assert!(rt; !turn.begins(5, SHORT));
     turn.ended(5);
     turn.finished(5, true);

@@ -151,16 +151,16 @@ fn crowd<R: Machine + 'static>(
     Ok((site, bare))
 }
 
-/// Beside its workers a connection has a thread that keeps it, one that reads and one that writes; and the server one that
+/// Beside its workers a connection has a thread that keeps it, two that read and one that writes; and the server one that
 /// accepts.
 #[test]
 fn a_connection_begins_with_its_workers(rt: HostRuntime) -> Tested {
     let before = threads(&rt).ok_or("no threads")?;
     let (site, bare) = crowd(&rt, (6, 2, 9))?;
-    assert!(rt; has_more_threads(&rt, before, 10));
+    assert!(rt; has_more_threads(&rt, before, 11));
     a_while(&rt);
     a_while(&rt);
-    assert!(rt; has_more_threads(&rt, before, 10));
+    assert!(rt; has_more_threads(&rt, before, 11));
     bare.close()?;
     assert!(rt; has_more_threads(&rt, before, 1));
     site.server.shutdown();
