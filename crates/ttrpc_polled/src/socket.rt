@@ -43,7 +43,8 @@ impl Socket {
         sockaddr: &str,
         nodelay: bool,
     ) -> SocketConnect
-        ensures { RefusesAddress sockaddr.now result.state }
+        ensures address { RefusesAddress sockaddr.now result.state }
+        ensures nodelay { result.nodelay ≡ nodelay }
     {
         match tcp_of(alloc, sockaddr) {
             Ok(address) => Socket::connect_tcp(net, handle, address, nodelay),
@@ -61,11 +62,22 @@ impl Socket {
         address: SocketAddr,
         nodelay: bool,
     ) -> SocketConnect
-        ensures { IsUnderWay result.state }
+        ensures begun { IsUnderWay result.state }
+        ensures nodelay { result.nodelay ≡ nodelay }
     {
         SocketConnect {
             state: Connecting::Connects(TcpStream::connect(net, address, handle)),
             nodelay,
+        }
+    }
+
+    /// Whether each write goes out at once. A fault of the system is `Nix`.
+    pub fn nodelay(&self) -> Result<bool>
+        ensures { IfErr result IsFault }
+    {
+        match self.stream.nodelay() {
+            Ok(nodelay) => Ok(nodelay),
+            Err(error) => Err(Error::Nix(error.kind())),
         }
     }
 

@@ -55,7 +55,7 @@ impl<R: Timed> Client<R, Plain, Plain> {
         Client::over(rt, handle, reader, writer, output)
     }
 
-    /// The same, with the future of the connection polled by what is there for that.
+    /// The same, with the future of the connection polled by what is there for that. Where it can't be polled, there is no client.
     pub fn spawned<P: Spawns<TcpConnection<R, Plain, Plain>>>(
         rt: R,
         handle: &Handle,
@@ -63,6 +63,7 @@ impl<R: Timed> Client<R, Plain, Plain> {
         tasks: &P,
     ) -> Result<Client<R, Plain, Plain>>
         ensures known { IfOk result (λ client. facts_of (arc_value client.line).connection_data.entries ≡ []) }
+        ensures err { IfErr result IsNotMade }
     {
         let (client, connection) = Client::new(rt, handle, socket)?;
         tasks.spawn(connection)?;
@@ -79,7 +80,7 @@ impl<R: Timed> Client<R, Plain, Plain> {
     ) -> Result<ClientConnect<R>>
     where
         R: Net,
-        ensures ok { IfOk result (λ connect. RefusesAddress sockaddr.now connect.connecting.state) }
+        ensures ok { IfOk result (λ connect. RefusesAddress sockaddr.now connect.connecting.state × (connect.connecting.nodelay ≡ nodelay)) }
         ensures err { IfErr result (λ e. e ≡ AnError.NoMemory) }
     {
         let connecting = Socket::connect(&rt, rt.alloc(), handle.reactor(), sockaddr, nodelay);

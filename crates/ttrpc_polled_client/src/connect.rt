@@ -70,9 +70,11 @@ impl<R: Timed> ClientConnect<R> {
 
 /// What polls the futures of connections. A program whose tasks are an enum implements it for its set.
 pub trait Spawns<C: Future> {
-    /// Polls it from now on. An error is want of memory, or that nothing is polled any more; the future is dropped then.
+    /// Polls it from now on. An error is want of memory, which also tells that nothing is polled any more, or the system's; the
+    /// future is dropped then.
     fn spawn(&self, connection: C) -> Result<()>
-        requires { C.can_poll connection };
+        requires { C.can_poll connection }
+        ensures { IfErr result IsNotMade };
 }
 
 impl<C: Future<Output = ()>> Spawns<C> for TaskSet<C> {

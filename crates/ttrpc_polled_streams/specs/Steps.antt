@@ -50,3 +50,8 @@ IsStep sends refuses closes refuses_close tells_sent id old Closes told after ne
 IsStep sends refuses closes refuses_close tells_sent id old (Waits ticket) told after new = Asks tells_sent old ticket told after new
 IsStep sends refuses closes refuses_close tells_sent id old (Refused e) told after new = IsOver e old told after new
 IsStep sends refuses closes refuses_close tells_sent id old Done told after new = IsOver LocalClosed old told after new
+
+-- Something was asked of the stream of this id: nothing came yet, or this is told of what it gave.
+abbrev pub ReceivesAs : {C I T : Type 0} → (C → I → Option (Result (List ℕ) Error) → C → Type 0) → (Result (List ℕ) Error → T → Type 0) → I → C → Option T → C → Type 0
+ReceivesAs receives tells id old None new = receives old id None new
+ReceivesAs receives tells id old (Some told) new = (given : Result (List ℕ) Error) × receives old id (Some given) new × tells given told

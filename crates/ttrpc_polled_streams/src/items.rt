@@ -5,7 +5,9 @@ ghost use Rattle.futures.specs.Poll.{IfReady, OnPending};
 ghost use Rattle.futures.specs.Task.{Covers, Keeps};
 ghost use Rattle.ttrpc_proto.specs.declared.error.Error.{Error as AnError};
 ghost use Rattle.ttrpc_polled_streams.specs.Items.{GivesItem, GivesItemOrEnd, IsItemSent};
+ghost use Rattle.ttrpc_message.specs.Calls.{TellsItem, TellsItemOrEnd};
 ghost use Rattle.ttrpc_polled_streams.specs.Needs.{receiver_source, sender_source};
+ghost use Rattle.ttrpc_polled_streams.specs.Steps.{ReceivesAs};
 
 use crate::inner::StreamInner;
 use crate::line::StreamLine;
@@ -18,6 +20,7 @@ use std::alloc::Global;
 use std::fmt::Display;
 use std::marker::PhantomData;
 use ttrpc_codec::Codec;
+use ttrpc_connection::StreamCore;
 use ttrpc_message::calls::{decode_item, decode_item_or_end, encode_item};
 use ttrpc_proto::Result;
 use ttrpc_wire::Blob;
@@ -106,12 +109,34 @@ where
         let given = ready!(self.rx.poll_recv(cx));
         Poll::Ready(decode_item(self.rx.alloc(), given))
     }
+
+    /// Makes the one core call, `recv`, on a core that is lent. `None`: nothing came yet.
+    pub(crate) fn step<C: StreamCore<Id = L::Id>>(&self, core: &mut C) -> Option<Result<P>>
+        ensures { ReceivesAs C.receives (TellsItem P.meaning P.E.is_no_memory P.E.output) self.now.rx.id core.old result core.new }
+    {
+        match self.rx.step(core) {
+            Some(given) => Some(decode_item(self.rx.alloc(), given)),
+            None => None,
+        }
+    }
 }
 
 /// A message that a client receives.
 #[derive(Drop)]
 pub struct CSReceiverRecv<'a, P, L: StreamLine> {
     receiver: &'a mut CSReceiver<P, L>,
+}
+
+impl<P: Codec, L: StreamLine> CSReceiverRecv<'_, P, L>
+where
+    P::E: Display + Drop,
+{
+    /// Makes the one core call, `recv`, on a core that is lent. `None`: nothing came yet.
+    pub fn step<C: StreamCore<Id = L::Id>>(&self, core: &mut C) -> Option<Result<P>>
+        ensures { ReceivesAs C.receives (TellsItem P.meaning P.E.is_no_memory P.E.output) self.now.receiver.now.rx.id core.old result core.new }
+    {
+        self.receiver.step(core)
+    }
 }
 
 impl<P: Codec, L: StreamLine> Future for CSReceiverRecv<'_, P, L>
@@ -231,6 +256,22 @@ where
 #[derive(Drop)]
 pub struct SSReceiverRecv<'a, Q, L: StreamLine> {
     receiver: &'a mut SSReceiver<Q, L>,
+}
+
+impl<Q: Codec, L: StreamLine> SSReceiverRecv<'_, Q, L>
+where
+    Q::E: Display + Drop,
+{
+    /// Makes the one core call, `recv`, on a core that is lent. `None`: nothing came yet.
+    pub fn step<C: StreamCore<Id = L::Id>>(&self, core: &mut C) -> Option<Result<Option<Q>>>
+        ensures { ReceivesAs C.receives (TellsItemOrEnd Q.meaning Q.E.is_no_memory Q.E.output) self.now.receiver.now.rx.id core.old result core.new }
+    {
+        let rx = &self.receiver.rx;
+        match rx.step(core) {
+            Some(given) => Some(decode_item_or_end(rx.alloc(), given)),
+            None => None,
+        }
+    }
 }
 
 impl<Q: Codec, L: StreamLine> Future for SSReceiverRecv<'_, Q, L>

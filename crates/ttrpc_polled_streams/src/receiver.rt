@@ -9,6 +9,7 @@ use futures::Future;
 use futures::task::{Context, Poll};
 use std::alloc::Global;
 use std::sync::Arc;
+use ttrpc_connection::StreamCore;
 use ttrpc_proto::Result;
 use ttrpc_wire::Blob;
 
@@ -46,6 +47,13 @@ impl<L: StreamLine> StreamReceiver<L> {
     {
         self.line.poll_receiving(self.alloc, self.id, cx)
     }
+
+    /// Makes the one core call, `recv`, on a core that is lent. `None`: nothing came yet.
+    pub(crate) fn step<C: StreamCore<Id = L::Id>>(&self, core: &mut C) -> Option<Result<Blob>>
+        ensures { C.receives core.old self.now.id result core.new }
+    {
+        core.recv_item(self.alloc, self.id)
+    }
 }
 
 impl<L: StreamLine> Drop for StreamReceiver<L> {
@@ -59,6 +67,15 @@ impl<L: StreamLine> Drop for StreamReceiver<L> {
 #[derive(Drop)]
 pub struct StreamReceiverRecv<'a, L: StreamLine> {
     receiver: &'a mut StreamReceiver<L>,
+}
+
+impl<L: StreamLine> StreamReceiverRecv<'_, L> {
+    /// Makes the one core call, `recv`, on a core that is lent. `None`: nothing came yet.
+    pub fn step<C: StreamCore<Id = L::Id>>(&self, core: &mut C) -> Option<Result<Blob>>
+        ensures { C.receives core.old self.now.receiver.now.id result core.new }
+    {
+        self.receiver.step(core)
+    }
 }
 
 impl<L: StreamLine> Future for StreamReceiverRecv<'_, L> {

@@ -4,6 +4,7 @@ ghost use Rattle.std.specs.Arc.{arc_value};
 ghost use Rattle.futures.specs.Poll.{OnPending};
 ghost use Rattle.futures.specs.Task.{Covers, Keeps};
 ghost use Rattle.ttrpc_proto.specs.declared.error.Error.{Error as AnError};
+ghost use Rattle.ttrpc_polled_streams.specs.Steps.{IsStep};
 
 use crate::line::StreamLine;
 use crate::sending::Sending;
@@ -11,6 +12,7 @@ use futures::Future;
 use futures::task::{Context, Poll};
 use std::alloc::Global;
 use std::sync::Arc;
+use ttrpc_connection::StreamCore;
 use ttrpc_proto::Result;
 use ttrpc_wire::Blob;
 
@@ -49,6 +51,13 @@ impl<L: StreamLine> StreamSender<L> {
     /// The allocator of its calls.
     pub fn alloc(&self) -> Global {
         self.alloc
+    }
+
+    /// By what its stream is named.
+    pub(crate) fn id(&self) -> L::Id
+        ensures { result ≡ (arc_value self.now.seat).id }
+    {
+        self.seat.id
     }
 
     /// Another sender of the same stream.
@@ -105,6 +114,16 @@ pub struct StreamSenderSend<'a, L: StreamLine> {
 
 /// A stream whose sending half is closed.
 pub type StreamSenderCloseSend<'a, L> = StreamSenderSend<'a, L>;
+
+impl<L: StreamLine> StreamSenderSend<'_, L> {
+    /// Makes the one core call that its state names, on a core that is lent. `None`: there is no answer yet.
+    pub fn step<C: StreamCore<Id = L::Id>>(&mut self, core: &mut C) -> Option<Result<()>>
+        ensures step { IsStep C.sends C.refuses C.closes C.refuses_close C.tells_sent (arc_value self.old.sender.now.seat).id core.old self.old.sending result self.new.sending core.new }
+        ensures sender { self.new.sender ≡ self.old.sender }
+    {
+        self.sending.step(self.sender.alloc, core, self.sender.id())
+    }
+}
 
 impl<L: StreamLine> Future for StreamSenderSend<'_, L> {
     type Output = Result<()>;

@@ -2,7 +2,11 @@
 ghost use Rattle.std.specs.Prelude.{◌≡◌};
 ghost use Rattle.futures.specs.Poll.{IfReady, OnPending};
 ghost use Rattle.futures.specs.Task.{Covers, Keeps};
+ghost use Rattle.std.specs.Arc.{arc_value};
+ghost use Rattle.ttrpc_message.specs.Calls.{TellsItem};
+ghost use Rattle.ttrpc_polled_streams.specs.Closing.{IsClosingStep};
 ghost use Rattle.ttrpc_polled_streams.specs.Items.{GivesItem, IsItemSent};
+ghost use Rattle.ttrpc_polled_streams.specs.Steps.{IsStep, ReceivesAs};
 
 use crate::inner::StreamInner;
 use crate::items::{
@@ -17,6 +21,7 @@ use std::fmt::Display;
 use std::marker::PhantomData;
 use std::mem::replace;
 use ttrpc_codec::Codec;
+use ttrpc_connection::StreamCore;
 use ttrpc_proto::Result;
 
 /// A stream on which a client sends messages of one kind and receives those of another.
@@ -181,6 +186,33 @@ pub enum Closing {
 pub struct ClientStreamSenderCloseAndRecv<'a, Q, P, L: StreamLine> {
     stream: &'a mut ClientStreamSender<Q, P, L>,
     at: Closing,
+}
+
+impl<Q: Codec, P: Codec, L: StreamLine> ClientStreamSenderCloseAndRecv<'_, Q, P, L>
+where
+    Q::E: Display + Drop,
+    P::E: Display + Drop,
+{
+    /// Makes the one core call that its state names, on a core that is lent: of its closing, and behind that `recv`. `None`: there
+    /// is no answer yet.
+    pub fn step<C: StreamCore<Id = L::Id>>(&mut self, core: &mut C) -> Option<Result<P>>
+        ensures step { IsClosingStep (IsStep C.sends C.refuses C.closes C.refuses_close C.tells_sent (arc_value self.old.stream.now.tx.tx.seat).id)
+            (ReceivesAs C.receives (TellsItem P.meaning P.E.is_no_memory P.E.output) self.old.stream.now.rx.rx.id) core.old self.old.at result self.new.at core.new }
+        ensures stream { self.new.stream ≡ self.old.stream }
+    {
+        let Closing::Closes(mut closing) = replace(&mut self.at, Closing::Receives) else {
+            return self.stream.rx.step(core);
+        };
+        let tx = &self.stream.tx.tx;
+        match closing.step(tx.alloc(), core, tx.id()) {
+            None => {
+                self.at = Closing::Closes(closing);
+                None
+            }
+            Some(Ok(())) => None,
+            Some(Err(refusal)) => Some(Err(refusal)),
+        }
+    }
 }
 
 impl<Q: Codec, P: Codec, L: StreamLine> Future for ClientStreamSenderCloseAndRecv<'_, Q, P, L>

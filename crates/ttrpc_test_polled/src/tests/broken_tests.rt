@@ -238,7 +238,7 @@ impl AsyncWrite for Failing {
     }
 }
 
-/// A request of 34 bytes, whose outcome is the writer's failure, and a later request, which answers the same.
+/// A request of 38 bytes, whose outcome is the writer's failure, and a later request, which answers the same.
 const FAILED: &[Act] = &[
     Act::Calls("Echo", b"\x01\x02\x03", 10_000_000_000),
     Act::Ends(0, Err("Nix error: broken pipe")),
@@ -260,7 +260,7 @@ fn run_failing<R: System>(rt: &R, left: usize, acts: &[Act]) -> Result<Option<Fa
 
 #[test]
 fn a_failing_writer_ends_all_calls(rt: HostRuntime) -> Result<(), Fail> {
-    for left in 0..34 {
+    for left in 0..38 {
         let fault = run_failing(&rt, left, FAILED)?;
         assert_eq!(rt; fault, None, "{left}");
     }
