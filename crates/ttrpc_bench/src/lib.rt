@@ -15,6 +15,3 @@ pub use odd_halves::{Sealed, Swelling};
 pub use readers::{Giver, StdReader};
 pub use stamp::{StampIn, StampOut, Transformed, stamps};
 pub use writers::{ROOM, Receiver, StdWriter};
-
-#[cfg(test)]
-mod tests;

@@ -6,8 +6,6 @@ pub mod headers;
 pub mod offering;
 pub mod reads;
 pub mod taking;
-#[cfg(test)]
-mod tests;
 pub mod writes;
 
 pub use headers::{ReadHeader, WriteHeader};

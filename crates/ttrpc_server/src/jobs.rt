@@ -5,8 +5,6 @@ ghost use Rattle.ttrpc_server.specs.State.{HandsOne, deadline_in, IsJob, IsTaken
 ghost use Rattle.ttrpc_server.specs.Inside.{FailsToMake};
 
 mod mailboxes;
-#[cfg(test)]
-mod used_up_tests;
 
 use crate::job::{ActiveJob, Body, Job, JobId};
 use std::alloc::Global;

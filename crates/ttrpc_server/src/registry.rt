@@ -41,6 +41,7 @@ impl Registry {
         ensures ok { OnOk result (AddsService self.old.methods service self.new.methods) }
         ensures names { (s n : List ℕ) → has_name self.new.methods s n ≡ has_name self.old.methods s n }
         ensures others { self.new.streams ≡ self.old.streams }
+        ensures bare { self.new.bare_openings ≡ self.old.bare_openings }
         ensures err { OnErr result (self.new ≡ self.old) }
     {
         self.methods.add_service(alloc, service.into_string())
@@ -56,6 +57,7 @@ impl Registry {
         ensures ok { OnOk result (AddsName self.old.methods service method self.new.methods) }
         ensures service { OnOk result (AddsService self.old.methods service self.new.methods) }
         ensures others { self.new.streams ≡ self.old.streams }
+        ensures bare { self.new.bare_openings ≡ self.old.bare_openings }
         ensures err { OnErr result (self.new ≡ self.old) }
     {
         self.methods
@@ -72,6 +74,7 @@ impl Registry {
         ensures ok { OnOk result (AddsName self.old.streams service stream self.new.streams) }
         ensures service { OnOk result (AddsService self.old.streams service self.new.streams) }
         ensures others { self.new.methods ≡ self.old.methods }
+        ensures bare { self.new.bare_openings ≡ self.old.bare_openings }
         ensures err { OnErr result (self.new ≡ self.old) }
     {
         self.streams

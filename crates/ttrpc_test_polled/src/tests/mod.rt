@@ -1,6 +1,8 @@
 mod broken_tests;
 mod call_tests;
+mod clone_tests;
 mod conversation_tests;
+mod frames;
 mod peer;
 mod recorded_tests;
 mod sites;

@@ -8,3 +8,4 @@ mod masking;
 mod masking_tests;
 mod packet;
 mod queue_tests;
+mod stamp_tests;

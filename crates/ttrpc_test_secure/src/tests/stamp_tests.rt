@@ -1,8 +1,8 @@
 //! Stamps as they are written, refused and counted.
-use super::*;
 use std::alloc::Global;
 use std::process::Abort;
 use std::test::Fail;
+use ttrpc_bench::{StampIn, StampOut, Transformed, stamps};
 use ttrpc_frame::{GenMessage, MessageHeader, Outgoing, Queued};
 use ttrpc_secure::sending::{SendError, send};
 use ttrpc_secure::{InboundTransform, OutboundTransform, TransformError};

@@ -1,11 +1,11 @@
 //! What a writer takes of frames, and what is told where it takes no more.
-use crate::tests::ends::{Narrow, System, come};
-use crate::{AsValue, PollRead, PollWrite, WriteHeader, WriteMessage};
+use crate::tests::frames::ends::{Narrow, System, come};
 use std::alloc::Global;
 use std::io::ErrorKind;
 use std::test::Fail;
 use ttrpc_frame::{GenMessage, MessageHeader};
 use ttrpc_message::Message;
+use ttrpc_polled_frames::{AsValue, PollRead, PollWrite, WriteHeader, WriteMessage};
 use ttrpc_proto::{Request, Result};
 use ttrpc_wire::Blob;
 

@@ -1,12 +1,12 @@
 //! What is told of whole frames and of cut input, as the blocking forms tell it. All bytes are written by hand.
-use crate::tests::ends::{Slow, System, come};
-use crate::{AsMessage, AsParts, AsValue, PollRead, ReadHeader, Tells};
+use crate::tests::frames::ends::{Slow, System, come};
 use std::alloc::{AllocError, Global};
 use std::io::ErrorKind;
 use std::process::Abort;
 use std::test::Fail;
 use ttrpc_frame::{GenMessage, GenMessageError, MessageHeader};
 use ttrpc_message::Message;
+use ttrpc_polled_frames::{AsMessage, AsParts, AsValue, PollRead, ReadHeader, Tells};
 use ttrpc_proto::{Request, Result};
 
 /// A header of type 1 and flags 239, a request of 67 bytes, and two bytes of another frame.
