@@ -407,10 +407,12 @@ const FAULTS: &[(Finding, Rows)] = &[
     (Finding::IdUsedTwice, &[CALLED, CALLED]),
     (Finding::IdUsedTwice, &[CALLED, OPENED]),
     (Finding::RunOutOfPlace, &[RUN]),
+    (Finding::RunOutOfPlace, &[CALLED, RUN, RUN]),
     (Finding::AnsweredTwice, &[BROKEN, BROKEN]),
     (Finding::AnsweredTwice, &[BROKEN, ENDED]),
     (Finding::OutcomeOutOfPlace, &[GIVEN]),
     (Finding::OutcomeOutOfPlace, &[OPENED, GIVEN]),
+    (Finding::OutcomeOutOfPlace, &[CALLED, FAILED, FAILED]),
     (Finding::OtherAnswer, &[CALLED, GIVEN]),
     (Finding::OtherAnswer, &[CALLED, STREAM_RUN, ENDED, GIVEN]),
 ];
@@ -432,6 +434,9 @@ const BROKEN: (Act, Said) = (Act::Break(1), Said::Done);
 const ENDED: (Act, Said) = (Act::EndWith(1, b"a"), Said::Done);
 
 const GIVEN: (Act, Said) = (Act::Outcome(1), Said::Payload(b"a"));
+
+/// The call failed by a status.
+const FAILED: (Act, Said) = (Act::Outcome(1), Said::Status(2, "eof"));
 
 /// The plain program sees this fault in such a trace.
 fn is_found(rt: &impl Abort, alloc: Global, finding: Finding, rows: Rows) -> Tested {

@@ -5,7 +5,7 @@ use std::alloc::Global;
 use std::io::ErrorKind;
 use std::process::Abort;
 use std::test::Fail;
-use ttrpc_bench::{AT_ONCE, Manner, Receiver};
+use ttrpc_bench::{AT_ONCE, Manner, Receiver, StdWriter};
 use ttrpc_frame::{GenMessage, MessageHeader};
 use ttrpc_message::{Message, write_message};
 use ttrpc_proto::{Error, Request, Result as Answer};
@@ -198,5 +198,17 @@ fn a_header_is_written_alone(rt: HostRuntime) -> Tested {
         Err(error) => assert!(rt; error.kind() == ErrorKind::BrokenPipe),
         Ok(()) => assert!(rt; false, "a failed flush"),
     }
+    Ok(())
+}
+
+/// A flush of a writer of std's is handed on.
+#[test]
+fn a_writer_of_std_is_flushed(rt: HostRuntime) -> Tested {
+    let mut writer = StdWriter::new(rt.alloc(), AT_ONCE)?;
+    REQUEST_HEADER.write_to(&mut writer)?;
+    assert_eq!(rt; writer.receiver.taken.as_slice(), &REQUEST[..10]);
+    assert_eq!(rt; writer.receiver.flushes, 1);
+    let mut failing = StdWriter::new(rt.alloc(), UNFLUSHED)?;
+    assert!(rt; REQUEST_HEADER.write_to(&mut failing).is_err());
     Ok(())
 }

@@ -55,7 +55,7 @@ pub mod cores {
     pub use ttrpc::cores::server::{
         Job, JobId, Registry, Rules, ServerCore, Ticket as ServerTicket,
     };
-    pub use ttrpc::cores::world::{Entry, Event, Reply, Side, Trace, World};
+    pub use ttrpc::cores::world::{Entry, Event, Reply, Side, StreamEnd, Trace, World};
 }
 
 /// Client and server with threads, addresses and sockets, and a shutdown that threads share.
@@ -63,9 +63,10 @@ pub mod drivers {
     pub use ttrpc::asynchronous::shutdown::{Notifier, Waiter, new, with_timeout};
     pub use ttrpc::sync::{
         Client, ClientRead, ClientWrite, Conn, Gate, Handler, Host, JobPort, MethodHandler, NoHook,
-        PortState, ReadPort, Refusal, Runtime, Server, ServerJobs, ServerRead, ServerWrite,
-        Settings, SharedHandler, SharedHook, Stopper, TtrpcContext, WritePort, read_loop,
-        response_error_to_channel, send_response, work_loop, write_loop,
+        NoWatch, PortState, ReadPort, Refusal, Runtime, Server, ServerJobs, ServerRead,
+        ServerWrite, Settings, SharedHandler, SharedHook, SharedWatch, Stopper, TtrpcContext,
+        Watch, WritePort, read_loop, response_error_to_channel, send_response, work_loop,
+        write_loop,
     };
     pub use ttrpc::transport::{
         ClientConnection, Domain, PipeConnection, PipeListener, Stream, nodelay_from,
@@ -79,23 +80,31 @@ pub mod polled {
         AsMessage, AsParts, AsValue, PollRead, PollWrite, ReadHeader, Tells, WriteHeader,
         WriteMessage,
     };
-    pub use ttrpc::asynchronous::stream::{
-        CSReceiver as ByteReceiver, ClientStream as ByteStream, StreamInner as Inner,
-    };
-    pub use ttrpc::asynchronous::transport::{Listener, Socket};
+    pub use ttrpc::asynchronous::transport::{Listener, Socket, SocketConnect};
     pub use ttrpc::asynchronous::{
-        CSReceiver, CSSender, Client, ClientCall, ClientConnect, ClientConnection, ClientLine,
-        ClientNewStream, ClientOpening, ClientRequest, ClientStream, ClientStreamReceiver,
-        ClientStreamSender, ClientStreamSenderCloseAndRecv, Closes, Disconnect, EndsBy, Handling,
-        Kind, MethodHandler, NoHook, Responds, SSReceiver, SSSender, Server, ServerConnection,
-        ServerShared, ServerStream, ServerStreamOpening, ServerStreamReceiver, ServerStreamSender,
-        Service, Serving, Settings, Shutdown, Spawns, StopListen, StreamHandler, StreamInner,
-        StreamLine, StreamReceiver, StreamReceiverRecv, StreamSender, StreamSenderCloseSend,
-        StreamSenderSend, TcpConnection, TcpServerConnection, Timed, TtrpcContext,
+        Asked, CSReceiver, CSReceiverRecv, CSSender, Client, ClientCall, ClientConnect,
+        ClientConnection, ClientLine, ClientNewStream, ClientOpening, ClientRequest, ClientStream,
+        ClientStreamReceiver, ClientStreamSender, ClientStreamSenderCloseAndRecv, Closes,
+        Disconnect, Ended, EndsBy, Handling, Kind, MethodHandler, NoHook, NoMethods, NoStreams,
+        OfStream, Opening, Responds, SSReceiver, SSReceiverRecv, SSSender, Sending, Server,
+        ServerConnection, ServerShared, ServerStream, ServerStreamOpening, ServerStreamReceiver,
+        ServerStreamSender, Service, Serving, Settings, Shutdown, Spawns, StopListen,
+        StreamHandler, StreamInner, StreamLine, StreamReceiver, StreamReceiverRecv, StreamSender,
+        StreamSenderCloseSend, StreamSenderSend, TcpConnection, TcpServerConnection, Telling,
+        Timed, TtrpcContext, call_of, open_of, open_with, sending_of,
     };
     pub use ttrpc::{
         async_client_request, async_client_stream, async_client_stream_receive,
         async_client_stream_send, async_client_streamimg_handler, async_duplex_streamimg_handler,
         async_request_handler, async_server_streamimg_handler,
+    };
+}
+
+/// Streams that are polled.
+pub mod streams {
+    pub use ttrpc::asynchronous::stream::{
+        CSReceiver, CSSender, ClientStream, ClientStreamReceiver, ClientStreamSender, Kind,
+        SSReceiver, SSSender, ServerStream, ServerStreamReceiver, ServerStreamSender, StreamInner,
+        StreamReceiver, StreamSender,
     };
 }
