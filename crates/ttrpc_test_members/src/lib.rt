@@ -1,6 +1,4 @@
-//! Tests of messages with members of every kind: rows of bytes and of what they mean.
+//! Messages with members of every kind, as `tools/messages` writes them, for the tests of `ttrpc_test_wire`.
 #![tactic(auto)]
 
 pub mod messages;
-#[cfg(test)]
-mod tests;

@@ -1,17 +1,13 @@
-//! Tests of what `tools/messages` writes for polled ends: an rpc of each kind reaches its method, and is told as its kind is.
+//! Tests of what `tools/messages` writes for polled ends: an rpc of each kind reaches its method, and is told as its kind is. All
+//! but the messages stands under the tests, so that it is proved once.
 #![tactic(auto)]
 
-mod messages;
+pub mod messages;
+#[cfg(test)]
 mod polled;
+#[cfg(test)]
 mod streams;
 #[cfg(test)]
 mod tests;
+#[cfg(test)]
 mod told;
-
-pub use messages::{Count, Item};
-pub use polled::{
-    Flows, FlowsClient, Plainly, PlainlyClient, Talks, TalksClient, flows_service, plainly_service,
-    talks_service,
-};
-pub use streams::{Listing, Loading, Talking};
-pub use told::Told;

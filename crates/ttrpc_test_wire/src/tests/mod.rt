@@ -2,6 +2,7 @@ mod bounds_tests;
 mod context_tests;
 mod error_tests;
 mod header_tests;
+mod members;
 mod message_tests;
 mod random_tests;
 mod rows;

@@ -1,11 +1,11 @@
 //! Messages as bytes, and what those bytes mean.
-use crate::messages::{All, Choices, Figures, Lists, Options, Tables};
-use crate::tests::vectors::{ALL, CHOICES, FIGURES, LISTS, OPTIONS, TABLES};
+use crate::tests::members::vectors::{ALL, CHOICES, FIGURES, LISTS, OPTIONS, TABLES};
 use std::alloc::Global;
 use std::process::Abort;
 use std::test::Fail;
 use ttrpc_codec::Codec;
 use ttrpc_codec::message::WireMessage;
+use ttrpc_test_members::messages::{All, Choices, Figures, Lists, Options, Tables};
 use ttrpc_wire::CodecError;
 
 pub type Tested = Result<(), Fail>;

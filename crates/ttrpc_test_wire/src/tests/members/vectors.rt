@@ -1,6 +1,6 @@
 //! Values as Google's implementation for Python writes them. Written by tools/member-vectors.
 
-use crate::messages::Figures;
+use ttrpc_test_members::messages::Figures;
 
 /// Numbers of every kind, each with its written form.
 pub const FIGURES: &[(&[u8], Figures)] = &[

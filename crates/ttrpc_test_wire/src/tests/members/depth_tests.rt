@@ -1,13 +1,13 @@
 //! Messages that contain themselves, down to the limit of depth and beyond it.
-use crate::messages::{Cell, CellKind, Row, Sheet, Tree, TreeRules};
-use crate::tests::members_tests::{Tested, all_are_one, all_are_refused};
-use crate::tests::vectors::TREE;
+use crate::tests::members::members_tests::{Tested, all_are_one, all_are_refused};
+use crate::tests::members::vectors::TREE;
 use std::alloc::{AllocError, Global};
 use std::process::Abort;
 use std::test::Fail;
 use ttrpc_codec::Codec;
 use ttrpc_codec::message::WireMessage;
 use ttrpc_members::enclosed::Enclosed;
+use ttrpc_test_members::messages::{Cell, CellKind, Row, Sheet, Tree, TreeRules};
 use ttrpc_wire::{CodecError, TryClone, put_varint, varint_len};
 
 /// The member of lists, and the optional one.
