@@ -14,8 +14,8 @@ pub enum Target<'a> {
     Polled(&'a str),
     /// The streams of the server at this address, by such a client.
     Streams(&'a str),
-    /// Nobody: as many such clients as there are calls rest.
-    Rest,
+    /// Nobody: as many such clients as there are calls rest, at the server at this address, or over readers and writers in memory.
+    Rest(Option<&'a str>),
 }
 
 /// How many calls are made, by how many callers, with how many bytes.
@@ -27,7 +27,8 @@ pub struct Load {
 }
 
 /// The load and its target that the words name: an address or `raw`, calls, callers and bytes; or `burst`, an address, calls
-/// and bytes; or `async` or `stream`, an address, calls or items, callers or streams, and bytes; or `rest` and how many clients.
+/// and bytes; or `async` or `stream`, an address, calls or items, callers or streams, and bytes; or `rest`, an address or none, and
+/// how many clients.
 /// There are calls and callers, and the calls' payload has at least one byte.
 pub fn load_of(words: &[String]) -> Option<(Target<'_>, Load)>
     ensures { IfSome result (λ found. (0 < found.1.calls) × (0 < found.1.callers) × (0 < found.1.bytes)) }
@@ -41,7 +42,10 @@ pub fn load_of(words: &[String]) -> Option<(Target<'_>, Load)>
         return Some((target, load_by(calls, count_of(callers)?, bytes)?));
     }
     if let [word, clients] = words {
-        return rest_of(word, clients);
+        return rest_of(word, None, clients);
+    }
+    if let [word, address, clients] = words {
+        return rest_of(word, Some(address.as_str()), clients);
     }
     let [target, second, third, bytes] = words else {
         return None;
@@ -56,7 +60,11 @@ pub fn load_of(words: &[String]) -> Option<(Target<'_>, Load)>
     Some((Target::Server(target.as_str()), load))
 }
 
-fn rest_of<'a>(word: &String, clients: &String) -> Option<(Target<'a>, Load)>
+fn rest_of<'a>(
+    word: &String,
+    address: Option<&'a str>,
+    clients: &String,
+) -> Option<(Target<'a>, Load)>
     ensures { IfSome result (λ found. (0 < found.1.calls) × (0 < found.1.callers) × (0 < found.1.bytes)) }
 {
     if word.as_str() != "rest" {
@@ -67,7 +75,7 @@ fn rest_of<'a>(word: &String, clients: &String) -> Option<(Target<'a>, Load)>
         callers: 1,
         bytes: 1,
     };
-    Some((Target::Rest, load))
+    Some((Target::Rest(address), load))
 }
 
 fn load_by(calls: &String, callers: usize, bytes: &String) -> Option<Load>

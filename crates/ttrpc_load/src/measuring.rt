@@ -3,7 +3,7 @@ use crate::burst::burst;
 use crate::calling::{EchoClient, Echoes, times_of};
 use crate::figures::{Figures, Rates, Told, percentile, rate};
 use crate::load::{Load, Target, load_of, share};
-use crate::polled::{Looped, Ran, Work, rest, run_polled};
+use crate::polled::{Looped, Ran, Work, rest, rest_at, run_polled};
 use crate::raw::{connect_raw, start_raw};
 use std::alloc::Global;
 use std::io::{self, Write};
@@ -20,7 +20,7 @@ use ttrpc_sync_client::Client;
 
 const USAGE: &str =
     "usage: ttrpc-load ADDR CALLS CALLERS BYTES | raw CALLS CALLERS BYTES | burst ADDR CALLS BYTES
-       ttrpc-load async ADDR CALLS CALLERS BYTES | stream ADDR ITEMS STREAMS BYTES | rest CLIENTS";
+       ttrpc-load async ADDR CALLS CALLERS BYTES | stream ADDR ITEMS STREAMS BYTES | rest [ADDR] CLIENTS";
 
 /// What `--help` tells behind the usage.
 const HELP: &str = "
@@ -35,7 +35,8 @@ Calls Echo of demo.Echo, and tells in a line how it went.
   stream ADDR ITEMS STREAMS BYTES
                              so many items by so many streams of such a client, on Chat, Sum and Count one after the other,
                              and how many items a second went over each
-  rest CLIENTS               so many such clients at rest, over readers and writers in memory, until it is killed
+  rest [ADDR] CLIENTS        so many such clients at rest, each connected there, or over readers and writers in memory, until
+                             it is killed
 
 Told are calls a second, and of the times of single calls the median and the 99th percentile, in microseconds. Where
 TTRPC_TCP_NODELAY_ENABLED is 1 or true, small writes by TCP go out at once.";
@@ -99,10 +100,7 @@ fn measure<R: Measured + 'static, X: Write>(
         Target::Burst(address) => return Ok(Told::Moments(burst(rt, address, load, nodelay)?)),
         Target::Polled(address) => return polled_calls(rt, address, load, nodelay),
         Target::Streams(address) => return stream_rates(rt, address, load, nodelay),
-        Target::Rest => {
-            rest(rt, load.calls)?;
-            return Ok(Told::Rested(load.calls));
-        }
+        Target::Rest(address) => return rest_all(rt, address, load.calls, nodelay),
     };
     if shows {
         show(rt, load, &*done, errors)?;
@@ -110,6 +108,15 @@ fn measure<R: Measured + 'static, X: Write>(
     let times = all_times(rt, callers)?;
     let elapsed = moment(rt)?.saturating_sub(start);
     Ok(Told::Figures(figures_of(load, elapsed, times)))
+}
+
+/// So many clients at rest. It doesn't end by itself.
+fn rest_all<R: Looped>(rt: &R, address: Option<&str>, count: usize, nodelay: bool) -> Result<Told> {
+    match address {
+        Some(address) => rest_at(rt, address, count, nodelay)?,
+        None => rest(rt, count)?,
+    }
+    Ok(Told::Rested(count))
 }
 
 /// The figures of calls that are polled.

@@ -13,7 +13,7 @@ use crate::polled::tally::Tally;
 use crate::polled::task::Tallied;
 pub use exchanges::Work;
 use futures::executor::TaskSet;
-pub use rest::rest;
+pub use rest::{rest, rest_at};
 use std::alloc::Global;
 use std::io;
 use std::net::{Net, TcpListener, TcpStream};

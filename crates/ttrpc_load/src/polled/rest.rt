@@ -1,9 +1,9 @@
 //! Connections at rest, whose memory is looked at from outside.
-use crate::polled::{Looped, nix};
+use crate::polled::{Looped, connect, nix};
 use futures::executor::TaskSet;
 use tokio::io::{DuplexStream, duplex};
 use tokio::runtime::{Handle, LocalRuntime};
-use ttrpc_polled_client::{Client, ClientConnection};
+use ttrpc_polled_client::{Client, ClientConnection, Spawns, TcpConnection};
 use ttrpc_proto::{Error, Result};
 use ttrpc_secure::{HookOutput, Plain};
 
@@ -57,4 +57,30 @@ fn resting<R: Looped>(rt: &R, handle: &Handle) -> Result<(Kept<R>, Resting<R>)> 
         _taker: taker,
     };
     Ok((kept, connection))
+}
+
+/// The same, each connected to the server at this address.
+pub fn rest_at<R: Looped>(rt: &R, address: &str, count: usize, nodelay: bool) -> Result<()> {
+    let mut runtime = nix(LocalRuntime::new(rt))?;
+    let tasks = nix(runtime.task_set(rt))?;
+    let mut clients = Vec::new(rt.alloc());
+    for _ in 1..count {
+        connect_one(rt, &mut runtime, &tasks, address, nodelay, &mut clients)?;
+    }
+    let (_client, last) = connect(rt, &mut runtime, address, nodelay)?;
+    nix(runtime.block_on_with(rt, &tasks, last))
+}
+
+/// One more of them.
+fn connect_one<R: Looped>(
+    rt: &R,
+    runtime: &mut LocalRuntime,
+    tasks: &TaskSet<TcpConnection<R, Plain, Plain>>,
+    address: &str,
+    nodelay: bool,
+    clients: &mut Vec<Client<R, Plain, Plain>>,
+) -> Result<()> {
+    let (client, connection) = connect(rt, runtime, address, nodelay)?;
+    clients.push(client)?;
+    Spawns::spawn(tasks, connection)
 }

@@ -61,6 +61,19 @@ fn sent<R: System>(
     done(rt, runtime, ends, sending)
 }
 
+/// What comes back of an item that is sent.
+fn echoed<R: System>(
+    rt: &R,
+    runtime: &mut LocalRuntime,
+    ends: Ends<R>,
+    sender: &StreamSender<PlainLine>,
+    mut receiver: StreamReceiver<PlainLine>,
+) -> Result<(RpcResult<Blob>, Ends<R>), Fail> {
+    let (outcome, ends) = sent(rt, runtime, ends, sender, b"a")?;
+    outcome?;
+    done(rt, runtime, ends, receiver.recv())
+}
+
 /// What comes back of an item that a clone sends, and what comes of one more once nobody receives.
 fn clone_sends<R: System>(rt: &R) -> Result<(RpcResult<Blob>, RpcResult<()>), Fail> {
     let Site {
@@ -68,11 +81,8 @@ fn clone_sends<R: System>(rt: &R) -> Result<(RpcResult<Blob>, RpcResult<()>), Fa
         client,
         ends,
     } = make_site(rt, 4096, Manners::Echoes)?;
-    let (sender, mut receiver, ends) = halves(rt, &mut runtime, ends, &client)?;
-    let (first, ends) = sent(rt, &mut runtime, ends, &sender, b"a")?;
-    first?;
-    let (item, ends) = done(rt, &mut runtime, ends, receiver.recv())?;
-    drop(receiver);
+    let (sender, receiver, ends) = halves(rt, &mut runtime, ends, &client)?;
+    let (item, ends) = echoed(rt, &mut runtime, ends, &sender, receiver)?;
     let (last, _) = sent(rt, &mut runtime, ends, &sender, b"b")?;
     Ok((item, last))
 }

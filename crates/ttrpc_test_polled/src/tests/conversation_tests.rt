@@ -53,3 +53,24 @@ fn recorded_servers_are_understood(rt: HostRuntime) -> Result<(), Fail> {
     }
     Ok(())
 }
+
+/// A call that is dropped before its frame is written, and one behind it.
+const FORGOTTEN: &[Act] = &[
+    Act::Calls("Echo", b"1", 0),
+    Act::Begins(0),
+    Act::Forgets(0),
+    Act::Calls("Echo", b"2", 0),
+    Act::Ends(1, Ok(b"2")),
+];
+
+/// Only the second call's request, under its own id, and its answer.
+const REMEMBERED: &[Line<'static>] = &[
+    Line::Up(b"\0\0\0\x14\0\0\0\x03\x01\0\x0a\x09demo.Echo\x12\x04Echo\x1a\x01\x32"),
+    Line::Down(b"\0\0\0\x05\0\0\0\x03\x02\0\x0a\0\x12\x01\x32"),
+];
+
+#[test]
+fn a_dropped_call_leaves_no_frame(rt: HostRuntime) -> Result<(), Fail> {
+    assert_eq!(rt; speak(&rt, 4096, FORGOTTEN, REMEMBERED)?, None);
+    Ok(())
+}

@@ -3,6 +3,7 @@ mod call_tests;
 mod clone_tests;
 mod conversation_tests;
 mod frames;
+mod lent_tests;
 mod peer;
 mod recorded_tests;
 mod sites;

@@ -1,20 +1,24 @@
-//! Polled sockets of this machine: two that say something to each other, and a client that connects.
+//! Polled sockets of this machine: two that say something to each other, and clients that connect or are made of one.
 ghost use Rattle.futures.specs.Poll.{OnPending};
 ghost use Rattle.futures.specs.Task.{IsArmed, Keeps};
 
 use crate::tests::sites::System;
-use futures::future::{Either, join};
+use futures::executor::TaskSet;
+use futures::future::{Either, Ready, join};
 use futures::task::{Context, Poll};
 use futures::{Future, StreamExt};
 use std::net::SocketAddr;
 use std::process::Abort;
 use std::test::Fail;
 use tokio::runtime::LocalRuntime;
+use ttrpc_bench::{Rejects, Stamps};
 use ttrpc_bench_polled::acts::{Act, Script};
 use ttrpc_bench_polled::lines::{Line, Side, Speaker};
 use ttrpc_bench_polled::parts::{Fault, Parts};
 use ttrpc_polled::{Listener, Socket};
-use ttrpc_polled_client::Client;
+use ttrpc_polled_client::{Client, TcpConnection};
+use ttrpc_proto::Error;
+use ttrpc_secure::{ConnectionDataExt, Plain};
 
 /// A socket that says something, and then hears something. Ready: whether it did.
 #[derive(Drop)]
@@ -144,11 +148,21 @@ fn listening<R: System>(rt: &R, runtime: &LocalRuntime, nodelay: bool) -> Result
     Ok(Listener::bind(rt, rt.alloc(), reactor, "tcp://127.0.0.1:0", nodelay)?)
 }
 
+/// Both ends of a connection, and the loop that polls them. Whether the writes of each go out at once.
+fn connection<R: System>(
+    rt: &R,
+    near: bool,
+    far: bool,
+) -> Result<(LocalRuntime, Socket, Socket), Fail> {
+    let mut runtime = LocalRuntime::new(rt)?;
+    let mut listener = listening(rt, &runtime, far)?;
+    let (near, far) = both_ends(rt, &mut runtime, &mut listener, near)?;
+    Ok((runtime, near, far))
+}
+
 #[test]
 fn sockets_talk_by_polls(rt: HostRuntime) -> Result<(), Fail> {
-    let mut runtime = LocalRuntime::new(&rt)?;
-    let mut listener = listening(&rt, &runtime, true)?;
-    let (near, far) = both_ends(&rt, &mut runtime, &mut listener, true)?;
+    let (mut runtime, near, far) = connection(&rt, true, true)?;
     let asks = Talk::new(near, b"asked", b"told");
     let tells = Talk::new(far, b"told", b"asked");
     let talked = runtime.block_on(&rt, join(asks, tells))?;
@@ -158,9 +172,7 @@ fn sockets_talk_by_polls(rt: HostRuntime) -> Result<(), Fail> {
 
 /// Whether the writes of both ends go out at once exactly where each is told so, the far end by its listener.
 fn is_told_of_delay<R: System>(rt: &R, near: bool, far: bool) -> Result<bool, Fail> {
-    let mut runtime = LocalRuntime::new(rt)?;
-    let mut listener = listening(rt, &runtime, far)?;
-    let (near_end, far_end) = both_ends(rt, &mut runtime, &mut listener, near)?;
+    let (_runtime, near_end, far_end) = connection(rt, near, far)?;
     Ok(near_end.nodelay()? == near && far_end.nodelay()? == far)
 }
 
@@ -180,9 +192,40 @@ const LINES: &[Line<'static>] = &[
 
 const ACTS: &[Act] = &[Act::Calls("Echo", b"1", 0), Act::Ends(0, Ok(b"1"))];
 
+/// A client over no transform, and its connection.
+type PlainClient<R> = Client<R, Plain, Plain>;
+
+type Tcp<R> = TcpConnection<R, Plain, Plain>;
+
 /// The address that a client is given for this one.
 fn named<R: System>(rt: &R, address: SocketAddr) -> Result<String, Fail> {
     Ok(format!(in rt.alloc(); "tcp://{address}")?)
+}
+
+/// A client that connects to this address.
+fn client_at<R: System>(
+    rt: &R,
+    runtime: &mut LocalRuntime,
+    address: &str,
+    nodelay: bool,
+) -> Result<(PlainClient<R>, Tcp<R>), Fail> {
+    let connecting = Client::connect(rt.clone()?, runtime.handle(), address, nodelay)?;
+    Ok(runtime.block_on(rt, connecting)??)
+}
+
+/// A call and its answer over this connection, at the far end of which a recorded server answers.
+fn exchange<R: System>(
+    rt: &R,
+    runtime: &mut LocalRuntime,
+    client: PlainClient<R>,
+    connection: Tcp<R>,
+    far: Socket,
+) -> Result<Option<Fault>, Fail> {
+    let (reader, writer) = far.into_split()?;
+    let script = Either::Left(Script::new(client, ACTS));
+    let speaker = Either::Right(Speaker::new(Side::Server, LINES, reader, writer));
+    let parts = Parts::both(rt.alloc(), script, speaker, connection)?;
+    Ok(runtime.block_on(rt, parts)?)
 }
 
 /// A client that connects and calls, and the server that it reaches.
@@ -190,13 +233,9 @@ fn call<R: System>(rt: &R, nodelay: bool) -> Result<Option<Fault>, Fail> {
     let mut runtime = LocalRuntime::new(rt)?;
     let mut listener = listening(rt, &runtime, true)?;
     let address = named(rt, listener.local_addr()?)?;
-    let connecting = Client::connect(rt.clone()?, runtime.handle(), address.as_str(), nodelay)?;
-    let (client, connection) = runtime.block_on(rt, connecting)??;
-    let (reader, writer) = accepted(rt, &mut runtime, &mut listener)?.into_split()?;
-    let script = Either::Left(Script::new(client, ACTS));
-    let speaker = Either::Right(Speaker::new(Side::Server, LINES, reader, writer));
-    let parts = Parts::both(rt.alloc(), script, speaker, connection)?;
-    Ok(runtime.block_on(rt, parts)?)
+    let (client, connection) = client_at(rt, &mut runtime, address.as_str(), nodelay)?;
+    let far = accepted(rt, &mut runtime, &mut listener)?;
+    exchange(rt, &mut runtime, client, connection, far)
 }
 
 #[test]
@@ -204,5 +243,61 @@ fn a_client_connects_and_calls(rt: HostRuntime) -> Result<(), Fail> {
     for nodelay in [true, false] {
         assert_eq!(rt; call(&rt, nodelay)?, None);
     }
+    Ok(())
+}
+
+/// Whether a client whose hook refuses its socket is refused by that hook's text.
+fn is_refused<R: System>(rt: &R) -> Result<bool, Fail> {
+    let (runtime, near, _far) = connection(rt, true, true)?;
+    match Client::with_hook(rt.clone()?, runtime.handle(), near, &Rejects {}) {
+        Err(Error::Others(text)) => {
+            Ok(text.as_str() == "client connect hook failed: connection rejected: no")
+        }
+        _ => Ok(false),
+    }
+}
+
+/// Whether a client knows its connection by the name that its hook gave.
+fn is_known<R: System>(rt: &R) -> Result<bool, Fail> {
+    let (runtime, near, _far) = connection(rt, true, true)?;
+    let stamps = Stamps { name: "the client" };
+    let (client, _connection) = Client::with_hook(rt.clone()?, runtime.handle(), near, &stamps)?;
+    let name: Option<&String> = client.connection_data().get_typed("name");
+    Ok(name.is_some_and(|name| name.as_str() == "the client"))
+}
+
+#[test]
+fn a_hook_looks_at_the_socket(rt: HostRuntime) -> Result<(), Fail> {
+    assert!(rt; is_refused(&rt)?);
+    assert!(rt; is_known(&rt)?);
+    Ok(())
+}
+
+/// A call and its answer over a connection that is one of these tasks.
+fn exchange_beside<R: System>(
+    rt: &R,
+    runtime: &mut LocalRuntime,
+    tasks: &TaskSet<Tcp<R>>,
+    client: PlainClient<R>,
+    far: Socket,
+) -> Result<Option<Fault>, Fail> {
+    let (reader, writer) = far.into_split()?;
+    let mut parts: Parts<_, Ready<()>> = Parts::new(rt.alloc())?;
+    parts.does(Either::Left(Script::new(client, ACTS)))?;
+    parts.does(Either::Right(Speaker::new(Side::Server, LINES, reader, writer)))?;
+    Ok(runtime.block_on_with(rt, tasks, parts)?)
+}
+
+/// A client that calls, its connection being a task, and the server that it reaches.
+fn call_spawned<R: System>(rt: &R) -> Result<Option<Fault>, Fail> {
+    let (mut runtime, near, far) = connection(rt, true, true)?;
+    let tasks = runtime.task_set(rt)?;
+    let client = Client::spawned(rt.clone()?, runtime.handle(), near, &tasks)?;
+    exchange_beside(rt, &mut runtime, &tasks, client, far)
+}
+
+#[test]
+fn a_spawned_connection_is_polled(rt: HostRuntime) -> Result<(), Fail> {
+    assert_eq!(rt; call_spawned(&rt)?, None);
     Ok(())
 }

@@ -215,34 +215,39 @@ fn a_readers_failure_is_told(rt: HostRuntime) -> std::result::Result<(), Fail> {
     Ok(())
 }
 
+const READ: MessageHeader = MessageHeader {
+    length: 67,
+    stream_id: 1193046,
+    type_: 1,
+    flags: 239,
+};
+
+/// Whether a header is read, and no byte behind it.
+fn is_read_alone<R: System>(rt: &R, at_once: usize) -> std::result::Result<bool, Fail> {
+    let mut reader = Slow::new(ASKED, at_once, None);
+    let header = come(rt, ReadHeader::new(&mut reader))??;
+    Ok(header == READ && reader.rest.len() == 69)
+}
+
+/// What is told where a header is cut, by its end or by this failure.
+fn told_of_cut<R: System>(
+    rt: &R,
+    end: Option<ErrorKind>,
+) -> std::result::Result<Option<ErrorKind>, Fail> {
+    let cut = come(rt, ReadHeader::new(Slow::new(SHORT, 2, end)))?;
+    Ok(cut.err().map(|error| error.kind()))
+}
+
 #[test]
 fn headers_are_read_alone(rt: HostRuntime) -> std::result::Result<(), Fail> {
     for at_once in [1, 4, 4096] {
-        let mut reader = Slow::new(ASKED, at_once, None);
-        let header = come(&rt, ReadHeader::new(&mut reader))??;
-        assert_eq!(rt;
-            header,
-            MessageHeader {
-                length: 67,
-                stream_id: 1193046,
-                type_: 1,
-                flags: 239
-            }
-        );
-        assert_eq!(rt; reader.rest.len(), 69);
+        assert!(rt; is_read_alone(&rt, at_once)?);
     }
-    let cut = come(&rt, ReadHeader::new(Slow::new(SHORT, 2, None)))?;
-    assert_eq!(rt;
-        cut.err().map(|error| error.kind()),
-        Some(ErrorKind::UnexpectedEof)
-    );
-    let failed = come(
-        &rt,
-        ReadHeader::new(Slow::new(SHORT, 2, Some(ErrorKind::ConnectionReset))),
-    )?;
-    assert_eq!(rt;
-        failed.err().map(|error| error.kind()),
-        Some(ErrorKind::ConnectionReset)
-    );
+    for (end, told) in [
+        (None, ErrorKind::UnexpectedEof),
+        (Some(ErrorKind::ConnectionReset), ErrorKind::ConnectionReset),
+    ] {
+        assert_eq!(rt; told_of_cut(&rt, end)?, Some(told));
+    }
     Ok(())
 }

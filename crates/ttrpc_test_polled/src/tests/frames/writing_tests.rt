@@ -1,7 +1,7 @@
 //! What a writer takes of frames, and what is told where it takes no more.
 use crate::tests::frames::ends::{Narrow, System, come};
 use std::alloc::Global;
-use std::io::ErrorKind;
+use std::io::{self, ErrorKind};
 use std::test::Fail;
 use ttrpc_frame::{GenMessage, MessageHeader};
 use ttrpc_message::Message;
@@ -34,6 +34,18 @@ fn told(alloc: Global, ended: Result<()>) -> std::result::Result<String, Fail> {
     })
 }
 
+/// Writes the frame, which is flushed.
+fn write_message<R: System>(rt: &R, writer: &mut Narrow) -> std::result::Result<Result<()>, Fail> {
+    let message = message_of(rt.alloc())?;
+    come(rt, WriteMessage::of_gen(rt.alloc(), writer, &message)?)
+}
+
+/// Writes it by its header and payload alone.
+fn write_parts<R: System>(rt: &R, writer: &mut Narrow) -> std::result::Result<Result<()>, Fail> {
+    let payload: &[u8] = b"abc";
+    come(rt, PollWrite::new(rt.alloc(), writer, &HEADER, payload)?)
+}
+
 /// Writes the frame to a writer with so much room, and says what was told, what it took, and how often it was flushed.
 fn write<R: System>(
     rt: &R,
@@ -42,16 +54,13 @@ fn write<R: System>(
     room: usize,
     end: Option<ErrorKind>,
 ) -> std::result::Result<(String, Narrow), Fail> {
-    let alloc = rt.alloc();
-    let mut writer = Narrow::new(Vec::new(alloc), at_once, room, end);
-    let message = message_of(alloc)?;
+    let mut writer = Narrow::new(Vec::new(rt.alloc()), at_once, room, end);
     let ended = if flushes {
-        come(rt, WriteMessage::of_gen(alloc, &mut writer, &message)?)?
+        write_message(rt, &mut writer)?
     } else {
-        let payload: &[u8] = b"abc";
-        come(rt, PollWrite::new(alloc, &mut writer, &HEADER, payload)?)?
+        write_parts(rt, &mut writer)?
     };
-    Ok((told(alloc, ended)?, writer))
+    Ok((told(rt.alloc(), ended)?, writer))
 }
 
 #[test]
@@ -96,31 +105,41 @@ fn a_writer_that_takes_nothing_is_told(rt: HostRuntime) -> std::result::Result<(
 const ASKED: &[u8] =
     b"\0\0\0\x43\0\x12\x34\x56\x01\xef\x0a\x11grpc.TestServices\x12\x04Test\x1a\x09\x01\x02\x03\x04\x05\x06\x07\x08\x09\x20\x80\xda\xc4\x09\x2a\x18\x0a\x09test_key1\x12\x0btest_value1";
 
+fn read_request<R: System>(rt: &R) -> std::result::Result<Message<Request>, Fail> {
+    let reading: PollRead<_, AsValue<Request>> = PollRead::new(rt.alloc(), ASKED);
+    Ok(come(rt, reading)??)
+}
+
 #[test]
 fn a_value_is_read_and_written_again(rt: HostRuntime) -> std::result::Result<(), Fail> {
-    let alloc = rt.alloc();
-    let reading: PollRead<_, AsValue<Request>> = PollRead::new(alloc, ASKED);
-    let message: Message<Request> = come(&rt, reading)??;
-    let mut writer = Narrow::new(Vec::new(alloc), 3, 4096, None);
-    come(&rt, WriteMessage::of_value(alloc, &mut writer, &message)?)??;
-    assert_eq!(rt; writer.took.as_slice(), ASKED);
-    assert_eq!(rt; writer.flushes, 1);
+    let message = read_request(&rt)?;
+    let mut writer = Narrow::new(Vec::new(rt.alloc()), 3, 4096, None);
+    come(
+        &rt,
+        WriteMessage::of_value(rt.alloc(), &mut writer, &message)?,
+    )??;
+    assert!(rt; writer.took.as_slice() == ASKED && writer.flushes == 1);
     Ok(())
+}
+
+/// What comes of a header that is written to a writer with so much room.
+fn write_header<R: System>(
+    rt: &R,
+    room: usize,
+) -> std::result::Result<(io::Result<()>, Narrow), Fail> {
+    let mut writer = Narrow::new(Vec::new(rt.alloc()), 3, room, None);
+    let ended = come(rt, WriteHeader::new(rt.alloc(), &mut writer, &HEADER))?;
+    Ok((ended, writer))
 }
 
 #[test]
 fn headers_are_written_alone(rt: HostRuntime) -> std::result::Result<(), Fail> {
-    let alloc = rt.alloc();
-    let mut writer = Narrow::new(Vec::new(alloc), 3, 4096, None);
-    come(&rt, WriteHeader::new(alloc, &mut writer, &HEADER))??;
-    assert_eq!(rt; writer.took.as_slice(), &FRAME[..10]);
-    assert_eq!(rt; writer.flushes, 1);
-    let mut full = Narrow::new(Vec::new(alloc), 3, 4, None);
-    let zero = come(&rt, WriteHeader::new(alloc, &mut full, &HEADER))?;
-    assert_eq!(rt;
-        zero.err().map(|error| error.kind()),
-        Some(ErrorKind::WriteZero)
-    );
+    let (written, writer) = write_header(&rt, 4096)?;
+    written?;
+    assert!(rt; writer.took.as_slice() == &FRAME[..10] && writer.flushes == 1);
+    let (refused, _) = write_header(&rt, 4)?;
+    let told = refused.err().map(|error| error.kind());
+    assert_eq!(rt; told, Some(ErrorKind::WriteZero));
     Ok(())
 }
 

@@ -3,6 +3,7 @@
 mod caller;
 mod calls_tests;
 mod huge;
+mod items_tests;
 mod messages;
 mod names;
 mod pairs;

@@ -1,0 +1,136 @@
+//! The calls of a stream, stepped by hand on a core that is lent.
+use crate::tests::peer::Manners;
+use crate::tests::sites::{Site, System, done, make_site, request};
+use std::alloc::Global;
+use std::process::Abort;
+use std::test::Fail;
+use ttrpc_client::{ClientCore, ClientKind};
+use ttrpc_polled_client::{ClientLine, Opening};
+use ttrpc_polled_streams::{
+    ClientStream, ClientStreamSender, SSReceiver, StreamInner, StreamReceiver, StreamSender,
+};
+use ttrpc_secure::{ConnectionContext, Plain};
+use ttrpc_wire::Blob;
+
+/// The line of a client over no transform.
+type PlainLine = ClientLine<Plain, Plain>;
+
+/// The core of such a client.
+type Core = ClientCore<Plain, Plain>;
+
+/// The first stream of a client, whose id is 1.
+fn first_stream<R: System>(rt: &R) -> Result<StreamInner<PlainLine>, Fail> {
+    let Site {
+        mut runtime,
+        client,
+        ends,
+    } = make_site(rt, 4096, Manners::Echoes)?;
+    let opening = client.new_stream(request(rt.alloc(), "Chat", b"", 0)?, true, true)?;
+    let (stream, _) = done(rt, &mut runtime, ends, opening)?;
+    Ok(stream?)
+}
+
+/// Another core with a stream of that id, to which this came.
+fn lent(alloc: Global, came: &[u8]) -> Result<Core, Fail> {
+    let context = ConnectionContext::of_halves(alloc, Plain {}, Plain {});
+    let mut core = ClientCore::new(alloc, ClientKind::Async, context);
+    let opening = Opening {
+        request: request(alloc, "Chat", b"", 0)?,
+        streaming_client: true,
+        streaming_server: true,
+    };
+    opening.step(alloc, &mut core)?;
+    core.feed(alloc, came)?;
+    Ok(core)
+}
+
+/// All that the core has to write leaves it.
+fn write_all(core: &mut Core) {
+    let mut buffer = [0u8; 64];
+    for _ in 0..4u32 {
+        core.lend(&mut buffer);
+        let lent = core.lent();
+        core.wrote(lent);
+    }
+}
+
+/// An item of the server, and its end.
+const ITEM: &[u8] = b"\0\0\0\x01\0\0\0\x01\x03\0\x2a";
+
+const ITEM_AND_END: &[u8] = b"\0\0\0\x01\0\0\0\x01\x03\0\x2a\0\0\0\0\0\0\0\x01\x03\x05";
+
+/// What an item comes to that is stepped twice, the frame of which leaves between.
+fn steps_of_sending(
+    alloc: Global,
+    sender: &StreamSender<PlainLine>,
+) -> Result<(bool, bool, bool), Fail> {
+    let mut core = lent(alloc, b"")?;
+    let mut sending = sender.send(Vec::from_slice(alloc, b"a")?);
+    let first = sending.step(&mut core).is_none();
+    let second = sending.step(&mut core).is_none();
+    write_all(&mut core);
+    let last = matches!(sending.step(&mut core), Some(Ok(())));
+    Ok((first, second, last))
+}
+
+/// Whether an item is received, and then nothing yet.
+fn steps_of_receiving(
+    alloc: Global,
+    receiver: &mut StreamReceiver<PlainLine>,
+) -> Result<bool, Fail> {
+    let mut core = lent(alloc, ITEM)?;
+    let receipt = receiver.recv();
+    let came =
+        matches!(receipt.step(&mut core), Some(Ok(item)) if item.as_slice() == b"\x2a".as_slice());
+    Ok(came && receipt.step(&mut core).is_none())
+}
+
+#[test]
+fn items_are_stepped(rt: HostRuntime) -> Result<(), Fail> {
+    let (sender, mut receiver) = first_stream(&rt)?.split();
+    let sent = steps_of_sending(rt.alloc(), &sender)?;
+    assert_eq!(rt; sent, (true, true, true));
+    assert!(rt; steps_of_receiving(rt.alloc(), &mut receiver)?);
+    Ok(())
+}
+
+/// Whether a message is received, and then nothing yet.
+fn steps_of_messages(alloc: Global, inner: StreamInner<PlainLine>) -> Result<bool, Fail> {
+    let mut core = lent(alloc, ITEM)?;
+    let mut stream: ClientStream<Blob, Blob, PlainLine> = ClientStream::new(inner);
+    let receipt = stream.recv();
+    let came =
+        matches!(receipt.step(&mut core), Some(Ok(item)) if item.as_slice() == b"\x2a".as_slice());
+    Ok(came && receipt.step(&mut core).is_none())
+}
+
+/// Whether a message is received, and then that there is none.
+fn steps_to_the_end(alloc: Global, inner: StreamInner<PlainLine>) -> Result<bool, Fail> {
+    let mut core = lent(alloc, ITEM_AND_END)?;
+    let mut receiver: SSReceiver<Blob, PlainLine> = SSReceiver::new(inner);
+    let receipt = receiver.recv();
+    let came =
+        matches!(receipt.step(&mut core), Some(Ok(Some(item))) if item.as_slice() == b"\x2a".as_slice());
+    Ok(came && matches!(receipt.step(&mut core), Some(Ok(None))))
+}
+
+/// Whether a stream is closed, and what answers is received behind that alone.
+fn steps_of_closing(alloc: Global, inner: StreamInner<PlainLine>) -> Result<bool, Fail> {
+    let mut core = lent(alloc, ITEM)?;
+    let mut stream: ClientStreamSender<Blob, Blob, PlainLine> = ClientStreamSender::new(inner);
+    let mut call = stream.close_and_recv();
+    let asked = call.step(&mut core).is_none() && call.step(&mut core).is_none();
+    write_all(&mut core);
+    let closed = call.step(&mut core).is_none();
+    let came =
+        matches!(call.step(&mut core), Some(Ok(item)) if item.as_slice() == b"\x2a".as_slice());
+    Ok(asked && closed && came)
+}
+
+#[test]
+fn messages_are_stepped(rt: HostRuntime) -> Result<(), Fail> {
+    assert!(rt; steps_of_messages(rt.alloc(), first_stream(&rt)?)?);
+    assert!(rt; steps_to_the_end(rt.alloc(), first_stream(&rt)?)?);
+    assert!(rt; steps_of_closing(rt.alloc(), first_stream(&rt)?)?);
+    Ok(())
+}
