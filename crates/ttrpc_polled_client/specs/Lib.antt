@@ -3,3 +3,4 @@ pub mod Held
 pub mod Making
 pub mod Steps
 pub mod Needs
+pub mod Opening

@@ -6,7 +6,7 @@ ghost use Rattle.ttrpc_proto.specs.declared.error.Error.{Error as AnError};
 ghost use Rattle.ttrpc_connection.specs.OneEnd.{failing};
 ghost use Rattle.ttrpc_connection.specs.declared.failure.Failure.{Failure as AFailure};
 ghost use Rattle.ttrpc_client.specs.Protocol.{Forgets};
-ghost use Rattle.ttrpc_client.specs.Streaming.{DropsReceiver, ReceivesOne};
+ghost use Rattle.ttrpc_client.specs.Streaming.{DropsReceiver, DropsSender, ReceivesOne};
 ghost use Rattle.ttrpc_polled_streams.specs.Polling.{Polls, answer_of};
 ghost use Rattle.ttrpc_polled_streams.specs.Steps.{is_new as is_unsent};
 ghost use Rattle.ttrpc_polled_client.specs.Steps.{IsSending, IsStep, Opens, is_new};
@@ -127,6 +127,13 @@ impl<O: OutboundTransform + Drop, I: InboundTransform + Drop> ClientHeld<O, I> {
     {
         self.core.drop_receiver(id);
         self.streams.wake_receiver(id);
+    }
+
+    /// Nobody sends on a stream any more.
+    pub fn drop_sender(&mut self, id: StreamId)
+        ensures { DropsSender self.old.core id self.new.core }
+    {
+        self.core.drop_sender(id);
     }
 
     /// Nobody is left who would call, or nobody who would answer: the connection fails, if it hasn't.

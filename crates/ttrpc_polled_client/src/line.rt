@@ -127,7 +127,7 @@ impl<O: OutboundTransform + Drop, I: InboundTransform + Drop> StreamLine for Cli
 
     fn drop_sender(&self, id: StreamId) {
         if let Some(mut guard) = lock(&self.shared.held) {
-            (&mut *guard).core.drop_sender(id);
+            (&mut *guard).drop_sender(id);
         }
     }
 }

@@ -1,5 +1,6 @@
 //! A stream that is opened, as a future.
-ghost use Rattle.std.specs.Prelude.{◌≡◌, Some};
+ghost use Rattle.std.specs.Prelude.{◌≡◌, None, Some};
+ghost use Rattle.ttrpc_polled_client.specs.Opening.{GivesStream, IsNewStream};
 ghost use Rattle.ttrpc_polled_client.specs.Steps.{Opens};
 
 use crate::line::ClientLine;
@@ -63,33 +64,53 @@ impl<O: OutboundTransform + Drop, I: InboundTransform + Drop> ClientNewStream<O,
             prepared: Some(prepared),
         }
     }
+
+    /// Makes the one core call, `new_stream`, on a core that is lent, and gives the stream. `LocalClosed` where it was opened
+    /// before.
+    pub fn step(&mut self, core: &mut ClientCore<O, I>) -> Result<StreamInner<ClientLine<O, I>>>
+        ensures step { IsNewStream O.OutboundTransform core.old self.old.prepared result core.new }
+        ensures over { self.new.prepared ≡ None }
+    {
+        let Some(prepared) = self.prepared.take() else {
+            return Err(Error::LocalClosed);
+        };
+        let opened = prepared.opening.step(self.alloc, core);
+        stream_of(self.alloc, prepared, opened)
+    }
+}
+
+/// The stream of this id, with its shares of the line, or why it isn't open.
+fn stream_of<O: OutboundTransform + Drop, I: InboundTransform + Drop>(
+    alloc: Global,
+    prepared: Prepared<O, I>,
+    opened: Result<StreamId>,
+) -> Result<StreamInner<ClientLine<O, I>>>
+    ensures { GivesStream prepared opened result }
+{
+    let Prepared {
+        opening: _,
+        sends,
+        receives,
+    } = prepared;
+    match opened {
+        Ok(id) => StreamInner::new(alloc, sends, receives, id),
+        Err(refusal) => Err(refusal),
+    }
 }
 
 impl<O: OutboundTransform + Drop, I: InboundTransform + Drop> Future for ClientNewStream<O, I> {
     type Output = Result<StreamInner<ClientLine<O, I>>>;
 
     fn poll(&mut self, cx: &mut Context<'_>) -> Poll<Result<StreamInner<ClientLine<O, I>>>> {
-        let Some(
-            Prepared {
-                opening,
-                sends,
-                receives,
-            },
-        ) = self.prepared.take()
-        else {
+        let Some(prepared) = self.prepared.take() else {
             return Poll::Ready(Err(Error::LocalClosed));
         };
-        match sends.open(&opening, cx) {
+        match prepared.sends.open(&prepared.opening, cx) {
             Poll::Pending => {
-                self.prepared = Some(Prepared {
-                    opening,
-                    sends,
-                    receives,
-                });
+                self.prepared = Some(prepared);
                 Poll::Pending
             }
-            Poll::Ready(Ok(id)) => Poll::Ready(StreamInner::new(self.alloc, sends, receives, id)),
-            Poll::Ready(Err(refusal)) => Poll::Ready(Err(refusal)),
+            Poll::Ready(opened) => Poll::Ready(stream_of(self.alloc, prepared, opened)),
         }
     }
 }
