@@ -2,9 +2,8 @@
 -- Source: this project's.
 use Rattle.std.specs.Prelude.{◌≡◌, ◌<◌, ◌^◌, ℕ, List, [], Bool, Option, Some, None, Result, IfSome, IfNone, is_ok, if◌then◌else◌}
 use Rattle.std.specs.Result.{result_ok}
-use Rattle.std.specs.declared.io.ErrorKind.{ErrorKind}
 use Rattle.ttrpc_proto.specs.declared.error.Error.{Error}
-use Rattle.ttrpc_proto.specs.declared.error.Error.TheVariants.{Nix}
+use Rattle.ttrpc_proto.specs.ErrorText.{IsSocket}
 use Rattle.ttrpc_secure.specs.declared.transform.InboundTransform.{Ghosts as InboundTransform}
 use Rattle.ttrpc_secure.specs.declared.transform.OutboundTransform.{Ghosts as OutboundTransform}
 use Rattle.ttrpc_connection.specs.declared.failure.Failure.{Failure}
@@ -33,9 +32,12 @@ pub record EndsInput {O I : Type 0} (old new : ClientCore O I) : Type 0 where
   pub ends : Ends old.connection new.connection
   pub same : new ≡ record old { connection = new.connection }
 
--- the core once a reader or a writer has failed by an error of this kind
-abbrev pub broken : {O I : Type 0} → ClientCore O I → ErrorKind → ClientCore O I
-broken core kind = record core { connection = failing core.connection (Told (Nix kind)) }
+-- A reader or a writer failed, and by that the connection: it tells `Socket`, with an open text, or `NoMemory` where memory for
+-- that was refused.
+pub record Breaks {O I : Type 0} (old new : ClientCore O I) : Type 0 where
+  pub error : Error
+  pub socket : IsSocket None error
+  pub failed : new ≡ record old { connection = failing old.connection (Told error) }
 
 -- So many bytes were lent, and reported as written.
 pub record LendsAndReports {O I : Type 0} (old : ClientCore O I) (before : List ℕ) (count : ℕ) (after : List ℕ) (new : ClientCore O I) : Type 0 where

@@ -16,10 +16,11 @@ use crate::opening::Opening;
 use futures::task::{Context, Poll, Source, Waker};
 use std::alloc::Global;
 use std::io::ErrorKind;
-use ttrpc_client::client_on::{broke_on, ended_on, lend_on, take_on, wrote_on};
+use ttrpc_client::client_on::{ended_on, lend_on, take_on, wrote_on};
 use ttrpc_client::{CallId, ClientCore, StreamId};
 use ttrpc_polled::{Held, Wakers};
 use ttrpc_polled_streams::{Sending, StreamWakers};
+use ttrpc_proto::error::causes::socket_of;
 use ttrpc_proto::{Error, Response, Result};
 use ttrpc_secure::{InboundTransform, OutboundTransform};
 use ttrpc_wire::Blob;
@@ -182,13 +183,13 @@ impl<O: OutboundTransform + Drop, I: InboundTransform + Drop> ClientHeld<O, I> {
 impl<O: OutboundTransform + Drop, I: InboundTransform + Drop> Held for ClientHeld<O, I> {
     ghost use Rattle.std.specs.Prelude.{◌≡◌, length, is_some};
     ghost use Rattle.ttrpc_connection.specs.OneEnd.{lendable};
-    ghost use Rattle.ttrpc_polled_client.specs.Held.{EndsInput, ExpiresAt, LendsAndReports, TakesPiece, TicksAndTells, broken};
+    ghost use Rattle.ttrpc_polled_client.specs.Held.{Breaks, EndsInput, ExpiresAt, LendsAndReports, TakesPiece, TicksAndTells};
 
     ghost takes = { λ old piece _ count new. TakesPiece O.OutboundTransform I.InboundTransform old.core piece count new.core };
 
     ghost ends = { λ old new. EndsInput old.core new.core };
 
-    ghost breaks = { λ old kind new. new.core ≡ broken old.core kind };
+    ghost breaks = { λ old _ new. Breaks old.core new.core };
 
     ghost lends = { λ old before count after new. LendsAndReports old.core before count after new.core };
 
@@ -218,7 +219,7 @@ impl<O: OutboundTransform + Drop, I: InboundTransform + Drop> Held for ClientHel
     }
 
     fn broke(&mut self, kind: ErrorKind) {
-        broke_on(&mut self.core, kind);
+        self.core.fail(socket_of(self.alloc, &kind));
         self.wake_all();
     }
 

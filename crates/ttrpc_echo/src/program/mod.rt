@@ -19,7 +19,7 @@ pub use self::calls::{call_at, call_own};
 pub use self::faults::{FaultKeeper, Faults};
 pub use self::outcome::{Outcome, tell};
 pub use self::service::{Echo, EchoServer, System, start_server};
-pub use self::serving::tell_address;
+pub use self::serving::{WatchedServer, begin, tell_address, tell_next};
 use crate::answer;
 use crate::program::calls::{call, call_own_with};
 use crate::program::serving::serve;

@@ -6,11 +6,11 @@ use crate::program::outcome::Outcome;
 use crate::program::service::{EchoServer, System, start_server};
 use std::alloc::Global;
 use std::io::{self, Write};
-use std::sync::Arc;
+use std::sync::{Arc, Wait};
 use ttrpc_proto::{Error, Result};
 
 /// A server whose faults are told.
-type WatchedServer<R> = EchoServer<R, FaultKeeper<R>>;
+pub type WatchedServer<R> = EchoServer<R, FaultKeeper<R>>;
 
 /// Serves at this address until the program is killed. It tells on `errors` where it listens, and then each of its faults.
 pub fn serve<R: System + 'static, X: Write>(
@@ -26,16 +26,20 @@ pub fn serve<R: System + 'static, X: Write>(
         Err(error) => return Outcome::Failed(error),
     };
     for _ in waiter.forever() {
-        let fault = faults.next(&waiter);
-        // Where nobody reads what it tells, it serves all the same.
-        let _ = writeln!(errors, "ttrpc-demo: {fault}");
+        tell_next(&waiter, &*faults, errors);
     }
     drop(server);
     unreachable!()
 }
 
-/// The server, listening, its faults, and what its process waits by.
-fn begin<R: System + 'static, X: Write>(
+/// Waits for the next of these faults, and tells it in a line. Where nobody reads that, the server serves all the same.
+pub fn tell_next<R: Wait, X: Write>(rt: &R, faults: &Faults, errors: &mut X) {
+    let fault = faults.next(rt);
+    let _ = writeln!(errors, "ttrpc-demo: {fault}");
+}
+
+/// The server, listening, its faults, and what its process waits by. It has told on `errors` where it listens.
+pub fn begin<R: System + 'static, X: Write>(
     rt: R,
     address: &str,
     nodelay: bool,

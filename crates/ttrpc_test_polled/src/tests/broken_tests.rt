@@ -241,9 +241,9 @@ impl AsyncWrite for Failing {
 /// A request of 38 bytes, whose outcome is the writer's failure, and a later request, which answers the same.
 const FAILED: &[Act] = &[
     Act::Calls("Echo", b"\x01\x02\x03", 10_000_000_000),
-    Act::Ends(0, Err("Nix error: broken pipe")),
+    Act::Ends(0, Err("socket err: broken pipe")),
     Act::Calls("Echo", b"", 0),
-    Act::Ends(1, Err("Nix error: broken pipe")),
+    Act::Ends(1, Err("socket err: broken pipe")),
 ];
 
 /// Does these acts over a writer that fails behind so many bytes.

@@ -7,6 +7,7 @@ use std::test::Fail;
 use std::time::Duration;
 use std::{fs, thread};
 use ttrpc::sync::{NoWatch, Watch};
+use ttrpc_echo::program::{begin, tell_next};
 use ttrpc_echo::{EchoServer, FaultKeeper, Faults, start_server, tell_address};
 use ttrpc_proto::Error;
 
@@ -87,6 +88,29 @@ fn a_path_is_told(rt: HostRuntime) -> Tested {
     fs::remove_file(&rt, "told.sock")?;
     Ok(())
 }
+
+/// What is told of a server that begins at an address, and then of a fault.
+fn told_of<S: Tester + 'static>(rt: &S, address: &str) -> Result<Vec<u8>, Fail> {
+    let mut errors = Vec::new(rt.alloc());
+    let (waiter, faults, server) = begin(rt.clone()?, address, true, &mut errors)?;
+    FaultKeeper::new(rt, &faults)?.accept_failed(&Error::Eof);
+    tell_next(&waiter, &*faults, &mut errors);
+    server.shutdown();
+    Ok(errors)
+}
+
+/// Who serves tells first where, and then what went wrong.
+#[test]
+fn a_server_tells_its_address_and_its_faults(rt: HostRuntime) -> Tested {
+    let _ = fs::remove_file(&rt, "begun.sock");
+    let told = told_of(&rt, "unix://begun.sock")?;
+    assert_eq!(rt; told.as_slice(), TOLD);
+    fs::remove_file(&rt, "begun.sock")?;
+    Ok(())
+}
+
+const TOLD: &[u8] =
+    b"ttrpc-demo: listening at unix://begun.sock\nttrpc-demo: no connection was accepted: eof\n";
 
 /// The next fault that is kept has this text.
 fn next_is<X: Wait + Abort>(rt: &X, faults: &Faults, text: &str) {

@@ -1,4 +1,5 @@
-//! Items by their paths below the facade: values that print, count and compare, and a server that is watched and waited for.
+//! Items by their paths below the facade: values that print, count and compare, calls of what stands below the ends, and a
+//! server that is watched and waited for.
 use std::alloc::{AllocError, Global};
 use std::collections::BTreeMap;
 use std::fmt::Debug;
@@ -11,10 +12,12 @@ use std::sync::Arc;
 use std::sync::atomic::{AtomicU64, Ordering};
 use std::test::Fail;
 use ttrpc::context::{Context, with_timeout};
-use ttrpc::proto::{Blob, Codec, Sequence, Text, TryClone};
-use ttrpc::security_extension::{Plain, plain_context};
+use ttrpc::frame::{Outgoing, Queued};
+use ttrpc::proto::{Blob, Codec, GenMessage, MessageHeader, Sequence, Text, TryClone};
+use ttrpc::security_extension::{HookOutput, Plain, hook_result, plain_context};
 use ttrpc::sync::{Host, NoHook, Runtime, Stopper, Watch};
 use ttrpc::transport::PipeListener;
+use ttrpc::wire::{int32_to_varint, int64_to_varint, varint_to_int32, varint_to_int64};
 use ttrpc::{
     Client, Error, HookError, MethodHandler, Request, Result, Server, TtrpcContext, client_request,
     request_handler,
@@ -71,6 +74,55 @@ fn values_count_and_compare(rt: HostRuntime) -> Tested {
     Ok(())
 }
 
+/// Whether -1 is written in ten bytes, as the encoding guide says, and read again.
+fn are_signed() -> bool {
+    let (small, large) = (int32_to_varint(-1), int64_to_varint(-1));
+    let is_same = small == u64::MAX && large == u64::MAX;
+    is_same && varint_to_int32(small) == -1 && varint_to_int64(large) == -1
+}
+
+/// Whether a hook that answers at 30 seconds is late, and one before that isn't.
+fn hooks_have_their_time(alloc: Global) -> bool {
+    let late: std::result::Result<HookOutput<Plain, Plain>, HookError> = hook_result(
+        0,
+        30_000_000_000,
+        Ok(HookOutput::of_halves(alloc, Plain {}, Plain {})),
+    );
+    let timely: std::result::Result<HookOutput<Plain, Plain>, HookError> = hook_result(
+        0,
+        29_999_999_999,
+        Ok(HookOutput::of_halves(alloc, Plain {}, Plain {})),
+    );
+    matches!(late, Err(HookError::Timeout)) && timely.is_ok()
+}
+
+/// A frame of one byte.
+const FRAME: &[u8] = b"\0\0\0\x01\0\0\0\x03\x02\0\x2a";
+
+/// Whether a frame that is queued is lent whole.
+fn is_lent(alloc: Global) -> std::result::Result<bool, Fail> {
+    let mut queue = Outgoing::new(alloc);
+    queue.place(Queued {
+        message: GenMessage {
+            header: MessageHeader::new_response(3, 1),
+            payload: Blob::from_slice(alloc, b"\x2a")?,
+        },
+        ticket: None,
+        is_unary_request: false,
+        owner: 3,
+    })?;
+    let mut buffer = [0u8; 16];
+    let count = queue.lend(&mut buffer);
+    Ok(count == FRAME.len() && buffer.starts_with(FRAME))
+}
+
+#[test]
+fn parts_are_called_by_their_paths(rt: HostRuntime) -> Tested {
+    let alloc = rt.alloc();
+    assert!(rt; are_signed() && hooks_have_their_time(alloc) && is_lent(alloc)?);
+    Ok(())
+}
+
 /// What is told of a server's faults: how many handlers failed.
 #[derive(Drop)]
 struct Failures {
@@ -90,7 +142,7 @@ struct Items {}
 impl Items {
     /// Gives what the context prints.
     fn print<R: Host>(&self, ctx: &TtrpcContext<R, Plain, Plain>, _asked: Blob) -> Result<Blob> {
-        let printed = format!(in ctx.alloc(); "{ctx:?}")?;
+        let printed = format!(in ctx.rt().alloc(); "{ctx:?}")?;
         Ok(Blob::from_vec(printed.into_bytes()))
     }
 }

@@ -35,7 +35,8 @@ pub mod values {
 pub mod requests {
     pub use ttrpc::context::{Context, from_pb, to_pb, with_duration, with_metadata, with_timeout};
     pub use ttrpc::frame::{
-        FrameDecoder, Incoming, Outgoing, Queued, Sink, Source, read_message, write_message,
+        FrameDecoder, Incoming, Outgoing, PollRead, PollWrite, Queued, Sink, Source, read_message,
+        write_message,
     };
 }
 
