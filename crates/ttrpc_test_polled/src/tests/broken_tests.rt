@@ -184,9 +184,19 @@ fn streams_receive_beside_bytes_that_are_never_read(rt: HostRuntime) -> Result<(
 
 /// A reader to which nothing comes.
 #[derive(Drop)]
-struct Silent {
+pub struct Silent {
     source: Source,
     slot: Option<Waker>,
+}
+
+impl Silent {
+    /// Nobody has asked it yet.
+    pub fn new() -> Silent {
+        Silent {
+            source: Source::new(),
+            slot: None,
+        }
+    }
 }
 
 impl AsyncRead for Silent {
@@ -249,11 +259,7 @@ const FAILED: &[Act] = &[
 /// Does these acts over a writer that fails behind so many bytes.
 fn run_failing<R: System>(rt: &R, left: usize, acts: &[Act]) -> Result<Option<Fault>, Fail> {
     let mut runtime = LocalRuntime::new(rt)?;
-    let reader = Silent {
-        source: Source::new(),
-        slot: None,
-    };
-    let (client, connection) = client_over(rt, runtime.handle(), reader, Failing { left })?;
+    let (client, connection) = client_over(rt, runtime.handle(), Silent::new(), Failing { left })?;
     let parts = Parts::lasting(rt.alloc(), Script::new(client, acts), connection)?;
     Ok(runtime.block_on(rt, parts)?)
 }

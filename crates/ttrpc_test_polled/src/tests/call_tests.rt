@@ -1,9 +1,13 @@
 use crate::tests::peer::Manners;
-use crate::tests::sites::{Site, System, done, make_site, request};
+use crate::tests::sites::{Site, System, Wired, done, make_site, make_wired, request};
+use futures::Future;
 use futures::future::{Either, join, select};
+use futures::task::{Context, Poll};
 use std::process::Abort;
 use std::test::Fail;
 use std::time::{Duration, Instant};
+use tokio::runtime::LocalRuntime;
+use ttrpc_polled::Timed;
 use ttrpc_polled_client::{Client, ClientRequest};
 use ttrpc_proto::{Error, Response, Result as RpcResult};
 use ttrpc_secure::Plain;
@@ -162,4 +166,45 @@ fn a_call_ends_whose_connection_is_dropped(rt: HostRuntime) -> Result<(), Fail> 
     let outcome = dropped_outcome(&rt, site, call)?;
     assert!(rt; matches!(outcome, Err(Error::LocalClosed)));
     Ok(())
+}
+
+/// A client that is dropped as this is polled.
+#[derive(Drop)]
+struct Leaves<R: Timed> {
+    client: Option<Client<R, Plain, Plain>>,
+}
+
+impl<R: Timed> Future for Leaves<R> {
+    type Output = ();
+
+    fn poll(&mut self, _cx: &mut Context<'_>) -> Poll<()> {
+        self.client = None;
+        Poll::Ready(())
+    }
+}
+
+/// A connection is polled, which waits, and its client is dropped, while both far ends stay. The connection is woken, and ends.
+fn end_behind_the_client<R: System>(
+    rt: &R,
+    runtime: &mut LocalRuntime,
+    wired: Wired<R>,
+) -> Result<(), Fail> {
+    let Wired {
+        client,
+        connection,
+        reader: _reader,
+        writer: _writer,
+    } = wired;
+    let leaves = Leaves {
+        client: Some(client),
+    };
+    runtime.block_on(rt, join(connection, leaves))?;
+    Ok(())
+}
+
+#[test]
+fn a_connection_ends_behind_its_client(rt: HostRuntime) -> Result<(), Fail> {
+    let mut runtime = LocalRuntime::new(&rt)?;
+    let wired = make_wired(&rt, runtime.handle(), 100)?;
+    end_behind_the_client(&rt, &mut runtime, wired)
 }

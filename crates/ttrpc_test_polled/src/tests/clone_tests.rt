@@ -1,11 +1,14 @@
-//! Clones of a client and of a sender, behind whose original they go on.
+//! Clones of a client and of a sender, behind whose original they go on; and what is dropped of a stream.
+use crate::tests::lone::Lone;
 use crate::tests::peer::Manners;
 use crate::tests::sites::{Ends, Site, System, done, make_site, request};
+use futures::future::poll_immediate;
 use std::process::Abort;
+use std::sync::Arc;
 use std::test::Fail;
 use tokio::runtime::LocalRuntime;
 use ttrpc_polled_client::{Client, ClientLine};
-use ttrpc_polled_streams::{StreamReceiver, StreamSender};
+use ttrpc_polled_streams::{StreamInner, StreamReceiver, StreamSender};
 use ttrpc_proto::{Response, Result as RpcResult};
 use ttrpc_secure::Plain;
 use ttrpc_wire::Blob;
@@ -92,5 +95,71 @@ fn a_clone_sends_behind_its_original(rt: HostRuntime) -> Result<(), Fail> {
     let (item, last) = clone_sends(&rt)?;
     assert_eq!(rt; item?.as_slice(), b"a".as_slice());
     assert!(rt; last.is_ok());
+    Ok(())
+}
+
+#[test]
+fn a_dropped_receiver_tells_its_line_once(rt: HostRuntime) -> Result<(), Fail> {
+    let line = Arc::new(rt.alloc(), Lone::new(7u32))?;
+    let receiver = StreamReceiver::new(rt.alloc(), Arc::try_clone(&line)?, 7);
+    assert_eq!(rt; line.left(), (0, 0));
+    drop(receiver);
+    assert_eq!(rt; line.left(), (1, 0));
+    Ok(())
+}
+
+#[test]
+fn only_the_last_sender_tells_its_line(rt: HostRuntime) -> Result<(), Fail> {
+    let line = Arc::new(rt.alloc(), Lone::new(7u32))?;
+    let sender = StreamSender::new(rt.alloc(), Arc::try_clone(&line)?, 7)?;
+    let clone = sender.try_clone()?;
+    drop(sender);
+    assert_eq!(rt; line.left(), (0, 0));
+    drop(clone);
+    assert_eq!(rt; line.left(), (0, 1));
+    Ok(())
+}
+
+/// Whether an item waits to be sent whose call is polled once, and dropped then.
+fn waits_and_is_dropped<R: System>(
+    rt: &R,
+    runtime: &mut LocalRuntime,
+    stream: &StreamInner<PlainLine>,
+) -> Result<bool, Fail> {
+    let sending = stream.send(Vec::from_slice(rt.alloc(), b"a")?);
+    Ok(runtime.block_on(rt, poll_immediate(sending))?.is_none())
+}
+
+/// What comes back first of an item whose call is dropped, and of one behind it.
+fn first_of_two<R: System>(
+    rt: &R,
+    runtime: &mut LocalRuntime,
+    ends: Ends<R>,
+    mut stream: StreamInner<PlainLine>,
+) -> Result<(bool, RpcResult<Blob>), Fail> {
+    let is_dropped = waits_and_is_dropped(rt, runtime, &stream)?;
+    let (outcome, ends) = sent(rt, runtime, ends, stream.sender(), b"b")?;
+    outcome?;
+    let (item, _) = done(rt, runtime, ends, stream.recv())?;
+    Ok((is_dropped, item))
+}
+
+/// The same of the first stream of a client.
+fn first_echo<R: System>(rt: &R) -> Result<(bool, RpcResult<Blob>), Fail> {
+    let Site {
+        mut runtime,
+        client,
+        ends,
+    } = make_site(rt, 4096, Manners::Echoes)?;
+    let opening = client.new_stream(request(rt.alloc(), "Chat", b"", 0)?, true, true)?;
+    let (stream, ends) = done(rt, &mut runtime, ends, opening)?;
+    first_of_two(rt, &mut runtime, ends, stream?)
+}
+
+#[test]
+fn an_item_arrives_whose_call_is_dropped(rt: HostRuntime) -> Result<(), Fail> {
+    let (is_dropped, item) = first_echo(&rt)?;
+    assert!(rt; is_dropped);
+    assert_eq!(rt; item?.as_slice(), b"a".as_slice());
     Ok(())
 }

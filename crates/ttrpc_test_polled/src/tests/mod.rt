@@ -1,9 +1,11 @@
+mod bounds_tests;
 mod broken_tests;
 mod call_tests;
 mod clone_tests;
 mod conversation_tests;
 mod frames;
 mod lent_tests;
+mod lone;
 mod peer;
 mod recorded_tests;
 mod sites;

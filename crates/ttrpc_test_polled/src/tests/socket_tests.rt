@@ -22,16 +22,16 @@ use ttrpc_secure::{ConnectionDataExt, Plain};
 
 /// A socket that says something, and then hears something. Ready: whether it did.
 #[derive(Drop)]
-struct Talk {
-    socket: Socket,
+struct Talk<'a> {
+    socket: &'a mut Socket,
     says: &'static [u8],
     is_flushed: bool,
     hears: &'static [u8],
 }
 
-impl Talk {
+impl<'a> Talk<'a> {
     /// Begins a talk.
-    fn new(socket: Socket, says: &'static [u8], hears: &'static [u8]) -> Talk {
+    fn new(socket: &'a mut Socket, says: &'static [u8], hears: &'static [u8]) -> Talk<'a> {
         Talk {
             socket,
             says,
@@ -94,7 +94,7 @@ impl Talk {
     }
 }
 
-impl Future for Talk {
+impl Future for Talk<'_> {
     type Output = bool;
 
     fn poll(&mut self, cx: &mut Context<'_>) -> Poll<bool> {
@@ -160,13 +160,53 @@ fn connection<R: System>(
     Ok((runtime, near, far))
 }
 
-#[test]
-fn sockets_talk_by_polls(rt: HostRuntime) -> Result<(), Fail> {
-    let (mut runtime, near, far) = connection(&rt, true, true)?;
+/// Whether both ends say and hear what they are to.
+fn both_talk<R: System>(
+    rt: &R,
+    runtime: &mut LocalRuntime,
+    near: &mut Socket,
+    far: &mut Socket,
+) -> Result<bool, Fail> {
     let asks = Talk::new(near, b"asked", b"told");
     let tells = Talk::new(far, b"told", b"asked");
-    let talked = runtime.block_on(&rt, join(asks, tells))?;
-    assert_eq!(rt; talked, (true, true));
+    let (asked, told) = runtime.block_on(rt, join(asks, tells))?;
+    Ok(asked && told)
+}
+
+/// What is left to be read from a socket. Ready: whether that is nothing.
+#[derive(Drop)]
+struct Rest {
+    socket: Socket,
+}
+
+impl Future for Rest {
+    type Output = bool;
+
+    fn poll(&mut self, cx: &mut Context<'_>) -> Poll<bool> {
+        let mut heard = [0u8; 1];
+        match self.socket.poll_read(cx, &mut heard) {
+            Poll::Pending => Poll::Pending,
+            Poll::Ready(Ok(count)) => Poll::Ready(count == 0),
+            Poll::Ready(Err(_)) => Poll::Ready(false),
+        }
+    }
+}
+
+/// Whether both ends talk, and the one that stays hears nothing more behind that, as the other is dropped.
+fn talk_to_the_end<R: System>(rt: &R, near_stays: bool) -> Result<bool, Fail> {
+    let (mut runtime, mut near, mut far) = connection(rt, true, true)?;
+    let talked = both_talk(rt, &mut runtime, &mut near, &mut far)?;
+    let (stays, ends) = if near_stays { (near, far) } else { (far, near) };
+    drop(ends);
+    let is_over = runtime.block_on(rt, Rest { socket: stays })?;
+    Ok(talked && is_over)
+}
+
+#[test]
+fn sockets_talk_by_polls_to_the_end(rt: HostRuntime) -> Result<(), Fail> {
+    for near_stays in [true, false] {
+        assert!(rt; talk_to_the_end(&rt, near_stays)?, "{near_stays}");
+    }
     Ok(())
 }
 

@@ -1,10 +1,13 @@
 //! The states of a client's calls and streams, stepped by hand on a core that is lent, beside the core of a server.
+use crate::tests::lone::Lone;
 use std::alloc::Global;
+use std::sync::Arc;
 use ttrpc_bench_polled::acts::{Outcome, request};
 use ttrpc_bench_polled::registry::registry;
 use ttrpc_client::{CallId, ClientCore, ClientKind, StreamId};
+use ttrpc_connection::StreamCore;
 use ttrpc_polled_client::{Asked, Opening};
-use ttrpc_polled_streams::Sending;
+use ttrpc_polled_streams::{Sending, StreamReceiver};
 use ttrpc_proto::{Error, Response, ResponseInit, Result, Status};
 use ttrpc_secure::{ConnectionContext, Plain};
 use ttrpc_server::{JobId, Rules, ServerCore};
@@ -164,7 +167,7 @@ impl Bench {
         let Some(id) = self.streams.get(number) else {
             return Ok(false);
         };
-        match self.client.recv(self.alloc, *id) {
+        match receipt(self.alloc, &mut self.client, *id)? {
             Some(given) => came_to(self.alloc, given, expected),
             None => Ok(expected.is_none()),
         }
@@ -184,7 +187,7 @@ impl Bench {
         let Some(id) = self.jobs.get(number) else {
             return Ok(false);
         };
-        match self.server.recv(self.alloc, *id) {
+        match receipt(self.alloc, &mut self.server, *id)? {
             Some(given) => came_to(self.alloc, given, expected),
             None => Ok(expected.is_none()),
         }
@@ -260,6 +263,13 @@ impl Bench {
         }
         Ok(passed.as_slice() == bytes)
     }
+}
+
+/// What a receipt from this stream comes to on a core that is lent.
+fn receipt<C: StreamCore>(alloc: Global, core: &mut C, id: C::Id) -> Result<Option<Result<Blob>>> {
+    let line = Arc::new(alloc, Lone::new(id))?;
+    let mut receiver = StreamReceiver::new(alloc, line, id);
+    Ok(receiver.recv().step(core))
 }
 
 /// What was given, but that memory was refused, which ends the test: what follows is then another story.

@@ -1,0 +1,240 @@
+//! How much a connection keeps at most, and how much it moves at once.
+ghost use Rattle.std.specs.Prelude.{⊤};
+
+use crate::tests::broken_tests::Silent;
+use crate::tests::sites::{System, client_over, request};
+use futures::future::{join, poll_immediate};
+use futures::task::{Context, Poll, Waker};
+use std::alloc::Global;
+use std::cell::Cell;
+use std::io::{self, ErrorKind};
+use std::process::Abort;
+use std::sync::Arc;
+use std::test::Fail;
+use tokio::io::{AsyncRead, AsyncWrite};
+use tokio::runtime::LocalRuntime;
+use ttrpc_polled::{Held, OUTLET_LIMIT, Outlet};
+use ttrpc_polled_client::{Client, ClientConnection};
+use ttrpc_secure::Plain;
+
+/// How often a writer was offered something, and how many bytes in all.
+type Offered = Arc<Cell<(u32, usize)>, Global>;
+
+/// A writer that takes all that it is offered.
+#[derive(Drop)]
+struct Taking {
+    offered: Offered,
+}
+
+impl AsyncWrite for Taking {
+    ghost writes = { λ _ _ _. ⊤ };
+
+    ghost writes_nothing = { λ _. tt };
+
+    ghost writes_in_order = { λ _ _ _ _ _ _ _. tt };
+
+    fn poll_write(&mut self, _cx: &mut Context<'_>, buf: &[u8]) -> Poll<io::Result<usize>> {
+        let (times, bytes) = self.offered.get();
+        let bytes = bytes.saturating_add(buf.len());
+        self.offered.set((times.saturating_add(1), bytes));
+        Poll::Ready(Ok(buf.len()))
+    }
+
+    fn poll_flush(&mut self, _cx: &mut Context<'_>) -> Poll<io::Result<()>> {
+        Poll::Ready(Ok(()))
+    }
+
+    fn poll_shutdown(&mut self, _cx: &mut Context<'_>) -> Poll<io::Result<()>> {
+        Poll::Ready(Ok(()))
+    }
+}
+
+/// Nothing was offered yet.
+fn nothing_offered(alloc: Global) -> Result<Offered, Fail> {
+    Ok(Arc::new(alloc, Cell::new((0, 0)))?)
+}
+
+/// The length of each frame that waits.
+const FRAME: usize = 4096;
+
+/// Frames that wait to be lent.
+#[derive(Drop)]
+struct Frames {
+    /// The bytes of all of them, and those of the first.
+    left: usize,
+    first: usize,
+    driver: Option<Waker>,
+}
+
+impl Held for Frames {
+    ghost use Rattle.std.specs.Prelude.{false};
+
+    ghost takes = { λ _ _ _ _ _. ⊤ };
+
+    ghost ends = { λ _ _. ⊤ };
+
+    ghost breaks = { λ _ _ _. ⊤ };
+
+    ghost lends = { λ _ _ _ _ _. ⊤ };
+
+    ghost lendable = { λ held. held.first };
+
+    ghost ticks = { λ _ _ _. ⊤ };
+
+    ghost expires = { λ _ _. ⊤ };
+
+    ghost failed = { λ _. false };
+
+    ghost senders = { λ _. 0 };
+
+    fn take(&mut self, _alloc: Global, _piece: &[u8], _now: u64) -> Option<usize> {
+        None
+    }
+
+    fn ended(&mut self) {}
+
+    fn broke(&mut self, _kind: ErrorKind) {}
+
+    fn lendable(&self) -> usize {
+        self.first
+    }
+
+    fn lend(&mut self, buffer: &mut [u8]) -> usize {
+        let count = self.first.min(buffer.len());
+        self.left = self.left.saturating_sub(count);
+        self.first = FRAME.min(self.left);
+        count
+    }
+
+    fn tick(&mut self, _now: u64) {}
+
+    fn next_deadline(&self) -> Option<u64> {
+        None
+    }
+
+    fn has_failed(&self) -> bool {
+        false
+    }
+
+    fn senders(&self) -> usize {
+        0
+    }
+
+    fn driver(&mut self) -> &mut Option<Waker> {
+        &mut self.driver
+    }
+}
+
+/// How many bytes are kept, and how many are left to be lent, once an outlet has gathered from so many.
+fn gathered(alloc: Global, length: usize) -> Result<(usize, usize), Fail> {
+    let offered = nothing_offered(alloc)?;
+    let mut outlet = Outlet::new(alloc, Taking { offered })?;
+    let mut held = Frames {
+        left: length,
+        first: FRAME.min(length),
+        driver: None,
+    };
+    outlet.gather(&mut held);
+    Ok((outlet.kept.bytes().len(), held.left))
+}
+
+#[test]
+fn an_outlet_keeps_no_frame_behind_its_limit(rt: HostRuntime) -> Result<(), Fail> {
+    let (kept, left) = gathered(rt.alloc(), 409_600)?;
+    assert!(rt; kept < OUTLET_LIMIT + FRAME, "{kept}");
+    assert_eq!(rt; kept.saturating_add(left), 409_600);
+    Ok(())
+}
+
+/// A client that writes to one who takes all, and to whom nothing comes.
+type Taken<R> = (
+    Client<R, Plain, Plain>,
+    ClientConnection<R, Silent, Taking, Plain, Plain>,
+);
+
+/// A call of 100,000 bytes and its connection are each polled once.
+fn begin_long_call<R: System>(
+    rt: &R,
+    runtime: &mut LocalRuntime,
+    taken: Taken<R>,
+) -> Result<(), Fail> {
+    let (client, connection) = taken;
+    let long = vec![in rt.alloc(); 7; 100_000]?;
+    let call = client.request(request(rt.alloc(), "Echo", long.as_slice(), 0)?)?;
+    runtime.block_on(rt, poll_immediate(join(call, connection)))?;
+    Ok(())
+}
+
+/// How often a writer is offered something of such a call, and how many bytes in all.
+fn offers_of_a_long_call<R: System>(rt: &R) -> Result<(u32, usize), Fail> {
+    let mut runtime = LocalRuntime::new(rt)?;
+    let offered = nothing_offered(rt.alloc())?;
+    let writer = Taking {
+        offered: Arc::try_clone(&offered)?,
+    };
+    let taken = client_over(rt, runtime.handle(), Silent::new(), writer)?;
+    begin_long_call(rt, &mut runtime, taken)?;
+    Ok(offered.get())
+}
+
+/// The frame has a header of 10 bytes, and a request of 11 for the service, 6 for the method, 4 before the payload, and that.
+#[test]
+fn a_long_frame_leaves_by_one_write(rt: HostRuntime) -> Result<(), Fail> {
+    assert_eq!(rt; offers_of_a_long_call(&rt)?, (1, 100_031));
+    Ok(())
+}
+
+/// A frame of a stream that a client has not opened.
+const STRAY: &[u8; 11] = b"\0\0\0\x01\0\0\0\x07\x03\0\x7a";
+
+/// A reader that gives one such frame a read, so many in all, and then ends.
+#[derive(Drop)]
+struct Strays {
+    left: Arc<Cell<u32>, Global>,
+}
+
+impl AsyncRead for Strays {
+    ghost reads = { λ _ _ _. ⊤ };
+
+    ghost is_at_end = { λ _. ⊤ };
+
+    ghost reads_nothing = { λ _. tt };
+
+    ghost reads_in_order = { λ _ _ _ _ _ _ _. tt };
+
+    fn poll_read(&mut self, _cx: &mut Context<'_>, buf: &mut [u8]) -> Poll<io::Result<usize>> {
+        let left = self.left.get();
+        let Some(front) = buf.get_mut(..STRAY.len()) else {
+            return Poll::Ready(Ok(0));
+        };
+        if left == 0 {
+            return Poll::Ready(Ok(0));
+        }
+        front.copy_from_slice(STRAY);
+        self.left.set(left - 1);
+        Poll::Ready(Ok(STRAY.len()))
+    }
+}
+
+/// Whether a connection is pending that is polled once, and how many frames its reader has left of so many.
+fn left_by_one_poll<R: System>(rt: &R, frames: u32) -> Result<(bool, u32), Fail> {
+    let mut runtime = LocalRuntime::new(rt)?;
+    let left = Arc::new(rt.alloc(), Cell::new(frames))?;
+    let reader = Strays {
+        left: Arc::try_clone(&left)?,
+    };
+    let writer = Taking {
+        offered: nothing_offered(rt.alloc())?,
+    };
+    let (_client, connection) = client_over(rt, runtime.handle(), reader, writer)?;
+    let polled = runtime.block_on(rt, poll_immediate(connection))?;
+    Ok((polled.is_none(), left.get()))
+}
+
+#[test]
+fn one_poll_leaves_frames_for_the_next(rt: HostRuntime) -> Result<(), Fail> {
+    let (is_pending, left) = left_by_one_poll(&rt, 10_000)?;
+    assert!(rt; is_pending);
+    assert!(rt; 0 < left && left < 10_000, "{left}");
+    Ok(())
+}
