@@ -1,5 +1,5 @@
 //! The word `call`, beside a server of this process.
-use crate::tests::echo::runs::{ROOM, Ran, Tester, add_word, run_words, words_of};
+use crate::tests::echo::runs::{ROOM, Ran, Sockets, Tester, add_word, run_words, words_of};
 use std::alloc::Global;
 use std::process::Abort;
 use std::sync::{Arc, Wait};
@@ -102,6 +102,7 @@ fn told_of<S: Tester + 'static>(rt: &S, address: &str) -> Result<Vec<u8>, Fail> 
 /// Who serves tells first where, and then what went wrong.
 #[test]
 fn a_server_tells_its_address_and_its_faults(rt: HostRuntime) -> Tested {
+    let _sockets: Sockets = None;
     let _ = fs::remove_file(&rt, "begun.sock");
     let told = told_of(&rt, "unix://begun.sock")?;
     assert_eq!(rt; told.as_slice(), TOLD);

@@ -191,22 +191,29 @@ fn watched<R: Machine>(
     )
 }
 
+/// Adds a handler, which stops its server where it has a stopper.
+fn add<R: Host>(
+    handlers: &mut BTreeMap<String, Prints<R>>,
+    alloc: Global,
+    path: &str,
+    stopper: Option<Stopper<R>>,
+) -> Tested {
+    let handler = Prints {
+        service: Items {},
+        stopper,
+    };
+    handlers.insert(String::from_str(alloc, path)?, handler)?;
+    Ok(())
+}
+
 /// The handlers: one that prints, and one that stops its server.
 fn handlers<R: Host>(
     alloc: Global,
     stopper: Stopper<R>,
 ) -> std::result::Result<BTreeMap<String, Prints<R>>, Fail> {
     let mut handlers = BTreeMap::new(alloc);
-    for (path, stopper) in [
-        ("/test.Items/Print", None),
-        ("/test.Items/Stop", Some(stopper)),
-    ] {
-        let handler = Prints {
-            service: Items {},
-            stopper,
-        };
-        handlers.insert(String::from_str(alloc, path)?, handler)?;
-    }
+    add(&mut handlers, alloc, "/test.Items/Print", None)?;
+    add(&mut handlers, alloc, "/test.Items/Stop", Some(stopper))?;
     Ok(handlers)
 }
 
