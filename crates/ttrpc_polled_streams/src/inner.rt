@@ -72,7 +72,9 @@ impl<L: StreamLine> StreamInner<L> {
     }
 
     /// Receives the next item, or the reason why there is none.
-    pub fn recv(&mut self) -> StreamReceiverRecv<'_, L> {
+    pub fn recv(&mut self) -> StreamReceiverRecv<'_, L>
+        ensures { result.receiver.now ≡ self.old.receiver }
+    {
         self.receiver.recv()
     }
 

@@ -95,7 +95,9 @@ where
     P::E: Display + Drop,
 {
     /// Receives the next message, or the reason why there is none.
-    pub fn recv(&mut self) -> CSReceiverRecv<'_, P, L> {
+    pub fn recv(&mut self) -> CSReceiverRecv<'_, P, L>
+        ensures { result.receiver.now ≡ self.old }
+    {
         CSReceiverRecv { receiver: self }
     }
 
@@ -236,7 +238,9 @@ where
     }
 
     /// Receives the next message: none where the other side closed. An error is another reason why there is none.
-    pub fn recv(&mut self) -> SSReceiverRecv<'_, Q, L> {
+    pub fn recv(&mut self) -> SSReceiverRecv<'_, Q, L>
+        ensures { result.receiver.now ≡ self.old }
+    {
         SSReceiverRecv { receiver: self }
     }
 

@@ -35,7 +35,9 @@ impl<L: StreamLine> StreamReceiver<L> {
 
     /// Receives the next item. Ready once there is one, or a reason why there is none: `Eof` where the other side closed, and
     /// `RemoteClosed` behind the last.
-    pub fn recv(&mut self) -> StreamReceiverRecv<'_, L> {
+    pub fn recv(&mut self) -> StreamReceiverRecv<'_, L>
+        ensures { result.receiver.now ≡ self.old }
+    {
         StreamReceiverRecv { receiver: self }
     }
 

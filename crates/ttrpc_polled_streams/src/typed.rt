@@ -77,7 +77,9 @@ where
     }
 
     /// Receives the next message, or the reason why there is none.
-    pub fn recv(&mut self) -> CSReceiverRecv<'_, P, L> {
+    pub fn recv(&mut self) -> CSReceiverRecv<'_, P, L>
+        ensures { result.receiver.now ≡ self.old.rx }
+    {
         self.rx.recv()
     }
 }
@@ -128,7 +130,9 @@ where
     }
 
     /// Receives the next message: none where the other side closed. An error is another reason why there is none.
-    pub fn recv(&mut self) -> SSReceiverRecv<'_, Q, L> {
+    pub fn recv(&mut self) -> SSReceiverRecv<'_, Q, L>
+        ensures { result.receiver.now ≡ self.old.rx }
+    {
         self.rx.recv()
     }
 }
@@ -163,7 +167,7 @@ where
 
     /// Says that no more messages are sent, and receives the one that answers them.
     pub fn close_and_recv(&mut self) -> ClientStreamSenderCloseAndRecv<'_, Q, P, L>
-        ensures { result.at ≡ Closing.Closes Sending.Closes }
+        ensures { (result.stream.now ≡ self.old) × (result.at ≡ Closing.Closes Sending.Closes) }
     {
         ClientStreamSenderCloseAndRecv {
             stream: self,
