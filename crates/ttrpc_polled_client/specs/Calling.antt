@@ -1,6 +1,6 @@
 -- Calls and streams of a service: with which requests they are begun, and what a call gives.
 -- Source: this project's.
-use Rattle.std.specs.Prelude.{◌≡◌, ◌⊎◌, ℕ, List, [], ◌++◌, codes, Bool, Option, Some, Result, Err, IfOk, IsSomeAnd}
+use Rattle.std.specs.Prelude.{◌≡◌, ◌⊎◌, ⊤, ℕ, List, [], ◌++◌, codes, Bool, Option, Some, None, Result, Err, IfOk, IsSomeAnd}
 use Rattle.std.specs.Arc.{arc_value}
 use Rattle.ttrpc_proto.specs.declared.error.Error.{Error}
 use Rattle.ttrpc_proto.specs.declared.error.Error.TheVariants.{LocalClosed}
@@ -8,6 +8,7 @@ use Rattle.ttrpc_proto.specs.declared.request.Request.{Request}
 use Rattle.ttrpc_message.specs.Calls.{IsUnwritten}
 use Rattle.ttrpc_message.specs.Metadata.{Carried, pairs_of}
 use Rattle.ttrpc_polled.specs.Sockets.{IsNotMade}
+use Rattle.ttrpc_polled_streams.specs.declared.inner.StreamInner.{StreamInner}
 use Rattle.ttrpc_polled_client.specs.declared.asked.Asked.TheVariants.{Asks}
 use Rattle.ttrpc_polled_client.specs.declared.calls.Calling.{Calling}
 use Rattle.ttrpc_polled_client.specs.declared.calls.Calling.TheVariants.{Done, Refused, Waits}
@@ -47,3 +48,14 @@ abbrev pub IsOpening : {R O I : Type 0} → ClientLine O I → Opening → (Erro
 IsOpening line opens refuses (opening.Opens stream client) = IsSomeAnd stream.prepared (IsPrepared line opens)
 IsOpening line opens refuses (opening.Refused e) = refuses e
 IsOpening line opens refuses opening.Done = ⊥
+
+-- a stream that was opened has both its halves, each on its share of the line and both under one id; once it was given, it is closed
+abbrev pub StreamGives : {O I : Type 0} → Option (Prepared O I) → Result (StreamInner (ClientLine O I) ℕ) Error → Type 0
+StreamGives (Some p) r = IfOk r (λ stream. ((arc_value stream.sender.seat).line ≡ p.sends) × (stream.receiver.line ≡ p.receives) × ((arc_value stream.sender.seat).id ≡ stream.receiver.id))
+StreamGives None r = r ≡ Err LocalClosed
+
+-- a stream of a service that was refused gives the refusal; once it was given, it is closed
+abbrev pub ServiceStreamGives : {R O I K : Type 0} → OpeningAt R O I → Result K Error → Type 0
+ServiceStreamGives (opening.Opens stream client) r = ⊤
+ServiceStreamGives (opening.Refused e) r = r ≡ Err e
+ServiceStreamGives opening.Done r = r ≡ Err LocalClosed

@@ -184,7 +184,9 @@ where
     }
 
     /// Receives the next message: none where the server closed. An error is another reason why there is none.
-    pub fn recv(&mut self) -> SSReceiverRecv<'_, P, ClientLine<O, I>> {
+    pub fn recv(&mut self) -> SSReceiverRecv<'_, P, ClientLine<O, I>>
+        ensures { result.receiver.now ≡ self.old.rx }
+    {
         self.rx.recv()
     }
 
@@ -341,6 +343,10 @@ where
     K: OfStream<R, O, I>,
 {
     type Output = Result<K>;
+
+    ghost use Rattle.ttrpc_polled_client.specs.Calling.{ServiceStreamGives};
+
+    ghost gives = { λ opening r. ServiceStreamGives opening.at r };
 
     fn poll(&mut self, cx: &mut Context<'_>) -> Poll<Result<K>> {
         match replace(&mut self.at, OpeningAt::Done) {

@@ -101,6 +101,10 @@ fn stream_of<O: OutboundTransform + Drop, I: InboundTransform + Drop>(
 impl<O: OutboundTransform + Drop, I: InboundTransform + Drop> Future for ClientNewStream<O, I> {
     type Output = Result<StreamInner<ClientLine<O, I>>>;
 
+    ghost use Rattle.ttrpc_polled_client.specs.Calling.{StreamGives};
+
+    ghost gives = { λ f r. StreamGives f.prepared r };
+
     fn poll(&mut self, cx: &mut Context<'_>) -> Poll<Result<StreamInner<ClientLine<O, I>>>> {
         let Some(prepared) = self.prepared.take() else {
             return Poll::Ready(Err(Error::LocalClosed));
