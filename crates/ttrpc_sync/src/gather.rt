@@ -1,5 +1,5 @@
 //! A writer that keeps bytes back, so that a whole frame, or a batch of short ones, goes out by one write.
-ghost use Rattle.std.specs.Prelude.{◌≡◌, ◌+◌, ◌-◌, ◌^◌, ◌≤◌, [], length, take, drop, min, IfErr, OnOk};
+ghost use Rattle.std.specs.Prelude.{◌≡◌, ◌+◌, ◌-◌, ◌^◌, ◌≤◌, ◌⊎◌, [], length, take, drop, min, IfErr, OnOk};
 ghost use Rattle.std.specs.Io.{WritesAtMost};
 ghost use Rattle.std.specs.Io.KnownBytes.{Appends, Keeps, WriteAppends, append_known};
 ghost use Rattle.std.specs.IoError.{error_kind};
@@ -122,6 +122,7 @@ impl<W: Sink> Sink for Gather<W> {
             (append_known (W.contents self.new.writer) self.new.kept) result bytes.now }
         ensures whole { OnOk result (IsGathered self.old self.new bytes.now) }
         ensures err { IfErr result (λ e. IsWriterFailure (W.last self.new.writer) (error_kind e)) }
+        ensures refusals { (self.new.refusals ≡ self.old.refusals) ⊎ (self.new.refusals ≡ min (self.old.refusals + 1) (2 ^ 64 - 1)) }
         ensures limit { self.new.limit ≡ self.old.limit }
     {
         if bytes.len() > self.limit - self.kept.len() {
@@ -144,6 +145,7 @@ impl<W: Sink> Sink for Gather<W> {
             (append_known (W.contents self.new.writer) self.new.kept) }
         ensures kept { OnOk result (self.new.kept ≡ []) }
         ensures room { OnOk result (self.new.room ≤ ROOM_AT_REST) }
+        ensures refusals { self.new.refusals ≡ self.old.refusals }
         ensures limit { self.new.limit ≡ self.old.limit }
         ensures answer { IsFlushOf (W.last self.new.writer) result }
     {

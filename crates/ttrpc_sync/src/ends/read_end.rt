@@ -1,5 +1,5 @@
 //! The port to which a connection's reader hands what it read.
-ghost use Rattle.std.specs.Prelude.{◌≡◌};
+ghost use Rattle.std.specs.Prelude.{◌≡◌, true, MatchBool};
 ghost use Rattle.ttrpc_sync.specs.declared.ports.PortState.{PortState};
 
 use crate::ends::connected::{Connected, Held, Taken};
@@ -27,7 +27,9 @@ impl<X: Wait, S: Connected> ReadEnd<'_, X, S> {
     }
 
     /// The port for the thread that has the turn to read when a loop begins.
-    pub fn new<'a>(rt: &'a X, alloc: Global, shared: &'a S) -> ReadEnd<'a, X, S> {
+    pub fn new<'a>(rt: &'a X, alloc: Global, shared: &'a S) -> ReadEnd<'a, X, S>
+        ensures { result.has_turn ≡ true }
+    {
         ReadEnd {
             rt,
             alloc,
@@ -46,7 +48,11 @@ impl<X: Wait, S: Connected> ReadPort for ReadEnd<'_, X, S> {
         self.state = PortState::Open;
     }
 
-    fn wants(&mut self) -> bool {
+    fn wants(&mut self) -> bool
+        requires { self.old.state ≡ PortState.Open }
+        ensures state { MatchBool result (self.new.state ≡ PortState.Open) (self.new.state ≡ PortState.Stopped) }
+        ensures turn { (result ≡ self.old.has_turn) × (self.new.has_turn ≡ self.old.has_turn) }
+    {
         if !self.has_turn {
             self.state = PortState::Stopped;
         }

@@ -1,5 +1,6 @@
 //! The port from which a connection's bytes are written.
-ghost use Rattle.std.specs.Prelude.{◌≡◌};
+ghost use Rattle.std.specs.Prelude.{◌≡◌, true, false, if◌then◌else◌};
+ghost use Rattle.ttrpc_sync.specs.Batches.{is_due};
 ghost use Rattle.ttrpc_sync.specs.declared.ports.PortState.{PortState};
 
 use crate::ends::batch::{BATCH_LOANS, Batch};
@@ -32,17 +33,23 @@ pub struct WriteEnd<'a, X: Wait, S: Connected> {
 impl<X: Wait, S: Connected> WriteEnd<'_, X, S> {
     /// The port of the writer thread: it sleeps while there is nothing, or another has the turn. A batch leaves behind a
     /// frame, once it has `BATCH_BYTES` bytes or `BATCH_LOANS` loans.
-    pub fn staying<'a>(rt: &'a X, shared: &'a S) -> WriteEnd<'a, X, S> {
+    pub fn staying<'a>(rt: &'a X, shared: &'a S) -> WriteEnd<'a, X, S>
+        ensures { (result.stays ≡ true) × (result.has_turn ≡ false) }
+    {
         WriteEnd::new(rt, shared, true)
     }
 
     /// The port of a thread that took the turn, to write what it queued where nothing else waited: one frame. Then it
     /// gives the turn back, and wakes the writer thread if others have queued more.
-    pub fn leaving<'a>(rt: &'a X, shared: &'a S) -> WriteEnd<'a, X, S> {
+    pub fn leaving<'a>(rt: &'a X, shared: &'a S) -> WriteEnd<'a, X, S>
+        ensures { (result.stays ≡ false) × (result.has_turn ≡ true) }
+    {
         WriteEnd::new(rt, shared, false)
     }
 
-    fn new<'a>(rt: &'a X, shared: &'a S, stays: bool) -> WriteEnd<'a, X, S> {
+    fn new<'a>(rt: &'a X, shared: &'a S, stays: bool) -> WriteEnd<'a, X, S>
+        ensures { (result.stays ≡ stays) × (result.has_turn ≡ (if stays then false else true)) }
+    {
         WriteEnd {
             rt,
             shared,
@@ -56,7 +63,9 @@ impl<X: Wait, S: Connected> WriteEnd<'_, X, S> {
     }
 
     // Whether what was written is to leave before more is lent.
-    fn is_due(&self) -> bool {
+    fn is_due(&self) -> bool
+        ensures { result ≡ is_due self.now.batch (if self.now.stays then BATCH_LOANS else 1) }
+    {
         self.batch.is_due(if self.stays { BATCH_LOANS } else { 1 })
     }
 
