@@ -1,4 +1,6 @@
 //! Callers, and how long each of their calls takes.
+ghost use Rattle.std.specs.Prelude.{◌≡◌, ◌≢◌, [], codes, length, pos, IfOk, OnErr, OnOk};
+
 use std::alloc::Global;
 use std::net::{Net, TcpStream};
 use std::sync::Arc;
@@ -30,7 +32,15 @@ impl<R: Host> Echoes<R> for EchoClient<R> {
 }
 
 /// A request of `Echo` with this payload.
-pub fn request_of(alloc: Global, payload: &[u8]) -> Result<Request> {
+pub fn request_of(alloc: Global, payload: &[u8]) -> Result<Request>
+    ensures { IfOk result (λ request. request ≡ record {
+      service = codes "demo.Echo";
+      method = codes "Echo";
+      payload = payload.now;
+      timeout_nano = pos 0;
+      metadata = [];
+    }) }
+{
     Ok(Request {
         service: Text::from_str(alloc, "demo.Echo")?,
         method: Text::from_str(alloc, "Echo")?,
@@ -41,7 +51,10 @@ pub fn request_of(alloc: Global, payload: &[u8]) -> Result<Request> {
 }
 
 /// The answer is what was sent.
-pub fn same(alloc: Global, answer: &[u8], payload: &[u8]) -> Result<()> {
+pub fn same(alloc: Global, answer: &[u8], payload: &[u8]) -> Result<()>
+    ensures ok { OnOk result (answer.now ≡ payload.now) }
+    ensures err { OnErr result (answer.now ≢ payload.now) }
+{
     if answer == payload {
         return Ok(());
     }
@@ -55,7 +68,9 @@ pub fn times_of<R: Host, E: Echoes<R>>(
     count: usize,
     bytes: usize,
     done: &AtomicU64,
-) -> Result<Vec<u64>> {
+) -> Result<Vec<u64>>
+    ensures { IfOk result (λ times. length times.items ≡ count) }
+{
     let payload = Vec::from_elem(rt.alloc(), 7u8, bytes)?;
     // All pages of the times are touched first, so that memory stays as it is while calls are made.
     let mut times = Vec::from_elem(rt.alloc(), u64::MAX, count)?;

@@ -1,5 +1,5 @@
 //! The figures of a measurement.
-ghost use Rattle.std.specs.Prelude.{◌≡◌, ◌+◌, ◌-◌, ◌*◌, ◌/◌, ◌<◌, ◌≤◌, length, slice_index, IfSome, IfNone};
+ghost use Rattle.std.specs.Prelude.{◌≡◌, ◌+◌, ◌-◌, ◌*◌, ◌/◌, ◌<◌, ◌≤◌, length, max, slice_index, IfSome, IfNone};
 
 use std::fmt;
 
@@ -13,7 +13,9 @@ pub struct Figures {
 }
 
 /// How many a second, where so many took so many nanoseconds.
-pub fn rate(count: usize, elapsed: u64) -> u128 {
+pub fn rate(count: usize, elapsed: u64) -> u128
+    ensures { result ≡ (count * 1000000000) / max elapsed 1 }
+{
     let nanoseconds = (count as u128).saturating_mul(1_000_000_000);
     nanoseconds / u128::from(elapsed.max(1))
 }

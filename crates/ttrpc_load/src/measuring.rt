@@ -1,4 +1,6 @@
 //! One measurement, from its words to its line.
+ghost use Rattle.std.specs.Prelude.{◌≡◌, if◌then◌else◌, is_ok};
+
 use crate::burst::burst;
 use crate::calling::{EchoClient, Echoes, times_of};
 use crate::figures::{Figures, Rates, Told, percentile, rate};
@@ -77,7 +79,9 @@ pub fn run<R: Measured + 'static, W: Write, X: Write>(
 }
 
 /// The status of a run that told what it had to.
-fn status_of(written: io::Result<()>) -> u8 {
+fn status_of(written: io::Result<()>) -> u8
+    ensures { result ≡ (if is_ok written then 0 else 1) }
+{
     match written {
         Ok(()) => 0,
         Err(_) => 1,
@@ -206,7 +210,9 @@ fn all_times<R: Measured>(rt: &R, callers: Vec<Caller>) -> Result<Vec<u64>> {
     Ok(all)
 }
 
-fn figures_of(load: Load, elapsed: u64, times: Vec<u64>) -> Figures {
+fn figures_of(load: Load, elapsed: u64, times: Vec<u64>) -> Figures
+    ensures { (result.calls ≡ load.calls) × (result.elapsed ≡ elapsed) }
+{
     let mut times = times;
     times.sort_unstable();
     Figures {

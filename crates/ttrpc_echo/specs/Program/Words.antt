@@ -4,6 +4,7 @@ use Rattle.std.specs.Prelude.{◌≡◌, ℕ, ℤ, List, [], ◌∷◌, codes, R
 use Rattle.std.specs.Int.{w64}
 use Rattle.std.specs.Str.Parse.{ParsesSigned}
 use Rattle.hex.specs.Hex.{decode_of}
+use Rattle.ttrpc_proto.specs.declared.request.Request.{Request}
 
 -- the word at which it answers
 abbrev pub IsAnswer : List (List ℕ) → Type 0
@@ -33,3 +34,8 @@ IsTimeout text n = ParsesSigned w64 10 text (told n)
 -- the digits stand for bytes, and the text for a number
 abbrev pub AreRight : List ℕ → List ℕ → Type 0
 AreRight digits text = IsHex digits × ((n : ℤ) × IsTimeout text n)
+
+-- the request asks for this method of this service, with the bytes of these digits and the number of this text, and no metadata
+abbrev pub AsksBy : List ℕ → List ℕ → List ℕ → List ℕ → Request → Type 0
+AsksBy service method digits text request =
+    (request.service ≡ service) × (request.method ≡ method) × (decode_of digits ≡ Ok request.payload) × IsTimeout text request.timeout_nano × (request.metadata ≡ [])

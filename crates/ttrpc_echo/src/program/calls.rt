@@ -1,6 +1,6 @@
 //! Calls of a server over a socket.
-ghost use Rattle.std.specs.Prelude.{⊤, OnOk, IfErr};
-ghost use Rattle.ttrpc_echo.specs.Program.Words.{IsHex, AreRight};
+ghost use Rattle.std.specs.Prelude.{⊤, IfOk, OnOk, IfErr};
+ghost use Rattle.ttrpc_echo.specs.Program.Words.{IsHex, AreRight, AsksBy};
 ghost use Rattle.ttrpc_echo.specs.Program.Runs.{Calls, IsMisread};
 
 use crate::program::asked::{payload_of, request_of, timeout_of};
@@ -43,7 +43,8 @@ pub fn call_own_with<R: System + 'static, W: Write>(rt: R, digits: &str, output:
 
 /// The request that the words ask for.
 fn request(alloc: Global, words: CallWords<'_>) -> Result<Request, Outcome>
-    ensures ok { OnOk result (AreRight words.entry.digits.now words.entry.timeout.now) }
+    ensures right { OnOk result (AreRight words.entry.digits.now words.entry.timeout.now) }
+    ensures ok { IfOk result (AsksBy words.entry.service.now words.entry.method.now words.entry.digits.now words.entry.timeout.now) }
     ensures err { IfErr result (IsMisread (AreRight words.entry.digits.now words.entry.timeout.now)) }
 {
     let payload = payload_of(alloc, words.digits)?;
