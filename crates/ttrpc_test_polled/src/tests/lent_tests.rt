@@ -5,10 +5,11 @@ use std::alloc::Global;
 use std::process::Abort;
 use std::test::Fail;
 use ttrpc_client::{ClientCore, ClientKind};
-use ttrpc_polled_client::{ClientLine, Opening};
+use ttrpc_polled_client::{ClientLine, ClientNewStream, Opening};
 use ttrpc_polled_streams::{
     ClientStream, ClientStreamSender, SSReceiver, StreamInner, StreamReceiver, StreamSender,
 };
+use ttrpc_proto::{Error, Result as RpcResult};
 use ttrpc_secure::{ConnectionContext, Plain};
 use ttrpc_wire::Blob;
 
@@ -30,10 +31,15 @@ fn first_stream<R: System>(rt: &R) -> Result<StreamInner<PlainLine>, Fail> {
     Ok(stream?)
 }
 
+/// Another core, without a stream.
+fn bare(alloc: Global) -> Core {
+    let context = ConnectionContext::of_halves(alloc, Plain {}, Plain {});
+    ClientCore::new(alloc, ClientKind::Async, context)
+}
+
 /// Another core with a stream of that id, to which this came.
 fn lent(alloc: Global, came: &[u8]) -> Result<Core, Fail> {
-    let context = ConnectionContext::of_halves(alloc, Plain {}, Plain {});
-    let mut core = ClientCore::new(alloc, ClientKind::Async, context);
+    let mut core = bare(alloc);
     let opening = Opening {
         request: request(alloc, "Chat", b"", 0)?,
         streaming_client: true,
@@ -73,6 +79,14 @@ fn steps_of_sending(
     Ok((first, second, last))
 }
 
+/// Whether the item came.
+fn has_come(given: &Option<RpcResult<Blob>>) -> bool {
+    match given {
+        Some(Ok(item)) => item.as_slice() == b"\x2a".as_slice(),
+        _ => false,
+    }
+}
+
 /// Whether an item is received, and then nothing yet.
 fn steps_of_receiving(
     alloc: Global,
@@ -80,9 +94,9 @@ fn steps_of_receiving(
 ) -> Result<bool, Fail> {
     let mut core = lent(alloc, ITEM)?;
     let receipt = receiver.recv();
-    let came =
-        matches!(receipt.step(&mut core), Some(Ok(item)) if item.as_slice() == b"\x2a".as_slice());
-    Ok(came && receipt.step(&mut core).is_none())
+    let first = receipt.step(&mut core);
+    let second = receipt.step(&mut core);
+    Ok(has_come(&first) && second.is_none())
 }
 
 #[test]
@@ -99,9 +113,18 @@ fn steps_of_messages(alloc: Global, inner: StreamInner<PlainLine>) -> Result<boo
     let mut core = lent(alloc, ITEM)?;
     let mut stream: ClientStream<Blob, Blob, PlainLine> = ClientStream::new(inner);
     let receipt = stream.recv();
-    let came =
-        matches!(receipt.step(&mut core), Some(Ok(item)) if item.as_slice() == b"\x2a".as_slice());
-    Ok(came && receipt.step(&mut core).is_none())
+    let first = receipt.step(&mut core);
+    let second = receipt.step(&mut core);
+    Ok(has_come(&first) && second.is_none())
+}
+
+/// The message that came, or the error in its place.
+fn some(given: Option<RpcResult<Option<Blob>>>) -> Option<RpcResult<Blob>> {
+    match given {
+        Some(Ok(Some(item))) => Some(Ok(item)),
+        Some(Err(error)) => Some(Err(error)),
+        Some(Ok(None)) | None => None,
+    }
 }
 
 /// Whether a message is received, and then that there is none.
@@ -109,9 +132,10 @@ fn steps_to_the_end(alloc: Global, inner: StreamInner<PlainLine>) -> Result<bool
     let mut core = lent(alloc, ITEM_AND_END)?;
     let mut receiver: SSReceiver<Blob, PlainLine> = SSReceiver::new(inner);
     let receipt = receiver.recv();
-    let came =
-        matches!(receipt.step(&mut core), Some(Ok(Some(item))) if item.as_slice() == b"\x2a".as_slice());
-    Ok(came && matches!(receipt.step(&mut core), Some(Ok(None))))
+    let first = some(receipt.step(&mut core));
+    let second = receipt.step(&mut core);
+    let is_over = matches!(&second, Some(Ok(None)));
+    Ok(has_come(&first) && is_over)
 }
 
 /// Whether a stream is closed, and what answers is received behind that alone.
@@ -122,9 +146,8 @@ fn steps_of_closing(alloc: Global, inner: StreamInner<PlainLine>) -> Result<bool
     let asked = call.step(&mut core).is_none() && call.step(&mut core).is_none();
     write_all(&mut core);
     let closed = call.step(&mut core).is_none();
-    let came =
-        matches!(call.step(&mut core), Some(Ok(item)) if item.as_slice() == b"\x2a".as_slice());
-    Ok(asked && closed && came)
+    let last = call.step(&mut core);
+    Ok(asked && closed && has_come(&last))
 }
 
 #[test]
@@ -132,5 +155,25 @@ fn messages_are_stepped(rt: HostRuntime) -> Result<(), Fail> {
     assert!(rt; steps_of_messages(rt.alloc(), first_stream(&rt)?)?);
     assert!(rt; steps_to_the_end(rt.alloc(), first_stream(&rt)?)?);
     assert!(rt; steps_of_closing(rt.alloc(), first_stream(&rt)?)?);
+    Ok(())
+}
+
+/// Whether a stream is opened on such a core, and once alone.
+fn steps_of_opening(alloc: Global, mut opening: ClientNewStream<Plain, Plain>) -> bool {
+    let mut core = bare(alloc);
+    let first = opening.step(&mut core);
+    let second = opening.step(&mut core);
+    first.is_ok() && matches!(&second, Err(Error::LocalClosed)) && core.lendable() > 0
+}
+
+#[test]
+fn an_opening_is_stepped(rt: HostRuntime) -> Result<(), Fail> {
+    let Site {
+        runtime: _runtime,
+        client,
+        ends: _ends,
+    } = make_site(&rt, 4096, Manners::Echoes)?;
+    let opening = client.new_stream(request(rt.alloc(), "Chat", b"", 0)?, true, true)?;
+    assert!(rt; steps_of_opening(rt.alloc(), opening));
     Ok(())
 }
