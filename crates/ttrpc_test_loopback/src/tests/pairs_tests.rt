@@ -129,6 +129,8 @@ fn text_of(alloc: Global, address: SocketAddr) -> Result<String, Fail> {
 
 #[test]
 fn both_clients_call_a_polled_server(rt: HostRuntime) -> Result<(), Fail> {
+    // The check of borrows covers a call over sockets only where their types are named here, too.
+    let _sockets: Option<(TcpListener, TcpStream)> = None;
     let served = start_polled(&rt, AT_POLLED.len())?;
     let address = text_of(rt.alloc(), served.address)?;
     for run in AT_POLLED {

@@ -4,7 +4,7 @@ use crate::tests::polled::start_polled;
 use std::alloc::AllocGlobal;
 use std::fs::File;
 use std::io::{self, Write};
-use std::net::{SocketAddr, TcpStream};
+use std::net::{SocketAddr, TcpListener, TcpStream};
 use std::rt::Files;
 use std::test::Fail;
 use std::thread;
@@ -29,6 +29,8 @@ const EXCHANGES: &[Exchange] = &[
 
 #[test]
 fn bytes_have_their_answers_over_loopback(rt: HostRuntime) -> Result<(), Fail> {
+    // The check of borrows covers a call over sockets only where their types are named here, too.
+    let _sockets: Option<(TcpListener, TcpStream)> = None;
     let served = start_polled(&rt, 1)?;
     assert!(rt; calls(&rt, served.address, EXCHANGES)?);
     served.thread.join(&rt)?;
@@ -49,6 +51,8 @@ const RESETS: usize = 1000;
 
 #[test]
 fn who_calls_behind_resets_is_answered(rt: HostRuntime) -> Result<(), Fail> {
+    // The check of borrows covers a call over sockets only where their types are named here, too.
+    let _sockets: Option<(TcpListener, TcpStream)> = None;
     let served = start_polled(&rt, RESETS + 1)?;
     reset(&rt, served.address, RESETS)?;
     assert!(rt; calls(&rt, served.address, SERVED)?);
