@@ -16,6 +16,7 @@ fn is_kept(rt: &impl Abort, alloc: Global, text: Text, expected: &str) -> Tested
     assert!(rt; text.is_equal(expected) && !text.is_equal("green"));
     assert!(rt; !text.is_empty() && Text::new(alloc).is_empty());
     assert!(rt; text.starts_with("gr"), "a text reads as std's does");
+    assert!(rt; text.iter().nth(1) == expected.chars().nth(1));
     assert!(rt; text.try_clone()? == text);
     assert!(rt; Text::new(alloc) != text);
     let back = Text::from_string(text.into_string());

@@ -1,4 +1,6 @@
-ghost use Rattle.std.specs.Prelude.{◌≡◌, ◌≢◌, ℕ, List, [], length, string_bytes, IfOk, IfErr, IsTrue, ◌↔◌};
+ghost use Rattle.std.specs.Iterator.Runs.{EveryRun, ItemsAreChars};
+ghost use Rattle.std.specs.Str.Iter.{chars_rest, chars_steps};
+ghost use Rattle.std.specs.Prelude.{◌≡◌, ◌≢◌, ◌^◌, ◌<◌, ℕ, List, [], length, string_bytes, IfOk, IfErr, IsTrue, ◌↔◌};
 ghost use Rattle.std.specs.Result.{IsErrOf};
 ghost use Rattle.std.specs.Str.{IsUtf8};
 
@@ -8,6 +10,7 @@ use std::alloc::{AllocError, Global};
 use std::fmt;
 use std::marker::Model;
 use std::ops::Deref;
+use std::str::Chars;
 
 /// A text, which contracts see as the list of its bytes in UTF-8.
 #[derive(Debug, Drop)]
@@ -86,6 +89,15 @@ impl Text {
         ensures { IsTrue result ↔ (self.now ≡ text.now) }
     {
         self.as_str() == text
+    }
+
+    /// Its characters in order, as `chars` of std's text gives them.
+    pub fn iter(&self) -> Chars<'_>
+        ensures rest { chars_rest result ≡ self.now }
+        ensures bound { length (chars_rest result) < 2 ^ 64 }
+        ensures runs { EveryRun chars_steps (λ p. ItemsAreChars p (chars_rest p.from)) }
+    {
+        self.as_str().chars()
     }
 
     /// The text.

@@ -61,10 +61,11 @@ fn are_numbers(alloc: Global) -> std::result::Result<bool, Fail> {
     Ok(is_counted && numbers.is_equal(&[3, 4]) && numbers.iter().copied().max() == Some(4))
 }
 
-/// Whether a text counts and compares.
+/// Whether a text counts, compares and gives its characters.
 fn is_text(alloc: Global) -> std::result::Result<bool, Fail> {
     let text = Text::from_str(alloc, "ab")?;
-    Ok(text.len() == 2 && !text.is_empty() && text.is_equal("ab"))
+    let is_counted = text.len() == 2 && !text.is_empty();
+    Ok(is_counted && text.is_equal("ab") && text.iter().max() == Some('b'))
 }
 
 #[test]
