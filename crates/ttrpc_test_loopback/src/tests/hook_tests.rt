@@ -1,0 +1,115 @@
+//! A hook of a polled server that answers at its limit.
+use crate::tests::peers::{SERVED, calls, hears_end};
+use crate::tests::polled::{Served, server_of};
+use futures::StreamExt;
+use std::alloc::{AllocError, Global};
+use std::io;
+use std::net::{TcpListener, TcpStream};
+use std::sync::Arc;
+use std::sync::atomic::{AtomicU64, Ordering};
+use std::test::Fail;
+use std::thread::{Builder, Threads};
+use std::time::{Clock, Duration};
+use tokio::runtime::LocalRuntime;
+use ttrpc_polled_echo::{System, nix};
+use ttrpc_proto::Result;
+use ttrpc_secure::{AcceptHook, HookError, HookOutput, Plain};
+
+/// A clock that is set on.
+#[derive(Drop)]
+struct Shifted<C> {
+    clock: C,
+    nanoseconds: Arc<AtomicU64, Global>,
+}
+
+impl<C: Clock> Clock for Shifted<C> {
+    fn monotonic(&self) -> io::Result<Duration> {
+        let shift = Duration::from_nanos(self.nanoseconds.load(Ordering::SeqCst));
+        Ok(self.clock.monotonic()?.saturating_add(shift))
+    }
+
+    fn since_1970(&self) -> io::Result<Duration> {
+        self.clock.since_1970()
+    }
+}
+
+impl<C: Clone> Clone for Shifted<C> {
+    fn clone(&self) -> std::result::Result<Shifted<C>, AllocError> {
+        Ok(Shifted {
+            clock: self.clock.clone()?,
+            nanoseconds: Arc::try_clone(&self.nanoseconds)?,
+        })
+    }
+}
+
+/// A hook that takes 30 seconds for the first connection.
+#[derive(Drop)]
+struct Slow {
+    nanoseconds: Arc<AtomicU64, Global>,
+    asked: AtomicU64,
+}
+
+impl<S> AcceptHook<S> for Slow {
+    ghost use Rattle.std.specs.Prelude.{⊤};
+
+    type Outbound = Plain;
+
+    type Inbound = Plain;
+
+    ghost gives = { λ _ _ _. ⊤ };
+
+    fn on_accept(
+        &self,
+        alloc: Global,
+        _stream: &S,
+    ) -> std::result::Result<HookOutput<Plain, Plain>, HookError> {
+        if self.asked.fetch_add(1, Ordering::SeqCst) == 0 {
+            self.nanoseconds.fetch_add(30_000_000_000, Ordering::SeqCst);
+        }
+        Ok(HookOutput::of_halves(alloc, Plain {}, Plain {}))
+    }
+}
+
+/// A clock, and a hook that sets it on.
+fn make_shifted<R: System>(rt: &R) -> Result<(Shifted<R>, Slow)> {
+    let nanoseconds = Arc::new(rt.alloc(), AtomicU64::new(0))?;
+    let clock = Shifted {
+        clock: rt.clone()?,
+        nanoseconds: Arc::try_clone(&nanoseconds)?,
+    };
+    let hook = Slow {
+        nanoseconds,
+        asked: AtomicU64::new(0),
+    };
+    Ok((clock, hook))
+}
+
+/// Serves one connection behind that hook.
+fn serve_slowly<R: System>(rt: &R, listener: TcpListener) -> Result<()> {
+    let mut runtime = nix(LocalRuntime::new(rt))?;
+    let (clock, hook) = make_shifted(rt)?;
+    let late = (clock, rt.alloc());
+    let mut server = server_of(&late, runtime.handle(), listener)?.set_accept_hook(hook)?;
+    let serving = server.start()?;
+    nix(runtime.run_all(rt, serving.take(1)))
+}
+
+/// Starts that server at a free port.
+fn start_slow<R: System + Threads + Send + 'static>(rt: &R) -> std::result::Result<Served, Fail> {
+    let listener = TcpListener::bind(rt, "127.0.0.1:0")?;
+    let address = listener.local_addr()?;
+    let mine = rt.clone()?;
+    let thread = Builder::new().spawn(rt, move || serve_slowly(&mine, listener))?;
+    Ok(Served { address, thread })
+}
+
+#[test]
+fn a_hook_that_answers_at_its_limit_comes_too_late(
+    rt: HostRuntime,
+) -> std::result::Result<(), Fail> {
+    let served = start_slow(&rt)?;
+    let mut first = TcpStream::connect(&rt, served.address)?;
+    assert!(rt; hears_end(&mut first)? && calls(&rt, served.address, SERVED)?);
+    served.thread.join(&rt)?;
+    Ok(())
+}

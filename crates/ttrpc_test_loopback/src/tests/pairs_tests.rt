@@ -1,0 +1,180 @@
+//! Each client at each server, by the words of the programs.
+use crate::tests::polled::start_polled;
+use std::alloc::Global;
+use std::net::{SocketAddr, TcpListener, TcpStream};
+use std::test::Fail;
+use ttrpc_echo::{System as ThreadedSystem, start_server};
+use ttrpc_polled_echo::System;
+use ttrpc_sync_server::NoWatch;
+
+/// What calls: a client with threads, by the words of `ttrpc-demo`, or a polled one, by those of `ttrpc-chat`.
+#[derive(Clone, Copy, Debug)]
+enum Client {
+    Threaded,
+    Polled,
+}
+
+/// A run: who calls, the first word, those behind the address, the status, and what is written.
+type Run = (
+    Client,
+    &'static str,
+    &'static [&'static str],
+    u8,
+    &'static [u8],
+);
+
+const AT_POLLED: &[Run] = &[
+    (
+        Client::Threaded,
+        "call",
+        &["demo.Echo", "Echo", "2a", "0"],
+        0,
+        b"ok 2a\n",
+    ),
+    (
+        Client::Threaded,
+        "call",
+        &["x", "y", "2a", "5000000000"],
+        1,
+        b"error: rpc status: 3 x service does not exist\n",
+    ),
+    (Client::Polled, "unary", &["2a"], 0, b"ok 2a\n"),
+    (Client::Polled, "unary", &[""], 0, b"ok\n"),
+    (
+        Client::Polled,
+        "chat",
+        &["61", "", "62"],
+        0,
+        b"item 61\nitem\nitem 62\neof\n",
+    ),
+    (
+        Client::Polled,
+        "sum",
+        &["61", "6263"],
+        0,
+        b"ok 00000000000000020000000000000003\n",
+    ),
+    (
+        Client::Polled,
+        "count",
+        &["2"],
+        0,
+        b"item 00000000\nitem 00000001\neof\n",
+    ),
+];
+
+const AT_THREADED: &[Run] = &[
+    (
+        Client::Threaded,
+        "call",
+        &["demo.Echo", "Echo", "2a", "0"],
+        0,
+        b"ok 2a\n",
+    ),
+    (Client::Polled, "unary", &["2a"], 0, b"ok 2a\n"),
+    (Client::Polled, "unary", &[""], 0, b"ok\n"),
+    (
+        Client::Polled,
+        "chat",
+        &["61"],
+        1,
+        b"error: rpc status: 3 /demo.Echo/Chat does not exist\n",
+    ),
+];
+
+/// The words, with the address behind the first.
+fn words_of(alloc: Global, first: &str, address: &str, rest: &[&str]) -> Result<Vec<String>, Fail> {
+    let mut words = Vec::new(alloc);
+    words.push(String::from_str(alloc, first)?)?;
+    words.push(String::from_str(alloc, address)?)?;
+    for word in rest {
+        words.push(String::from_str(alloc, word)?)?;
+    }
+    Ok(words)
+}
+
+/// Whether a run comes to its status and output.
+fn is_so<R: ThreadedSystem + System + 'static>(
+    rt: &R,
+    address: &str,
+    run: &Run,
+) -> Result<bool, Fail> {
+    let (client, first, rest, status, expected) = run;
+    let words = words_of(rt.alloc(), first, address, rest)?;
+    let (mut output, mut errors) = (Vec::new(rt.alloc()), Vec::new(rt.alloc()));
+    let mut input: &[u8] = &[];
+    let given = match client {
+        Client::Threaded => ttrpc_echo::run(
+            rt.clone()?,
+            words.as_slice(),
+            true,
+            &mut input,
+            &mut output,
+            &mut errors,
+        ),
+        Client::Polled => ttrpc_polled_echo::run(
+            rt.clone()?,
+            words.as_slice(),
+            true,
+            &mut output,
+            &mut errors,
+        ),
+    };
+    Ok(given == *status && output.as_slice() == *expected && errors.is_empty())
+}
+
+fn text_of(alloc: Global, address: SocketAddr) -> Result<String, Fail> {
+    Ok(format!(in alloc; "tcp://{address}")?)
+}
+
+#[test]
+fn both_clients_call_a_polled_server(rt: HostRuntime) -> Result<(), Fail> {
+    // The check of borrows covers a call over sockets only where their types are named here, too.
+    let _sockets: Option<(TcpListener, TcpStream)> = None;
+    let served = start_polled(&rt, AT_POLLED.len())?;
+    let address = text_of(rt.alloc(), served.address)?;
+    for run in AT_POLLED {
+        assert!(rt; is_so(&rt, address.as_str(), run)?, "{run:?}");
+    }
+    served.thread.join(&rt)?;
+    Ok(())
+}
+
+#[test]
+fn both_clients_call_a_server_with_threads(rt: HostRuntime) -> Result<(), Fail> {
+    let server = start_server(rt.clone()?, "tcp://127.0.0.1:0", true, NoWatch {})?;
+    let Some(address) = server.local_addr()? else {
+        return Err("it has no address".into());
+    };
+    let address = text_of(rt.alloc(), address)?;
+    for run in AT_THREADED {
+        assert!(rt; is_so(&rt, address.as_str(), run)?, "{run:?}");
+    }
+    server.shutdown();
+    Ok(())
+}
+
+/// Whether words are refused by what they may be.
+fn is_refused<R: System>(rt: &R, words: [&str; 3]) -> Result<bool, Fail> {
+    let [first, address, rest] = words;
+    let words = words_of(rt.alloc(), first, address, &[rest])?;
+    let (mut output, mut errors) = (Vec::new(rt.alloc()), Vec::new(rt.alloc()));
+    let mine = rt.clone()?;
+    let status = ttrpc_polled_echo::run(mine, words.as_slice(), true, &mut output, &mut errors);
+    let is_usage = errors.starts_with(b"usage: ttrpc-chat serve ADDR");
+    Ok(status == 2 && output.is_empty() && is_usage)
+}
+
+#[test]
+fn wrong_words_have_a_status_of_their_own(rt: HostRuntime) -> Result<(), Fail> {
+    // A test must name the sockets of the system that it hands on.
+    let _sockets: Option<(TcpListener, TcpStream)> = None;
+    for words in [
+        ["unary", "tcp://127.0.0.1:1", "2"],
+        ["count", "tcp://127.0.0.1:1", "x"],
+        ["talk", "tcp://127.0.0.1:1", "2a"],
+    ] {
+        assert!(rt; is_refused(&rt, words)?, "{words:?}");
+    }
+    Ok(())
+}

@@ -1,0 +1,53 @@
+//! Polled servers in threads of their own.
+use futures::StreamExt;
+use std::net::{SocketAddr, TcpListener};
+use std::test::Fail;
+use std::thread::{Builder, JoinHandle, Threads};
+use std::time::Duration;
+use tokio::net::TcpListener as PolledListener;
+use tokio::runtime::{Handle, LocalRuntime};
+use ttrpc_polled::{Listener, Timed};
+use ttrpc_polled_echo::{EchoServer, System, nix, services};
+use ttrpc_polled_server::Server;
+use ttrpc_proto::Result;
+
+/// A server's address, and its thread, which ends once it has served so many connections as it was told.
+#[derive(Drop)]
+pub struct Served {
+    pub address: SocketAddr,
+    pub thread: JoinHandle<Result<()>>,
+}
+
+/// Serves so many connections at a free port.
+pub fn start_polled<R: System + Threads + Send + 'static>(
+    rt: &R,
+    count: usize,
+) -> std::result::Result<Served, Fail> {
+    let listener = TcpListener::bind(rt, "127.0.0.1:0")?;
+    let address = listener.local_addr()?;
+    let mine = rt.clone()?;
+    let thread = Builder::new().spawn(rt, move || serve(&mine, listener, count))?;
+    Ok(Served { address, thread })
+}
+
+fn serve<R: System>(rt: &R, listener: TcpListener, count: usize) -> Result<()> {
+    let mut runtime = nix(LocalRuntime::new(rt))?;
+    let mut server = server_of(rt, runtime.handle(), listener)?;
+    let serving = server.start()?;
+    nix(runtime.run_all(rt, serving.take(count)))
+}
+
+/// The server of `ttrpc-chat` at this listener, which soon tries again to accept.
+pub fn server_of<R: Timed>(
+    rt: &R,
+    handle: &Handle,
+    listener: TcpListener,
+) -> Result<EchoServer<R>> {
+    let listener = nix(PolledListener::from_std(listener, handle.reactor()))?;
+    Ok(
+        Server::new(rt.clone()?, handle)?
+            .register_service(services(rt.alloc())?)?
+            .set_accept_retry_interval(Duration::from_millis(20))
+            .add_listener(Listener::new(listener, true)),
+    )
+}

@@ -1,0 +1,89 @@
+//! A polled server's connections over loopback, at clients that speak by hand.
+use crate::tests::peers::{ASKED, Connects, ECHOED, Exchange, SERVED, calls, talks};
+use crate::tests::polled::start_polled;
+use std::alloc::AllocGlobal;
+use std::fs::File;
+use std::io::{self, Write};
+use std::net::{SocketAddr, TcpListener, TcpStream};
+use std::rt::Files;
+use std::test::Fail;
+use std::thread;
+use std::time::Duration;
+
+/// A request for a method that isn't there, and its answer.
+const NO_METHOD: &[u8] = b"\0\0\0\x11\0\0\0\x01\x01\0\x0a\x09demo.Echo\x12\x04Nope";
+
+const ANSWER_TO_NO_METHOD: &[u8] = b"\0\0\0\x11\0\0\0\x01\x02\0\x0a\x0f\x08\x0c\x12\x0bNope method";
+
+/// A request twice, and the answers: to the second, and to the first.
+const TWICE: &[u8] =
+    b"\0\0\0\x14\0\0\0\x01\x01\0\x0a\x09demo.Echo\x12\x04Echo\x1a\x01\x2a\0\0\0\x14\0\0\0\x01\x01\0\x0a\x09demo.Echo\x12\x04Echo\x1a\x01\x2a";
+
+const IN_USE: &[u8] = b"\0\0\0\x1b\0\0\0\x01\x02\0\x0a\x19\x08\x03\x12\x15stream id 1 is in use";
+
+const EXCHANGES: &[Exchange] = &[
+    (NO_METHOD, ANSWER_TO_NO_METHOD),
+    (TWICE, IN_USE),
+    (b"", ECHOED),
+];
+
+#[test]
+fn bytes_have_their_answers_over_loopback(rt: HostRuntime) -> Result<(), Fail> {
+    // The check of borrows covers a call over sockets only where their types are named here, too.
+    let _sockets: Option<(TcpListener, TcpStream)> = None;
+    let served = start_polled(&rt, 1)?;
+    assert!(rt; calls(&rt, served.address, EXCHANGES)?);
+    served.thread.join(&rt)?;
+    Ok(())
+}
+
+/// Opens so many connections, asks on each, and closes it with an answer that wasn't read.
+fn reset<R: Connects>(rt: &R, address: SocketAddr, count: usize) -> io::Result<()> {
+    for _ in 0..count {
+        let mut stream = TcpStream::connect(rt, address)?;
+        stream.write_all(ASKED)?;
+    }
+    Ok(())
+}
+
+/// How many connections are reset.
+const RESETS: usize = 1000;
+
+#[test]
+fn who_calls_behind_resets_is_answered(rt: HostRuntime) -> Result<(), Fail> {
+    // The check of borrows covers a call over sockets only where their types are named here, too.
+    let _sockets: Option<(TcpListener, TcpStream)> = None;
+    let served = start_polled(&rt, RESETS + 1)?;
+    reset(&rt, served.address, RESETS)?;
+    assert!(rt; calls(&rt, served.address, SERVED)?);
+    served.thread.join(&rt)?;
+    Ok(())
+}
+
+/// Opens files until no descriptor is left, and then lets one go.
+fn hoard<R: Files + AllocGlobal>(rt: &R) -> Result<Vec<R::File>, Fail> {
+    let mut files = Vec::new(rt.alloc());
+    for _ in 0..2_000_000u32 {
+        match File::open(rt, "/dev/null") {
+            Ok(file) => files.push(file)?,
+            Err(_) => {
+                let _ = files.pop();
+                return Ok(files);
+            }
+        }
+    }
+    Err("there is no end to descriptors".into())
+}
+
+#[test]
+fn a_failed_accept_is_tried_again(rt: HostRuntime) -> Result<(), Fail> {
+    let served = start_polled(&rt, 2)?;
+    assert!(rt; calls(&rt, served.address, SERVED)?);
+    let files = hoard(&rt)?;
+    let mut stream = TcpStream::connect(&rt, served.address)?;
+    thread::sleep(&rt, Duration::from_millis(60));
+    drop(files);
+    assert!(rt; talks(&mut stream, SERVED)?);
+    served.thread.join(&rt)?;
+    Ok(())
+}
