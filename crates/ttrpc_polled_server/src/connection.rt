@@ -113,29 +113,40 @@ where
         })
     }
 
-    /// Begins the jobs that wait, polls the handlers, moves bytes, and looks whether the connection is to end.
+    /// Polls the handlers, or begins a job that waits, or moves bytes and looks whether the connection is to end.
     fn turn(&mut self, cx: &mut Context<'_>) -> Step
         requires { CanPoll M.Call.Future.can_poll T.Call.Future.can_poll self.old }
         ensures can { CanPoll M.Call.Future.can_poll T.Call.Future.can_poll self.new }
         ensures waits { result ≡ Step.Waits → Covers cx.new (ConnectionNeeds S.AsyncRead.needs W.AsyncWrite.needs self.new) }
         ensures kept { Keeps cx.old cx.new }
     {
-        self.begin_jobs();
         if !self.jobs.is_empty() {
             if let Poll::Ready(given) = self.jobs.poll_next(cx) {
                 if let Some((id, ended)) = given {
-                    self.end(id, &ended);
-                    if self.pace.one_more() {
-                        let _ = self.poll_link(cx);
-                    }
+                    self.end_in_time(id, &ended, cx);
                 }
                 return Step::Moved;
             }
+        }
+        if let Some(job) = self.next_job() {
+            self.begin(job, cx);
+            return Step::Moved;
         }
         self.pace = Pace::new();
         match self.poll_link(cx) {
             Step::Waits => self.poll_end(cx),
             step => step,
+        }
+    }
+
+    /// Tells the core how a handler ended. Where enough answers are ready, they leave.
+    fn end_in_time(&mut self, id: JobId, ended: &Ended, cx: &mut Context<'_>)
+        ensures jobs { self.new.jobs ≡ self.old.jobs }
+        ensures kept { Keeps cx.old cx.new }
+    {
+        self.end(id, ended);
+        if self.pace.one_more() {
+            let _ = self.poll_link(cx);
         }
     }
 
@@ -158,19 +169,6 @@ where
         }
     }
 
-    /// Begins the jobs that wait.
-    fn begin_jobs(&mut self)
-        requires { CanPoll M.Call.Future.can_poll T.Call.Future.can_poll self.old }
-        ensures { CanPoll M.Call.Future.can_poll T.Call.Future.can_poll self.new }
-    {
-        for _ in 0..u64::MAX {
-            let Some(job) = self.next_job() else {
-                return;
-            };
-            self.begin(job);
-        }
-    }
-
     /// The next job that waits.
     fn next_job(&self) -> Option<Job> {
         let mut guard = lock(&self.shared.held)?;
@@ -178,31 +176,55 @@ where
     }
 
     /// Begins a job. Where it can't begin, its client is told why.
-    fn begin(&mut self, job: Job)
+    fn begin(&mut self, job: Job, cx: &mut Context<'_>)
         requires { CanPoll M.Call.Future.can_poll T.Call.Future.can_poll self.old }
-        ensures { CanPoll M.Call.Future.can_poll T.Call.Future.can_poll self.new }
+        ensures can { CanPoll M.Call.Future.can_poll T.Call.Future.can_poll self.new }
+        ensures kept { Keeps cx.old cx.new }
     {
         let id = job.id;
-        let is_stream = job.stream;
-        let begun = if is_stream {
-            self.stream_call(job)
+        if job.stream {
+            let begun = self.stream_call(job);
+            if let Err(refused) = self.run(begun) {
+                self.end(id, &Ended::Ends(Err(refused)));
+            }
         } else {
-            self.method_call(job)
-        };
-        let pushed = match begun {
-            Ok(running) => match self.jobs.push(running) {
-                Ok(()) => Ok(()),
-                Err(_) => Err(Error::NoMemory),
-            },
-            Err(refused) => Err(refused),
-        };
-        if let Err(refused) = pushed {
-            let ended = if is_stream {
-                Ended::Ends(Err(refused))
-            } else {
-                Ended::Answers(Err(refused))
-            };
-            self.end(id, &ended);
+            let begun = self.method_call(job);
+            if let Err(refused) = self.run_at_once(begun, cx) {
+                self.end(id, &Ended::Answers(Err(refused)));
+            }
+        }
+    }
+
+    /// A handler that begins is among those that run.
+    fn run(&mut self, begun: Result<Running<M::Call, T::Call, O, I>>) -> Result<()>
+        requires run { CanPoll M.Call.Future.can_poll T.Call.Future.can_poll self.old }
+        requires begun { IfOk begun (λ running. HandledCanPoll M.Call.Future.can_poll T.Call.Future.can_poll running.handled) }
+        ensures { CanPoll M.Call.Future.can_poll T.Call.Future.can_poll self.new }
+    {
+        match self.jobs.push(begun?) {
+            Ok(()) => Ok(()),
+            Err(_) => Err(Error::NoMemory),
+        }
+    }
+
+    /// The same, where the handler hasn't ended once it was polled: most answer at once, and take no place then.
+    fn run_at_once(
+        &mut self,
+        begun: Result<Running<M::Call, T::Call, O, I>>,
+        cx: &mut Context<'_>,
+    ) -> Result<()>
+        requires run { CanPoll M.Call.Future.can_poll T.Call.Future.can_poll self.old }
+        requires begun { IfOk begun (λ running. HandledCanPoll M.Call.Future.can_poll T.Call.Future.can_poll running.handled) }
+        ensures can { CanPoll M.Call.Future.can_poll T.Call.Future.can_poll self.new }
+        ensures kept { Keeps cx.old cx.new }
+    {
+        let mut running = begun?;
+        match running.poll(cx) {
+            Poll::Pending => self.run(Ok(running)),
+            Poll::Ready((id, ended)) => {
+                self.end_in_time(id, &ended, cx);
+                Ok(())
+            }
         }
     }
 
