@@ -9,7 +9,7 @@ use std::sync::Mutex;
 use std::time::Clock;
 use tokio::io::DuplexStream;
 use ttrpc_polled::{Connected, Held, Link, Step};
-use ttrpc_proto::{Error, Response, ResponseInit, get_status};
+use ttrpc_proto::{Error, Response, ResponseInit, Result, get_status};
 use ttrpc_secure::Plain;
 use ttrpc_server::{JobId, ServerCore};
 use ttrpc_wire::{Blob, Code};
@@ -58,10 +58,13 @@ impl PeerHeld {
             };
             let (id, stream) = (job.id, job.stream);
             let request = job.request;
-            if stream {
-                let _ = self.streams.push(id);
+            let is_kept = if stream {
+                self.streams.push(id).is_ok()
             } else {
-                let _ = self.calls.push((id, request.payload));
+                self.calls.push((id, request.payload)).is_ok()
+            };
+            if !is_kept {
+                self.core.fail(Error::NoMemory);
             }
         }
         match self.manners {
@@ -88,7 +91,8 @@ impl PeerHeld {
                 get_status(Code::OK, String::new(alloc)),
             );
             response.payload = payload;
-            let _ = self.core.answer(alloc, id, &Ok(response));
+            let answered = self.core.answer(alloc, id, &Ok(response));
+            leave_without_memory(&mut self.core, &answered);
         }
     }
 
@@ -99,15 +103,24 @@ impl PeerHeld {
     }
 }
 
+// A peer that finds no memory goes away, so that its client doesn't wait for it.
+fn leave_without_memory<T>(core: &mut ServerCore<Plain, Plain>, done: &Result<T>) {
+    if let Err(Error::NoMemory) = done {
+        core.fail(Error::NoMemory);
+    }
+}
+
 // Sends back what came for a stream, and ends it where the other side closed.
 fn echo(alloc: Global, core: &mut ServerCore<Plain, Plain>, id: JobId) {
     for _ in 0..u64::MAX {
         match core.recv(alloc, id) {
             Some(Ok(item)) => {
-                let _ = core.send(alloc, id, item.as_slice());
+                let sent = core.send(alloc, id, item.as_slice());
+                leave_without_memory(core, &sent);
             }
             Some(Err(Error::Eof)) => {
-                let _ = core.end_stream(alloc, id, &Ok(None));
+                let ended = core.end_stream(alloc, id, &Ok(None));
+                leave_without_memory(core, &ended);
                 return;
             }
             Some(Err(_)) | None => return,

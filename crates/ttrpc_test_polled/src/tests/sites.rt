@@ -24,11 +24,11 @@ pub trait System: Timed + Wait + Net + RandomSource {}
 
 impl<R: Timed + Wait + Net + RandomSource> System for R {}
 
-/// Both ends, which go on while this is polled.
+/// Both ends, which go on while this is polled. A peer that is over lets its ends of the pipes go.
 #[derive(Drop)]
 pub struct Ends<R: Timed> {
     connection: ClientConnection<R, DuplexStream, DuplexStream, Plain, Plain>,
-    peer: Peer<R>,
+    peer: Option<Peer<R>>,
 }
 
 impl<R: Timed> Future for Ends<R> {
@@ -36,7 +36,13 @@ impl<R: Timed> Future for Ends<R> {
 
     fn poll(&mut self, cx: &mut Context<'_>) -> Poll<()> {
         let connection = self.connection.poll(cx);
-        let peer = self.peer.poll(cx);
+        let peer = match &mut self.peer {
+            Some(peer) => peer.poll(cx),
+            None => Poll::Ready(()),
+        };
+        if peer.is_ready() {
+            self.peer = None;
+        }
         match (connection, peer) {
             (Poll::Ready(()), Poll::Ready(())) => Poll::Ready(()),
             (Poll::Pending, _) => Poll::Pending,
@@ -132,7 +138,10 @@ pub fn make_site<R: System>(rt: &R, room: usize, manners: Manners) -> Result<Sit
     Ok(Site {
         runtime,
         client,
-        ends: Ends { connection, peer },
+        ends: Ends {
+            connection,
+            peer: Some(peer),
+        },
     })
 }
 

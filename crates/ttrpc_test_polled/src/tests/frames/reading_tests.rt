@@ -7,7 +7,7 @@ use std::test::Fail;
 use ttrpc_frame::{GenMessage, GenMessageError, MessageHeader};
 use ttrpc_message::Message;
 use ttrpc_polled_frames::{AsMessage, AsParts, AsValue, PollRead, ReadHeader, Tells};
-use ttrpc_proto::{Request, Result};
+use ttrpc_proto::{Error, Request, Result};
 
 /// A header of type 1 and flags 239, a request of 67 bytes, and two bytes of another frame.
 const ASKED: &[u8] =
@@ -72,6 +72,18 @@ fn row(number: u8) -> Option<Row> {
     })
 }
 
+/// An error's text behind this one. Want of memory is handed on.
+fn error_text(
+    alloc: Global,
+    before: &str,
+    error: Error,
+) -> std::result::Result<String, AllocError> {
+    match error {
+        Error::NoMemory => Err(AllocError),
+        error => format!(in alloc; "{before}{error}"),
+    }
+}
+
 /// What is told, as a text.
 trait Told: Tells {
     fn told(alloc: Global, told: Self::Output) -> std::result::Result<String, AllocError>;
@@ -98,8 +110,8 @@ impl Told for AsParts {
     ) -> std::result::Result<String, AllocError> {
         match told {
             Ok((header, Ok(bytes))) => header_text(alloc, header, bytes.len()),
-            Ok((_, Err(error))) => format!(in alloc; "{error}"),
-            Err(error) => format!(in alloc; "{error}"),
+            Ok((_, Err(error))) => error_text(alloc, "", error),
+            Err(error) => error_text(alloc, "", error),
         }
     }
 }
@@ -111,8 +123,8 @@ impl Told for AsMessage {
     ) -> std::result::Result<String, AllocError> {
         match told {
             Ok(message) => header_text(alloc, message.header, message.payload.len()),
-            Err(GenMessageError::ReturnError(_, error)) => format!(in alloc; "return {error}"),
-            Err(GenMessageError::InternalError(error)) => format!(in alloc; "internal {error}"),
+            Err(GenMessageError::ReturnError(_, error)) => error_text(alloc, "return ", error),
+            Err(GenMessageError::InternalError(error)) => error_text(alloc, "internal ", error),
         }
     }
 }
@@ -129,7 +141,7 @@ impl Told for AsValue<Request> {
                     header.stream_id, payload.method, payload.timeout_nano
                 )
             }
-            Err(error) => format!(in alloc; "{error}"),
+            Err(error) => error_text(alloc, "", error),
         }
     }
 }
