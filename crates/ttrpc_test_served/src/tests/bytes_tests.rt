@@ -114,6 +114,36 @@ fn answers_come_behind_the_end_of_input(rt: HostRuntime) -> Result<(), Fail> {
     Ok(())
 }
 
+/// A handler that waits, one that lets it go on, and two calls behind them, in one write.
+const WAITS_AND_OPENS: &[u8] =
+    b"\0\0\0\x15\0\0\0\x01\x01\0\x0a\x09demo.Echo\x12\x05Waits\x1a\x01\x31\0\0\0\x15\0\0\0\x03\x01\0\x0a\x09demo.Echo\x12\x05Opens\x1a\x01\x32";
+
+const CALLS_BEHIND: &[u8] =
+    b"\0\0\0\x14\0\0\0\x05\x01\0\x0a\x09demo.Echo\x12\x04Echo\x1a\x01\x33\0\0\0\x14\0\0\0\x07\x01\0\x0a\x09demo.Echo\x12\x04Echo\x1a\x01\x34";
+
+/// The answers: that of the handler that was woken comes before those of the calls.
+const WOKEN_FIRST: &[u8] =
+    b"\0\0\0\x05\0\0\0\x03\x02\0\x0a\0\x12\x01\x32\0\0\0\x05\0\0\0\x01\x02\0\x0a\0\x12\x01\x31";
+
+const CALLS_THEN: &[u8] =
+    b"\0\0\0\x05\0\0\0\x05\x02\0\x0a\0\x12\x01\x33\0\0\0\x05\0\0\0\x07\x02\0\x0a\0\x12\x01\x34";
+
+const WAKES: &[Line<'static>] = &[
+    Line::Up(WAITS_AND_OPENS),
+    Line::Up(CALLS_BEHIND),
+    Line::UpEnds,
+    Line::Down(WOKEN_FIRST),
+    Line::Down(CALLS_THEN),
+    Line::DownEnds,
+];
+
+#[test]
+fn a_woken_handler_goes_before_calls_that_wait(rt: HostRuntime) -> Result<(), Fail> {
+    let gate = Arc::new(rt.alloc(), Gate::new(rt.alloc()))?;
+    assert_eq!(rt; run_lines(&rt, &gate, 4096, false, WAKES)?, None);
+    Ok(())
+}
+
 /// This conversation goes as stated.
 fn hold<R: System + Abort>(
     rt: &R,
