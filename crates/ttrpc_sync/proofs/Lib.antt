@@ -1,4 +1,5 @@
 pub mod Counting
 pub mod Handing
+pub mod Untold
 pub mod Working
 pub mod Writing

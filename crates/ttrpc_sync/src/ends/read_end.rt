@@ -1,5 +1,5 @@
 //! The port to which a connection's reader hands what it read.
-ghost use Rattle.std.specs.Prelude.{◌≡◌, true, MatchBool};
+ghost use Rattle.std.specs.Prelude.{◌≡◌, length, true, IfNone, IfSome, MatchBool};
 ghost use Rattle.ttrpc_sync.specs.declared.ports.PortState.{PortState};
 
 use crate::ends::connected::{Connected, Held, Taken};
@@ -59,7 +59,12 @@ impl<X: Wait, S: Connected> ReadPort for ReadEnd<'_, X, S> {
         self.has_turn
     }
 
-    fn take(&mut self, piece: &[u8]) -> Option<usize> {
+    fn take(&mut self, piece: &[u8]) -> Option<usize>
+        requires { self.old.state ≡ PortState.Open }
+        // The connection takes it whole, or has failed.
+        ensures whole { IfSome result (λ n. (n ≡ length piece.now) × (self.new.state ≡ PortState.Open)) }
+        ensures failed { IfNone result (self.new.state ≡ PortState.Stopped) }
+    {
         let mut guard = self.shared.held().lock(self.rt);
         let taken = guard.take(self.alloc, piece);
         drop(guard);

@@ -1,6 +1,6 @@
 //! The port from which a connection's bytes are written.
-ghost use Rattle.std.specs.Prelude.{◌≡◌, true, false, if◌then◌else◌};
-ghost use Rattle.ttrpc_sync.specs.Batches.{is_due};
+ghost use Rattle.std.specs.Prelude.{◌≡◌, ◌≤◌, ◌&&◌, nat_eq, true, false, if◌then◌else◌, MatchBool};
+ghost use Rattle.ttrpc_sync.specs.Batches.{is_due, with_loan};
 ghost use Rattle.ttrpc_sync.specs.declared.ports.PortState.{PortState};
 
 use crate::ends::batch::{BATCH_LOANS, Batch};
@@ -70,7 +70,9 @@ impl<X: Wait, S: Connected> WriteEnd<'_, X, S> {
     }
 
     // Gives the turn back.
-    fn give_back(&mut self) {
+    fn give_back(&mut self)
+        ensures { self.new ≡ record self.old { written = 0 } }
+    {
         let mut guard = self.shared.held().lock(self.rt);
         guard.wrote(self.written);
         let wakes = guard.give_back();
@@ -83,7 +85,7 @@ impl<X: Wait, S: Connected> WriteEnd<'_, X, S> {
 
     // Waits until it has the turn and bytes wait. False: it is to end, and has no turn any more.
     fn wait_for_bytes(&mut self) -> bool
-        ensures { self.new.state ≡ self.old.state }
+        ensures { self.new ≡ record self.old { written = 0 } }
     {
         let mut guard = self.shared.held().lock(self.rt);
         let mut has_turn = self.has_turn;
@@ -129,7 +131,15 @@ impl<X: Wait, S: Connected> WritePort for WriteEnd<'_, X, S> {
         loan.count
     }
 
-    fn wrote(&mut self, count: usize) {
+    fn wrote(&mut self, count: usize)
+        requires state { self.old.state ≡ PortState.Open }
+        requires lent { count ≤ self.old.loan.count }
+        // It is in the batch, and reported under the next lock.
+        ensures { self.new ≡ record self.old {
+          batch = with_loan self.old.batch count (self.old.loan.ends_frame && nat_eq count self.old.loan.count);
+          written = count;
+        } }
+    {
         let ends_frame = self.loan.ends_frame && count == self.loan.count;
         self.batch.add(count, ends_frame);
         self.written = count;
@@ -142,7 +152,15 @@ impl<X: Wait, S: Connected> WritePort for WriteEnd<'_, X, S> {
         self.state = PortState::Broke(kind);
     }
 
-    fn more(&mut self) -> bool {
+    fn more(&mut self) -> bool
+        requires { self.old.state ≡ PortState.Open }
+        // The loop goes on where the port says so.
+        ensures state { MatchBool result (self.new.state ≡ PortState.Open) (self.new.state ≡ PortState.Stopped) }
+        // What was written has left, so another batch begins.
+        ensures batch { self.new.batch ≡ record { bytes = 0; loans = 0; ends_frame = false } }
+        // Who ends has no turn any more.
+        ensures turn { result ≡ false → self.new.has_turn ≡ false }
+    {
         let is_due = self.is_due();
         self.batch = Batch::new();
         if self.stays && is_due {

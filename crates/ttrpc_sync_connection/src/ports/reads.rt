@@ -1,6 +1,7 @@
 //! The port of a server's readers, which look for what comes next in turn.
-ghost use Rattle.std.specs.Prelude.{◌≡◌, if◌then◌else◌, true, false};
+ghost use Rattle.std.specs.Prelude.{◌≡◌, if◌then◌else◌, length, true, false, IfNone, IfSome, MatchBool};
 ghost use Rattle.ttrpc_sync.specs.declared.ends.read_end.ReadEnd.{ReadEnd as AReadEnd};
+ghost use Rattle.ttrpc_sync.specs.declared.ports.PortState.{PortState};
 
 use crate::ports::server::{ServerRead, ServerShared};
 use std::alloc::Global;
@@ -70,11 +71,20 @@ impl<X: Wait, O: OutboundTransform + Drop, I: InboundTransform + Drop> ReadPort
         self.end.begin();
     }
 
-    fn wants(&mut self) -> bool {
+    fn wants(&mut self) -> bool
+        requires { self.old.end.state ≡ PortState.Open }
+        ensures state { MatchBool result (self.new.end.state ≡ PortState.Open) (self.new.end.state ≡ PortState.Stopped) }
+        ensures turn { (result ≡ self.old.end.has_turn) × (self.new.end.has_turn ≡ self.old.end.has_turn) }
+    {
         self.end.wants()
     }
 
-    fn take(&mut self, piece: &[u8]) -> Option<usize> {
+    fn take(&mut self, piece: &[u8]) -> Option<usize>
+        requires { self.old.end.state ≡ PortState.Open }
+        // The connection takes it whole, or has failed.
+        ensures whole { IfSome result (λ n. (n ≡ length piece.now) × (self.new.end.state ≡ PortState.Open)) }
+        ensures failed { IfNone result (self.new.end.state ≡ PortState.Stopped) }
+    {
         self.end.take(piece)
     }
 
