@@ -19,12 +19,13 @@ use crate::kind::ClientKind;
 use crate::landing::{News, Outcome, news_of, outcome_of};
 use crate::streams::{Stream, StreamId, Streams};
 use std::alloc::{AllocError, Global};
-use std::collections::{BTreeMap, BTreeSet, VecDeque};
+use std::collections::{BTreeSet, VecDeque};
 use std::marker::Model;
 use ttrpc_connection::deadlines::Deadlines;
 use ttrpc_connection::{Arrived, Failure, Outbox, Reacts};
 use ttrpc_proto::Error;
 use ttrpc_secure::OutboundTransform;
+use ttrpc_table::Table;
 use ttrpc_wire::Blob;
 
 /// How far ids go.
@@ -35,7 +36,7 @@ const LAST_ID: u64 = 4294967295;
 pub struct ClientState {
     kind: ClientKind,
     next: u64,
-    calls: BTreeMap<CallId, Call>,
+    calls: Table<Call>,
     // Those of the calls that wait.
     deadlines: Deadlines,
     // Has room for each call that waits, too, so that one can always end.
@@ -56,14 +57,14 @@ impl Model for ClientState {
     ghost view = { λ a. record {
       kind = a.kind;
       next = a.next;
-      calls = a.calls.entries;
+      calls = a.calls;
       ended = a.ended.items;
       streams = a.streams;
       heard = a.heard.keys;
     } };
 
-    ghost invariant = { λ a. IsKept a.next a.calls.entries a.deadlines a.ended.items (deque_len a.ended) (deque_capacity a.ended)
-        × AreStreams a.next a.calls.entries a.streams };
+    ghost invariant = { λ a. IsKept a.next a.calls a.deadlines a.ended.items (deque_len a.ended) (deque_capacity a.ended)
+        × AreStreams a.next a.calls a.streams };
 }
 
 impl ClientState {
@@ -75,7 +76,7 @@ impl ClientState {
         ClientState {
             kind,
             next: u64::from(id),
-            calls: BTreeMap::new(alloc),
+            calls: Table::new(alloc),
             deadlines: Deadlines::new(alloc),
             ended: VecDeque::new(alloc),
             streams: Streams::new(alloc),
@@ -116,7 +117,11 @@ impl ClientState {
     {
         self.ended.reserve(self.calls.len() + 1)?;
         self.deadlines.add(u64::from(id), deadline)?;
-        if self.calls.insert(id, Call::Waiting(deadline)).is_err() {
+        if self
+            .calls
+            .insert(u64::from(id), Call::Waiting(deadline))
+            .is_err()
+        {
             self.deadlines.take_away(u64::from(id), deadline);
             return Err(AllocError);
         }
@@ -139,7 +144,7 @@ impl ClientState {
         ensures was { result ≡ call_at self.old id }
         ensures leaves { Leaves self.old id self.new }
     {
-        let call = self.calls.remove(&id);
+        let call = self.calls.remove(u64::from(id));
         self.deadlines.take_away(u64::from(id), waits_until(&call));
         if self.calls.is_empty() {
             self.ended.clear();
@@ -153,7 +158,7 @@ impl ClientState {
         ensures given { result ≡ given_of failed (call_at self.old id) }
         ensures takes { Takes failed self.old id self.new }
     {
-        match self.calls.get(&id) {
+        match self.calls.get(u64::from(id)) {
             None => None,
             Some(Call::Waiting(_)) if !failed => None,
             Some(Call::Waiting(_) | Call::Expired | Call::Ended(_)) => self.forget(id),
@@ -165,10 +170,7 @@ impl ClientState {
         ensures { result ≡ due_at now (call_at self.now id) }
     {
         let calls = &self.calls;
-        let Ok(id) = CallId::try_from(id) else {
-            return false;
-        };
-        calls.get(&id).is_some_and(|call| call.is_due(now))
+        calls.get(id).is_some_and(|call| call.is_due(now))
     }
 
     /// The calls that are due at this moment expire. Takes no memory.
@@ -215,7 +217,7 @@ impl ClientState {
     fn waits(&self, id: CallId) -> bool
         ensures { result ≡ waits (call_at self.now id) }
     {
-        matches!(self.calls.get(&id), Some(Call::Waiting(_)))
+        matches!(self.calls.get(u64::from(id)), Some(Call::Waiting(_)))
     }
 
     /// Ends a waiting call in this way, and lists it as ended. Takes no memory.
@@ -224,7 +226,7 @@ impl ClientState {
         requires ended { waits (Some call) ≡ false }
         ensures { Settles self.old id call self.new }
     {
-        let Ok(was) = self.calls.insert(id, call) else {
+        let Ok(was) = self.calls.insert(u64::from(id), call) else {
             unreachable!();
         };
         self.deadlines.take_away(u64::from(id), waits_until(&was));

@@ -1,58 +1,63 @@
 //! The wakers of those who wait for what a core tells.
 ghost use Rattle.std.specs.Prelude.{◌≡◌, [], length, IfSome, IfNone};
 ghost use Rattle.std.specs.BTreeMap.{is_at};
+ghost use Rattle.std.specs.Ordering.{nat_cmp};
 ghost use Rattle.std.specs.Set.{remove_key};
 ghost use Rattle.futures.specs.Task.{Covers, Keeps};
 ghost use Rattle.ttrpc_polled.specs.Waiting.{IsFirst};
 
 use futures::task::{Context, Poll, Source, Waker};
 use std::alloc::Global;
-use std::collections::BTreeMap;
 use std::marker::Model;
+use ttrpc_table::Table;
 
-/// The wakers of those who wait, each under the key of what it waits for, which contracts see as these keys, in order. A
-/// waker wakes as it is dropped.
+/// The wakers of those who wait, each under the number of what it waits for, which contracts see as these numbers, in order.
+/// A waker wakes as it is dropped.
 #[derive(Drop)]
-pub struct Wakers<K: Ord + Drop> {
-    slots: BTreeMap<K, Option<Waker>>,
+pub struct Wakers {
+    slots: Table<Option<Waker>>,
 }
 
-impl<K: Ord + Drop> Model for Wakers<K> {
-    ghost use Rattle.std.specs.Prelude.{List};
+impl Model for Wakers {
+    ghost use Rattle.std.specs.Prelude.{List, ℕ};
     ghost use Rattle.std.specs.Map.{keys_of};
 
-    ghost Value = { List K };
+    ghost Value = { List ℕ };
 
-    ghost view = { λ w. keys_of w.slots.entries };
+    ghost view = { λ w. keys_of w.slots };
 }
 
-impl<K: Ord + Copy + Drop> Wakers<K> {
+impl Wakers {
     /// Nobody waits.
-    pub fn new(alloc: Global) -> Wakers<K>
+    pub fn new(alloc: Global) -> Wakers
         ensures { result ≡ [] }
     {
         Wakers {
-            slots: BTreeMap::new(alloc),
+            slots: Table::new(alloc),
         }
     }
 
-    /// Waits under this key, at this source. Where there is no memory for that the task is polled again at once.
-    pub fn wait<T>(&mut self, key: K, source: &Source, cx: &mut Context<'_>) -> Poll<T>
+    /// Waits under this number, at this source. Where there is no memory for that the task is polled again at once.
+    pub fn wait<T>(&mut self, key: u64, source: &Source, cx: &mut Context<'_>) -> Poll<T>
         ensures pending { result ≡ Poll.Pending }
         ensures registered { Covers cx.new (λ s. s ≡ source.now.id) }
         ensures kept { Keeps cx.old cx.new }
     {
-        let Ok(entry) = self.slots.entry(key) else {
-            return cx.yield_now();
-        };
-        cx.register(source, entry.or_insert(None))
+        if let Some(slot) = self.slots.get_mut(key) {
+            return cx.register(source, slot);
+        }
+        let mut slot = None;
+        let pending = cx.register(source, &mut slot);
+        // A waker that finds no place is dropped, and so wakes.
+        let _ = self.slots.insert(key, slot);
+        pending
     }
 
-    /// Wakes who waits under this key.
-    pub fn wake(&mut self, key: K)
-        ensures { self.new ≡ remove_key (is_at (K.cmp key)) self.old }
+    /// Wakes who waits under this number.
+    pub fn wake(&mut self, key: u64)
+        ensures { self.new ≡ remove_key (is_at (nat_cmp key)) self.old }
     {
-        let _ = self.slots.remove(&key);
+        let _ = self.slots.remove(key);
     }
 
     /// Wakes everybody.
@@ -69,12 +74,11 @@ impl<K: Ord + Copy + Drop> Wakers<K> {
         self.slots.len()
     }
 
-    /// The least key under which somebody waits.
-    pub fn first(&self) -> Option<K>
+    /// The least number under which somebody waits.
+    pub fn first(&self) -> Option<u64>
         ensures some { IfSome result (IsFirst self.now) }
         ensures none { IfNone result (self.now ≡ []) }
     {
-        let (key, _) = self.slots.first_key_value()?;
-        Some(*key)
+        self.slots.first()
     }
 }

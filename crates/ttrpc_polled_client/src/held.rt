@@ -30,8 +30,8 @@ use ttrpc_wire::Blob;
 pub struct ClientHeld<O, I> {
     pub core: ClientCore<O, I>,
     alloc: Global,
-    callers: Wakers<CallId>,
-    streams: StreamWakers<StreamId>,
+    callers: Wakers,
+    streams: StreamWakers,
     pub driver: Option<Waker>,
 }
 
@@ -69,7 +69,7 @@ impl<O: OutboundTransform + Drop, I: InboundTransform + Drop> ClientHeld<O, I> {
             return Poll::Ready(outcome);
         }
         match asked.id() {
-            Some(id) => self.callers.wait(id, came, cx),
+            Some(id) => self.callers.wait(u64::from(id), came, cx),
             None => cx.yield_now(),
         }
     }
@@ -118,7 +118,7 @@ impl<O: OutboundTransform + Drop, I: InboundTransform + Drop> ClientHeld<O, I> {
         ensures { Forgets O.SEALS self.old.core id self.new.core }
     {
         self.core.drop_call(id);
-        self.callers.wake(id);
+        self.callers.wake(u64::from(id));
         self.wake_if_failed();
     }
 
@@ -127,7 +127,7 @@ impl<O: OutboundTransform + Drop, I: InboundTransform + Drop> ClientHeld<O, I> {
         ensures { DropsReceiver self.old.core id self.new.core }
     {
         self.core.drop_receiver(id);
-        self.streams.wake_receiver(id);
+        self.streams.wake_receiver(u64::from(id));
     }
 
     /// Nobody sends on a stream any more.
@@ -166,7 +166,7 @@ impl<O: OutboundTransform + Drop, I: InboundTransform + Drop> ClientHeld<O, I> {
         ensures { self.new.core ≡ record self.old.core { state = record self.old.core.state { ended = [] } } }
     {
         while let Some(id) = self.core.next_ended() {
-            self.callers.wake(id);
+            self.callers.wake(u64::from(id));
         }
     }
 
@@ -175,7 +175,7 @@ impl<O: OutboundTransform + Drop, I: InboundTransform + Drop> ClientHeld<O, I> {
         ensures { self.new.core ≡ record self.old.core { state = record self.old.core.state { heard = [] } } }
     {
         while let Some(id) = self.core.next_heard() {
-            self.streams.wake_receiver(id);
+            self.streams.wake_receiver(u64::from(id));
         }
     }
 }

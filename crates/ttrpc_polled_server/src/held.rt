@@ -30,8 +30,8 @@ use ttrpc_wire::Blob;
 pub struct ServerHeld<O, I> {
     pub core: ServerCore<O, I>,
     alloc: Global,
-    running: Wakers<JobId>,
-    streams: StreamWakers<JobId>,
+    running: Wakers,
+    streams: StreamWakers,
     pub input_ended: bool,
     pub driver: Option<Waker>,
 }

@@ -3,12 +3,12 @@
 use Rattle.std.specs.Prelude.{ℕ, List, [], ◌∷◌}
 
 -- the tickets of the frames that are waited for to be sent, and the streams from which somebody waits to receive, in order
-pub record Waiting (K : Type 0) : Type 0 where
+pub record Waiting : Type 0 where
   pub senders : List ℕ
-  pub receivers : List K
+  pub receivers : List ℕ
 
 -- nobody waits
-abbrev pub nobody : {K : Type 0} → Waiting K
+abbrev pub nobody : Waiting
 nobody = record { senders = []; receivers = [] }
 
 -- where somebody still waits, the first of these tickets is so

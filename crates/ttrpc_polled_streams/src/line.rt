@@ -1,6 +1,7 @@
 //! What the streams of a connection share with its future.
 ghost use Rattle.std.specs.Prelude.{◌≡◌, ◌++◌, ℕ, List, [], None, length};
 ghost use Rattle.std.specs.BTreeMap.{is_at};
+ghost use Rattle.std.specs.Ordering.{nat_cmp};
 ghost use Rattle.std.specs.Set.{remove_key};
 ghost use Rattle.futures.specs.Poll.{OnPending};
 ghost use Rattle.futures.specs.Task.{Covers, Keeps};
@@ -12,7 +13,7 @@ use crate::sending::Sending;
 use futures::task::{Context, Poll, Source};
 use std::alloc::Global;
 use std::marker::Model;
-use ttrpc_connection::{StreamCore, Ticket};
+use ttrpc_connection::StreamCore;
 use ttrpc_polled::Wakers;
 use ttrpc_proto::Result;
 use ttrpc_wire::Blob;
@@ -70,22 +71,22 @@ pub trait StreamLine: Drop {
 
 /// The wakers of those who use the streams of a connection, which contracts see as what they wait for.
 #[derive(Drop)]
-pub struct StreamWakers<K: Ord + Drop> {
-    senders: Wakers<Ticket>,
-    receivers: Wakers<K>,
+pub struct StreamWakers {
+    senders: Wakers,
+    receivers: Wakers,
 }
 
-impl<K: Ord + Drop> Model for StreamWakers<K> {
+impl Model for StreamWakers {
     ghost use Rattle.ttrpc_polled_streams.specs.Waiting.{Waiting};
 
-    ghost Value = { Waiting K };
+    ghost Value = { Waiting };
 
     ghost view = { λ w. record { senders = w.senders; receivers = w.receivers } };
 }
 
-impl<K: Ord + Copy + Drop> StreamWakers<K> {
+impl StreamWakers {
     /// Nobody waits.
-    pub fn new(alloc: Global) -> StreamWakers<K>
+    pub fn new(alloc: Global) -> StreamWakers
         ensures { result ≡ nobody }
     {
         StreamWakers {
@@ -109,8 +110,8 @@ impl<K: Ord + Copy + Drop> StreamWakers<K> {
     }
 
     /// Wakes who receives from this stream.
-    pub fn wake_receiver(&mut self, id: K)
-        ensures { self.new ≡ record self.old { receivers = remove_key (is_at (K.cmp id)) self.old.receivers } }
+    pub fn wake_receiver(&mut self, id: u64)
+        ensures { self.new ≡ record self.old { receivers = remove_key (is_at (nat_cmp id)) self.old.receivers } }
     {
         self.receivers.wake(id);
     }
@@ -139,11 +140,11 @@ impl<K: Ord + Copy + Drop> StreamWakers<K> {
 
     /// Steps a call that sends on a stream, on a core that is lent: it asks for its frame, where it hasn't, and then whether
     /// that was sent. Where there is no answer yet it waits at this source.
-    pub fn poll_sending_on<C: StreamCore<Id = K>>(
+    pub fn poll_sending_on<C: StreamCore>(
         &mut self,
         alloc: Global,
         core: &mut C,
-        id: K,
+        id: C::Id,
         sending: &mut Sending,
         came: &Source,
         cx: &mut Context<'_>,
@@ -167,7 +168,7 @@ impl<K: Ord + Copy + Drop> StreamWakers<K> {
     }
 
     /// Receives from a stream of a core that is lent. Where nothing came yet it waits at this source.
-    pub fn poll_receiving_on<C: StreamCore<Id = K>>(
+    pub fn poll_receiving_on<K: Ord + Copy + Into<u64> + Drop, C: StreamCore<Id = K>>(
         &mut self,
         alloc: Global,
         core: &mut C,
@@ -181,7 +182,7 @@ impl<K: Ord + Copy + Drop> StreamWakers<K> {
     {
         match core.recv_item(alloc, id) {
             Some(received) => Poll::Ready(received),
-            None => self.receivers.wait(id, came, cx),
+            None => self.receivers.wait(id.into(), came, cx),
         }
     }
 }

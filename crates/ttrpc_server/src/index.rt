@@ -4,14 +4,14 @@ ghost use Rattle.ttrpc_server.specs.Kept.{Finds, FindsTheSame, Loses, job_found,
 
 use crate::job::JobId;
 use std::alloc::{AllocError, Global};
-use std::collections::BTreeMap;
 use std::marker::Model;
 use ttrpc_connection::deadlines::Deadlines;
+use ttrpc_table::Table;
 
 /// The active job of each stream id, and the deadlines of jobs, soonest first.
 #[derive(Drop)]
 pub(crate) struct Index {
-    streams: BTreeMap<u32, JobId>,
+    streams: Table<JobId>,
     deadlines: Deadlines,
 }
 
@@ -20,7 +20,7 @@ impl Model for Index {
 
     ghost Value = { Indexed };
 
-    ghost view = { λ a. record { streams = a.streams.entries; deadlines = a.deadlines } };
+    ghost view = { λ a. record { streams = a.streams; deadlines = a.deadlines } };
 }
 
 impl Index {
@@ -29,7 +29,7 @@ impl Index {
         ensures { result ≡ no_index }
     {
         Index {
-            streams: BTreeMap::new(alloc),
+            streams: Table::new(alloc),
             deadlines: Deadlines::new(alloc),
         }
     }
@@ -45,9 +45,9 @@ impl Index {
         ensures ok { OnOk result (Finds self.old stream_id id deadline self.new) }
         ensures err { OnErr result (FindsTheSame self.old self.new) }
     {
-        self.streams.insert(stream_id, id)?;
+        self.streams.insert(u64::from(stream_id), id)?;
         if self.deadlines.add(id, deadline).is_err() {
-            let _ = self.streams.remove(&stream_id);
+            let _ = self.streams.remove(u64::from(stream_id));
             return Err(AllocError);
         }
         Ok(())
@@ -57,7 +57,7 @@ impl Index {
     pub(crate) fn take_away(&mut self, stream_id: u32, id: JobId, deadline: Option<u128>)
         ensures { Loses self.old stream_id id deadline self.new }
     {
-        let _ = self.streams.remove(&stream_id);
+        let _ = self.streams.remove(u64::from(stream_id));
         self.deadlines.take_away(id, deadline);
     }
 
@@ -72,6 +72,6 @@ impl Index {
     pub(crate) fn job_of(&self, stream_id: u32) -> Option<JobId>
         ensures { result ≡ job_found self.now stream_id }
     {
-        self.streams.get(&stream_id).copied()
+        self.streams.get(u64::from(stream_id)).copied()
     }
 }

@@ -8,31 +8,31 @@ mod mailboxes;
 
 use crate::job::{ActiveJob, Body, Job, JobId};
 use std::alloc::Global;
-use std::collections::{BTreeMap, BTreeSet};
 use std::marker::Model;
 use ttrpc_connection::Failure;
 use ttrpc_frame::MessageHeader;
 use ttrpc_proto::Request;
+use ttrpc_table::Table;
 
 /// The jobs of a server that weren't answered, by rising id, and the ids of those that wait to be handed out.
 #[derive(Drop)]
 pub(crate) struct Jobs {
-    jobs: BTreeMap<JobId, ActiveJob>,
-    waiting: BTreeSet<JobId>,
+    jobs: Table<ActiveJob>,
+    waiting: Table<()>,
     // The id of the last job that was made.
     last: JobId,
 }
 
 impl Model for Jobs {
-    ghost use Rattle.std.specs.Map.{values_of};
+    ghost use Rattle.std.specs.Map.{keys_of, values_of};
     ghost use Rattle.ttrpc_server.specs.State.{JobList};
     ghost use Rattle.ttrpc_server.specs.Inside.{AreJobs};
 
     ghost Value = { JobList };
 
-    ghost view = { λ a. record { last = a.last; list = values_of a.jobs.entries } };
+    ghost view = { λ a. record { last = a.last; list = values_of a.jobs } };
 
-    ghost invariant = { λ a. AreJobs a.last a.jobs.entries a.waiting.keys };
+    ghost invariant = { λ a. AreJobs a.last a.jobs (keys_of a.waiting) };
 }
 
 impl Jobs {
@@ -41,8 +41,8 @@ impl Jobs {
         ensures { result ≡ no_jobs }
     {
         Jobs {
-            jobs: BTreeMap::new(alloc),
-            waiting: BTreeSet::new(alloc),
+            jobs: Table::new(alloc),
+            waiting: Table::new(alloc),
             last: 0,
         }
     }
@@ -79,8 +79,8 @@ impl Jobs {
         if self.jobs.insert(id, job).is_err() {
             return Err(Failure::NoMemory);
         }
-        if self.waiting.insert(id).is_err() {
-            let _ = self.jobs.remove(&id);
+        if self.waiting.insert(id, ()).is_err() {
+            let _ = self.jobs.remove(id);
             return Err(Failure::NoMemory);
         }
         self.last = id;
@@ -93,10 +93,10 @@ impl Jobs {
         ensures none { IfNone result ((self.new ≡ self.old) × NoneWaits self.old.list) }
         ensures last { self.new.last ≡ self.old.last }
     {
-        let Some(id) = self.waiting.pop_first() else {
+        let Some((id, ())) = self.waiting.pop_first() else {
             return None;
         };
-        match self.jobs.get_mut(&id) {
+        match self.jobs.get_mut(id) {
             Some(job) => {
                 let header = job.header;
                 let stream = job.body.is_stream();
@@ -119,7 +119,7 @@ impl Jobs {
     pub(crate) fn place_of(&self, id: JobId) -> Option<(u32, Option<u128>)>
         ensures { (job : AJob) → IsJob self.now.list id job → result ≡ Some (job.header.stream_id, deadline_in job.body) }
     {
-        match self.jobs.get(&id) {
+        match self.jobs.get(id) {
             Some(job) => Some((job.header.stream_id, job.body.deadline())),
             None => None,
         }
@@ -129,7 +129,7 @@ impl Jobs {
     pub(crate) fn waits(&self, id: JobId) -> bool
         ensures { (job : AJob) → IsJob self.now.list id job → result ≡ waits job }
     {
-        match self.jobs.get(&id) {
+        match self.jobs.get(id) {
             Some(job) => job.request.is_some(),
             None => false,
         }
@@ -142,8 +142,8 @@ impl Jobs {
         ensures last { self.new.last ≡ self.old.last }
         ensures rise { Rising 0 self.old.list self.old.last }
     {
-        let _ = self.waiting.remove(&id);
-        let _ = self.jobs.remove(&id);
+        let _ = self.waiting.remove(id);
+        let _ = self.jobs.remove(id);
     }
 
     /// How many jobs weren't answered. Takes no memory.

@@ -21,7 +21,7 @@ impl Jobs {
     pub(crate) fn inlet(&self, id: JobId) -> Option<Inlet>
         ensures { result ≡ option_map (λ j. inlet_in j.body) (job_at self.now.list id) }
     {
-        match self.jobs.get(&id) {
+        match self.jobs.get(id) {
             Some(job) => Some(job.body.inlet()),
             None => None,
         }
@@ -31,7 +31,7 @@ impl Jobs {
     pub(crate) fn stream_at(&self, id: JobId) -> Option<(u32, bool)>
         ensures { result ≡ option_map (λ j. (j.header.stream_id, is_stream j.body)) (job_at self.now.list id) }
     {
-        match self.jobs.get(&id) {
+        match self.jobs.get(id) {
             Some(job) => Some((job.header.stream_id, job.body.is_stream())),
             None => None,
         }
@@ -42,7 +42,7 @@ impl Jobs {
         ensures some { IfSome result (λ p. (job : AJob) × IsTaken self.now.list id job × (p ≡ (job.header.stream_id, is_stream job.body))) }
         ensures none { IfNone result (IsUnknown self.now.list id) }
     {
-        match self.jobs.get(&id) {
+        match self.jobs.get(id) {
             Some(job) if job.request.is_none() => {
                 Some((job.header.stream_id, job.body.is_stream()))
             }
@@ -63,7 +63,7 @@ impl Jobs {
         ensures ok { OnOk result (self.new ≡ record self.old { list = on_mail id (λ m. with_thing m thing ends) self.old.list }) }
         ensures err { OnErr result (self.new ≡ self.old) }
     {
-        let Some(job) = self.jobs.get_mut(&id) else {
+        let Some(job) = self.jobs.get_mut(id) else {
             return Ok(());
         };
         job.body.put(thing, ends)
@@ -73,7 +73,7 @@ impl Jobs {
     pub(crate) fn drop_receiver(&mut self, id: JobId)
         ensures { self.new ≡ record self.old { list = on_mail id without_receiver self.old.list } }
     {
-        let Some(job) = self.jobs.get_mut(&id) else {
+        let Some(job) = self.jobs.get_mut(id) else {
             return;
         };
         job.body.drop_receiver();
@@ -89,7 +89,7 @@ impl Jobs {
         ensures answer { ReceivesFrom failure.now self.old.list id result self.new.list }
         ensures last { self.new.last ≡ self.old.last }
     {
-        let Some(job) = self.jobs.get_mut(&id) else {
+        let Some(job) = self.jobs.get_mut(id) else {
             return None;
         };
         job.body.recv(alloc, failure)

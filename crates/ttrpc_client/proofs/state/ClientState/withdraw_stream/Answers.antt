@@ -6,7 +6,7 @@ pub invariant_of-self : goal.invariant_of-self
 invariant_of-self c =
     let kept = c.self.invariant.0 in
     let next : c.self.inside.next ≡ c.args.id + 2 = rw (← c.self.view_is) at c.requires.last in
-    let none : call_in c.self.inside.calls.entries c.args.id ≡ None = rw (← c.self.view_is) at c.requires.stream in (
+    let none : call_in c.self.inside.calls c.args.id ≡ None = rw (← c.self.view_is) at c.requires.stream in (
       record {
         valid = client_below _ c.args.id _ kept.valid next none;
         ordered = kept.ordered;

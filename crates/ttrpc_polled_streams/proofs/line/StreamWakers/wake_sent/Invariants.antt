@@ -1,10 +1,10 @@
-use Rattle.std.proofs.Common.{◌≡◌, ◌++◌, List, length}
+use Rattle.std.proofs.Common.{◌≡◌, ◌++◌, ℕ, List, length}
 use Rattle.ttrpc_polled_streams.proofs.line.StreamWakers.wake_sent.Given as goal
 
 -- some of those who waited for frames were woken, the first ones
 abbrev pub invariant-loop-ticket : goal.invariant-loop-ticket
 invariant-loop-ticket g l = record {
-  woken : (woken : List _) × (l.fn.self.senders ≡ woken ++ l.self-inside.senders);
+  woken : (woken : List ℕ) × (l.fn.self.senders ≡ woken ++ l.self-inside.senders);
   receivers : l.self-inside.receivers ≡ l.fn.self.receivers;
 }
 

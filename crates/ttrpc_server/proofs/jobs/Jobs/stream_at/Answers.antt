@@ -5,10 +5,10 @@ use Rattle.ttrpc_server.proofs.jobs.Jobs.stream_at.Goals as goal
 
 pub returns-in-Some : goal.returns-in-Some
 returns-in-Some c =
-    let is : job_at (values_of c.self.inside.jobs.entries) c.args.id ≡ Some c.in-Some.job.now = sym (here_is c.self.invariant c.args.id) ∙ search rules in
+    let is : job_at (values_of c.self.inside.jobs) c.args.id ≡ Some c.in-Some.job.now = sym (here_is c.self.invariant c.args.id) ∙ search rules in
     rw (← c.self.view_is, is, c.is_stream.ensures) refl
 
 pub returns-in-None : goal.returns-in-None
 returns-in-None c =
-    let is : job_at (values_of c.self.inside.jobs.entries) c.args.id ≡ None = sym (here_is c.self.invariant c.args.id) ∙ search rules in
+    let is : job_at (values_of c.self.inside.jobs) c.args.id ≡ None = sym (here_is c.self.invariant c.args.id) ∙ search rules in
     rw (← c.self.view_is, is) refl

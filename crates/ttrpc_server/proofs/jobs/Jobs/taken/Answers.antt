@@ -6,12 +6,12 @@ use Rattle.ttrpc_server.proofs.jobs.Jobs.taken.Goals as goal
 pub overflow_sub-result : goal.overflow_sub-result
 overflow_sub-result c =
     let n = rw (← c.self.view_is) at c.waiting.ensures in
-    let fewer = filter_fewer (values_of c.self.inside.jobs.entries) in
-    let all = length-values_of c.self.inside.jobs.entries in
-    omega (arith, n, fewer, all, c.len.ensures.len)
+    let fewer = filter_fewer (values_of c.self.inside.jobs) in
+    let all = length-values_of c.self.inside.jobs in
+    omega (arith, n, fewer, all, c.len.ensures.count)
 
 pub returns : goal.returns
 returns c =
     let n = rw (← c.self.view_is) at c.waiting.ensures in
-    let all = length-values_of c.self.inside.jobs.entries in
-    rw (← c.self.view_is) (omega (arith, n, all, c.len.ensures.len))
+    let all = length-values_of c.self.inside.jobs in
+    rw (← c.self.view_is) (omega (arith, n, all, c.len.ensures.count))

@@ -1,0 +1,3 @@
+mod Calls
+mod Parts
+pub mod Users
