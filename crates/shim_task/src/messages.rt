@@ -4,9 +4,9 @@
 use std::alloc::{AllocError, Global};
 use ttrpc_codec::message::WireMessage;
 use ttrpc_members::entries::MapOf;
-use ttrpc_members::item::{Boolean, Bytes, Int32, Int64, Nested, Uint32, Utf8, Utf8Key};
+use ttrpc_members::item::{Boolean, Bytes, Int32, Int64, Nested, Uint32, Utf8};
 use ttrpc_members::kind::{MemberKind, Optional, Repeated, Single};
-use ttrpc_members::map::{Map, TextKey};
+use ttrpc_members::map::Map;
 use ttrpc_members::several::{
     clone_eight, clone_four, clone_two, write_eight, write_four, write_two,
 };
@@ -1782,7 +1782,7 @@ pub struct UpdateTaskRequest {
     /// Field 2.
     pub resources: Option<Any>,
     /// Field 3.
-    pub annotations: Map<TextKey, Text>,
+    pub annotations: Map<Text, Text>,
 }
 
 const UPDATE_TASK_REQUEST_ID: FieldNumber = FieldNumber { value: 1 };
@@ -1795,7 +1795,7 @@ impl TryClone for UpdateTaskRequest {
     fn try_clone(&self) -> Result<UpdateTaskRequest, AllocError> {
         let id = Single::<Utf8>::try_clone(&self.id)?;
         let resources = Optional::<Nested<Any>>::try_clone(&self.resources)?;
-        let annotations = MapOf::<Utf8Key, Utf8>::try_clone(&self.annotations)?;
+        let annotations = MapOf::<Utf8, Utf8>::try_clone(&self.annotations)?;
         Ok(UpdateTaskRequest {
             id,
             resources,
@@ -1819,7 +1819,7 @@ impl WireMessage for UpdateTaskRequest {
         UpdateTaskRequest {
             id: Single::<Utf8>::empty(alloc),
             resources: Optional::<Nested<Any>>::empty(alloc),
-            annotations: MapOf::<Utf8Key, Utf8>::empty(alloc),
+            annotations: MapOf::<Utf8, Utf8>::empty(alloc),
         }
     }
 
@@ -1827,7 +1827,7 @@ impl WireMessage for UpdateTaskRequest {
         match field.number.value {
             1 => Single::<Utf8>::take(&mut self.id, alloc, field.value),
             2 => Optional::<Nested<Any>>::take(&mut self.resources, alloc, field.value),
-            3 => MapOf::<Utf8Key, Utf8>::take(&mut self.annotations, alloc, field.value),
+            3 => MapOf::<Utf8, Utf8>::take(&mut self.annotations, alloc, field.value),
             _ => Ok(()),
         }
     }
@@ -1840,7 +1840,7 @@ impl WireMessage for UpdateTaskRequest {
             &self.resources,
             UPDATE_TASK_REQUEST_RESOURCES,
         ));
-        len.saturating_add(MapOf::<Utf8Key, Utf8>::length(
+        len.saturating_add(MapOf::<Utf8, Utf8>::length(
             &self.annotations,
             UPDATE_TASK_REQUEST_ANNOTATIONS,
         ))
@@ -1850,13 +1850,13 @@ impl WireMessage for UpdateTaskRequest {
     fn write(&self, out: &mut Vec<u8>) -> Result<(), CodecError> {
         Single::<Utf8>::write(&self.id, UPDATE_TASK_REQUEST_ID, out)?;
         Optional::<Nested<Any>>::write(&self.resources, UPDATE_TASK_REQUEST_RESOURCES, out)?;
-        MapOf::<Utf8Key, Utf8>::write(&self.annotations, UPDATE_TASK_REQUEST_ANNOTATIONS, out)
+        MapOf::<Utf8, Utf8>::write(&self.annotations, UPDATE_TASK_REQUEST_ANNOTATIONS, out)
     }
 
     fn lemma_is_value(&self) {
         Single::<Utf8>::lemma_is_value(&self.id);
         Optional::<Nested<Any>>::lemma_is_value(&self.resources);
-        MapOf::<Utf8Key, Utf8>::lemma_is_value(&self.annotations);
+        MapOf::<Utf8, Utf8>::lemma_is_value(&self.annotations);
     }
 
     ghost again = { update_task_request.laws.again update_task_request.valid };

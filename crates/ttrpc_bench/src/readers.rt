@@ -12,12 +12,12 @@ use ttrpc_frame::Source;
 /// Gives the bytes of a head, then zeros, then the bytes of a tail.
 #[derive(Drop)]
 pub struct Giver<'a> {
+    manner: Manner,
+    interrupted: bool,
     head: &'a [u8],
     zeros: usize,
     tail: &'a [u8],
     given: usize,
-    manner: Manner,
-    interrupted: bool,
     /// What the last call answered.
     pub last: Result<usize, ErrorKind>,
 }
@@ -35,12 +35,12 @@ impl Giver<'_> {
         ensures { result.last ≡ NO_CALL }
     {
         Giver {
+            manner,
+            interrupted: false,
             head,
             zeros,
             tail,
             given: 0,
-            manner,
-            interrupted: false,
             last: NO_CALL,
         }
     }

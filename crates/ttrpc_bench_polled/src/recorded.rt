@@ -10,11 +10,11 @@ pub type Conversation = (&'static str, &'static [Act], &'static [Line<'static>])
 /// A name, and what goes over the wire.
 pub type Said = (&'static str, &'static [Line<'static>]);
 
-const ANSWERS_00000000000000000000000000000000: &[u8] =
-    b"\0\0\0\x12\0\0\0\x01\x02\0\x12\x10\0\0\0\0\0\0\0\0\0\0\0\0\0\0\0\0";
+const ANSWERS_00000000000000000000000000000000: &[u8] = b"\
+    \0\0\0\x12\0\0\0\x01\x02\0\x12\x10\0\0\0\0\0\0\0\0\0\0\0\0\0\0\0\0";
 
-const ANSWERS_00000000000000020000000000000003: &[u8] =
-    b"\0\0\0\x12\0\0\0\x01\x02\0\x12\x10\0\0\0\0\0\0\0\x02\0\0\0\0\0\0\0\x03";
+const ANSWERS_00000000000000020000000000000003: &[u8] = b"\
+    \0\0\0\x12\0\0\0\x01\x02\0\x12\x10\0\0\0\0\0\0\0\x02\0\0\0\0\0\0\0\x03";
 
 const ANSWERS_2A: &[u8] = b"\0\0\0\x03\0\0\0\x01\x02\0\x12\x01*";
 
@@ -22,59 +22,59 @@ const ANSWERS_NOTHING: &[u8] = b"\0\0\0\0\0\0\0\x01\x02\0";
 
 const ANSWERS_OK: &[u8] = b"\0\0\0\x02\0\0\0\x01\x02\0\x0a\0";
 
-const ANSWERS_OK_00000000000000000000000000000000: &[u8] =
-    b"\0\0\0\x14\0\0\0\x01\x02\0\x0a\0\x12\x10\0\0\0\0\0\0\0\0\0\0\0\0\0\0\0\0";
+const ANSWERS_OK_00000000000000000000000000000000: &[u8] = b"\
+    \0\0\0\x14\0\0\0\x01\x02\0\x0a\0\x12\x10\0\0\0\0\0\0\0\0\0\0\0\0\0\0\0\0";
 
-const ANSWERS_OK_00000000000000010000000000000000: &[u8] =
-    b"\0\0\0\x14\0\0\0\x01\x02\0\x0a\0\x12\x10\0\0\0\0\0\0\0\x01\0\0\0\0\0\0\0\0";
+const ANSWERS_OK_00000000000000010000000000000000: &[u8] = b"\
+    \0\0\0\x14\0\0\0\x01\x02\0\x0a\0\x12\x10\0\0\0\0\0\0\0\x01\0\0\0\0\0\0\0\0";
 
-const ANSWERS_OK_00000000000000020000000000000003: &[u8] =
-    b"\0\0\0\x14\0\0\0\x01\x02\0\x0a\0\x12\x10\0\0\0\0\0\0\0\x02\0\0\0\0\0\0\0\x03";
+const ANSWERS_OK_00000000000000020000000000000003: &[u8] = b"\
+    \0\0\0\x14\0\0\0\x01\x02\0\x0a\0\x12\x10\0\0\0\0\0\0\0\x02\0\0\0\0\0\0\0\x03";
 
-const ANSWERS_OK_00000000000000030000000000000003: &[u8] =
-    b"\0\0\0\x14\0\0\0\x01\x02\0\x0a\0\x12\x10\0\0\0\0\0\0\0\x03\0\0\0\0\0\0\0\x03";
+const ANSWERS_OK_00000000000000030000000000000003: &[u8] = b"\
+    \0\0\0\x14\0\0\0\x01\x02\0\x0a\0\x12\x10\0\0\0\0\0\0\0\x03\0\0\0\0\0\0\0\x03";
 
 const ANSWERS_OK_2A: &[u8] = b"\0\0\0\x05\0\0\0\x01\x02\0\x0a\0\x12\x01*";
 
 const ANSWERS_OK_FF: &[u8] = b"\0\0\0\x05\0\0\0\x01\x02\0\x0a\0\x12\x01\xff";
 
-const ASKS_CHAT_01_LIMITED: &[u8] =
-    b"\0\0\0\x1a\0\0\0\x01\x01\0\x0a\x09demo.Echo\x12\x04Chat\x1a\x01\x01 \x80\xa8\xd6\xb9\x07";
+const ASKS_CHAT_01_LIMITED: &[u8] = b"\
+    \0\0\0\x1a\0\0\0\x01\x01\0\x0a\x09demo.Echo\x12\x04Chat\x1a\x01\x01 \x80\xa8\xd6\xb9\x07";
 
-const ASKS_CHAT_01_LIMITED_2: &[u8] =
-    b"\0\0\0\x1a\0\0\0\x01\x01\0\x0a\x09demo.Echo\x12\x04Chat\x1a\x01\x01 \xb2\xc5\xd5\xb9\x07";
+const ASKS_CHAT_01_LIMITED_2: &[u8] = b"\
+    \0\0\0\x1a\0\0\0\x01\x01\0\x0a\x09demo.Echo\x12\x04Chat\x1a\x01\x01 \xb2\xc5\xd5\xb9\x07";
 
-const ASKS_COUNT_02_LIMITED: &[u8] =
-    b"\0\0\0\x1b\0\0\0\x01\x01\0\x0a\x09demo.Echo\x12\x05Count\x1a\x01\x02 \x80\xa8\xd6\xb9\x07";
+const ASKS_COUNT_02_LIMITED: &[u8] = b"\
+    \0\0\0\x1b\0\0\0\x01\x01\0\x0a\x09demo.Echo\x12\x05Count\x1a\x01\x02 \x80\xa8\xd6\xb9\x07";
 
-const ASKS_COUNT_02_LIMITED_2: &[u8] =
-    b"\0\0\0\x1b\0\0\0\x01\x01\0\x0a\x09demo.Echo\x12\x05Count\x1a\x01\x02 \xf8\xc6\xd5\xb9\x07";
+const ASKS_COUNT_02_LIMITED_2: &[u8] = b"\
+    \0\0\0\x1b\0\0\0\x01\x01\0\x0a\x09demo.Echo\x12\x05Count\x1a\x01\x02 \xf8\xc6\xd5\xb9\x07";
 
 const ASKS_ECHO_2A: &[u8] = b"\0\0\0\x14\0\0\0\x01\x01\0\x0a\x09demo.Echo\x12\x04Echo\x1a\x01*";
 
 const ASKS_ECHO_EMPTY: &[u8] = b"\0\0\0\x11\0\0\0\x01\x01\0\x0a\x09demo.Echo\x12\x04Echo";
 
-const ASKS_FAIL_0567: &[u8] =
-    b"\0\0\0\x15\0\0\0\x01\x01\0\x0a\x09demo.Echo\x12\x04Fail\x1a\x02\x05g";
+const ASKS_FAIL_0567: &[u8] = b"\
+    \0\0\0\x15\0\0\0\x01\x01\0\x0a\x09demo.Echo\x12\x04Fail\x1a\x02\x05g";
 
 const CLOSES: &[u8] = b"\0\0\0\0\0\0\0\x01\x03\x05";
 
-const FAILS_12_METHOD_NOPE: &[u8] =
-    b"\0\0\0\x11\0\0\0\x01\x02\0\x0a\x0f\x08\x0c\x12\x0bmethod Nope";
+const FAILS_12_METHOD_NOPE: &[u8] = b"\
+    \0\0\0\x11\0\0\0\x01\x02\0\x0a\x0f\x08\x0c\x12\x0bmethod Nope";
 
-const FAILS_12_NOPE_METHOD: &[u8] =
-    b"\0\0\0\x11\0\0\0\x01\x02\0\x0a\x0f\x08\x0c\x12\x0bNope method";
+const FAILS_12_NOPE_METHOD: &[u8] = b"\
+    \0\0\0\x11\0\0\0\x01\x02\0\x0a\x0f\x08\x0c\x12\x0bNope method";
 
 const FAILS_2_PLAIN_ERROR: &[u8] = b"\0\0\0\x11\0\0\0\x01\x02\0\x0a\x0f\x08\x02\x12\x0bplain error";
 
-const FAILS_2_TTRPC_ERR__PLAIN_ERROR: &[u8] =
-    b"\0\0\0\x1c\0\0\0\x01\x02\0\x0a\x1a\x08\x02\x12\x16ttrpc err: plain error";
+const FAILS_2_TTRPC_ERR__PLAIN_ERROR: &[u8] = b"\
+    \0\0\0\x1c\0\0\0\x01\x02\0\x0a\x1a\x08\x02\x12\x16ttrpc err: plain error";
 
-const FAILS_3_STREAMID_IS_NO_LONGER_ACTIVE: &[u8] =
-    b"\0\0\0\"\0\0\0\x01\x02\0\x0a \x08\x03\x12\x1cStreamID is no longer active";
+const FAILS_3_STREAMID_IS_NO_LONGER_ACTIVE: &[u8] = b"\
+    \0\0\0\"\0\0\0\x01\x02\0\x0a \x08\x03\x12\x1cStreamID is no longer active";
 
-const FAILS_3_STREAM_IS_NO_LONGER_ACTIVE: &[u8] =
-    b"\0\0\0 \0\0\0\x01\x02\0\x0a\x1e\x08\x03\x12\x1aStream is no longer active";
+const FAILS_3_STREAM_IS_NO_LONGER_ACTIVE: &[u8] = b"\
+    \0\0\0 \0\0\0\x01\x02\0\x0a\x1e\x08\x03\x12\x1aStream is no longer active";
 
 const FAILS_5_G: &[u8] = b"\0\0\0\x07\0\0\0\x01\x02\0\x0a\x05\x08\x05\x12\x01g";
 
@@ -102,8 +102,8 @@ const LAST_FF: &[u8] = b"\0\0\0\x01\0\0\0\x01\x03\x01\xff";
 
 const OPENS_BARE_CHAT: &[u8] = b"\0\0\0\x11\0\0\0\x01\x01\x02\x0a\x09demo.Echo\x12\x04Chat";
 
-const OPENS_BARE_CHAT_FAIL: &[u8] =
-    b"\0\0\0\x15\0\0\0\x01\x01\x02\x0a\x09demo.Echo\x12\x08ChatFail";
+const OPENS_BARE_CHAT_FAIL: &[u8] = b"\
+    \0\0\0\x15\0\0\0\x01\x01\x02\x0a\x09demo.Echo\x12\x08ChatFail";
 
 const OPENS_BARE_EARLY: &[u8] = b"\0\0\0\x12\0\0\0\x01\x01\x02\x0a\x09demo.Echo\x12\x05Early";
 
@@ -135,11 +135,11 @@ const OPENS_SUM_FAIL: &[u8] = b"\0\0\0\x14\0\0\0\x01\x01\x06\x0a\x09demo.Echo\x1
 
 const OPENS_WITH_COUNT: &[u8] = b"\0\0\0\x12\0\0\0\x01\x01\x01\x0a\x09demo.Echo\x12\x05Count";
 
-const OPENS_WITH_COUNT_03: &[u8] =
-    b"\0\0\0\x15\0\0\0\x01\x01\x01\x0a\x09demo.Echo\x12\x05Count\x1a\x01\x03";
+const OPENS_WITH_COUNT_03: &[u8] = b"\
+    \0\0\0\x15\0\0\0\x01\x01\x01\x0a\x09demo.Echo\x12\x05Count\x1a\x01\x03";
 
-const OPENS_WITH_NOPE_03: &[u8] =
-    b"\0\0\0\x14\0\0\0\x01\x01\x01\x0a\x09demo.Echo\x12\x04Nope\x1a\x01\x03";
+const OPENS_WITH_NOPE_03: &[u8] = b"\
+    \0\0\0\x14\0\0\0\x01\x01\x01\x0a\x09demo.Echo\x12\x04Nope\x1a\x01\x03";
 
 const GO_UNARY_ACTS: &[Act] = &[Act::Calls("Echo", b"*", 0), Act::Ends(0, Ok(b"*"))];
 

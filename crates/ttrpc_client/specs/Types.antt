@@ -1,7 +1,7 @@
 -- The types of the code that these definitions speak of, in one list.
 -- Source: this project's.
-pub use Rattle.ttrpc_proto.specs.declared.request.Request.{Request}
-pub use Rattle.ttrpc_proto.specs.declared.response.Response.{Response}
+pub use Rattle.ttrpc_proto.specs.declared.messages.Request.{Request}
+pub use Rattle.ttrpc_proto.specs.declared.messages.Response.{Response}
 pub use Rattle.ttrpc_proto.specs.declared.error.Error.TheVariants.{LocalClosed, NoMemory, Others, RpcStatus}
 pub use Rattle.ttrpc_connection.specs.Types.{Error, OutboundTransform, Queued}
 pub use Rattle.ttrpc_connection.specs.declared.arrived.Arrived.{Arrived}

@@ -3,7 +3,6 @@
 
 pub mod call;
 mod client;
-pub mod client_on;
 pub mod errors;
 mod kind;
 mod landing;

@@ -12,7 +12,7 @@ use Rattle.ttrpc_wire.specs.Number.{number_of}
 use Rattle.ttrpc_wire.specs.declared.values.code.Code.{Code}
 use Rattle.ttrpc_wire.specs.declared.values.code.Code.TheVariants.{INVALID_ARGUMENT}
 use Rattle.ttrpc_frame.specs.declared.header.TheConstants.{MESSAGE_LENGTH_MAX}
-use Rattle.ttrpc_proto.specs.declared.response.Response.{Response}
+use Rattle.ttrpc_proto.specs.declared.messages.Response.{Response}
 use Rattle.ttrpc_wire.specs.Code.{number_of_code}
 use Rattle.ttrpc_proto.specs.ErrorText.{status_of}
 use Rattle.ttrpc_codec.specs.Members.{delimited_field, delimited_fields, number_fields}

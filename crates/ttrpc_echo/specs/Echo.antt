@@ -2,8 +2,8 @@
 -- Source: PROTOCOL.md of ttrpc, "Request" and "Response".
 use Rattle.std.specs.Prelude.{◌≡◌, ℕ, ◌%◌, ◌^◌, List, [], ◌∷◌, ◌++◌, length, codes, false, Option, Some, None}
 use Rattle.ttrpc_frame.specs.declared.header.TheConstants.{MESSAGE_LENGTH_MAX, MESSAGE_TYPE_RESPONSE}
-use Rattle.ttrpc_proto.specs.declared.request.Request.{Request}
-use Rattle.ttrpc_proto.specs.declared.response.Response.{Response}
+use Rattle.ttrpc_proto.specs.declared.messages.Request.{Request}
+use Rattle.ttrpc_proto.specs.declared.messages.Response.{Response}
 use Rattle.ttrpc_frame.specs.Header.{header_bytes}
 use Rattle.ttrpc_proto.specs.Messages.{empty_status}
 use Rattle.ttrpc_frame.specs.declared.frame.Incoming.{Incoming}

@@ -2,7 +2,7 @@
 -- the answer of its one run.
 -- Source: this project's.
 use Rattle.std.specs.Prelude.{◌≡◌, ◌≤◌, ℕ, List, [], ◌∷◌, length, Bool, true, false, Option, Some, None, Result, Ok}
-use Rattle.ttrpc_proto.specs.declared.status.Status.{Status}
+use Rattle.ttrpc_proto.specs.declared.messages.Status.{Status}
 use Rattle.ttrpc_proto.specs.Messages.{is_ok_code}
 use Rattle.ttrpc_server.specs.State.{without_payload}
 use Rattle.ttrpc_events.specs.Types.{Error, Request, Response}

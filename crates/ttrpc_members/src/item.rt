@@ -7,7 +7,6 @@ ghost use Rattle.ttrpc_wire.specs.Fold.{Gives};
 ghost use Rattle.ttrpc_members.specs.Items.{Item};
 
 use crate::coding::{self, Coding32, Coding64};
-use crate::map::TextKey;
 use std::alloc::{AllocError, Global};
 use std::marker::PhantomData;
 use ttrpc_codec::members::text_from;
@@ -122,59 +121,6 @@ impl ItemKind for Utf8 {
 
     fn try_clone(item: &Text) -> Result<Text, AllocError> {
         item.try_clone()
-    }
-
-    ghost typed = { λ _. refl };
-}
-
-/// A text that is a map's key.
-pub struct Utf8Key {}
-
-impl ItemKind for Utf8Key {
-    ghost use Rattle.std.specs.Prelude.{refl};
-    ghost use Rattle.ttrpc_members.specs.Items.{text};
-
-    type Item = TextKey;
-
-    ghost form = { text };
-
-    fn first(alloc: Global) -> TextKey {
-        let text = Text::new(alloc);
-        TextKey { text }
-    }
-
-    fn is_first(item: &TextKey) -> bool {
-        item.text.is_empty()
-    }
-
-    fn read(item: &mut TextKey, alloc: Global, value: Value<'_>) -> Result<bool, CodecError> {
-        let Value::LengthDelimited(bytes) = value else {
-            return Ok(false);
-        };
-        let text = text_from(alloc, bytes)?;
-        *item = TextKey { text };
-        Ok(true)
-    }
-
-    fn wire_type() -> WireType {
-        WireType::LengthDelimited
-    }
-
-    fn value_len(item: &TextKey) -> u64 {
-        delimited_len(item.text.as_bytes())
-    }
-
-    fn write_value(item: &TextKey, out: &mut Vec<u8>) -> Result<(), CodecError> {
-        put_delimited(out, item.text.as_bytes())?;
-        Ok(())
-    }
-
-    fn try_clone(item: &TextKey) -> Result<TextKey, AllocError> {
-        item.try_clone()
-    }
-
-    fn lemma_is_value(item: &TextKey) {
-        let _ = item.text.as_bytes();
     }
 
     ghost typed = { λ _. refl };

@@ -8,7 +8,6 @@ ghost use Rattle.std.specs.List.{AllByRecursion};
 ghost use Rattle.ttrpc_members.specs.Schema.{fields_at};
 
 use crate::item::ItemKind;
-use crate::numbers::Numbers;
 use std::alloc::{AllocError, Global};
 use std::marker::PhantomData;
 use ttrpc_codec::members::part_len;
@@ -301,21 +300,21 @@ pub struct Packed<I> {
 
 impl<I: ItemKind> MemberKind for Packed<I>
 where
-    I::Item: Copy,
+    I::Item: Copy + TryClone,
 {
     ghost use Rattle.ttrpc_members.specs.Kinds.{packed};
 
-    type Member = Numbers<I::Item>;
+    type Member = Sequence<I::Item>;
 
     ghost kind = { packed I.form };
 
-    fn empty(alloc: Global) -> Numbers<I::Item> {
-        Numbers::new(alloc)
+    fn empty(alloc: Global) -> Sequence<I::Item> {
+        Sequence::new(alloc)
     }
 
     #[tactic(auto, unfolding(crate::specs::Kinds::packed_take))]
     fn take(
-        member: &mut Numbers<I::Item>,
+        member: &mut Sequence<I::Item>,
         alloc: Global,
         value: Value<'_>,
     ) -> Result<(), CodecError> {
@@ -326,7 +325,7 @@ where
     }
 
     #[tactic(auto, unfolding(crate::specs::Kinds::packed_values))]
-    fn length(member: &Numbers<I::Item>, number: FieldNumber) -> u64 {
+    fn length(member: &Sequence<I::Item>, number: FieldNumber) -> u64 {
         if member.is_empty() {
             return 0;
         }
@@ -335,7 +334,7 @@ where
 
     #[tactic(auto, unfolding(crate::specs::Kinds::packed_values))]
     fn write(
-        member: &Numbers<I::Item>,
+        member: &Sequence<I::Item>,
         number: FieldNumber,
         out: &mut Vec<u8>,
     ) -> Result<(), CodecError> {
@@ -345,11 +344,11 @@ where
         put_packed::<I>(member.as_slice(), number, out)
     }
 
-    fn try_clone(member: &Numbers<I::Item>) -> Result<Numbers<I::Item>, AllocError> {
+    fn try_clone(member: &Sequence<I::Item>) -> Result<Sequence<I::Item>, AllocError> {
         member.try_clone()
     }
 
-    fn lemma_is_value(member: &Numbers<I::Item>) {
+    fn lemma_is_value(member: &Sequence<I::Item>) {
         lemma_are_values::<I>(member.as_slice());
     }
 }
@@ -357,7 +356,7 @@ where
 /// Takes one more number in, where the value is one.
 #[tactic(auto, unfolding(crate::specs::Kinds::repeated_take))]
 fn take_number<I: ItemKind>(
-    member: &mut Numbers<I::Item>,
+    member: &mut Sequence<I::Item>,
     alloc: Global,
     value: Value<'_>,
 ) -> Result<(), CodecError>
@@ -372,7 +371,7 @@ fn take_number<I: ItemKind>(
 
 /// Takes the numbers in that the bytes are, one behind the other.
 fn take_packed<I: ItemKind>(
-    member: &mut Numbers<I::Item>,
+    member: &mut Sequence<I::Item>,
     alloc: Global,
     bytes: &[u8],
 ) -> Result<(), CodecError>

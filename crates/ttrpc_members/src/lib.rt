@@ -9,5 +9,4 @@ pub mod item;
 pub mod kind;
 pub mod map;
 pub mod nesting;
-pub mod numbers;
 pub mod several;

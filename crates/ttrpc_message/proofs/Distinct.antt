@@ -13,7 +13,7 @@ use Rattle.std.proofs.lemmas.List.Elements.{filter-append}
 use Rattle.std.proofs.lemmas.Map.Keys.{sorted_head, sorted_tail}
 use Rattle.std.proofs.lemmas.Map.Text.{is_eq-slice_cmp}
 use Rattle.std.proofs.lemmas.Slice.Eq.{bytes_eq-Decides}
-use Rattle.ttrpc_proto.specs.declared.key_value.KeyValue.{KeyValue}
+use Rattle.ttrpc_proto.specs.declared.messages.KeyValue.{KeyValue}
 use Rattle.ttrpc_message.specs.Metadata.{pairs_at, pairs_of, seen, texts, texts_of, values_at}
 
 values_here : (b : Bool) (key k : List ℕ) (ts : List (List ℕ)) → bytes_eq key k ≡ b → values_at (pairs_at k ts) key ≡ cond b ts []

@@ -5,7 +5,7 @@ use Rattle.std.specs.Str.{bytes_eq}
 use Rattle.std.proofs.lemmas.List.{append-nil, map-append}
 use Rattle.std.proofs.lemmas.List.Elements.{filter_more}
 use Rattle.std.proofs.lemmas.Slice.Eq.{bytes_eq-Decides}
-use Rattle.ttrpc_proto.specs.declared.key_value.KeyValue.{KeyValue}
+use Rattle.ttrpc_proto.specs.declared.messages.KeyValue.{KeyValue}
 use Rattle.ttrpc_message.specs.Metadata.{Adds, Metadata, some_texts, texts_of, values_at}
 
 texts_again : (l : List (List ℕ)) → unwrap_or (some_texts l) [] ≡ l

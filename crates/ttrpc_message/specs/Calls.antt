@@ -2,7 +2,7 @@
 -- Source: PROTOCOL.md of ttrpc, "RPC"; the texts are those of the Rust crate's macros.
 use Rattle.std.specs.Prelude.{◌≡◌, ◌≢◌, ◌≤◌, ◌^◌, ℕ, List, [], codes, length, IsSomeAnd, Option, None, Some, Result, Ok, Err}
 use Rattle.ttrpc_wire.specs.declared.values.code.Code.TheVariants.{OK, INVALID_ARGUMENT}
-use Rattle.ttrpc_proto.specs.declared.response.Response.{Response}
+use Rattle.ttrpc_proto.specs.declared.messages.Response.{Response}
 use Rattle.ttrpc_proto.specs.declared.error.Error.{Error}
 use Rattle.ttrpc_proto.specs.declared.error.Error.TheVariants.{Eof, NoMemory, Others, RpcStatus}
 use Rattle.ttrpc_proto.specs.ErrorText.{IsOthers, status_of, Tells}

@@ -5,7 +5,7 @@ use Rattle.std.specs.Char.{to_ascii_lowercase}
 use Rattle.std.specs.Map.{lookup}
 use Rattle.std.specs.Option.{unwrap_or}
 use Rattle.std.specs.Str.{bytes_eq}
-use Rattle.ttrpc_proto.specs.declared.key_value.KeyValue.{KeyValue}
+use Rattle.ttrpc_proto.specs.declared.messages.KeyValue.{KeyValue}
 
 -- keys with their texts
 abbrev pub Metadata : Type 0

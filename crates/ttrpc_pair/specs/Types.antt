@@ -1,6 +1,6 @@
 -- The types of the code that these definitions speak of, in one list.
 -- Source: this project's.
-pub use Rattle.ttrpc_proto.specs.declared.response.Response.{Response}
+pub use Rattle.ttrpc_proto.specs.declared.messages.Response.{Response}
 pub use Rattle.ttrpc_connection.specs.Types.{Error}
 pub use Rattle.ttrpc_connection.specs.declared.connection.Connection.{Connection}
 pub use Rattle.ttrpc_connection.specs.declared.failure.Failure.{Failure}

@@ -1,6 +1,6 @@
 //! A client, a server and two pipes, and what happens to them at an event.
 ghost use Rattle.std.specs.Prelude.{◌≡◌, ◌<◌, [], length, true, false, ◌⊎◌, IfOk, OnErr, IfSome, IfNone, None, Ok, Some};
-ghost use Rattle.ttrpc_proto.specs.declared.response.Response.{Response as AResponse};
+ghost use Rattle.ttrpc_proto.specs.declared.messages.Response.{Response as AResponse};
 ghost use Rattle.ttrpc_proto.specs.Messages.{IsResponse};
 ghost use Rattle.ttrpc_server.specs.declared.job.ActiveJob.{ActiveJob as AJob};
 ghost use Rattle.ttrpc_server.specs.State.{IsTaken, IsUnknown};

@@ -11,6 +11,7 @@ use std::time::{Clock, Duration, Instant};
 use tokio::runtime::Handle;
 use tokio::time::Sleep;
 use ttrpc_proto::{Error, Result};
+use ttrpc_transport::moment;
 
 /// What a polled client or server asks of the system: the clock and memory.
 pub trait Timed: Clock + AllocGlobal + Clone + Drop {}
@@ -72,15 +73,5 @@ impl Alarm {
         }
         self.set_for = None;
         Poll::Ready(moment(rt).unwrap_or(0))
-    }
-}
-
-/// The current time, in nanoseconds since some start, the same for all moments. A clock that can't be read is `Nix`.
-pub fn moment<R: Clock>(rt: &R) -> Result<u64>
-    ensures { IfErr result IsFault }
-{
-    match rt.monotonic() {
-        Ok(time) => Ok(u64::try_from(time.as_nanos()).unwrap_or(u64::MAX)),
-        Err(error) => Err(Error::Nix(error.kind())),
     }
 }

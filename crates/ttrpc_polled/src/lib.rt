@@ -12,7 +12,7 @@ mod piece;
 mod socket;
 mod wakers;
 
-pub use alarm::{Alarm, Timed, moment};
+pub use alarm::{Alarm, Timed};
 pub use held::{Connected, Held};
 pub use inlet::{INLET_AT_REST, INLET_AT_WORK, Inlet};
 pub use link::{Link, Step};
@@ -20,4 +20,5 @@ pub use listener::Listener;
 pub use outlet::{OUTLET_AT_REST, OUTLET_LIMIT, Outlet};
 pub use piece::Piece;
 pub use socket::{Connecting, Socket, SocketConnect};
+pub use ttrpc_transport::moment;
 pub use wakers::Wakers;

@@ -8,7 +8,7 @@ ghost use Rattle.ttrpc_polled.specs.Needs.{IsOver, LinkNeeds, OutNeeds};
 ghost use Rattle.ttrpc_polled.specs.Passing.{IsHandedOn};
 ghost use Rattle.ttrpc_polled.specs.Sockets.{IsNotMade};
 
-use crate::alarm::{Alarm, moment};
+use crate::alarm::Alarm;
 use crate::held::{Connected, Held};
 use crate::inlet::Inlet;
 use crate::outlet::Outlet;
@@ -22,6 +22,7 @@ use std::time::Clock;
 use tokio::io::{AsyncRead, AsyncWrite};
 use tokio::runtime::Handle;
 use ttrpc_proto::Result;
+use ttrpc_transport::moment;
 
 /// What one look at the things that a connection waits for came to.
 #[derive(Clone, Copy, Debug, PartialEq, Eq)]

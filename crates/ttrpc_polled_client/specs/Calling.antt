@@ -4,7 +4,7 @@ use Rattle.std.specs.Prelude.{◌≡◌, ◌⊎◌, ⊤, ℕ, List, [], ◌++◌
 use Rattle.std.specs.Arc.{arc_value}
 use Rattle.ttrpc_proto.specs.declared.error.Error.{Error}
 use Rattle.ttrpc_proto.specs.declared.error.Error.TheVariants.{LocalClosed}
-use Rattle.ttrpc_proto.specs.declared.request.Request.{Request}
+use Rattle.ttrpc_proto.specs.declared.messages.Request.{Request}
 use Rattle.ttrpc_message.specs.Calls.{IsUnwritten}
 use Rattle.ttrpc_message.specs.Metadata.{Carried, pairs_of}
 use Rattle.ttrpc_polled.specs.Sockets.{IsNotMade}

@@ -16,7 +16,6 @@ use crate::opening::Opening;
 use futures::task::{Context, Poll, Source, Waker};
 use std::alloc::Global;
 use std::io::ErrorKind;
-use ttrpc_client::client_on::{ended_on, lend_on, take_on, wrote_on};
 use ttrpc_client::{CallId, ClientCore, StreamId};
 use ttrpc_polled::{Held, Wakers};
 use ttrpc_polled_streams::{Sending, StreamWakers};
@@ -204,7 +203,7 @@ impl<O: OutboundTransform + Drop, I: InboundTransform + Drop> Held for ClientHel
     ghost senders = { λ held. length held.streams.senders };
 
     fn take(&mut self, alloc: Global, piece: &[u8], _now: u64) -> Option<usize> {
-        let Ok(count) = take_on(&mut self.core, alloc, piece) else {
+        let Ok(count) = self.core.feed(alloc, piece) else {
             self.wake_all();
             return None;
         };
@@ -214,7 +213,7 @@ impl<O: OutboundTransform + Drop, I: InboundTransform + Drop> Held for ClientHel
     }
 
     fn ended(&mut self) {
-        ended_on(&mut self.core);
+        self.core.end_of_input();
         self.wake_all();
     }
 
@@ -228,8 +227,8 @@ impl<O: OutboundTransform + Drop, I: InboundTransform + Drop> Held for ClientHel
     }
 
     fn lend(&mut self, buffer: &mut [u8]) -> usize {
-        let count = lend_on(&mut self.core, buffer);
-        wrote_on(&mut self.core, count);
+        let count = self.core.lend(buffer);
+        self.core.wrote(count);
         self.streams.wake_sent(self.alloc, &self.core);
         count
     }

@@ -21,7 +21,6 @@ use ttrpc_polled::{Held, Wakers};
 use ttrpc_polled_streams::{Sending, StreamWakers};
 use ttrpc_proto::{Error, Result};
 use ttrpc_secure::{InboundTransform, OutboundTransform};
-use ttrpc_server::server_on::{broke_on, ended_on, lend_on, take_on, wrote_on};
 use ttrpc_server::{Job, JobId, ServerCore};
 use ttrpc_wire::Blob;
 
@@ -138,7 +137,7 @@ impl<O: OutboundTransform + Drop, I: InboundTransform + Drop> ServerHeld<O, I> {
         ensures ends { Ends self.old.core.connection self.new.core.connection }
         ensures same { self.new.core ≡ record self.old.core { connection = self.new.core.connection } }
     {
-        ended_on(&mut self.core);
+        self.core.end_of_input();
         self.wake_all();
     }
 
@@ -210,7 +209,7 @@ impl<O: OutboundTransform + Drop, I: InboundTransform + Drop> Held for ServerHel
     ghost senders = { λ held. length held.streams.senders };
 
     fn take(&mut self, alloc: Global, piece: &[u8], now: u64) -> Option<usize> {
-        let Ok(count) = take_on(&mut self.core, alloc, piece, now) else {
+        let Ok(count) = self.core.feed(alloc, piece, now) else {
             self.wake_all();
             return None;
         };
@@ -223,7 +222,7 @@ impl<O: OutboundTransform + Drop, I: InboundTransform + Drop> Held for ServerHel
     }
 
     fn broke(&mut self, kind: ErrorKind) {
-        broke_on(&mut self.core, kind);
+        self.core.fail(Error::Nix(kind));
         self.wake_all();
     }
 
@@ -232,8 +231,8 @@ impl<O: OutboundTransform + Drop, I: InboundTransform + Drop> Held for ServerHel
     }
 
     fn lend(&mut self, buffer: &mut [u8]) -> usize {
-        let count = lend_on(&mut self.core, buffer);
-        wrote_on(&mut self.core, count);
+        let count = self.core.lend(buffer);
+        self.core.wrote(count);
         self.streams.wake_sent(self.alloc, &self.core);
         count
     }

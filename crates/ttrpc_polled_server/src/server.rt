@@ -13,7 +13,6 @@ ghost use Rattle.ttrpc_transport.specs.Sockets.{IsFault};
 
 use crate::connection::ServerConnection;
 use crate::handler::{MethodHandler, StreamHandler};
-use crate::hook::NoHook;
 use crate::services::{Service, Services};
 use crate::serving::{Service as Served, Serving};
 use crate::settings::{Settings, unbound_error};
@@ -29,7 +28,7 @@ use tokio::io::{AsyncRead, AsyncWrite};
 use tokio::runtime::Handle;
 use ttrpc_polled::{Alarm, Listener, Timed};
 use ttrpc_proto::{Error, Result};
-use ttrpc_secure::{HookOutput, InboundTransform, OutboundTransform};
+use ttrpc_secure::{HookOutput, InboundTransform, NoHook, OutboundTransform};
 
 /// A server whose connections are polled, which contracts see as what it was built with: its settings, its listener, its services,
 /// its hook, and what its connections stop by.

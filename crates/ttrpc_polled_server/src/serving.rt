@@ -11,7 +11,6 @@ ghost use Rattle.ttrpc_polled_server.specs.Opened.{IsAccepted, IsNotOpened, IsOp
 
 use crate::connection::{Parts, ServerConnection};
 use crate::handler::{MethodHandler, StreamHandler};
-use crate::hook::admit;
 use crate::services::Services;
 use crate::settings::Settings;
 use crate::shared::ServerShared;
@@ -28,6 +27,7 @@ use ttrpc_proto::Result;
 use ttrpc_proto::error::causes::others_of;
 use ttrpc_secure::{
     AcceptHook, ConnectionContext, ConnectionData, HookOutput, InboundTransform, OutboundTransform,
+    admit,
 };
 use ttrpc_server::{Registry, Rules, ServerCore};
 

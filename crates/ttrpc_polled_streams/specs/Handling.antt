@@ -5,7 +5,7 @@ use Rattle.futures.specs.declared.future.either.Either.{Either}
 use Rattle.futures.specs.declared.future.either.Either.TheVariants.{Left, Right}
 use Rattle.ttrpc_proto.specs.declared.error.Error.{Error}
 use Rattle.ttrpc_proto.specs.declared.error.Error.TheVariants.{LocalClosed, NoMemory}
-use Rattle.ttrpc_proto.specs.declared.response.Response.{Response}
+use Rattle.ttrpc_proto.specs.declared.messages.Response.{Response}
 use Rattle.ttrpc_proto.specs.ErrorText.{Tells}
 use Rattle.ttrpc_message.specs.Calls.{AnswersWith, IsUnanswered}
 use Rattle.ttrpc_polled_streams.specs.declared.handling.HandlingAt.{HandlingAt}

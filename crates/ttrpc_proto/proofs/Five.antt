@@ -6,11 +6,11 @@ use Rattle.ttrpc_wire.specs.Number.{int64_of, int32_of}
 use Rattle.ttrpc_wire.specs.Reading.{◌>>=◌, fields_of}
 use Rattle.ttrpc_wire.specs.Fold.{folded, read_from}
 use Rattle.ttrpc_wire.proofs.Agrees.{bound}
-use Rattle.ttrpc_proto.specs.declared.any.Any.{Any}
-use Rattle.ttrpc_proto.specs.declared.key_value.KeyValue.{KeyValue}
-use Rattle.ttrpc_proto.specs.declared.request.Request.{Request}
-use Rattle.ttrpc_proto.specs.declared.response.Response.{Response}
-use Rattle.ttrpc_proto.specs.declared.status.Status.{Status}
+use Rattle.ttrpc_proto.specs.declared.messages.Any.{Any}
+use Rattle.ttrpc_proto.specs.declared.messages.KeyValue.{KeyValue}
+use Rattle.ttrpc_proto.specs.declared.messages.Request.{Request}
+use Rattle.ttrpc_proto.specs.declared.messages.Response.{Response}
+use Rattle.ttrpc_proto.specs.declared.messages.Status.{Status}
 use Rattle.ttrpc_codec.specs.Members.{delimited_in, number_in, last_text, last_bytes, last_number, one_more, joined, both}
 use Rattle.ttrpc_proto.specs.Messages.{empty_key_value, key_value_step, empty_any, any_step, empty_status, status_step, empty_request, request_step, empty_response, response_step}
 use Rattle.ttrpc_proto.specs.Meaning.{delimited_values, number_values, last_or, IsLastText, Means, OfKeyValue, OfAny, OfStatus, OfRequest, OfResponse}

@@ -6,7 +6,7 @@ use Rattle.ttrpc_wire.specs.declared.values.code.Code.{Code}
 use Rattle.ttrpc_wire.specs.declared.values.code.Code.TheVariants.{UNKNOWN}
 use Rattle.ttrpc_proto.specs.declared.error.Error.{Error}
 use Rattle.ttrpc_proto.specs.declared.error.Error.TheVariants.{Socket, RpcStatus, Nix, LocalClosed, RemoteClosed, Eof, Others, NoMemory, NoRoom}
-use Rattle.ttrpc_proto.specs.declared.status.Status.{Status}
+use Rattle.ttrpc_proto.specs.declared.messages.Status.{Status}
 use Rattle.ttrpc_proto.specs.KindText.{kind_text}
 use Rattle.ttrpc_wire.specs.Code.{number_of_code}
 

@@ -9,11 +9,11 @@ use Rattle.ttrpc_wire.specs.Field.{Field, Fits, fields_bytes}
 use Rattle.ttrpc_wire.specs.Number.{number_of, int64_of, int32_of}
 use Rattle.ttrpc_wire.specs.Fold.{folded, read_from}
 use Rattle.ttrpc_wire.proofs.Folds.{reads_back}
-use Rattle.ttrpc_proto.specs.declared.any.Any.{Any}
-use Rattle.ttrpc_proto.specs.declared.key_value.KeyValue.{KeyValue}
-use Rattle.ttrpc_proto.specs.declared.request.Request.{Request}
-use Rattle.ttrpc_proto.specs.declared.response.Response.{Response}
-use Rattle.ttrpc_proto.specs.declared.status.Status.{Status}
+use Rattle.ttrpc_proto.specs.declared.messages.Any.{Any}
+use Rattle.ttrpc_proto.specs.declared.messages.KeyValue.{KeyValue}
+use Rattle.ttrpc_proto.specs.declared.messages.Request.{Request}
+use Rattle.ttrpc_proto.specs.declared.messages.Response.{Response}
+use Rattle.ttrpc_proto.specs.declared.messages.Status.{Status}
 use Rattle.ttrpc_codec.specs.Members.{delimited_field, delimited_fields, delimited_in, last_number, last_text, number_fields, number_in, one_more, part_fields, optional_fields}
 use Rattle.ttrpc_proto.specs.Messages.{IsKeyValue, empty_key_value, key_value_step, key_value_fields, IsAny, empty_any, any_step, any_fields, IsStatus, empty_status, status_step, status_fields, IsRequest, empty_request, request_step, request_head, request_tail, request_fields, IsOptional, IsResponse, empty_response, response_step, response_fields}
 use Rattle.std.specs.Option.{option_map}

@@ -7,11 +7,11 @@ use Rattle.std.specs.List.{AllByRecursion, flat_map}
 use Rattle.std.specs.Str.{IsUtf8}
 use Rattle.ttrpc_wire.specs.Field.{Value, Varint, Fixed64, LengthDelimited, Fixed32, Field, IsFields}
 use Rattle.ttrpc_wire.specs.Number.{int64_of, int32_of}
-use Rattle.ttrpc_proto.specs.declared.any.Any.{Any}
-use Rattle.ttrpc_proto.specs.declared.key_value.KeyValue.{KeyValue}
-use Rattle.ttrpc_proto.specs.declared.request.Request.{Request}
-use Rattle.ttrpc_proto.specs.declared.response.Response.{Response}
-use Rattle.ttrpc_proto.specs.declared.status.Status.{Status}
+use Rattle.ttrpc_proto.specs.declared.messages.Any.{Any}
+use Rattle.ttrpc_proto.specs.declared.messages.KeyValue.{KeyValue}
+use Rattle.ttrpc_proto.specs.declared.messages.Request.{Request}
+use Rattle.ttrpc_proto.specs.declared.messages.Response.{Response}
+use Rattle.ttrpc_proto.specs.declared.messages.Status.{Status}
 
 -- ---- the values of one number, in order
 

@@ -8,11 +8,11 @@ use Rattle.std.specs.Str.{IsUtf8}
 use Rattle.ttrpc_wire.specs.Field.{Field}
 use Rattle.ttrpc_wire.specs.Number.{number_of, int64_of, int32_of}
 use Rattle.ttrpc_wire.specs.Reading.{◌>>=◌}
-use Rattle.ttrpc_proto.specs.declared.any.Any.{Any}
-use Rattle.ttrpc_proto.specs.declared.key_value.KeyValue.{KeyValue}
-use Rattle.ttrpc_proto.specs.declared.status.Status.{Status}
-use Rattle.ttrpc_proto.specs.declared.request.Request.{Request}
-use Rattle.ttrpc_proto.specs.declared.response.Response.{Response}
+use Rattle.ttrpc_proto.specs.declared.messages.Any.{Any}
+use Rattle.ttrpc_proto.specs.declared.messages.KeyValue.{KeyValue}
+use Rattle.ttrpc_proto.specs.declared.messages.Status.{Status}
+use Rattle.ttrpc_proto.specs.declared.messages.Request.{Request}
+use Rattle.ttrpc_proto.specs.declared.messages.Response.{Response}
 use Rattle.ttrpc_codec.specs.Members.{delimited_in, number_in, last_text, last_bytes, last_number, one_more, joined, delimited_fields, number_fields, part_fields, optional_fields}
 
 -- ---- a key and its value: 1 key, 2 value

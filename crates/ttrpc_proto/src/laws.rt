@@ -2,11 +2,11 @@
 //! a function that does nothing.
 ghost use Rattle.std.specs.Prelude.{◌≡◌, ◌↔◌, ℕ, List, Some};
 ghost use Rattle.ttrpc_wire.specs.Fold.{read_from};
-ghost use Rattle.ttrpc_proto.specs.declared.any.Any.{Any as AnAny};
-ghost use Rattle.ttrpc_proto.specs.declared.key_value.KeyValue.{KeyValue as AKeyValue};
-ghost use Rattle.ttrpc_proto.specs.declared.request.Request.{Request as ARequest};
-ghost use Rattle.ttrpc_proto.specs.declared.response.Response.{Response as AResponse};
-ghost use Rattle.ttrpc_proto.specs.declared.status.Status.{Status as AStatus};
+ghost use Rattle.ttrpc_proto.specs.declared.messages.Any.{Any as AnAny};
+ghost use Rattle.ttrpc_proto.specs.declared.messages.KeyValue.{KeyValue as AKeyValue};
+ghost use Rattle.ttrpc_proto.specs.declared.messages.Request.{Request as ARequest};
+ghost use Rattle.ttrpc_proto.specs.declared.messages.Response.{Response as AResponse};
+ghost use Rattle.ttrpc_proto.specs.declared.messages.Status.{Status as AStatus};
 ghost use Rattle.ttrpc_proto.specs.Messages.{empty_key_value, key_value_step, empty_any, any_step, empty_status, status_step, empty_request, request_step, empty_response, response_step};
 ghost use Rattle.ttrpc_proto.specs.Meaning.{Means, OfKeyValue, OfAny, OfStatus, OfRequest, OfResponse};
 

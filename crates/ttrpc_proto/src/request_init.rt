@@ -1,9 +1,8 @@
 //! How the macros make a request.
 ghost use Rattle.std.specs.Prelude.{◌≡◌, ℕ, ℤ, List, string_bytes};
-ghost use Rattle.ttrpc_proto.specs.declared.key_value.KeyValue.{KeyValue as APair};
+ghost use Rattle.ttrpc_proto.specs.declared.messages.KeyValue.{KeyValue as APair};
 
-use crate::key_value::KeyValue;
-use crate::request::Request;
+use crate::messages::{KeyValue, Request};
 use std::alloc::Global;
 use ttrpc_wire::{Blob, Sequence, Text};
 

@@ -1,9 +1,8 @@
 //! How the macros make a response.
 ghost use Rattle.std.specs.Prelude.{◌≡◌, ℕ, List, Option, IfOk, Some};
-ghost use Rattle.ttrpc_proto.specs.declared.status.Status.{Status as AStatus};
+ghost use Rattle.ttrpc_proto.specs.declared.messages.Status.{Status as AStatus};
 
-use crate::response::Response;
-use crate::status::Status;
+use crate::messages::{Response, Status};
 use std::alloc::{AllocError, Global};
 use ttrpc_wire::{Blob, TryClone};
 

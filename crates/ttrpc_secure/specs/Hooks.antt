@@ -2,6 +2,7 @@
 -- Source: the Rust crate ttrpc, the texts of its `HookError`.
 pub mod Kinds
 pub mod Facts
+pub mod Admission
 use Rattle.std.specs.Prelude.{◌≡◌, ℕ, List, ◌++◌, codes, Option, Some, None, Result, IfSome, IsOk}
 use Rattle.std.specs.Fmt.{HasWritten, IsPlainFormatter}
 use Rattle.std.specs.IoError.{error_kind}

@@ -4,22 +4,11 @@ ghost use Rattle.ttrpc_proto.specs.declared.error.Error.{Error as AnError};
 ghost use Rattle.ttrpc_server.specs.Protocol.{AnswersError, Finishes, Hands, RefusesAnswer, RefusesFinish};
 ghost use Rattle.ttrpc_server.specs.State.{NoneWaits};
 
-use crate::job::{Job, JobId};
+use crate::job::JobId;
 use crate::server::ServerCore;
 use std::alloc::Global;
 use ttrpc_proto::Error;
 use ttrpc_secure::{InboundTransform, OutboundTransform};
-
-/// Takes a job, for the port. Takes no memory.
-pub fn take_on<O: OutboundTransform + Drop, I: InboundTransform + Drop>(
-    core: &mut ServerCore<O, I>,
-) -> Option<Job>
-    ensures handed { IfSome result (λ job. Hands core.old job core.new) }
-    ensures none { IfNone result ((core.new ≡ core.old)
-        × (core.old.connection.failure ≡ None → NoneWaits core.old.state.jobs.list)) }
-{
-    core.take_job()
-}
 
 /// Ends a handled job, and queues nothing; where its handler failed, under sync rules the connection fails.
 pub fn done_on<O: OutboundTransform + Drop, I: InboundTransform + Drop>(

@@ -1,7 +1,7 @@
 //! Laws over the definitions: what the contracts of single calls come to.
 ghost use Rattle.std.specs.Prelude.{◌≡◌, ◌≢◌, ◌≤◌, ◌++◌, ◌⊎◌, ◌↔◌, ◌&&◌, ℕ, List, [], Option, None, Some, Result, is_some, true, drop, nat_eq, nat_le, nat_lt};
 ghost use Rattle.std.specs.List.{AllByRecursion, IsDistinct};
-ghost use Rattle.ttrpc_proto.specs.declared.request.Request.{Request as ARequest};
+ghost use Rattle.ttrpc_proto.specs.declared.messages.Request.{Request as ARequest};
 ghost use Rattle.ttrpc_frame.specs.declared.outgoing.Queued.{Queued as AQueued};
 ghost use Rattle.ttrpc_frame.specs.Frames.{nothing};
 ghost use Rattle.ttrpc_frame.specs.Queue.{Happening, IsQueue, all_bytes_left, departing, finished, last_ticket, placed, thrown, unsent, written_all};

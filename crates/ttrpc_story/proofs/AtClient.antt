@@ -3,7 +3,7 @@
 use Rattle.ttrpc_story.proofs.Words.{◌++◌, ◌∙◌, ◌∷◌, ◌≡◌, ◌≤◌, ◌⊎◌, ℕ, ℤ, [], Act, all_work, Answered, ap, append-nil, arith, asked_by, Bool, by_code, by_status, Call, Called, Ended, Err, Error, expired_at, Expired, Failure, false, Gave, gave_of, Gives, GivesOutcome, HasOkStatus, if◌then◌else◌, inl, inr, is_due, is_ok_code, is_some, LandsOn, left_of, length, List, None, Ok, Option, outcomes, outcomes_append, pos, Ran, refl, Request, Response, Result, Some, Stream, subst, sym, TellsOutcome, true, Waiting, work}
 use Rattle.std.proofs.Common.{zero}
 use Rattle.ttrpc_proto.specs.declared.error.Error.TheVariants.{RpcStatus}
-use Rattle.ttrpc_proto.specs.declared.status.Status.{Status}
+use Rattle.ttrpc_proto.specs.declared.messages.Status.{Status}
 use Rattle.ttrpc_story.proofs.Here.{Birth, Born, ByCall, ByOpen, first_act, IsAnswer, Origin, Unborn}
 
 -- the whole story of a call of this request whose outcome was given, and is this response

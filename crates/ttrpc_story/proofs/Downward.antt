@@ -3,7 +3,7 @@
 use Rattle.ttrpc_story.proofs.Words.{[], AllByRecursion, ap, Bool, breaks_with, Brings, BringsBeginning, by_status, closed, closing_news, data_news, Dropped, empty_response, Err, Error, Failure, false, Flying, if◌then◌else◌, inl, inr, is_entered, IsInOrder, IsNews, IsToldBy, length, List, Mail, malformed_text, map, map-append, MESSAGE_LENGTH_MAX, MESSAGE_TYPE_DATA, MESSAGE_TYPE_RESPONSE, MessageHeader, nat_eq, nat_lt, News, news_of, None, not, Ok, Open, OpenedPayload, Option, Others, oversize_text, Reaches, read_from, Receiver, ReceivesAt, refl, Response, response_news, response_step, Result, Sender, SenderDropped, Some, Stream, subst, sym, Thing, ThingClosing, true, unknown_error, unless_dropped, unless_unheard, without_reader, without_receiver, without_sender, Word, words_of, ℕ, ◌++◌, ◌∙◌, ◌∷◌, ◌≡◌, by_code, pos, ℤ}
 use Rattle.std.proofs.Common.{zero}
 use Rattle.ttrpc_proto.specs.declared.error.Error.TheVariants.{RpcStatus}
-use Rattle.ttrpc_proto.specs.declared.status.Status.{Status}
+use Rattle.ttrpc_proto.specs.declared.messages.Status.{Status}
 use Rattle.ttrpc_story.proofs.Here.{Birth, Born, ByCall, ByOpen, no_cons, Origin, Unborn, Work}
 use Rattle.ttrpc_story.proofs.AtServer.{is_over}
 use Rattle.ttrpc_story.proofs.Reading.{IsPlain, reads_error}

@@ -15,7 +15,8 @@ pub use ends::{
     BATCH_BYTES, BATCH_LOANS, Batch, Connected, Held, Loan, Next, ReadEnd, Taken, Turn, WriteEnd,
 };
 pub use gather::{GATHER_LIMIT, Gather, PART_LIMIT, ROOM_AT_REST};
-pub use link::{AfterQueuing, Host, Link, Outlet, Runtime, after_queuing, moment};
+pub use link::{AfterQueuing, Host, Link, Outlet, Runtime, after_queuing};
 pub use loops::{read_loop, write_loop};
 pub use ports::{PortState, ReadPort, WritePort};
+pub use ttrpc_transport::moment;
 pub use work::{Gate, Handler, JobPort, work_loop};

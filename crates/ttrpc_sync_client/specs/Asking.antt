@@ -1,7 +1,7 @@
 -- What is to be done once the request of a client's call is queued.
 -- Source: this project's.
 use Rattle.std.specs.Prelude.{◌≡◌, ℕ, true, false, if◌then◌else◌}
-use Rattle.ttrpc_proto.specs.declared.request.Request.{Request}
+use Rattle.ttrpc_proto.specs.declared.messages.Request.{Request}
 use Rattle.ttrpc_secure.specs.declared.transform.OutboundTransform.{Ghosts as OutboundTransform}
 use Rattle.ttrpc_connection.specs.Deadlines.{deadline_of}
 use Rattle.ttrpc_client.specs.Protocol.{Requests}

@@ -3,7 +3,7 @@
 use Rattle.std.specs.Prelude.{◌+◌, ◌-◌, ◌^◌, min, ℕ, Bool, true, false, Option, Some, None, Result, Ok, Err, if◌then◌else◌, is_some, nat_eq, nat_lt, nat_le}
 use Rattle.ttrpc_proto.specs.declared.error.Error.{Error}
 use Rattle.ttrpc_proto.specs.declared.error.Error.TheVariants.{RpcStatus}
-use Rattle.ttrpc_proto.specs.declared.response.Response.{Response}
+use Rattle.ttrpc_proto.specs.declared.messages.Response.{Response}
 use Rattle.ttrpc_sync_client.specs.declared.ports.read_turn.TheConstants.{CALLS_TO_REST}
 use Rattle.ttrpc_sync_client.specs.declared.ports.read_turn.Reader.{Reader}
 use Rattle.ttrpc_sync_client.specs.declared.ports.read_turn.Reader.TheVariants.{Nobody, Thread, Caller}

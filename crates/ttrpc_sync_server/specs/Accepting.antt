@@ -1,12 +1,9 @@
 -- What a server makes of a connection that comes, or that doesn't.
 -- Source: this project's.
-use Rattle.std.specs.Prelude.{◌≡◌, ◌⊎◌, ℕ, List, [], Result, Err, is_some}
-use Rattle.std.specs.declared.io.Error.{Error as IoError}
+use Rattle.std.specs.Prelude.{◌≡◌, ◌⊎◌, ℕ, List, [], is_some}
 use Rattle.std.specs.declared.io.ErrorKind.{ErrorKind}
 use Rattle.std.specs.declared.io.ErrorKind.TheVariants.{ConnectionAborted, ConnectionReset, Interrupted}
 use Rattle.ttrpc_methods.specs.Methods.{Handlers, handler_of}
-use Rattle.ttrpc_secure.specs.declared.hooks.hook_error.HookError.{HookError}
-use Rattle.ttrpc_secure.specs.declared.hooks.hook_error.HookError.TheVariants.{Io, Timeout}
 use Rattle.ttrpc_server.specs.Protocol.{new_core}
 use Rattle.ttrpc_server.specs.State.{Services, has_method}
 use Rattle.ttrpc_server.specs.declared.rules.Rules.TheVariants.{Sync}
@@ -15,12 +12,6 @@ use Rattle.ttrpc_server.specs.declared.server.ServerCore.{ServerCore}
 -- a failure to accept behind which the next try is made at once: only a signal came, or the other side went away
 abbrev pub IsRetriedAtOnce : ErrorKind → Type 0
 IsRetriedAtOnce kind = (kind ≡ Interrupted) ⊎ (kind ≡ ConnectionAborted) ⊎ (kind ≡ ConnectionReset)
-
--- What comes of a hook that may give such results: what it gave, or `Timeout` in place of what it gave; or `Io`, where the
--- hook may not have been asked.
-abbrev pub IsAdmission : {T : Type 0} → (Result T HookError → Type 0) → Result T HookError → Type 0
-IsAdmission {T} gives result =
-    gives result ⊎ (((hooked : Result T HookError) × gives hooked) × (result ≡ Err Timeout)) ⊎ ((e : IoError) × (result ≡ Err (Io e)))
 
 -- The core of a connection that is served by these handlers: a new one under sync rules, whose services have the handlers'
 -- methods and no streams, and whose bytes go through these halves.

@@ -3,7 +3,6 @@
 #![tactic(auto)]
 
 pub mod accept;
-pub mod admission;
 mod connections;
 mod hook;
 mod server;
@@ -11,11 +10,11 @@ mod service;
 pub mod settings;
 mod stopper;
 
-pub use admission::NoHook;
 pub use hook::SharedHook;
 pub use server::Server;
 pub use settings::{Refusal, Settings};
 pub use stopper::Stopper;
+pub use ttrpc_secure::NoHook;
 pub use ttrpc_sync_connection::{
     Conn, MethodHandler, NoWatch, ServerJobs, ServerRead, ServerShared, ServerWrite, SharedHandler,
     SharedWatch, TtrpcContext, Watch, response_error_to_channel, send_response,

@@ -10,7 +10,6 @@ ghost use Rattle.ttrpc_transport.specs.Sockets.{IsFault};
 ghost use Rattle.ttrpc_transport.specs.declared.address.domain.Domain.{Domain as ADomain};
 
 use crate::accept::{Stop, next_connection};
-use crate::admission::NoHook;
 use crate::connections::Connections;
 use crate::hook::SharedHook;
 use crate::service::{Service, serve};
@@ -26,7 +25,7 @@ use std::thread::{Builder, JoinHandle, Threads};
 use std::time::Duration;
 use ttrpc_methods::Methods;
 use ttrpc_proto::{Error, Result};
-use ttrpc_secure::{SendInbound, SendOutbound};
+use ttrpc_secure::{NoHook, SendInbound, SendOutbound};
 use ttrpc_sync::{Host, Runtime};
 use ttrpc_sync_connection::{NoWatch, Serving, SharedHandler, SharedWatch, Watch};
 use ttrpc_transport::{PipeConnection, PipeListener};

@@ -6,7 +6,6 @@ ghost use Rattle.ttrpc_sync_server.specs.Accepting.{IsCoreFor};
 ghost use Rattle.ttrpc_sync_server.specs.Built.{IsNotStarted};
 
 use crate::accept::Stop;
-use crate::admission::admit;
 use crate::connections::{Connections, OpenConnection};
 use crate::hook::SharedHook;
 use crate::settings::Settings;
@@ -19,6 +18,7 @@ use ttrpc_proto::error::causes::others_of;
 use ttrpc_proto::{Error, Result};
 use ttrpc_secure::{
     ConnectionContext, HookOutput, InboundTransform, OutboundTransform, SendInbound, SendOutbound,
+    admit,
 };
 use ttrpc_server::{Rules, ServerCore};
 use ttrpc_sync::{Host, Link, Runtime};

@@ -8,12 +8,11 @@ use ttrpc_members::enclosed::{Enclosable, Enclosed, Enclosing};
 use ttrpc_members::entries::MapOf;
 use ttrpc_members::item::{
     Bits32, Bits64, Boolean, Bytes, Int32, Int64, ItemKind, Nested, Signed32, Signed64, Sint32,
-    Sint64, Uint32, Uint64, Utf8, Utf8Key,
+    Sint64, Uint32, Uint64, Utf8,
 };
 use ttrpc_members::kind::{MemberKind, Optional, Packed, Repeated, Single, item_len, put_item};
-use ttrpc_members::map::{Map, TextKey};
+use ttrpc_members::map::Map;
 use ttrpc_members::nesting::{Content, Recursive, Rule};
-use ttrpc_members::numbers::Numbers;
 use ttrpc_members::several::{
     clone_eight, clone_four, clone_two, write_eight, write_four, write_two,
 };
@@ -391,23 +390,23 @@ impl WireMessage for Inner {
 #[derive(Drop)]
 pub struct Lists {
     /// Field 1.
-    pub ints: Numbers<i32>,
+    pub ints: Sequence<i32>,
     /// Field 2.
-    pub zigzags: Numbers<i64>,
+    pub zigzags: Sequence<i64>,
     /// Field 3.
-    pub doubles: Numbers<u64>,
+    pub doubles: Sequence<u64>,
     /// Field 4.
-    pub flags: Numbers<bool>,
+    pub flags: Sequence<bool>,
     /// Field 5.
     pub texts: Sequence<Text>,
     /// Field 6.
     pub blobs: Sequence<Blob>,
     /// Field 7.
-    pub ways: Numbers<i32>,
+    pub ways: Sequence<i32>,
     /// Field 8.
     pub inners: Sequence<Inner>,
     /// Field 9.
-    pub fixeds: Numbers<u32>,
+    pub fixeds: Sequence<u32>,
 }
 
 const LISTS_INTS: FieldNumber = FieldNumber { value: 1 };
@@ -687,7 +686,7 @@ impl WireMessage for Options {
 #[derive(Drop)]
 pub struct Tables {
     /// Field 1.
-    pub labels: Map<TextKey, Text>,
+    pub labels: Map<Text, Text>,
     /// Field 2.
     pub inners: Map<i32, Inner>,
     /// Field 3.
@@ -710,7 +709,7 @@ const TABLES_FLOATS: FieldNumber = FieldNumber { value: 5 };
 
 impl TryClone for Tables {
     fn try_clone(&self) -> Result<Tables, AllocError> {
-        let labels = MapOf::<Utf8Key, Utf8>::try_clone(&self.labels)?;
+        let labels = MapOf::<Utf8, Utf8>::try_clone(&self.labels)?;
         let (inners, flags, ways, floats) = clone_four::<
             MapOf<Int32, Nested<Inner>>,
             MapOf<Boolean, Bytes>,
@@ -740,7 +739,7 @@ impl WireMessage for Tables {
 
     fn new(alloc: Global) -> Tables {
         Tables {
-            labels: MapOf::<Utf8Key, Utf8>::empty(alloc),
+            labels: MapOf::<Utf8, Utf8>::empty(alloc),
             inners: MapOf::<Int32, Nested<Inner>>::empty(alloc),
             flags: MapOf::<Boolean, Bytes>::empty(alloc),
             ways: MapOf::<Bits64, Int32>::empty(alloc),
@@ -750,7 +749,7 @@ impl WireMessage for Tables {
 
     fn put(&mut self, alloc: Global, field: Field<'_>) -> Result<(), CodecError> {
         match field.number.value {
-            1 => MapOf::<Utf8Key, Utf8>::take(&mut self.labels, alloc, field.value),
+            1 => MapOf::<Utf8, Utf8>::take(&mut self.labels, alloc, field.value),
             2 => MapOf::<Int32, Nested<Inner>>::take(&mut self.inners, alloc, field.value),
             3 => MapOf::<Boolean, Bytes>::take(&mut self.flags, alloc, field.value),
             4 => MapOf::<Bits64, Int32>::take(&mut self.ways, alloc, field.value),
@@ -762,7 +761,7 @@ impl WireMessage for Tables {
     #[tactic(auto, using(ttrpc_members::proofs::Groups::flat_measured))]
     fn length(&self) -> u64 {
         let len: u64 = 0;
-        let len = len.saturating_add(MapOf::<Utf8Key, Utf8>::length(&self.labels, TABLES_LABELS));
+        let len = len.saturating_add(MapOf::<Utf8, Utf8>::length(&self.labels, TABLES_LABELS));
         let len = len.saturating_add(MapOf::<Int32, Nested<Inner>>::length(
             &self.inners,
             TABLES_INNERS,
@@ -775,7 +774,7 @@ impl WireMessage for Tables {
     #[tactic(auto, using(ttrpc_members::proofs::Groups::flat_written, ttrpc_members::proofs::Groups::flat_len))]
     fn write(&self, out: &mut Vec<u8>) -> Result<(), CodecError> {
         write_four::<
-            MapOf<Utf8Key, Utf8>,
+            MapOf<Utf8, Utf8>,
             MapOf<Int32, Nested<Inner>>,
             MapOf<Boolean, Bytes>,
             MapOf<Bits64, Int32>,
@@ -790,7 +789,7 @@ impl WireMessage for Tables {
     }
 
     fn lemma_is_value(&self) {
-        MapOf::<Utf8Key, Utf8>::lemma_is_value(&self.labels);
+        MapOf::<Utf8, Utf8>::lemma_is_value(&self.labels);
         MapOf::<Int32, Nested<Inner>>::lemma_is_value(&self.inners);
         MapOf::<Boolean, Bytes>::lemma_is_value(&self.flags);
         MapOf::<Bits64, Int32>::lemma_is_value(&self.ways);
@@ -1255,11 +1254,11 @@ pub struct Tree {
     /// Field 3.
     pub best: Option<Enclosed<TreeRules>>,
     /// Field 4.
-    pub named: Map<TextKey, Enclosed<TreeRules>>,
+    pub named: Map<Text, Enclosed<TreeRules>>,
     /// Field 5.
     pub inner: Option<Inner>,
     /// Field 6.
-    pub numbers: Numbers<i32>,
+    pub numbers: Sequence<i32>,
 }
 
 const TREE_NAME: FieldNumber = FieldNumber { value: 1 };
@@ -1282,7 +1281,7 @@ impl TryClone for Tree {
         )?;
         let (best, named, inner, numbers) = clone_four::<
             Optional<Enclosing<TreeRules>>,
-            MapOf<Utf8Key, Enclosing<TreeRules>>,
+            MapOf<Utf8, Enclosing<TreeRules>>,
             Optional<Nested<Inner>>,
             Packed<Sint32>,
         >(&self.best, &self.named, &self.inner, &self.numbers)?;
@@ -1313,7 +1312,7 @@ impl WireMessage for Tree {
             name: Single::<Utf8>::empty(alloc),
             children: Repeated::<Enclosing<TreeRules>>::empty(alloc),
             best: Optional::<Enclosing<TreeRules>>::empty(alloc),
-            named: MapOf::<Utf8Key, Enclosing<TreeRules>>::empty(alloc),
+            named: MapOf::<Utf8, Enclosing<TreeRules>>::empty(alloc),
             inner: Optional::<Nested<Inner>>::empty(alloc),
             numbers: Packed::<Sint32>::empty(alloc),
         }
@@ -1324,7 +1323,7 @@ impl WireMessage for Tree {
             1 => Single::<Utf8>::take(&mut self.name, alloc, field.value),
             2 => Repeated::<Enclosing<TreeRules>>::take(&mut self.children, alloc, field.value),
             3 => Optional::<Enclosing<TreeRules>>::take(&mut self.best, alloc, field.value),
-            4 => MapOf::<Utf8Key, Enclosing<TreeRules>>::take(&mut self.named, alloc, field.value),
+            4 => MapOf::<Utf8, Enclosing<TreeRules>>::take(&mut self.named, alloc, field.value),
             5 => Optional::<Nested<Inner>>::take(&mut self.inner, alloc, field.value),
             6 => Packed::<Sint32>::take(&mut self.numbers, alloc, field.value),
             _ => Ok(()),
@@ -1342,7 +1341,7 @@ impl WireMessage for Tree {
         let len = len.saturating_add(Optional::<Enclosing<TreeRules>>::length(
             &self.best, TREE_BEST,
         ));
-        let len = len.saturating_add(MapOf::<Utf8Key, Enclosing<TreeRules>>::length(
+        let len = len.saturating_add(MapOf::<Utf8, Enclosing<TreeRules>>::length(
             &self.named,
             TREE_NAMED,
         ));
@@ -1356,7 +1355,7 @@ impl WireMessage for Tree {
             Single<Utf8>,
             Repeated<Enclosing<TreeRules>>,
             Optional<Enclosing<TreeRules>>,
-            MapOf<Utf8Key, Enclosing<TreeRules>>,
+            MapOf<Utf8, Enclosing<TreeRules>>,
         >(
             (&self.name, TREE_NAME),
             (&self.children, TREE_CHILDREN),
@@ -1375,7 +1374,7 @@ impl WireMessage for Tree {
         Single::<Utf8>::lemma_is_value(&self.name);
         Repeated::<Enclosing<TreeRules>>::lemma_is_value(&self.children);
         Optional::<Enclosing<TreeRules>>::lemma_is_value(&self.best);
-        MapOf::<Utf8Key, Enclosing<TreeRules>>::lemma_is_value(&self.named);
+        MapOf::<Utf8, Enclosing<TreeRules>>::lemma_is_value(&self.named);
         Optional::<Nested<Inner>>::lemma_is_value(&self.inner);
         Packed::<Sint32>::lemma_is_value(&self.numbers);
     }
@@ -1389,14 +1388,14 @@ impl WireMessage for Tree {
 #[derive(Drop)]
 pub struct Sheet {
     /// Field 1.
-    pub cells: Map<TextKey, Enclosed<CellRules>>,
+    pub cells: Map<Text, Enclosed<CellRules>>,
 }
 
 const SHEET_CELLS: FieldNumber = FieldNumber { value: 1 };
 
 impl TryClone for Sheet {
     fn try_clone(&self) -> Result<Sheet, AllocError> {
-        let cells = MapOf::<Utf8Key, Enclosing<CellRules>>::try_clone(&self.cells)?;
+        let cells = MapOf::<Utf8, Enclosing<CellRules>>::try_clone(&self.cells)?;
         Ok(Sheet { cells })
     }
 }
@@ -1414,13 +1413,13 @@ impl WireMessage for Sheet {
 
     fn new(alloc: Global) -> Sheet {
         Sheet {
-            cells: MapOf::<Utf8Key, Enclosing<CellRules>>::empty(alloc),
+            cells: MapOf::<Utf8, Enclosing<CellRules>>::empty(alloc),
         }
     }
 
     fn put(&mut self, alloc: Global, field: Field<'_>) -> Result<(), CodecError> {
         match field.number.value {
-            1 => MapOf::<Utf8Key, Enclosing<CellRules>>::take(&mut self.cells, alloc, field.value),
+            1 => MapOf::<Utf8, Enclosing<CellRules>>::take(&mut self.cells, alloc, field.value),
             _ => Ok(()),
         }
     }
@@ -1428,16 +1427,16 @@ impl WireMessage for Sheet {
     #[tactic(auto, using(ttrpc_members::proofs::Groups::flat_measured))]
     fn length(&self) -> u64 {
         let len: u64 = 0;
-        len.saturating_add(MapOf::<Utf8Key, Enclosing<CellRules>>::length(&self.cells, SHEET_CELLS))
+        len.saturating_add(MapOf::<Utf8, Enclosing<CellRules>>::length(&self.cells, SHEET_CELLS))
     }
 
     #[tactic(auto, using(ttrpc_members::proofs::Groups::flat_written, ttrpc_members::proofs::Groups::flat_len))]
     fn write(&self, out: &mut Vec<u8>) -> Result<(), CodecError> {
-        MapOf::<Utf8Key, Enclosing<CellRules>>::write(&self.cells, SHEET_CELLS, out)
+        MapOf::<Utf8, Enclosing<CellRules>>::write(&self.cells, SHEET_CELLS, out)
     }
 
     fn lemma_is_value(&self) {
-        MapOf::<Utf8Key, Enclosing<CellRules>>::lemma_is_value(&self.cells);
+        MapOf::<Utf8, Enclosing<CellRules>>::lemma_is_value(&self.cells);
     }
 
     ghost again = { sheet.laws.again sheet.valid };

@@ -4,7 +4,7 @@ use Rattle.std.specs.Prelude.{◌≡◌, ◌≢◌, ◌⊎◌, ℕ, List, [], �
 use Rattle.std.specs.Io.KnownBytes.{Appends, Keeps}
 use Rattle.ttrpc_proto.specs.declared.error.Error.{Error}
 use Rattle.ttrpc_proto.specs.declared.error.Error.TheVariants.{NoMemory}
-use Rattle.ttrpc_proto.specs.declared.response.Response.{Response}
+use Rattle.ttrpc_proto.specs.declared.messages.Response.{Response}
 use Rattle.ttrpc_echo.specs.Answered.{AnsweredAll, Fails}
 use Rattle.ttrpc_echo.specs.declared.program.outcome.Outcome.{Outcome}
 use Rattle.ttrpc_echo.specs.declared.program.outcome.Outcome.TheVariants.{Done, Refused, WrongWords, Failed}

@@ -6,7 +6,7 @@ use Rattle.hex.specs.Hex.{encode_lower}
 use Rattle.ttrpc_proto.specs.declared.error.Error.{Error}
 use Rattle.ttrpc_proto.specs.declared.error.Error.TheVariants.{NoMemory}
 use Rattle.ttrpc_proto.specs.ErrorText.{error_text}
-use Rattle.ttrpc_proto.specs.declared.response.Response.{Response}
+use Rattle.ttrpc_proto.specs.declared.messages.Response.{Response}
 use Rattle.ttrpc_echo.specs.Answered.{IsOfSystem}
 use Rattle.ttrpc_echo.specs.declared.program.outcome.Outcome.{Outcome}
 use Rattle.ttrpc_echo.specs.declared.program.outcome.Outcome.TheVariants.{Done, Refused, WrongWords, Failed}

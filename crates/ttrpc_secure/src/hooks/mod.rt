@@ -1,5 +1,6 @@
 //! Hooks: they inspect a connection before it is used, and say what is known of it.
 
+mod admission;
 mod datum;
 mod facts;
 mod hook_error;
@@ -7,6 +8,7 @@ mod kinds;
 
 ghost use Rattle.std.specs.Prelude.{◌≡◌, ◌+◌, ◌<◌, ◌≤◌, []};
 
+pub use self::admission::{NoHook, admit};
 pub use self::datum::{ConnectionData, ConnectionDataExt, Datum};
 pub use self::facts::ConnectionFacts;
 pub use self::hook_error::HookError;

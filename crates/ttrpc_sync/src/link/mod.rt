@@ -8,7 +8,7 @@ mod runtime;
 
 pub use self::outlet::Outlet;
 pub use self::queuing::{AfterQueuing, after_queuing};
-pub use self::runtime::{Host, Runtime, moment};
+pub use self::runtime::{Host, Runtime};
 use crate::ends::{Connected, WriteEnd};
 use crate::link::inlet::{Inlet, Intake};
 use crate::{GATHER_LIMIT, Gather, PART_LIMIT, ReadPort, write_loop};

@@ -15,7 +15,6 @@ use std::alloc::Global;
 use std::hint::spin_loop;
 use std::io::ErrorKind;
 use std::sync::{Condvar, Mutex, Wait};
-use ttrpc_client::client_on::{broke_on, ended_on, lend_on, take_on, wrote_on};
 use ttrpc_client::{CallId, ClientCore};
 use ttrpc_proto::{Error, Request, Response, Result};
 use ttrpc_secure::{InboundTransform, OutboundTransform};
@@ -150,7 +149,7 @@ impl<O: OutboundTransform + Drop, I: InboundTransform + Drop> Held for ClientHel
         ensures same { self.new.core ≡ record self.old.core { connection = self.new.core.connection } }
         ensures turns { (self.new.turn ≡ self.old.turn) × (self.new.reading ≡ self.old.reading) }
     {
-        ended_on(&mut self.core);
+        self.core.end_of_input();
     }
 
     fn wrote(&mut self, count: usize)
@@ -160,7 +159,7 @@ impl<O: OutboundTransform + Drop, I: InboundTransform + Drop> Held for ClientHel
         ensures turns { (self.new.turn ≡ self.old.turn) × (self.new.reading ≡ self.old.reading) }
     {
         let lent = self.core.lent();
-        wrote_on(&mut self.core, count.min(lent));
+        self.core.wrote(count.min(lent));
     }
 
     fn lend(&mut self, buffer: &mut [u8]) -> Loan
@@ -170,7 +169,7 @@ impl<O: OutboundTransform + Drop, I: InboundTransform + Drop> Held for ClientHel
         ensures turns { (self.new.turn ≡ self.old.turn) × (self.new.reading ≡ self.old.reading) }
     {
         let open = self.core.lendable();
-        let count = lend_on(&mut self.core, buffer);
+        let count = self.core.lend(buffer);
         Loan {
             count,
             ends_frame: count == open,
@@ -181,7 +180,7 @@ impl<O: OutboundTransform + Drop, I: InboundTransform + Drop> Held for ClientHel
         ensures failed { self.new.core ≡ record self.old.core { connection = failing self.old.core.connection (AFailure.Told (AnError.Nix kind)) } }
         ensures turns { (self.new.turn ≡ self.old.turn) × (self.new.reading ≡ self.old.reading) }
     {
-        broke_on(&mut self.core, kind);
+        self.core.fail(Error::Nix(kind));
     }
 
     fn next(&mut self, has_turn: bool) -> Next
@@ -215,7 +214,7 @@ fn feed_piece<O: OutboundTransform + Drop, I: InboundTransform + Drop>(
     ensures whole { IfSome result (λ taken. taken.0 ≡ length piece.now) }
     ensures fed { IsFed O.OutboundTransform I.InboundTransform core.old reading.old piece.now (option_map (λ taken. taken.1) result) core.new reading.new }
 {
-    let taken = take_on(core, alloc, piece);
+    let taken = core.feed(alloc, piece);
     let ended = ended_places(core, reading);
     match taken {
         Ok(count) => Some((count, ended)),

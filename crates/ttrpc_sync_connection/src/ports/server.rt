@@ -14,7 +14,6 @@ use std::sync::{Condvar, Mutex, Wait};
 use ttrpc_pool::PoolCore;
 use ttrpc_proto::Error;
 use ttrpc_secure::{InboundTransform, OutboundTransform};
-use ttrpc_server::server_on::{broke_on, ended_on, lend_on, take_on, wrote_on};
 use ttrpc_server::{Job, JobId, ServerCore, jobs_on};
 use ttrpc_sync::{Connected, Held, Loan, Next, ReadEnd, Taken, Turn, WriteEnd};
 
@@ -82,7 +81,7 @@ impl<O: OutboundTransform + Drop, I: InboundTransform + Drop> ServerHeld<O, I> {
             × (self.old.core.connection.failure ≡ None → NoneWaits self.old.core.state.jobs.list)) }
         ensures rest { self.new ≡ record self.old { core = self.new.core } }
     {
-        jobs_on::take_on(&mut self.core)
+        self.core.take_job()
     }
 
     /// Whether a worker is to be woken for a job that still waits, where none is on its way. It wakes the next one, so no job
@@ -148,7 +147,7 @@ impl<O: OutboundTransform + Drop, I: InboundTransform + Drop> ServerHeld<O, I> {
     {
         let others_write = self.turn.is_taken && !has_turn;
         if self.has_ended && !others_write && self.is_quiet() {
-            ended_on(&mut self.core);
+            self.core.end_of_input();
         }
     }
 
@@ -258,7 +257,7 @@ impl<O: OutboundTransform + Drop, I: InboundTransform + Drop> Held for ServerHel
           coming = on_their_way taken.woken.worker self.old.coming;
         }) }
     {
-        match take_on(&mut self.core, alloc, piece, 0) {
+        match self.core.feed(alloc, piece, 0) {
             Ok(count) if count == piece.len() => {
                 let kept = self.kept();
                 Some(Taken {
@@ -281,7 +280,7 @@ impl<O: OutboundTransform + Drop, I: InboundTransform + Drop> Held for ServerHel
         ensures { self.new ≡ record self.old { core = reported_to self.old.core count } }
     {
         let lent = self.core.lent();
-        wrote_on(&mut self.core, count.min(lent));
+        self.core.wrote(count.min(lent));
     }
 
     fn lend(&mut self, buffer: &mut [u8]) -> Loan
@@ -289,7 +288,7 @@ impl<O: OutboundTransform + Drop, I: InboundTransform + Drop> Held for ServerHel
         ensures rest { self.new ≡ record self.old { core = self.new.core } }
     {
         let open = self.core.lendable();
-        let count = lend_on(&mut self.core, buffer);
+        let count = self.core.lend(buffer);
         Loan {
             count,
             ends_frame: count == open,
@@ -303,7 +302,7 @@ impl<O: OutboundTransform + Drop, I: InboundTransform + Drop> Held for ServerHel
           };
         } }
     {
-        broke_on(&mut self.core, kind);
+        self.core.fail(Error::Nix(kind));
     }
 
     fn next(&mut self, has_turn: bool) -> Next

@@ -32,6 +32,20 @@ fn texts(rt: HostRuntime) -> Tested {
     is_kept(&rt, alloc, Text::from_str(alloc, green)?, green)
 }
 
+/// Texts have the order of their bytes, whatever letters these are.
+#[test]
+fn texts_have_an_order(rt: HostRuntime) -> Tested {
+    let rising = ["", "Z", "a", "aa", "b", "gr\u{fc}n"];
+    for (i, low) in rising.iter().enumerate() {
+        let low = Text::from_str(rt.alloc(), low)?;
+        for (j, high) in rising.iter().enumerate() {
+            let high = Text::from_str(rt.alloc(), high)?;
+            assert!(rt; low.cmp(&high) == i.cmp(&j), "{low:?} {high:?}");
+        }
+    }
+    Ok(())
+}
+
 #[test]
 fn what_is_no_text_is_refused(rt: HostRuntime) -> Tested {
     for bytes in [b"\xff".as_slice(), b"a\xc3", b"\xc0\x80", b"\xed\xa0\x80"] {
@@ -110,6 +124,19 @@ fn sequences_are_compared(rt: HostRuntime) -> Tested {
     differs(&rt, &texts, listed(rt.alloc(), &["a", "b", ""])?)?;
     let back = Sequence::from_vec(texts.into_vec());
     assert!(rt; back == listed(rt.alloc(), &["a", "b"])?);
+    Ok(())
+}
+
+/// Lists of numbers are copied and compared as others are.
+#[test]
+fn sequences_of_numbers(rt: HostRuntime) -> Tested {
+    let mut numbers: Sequence<i32> = Sequence::new(rt.alloc());
+    numbers.push(-1)?;
+    numbers.push(i32::MAX)?;
+    assert!(rt; numbers.try_clone()? == numbers);
+    assert!(rt; numbers.is_equal(&[-1, i32::MAX]));
+    assert!(rt; true.try_clone()? && 7_u64.try_clone()? == 7);
+    assert!(rt; (-7_i64).try_clone()? == -7 && 7_u32.try_clone()? == 7);
     Ok(())
 }
 

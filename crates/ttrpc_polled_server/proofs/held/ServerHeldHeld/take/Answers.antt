@@ -4,9 +4,9 @@ use Rattle.ttrpc_polled_server.proofs.held.ServerHeldHeld.take.Goals as goal
 pub returns-clause-takes : goal.returns-clause-takes
 returns-clause-takes g c =
     record {
-      fed = c.take_on.new.core;
-      answer = c.take_on.result;
-      takes = c.take_on.ensures;
+      fed = c.feed.new.self;
+      answer = c.feed.result;
+      takes = c.feed.ensures;
       counted = rw c.in-Ok.is refl;
       told = rw c.in-Ok.is (search rules);
     }

@@ -1,15 +1,15 @@
-use Rattle.std.proofs.Common.{◌≡◌, ◌⊎◌, Result, Ok, Err, inl, inr, subst}
+use Rattle.std.proofs.Common.{◌≡◌, Result, Ok, Err, inl, inr, subst}
 use Rattle.std.proofs.lemmas.Result.{IfOk-weaker}
 use Rattle.std.specs.Arc.{arc_value}
-use Rattle.std.specs.declared.io.Error.{Error as IoError}
+use Rattle.ttrpc_secure.specs.Hooks.Admission.{IsAdmission}
 use Rattle.ttrpc_secure.specs.declared.hooks.hook_error.HookError.{HookError}
 use Rattle.ttrpc_secure.specs.declared.hooks.hook_error.HookError.TheVariants.{Io, Timeout}
 use Rattle.ttrpc_polled_server.proofs.serving.Serving.begin.Goals as goal
 
 -- what was given in time is what the hook gave
-gave : {X : Type 0} (P : Result X HookError → Type 0) (x : X) → P (Ok x) ⊎ ((Ok x ≡ Err Timeout) ⊎ ((e : IoError) × (Ok x ≡ Err (Io e)))) → P (Ok x)
+gave : {X : Type 0} (P : Result X HookError → Type 0) (x : X) → IsAdmission P (Ok x) → P (Ok x)
 gave P x (inl given) = given
-gave P x (inr (inl late)) = cc
+gave P x (inr (inl late)) = let is : Ok x ≡ Err Timeout = late.1 in cc
 gave P x (inr (inr failed)) = let is : Ok x ≡ Err (Io failed.0) = failed.1 in cc
 
 pub returns-clause-accepted : goal.returns-clause-accepted

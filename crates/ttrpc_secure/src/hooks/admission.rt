@@ -1,15 +1,12 @@
 //! Whether a hook accepts a connection, and its time limit.
 ghost use Rattle.std.specs.Prelude.{◌≡◌, IfErr};
 ghost use Rattle.std.specs.declared.io.Error.{Error as IoError};
-ghost use Rattle.ttrpc_sync_server.specs.Accepting.{IsAdmission};
+ghost use Rattle.ttrpc_secure.specs.Hooks.Admission.{IsAdmission};
 
+use crate::hooks::{AcceptHook, HookError, HookOutput, hook_result};
+use crate::plain::Plain;
 use std::alloc::Global;
-use std::io;
 use std::time::Clock;
-use ttrpc_proto::Error;
-use ttrpc_secure::{AcceptHook, HookError, HookOutput, Plain, hook_result};
-use ttrpc_sync::moment;
-use ttrpc_transport::PipeConnection;
 
 /// The hook of a server that has none: it lets every connection pass as it is.
 #[derive(Clone, Copy, Debug)]
@@ -48,9 +45,8 @@ pub fn admit<C: Clock, S, A: AcceptHook<S>>(
 fn read_clock<C: Clock>(clock: &C) -> Result<u64, HookError>
     ensures { IfErr result (λ error. (e : IoError) × (error ≡ HookError.Io e)) }
 {
-    match moment(clock) {
-        Ok(now) => Ok(now),
-        Err(Error::Nix(kind)) => Err(HookError::Io(io::Error::from(kind))),
-        Err(_) => unreachable!(),
+    match clock.monotonic() {
+        Ok(time) => Ok(u64::try_from(time.as_nanos()).unwrap_or(u64::MAX)),
+        Err(error) => Err(HookError::Io(error)),
     }
 }
