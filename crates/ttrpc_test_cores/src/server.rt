@@ -28,9 +28,6 @@ pub const ASKED: &[u8] = b"\0\0\0\x14\0\0\0\x01\x01\0\x0a\x09demo.Echo\x12\x04Ec
 /// What answers it: an OK status and the same payload.
 pub const ECHOED: &[u8] = b"\0\0\0\x05\0\0\0\x01\x02\0\x0a\0\x12\x01\x2a";
 
-/// The first seven bytes of that request.
-pub const SEVEN_OF_ASKED: &[u8] = b"\0\0\0\x14\0\0\0";
-
 /// A request with no payload.
 pub const EMPTY: &[u8] = b"\0\0\0\x11\0\0\0\x01\x01\0\x0a\x09demo.Echo\x12\x04Echo";
 /// A request with no payload, and all flags.
@@ -38,51 +35,37 @@ pub const FLAGGED: &[u8] = b"\0\0\0\x11\0\0\0\x01\x01\x07\x0a\x09demo.Echo\x12\x
 /// What answers either: an OK status alone.
 pub const EMPTY_ECHOED: &[u8] = b"\0\0\0\x02\0\0\0\x01\x02\0\x0a\0";
 
-/// A request with no payload under stream 0.
-pub const EVEN: &[u8] = b"\0\0\0\x11\0\0\0\0\x01\0\x0a\x09demo.Echo\x12\x04Echo";
-/// What answers it.
-pub const EVEN_ECHOED: &[u8] = b"\0\0\0\x02\0\0\0\0\x02\0\x0a\0";
-
 /// Two requests under one id.
-pub const TWICE: &[u8] =
-    b"\0\0\0\x14\0\0\0\x01\x01\0\x0a\x09demo.Echo\x12\x04Echo\x1a\x01\x2a\0\0\0\x14\0\0\0\x01\x01\0\x0a\x09demo.Echo\x12\x04Echo\x1a\x01\x2b";
-/// What answers them.
-pub const TWICE_ECHOED: &[u8] =
-    b"\0\0\0\x05\0\0\0\x01\x02\0\x0a\0\x12\x01\x2a\0\0\0\x05\0\0\0\x01\x02\0\x0a\0\x12\x01\x2b";
+pub const TWICE: &[u8] = b"\
+    \0\0\0\x14\0\0\0\x01\x01\0\x0a\x09demo.Echo\x12\x04Echo\x1a\x01\x2a\
+    \0\0\0\x14\0\0\0\x01\x01\0\x0a\x09demo.Echo\x12\x04Echo\x1a\x01\x2b";
 
 /// A service that isn't there, under stream 2.
 pub const NO_SERVICE: &[u8] = b"\0\0\0\x06\0\0\0\x02\x01\0\x0a\x01x\x12\x01y";
 /// What answers it.
-pub const NO_SERVICE_ANSWER: &[u8] =
-    b"\0\0\0\x19\0\0\0\x02\x02\0\x0a\x17\x08\x03\x12\x13/x/y does not exist";
+pub const NO_SERVICE_ANSWER: &[u8] = b"\
+    \0\0\0\x19\0\0\0\x02\x02\0\x0a\x17\x08\x03\x12\x13/x/y does not exist";
 
 /// A method that isn't there.
 pub const NO_METHOD: &[u8] = b"\0\0\0\x11\0\0\0\x01\x01\0\x0a\x09demo.Echo\x12\x04Nope";
 /// What answers it.
-pub const NO_METHOD_ANSWER: &[u8] =
-    b"\0\0\0\x24\0\0\0\x01\x02\0\x0a\x22\x08\x03\x12\x1e/demo.Echo/Nope does not exist";
+pub const NO_METHOD_ANSWER: &[u8] = b"\
+    \0\0\0\x24\0\0\0\x01\x02\0\x0a\x22\x08\x03\x12\x1e/demo.Echo/Nope does not exist";
 
-/// A stream's name, which sync rules don't look for.
-pub const NO_STREAM: &[u8] = b"\0\0\0\x11\0\0\0\x01\x01\0\x0a\x09demo.Echo\x12\x04Chat";
-/// What answers it.
-pub const NO_STREAM_ANSWER: &[u8] =
-    b"\0\0\0\x24\0\0\0\x01\x02\0\x0a\x22\x08\x03\x12\x1e/demo.Echo/Chat does not exist";
+/// What answers a request to a stream under sync rules, which don't look for one.
+pub const NO_STREAM_ANSWER: &[u8] = b"\
+    \0\0\0\x24\0\0\0\x01\x02\0\x0a\x22\x08\x03\x12\x1e/demo.Echo/Chat does not exist";
 
 /// A length that runs past the end of the request.
 pub const UNREADABLE: &[u8] = b"\0\0\0\x03\0\0\0\x01\x01\0\x0a\x05a";
 
-/// Data, a close of a stream, a response, and frames of types that there are none of.
-pub const SKIPPED: &[u8] =
-    b"\0\0\0\x01\0\0\0\x01\x03\0z\0\0\0\0\0\0\0\x01\x03\x05\0\0\0\x02\0\0\0\x01\x02\0\x0a\0\0\0\0\0\0\0\0\x01\0\0\0\0\0\0\0\0\0\x02\xff\0";
-
 /// The header of a frame of stream 5 that is one byte too long.
 pub const OVERSIZED: &[u8] = b"\0\x40\0\x01\0\0\0\x05\x01\0";
 /// What answers it, and then the first request.
-pub const OVERSIZED_ANSWER: &[u8] =
-    b"\0\0\0\x43\0\0\0\x05\x02\0\x0a\x41\x08\x03\x12\x3dmessage length 4194305 exceed maximum message size of 4194304\0\0\0\x05\0\0\0\x01\x02\0\x0a\0\x12\x01\x2a";
+pub const OVERSIZED_ANSWER: &[u8] = b"\
+    \0\0\0\x43\0\0\0\x05\x02\0\
+    \x0a\x41\x08\x03\x12\x3dmessage length 4194305 exceed maximum message size of 4194304\
+    \0\0\0\x05\0\0\0\x01\x02\0\x0a\0\x12\x01\x2a";
 
 /// The front of the greatest response.
 pub const GREATEST: &[u8] = b"\0\x40\0\0\0\0\0\x01\x02\0\x0a\0\x12\xf9\xff\xff";
-/// What replaces a response that is a byte longer.
-pub const REPLACED: &[u8] =
-    b"\0\0\0\x60\0\0\0\x01\x02\0\x0a\x5e\x08\x03\x12\x5aresponse payload 4194305 bytes exceeds safe limit 4194304 bytes (after transform overhead)";

@@ -6,6 +6,14 @@ use std::alloc::Global;
 use std::process::Abort;
 use ttrpc_wire::values::slices::front;
 
+/// A script of both, run on new cores for each size of the pieces in which bytes are carried.
+#[derive(Clone, Copy)]
+pub struct Story {
+    /// What it shows.
+    pub name: &'static str,
+    pub deeds: &'static [Deed],
+}
+
 /// What happens between both.
 #[derive(Clone, Copy)]
 pub enum Deed {
@@ -17,14 +25,6 @@ pub enum Deed {
     CarriesUp,
     /// All that the server has to write goes to the client.
     CarriesDown,
-}
-
-/// A script of both, run on new cores for each size of the pieces in which bytes are carried.
-#[derive(Clone, Copy)]
-pub struct Story {
-    /// What it shows.
-    pub name: &'static str,
-    pub deeds: &'static [Deed],
 }
 
 /// In what sizes bytes are carried: one at a time, and as many as fit.

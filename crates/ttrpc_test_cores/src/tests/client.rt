@@ -1,34 +1,15 @@
 //! What a client asks and what it is answered, written by hand. Each has a name, so that a proof needn't read its bytes.
 
 /// The first request to `Echo` of `demo.Echo`, with the payload 01 02 03 and a timeout of 10.
-pub const ASKED: &[u8] =
-    b"\0\0\0\x18\0\0\0\x01\x01\0\x0a\x09demo.Echo\x12\x04Echo\x1a\x03\x01\x02\x03\x20\x0a";
-
-/// The same as the second request.
-pub const ASKED_NEXT: &[u8] =
-    b"\0\0\0\x18\0\0\0\x03\x01\0\x0a\x09demo.Echo\x12\x04Echo\x1a\x03\x01\x02\x03\x20\x0a";
-
-/// One behind the other.
-pub const ASKED_BOTH: &[u8] =
-    b"\0\0\0\x18\0\0\0\x01\x01\0\x0a\x09demo.Echo\x12\x04Echo\x1a\x03\x01\x02\x03\x20\x0a\0\0\0\x18\0\0\0\x03\x01\0\x0a\x09demo.Echo\x12\x04Echo\x1a\x03\x01\x02\x03\x20\x0a";
-
-/// The same under the last id.
-pub const ASKED_LAST: &[u8] =
-    b"\0\0\0\x18\xff\xff\xff\xff\x01\0\x0a\x09demo.Echo\x12\x04Echo\x1a\x03\x01\x02\x03\x20\x0a";
+pub const ASKED: &[u8] = b"\
+    \0\0\0\x18\0\0\0\x01\x01\0\x0a\x09demo.Echo\x12\x04Echo\x1a\x03\x01\x02\x03\x20\x0a";
 
 /// A response with an empty status and the payload 2a.
 pub const ANSWERED: &[u8] = b"\0\0\0\x05\0\0\0\x01\x02\0\x0a\0\x12\x01\x2a";
-/// The same for the second call, with the payload 2b.
-pub const ANSWERED_NEXT: &[u8] = b"\0\0\0\x05\0\0\0\x03\x02\0\x0a\0\x12\x01\x2b";
 /// With many flags.
 pub const ANSWERED_FLAGGED: &[u8] = b"\0\0\0\x05\0\0\0\x01\x02\xef\x0a\0\x12\x01\x2a";
-/// With no status.
-pub const ANSWERED_BARE: &[u8] = b"\0\0\0\x03\0\0\0\x01\x02\0\x12\x01\x2a";
 /// With a status of code 3 and message `x`, in two parts.
 pub const REFUSED: &[u8] = b"\0\0\0\x09\0\0\0\x01\x02\0\x0a\x02\x08\x03\x0a\x03\x12\x01x";
-/// With a status of code -1.
-pub const REFUSED_BELOW_ZERO: &[u8] =
-    b"\0\0\0\x0d\0\0\0\x01\x02\0\x0a\x0b\x08\xff\xff\xff\xff\xff\xff\xff\xff\xff\x01";
 /// With a length that runs past the end.
 pub const UNREADABLE: &[u8] = b"\0\0\0\x03\0\0\0\x01\x02\0\x0a\x05a";
 
@@ -40,12 +21,13 @@ pub const CLOSE: &[u8] = b"\0\0\0\0\0\0\0\x01\x03\x05";
 pub const CLOSE_WITH_DATA: &[u8] = b"\0\0\0\x01\0\0\0\x01\x03\x05z";
 /// A request under it.
 pub const REQUEST: &[u8] = b"\0\0\0\0\0\0\0\x01\x01\0";
-/// A frame of a type that there is none of.
-pub const OTHER_TYPE: &[u8] = b"\0\0\0\x02\0\0\0\x01\x09\x02ab";
 
 /// Frames under ids that no call has: an even one, 0, one that isn't given yet, and the last.
-pub const FOREIGN: &[u8] =
-    b"\0\0\0\x05\0\0\0\x02\x02\0\x0a\0\x12\x01\x2a\0\0\0\0\0\0\0\0\x02\0\0\0\0\x05\0\0\0\x05\x02\0\x0a\0\x12\x01\x2a\0\0\0\x03\xff\xff\xff\xff\x02\0\x0a\x05a";
+pub const FOREIGN: &[u8] = b"\
+    \0\0\0\x05\0\0\0\x02\x02\0\x0a\0\x12\x01\x2a\
+    \0\0\0\0\0\0\0\0\x02\0\
+    \0\0\0\x05\0\0\0\x05\x02\0\x0a\0\x12\x01\x2a\
+    \0\0\0\x03\xff\xff\xff\xff\x02\0\x0a\x05a";
 
 /// The header of a frame of the first id that is one byte too long.
 pub const OVERSIZED: &[u8] = b"\0\x40\0\x01\0\0\0\x01\x02\0";

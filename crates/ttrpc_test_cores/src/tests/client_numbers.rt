@@ -14,7 +14,7 @@ pub fn calls_last_first<C: Client>(alloc: Global, core: &mut C, count: u32) -> M
     let request = usual_request(alloc, 10)?;
     Ok(
         calls(alloc, core, &request, count)?
-            && writes(core, count)
+            && requests_leave(core, count, 0, 0x18, behind(ASKED, 10))
             && answers_last_first(alloc, core, count)?
             && tells_last_first(core, count)
             && gives_each(alloc, core, count)?,
@@ -32,8 +32,8 @@ pub fn calls_expire_at_once<C: Client>(alloc: Global, core: &mut C, count: u32) 
     Ok(leaves(core, b"") && tells_all(core, count) && expires_each(alloc, core, count)?)
 }
 
-/// The id of this call, of those from 0 on.
-fn id_of(number: u32) -> u32 {
+/// The id of this call or stream, of those from 0 on.
+pub fn id_of(number: u32) -> u32 {
     number.wrapping_mul(2).wrapping_add(1)
 }
 
@@ -47,13 +47,19 @@ fn calls<C: Client>(alloc: Global, core: &mut C, request: &Request, count: u32) 
     Ok(true)
 }
 
-/// The usual request leaves under each id.
-fn writes<C: End>(core: &mut C, count: u32) -> bool {
+/// A request with these flags and this message, of so many bytes, leaves under each id.
+pub fn requests_leave<C: End>(
+    core: &mut C,
+    count: u32,
+    flags: u8,
+    length: u8,
+    message: &[u8],
+) -> bool {
     for number in 0..count {
         let [a, b, c, d] = id_of(number).to_be_bytes();
-        let is_written = leaves(core, &[0, 0, 0, 0x18, a, b, c, d, 1, 0])
-            && leaves(core, behind(ASKED, 10));
-        if !is_written {
+        let has_left = leaves(core, &[0, 0, 0, length, a, b, c, d, 1, flags])
+            && leaves(core, message);
+        if !has_left {
             return false;
         }
     }

@@ -4,7 +4,7 @@ use crate::tests::client_steps::{client_refusal, client_step};
 use crate::tests::halves::Half;
 use crate::tests::script::{Start, Step};
 use crate::tests::server_steps::{feeds_at, server_refusal, server_step, serves};
-use crate::tests::under_test::{Client, Core, End, Items, Met, Server, Streaming};
+use crate::tests::under_test::{Client, Core, End, Items, Met, Opened, Server, Streaming};
 use std::alloc::Global;
 use std::test::Fail;
 use ttrpc_client::{CallId, ClientCore, ClientKind, StreamId, Ticket};
@@ -256,14 +256,8 @@ impl<O: OutboundTransform + Drop, I: InboundTransform + Drop> Items for ClientCo
 }
 
 impl<O: OutboundTransform + Drop, I: InboundTransform + Drop> Streaming for ClientCore<O, I> {
-    fn new_stream(
-        &mut self,
-        alloc: Global,
-        request: &Request,
-        streaming_client: bool,
-        streaming_server: bool,
-    ) -> Result<StreamId, Error> {
-        ClientCore::new_stream(self, alloc, request, streaming_client, streaming_server)
+    fn new_stream(&mut self, alloc: Global, request: &Request, sends: bool, hears: bool) -> Opened {
+        ClientCore::new_stream(self, alloc, request, sends, hears)
     }
 
     fn close_send(&mut self, alloc: Global, id: StreamId) -> Result<Ticket, Error> {

@@ -1,60 +1,89 @@
 //! Each row of the client's table for unary calls, each refusal, and what becomes of calls that expire or are dropped,
 //! over plain halves, and what frames give over halves that stamp, too. All bytes are written by hand.
 use crate::tests::client::*;
-use crate::tests::script::{Cuts, FRESH, Row, Start, Step, Told};
+use crate::tests::clients::{CALLS_FIRST, CALLS_FIRST_IN_TIME, CALLS_SECOND, CALLS_SECOND_IN_TIME};
+use crate::tests::kinds::{ASYNC_KIND, BOTH_KINDS, PlainClient, SYNC_KIND, StampedClient};
+use crate::tests::script::Step::*;
+use crate::tests::script::Told::{self, Begins, Others, Socket, Status};
+use crate::tests::script::{Cuts, FRESH, Row, Start};
+use crate::tests::told::{DISCONNECTED, LONG, LONG_TEXT, USED_UP};
 use crate::tests::under_test::{Table, Tested, hold, hold_stamped};
-use ttrpc_bench::{StampIn, StampOut};
-use ttrpc_client::{ClientCore, ClientKind};
-use ttrpc_secure::Plain;
+use ttrpc_client::ClientKind;
 
-type Core = ClientCore<Plain, Plain>;
+const REQUESTS: &[Table<ClientKind>] = &[
+    (BOTH_KINDS, REQUEST_ROWS),
+    (SYNC_KIND, REFUSAL_ROWS),
+    (ASYNC_KIND, ORDER_ROWS),
+];
 
-const SYNC: &[ClientKind] = &[ClientKind::Sync];
+const FRAMES: &[Table<ClientKind>] = &[
+    (BOTH_KINDS, FRAME_ROWS),
+    (SYNC_KIND, SYNC_FRAME_ROWS),
+    (ASYNC_KIND, ASYNC_FRAME_ROWS),
+];
 
-const ASYNC: &[ClientKind] = &[ClientKind::Async];
+const DEADLINES: &[Table<ClientKind>] = &[
+    (BOTH_KINDS, EXPIRY_ROWS),
+    (SYNC_KIND, SYNC_EXPIRY_ROWS),
+    (ASYNC_KIND, ASYNC_EXPIRY_ROWS),
+];
 
-const BOTH: &[ClientKind] = &[ClientKind::Sync, ClientKind::Async];
+const ENDS: &[Table<ClientKind>] = &[
+    (ASYNC_KIND, DROP_ROWS),
+    (BOTH_KINDS, FAILURE_ROWS),
+    (SYNC_KIND, END_ROWS),
+];
 
-const ELAPSED: Told = Told::Others("Request deadline elapsed");
+const OVERLONG: &[Table<ClientKind>] = &[(ASYNC_KIND, LONG_ROWS)];
 
-const DISCONNECTED: Told = Told::Socket("socket disconnected");
+/// The usual request as the second one.
+const ASKED_NEXT: &[u8] = b"\
+    \0\0\0\x18\0\0\0\x03\x01\0\x0a\x09demo.Echo\x12\x04Echo\x1a\x03\x01\x02\x03\x20\x0a";
+/// The first and the second, one behind the other.
+const ASKED_BOTH: &[u8] = b"\
+    \0\0\0\x18\0\0\0\x01\x01\0\x0a\x09demo.Echo\x12\x04Echo\x1a\x03\x01\x02\x03\x20\x0a\
+    \0\0\0\x18\0\0\0\x03\x01\0\x0a\x09demo.Echo\x12\x04Echo\x1a\x03\x01\x02\x03\x20\x0a";
+/// The usual request under the last id.
+const ASKED_LAST: &[u8] = b"\
+    \0\0\0\x18\xff\xff\xff\xff\x01\0\x0a\x09demo.Echo\x12\x04Echo\x1a\x03\x01\x02\x03\x20\x0a";
+/// A response to the second call, with an empty status and the payload 2b.
+const ANSWERED_NEXT: &[u8] = b"\0\0\0\x05\0\0\0\x03\x02\0\x0a\0\x12\x01\x2b";
+/// A response with no status.
+const ANSWERED_BARE: &[u8] = b"\0\0\0\x03\0\0\0\x01\x02\0\x12\x01\x2a";
+/// A response with a status of code -1.
+const REFUSED_BELOW_ZERO: &[u8] = b"\
+    \0\0\0\x0d\0\0\0\x01\x02\0\x0a\x0b\x08\xff\xff\xff\xff\xff\xff\xff\xff\xff\x01";
+/// A frame of a type that there is none of.
+const OTHER_TYPE: &[u8] = b"\0\0\0\x02\0\0\0\x01\x09\x02ab";
 
-const USED_UP: Told = Told::Others("stream ids are used up");
-
-const LONG: &str = "message length 4194305 exceed maximum message size of 4194304";
+const ELAPSED: Told = Others("Request deadline elapsed");
 
 const ELAPSED_DURING_WRITE: &str =
     "connection closed after a request deadline elapsed during write";
 
 const CANCELLED_DURING_WRITE: &str = "connection closed after a request was cancelled during write";
 
-const MALFORMED: Told = Told::Others("Receiver got malformed packet: type 3, flags 0, stream 1");
+const MALFORMED: Told = Others("Receiver got malformed packet: type 3, flags 0, stream 1");
 
-const MALFORMED_CLOSE: Told = Told::Others(
-    "Receiver got malformed packet: type 3, flags 5, stream 1",
-);
+const MALFORMED_CLOSE: Told = Others("Receiver got malformed packet: type 3, flags 5, stream 1");
 
-const MALFORMED_REQUEST: Told = Told::Others(
-    "Receiver got malformed packet: type 1, flags 0, stream 1",
-);
+const MALFORMED_REQUEST: Told = Others("Receiver got malformed packet: type 1, flags 0, stream 1");
 
-const MALFORMED_OTHER: Told = Told::Others(
-    "Receiver got malformed packet: type 9, flags 2, stream 1",
-);
+const MALFORMED_OTHER: Told = Others("Receiver got malformed packet: type 9, flags 2, stream 1");
 
 const REQUEST_ROWS: &[Row] = &[
     Row {
         name: "a request leaves as its frame",
         steps: &[
-            Step::Calls(10, 0, 1),
-            Step::Waits(1),
-            Step::Lent(0),
-            Step::Lends(0, ASKED, 0, 0),
-            Step::Lends(8, ASKED, 0, 8),
-            Step::Lent(8),
-            Step::Reports,
-            Step::WritesBehind(ASKED, 8),
-            Step::Writes(b""),
+            CALLS_FIRST_IN_TIME,
+            Waits(1),
+            Lent(0),
+            Lends(0, ASKED, 0, 0),
+            Lends(8, ASKED, 0, 8),
+            Lent(8),
+            Reports,
+            WritesBehind(ASKED, 8),
+            Writes(b""),
         ],
         ..FRESH
     },
@@ -62,39 +91,39 @@ const REQUEST_ROWS: &[Row] = &[
         name: "ids end at the last",
         start: Start::AtLastId,
         steps: &[
-            Step::Calls(10, 0, 4294967295),
-            Step::RefusesCall(USED_UP),
-            Step::DropsCall(1),
-            Step::RefusesCall(USED_UP),
-            Step::IsAlive,
-            Step::Waits(4294967295),
-            Step::Writes(ASKED_LAST),
+            Calls(10, 0, 4294967295),
+            RefusesCall(USED_UP),
+            DropsCall(1),
+            RefusesCall(USED_UP),
+            IsAlive,
+            Waits(4294967295),
+            Writes(ASKED_LAST),
         ],
         ..FRESH
     },
     Row {
         name: "ids that no call has change nothing",
         steps: &[
-            Step::Calls(10, 0, 1),
-            Step::Waits(0),
-            Step::Waits(2),
-            Step::Waits(3),
-            Step::Waits(4294967295),
-            Step::DropsCall(0),
-            Step::DropsCall(2),
-            Step::DropsCall(3),
-            Step::DropsCall(4294967295),
-            Step::IsAlive,
-            Step::NextDeadline(Some(10)),
-            Step::NextEnded(None),
-            Step::Writes(ASKED),
-            Step::Feed(ANSWERED),
-            Step::Gives(1, true, 0x2a),
-            Step::Waits(1),
-            Step::DropsCall(1),
-            Step::IsAlive,
-            Step::Calls(10, 0, 3),
-            Step::Writes(ASKED_NEXT),
+            CALLS_FIRST_IN_TIME,
+            Waits(0),
+            Waits(2),
+            Waits(3),
+            Waits(4294967295),
+            DropsCall(0),
+            DropsCall(2),
+            DropsCall(3),
+            DropsCall(4294967295),
+            IsAlive,
+            NextDeadline(Some(10)),
+            NextEnded(None),
+            Writes(ASKED),
+            Feed(ANSWERED),
+            Gives(1, true, 0x2a),
+            Waits(1),
+            DropsCall(1),
+            IsAlive,
+            CALLS_SECOND_IN_TIME,
+            Writes(ASKED_NEXT),
         ],
         ..FRESH
     },
@@ -105,10 +134,10 @@ const REFUSAL_ROWS: &[Row] = &[
     Row {
         name: "requests above the greatest length are refused",
         steps: &[
-            Step::CallsSevens(4194293, 1),
-            Step::RefusesSevens(4194294, Told::Others(LONG)),
-            Step::Calls(0, 0, 3),
-            Step::Waits(3),
+            CallsSevens(4194293, 1),
+            RefusesSevens(4194294, LONG),
+            CALLS_SECOND,
+            Waits(3),
         ],
         ..FRESH
     },
@@ -118,10 +147,10 @@ const ORDER_ROWS: &[Row] = &[
     Row {
         name: "ids are odd and rise",
         steps: &[
-            Step::Calls(10, 0, 1),
-            Step::Calls(10, 0, 3),
-            Step::DropsCall(3),
-            Step::Calls(10, 0, 5),
+            CALLS_FIRST_IN_TIME,
+            CALLS_SECOND_IN_TIME,
+            DropsCall(3),
+            Calls(10, 0, 5),
         ],
         ..FRESH
     },
@@ -129,11 +158,11 @@ const ORDER_ROWS: &[Row] = &[
         name: "that a request is too long is told before that no id is left, and a failure before both",
         start: Start::AtLastId,
         steps: &[
-            Step::Calls(0, 0, 4294967295),
-            Step::RefusesSevens(4194294, Told::Others(LONG)),
-            Step::EndsInput,
-            Step::RefusesSevens(4194294, DISCONNECTED),
-            Step::RefusesCall(DISCONNECTED),
+            Calls(0, 0, 4294967295),
+            RefusesSevens(4194294, LONG),
+            EndsInput,
+            RefusesSevens(4194294, DISCONNECTED),
+            RefusesCall(DISCONNECTED),
         ],
         ..FRESH
     },
@@ -142,120 +171,100 @@ const ORDER_ROWS: &[Row] = &[
 const FRAME_ROWS: &[Row] = &[
     Row {
         name: "a response with an OK status is the answer",
-        steps: &[
-            Step::Calls(0, 0, 1),
-            Step::Feed(ANSWERED),
-            Step::Gives(1, true, 0x2a),
-            Step::IsGone,
-        ],
+        steps: &[CALLS_FIRST, Feed(ANSWERED), Gives(1, true, 0x2a), IsGone],
         ..FRESH
     },
     Row {
         name: "flags of a response mean nothing",
         steps: &[
-            Step::Calls(0, 0, 1),
-            Step::Feed(ANSWERED_FLAGGED),
-            Step::Gives(1, true, 0x2a),
-            Step::IsGone,
+            CALLS_FIRST,
+            Feed(ANSWERED_FLAGGED),
+            Gives(1, true, 0x2a),
+            IsGone,
         ],
         ..FRESH
     },
     Row {
         name: "a response with no status is the answer",
         steps: &[
-            Step::Calls(0, 0, 1),
-            Step::Feed(ANSWERED_BARE),
-            Step::Gives(1, false, 0x2a),
-            Step::IsGone,
+            CALLS_FIRST,
+            Feed(ANSWERED_BARE),
+            Gives(1, false, 0x2a),
+            IsGone,
         ],
         ..FRESH
     },
     Row {
         name: "another code than OK is a refusal",
-        steps: &[
-            Step::Calls(0, 0, 1),
-            Step::Feed(REFUSED),
-            Step::Ends(1, Told::Status(3, "x")),
-            Step::IsGone,
-        ],
+        steps: &[CALLS_FIRST, Feed(REFUSED), Ends(1, Status(3, "x")), IsGone],
         ..FRESH
     },
     Row {
         name: "a code below zero is a refusal",
         steps: &[
-            Step::Calls(0, 0, 1),
-            Step::Feed(REFUSED_BELOW_ZERO),
-            Step::Ends(1, Told::Status(-1, "")),
-            Step::IsGone,
+            CALLS_FIRST,
+            Feed(REFUSED_BELOW_ZERO),
+            Ends(1, Status(-1, "")),
+            IsGone,
         ],
         ..FRESH
     },
     Row {
         name: "data under a call are malformed",
-        steps: &[
-            Step::Calls(0, 0, 1),
-            Step::Feed(DATA),
-            Step::Ends(1, MALFORMED),
-            Step::IsGone,
-        ],
+        steps: &[CALLS_FIRST, Feed(DATA), Ends(1, MALFORMED), IsGone],
         ..FRESH
     },
     Row {
         name: "a close under a call is malformed",
-        steps: &[
-            Step::Calls(0, 0, 1),
-            Step::Feed(CLOSE),
-            Step::Ends(1, MALFORMED_CLOSE),
-            Step::IsGone,
-        ],
+        steps: &[CALLS_FIRST, Feed(CLOSE), Ends(1, MALFORMED_CLOSE), IsGone],
         ..FRESH
     },
     Row {
         name: "a close with data is malformed",
         steps: &[
-            Step::Calls(0, 0, 1),
-            Step::Feed(CLOSE_WITH_DATA),
-            Step::Ends(1, MALFORMED_CLOSE),
-            Step::IsGone,
+            CALLS_FIRST,
+            Feed(CLOSE_WITH_DATA),
+            Ends(1, MALFORMED_CLOSE),
+            IsGone,
         ],
         ..FRESH
     },
     Row {
         name: "a request under a call is malformed",
         steps: &[
-            Step::Calls(0, 0, 1),
-            Step::Feed(REQUEST),
-            Step::Ends(1, MALFORMED_REQUEST),
-            Step::IsGone,
+            CALLS_FIRST,
+            Feed(REQUEST),
+            Ends(1, MALFORMED_REQUEST),
+            IsGone,
         ],
         ..FRESH
     },
     Row {
         name: "a frame of another type is malformed",
         steps: &[
-            Step::Calls(0, 0, 1),
-            Step::Feed(OTHER_TYPE),
-            Step::Ends(1, MALFORMED_OTHER),
-            Step::IsGone,
+            CALLS_FIRST,
+            Feed(OTHER_TYPE),
+            Ends(1, MALFORMED_OTHER),
+            IsGone,
         ],
         ..FRESH
     },
     Row {
         name: "frames that find no call do nothing",
         steps: &[
-            Step::Calls(0, 0, 1),
-            Step::Feed(FOREIGN),
-            Step::Waits(0),
-            Step::Waits(1),
-            Step::Waits(2),
-            Step::Waits(3),
-            Step::Waits(5),
-            Step::Waits(4294967295),
-            Step::IsAlive,
-            Step::DropsCall(1),
-            Step::DropsCall(7),
-            Step::IsGone,
-            Step::Calls(0, 0, 3),
+            CALLS_FIRST,
+            Feed(FOREIGN),
+            Waits(0),
+            Waits(1),
+            Waits(2),
+            Waits(3),
+            Waits(5),
+            Waits(4294967295),
+            IsAlive,
+            DropsCall(1),
+            DropsCall(7),
+            IsGone,
+            CALLS_SECOND,
         ],
         ..FRESH
     },
@@ -266,23 +275,23 @@ const SYNC_FRAME_ROWS: &[Row] = &[
     Row {
         name: "unreadable responses are told",
         steps: &[
-            Step::Calls(0, 0, 1),
-            Step::Feed(UNREADABLE),
-            Step::Ends(1, Told::Begins("Unpack response error ")),
-            Step::IsGone,
+            CALLS_FIRST,
+            Feed(UNREADABLE),
+            Ends(1, Begins("Unpack response error ")),
+            IsGone,
         ],
         ..FRESH
     },
     Row {
         name: "the first frame decides, and its outcome is kept until it is taken",
         steps: &[
-            Step::Calls(0, 0, 1),
-            Step::Feed(ANSWERED),
-            Step::Feed(REFUSED),
-            Step::Ticks(18446744073709551615),
-            Step::EndsInput,
-            Step::Gives(1, true, 0x2a),
-            Step::Waits(1),
+            CALLS_FIRST,
+            Feed(ANSWERED),
+            Feed(REFUSED),
+            Ticks(18446744073709551615),
+            EndsInput,
+            Gives(1, true, 0x2a),
+            Waits(1),
         ],
         ..FRESH
     },
@@ -292,34 +301,34 @@ const ASYNC_FRAME_ROWS: &[Row] = &[
     Row {
         name: "answers are given by their ids",
         steps: &[
-            Step::Calls(0, 0, 1),
-            Step::Calls(0, 0, 3),
-            Step::Feed(ANSWERED_NEXT),
-            Step::Waits(1),
-            Step::Feed(ANSWERED),
-            Step::Gives(1, true, 0x2a),
-            Step::Gives(3, true, 0x2b),
-            Step::Waits(3),
+            CALLS_FIRST,
+            CALLS_SECOND,
+            Feed(ANSWERED_NEXT),
+            Waits(1),
+            Feed(ANSWERED),
+            Gives(1, true, 0x2a),
+            Gives(3, true, 0x2b),
+            Waits(3),
         ],
         ..FRESH
     },
     Row {
         name: "calls are told of in the order in which they ended",
         steps: &[
-            Step::NextEnded(None),
-            Step::Calls(0, 0, 1),
-            Step::Calls(10, 0, 3),
-            Step::Calls(0, 0, 5),
-            Step::NextEnded(None),
-            Step::Feed(ANSWERED),
-            Step::Ticks(10),
-            Step::NextEnded(Some(1)),
-            Step::NextEnded(Some(3)),
-            Step::NextEnded(None),
-            Step::Gives(1, true, 0x2a),
-            Step::Ends(3, ELAPSED),
-            Step::Waits(3),
-            Step::NextEnded(None),
+            NextEnded(None),
+            CALLS_FIRST,
+            CALLS_SECOND_IN_TIME,
+            Calls(0, 0, 5),
+            NextEnded(None),
+            Feed(ANSWERED),
+            Ticks(10),
+            NextEnded(Some(1)),
+            NextEnded(Some(3)),
+            NextEnded(None),
+            Gives(1, true, 0x2a),
+            Ends(3, ELAPSED),
+            Waits(3),
+            NextEnded(None),
         ],
         ..FRESH
     },
@@ -329,58 +338,58 @@ const EXPIRY_ROWS: &[Row] = &[
     Row {
         name: "a request that left may expire",
         steps: &[
-            Step::Calls(10, 0, 1),
-            Step::Leaves(ASKED, 0, 34),
-            Step::Ticks(10),
-            Step::Ends(1, ELAPSED),
-            Step::Waits(1),
-            Step::Feed(ANSWERED),
-            Step::Waits(1),
-            Step::Calls(10, 0, 3),
-            Step::Writes(ASKED_NEXT),
+            CALLS_FIRST_IN_TIME,
+            Leaves(ASKED, 0, 34),
+            Ticks(10),
+            Ends(1, ELAPSED),
+            Waits(1),
+            Feed(ANSWERED),
+            Waits(1),
+            CALLS_SECOND_IN_TIME,
+            Writes(ASKED_NEXT),
         ],
         ..FRESH
     },
     Row {
         name: "the next deadline is the least of those that wait",
         steps: &[
-            Step::NextDeadline(None),
-            Step::Calls(0, 0, 1),
-            Step::NextDeadline(None),
-            Step::Calls(10, 0, 3),
-            Step::NextDeadline(Some(10)),
-            Step::Calls(3, 4, 5),
-            Step::NextDeadline(Some(7)),
-            Step::Ticks(7),
-            Step::NextDeadline(Some(10)),
-            Step::DropsCall(3),
-            Step::NextDeadline(None),
-            Step::NextEnded(Some(5)),
-            Step::NextEnded(None),
-            Step::Ends(5, ELAPSED),
-            Step::Waits(5),
+            NextDeadline(None),
+            CALLS_FIRST,
+            NextDeadline(None),
+            CALLS_SECOND_IN_TIME,
+            NextDeadline(Some(10)),
+            Calls(3, 4, 5),
+            NextDeadline(Some(7)),
+            Ticks(7),
+            NextDeadline(Some(10)),
+            DropsCall(3),
+            NextDeadline(None),
+            NextEnded(Some(5)),
+            NextEnded(None),
+            Ends(5, ELAPSED),
+            Waits(5),
         ],
         ..FRESH
     },
     Row {
         name: "a moment that never comes is no deadline",
         steps: &[
-            Step::Calls(-1, 1, 1),
-            Step::NextDeadline(None),
-            Step::Calls(-1, 0, 3),
-            Step::NextDeadline(Some(18446744073709551615)),
+            Calls(-1, 1, 1),
+            NextDeadline(None),
+            Calls(-1, 0, 3),
+            NextDeadline(Some(18446744073709551615)),
         ],
         ..FRESH
     },
     Row {
         name: "after a failure there is no deadline",
         steps: &[
-            Step::Calls(10, 0, 1),
-            Step::NextDeadline(Some(10)),
-            Step::FailsBy("first"),
-            Step::NextDeadline(None),
-            Step::Ends(1, Told::Socket("first")),
-            Step::NextEnded(None),
+            CALLS_FIRST_IN_TIME,
+            NextDeadline(Some(10)),
+            FailsBy("first"),
+            NextDeadline(None),
+            Ends(1, Socket("first")),
+            NextEnded(None),
         ],
         ..FRESH
     },
@@ -391,35 +400,35 @@ const SYNC_EXPIRY_ROWS: &[Row] = &[
     Row {
         name: "a begun request is written in full",
         steps: &[
-            Step::Calls(10, 0, 1),
-            Step::Leaves(ASKED, 0, 12),
-            Step::Ticks(10),
-            Step::Ends(1, ELAPSED),
-            Step::Waits(1),
-            Step::WritesBehind(ASKED, 12),
-            Step::Calls(10, 0, 3),
-            Step::Leaves(ASKED_NEXT, 0, 12),
-            Step::DropsCall(3),
-            Step::WritesBehind(ASKED_NEXT, 12),
-            Step::IsAlive,
+            CALLS_FIRST_IN_TIME,
+            Leaves(ASKED, 0, 12),
+            Ticks(10),
+            Ends(1, ELAPSED),
+            Waits(1),
+            WritesBehind(ASKED, 12),
+            CALLS_SECOND_IN_TIME,
+            Leaves(ASKED_NEXT, 0, 12),
+            DropsCall(3),
+            WritesBehind(ASKED_NEXT, 12),
+            IsAlive,
         ],
         ..FRESH
     },
     Row {
         name: "a timeout of 0 is no deadline, and a negative one is a long one",
         steps: &[
-            Step::Calls(0, 0, 1),
-            Step::Calls(-1, 0, 3),
-            Step::Calls(-1, 1, 5),
-            Step::Calls(1, 18446744073709551615, 7),
-            Step::Ticks(18446744073709551614),
-            Step::Waits(3),
-            Step::Ticks(18446744073709551615),
-            Step::Ends(3, ELAPSED),
-            Step::Waits(3),
-            Step::Waits(1),
-            Step::Waits(5),
-            Step::Waits(7),
+            CALLS_FIRST,
+            Calls(-1, 0, 3),
+            Calls(-1, 1, 5),
+            Calls(1, 18446744073709551615, 7),
+            Ticks(18446744073709551614),
+            Waits(3),
+            Ticks(18446744073709551615),
+            Ends(3, ELAPSED),
+            Waits(3),
+            Waits(1),
+            Waits(5),
+            Waits(7),
         ],
         ..FRESH
     },
@@ -429,61 +438,61 @@ const ASYNC_EXPIRY_ROWS: &[Row] = &[
     Row {
         name: "a deadline in a request breaks the connection",
         steps: &[
-            Step::Calls(10, 0, 1),
-            Step::Leaves(ASKED, 0, 12),
-            Step::Ticks(9),
-            Step::Waits(1),
-            Step::IsAlive,
-            Step::Ticks(10),
-            Step::Ends(1, ELAPSED),
-            Step::Waits(1),
-            Step::HasFailed(ELAPSED_DURING_WRITE),
+            CALLS_FIRST_IN_TIME,
+            Leaves(ASKED, 0, 12),
+            Ticks(9),
+            Waits(1),
+            IsAlive,
+            Ticks(10),
+            Ends(1, ELAPSED),
+            Waits(1),
+            HasFailed(ELAPSED_DURING_WRITE),
         ],
         ..FRESH
     },
     Row {
         name: "a request has begun once a byte was lent, also where none was reported",
         steps: &[
-            Step::Calls(10, 0, 1),
-            Step::Lends(12, ASKED, 0, 12),
-            Step::Lent(12),
-            Step::Ticks(10),
-            Step::Ends(1, ELAPSED),
-            Step::Waits(1),
-            Step::HasFailed(ELAPSED_DURING_WRITE),
-            Step::Lent(0),
+            CALLS_FIRST_IN_TIME,
+            Lends(12, ASKED, 0, 12),
+            Lent(12),
+            Ticks(10),
+            Ends(1, ELAPSED),
+            Waits(1),
+            HasFailed(ELAPSED_DURING_WRITE),
+            Lent(0),
         ],
         ..FRESH
     },
     Row {
         name: "all that are due expire before the connection fails, and the other call has the failure",
         steps: &[
-            Step::Calls(10, 0, 1),
-            Step::Calls(7, 0, 3),
-            Step::Calls(20, 0, 5),
-            Step::Leaves(ASKED, 0, 1),
-            Step::Ticks(12),
-            Step::Ends(3, ELAPSED),
-            Step::Waits(3),
-            Step::Ends(1, ELAPSED),
-            Step::Waits(1),
-            Step::Ends(5, Told::Socket(ELAPSED_DURING_WRITE)),
-            Step::Waits(5),
-            Step::HasFailed(ELAPSED_DURING_WRITE),
+            CALLS_FIRST_IN_TIME,
+            Calls(7, 0, 3),
+            Calls(20, 0, 5),
+            Leaves(ASKED, 0, 1),
+            Ticks(12),
+            Ends(3, ELAPSED),
+            Waits(3),
+            Ends(1, ELAPSED),
+            Waits(1),
+            Ends(5, Socket(ELAPSED_DURING_WRITE)),
+            Waits(5),
+            HasFailed(ELAPSED_DURING_WRITE),
         ],
         ..FRESH
     },
     Row {
         name: "a request that has not begun is thrown away, and the other leaves",
         steps: &[
-            Step::Calls(10, 7, 1),
-            Step::Calls(9, 7, 3),
-            Step::Ticks(16),
-            Step::Ends(3, ELAPSED),
-            Step::Waits(3),
-            Step::Waits(1),
-            Step::Writes(ASKED),
-            Step::IsAlive,
+            Calls(10, 7, 1),
+            Calls(9, 7, 3),
+            Ticks(16),
+            Ends(3, ELAPSED),
+            Waits(3),
+            Waits(1),
+            Writes(ASKED),
+            IsAlive,
         ],
         ..FRESH
     },
@@ -493,51 +502,51 @@ const DROP_ROWS: &[Row] = &[
     Row {
         name: "a dropped request is thrown away",
         steps: &[
-            Step::Calls(10, 0, 1),
-            Step::DropsCall(1),
-            Step::Calls(10, 0, 3),
-            Step::Ticks(5),
-            Step::Writes(ASKED_NEXT),
-            Step::IsGone,
+            CALLS_FIRST_IN_TIME,
+            DropsCall(1),
+            CALLS_SECOND_IN_TIME,
+            Ticks(5),
+            Writes(ASKED_NEXT),
+            IsGone,
         ],
         ..FRESH
     },
     Row {
         name: "a drop in a request breaks the connection",
         steps: &[
-            Step::Calls(10, 0, 1),
-            Step::Leaves(ASKED, 0, 12),
-            Step::DropsCall(1),
-            Step::Waits(1),
-            Step::HasFailed(CANCELLED_DURING_WRITE),
+            CALLS_FIRST_IN_TIME,
+            Leaves(ASKED, 0, 12),
+            DropsCall(1),
+            Waits(1),
+            HasFailed(CANCELLED_DURING_WRITE),
         ],
         ..FRESH
     },
     Row {
         name: "a call that ended leaves its request when it is dropped",
         steps: &[
-            Step::Calls(10, 0, 1),
-            Step::Calls(10, 0, 3),
-            Step::Leaves(ASKED, 0, 12),
-            Step::Feed(ANSWERED),
-            Step::Feed(ANSWERED_NEXT),
-            Step::DropsCall(1),
-            Step::DropsCall(3),
-            Step::Ticks(10),
-            Step::IsAlive,
-            Step::WritesBehind(ASKED_BOTH, 12),
+            CALLS_FIRST_IN_TIME,
+            CALLS_SECOND_IN_TIME,
+            Leaves(ASKED, 0, 12),
+            Feed(ANSWERED),
+            Feed(ANSWERED_NEXT),
+            DropsCall(1),
+            DropsCall(3),
+            Ticks(10),
+            IsAlive,
+            WritesBehind(ASKED_BOTH, 12),
         ],
         ..FRESH
     },
     Row {
         name: "a drop after a failure changes nothing else",
         steps: &[
-            Step::Calls(10, 0, 1),
-            Step::Leaves(ASKED, 0, 12),
-            Step::EndsInput,
-            Step::DropsCall(1),
-            Step::Waits(1),
-            Step::HasFailed("socket disconnected"),
+            CALLS_FIRST_IN_TIME,
+            Leaves(ASKED, 0, 12),
+            EndsInput,
+            DropsCall(1),
+            Waits(1),
+            HasFailed("socket disconnected"),
         ],
         ..FRESH
     },
@@ -546,21 +555,21 @@ const DROP_ROWS: &[Row] = &[
 const FAILURE_ROWS: &[Row] = &[Row {
     name: "a failure is the outcome of what waits, once, and a tick changes nothing any more",
     steps: &[
-        Step::Calls(10, 0, 1),
-        Step::Calls(10, 0, 3),
-        Step::Calls(5, 0, 5),
-        Step::Ticks(5),
-        Step::Feed(ANSWERED_NEXT),
-        Step::FailsBy("first"),
-        Step::FailsBy("second"),
-        Step::EndsInput,
-        Step::Ticks(10),
-        Step::Ends(1, Told::Socket("first")),
-        Step::Waits(1),
-        Step::Gives(3, true, 0x2b),
-        Step::Ends(5, ELAPSED),
-        Step::Waits(5),
-        Step::HasFailed("first"),
+        CALLS_FIRST_IN_TIME,
+        CALLS_SECOND_IN_TIME,
+        Calls(5, 0, 5),
+        Ticks(5),
+        Feed(ANSWERED_NEXT),
+        FailsBy("first"),
+        FailsBy("second"),
+        EndsInput,
+        Ticks(10),
+        Ends(1, Socket("first")),
+        Waits(1),
+        Gives(3, true, 0x2b),
+        Ends(5, ELAPSED),
+        Waits(5),
+        HasFailed("first"),
     ],
     ..FRESH
 }];
@@ -568,29 +577,25 @@ const FAILURE_ROWS: &[Row] = &[Row {
 const END_ROWS: &[Row] = &[
     Row {
         name: "the input ends before a frame",
-        steps: &[Step::EndsInput, Step::HasFailed("socket disconnected")],
+        steps: &[EndsInput, HasFailed("socket disconnected")],
         ..FRESH
     },
     Row {
         name: "the input ends behind a frame",
-        steps: &[
-            Step::Feed(ANSWERED),
-            Step::EndsInput,
-            Step::HasFailed("socket disconnected"),
-        ],
+        steps: &[Feed(ANSWERED), EndsInput, HasFailed("socket disconnected")],
         ..FRESH
     },
     Row {
         name: "a boundary is where no frame has begun",
         cuts: Cuts::Inside(15),
         steps: &[
-            Step::AtBoundary(true),
-            Step::Calls(10, 0, 1),
-            Step::FeedToCut(ANSWERED),
-            Step::AtBoundary(false),
-            Step::FeedFromCut(ANSWERED),
-            Step::AtBoundary(true),
-            Step::Gives(1, true, 0x2a),
+            AtBoundary(true),
+            CALLS_FIRST_IN_TIME,
+            FeedToCut(ANSWERED),
+            AtBoundary(false),
+            FeedFromCut(ANSWERED),
+            AtBoundary(true),
+            Gives(1, true, 0x2a),
         ],
         ..FRESH
     },
@@ -598,9 +603,9 @@ const END_ROWS: &[Row] = &[
         name: "the input ends inside a frame",
         cuts: Cuts::Inside(15),
         steps: &[
-            Step::FeedToCut(ANSWERED),
-            Step::EndsInput,
-            Step::HasFailed("socket disconnected inside a frame"),
+            FeedToCut(ANSWERED),
+            EndsInput,
+            HasFailed("socket disconnected inside a frame"),
         ],
         ..FRESH
     },
@@ -609,66 +614,50 @@ const END_ROWS: &[Row] = &[
 const LONG_ROWS: &[Row] = &[Row {
     name: "oversized frames are told with their last byte, and the next frame is read",
     steps: &[
-        Step::Calls(0, 0, 1),
-        Step::Feed(OVERSIZED),
-        Step::Calls(0, 0, 3),
-        Step::FeedSevens(4194304),
-        Step::Waits(1),
-        Step::FeedSevens(1),
-        Step::Feed(ANSWERED_NEXT),
-        Step::Ends(1, Told::Status(3, LONG)),
-        Step::IsGone,
-        Step::Gives(3, true, 0x2b),
+        CALLS_FIRST,
+        Feed(OVERSIZED),
+        CALLS_SECOND,
+        FeedSevens(4194304),
+        Waits(1),
+        FeedSevens(1),
+        Feed(ANSWERED_NEXT),
+        Ends(1, Status(3, LONG_TEXT)),
+        IsGone,
+        Gives(3, true, 0x2b),
     ],
     ..FRESH
 }];
 
-const REQUESTS: &[Table<ClientKind>] = &[
-    (BOTH, REQUEST_ROWS),
-    (SYNC, REFUSAL_ROWS),
-    (ASYNC, ORDER_ROWS),
-];
-
-#[test]
-fn requests_are_numbered_queued_and_refused(rt: HostRuntime) -> Tested {
-    hold::<Core>(&rt, rt.alloc(), REQUESTS)
-}
-
-const FRAMES: &[Table<ClientKind>] = &[
-    (BOTH, FRAME_ROWS),
-    (SYNC, SYNC_FRAME_ROWS),
-    (ASYNC, ASYNC_FRAME_ROWS),
-];
+// ---- what holds over halves that stamp, too
 
 #[test]
 fn frames_give_outcomes(rt: HostRuntime) -> Tested {
-    hold::<Core>(&rt, rt.alloc(), FRAMES)
+    hold::<PlainClient>(&rt, rt.alloc(), FRAMES)
 }
 
 #[test]
 fn stamped_frames_give_outcomes(rt: HostRuntime) -> Tested {
-    hold_stamped::<ClientCore<StampOut, StampIn>>(&rt, rt.alloc(), FRAMES)
+    hold_stamped::<StampedClient>(&rt, rt.alloc(), FRAMES)
 }
 
-const DEADLINES: &[Table<ClientKind>] = &[
-    (BOTH, EXPIRY_ROWS),
-    (SYNC, SYNC_EXPIRY_ROWS),
-    (ASYNC, ASYNC_EXPIRY_ROWS),
-];
+// ---- what holds over one kind of halves
+
+#[test]
+fn requests_are_numbered_queued_and_refused(rt: HostRuntime) -> Tested {
+    hold::<PlainClient>(&rt, rt.alloc(), REQUESTS)
+}
 
 #[test]
 fn calls_expire(rt: HostRuntime) -> Tested {
-    hold::<Core>(&rt, rt.alloc(), DEADLINES)
+    hold::<PlainClient>(&rt, rt.alloc(), DEADLINES)
 }
-
-const ENDS: &[Table<ClientKind>] = &[(ASYNC, DROP_ROWS), (BOTH, FAILURE_ROWS), (SYNC, END_ROWS)];
 
 #[test]
 fn calls_are_dropped_and_connections_fail(rt: HostRuntime) -> Tested {
-    hold::<Core>(&rt, rt.alloc(), ENDS)
+    hold::<PlainClient>(&rt, rt.alloc(), ENDS)
 }
 
 #[test]
 fn oversized_responses_are_told(rt: HostRuntime) -> Tested {
-    hold::<Core>(&rt, rt.alloc(), &[(ASYNC, LONG_ROWS)])
+    hold::<PlainClient>(&rt, rt.alloc(), OVERLONG)
 }

@@ -1,74 +1,91 @@
 //! Each row of the server's table under sync rules, and each refusal, over plain halves. All bytes are written by hand.
 use crate::server::*;
-use crate::tests::script::{Cuts, FRESH, Row, Step, Told};
+use crate::tests::kinds::{PlainServer, SYNC_RULES, StampedServer};
+use crate::tests::script::Step::*;
+use crate::tests::script::Told::{self, Others, Socket};
+use crate::tests::script::{Cuts, FRESH, Row};
+use crate::tests::servers::{
+    ANSWERS_FIRST, GREATEST_IS_SENT, KNOWN_ROWS, LONG_ROWS, TAKES_FIRST, UNREADABLE_ROWS,
+};
+use crate::tests::told::UNKNOWN_JOB;
 use crate::tests::under_test::{Table, Tested, hold, hold_stamped};
-use ttrpc_bench::{StampIn, StampOut};
-use ttrpc_secure::Plain;
-use ttrpc_server::{Rules, ServerCore};
+use ttrpc_server::Rules;
 
-type Core = ServerCore<Plain, Plain>;
+const TABLES: &[Table<Rules>] = &[
+    (SYNC_RULES, KNOWN_ROWS),
+    (SYNC_RULES, ANSWERED_ROWS),
+    (SYNC_RULES, JOB_ROWS),
+];
+
+const PARTS: &[Table<Rules>] = &[
+    (SYNC_RULES, UNREADABLE_ROWS),
+    (SYNC_RULES, LENT_ROWS),
+    (SYNC_RULES, FAILURE_ROWS),
+    (SYNC_RULES, FRONT_ROWS),
+];
+
+const OVERLONG: &[Table<Rules>] = &[(SYNC_RULES, LONG_ROWS)];
 
 const INSIDE: &str = "socket disconnected inside a frame";
 
-const UNKNOWN_JOB: Told = Told::Others("unknown job");
+/// The first seven bytes of the usual request.
+const SEVEN_OF_ASKED: &[u8] = b"\0\0\0\x14\0\0\0";
+/// A request with no payload under stream 0.
+const EVEN: &[u8] = b"\0\0\0\x11\0\0\0\0\x01\0\x0a\x09demo.Echo\x12\x04Echo";
+/// What answers it.
+const EVEN_ECHOED: &[u8] = b"\0\0\0\x02\0\0\0\0\x02\0\x0a\0";
+/// What answers two requests under one id.
+const TWICE_ECHOED: &[u8] = b"\
+    \0\0\0\x05\0\0\0\x01\x02\0\x0a\0\x12\x01\x2a\
+    \0\0\0\x05\0\0\0\x01\x02\0\x0a\0\x12\x01\x2b";
+/// A stream's name, which sync rules don't look for.
+const NO_STREAM: &[u8] = b"\0\0\0\x11\0\0\0\x01\x01\0\x0a\x09demo.Echo\x12\x04Chat";
+/// Data, a close of a stream, a response, and frames of types that there are none of.
+const SKIPPED: &[u8] = b"\
+    \0\0\0\x01\0\0\0\x01\x03\0z\
+    \0\0\0\0\0\0\0\x01\x03\x05\
+    \0\0\0\x02\0\0\0\x01\x02\0\x0a\0\
+    \0\0\0\0\0\0\0\x01\0\0\
+    \0\0\0\0\0\0\0\x02\xff\0";
+/// What replaces a response that is a byte longer than the greatest.
+const REPLACED: &[u8] = b"\
+    \0\0\0\x60\0\0\0\x01\x02\0\
+    \x0a\x5e\x08\x03\x12\x5aresponse payload 4194305 bytes exceeds safe limit 4194304 bytes (after transform overhead)";
 
 const ANSWERED_ROWS: &[Row] = &[
     Row {
-        name: "known requests are run",
-        steps: &[Step::Serves(ASKED, ECHOED)],
-        ..FRESH
-    },
-    Row {
         name: "a request may have no payload",
-        steps: &[Step::Serves(EMPTY, EMPTY_ECHOED)],
-        ..FRESH
-    },
-    Row {
-        name: "flags of a request mean nothing",
-        steps: &[Step::Serves(FLAGGED, EMPTY_ECHOED)],
+        steps: &[Serves(EMPTY, EMPTY_ECHOED)],
         ..FRESH
     },
     Row {
         name: "even ids are served",
-        steps: &[Step::Serves(EVEN, EVEN_ECHOED)],
+        steps: &[Serves(EVEN, EVEN_ECHOED)],
         ..FRESH
     },
     Row {
         name: "one id may have two requests",
-        steps: &[Step::Serves(TWICE, TWICE_ECHOED)],
+        steps: &[Serves(TWICE, TWICE_ECHOED)],
         ..FRESH
     },
     Row {
         name: "unknown services are answered",
-        steps: &[Step::Serves(NO_SERVICE, NO_SERVICE_ANSWER)],
+        steps: &[Serves(NO_SERVICE, NO_SERVICE_ANSWER)],
         ..FRESH
     },
     Row {
         name: "unknown methods are answered",
-        steps: &[Step::Serves(NO_METHOD, NO_METHOD_ANSWER)],
+        steps: &[Serves(NO_METHOD, NO_METHOD_ANSWER)],
         ..FRESH
     },
     Row {
         name: "names of streams are no methods",
-        steps: &[Step::Serves(NO_STREAM, NO_STREAM_ANSWER)],
+        steps: &[Serves(NO_STREAM, NO_STREAM_ANSWER)],
         ..FRESH
     },
     Row {
         name: "other frames are skipped",
-        steps: &[Step::Serves(SKIPPED, b"")],
-        ..FRESH
-    },
-];
-
-const UNREADABLE_ROWS: &[Row] = &[
-    // How the text begins is stated, what follows isn't.
-    Row {
-        name: "unreadable requests are answered",
-        steps: &[
-            Step::Feed(UNREADABLE),
-            Step::TakesNone,
-            Step::WritesStatus(3, "Unpack request error "),
-        ],
+        steps: &[Serves(SKIPPED, b"")],
         ..FRESH
     },
 ];
@@ -77,86 +94,86 @@ const JOB_ROWS: &[Row] = &[
     Row {
         name: "a job that was taken has a stream until it is answered",
         steps: &[
-            Step::StreamOf(1, None),
-            Step::Feed(ASKED),
-            Step::StreamOf(1, None),
-            Step::Takes(1, 1, b"\x2a"),
-            Step::StreamOf(1, Some(1)),
-            Step::StreamOf(2, None),
-            Step::Answers(1, b"\x2a"),
-            Step::StreamOf(1, None),
+            StreamOf(1, None),
+            Feed(ASKED),
+            StreamOf(1, None),
+            TAKES_FIRST,
+            StreamOf(1, Some(1)),
+            StreamOf(2, None),
+            ANSWERS_FIRST,
+            StreamOf(1, None),
         ],
         ..FRESH
     },
     Row {
         name: "responses end no job, and a job that ends sends nothing",
         steps: &[
-            Step::RefusesFinish(1, UNKNOWN_JOB),
-            Step::Feed(ASKED),
-            Step::RefusesFinish(1, UNKNOWN_JOB),
-            Step::Takes(1, 1, b"\x2a"),
-            Step::RefusesFinish(2, UNKNOWN_JOB),
-            Step::Responds(1, b"\x2a"),
-            Step::Responds(1, b"\x2b"),
-            Step::Jobs(0, 1),
-            Step::StreamOf(1, Some(1)),
-            Step::Finishes(1),
-            Step::Jobs(0, 0),
-            Step::StreamOf(1, None),
-            Step::RefusesFinish(1, UNKNOWN_JOB),
-            Step::RefusesAnswer(1, UNKNOWN_JOB),
-            Step::Writes(TWICE_ECHOED),
-            Step::HasUnsent(false),
-            Step::IsAlive,
+            RefusesFinish(1, UNKNOWN_JOB),
+            Feed(ASKED),
+            RefusesFinish(1, UNKNOWN_JOB),
+            TAKES_FIRST,
+            RefusesFinish(2, UNKNOWN_JOB),
+            Responds(1, b"\x2a"),
+            Responds(1, b"\x2b"),
+            Jobs(0, 1),
+            StreamOf(1, Some(1)),
+            Finishes(1),
+            Jobs(0, 0),
+            StreamOf(1, None),
+            RefusesFinish(1, UNKNOWN_JOB),
+            RefusesAnswer(1, UNKNOWN_JOB),
+            Writes(TWICE_ECHOED),
+            HasUnsent(false),
+            IsAlive,
         ],
         ..FRESH
     },
     Row {
         name: "a job is answered after a response, too",
         steps: &[
-            Step::Feed(ASKED),
-            Step::Takes(1, 1, b"\x2a"),
-            Step::Responds(1, b"\x2a"),
-            Step::Answers(1, b"\x2b"),
-            Step::RefusesFinish(1, UNKNOWN_JOB),
-            Step::Writes(TWICE_ECHOED),
+            Feed(ASKED),
+            TAKES_FIRST,
+            Responds(1, b"\x2a"),
+            Answers(1, b"\x2b"),
+            RefusesFinish(1, UNKNOWN_JOB),
+            Writes(TWICE_ECHOED),
         ],
         ..FRESH
     },
     Row {
         name: "a response needs no job",
-        steps: &[Step::Responds(1, b"\x2a"), Step::Writes(ECHOED)],
+        steps: &[Responds(1, b"\x2a"), Writes(ECHOED)],
         ..FRESH
     },
     Row {
         name: "an answer that was refused is given again",
         steps: &[
-            Step::Feed(ASKED),
-            Step::Takes(1, 1, b"\x2a"),
-            Step::AnswersAgain(2, UNKNOWN_JOB, 1, b"\x2a"),
-            Step::Writes(ECHOED),
+            Feed(ASKED),
+            TAKES_FIRST,
+            AnswersAgain(2, UNKNOWN_JOB, 1, b"\x2a"),
+            Writes(ECHOED),
         ],
         ..FRESH
     },
     Row {
         name: "jobs and what is unsent are counted",
         steps: &[
-            Step::Jobs(0, 0),
-            Step::HasUnsent(false),
-            Step::Feed(TWICE),
-            Step::Jobs(2, 0),
-            Step::Takes(1, 1, b"\x2a"),
-            Step::Jobs(1, 1),
-            Step::Takes(2, 1, b"\x2b"),
-            Step::Jobs(0, 2),
-            Step::HasUnsent(false),
-            Step::Answers(1, b"\x2a"),
-            Step::Jobs(0, 1),
-            Step::HasUnsent(true),
-            Step::Answers(2, b"\x2b"),
-            Step::Jobs(0, 0),
-            Step::Writes(TWICE_ECHOED),
-            Step::HasUnsent(false),
+            Jobs(0, 0),
+            HasUnsent(false),
+            Feed(TWICE),
+            Jobs(2, 0),
+            TAKES_FIRST,
+            Jobs(1, 1),
+            Takes(2, 1, b"\x2b"),
+            Jobs(0, 2),
+            HasUnsent(false),
+            ANSWERS_FIRST,
+            Jobs(0, 1),
+            HasUnsent(true),
+            Answers(2, b"\x2b"),
+            Jobs(0, 0),
+            Writes(TWICE_ECHOED),
+            HasUnsent(false),
         ],
         ..FRESH
     },
@@ -166,45 +183,35 @@ const LENT_ROWS: &[Row] = &[
     Row {
         name: "a job is handed out and answered once, and its answer is lent in parts",
         steps: &[
-            Step::TakesNone,
-            Step::Feed(ASKED),
-            Step::RefusesAnswer(1, UNKNOWN_JOB),
-            Step::Takes(1, 1, b"\x2a"),
-            Step::TakesNone,
-            Step::RefusesAnswer(2, UNKNOWN_JOB),
-            Step::Answers(1, b"\x2a"),
-            Step::RefusesAnswer(1, UNKNOWN_JOB),
-            Step::IsAlive,
-            Step::Lent(0),
-            Step::Lends(0, ECHOED, 0, 0),
-            Step::Lends(8, ECHOED, 0, 8),
-            Step::Lent(8),
-            Step::Reports,
-            Step::Lends(8, ECHOED, 8, 15),
-            Step::Reports,
-            Step::Lends(8, ECHOED, 15, 15),
+            TakesNone,
+            Feed(ASKED),
+            RefusesAnswer(1, UNKNOWN_JOB),
+            TAKES_FIRST,
+            TakesNone,
+            RefusesAnswer(2, UNKNOWN_JOB),
+            ANSWERS_FIRST,
+            RefusesAnswer(1, UNKNOWN_JOB),
+            IsAlive,
+            Lent(0),
+            Lends(0, ECHOED, 0, 0),
+            Lends(8, ECHOED, 0, 8),
+            Lent(8),
+            Reports,
+            Lends(8, ECHOED, 8, 15),
+            Reports,
+            Lends(8, ECHOED, 15, 15),
         ],
         ..FRESH
     },
-    // With six bytes of status and field around it, a payload of 4194297 bytes is the greatest.
-    Row {
-        name: "answers of the greatest length are sent",
-        steps: &[
-            Step::Feed(ASKED),
-            Step::Takes(1, 1, b"\x2a"),
-            Step::AnswersSevens(1, 4194297),
-            Step::Lends(16, GREATEST, 0, 16),
-        ],
-        ..FRESH
-    },
+    GREATEST_IS_SENT,
     // One byte more is too many.
     Row {
         name: "answers above the limit are replaced",
         steps: &[
-            Step::Feed(ASKED),
-            Step::Takes(1, 1, b"\x2a"),
-            Step::AnswersSevens(1, 4194298),
-            Step::Writes(REPLACED),
+            Feed(ASKED),
+            TAKES_FIRST,
+            AnswersSevens(1, 4194298),
+            Writes(REPLACED),
         ],
         ..FRESH
     },
@@ -215,71 +222,63 @@ const FAILURE_ROWS: &[Row] = &[
     Row {
         name: "a handler's error closes the connection",
         steps: &[
-            Step::Feed(ASKED),
-            Step::Feed(ASKED),
-            Step::Takes(1, 1, b"\x2a"),
-            Step::Takes(2, 1, b"\x2a"),
-            Step::Answers(1, b""),
-            Step::Breaks(2),
-            Step::HasFailed("connection closed after a handler error"),
+            Feed(ASKED),
+            Feed(ASKED),
+            TAKES_FIRST,
+            Takes(2, 1, b"\x2a"),
+            Answers(1, b""),
+            Breaks(2),
+            HasFailed("connection closed after a handler error"),
         ],
         ..FRESH
     },
     Row {
         name: "nothing is responded to or ended after a failure",
         steps: &[
-            Step::Feed(ASKED),
-            Step::Takes(1, 1, b"\x2a"),
-            Step::FailsBy("first"),
-            Step::RefusesResponse(1, Told::Socket("first")),
-            Step::RefusesFinish(1, Told::Socket("first")),
-            Step::RefusesFinish(2, Told::Socket("first")),
-            Step::Jobs(0, 1),
+            Feed(ASKED),
+            TAKES_FIRST,
+            FailsBy("first"),
+            RefusesResponse(1, Socket("first")),
+            RefusesFinish(1, Socket("first")),
+            RefusesFinish(2, Socket("first")),
+            Jobs(0, 1),
         ],
         ..FRESH
     },
     Row {
         name: "the first failure is kept",
         steps: &[
-            Step::FailsBy("first"),
-            Step::FailsBy("second"),
-            Step::EndsInput,
-            Step::HasFailed("first"),
+            FailsBy("first"),
+            FailsBy("second"),
+            EndsInput,
+            HasFailed("first"),
         ],
         ..FRESH
     },
     Row {
         name: "nothing is lent any more after a failure",
         steps: &[
-            Step::Feed(ASKED),
-            Step::Takes(1, 1, b"\x2a"),
-            Step::Answers(1, b"\x2a"),
-            Step::Lends(8, ECHOED, 0, 8),
-            Step::Lent(8),
-            Step::FailsBy("first"),
-            Step::HasFailed("first"),
-            Step::Lent(0),
-            Step::HasUnsent(true),
+            Feed(ASKED),
+            TAKES_FIRST,
+            ANSWERS_FIRST,
+            Lends(8, ECHOED, 0, 8),
+            Lent(8),
+            FailsBy("first"),
+            HasFailed("first"),
+            Lent(0),
+            HasUnsent(true),
         ],
         ..FRESH
     },
     Row {
         name: "the input ends between two frames",
-        steps: &[
-            Step::Feed(ASKED),
-            Step::EndsInput,
-            Step::HasFailed("socket disconnected"),
-        ],
+        steps: &[Feed(ASKED), EndsInput, HasFailed("socket disconnected")],
         ..FRESH
     },
     Row {
         name: "the input ends inside a frame",
         cuts: Cuts::Inside(30),
-        steps: &[
-            Step::FeedToCut(ASKED),
-            Step::EndsInput,
-            Step::HasFailed(INSIDE),
-        ],
+        steps: &[FeedToCut(ASKED), EndsInput, HasFailed(INSIDE)],
         ..FRESH
     },
 ];
@@ -289,15 +288,15 @@ const FRONT_ROWS: &[Row] = &[
     Row {
         name: "fronts of two requests end behind their frames",
         steps: &[
-            Step::Frame(TWICE, 0, 30),
-            Step::Takes(1, 1, b"\x2a"),
-            Step::Answers(1, b"\x2a"),
-            Step::TakesNone,
-            Step::Frame(TWICE, 30, 30),
-            Step::Takes(2, 1, b"\x2b"),
-            Step::Answers(2, b"\x2b"),
-            Step::TakesNone,
-            Step::Writes(TWICE_ECHOED),
+            Frame(TWICE, 0, 30),
+            TAKES_FIRST,
+            ANSWERS_FIRST,
+            TakesNone,
+            Frame(TWICE, 30, 30),
+            Takes(2, 1, b"\x2b"),
+            Answers(2, b"\x2b"),
+            TakesNone,
+            Writes(TWICE_ECHOED),
         ],
         ..FRESH
     },
@@ -305,102 +304,85 @@ const FRONT_ROWS: &[Row] = &[
         name: "fronts of a piece that ends inside a frame are all of it",
         cuts: Cuts::Inside(30),
         steps: &[
-            Step::FrameToCut(ASKED),
-            Step::AtBoundary(false),
-            Step::TakesNone,
-            Step::FrameFromCut(ASKED),
-            Step::Takes(1, 1, b"\x2a"),
-            Step::Answers(1, b"\x2a"),
-            Step::TakesNone,
+            FrameToCut(ASKED),
+            AtBoundary(false),
+            TakesNone,
+            FrameFromCut(ASKED),
+            TAKES_FIRST,
+            ANSWERS_FIRST,
+            TakesNone,
         ],
         ..FRESH
     },
     Row {
         name: "a front of an empty piece has no bytes",
-        steps: &[Step::Front(b"", 0), Step::AtBoundary(true), Step::TakesNone],
+        steps: &[Front(b"", 0), AtBoundary(true), TakesNone],
         ..FRESH
     },
     Row {
         name: "a boundary is where no frame has begun",
         cuts: Cuts::Inside(30),
         steps: &[
-            Step::AtBoundary(true),
-            Step::FeedToCut(ASKED),
-            Step::AtBoundary(false),
-            Step::FeedFromCut(ASKED),
-            Step::AtBoundary(true),
-            Step::FeedToCut(ASKED),
-            Step::AtBoundary(false),
-            Step::FeedFromCut(ASKED),
-            Step::AtBoundary(true),
+            AtBoundary(true),
+            FeedToCut(ASKED),
+            AtBoundary(false),
+            FeedFromCut(ASKED),
+            AtBoundary(true),
+            FeedToCut(ASKED),
+            AtBoundary(false),
+            FeedFromCut(ASKED),
+            AtBoundary(true),
         ],
         ..FRESH
     },
     Row {
         name: "a core that has failed takes no front that begins a frame",
         steps: &[
-            Step::FailsBy("first"),
-            Step::RefusesFront(ASKED, 7, Told::Socket("first")),
-            Step::AtBoundary(true),
-            Step::HasFailed("first"),
+            FailsBy("first"),
+            RefusesFront(ASKED, 7, Socket("first")),
+            AtBoundary(true),
+            HasFailed("first"),
         ],
         ..FRESH
     },
     Row {
         name: "a core that has failed takes no front that ends a frame",
         steps: &[
-            Step::Feed(SEVEN_OF_ASKED),
-            Step::FailsBy("first"),
-            Step::RefusesFront(ASKED, 7, Told::Socket("first")),
-            Step::AtBoundary(false),
-            Step::HasFailed("first"),
+            Feed(SEVEN_OF_ASKED),
+            FailsBy("first"),
+            RefusesFront(ASKED, 7, Socket("first")),
+            AtBoundary(false),
+            HasFailed("first"),
         ],
         ..FRESH
     },
 ];
 
-const LONG_ROWS: &[Row] = &[Row {
-    name: "oversized frames are answered, and the request behind them",
-    steps: &[
-        Step::Feed(OVERSIZED),
-        Step::FeedSevens(4194305),
-        Step::Serves(ASKED, OVERSIZED_ANSWER),
-    ],
-    ..FRESH
-}];
-
-const SYNC: &[Rules] = &[Rules::Sync];
-
-const TABLES: &[Table<Rules>] = &[(SYNC, ANSWERED_ROWS), (SYNC, JOB_ROWS)];
+// ---- what holds over halves that stamp, too
 
 #[test]
 fn a_server_keeps_its_table(rt: HostRuntime) -> Tested {
-    hold::<Core>(&rt, rt.alloc(), TABLES)
+    hold::<PlainServer>(&rt, rt.alloc(), TABLES)
 }
 
 #[test]
 fn a_server_keeps_its_table_over_stamps(rt: HostRuntime) -> Tested {
-    hold_stamped::<ServerCore<StampOut, StampIn>>(&rt, rt.alloc(), TABLES)
-}
-
-const PARTS: &[Table<Rules>] = &[
-    (SYNC, UNREADABLE_ROWS),
-    (SYNC, LENT_ROWS),
-    (SYNC, FAILURE_ROWS),
-    (SYNC, FRONT_ROWS),
-];
-
-#[test]
-fn a_server_takes_parts_and_fails(rt: HostRuntime) -> Tested {
-    hold::<Core>(&rt, rt.alloc(), PARTS)
+    hold_stamped::<StampedServer>(&rt, rt.alloc(), TABLES)
 }
 
 #[test]
 fn oversized_requests_are_answered(rt: HostRuntime) -> Tested {
-    hold::<Core>(&rt, rt.alloc(), &[(SYNC, LONG_ROWS)])
+    hold::<PlainServer>(&rt, rt.alloc(), OVERLONG)
 }
 
 #[test]
 fn stamped_oversized_requests_are_answered(rt: HostRuntime) -> Tested {
-    hold_stamped::<ServerCore<StampOut, StampIn>>(&rt, rt.alloc(), &[(SYNC, LONG_ROWS)])
+    hold_stamped::<StampedServer>(&rt, rt.alloc(), OVERLONG)
+}
+
+// ---- what holds over one kind of halves
+
+#[test]
+fn a_server_takes_parts_and_fails(rt: HostRuntime) -> Tested {
+    hold::<PlainServer>(&rt, rt.alloc(), PARTS)
 }

@@ -36,7 +36,8 @@ pub fn act<C: Core>(alloc: Global, core: &mut C, step: &Step, cut: usize) -> Met
     }
 }
 
-/// The same over halves that stamp: frames come and leave with their stamps.
+/// The same over halves that stamp: frames come and leave with their stamps. Where a frame comes in two pieces, the cut
+/// stands before its stamp.
 pub fn act_stamped<C: Core>(
     alloc: Global,
     core: &mut C,
@@ -53,32 +54,6 @@ pub fn act_stamped<C: Core>(
             let bytes = stamped(alloc, frames, &mut stamps.comes)?;
             core.feeds_at(alloc, bytes.as_slice(), now, cut)
         }
-        Step::Serves(frames, answers) => {
-            let bytes = stamped(alloc, frames, &mut stamps.comes)?;
-            let expected = stamped(alloc, answers, &mut stamps.leaves)?;
-            core.serves(alloc, bytes.as_slice(), cut, expected.as_slice())
-        }
-        Step::Writes(frames) => {
-            let bytes = stamped(alloc, frames, &mut stamps.leaves)?;
-            Ok(writes(core, bytes.as_slice()))
-        }
-        Step::Leaves(frames, from, to) => {
-            let bytes = stamped_part(alloc, frames, from, to, &mut stamps.leaves)?;
-            Ok(leaves(core, bytes.as_slice()))
-        }
-        _ => act_cut(alloc, core, step, cut, stamps),
-    }
-}
-
-/// The same of a frame that comes in two pieces, whose cut stands before its stamp.
-fn act_cut<C: Core>(
-    alloc: Global,
-    core: &mut C,
-    step: &Step,
-    cut: usize,
-    stamps: &mut Stamps,
-) -> Met {
-    match *step {
         Step::FeedToCut(frame) => {
             let mut next = stamps.comes;
             let bytes = stamped(alloc, frame, &mut next)?;
@@ -87,6 +62,32 @@ fn act_cut<C: Core>(
         Step::FeedFromCut(frame) => {
             let bytes = stamped(alloc, frame, &mut stamps.comes)?;
             feeds(alloc, core, behind(bytes.as_slice(), cut), usize::MAX)
+        }
+        Step::Serves(frames, answers) => {
+            let bytes = stamped(alloc, frames, &mut stamps.comes)?;
+            let expected = stamped(alloc, answers, &mut stamps.leaves)?;
+            core.serves(alloc, bytes.as_slice(), cut, expected.as_slice())
+        }
+        _ => act_leaving(alloc, core, step, cut, &mut stamps.leaves),
+    }
+}
+
+/// The same of frames that leave, from this stamp on.
+fn act_leaving<C: Core>(
+    alloc: Global,
+    core: &mut C,
+    step: &Step,
+    cut: usize,
+    next: &mut u8,
+) -> Met {
+    match *step {
+        Step::Writes(frames) => {
+            let bytes = stamped(alloc, frames, next)?;
+            Ok(writes(core, bytes.as_slice()))
+        }
+        Step::Leaves(frames, from, to) => {
+            let bytes = stamped_part(alloc, frames, from, to, next)?;
+            Ok(leaves(core, bytes.as_slice()))
         }
         _ => act(alloc, core, step, cut),
     }

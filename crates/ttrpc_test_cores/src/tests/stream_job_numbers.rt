@@ -1,12 +1,10 @@
 //! Many streams of a server at once.
 use crate::tests::steps::leaves;
 use crate::tests::stream_job_steps::{ends, takes_stream};
+use crate::tests::stream_numbers::CHAT;
 use crate::tests::stream_steps::receives;
 use crate::tests::under_test::{End, Met, Server};
 use std::alloc::Global;
-
-/// The request of a stream, without its header.
-const CHAT: &[u8] = b"\x0a\x09demo.Echo\x12\x04Chat";
 
 /// The stream's id of a job.
 fn stream_of(job: u32) -> u32 {

@@ -1,19 +1,13 @@
 //! Many items and frames of a stream, and many streams of a client, at once.
+use crate::tests::client_numbers::{id_of, requests_leave};
 use crate::tests::client_steps::stream_request;
 use crate::tests::steps::leaves;
 use crate::tests::stream_steps::receives;
 use crate::tests::under_test::{Items, Met, Streaming};
 use std::alloc::Global;
-use ttrpc_client::StreamId;
-use ttrpc_wire::values::slices::behind;
 
-/// The request of a stream that sends and receives, without its stream's id.
-const CHAT: &[u8] = b"\0\0\0\x11\0\0\0\0\x01\x06\x0a\x09demo.Echo\x12\x04Chat";
-
-/// The id of this stream, of those from 0 on.
-fn id_of(number: u32) -> StreamId {
-    number.wrapping_mul(2).wrapping_add(1)
-}
+/// The request of a stream, without its header.
+pub const CHAT: &[u8] = b"\x0a\x09demo.Echo\x12\x04Chat";
 
 /// So many items come for the stream of this id, each one byte, which rises and starts again. Nobody asks.
 pub fn items_come<C: Items>(alloc: Global, core: &mut C, id: u32, count: u32) -> Met {
@@ -41,7 +35,7 @@ pub fn receives_each<C: Items>(alloc: Global, core: &mut C, id: u32, count: u32)
 pub fn streams_last_first<C: Streaming>(alloc: Global, core: &mut C, count: u32) -> Met {
     Ok(
         opens_each(alloc, core, count)?
-            && writes_each(core, count)
+            && requests_leave(core, count, 6, 0x11, CHAT)
             && answers_last_first(alloc, core, count)?
             && hears_each(core, count)
             && receives_last_first(alloc, core, count)?,
@@ -56,18 +50,6 @@ fn opens_each<C: Streaming>(alloc: Global, core: &mut C, count: u32) -> Met {
         }
     }
     Ok(true)
-}
-
-fn writes_each<C: Streaming>(core: &mut C, count: u32) -> bool {
-    for number in 0..count {
-        let [a, b, c, d] = id_of(number).to_be_bytes();
-        let is_written = leaves(core, &[0, 0, 0, 0x11, a, b, c, d, 1, 6])
-            && leaves(core, behind(CHAT, 10));
-        if !is_written {
-            return false;
-        }
-    }
-    true
 }
 
 fn answers_last_first<C: Streaming>(alloc: Global, core: &mut C, count: u32) -> Met {

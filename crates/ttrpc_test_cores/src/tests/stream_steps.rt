@@ -17,10 +17,12 @@ pub fn stream_step<C: Streaming>(alloc: Global, core: &mut C, step: &Step) -> Me
             Ok(opened == id)
         }
         Step::RefusesStream(sends, payload, why) => {
-            refuses_opening(alloc, core, payload, sends, why)
+            let request = stream_request(alloc, payload)?;
+            refuses_stream(alloc, core, &request, sends, why)
         }
         Step::RefusesStreamOfSevens(length, why) => {
-            refuses_opening_of_sevens(alloc, core, length, why)
+            let request = request_of_sevens(alloc, length)?;
+            refuses_stream(alloc, core, &request, false, why)
         }
         Step::StreamsLastFirst(count) => streams_last_first(alloc, core, count),
         Step::Closes(id, ticket) => Ok(core.close_send(alloc, id)? == ticket),
@@ -76,27 +78,6 @@ fn opens<C: Streaming>(
     let request = stream_request(alloc, payload)?;
     let id = core.new_stream(alloc, &request, sends, receives)?;
     Ok(id)
-}
-
-fn refuses_opening<C: Streaming>(
-    alloc: Global,
-    core: &mut C,
-    payload: &[u8],
-    sends: bool,
-    why: Told,
-) -> Met {
-    let request = stream_request(alloc, payload)?;
-    refuses_stream(alloc, core, &request, sends, why)
-}
-
-fn refuses_opening_of_sevens<C: Streaming>(
-    alloc: Global,
-    core: &mut C,
-    length: usize,
-    why: Told,
-) -> Met {
-    let request = request_of_sevens(alloc, length)?;
-    refuses_stream(alloc, core, &request, false, why)
 }
 
 /// The stream is refused so, and so again.

@@ -1,6 +1,4 @@
-//! What goes over the wire for streams, written by hand, and what either core tells of them. Each has a name, so that a proof
-//! needn't read its bytes.
-use crate::tests::script::Told;
+//! What goes over the wire for streams, written by hand. Each has a name, so that a proof needn't read its bytes.
 
 // ---- what a client writes
 
@@ -10,8 +8,12 @@ pub const OPENED: &[u8] = b"\0\0\0\x11\0\0\0\x01\x01\x06\x0a\x09demo.Echo\x12\x0
 /// The same of the second.
 pub const OPENED_THIRD: &[u8] = b"\0\0\0\x11\0\0\0\x03\x01\x06\x0a\x09demo.Echo\x12\x04Chat";
 /// The first, the items `a`, none and `b`, and a close.
-pub const OPENED_AND_SENT: &[u8] =
-    b"\0\0\0\x11\0\0\0\x01\x01\x06\x0a\x09demo.Echo\x12\x04Chat\0\0\0\x01\0\0\0\x01\x03\0a\0\0\0\0\0\0\0\x01\x03\0\0\0\0\x01\0\0\0\x01\x03\0b\0\0\0\0\0\0\0\x01\x03\x05";
+pub const OPENED_AND_SENT: &[u8] = b"\
+    \0\0\0\x11\0\0\0\x01\x01\x06\x0a\x09demo.Echo\x12\x04Chat\
+    \0\0\0\x01\0\0\0\x01\x03\0a\
+    \0\0\0\0\0\0\0\x01\x03\0\
+    \0\0\0\x01\0\0\0\x01\x03\0b\
+    \0\0\0\0\0\0\0\x01\x03\x05";
 
 // ---- what either writes
 
@@ -22,28 +24,18 @@ pub const LAST_ITEM: &[u8] = b"\0\0\0\x01\0\0\0\x01\x03\x01z";
 /// The item `z`, with the flag that says there is none, but no close.
 pub const FLAGGED_ITEM: &[u8] = b"\0\0\0\x01\0\0\0\x01\x03\x04z";
 /// Three items under the third id.
-pub const THREE_OF_THIRD: &[u8] =
-    b"\0\0\0\x01\0\0\0\x03\x03\0x\0\0\0\x01\0\0\0\x03\x03\0y\0\0\0\x01\0\0\0\x03\x03\0z";
+pub const THREE_OF_THIRD: &[u8] = b"\
+    \0\0\0\x01\0\0\0\x03\x03\0x\
+    \0\0\0\x01\0\0\0\x03\x03\0y\
+    \0\0\0\x01\0\0\0\x03\x03\0z";
 
 // ---- what a server writes
 
 /// A response with the code 5 and the message `gone`.
 pub const GONE: &[u8] = b"\0\0\0\x0a\0\0\0\x01\x02\0\x0a\x08\x08\x05\x12\x04gone";
 /// What answers data without a stream.
-pub const INACTIVE: &[u8] =
-    b"\0\0\0\x20\0\0\0\x01\x02\0\x0a\x1e\x08\x03\x12\x1aStream is no longer active";
+pub const INACTIVE: &[u8] = b"\
+    \0\0\0\x20\0\0\0\x01\x02\0\x0a\x1e\x08\x03\x12\x1aStream is no longer active";
 /// What answers a request whose id has an active job.
-pub const IN_USE: &[u8] =
-    b"\0\0\0\x1b\0\0\0\x01\x02\0\x0a\x19\x08\x03\x12\x15stream id 1 is in use";
-
-// ---- what is told
-
-pub const PAST: Told = Told::Others("Receive packet from Receiver error");
-
-pub const UNKNOWN: Told = Told::Others("unknown stream");
-
-pub const DISCONNECTED: Told = Told::Socket("socket disconnected");
-
-pub const LONG: Told = Told::Others(
-    "message length 4194305 exceed maximum message size of 4194304",
-);
+pub const IN_USE: &[u8] = b"\
+    \0\0\0\x1b\0\0\0\x01\x02\0\x0a\x19\x08\x03\x12\x15stream id 1 is in use";

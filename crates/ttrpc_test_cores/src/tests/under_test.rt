@@ -16,6 +16,9 @@ pub type Tested = Result<(), Fail>;
 /// Whether a step was met, or why a test ended before.
 pub type Met = Result<bool, Fail>;
 
+/// The id of a stream that was opened, or why none was.
+pub type Opened = Result<StreamId, Error>;
+
 /// What either core does as one end of a connection.
 pub trait End {
     fn feed(&mut self, alloc: Global, piece: &[u8]) -> Result<usize, Error>;
@@ -109,13 +112,7 @@ pub trait Client: End {
 
 /// What it does on streams beside.
 pub trait Streaming: Client + Items {
-    fn new_stream(
-        &mut self,
-        alloc: Global,
-        request: &Request,
-        streaming_client: bool,
-        streaming_server: bool,
-    ) -> Result<StreamId, Error>;
+    fn new_stream(&mut self, alloc: Global, request: &Request, sends: bool, hears: bool) -> Opened;
 
     fn close_send(&mut self, alloc: Global, id: StreamId) -> Result<Ticket, Error>;
 

@@ -9,7 +9,7 @@ use std::process::Abort;
 use std::sync::Arc;
 use std::test::Fail;
 use tokio::runtime::LocalRuntime;
-use ttrpc_bench_polled::lines::Line;
+use ttrpc_bench_polled::lines::Line::{self, *};
 use ttrpc_bench_polled::parts::Fault;
 use ttrpc_bench_polled::recorded::{Said, served_to_go, served_to_go_bare, served_to_rust};
 
@@ -21,8 +21,8 @@ const ECHOED: &[u8] = b"\0\0\0\x05\0\0\0\x01\x02\0\x0a\0\x12\x01\x2a";
 /// A request under an even id, and its answer.
 const EVEN: &[u8] = b"\0\0\0\x06\0\0\0\x02\x01\0\x0a\x01x\x12\x01y";
 
-const ANSWER_TO_EVEN: &[u8] =
-    b"\0\0\0\x1b\0\0\0\x02\x02\0\x0a\x19\x08\x03\x12\x15stream id must be odd";
+const ANSWER_TO_EVEN: &[u8] = b"\
+    \0\0\0\x1b\0\0\0\x02\x02\0\x0a\x19\x08\x03\x12\x15stream id must be odd";
 
 /// A request for a method that isn't there, and its answer.
 const NO_METHOD: &[u8] = b"\0\0\0\x11\0\0\0\x01\x01\0\x0a\x09demo.Echo\x12\x04Nope";
@@ -30,35 +30,45 @@ const NO_METHOD: &[u8] = b"\0\0\0\x11\0\0\0\x01\x01\0\x0a\x09demo.Echo\x12\x04No
 const ANSWER_TO_NO_METHOD: &[u8] = b"\0\0\0\x11\0\0\0\x01\x02\0\x0a\x0f\x08\x0c\x12\x0bNope method";
 
 /// The first request twice, in one write, and the answer to the second.
-const TWICE: &[u8] =
-    b"\0\0\0\x14\0\0\0\x01\x01\0\x0a\x09demo.Echo\x12\x04Echo\x1a\x01\x2a\0\0\0\x14\0\0\0\x01\x01\0\x0a\x09demo.Echo\x12\x04Echo\x1a\x01\x2a";
+const TWICE: &[u8] = b"\
+    \0\0\0\x14\0\0\0\x01\x01\0\x0a\x09demo.Echo\x12\x04Echo\x1a\x01\x2a\
+    \0\0\0\x14\0\0\0\x01\x01\0\x0a\x09demo.Echo\x12\x04Echo\x1a\x01\x2a";
 
 const IN_USE: &[u8] = b"\0\0\0\x1b\0\0\0\x01\x02\0\x0a\x19\x08\x03\x12\x15stream id 1 is in use";
 
 /// Data under an id without a stream, and its answer.
 const DATA: &[u8] = b"\0\0\0\x01\0\0\0\x03\x03\0\x7a";
 
-const ANSWER_TO_DATA: &[u8] =
-    b"\0\0\0\x20\0\0\0\x03\x02\0\x0a\x1e\x08\x03\x12\x1aStream is no longer active";
+const ANSWER_TO_DATA: &[u8] = b"\
+    \0\0\0\x20\0\0\0\x03\x02\0\x0a\x1e\x08\x03\x12\x1aStream is no longer active";
 
 /// A request of a handler that never ends, with a limit of 20 ms, and its answer.
-const LIMITED: &[u8] =
-    b"\0\0\0\x1b\0\0\0\x01\x01\0\x0a\x09demo.Echo\x12\x09NeverEnds\x20\x80\xda\xc4\x09";
+const LIMITED: &[u8] = b"\
+    \0\0\0\x1b\0\0\0\x01\x01\0\x0a\x09demo.Echo\x12\x09NeverEnds\x20\x80\xda\xc4\x09";
 
 const EXPIRED: &[u8] = b"\0\0\0\x0d\0\0\0\x01\x02\0\x0a\x0b\x08\x04\x12\x07timeout";
 
 /// A stream that the client closes, with what it sends, and what comes back.
-const STREAM: &[u8] =
-    b"\0\0\0\x11\0\0\0\x01\x01\x06\x0a\x09demo.Echo\x12\x04Chat\0\0\0\x01\0\0\0\x01\x03\0a\0\0\0\0\0\0\0\x01\x03\0\0\0\0\x01\0\0\0\x01\x03\0b\0\0\0\0\0\0\0\x01\x03\x05";
+const STREAM: &[u8] = b"\
+    \0\0\0\x11\0\0\0\x01\x01\x06\x0a\x09demo.Echo\x12\x04Chat\
+    \0\0\0\x01\0\0\0\x01\x03\0a\
+    \0\0\0\0\0\0\0\x01\x03\0\
+    \0\0\0\x01\0\0\0\x01\x03\0b\
+    \0\0\0\0\0\0\0\x01\x03\x05";
 
-const STREAM_BACK: &[u8] =
-    b"\0\0\0\x01\0\0\0\x01\x03\0a\0\0\0\0\0\0\0\x01\x03\0\0\0\0\x01\0\0\0\x01\x03\0b\0\0\0\0\0\0\0\x01\x03\x05";
+const STREAM_BACK: &[u8] = b"\
+    \0\0\0\x01\0\0\0\x01\x03\0a\
+    \0\0\0\0\0\0\0\x01\x03\0\
+    \0\0\0\x01\0\0\0\x01\x03\0b\
+    \0\0\0\0\0\0\0\x01\x03\x05";
 
 /// A stream, and items of it: `a`, an empty one, and `b`; and its close.
 const OPENS: &[u8] = b"\0\0\0\x11\0\0\0\x01\x01\x06\x0a\x09demo.Echo\x12\x04Chat";
 
-const ITEMS: &[u8] =
-    b"\0\0\0\x01\0\0\0\x01\x03\0a\0\0\0\0\0\0\0\x01\x03\0\0\0\0\x01\0\0\0\x01\x03\0b";
+const ITEMS: &[u8] = b"\
+    \0\0\0\x01\0\0\0\x01\x03\0a\
+    \0\0\0\0\0\0\0\x01\x03\0\
+    \0\0\0\x01\0\0\0\x01\x03\0b";
 
 const CLOSES: &[u8] = b"\0\0\0\0\0\0\0\x01\x03\x05";
 
@@ -81,12 +91,7 @@ fn frames_have_their_answers(rt: HostRuntime) -> Result<(), Fail> {
     for number in 0..100 {
         if let Some((frames, answers)) = row(number) {
             for room in [1, 4096] {
-                let lines = [
-                    Line::Up(frames),
-                    Line::Down(answers),
-                    Line::UpEnds,
-                    Line::DownEnds,
-                ];
+                let lines = [Up(frames), Down(answers), UpEnds, DownEnds];
                 let fault = run_lines(&rt, &gate, room, false, &lines)?;
                 assert_eq!(rt; fault, None, "{number}, {room}");
             }
@@ -96,15 +101,9 @@ fn frames_have_their_answers(rt: HostRuntime) -> Result<(), Fail> {
 }
 
 /// Frames in one write, and an answer behind the end of the input; a stream that waits in vain has none.
-const AT_ONCE: &[Line<'static>] = &[
-    Line::Up(TWICE),
-    Line::UpEnds,
-    Line::Down(IN_USE),
-    Line::Down(ECHOED),
-    Line::DownEnds,
-];
+const AT_ONCE: &[Line<'static>] = &[Up(TWICE), UpEnds, Down(IN_USE), Down(ECHOED), DownEnds];
 
-const IN_VAIN: &[Line<'static>] = &[Line::Up(OPENS), Line::UpEnds, Line::DownEnds];
+const IN_VAIN: &[Line<'static>] = &[Up(OPENS), UpEnds, DownEnds];
 
 #[test]
 fn answers_come_behind_the_end_of_input(rt: HostRuntime) -> Result<(), Fail> {
@@ -115,26 +114,30 @@ fn answers_come_behind_the_end_of_input(rt: HostRuntime) -> Result<(), Fail> {
 }
 
 /// A handler that waits, one that lets it go on, and two calls behind them, in one write.
-const WAITS_AND_OPENS: &[u8] =
-    b"\0\0\0\x15\0\0\0\x01\x01\0\x0a\x09demo.Echo\x12\x05Waits\x1a\x01\x31\0\0\0\x15\0\0\0\x03\x01\0\x0a\x09demo.Echo\x12\x05Opens\x1a\x01\x32";
+const WAITS_AND_OPENS: &[u8] = b"\
+    \0\0\0\x15\0\0\0\x01\x01\0\x0a\x09demo.Echo\x12\x05Waits\x1a\x01\x31\
+    \0\0\0\x15\0\0\0\x03\x01\0\x0a\x09demo.Echo\x12\x05Opens\x1a\x01\x32";
 
-const CALLS_BEHIND: &[u8] =
-    b"\0\0\0\x14\0\0\0\x05\x01\0\x0a\x09demo.Echo\x12\x04Echo\x1a\x01\x33\0\0\0\x14\0\0\0\x07\x01\0\x0a\x09demo.Echo\x12\x04Echo\x1a\x01\x34";
+const CALLS_BEHIND: &[u8] = b"\
+    \0\0\0\x14\0\0\0\x05\x01\0\x0a\x09demo.Echo\x12\x04Echo\x1a\x01\x33\
+    \0\0\0\x14\0\0\0\x07\x01\0\x0a\x09demo.Echo\x12\x04Echo\x1a\x01\x34";
 
 /// The answers: that of the handler that was woken comes before those of the calls.
-const WOKEN_FIRST: &[u8] =
-    b"\0\0\0\x05\0\0\0\x03\x02\0\x0a\0\x12\x01\x32\0\0\0\x05\0\0\0\x01\x02\0\x0a\0\x12\x01\x31";
+const WOKEN_FIRST: &[u8] = b"\
+    \0\0\0\x05\0\0\0\x03\x02\0\x0a\0\x12\x01\x32\
+    \0\0\0\x05\0\0\0\x01\x02\0\x0a\0\x12\x01\x31";
 
-const CALLS_THEN: &[u8] =
-    b"\0\0\0\x05\0\0\0\x05\x02\0\x0a\0\x12\x01\x33\0\0\0\x05\0\0\0\x07\x02\0\x0a\0\x12\x01\x34";
+const CALLS_THEN: &[u8] = b"\
+    \0\0\0\x05\0\0\0\x05\x02\0\x0a\0\x12\x01\x33\
+    \0\0\0\x05\0\0\0\x07\x02\0\x0a\0\x12\x01\x34";
 
 const WAKES: &[Line<'static>] = &[
-    Line::Up(WAITS_AND_OPENS),
-    Line::Up(CALLS_BEHIND),
-    Line::UpEnds,
-    Line::Down(WOKEN_FIRST),
-    Line::Down(CALLS_THEN),
-    Line::DownEnds,
+    Up(WAITS_AND_OPENS),
+    Up(CALLS_BEHIND),
+    UpEnds,
+    Down(WOKEN_FIRST),
+    Down(CALLS_THEN),
+    DownEnds,
 ];
 
 #[test]
@@ -210,26 +213,15 @@ fn answer_behind<'a, R: System>(
     asked: &'a [u8],
     echoed: &'a [u8],
 ) -> Result<Option<Fault>, Fail> {
-    let lines = [
-        Line::Up(asked),
-        Line::UpEnds,
-        Line::Down(echoed),
-        Line::DownEnds,
-    ];
+    let lines = [Up(asked), UpEnds, Down(echoed), DownEnds];
     run_lines(rt, gate, 50, false, &lines)
 }
 
 /// A client that goes away in the middle of a stream, while the handler waits for an item.
-const LEAVES: &[Line<'static>] = &[
-    Line::Up(OPENS),
-    Line::Up(ITEMS),
-    Line::Down(ITEMS),
-    Line::UpEnds,
-    Line::DownEnds,
-];
+const LEAVES: &[Line<'static>] = &[Up(OPENS), Up(ITEMS), Down(ITEMS), UpEnds, DownEnds];
 
 /// A client that goes away without having read.
-const LEAVES_UNREAD: &[Line<'static>] = &[Line::Up(OPENS), Line::Up(ITEMS), Line::Up(ITEMS)];
+const LEAVES_UNREAD: &[Line<'static>] = &[Up(OPENS), Up(ITEMS), Up(ITEMS)];
 
 #[test]
 fn a_handler_is_told_that_its_client_went_away(rt: HostRuntime) -> Result<(), Fail> {
@@ -253,13 +245,9 @@ const ASKED_BEHIND: &[u8] = b"\0\0\0\x14\0\0\0\x03\x01\0\x0a\x09demo.Echo\x12\x0
 
 const ECHOED_BEHIND: &[u8] = b"\0\0\0\x05\0\0\0\x03\x02\0\x0a\0\x12\x01\x2a";
 
-const IS_OVER: &[Line<'static>] = &[Line::Up(LIMITED), Line::Down(EXPIRED)];
+const IS_OVER: &[Line<'static>] = &[Up(LIMITED), Down(EXPIRED)];
 
-const GOES_ON: &[Line<'static>] = &[
-    Line::Up(UNLIMITED),
-    Line::Up(ASKED_BEHIND),
-    Line::Down(ECHOED_BEHIND),
-];
+const GOES_ON: &[Line<'static>] = &[Up(UNLIMITED), Up(ASKED_BEHIND), Down(ECHOED_BEHIND)];
 
 /// Whether a gate has so many users.
 #[derive(Drop)]
@@ -310,8 +298,8 @@ const ORDERS: &[u8] = b"\0\0\0\x12\0\0\0\x01\x01\x06\x0a\x09demo.Echo\x12\x05Ord
 
 const ITEM: &[u8] = b"\0\0\0\x01\0\0\0\x01\x03\0a";
 
-const ALL_IN_ORDER: &[u8] =
-    b"\0\0\0\x14\0\0\0\x01\x02\0\x0a\0\x12\x10\0\0\0\0\0\0\0\xfa\0\0\0\0\0\0\0\xfa";
+const ALL_IN_ORDER: &[u8] = b"\
+    \0\0\0\x14\0\0\0\x01\x02\0\x0a\0\x12\x10\0\0\0\0\0\0\0\xfa\0\0\0\0\0\0\0\xfa";
 
 /// 250 items of the stream of this number, and its close.
 fn items_of(alloc: Global, number: u32) -> Result<Vec<u8>, Fail> {
@@ -347,11 +335,11 @@ fn items_and_a_close_in_one_write_keep_their_order(rt: HostRuntime) -> Result<()
     let (ups, downs) = thousand_streams(rt.alloc())?;
     let mut lines = Vec::new(rt.alloc());
     for (up, down) in ups.iter().zip(downs.iter()) {
-        lines.push(Line::Up(up.as_slice()))?;
-        lines.push(Line::Down(down.as_slice()))?;
+        lines.push(Up(up.as_slice()))?;
+        lines.push(Down(down.as_slice()))?;
     }
-    lines.push(Line::UpEnds)?;
-    lines.push(Line::DownEnds)?;
+    lines.push(UpEnds)?;
+    lines.push(DownEnds)?;
     let fault = run_lines(&rt, &gate, 16384, false, lines.as_slice())?;
     assert_eq!(rt; fault, None);
     Ok(())

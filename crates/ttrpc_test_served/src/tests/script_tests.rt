@@ -1,135 +1,135 @@
 //! What a client does beside a server, act by act.
 use crate::tests::runs::run_acts;
 use std::test::Fail;
-use ttrpc_bench_polled::acts::Act;
+use ttrpc_bench_polled::acts::Act::{self, *};
 
-pub const SENT_BACK: &[Act] = &[Act::Calls("Echo", b"\x2a", 0), Act::Ends(0, Ok(b"\x2a"))];
+pub const SENT_BACK: &[Act] = &[Calls("Echo", b"\x2a", 0), Ends(0, Ok(b"\x2a"))];
 
 /// What a handler fails by is told by a status.
 const FAILS: &[Act] = &[
-    Act::Calls("Ends", b"", 0),
-    Act::Ends(0, Err("rpc status: 2 eof")),
-    Act::Calls("Fail", b"\x05gone", 0),
-    Act::Ends(1, Err("rpc status: 5 gone")),
-    Act::Calls("Nope", b"", 0),
-    Act::Ends(2, Err("rpc status: 12 Nope method")),
+    Calls("Ends", b"", 0),
+    Ends(0, Err("rpc status: 2 eof")),
+    Calls("Fail", b"\x05gone", 0),
+    Ends(1, Err("rpc status: 5 gone")),
+    Calls("Nope", b"", 0),
+    Ends(2, Err("rpc status: 12 Nope method")),
 ];
 
 /// A handler is handed its own request: id, limit, how many keys, method.
 const HANDED: &[Act] = &[
-    Act::Calls("Tells", b"", 0),
-    Act::Calls("Tells", b"", 5_000_000_000),
-    Act::Begins(0),
-    Act::Begins(1),
-    Act::Ends(1, Ok(b"3 5000000000 0 Tells")),
-    Act::Ends(0, Ok(b"1 0 0 Tells")),
+    Calls("Tells", b"", 0),
+    Calls("Tells", b"", 5_000_000_000),
+    Begins(0),
+    Begins(1),
+    Ends(1, Ok(b"3 5000000000 0 Tells")),
+    Ends(0, Ok(b"1 0 0 Tells")),
 ];
 
 /// A handler waits until another call was answered, and then is told to go on.
 const ONE_BESIDE_ANOTHER: &[Act] = &[
-    Act::Calls("Waits", b"1", 10_000_000_000),
-    Act::Calls("Echo", b"2", 0),
-    Act::Begins(0),
-    Act::Begins(1),
-    Act::Ends(1, Ok(b"2")),
-    Act::Calls("Opens", b"3", 0),
-    Act::Ends(2, Ok(b"3")),
-    Act::Ends(0, Ok(b"1")),
+    Calls("Waits", b"1", 10_000_000_000),
+    Calls("Echo", b"2", 0),
+    Begins(0),
+    Begins(1),
+    Ends(1, Ok(b"2")),
+    Calls("Opens", b"3", 0),
+    Ends(2, Ok(b"3")),
+    Ends(0, Ok(b"1")),
 ];
 
 /// A call expires whose handler never ends, beside another of that kind, and others go on.
 const EXPIRES: &[Act] = &[
-    Act::Calls("NeverEnds", b"1", 0),
-    Act::Calls("NeverEnds", b"2", 50_000_000),
-    Act::Begins(0),
-    Act::Begins(1),
-    Act::Ends(1, Err("ttrpc err: Request deadline elapsed")),
-    Act::Calls("Echo", b"3", 0),
-    Act::Ends(2, Ok(b"3")),
+    Calls("NeverEnds", b"1", 0),
+    Calls("NeverEnds", b"2", 50_000_000),
+    Begins(0),
+    Begins(1),
+    Ends(1, Err("ttrpc err: Request deadline elapsed")),
+    Calls("Echo", b"3", 0),
+    Ends(2, Ok(b"3")),
 ];
 
 /// Calls that are dropped before they are written, in the middle of that, and once they are answered.
 const FORGOTTEN: &[Act] = &[
-    Act::Calls("NeverEnds", b"1", 0),
-    Act::Begins(0),
-    Act::Forgets(0),
-    Act::Calls("NeverEnds", b"2", 0),
-    Act::Begins(1),
-    Act::Yields(2),
-    Act::Forgets(1),
-    Act::Calls("Echo", b"3", 0),
-    Act::Begins(2),
-    Act::Yields(200),
-    Act::Forgets(2),
-    Act::Calls("Tells", b"", 0),
-    Act::Ends(3, Ok(b"7 0 0 Tells")),
+    Calls("NeverEnds", b"1", 0),
+    Begins(0),
+    Forgets(0),
+    Calls("NeverEnds", b"2", 0),
+    Begins(1),
+    Yields(2),
+    Forgets(1),
+    Calls("Echo", b"3", 0),
+    Begins(2),
+    Yields(200),
+    Forgets(2),
+    Calls("Tells", b"", 0),
+    Ends(3, Ok(b"7 0 0 Tells")),
 ];
 
 /// Items come back in order, one of them empty, and then the end.
 pub const CHAT: &[Act] = &[
-    Act::Opens("Chat", b"", true, true),
-    Act::Asks(0),
-    Act::Sends(0, b"a", None),
-    Act::Sends(0, b"", None),
-    Act::Sends(0, b"b", None),
-    Act::Closes(0, None),
-    Act::Sends(0, b"c", Some("ttrpc err: local stream closed")),
-    Act::Receives(0, Ok(b"a")),
-    Act::Receives(0, Ok(b"")),
-    Act::Receives(0, Ok(b"b")),
-    Act::Receives(0, Err("eof")),
-    Act::Receives(0, Err("ttrpc err: remote stream closed")),
+    Opens("Chat", b"", true, true),
+    Asks(0),
+    Sends(0, b"a", None),
+    Sends(0, b"", None),
+    Sends(0, b"b", None),
+    Closes(0, None),
+    Sends(0, b"c", Some("ttrpc err: local stream closed")),
+    Receives(0, Ok(b"a")),
+    Receives(0, Ok(b"")),
+    Receives(0, Ok(b"b")),
+    Receives(0, Err("eof")),
+    Receives(0, Err("ttrpc err: remote stream closed")),
 ];
 
 /// A server hears items in order, one of them empty, then the end, and then that there is nothing more.
 pub const HEARD: &[Act] = &[
-    Act::Opens("Hears", b"", true, true),
-    Act::Sends(0, b"a", None),
-    Act::Sends(0, b"", None),
-    Act::Sends(0, b"b", None),
-    Act::Closes(0, None),
-    Act::Receives(0, Ok(b"a")),
-    Act::Receives(0, Ok(b"")),
-    Act::Receives(0, Ok(b"b")),
-    Act::Receives(0, Ok(b"eof")),
-    Act::Receives(0, Err("rpc status: 2 ttrpc err: remote stream closed")),
-    Act::Receives(0, Err("ttrpc err: remote stream closed")),
+    Opens("Hears", b"", true, true),
+    Sends(0, b"a", None),
+    Sends(0, b"", None),
+    Sends(0, b"b", None),
+    Closes(0, None),
+    Receives(0, Ok(b"a")),
+    Receives(0, Ok(b"")),
+    Receives(0, Ok(b"b")),
+    Receives(0, Ok(b"eof")),
+    Receives(0, Err("rpc status: 2 ttrpc err: remote stream closed")),
+    Receives(0, Err("ttrpc err: remote stream closed")),
 ];
 
 /// A stream that is asked in vain, and left, beside one that goes on.
 const LEFT: &[Act] = &[
-    Act::Opens("Chat", b"", true, true),
-    Act::Opens("Chat", b"", true, true),
-    Act::Asks(0),
-    Act::Leaves(0),
-    Act::Sends(1, b"a", None),
-    Act::Asks(1),
-    Act::Receives(1, Ok(b"a")),
-    Act::Leaves(1),
-    Act::Calls("Echo", b"b", 0),
-    Act::Ends(0, Ok(b"b")),
+    Opens("Chat", b"", true, true),
+    Opens("Chat", b"", true, true),
+    Asks(0),
+    Leaves(0),
+    Sends(1, b"a", None),
+    Asks(1),
+    Receives(1, Ok(b"a")),
+    Leaves(1),
+    Calls("Echo", b"b", 0),
+    Ends(0, Ok(b"b")),
 ];
 
 /// A stream of the client, and one of the server.
 const ONE_SIDED: &[Act] = &[
-    Act::Opens("Sum", b"", true, false),
-    Act::Sends(0, b"1", None),
-    Act::Sends(0, b"23", None),
-    Act::Closes(0, None),
-    Act::Receives(0, Ok(b"\0\0\0\0\0\0\0\x02\0\0\0\0\0\0\0\x03")),
-    Act::Opens("Count", b"\x02", false, true),
-    Act::Sends(1, b"", Some("ttrpc err: stream is not sendable")),
-    Act::Receives(1, Ok(b"\0\0\0\0")),
-    Act::Receives(1, Ok(b"\0\0\0\x01")),
-    Act::Receives(1, Err("eof")),
+    Opens("Sum", b"", true, false),
+    Sends(0, b"1", None),
+    Sends(0, b"23", None),
+    Closes(0, None),
+    Receives(0, Ok(b"\0\0\0\0\0\0\0\x02\0\0\0\0\0\0\0\x03")),
+    Opens("Count", b"\x02", false, true),
+    Sends(1, b"", Some("ttrpc err: stream is not sendable")),
+    Receives(1, Ok(b"\0\0\0\0")),
+    Receives(1, Ok(b"\0\0\0\x01")),
+    Receives(1, Err("eof")),
 ];
 
 /// A call of many bytes, behind one that is polled once and never again.
 const LONG: &[Act] = &[
-    Act::Calls("Echo", b"1", 0),
-    Act::Begins(0),
-    Act::CallsLong(100000),
-    Act::EndsLong(1, 100000),
+    Calls("Echo", b"1", 0),
+    Begins(0),
+    CallsLong(100000),
+    EndsLong(1, 100000),
 ];
 
 /// The script of this number, from 0, with its name.
@@ -166,14 +166,14 @@ fn scripts_come_to_what_they_state(rt: HostRuntime) -> Result<(), Fail> {
 #[test]
 fn a_thousand_calls_pass_one_that_never_ends(rt: HostRuntime) -> Result<(), Fail> {
     let mut acts = Vec::new(rt.alloc());
-    acts.push(Act::Calls("NeverEnds", b"", 0))?;
-    acts.push(Act::Begins(0))?;
+    acts.push(Calls("NeverEnds", b"", 0))?;
+    acts.push(Begins(0))?;
     for number in 1..1001usize {
-        acts.push(Act::Calls("Echo", b"\x2a", 0))?;
-        acts.push(Act::Begins(number))?;
+        acts.push(Calls("Echo", b"\x2a", 0))?;
+        acts.push(Begins(number))?;
     }
     for number in 1..1001usize {
-        acts.push(Act::Ends(number, Ok(b"\x2a")))?;
+        acts.push(Ends(number, Ok(b"\x2a")))?;
     }
     assert_eq!(rt; run_acts(&rt, 4096, acts.as_slice())?, None);
     Ok(())

@@ -1,13 +1,13 @@
 //! Calls over sockets: of threads that share a client, of a client with a limit of time, of any size, and by a path.
 use crate::tests::handlers::{Board, Method};
 use crate::tests::sites::{
-    Machine, PlainClient, Tested, answered_client, answers, call, is_told, request, serving,
-    serving_one, serving_two, unbound,
+    Machine, PlainClient, Tested, answered_client, answers, call, is_told, new_board, request,
+    serving, serving_one, serving_two, unbound,
 };
 use std::net::SocketAddr;
 use std::process::Abort;
+use std::sync::Wait;
 use std::sync::atomic::Ordering;
-use std::sync::{Arc, Wait};
 use std::test::Fail;
 use std::time::{Duration, Instant};
 use std::{fs, thread};
@@ -235,8 +235,7 @@ fn serving_at<R: Machine + 'static>(
     rt: &R,
     address: &str,
 ) -> Result<Server<R, Method<R>, NoHook>, Fail> {
-    let board = Arc::new(rt.alloc(), Board::new(rt.alloc()))?;
-    let mut server = unbound(rt, &board)?.bind(address, false)?;
+    let mut server = unbound(rt, &new_board(rt)?)?.bind(address, false)?;
     server.start()?;
     Ok(server)
 }

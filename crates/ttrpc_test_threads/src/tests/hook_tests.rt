@@ -12,11 +12,10 @@ use std::test::Fail;
 use std::thread;
 use std::time::{Clock, Duration, Instant};
 use ttrpc_bench::{Rejects, StampIn, StampOut, Stamps};
-use ttrpc_secure::{ConnectionDataExt, HookError};
+use ttrpc_secure::{ConnectionDataExt, HookError, admit};
 use ttrpc_sync::Host;
 use ttrpc_sync_client::Client;
 use ttrpc_sync_server::accept::{Stop, next_connection};
-use ttrpc_sync_server::admission::admit;
 use ttrpc_sync_server::{NoHook, NoWatch};
 
 /// Moments at which a hook begins and ends, and whether that is in time.

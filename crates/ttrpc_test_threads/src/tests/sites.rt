@@ -1,5 +1,6 @@
 //! Servers of a test's process, and their clients.
-use crate::tests::handlers::{Board, Method, Way};
+use crate::tests::handlers::Way::{self, *};
+use crate::tests::handlers::{Board, Method};
 use std::alloc::Global;
 use std::collections::BTreeMap;
 use std::net::{Net, SocketAddr, TcpListener, TcpStream};
@@ -37,12 +38,12 @@ pub type PlainClient<R> = Client<R, Plain, Plain>;
 
 /// The methods of a test's server, and what each does.
 const METHODS: &[(&str, Way)] = &[
-    ("/demo.Echo/Echo", Way::Echo),
-    ("/demo.Echo/Gate", Way::Gate),
-    ("/demo.Echo/Waits", Way::Waits),
-    ("/demo.Echo/Fails", Way::Fails),
-    ("/demo.Echo/Name", Way::Name),
-    ("/demo.Echo/Tells", Way::Tells),
+    ("/demo.Echo/Echo", Echo),
+    ("/demo.Echo/Gate", Gate),
+    ("/demo.Echo/Waits", Waits),
+    ("/demo.Echo/Fails", Fails),
+    ("/demo.Echo/Name", Name),
+    ("/demo.Echo/Tells", Tells),
 ];
 
 /// Adds a method under this path.
@@ -71,6 +72,11 @@ fn methods<R: Host>(
         add_method(rt, board, &mut methods, path, way)?;
     }
     Ok(methods)
+}
+
+/// A board on which nothing was noted yet.
+pub fn new_board<R: Host>(rt: &R) -> Result<Arc<Board, Global>, Fail> {
+    Ok(Arc::new(rt.alloc(), Board::new(rt.alloc()))?)
 }
 
 /// A server that has all of the methods, and neither an address nor a hook.
@@ -105,7 +111,7 @@ where
     I: SendInbound,
     A: SharedHook<Outbound = O, Inbound = I>,
 {
-    let board = Arc::new(rt.alloc(), Board::new(rt.alloc()))?;
+    let board = new_board(rt)?;
     let server = unbound(rt, &board)?
         .set_accept_hook(hook)?
         .bind("tcp://127.0.0.1:0", nodelay)?;

@@ -1,7 +1,7 @@
 //! Who is told of a server's faults.
 use crate::tests::fakes::Failing;
-use crate::tests::handlers::{Board, Method, comes};
-use crate::tests::sites::{Machine, Tested, address_in, call_fails, unbound};
+use crate::tests::handlers::{Method, comes};
+use crate::tests::sites::{Machine, Tested, address_in, call_fails, new_board, unbound};
 use std::alloc::Global;
 use std::io::ErrorKind;
 use std::process::Abort;
@@ -100,8 +100,7 @@ where
     I: SendInbound,
     A: SharedHook<Outbound = O, Inbound = I>,
 {
-    let board = Arc::new(rt.alloc(), Board::new(rt.alloc()))?;
-    let server = unbound(rt, &board)?
+    let server = unbound(rt, &new_board(rt)?)?
         .set_watch(notes)?
         .set_accept_hook(hook)?
         .bind("tcp://127.0.0.1:0", true)?;

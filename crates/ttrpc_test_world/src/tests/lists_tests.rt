@@ -2,7 +2,9 @@
 
 use crate::tests::lists::{Counts, NONE, Order, has_unknown_sender, read_lists};
 use crate::tests::made::trace_of;
-use crate::tests::script::{Act, Rows, Said};
+use crate::tests::script::Act::*;
+use crate::tests::script::Rows;
+use crate::tests::script::Said::*;
 use std::alloc::Global;
 use std::process::Abort;
 use std::test::Fail;
@@ -12,121 +14,121 @@ type Tested = Result<(), Fail>;
 
 /// Both receivers of a stream are given all, and their ends.
 const GIVEN: Rows = &[
-    (Act::Open("Chat"), Said::Named(1)),
-    (Act::Send(1, b"a"), Said::Ticket(1)),
-    (Act::Send(1, b""), Said::Ticket(2)),
-    (Act::RecvUp(1), Said::Payload(b"a")),
-    (Act::RecvUp(1), Said::Waits),
-    (Act::Close(1), Said::Ticket(3)),
-    (Act::RecvUp(1), Said::Payload(b"")),
-    (Act::RecvUp(1), Said::Eof),
-    (Act::RecvUp(1), Said::RemoteClosed),
-    (Act::Take, Said::StreamJob(1, 1)),
-    (Act::SendDown(1, b"b"), Said::Ticket(1)),
-    (Act::Recv(1), Said::Payload(b"b")),
-    (Act::EndWith(1, b"c"), Said::Done),
-    (Act::Recv(1), Said::Payload(b"c")),
-    (Act::Recv(1), Said::RemoteClosed),
+    (Open("Chat"), Named(1)),
+    (Send(1, b"a"), Ticket(1)),
+    (Send(1, b""), Ticket(2)),
+    (RecvUp(1), Payload(b"a")),
+    (RecvUp(1), Waits),
+    (Close(1), Ticket(3)),
+    (RecvUp(1), Payload(b"")),
+    (RecvUp(1), Eof),
+    (RecvUp(1), RemoteClosed),
+    (Take, StreamJob(1, 1)),
+    (SendDown(1, b"b"), Ticket(1)),
+    (Recv(1), Payload(b"b")),
+    (EndWith(1, b"c"), Done),
+    (Recv(1), Payload(b"c")),
+    (Recv(1), RemoteClosed),
 ];
 
 /// The pipe breaks, which is no end, and neither is what is told after it.
 const BROKEN: Rows = &[
-    (Act::Open("Chat"), Said::Named(1)),
-    (Act::Take, Said::StreamJob(1, 1)),
-    (Act::SendDown(1, b"a"), Said::Ticket(1)),
-    (Act::SendDown(1, b"b"), Said::Ticket(2)),
-    (Act::Recv(1), Said::Payload(b"a")),
-    (Act::Recv(1), Said::Socket("socket disconnected")),
-    (Act::Recv(1), Said::RemoteClosed),
+    (Open("Chat"), Named(1)),
+    (Take, StreamJob(1, 1)),
+    (SendDown(1, b"a"), Ticket(1)),
+    (SendDown(1, b"b"), Ticket(2)),
+    (Recv(1), Payload(b"a")),
+    (Recv(1), Socket("socket disconnected")),
+    (Recv(1), RemoteClosed),
 ];
 
 /// A first item is lost.
 const LOST: Rows = &[
-    (Act::Open("Chat"), Said::Named(1)),
-    (Act::Take, Said::StreamJob(1, 1)),
-    (Act::Send(1, b"a"), Said::Ticket(1)),
-    (Act::Send(1, b"b"), Said::Ticket(2)),
-    (Act::RecvUp(1), Said::Payload(b"b")),
+    (Open("Chat"), Named(1)),
+    (Take, StreamJob(1, 1)),
+    (Send(1, b"a"), Ticket(1)),
+    (Send(1, b"b"), Ticket(2)),
+    (RecvUp(1), Payload(b"b")),
 ];
 
 /// An item is given twice.
 const TWICE: Rows = &[
-    (Act::Open("Chat"), Said::Named(1)),
-    (Act::Take, Said::StreamJob(1, 1)),
-    (Act::SendDown(1, b"a"), Said::Ticket(1)),
-    (Act::Recv(1), Said::Payload(b"a")),
-    (Act::Recv(1), Said::Payload(b"a")),
+    (Open("Chat"), Named(1)),
+    (Take, StreamJob(1, 1)),
+    (SendDown(1, b"a"), Ticket(1)),
+    (Recv(1), Payload(b"a")),
+    (Recv(1), Payload(b"a")),
 ];
 
 /// Two items come in another order.
 const SWAPPED: Rows = &[
-    (Act::Open("Chat"), Said::Named(1)),
-    (Act::Take, Said::StreamJob(1, 1)),
-    (Act::SendDown(1, b"a"), Said::Ticket(1)),
-    (Act::SendDown(1, b"b"), Said::Ticket(2)),
-    (Act::Recv(1), Said::Payload(b"b")),
-    (Act::Recv(1), Said::Payload(b"a")),
+    (Open("Chat"), Named(1)),
+    (Take, StreamJob(1, 1)),
+    (SendDown(1, b"a"), Ticket(1)),
+    (SendDown(1, b"b"), Ticket(2)),
+    (Recv(1), Payload(b"b")),
+    (Recv(1), Payload(b"a")),
 ];
 
 /// An item of another stream is given.
 const OTHERS: Rows = &[
-    (Act::Open("Chat"), Said::Named(1)),
-    (Act::Open("Chat"), Said::Named(3)),
-    (Act::Take, Said::StreamJob(1, 1)),
-    (Act::Take, Said::StreamJob(2, 3)),
-    (Act::Send(3, b"a"), Said::Ticket(1)),
-    (Act::RecvUp(1), Said::Payload(b"a")),
+    (Open("Chat"), Named(1)),
+    (Open("Chat"), Named(3)),
+    (Take, StreamJob(1, 1)),
+    (Take, StreamJob(2, 3)),
+    (Send(3, b"a"), Ticket(1)),
+    (RecvUp(1), Payload(b"a")),
 ];
 
 /// An item is given that isn't sent yet.
 const TOO_SOON: Rows = &[
-    (Act::Open("Chat"), Said::Named(1)),
-    (Act::Take, Said::StreamJob(1, 1)),
-    (Act::RecvUp(1), Said::Payload(b"a")),
-    (Act::Send(1, b"a"), Said::Ticket(1)),
+    (Open("Chat"), Named(1)),
+    (Take, StreamJob(1, 1)),
+    (RecvUp(1), Payload(b"a")),
+    (Send(1, b"a"), Ticket(1)),
 ];
 
 /// A last item is lost: the end is told before it.
 const EARLY: Rows = &[
-    (Act::Open("Chat"), Said::Named(1)),
-    (Act::Take, Said::StreamJob(1, 1)),
-    (Act::Send(1, b"a"), Said::Ticket(1)),
-    (Act::Close(1), Said::Ticket(2)),
-    (Act::RecvUp(1), Said::Eof),
+    (Open("Chat"), Named(1)),
+    (Take, StreamJob(1, 1)),
+    (Send(1, b"a"), Ticket(1)),
+    (Close(1), Ticket(2)),
+    (RecvUp(1), Eof),
 ];
 
 /// The same of the payload by which a job ends.
 const EARLY_DOWN: Rows = &[
-    (Act::Open("Chat"), Said::Named(1)),
-    (Act::Take, Said::StreamJob(1, 1)),
-    (Act::EndWith(1, b"a"), Said::Done),
-    (Act::Recv(1), Said::Eof),
+    (Open("Chat"), Named(1)),
+    (Take, StreamJob(1, 1)),
+    (EndWith(1, b"a"), Done),
+    (Recv(1), Eof),
 ];
 
 /// An end is told where nobody closed.
 const UNCLOSED: Rows = &[
-    (Act::Open("Chat"), Said::Named(1)),
-    (Act::Take, Said::StreamJob(1, 1)),
-    (Act::Send(1, b"a"), Said::Ticket(1)),
-    (Act::RecvUp(1), Said::Payload(b"a")),
-    (Act::RecvUp(1), Said::RemoteClosed),
+    (Open("Chat"), Named(1)),
+    (Take, StreamJob(1, 1)),
+    (Send(1, b"a"), Ticket(1)),
+    (RecvUp(1), Payload(b"a")),
+    (RecvUp(1), RemoteClosed),
 ];
 
 /// The same where the pipe to the client breaks.
 const UNCLOSED_DOWN: Rows = &[
-    (Act::Open("Chat"), Said::Named(1)),
-    (Act::Take, Said::StreamJob(1, 1)),
-    (Act::CutDown(0), Said::Done),
-    (Act::Recv(1), Said::Eof),
+    (Open("Chat"), Named(1)),
+    (Take, StreamJob(1, 1)),
+    (CutDown(0), Done),
+    (Recv(1), Eof),
 ];
 
 /// Something is sent behind an end that was told.
 const BEHIND: Rows = &[
-    (Act::Open("Chat"), Said::Named(1)),
-    (Act::Take, Said::StreamJob(1, 1)),
-    (Act::End(1), Said::Done),
-    (Act::Recv(1), Said::Eof),
-    (Act::SendDown(1, b"a"), Said::Ticket(1)),
+    (Open("Chat"), Named(1)),
+    (Take, StreamJob(1, 1)),
+    (End(1), Done),
+    (Recv(1), Eof),
+    (SendDown(1, b"a"), Ticket(1)),
 ];
 
 /// Each fault, and a trace that has it.
@@ -187,7 +189,7 @@ fn lists_that_are_not_in_order_are_found(rt: HostRuntime) -> Tested {
 }
 
 /// An item is sent on the stream of a job that is never handed out.
-const UNTAKEN: Rows = &[(Act::SendDown(1, b"a"), Said::Ticket(1))];
+const UNTAKEN: Rows = &[(SendDown(1, b"a"), Ticket(1))];
 
 fn has_unknown(alloc: Global, rows: Rows) -> Result<bool, Fail> {
     let trace = trace_of(alloc, rows)?;

@@ -6,7 +6,9 @@ use crate::tests::made::reply_of;
 use crate::tests::rows_tests::{
     ALL as ALL_WAYS, ASYNC, ONE_CALL, ONE_RESPONSE, ONE_STAMPED_CALL, SYNC, Tested, has_replies,
 };
-use crate::tests::script::{Act, Over, Rows, Said, Ways, had_memory, run_script};
+use crate::tests::script::Act::{self, *};
+use crate::tests::script::Said::{self, *};
+use crate::tests::script::{Over, Rows, Ways, had_memory, run_script};
 use crate::tests::streams_tests::{MOVED, QUEUED, RECEIVED, STAMPED_MOVED};
 use crate::tests::told::{Terms, terms_of};
 use crate::tests::whole::{Rest, is_clean, is_quiet, read_rest};
@@ -21,221 +23,221 @@ const ALL: usize = 4096;
 
 /// Nothing more moves.
 const AT_REST: Rows = &[
-    (Act::CarryUp(1), Said::Count(0)),
-    (Act::CarryDown(1), Said::Count(0)),
-    (Act::DeliverUp(1), Said::Count(0)),
-    (Act::DeliverDown(1), Said::Count(0)),
+    (CarryUp(1), Count(0)),
+    (CarryDown(1), Count(0)),
+    (DeliverUp(1), Count(0)),
+    (DeliverDown(1), Count(0)),
 ];
 
 /// The same, asked for in another order.
 const AT_REST_TOO: Rows = &[
-    (Act::CarryDown(9), Said::Count(0)),
-    (Act::CarryUp(8), Said::Count(0)),
-    (Act::DeliverDown(7), Said::Count(0)),
-    (Act::DeliverUp(6), Said::Count(0)),
+    (CarryDown(9), Count(0)),
+    (CarryUp(8), Count(0)),
+    (DeliverDown(7), Count(0)),
+    (DeliverUp(6), Count(0)),
 ];
 
 /// A call is answered.
 const ANSWERED: Rows = &[
-    (Act::Call(b"\x2a", 0), Said::Named(1)),
-    (Act::CarryUp(ALL), Said::Moved),
-    (Act::DeliverUp(ALL), Said::Moved),
-    (Act::Take, Said::Job(1, 1, b"\x2a")),
-    (Act::Take, Said::NoJob),
-    (Act::Answer(1, b"\x2b"), Said::Done),
-    (Act::CarryDown(ALL), Said::Moved),
-    (Act::DeliverDown(ALL), Said::Moved),
-    (Act::Outcome(1), Said::Payload(b"\x2b")),
+    (Call(b"\x2a", 0), Named(1)),
+    (CarryUp(ALL), Moved),
+    (DeliverUp(ALL), Moved),
+    (Take, Job(1, 1, b"\x2a")),
+    (Take, NoJob),
+    (Answer(1, b"\x2b"), Done),
+    (CarryDown(ALL), Moved),
+    (DeliverDown(ALL), Moved),
+    (Outcome(1), Payload(b"\x2b")),
 ];
 
 /// The same without the last try for a job.
 const UNTAKEN: Rows = &[
-    (Act::Call(b"\x2a", 0), Said::Named(1)),
-    (Act::CarryUp(ALL), Said::Moved),
-    (Act::DeliverUp(ALL), Said::Moved),
-    (Act::Take, Said::Job(1, 1, b"\x2a")),
-    (Act::Answer(1, b"\x2b"), Said::Done),
-    (Act::CarryDown(ALL), Said::Moved),
-    (Act::DeliverDown(ALL), Said::Moved),
-    (Act::Outcome(1), Said::Payload(b"\x2b")),
+    (Call(b"\x2a", 0), Named(1)),
+    (CarryUp(ALL), Moved),
+    (DeliverUp(ALL), Moved),
+    (Take, Job(1, 1, b"\x2a")),
+    (Answer(1, b"\x2b"), Done),
+    (CarryDown(ALL), Moved),
+    (DeliverDown(ALL), Moved),
+    (Outcome(1), Payload(b"\x2b")),
 ];
 
 /// And without its answer.
 const UNANSWERED: Rows = &[
-    (Act::Call(b"\x2a", 0), Said::Named(1)),
-    (Act::CarryUp(ALL), Said::Moved),
-    (Act::DeliverUp(ALL), Said::Moved),
-    (Act::Take, Said::Job(1, 1, b"\x2a")),
-    (Act::Take, Said::NoJob),
+    (Call(b"\x2a", 0), Named(1)),
+    (CarryUp(ALL), Moved),
+    (DeliverUp(ALL), Moved),
+    (Take, Job(1, 1, b"\x2a")),
+    (Take, NoJob),
 ];
 
 /// It is answered by a response, under sync rules.
 const RESPONDED: Rows = &[
-    (Act::Call(b"\x2a", 0), Said::Named(1)),
-    (Act::CarryUp(ALL), Said::Moved),
-    (Act::DeliverUp(ALL), Said::Moved),
-    (Act::Take, Said::Job(1, 1, b"\x2a")),
-    (Act::Respond(1, b"\x2a"), Said::Done),
-    (Act::Respond(1, b"\x2a"), Said::NoStep),
-    (Act::Finish(1), Said::Done),
-    (Act::Answer(1, b"\x2a"), Said::NoStep),
-    (Act::CarryDown(ALL), Said::Moved),
-    (Act::DeliverDown(ALL), Said::Moved),
-    (Act::Outcome(1), Said::Payload(b"\x2a")),
-    (Act::Take, Said::NoJob),
+    (Call(b"\x2a", 0), Named(1)),
+    (CarryUp(ALL), Moved),
+    (DeliverUp(ALL), Moved),
+    (Take, Job(1, 1, b"\x2a")),
+    (Respond(1, b"\x2a"), Done),
+    (Respond(1, b"\x2a"), NoStep),
+    (Finish(1), Done),
+    (Answer(1, b"\x2a"), NoStep),
+    (CarryDown(ALL), Moved),
+    (DeliverDown(ALL), Moved),
+    (Outcome(1), Payload(b"\x2a")),
+    (Take, NoJob),
 ];
 
 /// The outcome is asked for before it is there, and not again: nothing is said of the call.
 const ASKED_EARLY: Rows = &[
-    (Act::Call(b"\x2a", 0), Said::Named(1)),
-    (Act::CarryUp(ALL), Said::Moved),
-    (Act::DeliverUp(ALL), Said::Moved),
-    (Act::Take, Said::Job(1, 1, b"\x2a")),
-    (Act::Take, Said::NoJob),
-    (Act::Answer(1, b"\x2b"), Said::Done),
-    (Act::CarryDown(ALL), Said::Moved),
-    (Act::Outcome(1), Said::Waits),
-    (Act::DeliverDown(ALL), Said::Moved),
+    (Call(b"\x2a", 0), Named(1)),
+    (CarryUp(ALL), Moved),
+    (DeliverUp(ALL), Moved),
+    (Take, Job(1, 1, b"\x2a")),
+    (Take, NoJob),
+    (Answer(1, b"\x2b"), Done),
+    (CarryDown(ALL), Moved),
+    (Outcome(1), Waits),
+    (DeliverDown(ALL), Moved),
 ];
 
 /// A handler gives an error.
 const BROKEN_HANDLER: Rows = &[
-    (Act::Call(b"\x2a", 0), Said::Named(1)),
-    (Act::CarryUp(ALL), Said::Moved),
-    (Act::DeliverUp(ALL), Said::Moved),
-    (Act::Take, Said::Job(1, 1, b"\x2a")),
-    (Act::Take, Said::NoJob),
-    (Act::Break(1), Said::Done),
-    (Act::CarryDown(ALL), Said::Moved),
-    (Act::DeliverDown(ALL), Said::Moved),
-    (Act::Outcome(1), Said::Status(2, "eof")),
+    (Call(b"\x2a", 0), Named(1)),
+    (CarryUp(ALL), Moved),
+    (DeliverUp(ALL), Moved),
+    (Take, Job(1, 1, b"\x2a")),
+    (Take, NoJob),
+    (Break(1), Done),
+    (CarryDown(ALL), Moved),
+    (DeliverDown(ALL), Moved),
+    (Outcome(1), Status(2, "eof")),
 ];
 
 /// A timeout is kept, and passes once the outcome was given. One of -1 isn't reached.
 const KEPT_TIMEOUT: Rows = &[
-    (Act::Call(b"\x2a", 10), Said::Named(1)),
-    (Act::Call(b"\x2c", -1), Said::Named(3)),
-    (Act::Tick(4), Said::Done),
-    (Act::CarryUp(ALL), Said::Moved),
-    (Act::CarryUp(ALL), Said::Moved),
-    (Act::DeliverUp(ALL), Said::Moved),
-    (Act::Take, Said::Job(1, 1, b"\x2a")),
-    (Act::Take, Said::Job(2, 3, b"\x2c")),
-    (Act::Take, Said::NoJob),
-    (Act::Tick(9), Said::Done),
-    (Act::Answer(1, b"\x2b"), Said::Done),
-    (Act::CarryDown(ALL), Said::Moved),
-    (Act::DeliverDown(ALL), Said::Moved),
-    (Act::Outcome(1), Said::Payload(b"\x2b")),
-    (Act::Tick(40), Said::Done),
-    (Act::Answer(2, b"\x2d"), Said::Done),
-    (Act::CarryDown(ALL), Said::Moved),
-    (Act::DeliverDown(ALL), Said::Moved),
-    (Act::Outcome(3), Said::Payload(b"\x2d")),
+    (Call(b"\x2a", 10), Named(1)),
+    (Call(b"\x2c", -1), Named(3)),
+    (Tick(4), Done),
+    (CarryUp(ALL), Moved),
+    (CarryUp(ALL), Moved),
+    (DeliverUp(ALL), Moved),
+    (Take, Job(1, 1, b"\x2a")),
+    (Take, Job(2, 3, b"\x2c")),
+    (Take, NoJob),
+    (Tick(9), Done),
+    (Answer(1, b"\x2b"), Done),
+    (CarryDown(ALL), Moved),
+    (DeliverDown(ALL), Moved),
+    (Outcome(1), Payload(b"\x2b")),
+    (Tick(40), Done),
+    (Answer(2, b"\x2d"), Done),
+    (CarryDown(ALL), Moved),
+    (DeliverDown(ALL), Moved),
+    (Outcome(3), Payload(b"\x2d")),
 ];
 
 /// One passes before the outcome is asked for: nothing is said of the run, though the outcome had come.
 const LATE: Rows = &[
-    (Act::Call(b"\x2a", 10), Said::Named(1)),
-    (Act::CarryUp(ALL), Said::Moved),
-    (Act::DeliverUp(ALL), Said::Moved),
-    (Act::Take, Said::Job(1, 1, b"\x2a")),
-    (Act::Take, Said::NoJob),
-    (Act::Answer(1, b"\x2b"), Said::Done),
-    (Act::CarryDown(ALL), Said::Moved),
-    (Act::DeliverDown(ALL), Said::Moved),
-    (Act::Tick(10), Said::Done),
-    (Act::Outcome(1), Said::Payload(b"\x2b")),
+    (Call(b"\x2a", 10), Named(1)),
+    (CarryUp(ALL), Moved),
+    (DeliverUp(ALL), Moved),
+    (Take, Job(1, 1, b"\x2a")),
+    (Take, NoJob),
+    (Answer(1, b"\x2b"), Done),
+    (CarryDown(ALL), Moved),
+    (DeliverDown(ALL), Moved),
+    (Tick(10), Done),
+    (Outcome(1), Payload(b"\x2b")),
 ];
 
 /// A stream that meets a method is given its response.
 const OPEN_MEETS_METHOD: Rows = &[
-    (Act::Ask("Echo", b"a"), Said::Named(1)),
-    (Act::CarryUp(ALL), Said::Moved),
-    (Act::DeliverUp(ALL), Said::Moved),
-    (Act::Take, Said::Job(1, 1, b"a")),
-    (Act::Take, Said::NoJob),
-    (Act::Answer(1, b"b"), Said::Done),
-    (Act::CarryDown(ALL), Said::Moved),
-    (Act::DeliverDown(ALL), Said::Moved),
-    (Act::Recv(1), Said::Payload(b"b")),
-    (Act::Recv(1), Said::RemoteClosed),
+    (Ask("Echo", b"a"), Named(1)),
+    (CarryUp(ALL), Moved),
+    (DeliverUp(ALL), Moved),
+    (Take, Job(1, 1, b"a")),
+    (Take, NoJob),
+    (Answer(1, b"b"), Done),
+    (CarryDown(ALL), Moved),
+    (DeliverDown(ALL), Moved),
+    (Recv(1), Payload(b"b")),
+    (Recv(1), RemoteClosed),
 ];
 
 /// Items go both ways, and their ends.
 const ITEMS: Rows = &[
-    (Act::Open("Chat"), Said::Named(1)),
-    (Act::Send(1, b"a"), Said::Ticket(1)),
-    (Act::Send(1, b""), Said::Ticket(2)),
-    (Act::Send(1, b"b"), Said::Ticket(3)),
-    (Act::Close(1), Said::Ticket(4)),
-    (Act::CarryUp(ALL), Said::Moved),
-    (Act::CarryUp(ALL), Said::Moved),
-    (Act::CarryUp(ALL), Said::Moved),
-    (Act::CarryUp(ALL), Said::Moved),
-    (Act::CarryUp(ALL), Said::Moved),
-    (Act::DeliverUp(41), Said::Count(41)),
-    (Act::Take, Said::StreamJob(1, 1)),
-    (Act::RecvUp(1), Said::Payload(b"a")),
-    (Act::RecvUp(1), Said::Waits),
-    (Act::DeliverUp(ALL), Said::Moved),
-    (Act::RecvUp(1), Said::Payload(b"")),
-    (Act::RecvUp(1), Said::Payload(b"b")),
-    (Act::RecvUp(1), Said::Eof),
-    (Act::RecvUp(1), Said::RemoteClosed),
-    (Act::SendDown(1, b"c"), Said::Ticket(1)),
-    (Act::EndWith(1, b"d"), Said::Done),
-    (Act::CarryDown(ALL), Said::Moved),
-    (Act::CarryDown(ALL), Said::Moved),
-    (Act::DeliverDown(ALL), Said::Moved),
-    (Act::Recv(1), Said::Payload(b"c")),
-    (Act::Recv(1), Said::Payload(b"d")),
-    (Act::Recv(1), Said::RemoteClosed),
-    (Act::Take, Said::NoJob),
+    (Open("Chat"), Named(1)),
+    (Send(1, b"a"), Ticket(1)),
+    (Send(1, b""), Ticket(2)),
+    (Send(1, b"b"), Ticket(3)),
+    (Close(1), Ticket(4)),
+    (CarryUp(ALL), Moved),
+    (CarryUp(ALL), Moved),
+    (CarryUp(ALL), Moved),
+    (CarryUp(ALL), Moved),
+    (CarryUp(ALL), Moved),
+    (DeliverUp(41), Count(41)),
+    (Take, StreamJob(1, 1)),
+    (RecvUp(1), Payload(b"a")),
+    (RecvUp(1), Waits),
+    (DeliverUp(ALL), Moved),
+    (RecvUp(1), Payload(b"")),
+    (RecvUp(1), Payload(b"b")),
+    (RecvUp(1), Eof),
+    (RecvUp(1), RemoteClosed),
+    (SendDown(1, b"c"), Ticket(1)),
+    (EndWith(1, b"d"), Done),
+    (CarryDown(ALL), Moved),
+    (CarryDown(ALL), Moved),
+    (DeliverDown(ALL), Moved),
+    (Recv(1), Payload(b"c")),
+    (Recv(1), Payload(b"d")),
+    (Recv(1), RemoteClosed),
+    (Take, NoJob),
 ];
 
 /// The client doesn't close, and the server asks until it has nothing yet. No item comes down.
 const UNCLOSED: Rows = &[
-    (Act::Open("Chat"), Said::Named(1)),
-    (Act::Send(1, b"a"), Said::Ticket(1)),
-    (Act::CarryUp(ALL), Said::Moved),
-    (Act::CarryUp(ALL), Said::Moved),
-    (Act::DeliverUp(ALL), Said::Moved),
-    (Act::Take, Said::StreamJob(1, 1)),
-    (Act::Take, Said::NoJob),
-    (Act::RecvUp(1), Said::Payload(b"a")),
-    (Act::RecvUp(1), Said::Waits),
-    (Act::End(1), Said::Done),
-    (Act::CarryDown(ALL), Said::Moved),
-    (Act::DeliverDown(ALL), Said::Moved),
-    (Act::Recv(1), Said::Eof),
+    (Open("Chat"), Named(1)),
+    (Send(1, b"a"), Ticket(1)),
+    (CarryUp(ALL), Moved),
+    (CarryUp(ALL), Moved),
+    (DeliverUp(ALL), Moved),
+    (Take, StreamJob(1, 1)),
+    (Take, NoJob),
+    (RecvUp(1), Payload(b"a")),
+    (RecvUp(1), Waits),
+    (End(1), Done),
+    (CarryDown(ALL), Moved),
+    (DeliverDown(ALL), Moved),
+    (Recv(1), Eof),
 ];
 
 /// The server asks before the item is there, and not again: nothing is said of its receiver.
 const UNASKED: Rows = &[
-    (Act::Open("Chat"), Said::Named(1)),
-    (Act::Send(1, b"a"), Said::Ticket(1)),
-    (Act::CarryUp(ALL), Said::Moved),
-    (Act::CarryUp(ALL), Said::Moved),
-    (Act::DeliverUp(30), Said::Count(30)),
-    (Act::RecvUp(1), Said::Waits),
-    (Act::DeliverUp(ALL), Said::Moved),
-    (Act::Take, Said::StreamJob(1, 1)),
-    (Act::Take, Said::NoJob),
-    (Act::End(1), Said::Done),
-    (Act::CarryDown(ALL), Said::Moved),
-    (Act::DeliverDown(ALL), Said::Moved),
-    (Act::Recv(1), Said::Eof),
+    (Open("Chat"), Named(1)),
+    (Send(1, b"a"), Ticket(1)),
+    (CarryUp(ALL), Moved),
+    (CarryUp(ALL), Moved),
+    (DeliverUp(30), Count(30)),
+    (RecvUp(1), Waits),
+    (DeliverUp(ALL), Moved),
+    (Take, StreamJob(1, 1)),
+    (Take, NoJob),
+    (End(1), Done),
+    (CarryDown(ALL), Moved),
+    (DeliverDown(ALL), Moved),
+    (Recv(1), Eof),
 ];
 
 /// A stream's job ends, and its client is told.
 const ENDED: Rows = &[
-    (Act::Take, Said::StreamJob(1, 1)),
-    (Act::Take, Said::NoJob),
-    (Act::End(1), Said::Done),
-    (Act::CarryDown(ALL), Said::Moved),
-    (Act::DeliverDown(ALL), Said::Moved),
-    (Act::Recv(1), Said::Eof),
+    (Take, StreamJob(1, 1)),
+    (Take, NoJob),
+    (End(1), Done),
+    (CarryDown(ALL), Moved),
+    (DeliverDown(ALL), Moved),
+    (Recv(1), Eof),
 ];
 
 // ---- what is read of runs
@@ -389,10 +391,10 @@ fn streams_come_to_rest(rt: HostRuntime) -> Tested {
 
 /// Nothing is said of a run with one of these acts, though its call is answered, and nothing moves in the end.
 const UNSAID: &[Rows] = &[
-    &[(Act::DropCall(1), Said::Done)],
-    &[(Act::Drain, Said::Done)],
-    &[(Act::Send(1, b"a"), Said::Others("unknown stream"))],
-    &[(Act::Recv(1), Said::Others("unknown stream"))],
+    &[(DropCall(1), Done)],
+    &[(Drain, Done)],
+    &[(Send(1, b"a"), Others("unknown stream"))],
+    &[(Recv(1), Others("unknown stream"))],
 ];
 
 /// Nor of one whose call is answered, with one of these acts.
@@ -473,17 +475,17 @@ const ABOVE_LIMIT: &str =
 
 /// The call's response has a present empty status, and a payload that is too long: its call is told this instead.
 const TOO_LONG: Rows = &[
-    (Act::AnswerSevens(1, 4194298), Said::Done),
-    (Act::CarryDown(ALL), Said::Moved),
-    (Act::DeliverDown(ALL), Said::Moved),
-    (Act::Outcome(1), Said::Status(3, ABOVE_MESSAGE)),
+    (AnswerSevens(1, 4194298), Done),
+    (CarryDown(ALL), Moved),
+    (DeliverDown(ALL), Moved),
+    (Outcome(1), Status(3, ABOVE_MESSAGE)),
 ];
 
 const STAMPED_TOO_LONG: Rows = &[
-    (Act::AnswerSevens(1, 4194297), Said::Done),
-    (Act::CarryDown(ALL), Said::Moved),
-    (Act::DeliverDown(ALL), Said::Moved),
-    (Act::Outcome(1), Said::Status(3, ABOVE_LIMIT)),
+    (AnswerSevens(1, 4194297), Done),
+    (CarryDown(ALL), Moved),
+    (DeliverDown(ALL), Moved),
+    (Outcome(1), Status(3, ABOVE_LIMIT)),
 ];
 
 /// The run is whole.
@@ -565,18 +567,18 @@ const BROKEN_CALLS: &[Fault] = &[
     (
         ANSWERED,
         &[
-            &[(8, Act::Outcome(1), Said::Waits)],
-            &[(8, Act::Outcome(1), Said::Payload(b"c"))],
-            &[(8, Act::Outcome(1), Said::Status(2, "eof"))],
+            &[(8, Outcome(1), Waits)],
+            &[(8, Outcome(1), Payload(b"c"))],
+            &[(8, Outcome(1), Status(2, "eof"))],
         ],
         Rest::BrokenCall,
     ),
     (
         BROKEN_HANDLER,
         &[
-            &[(8, Act::Outcome(1), Said::Status(2, ""))],
-            &[(8, Act::Outcome(1), Said::Status(3, "eof"))],
-            &[(8, Act::Outcome(1), Said::Payload(b"\x2a"))],
+            &[(8, Outcome(1), Status(2, ""))],
+            &[(8, Outcome(1), Status(3, "eof"))],
+            &[(8, Outcome(1), Payload(b"\x2a"))],
         ],
         Rest::BrokenCall,
     ),
@@ -589,9 +591,9 @@ fn calls_that_are_not_whole_are_found(rt: HostRuntime) -> Tested {
 
 /// A server runs no handler, and answers by a status.
 const UNRUN_CALL: &[Other] = &[
-    (3, Act::Take, Said::NoJob),
-    (5, Act::Answer(1, b"\x2b"), Said::NoStep),
-    (8, Act::Outcome(1), Said::Status(3, "no")),
+    (3, Take, NoJob),
+    (5, Answer(1, b"\x2b"), NoStep),
+    (8, Outcome(1), Status(3, "no")),
 ];
 
 #[test]
@@ -604,27 +606,23 @@ const BROKEN_STREAMS: &[Fault] = &[
     (
         ITEMS,
         &[
-            &[(12, Act::RecvUp(1), Said::Waits)],
-            &[(12, Act::RecvUp(1), Said::Payload(b"e"))],
-            &[(15, Act::RecvUp(1), Said::Waits)],
-            &[(15, Act::RecvUp(1), Said::Payload(b"e"))],
-            &[(16, Act::RecvUp(1), Said::Waits)],
-            &[(16, Act::RecvUp(1), Said::Payload(b"e"))],
-            &[(24, Act::Recv(1), Said::Waits)],
-            &[(24, Act::Recv(1), Said::Payload(b"e"))],
-            &[(25, Act::Recv(1), Said::Waits)],
-            &[(25, Act::Recv(1), Said::Payload(b"e"))],
+            &[(12, RecvUp(1), Waits)],
+            &[(12, RecvUp(1), Payload(b"e"))],
+            &[(15, RecvUp(1), Waits)],
+            &[(15, RecvUp(1), Payload(b"e"))],
+            &[(16, RecvUp(1), Waits)],
+            &[(16, RecvUp(1), Payload(b"e"))],
+            &[(24, Recv(1), Waits)],
+            &[(24, Recv(1), Payload(b"e"))],
+            &[(25, Recv(1), Waits)],
+            &[(25, Recv(1), Payload(b"e"))],
         ],
         Rest::BrokenStream,
     ),
-    (
-        UNCLOSED,
-        &[&[(7, Act::RecvUp(1), Said::Waits)]],
-        Rest::BrokenStream,
-    ),
+    (UNCLOSED, &[&[(7, RecvUp(1), Waits)]], Rest::BrokenStream),
     (
         OPEN_MEETS_METHOD,
-        &[&[(8, Act::Recv(1), Said::Waits)]],
+        &[&[(8, Recv(1), Waits)]],
         Rest::BrokenStream,
     ),
 ];

@@ -9,17 +9,23 @@ pub use ttrpc_test_cores::server::{
 pub const CUT: &[u8] = b"\0\0\0\x14\0\0\0\x01\x01\0\x0a\x09";
 
 /// What answers a frame that is too long, and nothing behind it.
-pub const OVERSIZED_ANSWER: &[u8] =
-    b"\0\0\0\x43\0\0\0\x05\x02\0\x0a\x41\x08\x03\x12\x3dmessage length 4194305 exceed maximum message size of 4194304";
+pub const OVERSIZED_ANSWER: &[u8] = b"\
+    \0\0\0\x43\0\0\0\x05\x02\0\
+    \x0a\x41\x08\x03\x12\x3dmessage length 4194305 exceed maximum message size of 4194304";
 
 /// A request of 30 bytes, data that is skipped, an unknown service, and another request: their ends are at 30, 41, 57
 /// and 87.
-pub const MIXED: &[u8] =
-    b"\0\0\0\x14\0\0\0\x01\x01\0\x0a\x09demo.Echo\x12\x04Echo\x1a\x01\x2a\0\0\0\x01\0\0\0\x01\x03\0z\0\0\0\x06\0\0\0\x02\x01\0\x0a\x01x\x12\x01y\0\0\0\x14\0\0\0\x03\x01\0\x0a\x09demo.Echo\x12\x04Echo\x1a\x01\x2b";
+pub const MIXED: &[u8] = b"\
+    \0\0\0\x14\0\0\0\x01\x01\0\x0a\x09demo.Echo\x12\x04Echo\x1a\x01\x2a\
+    \0\0\0\x01\0\0\0\x01\x03\0z\
+    \0\0\0\x06\0\0\0\x02\x01\0\x0a\x01x\x12\x01y\
+    \0\0\0\x14\0\0\0\x03\x01\0\x0a\x09demo.Echo\x12\x04Echo\x1a\x01\x2b";
 
 /// The answers: their ends are at 15, 50 and 65.
-pub const MIXED_ANSWERS: &[u8] =
-    b"\0\0\0\x05\0\0\0\x01\x02\0\x0a\0\x12\x01\x2a\0\0\0\x19\0\0\0\x02\x02\0\x0a\x17\x08\x03\x12\x13/x/y does not exist\0\0\0\x05\0\0\0\x03\x02\0\x0a\0\x12\x01\x2b";
+pub const MIXED_ANSWERS: &[u8] = b"\
+    \0\0\0\x05\0\0\0\x01\x02\0\x0a\0\x12\x01\x2a\
+    \0\0\0\x19\0\0\0\x02\x02\0\x0a\x17\x08\x03\x12\x13/x/y does not exist\
+    \0\0\0\x05\0\0\0\x03\x02\0\x0a\0\x12\x01\x2b";
 
 pub const INSIDE_TEXT: &[u8] = b"ttrpc-demo: socket err: socket disconnected inside a frame\n";
 
