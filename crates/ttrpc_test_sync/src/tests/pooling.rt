@@ -1,5 +1,6 @@
 //! The pool of workers, over rows of calls and their answers, and behind the gate of a worker.
 
+use crate::tests::pooling::Call::*;
 use crate::tests::workers::{Queue, Refuser, Seen};
 use std::process::Abort;
 use std::test::Fail;
@@ -23,56 +24,6 @@ struct Pooling {
     calls: &'static [Call],
 }
 
-const LET_IN: Call = Call::Enters(true);
-
-const POOLINGS: &[Pooling] = &[
-    Pooling {
-        limits: (3, 1, 5),
-        calls: &[
-            Call::Starts(3),
-            LET_IN,
-            LET_IN,
-            LET_IN,
-            Call::Waiting(3),
-            Call::Starts(0),
-            Call::Leaves(false),
-            Call::Leaves(false),
-            Call::Starts(0),
-            Call::Leaves(true),
-            Call::Starts(3),
-        ],
-    },
-    Pooling {
-        limits: (3, 1, 5),
-        calls: &[
-            LET_IN,
-            LET_IN,
-            LET_IN,
-            LET_IN,
-            LET_IN,
-            Call::Waiting(5),
-            Call::Enters(false),
-            Call::Waiting(5),
-        ],
-    },
-    Pooling {
-        limits: (2, 4, 5),
-        calls: &[
-            Call::Starts(2),
-            LET_IN,
-            Call::Starts(1),
-            LET_IN,
-            LET_IN,
-            Call::Starts(0),
-            Call::Leaves(true),
-        ],
-    },
-    Pooling {
-        limits: (3, 1, 0),
-        calls: &[Call::Starts(3), Call::Enters(false), Call::Waiting(0)],
-    },
-];
-
 fn pools<X: Abort>(rt: &X, row: &Pooling) -> Tested {
     let (default, min, max) = row.limits;
     let mut pool = PoolCore::new(default, min, max);
@@ -89,6 +40,56 @@ fn pools<X: Abort>(rt: &X, row: &Pooling) -> Tested {
     }
     Ok(())
 }
+
+const LET_IN: Call = Enters(true);
+
+const POOLINGS: &[Pooling] = &[
+    Pooling {
+        limits: (3, 1, 5),
+        calls: &[
+            Starts(3),
+            LET_IN,
+            LET_IN,
+            LET_IN,
+            Waiting(3),
+            Starts(0),
+            Leaves(false),
+            Leaves(false),
+            Starts(0),
+            Leaves(true),
+            Starts(3),
+        ],
+    },
+    Pooling {
+        limits: (3, 1, 5),
+        calls: &[
+            LET_IN,
+            LET_IN,
+            LET_IN,
+            LET_IN,
+            LET_IN,
+            Waiting(5),
+            Enters(false),
+            Waiting(5),
+        ],
+    },
+    Pooling {
+        limits: (2, 4, 5),
+        calls: &[
+            Starts(2),
+            LET_IN,
+            Starts(1),
+            LET_IN,
+            LET_IN,
+            Starts(0),
+            Leaves(true),
+        ],
+    },
+    Pooling {
+        limits: (3, 1, 0),
+        calls: &[Starts(3), Enters(false), Waiting(0)],
+    },
+];
 
 #[test]
 fn workers_wait_within_limits(rt: HostRuntime) -> Tested {

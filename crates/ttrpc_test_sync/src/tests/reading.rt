@@ -55,6 +55,46 @@ const STOPPED: Reading<'static> = Reading {
     ..ALL
 };
 
+/// One reader is read to one port, and what comes of it is what the row says.
+fn reads_once<X: Wait + Abort>(
+    rt: &X,
+    alloc: Global,
+    row: &Reading<'_>,
+    given: usize,
+    wanted: usize,
+) -> Tested {
+    let taken = Vec::with_capacity(alloc, ROOM)?;
+    let mut port = Taker::new(taken, wanted, row.room, row.rests);
+    port.reads = row.reads;
+    let manner = Manner {
+        step: given,
+        ..row.manner
+    };
+    let mut reader = Giver::new(row.bytes, manner);
+    reader_had_it(rt, &mut reader, &mut port);
+    assert_eq!(rt;
+        port.taken.as_slice(),
+        front(row.bytes, row.taken),
+        "{}",
+        row.name
+    );
+    assert_eq!(rt; reader.left(), row.left, "{}", row.name);
+    assert!(rt; port.state == row.state, "{}", row.name);
+    Ok(())
+}
+
+/// Each reader of each row is read to each of the row's ports.
+fn reads<X: Wait + Abort>(rt: &X, alloc: Global, rows: &[Reading<'_>]) -> Tested {
+    for row in rows {
+        for given in row.given {
+            for wanted in row.wanted {
+                reads_once(rt, alloc, row, *given, *wanted)?;
+            }
+        }
+    }
+    Ok(())
+}
+
 const READINGS: &[Reading<'static>] = &[
     ALL,
     Reading {
@@ -150,46 +190,6 @@ const READINGS: &[Reading<'static>] = &[
         ..STOPPED
     },
 ];
-
-/// One reader is read to one port, and what comes of it is what the row says.
-fn reads_once<X: Wait + Abort>(
-    rt: &X,
-    alloc: Global,
-    row: &Reading<'_>,
-    given: usize,
-    wanted: usize,
-) -> Tested {
-    let taken = Vec::with_capacity(alloc, ROOM)?;
-    let mut port = Taker::new(taken, wanted, row.room, row.rests);
-    port.reads = row.reads;
-    let manner = Manner {
-        step: given,
-        ..row.manner
-    };
-    let mut reader = Giver::new(row.bytes, manner);
-    reader_had_it(rt, &mut reader, &mut port);
-    assert_eq!(rt;
-        port.taken.as_slice(),
-        front(row.bytes, row.taken),
-        "{}",
-        row.name
-    );
-    assert_eq!(rt; reader.left(), row.left, "{}", row.name);
-    assert!(rt; port.state == row.state, "{}", row.name);
-    Ok(())
-}
-
-/// Each reader of each row is read to each of the row's ports.
-fn reads<X: Wait + Abort>(rt: &X, alloc: Global, rows: &[Reading<'_>]) -> Tested {
-    for row in rows {
-        for given in row.given {
-            for wanted in row.wanted {
-                reads_once(rt, alloc, row, *given, *wanted)?;
-            }
-        }
-    }
-    Ok(())
-}
 
 #[test]
 fn what_was_read_is_handed_on(rt: HostRuntime) -> Tested {

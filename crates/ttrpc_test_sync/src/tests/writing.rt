@@ -49,40 +49,6 @@ const IN_BATCHES: Writing<'static> = Writing {
     ..ALL
 };
 
-const WRITINGS: &[Writing<'static>] = &[
-    ALL,
-    Writing {
-        name: "one byte",
-        bytes: b"A",
-        written: 1,
-        ..ALL
-    },
-    Writing {
-        name: "nothing to lend",
-        bytes: b"",
-        written: 0,
-        asked: 1,
-        ..ALL
-    },
-    Writing {
-        name: "more is asked where nothing is lent",
-        lent: &[4096, 4, 1],
-        taken: &[5],
-        ..IN_BATCHES
-    },
-    Writing {
-        name: "interrupted writes and flushes are tried again",
-        lent: &[9],
-        taken: &[4096, 7, 1],
-        manner: Manner {
-            interrupts: true,
-            interrupts_flushes: true,
-            ..AT_ONCE
-        },
-        ..IN_BATCHES
-    },
-];
-
 /// One writer writes for one port, and what comes of it is what the row says.
 fn writes_once<X: Wait + Abort>(
     rt: &X,
@@ -121,6 +87,40 @@ fn writes<X: Wait + Abort>(rt: &X, alloc: Global, rows: &[Writing<'_>]) -> Teste
     }
     Ok(())
 }
+
+const WRITINGS: &[Writing<'static>] = &[
+    ALL,
+    Writing {
+        name: "one byte",
+        bytes: b"A",
+        written: 1,
+        ..ALL
+    },
+    Writing {
+        name: "nothing to lend",
+        bytes: b"",
+        written: 0,
+        asked: 1,
+        ..ALL
+    },
+    Writing {
+        name: "more is asked where nothing is lent",
+        lent: &[4096, 4, 1],
+        taken: &[5],
+        ..IN_BATCHES
+    },
+    Writing {
+        name: "interrupted writes and flushes are tried again",
+        lent: &[9],
+        taken: &[4096, 7, 1],
+        manner: Manner {
+            interrupts: true,
+            interrupts_flushes: true,
+            ..AT_ONCE
+        },
+        ..IN_BATCHES
+    },
+];
 
 #[test]
 fn what_is_lent_is_written(rt: HostRuntime) -> Tested {
