@@ -14,8 +14,9 @@ use ttrpc_frame::{MESSAGE_HEADER_LENGTH, MESSAGE_LENGTH_MAX, Sink};
 pub const GATHER_LIMIT: usize = MESSAGE_HEADER_LENGTH + MESSAGE_LENGTH_MAX;
 
 /// How many it keeps where each write goes out at once: a longer frame leaves in parts, which the other side reads while
-/// the next is copied.
-pub const PART_LIMIT: usize = 65536;
+/// the next is copied. Beside half of 64 KiB there is room for a header and names, so that a payload of so many bytes leaves
+/// in whole parts, and not with a part of a few bytes behind them.
+pub const PART_LIMIT: usize = 33792;
 
 /// How many bytes' room it has at most behind a flush, so that a connection at rest doesn't hold the room of its longest
 /// frame.

@@ -1,15 +1,15 @@
 //! Where the bytes of a connection come in.
 ghost use Rattle.std.specs.Prelude.{◌<◌, length};
 
-use crate::ReadPort;
 use crate::loops::read_pieces;
+use crate::{PART_LIMIT, ReadPort};
 use std::alloc::{AllocError, Global};
 use std::io::{self, Read};
 use std::sync::{Arc, Wait};
 use ttrpc_transport::PipeConnection;
 
-/// How many bytes of a connection are read at once at most.
-const PIECE: usize = 32768;
+/// How many bytes of a connection are read at once at most: a part of a frame as the other side writes it.
+const PIECE: usize = PART_LIMIT;
 
 /// Reads from a connection.
 #[derive(Drop)]

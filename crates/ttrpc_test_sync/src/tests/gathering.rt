@@ -86,40 +86,53 @@ fn keeps<W>(gather: &Gather<W>, count: usize) -> Tested {
     Ok(())
 }
 
+/// So many calls went through, and so many bytes by them.
+fn went(rt: &impl Abort, through: &Through, calls: usize, bytes: usize) -> Tested {
+    assert_eq!(rt; through.calls.get(), calls);
+    assert_eq!(rt; through.bytes.get(), bytes);
+    Ok(())
+}
+
+/// So many pieces of 4096 bytes are taken.
+fn takes(rt: &impl Abort, gather: &mut Gather<&Through>, pieces: u32) {
+    for _ in 0..pieces {
+        assert!(rt; matches!(gather.write(&[7; 4096]), Ok(4096)));
+    }
+}
+
+/// Behind a flush nothing is kept.
+fn lets_all_out(rt: &impl Abort, gather: &mut Gather<&Through>) -> Tested {
+    assert!(rt; gather.flush().is_ok());
+    keeps(gather, 0)
+}
+
 #[test]
 fn a_frame_of_the_greatest_length_is_kept_whole(rt: HostRuntime) -> Tested {
     let through = Through::none();
     let mut gather = Gather::new(rt.alloc(), &through);
-    for _ in 0..1024 {
-        assert!(rt; matches!(gather.write(&[7; 4096]), Ok(4096)));
-    }
+    takes(&rt, &mut gather, 1024);
     assert!(rt; matches!(gather.write(&[7; 10]), Ok(10)));
     keeps(&gather, 4194314)?;
     assert_eq!(rt; through.calls.get(), 0);
     assert!(rt; matches!(gather.write(b"A"), Ok(1)));
-    assert_eq!(rt; through.calls.get(), 1);
-    assert_eq!(rt; through.bytes.get(), 4194314);
-    assert!(rt; gather.flush().is_ok());
-    assert_eq!(rt; through.calls.get(), 2);
-    assert_eq!(rt; through.bytes.get(), 4194315);
-    keeps(&gather, 0)
+    went(&rt, &through, 1, 4194314)?;
+    lets_all_out(&rt, &mut gather)?;
+    went(&rt, &through, 2, 4194315)
 }
 
-/// With a lower limit the front of a long frame leaves before its end is there.
+/// With a lower limit the front of a long frame leaves before its end is there: eight pages fit into a part of 33,792 bytes,
+/// and what is less than a page behind the last leaves with it.
 #[test]
 fn a_long_frame_leaves_in_parts(rt: HostRuntime) -> Tested {
     let through = Through::none();
     let mut gather = Gather::with_limit(rt.alloc(), &through, PART_LIMIT);
-    for _ in 0..32 {
-        assert!(rt; matches!(gather.write(&[7; 4096]), Ok(4096)));
-    }
-    keeps(&gather, 65536)?;
-    assert_eq!(rt; through.calls.get(), 1);
-    assert_eq!(rt; through.bytes.get(), 65536);
-    assert!(rt; gather.flush().is_ok());
-    assert_eq!(rt; through.calls.get(), 2);
-    assert_eq!(rt; through.bytes.get(), 131072);
-    keeps(&gather, 0)
+    takes(&rt, &mut gather, 16);
+    keeps(&gather, 32768)?;
+    went(&rt, &through, 1, 32768)?;
+    assert!(rt; matches!(gather.write(&[7; 1024]), Ok(1024)));
+    keeps(&gather, 33792)?;
+    lets_all_out(&rt, &mut gather)?;
+    went(&rt, &through, 2, 66560)
 }
 
 /// Such a write is no frame.
@@ -132,8 +145,7 @@ fn more_than_a_frame_goes_through_at_once(rt: HostRuntime) -> Tested {
     assert!(rt; matches!(gather.write(b"A"), Ok(1)));
     keeps(&gather, 1)?;
     assert!(rt; matches!(gather.write(long.as_slice()), Ok(4194315)));
-    assert_eq!(rt; through.calls.get(), 2);
-    assert_eq!(rt; through.bytes.get(), 4194316);
+    went(&rt, &through, 2, 4194316)?;
     keeps(&gather, 0)
 }
 
