@@ -18,6 +18,10 @@ pub const GATHER_LIMIT: usize = MESSAGE_HEADER_LENGTH + MESSAGE_LENGTH_MAX;
 /// in whole parts, and not with a part of a few bytes behind them.
 pub const PART_LIMIT: usize = 33792;
 
+/// How many a thread keeps that writes what it queued itself, where each write goes out at once: a longer loan goes to the
+/// writer as it is, so its bytes are copied once less.
+pub const SHORT_LIMIT: usize = 16384;
+
 /// How many bytes' room it has at most behind a flush, so that a connection at rest doesn't hold the room of its longest
 /// frame.
 pub const ROOM_AT_REST: usize = 65536;

@@ -7,6 +7,7 @@
 pub mod ends;
 mod gather;
 pub mod link;
+mod locking;
 mod loops;
 mod ports;
 mod work;
@@ -14,8 +15,9 @@ mod work;
 pub use ends::{
     BATCH_BYTES, BATCH_LOANS, Batch, Connected, Held, Loan, Next, ReadEnd, Taken, Turn, WriteEnd,
 };
-pub use gather::{GATHER_LIMIT, Gather, PART_LIMIT, ROOM_AT_REST};
+pub use gather::{GATHER_LIMIT, Gather, PART_LIMIT, ROOM_AT_REST, SHORT_LIMIT};
 pub use link::{AfterQueuing, Host, Link, Outlet, Runtime, after_queuing};
+pub use locking::{lock_soon, wait_soon};
 pub use loops::{read_loop, write_loop};
 pub use ports::{PortState, ReadPort, WritePort};
 pub use ttrpc_transport::moment;

@@ -131,9 +131,31 @@ pub fn write_loop<X: Wait, W: Sink, P: WritePort>(rt: &X, writer: &mut W, port: 
     ensures over { (P.state port.new ≡ PortState.Stopped) ⊎ ((k : ErrorKind) × (P.state port.new ≡ PortState.Broke k)) }
 {
     let mut buffer = [0u8; DEFAULT_PAGE_SIZE];
+    write_pieces(rt, writer, port, &mut buffer);
+}
+
+/// The same, with loans of at most this buffer's length.
+pub(crate) fn write_pieces<X: Wait, W: Sink, P: WritePort>(
+    rt: &X,
+    writer: &mut W,
+    port: &mut P,
+    buffer: &mut [u8],
+)
+    // There is room for a loan.
+    requires room { 0 < length buffer.old }
+    // What was reported was written, in order.
+    ensures written { Written (W.contents writer.old) (W.contents writer.new)
+        (reported (P.told port.old)) (reported (P.told port.new)) }
+    // The port is told a break where the writer failed or took nothing.
+    ensures last { IfSome (W.last writer.new) (λ a. EndsWriting a (P.state port.new)) }
+    ensures calls { Makes (W.calls writer.old) (W.calls writer.new) (WritesUntil (P.state port.new)) }
+    // It was one loop, and it is over.
+    ensures once { IsOneMore (P.begun port.old) (P.begun port.new) }
+    ensures over { (P.state port.new ≡ PortState.Stopped) ⊎ ((k : ErrorKind) × (P.state port.new ≡ PortState.Broke k)) }
+{
     port.begin();
     for _ in rt.forever() {
-        let lent = port.lend(&mut buffer);
+        let lent = port.lend(buffer);
         if lent == 0 {
             match writer.flush() {
                 Ok(()) => {

@@ -17,7 +17,9 @@ use ttrpc_client::CallId;
 use ttrpc_connection::deadlines::deadline_of;
 use ttrpc_proto::{Error, Request, Response, Result};
 use ttrpc_secure::{ConnectionData, InboundTransform, OutboundTransform};
-use ttrpc_sync::{AfterQueuing, Connected, Host, Link, after_queuing, moment};
+use ttrpc_sync::{
+    AfterQueuing, Connected, Host, Link, after_queuing, lock_soon, moment, wait_soon,
+};
 
 /// A client's connection, which contracts see as what is known of it. It is closed as the last client of it is dropped.
 pub struct ClientConn<O: OutboundTransform + Drop, I: InboundTransform + Drop> {
@@ -92,7 +94,7 @@ impl<O: OutboundTransform + Drop, I: InboundTransform + Drop> ClientConn<O, I> {
         ensures { IfOk result (λ waiting. waiting.deadline ≡ deadline_of now request.now.timeout_nano) }
     {
         let shared = self.link.shared();
-        let mut guard = shared.held().lock(rt);
+        let mut guard = lock_soon(rt, shared.held());
         let asked = queue_request(&mut guard, rt.alloc(), request, now)?;
         drop(guard);
         // First the reader: a peer that writes before it reads would hold who writes a long frame.
@@ -106,7 +108,7 @@ impl<O: OutboundTransform + Drop, I: InboundTransform + Drop> ClientConn<O, I> {
     /// Reads until this call has ended, if nobody else reads.
     fn read_for<R: Host>(&self, rt: &R, id: CallId) {
         let shared = self.link.shared();
-        let may_read = shared.held().lock(rt).reading.take(id);
+        let may_read = lock_soon(rt, shared.held()).reading.take(id);
         if may_read {
             let mut port = ClientRead::new(rt, rt.alloc(), shared);
             self.link.read_on(rt, &mut port);
@@ -116,7 +118,7 @@ impl<O: OutboundTransform + Drop, I: InboundTransform + Drop> ClientConn<O, I> {
     /// Waits for the outcome of a call. It tells the core the time whenever it wakes.
     fn wait<R: Host>(&self, rt: &R, waiting: Waiting) -> Result<Response> {
         let shared = self.link.shared();
-        let mut guard = shared.held().lock(rt);
+        let mut guard = lock_soon(rt, shared.held());
         for _ in rt.forever() {
             if let Some(outcome) = outcome_of(&mut guard, rt.alloc(), waiting.id) {
                 return outcome;
@@ -140,7 +142,7 @@ impl<O: OutboundTransform + Drop, I: InboundTransform + Drop> ClientConn<O, I> {
     ) -> MutexGuard<'a, ClientHeld<O, I>> {
         let caller = self.link.shared().caller(waiting.id);
         match waiting.deadline {
-            None => caller.wait(rt, guard),
+            None => wait_soon(rt, caller, guard),
             Some(deadline) => {
                 let now = u128::from(moment(rt).unwrap_or(u64::MAX));
                 let left = u64::try_from(deadline.saturating_sub(now)).unwrap_or(u64::MAX);

@@ -1,6 +1,6 @@
 -- What the calls of a server's ports do to its core, under the lock.
 -- Source: this project's.
-use Rattle.std.specs.Prelude.{◌≡◌, ◌⊎◌, ◌-◌, ℕ, List, filter, length, take, drop, min, is_some, if◌then◌else◌, Bool, true, false, nat_eq, nat_lt, Ok, Err, Result}
+use Rattle.std.specs.Prelude.{◌≡◌, ◌⊎◌, ◌-◌, ℕ, Option, Some, None, List, filter, length, take, drop, min, is_some, if◌then◌else◌, Bool, true, false, nat_eq, nat_lt, Ok, Err, Result}
 use Rattle.ttrpc_frame.specs.Queue.{after_report, open_part, with_lent}
 use Rattle.ttrpc_proto.specs.declared.error.Error.{Error}
 use Rattle.ttrpc_secure.specs.declared.transform.InboundTransform.{Ghosts as InboundTransform}
@@ -10,7 +10,9 @@ use Rattle.ttrpc_server.specs.State.{waits}
 use Rattle.ttrpc_server.specs.Types.{Ends, TakesOrDrains}
 use Rattle.ttrpc_server.specs.declared.server.ServerCore.{ServerCore}
 use Rattle.ttrpc_sync.specs.declared.ends.turn.Turn.{Turn}
+use Rattle.ttrpc_sync_connection.specs.declared.ports.relay.Relay.{Relay}
 use Rattle.ttrpc_sync_connection.specs.declared.ports.server.Woken.{Woken}
+use Rattle.ttrpc_sync_connection.specs.Relays.{has_turn, relay_begun}
 
 -- ---- jobs
 
@@ -87,15 +89,27 @@ wakes_writer turn is_wanted = if is_wanted then (if turn.is_taken then false els
 abbrev pub turn_waking : Turn → (is_wanted : Bool) → Turn
 turn_waking turn is_wanted = if is_wanted then record turn { sleeps = if turn.is_taken then turn.sleeps else false } else turn
 
--- how many jobs the reader of a piece handles itself: one, where one waits and another thread looks for what comes next
-abbrev pub kept_of : {O I : Type 0} → ServerCore O I → (lookers : ℕ) → ℕ
-kept_of core lookers = min (length (filter waits core.state.jobs.list)) (min lookers 1)
+-- whether the reader of a piece handles its jobs itself: some wait, and the other reader waits for the turn
+abbrev pub keeps_jobs : {O I : Type 0} → ServerCore O I → Relay → Bool
+keeps_jobs core relay = if nat_lt 0 (length (filter waits core.state.jobs.list)) then relay.other_waits else false
 
--- whether a worker is woken, of so many that sleep, where so many jobs have their thread: another job waits, and no worker
--- is on its way
-abbrev pub calls_worker : {O I : Type 0} → ServerCore O I → (kept sleeping coming : ℕ) → Bool
-calls_worker core kept sleeping coming =
-    if nat_lt kept (length (filter waits core.state.jobs.list)) then (if nat_lt 0 sleeping then nat_eq coming 0 else false) else false
+-- the turn to read then: who handles jobs has begun a round
+abbrev pub relay_behind : (keeps : Bool) → Relay → Relay
+relay_behind keeps relay = if keeps then relay_begun relay else relay
+
+-- whether a worker is woken, of so many that sleep: a job waits, and no worker is on its way
+abbrev pub calls_worker : {O I : Type 0} → ServerCore O I → (sleeping coming : ℕ) → Bool
+calls_worker core sleeping coming =
+    if nat_lt 0 (length (filter waits core.state.jobs.list)) then (if nat_lt 0 sleeping then nat_eq coming 0 else false) else false
+
+-- whether it is a reader that has the turn
+abbrev pub is_turn_of : Relay → Option ℕ → Bool
+is_turn_of relay None = false
+is_turn_of relay (Some reader) = has_turn relay reader
+
+-- whether a worker is woken for the next job, where this reader took one, or a worker did
+abbrev pub calls_for_next : {O I : Type 0} → ServerCore O I → Relay → (reader : Option ℕ) → (sleeping coming : ℕ) → Bool
+calls_for_next core relay reader sleeping coming = if is_turn_of relay reader then false else calls_worker core sleeping coming
 
 -- how many workers sleep then
 abbrev pub asleep : (calls : Bool) → ℕ → ℕ
@@ -105,11 +119,13 @@ asleep calls sleeping = if calls then sleeping - 1 else sleeping
 abbrev pub on_their_way : (calls : Bool) → ℕ → ℕ
 on_their_way calls coming = if calls then 1 else coming
 
--- who is woken for a piece: a worker where that is so, and the writer thread where bytes wait
-abbrev pub woken_for : {O I : Type 0} → ServerCore O I → (kept sleeping coming : ℕ) → Turn → Woken
-woken_for core kept sleeping coming turn = record {
-  worker = calls_worker core kept sleeping coming;
+-- Who is woken for a piece: a worker for a job that its reader leaves, the writer thread where bytes wait, and the other
+-- reader, where it sleeps and is to look how long jobs take.
+abbrev pub woken_for : {O I : Type 0} → ServerCore O I → (keeps : Bool) → (sleeping coming : ℕ) → Turn → Relay → Woken
+woken_for core keeps sleeping coming turn relay = record {
+  worker = if keeps then false else calls_worker core sleeping coming;
   writer = wakes_writer turn (has_bytes core);
+  reader = if keeps then relay.other_sleeps else false;
 }
 
 -- whether the thread that queued an answer writes it itself: nothing waited to be written before, no other job is under

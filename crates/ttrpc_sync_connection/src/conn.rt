@@ -12,7 +12,7 @@ use std::sync::Arc;
 use std::sync::atomic::{AtomicBool, Ordering};
 use ttrpc_proto::{Response, Result};
 use ttrpc_secure::{ConnectionData, InboundTransform, OutboundTransform};
-use ttrpc_sync::{AfterQueuing, Connected, Host, Link, after_queuing};
+use ttrpc_sync::{AfterQueuing, Connected, Host, Link, after_queuing, lock_soon};
 
 /// A server's connection: its core under a lock, what is known of it, and the threads that serve it.
 #[derive(Drop)]
@@ -88,7 +88,9 @@ impl<R: Host, O: OutboundTransform + Drop, I: InboundTransform + Drop> Conn<R, O
 
     /// Ends it, if it has failed.
     pub(crate) fn end_if_failed(&self) {
-        let has_failed = self.link.shared().held().lock(&self.rt).core.has_failed();
+        let has_failed = lock_soon(&self.rt, self.link.shared().held())
+            .core
+            .has_failed();
         if has_failed {
             self.end();
         }
@@ -96,7 +98,7 @@ impl<R: Host, O: OutboundTransform + Drop, I: InboundTransform + Drop> Conn<R, O
 
     /// Queues a response under a stream's id, and sees to it that it is written.
     pub(crate) fn respond(&self, stream_id: u32, response: &Response) -> Result<()> {
-        let mut guard = self.link.shared().held().lock(&self.rt);
+        let mut guard = lock_soon(&self.rt, self.link.shared().held());
         let next = responded(&mut guard, self.rt.alloc(), stream_id, response)?;
         drop(guard);
         self.link.go_on(&self.rt, next);

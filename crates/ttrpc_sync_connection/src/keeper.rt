@@ -15,8 +15,8 @@ use ttrpc_proto::{Error, Result};
 use ttrpc_secure::{InboundTransform, OutboundTransform, SendInbound, SendOutbound};
 use ttrpc_sync::{Connected, Host, Runtime};
 
-/// How many threads read a connection: one reads, and another looks for what comes next.
-const READERS: usize = 2;
+/// How many threads read a connection in turn.
+const READERS: u32 = 2;
 
 /// Serves the connection until it ends: starts the threads that read it and write to it and `workers` workers, and starts
 /// more when too few wait. Then it waits until all of them have ended.
@@ -90,8 +90,8 @@ where
     H: SharedHandler<R, O, I>,
     W: SharedWatch,
 {
-    for _ in 0..READERS {
-        start_reader(conn, serving)?;
+    for reader in 0..READERS {
+        start_reader(conn, serving, reader)?;
     }
     start_writer(conn)?;
     start_workers(conn, serving, workers)
@@ -117,6 +117,7 @@ where
 fn start_reader<R, O, I, H, W>(
     conn: &Arc<Conn<R, O, I>, Global>,
     serving: &Serving<H, W>,
+    reader: u32,
 ) -> Result<()>
 where
     R: Runtime,
@@ -131,7 +132,7 @@ where
     started(
         &**conn,
         Builder::new().spawn(conn.rt(), move || {
-            read_on(&seat.conn, &serving);
+            read_on(&seat.conn, &serving, reader);
             drop(serving);
             seat.leave();
         }),
@@ -204,7 +205,7 @@ where
     )
 }
 
-fn read_on<R, O, I, H, W>(conn: &Arc<Conn<R, O, I>, Global>, serving: &Serving<H, W>)
+fn read_on<R, O, I, H, W>(conn: &Arc<Conn<R, O, I>, Global>, serving: &Serving<H, W>, reader: u32)
 where
     R: Host,
     O: OutboundTransform + Drop,
@@ -212,7 +213,7 @@ where
     H: MethodHandler<R, O, I> + Drop,
     W: Watch + Drop,
 {
-    read(conn, serving);
+    read(conn, serving, reader);
     conn.cancel();
     conn.end_if_failed();
 }

@@ -17,7 +17,7 @@ pub use conn::Conn;
 pub use context::{MethodHandler, TtrpcContext, response_error_to_channel, send_response};
 pub use crew::Crew;
 pub use keeper::keep;
-pub use ports::{ServerHeld, ServerJobs, ServerRead, ServerReads, ServerShared, ServerWrite};
+pub use ports::{AtTurn, Relay, ServerHeld, ServerJobs, ServerRead, ServerShared, ServerWrite};
 pub use serving::Serving;
 pub use shared::SharedHandler;
 pub use watch::{NoWatch, SharedWatch, Watch};

@@ -12,7 +12,7 @@ use ttrpc_proto::Result;
 use ttrpc_secure::{InboundTransform, OutboundTransform};
 use ttrpc_server::Job;
 use ttrpc_server::responses::path_response;
-use ttrpc_sync::{Connected, Gate, Handler, Host, work_loop};
+use ttrpc_sync::{Connected, Gate, Handler, Host, lock_soon, work_loop};
 
 /// Hands each request to the handler of its method.
 #[derive(Drop)]
@@ -90,11 +90,11 @@ where
         Dispatch { conn, serving }
     }
 
-    /// Handles the jobs that wait, in a thread that is no worker. True: the connection has failed.
-    pub fn handle_waiting(&self) -> bool {
+    /// Handles the jobs that wait, in the thread of this reader. True: the connection has failed.
+    pub fn handle_waiting(&self, reader: u32) -> bool {
         let (rt, shared) = (self.conn.rt(), self.conn.link().shared());
         for _ in rt.forever() {
-            let Some(job) = waiting_job(rt, shared) else {
+            let Some(job) = waiting_job(rt, shared, Some(reader)) else {
                 return false;
             };
             let id = job.id;
@@ -121,7 +121,7 @@ impl<R: Host, O: OutboundTransform + Drop, I: InboundTransform + Drop> Gate
 
     fn enter(&mut self) -> bool {
         let shared = self.conn.link().shared();
-        let entered = shared.held().lock(self.conn.rt()).enter(self.is_new);
+        let entered = lock_soon(self.conn.rt(), shared.held()).enter(self.is_new);
         self.is_new = false;
         self.is_shut = !entered;
         entered
@@ -129,7 +129,7 @@ impl<R: Host, O: OutboundTransform + Drop, I: InboundTransform + Drop> Gate
 
     fn leave(&mut self) {
         let shared = self.conn.link().shared();
-        let is_short = shared.held().lock(self.conn.rt()).leave();
+        let is_short = lock_soon(self.conn.rt(), shared.held()).leave();
         if is_short {
             self.conn.crew().report_shortage(self.conn.rt());
         }

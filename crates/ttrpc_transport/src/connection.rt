@@ -49,14 +49,6 @@ impl PipeConnection {
         self.stream.receive(buf).map_err(fault)
     }
 
-    /// Waits until there are bytes to be read, or the other side sends no more, and takes none of them. What cuts the wait
-    /// short is a fault of the system, too: `Nix`.
-    pub fn look(&self) -> Result<()>
-        ensures { IfErr result IsFault }
-    {
-        self.stream.look().map_err(fault)
-    }
-
     /// Writes some bytes of the buffer, of its front. A write that was interrupted or would block is tried again. A fault
     /// of the system is `Nix`.
     pub fn write(&self, buf: &[u8]) -> Result<usize>

@@ -8,7 +8,6 @@ ghost use Rattle.ttrpc_transport.specs.Sockets.{IsFault, domain_of};
 
 use std::io::{self, ErrorKind, Read, Write};
 use std::net::{Shutdown, TcpStream};
-use std::os::fd::OwnedFd;
 use std::os::unix::net::UnixStream;
 use ttrpc_frame::{Passing, read_again, write_again};
 use ttrpc_proto::{Error, Result};
@@ -56,19 +55,6 @@ impl Stream {
                 read_again(&mut stream, buf, PASSING)
             }
         }
-    }
-
-    // Waits until there are bytes to be read, or no more come, and takes none. std looks at streams of TCP alone, but the
-    // system at any: so one at a path is handed to it as one of TCP.
-    pub(crate) fn look(&self) -> io::Result<()> {
-        let mut first = [0u8; 1];
-        match self {
-            Stream::Tcp(stream) => stream.peek(&mut first)?,
-            Stream::Unix(stream) => TcpStream::from(OwnedFd::from(stream.try_clone()?)).peek(
-                &mut first,
-            )?,
-        };
-        Ok(())
     }
 
     // Writes some bytes. A write that was interrupted or would block is tried again.

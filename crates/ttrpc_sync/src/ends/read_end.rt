@@ -3,7 +3,7 @@ ghost use Rattle.std.specs.Prelude.{◌≡◌, length, true, IfNone, IfSome, Mat
 ghost use Rattle.ttrpc_sync.specs.declared.ports.PortState.{PortState};
 
 use crate::ends::connected::{Connected, Held, Taken};
-use crate::{PortState, ReadPort};
+use crate::{PortState, ReadPort, lock_soon};
 use std::alloc::Global;
 use std::io;
 use std::sync::Wait;
@@ -65,7 +65,7 @@ impl<X: Wait, S: Connected> ReadPort for ReadEnd<'_, X, S> {
         ensures whole { IfSome result (λ n. (n ≡ length piece.now) × (self.new.state ≡ PortState.Open)) }
         ensures failed { IfNone result (self.new.state ≡ PortState.Stopped) }
     {
-        let mut guard = self.shared.held().lock(self.rt);
+        let mut guard = lock_soon(self.rt, self.shared.held());
         let taken = guard.take(self.alloc, piece);
         drop(guard);
         match taken {
@@ -88,14 +88,14 @@ impl<X: Wait, S: Connected> ReadPort for ReadEnd<'_, X, S> {
     }
 
     fn ended(&mut self) {
-        self.shared.held().lock(self.rt).ended();
+        lock_soon(self.rt, self.shared.held()).ended();
         self.shared.wake_all();
         self.state = PortState::Ended;
     }
 
     fn broke(&mut self, error: io::Error) {
         let kind = error.kind();
-        self.shared.held().lock(self.rt).broke(kind);
+        lock_soon(self.rt, self.shared.held()).broke(kind);
         self.shared.wake_all();
         self.state = PortState::Broke(kind);
     }

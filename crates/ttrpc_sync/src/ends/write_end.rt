@@ -6,7 +6,7 @@ ghost use Rattle.ttrpc_sync.specs.declared.ports.PortState.{PortState};
 use crate::ends::batch::{BATCH_LOANS, Batch};
 use crate::ends::connected::{Connected, Held, Loan};
 use crate::ends::turn::Next;
-use crate::{PortState, WritePort};
+use crate::{PortState, WritePort, lock_soon, wait_soon};
 use std::io;
 use std::sync::Wait;
 
@@ -73,7 +73,7 @@ impl<X: Wait, S: Connected> WriteEnd<'_, X, S> {
     fn give_back(&mut self)
         ensures { self.new ≡ record self.old { written = 0 } }
     {
-        let mut guard = self.shared.held().lock(self.rt);
+        let mut guard = lock_soon(self.rt, self.shared.held());
         guard.wrote(self.written);
         let wakes = guard.give_back();
         drop(guard);
@@ -87,7 +87,7 @@ impl<X: Wait, S: Connected> WriteEnd<'_, X, S> {
     fn wait_for_bytes(&mut self) -> bool
         ensures { self.new ≡ record self.old { written = 0 } }
     {
-        let mut guard = self.shared.held().lock(self.rt);
+        let mut guard = lock_soon(self.rt, self.shared.held());
         let mut has_turn = self.has_turn;
         // Without the turn, what is lent is another's.
         if has_turn {
@@ -100,7 +100,7 @@ impl<X: Wait, S: Connected> WriteEnd<'_, X, S> {
                 Next::Leaves => return false,
                 Next::Sleeps => {
                     has_turn = false;
-                    guard = self.shared.to_write().wait(self.rt, guard);
+                    guard = wait_soon(self.rt, self.shared.to_write(), guard);
                 }
             }
         }
@@ -122,7 +122,7 @@ impl<X: Wait, S: Connected> WritePort for WriteEnd<'_, X, S> {
             self.loan = NOTHING;
             return 0;
         }
-        let mut guard = self.shared.held().lock(self.rt);
+        let mut guard = lock_soon(self.rt, self.shared.held());
         guard.wrote(self.written);
         let loan = guard.lend(buffer);
         drop(guard);
@@ -147,7 +147,7 @@ impl<X: Wait, S: Connected> WritePort for WriteEnd<'_, X, S> {
 
     fn broke(&mut self, error: io::Error) {
         let kind = error.kind();
-        self.shared.held().lock(self.rt).broke(kind);
+        lock_soon(self.rt, self.shared.held()).broke(kind);
         self.shared.wake_all();
         self.state = PortState::Broke(kind);
     }

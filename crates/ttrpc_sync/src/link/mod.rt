@@ -11,10 +11,10 @@ pub use self::queuing::{AfterQueuing, after_queuing};
 pub use self::runtime::{Host, Runtime};
 use crate::ends::{Connected, WriteEnd};
 use crate::link::inlet::{Inlet, Intake};
-use crate::{GATHER_LIMIT, Gather, PART_LIMIT, ReadPort, write_loop};
+use crate::link::outlet::Outflow;
+use crate::{GATHER_LIMIT, Gather, PART_LIMIT, ReadPort, SHORT_LIMIT, write_loop};
 use std::alloc::{AllocError, Global};
 use std::sync::{Arc, Mutex, Wait};
-use ttrpc_proto::Error;
 use ttrpc_transport::PipeConnection;
 
 /// A connection over a socket, with what its threads share. Each frame goes out by one write, or a batch of short ones does,
@@ -23,17 +23,16 @@ use ttrpc_transport::PipeConnection;
 pub struct Link<S: Connected> {
     shared: S,
     stream: Arc<PipeConnection, Global>,
-    // The bytes that are about to be written. Only who has the turn to write locks it.
-    gather: Mutex<Gather<Outlet>>,
-    // Where bytes are read to. Of a client's threads only who has the turn to read locks it; a server's readers have no other
-    // turn than this lock.
+    // Where threads write what they queued. Only who has the turn to write locks it.
+    outflow: Mutex<Outflow>,
+    // Where bytes are read to. Only who has the turn to read locks it.
     intake: Mutex<Intake>,
 }
 
 // How many bytes are kept before they leave: a whole frame, unless each write goes out at once.
-fn kept_of(stream: &PipeConnection) -> usize {
+fn kept_of(stream: &PipeConnection, at_once: usize) -> usize {
     match stream.nodelay() {
-        Ok(true) => PART_LIMIT,
+        Ok(true) => at_once,
         _ => GATHER_LIMIT,
     }
 }
@@ -47,11 +46,11 @@ impl<S: Connected> Link<S> {
     ) -> Result<Link<S>, AllocError> {
         let outlet = Outlet::new(Arc::try_clone(&stream)?);
         let intake = Intake::new(alloc, Inlet::new(Arc::try_clone(&stream)?))?;
-        let gather = Gather::with_limit(alloc, outlet, kept_of(&stream));
+        let outflow = Outflow::new(alloc, outlet, kept_of(&stream, SHORT_LIMIT))?;
         Ok(Link {
             shared,
             stream,
-            gather: Mutex::new(gather),
+            outflow: Mutex::new(outflow),
             intake: Mutex::new(intake),
         })
     }
@@ -71,24 +70,10 @@ impl<S: Connected> Link<S> {
         self.intake.lock(rt).read_on(rt, port);
     }
 
-    /// The same, unless another thread reads. False: one does, and nothing was done.
-    pub fn try_read_on<X: Wait, P: ReadPort>(&self, rt: &X, port: &mut P) -> bool {
-        let Some(mut intake) = self.intake.try_lock() else {
-            return false;
-        };
-        intake.read_on(rt, port);
-        true
-    }
-
-    /// Waits until something comes that isn't read yet, or no more comes. An error is the system's.
-    pub fn look(&self) -> Result<(), Error> {
-        self.stream.look()
-    }
-
     /// Writes what is queued, each time when there is something and nobody else writes, until the connection has failed.
     pub fn write<X: Wait>(&self, rt: &X, alloc: Global) -> Result<(), AllocError> {
         let outlet = Outlet::new(Arc::try_clone(&self.stream)?);
-        let mut gather = Gather::with_limit(alloc, outlet, kept_of(&self.stream));
+        let mut gather = Gather::with_limit(alloc, outlet, kept_of(&self.stream, PART_LIMIT));
         let mut port = WriteEnd::staying(rt, &self.shared);
         write_loop(rt, &mut gather, &mut port);
         Ok(())
@@ -99,8 +84,7 @@ impl<S: Connected> Link<S> {
         match queued {
             AfterQueuing::Write => {
                 let mut port = WriteEnd::leaving(rt, &self.shared);
-                let mut gather = self.gather.lock(rt);
-                write_loop(rt, &mut *gather, &mut port);
+                self.outflow.lock(rt).write_on(rt, &mut port);
             }
             AfterQueuing::Wake => self.shared.to_write().notify_one(),
             AfterQueuing::Leave => {}

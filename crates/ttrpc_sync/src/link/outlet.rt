@@ -1,7 +1,11 @@
 //! Where the bytes of a connection go out.
-use std::alloc::Global;
+ghost use Rattle.std.specs.Prelude.{◌<◌, length};
+
+use crate::loops::write_pieces;
+use crate::{Gather, PART_LIMIT, WritePort};
+use std::alloc::{AllocError, Global};
 use std::io::{self, Write};
-use std::sync::Arc;
+use std::sync::{Arc, Wait};
 use ttrpc_transport::PipeConnection;
 
 /// Writes to a connection, and closes it where a write fails, so that the thread that reads it ends, too.
@@ -29,5 +33,28 @@ impl Write for Outlet {
 
     fn flush(&mut self) -> io::Result<()> {
         Ok(())
+    }
+}
+
+/// A gathering writer in front of an outlet, and the room for a loan of what is written.
+#[derive(Drop)]
+pub struct Outflow {
+    gather: Gather<Outlet>,
+    loan: Vec<u8>,
+    ghost room: { 0 < length loan.items },
+}
+
+impl Outflow {
+    /// The outflow to this outlet, which keeps so many bytes at most.
+    pub fn new(alloc: Global, outlet: Outlet, limit: usize) -> Result<Outflow, AllocError> {
+        Ok(Outflow {
+            gather: Gather::with_limit(alloc, outlet, limit),
+            loan: Vec::from_elem(alloc, 0u8, PART_LIMIT)?,
+        })
+    }
+
+    /// Writes what the port lends, as long as it has the turn.
+    pub fn write_on<X: Wait, P: WritePort>(&mut self, rt: &X, port: &mut P) {
+        write_pieces(rt, &mut self.gather, port, self.loan.as_mut_slice());
     }
 }

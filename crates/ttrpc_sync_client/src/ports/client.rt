@@ -18,7 +18,9 @@ use std::sync::{Condvar, Mutex, Wait};
 use ttrpc_client::{CallId, ClientCore};
 use ttrpc_proto::{Error, Request, Response, Result};
 use ttrpc_secure::{InboundTransform, OutboundTransform};
-use ttrpc_sync::{Connected, Held, Loan, Next, ReadEnd, Taken, Turn, WriteEnd};
+use ttrpc_sync::{
+    Connected, Held, Loan, Next, ReadEnd, Taken, Turn, WriteEnd, lock_soon, wait_soon,
+};
 
 /// How many places there are at which callers wait. A caller waits at that of its id.
 const PLACES: usize = 16;
@@ -291,7 +293,7 @@ impl<O: OutboundTransform + Drop, I: InboundTransform + Drop> ClientShared<O, I>
 
     /// Waits until the reader thread has the turn. False: the connection has failed.
     pub fn wait_to_read<X: Wait>(&self, rt: &X) -> bool {
-        let mut guard = self.held.lock(rt);
+        let mut guard = lock_soon(rt, &self.held);
         for _ in rt.forever() {
             if guard.core.has_failed() {
                 return false;
@@ -299,7 +301,7 @@ impl<O: OutboundTransform + Drop, I: InboundTransform + Drop> ClientShared<O, I>
             if guard.reading.thread_takes() {
                 return true;
             }
-            guard = self.to_read.wait(rt, guard);
+            guard = wait_soon(rt, &self.to_read, guard);
         }
         unreachable!()
     }

@@ -8,7 +8,7 @@ use std::sync::Wait;
 use ttrpc_proto::Error;
 use ttrpc_secure::{InboundTransform, OutboundTransform};
 use ttrpc_server::{Job, JobId};
-use ttrpc_sync::{Connected, Handler, JobPort, PortState};
+use ttrpc_sync::{Connected, Handler, JobPort, PortState, lock_soon, wait_soon};
 
 /// The port of one of a server's workers.
 #[derive(Drop)]
@@ -82,7 +82,7 @@ pub(crate) fn report<X: Wait, O: OutboundTransform + Drop, I: InboundTransform +
     id: JobId,
     outcome: Result<(), Error>,
 ) -> bool {
-    let mut guard = shared.held().lock(rt);
+    let mut guard = lock_soon(rt, shared.held());
     let wakes = guard.done(alloc, id, outcome);
     let has_failed = guard.core.has_failed();
     drop(guard);
@@ -94,14 +94,16 @@ pub(crate) fn report<X: Wait, O: OutboundTransform + Drop, I: InboundTransform +
     has_failed
 }
 
-/// The job that waits longest, if there is one. Where another waits behind it, a worker is woken.
+/// The job that waits longest, if there is one, for this reader or a worker. Where another waits behind it, a worker is woken,
+/// unless the reader takes that, too, since it has the turn.
 pub(crate) fn waiting_job<X: Wait, O: OutboundTransform + Drop, I: InboundTransform + Drop>(
     rt: &X,
     shared: &ServerShared<O, I>,
+    reader: Option<u32>,
 ) -> Option<Job> {
-    let mut guard = shared.held().lock(rt);
+    let mut guard = lock_soon(rt, shared.held());
     let job = guard.next_job()?;
-    let calls = guard.calls_worker(0);
+    let calls = guard.calls_for_next(reader);
     drop(guard);
     if calls {
         shared.to_work().notify_one();
@@ -115,7 +117,7 @@ fn wait_for_job<X: Wait, O: OutboundTransform + Drop, I: InboundTransform + Drop
     shared: &ServerShared<O, I>,
 ) -> Option<Job> {
     for _ in rt.forever() {
-        if let Some(job) = waiting_job(rt, shared) {
+        if let Some(job) = waiting_job(rt, shared, None) {
             return Some(job);
         }
         if !sleep_for_job(rt, shared) {
@@ -130,13 +132,13 @@ fn sleep_for_job<X: Wait, O: OutboundTransform + Drop, I: InboundTransform + Dro
     rt: &X,
     shared: &ServerShared<O, I>,
 ) -> bool {
-    let mut guard = shared.held().lock(rt);
+    let mut guard = lock_soon(rt, shared.held());
     if guard.core.has_failed() {
         return false;
     }
     if guard.core.jobs_waiting() == 0 {
         guard.sleep();
-        guard = shared.to_work().wait(rt, guard);
+        guard = wait_soon(rt, shared.to_work(), guard);
         guard.comes();
     }
     true

@@ -1,10 +1,10 @@
 //! The ports of a server's connection: what its threads share, how its readers take turns, and where jobs are taken.
 
 mod jobs;
-mod reads;
+mod relay;
 mod server;
 
 pub use self::jobs::ServerJobs;
 pub(crate) use self::jobs::{report, waiting_job};
-pub use self::reads::ServerReads;
+pub use self::relay::{AtTurn, Relay};
 pub use self::server::{ServerHeld, ServerRead, ServerShared, ServerWrite};

@@ -4,20 +4,32 @@ ghost use Rattle.ttrpc_server.specs.Types.{Ends, Failure as AFailure, failing};
 ghost use Rattle.ttrpc_proto.specs.declared.error.Error.{Error as AnError};
 ghost use Rattle.ttrpc_server.specs.Protocol.{Hands};
 ghost use Rattle.ttrpc_server.specs.State.{NoneWaits};
-ghost use Rattle.ttrpc_sync_connection.specs.Held.{IsDropped, IsFed, IsFinished, IsQuiet, LendsFrame, MayTellEnd, asleep, calls_worker, has_bytes, is_alive, kept_of, on_their_way, reported_to, turn_waking, wakes_writer, woken_for};
+ghost use Rattle.ttrpc_sync_connection.specs.Held.{IsDropped, IsFed, IsFinished, IsQuiet, LendsFrame, MayTellEnd, asleep, calls_for_next, calls_worker, has_bytes, is_alive, keeps_jobs, on_their_way, relay_behind, reported_to, turn_waking, wakes_writer, woken_for};
+ghost use Rattle.ttrpc_sync_connection.specs.Relays.{new_relay};
 ghost use Rattle.ttrpc_pool.specs.Pool.{with_waiting};
 ghost use Rattle.ttrpc_sync.specs.Turns.{given_back, next_of, turn_after, wakes_behind};
 
+use crate::ports::relay::{AtTurn, Relay};
 use std::alloc::Global;
 use std::io::ErrorKind;
 use std::sync::{Condvar, Mutex, Wait};
+use std::time::{Clock, Duration};
 use ttrpc_pool::PoolCore;
 use ttrpc_proto::Error;
 use ttrpc_secure::{InboundTransform, OutboundTransform};
 use ttrpc_server::{Job, JobId, ServerCore, jobs_on};
-use ttrpc_sync::{Connected, Held, Loan, Next, ReadEnd, Taken, Turn, WriteEnd};
+use ttrpc_sync::{
+    Connected, Held, Loan, Next, ReadEnd, Taken, Turn, WriteEnd, lock_soon, wait_soon,
+};
 
-/// The port of a server's reader. It wakes a worker and the writer.
+/// For how many microseconds a reader that waits for the turn lets the other handle jobs, once it has been woken. Twice as
+/// many pass before its next look wherever the other has come back and read on, up to `LONGEST_PAUSE`.
+const PAUSE: u64 = 100;
+
+/// How many microseconds pass at most between two looks. So a job waits behind another's handler for at most twice as long.
+const LONGEST_PAUSE: u64 = 1600;
+
+/// The port of a server's reader. It wakes a worker, the writer and the other reader.
 pub type ServerRead<'a, X, O, I> = ReadEnd<'a, X, ServerShared<O, I>>;
 
 /// The port of one of a server's writers.
@@ -30,6 +42,8 @@ pub struct Woken {
     pub worker: bool,
     /// The writer thread.
     pub writer: bool,
+    /// The reader that waits for the turn.
+    pub reader: bool,
 }
 
 /// What stands under the lock of a server's connection. At most as many workers wait as its pool lets in.
@@ -44,8 +58,8 @@ pub struct ServerHeld<O, I> {
     sleeping: u64,
     // Workers that were woken, and haven't looked for a job since.
     coming: u64,
-    /// Threads that look for what comes next, and read it where nobody else does.
-    pub lookers: u64,
+    /// The turn to read.
+    pub relay: Relay,
     /// Whether the reader is at its end. The core isn't told before all jobs have ended and all answers have left.
     pub has_ended: bool,
 }
@@ -59,7 +73,7 @@ impl<O: OutboundTransform + Drop, I: InboundTransform + Drop> ServerHeld<O, I> {
         ensures starting { result.starting ≡ 0 }
         ensures sleeping { result.sleeping ≡ 0 }
         ensures coming { result.coming ≡ 0 }
-        ensures lookers { result.lookers ≡ 0 }
+        ensures relay { result.relay ≡ new_relay }
         ensures has_ended { result.has_ended ≡ false }
     {
         ServerHeld {
@@ -69,7 +83,7 @@ impl<O: OutboundTransform + Drop, I: InboundTransform + Drop> ServerHeld<O, I> {
             starting: 0,
             sleeping: 0,
             coming: 0,
-            lookers: 0,
+            relay: Relay::new(),
             has_ended: false,
         }
     }
@@ -86,11 +100,11 @@ impl<O: OutboundTransform + Drop, I: InboundTransform + Drop> ServerHeld<O, I> {
 
     /// Whether a worker is to be woken for a job that still waits, where none is on its way. It wakes the next one, so no job
     /// waits behind another's handler while a worker sleeps, and fast handlers leave nothing to most of them.
-    pub(crate) fn calls_worker(&mut self, kept: u64) -> bool
-        ensures result { result ≡ calls_worker self.old.core kept self.old.sleeping self.old.coming }
+    pub(crate) fn calls_worker(&mut self) -> bool
+        ensures result { result ≡ calls_worker self.old.core self.old.sleeping self.old.coming }
         ensures rest { self.new ≡ record self.old { sleeping = asleep result self.old.sleeping; coming = on_their_way result self.old.coming } }
     {
-        let calls = self.core.jobs_waiting() > kept && self.sleeping > 0 && self.coming == 0;
+        let calls = self.core.jobs_waiting() > 0 && self.sleeping > 0 && self.coming == 0;
         if calls {
             self.sleeping -= 1;
             self.coming = 1;
@@ -204,39 +218,43 @@ impl<O: OutboundTransform + Drop, I: InboundTransform + Drop> ServerHeld<O, I> {
         self.pool.leave()
     }
 
-    /// A thread begins to look for what comes next.
-    pub fn looks(&mut self)
-        ensures { self.new ≡ record self.old { lookers = min (self.old.lookers + 1) (2 ^ 64 - 1) } }
+    /// Whether a worker is to be woken for the next job, once this reader or a worker has taken one: not where the reader has
+    /// the turn, since it takes the next one itself while the other looks.
+    pub(crate) fn calls_for_next(&mut self, reader: Option<u32>) -> bool
+        ensures result { result ≡ calls_for_next self.old.core self.old.relay reader self.old.sleeping self.old.coming }
+        ensures rest { self.new ≡ record self.old { sleeping = asleep result self.old.sleeping; coming = on_their_way result self.old.coming } }
     {
-        self.lookers = self.lookers.saturating_add(1);
+        match reader {
+            Some(reader) if self.relay.has_turn(reader) => false,
+            _ => self.calls_worker(),
+        }
     }
 
-    /// One that looked reads.
-    pub fn looks_no_more(&mut self)
-        ensures { self.new ≡ record self.old { lookers = self.old.lookers - 1 } }
+    /// Whether the reader of a piece handles its jobs itself.
+    fn keeps_jobs(&self) -> bool
+        ensures { result ≡ keeps_jobs self.now.core self.now.relay }
     {
-        self.lookers = self.lookers.saturating_sub(1);
+        self.core.jobs_waiting() > 0 && self.relay.other_waits
     }
 
-    /// How many jobs the reader of a piece handles itself: one or none.
-    fn kept(&self) -> u64
-        ensures { result ≡ kept_of self.now.core self.now.lookers }
-    {
-        self.core.jobs_waiting().min(self.lookers.min(1))
-    }
-
-    /// The threads to wake where the reader handles so many jobs itself.
-    fn woken(&mut self, kept: u64) -> Woken
-        ensures woken { result ≡ woken_for self.old.core kept self.old.sleeping self.old.coming self.old.turn }
+    /// The threads to wake for a piece, whose reader handles its jobs itself or doesn't.
+    fn woken(&mut self, keeps: bool) -> Woken
+        ensures woken { result ≡ woken_for self.old.core keeps self.old.sleeping self.old.coming self.old.turn self.old.relay }
         ensures rest { self.new ≡ record self.old {
           turn = turn_waking self.old.turn (has_bytes self.old.core);
           sleeping = asleep result.worker self.old.sleeping;
           coming = on_their_way result.worker self.old.coming;
+          relay = relay_behind keeps self.old.relay;
         } }
     {
-        let worker = self.calls_worker(kept);
+        let worker = !keeps && self.calls_worker();
         let writer = self.core.lendable() > 0 && self.turn.wakes();
-        Woken { worker, writer }
+        let reader = keeps && self.relay.begins();
+        Woken {
+            worker,
+            writer,
+            reader,
+        }
     }
 }
 
@@ -247,23 +265,24 @@ impl<O: OutboundTransform + Drop, I: InboundTransform + Drop> Held for ServerHel
     fn take(&mut self, alloc: Global, piece: &[u8]) -> Option<Taken<Woken>>
         ensures whole { IfSome result (λ taken. taken.count ≡ length piece.now) }
         ensures fed { IsFed O.OutboundTransform I.InboundTransform self.old.core piece.now (is_some result) self.new.core }
-        ensures reads_on { IfSome result (λ taken. taken.reads_on ≡ nat_eq (kept_of self.new.core self.old.lookers) 0) }
+        ensures reads_on { IfSome result (λ taken. taken.reads_on ≡ (if keeps_jobs self.new.core self.old.relay then false else true)) }
         ensures woken { IfSome result (λ taken. taken.woken
-            ≡ woken_for self.new.core (kept_of self.new.core self.old.lookers) self.old.sleeping self.old.coming self.old.turn) }
+            ≡ woken_for self.new.core (keeps_jobs self.new.core self.old.relay) self.old.sleeping self.old.coming self.old.turn self.old.relay) }
         ensures rest { MatchOption result (self.new ≡ record self.old { core = self.new.core }) (λ taken. self.new ≡ record self.old {
           core = self.new.core;
           turn = turn_waking self.old.turn (has_bytes self.new.core);
           sleeping = asleep taken.woken.worker self.old.sleeping;
           coming = on_their_way taken.woken.worker self.old.coming;
+          relay = relay_behind (keeps_jobs self.new.core self.old.relay) self.old.relay;
         }) }
     {
         match self.core.feed(alloc, piece, 0) {
             Ok(count) if count == piece.len() => {
-                let kept = self.kept();
+                let keeps = self.keeps_jobs();
                 Some(Taken {
                     count,
-                    reads_on: kept == 0,
-                    woken: self.woken(kept),
+                    reads_on: !keeps,
+                    woken: self.woken(keeps),
                 })
             }
             _ => None,
@@ -335,6 +354,7 @@ pub struct ServerShared<O, I> {
     held: Mutex<ServerHeld<O, I>>,
     to_write: Condvar,
     to_work: Condvar,
+    to_read: Condvar,
 }
 
 impl<O: OutboundTransform + Drop, I: InboundTransform + Drop> ServerShared<O, I> {
@@ -344,6 +364,7 @@ impl<O: OutboundTransform + Drop, I: InboundTransform + Drop> ServerShared<O, I>
             held: Mutex::new(ServerHeld::new(core, pool)),
             to_write: Condvar::new(),
             to_work: Condvar::new(),
+            to_read: Condvar::new(),
         }
     }
 
@@ -351,6 +372,43 @@ impl<O: OutboundTransform + Drop, I: InboundTransform + Drop> ServerShared<O, I>
     pub(crate) fn end<X: Wait>(&self, rt: &X) {
         self.held.lock(rt).core.fail(Error::LocalClosed);
         self.wake_all();
+    }
+
+    /// Waits until this reader has the turn to read. Where it takes it from one that still handles jobs, a worker is woken for
+    /// those that are left. False: the connection has failed.
+    pub(crate) fn wait_to_read<X: Wait + Clock>(&self, rt: &X, reader: u32) -> bool {
+        let (mut seen, mut pause) = (None, PAUSE);
+        let mut guard = lock_soon(rt, &self.held);
+        for _ in rt.forever() {
+            if guard.core.has_failed() {
+                return false;
+            }
+            match guard.relay.wants(reader, seen) {
+                AtTurn::Reads => {
+                    let calls = guard.calls_worker();
+                    drop(guard);
+                    if calls {
+                        self.to_work.notify_one();
+                    }
+                    return true;
+                }
+                AtTurn::LooksAgain(rounds) => {
+                    if seen.is_some() {
+                        pause = pause.saturating_mul(2).min(LONGEST_PAUSE);
+                    }
+                    seen = Some(rounds);
+                    guard = self
+                        .to_read
+                        .wait_timeout(rt, guard, Duration::from_micros(pause))
+                        .0;
+                }
+                AtTurn::Sleeps => {
+                    (seen, pause) = (None, PAUSE);
+                    guard = wait_soon(rt, &self.to_read, guard);
+                }
+            }
+        }
+        unreachable!()
     }
 
     /// Where workers wait for a job.
@@ -377,10 +435,14 @@ impl<O: OutboundTransform + Drop, I: InboundTransform + Drop> Connected for Serv
         if woken.writer {
             self.to_write.notify_one();
         }
+        if woken.reader {
+            self.to_read.notify_one();
+        }
     }
 
     fn wake_all(&self) {
         self.to_write.notify_all();
         self.to_work.notify_all();
+        self.to_read.notify_all();
     }
 }

@@ -12,7 +12,7 @@ use ttrpc_proto::Error;
 use ttrpc_secure::plain_context;
 use ttrpc_server::{Job, Rules, ServerCore};
 use ttrpc_sync::{Connected, Gate, Handler, Held, Next, ReadPort, read_loop, work_loop};
-use ttrpc_sync_connection::{ServerHeld, ServerJobs, ServerRead, ServerReads};
+use ttrpc_sync_connection::{AtTurn, Relay, ServerHeld, ServerJobs, ServerRead};
 use ttrpc_test_cores::server::{ASKED, ECHOED, NO_METHOD, NO_METHOD_ANSWER, registry};
 use ttrpc_wire::values::slices::front;
 
@@ -117,29 +117,52 @@ fn a_failed_handler_fails_the_server(rt: HostRuntime) -> Tested {
     Ok(())
 }
 
-/// Whether a reader of one request handles it itself, where another thread looked for what comes next, and where that
-/// thread read since.
-fn keeps<X: Wait>(rt: &X, alloc: Global, looked: bool, read: bool) -> Result<bool, Fail> {
+/// Whether a reader of one request handles it itself, where the other reader waits for the turn or doesn't.
+fn keeps<X: Wait>(rt: &X, alloc: Global, waits: bool) -> Result<bool, Fail> {
     let shared = server(alloc)?;
-    let mut other = ServerReads::new(rt, alloc, &*shared);
-    if looked {
-        other.looks();
+    shared.held().lock(rt).relay.wants(0, None);
+    if waits {
+        shared.held().lock(rt).relay.wants(1, None);
     }
-    if read {
-        other.begin();
-    }
-    let mut port = ServerReads::new(rt, alloc, &*shared);
+    let mut port = ServerRead::new(rt, alloc, &*shared);
     port.begin();
     port.take(ASKED);
-    Ok(port.keeps_job())
+    Ok(!port.has_turn())
 }
 
-/// A reader handles a job itself only while another thread looks for what comes next.
+/// A reader handles a job itself only while the other waits for the turn.
 #[test]
-fn a_reader_keeps_a_job_beside_one_that_looks(rt: HostRuntime) -> Tested {
-    assert!(rt; keeps(&rt, rt.alloc(), true, false)?);
-    assert!(rt; !keeps(&rt, rt.alloc(), false, false)?);
-    assert!(rt; !keeps(&rt, rt.alloc(), true, true)?);
+fn a_reader_keeps_a_job_beside_one_that_waits(rt: HostRuntime) -> Tested {
+    assert!(rt; keeps(&rt, rt.alloc(), true)?);
+    assert!(rt; !keeps(&rt, rt.alloc(), false)?);
+    Ok(())
+}
+
+/// While one reader has the turn, the other sleeps, is woken for the first round of jobs, looks again while rounds begin, and
+/// sleeps again once none has.
+fn looks_while_rounds_begin<A: Abort>(rt: &A, relay: &mut Relay) {
+    assert_eq!(rt; relay.wants(0, None), AtTurn::Reads);
+    assert_eq!(rt; relay.wants(1, None), AtTurn::Sleeps);
+    assert!(rt; relay.begins());
+    assert_eq!(rt; relay.wants(1, None), AtTurn::LooksAgain(1));
+    assert!(rt; !relay.begins());
+    assert_eq!(rt; relay.wants(1, Some(1)), AtTurn::LooksAgain(2));
+    assert_eq!(rt; relay.wants(0, None), AtTurn::Reads);
+    assert_eq!(rt; relay.wants(1, Some(1)), AtTurn::LooksAgain(2));
+    assert_eq!(rt; relay.wants(1, Some(2)), AtTurn::Sleeps);
+}
+
+/// A reader takes the turn from one that still handles jobs of the round that it saw.
+#[test]
+fn a_reader_takes_the_turn_from_one_that_handles_jobs(rt: HostRuntime) -> Tested {
+    let mut relay = Relay::new();
+    looks_while_rounds_begin(&rt, &mut relay);
+    assert!(rt; relay.begins());
+    assert_eq!(rt; relay.wants(1, None), AtTurn::LooksAgain(3));
+    assert_eq!(rt; relay.wants(1, Some(3)), AtTurn::Reads);
+    assert!(rt; !relay.has_turn(0));
+    assert_eq!(rt; relay.wants(0, None), AtTurn::Sleeps);
+    assert_eq!(rt; relay.wants(1, None), AtTurn::Reads);
     Ok(())
 }
 

@@ -18,7 +18,7 @@ use std::time::{Clock, Duration, Instant};
 use std::{fs, thread};
 use ttrpc_proto::Result as Answered;
 use ttrpc_secure::{AcceptHook, HookError, HookOutput, Plain};
-use ttrpc_sync::{Connected, Host};
+use ttrpc_sync::{Connected, Host, moment};
 use ttrpc_sync_server::accept::{Stop, next_connection};
 use ttrpc_sync_server::{NoHook, NoWatch};
 use ttrpc_transport::{PipeConnection, PipeListener};
@@ -110,6 +110,46 @@ fn each_job_of_a_piece_has_a_worker(rt: HostRuntime) -> Tested {
     let bare = asking_both(&rt, site.address.as_str())?;
     let ids = ids_around_the_gate(rt.alloc(), &bare, &*site.board)?;
     assert_eq!(rt; ids, (3, 1));
+    site.server.shutdown();
+    Ok(())
+}
+
+/// For how many nanoseconds a bare client makes calls, so that a reader that waits for its turn looks as seldom as it ever does.
+const BUSY: u64 = 400000000;
+
+/// A bare connection that was busy for so long with calls, one after the other.
+fn busy<R: Machine>(rt: &R, address: &str) -> Answered<PipeConnection> {
+    let bare = connection(rt, address)?;
+    let asked = requests(rt.alloc(), "Echo", 1)?;
+    let start = moment(rt)?;
+    for _ in 0..1000000 {
+        if moment(rt)?.saturating_sub(start) > BUSY {
+            break;
+        }
+        write_all(&bare, asked.as_slice())?;
+        next_id(rt.alloc(), &bare)?;
+    }
+    Ok(bare)
+}
+
+/// How many nanoseconds pass until the second of two calls is answered that come in one piece, while the first one's handler
+/// waits.
+fn until_the_second<R: Machine>(rt: &R, bare: &PipeConnection) -> Answered<u64> {
+    let asked = gate_and_echo(rt.alloc())?;
+    let start = moment(rt)?;
+    write_all(bare, asked.as_slice())?;
+    assert_eq!(rt; next_id(rt.alloc(), bare)?, 3);
+    Ok(moment(rt)?.saturating_sub(start))
+}
+
+/// A job waits behind another's handler for some milliseconds at most, also on a connection that was busy until then.
+#[test]
+fn a_job_waits_a_moment_behind_another(rt: HostRuntime) -> Tested {
+    let site = serving(&rt)?;
+    let bare = busy(&rt, site.address.as_str())?;
+    let passed = until_the_second(&rt, &bare)?;
+    assert!(rt; passed < 200000000);
+    site.board.is_open.store(true, Ordering::SeqCst);
     site.server.shutdown();
     Ok(())
 }

@@ -91,45 +91,6 @@ fn count_of(reader: &PipeConnection, byte: u8, all: usize) -> Answer<usize> {
     Ok(count)
 }
 
-/// How long after this moment it is once one has looked.
-fn looked(rt: &impl Clock, connection: &PipeConnection, begun: Instant) -> Answer<Duration> {
-    connection.look()?;
-    match begun.elapsed(rt) {
-        Ok(elapsed) => Ok(elapsed),
-        Err(error) => Err(Error::Nix(error.kind())),
-    }
-}
-
-/// Who looks waits until something comes, and leaves it there.
-fn look_waits<R>(rt: &R, alloc: Global, site: Site) -> Tested
-where
-    R: Files + Net<Listener = TcpListener, Stream = TcpStream> + Abort + Clock + Threads + Sync,
-{
-    let pair = connect(rt, alloc, site)?;
-    let begun = Instant::now(rt)?;
-    let (elapsed, wrote) = thread::join(
-        rt,
-        || looked(rt, &pair.connection, begun),
-        || {
-            thread::sleep(rt, a_while());
-            pair.accepted.write(b"ping")
-        },
-    );
-    assert!(rt; elapsed? >= a_while());
-    assert_eq!(rt; wrote?, 4);
-    let mut buffer = [0u8; 8];
-    assert_eq!(rt; pair.connection.read(&mut buffer)?, 4);
-    pair.accepted.close()?;
-    pair.connection.look()?;
-    is_ended(rt, &pair.connection)
-}
-
-#[test]
-fn who_looks_leaves_what_came(rt: HostRuntime) -> Tested {
-    look_waits(&rt, rt.alloc(), Site::Port)?;
-    look_waits(&rt, rt.alloc(), Site::Path("look.sock"))
-}
-
 /// Each end by TCP sends its writes at once where it is told to.
 #[test]
 fn delay_is_off_where_it_is_told(rt: HostRuntime) -> Tested {

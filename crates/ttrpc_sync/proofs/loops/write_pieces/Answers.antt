@@ -5,7 +5,7 @@ use Rattle.std.specs.IoError.{error_kind}
 use Rattle.std.specs.declared.io.ErrorKind.TheVariants.{Interrupted}
 use Rattle.ttrpc_sync.proofs.Counting.{one_more_still}
 use Rattle.ttrpc_sync.proofs.Writing.{ends_here, goes_on, reported_as_lent, written_more, written_no_more}
-use Rattle.ttrpc_sync.proofs.loops.write_loop.Goals as goal
+use Rattle.ttrpc_sync.proofs.loops.write_pieces.Goals as goal
 
 pub loop-preserved-else-not-more : goal.loop-preserved-else-not-more
 loop-preserved-else-not-more g c =
@@ -16,6 +16,7 @@ loop-preserved-else-not-more g c =
       finite = tt;
       state = more.state;
       begun = one_more_still _ _ _ (one_more_still _ _ _ so.begun c.lend-lent.ensures.begun) more.begun;
+      size = search rules;
       written = written_no_more _ _ _ _ _ _ (written_no_more _ _ _ _ _ _ so.written c.in-Ok.ensures.bytes c.lend-lent.ensures.reported) (Keeps-refl _) more.reported;
       calls = goes_on _ _ _ _ so.calls c.in-Ok.ensures.calls tt;
     }
@@ -29,6 +30,7 @@ loop-preserved-else-ne g c =
       finite = tt;
       state = c.lend-lent.ensures.state;
       begun = one_more_still _ _ _ so.begun c.lend-lent.ensures.begun;
+      size = search rules;
       written = written_no_more _ _ _ _ _ _ so.written c.in-Err.ensures.bytes c.lend-lent.ensures.reported;
       calls = goes_on _ _ _ _ so.calls c.in-Err.ensures.calls kind;
     }
@@ -51,6 +53,7 @@ loop-preserved-in-Ok-write g c =
       finite = tt;
       state = c.wrote.ensures.state;
       begun = one_more_still _ _ _ (one_more_still _ _ _ so.begun c.lend-lent.ensures.begun) c.wrote.ensures.begun;
+      size = search rules;
       written = written_more _ _ _ _ _ _ _ lent c.in-Ok-write.ensures.bytes told;
       calls = goes_on _ _ _ _ so.calls c.in-Ok-write.ensures.calls some;
     }
@@ -69,6 +72,7 @@ loop-preserved g c =
       finite = tt;
       state = c.lend-lent.ensures.state;
       begun = one_more_still _ _ _ so.begun c.lend-lent.ensures.begun;
+      size = search rules;
       written = written_no_more _ _ _ _ _ _ so.written c.in-Err-write.ensures.bytes c.lend-lent.ensures.reported;
       calls = goes_on _ _ _ _ so.calls c.in-Err-write.ensures.calls kind;
     }
