@@ -8,8 +8,8 @@ use Rattle.std.proofs.lemmas.Str.{is_utf8-from_IsUtf8}
 use Rattle.ttrpc_wire.specs.Field.{Field, Fits, fields_bytes}
 use Rattle.ttrpc_wire.specs.Fold.{folded}
 use Rattle.ttrpc_wire.specs.Reading.{◌>>=◌}
-use Rattle.ttrpc_codec.specs.Members.{delimited_in, last_text, delimited_fields}
-use Rattle.ttrpc_codec.proofs.Written.{delimited_fit, fold_delimited}
+use Rattle.ttrpc_wire.specs.Codec.Members.{delimited_in, last_text, delimited_fields}
+use Rattle.ttrpc_wire.proofs.Written.{delimited_fit, fold_delimited}
 use Rattle.greeter.specs.declared.messages.HelloRequest.{HelloRequest}
 use Rattle.greeter.specs.declared.messages.HelloReply.{HelloReply}
 

@@ -8,8 +8,8 @@ use Rattle.ttrpc_wire.specs.Field.{Field, Fits, fields_bytes}
 use Rattle.ttrpc_wire.specs.Fold.{folded, read_from}
 use Rattle.ttrpc_wire.specs.Number.{number_of, int64_of}
 use Rattle.ttrpc_wire.specs.Reading.{◌>>=◌}
-use Rattle.ttrpc_codec.specs.Members.{delimited_field, delimited_fields, delimited_in, last_bytes, last_number, number_fields, number_in, one_more, part_fields}
-use Rattle.ttrpc_codec.proofs.Written.{fields_len, fit_then, fold_then, delimited_fit, fold_delimited, number_fit, fold_number, int64_back, int64_zero, int64_small, parts_fit, parts_back, fold_parts}
+use Rattle.ttrpc_wire.specs.Codec.Members.{delimited_field, delimited_fields, delimited_in, last_bytes, last_number, number_fields, number_in, one_more, part_fields}
+use Rattle.ttrpc_wire.proofs.Written.{fields_len, fit_then, fold_then, delimited_fit, fold_delimited, number_fit, fold_number, int64_back, int64_zero, int64_small, parts_fit, parts_back, fold_parts}
 use Rattle.ttrpc_proto.specs.declared.messages.KeyValue.{KeyValue}
 use Rattle.ttrpc_proto.specs.Messages.{IsKeyValue, empty_key_value, key_value_step, key_value_fields}
 use Rattle.ttrpc_proto.specs.Laws.{key_value_again, key_value_fits}

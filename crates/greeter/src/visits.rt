@@ -109,14 +109,14 @@ impl WireMessage for VisitsReply {
         Ok(())
     }
 
-    #[tactic(auto, using(ttrpc_codec::proofs::Written::fields_len))]
+    #[tactic(auto, using(ttrpc_wire::proofs::Written::fields_len))]
     fn length(&self) -> u64 {
         delimited_len(TOKEN, self.token.as_slice())
             .saturating_add(number_len(COUNT, int64_to_varint(self.count)))
             .saturating_add(parts_len(LANGUAGES, self.languages.as_slice()))
     }
 
-    #[tactic(auto, using(ttrpc_codec::proofs::Written::fields_then, ttrpc_codec::proofs::Written::fields_len))]
+    #[tactic(auto, using(ttrpc_wire::proofs::Written::fields_then, ttrpc_wire::proofs::Written::fields_len))]
     fn write(&self, out: &mut Vec<u8>) -> Result<(), CodecError> {
         put_delimited(out, TOKEN, self.token.as_slice())?;
         put_number(out, COUNT, int64_to_varint(self.count))?;

@@ -2,7 +2,6 @@
 //! Written by tools/messages from shim_task.proto: change that, and run the tool.
 
 use std::alloc::{AllocError, Global};
-use ttrpc_codec::message::WireMessage;
 use ttrpc_members::entries::MapOf;
 use ttrpc_members::item::{Boolean, Bytes, Int32, Int64, Nested, Uint32, Utf8};
 use ttrpc_members::kind::{MemberKind, Optional, Repeated, Single};
@@ -10,6 +9,7 @@ use ttrpc_members::map::Map;
 use ttrpc_members::several::{
     clone_eight, clone_four, clone_two, write_eight, write_four, write_two,
 };
+use ttrpc_wire::codec::message::WireMessage;
 use ttrpc_wire::{Blob, CodecError, Field, FieldNumber, Sequence, Text, TryClone};
 
 /// The number of `UNKNOWN` of the enum `containerd.task.v2.Status`.

@@ -2,9 +2,9 @@
 //! Written by tools/messages from store.proto: change that, and run the tool.
 
 use std::alloc::{AllocError, Global};
-use ttrpc_codec::message::WireMessage;
 use ttrpc_members::item::{Bytes, Int64, Nested, Utf8};
 use ttrpc_members::kind::{MemberKind, Optional, Single};
+use ttrpc_wire::codec::message::WireMessage;
 use ttrpc_wire::{Blob, CodecError, Field, FieldNumber, Text, TryClone};
 
 /// A value under a key.

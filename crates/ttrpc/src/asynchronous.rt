@@ -1,6 +1,12 @@
 //! Client, server and streams that are polled, without threads of their own: each call, each stream and each connection is a
 //! future.
-pub use ttrpc_polled::Timed;
+pub use ttrpc_polled::{
+    CSReceiver, CSReceiverRecv, CSSender, ClientStream, ClientStreamSender,
+    ClientStreamSenderCloseAndRecv, Closes, EndsBy, Handling, Kind, Responds, SSReceiver,
+    SSReceiverRecv, SSSender, Sending, ServerStream, ServerStreamOpening, ServerStreamReceiver,
+    ServerStreamSender, StreamInner, StreamLine, StreamReceiver, StreamReceiverRecv, StreamSender,
+    StreamSenderCloseSend, StreamSenderSend, Telling, Timed, sending_of,
+};
 pub use ttrpc_polled_client::{
     Asked, Client, ClientCall, ClientConnect, ClientConnection, ClientLine, ClientNewStream,
     ClientOpening, ClientRequest, ClientStreamReceiver, OfStream, Opening, Spawns, TcpConnection,
@@ -13,22 +19,15 @@ pub use ttrpc_polled_server::{
     TcpServerConnection, TtrpcContext, async_client_streamimg_handler,
     async_duplex_streamimg_handler, async_request_handler, async_server_streamimg_handler,
 };
-pub use ttrpc_polled_streams::{
-    CSReceiver, CSReceiverRecv, CSSender, ClientStream, ClientStreamSender,
-    ClientStreamSenderCloseAndRecv, Closes, EndsBy, Handling, Kind, Responds, SSReceiver,
-    SSReceiverRecv, SSSender, Sending, ServerStream, ServerStreamOpening, ServerStreamReceiver,
-    ServerStreamSender, StreamInner, StreamLine, StreamReceiver, StreamReceiverRecv, StreamSender,
-    StreamSenderCloseSend, StreamSenderSend, Telling, sending_of,
-};
 
 /// The parts and kinds of streams.
 pub mod stream {
-    pub use ttrpc_polled_client::ClientStreamReceiver;
-    pub use ttrpc_polled_streams::{
+    pub use ttrpc_polled::{
         CSReceiver, CSSender, ClientStream, ClientStreamSender, Kind, SSReceiver, SSSender,
         ServerStream, ServerStreamReceiver, ServerStreamSender, StreamInner, StreamReceiver,
         StreamSender,
     };
+    pub use ttrpc_polled_client::ClientStreamReceiver;
 }
 
 /// Frames from a reader and to a writer that are polled.

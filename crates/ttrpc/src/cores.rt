@@ -13,7 +13,7 @@ pub mod server {
 
 /// The workers of a connection that wait for a job.
 pub mod pool {
-    pub use ttrpc_pool::PoolCore;
+    pub use ttrpc_sync::PoolCore;
 }
 
 /// One client and one server over two pipes.

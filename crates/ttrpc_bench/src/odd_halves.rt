@@ -3,7 +3,7 @@ ghost use Rattle.std.specs.Prelude.{◌≡◌, ◌≢◌, IfOk, IfErr, OnErr};
 
 use crate::stamp::Transformed;
 use std::alloc::Global;
-use ttrpc_frame::MESSAGE_LENGTH_MAX;
+use ttrpc_proto::MESSAGE_LENGTH_MAX;
 use ttrpc_secure::{InboundTransform, OutboundTransform, TransformError};
 use ttrpc_wire::Text;
 
@@ -33,7 +33,7 @@ pub struct Sealed {
 impl OutboundTransform for Sealed {
     ghost use Rattle.std.specs.Prelude.{false, refl, min, ◌-◌};
     ghost use Rattle.std.proofs.Common.{arith};
-    ghost use Rattle.ttrpc_frame.specs.declared.header.TheConstants.{MESSAGE_LENGTH_MAX};
+    ghost use Rattle.ttrpc_proto.specs.declared.framing.header.TheConstants.{MESSAGE_LENGTH_MAX};
     ghost use Rattle.ttrpc_bench.specs.Others.{SealsNothing, RefusesAll};
     ghost use Rattle.ttrpc_bench.specs.declared.odd_halves.Sealed.{Sealed as ASealed};
 

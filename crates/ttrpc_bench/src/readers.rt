@@ -2,12 +2,12 @@
 //! answered.
 ghost use Rattle.std.specs.Prelude.{◌≡◌, ◌≤◌, length, Some};
 ghost use Rattle.std.specs.Io.{ReadsAtMost};
-ghost use Rattle.ttrpc_frame.specs.Streams.{answered_kind};
+ghost use Rattle.ttrpc_proto.specs.Framing.Streams.{answered_kind};
 
 use crate::manners::{Manner, NO_CALL, interrupt};
 use std::cmp::min;
 use std::io::{self, ErrorKind, Read};
-use ttrpc_frame::Source;
+use ttrpc_proto::Source;
 
 /// Gives the bytes of a head, then zeros, then the bytes of a tail.
 #[derive(Drop)]

@@ -3,12 +3,12 @@
 ghost use Rattle.std.specs.Prelude.{◌≡◌, [], IfOk, Ok, OnOk, Some};
 ghost use Rattle.std.specs.Io.{WritesAtMost};
 ghost use Rattle.std.specs.Io.KnownBytes.{WriteAppends};
-ghost use Rattle.ttrpc_frame.specs.Streams.{answered_kind};
+ghost use Rattle.ttrpc_proto.specs.Framing.Streams.{answered_kind};
 
 use crate::manners::{Manner, NO_CALL, interrupt};
 use std::alloc::{AllocError, Global};
 use std::io::{self, ErrorKind, Write};
-use ttrpc_frame::Sink;
+use ttrpc_proto::Sink;
 
 /// How many bytes and offers a writer has memory for from the start.
 pub const ROOM: usize = 10000;

@@ -5,8 +5,8 @@ use Rattle.std.specs.BTreeSet.{insert_key}
 use Rattle.std.specs.List.{list_any}
 use Rattle.std.specs.Set.{remove_key}
 use Rattle.std.proofs.lemmas.Bool.Decides.{nat_tests}
-use Rattle.ttrpc_frame.proofs.Tickets.{queued_are_behind}
-use Rattle.ttrpc_frame.specs.Queue.{AreNumbered, has_ticket, Queue}
+use Rattle.ttrpc_proto.proofs.Tickets.{queued_are_behind}
+use Rattle.ttrpc_proto.specs.Framing.Queue.{AreNumbered, has_ticket, Queue}
 use Rattle.ttrpc_connection.specs.Outbox.{is_sent}
 use Rattle.std.specs.Result.{OnErr}
 use Rattle.ttrpc_secure.specs.declared.transform.TransformError.{TransformError}

@@ -1,6 +1,6 @@
 -- The requests that are queued: none twice.
 use Rattle.ttrpc_client.proofs.Words.{arith, ◌≡◌, ◌≢◌, inl, inr, ℕ, ◌<◌, List, [], ◌∷◌, ◌++◌, Bool, true, false, refl, sym, ap, ◌∙◌, append_cancel_left, append-nil, cases_Bool, flat_map-append, AllByRecursion, IsDistinct, nat_eq, Incoming, Queued, Queue, Happening, after_all, departing, IsMerge, placed, OutboundTransform, InboundTransform, Connection, ACall, AreQueuedOnce, Called, Asked, Told, Dropped, Ticked, AskedEnded, Opened, SentOn, Received, ReceiverDropped, SenderDropped, AskedHeard, asked_by, called, ids_asked, ids_used, requests_in, RiseByTwo, thrown_if, Client, calling, Outbox, Gave, Lent, Reported, Failed, Did, Calls, Gives, Runs, ActsAll, Scene, scene, Sent, SendsAll, run_goes, all_joined, all_are_accounted}
-use Rattle.ttrpc_frame.specs.Queue as queue
+use Rattle.ttrpc_proto.specs.Framing.Queue as queue
 use Rattle.ttrpc_client.proofs.Calls.{called_is_lawful}
 use Rattle.ttrpc_client.proofs.Rising.{Apart, Within, all_within, differ, distinct_within, never_below, rise_apart, rise_below, rise_up, within_itself}
 use Rattle.ttrpc_client.proofs.Turning.{run_leaves}

@@ -1,7 +1,7 @@
 -- What a frame does to the state of a client: it lands on a call, or reaches a stream, or finds neither.
 use Rattle.ttrpc_client.proofs.Words.{◌≡◌, ◌≢◌, ◌++◌, ◌∙◌, ℕ, List, [], ◌∷◌, Option, Some, None, IfSome, Result, Bool, true, false, refl, ap, append-nil, Arrived, Call, Waiting, Stream, Error, Client, AreStreams, StreamsStay, call_at, call_in, option_map, stream_at, stream_in, waits, Settles, Landing, LandsOn, LandsOnce, landing_of}
 use Rattle.ttrpc_proto.specs.declared.messages.Response.{Response}
-use Rattle.ttrpc_frame.specs.declared.header.MessageHeader.{MessageHeader}
+use Rattle.ttrpc_proto.specs.declared.framing.header.MessageHeader.{MessageHeader}
 use Rattle.ttrpc_connection.specs.declared.arrived.Opening.{Opening}
 use Rattle.ttrpc_client.specs.Types.{Ended, Thing}
 use Rattle.ttrpc_client.specs.Streams.{is_entered, with_news}

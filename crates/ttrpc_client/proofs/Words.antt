@@ -12,8 +12,8 @@ pub use Rattle.std.specs.Map.{keys_of}
 pub use Rattle.std.specs.Option.{option_copied, option_map, unwrap_or}
 pub use Rattle.std.specs.Ordering.{is_gt}
 pub use Rattle.std.specs.Result.{is_err, OkIff, result_ok}
-pub use Rattle.ttrpc_frame.proofs.Departures.{all_are_accounted}
-pub use Rattle.ttrpc_frame.specs.Queue.{first_is_request_of, IsMerge, placed, thrown}
+pub use Rattle.ttrpc_proto.proofs.Departures.{all_are_accounted}
+pub use Rattle.ttrpc_proto.specs.Framing.Queue.{first_is_request_of, IsMerge, placed, thrown}
 pub use Rattle.ttrpc_connection.specs.Outbox.{Outbox}
 pub use Rattle.ttrpc_connection.proofs.Leaving.{goes_not, queued_goes, run_goes, run_leaves}
 pub use Rattle.ttrpc_connection.proofs.Words.{if◌then◌else◌, ℕ, ◌&&◌, ◌++◌, ◌+◌, ◌-◌, ◌<◌, ◌^◌, ◌∙◌, ◌∷◌, ◌≡◌, ◌≢◌, ◌≤◌, ◌⊎◌, [], ActsAll, after_all, all_behind, all_in_front, all_joined, AllByRecursion, and_right, ap, append-nil, append_assoc, append_cancel_left, AreLawful, arith, associated, begun_count, Bool, Calls, cases_Bool, cases_eq, cases_lt, cond_both, departing, Did, drop, eq-eqb, Equal, Equal-is, Err, Error, Failed, false, flat_map-append, frames_without, Gave, Gives, Goes, Happening, InboundTransform, Incoming, inl, inr, insert_entry, is_at, is_some, IsTold, length, length-append, Lent, List, list_any, lookup, map, nat_cmp, nat_cmp_is, nat_eq, ne_eqb, None, not, Ok, Option, OutboundTransform, Placed, Queue, Queued, refl, remove_entry, Reported, Result, rules, Runs, Scene, scene, SendsAll, Sent, Some, String, string_bytes, subst, sym, take, take-append-drop, true, values_of, with_payload, without}

@@ -4,7 +4,7 @@
 use Rattle.std.specs.Prelude.{◌≡◌, ◌<◌, ◌≤◌, ◌&&◌, not, ℕ, ◌+◌, List, [], ◌∷◌, ◌++◌, nat_eq, option_to_list, Option, Some, None, is_some, Bool, if◌then◌else◌, Result}
 use Rattle.std.specs.List.{AllByRecursion, IsDistinct, flat_map}
 use Rattle.ttrpc_client.specs.Types.{Error, Request, Response, Queued, OutboundTransform, Connection, Failure, Sender}
-use Rattle.ttrpc_frame.specs.Queue.{Happening, Placed, Thrown}
+use Rattle.ttrpc_proto.specs.Framing.Queue.{Happening, Placed, Thrown}
 use Rattle.ttrpc_connection.specs.Calls.{Call, Did, Others, Queues}
 use Rattle.ttrpc_connection.specs.Items.{IsDataFrame}
 use Rattle.ttrpc_client.specs.declared.client.ClientCore.{ClientCore}

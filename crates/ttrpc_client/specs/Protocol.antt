@@ -14,10 +14,10 @@ use Rattle.ttrpc_client.specs.Types.{Error, Others, RpcStatus, NoMemory, Request
 use Rattle.ttrpc_proto.specs.declared.messages.Status.{Status}
 use Rattle.ttrpc_proto.specs.ErrorText.{status_of}
 use Rattle.ttrpc_proto.specs.Messages.{empty_response, request_fields, response_step}
-use Rattle.ttrpc_frame.specs.declared.header.MessageHeader.{MessageHeader}
-use Rattle.ttrpc_frame.specs.declared.header.TheConstants.{FLAG_REMOTE_CLOSED, MESSAGE_LENGTH_MAX, MESSAGE_TYPE_DATA, MESSAGE_TYPE_REQUEST, MESSAGE_TYPE_RESPONSE}
-use Rattle.ttrpc_frame.specs.Header.Oversize.{oversize_text}
-use Rattle.ttrpc_frame.specs.Queue.{has_begun, without}
+use Rattle.ttrpc_proto.specs.declared.framing.header.MessageHeader.{MessageHeader}
+use Rattle.ttrpc_proto.specs.declared.framing.header.TheConstants.{FLAG_REMOTE_CLOSED, MESSAGE_LENGTH_MAX, MESSAGE_TYPE_DATA, MESSAGE_TYPE_REQUEST, MESSAGE_TYPE_RESPONSE}
+use Rattle.ttrpc_proto.specs.Framing.Header.Oversize.{oversize_text}
+use Rattle.ttrpc_proto.specs.Framing.Queue.{has_begun, without}
 use Rattle.ttrpc_secure.specs.Hooks.Facts.{Facts}
 use Rattle.ttrpc_secure.specs.Context.Texts.{advice_text, unopened_text, unsafe_payload_text, unsealed_text}
 use Rattle.ttrpc_secure.specs.Sends.{associated}

@@ -8,7 +8,7 @@ use Rattle.std.specs.Set.{remove_key}
 use Rattle.ttrpc_wire.specs.declared.values.code.Code.TheVariants.{INVALID_ARGUMENT}
 use Rattle.ttrpc_client.specs.Types.{Error, LocalClosed, Others, RpcStatus, NoMemory, Request, Queued, OutboundTransform, Failure, Stream, Sender, Open, Closed, Dropped}
 use Rattle.ttrpc_proto.specs.ErrorText.{status_of}
-use Rattle.ttrpc_frame.specs.declared.header.TheConstants.{FLAG_NO_DATA, FLAG_REMOTE_CLOSED, FLAG_REMOTE_OPEN, MESSAGE_TYPE_REQUEST}
+use Rattle.ttrpc_proto.specs.declared.framing.header.TheConstants.{FLAG_NO_DATA, FLAG_REMOTE_CLOSED, FLAG_REMOTE_OPEN, MESSAGE_TYPE_REQUEST}
 use Rattle.ttrpc_connection.specs.Failure.{IsTold}
 use Rattle.ttrpc_connection.specs.Feeds.{IsFailed}
 use Rattle.ttrpc_connection.specs.Frames.{SendsOne, safe_limit}

@@ -1,7 +1,7 @@
 //! The core of a client: calls and frames in, requests and outcomes out.
 ghost use Rattle.std.specs.Prelude.{◌≡◌, ◌≢◌, ◌⊎◌, ◌<◌, ◌≤◌, ◌%◌, ◌^◌, ◌+◌, ◌++◌, ◌↔◌, ℕ, List, [], length, is_some, true, option_to_list, IfOk, IfErr, OnOk, OnErr, IfSome, IfNone, Some, None};
-ghost use Rattle.ttrpc_frame.specs.Frames.{Holds, nothing};
-ghost use Rattle.ttrpc_frame.specs.Queue.{unsent};
+ghost use Rattle.ttrpc_proto.specs.Framing.Frames.{Holds, nothing};
+ghost use Rattle.ttrpc_proto.specs.Framing.Queue.{unsent};
 ghost use Rattle.ttrpc_secure.specs.Hooks.Facts.{facts_of};
 ghost use Rattle.ttrpc_connection.specs.declared.failure.Failure.{Failure as AFailure};
 ghost use Rattle.ttrpc_connection.specs.Feeds.{IsFailed};
@@ -18,21 +18,19 @@ use crate::kind::ClientKind;
 use crate::landing::Outcome;
 use crate::state::ClientState;
 use std::alloc::Global;
-use ttrpc_codec::Codec;
-use ttrpc_codec::message::encode_with_room;
 use ttrpc_connection::deadlines::deadline_of;
 use ttrpc_connection::items::unsent_error;
 use ttrpc_connection::{Connection, Failure, Outbox};
-use ttrpc_frame::header::oversize::oversize_error;
-use ttrpc_frame::owners::Owners;
-use ttrpc_frame::{GenMessage, MESSAGE_LENGTH_MAX, MessageHeader, Queued};
-use ttrpc_proto::{Error, Request};
+use ttrpc_proto::framing::header::oversize::oversize_error;
+use ttrpc_proto::framing::owners::Owners;
+use ttrpc_proto::{Error, GenMessage, MESSAGE_LENGTH_MAX, MessageHeader, Queued, Request};
 use ttrpc_secure::context::errors::or_no_memory;
 use ttrpc_secure::sending::SendError;
 use ttrpc_secure::{
     ConnectionContext, ConnectionData, InboundTransform, OutboundTransform, TransformError,
 };
-use ttrpc_wire::{Blob, CodecError};
+use ttrpc_wire::codec::message::encode_with_room;
+use ttrpc_wire::{Blob, Codec, CodecError};
 
 /// The core of a client, over its connection's two halves.
 #[derive(Drop)]

@@ -8,9 +8,8 @@ ghost use Rattle.ttrpc_secure.specs.Context.Texts.{unsafe_payload_text};
 
 use crate::kind::ClientKind;
 use std::alloc::{AllocError, Global};
-use ttrpc_frame::MessageHeader;
-use ttrpc_proto::Error;
 use ttrpc_proto::error::get_rpc_status;
+use ttrpc_proto::{Error, MessageHeader};
 use ttrpc_secure::context::errors::{others_error, unsafe_payload_error};
 use ttrpc_wire::{Code, CodecError, Text};
 

@@ -6,13 +6,14 @@ ghost use Rattle.ttrpc_client.specs.Protocol.{IsLanding, IsNews, by_status, data
 
 use crate::errors::{malformed_error, undecoded_error, unexpected_error, unreadable_error};
 use std::alloc::{AllocError, Global};
-use ttrpc_codec::in_place::decode_in_place;
 use ttrpc_connection::thing::{closes, of_data};
 use ttrpc_connection::{Opening, Thing};
-use ttrpc_frame::header::oversize::oversize_error;
-use ttrpc_frame::{MESSAGE_LENGTH_MAX, MESSAGE_TYPE_DATA, MESSAGE_TYPE_RESPONSE, MessageHeader};
-use ttrpc_proto::{Error, Response};
+use ttrpc_proto::framing::header::oversize::oversize_error;
+use ttrpc_proto::{
+    Error, MESSAGE_LENGTH_MAX, MESSAGE_TYPE_DATA, MESSAGE_TYPE_RESPONSE, MessageHeader, Response,
+};
 use ttrpc_secure::context::errors::unopened_error;
+use ttrpc_wire::codec::in_place::decode_in_place;
 use ttrpc_wire::{Blob, CodecError};
 
 /// The outcome of a call.

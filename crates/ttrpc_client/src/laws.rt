@@ -3,9 +3,9 @@
 //! queue goes through.
 ghost use Rattle.std.specs.Prelude.{◌≡◌, ◌≢◌, ◌<◌, ◌≤◌, ◌++◌, ℕ, List, [], IsTrue, None, Option, Result, true, false, not, ◌&&◌, length, take, drop, filter, nat_eq, nat_le, nat_lt, IsPermutation};
 ghost use Rattle.std.specs.List.{AllByRecursion, IsDistinct};
-ghost use Rattle.ttrpc_frame.specs.declared.outgoing.Queued.{Queued as AFrame};
-ghost use Rattle.ttrpc_frame.specs.Frames.{nothing};
-ghost use Rattle.ttrpc_frame.specs.Queue.{AreNumbered, Happening, IsMerge, IsQueue, all_bytes_left, begun_count, departing, finished, has_ticket, last_ticket, placed, thrown, unsent, written_all};
+ghost use Rattle.ttrpc_proto.specs.declared.framing.outgoing.Queued.{Queued as AFrame};
+ghost use Rattle.ttrpc_proto.specs.Framing.Frames.{nothing};
+ghost use Rattle.ttrpc_proto.specs.Framing.Queue.{AreNumbered, Happening, IsMerge, IsQueue, all_bytes_left, begun_count, departing, finished, has_ticket, last_ticket, placed, thrown, unsent, written_all};
 ghost use Rattle.ttrpc_proto.specs.declared.error.Error.{Error as AnError};
 ghost use Rattle.ttrpc_connection.specs.declared.arrived.Arrived.{Arrived as AnArrival};
 ghost use Rattle.ttrpc_connection.specs.declared.connection.Connection.{Connection as AConnection};

@@ -14,10 +14,10 @@ use crate::streams::{Stream, StreamId};
 use std::alloc::Global;
 use ttrpc_connection::Ticket;
 use ttrpc_connection::items::{CLOSE_FLAGS, send_data, stream_frame, unsent_error};
-use ttrpc_frame::{
-    FLAG_NO_DATA, FLAG_REMOTE_CLOSED, FLAG_REMOTE_OPEN, MESSAGE_TYPE_REQUEST, Queued,
+use ttrpc_proto::{
+    Error, FLAG_NO_DATA, FLAG_REMOTE_CLOSED, FLAG_REMOTE_OPEN, MESSAGE_TYPE_REQUEST, Queued,
+    Request,
 };
-use ttrpc_proto::{Error, Request};
 use ttrpc_secure::sending::SendError;
 use ttrpc_secure::{InboundTransform, OutboundTransform, TransformError};
 use ttrpc_wire::Blob;

@@ -1,7 +1,7 @@
 -- What a decoder holds, and that each piece can be fed to it.
 use Rattle.ttrpc_connection.proofs.Words.{◌≡◌, inl, inr, ℕ, ◌+◌, ◌-◌, ◌<◌, ◌≤◌, true, false, nat_lt, List, [], ◌∷◌, ◌++◌, length, take, drop, arith, refl, sym, ap, subst, ◌∙◌, le-ltb, lt-ltb, cases_lt, take-append-drop, length-take-le, MessageHeader, Incoming, Frames, Held, nothing, held_of, Holds, Fed, header_front, exact, count_goes_on, count_is_frame, is_frames, one_list}
-use Rattle.ttrpc_frame.specs.Header.{header_of}
-use Rattle.ttrpc_frame.specs.declared.frame.Incoming.TheVariants.{Oversize}
+use Rattle.ttrpc_proto.specs.Framing.Header.{header_of}
+use Rattle.ttrpc_proto.specs.declared.framing.frame.Incoming.TheVariants.{Oversize}
 use Rattle.ttrpc_connection.proofs.Feeding.{fed_twice}
 
 -- ---- what a decoder holds

@@ -1,8 +1,8 @@
 -- Over any list of calls, the queue goes through a history in which only what is open is lent, and only what was lent
 -- is reported.
 use Rattle.ttrpc_connection.proofs.Words.{◌≡◌, inl, inr, ℕ, List, [], ◌∷◌, ◌++◌, map, drop, refl, sym, ap, subst, ◌∙◌, append_assoc, append_cancel_left, append-nil, Incoming, Queued, Queue, Happening, Placed, Allowed, IsQueue, MayHappen, after, after_all, all_bytes_left, departing, unsent, with_frame, with_payload, written_all, OutboundTransform, Connection, Outbox, Sent, SendsAll, Ways, Scene, ActsAll, scene, Call, Gave, Lent, Reported, Failed, Did, Goes, Others, AreLawful, Gives, Calls, Runs, Own, Queued_one, own}
-use Rattle.ttrpc_frame.specs.Queue as queue
-use Rattle.ttrpc_frame.proofs.Departures.{bytes_are_written}
+use Rattle.ttrpc_proto.specs.Framing.Queue as queue
+use Rattle.ttrpc_proto.proofs.Departures.{bytes_are_written}
 
 -- ---- queues that grow
 

@@ -1,6 +1,6 @@
 -- Where no other call of a core throws a frame away, none is thrown away.
 use Rattle.ttrpc_connection.proofs.Words.{◌≡◌, List, [], ◌∷◌, ◌++◌, map, refl, sym, ap, ◌∙◌, append_assoc, Queued, Queue, Happening, Placed, after, after_all, with_frame, Connection, Ways, Call, Gave, Lent, Reported, Failed, Did, Others, AreLawful, Calls, Runs}
-use Rattle.ttrpc_frame.specs.Queue.{thrown, thrown_by}
+use Rattle.ttrpc_proto.specs.Framing.Queue.{thrown, thrown_by}
 use Rattle.ttrpc_connection.proofs.Leaving.{call_goes}
 
 thrown_both : (xs ys : List Happening) (q : Queue) → thrown q (xs ++ ys) ≡ thrown q xs ++ thrown (after_all q xs) ys

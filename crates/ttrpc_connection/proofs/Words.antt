@@ -10,10 +10,10 @@ pub use Rattle.std.specs.List.{AllByRecursion, list_any}
 pub use Rattle.std.specs.Map.{lookup, remove_entry, values_of}
 pub use Rattle.std.specs.Ordering.{nat_cmp}
 pub use Rattle.ttrpc_wire.specs.declared.values.code.Code.TheVariants.{INVALID_ARGUMENT}
-pub use Rattle.ttrpc_frame.proofs.Frames.{count_goes_on, count_is_frame, exact, header_front, nothing_held}
-pub use Rattle.ttrpc_frame.proofs.Pieces.{frames_append, is_frames, one_list}
-pub use Rattle.ttrpc_frame.specs.Frames.{Fed, Frames, given, Held, held_of, Holds, nothing}
-pub use Rattle.ttrpc_frame.specs.Queue.{after, after_all, after_report, all_bytes_left, Allowed, begun_count, departing, first_open, frames_without, Happening, is_request_of, IsQueue, IsWithin, MayHappen, open_part, Placed, Queue, unsent, with_frame, with_lent, with_payload, without, written, written_all}
+pub use Rattle.ttrpc_proto.proofs.Frames.{count_goes_on, count_is_frame, exact, header_front, nothing_held}
+pub use Rattle.ttrpc_proto.proofs.Pieces.{frames_append, is_frames, one_list}
+pub use Rattle.ttrpc_proto.specs.Framing.Frames.{Fed, Frames, given, Held, held_of, Holds, nothing}
+pub use Rattle.ttrpc_proto.specs.Framing.Queue.{after, after_all, after_report, all_bytes_left, Allowed, begun_count, departing, first_open, frames_without, Happening, is_request_of, IsQueue, IsWithin, MayHappen, open_part, Placed, Queue, unsent, with_frame, with_lent, with_payload, without, written, written_all}
 pub use Rattle.ttrpc_secure.specs.Halves.{Moves, Refusals}
 pub use Rattle.ttrpc_secure.specs.Sends.{associated}
 pub use Rattle.ttrpc_connection.specs.Types.{Arrived, Connection, Error, Failure, InboundTransform, Incoming, MESSAGE_LENGTH_MAX, MESSAGE_TYPE_REQUEST, MessageHeader, NoMemory, OutboundTransform, Outbox, Queued}

@@ -2,8 +2,8 @@
 -- Source: this project's.
 use Rattle.std.specs.Prelude.{◌≡◌, ◌≤◌, ◌⊎◌, ℕ, List, [], ◌∷◌, ◌++◌, length, map, is_some, true, false, if◌then◌else◌, nat_eq}
 use Rattle.ttrpc_connection.specs.Types.{Error, Queued, Connection, Failure}
-use Rattle.ttrpc_frame.specs.Queue.{Queue, Happening, Placed, Allowed, after_all, open_part, with_payload}
-use Rattle.ttrpc_frame.specs.Queue as queue
+use Rattle.ttrpc_proto.specs.Framing.Queue.{Queue, Happening, Placed, Allowed, after_all, open_part, with_payload}
+use Rattle.ttrpc_proto.specs.Framing.Queue as queue
 use Rattle.ttrpc_connection.specs.Frames.{SendsOne}
 use Rattle.ttrpc_connection.specs.Feeds.{Ways, Feeds, Breaks}
 use Rattle.ttrpc_connection.specs.OneEnd.{failing, lending, reporting}

@@ -2,8 +2,8 @@
 -- Source: this project's.
 use Rattle.std.specs.Prelude.{◌≡◌, ◌⊎◌, true, ℕ, List, [], ◌∷◌, ◌++◌, Option, Some, None, IsSome}
 use Rattle.ttrpc_connection.specs.Types.{Error, Incoming, OutboundTransform, InboundTransform, Arrived, Opening, Connection, Failure, NoMemory, Outbox}
-use Rattle.ttrpc_frame.specs.Frames.{Fed, given, nothing}
-use Rattle.ttrpc_frame.specs.Queue.{empty_queue}
+use Rattle.ttrpc_proto.specs.Framing.Frames.{Fed, given, nothing}
+use Rattle.ttrpc_proto.specs.Framing.Queue.{empty_queue}
 use Rattle.ttrpc_secure.specs.Hooks.Facts.{Facts}
 use Rattle.ttrpc_connection.specs.declared.reacts.Reacts.{Ghosts as Reacts}
 use Rattle.ttrpc_connection.specs.Failure.{IsTold, error_of}

@@ -2,8 +2,8 @@
 -- Source: this project's.
 use Rattle.std.specs.Prelude.{◌≡◌, ◌≤◌, ℕ, List, [], ◌∷◌, length}
 use Rattle.ttrpc_connection.specs.Types.{MESSAGE_LENGTH_MAX, MessageHeader, Incoming, Queued, OutboundTransform, InboundTransform, Opening, TooLong, Opened, Refused, Outbox}
-use Rattle.ttrpc_frame.specs.declared.frame.Incoming.TheVariants.{Frame, Oversize}
-use Rattle.ttrpc_frame.specs.Queue.{ticket_after, with_frame, with_payload}
+use Rattle.ttrpc_proto.specs.declared.framing.frame.Incoming.TheVariants.{Frame, Oversize}
+use Rattle.ttrpc_proto.specs.Framing.Queue.{ticket_after, with_frame, with_payload}
 use Rattle.ttrpc_secure.specs.Sends.{associated}
 pub use Rattle.ttrpc_secure.specs.Sends.{safe_limit}
 

@@ -1,8 +1,8 @@
 -- Data of a stream, which are an item or the close behind all items: what is sent, and for what it is refused.
 -- Source: PROTOCOL.md of ttrpc, "Data" and "Streaming"; errors and texts: the Rust crate; their order: this project's.
 use Rattle.std.specs.Prelude.{◌≡◌, ◌⊎◌, ◌<◌, ◌≤◌, ◌+◌, ◌-◌, ◌^◌, ℕ, List, length, codes, Some, false}
-use Rattle.ttrpc_frame.specs.declared.header.TheConstants.{FLAG_NO_DATA, FLAG_REMOTE_CLOSED, MESSAGE_TYPE_DATA}
-use Rattle.ttrpc_frame.specs.Header.Oversize.{oversize_text}
+use Rattle.ttrpc_proto.specs.declared.framing.header.TheConstants.{FLAG_NO_DATA, FLAG_REMOTE_CLOSED, MESSAGE_TYPE_DATA}
+use Rattle.ttrpc_proto.specs.Framing.Header.Oversize.{oversize_text}
 use Rattle.ttrpc_proto.specs.declared.error.Error.TheVariants.{NoMemory, Others}
 use Rattle.ttrpc_secure.specs.Context.Texts.{unsafe_payload_text, unsealed_text}
 use Rattle.ttrpc_secure.specs.Sends.{associated}

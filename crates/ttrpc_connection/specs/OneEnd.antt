@@ -2,8 +2,8 @@
 -- calls on, and of their ports.
 -- Source: this project's.
 use Rattle.std.specs.Prelude.{◌≡◌, ◌≢◌, ◌<◌, ◌≤◌, ◌↔◌, ◌⊎◌, ℕ, List, [], true, false, length, take, drop, min, is_some, if◌then◌else◌, Some, None, Result, IfOk, IfErr}
-use Rattle.ttrpc_frame.specs.Frames.{nothing}
-use Rattle.ttrpc_frame.specs.Queue.{open_part, unsent, with_lent, after_report}
+use Rattle.ttrpc_proto.specs.Framing.Frames.{nothing}
+use Rattle.ttrpc_proto.specs.Framing.Queue.{open_part, unsent, with_lent, after_report}
 use Rattle.ttrpc_connection.specs.Types.{Error, Connection, Failure, Disconnected, DisconnectedInside}
 use Rattle.ttrpc_connection.specs.Failure.{IsTold, error_of, first_failure}
 use Rattle.ttrpc_connection.specs.Feeds.{Breaks, Feeds, FeedsFront, IsFailed, Ways}

@@ -1,7 +1,7 @@
 -- What goes out of a connection.
 -- Source: this project's.
 use Rattle.std.specs.Prelude.{ℕ, ◌&&◌, Bool, nat_lt, nat_le}
-use Rattle.ttrpc_frame.specs.Queue.{Queue}
+use Rattle.ttrpc_proto.specs.Framing.Queue.{Queue}
 
 -- the half that seals, the frames that it sealed, and the tickets that were given
 pub record Outbox (O : Type 0) : Type 0 where

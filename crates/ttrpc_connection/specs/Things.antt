@@ -2,7 +2,7 @@
 -- Source: PROTOCOL.md of ttrpc, "Data" and "Streaming".
 use Rattle.std.specs.Prelude.{◌&&◌, if◌then◌else◌, ℕ, List, [], ◌∷◌, ◌++◌, Bool, true, false, not, bit_and, nat_eq, codes, Option, Some, None}
 use Rattle.std.specs.Fmt.{decimal}
-use Rattle.ttrpc_frame.specs.declared.header.TheConstants.{FLAG_NO_DATA, FLAG_REMOTE_CLOSED, FLAG_REMOTE_OPEN}
+use Rattle.ttrpc_proto.specs.declared.framing.header.TheConstants.{FLAG_NO_DATA, FLAG_REMOTE_CLOSED, FLAG_REMOTE_OPEN}
 use Rattle.ttrpc_proto.specs.declared.error.Error.TheVariants.{Others}
 use Rattle.ttrpc_connection.specs.Types.{Thing, Item, Last, End, Closing}
 

@@ -1,10 +1,10 @@
 -- The types of the code that these definitions speak of, in one list.
 -- Source: this project's.
-pub use Rattle.ttrpc_frame.specs.declared.header.MessageHeader.{MessageHeader}
-pub use Rattle.ttrpc_frame.specs.declared.header.TheConstants.{MESSAGE_LENGTH_MAX, MESSAGE_TYPE_REQUEST}
+pub use Rattle.ttrpc_proto.specs.declared.framing.header.MessageHeader.{MessageHeader}
+pub use Rattle.ttrpc_proto.specs.declared.framing.header.TheConstants.{MESSAGE_LENGTH_MAX, MESSAGE_TYPE_REQUEST}
 pub use Rattle.ttrpc_proto.specs.declared.error.Error.{Error}
-pub use Rattle.ttrpc_frame.specs.declared.frame.Incoming.{Incoming}
-pub use Rattle.ttrpc_frame.specs.declared.outgoing.Queued.{Queued}
+pub use Rattle.ttrpc_proto.specs.declared.framing.frame.Incoming.{Incoming}
+pub use Rattle.ttrpc_proto.specs.declared.framing.outgoing.Queued.{Queued}
 pub use Rattle.ttrpc_secure.specs.declared.transform.InboundTransform.{Ghosts as InboundTransform}
 pub use Rattle.ttrpc_secure.specs.declared.transform.OutboundTransform.{Ghosts as OutboundTransform}
 pub use Rattle.ttrpc_connection.specs.declared.arrived.Arrived.{Arrived}

@@ -3,7 +3,7 @@ ghost use Rattle.std.specs.Prelude.{◌≡◌, IfOk, OnErr};
 ghost use Rattle.ttrpc_connection.specs.Frames.{Opens, header_of_frame};
 
 use std::alloc::{AllocError, Global};
-use ttrpc_frame::{Incoming, MessageHeader};
+use ttrpc_proto::{Incoming, MessageHeader};
 use ttrpc_secure::sending::associated_bytes;
 use ttrpc_secure::{InboundTransform, TransformError};
 use ttrpc_wire::{Blob, Text};

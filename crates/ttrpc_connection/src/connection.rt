@@ -1,7 +1,7 @@
 //! One end of a connection.
 ghost use Rattle.std.specs.Prelude.{ℕ, List, ◌≡◌, ◌≢◌, ◌<◌, ◌≤◌, ◌↔◌, [], true, length, take, is_some, IfOk, IfErr, OnOk, IfSome, IfNone, None};
-ghost use Rattle.ttrpc_frame.specs.Frames.{Holds, nothing};
-ghost use Rattle.ttrpc_frame.specs.Queue.{unsent};
+ghost use Rattle.ttrpc_proto.specs.Framing.Frames.{Holds, nothing};
+ghost use Rattle.ttrpc_proto.specs.Framing.Queue.{unsent};
 ghost use Rattle.ttrpc_secure.specs.Hooks.Facts.{facts_of};
 ghost use Rattle.ttrpc_connection.specs.Failure.{TellsSent};
 ghost use Rattle.ttrpc_connection.specs.Feeds.{IsFailed, new_connection, ways};
@@ -14,8 +14,7 @@ use crate::failure::Failure;
 use crate::outbox::Outbox;
 use crate::reacts::Reacts;
 use std::alloc::Global;
-use ttrpc_frame::FrameDecoder;
-use ttrpc_proto::Error;
+use ttrpc_proto::{Error, FrameDecoder};
 use ttrpc_secure::{
     ConnectionContext, ConnectionData, ConnectionFacts, InboundTransform, OutboundTransform,
 };

@@ -7,12 +7,11 @@ ghost use Rattle.ttrpc_proto.specs.declared.error.Error.{Error as AnError};
 
 use crate::outbox::Outbox;
 use std::alloc::Global;
-use ttrpc_frame::header::oversize::oversize_error;
-use ttrpc_frame::{
-    FLAG_NO_DATA, FLAG_REMOTE_CLOSED, GenMessage, MESSAGE_LENGTH_MAX, MESSAGE_TYPE_DATA,
+use ttrpc_proto::framing::header::oversize::oversize_error;
+use ttrpc_proto::{
+    Error, FLAG_NO_DATA, FLAG_REMOTE_CLOSED, GenMessage, MESSAGE_LENGTH_MAX, MESSAGE_TYPE_DATA,
     MessageHeader, Queued,
 };
-use ttrpc_proto::Error;
 use ttrpc_secure::context::errors::{
     or_no_memory, others_error, unsafe_payload_error, unsealed_error,
 };

@@ -1,7 +1,7 @@
 //! Laws over whatever a core does at a whole frame. A core with calls of its own cites the same proofs for these.
 ghost use Rattle.std.specs.Prelude.{◌≡◌, ◌++◌, ℕ, List, Option, drop};
-ghost use Rattle.ttrpc_frame.specs.Frames.{Holds, nothing};
-ghost use Rattle.ttrpc_frame.specs.Queue.{Happening, IsQueue, all_bytes_left, departing, unsent, written_all};
+ghost use Rattle.ttrpc_proto.specs.Framing.Frames.{Holds, nothing};
+ghost use Rattle.ttrpc_proto.specs.Framing.Queue.{Happening, IsQueue, all_bytes_left, departing, unsent, written_all};
 ghost use Rattle.ttrpc_connection.specs.declared.connection.Connection.{Connection as AConnection};
 ghost use Rattle.ttrpc_connection.specs.declared.failure.Failure.{Failure as AFailure};
 ghost use Rattle.ttrpc_connection.specs.Feeds.{ways};

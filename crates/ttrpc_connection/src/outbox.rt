@@ -1,6 +1,6 @@
 //! What goes out: frames that are sealed and wait to be written.
 ghost use Rattle.std.specs.Prelude.{◌≡◌, ◌≢◌, ◌^◌, ◌-◌, true, ◌<◌, ◌≤◌, ◌+◌, ◌⊎◌, ◌↔◌, [], length, take, drop, min, Err, OnOk, OnErr, IfSome, IfNone};
-ghost use Rattle.ttrpc_frame.specs.Queue.{AreNumbered, IsNext, open_part, unsent, with_lent, after_report, empty_queue, without, has_begun};
+ghost use Rattle.ttrpc_proto.specs.Framing.Queue.{AreNumbered, IsNext, open_part, unsent, with_lent, after_report, empty_queue, without, has_begun};
 ghost use Rattle.ttrpc_secure.specs.declared.transform.TransformError.{TransformError as AnError};
 ghost use Rattle.ttrpc_secure.specs.Halves.{MayFail};
 ghost use Rattle.ttrpc_secure.specs.Sends.{associated};
@@ -9,8 +9,8 @@ ghost use Rattle.ttrpc_connection.specs.Outbox.{is_sent};
 
 use std::alloc::Global;
 use std::marker::Model;
-use ttrpc_frame::owners::Owners;
-use ttrpc_frame::{Outgoing, Queued};
+use ttrpc_proto::framing::owners::Owners;
+use ttrpc_proto::{Outgoing, Queued};
 use ttrpc_secure::OutboundTransform;
 use ttrpc_secure::sending::{SendError, limit_of, send};
 
@@ -24,7 +24,7 @@ pub struct Outbox<O> {
 }
 
 impl<O> Model for Outbox<O> {
-    ghost use Rattle.ttrpc_frame.specs.Queue.{AreNumbered};
+    ghost use Rattle.ttrpc_proto.specs.Framing.Queue.{AreNumbered};
     ghost use Rattle.ttrpc_connection.specs.Outbox.{Outbox as TheOutbox};
 
     ghost Value = { TheOutbox O };

@@ -3,8 +3,7 @@ ghost use Rattle.std.specs.Prelude.{◌≡◌, IfOk};
 ghost use Rattle.ttrpc_connection.specs.Things.{data_thing, has_flag, is_bare, opening_thing, request_thing};
 
 use std::alloc::{AllocError, Global};
-use ttrpc_frame::{FLAG_NO_DATA, FLAG_REMOTE_CLOSED, FLAG_REMOTE_OPEN};
-use ttrpc_proto::Error;
+use ttrpc_proto::{Error, FLAG_NO_DATA, FLAG_REMOTE_CLOSED, FLAG_REMOTE_OPEN};
 use ttrpc_wire::{Blob, Text};
 
 /// What comes in for a receiver.

@@ -9,8 +9,7 @@ use std::net::{TcpListener, TcpStream};
 use std::process::ExitCode;
 use std::rt::Env;
 use ttrpc_echo::{Outcome, run, tell};
-use ttrpc_frame::{MESSAGE_HEADER_LENGTH, MESSAGE_LENGTH_MAX};
-use ttrpc_proto::Error;
+use ttrpc_proto::{Error, MESSAGE_HEADER_LENGTH, MESSAGE_LENGTH_MAX};
 use ttrpc_transport::nodelay_from;
 
 /// Room for any frame, so that each answer leaves in one write where it is flushed. On a socket that delays small writes the

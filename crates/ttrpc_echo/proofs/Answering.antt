@@ -5,10 +5,10 @@ use Rattle.std.specs.Io.KnownBytes.{Appends, Consumes, IsAtEnd, Keeps}
 use Rattle.ttrpc_proto.specs.declared.error.Error.{Error}
 use Rattle.ttrpc_proto.specs.declared.error.Error.TheVariants.{Socket, NoMemory}
 use Rattle.ttrpc_proto.specs.declared.messages.Response.{Response}
-use Rattle.ttrpc_frame.specs.declared.frame.Incoming.{Incoming}
-use Rattle.ttrpc_frame.specs.Frames.{Frames, Held, Holds, Fed, nothing, held_of}
-use Rattle.ttrpc_frame.specs.Queue.{unsent}
-use Rattle.ttrpc_frame.proofs.Frames.{exact, nothing_held}
+use Rattle.ttrpc_proto.specs.declared.framing.frame.Incoming.{Incoming}
+use Rattle.ttrpc_proto.specs.Framing.Frames.{Frames, Held, Holds, Fed, nothing, held_of}
+use Rattle.ttrpc_proto.specs.Framing.Queue.{unsent}
+use Rattle.ttrpc_proto.proofs.Frames.{exact, nothing_held}
 use Rattle.ttrpc_secure.specs.declared.plain.Plain.{Plain}
 use Rattle.ttrpc_connection.specs.Failure.{IsTold}
 use Rattle.ttrpc_connection.specs.Frames.{header_of_frame}

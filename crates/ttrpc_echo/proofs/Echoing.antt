@@ -3,19 +3,19 @@ use Rattle.std.proofs.Common.{◌≡◌, inl, inr, ℕ, ◌+◌, ◌≤◌, List
 use Rattle.std.proofs.lemmas.Option.{same_Some}
 use Rattle.std.proofs.lemmas.List.{append-nil, drop-append-le, take-append-drop}
 use Rattle.std.proofs.lemmas.Grind.{flat_map-append}
-use Rattle.ttrpc_frame.specs.declared.header.MessageHeader.{MessageHeader}
-use Rattle.ttrpc_frame.specs.declared.header.TheConstants.{MESSAGE_LENGTH_MAX}
+use Rattle.ttrpc_proto.specs.declared.framing.header.MessageHeader.{MessageHeader}
+use Rattle.ttrpc_proto.specs.declared.framing.header.TheConstants.{MESSAGE_LENGTH_MAX}
 use Rattle.ttrpc_proto.specs.declared.messages.Request.{Request}
 use Rattle.ttrpc_proto.specs.declared.messages.Response.{Response}
 use Rattle.ttrpc_proto.specs.Messages.{empty_request, request_step}
 use Rattle.ttrpc_wire.specs.Fold.{read_from}
-use Rattle.ttrpc_frame.specs.Header.{header_bytes}
-use Rattle.ttrpc_frame.specs.declared.frame.Incoming.{Incoming}
-use Rattle.ttrpc_frame.specs.declared.frame.Incoming.TheVariants.{Frame, Oversize}
-use Rattle.ttrpc_frame.specs.declared.outgoing.Queued.{Queued}
-use Rattle.ttrpc_frame.specs.Frames.{Held, Fed, given}
-use Rattle.ttrpc_frame.specs.Queue.{Queue, IsQueue, IsWithin, unsent, with_frame, with_payload, written, written_all}
-use Rattle.ttrpc_frame.proofs.Queues.{with_frame_is_queue, written_is}
+use Rattle.ttrpc_proto.specs.Framing.Header.{header_bytes}
+use Rattle.ttrpc_proto.specs.declared.framing.frame.Incoming.{Incoming}
+use Rattle.ttrpc_proto.specs.declared.framing.frame.Incoming.TheVariants.{Frame, Oversize}
+use Rattle.ttrpc_proto.specs.declared.framing.outgoing.Queued.{Queued}
+use Rattle.ttrpc_proto.specs.Framing.Frames.{Held, Fed, given}
+use Rattle.ttrpc_proto.specs.Framing.Queue.{Queue, IsQueue, IsWithin, unsent, with_frame, with_payload, written, written_all}
+use Rattle.ttrpc_proto.proofs.Queues.{with_frame_is_queue, written_is}
 use Rattle.ttrpc_secure.specs.declared.plain.Plain.{Plain}
 use Rattle.ttrpc_connection.specs.declared.arrived.Opening.{Opening}
 use Rattle.ttrpc_connection.specs.declared.arrived.Opening.TheVariants.{TooLong, Opened, Refused}

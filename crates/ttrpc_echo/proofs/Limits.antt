@@ -11,13 +11,13 @@ use Rattle.ttrpc_wire.specs.Field.{code_of, Varint, Field, tag_bytes, field_byte
 use Rattle.ttrpc_wire.specs.Number.{number_of}
 use Rattle.ttrpc_wire.specs.declared.values.code.Code.{Code}
 use Rattle.ttrpc_wire.specs.declared.values.code.Code.TheVariants.{INVALID_ARGUMENT}
-use Rattle.ttrpc_frame.specs.declared.header.TheConstants.{MESSAGE_LENGTH_MAX}
+use Rattle.ttrpc_proto.specs.declared.framing.header.TheConstants.{MESSAGE_LENGTH_MAX}
 use Rattle.ttrpc_proto.specs.declared.messages.Response.{Response}
 use Rattle.ttrpc_wire.specs.Code.{number_of_code}
 use Rattle.ttrpc_proto.specs.ErrorText.{status_of}
-use Rattle.ttrpc_codec.specs.Members.{delimited_field, delimited_fields, number_fields}
+use Rattle.ttrpc_wire.specs.Codec.Members.{delimited_field, delimited_fields, number_fields}
 use Rattle.ttrpc_proto.specs.Messages.{status_fields}
-use Rattle.ttrpc_codec.proofs.Written.{length-delimited_field, length-fields_bytes-append}
+use Rattle.ttrpc_wire.proofs.Written.{length-delimited_field, length-fields_bytes-append}
 use Rattle.ttrpc_server.specs.Protocol.{fit_to_limit, limit_text, response_bytes, response_size}
 use Rattle.ttrpc_server.specs.Table.{status_response}
 

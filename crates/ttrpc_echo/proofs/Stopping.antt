@@ -3,10 +3,10 @@ use Rattle.std.proofs.Common.{◌≡◌, inl, inr, ℕ, ◌+◌, ◌≤◌, ◌^
 use Rattle.std.specs.List.{AllByRecursion}
 use Rattle.ttrpc_proto.specs.declared.error.Error.{Error}
 use Rattle.ttrpc_proto.specs.declared.error.Error.TheVariants.{NoMemory}
-use Rattle.ttrpc_frame.specs.declared.header.MessageHeader.{MessageHeader}
+use Rattle.ttrpc_proto.specs.declared.framing.header.MessageHeader.{MessageHeader}
 use Rattle.ttrpc_proto.specs.declared.messages.Response.{Response}
-use Rattle.ttrpc_frame.specs.declared.frame.Incoming.{Incoming}
-use Rattle.ttrpc_frame.specs.Frames.{Held, Fed, given}
+use Rattle.ttrpc_proto.specs.declared.framing.frame.Incoming.{Incoming}
+use Rattle.ttrpc_proto.specs.Framing.Frames.{Held, Fed, given}
 use Rattle.ttrpc_secure.specs.declared.plain.Plain.{Plain}
 use Rattle.ttrpc_connection.specs.Feeds.{ActsAll, Breaks, IsWhy, Scene, arrived, scene}
 use Rattle.ttrpc_connection.specs.declared.failure.Failure.{Failure}

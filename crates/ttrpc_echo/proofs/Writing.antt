@@ -2,11 +2,11 @@
 use Rattle.std.proofs.Common.{◌≡◌, ◌≤◌, ◌+◌, ℕ, Bool, true, false, nat_lt, List, [], ◌∷◌, ◌++◌, length, take, drop, Option, refl, sym, ap, ◌∙◌, append_assoc}
 use Rattle.std.proofs.lemmas.List.{append-nil}
 use Rattle.std.specs.Io.KnownBytes.{Appends}
-use Rattle.ttrpc_frame.specs.declared.outgoing.Queued.{Queued}
-use Rattle.ttrpc_frame.specs.Queue.{Queue, IsQueue, IsWithin, first_open, open_part, unsent, with_lent, report_first, report_finishes, after_report, written, written_all}
-use Rattle.ttrpc_frame.specs.Queue as queue
-use Rattle.ttrpc_frame.proofs.Departures.{bytes_are_written}
-use Rattle.ttrpc_frame.proofs.Queues.{with_lent_is_queue, after_report_is_queue}
+use Rattle.ttrpc_proto.specs.declared.framing.outgoing.Queued.{Queued}
+use Rattle.ttrpc_proto.specs.Framing.Queue.{Queue, IsQueue, IsWithin, first_open, open_part, unsent, with_lent, report_first, report_finishes, after_report, written, written_all}
+use Rattle.ttrpc_proto.specs.Framing.Queue as queue
+use Rattle.ttrpc_proto.proofs.Departures.{bytes_are_written}
+use Rattle.ttrpc_proto.proofs.Queues.{with_lent_is_queue, after_report_is_queue}
 use Rattle.ttrpc_secure.specs.declared.plain.Plain.{Plain}
 use Rattle.ttrpc_server.specs.declared.server.ServerCore.{ServerCore}
 use Rattle.ttrpc_echo.specs.Serving.{IsReady, WritesOut}

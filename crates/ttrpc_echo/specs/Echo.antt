@@ -1,13 +1,13 @@
 -- What the program answers to frames, one after the other.
 -- Source: PROTOCOL.md of ttrpc, "Request" and "Response".
 use Rattle.std.specs.Prelude.{◌≡◌, ℕ, ◌%◌, ◌^◌, List, [], ◌∷◌, ◌++◌, length, codes, false, Option, Some, None}
-use Rattle.ttrpc_frame.specs.declared.header.TheConstants.{MESSAGE_LENGTH_MAX, MESSAGE_TYPE_RESPONSE}
+use Rattle.ttrpc_proto.specs.declared.framing.header.TheConstants.{MESSAGE_LENGTH_MAX, MESSAGE_TYPE_RESPONSE}
 use Rattle.ttrpc_proto.specs.declared.messages.Request.{Request}
 use Rattle.ttrpc_proto.specs.declared.messages.Response.{Response}
-use Rattle.ttrpc_frame.specs.Header.{header_bytes}
+use Rattle.ttrpc_proto.specs.Framing.Header.{header_bytes}
 use Rattle.ttrpc_proto.specs.Messages.{empty_status}
-use Rattle.ttrpc_frame.specs.declared.frame.Incoming.{Incoming}
-use Rattle.ttrpc_frame.specs.declared.frame.Incoming.TheVariants.{Frame, Oversize}
+use Rattle.ttrpc_proto.specs.declared.framing.frame.Incoming.{Incoming}
+use Rattle.ttrpc_proto.specs.declared.framing.frame.Incoming.TheVariants.{Frame, Oversize}
 use Rattle.ttrpc_connection.specs.declared.arrived.Opening.{Opening}
 use Rattle.ttrpc_connection.specs.declared.arrived.Opening.TheVariants.{TooLong, Opened}
 use Rattle.ttrpc_connection.specs.Frames.{header_of_frame}

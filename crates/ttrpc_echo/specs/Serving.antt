@@ -4,9 +4,9 @@ use Rattle.std.specs.Prelude.{false, ◌≡◌, ◌⊎◌, ℕ, ◌+◌, ◌≤�
 use Rattle.std.specs.Io.KnownBytes.{Appends}
 use Rattle.ttrpc_proto.specs.declared.error.Error.{Error}
 use Rattle.ttrpc_proto.specs.declared.error.Error.TheVariants.{Others, NoMemory}
-use Rattle.ttrpc_frame.specs.declared.frame.Incoming.{Incoming}
-use Rattle.ttrpc_frame.specs.Frames.{Held, Holds, Fed, nothing}
-use Rattle.ttrpc_frame.specs.Queue.{IsQueue, unsent}
+use Rattle.ttrpc_proto.specs.declared.framing.frame.Incoming.{Incoming}
+use Rattle.ttrpc_proto.specs.Framing.Frames.{Held, Holds, Fed, nothing}
+use Rattle.ttrpc_proto.specs.Framing.Queue.{IsQueue, unsent}
 use Rattle.ttrpc_secure.specs.declared.plain.Plain.{Plain}
 use Rattle.ttrpc_secure.specs.Halves.{RefusesNothing}
 use Rattle.ttrpc_secure.specs.Plain.{Keeps}

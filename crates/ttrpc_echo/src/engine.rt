@@ -1,24 +1,23 @@
 //! The engine of `answer`: frames from a reader, and the answers of a server whose one method echoes, to a writer.
 ghost use Rattle.std.specs.Prelude.{◌≡◌, ◌≢◌, ◌<◌, ◌≤◌, ℕ, List, Option, [], None, length, take, drop, IfOk, IfErr, OnOk, OnErr, MatchResult};
 ghost use Rattle.ttrpc_proto.specs.declared.error.Error.TheVariants.{NoMemory};
-ghost use Rattle.ttrpc_frame.specs.Frames.{nothing};
+ghost use Rattle.ttrpc_proto.specs.Framing.Frames.{nothing};
 ghost use Rattle.ttrpc_connection.specs.Failure.{IsTold, error_of};
 ghost use Rattle.ttrpc_connection.specs.declared.failure.Failure.TheVariants.{DisconnectedInside};
 ghost use Rattle.ttrpc_echo.specs.Echo.{echo_of};
 ghost use Rattle.ttrpc_echo.specs.Answered.{AnsweredAll, Fails, IsOfSystem};
 ghost use Rattle.ttrpc_echo.specs.Serving.{IsFresh, IsReady, IsStop, Echoes, Serves, WritesOut};
-ghost use Rattle.ttrpc_frame.specs.Queue.{unsent};
+ghost use Rattle.ttrpc_proto.specs.Framing.Queue.{unsent};
 ghost use Rattle.std.specs.Io.KnownBytes.{Appends, Keeps, ReadConsumes};
 ghost use Rattle.std.specs.Io.{ReadsAtMost};
 
 use std::alloc::Global;
 use std::io::{ErrorKind, Read, Write};
-use ttrpc_codec::message::WireMessage;
-use ttrpc_frame::{Passing, read_again, write_again};
-use ttrpc_proto::{Error, Request, Response, Status};
+use ttrpc_proto::{Error, Passing, Request, Response, Status, read_again, write_again};
 use ttrpc_secure::{Plain, plain_context};
 use ttrpc_server::{Registry, Rules, ServerCore};
 use ttrpc_wire::Text;
+use ttrpc_wire::codec::message::WireMessage;
 use ttrpc_wire::values::slices::behind;
 
 /// How many bytes are read, and written, at once.

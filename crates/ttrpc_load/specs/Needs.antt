@@ -4,7 +4,7 @@ use Rattle.std.specs.Prelude.{◌≡◌, ℕ, Option, Some, None}
 use Rattle.std.specs.Arc.{arc_value}
 use Rattle.ttrpc_polled_client.specs.declared.request.ClientRequest.{ClientRequest}
 use Rattle.ttrpc_polled_client.specs.Needs.{line_source}
-use Rattle.ttrpc_polled_streams.specs.Needs.{receiver_source, sender_source}
+use Rattle.ttrpc_polled.specs.Streams.Needs.{receiver_source, sender_source}
 use Rattle.ttrpc_load.specs.declared.polled.counts.CountAt.{CountAt}
 use Rattle.ttrpc_load.specs.declared.polled.counts.CountAt.TheVariants.{Opens as OpensCount, Receives as ReceivesItem, Done as IsCounted}
 use Rattle.ttrpc_load.specs.declared.polled.exchanges.Exchanges.{Exchanges}

@@ -8,11 +8,10 @@ use std::alloc::Global;
 use std::io::BufReader;
 use std::sync::Arc;
 use std::thread::{Builder, JoinHandle};
-use ttrpc_codec::message::encode;
-use ttrpc_frame::{GenMessage, GenMessageError, MessageHeader};
-use ttrpc_proto::{Error, Result};
+use ttrpc_proto::{Error, GenMessage, GenMessageError, MessageHeader, Result};
 use ttrpc_sync::{Runtime, moment};
 use ttrpc_transport::{ClientConnection, PipeConnection};
+use ttrpc_wire::codec::message::encode;
 
 /// Writes all calls of the load at once, from one connection, and says when the answers came, from the first write on. One
 /// call comes before, so that the server's threads are there.

@@ -2,7 +2,7 @@
 use Rattle.std.proofs.Common.{◌≡◌, ◌≤◌, ◌^◌, ◌-◌, ◌+◌, ℕ, List, [], ◌∷◌, ◌++◌, length, min, refl, sym, ap, ◌∙◌, arith, length-append, append_assoc}
 use Rattle.std.proofs.lemmas.List.{append-nil}
 use Rattle.ttrpc_wire.specs.Field.{Field, field_bytes, fields_bytes}
-use Rattle.ttrpc_codec.proofs.Written.{fields_bytes-append, length-fields_bytes-append}
+use Rattle.ttrpc_wire.proofs.Written.{fields_bytes-append, length-fields_bytes-append}
 use Rattle.ttrpc_members.specs.Schema.{appended, flat, total}
 
 -- what is written behind some bytes

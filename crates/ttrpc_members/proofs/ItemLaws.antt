@@ -11,7 +11,7 @@ use Rattle.ttrpc_wire.specs.Varint.{varint}
 use Rattle.ttrpc_wire.specs.Field.{LengthDelimited, Field, Fits, fields_bytes, value_bytes}
 use Rattle.ttrpc_wire.specs.Fold.{folded}
 use Rattle.ttrpc_wire.proofs.Folds.{reads_back}
-use Rattle.ttrpc_codec.proofs.Written.{int32_back, int32_small, int64_back, int64_small}
+use Rattle.ttrpc_wire.proofs.Written.{int32_back, int32_small, int64_back, int64_small}
 use Rattle.ttrpc_members.specs.Items.{Coding, is_nil, text, bytes, nested, enclosed, as_varint, as_fixed64, as_fixed32, int64, int32, uint64, uint32, boolean, boolean_code, boolean_of, zigzag, unzigzag, sint64, sint32, sfixed32}
 use Rattle.ttrpc_members.specs.Laws.{LawfulCoding, LawfulItem, AreShort}
 

@@ -2,8 +2,8 @@
 use Rattle.std.proofs.Common.{◌≡◌, ℕ, zero, suc, ◌+◌, ◌<◌, ◌≤◌, List, [], ◌∷◌, ◌++◌, length, take, get_or, ap, ◌∙◌, arith}
 use Rattle.std.proofs.lemmas.List.{map_push, append-nil, length-append}
 use Rattle.ttrpc_wire.specs.Field.{Value, Field, field_bytes, fields_bytes}
-use Rattle.ttrpc_codec.proofs.Parts.{take_one}
-use Rattle.ttrpc_codec.proofs.Written.{fields_bytes-append}
+use Rattle.ttrpc_wire.proofs.Parts.{take_one}
+use Rattle.ttrpc_wire.proofs.Written.{fields_bytes-append}
 use Rattle.ttrpc_members.specs.Items.{Item}
 use Rattle.ttrpc_members.specs.Schema.{fields_at}
 use Rattle.ttrpc_members.specs.Kinds.{repeated_values}

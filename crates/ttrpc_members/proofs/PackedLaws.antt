@@ -16,7 +16,7 @@ use Rattle.ttrpc_wire.proofs.Agrees.{found, shortens}
 use Rattle.ttrpc_wire.proofs.Varints.{varint_spells}
 use Rattle.ttrpc_wire.proofs.WireValues.{value_agrees}
 use Rattle.ttrpc_wire.proofs.Folds.{refused_along}
-use Rattle.ttrpc_codec.proofs.Parts.{take_one}
+use Rattle.ttrpc_wire.proofs.Parts.{take_one}
 use Rattle.ttrpc_members.specs.Items.{Item}
 use Rattle.ttrpc_members.specs.Kinds.{one_more, repeated_take, packed_upto, packed_from, packed_take, packed_bytes, packed_values, packed}
 use Rattle.ttrpc_members.specs.Laws.{IsShort, LawfulItem, LawfulKind, taken}

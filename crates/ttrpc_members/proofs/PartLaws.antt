@@ -6,7 +6,7 @@ use Rattle.std.proofs.lemmas.List.{append-nil}
 use Rattle.ttrpc_wire.specs.Field.{Value, ValueFits, Field, Fits, tag_bytes, field_bytes, fields_bytes, value_bytes, wire_type_of}
 use Rattle.ttrpc_wire.specs.Reading.{◌>>=◌}
 use Rattle.ttrpc_wire.specs.Fold.{folded}
-use Rattle.ttrpc_codec.proofs.Written.{fold_then, length-fields_bytes-append}
+use Rattle.ttrpc_wire.proofs.Written.{fold_then, length-fields_bytes-append}
 use Rattle.ttrpc_members.specs.Kinds.{Kind}
 use Rattle.ttrpc_members.specs.Schema.{fields_at, Part, member, flat, Parts, none, with_part, message_of}
 use Rattle.ttrpc_members.specs.Laws.{is_among, are_valid, AreShort, IsShort, LawfulKind, taken, LawfulPart, LawfulParts}

@@ -8,7 +8,7 @@ use crate::item::{ItemKind, delimited_len, put_delimited};
 use crate::nesting::{Recursive, check};
 use std::alloc::{AllocError, Global};
 use std::marker::{Model, PhantomData};
-use ttrpc_codec::message::{WireMessage, decode, encode};
+use ttrpc_wire::codec::message::{WireMessage, decode, encode};
 use ttrpc_wire::{CodecError, TryClone, Value, WireType};
 
 /// A message that may contain the one that it is in, kept as its bytes, which contracts see as their list. They are fields of

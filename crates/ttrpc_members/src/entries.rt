@@ -16,7 +16,7 @@ use crate::map::Map;
 use std::alloc::{AllocError, Global};
 use std::collections::BTreeMap;
 use std::marker::PhantomData;
-use ttrpc_codec::members::part_len;
+use ttrpc_wire::codec::members::part_len;
 use ttrpc_wire::{
     CodecError, Field, FieldNumber, Reader, Tag, Value, WireType, put_tag, put_varint,
 };

@@ -9,8 +9,8 @@ ghost use Rattle.ttrpc_members.specs.Items.{Item};
 use crate::coding::{self, Coding32, Coding64};
 use std::alloc::{AllocError, Global};
 use std::marker::PhantomData;
-use ttrpc_codec::members::text_from;
-use ttrpc_codec::message::{WireMessage, read_into};
+use ttrpc_wire::codec::members::text_from;
+use ttrpc_wire::codec::message::{WireMessage, read_into};
 use ttrpc_wire::{Blob, CodecError, Text, TryClone, Value, WireType, put_varint, varint_len};
 
 /// A kind of item. The type that implements it stands for the kind; the items are values of `Item`.

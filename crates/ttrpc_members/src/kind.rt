@@ -10,7 +10,7 @@ ghost use Rattle.ttrpc_members.specs.Schema.{fields_at};
 use crate::item::ItemKind;
 use std::alloc::{AllocError, Global};
 use std::marker::PhantomData;
-use ttrpc_codec::members::part_len;
+use ttrpc_wire::codec::members::part_len;
 use ttrpc_wire::{
     CodecError, FieldNumber, Reader, Sequence, Tag, TryClone, Value, WireType, put_tag, put_varint,
     tag_len,

@@ -6,16 +6,16 @@ use Rattle.std.specs.Global.{Vec}
 use Rattle.std.specs.IoError.{error_kind}
 use Rattle.std.specs.declared.io.ErrorKind.TheVariants.{WriteZero}
 use Rattle.ttrpc_wire.specs.declared.values.code.Code.TheVariants.{INVALID_ARGUMENT}
-use Rattle.ttrpc_frame.specs.declared.header.MessageHeader.{MessageHeader}
+use Rattle.ttrpc_proto.specs.declared.framing.header.MessageHeader.{MessageHeader}
 use Rattle.ttrpc_proto.specs.declared.error.Error.{Error}
 use Rattle.ttrpc_proto.specs.declared.error.Error.TheVariants.{Socket, RpcStatus, NoMemory}
 use Rattle.ttrpc_proto.specs.ErrorText.{IsOthers, IsSocket, status_of}
-use Rattle.ttrpc_frame.specs.declared.failure.StreamFailure.{StreamFailure}
-use Rattle.ttrpc_frame.specs.declared.failure.StreamFailure.TheVariants.{Io, NoMemory as Refused}
-use Rattle.ttrpc_frame.specs.declared.frame.Incoming.TheVariants.{Frame, Oversize}
-use Rattle.ttrpc_frame.specs.declared.reading.Found.{Found}
-use Rattle.ttrpc_frame.specs.declared.reading.Found.TheVariants.{Whole, HeaderCut, BodyCut, OversizeCut}
-use Rattle.ttrpc_frame.specs.Streaming.{TellsFailure, TellsOversize}
+use Rattle.ttrpc_proto.specs.declared.framing.failure.StreamFailure.{StreamFailure}
+use Rattle.ttrpc_proto.specs.declared.framing.failure.StreamFailure.TheVariants.{Io, NoMemory as Refused}
+use Rattle.ttrpc_proto.specs.declared.framing.frame.Incoming.TheVariants.{Frame, Oversize}
+use Rattle.ttrpc_proto.specs.declared.framing.reading.Found.{Found}
+use Rattle.ttrpc_proto.specs.declared.framing.reading.Found.TheVariants.{Whole, HeaderCut, BodyCut, OversizeCut}
+use Rattle.ttrpc_proto.specs.Framing.Streaming.{TellsFailure, TellsOversize}
 use Rattle.ttrpc_message.specs.Calls.{TellsCause}
 use Rattle.ttrpc_message.specs.declared.message.Message.{Message}
 

@@ -1,18 +1,17 @@
 //! Messages as bytes.
 ghost use Rattle.std.specs.Prelude.{◌≡◌, ◌++◌, OnErr, OnOk, codes};
 ghost use Rattle.std.specs.Io.KnownBytes.{Appends};
-ghost use Rattle.ttrpc_frame.specs.Header.{header_bytes};
-ghost use Rattle.ttrpc_frame.specs.Streams.{AppendsFront};
-ghost use Rattle.ttrpc_frame.specs.Streaming.{Reads, Sends, TellsFailure, WritesFrame};
+ghost use Rattle.ttrpc_proto.specs.Framing.Header.{header_bytes};
+ghost use Rattle.ttrpc_proto.specs.Framing.Streams.{AppendsFront};
+ghost use Rattle.ttrpc_proto.specs.Framing.Streaming.{Reads, Sends, TellsFailure, WritesFrame};
 ghost use Rattle.ttrpc_message.specs.Messages.{ArePartsOf, IsErrorOf, IsSentMessage, TellsZero, body_cut_text, cut_error, header_cut_text};
 
 use std::alloc::Global;
 use std::io::ErrorKind;
-use ttrpc_frame::failure::StreamFailure;
-use ttrpc_frame::reading::{Found, oversize_error, take_frame};
-use ttrpc_frame::writing::write_frame;
-use ttrpc_frame::{Incoming, MessageHeader, Sink, Source};
-use ttrpc_proto::{Error, Result, sock_error_msg};
+use ttrpc_proto::framing::failure::StreamFailure;
+use ttrpc_proto::framing::reading::{Found, oversize_error, take_frame};
+use ttrpc_proto::framing::writing::write_frame;
+use ttrpc_proto::{Error, Incoming, MessageHeader, Result, Sink, Source, sock_error_msg};
 use ttrpc_wire::Text;
 
 /// Reads the header and the payload of the next frame, and nothing that follows it. In place of a payload that is too

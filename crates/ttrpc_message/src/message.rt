@@ -1,25 +1,24 @@
 //! Messages as values.
 ghost use Rattle.std.specs.Prelude.{◌≡◌, ◌≢◌, ◌<◌, ◌≤◌, ◌++◌, ◌↔◌, ◌⊎◌, ◌^◌, ◌-◌, [], false, length, min, None, Some, IfErr, IfOk, IsOk, MatchResult, OnErr, OnOk};
 ghost use Rattle.std.specs.Io.KnownBytes.{Appends};
-ghost use Rattle.ttrpc_frame.specs.Header.{header_bytes};
-ghost use Rattle.ttrpc_frame.specs.Streams.{AppendsFront, Flushes, Makes, Then};
-ghost use Rattle.ttrpc_frame.specs.Header.Oversize.{oversize_error};
-ghost use Rattle.ttrpc_frame.specs.Streaming.{IsSent, Reads, Sends, WritesFrame};
+ghost use Rattle.ttrpc_proto.specs.Framing.Header.{header_bytes};
+ghost use Rattle.ttrpc_proto.specs.Framing.Streams.{AppendsFront, Flushes, Makes, Then};
+ghost use Rattle.ttrpc_proto.specs.Framing.Header.Oversize.{oversize_error};
+ghost use Rattle.ttrpc_proto.specs.Framing.Streaming.{IsSent, Reads, Sends, WritesFrame};
 ghost use Rattle.ttrpc_message.specs.Messages.{Decodes, Fails, IsErrorOf, IsUnwritten, IsValueOf};
 
 use crate::codec_cause::codec_error_of;
 use std::alloc::{AllocError, Global};
 use std::fmt::Display;
-use ttrpc_codec::Codec;
-use ttrpc_frame::failure::StreamFailure;
-use ttrpc_frame::header::oversize::check_oversize;
-use ttrpc_frame::reading::{Found, cut_error, take_frame};
-use ttrpc_frame::writing::write_flushed;
-use ttrpc_frame::{
-    GenMessage, Incoming, MESSAGE_LENGTH_MAX, MESSAGE_TYPE_REQUEST, MessageHeader, Sink, Source,
+use ttrpc_proto::framing::failure::StreamFailure;
+use ttrpc_proto::framing::header::oversize::check_oversize;
+use ttrpc_proto::framing::reading::{Found, cut_error, take_frame};
+use ttrpc_proto::framing::writing::write_flushed;
+use ttrpc_proto::{
+    Error, GenMessage, Incoming, MESSAGE_LENGTH_MAX, MESSAGE_TYPE_REQUEST, MessageHeader, Result,
+    Sink, Source,
 };
-use ttrpc_proto::{Error, Result};
-use ttrpc_wire::{Blob, TryClone};
+use ttrpc_wire::{Blob, Codec, TryClone};
 
 /// A header, and the value of its message.
 #[derive(Debug, Default, Drop, PartialEq, Eq)]

@@ -3,14 +3,14 @@
 use Rattle.std.proofs.Common.{◌≡◌, ◌++◌, ◌∷◌, ◌∙◌, ◌+◌, ◌-◌, ◌&&◌, not, ap, arith, sym, List, [], ℕ, append-nil, refl, length, drop, take, take-append-drop, nat_lt, Bool, true, false}
 use Rattle.std.proofs.lemmas.Bool.{lt-ltb}
 use Rattle.std.proofs.lemmas.List.{length-drop}
-use Rattle.ttrpc_frame.proofs.Pieces.{no_frame}
-use Rattle.ttrpc_frame.specs.declared.frame.Incoming.{Incoming}
-use Rattle.ttrpc_frame.specs.declared.outgoing.Queued.{Queued}
-pub use Rattle.ttrpc_flight.proofs.Bytes.{all_has_come}
-pub use Rattle.ttrpc_frame.specs.Frames.{Fed}
-pub use Rattle.ttrpc_frame.specs.Queue.{IsQueue}
-use Rattle.ttrpc_frame.specs.Frames.{Held, Holds}
-use Rattle.ttrpc_frame.specs.Queue.{after_report, begun_count, first_open, frames_without, IsWithin, open_part, Queue, report_first, with_lent, without, written}
+use Rattle.ttrpc_proto.proofs.Pieces.{no_frame}
+use Rattle.ttrpc_proto.specs.declared.framing.frame.Incoming.{Incoming}
+use Rattle.ttrpc_proto.specs.declared.framing.outgoing.Queued.{Queued}
+pub use Rattle.ttrpc_world_trace.proofs.Bytes.{all_has_come}
+pub use Rattle.ttrpc_proto.specs.Framing.Frames.{Fed}
+pub use Rattle.ttrpc_proto.specs.Framing.Queue.{IsQueue}
+use Rattle.ttrpc_proto.specs.Framing.Frames.{Held, Holds}
+use Rattle.ttrpc_proto.specs.Framing.Queue.{after_report, begun_count, first_open, frames_without, IsWithin, open_part, Queue, report_first, with_lent, without, written}
 
 pub no_frames_come : (held new : Held) (before : List ℕ) (frames : List Incoming) → Holds held before → Fed held [] frames new → frames ≡ []
 no_frames_come held new before [] holds fed = refl

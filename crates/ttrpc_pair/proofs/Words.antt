@@ -1,9 +1,9 @@
 -- The words that these proofs use, and those of the headline above them, in one list.
 pub use Rattle.std.proofs.Common.{codes}
 pub use Rattle.std.proofs.lemmas.Bool.{and_parts, le-ltb}
-pub use Rattle.ttrpc_frame.specs.declared.header.TheConstants.{MESSAGE_TYPE_RESPONSE}
+pub use Rattle.ttrpc_proto.specs.declared.framing.header.TheConstants.{MESSAGE_TYPE_RESPONSE}
 pub use Rattle.ttrpc_proto.specs.Messages.{empty_request, empty_response, IsRequest, IsResponse, request_fields, request_step, response_fields, response_step}
-pub use Rattle.ttrpc_frame.specs.Queue.{empty_queue, has_begun}
+pub use Rattle.ttrpc_proto.specs.Framing.Queue.{empty_queue, has_begun}
 pub use Rattle.ttrpc_secure.specs.Halves.{IsPaired}
 pub use Rattle.ttrpc_connection.specs.declared.arrived.Opening.TheVariants.{Opened}
 pub use Rattle.ttrpc_connection.specs.Outbox.{Outbox}
@@ -21,11 +21,11 @@ pub use Rattle.ttrpc_server.specs.Table.{asked_row, case_of, case_row, data_case
 pub use Rattle.ttrpc_client.specs.declared.client.ClientCore.{ClientCore}
 pub use Rattle.ttrpc_client.proofs.Words.{call_at, calling, Client, due_at, InboundTransform, Landing, landing_of, LandsOn, LandsOnce, last_id, Passes, taken_back, takes_back, throws, Ticks}
 pub use Rattle.ttrpc_client.specs.Protocol.{by_status, Gives, request_bytes, Requests, TakesOutcome}
-pub use Rattle.ttrpc_flight.proofs.Bytes.{carried_in_flight, cut_in_flight, fed_in_flight, none_in_flight, placed_in_flight, thrown_in_flight}
-pub use Rattle.ttrpc_flight.proofs.Losing.{all_thrown, left_behind, stays}
-pub use Rattle.ttrpc_flight.proofs.Parcels.{id_of, parcels_thrown, parcels_thrown_elsewhere}
-pub use Rattle.ttrpc_flight.proofs.Seals.{more_linked, none_linked, thrown_linked}
-pub use Rattle.ttrpc_flight.proofs.Words.{ActsOn, AreInFlight, AreLinked, arrived, Flying, flying_without, IsOwned, IsSound, parcels}
+pub use Rattle.ttrpc_world_trace.proofs.Bytes.{carried_in_flight, cut_in_flight, fed_in_flight, none_in_flight, placed_in_flight, thrown_in_flight}
+pub use Rattle.ttrpc_world_trace.proofs.Losing.{all_thrown, left_behind, stays}
+pub use Rattle.ttrpc_world_trace.proofs.Parcels.{id_of, parcels_thrown, parcels_thrown_elsewhere}
+pub use Rattle.ttrpc_world_trace.proofs.Seals.{more_linked, none_linked, thrown_linked}
+pub use Rattle.ttrpc_world_trace.proofs.FlightWords.{ActsOn, AreInFlight, AreLinked, arrived, Flying, flying_without, IsOwned, IsSound, parcels}
 pub use Rattle.ttrpc_pair.specs.Types.{Answer, CallEvent, CancelledDuringWrite, Carry, Connection, Count, Cut, DeadlineDuringWrite, Deliver, Disconnected, DisconnectedInside, Done, DropCall, Entry, Event, Fail, Failure, Finish, Given, Handed, HandlerError, Named, Outcome, Refused, Reply, Respond, Take, Tick, Told, Open as OpenEvent, Recv, Send, Close, DropReceiver, DropSender, EndStream, Drain, Ticket, Item}
 pub use Rattle.ttrpc_pair.specs.Net.{Halves, halves, has_response, IsFresh, Net, with_client, with_server}
 pub use Rattle.ttrpc_pair.specs.Pipes.{empty_pipe, is_over, Pipe}
@@ -39,12 +39,12 @@ pub use Rattle.ttrpc_server.specs.declared.rows.Inlet.TheVariants.{Absent, Busy,
 pub use Rattle.ttrpc_server.specs.declared.rules.Rules.{Rules}
 pub use Rattle.ttrpc_server.specs.declared.rules.Rules.TheVariants.{Async as AsyncRules, Sync as SyncRules}
 pub use Rattle.ttrpc_client.specs.State.{waits}
-pub use Rattle.ttrpc_events.specs.declared.events.Side.TheVariants.{Client as ClientSide, Server as ServerSide}
-pub use Rattle.ttrpc_events.specs.declared.events.StreamEnd.TheVariants.{Client as ClientEnd, Server as ServerEnd}
+pub use Rattle.ttrpc_world_trace.specs.declared.events.Side.TheVariants.{Client as ClientSide, Server as ServerSide}
+pub use Rattle.ttrpc_world_trace.specs.declared.events.StreamEnd.TheVariants.{Client as ClientEnd, Server as ServerEnd}
 pub use Rattle.ttrpc_client.specs.declared.kind.ClientKind.{ClientKind}
 pub use Rattle.ttrpc_client.specs.declared.kind.ClientKind.TheVariants.{Async as AsyncKind, Sync as SyncKind}
 pub use Rattle.ttrpc_connection.specs.Deadlines.{deadline_of}
-pub use Rattle.ttrpc_flight.proofs.Acting.{act_as_sent}
+pub use Rattle.ttrpc_world_trace.proofs.Acting.{act_as_sent}
 pub use Rattle.ttrpc_wire.proofs.Folds.{reads_back}
 pub use Rattle.ttrpc_wire.specs.Number.{number_of}
 pub use Rattle.ttrpc_proto.specs.Laws.{request_again, request_fits, response_again, response_fits}
@@ -61,7 +61,7 @@ pub use Rattle.ttrpc_client.specs.State.{stream_at}
 pub use Rattle.ttrpc_client.specs.declared.streams.Stream.{Stream}
 pub use Rattle.ttrpc_connection.specs.Items.{SendsData}
 pub use Rattle.ttrpc_connection.specs.Mail.{Mail, without_receiver}
-pub use Rattle.ttrpc_frame.specs.Header.Oversize.{oversize_text}
-pub use Rattle.ttrpc_frame.specs.declared.header.TheConstants.{MESSAGE_TYPE_DATA}
+pub use Rattle.ttrpc_proto.specs.Framing.Header.Oversize.{oversize_text}
+pub use Rattle.ttrpc_proto.specs.declared.framing.header.TheConstants.{MESSAGE_TYPE_DATA}
 pub use Rattle.ttrpc_proto.specs.declared.error.Error.TheVariants.{Others}
 pub use Rattle.ttrpc_wire.specs.declared.values.code.Code.TheVariants.{UNIMPLEMENTED, UNKNOWN}

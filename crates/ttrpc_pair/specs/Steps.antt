@@ -4,7 +4,7 @@ use Rattle.std.specs.Prelude.{◌≡◌, ◌⊎◌, ◌<◌, ◌≤◌, ◌%◌,
 use Rattle.ttrpc_pair.specs.Types.{Error, Response, Connection, Failure, Told, Event, Call, Open, Outcome, Recv, Send, Close, DropCall, DropReceiver, DropSender, Take, Answer, Respond, Finish, EndStream, Drain, Tick, Carry, Deliver, Cut, Fail, Reply, Named, Ticket, Given, Item, Handed, Done, Count, Refused, NoMemory, NoStep, Entry}
 use Rattle.ttrpc_proto.specs.declared.error.Error.TheVariants.{Socket}
 use Rattle.ttrpc_proto.specs.Messages.{IsRequest, IsResponse}
-use Rattle.ttrpc_frame.specs.Queue.{Queue, open_part}
+use Rattle.ttrpc_proto.specs.Framing.Queue.{Queue, open_part}
 use Rattle.ttrpc_connection.specs.Feeds.{Ways, Feeds, Breaks, IsFailed}
 use Rattle.ttrpc_connection.specs.OneEnd.{Ends, failing, lending, reporting}
 use Rattle.ttrpc_server.specs.declared.server.ServerCore.{ServerCore}
@@ -23,9 +23,9 @@ use Rattle.ttrpc_client.specs.Streaming.{DropsReceiver, DropsSender, RefusesSend
 use Rattle.ttrpc_client.specs.Streaming as streaming
 use Rattle.ttrpc_client.specs.Calls.{Passes}
 use Rattle.ttrpc_connection.specs.Items.{close_flags}
-use Rattle.ttrpc_flight.specs.Flight.{bytes_after_carry}
-use Rattle.ttrpc_events.specs.declared.events.Side.TheVariants as side
-use Rattle.ttrpc_events.specs.declared.events.StreamEnd.TheVariants as end
+use Rattle.ttrpc_world_trace.specs.Flight.{bytes_after_carry}
+use Rattle.ttrpc_world_trace.specs.declared.events.Side.TheVariants as side
+use Rattle.ttrpc_world_trace.specs.declared.events.StreamEnd.TheVariants as end
 use Rattle.ttrpc_pair.specs.Pipes.{Pipe, is_over}
 use Rattle.ttrpc_pair.specs.Net.{Halves, Net, has_response, with_client, with_server}
 

@@ -5,8 +5,8 @@ pub use Rattle.ttrpc_connection.specs.Types.{Error}
 pub use Rattle.ttrpc_connection.specs.declared.connection.Connection.{Connection}
 pub use Rattle.ttrpc_connection.specs.declared.failure.Failure.{Failure}
 pub use Rattle.ttrpc_connection.specs.declared.failure.Failure.TheVariants.{CancelledDuringWrite, DeadlineDuringWrite, Disconnected, DisconnectedInside, HandlerError, Told}
-pub use Rattle.ttrpc_events.specs.declared.events.Entry.{Entry}
-pub use Rattle.ttrpc_events.specs.declared.events.Event.{Event}
-pub use Rattle.ttrpc_events.specs.declared.events.Event.TheVariants.{Answer, Call, Call as CallEvent, Carry, Close, Cut, Deliver, Drain, DropCall, DropReceiver, DropSender, EndStream, Fail, Finish, Open, Outcome, Recv, Respond, Send, Take, Tick}
-pub use Rattle.ttrpc_events.specs.declared.events.Reply.{Reply}
-pub use Rattle.ttrpc_events.specs.declared.events.Reply.TheVariants.{Count, Done, Handed, Item, Named, NoMemory, NoStep, Outcome as Given, Refused, Ticket}
+pub use Rattle.ttrpc_world_trace.specs.declared.events.Entry.{Entry}
+pub use Rattle.ttrpc_world_trace.specs.declared.events.Event.{Event}
+pub use Rattle.ttrpc_world_trace.specs.declared.events.Event.TheVariants.{Answer, Call, Call as CallEvent, Carry, Close, Cut, Deliver, Drain, DropCall, DropReceiver, DropSender, EndStream, Fail, Finish, Open, Outcome, Recv, Respond, Send, Take, Tick}
+pub use Rattle.ttrpc_world_trace.specs.declared.events.Reply.{Reply}
+pub use Rattle.ttrpc_world_trace.specs.declared.events.Reply.TheVariants.{Count, Done, Handed, Item, Named, NoMemory, NoStep, Outcome as Given, Refused, Ticket}

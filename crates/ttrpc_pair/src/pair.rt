@@ -5,9 +5,9 @@ ghost use Rattle.ttrpc_proto.specs.Messages.{IsResponse};
 ghost use Rattle.ttrpc_server.specs.declared.job.ActiveJob.{ActiveJob as AJob};
 ghost use Rattle.ttrpc_server.specs.State.{IsTaken, IsUnknown};
 ghost use Rattle.ttrpc_server.specs.declared.rules.Rules.{Rules as AllRules};
-ghost use Rattle.ttrpc_events.specs.declared.events.Event.{Event as AnEvent};
-ghost use Rattle.ttrpc_events.specs.declared.events.Side.{Side as ASide};
-ghost use Rattle.ttrpc_events.specs.declared.events.StreamEnd.{StreamEnd as AnEnd};
+ghost use Rattle.ttrpc_world_trace.specs.declared.events.Event.{Event as AnEvent};
+ghost use Rattle.ttrpc_world_trace.specs.declared.events.Side.{Side as ASide};
+ghost use Rattle.ttrpc_world_trace.specs.declared.events.StreamEnd.{StreamEnd as AnEnd};
 ghost use Rattle.ttrpc_pair.specs.Pipes.{empty_pipe, is_over};
 ghost use Rattle.ttrpc_pair.specs.Net.{Net, halves, has_response, with_client, with_server};
 ghost use Rattle.ttrpc_pair.specs.Steps.{Hears, LivesBy, Steps, failed_by_hand};
@@ -16,13 +16,13 @@ use crate::pipe::Pipe;
 use std::alloc::{AllocError, Global};
 use std::marker::Model;
 use ttrpc_client::{CallId, ClientCore, StreamId};
-use ttrpc_codec::message::WireMessage;
-use ttrpc_events::{Event, Reply, Side, StreamEnd};
 use ttrpc_proto::{Error, Request, Response};
 use ttrpc_secure::{InboundTransform, OutboundTransform};
 use ttrpc_server::{JobId, Rules, ServerCore};
+use ttrpc_wire::codec::message::WireMessage;
 use ttrpc_wire::values::slices::front;
 use ttrpc_wire::{Blob, Text};
+use ttrpc_world_trace::{Event, Reply, Side, StreamEnd};
 
 /// A client and a server, each over its two halves, and the bytes in flight between them.
 #[derive(Drop)]

@@ -3,3 +3,4 @@ pub mod Passing
 pub mod Needs
 pub mod Sockets
 pub mod Waiting
+pub mod Streams

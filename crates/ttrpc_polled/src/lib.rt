@@ -1,5 +1,6 @@
 //! The parts of a polled connection that know neither core: where bytes come in and go out, the alarm for deadlines, and the
-//! link, which moves between them and what stands under the connection's lock.
+//! link, which moves between them and what stands under the connection's lock. In `streams` the streams of such a
+//! connection, over what either core does for a stream.
 #![tactic(auto)]
 
 mod alarm;
@@ -10,6 +11,7 @@ mod listener;
 mod outlet;
 mod piece;
 mod socket;
+pub mod streams;
 mod wakers;
 
 pub use alarm::{Alarm, Timed};
@@ -20,5 +22,13 @@ pub use listener::Listener;
 pub use outlet::{OUTLET_AT_REST, OUTLET_LIMIT, Outlet};
 pub use piece::Piece;
 pub use socket::{Connecting, Socket, SocketConnect};
+pub use streams::{
+    CSReceiver, CSReceiverRecv, CSSender, ClientStream, ClientStreamSender,
+    ClientStreamSenderCloseAndRecv, Closes, Closing, EndsBy, Handling, HandlingAt, Kind, Responds,
+    SSReceiver, SSReceiverRecv, SSSender, SenderSeat, Sending, ServerStream, ServerStreamOpening,
+    ServerStreamReceiver, ServerStreamSender, StreamInner, StreamLine, StreamReceiver,
+    StreamReceiverRecv, StreamSender, StreamSenderCloseSend, StreamSenderSend, StreamWakers,
+    Telling, sending_of,
+};
 pub use ttrpc_transport::moment;
 pub use wakers::Wakers;

@@ -8,7 +8,7 @@ use Rattle.ttrpc_proto.specs.declared.messages.Request.{Request}
 use Rattle.ttrpc_message.specs.Calls.{IsUnwritten}
 use Rattle.ttrpc_message.specs.Metadata.{Carried, pairs_of}
 use Rattle.ttrpc_polled.specs.Sockets.{IsNotMade}
-use Rattle.ttrpc_polled_streams.specs.declared.inner.StreamInner.{StreamInner}
+use Rattle.ttrpc_polled.specs.declared.streams.inner.StreamInner.{StreamInner}
 use Rattle.ttrpc_polled_client.specs.declared.asked.Asked.TheVariants.{Asks}
 use Rattle.ttrpc_polled_client.specs.declared.calls.Calling.{Calling}
 use Rattle.ttrpc_polled_client.specs.declared.calls.Calling.TheVariants.{Done, Refused, Waits}

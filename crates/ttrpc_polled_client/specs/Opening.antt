@@ -6,7 +6,7 @@ use Rattle.ttrpc_proto.specs.declared.error.Error.{Error}
 use Rattle.ttrpc_proto.specs.declared.error.Error.TheVariants.{LocalClosed, NoMemory}
 use Rattle.ttrpc_secure.specs.declared.transform.OutboundTransform.{Ghosts as OutboundTransform}
 use Rattle.ttrpc_client.specs.declared.client.ClientCore.{ClientCore}
-use Rattle.ttrpc_polled_streams.specs.declared.inner.StreamInner.{StreamInner}
+use Rattle.ttrpc_polled.specs.declared.streams.inner.StreamInner.{StreamInner}
 use Rattle.ttrpc_polled_client.specs.Steps.{Opens}
 use Rattle.ttrpc_polled_client.specs.declared.line.ClientLine.{ClientLine}
 use Rattle.ttrpc_polled_client.specs.declared.opening.Prepared.{Prepared}

@@ -13,8 +13,8 @@ use Rattle.ttrpc_client.specs.declared.client.ClientCore.{ClientCore}
 use Rattle.ttrpc_client.specs.declared.streams.Sender.TheVariants as sender
 use Rattle.ttrpc_client.specs.Protocol.{RefusesRequest, Requests, TakesOutcome}
 use Rattle.ttrpc_client.specs.Streaming.{OpensStream, RefusesSending, RefusesStream, SendsOn}
-use Rattle.ttrpc_polled_streams.specs.Steps as streams
-use Rattle.ttrpc_polled_streams.specs.declared.sending.Sending.{Sending}
+use Rattle.ttrpc_polled.specs.Streams.Steps as streams
+use Rattle.ttrpc_polled.specs.declared.streams.sending.Sending.{Sending}
 use Rattle.ttrpc_polled_client.specs.declared.asked.Asked.{Asked}
 use Rattle.ttrpc_polled_client.specs.declared.asked.Asked.TheVariants.{Asks, Waits, Refused, Done}
 

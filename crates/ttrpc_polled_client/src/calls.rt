@@ -4,10 +4,10 @@ ghost use Rattle.std.specs.Arc.{arc_value};
 ghost use Rattle.futures.specs.Poll.{IfReady, OnPending};
 ghost use Rattle.futures.specs.Task.{Covers, Keeps};
 ghost use Rattle.ttrpc_proto.specs.declared.error.Error.{Error as AnError};
-ghost use Rattle.ttrpc_polled_streams.specs.Items.{GivesItemOrEnd};
+ghost use Rattle.ttrpc_polled.specs.Streams.Items.{GivesItemOrEnd};
 ghost use Rattle.ttrpc_polled_client.specs.Calling.{IsCalling, IsNotCalled, IsOpening, IsPrepared, asks_for};
 ghost use Rattle.ttrpc_polled_client.specs.Needs.{line_source};
-ghost use Rattle.ttrpc_polled_streams.specs.Needs.{receiver_source};
+ghost use Rattle.ttrpc_polled.specs.Streams.Needs.{receiver_source};
 
 use crate::client::Client;
 use crate::line::ClientLine;
@@ -19,15 +19,14 @@ use std::alloc::Global;
 use std::fmt::Display;
 use std::marker::PhantomData;
 use std::mem::replace;
-use ttrpc_codec::Codec;
 use ttrpc_message::calls::{merge_reply, request_of};
 use ttrpc_message::{Context as CallContext, to_pb};
-use ttrpc_polled::Timed;
-use ttrpc_polled_streams::{
-    ClientStream, ClientStreamSender, SSReceiver, SSReceiverRecv, StreamInner,
+use ttrpc_polled::{
+    ClientStream, ClientStreamSender, SSReceiver, SSReceiverRecv, StreamInner, Timed,
 };
 use ttrpc_proto::{Error, Request, RequestInit, Result};
 use ttrpc_secure::{InboundTransform, OutboundTransform};
+use ttrpc_wire::Codec;
 
 /// Where a call of a service's method is.
 #[derive(Drop)]

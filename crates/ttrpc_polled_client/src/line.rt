@@ -12,7 +12,7 @@ use futures::task::{Context, Poll};
 use std::alloc::Global;
 use std::sync::Arc;
 use ttrpc_client::{CallId, StreamId};
-use ttrpc_polled_streams::{Kind, Sending, StreamLine};
+use ttrpc_polled::{Kind, Sending, StreamLine};
 use ttrpc_proto::{Response, Result};
 use ttrpc_secure::{ConnectionData, InboundTransform, OutboundTransform};
 use ttrpc_wire::Blob;

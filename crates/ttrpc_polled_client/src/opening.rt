@@ -9,7 +9,7 @@ use futures::task::{Context, Poll};
 use std::alloc::Global;
 use std::sync::Arc;
 use ttrpc_client::{ClientCore, StreamId};
-use ttrpc_polled_streams::StreamInner;
+use ttrpc_polled::StreamInner;
 use ttrpc_proto::{Error, Request, Result};
 use ttrpc_secure::{InboundTransform, OutboundTransform};
 

@@ -1,8 +1,8 @@
 -- For what the streams of the program wait.
 -- Source: this project's.
 use Rattle.std.specs.Prelude.{◌≡◌, ⊤, ℕ}
-use Rattle.ttrpc_polled_streams.specs.Needs.{opening_needs, receiver_source, sender_source}
-use Rattle.ttrpc_polled_streams.specs.Handling.{AtCanPoll, AtNeeds}
+use Rattle.ttrpc_polled.specs.Streams.Needs.{opening_needs, receiver_source, sender_source}
+use Rattle.ttrpc_polled.specs.Streams.Handling.{AtCanPoll, AtNeeds}
 use Rattle.ttrpc_polled_echo.specs.declared.chat.Chatting.{Chatting}
 use Rattle.ttrpc_polled_echo.specs.declared.chat.Turn.{Turn}
 use Rattle.ttrpc_polled_echo.specs.declared.chat.Turn.TheVariants.{Receives, Sends, Done}

@@ -6,7 +6,7 @@ ghost use Rattle.ttrpc_polled_echo.specs.Needs.{ChattingNeeds};
 use futures::Future;
 use futures::task::{Context, Poll};
 use std::mem::replace;
-use ttrpc_polled_streams::{SSReceiver, SSSender, Sending, ServerStream, StreamLine};
+use ttrpc_polled::{SSReceiver, SSSender, Sending, ServerStream, StreamLine};
 use ttrpc_proto::{Error, Result};
 use ttrpc_wire::Blob;
 

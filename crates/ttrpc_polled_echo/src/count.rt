@@ -7,7 +7,7 @@ use futures::Future;
 use futures::task::{Context, Poll};
 use std::alloc::Global;
 use std::mem::replace;
-use ttrpc_polled_streams::{Sending, ServerStreamOpening, ServerStreamSender, StreamLine};
+use ttrpc_polled::{Sending, ServerStreamOpening, ServerStreamSender, StreamLine};
 use ttrpc_proto::{Error, Result};
 use ttrpc_wire::Blob;
 

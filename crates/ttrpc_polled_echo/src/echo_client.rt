@@ -1,11 +1,11 @@
 //! A client of `demo.Echo`.
 use crate::system::System;
 use ttrpc_message::Context;
+use ttrpc_polled::{ClientStream, ClientStreamSender};
 use ttrpc_polled_client::{
     Client, ClientCall, ClientLine, ClientOpening, ClientStreamReceiver, async_client_request,
     async_client_stream, async_client_stream_receive, async_client_stream_send,
 };
-use ttrpc_polled_streams::{ClientStream, ClientStreamSender};
 use ttrpc_secure::Plain;
 use ttrpc_wire::Blob;
 

@@ -9,13 +9,13 @@ use futures::Future;
 use futures::task::{Context, Poll};
 use std::alloc::{AllocError, Global};
 use std::collections::BTreeMap;
+use ttrpc_polled::{
+    Closes, EndsBy, Handling, Responds, ServerStream, ServerStreamOpening, ServerStreamReceiver,
+    StreamInner, StreamLine,
+};
 use ttrpc_polled_server::{
     MethodHandler, Service, StreamHandler, TtrpcContext, async_client_streamimg_handler,
     async_duplex_streamimg_handler, async_request_handler, async_server_streamimg_handler,
-};
-use ttrpc_polled_streams::{
-    Closes, EndsBy, Handling, Responds, ServerStream, ServerStreamOpening, ServerStreamReceiver,
-    StreamInner, StreamLine,
 };
 use ttrpc_proto::{Request, Response, Result};
 use ttrpc_wire::Blob;

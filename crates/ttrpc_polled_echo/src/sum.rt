@@ -2,7 +2,7 @@
 use futures::Future;
 use futures::task::{Context, Poll};
 use std::alloc::Global;
-use ttrpc_polled_streams::{ServerStreamReceiver, StreamLine};
+use ttrpc_polled::{ServerStreamReceiver, StreamLine};
 use ttrpc_proto::Result;
 use ttrpc_wire::Blob;
 
@@ -42,7 +42,7 @@ impl<L: StreamLine> Future for Summing<L> {
     type Output = Result<Blob>;
 
     ghost use Rattle.std.specs.Prelude.{◌≡◌};
-    ghost use Rattle.ttrpc_polled_streams.specs.Needs.{receiver_source};
+    ghost use Rattle.ttrpc_polled.specs.Streams.Needs.{receiver_source};
 
     ghost needs = { λ f s. s ≡ receiver_source L.came f.receiver.rx };
 

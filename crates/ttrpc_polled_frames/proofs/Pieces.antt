@@ -6,17 +6,17 @@ use Rattle.std.specs.declared.io.Error.{Error}
 use Rattle.futures.specs.declared.task.Poll.{Poll}
 use Rattle.futures.specs.declared.task.Poll.TheVariants.{Ready}
 use Rattle.tokio.specs.Io.Moved.{bytes_moved, Passes, PassesInOrder, PassesNothing}
-use Rattle.ttrpc_frame.specs.declared.header.MessageHeader.{MessageHeader}
-use Rattle.ttrpc_frame.specs.declared.failure.StreamFailure.{StreamFailure}
-use Rattle.ttrpc_frame.specs.declared.failure.StreamFailure.TheVariants.{Io, NoMemory}
-use Rattle.ttrpc_frame.specs.declared.frame.Incoming.{Incoming}
-use Rattle.ttrpc_frame.specs.declared.reading.Found.{Found}
-use Rattle.ttrpc_frame.specs.declared.reading.Found.TheVariants.{Whole, HeaderCut, BodyCut, OversizeCut}
-use Rattle.ttrpc_frame.specs.Frames.{Fed, Grows, given, Held, Holds, IsFrame, nothing, wanted}
-use Rattle.ttrpc_frame.specs.Header.{header_of}
-use Rattle.ttrpc_frame.specs.Streaming.{IfCut, IsFound}
-use Rattle.ttrpc_frame.proofs.Cuts.{held_is}
-use Rattle.ttrpc_frame.proofs.Frames.{exact, header_front}
+use Rattle.ttrpc_proto.specs.declared.framing.header.MessageHeader.{MessageHeader}
+use Rattle.ttrpc_proto.specs.declared.framing.failure.StreamFailure.{StreamFailure}
+use Rattle.ttrpc_proto.specs.declared.framing.failure.StreamFailure.TheVariants.{Io, NoMemory}
+use Rattle.ttrpc_proto.specs.declared.framing.frame.Incoming.{Incoming}
+use Rattle.ttrpc_proto.specs.declared.framing.reading.Found.{Found}
+use Rattle.ttrpc_proto.specs.declared.framing.reading.Found.TheVariants.{Whole, HeaderCut, BodyCut, OversizeCut}
+use Rattle.ttrpc_proto.specs.Framing.Frames.{Fed, Grows, given, Held, Holds, IsFrame, nothing, wanted}
+use Rattle.ttrpc_proto.specs.Framing.Header.{header_of}
+use Rattle.ttrpc_proto.specs.Framing.Streaming.{IfCut, IsFound}
+use Rattle.ttrpc_proto.proofs.Cuts.{held_is}
+use Rattle.ttrpc_proto.proofs.Frames.{exact, header_front}
 use Rattle.ttrpc_polled_frames.specs.Reading.{Continues, IsTaken, Makes, Takes, WillTell}
 
 -- ---- one piece

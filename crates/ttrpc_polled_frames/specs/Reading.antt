@@ -5,14 +5,14 @@ use Rattle.std.specs.IoError.{error_kind}
 use Rattle.std.specs.declared.io.Error.{Error}
 use Rattle.std.specs.declared.io.ErrorKind.TheVariants.{Interrupted}
 use Rattle.tokio.specs.Io.Moved.{Passes}
-use Rattle.ttrpc_frame.specs.declared.header.TheConstants.{MESSAGE_HEADER_LENGTH, MESSAGE_LENGTH_MAX}
-use Rattle.ttrpc_frame.specs.declared.failure.StreamFailure.{StreamFailure}
-use Rattle.ttrpc_frame.specs.declared.failure.StreamFailure.TheVariants.{Io, NoMemory}
-use Rattle.ttrpc_frame.specs.declared.reading.Found.{Found}
-use Rattle.ttrpc_frame.specs.declared.reading.Found.TheVariants.{Whole}
-use Rattle.ttrpc_frame.specs.Frames.{Held, Holds, IsRest}
-use Rattle.ttrpc_frame.specs.Header.{header_of}
-use Rattle.ttrpc_frame.specs.Streaming.{IfCut, IsFound}
+use Rattle.ttrpc_proto.specs.declared.framing.header.TheConstants.{MESSAGE_HEADER_LENGTH, MESSAGE_LENGTH_MAX}
+use Rattle.ttrpc_proto.specs.declared.framing.failure.StreamFailure.{StreamFailure}
+use Rattle.ttrpc_proto.specs.declared.framing.failure.StreamFailure.TheVariants.{Io, NoMemory}
+use Rattle.ttrpc_proto.specs.declared.framing.reading.Found.{Found}
+use Rattle.ttrpc_proto.specs.declared.framing.reading.Found.TheVariants.{Whole}
+use Rattle.ttrpc_proto.specs.Framing.Frames.{Held, Holds, IsRest}
+use Rattle.ttrpc_proto.specs.Framing.Header.{header_of}
+use Rattle.ttrpc_proto.specs.Framing.Streaming.{IfCut, IsFound}
 
 -- Bytes came of a frame that isn't whole with them.
 pub record Continues {S : Type 0} (reads : Passes S) (old : S) (held : Held) (new : S) (now : Held) : Type 0 where

@@ -6,8 +6,8 @@ use Rattle.std.specs.declared.io.Error.{Error as IoError}
 use Rattle.std.specs.declared.io.ErrorKind.TheVariants.{Interrupted}
 use Rattle.tokio.specs.Io.Moved.{Passes, TakesWritten, WriteFails}
 use Rattle.ttrpc_proto.specs.declared.error.Error.{Error}
-use Rattle.ttrpc_frame.specs.declared.failure.StreamFailure.TheVariants.{Io}
-use Rattle.ttrpc_frame.specs.Streaming.{TellsFailure}
+use Rattle.ttrpc_proto.specs.declared.framing.failure.StreamFailure.TheVariants.{Io}
+use Rattle.ttrpc_proto.specs.Framing.Streaming.{TellsFailure}
 use Rattle.ttrpc_message.specs.Messages.{TellsZero}
 use Rattle.ttrpc_polled_frames.specs.declared.offering.Offering.{Offering}
 

@@ -3,7 +3,7 @@ ghost use Rattle.std.specs.Prelude.{◌≡◌, ◌≤◌, ◌<◌, ◌+◌, leng
 ghost use Rattle.futures.specs.Poll.{OnPending};
 ghost use Rattle.futures.specs.Task.{Covers, Keeps};
 ghost use Rattle.tokio.specs.Io.Moved.{IfReadyErr, count_moved};
-ghost use Rattle.ttrpc_frame.specs.Header.{header_bytes};
+ghost use Rattle.ttrpc_proto.specs.Framing.Header.{header_bytes};
 ghost use Rattle.ttrpc_polled_frames.specs.Writing.{left_of};
 
 use crate::offering::Offering;
@@ -12,7 +12,7 @@ use futures::task::{Context, Poll};
 use std::alloc::Global;
 use std::io::{self, ErrorKind};
 use tokio::io::{AsyncRead, AsyncWrite};
-use ttrpc_frame::MessageHeader;
+use ttrpc_proto::MessageHeader;
 
 /// The future of a header that is read as `MessageHeader::read_from` does: ten bytes, and none behind them. Where the reader ends
 /// before them, the error is `UnexpectedEof`.

@@ -3,15 +3,15 @@ ghost use Rattle.std.specs.Prelude.{◌≡◌, ℕ, List, [], ◌++◌, drop, If
 ghost use Rattle.futures.specs.Poll.{OnPending};
 ghost use Rattle.futures.specs.Task.{Covers, Keeps};
 ghost use Rattle.tokio.specs.Io.Moved.{IfReadyErr, OnReadyOk, TakesWritten};
-ghost use Rattle.ttrpc_frame.specs.Header.{header_bytes};
+ghost use Rattle.ttrpc_proto.specs.Framing.Header.{header_bytes};
 ghost use Rattle.ttrpc_polled_frames.specs.Writing.{BreaksOff, FailsToFlush, left_of};
 
 use futures::task::{Context, Poll};
 use std::alloc::{AllocError, Global};
 use std::io::{self, ErrorKind};
 use tokio::io::AsyncWrite;
-use ttrpc_frame::MessageHeader;
-use ttrpc_frame::writing::PREFIX_PAYLOAD;
+use ttrpc_proto::MessageHeader;
+use ttrpc_proto::framing::writing::PREFIX_PAYLOAD;
 use ttrpc_wire::values::slices::{behind, front};
 
 /// How many writes one poll makes before it lets other tasks go on.

@@ -1,9 +1,9 @@
 //! The futures that read a frame, by what they tell of it.
 ghost use Rattle.std.specs.Prelude.{◌≡◌, Result};
-ghost use Rattle.ttrpc_frame.specs.declared.failure.StreamFailure.{StreamFailure as AFailure};
-ghost use Rattle.ttrpc_frame.specs.declared.reading.Found.{Found as AFound};
-ghost use Rattle.ttrpc_frame.specs.Frames.{nothing};
-ghost use Rattle.ttrpc_frame.specs.Streaming.{IsMessageOf};
+ghost use Rattle.ttrpc_proto.specs.declared.framing.failure.StreamFailure.{StreamFailure as AFailure};
+ghost use Rattle.ttrpc_proto.specs.declared.framing.reading.Found.{Found as AFound};
+ghost use Rattle.ttrpc_proto.specs.Framing.Frames.{nothing};
+ghost use Rattle.ttrpc_proto.specs.Framing.Streaming.{IsMessageOf};
 ghost use Rattle.ttrpc_message.specs.Messages.{ArePartsOf, IsValueOf};
 
 use crate::taking::{Taking, Took};
@@ -14,11 +14,10 @@ use std::fmt::Display;
 use std::marker::PhantomData;
 use std::result;
 use tokio::io::AsyncRead;
-use ttrpc_codec::Codec;
-use ttrpc_frame::reading::message_of;
-use ttrpc_frame::{GenMessage, GenMessageError, MessageHeader};
 use ttrpc_message::{Message, parts_of, value_of};
-use ttrpc_proto::Result;
+use ttrpc_proto::framing::reading::message_of;
+use ttrpc_proto::{GenMessage, GenMessageError, MessageHeader, Result};
+use ttrpc_wire::Codec;
 
 /// What is told of a frame that was read.
 pub trait Tells: Drop {

@@ -2,7 +2,7 @@
 ghost use Rattle.std.specs.Prelude.{◌≡◌, ◌<◌, ◌≤◌, ℕ, List, ◌++◌, length, IfNone, IfSome};
 ghost use Rattle.futures.specs.Poll.{IfReady, OnPending};
 ghost use Rattle.futures.specs.Task.{Covers, Keeps};
-ghost use Rattle.ttrpc_frame.specs.Frames.{Holds, nothing, wanted};
+ghost use Rattle.ttrpc_proto.specs.Framing.Frames.{Holds, nothing, wanted};
 ghost use Rattle.ttrpc_polled_frames.specs.Reading.{Continues, Makes, Takes};
 
 use futures::task::{Context, Poll};
@@ -10,9 +10,9 @@ use std::alloc::Global;
 use std::io::ErrorKind;
 use std::result;
 use tokio::io::AsyncRead;
-use ttrpc_frame::failure::StreamFailure;
-use ttrpc_frame::reading::Found;
-use ttrpc_frame::{DEFAULT_PAGE_SIZE, FrameDecoder};
+use ttrpc_proto::framing::failure::StreamFailure;
+use ttrpc_proto::framing::reading::Found;
+use ttrpc_proto::{DEFAULT_PAGE_SIZE, FrameDecoder};
 use ttrpc_wire::values::slices::front;
 
 /// How many reads one poll makes before it lets other tasks go on.

@@ -1,6 +1,6 @@
 //! The futures that write a frame.
 ghost use Rattle.std.specs.Prelude.{◌≡◌, ◌++◌, IfErr, IfOk, ⊤};
-ghost use Rattle.ttrpc_frame.specs.Header.{header_bytes};
+ghost use Rattle.ttrpc_proto.specs.Framing.Header.{header_bytes};
 ghost use Rattle.ttrpc_message.specs.Messages.{IsUnwritten};
 ghost use Rattle.ttrpc_proto.specs.declared.error.Error.TheVariants.{NoMemory};
 ghost use Rattle.ttrpc_polled_frames.specs.Writing.{TellsIt, TellsOrZero, WillEnd, left_of};
@@ -11,11 +11,10 @@ use futures::task::{Context, Poll};
 use std::alloc::Global;
 use std::fmt::Display;
 use tokio::io::AsyncWrite;
-use ttrpc_codec::Codec;
-use ttrpc_frame::failure::StreamFailure;
-use ttrpc_frame::{GenMessage, MessageHeader};
 use ttrpc_message::{Message, encoded, write_error};
-use ttrpc_proto::{Error, Result};
+use ttrpc_proto::framing::failure::StreamFailure;
+use ttrpc_proto::{Error, GenMessage, MessageHeader, Result};
+use ttrpc_wire::Codec;
 
 /// The future of a header and a payload that are written as `write_message` does: it doesn't flush.
 #[derive(Drop)]

@@ -1,7 +1,7 @@
 -- What a server serves, and what is added to it.
 -- Source: the Rust crate, for what a service has; this project's, for what becomes of a name that stands already.
 use Rattle.std.specs.Prelude.{◌≡◌, ℕ, List, [], ◌∷◌, String, string_bytes}
-use Rattle.ttrpc_methods.specs.Methods.{Handlers, PutsAll}
+use Rattle.ttrpc_server.specs.Methods.{Handlers, PutsAll}
 use Rattle.ttrpc_polled_server.specs.declared.services.Service.{Service}
 
 -- the handlers of methods and of streams

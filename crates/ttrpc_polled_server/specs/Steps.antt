@@ -13,8 +13,8 @@ use Rattle.ttrpc_server.specs.declared.server.ServerCore.{ServerCore}
 use Rattle.ttrpc_server.specs.Protocol.{Answers as AnswersIt, AnswersError, RefusesAnswer}
 use Rattle.ttrpc_server.specs.State.{IsUnknown}
 use Rattle.ttrpc_server.specs.Streaming.{EndsStream, RefusesEnd, RefusesItem, SendsItem}
-use Rattle.ttrpc_polled_streams.specs.Steps as streams
-use Rattle.ttrpc_polled_streams.specs.declared.sending.Sending.{Sending}
+use Rattle.ttrpc_polled.specs.Streams.Steps as streams
+use Rattle.ttrpc_polled.specs.declared.streams.sending.Sending.{Sending}
 use Rattle.ttrpc_polled_server.specs.declared.ended.Ended.{Ended}
 use Rattle.ttrpc_polled_server.specs.declared.ended.Ended.TheVariants.{Answers, Ends, Expired}
 

@@ -9,10 +9,9 @@ use std::alloc::Global;
 use std::collections::BTreeMap;
 use std::fmt;
 use std::sync::Arc;
-use ttrpc_frame::MessageHeader;
 use ttrpc_message::from_pb;
-use ttrpc_polled_streams::{StreamInner, StreamLine};
-use ttrpc_proto::{Error, Request, Response, Result};
+use ttrpc_polled::{StreamInner, StreamLine};
+use ttrpc_proto::{Error, MessageHeader, Request, Response, Result};
 use ttrpc_secure::ConnectionData;
 
 /// What a handler is handed beside the request or the stream.

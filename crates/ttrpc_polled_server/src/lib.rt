@@ -27,5 +27,5 @@ pub use settings::Settings;
 pub use shared::ServerShared;
 pub use stop::{Disconnect, Seat, Shutdown, Stop, StopListen};
 pub use ttrpc_message::decode_request;
-pub use ttrpc_polled_streams::{Handling, ServerStream, ServerStreamOpening, ServerStreamReceiver};
+pub use ttrpc_polled::{Handling, ServerStream, ServerStreamOpening, ServerStreamReceiver};
 pub use ttrpc_secure::NoHook;

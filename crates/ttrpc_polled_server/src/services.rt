@@ -1,15 +1,14 @@
 //! The services of a server.
 ghost use Rattle.std.specs.Prelude.{◌≡◌, ℕ, List, [], is_some, string_bytes, IfOk, OnOk};
 ghost use Rattle.std.specs.Option.{option_copied};
-ghost use Rattle.ttrpc_methods.specs.Methods.{handler_of};
+ghost use Rattle.ttrpc_server.specs.Methods.{handler_of};
 ghost use Rattle.ttrpc_server.specs.State.{has_method, has_stream};
 ghost use Rattle.ttrpc_polled_server.specs.Served.{ServesAll, ServesOne};
 
 use std::alloc::{AllocError, Global};
 use std::collections::{BTreeMap, BTreeSet};
 use std::marker::Model;
-use ttrpc_methods::{Methods, Named};
-use ttrpc_server::Registry;
+use ttrpc_server::{Methods, Named, Registry};
 use ttrpc_wire::Text;
 
 /// The methods and the streams of a service, each under its name.

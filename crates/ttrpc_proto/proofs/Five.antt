@@ -11,7 +11,7 @@ use Rattle.ttrpc_proto.specs.declared.messages.KeyValue.{KeyValue}
 use Rattle.ttrpc_proto.specs.declared.messages.Request.{Request}
 use Rattle.ttrpc_proto.specs.declared.messages.Response.{Response}
 use Rattle.ttrpc_proto.specs.declared.messages.Status.{Status}
-use Rattle.ttrpc_codec.specs.Members.{delimited_in, number_in, last_text, last_bytes, last_number, one_more, joined, both}
+use Rattle.ttrpc_wire.specs.Codec.Members.{delimited_in, number_in, last_text, last_bytes, last_number, one_more, joined, both}
 use Rattle.ttrpc_proto.specs.Messages.{empty_key_value, key_value_step, empty_any, any_step, empty_status, status_step, empty_request, request_step, empty_response, response_step}
 use Rattle.ttrpc_proto.specs.Meaning.{delimited_values, number_values, last_or, IsLastText, Means, OfKeyValue, OfAny, OfStatus, OfRequest, OfResponse}
 use Rattle.ttrpc_proto.proofs.Means.{both_apart, both_together, StepsByParts, seen_apart, seen_together, AreTexts, text_means, text_again, bytes_mean, bytes_fold, number_means, number_fold}

@@ -2,3 +2,16 @@ pub mod Means
 pub mod Lists
 pub mod Five
 pub mod KindTexts
+pub mod Calls
+pub mod Bytes
+pub mod Headers
+pub mod Frames
+pub mod Decoding
+pub mod Cuts
+pub mod Pieces
+pub mod Queues
+pub mod Departures
+pub mod Streamed
+pub mod Sent
+pub mod Fronts
+pub mod Tickets

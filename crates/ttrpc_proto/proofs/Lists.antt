@@ -11,7 +11,7 @@ use Rattle.ttrpc_wire.specs.Fold.{folded, read_from}
 use Rattle.ttrpc_wire.proofs.Agrees.{bound, mapped}
 use Rattle.ttrpc_wire.proofs.Fields.{fields_from, are_fields}
 use Rattle.ttrpc_wire.proofs.Folds.{reads_append}
-use Rattle.ttrpc_codec.specs.Members.{delimited_in, one_more, joined}
+use Rattle.ttrpc_wire.specs.Codec.Members.{delimited_in, one_more, joined}
 use Rattle.ttrpc_proto.specs.Meaning.{delimited_values, AreEach, Means, AreJoined}
 use Rattle.ttrpc_proto.proofs.Means.{read_all, folded-delimited_in}
 

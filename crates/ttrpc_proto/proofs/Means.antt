@@ -10,7 +10,7 @@ use Rattle.ttrpc_wire.specs.Reading.{◌>>=◌}
 use Rattle.ttrpc_wire.specs.Fold.{folded}
 use Rattle.ttrpc_wire.proofs.Agrees.{bound, mapped}
 use Rattle.ttrpc_wire.proofs.Folds.{bind_none, bind_same}
-use Rattle.ttrpc_codec.specs.Members.{delimited, number, delimited_in, number_in, text_of, last_text, last_bytes, last_number, both}
+use Rattle.ttrpc_wire.specs.Codec.Members.{delimited, number, delimited_in, number_in, text_of, last_text, last_bytes, last_number, both}
 use Rattle.ttrpc_proto.specs.Meaning.{delimited_value, number_value, delimited_values, number_values, last_or}
 
 -- ---- a message of two parts

@@ -14,13 +14,13 @@ use Rattle.ttrpc_proto.specs.declared.messages.KeyValue.{KeyValue}
 use Rattle.ttrpc_proto.specs.declared.messages.Request.{Request}
 use Rattle.ttrpc_proto.specs.declared.messages.Response.{Response}
 use Rattle.ttrpc_proto.specs.declared.messages.Status.{Status}
-use Rattle.ttrpc_codec.specs.Members.{delimited_field, delimited_fields, delimited_in, last_number, last_text, number_fields, number_in, one_more, part_fields, optional_fields}
+use Rattle.ttrpc_wire.specs.Codec.Members.{delimited_field, delimited_fields, delimited_in, last_number, last_text, number_fields, number_in, one_more, part_fields, optional_fields}
 use Rattle.ttrpc_proto.specs.Messages.{IsKeyValue, empty_key_value, key_value_step, key_value_fields, IsAny, empty_any, any_step, any_fields, IsStatus, empty_status, status_step, status_fields, IsRequest, empty_request, request_step, request_head, request_tail, request_fields, IsOptional, IsResponse, empty_response, response_step, response_fields}
 use Rattle.std.specs.Option.{option_map}
 use Rattle.ttrpc_wire.specs.Reading.{◌>>=◌}
-use Rattle.ttrpc_codec.specs.InPlace.{HasPayload, payload_in}
-use Rattle.ttrpc_codec.proofs.Around.{other_field}
-use Rattle.ttrpc_codec.proofs.Written.{length-fields_bytes-append, fit_then, fold_then, delimited_fit, fold_delimited, number_fit, fold_number, int32_back, int32_zero, int32_small, int64_back, int64_zero, int64_small, length-part_fields, parts_fit, parts_back, fold_parts, optional_fit}
+use Rattle.ttrpc_wire.specs.Codec.InPlace.{HasPayload, payload_in}
+use Rattle.ttrpc_wire.proofs.Around.{other_field}
+use Rattle.ttrpc_wire.proofs.Written.{length-fields_bytes-append, fit_then, fold_then, delimited_fit, fold_delimited, number_fit, fold_number, int32_back, int32_zero, int32_small, int64_back, int64_zero, int64_small, length-part_fields, parts_fit, parts_back, fold_parts, optional_fit}
 
 -- ---- KeyValue
 

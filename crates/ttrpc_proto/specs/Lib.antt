@@ -3,3 +3,4 @@ pub mod Messages
 pub mod Laws
 pub mod Meaning
 pub mod ErrorText
+pub mod Framing

@@ -13,7 +13,7 @@ use Rattle.ttrpc_proto.specs.declared.messages.KeyValue.{KeyValue}
 use Rattle.ttrpc_proto.specs.declared.messages.Status.{Status}
 use Rattle.ttrpc_proto.specs.declared.messages.Request.{Request}
 use Rattle.ttrpc_proto.specs.declared.messages.Response.{Response}
-use Rattle.ttrpc_codec.specs.Members.{delimited_in, number_in, last_text, last_bytes, last_number, one_more, joined, delimited_fields, number_fields, part_fields, optional_fields}
+use Rattle.ttrpc_wire.specs.Codec.Members.{delimited_in, number_in, last_text, last_bytes, last_number, one_more, joined, delimited_fields, number_fields, part_fields, optional_fields}
 
 -- ---- a key and its value: 1 key, 2 value
 

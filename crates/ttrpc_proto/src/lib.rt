@@ -1,16 +1,25 @@
-//! The five messages of an envelope: what their bytes mean, and how they are made. In `error` why a call failed, and
-//! the statuses, the responses and the texts that are made of that.
+//! Envelopes and frames. The five messages of an envelope: what their bytes mean, and how they are made. `error` has the
+//! reasons why a call failed, with the statuses, responses and texts that are made of them, and `framing` reads frames out
+//! of a stream of bytes and queues those that are still to be written.
 #![tactic(auto)]
 
 pub mod error;
+pub mod framing;
 pub mod laws;
 mod messages;
 mod request_init;
 mod response_init;
 
 pub use error::{Error, Result, get_rpc_status, get_status, sock_error_msg};
+pub use framing::{
+    DEFAULT_PAGE_SIZE, FLAG_NO_DATA, FLAG_REMOTE_CLOSED, FLAG_REMOTE_OPEN, FrameDecoder,
+    GenMessage, GenMessageError, Incoming, MESSAGE_HEADER_LENGTH, MESSAGE_LENGTH_MAX,
+    MESSAGE_TYPE_DATA, MESSAGE_TYPE_REQUEST, MESSAGE_TYPE_RESPONSE, MessageHeader, Outgoing,
+    Passing, Queued, Sink, Source, fill, read_again, write_again, write_both, write_part,
+};
 pub use messages::{Any, KeyValue, Request, Response, Status};
 pub use request_init::RequestInit;
 pub use response_init::ResponseInit;
-// Of these are the members of messages; a crate that has no other use for `ttrpc_wire` takes them from here.
 pub use ttrpc_wire::{Blob, Text};
+
+// Of these are the members of messages; a crate that has no other use for `ttrpc_wire` takes them from here.

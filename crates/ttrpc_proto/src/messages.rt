@@ -4,12 +4,12 @@ ghost use Rattle.ttrpc_wire.specs.Field.{fields_bytes};
 ghost use Rattle.ttrpc_proto.specs.Messages.{request_head, request_tail};
 
 use std::alloc::{AllocError, Global};
-use ttrpc_codec::in_place::CarriesPayload;
-use ttrpc_codec::members::{
+use ttrpc_wire::codec::in_place::CarriesPayload;
+use ttrpc_wire::codec::members::{
     delimited_len, lemma_are_values, number_len, part_len, parts_len, put_delimited, put_number,
     put_part, put_parts, text_from,
 };
-use ttrpc_codec::message::{WireMessage, decode, read_into};
+use ttrpc_wire::codec::message::{WireMessage, decode, read_into};
 use ttrpc_wire::{
     Blob, Code, CodecError, Field, FieldNumber, Sequence, Text, TryClone, Value, int32_to_varint,
     int64_to_varint, varint_to_int32, varint_to_int64,
@@ -63,13 +63,13 @@ impl WireMessage for Any {
         Ok(())
     }
 
-    #[tactic(auto, using(ttrpc_codec::proofs::Written::fields_len))]
+    #[tactic(auto, using(ttrpc_wire::proofs::Written::fields_len))]
     fn length(&self) -> u64 {
         let type_url = delimited_len(ANY_TYPE_URL, self.type_url.as_bytes());
         type_url.saturating_add(delimited_len(ANY_VALUE, self.value.as_slice()))
     }
 
-    #[tactic(auto, using(ttrpc_codec::proofs::Written::fields_then))]
+    #[tactic(auto, using(ttrpc_wire::proofs::Written::fields_then))]
     fn write(&self, out: &mut Vec<u8>) -> Result<(), CodecError> {
         put_delimited(out, ANY_TYPE_URL, self.type_url.as_bytes())?;
         put_delimited(out, ANY_VALUE, self.value.as_slice())?;
@@ -133,7 +133,7 @@ impl WireMessage for KeyValue {
         Ok(())
     }
 
-    #[tactic(auto, using(ttrpc_codec::proofs::Written::fields_len))]
+    #[tactic(auto, using(ttrpc_wire::proofs::Written::fields_len))]
     fn length(&self) -> u64 {
         delimited_len(KEY_VALUE_KEY, self.key.as_bytes()).saturating_add(delimited_len(
             KEY_VALUE_VALUE,
@@ -141,7 +141,7 @@ impl WireMessage for KeyValue {
         ))
     }
 
-    #[tactic(auto, using(ttrpc_codec::proofs::Written::fields_then))]
+    #[tactic(auto, using(ttrpc_wire::proofs::Written::fields_then))]
     fn write(&self, out: &mut Vec<u8>) -> Result<(), CodecError> {
         put_delimited(out, KEY_VALUE_KEY, self.key.as_bytes())?;
         put_delimited(out, KEY_VALUE_VALUE, self.value.as_bytes())?;
@@ -245,14 +245,14 @@ impl WireMessage for Status {
         Ok(())
     }
 
-    #[tactic(auto, using(ttrpc_codec::proofs::Written::fields_len))]
+    #[tactic(auto, using(ttrpc_wire::proofs::Written::fields_len))]
     fn length(&self) -> u64 {
         number_len(STATUS_CODE, int32_to_varint(self.code))
             .saturating_add(delimited_len(STATUS_MESSAGE, self.message.as_bytes()))
             .saturating_add(parts_len(STATUS_DETAILS, self.details.as_slice()))
     }
 
-    #[tactic(auto, using(ttrpc_codec::proofs::Written::fields_then, ttrpc_codec::proofs::Written::fields_len))]
+    #[tactic(auto, using(ttrpc_wire::proofs::Written::fields_then, ttrpc_wire::proofs::Written::fields_len))]
     fn write(&self, out: &mut Vec<u8>) -> Result<(), CodecError> {
         put_number(out, STATUS_CODE, int32_to_varint(self.code))?;
         put_delimited(out, STATUS_MESSAGE, self.message.as_bytes())?;
@@ -304,7 +304,7 @@ impl TryClone for Request {
 }
 
 /// The texts and the payload.
-#[tactic(auto, using(ttrpc_codec::proofs::Written::fields_then))]
+#[tactic(auto, using(ttrpc_wire::proofs::Written::fields_then))]
 fn put_head(out: &mut Vec<u8>, request: &Request) -> Result<(), AllocError>
     ensures { OnOk result (out.new.items ≡ out.old.items ++ fields_bytes (request_head request.now)) }
 {
@@ -314,7 +314,7 @@ fn put_head(out: &mut Vec<u8>, request: &Request) -> Result<(), AllocError>
 }
 
 /// The timeout and the metadata.
-#[tactic(auto, using(ttrpc_codec::proofs::Written::fields_then, ttrpc_codec::proofs::Written::fields_len))]
+#[tactic(auto, using(ttrpc_wire::proofs::Written::fields_then, ttrpc_wire::proofs::Written::fields_len))]
 fn put_tail(out: &mut Vec<u8>, request: &Request) -> Result<(), CodecError>
     ensures ok { OnOk result (out.new.items ≡ out.old.items ++ fields_bytes (request_tail request.now)) }
     ensures too_long { IfErr result (λ e. e ≢ CodecError.NoMemory
@@ -365,7 +365,7 @@ impl WireMessage for Request {
         Ok(())
     }
 
-    #[tactic(auto, using(ttrpc_codec::proofs::Written::fields_len))]
+    #[tactic(auto, using(ttrpc_wire::proofs::Written::fields_len))]
     fn length(&self) -> u64 {
         delimited_len(REQUEST_SERVICE, self.service.as_bytes())
             .saturating_add(delimited_len(REQUEST_METHOD, self.method.as_bytes()))
@@ -374,7 +374,7 @@ impl WireMessage for Request {
             .saturating_add(parts_len(REQUEST_METADATA, self.metadata.as_slice()))
     }
 
-    #[tactic(auto, using(ttrpc_codec::proofs::Written::fields_then, ttrpc_codec::proofs::Written::fields_len))]
+    #[tactic(auto, using(ttrpc_wire::proofs::Written::fields_then, ttrpc_wire::proofs::Written::fields_len))]
     fn write(&self, out: &mut Vec<u8>) -> Result<(), CodecError> {
         put_head(out, self)?;
         put_tail(out, self)
@@ -465,7 +465,7 @@ impl WireMessage for Response {
         Ok(())
     }
 
-    #[tactic(auto, using(ttrpc_codec::proofs::Written::fields_len))]
+    #[tactic(auto, using(ttrpc_wire::proofs::Written::fields_len))]
     fn length(&self) -> u64 {
         let status = match &self.status {
             Some(status) => part_len(RESPONSE_STATUS, status.length()),
@@ -474,7 +474,7 @@ impl WireMessage for Response {
         status.saturating_add(delimited_len(RESPONSE_PAYLOAD, self.payload.as_slice()))
     }
 
-    #[tactic(auto, using(ttrpc_codec::proofs::Written::fields_then, ttrpc_codec::proofs::Written::fields_len))]
+    #[tactic(auto, using(ttrpc_wire::proofs::Written::fields_then, ttrpc_wire::proofs::Written::fields_len))]
     fn write(&self, out: &mut Vec<u8>) -> Result<(), CodecError> {
         match &self.status {
             Some(status) => put_part(out, RESPONSE_STATUS, status)?,

@@ -1,11 +1,11 @@
 -- What it is to seal data and queue it.
 -- Source: PROTOCOL.md of ttrpc, "Message Frame".
 use Rattle.std.specs.Prelude.{◌≡◌, ◌≤◌, ◌-◌, ◌∷◌, ◌++◌, [], ℕ, List, length}
-use Rattle.ttrpc_frame.specs.declared.header.MessageHeader.{MessageHeader}
-use Rattle.ttrpc_frame.specs.declared.header.TheConstants.{MESSAGE_LENGTH_MAX}
-use Rattle.ttrpc_frame.specs.declared.outgoing.Queued.{Queued}
-use Rattle.ttrpc_frame.specs.Header.{digits_of}
-use Rattle.ttrpc_frame.specs.Queue.{Queue, with_frame, with_payload}
+use Rattle.ttrpc_proto.specs.declared.framing.header.MessageHeader.{MessageHeader}
+use Rattle.ttrpc_proto.specs.declared.framing.header.TheConstants.{MESSAGE_LENGTH_MAX}
+use Rattle.ttrpc_proto.specs.declared.framing.outgoing.Queued.{Queued}
+use Rattle.ttrpc_proto.specs.Framing.Header.{digits_of}
+use Rattle.ttrpc_proto.specs.Framing.Queue.{Queue, with_frame, with_payload}
 use Rattle.ttrpc_secure.specs.declared.transform.OutboundTransform.{Ghosts as OutboundTransform}
 use Rattle.ttrpc_secure.specs.Halves.{Moves}
 

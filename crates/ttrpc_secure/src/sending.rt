@@ -1,14 +1,13 @@
 //! Sealing and queuing in one call.
 ghost use Rattle.std.specs.Prelude.{◌≡◌, ◌<◌, ◌≤◌, ◌+◌, ◌↔◌, length, Ok, Err, IfOk, IfErr, OnOk, OnErr, MatchResult};
-ghost use Rattle.ttrpc_frame.specs.Queue.{IsQueue, with_frame, filled, withdrawn};
+ghost use Rattle.ttrpc_proto.specs.Framing.Queue.{IsQueue, with_frame, filled, withdrawn};
 ghost use Rattle.ttrpc_secure.specs.declared.transform.TransformError.{TransformError as AnError};
 ghost use Rattle.ttrpc_secure.specs.Halves.{MayFail};
 ghost use Rattle.ttrpc_secure.specs.Sends.{Sends, SendsUnder, associated, safe_limit};
 
 use crate::transform::{OutboundTransform, TransformError};
 use std::alloc::Global;
-use ttrpc_frame::{MESSAGE_LENGTH_MAX, MessageHeader, Outgoing, Queued};
-use ttrpc_proto::Blob;
+use ttrpc_proto::{Blob, MESSAGE_LENGTH_MAX, MessageHeader, Outgoing, Queued};
 
 /// Why nothing was sent.
 #[derive(Debug, Drop, PartialEq, Eq)]

@@ -5,7 +5,7 @@ use Rattle.ttrpc_server.proofs.Mapped.{at_stays, kept_mapped}
 use Rattle.std.proofs.Common.{OnErr, OnOk, Result, Ok, Err}
 use Rattle.std.proofs.lemmas.Bool.{ne_eqb}
 use Rattle.std.specs.BTreeSet.{insert_key}
-use Rattle.ttrpc_frame.specs.declared.header.TheConstants.{FLAG_REMOTE_CLOSED}
+use Rattle.ttrpc_proto.specs.declared.framing.header.TheConstants.{FLAG_REMOTE_CLOSED}
 use Rattle.ttrpc_connection.specs.declared.thing.Thing.{Thing}
 use Rattle.ttrpc_connection.specs.Mail.{with_thing}
 use Rattle.ttrpc_connection.specs.Things.{data_thing, has_flag}

@@ -3,8 +3,8 @@ use Rattle.ttrpc_server.proofs.Words.{◌≡◌, inl, inr, ◌∙◌, List, [], 
 use Rattle.ttrpc_server.specs.Calls.{Ended, SentItem}
 use Rattle.std.specs.List.Sorted.{IsPermutation}
 use Rattle.std.proofs.lemmas.List.Sorted.{length_permutation}
-use Rattle.ttrpc_frame.specs.Queue.{departing, IsMerge, placed, thrown}
-use Rattle.ttrpc_frame.proofs.Departures.{all_are_accounted}
+use Rattle.ttrpc_proto.specs.Framing.Queue.{departing, IsMerge, placed, thrown}
+use Rattle.ttrpc_proto.proofs.Departures.{all_are_accounted}
 use Rattle.ttrpc_connection.specs.Calls.{Call, Runs}
 use Rattle.ttrpc_connection.proofs.Words.{InboundTransform}
 use Rattle.ttrpc_connection.proofs.Throwing.{none_placed, run_throws_not}

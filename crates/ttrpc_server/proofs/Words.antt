@@ -4,7 +4,7 @@ pub use Rattle.std.proofs.lemmas.Option.{same_Some}
 pub use Rattle.std.proofs.lemmas.Result.{IfErr-weaker, IfOk-weaker, on_ok_weaker}
 pub use Rattle.std.specs.BTreeMap.{BTreeMap, get_by_text}
 pub use Rattle.std.specs.Map.{set_value, update}
-pub use Rattle.ttrpc_frame.specs.Queue.{Placed, Queue, with_payload}
+pub use Rattle.ttrpc_proto.specs.Framing.Queue.{Placed, Queue, with_payload}
 pub use Rattle.ttrpc_connection.proofs.Leaving.{goes_not, grows_not, grows_twice, queued_goes, run_goes, run_leaves, sends_grow}
 pub use Rattle.ttrpc_connection.proofs.Words.{ℕ, ◌&&◌, ◌++◌, ◌+◌, ◌-◌, ◌<◌, ◌∙◌, ◌∷◌, ◌≡◌, ◌≢◌, ◌≤◌, [], all_joined, all_less, AllByRecursion, ap, append_assoc, AreLawful, arith, between_other, between_own, Bool, cases_Bool, cond, cond_both, Equal, Equal-is, Error, false, filter, Goes, Greater, Happening, inl, inr, insert_entry, INVALID_ARGUMENT, is_at, is_some, IsSome, IsTold, first_failure, length, List, list_any, lookup, map, MESSAGE_LENGTH_MAX, MESSAGE_TYPE_REQUEST, MessageHeader, nat_cmp, nat_cmp_is, nat_eq, nat_lt, None, not, Option, OutboundTransform, pushed_other, pushed_own, Queued, refl, remove_entry, rules, safe_limit, SendsAll, SendsOne, Sent, Some, String, string_bytes, subst, sym, true, under_both, values_of}
 pub use Rattle.ttrpc_server.specs.Types.{ActiveJob, Arrived, Async, Body, Connection, Failure, HandlerError, Job, Opened, Outbox, Refused, Request, Response, Rules, Sync, Unary}

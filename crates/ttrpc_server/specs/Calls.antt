@@ -4,8 +4,8 @@
 use Rattle.std.specs.Prelude.{◌≡◌, ◌⊎◌, ℕ, List, [], ◌∷◌, ◌++◌, map, option_to_list, Option, Some, None, Result, Ok, Err}
 use Rattle.std.specs.List.{AllByRecursion, flat_map}
 use Rattle.ttrpc_server.specs.Types.{Error, Response, Incoming, Queued, OutboundTransform, Connection, ActiveJob, Job}
-use Rattle.ttrpc_frame.specs.Frames.{Fed}
-use Rattle.ttrpc_frame.specs.Queue.{Happening, Placed}
+use Rattle.ttrpc_proto.specs.Framing.Frames.{Fed}
+use Rattle.ttrpc_proto.specs.Framing.Queue.{Happening, Placed}
 use Rattle.ttrpc_connection.specs.Calls.{Call, Did, Others, Queues}
 use Rattle.ttrpc_connection.specs.Frames.{header_of_frame}
 use Rattle.ttrpc_server.specs.declared.server.ServerCore.{ServerCore}

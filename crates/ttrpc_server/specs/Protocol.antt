@@ -11,7 +11,7 @@ use Rattle.ttrpc_server.specs.Types.{Code, UNKNOWN, INVALID_ARGUMENT, DEADLINE_E
 use Rattle.ttrpc_wire.specs.Field.{fields_bytes}
 use Rattle.ttrpc_proto.specs.ErrorText.{IsTextOf}
 use Rattle.ttrpc_proto.specs.Messages.{IsResponse, response_fields}
-use Rattle.ttrpc_frame.specs.Header.Oversize.{oversize_text}
+use Rattle.ttrpc_proto.specs.Framing.Header.Oversize.{oversize_text}
 use Rattle.ttrpc_secure.specs.declared.transform.InboundTransform.{Ghosts as InboundTransform}
 use Rattle.ttrpc_secure.specs.Hooks.Facts.{Facts}
 use Rattle.ttrpc_secure.specs.Context.Texts.{advice_text, unsafe_payload_text, unsealed_text}

@@ -9,7 +9,7 @@ use Rattle.std.specs.Str.{bytes_eq}
 use Rattle.ttrpc_server.specs.Types.{MessageHeader, Request, ActiveJob, Body, Unary, Stream, Mail, Job, Rules, Sync, Async}
 use Rattle.std.specs.BTreeSet.{insert_key}
 use Rattle.std.specs.Ordering.{nat_cmp}
-use Rattle.ttrpc_frame.specs.declared.header.TheConstants.{FLAG_REMOTE_CLOSED}
+use Rattle.ttrpc_proto.specs.declared.framing.header.TheConstants.{FLAG_REMOTE_CLOSED}
 use Rattle.ttrpc_connection.specs.Deadlines.{deadline_of}
 use Rattle.ttrpc_connection.specs.Mail.{opened_with, with_thing}
 use Rattle.ttrpc_connection.specs.Things.{data_thing, has_flag, opening_thing}

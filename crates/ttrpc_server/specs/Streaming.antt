@@ -6,7 +6,7 @@ use Rattle.std.specs.Prelude.{◌≡◌, ◌⊎◌, ◌&&◌, ℕ, List, [], cod
 use Rattle.std.specs.BTreeMap.{is_at}
 use Rattle.std.specs.Ordering.{nat_cmp}
 use Rattle.std.specs.Set.{remove_key}
-use Rattle.ttrpc_frame.specs.declared.header.TheConstants.{MESSAGE_TYPE_DATA}
+use Rattle.ttrpc_proto.specs.declared.framing.header.TheConstants.{MESSAGE_TYPE_DATA}
 use Rattle.ttrpc_proto.specs.Messages.{IsResponse}
 use Rattle.ttrpc_proto.specs.declared.error.Error.TheVariants.{LocalClosed}
 use Rattle.ttrpc_secure.specs.Context.Texts.{unsealed_text}

@@ -9,7 +9,7 @@ use Rattle.ttrpc_server.specs.Types.{Code, UNKNOWN, INVALID_ARGUMENT, UNIMPLEMEN
 use Rattle.ttrpc_wire.specs.Fold.{read_from}
 use Rattle.ttrpc_proto.specs.ErrorText.{status_of}
 use Rattle.ttrpc_proto.specs.Messages.{empty_request, request_step}
-use Rattle.ttrpc_frame.specs.Header.Oversize.{oversize_text}
+use Rattle.ttrpc_proto.specs.Framing.Header.Oversize.{oversize_text}
 use Rattle.ttrpc_secure.specs.Context.Texts.{unopened_text}
 use Rattle.ttrpc_connection.specs.declared.arrived.Opening.{Opening}
 use Rattle.ttrpc_server.specs.State.{Services, has_method, has_service, has_stream}

@@ -2,7 +2,7 @@
 -- Source: this project's.
 pub use Rattle.ttrpc_wire.specs.declared.values.code.Code.{Code}
 pub use Rattle.ttrpc_wire.specs.declared.values.code.Code.TheVariants.{DEADLINE_EXCEEDED, INVALID_ARGUMENT, UNIMPLEMENTED, UNKNOWN}
-pub use Rattle.ttrpc_frame.specs.declared.header.TheConstants.{MESSAGE_TYPE_DATA, MESSAGE_TYPE_RESPONSE}
+pub use Rattle.ttrpc_proto.specs.declared.framing.header.TheConstants.{MESSAGE_TYPE_DATA, MESSAGE_TYPE_RESPONSE}
 pub use Rattle.ttrpc_proto.specs.declared.messages.Request.{Request}
 pub use Rattle.ttrpc_proto.specs.declared.messages.Response.{Response}
 pub use Rattle.ttrpc_proto.specs.declared.error.Error.TheVariants.{NoMemory, NoMemory as MemoryRefused, Others}

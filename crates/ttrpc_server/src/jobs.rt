@@ -10,8 +10,7 @@ use crate::job::{ActiveJob, Body, Job, JobId};
 use std::alloc::Global;
 use std::marker::Model;
 use ttrpc_connection::Failure;
-use ttrpc_frame::MessageHeader;
-use ttrpc_proto::Request;
+use ttrpc_proto::{MessageHeader, Request};
 use ttrpc_table::Table;
 
 /// The jobs of a server that weren't answered, by rising id, and the ids of those that wait to be handed out.

@@ -2,9 +2,9 @@
 ghost use Rattle.std.specs.Prelude.{◌≡◌, ◌≢◌, ◌≤◌, ◌++◌, ◌⊎◌, ◌↔◌, ◌&&◌, ℕ, List, [], Option, None, Some, Result, is_some, true, drop, nat_eq, nat_le, nat_lt};
 ghost use Rattle.std.specs.List.{AllByRecursion, IsDistinct};
 ghost use Rattle.ttrpc_proto.specs.declared.messages.Request.{Request as ARequest};
-ghost use Rattle.ttrpc_frame.specs.declared.outgoing.Queued.{Queued as AQueued};
-ghost use Rattle.ttrpc_frame.specs.Frames.{nothing};
-ghost use Rattle.ttrpc_frame.specs.Queue.{Happening, IsQueue, all_bytes_left, departing, finished, last_ticket, placed, thrown, unsent, written_all};
+ghost use Rattle.ttrpc_proto.specs.declared.framing.outgoing.Queued.{Queued as AQueued};
+ghost use Rattle.ttrpc_proto.specs.Framing.Frames.{nothing};
+ghost use Rattle.ttrpc_proto.specs.Framing.Queue.{Happening, IsQueue, all_bytes_left, departing, finished, last_ticket, placed, thrown, unsent, written_all};
 ghost use Rattle.ttrpc_connection.specs.declared.arrived.Arrived.{Arrived as AFrame};
 ghost use Rattle.ttrpc_connection.specs.declared.connection.Connection.{Connection as AConnection};
 ghost use Rattle.ttrpc_connection.specs.Calls.{Call, Gives, Goes, Queues, Runs, joined};

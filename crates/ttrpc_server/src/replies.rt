@@ -7,15 +7,13 @@ ghost use Rattle.ttrpc_server.specs.Inside.{IsUnfit, IsUnsentFor, SendsAnswer, S
 use crate::responses::{limit_response, oversize_response};
 use crate::rules::Rules;
 use std::alloc::{AllocError, Global};
-use ttrpc_codec::Codec;
-use ttrpc_codec::message::encode_with_room;
 use ttrpc_connection::{Failure, Outbox};
-use ttrpc_frame::{GenMessage, MESSAGE_LENGTH_MAX, MessageHeader, Queued};
-use ttrpc_proto::{Error, Response};
+use ttrpc_proto::{Error, GenMessage, MESSAGE_LENGTH_MAX, MessageHeader, Queued, Response};
 use ttrpc_secure::context::errors::{unsafe_payload_error, unsealed_error};
 use ttrpc_secure::sending::SendError;
 use ttrpc_secure::{OutboundTransform, TransformError};
-use ttrpc_wire::{Blob, CodecError, Text};
+use ttrpc_wire::codec::message::encode_with_room;
+use ttrpc_wire::{Blob, Codec, CodecError, Text};
 
 /// Why a response wasn't sent.
 #[derive(Debug, Drop)]

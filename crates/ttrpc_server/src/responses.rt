@@ -1,12 +1,12 @@
 //! The answers that a core gives by itself, and the error for an answer to no job.
 ghost use Rattle.std.specs.Prelude.{◌≡◌, codes, string_bytes, IfOk};
-ghost use Rattle.ttrpc_frame.specs.Header.Oversize.{oversize_text};
+ghost use Rattle.ttrpc_proto.specs.Framing.Header.Oversize.{oversize_text};
 ghost use Rattle.ttrpc_connection.specs.Failure.{IsTold};
 ghost use Rattle.ttrpc_server.specs.Protocol.{IsErrorResponse, IsStatusResponse, limit_text, timeout_response};
 ghost use Rattle.ttrpc_server.specs.Table.{even_id_text, in_use_text, inactive_text, method_text, path_text, service_text, status_response, unopened_response_text};
 
 use std::alloc::{AllocError, Global};
-use ttrpc_frame::header::oversize::oversize_message;
+use ttrpc_proto::framing::header::oversize::oversize_message;
 use ttrpc_proto::{Error, Response, ResponseInit, get_status};
 use ttrpc_secure::context::errors::others_error;
 use ttrpc_wire::{Code, CodecError, Text};

@@ -10,8 +10,9 @@ use crate::responses::{
 use crate::rules::Rules;
 use std::alloc::{AllocError, Global};
 use ttrpc_connection::Opening;
-use ttrpc_frame::{MESSAGE_LENGTH_MAX, MESSAGE_TYPE_DATA, MESSAGE_TYPE_REQUEST, MessageHeader};
-use ttrpc_proto::{Request, Response};
+use ttrpc_proto::{
+    MESSAGE_LENGTH_MAX, MESSAGE_TYPE_DATA, MESSAGE_TYPE_REQUEST, MessageHeader, Request, Response,
+};
 use ttrpc_wire::{Blob, Text};
 
 /// What an id has for a frame under it.

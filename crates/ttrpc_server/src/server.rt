@@ -2,8 +2,8 @@
 ghost use Rattle.std.specs.Prelude.{◌≡◌, ◌≢◌, ◌⊎◌, ◌<◌, ◌≤◌, ◌-◌, ◌^◌, ◌++◌, ◌↔◌, ℕ, List, [], filter, true, false, length, is_some, option_to_list, IfOk, IfErr, OnOk, OnErr, IfSome, IfNone, Ok, Err, Some, None};
 ghost use Rattle.ttrpc_proto.specs.declared.error.Error.{Error as AnError};
 ghost use Rattle.ttrpc_proto.specs.declared.messages.Response.{Response as AResponse};
-ghost use Rattle.ttrpc_frame.specs.Frames.{Holds, nothing};
-ghost use Rattle.ttrpc_frame.specs.Queue.{unsent};
+ghost use Rattle.ttrpc_proto.specs.Framing.Frames.{Holds, nothing};
+ghost use Rattle.ttrpc_proto.specs.Framing.Queue.{unsent};
 ghost use Rattle.ttrpc_secure.specs.Hooks.Facts.{facts_of};
 ghost use Rattle.ttrpc_connection.specs.Feeds.{IsFailed};
 ghost use Rattle.ttrpc_connection.specs.OneEnd.{Ends, Lends, TakesFrontOrDrains, TakesOrDrains, failing, lendable, lending, reporting};
@@ -18,10 +18,10 @@ use crate::responses::{error_response, other_rules_error, unknown_job_error};
 use crate::rules::Rules;
 use crate::state::ServerState;
 use std::alloc::Global;
-use ttrpc_codec::message::WireMessage;
 use ttrpc_connection::{Connection, Failure};
 use ttrpc_proto::{Error, Response};
 use ttrpc_secure::{ConnectionContext, ConnectionData, InboundTransform, OutboundTransform};
+use ttrpc_wire::codec::message::WireMessage;
 
 /// The core of a server, over its connection's two halves.
 #[derive(Drop)]

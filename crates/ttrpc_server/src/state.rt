@@ -32,14 +32,13 @@ use crate::rules::Rules;
 use std::alloc::{AllocError, Global};
 use std::collections::BTreeSet;
 use std::marker::Model;
-use ttrpc_codec::in_place::decode_in_place;
 use ttrpc_connection::deadlines::deadline_of;
 use ttrpc_connection::mailbox::past;
 use ttrpc_connection::thing::{closes, of_data, of_opening};
 use ttrpc_connection::{Arrived, Failure, Mailbox, Outbox, Reacts, Thing};
-use ttrpc_frame::MessageHeader;
-use ttrpc_proto::{Error, Request};
+use ttrpc_proto::{Error, MessageHeader, Request};
 use ttrpc_secure::OutboundTransform;
+use ttrpc_wire::codec::in_place::decode_in_place;
 use ttrpc_wire::{Blob, CodecError};
 
 /// The jobs of a server, and what decides which frames become jobs.

@@ -13,14 +13,13 @@ use crate::responses::{error_response, unknown_job_error};
 use crate::rules::Rules;
 use crate::server::ServerCore;
 use std::alloc::Global;
-use ttrpc_codec::message::WireMessage;
 use ttrpc_connection::items::{CLOSE_FLAGS, send_data, stream_frame, unsent_error};
 use ttrpc_connection::{Outbox, Ticket};
-use ttrpc_frame::MESSAGE_TYPE_DATA;
-use ttrpc_proto::{Error, Response};
+use ttrpc_proto::{Error, MESSAGE_TYPE_DATA, Response};
 use ttrpc_secure::sending::SendError;
 use ttrpc_secure::{InboundTransform, OutboundTransform};
 use ttrpc_wire::Blob;
+use ttrpc_wire::codec::message::WireMessage;
 
 impl<O: OutboundTransform + Drop, I: InboundTransform + Drop> ServerCore<O, I> {
     /// Sends an item on the stream of a job, whether that was taken or waits: it is sealed and queued, and has this ticket. A

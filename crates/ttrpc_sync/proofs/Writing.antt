@@ -3,8 +3,8 @@ use Rattle.std.proofs.Common.{All, ◌≡◌, ℕ, zero, suc, ◌≤◌, List, [
 use Rattle.std.proofs.KnownBytes.{Appends-nil, Appends-trans, Appends-kept}
 use Rattle.std.specs.Io.KnownBytes.{Appends, Keeps}
 use Rattle.std.proofs.lemmas.List.Elements.{All-push}
-use Rattle.ttrpc_frame.proofs.Calls.{makes_more, makes_none}
-use Rattle.ttrpc_frame.specs.Streams.{Called, Makes}
+use Rattle.ttrpc_proto.proofs.Calls.{makes_more, makes_none}
+use Rattle.ttrpc_proto.specs.Framing.Streams.{Called, Makes}
 use Rattle.ttrpc_sync.specs.declared.ports.PortState.{PortState}
 use Rattle.ttrpc_sync.specs.Loops.{EndsAt, GoesOn, Told, WritesUntil, Written, reported, waiting}
 

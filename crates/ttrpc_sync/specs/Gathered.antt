@@ -4,7 +4,7 @@ use Rattle.std.specs.Prelude.{◌≡◌, ◌<◌, ◌+◌, ◌-◌, ◌^◌, ◌
 use Rattle.std.specs.IoError.{error_kind}
 use Rattle.std.specs.declared.io.Error.{Error}
 use Rattle.std.specs.declared.io.ErrorKind.{ErrorKind}
-use Rattle.ttrpc_frame.specs.Streams.{Answered, Moved, FailsAs}
+use Rattle.ttrpc_proto.specs.Framing.Streams.{Answered, Moved, FailsAs}
 
 -- the writer to which bytes are handed on, those that are kept, for how many there is room, how many are kept at most, and how often memory was refused
 pub record Gathered (W : Type 0) : Type 0 where

@@ -4,3 +4,4 @@ pub mod Work
 pub mod Turns
 pub mod Batches
 pub mod Queuing
+pub mod Pool

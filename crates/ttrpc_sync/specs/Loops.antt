@@ -3,7 +3,7 @@
 use Rattle.std.specs.Prelude.{◌≡◌, ◌≢◌, ◌⊎◌, ◌+◌, ◌<◌, ◌≤◌, ℕ, List, [], ◌∷◌, length, ◌++◌, All, Option, None, Some, ⊤}
 use Rattle.std.specs.Io.KnownBytes.{Appends, Consumes}
 use Rattle.std.specs.declared.io.ErrorKind.TheVariants.{Interrupted, WriteZero}
-use Rattle.ttrpc_frame.specs.Streams.{Answered, Moved, Failed, Called, Offered, Flushed}
+use Rattle.ttrpc_proto.specs.Framing.Streams.{Answered, Moved, Failed, Called, Offered, Flushed}
 use Rattle.ttrpc_sync.specs.declared.ports.PortState.{PortState}
 use Rattle.ttrpc_sync.specs.declared.ports.PortState.TheVariants.{Open, Ended, Broke, Stopped}
 

@@ -8,7 +8,7 @@ ghost use Rattle.ttrpc_sync.specs.Gathered.{IsFlushOf, IsGathered, IsNewGather, 
 use std::alloc::Global;
 use std::io::{self, ErrorKind};
 use std::marker::Model;
-use ttrpc_frame::{MESSAGE_HEADER_LENGTH, MESSAGE_LENGTH_MAX, Sink};
+use ttrpc_proto::{MESSAGE_HEADER_LENGTH, MESSAGE_LENGTH_MAX, Sink};
 
 /// How many bytes a gathering writer keeps at most: one frame of the greatest length, with its header.
 pub const GATHER_LIMIT: usize = MESSAGE_HEADER_LENGTH + MESSAGE_LENGTH_MAX;

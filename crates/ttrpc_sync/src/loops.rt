@@ -5,12 +5,12 @@ ghost use Rattle.std.specs.Io.KnownBytes.{Appends, IsAtEnd, ReadConsumes};
 ghost use Rattle.std.specs.declared.io.ErrorKind.{ErrorKind};
 ghost use Rattle.ttrpc_sync.specs.declared.ports.PortState.{PortState};
 ghost use Rattle.ttrpc_sync.specs.Loops.{EndsReading, EndsWriting, Handed, HandedAll, IsOneMore, IsSameCount, WritesUntil, Written, reported};
-ghost use Rattle.ttrpc_frame.specs.Streams.{Makes, answered};
+ghost use Rattle.ttrpc_proto.specs.Framing.Streams.{Makes, answered};
 
 use crate::ports::{ReadPort, WritePort};
 use std::io::{self, ErrorKind};
 use std::sync::Wait;
-use ttrpc_frame::{DEFAULT_PAGE_SIZE, Sink, Source};
+use ttrpc_proto::{DEFAULT_PAGE_SIZE, Sink, Source};
 
 #[tactic(auto, using(crate::proofs::Handing::handed_within))]
 /// Reads pieces of at most `DEFAULT_PAGE_SIZE` bytes and hands each to the port, until it has reported an end or a break of

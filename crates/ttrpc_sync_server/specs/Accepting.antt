@@ -3,7 +3,7 @@
 use Rattle.std.specs.Prelude.{◌≡◌, ◌⊎◌, ℕ, List, [], is_some}
 use Rattle.std.specs.declared.io.ErrorKind.{ErrorKind}
 use Rattle.std.specs.declared.io.ErrorKind.TheVariants.{ConnectionAborted, ConnectionReset, Interrupted}
-use Rattle.ttrpc_methods.specs.Methods.{Handlers, handler_of}
+use Rattle.ttrpc_server.specs.Methods.{Handlers, handler_of}
 use Rattle.ttrpc_server.specs.Protocol.{new_core}
 use Rattle.ttrpc_server.specs.State.{Services, has_method}
 use Rattle.ttrpc_server.specs.declared.rules.Rules.TheVariants.{Sync}

@@ -1,7 +1,7 @@
 -- A server as it was built: what it is set to, where it listens, its handlers, its hook and its watch.
 -- Source: this project's.
 use Rattle.std.specs.Prelude.{◌≡◌, ◌⊎◌, ℕ, List, [], Option, Some, None, option_map, String, if◌then◌else◌}
-use Rattle.ttrpc_methods.specs.Methods.{AddsAll, Handlers, IsNotAllAdded}
+use Rattle.ttrpc_server.specs.Methods.{AddsAll, Handlers, IsNotAllAdded}
 use Rattle.ttrpc_proto.specs.declared.error.Error.{Error}
 use Rattle.ttrpc_proto.specs.declared.error.Error.TheVariants.{NoMemory}
 use Rattle.ttrpc_sync_server.specs.Settings.{IsNew, started_settings, bound_settings, stopped_settings}

@@ -1,3 +1,4 @@
 pub mod Settings
 pub mod Built
 pub mod Accepting
+pub mod Connection

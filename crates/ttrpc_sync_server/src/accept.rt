@@ -2,11 +2,11 @@
 ghost use Rattle.std.specs.Prelude.{◌↔◌, IsTrue};
 ghost use Rattle.ttrpc_sync_server.specs.Accepting.{IsRetriedAtOnce};
 
+use crate::connection::Watch;
 use std::io::{self, ErrorKind};
 use std::sync::{Condvar, Mutex, Wait};
 use std::time::{Clock, Duration};
 use ttrpc_proto::Error;
-use ttrpc_sync_connection::Watch;
 use ttrpc_transport::{PipeConnection, PipeListener};
 
 /// Where connections come from.

@@ -1,8 +1,8 @@
 //! The connections that a server has open.
+use crate::connection::Crew;
 use std::alloc::{AllocError, Global};
 use std::collections::BTreeMap;
 use std::sync::{Arc, Condvar, Mutex, Wait};
-use ttrpc_sync_connection::Crew;
 use ttrpc_transport::PipeConnection;
 
 /// A connection that a server has open, and the threads that serve it.

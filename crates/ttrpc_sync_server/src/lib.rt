@@ -1,8 +1,9 @@
 //! The server with threads: its listener, and the connections that it has open. In `settings` what it is set to, and
-//! what it refuses by that.
+//! what it refuses by that; in `connection` one connection and its threads.
 #![tactic(auto)]
 
 pub mod accept;
+pub mod connection;
 mod connections;
 mod hook;
 mod server;
@@ -10,12 +11,13 @@ mod service;
 pub mod settings;
 mod stopper;
 
+pub use connection::{
+    AtTurn, Conn, Crew, MethodHandler, NoWatch, Relay, ServerHeld, ServerJobs, ServerRead,
+    ServerShared, ServerWrite, Serving, SharedHandler, SharedWatch, TtrpcContext, Watch, keep,
+    response_error_to_channel, send_response,
+};
 pub use hook::SharedHook;
 pub use server::Server;
 pub use settings::{Refusal, Settings};
 pub use stopper::Stopper;
 pub use ttrpc_secure::NoHook;
-pub use ttrpc_sync_connection::{
-    Conn, MethodHandler, NoWatch, ServerJobs, ServerRead, ServerShared, ServerWrite, SharedHandler,
-    SharedWatch, TtrpcContext, Watch, response_error_to_channel, send_response,
-};

@@ -10,6 +10,7 @@ ghost use Rattle.ttrpc_transport.specs.Sockets.{IsFault};
 ghost use Rattle.ttrpc_transport.specs.declared.address.domain.Domain.{Domain as ADomain};
 
 use crate::accept::{Stop, next_connection};
+use crate::connection::{NoWatch, Serving, SharedHandler, SharedWatch, Watch};
 use crate::connections::Connections;
 use crate::hook::SharedHook;
 use crate::service::{Service, serve};
@@ -23,11 +24,10 @@ use std::rt::Files;
 use std::sync::Arc;
 use std::thread::{Builder, JoinHandle, Threads};
 use std::time::Duration;
-use ttrpc_methods::Methods;
 use ttrpc_proto::{Error, Result};
 use ttrpc_secure::{NoHook, SendInbound, SendOutbound};
+use ttrpc_server::Methods;
 use ttrpc_sync::{Host, Runtime};
-use ttrpc_sync_connection::{NoWatch, Serving, SharedHandler, SharedWatch, Watch};
 use ttrpc_transport::{PipeConnection, PipeListener};
 
 /// A server with threads, which contracts see as what it was built with: its settings, its listener, its handlers, its hook

@@ -6,25 +6,23 @@ ghost use Rattle.ttrpc_sync_server.specs.Accepting.{IsCoreFor};
 ghost use Rattle.ttrpc_sync_server.specs.Built.{IsNotStarted};
 
 use crate::accept::Stop;
+use crate::connection::{
+    Conn, Crew, ServerShared, Serving, SharedHandler, SharedWatch, Watch, keep,
+};
 use crate::connections::{Connections, OpenConnection};
 use crate::hook::SharedHook;
 use crate::settings::Settings;
 use std::alloc::Global;
 use std::sync::Arc;
 use std::thread::Builder;
-use ttrpc_methods::Methods;
-use ttrpc_pool::PoolCore;
 use ttrpc_proto::error::causes::others_of;
 use ttrpc_proto::{Error, Result};
 use ttrpc_secure::{
     ConnectionContext, HookOutput, InboundTransform, OutboundTransform, SendInbound, SendOutbound,
     admit,
 };
-use ttrpc_server::{Rules, ServerCore};
-use ttrpc_sync::{Host, Link, Runtime};
-use ttrpc_sync_connection::{
-    Conn, Crew, ServerShared, Serving, SharedHandler, SharedWatch, Watch, keep,
-};
+use ttrpc_server::{Methods, Rules, ServerCore};
+use ttrpc_sync::{Host, Link, PoolCore, Runtime};
 use ttrpc_transport::PipeConnection;
 
 /// What a server uses for each connection.

@@ -2,7 +2,6 @@
 //! Written by tools/messages from kinds.proto: change that, and run the tool.
 
 use std::alloc::{AllocError, Global};
-use ttrpc_codec::message::WireMessage;
 use ttrpc_members::choice::Choice;
 use ttrpc_members::enclosed::{Enclosable, Enclosed, Enclosing};
 use ttrpc_members::entries::MapOf;
@@ -16,6 +15,7 @@ use ttrpc_members::nesting::{Content, Recursive, Rule};
 use ttrpc_members::several::{
     clone_eight, clone_four, clone_two, write_eight, write_four, write_two,
 };
+use ttrpc_wire::codec::message::WireMessage;
 use ttrpc_wire::{Blob, CodecError, Field, FieldNumber, Sequence, Text, TryClone, Value, WireType};
 
 /// The number of `UNKNOWN` of the enum `test.kinds.Way`.

@@ -2,9 +2,9 @@
 //! Written by tools/messages from talks.proto: change that, and run the tool.
 
 use std::alloc::{AllocError, Global};
-use ttrpc_codec::message::WireMessage;
 use ttrpc_members::item::{Bytes, Uint64, Utf8};
 use ttrpc_members::kind::{MemberKind, Single};
+use ttrpc_wire::codec::message::WireMessage;
 use ttrpc_wire::{Blob, CodecError, Field, FieldNumber, Text, TryClone};
 
 /// The message `demo.Item`.

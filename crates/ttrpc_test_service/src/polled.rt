@@ -1,7 +1,7 @@
 //! The services of talks.proto for polled ends: for each a trait, the handlers of its methods and streams, and a client.
 //! Written by tools/messages from talks.proto: change that, and run the tool.
 
-ghost use Rattle.ttrpc_polled_streams.specs.Handling.{AtCanPoll, EitherCanPoll};
+ghost use Rattle.ttrpc_polled.specs.Streams.Handling.{AtCanPoll, EitherCanPoll};
 
 use crate::messages::{Count, Item};
 use futures::Future;

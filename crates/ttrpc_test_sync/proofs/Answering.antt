@@ -1,7 +1,7 @@
 -- What is known of a call from what it answered.
 use Rattle.std.proofs.Common.{◌≡◌, ℕ, Result, Ok, Err}
 use Rattle.std.specs.declared.io.ErrorKind.{ErrorKind}
-use Rattle.ttrpc_frame.specs.Streams.{Moved, Failed, answered_kind}
+use Rattle.ttrpc_proto.specs.Framing.Streams.{Moved, Failed, answered_kind}
 
 pub moved_alone : (r : Result ℕ ErrorKind) (n : ℕ) → answered_kind r ≡ Moved n → r ≡ Ok n
 moved_alone (Ok m) n is = cc

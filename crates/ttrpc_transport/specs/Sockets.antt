@@ -2,8 +2,8 @@
 -- Source: this project's.
 use Rattle.std.specs.Prelude.{◌≡◌}
 use Rattle.std.specs.declared.io.ErrorKind.{ErrorKind}
-use Rattle.ttrpc_frame.specs.Streams.{IsPassing}
-use Rattle.ttrpc_frame.specs.declared.streams.again.Passing.TheVariants.{InterruptedOrBlocked}
+use Rattle.ttrpc_proto.specs.Framing.Streams.{IsPassing}
+use Rattle.ttrpc_proto.specs.declared.framing.streams.again.Passing.TheVariants.{InterruptedOrBlocked}
 use Rattle.ttrpc_transport.specs.declared.address.domain.Domain.{Domain}
 use Rattle.ttrpc_transport.specs.declared.address.domain.Domain.TheVariants.{Tcp as TcpDomain, Unix as UnixDomain}
 use Rattle.ttrpc_proto.specs.declared.error.Error.{Error}

@@ -1,7 +1,7 @@
 //! A client's connection.
 ghost use Rattle.std.specs.Prelude.{◌≡◌, IfErr, IfOk, Ok};
 ghost use Rattle.std.specs.IoError.{error_kind};
-ghost use Rattle.ttrpc_frame.specs.Streams.{IsPassing};
+ghost use Rattle.ttrpc_proto.specs.Framing.Streams.{IsPassing};
 ghost use Rattle.ttrpc_transport.specs.Sockets.{IsFault, domain_of};
 ghost use Rattle.ttrpc_transport.specs.Opened.{IsOpenedAt, IsNotOpened, place_domain};
 
@@ -18,8 +18,7 @@ use std::os::unix::net::UnixStream;
 use std::sync::Mutex;
 use std::sync::atomic::{AtomicBool, Ordering};
 use std::time::Duration;
-use ttrpc_frame::Passing;
-use ttrpc_proto::Result;
+use ttrpc_proto::{Passing, Result};
 
 /// How many milliseconds `ready` waits.
 const READY_TIME: u64 = 10;

@@ -2,15 +2,14 @@
 ghost use Rattle.std.specs.Prelude.{◌≡◌, IfErr, IfOk};
 ghost use Rattle.std.specs.Io.{ReadsAtMost, WritesAtMost};
 ghost use Rattle.std.specs.IoError.{error_kind};
-ghost use Rattle.ttrpc_frame.specs.Streams.{IsPassing};
+ghost use Rattle.ttrpc_proto.specs.Framing.Streams.{IsPassing};
 ghost use Rattle.ttrpc_proto.specs.declared.error.Error.{Error};
 ghost use Rattle.ttrpc_transport.specs.Sockets.{IsFault, domain_of};
 
 use std::io::{self, ErrorKind, Read, Write};
 use std::net::{Shutdown, TcpStream};
 use std::os::unix::net::UnixStream;
-use ttrpc_frame::{Passing, read_again, write_again};
-use ttrpc_proto::{Error, Result};
+use ttrpc_proto::{Error, Passing, Result, read_again, write_again};
 
 // What passes at a socket: the call is tried again.
 const PASSING: Passing = Passing::InterruptedOrBlocked;

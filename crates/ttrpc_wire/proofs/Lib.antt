@@ -6,3 +6,6 @@ pub mod Fields
 pub mod Calls
 pub mod Digits
 pub mod Folds
+pub mod Written
+pub mod Parts
+pub mod Around

@@ -6,3 +6,4 @@ pub mod Front
 pub mod Seen
 pub mod Reading
 pub mod Fold
+pub mod Codec

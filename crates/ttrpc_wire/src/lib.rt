@@ -1,7 +1,8 @@
-//! The Protocol Buffers wire format: the fields of a message, read from a slice and written onto a vector. In `values`
-//! the small types that values of all layers are made of.
+//! The Protocol Buffers wire format: the fields of a message, read from a slice and written onto a vector. `codec` has the
+//! messages that are made of fields, and `values` the small types that the values of all layers are made of.
 #![tactic(auto)]
 
+pub mod codec;
 mod field;
 pub mod laws;
 mod number;
@@ -10,6 +11,7 @@ pub mod values;
 mod varint;
 mod writer;
 
+pub use codec::Codec;
 pub use field::{Field, FieldNumber, Tag, Value, WireType};
 pub use number::{int32_to_varint, int64_to_varint, varint_to_int32, varint_to_int64};
 pub use reader::Reader;

@@ -2,13 +2,13 @@
 ghost use Rattle.std.specs.Prelude.{◌≡◌, ◌≤◌, [], ℕ, length, map, IfOk, IfErr};
 ghost use Rattle.std.specs.Vec.{vec_capacity};
 ghost use Rattle.ttrpc_proto.specs.declared.error.Error.{Error as AnError};
-ghost use Rattle.ttrpc_headline.specs.Words.{Entry as AnEntry, IsFresh, IsTold, Net, Runs, empty_pipe, halves};
+ghost use Rattle.ttrpc_world.specs.Headline.Words.{Entry as AnEntry, IsFresh, IsTold, Net, Runs, empty_pipe, halves};
 ghost use Rattle.ttrpc_secure.specs.Sends.{safe_limit};
 
+use crate::headline::laws::runs_are_told;
+use crate::{ClientCore, Entry, Event, Pair, ServerCore, Trace};
 use std::alloc::Global;
 use std::marker::Model;
-use ttrpc_headline::laws::runs_are_told;
-use ttrpc_headline::{ClientCore, Entry, Event, Pair, ServerCore, Trace};
 use ttrpc_proto::Error;
 use ttrpc_secure::{InboundTransform, OutboundTransform};
 
@@ -19,7 +19,7 @@ pub struct World<CO, CI, SO, SI> {
 }
 
 impl<CO, CI, SO, SI> Model for World<CO, CI, SO, SI> {
-    ghost use Rattle.ttrpc_headline.specs.Words.{Net};
+    ghost use Rattle.ttrpc_world.specs.Headline.Words.{Net};
 
     ghost Value = { Net CO CI SO SI };
 

@@ -7,8 +7,8 @@ use crate::codec_error_of;
 use crate::context::{Context, to_pb};
 use std::alloc::Global;
 use std::fmt::Display;
-use ttrpc_codec::Codec;
 use ttrpc_proto::{Error, Request, RequestInit, Result};
+use ttrpc_wire::Codec;
 
 /// The request that asks a service's method with this value, as the context says. An error is `NoMemory`, or tells of a value
 /// that is too long to be written: `Others` of `Encoding request ` and what the codec's error prints.

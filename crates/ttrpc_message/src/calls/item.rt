@@ -5,9 +5,8 @@ ghost use Rattle.ttrpc_message.specs.Calls.{IsUnwritten, TellsItem, TellsItemOrE
 use crate::codec_error_of;
 use std::alloc::Global;
 use std::fmt::Display;
-use ttrpc_codec::Codec;
 use ttrpc_proto::{Error, Result};
-use ttrpc_wire::Blob;
+use ttrpc_wire::{Blob, Codec};
 
 /// The written form of an item that is to be sent. An error is `NoMemory`, or tells of an item that is too long to be written:
 /// `Others` of `Encode message failed. ` and what the codec's error prints.

@@ -5,9 +5,8 @@ ghost use Rattle.ttrpc_message.specs.Calls.{AnswersWith, IsUnanswered, RefusesCa
 use crate::codec_error_of;
 use std::alloc::Global;
 use std::fmt::Display;
-use ttrpc_codec::Codec;
 use ttrpc_proto::{Error, Response, ResponseInit, Result, get_rpc_status, get_status};
-use ttrpc_wire::Code;
+use ttrpc_wire::{Code, Codec};
 
 /// The value that the payload of a request means. An error is `NoMemory`, or tells that it means none: `Others` of
 /// `Unpack request error ` and what the codec's error prints.

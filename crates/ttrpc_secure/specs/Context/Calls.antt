@@ -1,13 +1,13 @@
 -- Why the context of a connection doesn't open or seal, and what it queues.
 -- Source: upstream's documentation of `ConnectionContext`, but for the order of refusals, which is this project's.
 use Rattle.std.specs.Prelude.{◌≡◌, ◌⊎◌, ◌≤◌, ◌<◌, ℕ, Bool, List, [], length, if◌then◌else◌, nat_eq, None, false}
-use Rattle.ttrpc_frame.specs.declared.header.MessageHeader.{MessageHeader}
-use Rattle.ttrpc_frame.specs.declared.header.TheConstants.{MESSAGE_LENGTH_MAX}
-use Rattle.ttrpc_frame.specs.Header.Oversize.{oversize_error}
+use Rattle.ttrpc_proto.specs.declared.framing.header.MessageHeader.{MessageHeader}
+use Rattle.ttrpc_proto.specs.declared.framing.header.TheConstants.{MESSAGE_LENGTH_MAX}
+use Rattle.ttrpc_proto.specs.Framing.Header.Oversize.{oversize_error}
 use Rattle.ttrpc_proto.specs.declared.error.Error.{Error}
 use Rattle.ttrpc_proto.specs.declared.error.Error.TheVariants.{Others, NoMemory}
-use Rattle.ttrpc_frame.specs.declared.gen_message.GenMessage.{GenMessage}
-use Rattle.ttrpc_frame.specs.declared.outgoing.Queued.{Queued}
+use Rattle.ttrpc_proto.specs.declared.framing.gen_message.GenMessage.{GenMessage}
+use Rattle.ttrpc_proto.specs.declared.framing.outgoing.Queued.{Queued}
 use Rattle.ttrpc_secure.specs.declared.transform.InboundTransform.{Ghosts as InboundTransform}
 use Rattle.ttrpc_secure.specs.declared.transform.OutboundTransform.{Ghosts as OutboundTransform}
 use Rattle.ttrpc_secure.specs.declared.sending.SendError.{SendError}

@@ -1,7 +1,7 @@
 //! The context of a connection.
 ghost use Rattle.std.specs.Prelude.{◌≡◌, ◌≤◌, ℕ, List, [], codes, length, true, false, IfOk, IfErr, OnOk, OnErr};
-ghost use Rattle.ttrpc_frame.specs.Queue.{with_frame, with_payload};
-ghost use Rattle.ttrpc_frame.specs.declared.header.TheConstants.{MESSAGE_LENGTH_MAX};
+ghost use Rattle.ttrpc_proto.specs.Framing.Queue.{with_frame, with_payload};
+ghost use Rattle.ttrpc_proto.specs.declared.framing.header.TheConstants.{MESSAGE_LENGTH_MAX};
 ghost use Rattle.ttrpc_secure.specs.Halves.{MayFail};
 ghost use Rattle.ttrpc_secure.specs.Sends.{SendsUnder, associated, safe_limit};
 ghost use Rattle.ttrpc_secure.specs.Context.Calls.{FailsToOpen, FailsToSeal, Seals, TellsUnsent, carrying, no_message, unowned};
@@ -14,9 +14,8 @@ use crate::{InboundTransform, OutboundTransform, Plain, TransformError};
 use std::alloc::Global;
 use std::collections::BTreeMap;
 use std::fmt;
-use ttrpc_frame::header::oversize::{check_oversize, oversize_error};
-use ttrpc_frame::{GenMessage, MessageHeader, Outgoing, Queued};
-use ttrpc_proto::{Blob, Error, Result};
+use ttrpc_proto::framing::header::oversize::{check_oversize, oversize_error};
+use ttrpc_proto::{Blob, Error, GenMessage, MessageHeader, Outgoing, Queued, Result};
 
 /// What is known of a connection, and the two halves that its payloads go through.
 #[derive(Drop)]

@@ -8,8 +8,8 @@ use crate::tests::under_test::{Client, Met, Streaming};
 use std::alloc::Global;
 use std::test::Fail;
 use ttrpc_client::CallId;
-use ttrpc_codec::message::WireMessage;
 use ttrpc_proto::{Error, Request, Response};
+use ttrpc_wire::codec::message::WireMessage;
 use ttrpc_wire::{Blob, Text};
 
 /// A step that only a client knows.

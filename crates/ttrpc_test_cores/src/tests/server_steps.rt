@@ -6,12 +6,11 @@ use crate::tests::stream_job_steps::stream_job_step;
 use crate::tests::under_test::{Met, Server};
 use std::alloc::Global;
 use std::test::Fail;
-use ttrpc_codec::Codec;
-use ttrpc_codec::message::WireMessage;
 use ttrpc_proto::{Error, Response, Status};
 use ttrpc_server::{Job, JobId};
+use ttrpc_wire::codec::message::WireMessage;
 use ttrpc_wire::values::slices::{behind, front};
-use ttrpc_wire::{Blob, Text};
+use ttrpc_wire::{Blob, Codec, Text};
 
 /// A step that only a server knows.
 pub fn server_step<S: Server>(alloc: Global, core: &mut S, step: &Step, cut: usize) -> Met {

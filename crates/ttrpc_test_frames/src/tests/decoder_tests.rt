@@ -3,10 +3,9 @@ use crate::tests::rows::{FrameRow, message_of};
 use std::alloc::Global;
 use std::process::Abort;
 use std::test::Fail;
-use ttrpc_frame::{
-    FrameDecoder, GenMessage, GenMessageError, Incoming, MESSAGE_LENGTH_MAX, MessageHeader,
+use ttrpc_proto::{
+    Error, FrameDecoder, GenMessage, GenMessageError, Incoming, MESSAGE_LENGTH_MAX, MessageHeader,
 };
-use ttrpc_proto::Error;
 use ttrpc_wire::{Blob, TryClone};
 
 type Tested = Result<(), Fail>;

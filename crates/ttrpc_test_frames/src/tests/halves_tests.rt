@@ -5,7 +5,7 @@ use crate::tests::rows::{FrameRow, header_of, queued_of};
 use std::alloc::{AllocError, Global};
 use std::process::Abort;
 use std::test::Fail;
-use ttrpc_frame::{MESSAGE_LENGTH_MAX, Outgoing};
+use ttrpc_proto::{MESSAGE_LENGTH_MAX, Outgoing};
 use ttrpc_secure::sending::{SendError, associated_bytes, send};
 use ttrpc_secure::{InboundTransform, OutboundTransform, Plain, TransformError};
 

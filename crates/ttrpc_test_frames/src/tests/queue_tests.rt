@@ -4,9 +4,8 @@ use crate::tests::rows::{FrameRow, queued_of};
 use std::alloc::Global;
 use std::process::Abort;
 use std::test::Fail;
-use ttrpc_frame::Outgoing;
-use ttrpc_frame::owners::Owners;
-use ttrpc_proto::Error;
+use ttrpc_proto::framing::owners::Owners;
+use ttrpc_proto::{Error, Outgoing};
 use ttrpc_wire::Blob;
 
 type Tested = Result<(), Fail>;

@@ -1,7 +1,7 @@
 //! Frames as data.
 use std::alloc::Global;
 use std::test::Fail;
-use ttrpc_frame::{GenMessage, MessageHeader, Queued};
+use ttrpc_proto::{GenMessage, MessageHeader, Queued};
 use ttrpc_wire::Blob;
 
 /// A frame: its header's length, stream id, type and flags, and its payload.

@@ -5,10 +5,10 @@ use std::alloc::Global;
 use std::process::Abort;
 use std::test::Fail;
 use ttrpc_client::{ClientCore, ClientKind};
-use ttrpc_polled_client::{ClientLine, ClientNewStream, Opening};
-use ttrpc_polled_streams::{
+use ttrpc_polled::{
     ClientStream, ClientStreamSender, SSReceiver, StreamInner, StreamReceiver, StreamSender,
 };
+use ttrpc_polled_client::{ClientLine, ClientNewStream, Opening};
 use ttrpc_proto::{Error, Result as RpcResult};
 use ttrpc_secure::{ConnectionContext, Plain};
 use ttrpc_wire::Blob;

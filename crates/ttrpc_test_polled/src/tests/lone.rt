@@ -2,7 +2,7 @@
 use futures::task::{Context, Poll};
 use std::alloc::Global;
 use std::cell::Cell;
-use ttrpc_polled_streams::{Kind, Sending, StreamLine};
+use ttrpc_polled::{Kind, Sending, StreamLine};
 use ttrpc_proto::Result;
 use ttrpc_wire::Blob;
 

@@ -10,10 +10,10 @@ use ttrpc_bench_polled::recorded::{
 };
 use ttrpc_bench_polled::registry::recorded_registry;
 use ttrpc_client::{CallId, ClientCore, ClientKind, StreamId};
-use ttrpc_codec::Codec;
 use ttrpc_proto::{Error, Response, Result as RpcResult};
 use ttrpc_secure::{ConnectionContext, Plain};
 use ttrpc_server::{JobId, Rules, ServerCore};
+use ttrpc_wire::Codec;
 
 /// The job that a recorded server handled, and whether it is a stream's.
 type Handled = Option<(JobId, bool)>;

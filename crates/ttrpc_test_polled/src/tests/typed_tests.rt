@@ -11,8 +11,8 @@ use tokio::runtime::LocalRuntime;
 use ttrpc_bench_polled::acts::request;
 use ttrpc_bench_polled::lines::{Line, Side, Speaker};
 use ttrpc_bench_polled::parts::{Fault, Parts};
+use ttrpc_polled::ServerStreamReceiver;
 use ttrpc_polled_client::{Client, ClientLine, ClientNewStream};
-use ttrpc_polled_streams::ServerStreamReceiver;
 use ttrpc_proto::{Error, KeyValue, Result as RpcResult};
 use ttrpc_secure::Plain;
 

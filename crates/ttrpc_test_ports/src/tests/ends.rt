@@ -3,15 +3,14 @@ use std::alloc::Global;
 use std::sync::{Arc, Wait};
 use std::test::Fail;
 use ttrpc_client::{CallId, ClientCore, ClientKind};
-use ttrpc_codec::message::WireMessage;
-use ttrpc_pool::PoolCore;
 use ttrpc_proto::{Error, Request, Response, Status};
 use ttrpc_secure::{Plain, plain_context};
 use ttrpc_server::{Rules, ServerCore};
-use ttrpc_sync::{Connected, WriteEnd, write_loop};
+use ttrpc_sync::{Connected, PoolCore, WriteEnd, write_loop};
 use ttrpc_sync_client::ClientShared;
-use ttrpc_sync_connection::ServerShared;
+use ttrpc_sync_server::ServerShared;
 use ttrpc_test_cores::server::registry;
+use ttrpc_wire::codec::message::WireMessage;
 use ttrpc_wire::{Blob, Text};
 
 pub type Tested = Result<(), Fail>;

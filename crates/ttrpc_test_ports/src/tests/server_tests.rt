@@ -7,12 +7,11 @@ use std::io::{self, ErrorKind};
 use std::process::Abort;
 use std::sync::{Arc, Wait};
 use std::test::Fail;
-use ttrpc_pool::PoolCore;
 use ttrpc_proto::Error;
 use ttrpc_secure::plain_context;
 use ttrpc_server::{Job, Rules, ServerCore};
-use ttrpc_sync::{Connected, Gate, Handler, Held, Next, ReadPort, read_loop, work_loop};
-use ttrpc_sync_connection::{AtTurn, Relay, ServerHeld, ServerJobs, ServerRead};
+use ttrpc_sync::{Connected, Gate, Handler, Held, Next, PoolCore, ReadPort, read_loop, work_loop};
+use ttrpc_sync_server::{AtTurn, Relay, ServerHeld, ServerJobs, ServerRead};
 use ttrpc_test_cores::server::{ASKED, ECHOED, NO_METHOD, NO_METHOD_ANSWER, registry};
 use ttrpc_wire::values::slices::front;
 

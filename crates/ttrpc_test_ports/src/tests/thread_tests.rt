@@ -9,7 +9,7 @@ use ttrpc_proto::Error;
 use ttrpc_server::JobId;
 use ttrpc_sync::{Connected, JobPort, ReadPort};
 use ttrpc_sync_client::{CALLS_TO_REST, Manner};
-use ttrpc_sync_connection::{ServerJobs, ServerRead};
+use ttrpc_sync_server::{ServerJobs, ServerRead};
 use ttrpc_test_cores::server::ASKED;
 
 fn a_while() -> Duration {

@@ -4,7 +4,7 @@ use crate::tests::masking::{Masking, masking_context};
 use std::alloc::Global;
 use std::process::Abort;
 use std::test::Fail;
-use ttrpc_frame::{GenMessage, MessageHeader};
+use ttrpc_proto::{GenMessage, MessageHeader};
 use ttrpc_secure::ConnectionContext;
 use ttrpc_wire::Blob;
 

@@ -3,8 +3,7 @@ use std::alloc::Global;
 use std::process::Abort;
 use std::test::Fail;
 use ttrpc_bench::{Sealed, StampIn, StampOut, Swelling, stamps};
-use ttrpc_frame::{GenMessage, MESSAGE_LENGTH_MAX, MessageHeader, Outgoing};
-use ttrpc_proto::{Error, Result};
+use ttrpc_proto::{Error, GenMessage, MESSAGE_LENGTH_MAX, MessageHeader, Outgoing, Result};
 use ttrpc_secure::{ConnectionContext, Plain, plain_context};
 use ttrpc_wire::Blob;
 

@@ -2,7 +2,7 @@
 use std::alloc::Global;
 use std::io;
 use ttrpc_bench::{Giver, Manner, StampIn, StampOut, knowing, rejected};
-use ttrpc_frame::Source;
+use ttrpc_proto::Source;
 use ttrpc_secure::{AcceptHook, ConnectHook, Datum, HookError, HookOutput, Plain};
 use ttrpc_wire::Text;
 

@@ -4,7 +4,7 @@ use crate::tests::masking::masking_context;
 use std::alloc::Global;
 use std::process::Abort;
 use std::test::Fail;
-use ttrpc_frame::{GenMessage, MessageHeader};
+use ttrpc_proto::{GenMessage, MessageHeader};
 
 type Tested = Result<(), Fail>;
 

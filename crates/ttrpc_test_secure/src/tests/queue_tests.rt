@@ -5,8 +5,7 @@ use std::alloc::Global;
 use std::process::Abort;
 use std::test::Fail;
 use ttrpc_bench::stamps;
-use ttrpc_frame::{GenMessage, MESSAGE_LENGTH_MAX, MessageHeader, Outgoing};
-use ttrpc_proto::Error;
+use ttrpc_proto::{Error, GenMessage, MESSAGE_LENGTH_MAX, MessageHeader, Outgoing};
 use ttrpc_secure::{ConnectionContext, InboundTransform, OutboundTransform};
 
 type Tested = Result<(), Fail>;

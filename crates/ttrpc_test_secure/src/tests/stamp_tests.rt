@@ -3,7 +3,7 @@ use std::alloc::Global;
 use std::process::Abort;
 use std::test::Fail;
 use ttrpc_bench::{StampIn, StampOut, Transformed, stamps};
-use ttrpc_frame::{GenMessage, MessageHeader, Outgoing, Queued};
+use ttrpc_proto::{GenMessage, MessageHeader, Outgoing, Queued};
 use ttrpc_secure::sending::{SendError, send};
 use ttrpc_secure::{InboundTransform, OutboundTransform, TransformError};
 use ttrpc_wire::Blob;

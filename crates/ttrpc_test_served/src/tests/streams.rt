@@ -10,8 +10,8 @@ use futures::task::{Context, Poll};
 use std::alloc::{AllocError, Global};
 use std::mem::replace;
 use std::sync::Arc;
+use ttrpc_polled::{Sending, StreamInner};
 use ttrpc_polled_server::{StreamHandler, TtrpcContext};
-use ttrpc_polled_streams::{Sending, StreamInner};
 use ttrpc_proto::{Error, Response, Result};
 use ttrpc_wire::Blob;
 

@@ -8,7 +8,7 @@ use std::process::Abort;
 use std::sync::Wait;
 use std::test::Fail;
 use ttrpc_bench::{AT_ONCE, Manner, Receiver};
-use ttrpc_frame::Sink;
+use ttrpc_proto::Sink;
 use ttrpc_sync::{GATHER_LIMIT, Gather, PART_LIMIT, PortState, WritePort, write_loop};
 use ttrpc_wire::values::slices::{behind, front};
 

@@ -10,7 +10,7 @@ use std::process::Abort;
 use std::sync::Wait;
 use std::test::Fail;
 use ttrpc_bench::{Giver, ROOM, Receiver};
-use ttrpc_frame::{Sink, write_part};
+use ttrpc_proto::{Sink, write_part};
 use ttrpc_sync::{Gather, PortState, read_loop, work_loop, write_loop};
 
 /// A slice that is read to its end was taken whole.

@@ -4,8 +4,7 @@ use crate::tests::pooling::Call::*;
 use crate::tests::workers::{Queue, Refuser, Seen};
 use std::process::Abort;
 use std::test::Fail;
-use ttrpc_pool::PoolCore;
-use ttrpc_sync::{Gate, PortState, work_loop};
+use ttrpc_sync::{Gate, PoolCore, PortState, work_loop};
 
 type Tested = Result<(), Fail>;
 

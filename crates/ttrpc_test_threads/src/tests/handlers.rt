@@ -4,12 +4,12 @@ use std::sync::atomic::{AtomicBool, AtomicU64, Ordering};
 use std::sync::{Arc, Mutex};
 use std::thread;
 use std::time::{Clock, Duration};
-use ttrpc_codec::message::WireMessage;
 use ttrpc_proto::{Error, Request, Response, Result, Status};
 use ttrpc_secure::{ConnectionData, ConnectionDataExt, InboundTransform, OutboundTransform};
 use ttrpc_sync::Host;
 use ttrpc_sync_server::{MethodHandler, TtrpcContext, response_error_to_channel};
 use ttrpc_wire::Blob;
+use ttrpc_wire::codec::message::WireMessage;
 
 /// How often a test looks at most, a millisecond after each look.
 pub const TURNS: u32 = 10000;

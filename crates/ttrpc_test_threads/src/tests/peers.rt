@@ -4,11 +4,12 @@ ghost use Rattle.std.specs.Prelude.{◌<◌, ◌^◌, length, IfOk};
 use crate::tests::sites::request;
 use std::alloc::Global;
 use std::io::{Read, Write};
-use ttrpc_codec::message::{WireMessage, encode};
-use ttrpc_frame::{GenMessage, GenMessageError, MessageHeader};
-use ttrpc_proto::{Error, Response, Result as Answered, Status};
+use ttrpc_proto::{
+    Error, GenMessage, GenMessageError, MessageHeader, Response, Result as Answered, Status,
+};
 use ttrpc_transport::PipeConnection;
 use ttrpc_wire::Blob;
+use ttrpc_wire::codec::message::{WireMessage, encode};
 use ttrpc_wire::values::slices::behind;
 
 /// Writes all of it.

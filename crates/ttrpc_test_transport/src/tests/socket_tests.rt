@@ -9,8 +9,7 @@ use std::rt::Files;
 use std::test::Fail;
 use std::thread::{self, Threads};
 use std::time::{Clock, Duration, Instant};
-use ttrpc_frame::{fill, write_part};
-use ttrpc_proto::{Error, Result as Answer};
+use ttrpc_proto::{Error, Result as Answer, fill, write_part};
 use ttrpc_transport::{ClientConnection, PipeConnection, Stream};
 
 fn bytes_pass<R>(rt: &R, alloc: Global, site: Site) -> Tested

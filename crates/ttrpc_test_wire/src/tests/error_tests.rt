@@ -7,8 +7,8 @@ use std::alloc::{AllocError, Global};
 use std::io::ErrorKind;
 use std::process::Abort;
 use std::test::Fail;
-use ttrpc_frame::header::oversize::check_oversize;
 use ttrpc_proto::error::causes::others_of;
+use ttrpc_proto::framing::header::oversize::check_oversize;
 use ttrpc_proto::{
     Error, Response, Result, err_to_others, get_rpc_status, get_status, sock_error_msg,
 };

@@ -1,6 +1,6 @@
 //! The protocol's example of a header, its edges, and the headers that are made.
 use std::test::Fail;
-use ttrpc_frame::{
+use ttrpc_proto::{
     FLAG_NO_DATA, FLAG_REMOTE_CLOSED, FLAG_REMOTE_OPEN, MESSAGE_TYPE_DATA, MessageHeader,
 };
 

@@ -7,11 +7,10 @@ use std::alloc::Global;
 use std::fmt::Debug;
 use std::process::Abort;
 use std::test::Fail;
-use ttrpc_codec::Codec;
-use ttrpc_codec::in_place::{CarriesPayload, decode_in_place};
 use ttrpc_message::decode_request;
 use ttrpc_proto::{Any, KeyValue, Request, Response, Status};
-use ttrpc_wire::{Blob, CodecError, TryClone};
+use ttrpc_wire::codec::in_place::{CarriesPayload, decode_in_place};
+use ttrpc_wire::{Blob, Codec, CodecError, TryClone};
 
 type Tested = Result<(), Fail>;
 

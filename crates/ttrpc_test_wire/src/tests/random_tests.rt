@@ -2,9 +2,8 @@
 use std::alloc::Global;
 use std::process::Abort;
 use std::test::Fail;
-use ttrpc_codec::Codec;
 use ttrpc_proto::{KeyValue, Request};
-use ttrpc_wire::{CodecError, Field, FieldNumber, Value, put_field};
+use ttrpc_wire::{Codec, CodecError, Field, FieldNumber, Value, put_field};
 
 /// The last value with a length of this number, or none.
 fn last_delimited<'a>(fields: &[Field<'a>], number: u32) -> &'a [u8] {

@@ -4,12 +4,12 @@ use std::mem;
 use std::test::Fail;
 use ttrpc_bench::stamps;
 use ttrpc_client::{ClientCore, ClientKind};
-use ttrpc_codec::message::WireMessage;
 use ttrpc_proto::{Error, Request, Response, Status};
 use ttrpc_secure::plain::plain_is_paired;
 use ttrpc_secure::{ConnectionContext, plain_context};
 use ttrpc_server::{Rules, ServerCore};
 use ttrpc_test_cores::server::registry;
+use ttrpc_wire::codec::message::WireMessage;
 use ttrpc_wire::{Blob, Sequence, Text};
 use ttrpc_world::{Entry, Event, Reply, Side, StreamEnd, Trace, World};
 

@@ -4,9 +4,9 @@ use crate::tests::plainly::is_ok;
 use crate::tests::script::Over;
 use std::alloc::Global;
 use std::test::Fail;
-use ttrpc_codec::Codec;
 use ttrpc_proto::{Error, Response};
 use ttrpc_server::Rules;
+use ttrpc_wire::Codec;
 use ttrpc_world::Event;
 
 /// The most bytes that a message may have.

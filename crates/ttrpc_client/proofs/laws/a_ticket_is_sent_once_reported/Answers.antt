@@ -1,9 +1,9 @@
 use Rattle.ttrpc_client.proofs.Words.{◌∙◌, ℕ, ap, called, calling, run_goes, ◌&&◌}
 use Rattle.std.specs.Prelude.{nat_le, nat_lt}
 use Rattle.ttrpc_connection.specs.Outbox.{is_sent}
-use Rattle.ttrpc_frame.proofs.Departures.{thrown_are_requests}
-use Rattle.ttrpc_frame.proofs.Tickets.{sent_is_finished}
-use Rattle.ttrpc_frame.specs.Queue.{Queue}
+use Rattle.ttrpc_proto.proofs.Departures.{thrown_are_requests}
+use Rattle.ttrpc_proto.proofs.Tickets.{sent_is_finished}
+use Rattle.ttrpc_proto.specs.Framing.Queue.{Queue}
 use Rattle.ttrpc_client.proofs.Calls.{called_is_lawful}
 use Rattle.ttrpc_client.proofs.Entered.{sent_or_queued}
 use Rattle.ttrpc_client.proofs.laws.a_ticket_is_sent_once_reported.Goals as goal

@@ -1,6 +1,6 @@
 use Rattle.std.proofs.Common.{◌≡◌, ◌≤◌, ◌∙◌, ap, length, take, arith}
 use Rattle.std.proofs.lemmas.List.{take-take, length-take}
-use Rattle.ttrpc_frame.specs.Queue.{open_part, after_report}
+use Rattle.ttrpc_proto.specs.Framing.Queue.{open_part, after_report}
 use Rattle.ttrpc_secure.specs.declared.plain.Plain.{Plain}
 use Rattle.ttrpc_server.specs.declared.server.ServerCore.{ServerCore}
 use Rattle.ttrpc_echo.proofs.Writing.{lent_and_reported, still_ready, with_queue, writes_more}

@@ -1,5 +1,5 @@
 use Rattle.std.proofs.Common.{Ok, ap, ◌∙◌}
-use Rattle.ttrpc_frame.specs.declared.reading.Found.TheVariants.{Whole}
+use Rattle.ttrpc_proto.specs.declared.framing.reading.Found.TheVariants.{Whole}
 use Rattle.ttrpc_message.proofs.Told.{parts_of_frame}
 use Rattle.ttrpc_message.proofs.frames.parts_of.Goals as goal
 

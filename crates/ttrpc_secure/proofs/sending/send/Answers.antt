@@ -1,6 +1,6 @@
 use Rattle.std.proofs.Common.{rules, arith, ◌≡◌, ◌∙◌, ap}
-use Rattle.ttrpc_frame.specs.Queue.{with_frame, filled, withdrawn}
-use Rattle.ttrpc_frame.proofs.Queues.{placed_filled, placed_withdrawn}
+use Rattle.ttrpc_proto.specs.Framing.Queue.{with_frame, filled, withdrawn}
+use Rattle.ttrpc_proto.proofs.Queues.{placed_filled, placed_withdrawn}
 use Rattle.ttrpc_secure.specs.declared.sending.SendError.TheVariants.{Failed}
 use Rattle.ttrpc_secure.proofs.Settles.{settled_ok, settled_err}
 use Rattle.ttrpc_secure.proofs.sending.send.Goals as goal

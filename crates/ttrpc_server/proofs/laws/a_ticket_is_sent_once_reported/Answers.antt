@@ -1,7 +1,7 @@
 use Rattle.ttrpc_server.proofs.Words.{◌∙◌, ℕ, ap, run_goes, served, serving, ◌&&◌, Queue}
 use Rattle.std.specs.Prelude.{nat_le, nat_lt}
 use Rattle.ttrpc_connection.specs.Outbox.{is_sent}
-use Rattle.ttrpc_frame.proofs.Tickets.{sent_is_finished}
+use Rattle.ttrpc_proto.proofs.Tickets.{sent_is_finished}
 use Rattle.ttrpc_server.proofs.Calls.{served_is_lawful}
 use Rattle.ttrpc_server.proofs.laws.a_ticket_is_sent_once_reported.Goals as goal
 

@@ -1,7 +1,7 @@
 use Rattle.std.proofs.Common.{◌≡◌, All, length}
 use Rattle.ttrpc_sync.specs.declared.ports.PortState.TheVariants.{Open}
 use Rattle.ttrpc_sync.specs.Loops.{GoesOn, IsOneMore, Written, reported}
-use Rattle.ttrpc_frame.specs.Streams.{Makes}
+use Rattle.ttrpc_proto.specs.Framing.Streams.{Makes}
 use Rattle.ttrpc_sync.proofs.loops.write_pieces.Given as goal
 
 -- What the writer took was reported, and no call of it was one to end at.

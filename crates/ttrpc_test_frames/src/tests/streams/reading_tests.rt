@@ -5,9 +5,8 @@ use std::io::ErrorKind;
 use std::process::Abort;
 use std::test::Fail;
 use ttrpc_bench::{AT_ONCE, Giver, Manner};
-use ttrpc_frame::{GenMessage, GenMessageError, MessageHeader};
 use ttrpc_message::{Message, read_message};
-use ttrpc_proto::{Error, Request};
+use ttrpc_proto::{Error, GenMessage, GenMessageError, MessageHeader, Request};
 
 type Tested = Result<(), Fail>;
 

@@ -2,13 +2,13 @@
 //! over it.
 ghost use Rattle.std.specs.Prelude.{◌≡◌, ◌++◌, [], ◌∷◌, map, Some};
 ghost use Rattle.std.specs.Option.{option_map_or};
-ghost use Rattle.ttrpc_frame.specs.Streams.{Flushed, Offered, answered_kind};
+ghost use Rattle.ttrpc_proto.specs.Framing.Streams.{Flushed, Offered, answered_kind};
 
 use std::alloc::Global;
 use std::io::{self, ErrorKind};
 use std::process::Abort;
 use ttrpc_bench::Receiver;
-use ttrpc_frame::Sink;
+use ttrpc_proto::Sink;
 use ttrpc_wire::Blob;
 
 /// The bytes that were offered, or none for a flush, and the answer.

@@ -1,6 +1,6 @@
 //! What is read, with what each reader tells of it. A frame's layout is that of PROTOCOL.md of ttrpc.
 use ttrpc_bench::{AT_ONCE, Manner};
-use ttrpc_frame::MessageHeader;
+use ttrpc_proto::MessageHeader;
 
 /// How what is read comes, and how what is written is taken.
 pub const MANNERS: &[Manner] = &[

@@ -4,9 +4,8 @@ use std::alloc::Global;
 use std::process::Abort;
 use std::test::Fail;
 use ttrpc_bench::{AT_ONCE, Giver};
-use ttrpc_frame::{GenMessage, MessageHeader};
 use ttrpc_message::{Message, read_message};
-use ttrpc_proto::{Error, Request};
+use ttrpc_proto::{Error, GenMessage, MessageHeader, Request};
 use ttrpc_wire::{Blob, Sequence, Text, TryClone};
 
 type Tested = Result<(), Fail>;

@@ -6,9 +6,8 @@ use std::io::ErrorKind;
 use std::process::Abort;
 use std::test::Fail;
 use ttrpc_bench::{AT_ONCE, Manner, Receiver, StdWriter};
-use ttrpc_frame::{GenMessage, MessageHeader};
 use ttrpc_message::{Message, write_message};
-use ttrpc_proto::{Error, Request, Result as Answer};
+use ttrpc_proto::{Error, GenMessage, MessageHeader, Request, Result as Answer};
 use ttrpc_wire::Blob;
 
 type Tested = Result<(), Fail>;

@@ -4,10 +4,9 @@ use std::alloc::{AllocError, Global};
 use std::io::ErrorKind;
 use std::process::Abort;
 use std::test::Fail;
-use ttrpc_frame::{GenMessage, GenMessageError, MessageHeader};
 use ttrpc_message::Message;
 use ttrpc_polled_frames::{AsMessage, AsParts, AsValue, PollRead, ReadHeader, Tells};
-use ttrpc_proto::{Error, Request, Result};
+use ttrpc_proto::{Error, GenMessage, GenMessageError, MessageHeader, Request, Result};
 
 /// A header of type 1 and flags 239, a request of 67 bytes, and two bytes of another frame.
 const ASKED: &[u8] =

@@ -3,10 +3,9 @@ use crate::tests::frames::ends::{Narrow, System, come};
 use std::alloc::Global;
 use std::io::{self, ErrorKind};
 use std::test::Fail;
-use ttrpc_frame::{GenMessage, MessageHeader};
 use ttrpc_message::Message;
 use ttrpc_polled_frames::{AsValue, PollRead, PollWrite, WriteHeader, WriteMessage};
-use ttrpc_proto::{Request, Result};
+use ttrpc_proto::{GenMessage, MessageHeader, Request, Result};
 use ttrpc_wire::Blob;
 
 /// A header that states another length than its payload has, which is written as it stands, and the payload.

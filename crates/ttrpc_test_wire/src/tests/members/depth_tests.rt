@@ -4,11 +4,10 @@ use crate::tests::members::vectors::TREE;
 use std::alloc::{AllocError, Global};
 use std::process::Abort;
 use std::test::Fail;
-use ttrpc_codec::Codec;
-use ttrpc_codec::message::WireMessage;
 use ttrpc_members::enclosed::Enclosed;
 use ttrpc_test_members::messages::{Cell, CellKind, Row, Sheet, Tree, TreeRules};
-use ttrpc_wire::{CodecError, TryClone, put_varint, varint_len};
+use ttrpc_wire::codec::message::WireMessage;
+use ttrpc_wire::{Codec, CodecError, TryClone, put_varint, varint_len};
 
 /// The member of lists, and the optional one.
 const CHILDREN: u8 = 0x12;

@@ -3,10 +3,9 @@ use crate::tests::members::vectors::{ALL, CHOICES, FIGURES, LISTS, OPTIONS, TABL
 use std::alloc::Global;
 use std::process::Abort;
 use std::test::Fail;
-use ttrpc_codec::Codec;
-use ttrpc_codec::message::WireMessage;
 use ttrpc_test_members::messages::{All, Choices, Figures, Lists, Options, Tables};
-use ttrpc_wire::CodecError;
+use ttrpc_wire::codec::message::WireMessage;
+use ttrpc_wire::{Codec, CodecError};
 
 pub type Tested = Result<(), Fail>;
 

@@ -1,6 +1,6 @@
 use Rattle.std.proofs.Common.{◌++◌, ◌∷◌, ◌∙◌, ◌≤◌, [], ap, arith, length}
 use Rattle.std.specs.Vec.{vec_capacity}
-use Rattle.ttrpc_headline.proofs.Running.{events_more, run_more}
+use Rattle.ttrpc_world.proofs.Running.{events_more, run_more}
 use Rattle.ttrpc_world.proofs.world.run_pair.Goals as goal
 
 pub loop-event-preserved : goal.loop-event-preserved

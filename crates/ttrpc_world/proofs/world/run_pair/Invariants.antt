@@ -1,6 +1,6 @@
 use Rattle.std.proofs.Common.{◌≡◌, ◌≤◌, length, map}
 use Rattle.std.specs.Vec.{vec_capacity}
-use Rattle.ttrpc_headline.specs.Words.{Entry, Runs, halves}
+use Rattle.ttrpc_world.specs.Headline.Words.{Entry, Runs, halves}
 use Rattle.ttrpc_world.proofs.world.run_pair.Given as goal
 
 -- What happened so far is a run, and there is room for the rest.

@@ -1,6 +1,6 @@
 use Rattle.std.specs.Option.{unwrap_or}
-use Rattle.ttrpc_frame.specs.Queue.{ticket_after, with_payload}
-use Rattle.ttrpc_frame.proofs.Tickets.{numbered_append}
+use Rattle.ttrpc_proto.specs.Framing.Queue.{ticket_after, with_payload}
+use Rattle.ttrpc_proto.proofs.Tickets.{numbered_append}
 use Rattle.ttrpc_connection.proofs.Words.{◌≡◌, ℕ, Option, None, Some, refl}
 use Rattle.ttrpc_connection.proofs.outbox.Outbox.send.Goals as goal
 

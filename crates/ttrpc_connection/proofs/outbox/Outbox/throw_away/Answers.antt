@@ -1,4 +1,4 @@
-use Rattle.ttrpc_frame.proofs.Tickets.{numbered_without}
+use Rattle.ttrpc_proto.proofs.Tickets.{numbered_without}
 use Rattle.ttrpc_connection.proofs.outbox.Outbox.throw_away.Goals as goal
 
 pub invariant_of-self : goal.invariant_of-self

@@ -1,5 +1,5 @@
 use Rattle.std.proofs.Common.{Err, inr, refl, ◌∙◌}
-use Rattle.ttrpc_frame.proofs.Sent.{sent_as}
+use Rattle.ttrpc_proto.proofs.Sent.{sent_as}
 use Rattle.ttrpc_message.proofs.message.Message.write_to.Goals as goal
 
 pub returns-clause-calls : goal.returns-clause-calls

@@ -1,7 +1,7 @@
 use Rattle.std.proofs.Common.{◌≡◌, Ok, subst, sym, rules}
 use Rattle.futures.specs.declared.task.Poll.TheVariants.{Ready}
 use Rattle.tokio.specs.Io.Moved.{bytes_moved}
-use Rattle.ttrpc_frame.proofs.Bytes.{front_with}
+use Rattle.ttrpc_proto.proofs.Bytes.{front_with}
 use Rattle.ttrpc_polled_frames.proofs.headers.ReadHeader.poll_more.Goals as goal
 
 pub returns-in-Ready-Ok-clause-fills : goal.returns-in-Ready-Ok-clause-fills

@@ -1,5 +1,5 @@
 use Rattle.std.proofs.Common.{refl, rules}
-use Rattle.ttrpc_frame.specs.Header.{header_bytes}
+use Rattle.ttrpc_proto.specs.Framing.Header.{header_bytes}
 use Rattle.ttrpc_polled_frames.proofs.Parts.{parts_are_all}
 use Rattle.ttrpc_polled_frames.proofs.offering.Offering.of_frame.Goals as goal
 

@@ -1,0 +1,136 @@
+-- What the calls of a server's ports do to its core, under the lock.
+-- Source: this project's.
+use Rattle.std.specs.Prelude.{◌≡◌, ◌⊎◌, ◌-◌, ℕ, Option, Some, None, List, filter, length, take, drop, min, is_some, if◌then◌else◌, Bool, true, false, nat_eq, nat_lt, Ok, Err, Result}
+use Rattle.ttrpc_proto.specs.Framing.Queue.{after_report, open_part, with_lent}
+use Rattle.ttrpc_proto.specs.declared.error.Error.{Error}
+use Rattle.ttrpc_secure.specs.declared.transform.InboundTransform.{Ghosts as InboundTransform}
+use Rattle.ttrpc_secure.specs.declared.transform.OutboundTransform.{Ghosts as OutboundTransform}
+use Rattle.ttrpc_server.specs.Protocol.{AnswersError, Finishes, RefusesAnswer, RefusesFinish, serving}
+use Rattle.ttrpc_server.specs.State.{waits}
+use Rattle.ttrpc_server.specs.Types.{Ends, TakesOrDrains}
+use Rattle.ttrpc_server.specs.declared.server.ServerCore.{ServerCore}
+use Rattle.ttrpc_sync.specs.declared.ends.turn.Turn.{Turn}
+use Rattle.ttrpc_sync_server.specs.declared.connection.ports.relay.Relay.{Relay}
+use Rattle.ttrpc_sync_server.specs.declared.connection.ports.server.Woken.{Woken}
+use Rattle.ttrpc_sync_server.specs.Connection.Relays.{has_turn, relay_begun}
+
+-- ---- jobs
+
+-- the job may not end, since the connection has failed, the rules are others, or there is none under this id; nothing
+-- changed
+abbrev pub IsKept : {O I : Type 0} → ServerCore O I → ℕ → ServerCore O I → Type 0
+IsKept old id new = ((e : Error) × RefusesFinish old id e) × (new ≡ old)
+
+-- the job has ended, and nothing was queued
+abbrev pub IsFinished : {O I : Type 0} → ServerCore O I → ℕ → ServerCore O I → Type 0
+IsFinished old id new = Finishes old id new ⊎ IsKept old id new
+
+-- the job has ended by an error, and under sync rules so has the connection; or its answer was refused, and nothing
+-- changed
+abbrev pub IsDropped : {O I : Type 0} → OutboundTransform O → ServerCore O I → ℕ → Error → ServerCore O I → Type 0
+IsDropped out old id error new = AnswersError out old.state.rules old id error new ⊎ (((e : Error) × RefusesAnswer out old id (Err error) e) × (new ≡ old))
+
+-- ---- bytes in
+
+-- whether all of a piece of this length was taken
+abbrev pub is_whole : Result ℕ Error → ℕ → Bool
+is_whole (Ok n) length = nat_eq n length
+is_whole (Err e) length = false
+
+-- A piece was fed to the core, and taken whole where that is said.
+pub record IsFed {O I : Type 0} (seals : OutboundTransform O) (opens : InboundTransform I) (old : ServerCore O I) (piece : List ℕ) (is_taken : Bool) (new : ServerCore O I) : Type 0 where
+  pub answer : Result ℕ Error
+  pub fed : TakesOrDrains (serving seals opens) old.state old.connection piece 0 answer new.state new.connection
+  pub taken : is_whole answer (length piece) ≡ is_taken
+
+-- ---- bytes out
+
+-- how many bytes can be lent: what is left of the first unfinished frame, and none once the connection has failed
+abbrev pub open_of : {O I : Type 0} → ServerCore O I → ℕ
+open_of core = if is_some core.connection.failure then 0 else length (open_part core.connection.outbox.queue)
+
+-- So many bytes were lent into a buffer that held other bytes: a front of what can be lent, as much as fits. The rest of
+-- the buffer is as it was, and it is said whether they end a frame.
+pub record LendsFrame {O I : Type 0} (old : ServerCore O I) (before : List ℕ) (n : ℕ) (ends_frame : Bool) (after : List ℕ) (new : ServerCore O I) : Type 0 where
+  pub count : n ≡ min (length before) (open_of old)
+  pub copied : take n after ≡ take n (open_part old.connection.outbox.queue)
+  pub rest : drop n after ≡ drop n before
+  pub ends : ends_frame ≡ nat_eq n (open_of old)
+  pub same : new ≡ record old { connection = record old.connection { outbox = record old.connection.outbox { queue = with_lent old.connection.outbox.queue n } } }
+
+-- no job is under way, none waits, and nothing can be lent
+pub record IsQuiet {O I : Type 0} (core : ServerCore O I) : Type 0 where
+  pub jobs : length core.state.jobs.list ≡ 0
+  pub bytes : open_of core ≡ 0
+
+-- the core is as it was, or it was told of the end of the input, which has come, while it was quiet
+abbrev pub MayTellEnd : {O I : Type 0} → Bool → ServerCore O I → ServerCore O I → Type 0
+MayTellEnd has_ended old new = (new ≡ old) ⊎ ((has_ended ≡ true) × IsQuiet old × Ends old.connection new.connection × (new ≡ record old { connection = new.connection }))
+
+-- whether bytes can be lent
+abbrev pub has_bytes : {O I : Type 0} → ServerCore O I → Bool
+has_bytes core = nat_lt 0 (open_of core)
+
+-- whether the connection hasn't failed
+abbrev pub is_alive : {O I : Type 0} → ServerCore O I → Bool
+is_alive core = if is_some core.connection.failure then false else true
+
+-- the core, after a report that so many of the lent bytes were written, and at most all of these
+abbrev pub reported_to : {O I : Type 0} → ServerCore O I → ℕ → ServerCore O I
+reported_to core n = record core { connection = record core.connection { outbox = record core.connection.outbox { queue = after_report core.connection.outbox.queue (min n core.connection.outbox.queue.lent) } } }
+
+-- ---- who is woken
+
+-- whether the writer thread is woken where something is there for it: it sleeps, and nobody has the turn
+abbrev pub wakes_writer : Turn → (is_wanted : Bool) → Bool
+wakes_writer turn is_wanted = if is_wanted then (if turn.is_taken then false else turn.sleeps) else false
+
+-- the turn then: of the thread that is woken known that it was
+abbrev pub turn_waking : Turn → (is_wanted : Bool) → Turn
+turn_waking turn is_wanted = if is_wanted then record turn { sleeps = if turn.is_taken then turn.sleeps else false } else turn
+
+-- whether the reader of a piece handles its jobs itself: some wait, and the other reader waits for the turn
+abbrev pub keeps_jobs : {O I : Type 0} → ServerCore O I → Relay → Bool
+keeps_jobs core relay = if nat_lt 0 (length (filter waits core.state.jobs.list)) then relay.other_waits else false
+
+-- the turn to read then: who handles jobs has begun a round
+abbrev pub relay_behind : (keeps : Bool) → Relay → Relay
+relay_behind keeps relay = if keeps then relay_begun relay else relay
+
+-- whether a worker is woken, of so many that sleep: a job waits, and no worker is on its way
+abbrev pub calls_worker : {O I : Type 0} → ServerCore O I → (sleeping coming : ℕ) → Bool
+calls_worker core sleeping coming =
+    if nat_lt 0 (length (filter waits core.state.jobs.list)) then (if nat_lt 0 sleeping then nat_eq coming 0 else false) else false
+
+-- whether it is a reader that has the turn
+abbrev pub is_turn_of : Relay → Option ℕ → Bool
+is_turn_of relay None = false
+is_turn_of relay (Some reader) = has_turn relay reader
+
+-- whether a worker is woken for the next job, where this reader took one, or a worker did
+abbrev pub calls_for_next : {O I : Type 0} → ServerCore O I → Relay → (reader : Option ℕ) → (sleeping coming : ℕ) → Bool
+calls_for_next core relay reader sleeping coming = if is_turn_of relay reader then false else calls_worker core sleeping coming
+
+-- how many workers sleep then
+abbrev pub asleep : (calls : Bool) → ℕ → ℕ
+asleep calls sleeping = if calls then sleeping - 1 else sleeping
+
+-- how many are on their way then
+abbrev pub on_their_way : (calls : Bool) → ℕ → ℕ
+on_their_way calls coming = if calls then 1 else coming
+
+-- Who is woken for a piece: a worker for a job that its reader leaves, the writer thread where bytes wait, and the other
+-- reader, where it sleeps and is to look how long jobs take.
+abbrev pub woken_for : {O I : Type 0} → ServerCore O I → (keeps : Bool) → (sleeping coming : ℕ) → Turn → Relay → Woken
+woken_for core keeps sleeping coming turn relay = record {
+  worker = if keeps then false else calls_worker core sleeping coming;
+  writer = wakes_writer turn (has_bytes core);
+  reader = if keeps then relay.other_sleeps else false;
+}
+
+-- whether the thread that queued an answer writes it itself: nothing waited to be written before, no other job is under
+-- way, and none waits
+abbrev pub is_lone_answer : {O I : Type 0} → ServerCore O I → ServerCore O I → Bool
+is_lone_answer old new =
+    if has_bytes old then false else
+    if nat_eq (length (filter waits new.state.jobs.list)) 0 then nat_lt (length new.state.jobs.list) 2 else false

@@ -1,0 +1,130 @@
+//! A server's connection, as its handlers see it.
+ghost use Rattle.std.specs.Prelude.{◌≡◌, IfErr, IfOk, OnErr, OnOk};
+ghost use Rattle.ttrpc_proto.specs.declared.error.Error.TheVariants.{NoMemory};
+ghost use Rattle.ttrpc_server.specs.Protocol.{QueuesResponse, RefusesResponse};
+ghost use Rattle.ttrpc_sync.specs.Queuing.{queuing_of, turn_after_queuing};
+ghost use Rattle.ttrpc_sync_server.specs.Connection.Held.{is_lone_answer};
+
+use crate::connection::crew::Crew;
+use crate::connection::ports::{ServerHeld, ServerShared};
+use std::alloc::Global;
+use std::sync::Arc;
+use std::sync::atomic::{AtomicBool, Ordering};
+use ttrpc_proto::{Response, Result};
+use ttrpc_secure::{ConnectionData, InboundTransform, OutboundTransform};
+use ttrpc_sync::{AfterQueuing, Connected, Host, Link, after_queuing, lock_soon};
+
+/// A server's connection: its core under a lock, what is known of it, and the threads that serve it.
+#[derive(Drop)]
+pub struct Conn<R: Host, O: OutboundTransform + Drop, I: InboundTransform + Drop> {
+    rt: R,
+    link: Link<ServerShared<O, I>>,
+    known: ConnectionData,
+    cancelled: Arc<AtomicBool, Global>,
+    crew: Arc<Crew, Global>,
+}
+
+impl<R: Host, O: OutboundTransform + Drop, I: InboundTransform + Drop> Conn<R, O, I> {
+    /// A connection over `link`, with what is known of it, and the crew that is to serve it.
+    pub fn new(
+        rt: R,
+        link: Link<ServerShared<O, I>>,
+        known: ConnectionData,
+        crew: Arc<Crew, Global>,
+    ) -> Result<Conn<R, O, I>>
+        ensures known { IfOk result (λ conn. conn.known ≡ known) }
+        ensures err { IfErr result (λ e. e ≡ NoMemory) }
+    {
+        let cancelled = Arc::new(rt.alloc(), AtomicBool::new(false))?;
+        Ok(Conn {
+            rt,
+            link,
+            known,
+            cancelled,
+            crew,
+        })
+    }
+
+    /// What is known of the connection, as its hook told it.
+    pub fn connection_data(&self) -> &ConnectionData
+        ensures { result.now ≡ self.now.known }
+    {
+        &self.known
+    }
+
+    /// The allocator of handlers.
+    pub fn alloc(&self) -> Global {
+        self.rt.alloc()
+    }
+
+    pub(crate) fn rt(&self) -> &R {
+        &self.rt
+    }
+
+    pub(crate) fn link(&self) -> &Link<ServerShared<O, I>> {
+        &self.link
+    }
+
+    pub(crate) fn cancelled(&self) -> &Arc<AtomicBool, Global> {
+        &self.cancelled
+    }
+
+    pub(crate) fn crew(&self) -> &Arc<Crew, Global> {
+        &self.crew
+    }
+
+    /// Nothing comes from the client any more: its handlers may give up.
+    pub(crate) fn cancel(&self) {
+        self.cancelled.store(true, Ordering::SeqCst);
+    }
+
+    /// The connection has failed, or is to end: each of its threads ends.
+    pub(crate) fn end(&self) {
+        self.cancel();
+        self.link.shared().end(&self.rt);
+        self.link.close();
+        self.crew.end(&self.rt);
+    }
+
+    /// Ends it, if it has failed.
+    pub(crate) fn end_if_failed(&self) {
+        let has_failed = lock_soon(&self.rt, self.link.shared().held())
+            .core
+            .has_failed();
+        if has_failed {
+            self.end();
+        }
+    }
+
+    /// Queues a response under a stream's id, and sees to it that it is written.
+    pub(crate) fn respond(&self, stream_id: u32, response: &Response) -> Result<()> {
+        let mut guard = lock_soon(&self.rt, self.link.shared().held());
+        let next = responded(&mut guard, self.rt.alloc(), stream_id, response)?;
+        drop(guard);
+        self.link.go_on(&self.rt, next);
+        Ok(())
+    }
+}
+
+/// Queues a response, and says what is to be done next. Who handles a job writes it itself where no other job is under way,
+/// and nothing else waits to be written.
+fn responded<O: OutboundTransform + Drop, I: InboundTransform + Drop>(
+    held: &mut ServerHeld<O, I>,
+    alloc: Global,
+    stream_id: u32,
+    response: &Response,
+) -> Result<AfterQueuing>
+    // The response is queued, and written at once where it may be.
+    ensures queued { OnOk result (QueuesResponse O.OutboundTransform held.old.core stream_id response.now held.new.core) }
+    ensures next { IfOk result (λ next. next ≡ queuing_of held.old.turn (is_lone_answer held.old.core held.new.core)) }
+    ensures turn { OnOk result (held.new.turn ≡ turn_after_queuing held.old.turn (is_lone_answer held.old.core held.new.core)) }
+    ensures rest { held.new ≡ record held.old { core = held.new.core; turn = held.new.turn } }
+    // Or it is refused, and nothing changed.
+    ensures refused { IfErr result (RefusesResponse O.OutboundTransform held.old.core stream_id response.now) }
+    ensures err { OnErr result (held.new ≡ held.old) }
+{
+    let nothing_waits = held.core.lendable() == 0;
+    held.core.respond(alloc, stream_id, response)?;
+    let is_alone = held.core.jobs_taken() < 2 && held.core.jobs_waiting() == 0;
+    Ok(after_queuing(&mut held.turn, nothing_waits && is_alone))
+}

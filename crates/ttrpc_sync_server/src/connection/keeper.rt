@@ -1,0 +1,243 @@
+//! The threads of one connection, from its first to its last.
+use crate::connection::conn::Conn;
+use crate::connection::context::MethodHandler;
+use crate::connection::crew::{Crew, Order};
+use crate::connection::reader::read;
+use crate::connection::serving::Serving;
+use crate::connection::shared::SharedHandler;
+use crate::connection::watch::{SharedWatch, Watch};
+use crate::connection::worker::work;
+use std::alloc::Global;
+use std::io;
+use std::sync::Arc;
+use std::thread::Builder;
+use ttrpc_proto::{Error, Result};
+use ttrpc_secure::{InboundTransform, OutboundTransform, SendInbound, SendOutbound};
+use ttrpc_sync::{Connected, Host, Runtime};
+
+/// How many threads read a connection in turn.
+const READERS: u32 = 2;
+
+/// Serves the connection until it ends: starts the threads that read it and write to it and `workers` workers, and starts
+/// more when too few wait. Then it waits until all of them have ended.
+pub fn keep<R, O, I, H, W>(
+    conn: &Arc<Conn<R, O, I>, Global>,
+    serving: &Serving<H, W>,
+    workers: usize,
+)
+where
+    R: Runtime,
+    O: SendOutbound,
+    I: SendInbound,
+    H: SharedHandler<R, O, I>,
+    W: SharedWatch,
+{
+    let rt = conn.rt();
+    if let Err(error) = start_all(conn, serving, workers) {
+        serving.watch.connection_dropped(&error);
+        conn.end();
+    }
+    for _ in rt.forever() {
+        match conn.crew().next_order(rt) {
+            Order::End => break,
+            Order::Fill => {
+                let missing = conn.link().shared().held().lock(rt).to_start();
+                // Where the system has no more threads, those that are there go on.
+                if let Err(error) = start_workers(conn, serving, missing) {
+                    serving.watch.worker_missing(&error);
+                }
+            }
+        }
+    }
+    conn.end();
+    conn.crew().wait_for_all(rt);
+}
+
+/// What a thread of a connection has: the connection, and the crew that counts it until it has let that go.
+#[derive(Drop)]
+struct Seat<R: Host, O: OutboundTransform + Drop, I: InboundTransform + Drop> {
+    conn: Arc<Conn<R, O, I>, Global>,
+    crew: Arc<Crew, Global>,
+    rt: R,
+}
+
+impl<R: Host, O: OutboundTransform + Drop, I: InboundTransform + Drop> Seat<R, O, I> {
+    fn new(conn: &Arc<Conn<R, O, I>, Global>) -> Result<Seat<R, O, I>> {
+        Ok(Seat {
+            conn: Arc::try_clone(conn)?,
+            crew: Arc::try_clone(conn.crew())?,
+            rt: conn.rt().clone()?,
+        })
+    }
+
+    // The thread has done its work. So the descriptor is free once all of them have left.
+    fn leave(self) {
+        let Seat { conn, crew, rt } = self;
+        drop(conn);
+        crew.leaves(&rt);
+    }
+}
+
+fn start_all<R, O, I, H, W>(
+    conn: &Arc<Conn<R, O, I>, Global>,
+    serving: &Serving<H, W>,
+    workers: usize,
+) -> Result<()>
+where
+    R: Runtime,
+    O: SendOutbound,
+    I: SendInbound,
+    H: SharedHandler<R, O, I>,
+    W: SharedWatch,
+{
+    for reader in 0..READERS {
+        start_reader(conn, serving, reader)?;
+    }
+    start_writer(conn)?;
+    start_workers(conn, serving, workers)
+}
+
+/// Passes the result of a start on, and counts the thread out if it failed.
+fn started<R, O, I, T>(conn: &Conn<R, O, I>, thread: io::Result<T>) -> Result<()>
+where
+    R: Host,
+    O: OutboundTransform + Drop,
+    I: InboundTransform + Drop,
+    T: Drop,
+{
+    match thread {
+        Ok(_) => Ok(()),
+        Err(error) => {
+            conn.crew().leaves(conn.rt());
+            Err(Error::Nix(error.kind()))
+        }
+    }
+}
+
+fn start_reader<R, O, I, H, W>(
+    conn: &Arc<Conn<R, O, I>, Global>,
+    serving: &Serving<H, W>,
+    reader: u32,
+) -> Result<()>
+where
+    R: Runtime,
+    O: SendOutbound,
+    I: SendInbound,
+    H: SharedHandler<R, O, I>,
+    W: SharedWatch,
+{
+    let seat = Seat::new(conn)?;
+    let serving = serving.try_clone()?;
+    conn.crew().joins(conn.rt());
+    started(
+        &**conn,
+        Builder::new().spawn(conn.rt(), move || {
+            read_on(&seat.conn, &serving, reader);
+            drop(serving);
+            seat.leave();
+        }),
+    )
+}
+
+fn start_writer<R, O, I>(conn: &Arc<Conn<R, O, I>, Global>) -> Result<()>
+where
+    R: Runtime,
+    O: SendOutbound,
+    I: SendInbound,
+{
+    let seat = Seat::new(conn)?;
+    conn.crew().joins(conn.rt());
+    started(
+        &**conn,
+        Builder::new().spawn(conn.rt(), move || {
+            write(&*seat.conn);
+            seat.leave();
+        }),
+    )
+}
+
+/// Starts so many workers, or as many as can be started.
+fn start_workers<R, O, I, H, W>(
+    conn: &Arc<Conn<R, O, I>, Global>,
+    serving: &Serving<H, W>,
+    count: usize,
+) -> Result<()>
+where
+    R: Runtime,
+    O: SendOutbound,
+    I: SendInbound,
+    H: SharedHandler<R, O, I>,
+    W: SharedWatch,
+{
+    let shared = conn.link().shared();
+    shared.held().lock(conn.rt()).starts(count);
+    for begun in 0..count {
+        let worker = start_worker(conn, serving);
+        if worker.is_err() {
+            shared.held().lock(conn.rt()).gives_up(count - begun);
+            return worker;
+        }
+    }
+    Ok(())
+}
+
+fn start_worker<R, O, I, H, W>(
+    conn: &Arc<Conn<R, O, I>, Global>,
+    serving: &Serving<H, W>,
+) -> Result<()>
+where
+    R: Runtime,
+    O: SendOutbound,
+    I: SendInbound,
+    H: SharedHandler<R, O, I>,
+    W: SharedWatch,
+{
+    let seat = Seat::new(conn)?;
+    let serving = serving.try_clone()?;
+    conn.crew().joins(conn.rt());
+    started(
+        &**conn,
+        Builder::new().spawn(conn.rt(), move || {
+            work_on(&seat.conn, &serving);
+            drop(serving);
+            seat.leave();
+        }),
+    )
+}
+
+fn read_on<R, O, I, H, W>(conn: &Arc<Conn<R, O, I>, Global>, serving: &Serving<H, W>, reader: u32)
+where
+    R: Host,
+    O: OutboundTransform + Drop,
+    I: InboundTransform + Drop,
+    H: MethodHandler<R, O, I> + Drop,
+    W: Watch + Drop,
+{
+    read(conn, serving, reader);
+    conn.cancel();
+    conn.end_if_failed();
+}
+
+fn write<R, O, I>(conn: &Conn<R, O, I>)
+where
+    R: Host,
+    O: OutboundTransform + Drop,
+    I: InboundTransform + Drop,
+{
+    let rt = conn.rt();
+    // The writer ends by itself only once the connection has failed.
+    let _ = conn.link().write(rt, rt.alloc());
+    conn.end();
+}
+
+fn work_on<R, O, I, H, W>(conn: &Arc<Conn<R, O, I>, Global>, serving: &Serving<H, W>)
+where
+    R: Host,
+    O: OutboundTransform + Drop,
+    I: InboundTransform + Drop,
+    H: MethodHandler<R, O, I> + Drop,
+    W: Watch + Drop,
+{
+    work(conn, serving);
+    conn.end_if_failed();
+}

@@ -1,0 +1,447 @@
+//! What the threads of a server's connection share.
+ghost use Rattle.std.specs.Prelude.{◌≡◌, ◌↔◌, ◌+◌, ◌-◌, ◌^◌, ◌<◌, ◌≤◌, ◌||◌, min, length, if◌then◌else◌, is_some, false, nat_eq, true, Err, IfNone, IfSome, IsFalse, IsTrue, MatchOption, None, Ok};
+ghost use Rattle.ttrpc_server.specs.Types.{Ends, Failure as AFailure, failing};
+ghost use Rattle.ttrpc_proto.specs.declared.error.Error.{Error as AnError};
+ghost use Rattle.ttrpc_server.specs.Protocol.{Hands};
+ghost use Rattle.ttrpc_server.specs.State.{NoneWaits};
+ghost use Rattle.ttrpc_sync_server.specs.Connection.Held.{IsDropped, IsFed, IsFinished, IsQuiet, LendsFrame, MayTellEnd, asleep, calls_for_next, calls_worker, has_bytes, is_alive, keeps_jobs, on_their_way, relay_behind, reported_to, turn_waking, wakes_writer, woken_for};
+ghost use Rattle.ttrpc_sync_server.specs.Connection.Relays.{new_relay};
+ghost use Rattle.ttrpc_sync.specs.Pool.{with_waiting};
+ghost use Rattle.ttrpc_sync.specs.Turns.{given_back, next_of, turn_after, wakes_behind};
+
+use crate::connection::ports::relay::{AtTurn, Relay};
+use std::alloc::Global;
+use std::io::ErrorKind;
+use std::sync::{Condvar, Mutex, Wait};
+use std::time::{Clock, Duration};
+use ttrpc_proto::Error;
+use ttrpc_secure::{InboundTransform, OutboundTransform};
+use ttrpc_server::{Job, JobId, ServerCore, jobs_on};
+use ttrpc_sync::{
+    Connected, Held, Loan, Next, PoolCore, ReadEnd, Taken, Turn, WriteEnd, lock_soon, wait_soon,
+};
+
+/// For how many microseconds a reader that waits for the turn lets the other handle jobs, once it has been woken. Twice as
+/// many pass before its next look wherever the other has come back and read on, up to `LONGEST_PAUSE`.
+const PAUSE: u64 = 100;
+
+/// How many microseconds pass at most between two looks. So a job waits behind another's handler for at most twice as long.
+const LONGEST_PAUSE: u64 = 1600;
+
+/// The port of a server's reader. It wakes a worker, the writer and the other reader.
+pub type ServerRead<'a, X, O, I> = ReadEnd<'a, X, ServerShared<O, I>>;
+
+/// The port of one of a server's writers.
+pub type ServerWrite<'a, X, O, I> = WriteEnd<'a, X, ServerShared<O, I>>;
+
+/// Who is to be woken for a piece.
+#[derive(Clone, Copy, Debug)]
+pub struct Woken {
+    /// One of the workers that sleep.
+    pub worker: bool,
+    /// The writer thread.
+    pub writer: bool,
+    /// The reader that waits for the turn.
+    pub reader: bool,
+}
+
+/// What stands under the lock of a server's connection. At most as many workers wait as its pool lets in.
+#[derive(Drop)]
+pub struct ServerHeld<O, I> {
+    pub core: ServerCore<O, I>,
+    pub turn: Turn,
+    pub pool: PoolCore,
+    /// Workers that were started, and haven't come to wait yet.
+    pub starting: usize,
+    // Workers that sleep, and weren't woken yet.
+    sleeping: u64,
+    // Workers that were woken, and haven't looked for a job since.
+    coming: u64,
+    /// The turn to read.
+    pub relay: Relay,
+    /// Whether the reader is at its end. The core isn't told before all jobs have ended and all answers have left.
+    pub has_ended: bool,
+}
+
+impl<O: OutboundTransform + Drop, I: InboundTransform + Drop> ServerHeld<O, I> {
+    /// This core and this pool, and it is nobody's turn to write.
+    pub fn new(core: ServerCore<O, I>, pool: PoolCore) -> Self
+        ensures core { result.core ≡ core }
+        ensures turn { result.turn ≡ record { is_taken = false; sleeps = false } }
+        ensures pool { result.pool ≡ pool }
+        ensures starting { result.starting ≡ 0 }
+        ensures sleeping { result.sleeping ≡ 0 }
+        ensures coming { result.coming ≡ 0 }
+        ensures relay { result.relay ≡ new_relay }
+        ensures has_ended { result.has_ended ≡ false }
+    {
+        ServerHeld {
+            core,
+            turn: Turn::new(),
+            pool,
+            starting: 0,
+            sleeping: 0,
+            coming: 0,
+            relay: Relay::new(),
+            has_ended: false,
+        }
+    }
+
+    /// The job that waits longest.
+    pub(crate) fn next_job(&mut self) -> Option<Job>
+        ensures handed { IfSome result (λ job. Hands self.old.core job self.new.core) }
+        ensures none { IfNone result ((self.new.core ≡ self.old.core)
+            × (self.old.core.connection.failure ≡ None → NoneWaits self.old.core.state.jobs.list)) }
+        ensures rest { self.new ≡ record self.old { core = self.new.core } }
+    {
+        self.core.take_job()
+    }
+
+    /// Whether a worker is to be woken for a job that still waits, where none is on its way. It wakes the next one, so no job
+    /// waits behind another's handler while a worker sleeps, and fast handlers leave nothing to most of them.
+    pub(crate) fn calls_worker(&mut self) -> bool
+        ensures result { result ≡ calls_worker self.old.core self.old.sleeping self.old.coming }
+        ensures rest { self.new ≡ record self.old { sleeping = asleep result self.old.sleeping; coming = on_their_way result self.old.coming } }
+    {
+        let calls = self.core.jobs_waiting() > 0 && self.sleeping > 0 && self.coming == 0;
+        if calls {
+            self.sleeping -= 1;
+            self.coming = 1;
+        }
+        calls
+    }
+
+    /// A worker that slept looks for a job: the one that was woken, or one that woke by itself.
+    pub(crate) fn comes(&mut self)
+        ensures { self.new ≡ (if nat_eq self.old.coming 0 then record self.old { sleeping = self.old.sleeping - 1 }
+            else record self.old { coming = self.old.coming - 1 }) }
+    {
+        if self.coming == 0 {
+            self.sleeping = self.sleeping.saturating_sub(1);
+        } else {
+            self.coming -= 1;
+        }
+    }
+
+    /// A worker goes to sleep.
+    pub(crate) fn sleep(&mut self)
+        ensures { self.new ≡ record self.old { sleeping = min (self.old.sleeping + 1) (2 ^ 64 - 1) } }
+    {
+        self.sleeping = self.sleeping.saturating_add(1);
+    }
+
+    /// Ends a job after its handler. If the connection has failed, nothing needs to be done. True: the writer thread is to
+    /// be woken, since this may be the last job of an input that has ended.
+    pub(crate) fn done(&mut self, alloc: Global, id: JobId, outcome: Result<(), Error>) -> bool
+        ensures finished { outcome ≡ Ok tt → IsFinished self.old.core id self.new.core }
+        ensures failed { (e : AnError) → outcome ≡ Err e → IsDropped O.OutboundTransform self.old.core id e self.new.core }
+        ensures wakes { result ≡ wakes_writer self.old.turn self.old.has_ended }
+        ensures rest { self.new ≡ record self.old { core = self.new.core; turn = turn_waking self.old.turn self.old.has_ended } }
+    {
+        let _ = jobs_on::done_on(&mut self.core, alloc, id, outcome);
+        self.has_ended && self.turn.wakes()
+    }
+
+    #[tactic(auto, using(ttrpc_server::proofs::Keyed::filter_fewer))]
+    // No job is under way, and all that was queued was written.
+    fn is_quiet(&self) -> bool
+        ensures { IsTrue result ↔ IsQuiet self.now.core }
+    {
+        self.core.jobs_taken() == 0 && self.core.jobs_waiting() == 0 && self.core.lendable() == 0
+    }
+
+    // Where nobody writes for himself, all that was written is flushed, too. So behind an end of the input the core is told
+    // of it then.
+    fn tell_end(&mut self, has_turn: bool)
+        ensures told { MayTellEnd self.old.has_ended self.old.core self.new.core }
+        ensures tells { self.old.has_ended ≡ true → (self.old.turn.is_taken ≡ true → has_turn ≡ true) → IsQuiet self.old.core
+            → Ends self.old.core.connection self.new.core.connection }
+        ensures rest { self.new ≡ record self.old { core = self.new.core } }
+    {
+        let others_write = self.turn.is_taken && !has_turn;
+        if self.has_ended && !others_write && self.is_quiet() {
+            self.core.end_of_input();
+        }
+    }
+
+    /// How many workers are to be started: as many as the pool says, but for those that were started already and haven't
+    /// come to wait yet.
+    pub fn to_start(&self) -> usize
+        ensures few { self.now.pool.waiting < self.now.pool.min
+            → result ≡ (self.now.pool.default - self.now.pool.waiting) - self.now.starting }
+        ensures enough { self.now.pool.min ≤ self.now.pool.waiting → result ≡ 0 }
+    {
+        self.pool.to_start().saturating_sub(self.starting)
+    }
+
+    /// So many workers are started.
+    pub fn starts(&mut self, count: usize)
+        ensures { self.new ≡ record self.old { starting = min (self.old.starting + count) (2 ^ 64 - 1) } }
+    {
+        self.starting = self.starting.saturating_add(count);
+    }
+
+    /// So many workers that were to be started don't come.
+    pub fn gives_up(&mut self, count: usize)
+        ensures { self.new ≡ record self.old { starting = self.old.starting - count } }
+    {
+        self.starting = self.starting.saturating_sub(count);
+    }
+
+    /// A worker wants to wait for a job, for the first time or not. False: enough wait.
+    pub fn enter(&mut self, is_new: bool) -> bool
+        ensures room { IsTrue result ↔ (self.old.pool.waiting < self.old.pool.max) }
+        ensures entered { IsTrue result → self.new.pool ≡ with_waiting self.old.pool (self.old.pool.waiting + 1) }
+        ensures refused { IsFalse result → self.new.pool ≡ self.old.pool }
+        ensures starting { self.new.starting ≡ self.old.starting - (if is_new then 1 else 0) }
+        ensures rest { self.new ≡ record self.old { pool = self.new.pool; starting = self.new.starting } }
+    {
+        if is_new {
+            self.gives_up(1);
+        }
+        self.pool.enter()
+    }
+
+    /// A worker waits for a job no longer. True: fewer than the least count are left that wait. Where nobody waits nothing
+    /// happens.
+    pub fn leave(&mut self) -> bool
+        ensures few { 0 < self.old.pool.waiting → (IsTrue result ↔ (self.new.pool.waiting < self.old.pool.min)) }
+        ensures left { 0 < self.old.pool.waiting
+            → self.new.pool ≡ with_waiting self.old.pool (self.old.pool.waiting - 1) }
+        ensures nobody { self.old.pool.waiting ≡ 0 → (IsFalse result × (self.new.pool ≡ self.old.pool)) }
+        ensures rest { self.new ≡ record self.old { pool = self.new.pool } }
+    {
+        if self.pool.waiting() == 0 {
+            return false;
+        }
+        self.pool.leave()
+    }
+
+    /// Whether a worker is to be woken for the next job, once this reader or a worker has taken one: not where the reader has
+    /// the turn, since it takes the next one itself while the other looks.
+    pub(crate) fn calls_for_next(&mut self, reader: Option<u32>) -> bool
+        ensures result { result ≡ calls_for_next self.old.core self.old.relay reader self.old.sleeping self.old.coming }
+        ensures rest { self.new ≡ record self.old { sleeping = asleep result self.old.sleeping; coming = on_their_way result self.old.coming } }
+    {
+        match reader {
+            Some(reader) if self.relay.has_turn(reader) => false,
+            _ => self.calls_worker(),
+        }
+    }
+
+    /// Whether the reader of a piece handles its jobs itself.
+    fn keeps_jobs(&self) -> bool
+        ensures { result ≡ keeps_jobs self.now.core self.now.relay }
+    {
+        self.core.jobs_waiting() > 0 && self.relay.other_waits
+    }
+
+    /// The threads to wake for a piece, whose reader handles its jobs itself or doesn't.
+    fn woken(&mut self, keeps: bool) -> Woken
+        ensures woken { result ≡ woken_for self.old.core keeps self.old.sleeping self.old.coming self.old.turn self.old.relay }
+        ensures rest { self.new ≡ record self.old {
+          turn = turn_waking self.old.turn (has_bytes self.old.core);
+          sleeping = asleep result.worker self.old.sleeping;
+          coming = on_their_way result.worker self.old.coming;
+          relay = relay_behind keeps self.old.relay;
+        } }
+    {
+        let worker = !keeps && self.calls_worker();
+        let writer = self.core.lendable() > 0 && self.turn.wakes();
+        let reader = keeps && self.relay.begins();
+        Woken {
+            worker,
+            writer,
+            reader,
+        }
+    }
+}
+
+impl<O: OutboundTransform + Drop, I: InboundTransform + Drop> Held for ServerHeld<O, I> {
+    type Woken = Woken;
+
+    // Under sync rules the moment plays no part. A core that drains takes no piece.
+    fn take(&mut self, alloc: Global, piece: &[u8]) -> Option<Taken<Woken>>
+        ensures whole { IfSome result (λ taken. taken.count ≡ length piece.now) }
+        ensures fed { IsFed O.OutboundTransform I.InboundTransform self.old.core piece.now (is_some result) self.new.core }
+        ensures reads_on { IfSome result (λ taken. taken.reads_on ≡ (if keeps_jobs self.new.core self.old.relay then false else true)) }
+        ensures woken { IfSome result (λ taken. taken.woken
+            ≡ woken_for self.new.core (keeps_jobs self.new.core self.old.relay) self.old.sleeping self.old.coming self.old.turn self.old.relay) }
+        ensures rest { MatchOption result (self.new ≡ record self.old { core = self.new.core }) (λ taken. self.new ≡ record self.old {
+          core = self.new.core;
+          turn = turn_waking self.old.turn (has_bytes self.new.core);
+          sleeping = asleep taken.woken.worker self.old.sleeping;
+          coming = on_their_way taken.woken.worker self.old.coming;
+          relay = relay_behind (keeps_jobs self.new.core self.old.relay) self.old.relay;
+        }) }
+    {
+        match self.core.feed(alloc, piece, 0) {
+            Ok(count) if count == piece.len() => {
+                let keeps = self.keeps_jobs();
+                Some(Taken {
+                    count,
+                    reads_on: !keeps,
+                    woken: self.woken(keeps),
+                })
+            }
+            _ => None,
+        }
+    }
+
+    fn ended(&mut self)
+        ensures { self.new ≡ record self.old { has_ended = true } }
+    {
+        self.has_ended = true;
+    }
+
+    fn wrote(&mut self, count: usize)
+        ensures { self.new ≡ record self.old { core = reported_to self.old.core count } }
+    {
+        let lent = self.core.lent();
+        self.core.wrote(count.min(lent));
+    }
+
+    fn lend(&mut self, buffer: &mut [u8]) -> Loan
+        ensures lent { LendsFrame self.old.core buffer.old result.count result.ends_frame buffer.new self.new.core }
+        ensures rest { self.new ≡ record self.old { core = self.new.core } }
+    {
+        let open = self.core.lendable();
+        let count = self.core.lend(buffer);
+        Loan {
+            count,
+            ends_frame: count == open,
+        }
+    }
+
+    fn broke(&mut self, kind: ErrorKind)
+        ensures { self.new ≡ record self.old {
+          core = record self.old.core {
+            connection = failing self.old.core.connection (AFailure.Told (AnError.Nix kind));
+          };
+        } }
+    {
+        self.core.fail(Error::Nix(kind));
+    }
+
+    fn next(&mut self, has_turn: bool) -> Next
+        ensures told { MayTellEnd self.old.has_ended self.old.core self.new.core }
+        ensures tells { self.old.has_ended ≡ true → (self.old.turn.is_taken ≡ true → has_turn ≡ true) → IsQuiet self.old.core
+            → Ends self.old.core.connection self.new.core.connection }
+        ensures result { result ≡ next_of self.old.turn.is_taken has_turn (is_alive self.new.core) (has_bytes self.new.core) }
+        ensures turn { self.new.turn ≡ turn_after self.old.turn has_turn (is_alive self.new.core) (has_bytes self.new.core) }
+        ensures rest { self.new ≡ record self.old { core = self.new.core; turn = self.new.turn } }
+    {
+        self.tell_end(has_turn);
+        let bytes_wait = self.core.lendable() > 0;
+        let stays = !self.core.has_failed();
+        self.turn.next(has_turn, stays, bytes_wait)
+    }
+
+    fn give_back(&mut self) -> bool
+        ensures result { result ≡ wakes_behind self.old.turn (has_bytes self.old.core || self.old.has_ended) }
+        ensures turn { self.new.turn ≡ given_back self.old.turn (has_bytes self.old.core || self.old.has_ended) }
+        ensures rest { self.new ≡ record self.old { turn = self.new.turn } }
+    {
+        let bytes_wait = self.core.lendable() > 0;
+        self.turn.give_back(bytes_wait || self.has_ended)
+    }
+}
+
+/// What the threads of a server's connection share. No thread reads or writes a socket while it has the lock.
+#[derive(Drop)]
+pub struct ServerShared<O, I> {
+    held: Mutex<ServerHeld<O, I>>,
+    to_write: Condvar,
+    to_work: Condvar,
+    to_read: Condvar,
+}
+
+impl<O: OutboundTransform + Drop, I: InboundTransform + Drop> ServerShared<O, I> {
+    /// This core and this pool, shared.
+    pub fn new(core: ServerCore<O, I>, pool: PoolCore) -> Self {
+        ServerShared {
+            held: Mutex::new(ServerHeld::new(core, pool)),
+            to_write: Condvar::new(),
+            to_work: Condvar::new(),
+            to_read: Condvar::new(),
+        }
+    }
+
+    /// Fails the connection, if it hasn't failed, and wakes its threads.
+    pub(crate) fn end<X: Wait>(&self, rt: &X) {
+        self.held.lock(rt).core.fail(Error::LocalClosed);
+        self.wake_all();
+    }
+
+    /// Waits until this reader has the turn to read. Where it takes it from one that still handles jobs, a worker is woken for
+    /// those that are left. False: the connection has failed.
+    pub(crate) fn wait_to_read<X: Wait + Clock>(&self, rt: &X, reader: u32) -> bool {
+        let (mut seen, mut pause) = (None, PAUSE);
+        let mut guard = lock_soon(rt, &self.held);
+        for _ in rt.forever() {
+            if guard.core.has_failed() {
+                return false;
+            }
+            match guard.relay.wants(reader, seen) {
+                AtTurn::Reads => {
+                    let calls = guard.calls_worker();
+                    drop(guard);
+                    if calls {
+                        self.to_work.notify_one();
+                    }
+                    return true;
+                }
+                AtTurn::LooksAgain(rounds) => {
+                    if seen.is_some() {
+                        pause = pause.saturating_mul(2).min(LONGEST_PAUSE);
+                    }
+                    seen = Some(rounds);
+                    guard = self
+                        .to_read
+                        .wait_timeout(rt, guard, Duration::from_micros(pause))
+                        .0;
+                }
+                AtTurn::Sleeps => {
+                    (seen, pause) = (None, PAUSE);
+                    guard = wait_soon(rt, &self.to_read, guard);
+                }
+            }
+        }
+        unreachable!()
+    }
+
+    /// Where workers wait for a job.
+    pub(crate) fn to_work(&self) -> &Condvar {
+        &self.to_work
+    }
+}
+
+impl<O: OutboundTransform + Drop, I: InboundTransform + Drop> Connected for ServerShared<O, I> {
+    type Held = ServerHeld<O, I>;
+
+    fn held(&self) -> &Mutex<ServerHeld<O, I>> {
+        &self.held
+    }
+
+    fn to_write(&self) -> &Condvar {
+        &self.to_write
+    }
+
+    fn wake(&self, woken: Woken) {
+        if woken.worker {
+            self.to_work.notify_one();
+        }
+        if woken.writer {
+            self.to_write.notify_one();
+        }
+        if woken.reader {
+            self.to_read.notify_one();
+        }
+    }
+
+    fn wake_all(&self) {
+        self.to_write.notify_all();
+        self.to_work.notify_all();
+        self.to_read.notify_all();
+    }
+}

@@ -1,0 +1,39 @@
+//! A reader: one of two threads that read a connection in turn.
+use crate::connection::conn::Conn;
+use crate::connection::context::MethodHandler;
+use crate::connection::ports::ServerRead;
+use crate::connection::serving::Serving;
+use crate::connection::watch::Watch;
+use crate::connection::worker::Dispatch;
+use std::alloc::Global;
+use std::sync::{Arc, Wait};
+use ttrpc_secure::{InboundTransform, OutboundTransform};
+use ttrpc_sync::Host;
+
+/// Reads until the client sends nothing more, or the connection has failed. What was asked is still answered. While the other
+/// reader waits for the turn, this one handles the jobs of what it read itself, since to wake a worker takes longer than most
+/// jobs do. `reader` is its number, by which it has the turn.
+pub fn read<R, O, I, H, W>(conn: &Arc<Conn<R, O, I>, Global>, serving: &Serving<H, W>, reader: u32)
+where
+    R: Host,
+    O: OutboundTransform + Drop,
+    I: InboundTransform + Drop,
+    H: MethodHandler<R, O, I> + Drop,
+    W: Watch + Drop,
+{
+    let (rt, link) = (conn.rt(), conn.link());
+    let shared = link.shared();
+    let dispatch = Dispatch::new(conn, serving);
+    let mut port = ServerRead::new(rt, rt.alloc(), shared);
+    for _ in rt.forever() {
+        if !shared.wait_to_read(rt, reader) {
+            return;
+        }
+        link.read_on(rt, &mut port);
+        // Behind a loop that ended with the turn nothing more is read. The other reader waits for the end then.
+        if port.has_turn() || dispatch.handle_waiting(reader) {
+            return;
+        }
+    }
+    unreachable!()
+}

@@ -1,0 +1,7 @@
+use Rattle.std.proofs.Common.{◌≡◌, ◌++◌, take}
+use Rattle.ttrpc_wire.specs.Field.{fields_bytes}
+use Rattle.ttrpc_wire.specs.Codec.Members.{part_fields}
+use Rattle.ttrpc_wire.proofs.codec.members.put_parts.Given as goal
+
+abbrev pub invariant-loop-part : goal.invariant-loop-part
+invariant-loop-part g l = l.out.items ≡ l.fn.out.items ++ fields_bytes (part_fields l.number.value g.M.WireMessage.fields (take l.part-index l.parts))

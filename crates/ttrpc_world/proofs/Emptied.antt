@@ -1,0 +1,187 @@
+-- A way on which nothing is: no frame is queued, and no byte is in the pipe. A clean step by which its side takes no bytes, and
+-- that leaves it so, found it so and put no item in.
+use Rattle.ttrpc_world.proofs.Ending.{idle_down, idle_up, lent_alive}
+use Rattle.ttrpc_world.proofs.Behind.{none_taken}
+use Rattle.ttrpc_world.proofs.Living.{heard_whole, never_over}
+use Rattle.ttrpc_world.proofs.Since.{IsKnown}
+use Rattle.ttrpc_world.proofs.Timed.{none_due}
+use Rattle.ttrpc_world.proofs.Serves.{passes_so}
+use Rattle.ttrpc_world.proofs.Words.{[], ActsAll, after_report, Answer, AnswersBy, AnswersError, ap, arith, Asked, AsyncRules, Began, Bool, Call, call_at, CallEvent, calling, Carry, ClientCore, ClientEnd, ClientSide, Close, ClosedUp, Connection, Count, DeadlineDuringWrite, Deliver, Done, due_at, EndedDown, EndsStream, EndStream, Entry, Err, Error, Event, Expired, expired_at, Failure, false, Flow, flow_of, Halves, HeardDown, HeardUp, if◌then◌else◌, Incoming, inl, inr, is_clean_event, is_clean_reply, is_call_due, is_over, IsOpen, IsQueue, Item, items, length, length-take, lent_of, List, min, Named, nat_eq, Net, never_empty, nil_parts, None, none_reported, none_thrown, Ok, only_if, open_part, OpenEvent, Option, OutboundTransform, Outbox, Passes, put_down, put_up, Queue, Queued, Recv, refl, Reply, Respond, Responds, Response, Result, Rules, rules, Scene, scene, Send, SendsAll, SendsOne, Sent, SentDown, SentUp, ServerCore, ServerEnd, ServerSide, serving, Settings, Some, some_of, Steps, StreamEnd, subst, sym, SyncRules, take, taken_back, taken_from, takes_bytes, throws, Tick, Ticket, true, Waiting, Ways, with_lent, with_payload, Word, ℕ, ◌++◌, ◌∙◌, ◌∷◌, ◌≡◌}
+
+-- NOTHING IS ON A WAY
+pub record IsIdle (queued : List Queued) (pipe : List ℕ) : Type 0 where
+  pub none_queued : queued ≡ []
+  pub none_carried : pipe ≡ []
+
+-- on the way to the server, or to the client
+abbrev pub UpIdle : {CO CI SO SI : Type 0} → Net CO CI SO SI → Type 0
+UpIdle w = IsIdle w.client.connection.outbox.queue.frames w.up.bytes
+
+abbrev pub DownIdle : {CO CI SO SI : Type 0} → Net CO CI SO SI → Type 0
+DownIdle w = IsIdle w.server.connection.outbox.queue.frames w.down.bytes
+
+idle_as : {queued queued2 : List Queued} {pipe pipe2 : List ℕ} → queued2 ≡ queued → pipe2 ≡ pipe → IsIdle queued2 pipe2 → IsIdle queued pipe
+idle_as q p i = record { none_queued = sym q ∙ i.none_queued; none_carried = sym p ∙ i.none_carried }
+
+-- ---- what is queued
+
+sent_one : {O : Type 0} (out : OutboundTransform O) (old : Outbox O) (frame : Queued) (plain : List ℕ) (new : Outbox O) → SendsOne out old frame plain new → new.queue.frames ≡ [] → ⊥
+sent_one out old frame plain new p e = never_empty old.queue.frames [] (with_payload frame p.sealed) (sym (ap (λ (q : Queue). q.frames) p.queue) ∙ e)
+
+sent_all : {O : Type 0} (out : OutboundTransform O) (sent : List Sent) (old new : Outbox O) → SendsAll out old sent new → new.queue.frames ≡ [] → old.queue.frames ≡ []
+sent_all out [] old new same e = sym (ap (λ (x : Outbox _). x.queue.frames) same) ∙ e
+sent_all out (x ∷ sent) old new p e = absurd (sent_one out old x.frame x.plain p.0 p.1 (sent_all out sent p.0 new p.2 e))
+
+responded : {O : Type 0} (out : OutboundTransform O) (rs : Rules) (limit k : ℕ) (r : Response) (sent : List Sent) (old new : Outbox O) → Responds rs limit k r sent → SendsAll out old sent new → new.queue.frames ≡ [] → ⊥
+responded out rs limit k r sent old new p sends e =
+    let one = subst (λ (xs : List Sent). SendsAll out old xs new) p.is sends in
+    sent_one out old _ _ one.0 one.1 (sym (ap (λ (x : Outbox _). x.queue.frames) one.2) ∙ e)
+
+acted : {S O I : Type 0} (w : Ways S O I) (now : ℕ) (fs : List Incoming) (old new : Scene S O I) → ActsAll w now old fs new → new.outbox.queue.frames ≡ [] → old.outbox.queue.frames ≡ []
+acted w now [] old new same e = sym (ap (λ (x : Scene _ _ _). x.outbox.queue.frames) same) ∙ e
+acted w now (f ∷ fs) old new p e = sent_all w.out p.1.sent old.outbox p.0.outbox p.1.sends (acted w now fs p.0 new p.2 e)
+
+-- ---- a carry
+
+none_moved : (xs : List ℕ) (k n : ℕ) → k ≡ min n (length xs) → take k xs ≡ [] → k ≡ 0
+none_moved xs k n e h =
+    let size : length (take k xs) ≡ min k (length xs) = length-take k xs in
+    let none : length (take k xs) ≡ 0 = ap length h in
+    omega (arith, e, size, none)
+
+carried : (failure : Option Failure) (cut : Bool) (q : Queue) (pipe : List ℕ) (n k : ℕ) → failure ≡ None → cut ≡ false → IsQueue q → k ≡ lent_of failure n q → IsIdle (after_report (with_lent q k) k).frames (if cut then pipe else pipe ++ take k (open_part q)) → IsIdle q.frames pipe
+carried failure true q pipe n k alive whole is e i = cc
+carried failure false q pipe n k alive whole is e i =
+    let parts = nil_parts pipe (take k (open_part q)) i.none_carried in
+    let none : k ≡ 0 = none_moved (open_part q) k n (lent_alive failure n k q alive e) parts.1 in
+    record { none_queued = sym (none_reported q k is none) ∙ i.none_queued; none_carried = parts.0 }
+
+-- ---- a moment
+
+due_not : (now : ℕ) (e : Option Call) → expired_at now e ≡ e → due_at now e ≡ false
+due_not now (Some (Waiting d)) h = by (is_call_due now (Waiting d)) h
+  where
+    by : (b : Bool) → Some (if b then Expired else Waiting d) ≡ Some (Waiting d) → b ≡ false
+    by false same = refl
+    by true same = cc
+due_not now e h = refl
+
+back_taken : {O I : Type 0} (b : Bool) (c : Connection O I) (ids : ℕ → Bool) (why : Failure) → ((k : ℕ) → ids k ≡ false) → (if b then taken_back c ids why else c).outbox.queue.frames ≡ c.outbox.queue.frames
+back_taken true c ids why none = none_thrown c.outbox.queue ids none
+back_taken false c ids why none = refl
+
+-- ---- what happened puts in no item
+
+nothing_put : (says : List Flow → List (List ℕ)) (b : Bool) (x : Flow) → says [] ≡ [] → says (x ∷ []) ≡ [] → says (only_if b x) ≡ []
+nothing_put says true x none one = one
+nothing_put says false x none one = none
+
+module _ {CO CI SO SI : Type 0} (c : Halves CO CI) (s : Halves SO SI) (seals : Bool) (still : seals ≡ false → (from to : CO) (plain aad sealed : List ℕ) → c.out.seals from plain aad sealed to → to ≡ from)
+    (fixed : (x y : SO) (plain aad sealed : List ℕ) → s.out.seals x plain aad sealed y → s.out.overhead y ≡ s.out.overhead x) (set : Settings) (f : ℕ → ℕ) where
+  -- an event with its reply puts in no item
+  abbrev PutsUp : Event → Reply → Type 0
+  PutsUp event reply = (k : ℕ) → items (put_up (flow_of f k event reply)) ≡ []
+
+  abbrev PutsDown : Event → Reply → Type 0
+  PutsDown event reply = (k : ℕ) → items (put_down set.rules set.limit (flow_of f k event reply)) ≡ []
+
+  heard_none : (says : List Flow → List (List ℕ)) → says [] ≡ [] → ((word : Word) → says (HeardUp word ∷ []) ≡ []) → ((word : Word) → says (HeardDown word ∷ []) ≡ []) → (at : StreamEnd) (given : Option Word) (k : ℕ) → says (flow_of f k (Recv at) (Item given)) ≡ []
+  heard_none says none up down (ClientEnd id) None k = none
+  heard_none says none up down (ServerEnd id) None k = none
+  heard_none says none up down (ClientEnd id) (Some word) k = nothing_put says (nat_eq id k) (HeardDown word) none (down word)
+  heard_none says none up down (ServerEnd id) (Some word) k = nothing_put says (nat_eq (f id) k) (HeardUp word) none (up word)
+
+  ticked_up : (failure : Option Failure) (old : ClientCore CO CI) (now : ℕ) (new : ClientCore CO CI) → ((k : ℕ) → expired_at now (call_at old.state k) ≡ call_at old.state k) → Passes seals failure old now new
+      → new.connection.outbox.queue.frames ≡ old.connection.outbox.queue.frames
+  ticked_up None old now new none p =
+      ap (λ (x : Connection CO CI). x.outbox.queue.frames) p.connection
+      ∙ back_taken (throws old.state.kind seals) old.connection (λ k. due_at now (call_at old.state k)) DeadlineDuringWrite (λ k. due_not now (call_at old.state k) (none k))
+  ticked_up (Some why) old now new none same = ap (λ (x : ClientCore CO CI). x.connection.outbox.queue.frames) same
+
+  delivered_up : (w v : Net CO CI SO SI) (n k : ℕ) → IsOpen w → Steps c s seals w (Deliver ServerSide n) (Count k) v → v.server.connection.outbox.queue.frames ≡ [] → w.server.connection.outbox.queue.frames ≡ []
+  delivered_up w v n k o (inl p) e =
+      let heard = heard_whole c s seals (is_over (taken_from w.up k)) p.does.mid v.server.connection (never_over c s seals (taken_from w.up k) o.up) p.does.hears in
+      acted (serving s.out s.in_) w.moment p.does.does.frames (scene w.server.state w.server.connection) (scene v.server.state p.does.mid) p.does.does.acts (sym (ap (λ (x : Connection SO SI). x.outbox.queue.frames) heard) ∙ e)
+  delivered_up w v n k o (inr p) e = let bad : true ≡ false = sym o.takes ∙ p.drains in cc
+
+  down_same : (w v : Net CO CI SO SI) (n k : ℕ) → IsOpen w → Steps c s seals w (Deliver ServerSide n) (Count k) v → v.down.bytes ≡ w.down.bytes
+  down_same w v n k o (inl p) = ap (λ (x : Net CO CI SO SI). x.down.bytes) p.only
+  down_same w v n k o (inr p) = ap (λ (x : Net CO CI SO SI). x.down.bytes) p.only
+
+  delivered_down : (w v : Net CO CI SO SI) (n k : ℕ) → IsOpen w → Steps c s seals w (Deliver ClientSide n) (Count k) v → v.client.connection.outbox.queue.frames ≡ [] → w.client.connection.outbox.queue.frames ≡ []
+  delivered_down w v n k o p e =
+      let heard = heard_whole c s seals (is_over (taken_from w.down k)) p.does.mid v.client.connection (never_over c s seals (taken_from w.down k) o.down) p.does.hears in
+      acted (calling c.out c.in_) 0 p.does.does.frames (scene w.client.state w.client.connection) (scene v.client.state p.does.mid) p.does.does.acts (sym (ap (λ (x : Connection CO CI). x.outbox.queue.frames) heard) ∙ e)
+
+  -- BEHIND THE LAST BYTES THAT THE SERVER TOOK, upwards.
+  pub up_back : (t : List Entry) (w : Net CO CI SO SI) (event : Event) (reply : Reply) (v : Net CO CI SO SI) → IsKnown c s seals still fixed set f t w event reply v → is_clean_event event ≡ true → is_clean_reply reply ≡ true → takes_bytes ServerSide event reply ≡ false → Steps c s seals w event reply v → UpIdle v → UpIdle w × PutsUp event reply
+  up_back t w (CallEvent request) (Named id) v i a b z p idle = absurd (sent_one c.out w.client.connection.outbox _ _ v.client.connection.outbox p.1.sends idle.none_queued)
+  up_back t w (OpenEvent request up down) (Named id) v i a b z p idle = absurd (sent_one c.out w.client.connection.outbox _ _ v.client.connection.outbox p.1.sends idle.none_queued)
+  up_back t w (Send (ClientEnd id) item) (Ticket ticket) v i a b z p idle = absurd (sent_one c.out w.client.connection.outbox _ _ v.client.connection.outbox p.0.sends.sends idle.none_queued)
+  up_back t w (Close id) (Ticket ticket) v i a b z p idle = absurd (sent_one c.out w.client.connection.outbox _ _ v.client.connection.outbox p.0.sends.sends idle.none_queued)
+  up_back t w (Recv (ClientEnd id)) (Item given) v i a b z p idle = (idle_as (ap (λ (x : ClientCore CO CI). x.connection.outbox.queue.frames) p.0.same) (ap (λ (x : Net CO CI SO SI). x.up.bytes) p.1) idle, heard_none (λ xs. items (put_up xs)) refl (λ word. refl) (λ word. refl) (ClientEnd id) given)
+  up_back t w (Recv (ServerEnd id)) (Item given) v i a b z p idle = (subst (λ (x : Net CO CI SO SI). UpIdle x) p.1 idle, heard_none (λ xs. items (put_up xs)) refl (λ word. refl) (λ word. refl) (ServerEnd id) given)
+  up_back t w (Send (ServerEnd id) item) (Ticket ticket) v i a b z p idle = (subst (λ (x : Net CO CI SO SI). UpIdle x) p.1 idle, λ k. nothing_put (λ xs. items (put_up xs)) (nat_eq (f id) k) (SentDown item) refl refl)
+  up_back t w (Answer id result) Done v i a b z p idle = (subst (λ (x : Net CO CI SO SI). UpIdle x) p.1 idle, λ k. nothing_put (λ xs. items (put_up xs)) (nat_eq (f id) k) (EndedDown (some_of result)) refl refl)
+  up_back t w (Respond id response) Done v i a b z p idle = (subst (λ (x : Net CO CI SO SI). UpIdle x) p.only idle, λ k. nothing_put (λ xs. items (put_up xs)) (nat_eq (f id) k) (EndedDown (Ok (Some response))) refl refl)
+  up_back t w (EndStream id result) Done v i a b z p idle = (subst (λ (x : Net CO CI SO SI). UpIdle x) p.1 idle, λ k. nothing_put (λ xs. items (put_up xs)) (nat_eq (f id) k) (EndedDown result) refl refl)
+  up_back t w (Tick now) Done v i a b z p idle =
+      (idle_as (ticked_up w.client.connection.failure w.client now v.client (none_due c s seals set f t w now i.before i.cleanly.timed i.cleanly.at.in_time) p.does) (ap (λ (x : Net CO CI SO SI). x.up.bytes) p.only) idle, λ k. refl)
+  up_back t w (Carry ClientSide n) (Count k) v i a b z p idle = (
+    carried w.client.connection.failure w.up.cut w.client.connection.outbox.queue w.up.bytes n k i.cleanly.before.client i.cleanly.whole.up (i.before.upward.bytes i.cleanly.before.server).bytes.valid p.count
+        (idle_as (ap (λ (x : Net CO CI SO SI). x.client.connection.outbox.queue.frames) p.only) (ap (λ (x : Net CO CI SO SI). x.up.bytes) p.only) idle),
+    λ j. refl,
+  )
+  up_back t w (Deliver ServerSide n) (Count k) v i a b z p idle =
+      let none = idle_up c s seals set f t w v n k i.before i.cleanly.whole (none_taken k z) p in
+      (idle_as (ap (λ (x : ClientCore CO CI). x.connection.outbox.queue.frames) none.2) none.3 idle, λ j. refl)
+  up_back t w (Deliver ClientSide n) (Count k) v i a b z p idle = (record { none_queued = delivered_down w v n k i.cleanly.whole p idle.none_queued; none_carried = sym (ap (λ (x : Net CO CI SO SI). x.up.bytes) p.only) ∙ idle.none_carried }, λ j. refl)
+  up_back t w event reply v i a b z p idle =
+      let queue : v.client.connection.outbox.queue ≡ w.client.connection.outbox.queue = first_of (cc, search rules) in
+      let pipe : v.up.bytes ≡ w.up.bytes = first_of (cc, search rules) in
+      (idle_as (ap (λ (x : Queue). x.frames) queue) pipe idle, λ k. refl)
+
+  -- what an answer or an end queues
+  answered_down : (r : Rules) (old : ServerCore SO SI) (id : ℕ) (result : Result Response Error) (new : ServerCore SO SI) → old.state.rules ≡ r → AnswersBy c s seals old id result new → new.connection.outbox.queue.frames ≡ [] → (old.connection.outbox.queue.frames ≡ []) × ((k : ℕ) → items (put_down set.rules set.limit (only_if (nat_eq (f id) k) (EndedDown (some_of result)))) ≡ [])
+  answered_down r old id (Ok response) new e p none = absurd (responded s.out old.state.rules _ _ response p.1.sent old.connection.outbox new.connection.outbox p.1.responds p.1.sends none)
+  answered_down SyncRules old id (Err error) new e p none =
+      let d = subst (λ (x : Rules). AnswersError s.out x old id error new) e p in
+      (sym (ap (λ (x : ServerCore SO SI). x.connection.outbox.queue.frames) d.same) ∙ none, λ k. nothing_put (λ xs. items (put_down set.rules set.limit xs)) (nat_eq (f id) k) (EndedDown (Err error)) refl refl)
+  answered_down AsyncRules old id (Err error) new e p none =
+      let d = subst (λ (x : Rules). AnswersError s.out x old id error new) e p in
+      absurd (responded s.out old.state.rules _ _ d.0 d.2.sent old.connection.outbox new.connection.outbox d.2.responds d.2.sends none)
+
+  ended_down : (old : ServerCore SO SI) (id : ℕ) (result : Result (Option Response) Error) (new : ServerCore SO SI) → EndsStream s.out old id result new → new.connection.outbox.queue.frames ≡ [] → ⊥
+  ended_down old id (Ok None) new p none = sent_one s.out old.connection.outbox p.sends.0 [] new.connection.outbox p.sends.2 none
+  ended_down old id (Ok (Some r)) new p none = responded s.out AsyncRules _ _ r p.sends.0 old.connection.outbox new.connection.outbox p.sends.1 p.sends.2 none
+  ended_down old id (Err error) new p none = let q = p.sends.2 in responded s.out AsyncRules _ _ p.sends.0 q.0 old.connection.outbox new.connection.outbox q.1 q.2 none
+
+  -- BEHIND THE LAST BYTES THAT THE CLIENT TOOK, downwards.
+  pub down_back : (t : List Entry) (w : Net CO CI SO SI) (event : Event) (reply : Reply) (v : Net CO CI SO SI) → IsKnown c s seals still fixed set f t w event reply v → is_clean_event event ≡ true → is_clean_reply reply ≡ true → takes_bytes ClientSide event reply ≡ false → Steps c s seals w event reply v → DownIdle v → DownIdle w × PutsDown event reply
+  down_back t w (CallEvent request) (Named id) v i a b z p idle = (subst (λ (x : Net CO CI SO SI). DownIdle x) p.2 idle, λ k. nothing_put (λ xs. items (put_down set.rules set.limit xs)) (nat_eq id k) (Asked request) refl refl)
+  down_back t w (OpenEvent request up down) (Named id) v i a b z p idle = (subst (λ (x : Net CO CI SO SI). DownIdle x) p.2 idle, λ k. nothing_put (λ xs. items (put_down set.rules set.limit xs)) (nat_eq id k) (Began request up) refl refl)
+  down_back t w (Send (ClientEnd id) item) (Ticket ticket) v i a b z p idle = (subst (λ (x : Net CO CI SO SI). DownIdle x) p.1 idle, λ k. nothing_put (λ xs. items (put_down set.rules set.limit xs)) (nat_eq id k) (SentUp item) refl refl)
+  down_back t w (Close id) (Ticket ticket) v i a b z p idle = (subst (λ (x : Net CO CI SO SI). DownIdle x) p.1 idle, λ k. nothing_put (λ xs. items (put_down set.rules set.limit xs)) (nat_eq id k) ClosedUp refl refl)
+  down_back t w (Recv (ClientEnd id)) (Item given) v i a b z p idle = (subst (λ (x : Net CO CI SO SI). DownIdle x) p.1 idle, heard_none (λ xs. items (put_down set.rules set.limit xs)) refl (λ word. refl) (λ word. refl) (ClientEnd id) given)
+  down_back t w (Recv (ServerEnd id)) (Item given) v i a b z p idle = (idle_as (ap (λ (x : ServerCore SO SI). x.connection.outbox.queue.frames) p.0.same) (ap (λ (x : Net CO CI SO SI). x.down.bytes) p.1) idle, heard_none (λ xs. items (put_down set.rules set.limit xs)) refl (λ word. refl) (λ word. refl) (ServerEnd id) given)
+  down_back t w (Send (ServerEnd id) item) (Ticket ticket) v i a b z p idle = absurd (sent_one s.out w.server.connection.outbox _ _ v.server.connection.outbox p.0.sends.sends idle.none_queued)
+  down_back t w (Answer id result) Done v i a b z p idle =
+      let y = answered_down w.server.state.rules w.server id result v.server refl p.0 idle.none_queued in
+      (record { none_queued = y.0; none_carried = sym (ap (λ (x : Net CO CI SO SI). x.down.bytes) p.1) ∙ idle.none_carried }, y.1)
+  down_back t w (Respond id response) Done v i a b z p idle = absurd (responded s.out w.server.state.rules _ _ response p.does.sent w.server.connection.outbox v.server.connection.outbox p.does.responds p.does.sends idle.none_queued)
+  down_back t w (EndStream id result) Done v i a b z p idle = absurd (ended_down w.server id result v.server p.0 idle.none_queued)
+  down_back t w (Tick now) Done v i a b z p idle =
+      (record { none_queued = passes_so s.out (λ a x b y. y.queue.frames ≡ [] → x.queue.frames ≡ []) (λ a x h. h) (λ a b d x y z job e later h. sent_all s.out e.sent x y e.sends (later h)) w.server.state.rules w.server.connection.failure w.server now v.server p.serves idle.none_queued; none_carried = sym (ap (λ (x : Net CO CI SO SI). x.down.bytes) p.only) ∙ idle.none_carried }, λ k. refl)
+  down_back t w (Carry ServerSide n) (Count k) v i a b z p idle = (
+    carried w.server.connection.failure w.down.cut w.server.connection.outbox.queue w.down.bytes n k i.cleanly.before.server i.cleanly.whole.down (i.before.downward.bytes i.cleanly.before.client).bytes.valid p.count
+        (idle_as (ap (λ (x : Net CO CI SO SI). x.server.connection.outbox.queue.frames) p.only) (ap (λ (x : Net CO CI SO SI). x.down.bytes) p.only) idle),
+    λ j. refl,
+  )
+  down_back t w (Deliver ClientSide n) (Count k) v i a b z p idle =
+      let none = idle_down c s seals set f t w v n k i.before i.cleanly.whole (none_taken k z) p in
+      (idle_as (ap (λ (x : ServerCore SO SI). x.connection.outbox.queue.frames) none.2) none.3 idle, λ j. refl)
+  down_back t w (Deliver ServerSide n) (Count k) v i a b z p idle = (record { none_queued = delivered_up w v n k i.cleanly.whole p idle.none_queued; none_carried = sym (down_same w v n k i.cleanly.whole p) ∙ idle.none_carried }, λ j. refl)
+  down_back t w event reply v i a b z p idle =
+      let queue : v.server.connection.outbox.queue ≡ w.server.connection.outbox.queue = first_of (cc, search rules) in
+      let pipe : v.down.bytes ≡ w.down.bytes = first_of (cc, search rules) in
+      (idle_as (ap (λ (x : Queue). x.frames) queue) pipe idle, λ k. refl)

@@ -1,0 +1,118 @@
+-- Both sides live at each place of a clean quiet run: no step clears a failure, and the last deliveries found none. No pipe was
+-- cut, and the server takes what comes.
+use Rattle.ttrpc_world.proofs.Failing.{lives_back}
+use Rattle.ttrpc_world.proofs.Serves.{passes_so}
+use Rattle.ttrpc_world.proofs.Words.{[], ActsAll, Answer, AnswersBy, AnswersError, ap, AreClean, AsyncRules, Bool, Carry, ClientCore, ClientSide, Connection, Count, Deliver, Done, Entry, Err, Error, Event, false, Halves, Hears, Incoming, inl, inr, is_clean_event, is_clean_reply, is_over, IsDrained, IsFresh, IsOpen, List, Lives, Net, None, not, Ok, other, Pipe, refl, Reply, Response, Result, Rules, rules, Runs, Scene, scene, Server, ServerCore, ServerSide, serving, Side, Steps, subst, sym, SyncRules, taken_from, Tick, true, ℕ, ◌++◌, ◌∙◌, ◌∷◌, ◌≡◌}
+
+module _ {CO CI SO SI : Type 0} (c : Halves CO CI) (s : Halves SO SI) (seals : Bool) where
+  -- who lives behind a run lived all along
+  pub lived : (w : Net CO CI SO SI) (rest : List Entry) (v : Net CO CI SO SI) → Runs c s seals w rest v → Lives v → Lives w
+  lived w [] v same h = subst Lives same h
+  lived w (e ∷ rest) v r h = lives_back c s seals w e.event e.reply r.0 r.1 (lived r.0 rest v r.2 h)
+
+  -- ---- pipes stay whole, and the server goes on taking
+
+  drains_answered : (r : Rules) (old : ServerCore SO SI) (id : ℕ) (result : Result Response Error) (new : ServerCore SO SI) → old.state.rules ≡ r → AnswersBy c s seals old id result new → not new.state.draining ≡ not old.state.draining
+  drains_answered r old id (Ok response) new e p = ap (λ (x : ServerCore SO SI). not x.state.draining) p.1.same
+  drains_answered SyncRules old id (Err error) new e p = let d = subst (λ (x : Rules). AnswersError s.out x old id error new) e p in ap (λ (x : ServerCore SO SI). not x.state.draining) d.same
+  drains_answered AsyncRules old id (Err error) new e p = let d = subst (λ (x : Rules). AnswersError s.out x old id error new) e p in ap (λ (x : ServerCore SO SI). not x.state.draining) d.2.same
+
+  drains_acted : (now : ℕ) (fs : List Incoming) (old new : Scene Server SO SI) → ActsAll (serving s.out s.in_) now old fs new → not new.state.draining ≡ not old.state.draining
+  drains_acted now [] old new same = ap (λ (x : Scene Server SO SI). not x.state.draining) same
+  drains_acted now (f ∷ fs) old new acts = drains_acted now fs acts.0 new acts.2 ∙ acts.1.takes
+
+  takes_stay : (w : Net CO CI SO SI) (event : Event) (reply : Reply) (v : Net CO CI SO SI) → is_clean_event event ≡ true → is_clean_reply reply ≡ true → Steps c s seals w event reply v → not v.server.state.draining ≡ not w.server.state.draining
+  takes_stay w (Answer id result) Done v e r p = drains_answered w.server.state.rules w.server id result v.server refl p.0
+  takes_stay w (Deliver ServerSide n) (Count k) v e r (inr p) = ap (λ (x : Net _ _ _ _). not x.server.state.draining) p.only
+  takes_stay w (Tick now) Done v e r p =
+      passes_so s.out (λ a x b y. not b.draining ≡ not a.draining) (λ a x. refl) (λ a b d x y z job e later. later ∙ ap (λ (t : Server). not t.draining) e.state) w.server.state.rules w.server.connection.failure w.server now v.server p.serves
+  takes_stay w (Deliver ServerSide n) (Count k) v e r (inl p) = drains_acted w.moment p.does.does.frames (scene w.server.state w.server.connection) (scene v.server.state p.does.mid) p.does.does.acts
+  takes_stay w event reply v e r p = first_of (cc, search rules)
+
+  abbrev CutsStay : Net CO CI SO SI → Net CO CI SO SI → Type 0
+  CutsStay w v = (v.up.cut ≡ w.up.cut) × (v.down.cut ≡ w.down.cut)
+
+  cuts_stay : (w : Net CO CI SO SI) (event : Event) (reply : Reply) (v : Net CO CI SO SI) → is_clean_event event ≡ true → is_clean_reply reply ≡ true → Steps c s seals w event reply v → CutsStay w v
+  cuts_stay w (Deliver ServerSide n) (Count k) v e r (inl p) = subst (λ (x : Net CO CI SO SI). CutsStay w x) (sym p.only) (refl, refl)
+  cuts_stay w (Deliver ServerSide n) (Count k) v e r (inr p) = subst (λ (x : Net CO CI SO SI). CutsStay w x) (sym p.only) (refl, refl)
+  cuts_stay w event reply v e r p = (first_of (cc, search rules), first_of (cc, search rules))
+
+  -- A CLEAN STEP LEAVES BOTH PIPES WHOLE, and the server taking.
+  pub stays_open : (w : Net CO CI SO SI) (event : Event) (reply : Reply) (v : Net CO CI SO SI) → is_clean_event event ≡ true → is_clean_reply reply ≡ true → Steps c s seals w event reply v → IsOpen w → IsOpen v
+  stays_open w event reply v e r p o = let cuts = cuts_stay w event reply v e r p in record { up = cuts.0 ∙ o.up; down = cuts.1 ∙ o.down; takes = takes_stay w event reply v e r p ∙ o.takes }
+
+  pub stay_open : (rules : Rules) (f : ℕ → ℕ) (front : List Entry) (w : Net CO CI SO SI) (rest : List Entry) (v : Net CO CI SO SI) → AreClean rules f front rest → Runs c s seals w rest v → IsOpen w → IsOpen v
+  stay_open rules f front w [] v clean same o = subst IsOpen (sym same) o
+  stay_open rules f front w (e ∷ rest) v clean r o = stay_open rules f (front ++ e ∷ []) r.0 rest v clean.1 r.2 (stays_open w e.event e.reply r.0 clean.0.event_is clean.0.reply_is r.1 o)
+
+  -- ---- what the last four events are
+
+  -- a run is a run up to a place, and one from there on
+  split_at : (w : Net CO CI SO SI) (front back : List Entry) (v : Net CO CI SO SI) → Runs c s seals w (front ++ back) v → (mid : Net CO CI SO SI) × Runs c s seals w front mid × Runs c s seals mid back v
+  split_at w [] back v r = (w, refl, r)
+  split_at w (e ∷ front) back v r = let l = split_at r.0 front back v r.2 in (l.0, (r.0, r.1, l.1), l.2)
+
+  pub runs_joined : (w : Net CO CI SO SI) (front : List Entry) (mid : Net CO CI SO SI) (back : List Entry) (v : Net CO CI SO SI) → Runs c s seals w front mid → Runs c s seals mid back v → Runs c s seals w (front ++ back) v
+  runs_joined w [] mid back v same r = subst (λ (x : Net CO CI SO SI). Runs c s seals x back v) same r
+  runs_joined w (e ∷ front) mid back v p r = (p.0, p.1, runs_joined p.0 front mid back v p.2 r)
+
+  pub clean_front : (rules : Rules) (f : ℕ → ℕ) (done front back : List Entry) → AreClean rules f done (front ++ back) → AreClean rules f done front
+  clean_front rules f done [] back clean = tt
+  clean_front rules f done (e ∷ front) back clean = (clean.0, clean_front rules f (done ++ e ∷ []) front back clean.1)
+
+  -- a pipe that is whole isn't over
+  pub never_over : (p : Pipe) → p.cut ≡ false → is_over p ≡ false
+  never_over p e = rw e refl
+
+  pub heard_whole : {O I : Type 0} (over : Bool) (old new : Connection O I) → over ≡ false → Hears over old new → new ≡ old
+  heard_whole true old new e h = cc
+  heard_whole false old new e h = h
+
+  -- A delivery that replies a count leaves its side alive, and the other side as it was.
+  delivered_up : (w v : Net CO CI SO SI) (n k : ℕ) → IsOpen w → Steps c s seals w (Deliver ServerSide n) (Count k) v → (v.server.connection.failure ≡ None) × (v.client ≡ w.client)
+  delivered_up w v n k o (inl p) = (
+    ap (λ (x : Connection SO SI). x.failure) (heard_whole (is_over (taken_from w.up k)) p.does.mid v.server.connection (never_over (taken_from w.up k) o.up) p.does.hears) ∙ p.does.does.still,
+    ap (λ (x : Net _ _ _ _). x.client) p.only,
+  )
+  delivered_up w v n k o (inr p) = let bad : true ≡ false = sym o.takes ∙ p.drains in cc
+
+  delivered_down : (w v : Net CO CI SO SI) (n k : ℕ) → IsOpen w → Steps c s seals w (Deliver ClientSide n) (Count k) v → (v.client.connection.failure ≡ None) × (v.server ≡ w.server)
+  delivered_down w v n k o p = (
+    ap (λ (x : Connection CO CI). x.failure) (heard_whole (is_over (taken_from w.down k)) p.does.mid v.client.connection (never_over (taken_from w.down k) o.down) p.does.hears) ∙ p.does.does.still,
+    ap (λ (x : Net _ _ _ _). x.server) p.only,
+  )
+
+  last_two : (to : Side) (a b : ℕ) (w x v : Net CO CI SO SI) → IsOpen w → IsOpen x → Steps c s seals w (Deliver to a) (Count 0) x → Steps c s seals x (Deliver (other to) b) (Count 0) v → Lives v
+  last_two ServerSide a b w x v o o2 p q =
+      let one = delivered_up w x a 0 o p in
+      let two = delivered_down x v b 0 o2 q in
+      record { client = two.0; server = ap (λ (y : ServerCore SO SI). y.connection.failure) two.1 ∙ one.0 }
+  last_two ClientSide a b w x v o o2 p q =
+      let one = delivered_down w x a 0 o p in
+      let two = delivered_up x v b 0 o2 q in
+      record { server = two.0; client = ap (λ (y : ClientCore CO CI). y.connection.failure) two.1 ∙ one.0 }
+
+  -- At the end of a clean drained run both sides live.
+  pub lives_at_end : (rules : Rules) (f : ℕ → ℕ) (w : Net CO CI SO SI) (trace : List Entry) (v : Net CO CI SO SI) → IsOpen w → AreClean rules f [] trace → IsDrained trace → Runs c s seals w trace v → Lives v
+  lives_at_end rules f w trace v o clean d run =
+      let last = record { event = Carry d.from d.a; reply = Count 0 } ∷ record { event = Carry (other d.from) d.b; reply = Count 0 } ∷ record { event = Deliver d.to d.c; reply = Count 0 } ∷ record { event = Deliver (other d.to) d.d; reply = Count 0 } ∷ [] in
+      let at = split_at w d.front last v (subst (λ (t : List Entry). Runs c s seals w t v) d.ends run) in
+      let all = subst (λ (t : List Entry). AreClean rules f [] t) d.ends clean in
+      let o0 = stay_open rules f [] w d.front at.0 (clean_front rules f [] d.front last all) at.1 o in
+      let four = at.2 in
+      let o1 = stays_open at.0 (Carry d.from d.a) (Count 0) four.0 refl refl four.1 o0 in
+      let o2 = stays_open four.0 (Carry (other d.from) d.b) (Count 0) four.2.0 refl refl four.2.1 o1 in
+      let o3 = stays_open four.2.0 (Deliver d.to d.c) (Count 0) four.2.2.0 refl refl four.2.2.1 o2 in
+      subst Lives (sym four.2.2.2.2) (last_two d.to d.c d.d four.2.0 four.2.2.0 four.2.2.2.0 o2 o3 four.2.2.1 four.2.2.2.1)
+
+pub fresh_open : {CO CI SO SI : Type 0} {c : Halves CO CI} {s : Halves SO SI} {w : Net CO CI SO SI} → IsFresh c s w → IsOpen w
+fresh_open n = record { up = ap (λ (p : Pipe). p.cut) n.up; down = ap (λ (p : Pipe). p.cut) n.down; takes = ap (λ (x : ServerCore _ _). not x.state.draining) n.server }
+
+-- AT EACH PLACE of a clean run that ends drained both sides live, both pipes are whole and the server takes.
+pub lives_at : {CO CI SO SI : Type 0} (c : Halves CO CI) (s : Halves SO SI) (seals : Bool) (w mid v : Net CO CI SO SI) (front back : List Entry) (rules : Rules) (f : ℕ → ℕ) → IsFresh c s w → Runs c s seals w front mid → Runs c s seals mid back v
+    → AreClean rules f [] (front ++ back) → IsDrained (front ++ back) → Lives mid × IsOpen mid
+lives_at c s seals w mid v front back rules f fresh one two clean drained =
+    let o = fresh_open fresh in (
+      lived c s seals mid back v two (lives_at_end c s seals rules f w (front ++ back) v o clean drained (runs_joined c s seals w front mid back v one two)),
+      stay_open c s seals rules f [] w front mid (clean_front c s seals rules f [] front back clean) one o,
+    )

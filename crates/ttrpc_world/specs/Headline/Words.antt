@@ -1,0 +1,7 @@
+-- The words that the headline is said in, in one list.
+-- Source: this project's.
+pub use Rattle.ttrpc_world_trace.specs.declared.events.Entry.{Entry}
+pub use Rattle.ttrpc_world_trace.specs.Headline.{IsTold}
+pub use Rattle.ttrpc_pair.specs.Pipes.{empty_pipe}
+pub use Rattle.ttrpc_pair.specs.Net.{Net, IsFresh, halves}
+pub use Rattle.ttrpc_pair.specs.Steps.{Runs}
