@@ -1,5 +1,5 @@
-//! Tests of the frames, of their readers and writers, and of the transform halves: bytes cut in all ways, scripts for the
-//! queue, and rows of what is read and written, which few functions run.
+//! Tests of the frames, of their readers and writers, and of what seals and opens them: bytes cut in all ways, scripts for
+//! the queue, and rows of what is read and written, which few functions run. In `secure` those of hooks and contexts.
 #![tactic(auto)]
 
 #[cfg(test)]

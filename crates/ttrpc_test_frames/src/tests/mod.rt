@@ -2,4 +2,5 @@ mod decoder_tests;
 mod halves_tests;
 mod queue_tests;
 mod rows;
+mod secure;
 mod streams;

@@ -1,5 +1,5 @@
 //! Hooks that are run, and the limit of their time.
-use crate::tests::fakes::{Agrees, Line, Listens};
+use crate::tests::secure::fakes::{Agrees, Line, Listens};
 use std::alloc::{AllocError, Global};
 use std::io::ErrorKind;
 use std::process::Abort;

@@ -1,6 +1,6 @@
 //! Packets of halves that mask, as they are written, read and refused through the context of a connection.
-use crate::tests::context_tests::{data_frame, is_others};
-use crate::tests::masking::masking_context;
+use crate::tests::secure::context_tests::{data_frame, is_others};
+use crate::tests::secure::masking::masking_context;
 use std::alloc::Global;
 use std::process::Abort;
 use std::test::Fail;

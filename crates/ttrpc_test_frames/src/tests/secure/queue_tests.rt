@@ -1,6 +1,6 @@
 //! What halves that seal queue, up to the limit and beyond it, and that refused memory changes nothing.
-use crate::tests::context_tests::{data_frame, is_others};
-use crate::tests::masking::masking_context;
+use crate::tests::secure::context_tests::{data_frame, is_others};
+use crate::tests::secure::masking::masking_context;
 use std::alloc::Global;
 use std::process::Abort;
 use std::test::Fail;

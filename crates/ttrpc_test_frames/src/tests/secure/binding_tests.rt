@@ -1,6 +1,6 @@
 //! Packets of halves that bind data to a header by a tag, as they are written, read, and refused under another header.
-use crate::tests::context_tests::is_others;
-use crate::tests::masking::{Masking, masking_context};
+use crate::tests::secure::context_tests::is_others;
+use crate::tests::secure::masking::{Masking, masking_context};
 use std::alloc::Global;
 use std::process::Abort;
 use std::test::Fail;

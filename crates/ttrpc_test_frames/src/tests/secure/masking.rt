@@ -2,7 +2,9 @@
 //! under a key of them.
 ghost use Rattle.std.specs.Prelude.{◌≡◌, IfOk, IfErr, OnErr};
 
-use crate::tests::packet::{ALGORITHM, KEY, check_algorithm, data_of, packet_of, too_short};
+use crate::tests::secure::packet::{
+    ALGORITHM, KEY, check_algorithm, data_of, packet_of, too_short,
+};
 use std::alloc::Global;
 use ttrpc_bench::Transformed;
 use ttrpc_secure::{ConnectionContext, InboundTransform, OutboundTransform, TransformError};
@@ -64,8 +66,8 @@ fn unbound(alloc: Global, packet: &[u8], aad: &[u8]) -> Transformed {
 impl OutboundTransform for Masking {
     ghost use Rattle.std.specs.Prelude.{◌≤◌, true, false};
     ghost use Rattle.std.proofs.Common.{ap, arith};
-    ghost use Rattle.ttrpc_test_secure.specs.Masking.{Lengthens, RefusesAnything, overhead_of};
-    ghost use Rattle.ttrpc_test_secure.specs.declared.tests.masking.Masking.{Masking as AMasking};
+    ghost use Rattle.ttrpc_test_frames.specs.Masking.{Lengthens, RefusesAnything, overhead_of};
+    ghost use Rattle.ttrpc_test_frames.specs.declared.tests.masking.Masking.{Masking as AMasking};
 
     const SEALS: bool = true;
 
@@ -100,7 +102,7 @@ impl OutboundTransform for Masking {
 }
 
 impl InboundTransform for Masking {
-    ghost use Rattle.ttrpc_test_secure.specs.Masking.{Stays, RefusesAnything};
+    ghost use Rattle.ttrpc_test_frames.specs.Masking.{Stays, RefusesAnything};
 
     ghost opens = { Stays };
 

@@ -1,3 +1,4 @@
+//! Hooks, their errors and their time limit; what is known of a connection, and its context; halves that mask, and stamps.
 mod binding_tests;
 mod context_tests;
 mod data_tests;
