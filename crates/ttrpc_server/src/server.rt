@@ -24,10 +24,19 @@ use ttrpc_secure::{ConnectionContext, ConnectionData, InboundTransform, Outbound
 use ttrpc_wire::codec::message::WireMessage;
 
 /// The core of a server, over its connection's two halves.
-#[derive(Drop)]
 pub struct ServerCore<O, I> {
     pub(crate) state: ServerState,
     pub(crate) connection: Connection<O, I>,
+}
+
+/// Written out so that a crate above proves nothing of the parts that are dropped here.
+impl<O: Drop, I: Drop> Drop for ServerCore<O, I> {
+    fn drop(self) {
+        let ServerCore {
+            state: _,
+            connection: _,
+        } = self;
+    }
 }
 
 impl<O: OutboundTransform + Drop, I: InboundTransform + Drop> ServerCore<O, I> {

@@ -15,13 +15,25 @@ use ttrpc_secure::{ConnectionData, InboundTransform, OutboundTransform};
 use ttrpc_sync::{AfterQueuing, Connected, Host, Link, after_queuing, lock_soon};
 
 /// A server's connection: its core under a lock, what is known of it, and the threads that serve it.
-#[derive(Drop)]
 pub struct Conn<R: Host, O: OutboundTransform + Drop, I: InboundTransform + Drop> {
     rt: R,
     link: Link<ServerShared<O, I>>,
     known: ConnectionData,
     cancelled: Arc<AtomicBool, Global>,
     crew: Arc<Crew, Global>,
+}
+
+/// Written out so that a crate above proves nothing of the parts that are dropped here.
+impl<R: Host, O: OutboundTransform + Drop, I: InboundTransform + Drop> Drop for Conn<R, O, I> {
+    fn drop(self) {
+        let Conn {
+            rt: _,
+            link: _,
+            known: _,
+            cancelled: _,
+            crew: _,
+        } = self;
+    }
 }
 
 impl<R: Host, O: OutboundTransform + Drop, I: InboundTransform + Drop> Conn<R, O, I> {

@@ -1,9 +1,5 @@
 //! Hostile peers, and peers that do one thing after the other: nobody waits for what somebody else wants.
-use crate::tests::handlers::comes;
-use crate::tests::peers::{answer, next_id, read_frame, requests, write_all};
-use crate::tests::sites::{
-    Machine, PlainClient, Site, Tested, a_while, call, client, listening, request, serving,
-};
+use crate::tests::Tested;
 use std::alloc::Global;
 use std::net::{Shutdown, SocketAddr, TcpStream};
 use std::process::Abort;
@@ -11,6 +7,11 @@ use std::sync::atomic::Ordering;
 use std::test::Fail;
 use std::time::{Clock, Duration, Instant};
 use std::{fs, thread};
+use ttrpc_bench_threads::handlers::comes;
+use ttrpc_bench_threads::peers::{answer, next_id, read_frame, requests, write_all};
+use ttrpc_bench_threads::sites::{
+    Machine, PlainClient, Site, a_while, call, client, listening, request, serving,
+};
 use ttrpc_proto::{Error, Result as Answered};
 use ttrpc_sync::{Host, moment};
 use ttrpc_sync_server::NoHook;
@@ -45,43 +46,41 @@ fn timed<R: Host>(rt: &R, client: &PlainClient<R>) -> Answered<u64> {
     Ok(moment(rt)?.saturating_sub(start))
 }
 
-/// Queues four megabytes, after a while.
-fn queues_much<R: Host + Abort>(rt: &R, client: &PlainClient<R>) -> Answered<()> {
+/// Queues four megabytes, after a while, and returns whether that call fails.
+fn queues_much<R: Host>(rt: &R, client: &PlainClient<R>) -> Answered<bool> {
     a_while(rt);
     let much = Vec::from_elem(rt.alloc(), 7u8, 4000000)?;
-    assert!(rt; call(rt, client, "Echo", much.as_slice()).is_err());
-    Ok(())
+    Ok(call(rt, client, "Echo", much.as_slice()).is_err())
 }
 
-/// Queues four megabytes to a peer that answers one call and reads no more.
+/// Queues four megabytes to a peer that answers one call and reads no more. Returns whether that call fails.
 fn queues_to_a_stalled_peer<R: Machine>(
     rt: &R,
     client: &PlainClient<R>,
     listener: &PipeListener,
-) -> Answered<()> {
+) -> Answered<bool> {
     let (queued, stalled) = thread::join(
         rt,
         || queues_much(rt, client),
         || answers_one_and_stalls(rt, listener),
     );
-    queued?;
-    stalled
+    stalled?;
+    queued
 }
 
-/// How long the call of the first client takes meanwhile.
-fn timed_beside<R: Machine>(
+/// Returns whether the call of the first client takes less than half a second meanwhile, and that of the second one fails.
+fn is_soon_beside<R: Machine>(
     rt: &R,
     first: &PlainClient<R>,
     second: &PlainClient<R>,
     listener: &PipeListener,
-) -> Answered<u64> {
+) -> Answered<bool> {
     let (passed, queued) = thread::join(
         rt,
         || timed(rt, first),
         || queues_to_a_stalled_peer(rt, second, listener),
     );
-    queued?;
-    passed
+    Ok(queued? && passed? < 500000000)
 }
 
 /// A caller has its answer while four megabytes of another's are queued, and the peer reads no more: it returns at once.
@@ -90,8 +89,7 @@ fn a_caller_returns_with_its_answer(rt: HostRuntime) -> Tested {
     let (listener, address) = listening(&rt)?;
     let first = client(&rt, address.as_str())?;
     let second = first.try_clone()?;
-    let passed = timed_beside(&rt, &first, &second, &listener)?;
-    assert!(rt; passed < 500000000);
+    assert!(rt; is_soon_beside(&rt, &first, &second, &listener)?);
     Ok(())
 }
 
@@ -128,26 +126,26 @@ fn sends_much<R: Host>(rt: &R, client: &PlainClient<R>) -> Answered<()> {
     Ok(())
 }
 
-/// Lets a call expire, calls alone, and sends much.
-fn expires_and_sends_much<R: Host + Abort>(rt: &R, client: &PlainClient<R>) -> Answered<()> {
+/// Lets a call expire, calls alone, and sends much. Returns whether the first call is told that its time is up.
+fn expires_and_sends_much<R: Host>(rt: &R, client: &PlainClient<R>) -> Answered<bool> {
     let late = client.request(request(rt.alloc(), "Echo", b"", 500000000)?);
-    assert!(rt; matches!(late, Err(Error::Others(_))));
-    sends_much(rt, client)
+    sends_much(rt, client)?;
+    Ok(matches!(late, Err(Error::Others(_))))
 }
 
-/// The client does so, while its peer does one thing after the other.
+/// Returns whether the client goes on so, while its peer does one thing after the other.
 fn both_go_on<R: Machine>(
     rt: &R,
     client: &PlainClient<R>,
     listener: &PipeListener,
-) -> Answered<()> {
+) -> Answered<bool> {
     let (called, served) = thread::join(
         rt,
         || expires_and_sends_much(rt, client),
         || one_after_the_other(rt, listener),
     );
-    called?;
-    served
+    served?;
+    called
 }
 
 /// A peer of one thread writes before it reads, while the client writes: both go on.
@@ -156,7 +154,7 @@ fn a_peer_may_write_before_it_reads(rt: HostRuntime) -> Tested {
     let _ = fs::remove_file(&rt, "late.sock");
     let listener = PipeListener::new(&rt, rt.alloc(), "unix://late.sock", true)?;
     let client = client(&rt, "unix://late.sock")?;
-    both_go_on(&rt, &client, &listener)?;
+    assert!(rt; both_go_on(&rt, &client, &listener)?);
     Ok(fs::remove_file(&rt, "late.sock")?)
 }
 
@@ -201,12 +199,11 @@ const ASKED: &[u32] = &[
     200, 1, 1, 1, 1, 1, 1, 1, 1, 1, 1, 1, 1, 1, 1, 1, 1, 1, 1, 1, 1, 2, 3, 4, 5,
 ];
 
-/// A client that asks so often and then ends its half gets so many answers.
-fn each_is_answered_once<R: Machine>(rt: &R, address: &str, count: u32) -> Tested {
+/// Returns whether a client that asks so often and then ends its half gets so many answers.
+fn each_is_answered_once<R: Machine>(rt: &R, address: &str, count: u32) -> Result<bool, Fail> {
     let bare = asking(rt, address, "Echo", count)?;
     bare.shutdown(Shutdown::Write)?;
-    assert_eq!(rt; frames_until_the_end(rt.alloc(), &bare), count as usize);
-    Ok(())
+    Ok(frames_until_the_end(rt.alloc(), &bare) == count as usize)
 }
 
 /// A client that asks and then ends its half gets each of its answers, once.
@@ -214,21 +211,36 @@ fn each_is_answered_once<R: Machine>(rt: &R, address: &str, count: u32) -> Teste
 fn a_half_closed_client_is_answered(rt: HostRuntime) -> Tested {
     let site = serving(&rt)?;
     for &count in ASKED {
-        each_is_answered_once(&rt, site.address.as_str(), count)?;
+        assert!(rt; each_is_answered_once(&rt, site.address.as_str(), count)?);
     }
     assert!(rt; comes(&rt, || site.server.connection_count() == 0));
     site.server.shutdown();
     Ok(())
 }
 
-/// Once the client sends nothing more, the connection ends within five seconds.
-fn ends_with_its_client<R: Machine>(rt: &R, site: &Site<R, NoHook>, bare: &TcpStream) -> Tested {
+/// Returns whether the connection ends within five seconds, once the client sends nothing more.
+fn ends_with_its_client<R: Machine>(
+    rt: &R,
+    site: &Site<R, NoHook>,
+    bare: &TcpStream,
+) -> Result<bool, Fail> {
     let start = Instant::now(rt)?;
     bare.shutdown(Shutdown::Write)?;
-    assert!(rt; comes(rt, || site.server.connection_count() == 0));
-    let passed = start.elapsed(rt)?;
-    assert!(rt; passed < Duration::from_secs(5));
-    Ok(())
+    let has_ended = comes(rt, || site.server.connection_count() == 0);
+    Ok(has_ended && start.elapsed(rt)? < Duration::from_secs(5))
+}
+
+/// Returns whether a handler waits for the end of its connection, sees that, and the connection ends.
+fn sees_the_end<R: Machine>(
+    rt: &R,
+    site: &Site<R, NoHook>,
+    bare: &TcpStream,
+) -> Result<bool, Fail> {
+    Ok(
+        comes(rt, || site.board.waiting.load(Ordering::SeqCst) == 1)
+            && ends_with_its_client(rt, site, bare)?
+            && site.board.cancelled.load(Ordering::SeqCst) == 1,
+    )
 }
 
 /// A handler that ends only once its connection has ended sees that as soon as the client sends nothing more.
@@ -236,9 +248,7 @@ fn ends_with_its_client<R: Machine>(rt: &R, site: &Site<R, NoHook>, bare: &TcpSt
 fn a_handler_sees_the_end_of_its_client(rt: HostRuntime) -> Tested {
     let site = serving(&rt)?;
     let bare = asking(&rt, site.address.as_str(), "Waits", 1)?;
-    assert!(rt; comes(&rt, || site.board.waiting.load(Ordering::SeqCst) == 1));
-    ends_with_its_client(&rt, &site, &bare)?;
-    assert_eq!(rt; site.board.cancelled.load(Ordering::SeqCst), 1);
+    assert!(rt; sees_the_end(&rt, &site, &bare)?);
     site.server.shutdown();
     Ok(())
 }

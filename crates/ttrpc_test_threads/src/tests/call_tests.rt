@@ -1,16 +1,16 @@
 //! Calls over sockets: of threads that share a client, of a client with a limit of time, of any size, and by a path.
-use crate::tests::handlers::{Board, Method};
-use crate::tests::sites::{
-    Machine, PlainClient, Tested, answered_client, answers, call, is_told, new_board, request,
-    serving, serving_one, serving_two, unbound,
-};
-use std::net::SocketAddr;
+use crate::tests::Tested;
 use std::process::Abort;
 use std::sync::Wait;
 use std::sync::atomic::Ordering;
 use std::test::Fail;
 use std::time::{Duration, Instant};
 use std::{fs, thread};
+use ttrpc_bench_threads::handlers::{Board, Method};
+use ttrpc_bench_threads::sites::{
+    Machine, PlainClient, answered_client, answers, call, check, is_told, new_board, request,
+    serving, serving_one, serving_two, unbound,
+};
 use ttrpc_proto::Result as Answered;
 use ttrpc_secure::{InboundTransform, OutboundTransform};
 use ttrpc_sync::Host;
@@ -23,7 +23,7 @@ const CALLS: u8 = 100;
 /// A hundred calls, each with a payload of its own, and each answered by that.
 fn calls_by<R, O, I>(rt: &R, client: &Client<R, O, I>, caller: u8) -> Answered<()>
 where
-    R: Host + Abort,
+    R: Host,
     O: OutboundTransform + Drop,
     I: InboundTransform + Drop,
 {
@@ -45,23 +45,34 @@ fn times_named(seen: &[(u32, Vec<u8>)], named: u32) -> usize {
     seen.iter().filter(|(id, _)| *id == named).count()
 }
 
-/// Each payload was seen once, under the odd ids up to 399.
-fn each_is_seen(rt: &impl Abort, seen: &[(u32, Vec<u8>)]) {
-    assert_eq!(rt; seen.len(), 200);
-    for caller in 0..2 {
-        for number in 0..CALLS {
-            assert_eq!(rt; times_seen(seen, &[caller, number]), 1);
+/// Returns whether each payload of this caller was seen once.
+fn payloads_are_seen(seen: &[(u32, Vec<u8>)], caller: u8) -> bool {
+    for number in 0..CALLS {
+        if times_seen(seen, &[caller, number]) != 1 {
+            return false;
         }
     }
-    for index in 0..200 {
-        assert_eq!(rt; times_named(seen, 2 * index + 1), 1);
-    }
+    true
 }
 
-/// The same of all that the board has.
-fn all_are_seen<R: Wait + Abort>(rt: &R, board: &Board) {
-    let seen = board.seen.lock(rt);
-    each_is_seen(rt, seen.as_slice());
+/// Returns whether each odd id up to 399 was seen once.
+fn ids_are_seen(seen: &[(u32, Vec<u8>)]) -> bool {
+    for index in 0..200 {
+        if times_named(seen, 2 * index + 1) != 1 {
+            return false;
+        }
+    }
+    true
+}
+
+/// Returns whether the board has each payload once, under the odd ids up to 399.
+fn all_are_seen<R: Wait>(rt: &R, board: &Board) -> bool {
+    let locked = board.seen.lock(rt);
+    let seen = locked.as_slice();
+    seen.len() == 200
+        && payloads_are_seen(seen, 0)
+        && payloads_are_seen(seen, 1)
+        && ids_are_seen(seen)
 }
 
 /// Two threads with these numbers make a hundred calls each, over one connection.
@@ -84,16 +95,19 @@ fn calls_by_both<R: Machine>(
 fn two_threads_share_a_client(rt: HostRuntime) -> Tested {
     let (site, first, second) = serving_two(&rt)?;
     calls_by_both(&rt, &first, &second, (0, 1))?;
-    all_are_seen(&rt, &*site.board);
+    assert!(rt; all_are_seen(&rt, &*site.board));
     site.server.shutdown();
     Ok(())
 }
 
 /// A call with a limit of time is answered.
-fn limited_is_answered<R: Host + Abort>(rt: &R, client: &PlainClient<R>) -> Answered<()> {
+fn limited_is_answered<R: Host>(rt: &R, client: &PlainClient<R>) -> Answered<()> {
     let limited = client.request(request(rt.alloc(), "Echo", b"2", 5000000000)?)?;
-    assert!(rt; limited.payload.as_slice() == b"2".as_slice());
-    Ok(())
+    check(
+        rt.alloc(),
+        limited.payload.as_slice() == b"2".as_slice(),
+        "another answer",
+    )
 }
 
 /// Calls alone are answered, then one with a limit of time, and then calls together.
@@ -122,11 +136,11 @@ fn calls_alone_and_together_are_answered(rt: HostRuntime) -> Tested {
 /// Calls, and opens the gate that the other call waits behind.
 fn opens<R, O, I>(rt: &R, client: &Client<R, O, I>, board: &Board) -> Answered<()>
 where
-    R: Host + Abort,
+    R: Host,
     O: OutboundTransform + Drop,
     I: InboundTransform + Drop,
 {
-    crate::tests::sites::a_while(rt);
+    ttrpc_bench_threads::sites::a_while(rt);
     answers(rt, client, "Echo", b"2", b"2")?;
     board.is_open.store(true, Ordering::SeqCst);
     Ok(())
@@ -147,22 +161,20 @@ fn calls_run_at_the_same_time(rt: HostRuntime) -> Tested {
     Ok(())
 }
 
-/// A call of 50 milliseconds is told that its time is up, then and not later.
-fn is_late<R: Machine>(rt: &R, client: &PlainClient<R>) -> Tested {
+/// Returns whether a call of 50 milliseconds is told that its time is up, then and not later.
+fn is_late<R: Machine>(rt: &R, client: &PlainClient<R>) -> Result<bool, Fail> {
     let start = Instant::now(rt)?;
     let late = client.request(request(rt.alloc(), "Waits", b"", 50000000)?);
     let passed = start.elapsed(rt)?;
     is_told(rt, late, "ttrpc err: Request deadline elapsed")?;
-    assert!(rt; passed >= Duration::from_millis(50));
-    assert!(rt; passed < Duration::from_millis(500));
-    Ok(())
+    Ok(passed >= Duration::from_millis(50) && passed < Duration::from_millis(500))
 }
 
 /// A call whose time is up ends then, though its handler goes on; and the connection serves more calls.
 #[test]
 fn a_deadline_is_met(rt: HostRuntime) -> Tested {
     let (site, client) = serving_one(&rt)?;
-    is_late(&rt, &client)?;
+    assert!(rt; is_late(&rt, &client)?);
     answers(&rt, &client, "Echo", b"2", b"2")?;
     site.server.shutdown();
     Ok(())
@@ -172,13 +184,13 @@ fn a_deadline_is_met(rt: HostRuntime) -> Tested {
 const LENGTHS: &[usize] = &[0, 1, 4085, 4086, 65536, 4000000];
 
 /// A payload of so many bytes is answered.
-fn size_passes<R: Host + Abort>(rt: &R, client: &PlainClient<R>, length: usize) -> Answered<()> {
+fn size_passes<R: Host>(rt: &R, client: &PlainClient<R>, length: usize) -> Answered<()> {
     let payload = Vec::from_elem(rt.alloc(), 7u8, length)?;
     answers(rt, client, "Echo", payload.as_slice(), payload.as_slice())
 }
 
 /// A payload above the limit is refused.
-fn too_much_is_refused<R: Host + Abort>(rt: &R, client: &PlainClient<R>) -> Tested {
+fn too_much_is_refused<R: Host>(rt: &R, client: &PlainClient<R>) -> Answered<()> {
     let payload = Vec::from_elem(rt.alloc(), 7u8, 4194304)?;
     is_told(
         rt,
@@ -188,13 +200,13 @@ fn too_much_is_refused<R: Host + Abort>(rt: &R, client: &PlainClient<R>) -> Test
 }
 
 /// Payloads of any size are answered, whether writes go out at once or not; one above the limit is refused.
-fn sizes_pass<R: Machine + 'static>(rt: &R, address: &str, nodelay: bool) -> Tested {
+fn sizes_pass<R: Machine + 'static>(rt: &R, address: &str, nodelay: bool) -> Answered<()> {
     let client = Client::connect(rt.clone()?, address, nodelay)?;
     for &length in LENGTHS {
         size_passes(rt, &client, length)?;
     }
     too_much_is_refused(rt, &client)?;
-    Ok(answers(rt, &client, "Echo", b"2", b"2")?)
+    answers(rt, &client, "Echo", b"2", b"2")
 }
 
 #[test]
@@ -234,7 +246,7 @@ fn an_error_is_an_answer(rt: HostRuntime) -> Tested {
 fn serving_at<R: Machine + 'static>(
     rt: &R,
     address: &str,
-) -> Result<Server<R, Method<R>, NoHook>, Fail> {
+) -> Answered<Server<R, Method<R>, NoHook>> {
     let mut server = unbound(rt, &new_board(rt)?)?.bind(address, false)?;
     server.start()?;
     Ok(server)
@@ -244,8 +256,7 @@ fn serving_at<R: Machine + 'static>(
 fn a_path_is_an_address(rt: HostRuntime) -> Tested {
     let _ = fs::remove_file(&rt, "calls.sock");
     let server = serving_at(&rt, "unix://calls.sock")?;
-    let place = server.local_addr()?;
-    assert_eq!(rt; place, None::<SocketAddr>);
+    assert!(rt; server.local_addr()?.is_none());
     let _client = answered_client(&rt, "unix://calls.sock")?;
     server.shutdown();
     Ok(fs::remove_file(&rt, "calls.sock")?)

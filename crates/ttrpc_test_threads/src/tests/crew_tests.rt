@@ -1,11 +1,5 @@
 //! The threads of a connection: how many there are, which jobs they take, and what a server's settings are to them.
-use crate::tests::fakes::Failing;
-use crate::tests::handlers::{Board, comes};
-use crate::tests::peers::{next_id, requests, write_all};
-use crate::tests::sites::{
-    Machine, PlainClient, Site, Tested, a_while, answered_client, answers, answers_often, client,
-    connection, hooked_at_once, serving, serving_one, started, unbound,
-};
+use crate::tests::Tested;
 use std::alloc::Global;
 use std::io::ErrorKind;
 use std::net::TcpListener;
@@ -16,6 +10,13 @@ use std::sync::{Arc, Wait};
 use std::test::Fail;
 use std::time::{Clock, Duration, Instant};
 use std::{fs, thread};
+use ttrpc_bench_threads::fakes::Failing;
+use ttrpc_bench_threads::handlers::{Board, comes};
+use ttrpc_bench_threads::peers::{next_id, requests, write_all};
+use ttrpc_bench_threads::sites::{
+    Machine, PlainClient, Site, a_while, answered_client, answers, answers_often, client,
+    connection, hooked_at_once, serving, serving_one, started, unbound,
+};
 use ttrpc_proto::Result as Answered;
 use ttrpc_secure::{AcceptHook, HookError, HookOutput, Plain};
 use ttrpc_sync::{Connected, Host, moment};
@@ -40,7 +41,7 @@ fn has_more_threads<R: Machine>(rt: &R, before: usize, more: usize) -> bool {
 }
 
 /// Waits behind the gate.
-fn gated<R: Host + Abort>(rt: &R, client: &PlainClient<R>) -> Answered<()> {
+fn gated<R: Host>(rt: &R, client: &PlainClient<R>) -> Answered<()> {
     answers(rt, client, "Gate", b"", b"open")
 }
 
@@ -109,7 +110,7 @@ fn each_job_of_a_piece_has_a_worker(rt: HostRuntime) -> Tested {
     let site = serving(&rt)?;
     let bare = asking_both(&rt, site.address.as_str())?;
     let ids = ids_around_the_gate(rt.alloc(), &bare, &*site.board)?;
-    assert_eq!(rt; ids, (3, 1));
+    assert!(rt; ids == (3, 1));
     site.server.shutdown();
     Ok(())
 }
@@ -132,14 +133,14 @@ fn busy<R: Machine>(rt: &R, address: &str) -> Answered<PipeConnection> {
     Ok(bare)
 }
 
-/// How many nanoseconds pass until the second of two calls is answered that come in one piece, while the first one's handler
-/// waits.
-fn until_the_second<R: Machine>(rt: &R, bare: &PipeConnection) -> Answered<u64> {
+/// Returns whether the second of two calls that come in one piece is answered first, in 0.2 seconds, while the first one's
+/// handler waits.
+fn second_is_soon<R: Machine>(rt: &R, bare: &PipeConnection) -> Answered<bool> {
     let asked = gate_and_echo(rt.alloc())?;
     let start = moment(rt)?;
     write_all(bare, asked.as_slice())?;
-    assert_eq!(rt; next_id(rt.alloc(), bare)?, 3);
-    Ok(moment(rt)?.saturating_sub(start))
+    let first = next_id(rt.alloc(), bare)?;
+    Ok(first == 3 && moment(rt)?.saturating_sub(start) < 200000000)
 }
 
 /// A job waits behind another's handler for some milliseconds at most, also on a connection that was busy until then.
@@ -147,8 +148,7 @@ fn until_the_second<R: Machine>(rt: &R, bare: &PipeConnection) -> Answered<u64> 
 fn a_job_waits_a_moment_behind_another(rt: HostRuntime) -> Tested {
     let site = serving(&rt)?;
     let bare = busy(&rt, site.address.as_str())?;
-    let passed = until_the_second(&rt, &bare)?;
-    assert!(rt; passed < 200000000);
+    assert!(rt; second_is_soon(&rt, &bare)?);
     site.board.is_open.store(true, Ordering::SeqCst);
     site.server.shutdown();
     Ok(())
@@ -171,7 +171,7 @@ fn a_client_at_rest_leaves_no_threads(rt: HostRuntime) -> Tested {
 fn crowded<R: Machine + 'static>(
     rt: &R,
     counts: (usize, usize, usize),
-) -> Result<Site<R, NoHook>, Fail> {
+) -> Answered<Site<R, NoHook>> {
     let board = Arc::new(rt.alloc(), Board::new(rt.alloc()))?;
     let server = unbound(rt, &board)?
         .set_thread_count_default(counts.0)
@@ -185,10 +185,20 @@ fn crowded<R: Machine + 'static>(
 fn crowd<R: Machine + 'static>(
     rt: &R,
     counts: (usize, usize, usize),
-) -> Result<(Site<R, NoHook>, PipeConnection), Fail> {
+) -> Answered<(Site<R, NoHook>, PipeConnection)> {
     let site = crowded(rt, counts)?;
     let bare = connection(rt, site.address.as_str())?;
     Ok((site, bare))
+}
+
+/// Returns whether there are eleven threads more, also after a while, and one once the connection is closed.
+fn has_a_crew<R: Machine>(rt: &R, before: usize, bare: PipeConnection) -> Answered<bool> {
+    let at_first = has_more_threads(rt, before, 11);
+    a_while(rt);
+    a_while(rt);
+    let later = has_more_threads(rt, before, 11);
+    bare.close()?;
+    Ok(at_first && later && has_more_threads(rt, before, 1))
 }
 
 /// Beside its workers a connection has a thread that keeps it, two that read and one that writes; and the server one that
@@ -197,12 +207,7 @@ fn crowd<R: Machine + 'static>(
 fn a_connection_begins_with_its_workers(rt: HostRuntime) -> Tested {
     let before = threads(&rt).ok_or("no threads")?;
     let (site, bare) = crowd(&rt, (6, 2, 9))?;
-    assert!(rt; has_more_threads(&rt, before, 11));
-    a_while(&rt);
-    a_while(&rt);
-    assert!(rt; has_more_threads(&rt, before, 11));
-    bare.close()?;
-    assert!(rt; has_more_threads(&rt, before, 1));
+    assert!(rt; has_a_crew(&rt, before, bare)?);
     site.server.shutdown();
     Ok(())
 }
@@ -220,16 +225,14 @@ fn hasty<R: Machine + 'static>(rt: &R) -> Result<Site<R, NoHook>, Fail> {
     let server = unbound(rt, &board)?
         .set_accept_retry_interval(Duration::from_millis(5))
         .add_listener(hasty_listener(rt)?)?;
-    started(rt, server, board)
+    Ok(started(rt, server, board)?)
 }
 
-/// A client of the server at this address that is answered within five seconds.
-fn soon_answered<R: Machine + 'static>(rt: &R, address: &str) -> Result<PlainClient<R>, Fail> {
+/// Returns whether a client of the server at this address is answered within five seconds.
+fn is_soon_answered<R: Machine + 'static>(rt: &R, address: &str) -> Result<bool, Fail> {
     let start = Instant::now(rt)?;
-    let client = answered_client(rt, address)?;
-    let passed = start.elapsed(rt)?;
-    assert!(rt; passed < Duration::from_secs(5));
-    Ok(client)
+    let _client = answered_client(rt, address)?;
+    Ok(start.elapsed(rt)? < Duration::from_secs(5))
 }
 
 /// Where the system gives no connection, the server looks again behind its own interval, and not only behind 10 seconds.
@@ -237,7 +240,7 @@ fn soon_answered<R: Machine + 'static>(rt: &R, address: &str) -> Result<PlainCli
 fn the_interval_of_a_server_is_its_own(rt: HostRuntime) -> Tested {
     let site = hasty(&rt)?;
     a_while(&rt);
-    let _client = soon_answered(&rt, site.address.as_str())?;
+    assert!(rt; is_soon_answered(&rt, site.address.as_str())?);
     site.server.shutdown();
     Ok(())
 }
@@ -268,7 +271,7 @@ impl AcceptHook<PipeConnection> for SeesNodelay {
 fn seeing<R: Machine + 'static>(
     rt: &R,
     nodelay: bool,
-) -> Result<(Site<R, SeesNodelay>, Arc<AtomicBool, Global>), Fail> {
+) -> Answered<(Site<R, SeesNodelay>, Arc<AtomicBool, Global>)> {
     let seen = Arc::new(rt.alloc(), AtomicBool::new(!nodelay))?;
     let hook = SeesNodelay {
         nodelay: Arc::try_clone(&seen)?,
@@ -283,7 +286,7 @@ fn nodelay_is_handed_on(rt: HostRuntime) -> Tested {
     for nodelay in [true, false] {
         let (site, seen) = seeing(&rt, nodelay)?;
         let _client = answered_client(&rt, site.address.as_str())?;
-        assert_eq!(rt; seen.load(Ordering::SeqCst), nodelay);
+        assert!(rt; seen.load(Ordering::SeqCst) == nodelay);
         site.server.shutdown();
     }
     Ok(())
@@ -309,8 +312,7 @@ fn an_end_lets_a_server_accept_again(rt: HostRuntime) -> Tested {
         || next_connection(&rt, &failing, &stop, &NoWatch {}, Duration::from_secs(3600)),
         || ends_later(&rt, &stop),
     );
-    assert!(rt; accepted.is_none());
     let passed = start.elapsed(&rt)?;
-    assert!(rt; passed < Duration::from_secs(5));
+    assert!(rt; accepted.is_none() && passed < Duration::from_secs(5));
     Ok(())
 }

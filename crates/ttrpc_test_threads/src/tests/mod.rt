@@ -1,11 +1,8 @@
 mod attack_tests;
 mod call_tests;
 mod crew_tests;
-mod ending_tests;
-mod fakes;
-mod handlers;
-mod hook_tests;
-mod peers;
-mod settings_tests;
-mod sites;
-mod watch_tests;
+
+use std::test::Fail;
+
+/// Nothing, or why a test ended.
+type Tested = Result<(), Fail>;

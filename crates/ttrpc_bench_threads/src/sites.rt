@@ -1,13 +1,11 @@
 //! Servers of a test's process, and their clients.
-use crate::tests::handlers::Way::{self, *};
-use crate::tests::handlers::{Board, Method};
+use crate::handlers::Way::{self, *};
+use crate::handlers::{Board, Method};
 use std::alloc::Global;
 use std::collections::BTreeMap;
 use std::net::{Net, SocketAddr, TcpListener, TcpStream};
-use std::process::Abort;
 use std::rt::Files;
 use std::sync::Arc;
-use std::test::Fail;
 use std::thread;
 use std::time::{Clock, Duration};
 use ttrpc_proto::{Error, Request, Response, Result as Answered};
@@ -18,12 +16,10 @@ use ttrpc_sync_server::{NoHook, Server, SharedHook};
 use ttrpc_transport::{ClientConnection, PipeConnection, PipeListener};
 use ttrpc_wire::{Blob, Sequence, Text};
 
-pub type Tested = Result<(), Fail>;
-
 /// What the tests ask of the system.
-pub trait Machine: Runtime + Files + Net<Listener = TcpListener, Stream = TcpStream> + Abort {}
+pub trait Machine: Runtime + Files + Net<Listener = TcpListener, Stream = TcpStream> {}
 
-impl<R: Runtime + Files + Net<Listener = TcpListener, Stream = TcpStream> + Abort> Machine for R {}
+impl<R: Runtime + Files + Net<Listener = TcpListener, Stream = TcpStream>> Machine for R {}
 
 /// A server that listens, its address, and what its handlers see.
 #[derive(Drop)]
@@ -53,7 +49,7 @@ pub fn add_method<R: Host>(
     methods: &mut BTreeMap<String, Method<R>>,
     path: &str,
     way: Way,
-) -> Tested {
+) -> Answered<()> {
     let method = Method {
         rt: rt.clone()?,
         board: Arc::try_clone(board)?,
@@ -63,10 +59,7 @@ pub fn add_method<R: Host>(
     Ok(())
 }
 
-fn methods<R: Host>(
-    rt: &R,
-    board: &Arc<Board, Global>,
-) -> Result<BTreeMap<String, Method<R>>, Fail> {
+fn methods<R: Host>(rt: &R, board: &Arc<Board, Global>) -> Answered<BTreeMap<String, Method<R>>> {
     let mut methods = BTreeMap::new(rt.alloc());
     for &(path, way) in METHODS {
         add_method(rt, board, &mut methods, path, way)?;
@@ -75,7 +68,7 @@ fn methods<R: Host>(
 }
 
 /// A board on which nothing was noted yet.
-pub fn new_board<R: Host>(rt: &R) -> Result<Arc<Board, Global>, Fail> {
+pub fn new_board<R: Host>(rt: &R) -> Answered<Arc<Board, Global>> {
     Ok(Arc::new(rt.alloc(), Board::new(rt.alloc()))?)
 }
 
@@ -83,17 +76,17 @@ pub fn new_board<R: Host>(rt: &R) -> Result<Arc<Board, Global>, Fail> {
 pub fn unbound<R: Host>(
     rt: &R,
     board: &Arc<Board, Global>,
-) -> Result<Server<R, Method<R>, NoHook>, Fail> {
+) -> Answered<Server<R, Method<R>, NoHook>> {
     Ok(Server::new(rt.clone()?)?.register_service(methods(rt, board)?)?)
 }
 
 /// A server that listens at a free port.
-pub fn serving<R: Machine + 'static>(rt: &R) -> Result<Site<R, NoHook>, Fail> {
+pub fn serving<R: Machine + 'static>(rt: &R) -> Answered<Site<R, NoHook>> {
     hooked(rt, NoHook {})
 }
 
 /// The same, where this hook looks at each connection.
-pub fn hooked<R, O, I, A>(rt: &R, hook: A) -> Result<Site<R, A>, Fail>
+pub fn hooked<R, O, I, A>(rt: &R, hook: A) -> Answered<Site<R, A>>
 where
     R: Machine + 'static,
     O: SendOutbound,
@@ -104,7 +97,7 @@ where
 }
 
 /// The same, and each write of its connections goes out at once, or not.
-pub fn hooked_at_once<R, O, I, A>(rt: &R, hook: A, nodelay: bool) -> Result<Site<R, A>, Fail>
+pub fn hooked_at_once<R, O, I, A>(rt: &R, hook: A, nodelay: bool) -> Answered<Site<R, A>>
 where
     R: Machine + 'static,
     O: SendOutbound,
@@ -123,7 +116,7 @@ pub fn started<R, O, I, A>(
     rt: &R,
     server: Server<R, Method<R>, A>,
     board: Arc<Board, Global>,
-) -> Result<Site<R, A>, Fail>
+) -> Answered<Site<R, A>>
 where
     R: Machine + 'static,
     O: SendOutbound,
@@ -141,30 +134,27 @@ where
 }
 
 /// The address of this place, which there is.
-pub fn address_in(alloc: Global, place: Option<SocketAddr>) -> Result<String, Fail> {
-    let place = place.ok_or("no port")?;
-    Ok(format!(in alloc; "tcp://{place}")?)
+pub fn address_in(alloc: Global, place: Option<SocketAddr>) -> Answered<String> {
+    match place {
+        Some(place) => Ok(format!(in alloc; "tcp://{place}")?),
+        None => Err(otherwise(alloc, "no port")),
+    }
 }
 
 /// A client of the server at this address.
-pub fn client<R: Machine + 'static>(rt: &R, address: &str) -> Result<PlainClient<R>, Fail> {
+pub fn client<R: Machine + 'static>(rt: &R, address: &str) -> Answered<PlainClient<R>> {
     Ok(Client::connect(rt.clone()?, address, true)?)
 }
 
 /// A client of the server at this address, of which one call was answered.
-pub fn answered_client<R: Machine + 'static>(
-    rt: &R,
-    address: &str,
-) -> Result<PlainClient<R>, Fail> {
+pub fn answered_client<R: Machine + 'static>(rt: &R, address: &str) -> Answered<PlainClient<R>> {
     let client = client(rt, address)?;
     answers(rt, &client, "Echo", b"2", b"2")?;
     Ok(client)
 }
 
 /// A server that listens at a free port, and a client of it.
-pub fn serving_one<R: Machine + 'static>(
-    rt: &R,
-) -> Result<(Site<R, NoHook>, PlainClient<R>), Fail> {
+pub fn serving_one<R: Machine + 'static>(rt: &R) -> Answered<(Site<R, NoHook>, PlainClient<R>)> {
     let site = serving(rt)?;
     let client = client(rt, site.address.as_str())?;
     Ok((site, client))
@@ -173,14 +163,14 @@ pub fn serving_one<R: Machine + 'static>(
 /// The same, with two handles of the client, so that two threads share its connection.
 pub fn serving_two<R: Machine + 'static>(
     rt: &R,
-) -> Result<(Site<R, NoHook>, PlainClient<R>, PlainClient<R>), Fail> {
+) -> Answered<(Site<R, NoHook>, PlainClient<R>, PlainClient<R>)> {
     let (site, first) = serving_one(rt)?;
     let second = first.try_clone()?;
     Ok((site, first, second))
 }
 
 /// A listener at a free port that no server stands behind, and its address.
-pub fn listening<R: Machine>(rt: &R) -> Result<(PipeListener, String), Fail> {
+pub fn listening<R: Machine>(rt: &R) -> Answered<(PipeListener, String)> {
     let listener = PipeListener::new(rt, rt.alloc(), "tcp://127.0.0.1:0", true)?;
     let address = address_in(rt.alloc(), listener.local_addr()?)?;
     Ok((listener, address))
@@ -222,7 +212,7 @@ where
     client.request(request(rt.alloc(), method, payload, 0)?)
 }
 
-/// The method answers this.
+/// Calls a method of `demo.Echo`. Any other answer than the expected one is an error with the name of the method.
 pub fn answers<R, O, I>(
     rt: &R,
     client: &Client<R, O, I>,
@@ -231,43 +221,59 @@ pub fn answers<R, O, I>(
     expected: &[u8],
 ) -> Answered<()>
 where
-    R: Host + Abort,
+    R: Host,
     O: OutboundTransform + Drop,
     I: InboundTransform + Drop,
 {
     let response = call(rt, client, method, payload)?;
-    assert!(rt; response.payload.as_slice() == expected, "{method}");
-    Ok(())
+    check(rt.alloc(), response.payload.as_slice() == expected, method)
 }
 
-/// A refusal has this text.
-pub fn is_told<R: Abort + AllocGlobal, T: Drop>(
-    rt: &R,
-    told: Answered<T>,
-    expected: &str,
-) -> Tested {
-    match told {
-        Ok(_) => panic!(rt; "it isn't refused: {expected}"),
-        Err(Error::NoMemory) => Err(Error::NoMemory.into()),
-        Err(error) => {
-            let text = error.to_string(rt.alloc())?;
-            assert_eq!(rt; text.as_str(), expected);
-            Ok(())
-        }
+/// Makes an error of this text, or that of refused memory.
+fn otherwise(alloc: Global, text: &str) -> Error {
+    match Text::from_str(alloc, text) {
+        Ok(text) => Error::Others(text),
+        Err(_) => Error::NoMemory,
     }
 }
 
-/// A call of a new client fails.
-pub fn call_fails<R: Machine + 'static>(rt: &R, address: &str, method: &str) -> Tested {
+/// Returns an error with this text if the condition doesn't hold.
+pub fn check(alloc: Global, holds: bool, text: &str) -> Answered<()> {
+    if holds {
+        Ok(())
+    } else {
+        Err(otherwise(alloc, text))
+    }
+}
+
+/// Returns an error if this one has another text. An error for want of memory is returned as it is.
+fn check_text(alloc: Global, error: Error, expected: &str) -> Answered<()> {
+    if matches!(error, Error::NoMemory) {
+        return Err(error);
+    }
+    let text = error.to_string(alloc)?;
+    check(alloc, text.as_str() == expected, text.as_str())
+}
+
+/// Returns an error if the result is none, or one with another text. An error for want of memory is returned as it is.
+pub fn is_told<R: AllocGlobal, T: Drop>(rt: &R, told: Answered<T>, expected: &str) -> Answered<()> {
+    match told {
+        Ok(_) => Err(otherwise(rt.alloc(), expected)),
+        Err(error) => check_text(rt.alloc(), error, expected),
+    }
+}
+
+/// Returns an error if a call of a new client doesn't fail.
+pub fn call_fails<R: Machine + 'static>(rt: &R, address: &str, method: &str) -> Answered<()> {
     let client = client(rt, address)?;
-    assert!(rt; call(rt, &client, method, b"2").is_err());
-    Ok(())
+    let failed = call(rt, &client, method, b"2").is_err();
+    check(rt.alloc(), failed, "a call is answered that should fail")
 }
 
 /// So many calls of the echo are answered, one behind the other.
 pub fn answers_often<R, O, I>(rt: &R, client: &Client<R, O, I>, count: u32) -> Answered<()>
 where
-    R: Host + Abort,
+    R: Host,
     O: OutboundTransform + Drop,
     I: InboundTransform + Drop,
 {

@@ -1,13 +1,15 @@
 //! What a server refuses by its settings.
-use crate::tests::handlers::{Board, Method, Way};
-use crate::tests::sites::{
-    Machine, Site, Tested, add_method, answered_client, answers, is_told, serving, started, unbound,
-};
+use crate::tests::Tested;
 use std::alloc::Global;
 use std::collections::BTreeMap;
 use std::process::Abort;
 use std::sync::Arc;
 use std::test::Fail;
+use ttrpc_bench_threads::handlers::{Board, Method, Way};
+use ttrpc_bench_threads::sites::{
+    Machine, Site, add_method, answered_client, answers, is_told, serving, started, unbound,
+};
+use ttrpc_proto::Result as Answered;
 use ttrpc_sync::{Host, Runtime};
 use ttrpc_sync_server::{NoHook, Server};
 
@@ -29,11 +31,11 @@ const STARTS: &[(usize, usize, usize, &str)] = &[
 ];
 
 /// The start of a server with these counts and without an address is refused so.
-fn start_is_refused<R: Runtime + Abort>(
+fn start_is_refused<R: Runtime>(
     rt: &R,
     board: &Arc<Board, Global>,
     row: &(usize, usize, usize, &str),
-) -> Tested {
+) -> Answered<()> {
     let &(default, min, max, text) = row;
     let mut server = unbound(rt, board)?
         .set_thread_count_default(default)
@@ -55,14 +57,14 @@ fn counts_and_an_address_are_wanted(rt: HostRuntime) -> Tested {
 type Tried<R> = Server<R, Method<R>, NoHook>;
 
 /// A server that has started is refused another start.
-fn started_once<R: Machine + 'static>(rt: &R) -> Result<Tried<R>, Fail> {
+fn started_once<R: Machine + 'static>(rt: &R) -> Answered<Tried<R>> {
     let mut server = serving(rt)?.server;
     is_told(rt, server.start(), "ttrpc err: server is already listening")?;
     Ok(server)
 }
 
 /// The server listens no more, and then at another address.
-fn listening_elsewhere<R: Machine + 'static>(server: Tried<R>) -> Result<Tried<R>, Fail> {
+fn listening_elsewhere<R: Machine + 'static>(server: Tried<R>) -> Answered<Tried<R>> {
     let mut server = server
         .stop_listen()
         .stop_listen()
@@ -76,21 +78,21 @@ fn listening_elsewhere<R: Machine + 'static>(server: Tried<R>) -> Result<Tried<R
 #[test]
 fn a_server_starts_once_at_a_time(rt: HostRuntime) -> Tested {
     let server = listening_elsewhere(started_once(&rt)?)?;
-    is_told(
+    Ok(is_told(
         &rt,
         server.bind("tcp://127.0.0.1:0", true),
         "ttrpc err: ttrpc-rust just support 1 sockaddr now",
-    )
+    )?)
 }
 
 #[test]
 fn services_are_fixed_by_a_start(rt: HostRuntime) -> Tested {
     let server = serving(&rt)?.server;
-    is_told(
+    Ok(is_told(
         &rt,
         server.register_service(BTreeMap::new(rt.alloc())),
         "ttrpc err: services are fixed after start",
-    )
+    )?)
 }
 
 /// A service of one method, which echoes under this path.
@@ -98,21 +100,21 @@ fn echo_at<R: Host>(
     rt: &R,
     board: &Arc<Board, Global>,
     path: &str,
-) -> Result<BTreeMap<String, Method<R>>, Fail> {
+) -> Answered<BTreeMap<String, Method<R>>> {
     let mut methods = BTreeMap::new(rt.alloc());
     add_method(rt, board, &mut methods, path, Way::Echo)?;
     Ok(methods)
 }
 
 /// A server where a service without methods was registered, and then one of another echo.
-fn with_others<R: Machine + 'static>(rt: &R, board: &Arc<Board, Global>) -> Result<Tried<R>, Fail> {
+fn with_others<R: Machine + 'static>(rt: &R, board: &Arc<Board, Global>) -> Answered<Tried<R>> {
     let server = unbound(rt, board)?.register_service(BTreeMap::new(rt.alloc()))?;
     let others = echo_at(rt, board, "/demo.Echo/Other")?;
     Ok(server.register_service(others)?)
 }
 
 /// The same, which listens.
-fn serving_others<R: Machine + 'static>(rt: &R) -> Result<Site<R, NoHook>, Fail> {
+fn serving_others<R: Machine + 'static>(rt: &R) -> Answered<Site<R, NoHook>> {
     let board = Arc::new(rt.alloc(), Board::new(rt.alloc()))?;
     let server = with_others(rt, &board)?.bind("tcp://127.0.0.1:0", true)?;
     started(rt, server, board)
@@ -129,7 +131,7 @@ fn a_second_service_stands_beside_the_first(rt: HostRuntime) -> Tested {
 }
 
 /// A service under this path is refused.
-fn path_is_refused<R: Host + Abort>(rt: &R, board: &Arc<Board, Global>, path: &str) -> Tested {
+fn path_is_refused<R: Host>(rt: &R, board: &Arc<Board, Global>, path: &str) -> Answered<()> {
     let server: Tried<R> = unbound(rt, board)?;
     let methods = echo_at(rt, board, path)?;
     let text = format!(in rt.alloc(); "ttrpc err: method path {path} is not /SERVICE/METHOD")?;

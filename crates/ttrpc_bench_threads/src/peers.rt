@@ -1,7 +1,7 @@
 //! Peers that read and write frames as a test has them do, one after the other.
 ghost use Rattle.std.specs.Prelude.{◌<◌, ◌^◌, length, IfOk};
 
-use crate::tests::sites::request;
+use crate::sites::request;
 use std::alloc::Global;
 use std::io::{Read, Write};
 use ttrpc_proto::{

@@ -1,8 +1,5 @@
 //! Hooks of servers and clients, and connections that aren't accepted at once.
-use crate::tests::fakes::{Failing, Moments};
-use crate::tests::sites::{
-    Machine, Tested, answers, answers_often, call_fails, connection, hooked, is_told,
-};
+use crate::tests::Tested;
 use std::alloc::Global;
 use std::io::ErrorKind;
 use std::process::Abort;
@@ -12,6 +9,11 @@ use std::test::Fail;
 use std::thread;
 use std::time::{Clock, Duration, Instant};
 use ttrpc_bench::{Rejects, StampIn, StampOut, Stamps};
+use ttrpc_bench_threads::fakes::{Failing, Moments};
+use ttrpc_bench_threads::sites::{
+    Machine, a_while, answers, answers_often, call_fails, connection, hooked, is_told,
+};
+use ttrpc_proto::Result as Answered;
 use ttrpc_secure::{ConnectionDataExt, HookError, admit};
 use ttrpc_sync::Host;
 use ttrpc_sync_client::Client;
@@ -30,28 +32,27 @@ fn is_timeout<T>(admitted: &Result<T, HookError>) -> bool {
     matches!(admitted, Err(HookError::Timeout))
 }
 
-/// A hook that begins and ends at these moments is in time, or not.
-fn is_in_time(rt: &impl Abort, alloc: Global, row: &(u64, u64, bool)) {
+/// Returns whether a hook that begins and ends at these moments is in time, or not, as the row says.
+fn is_as_stated(alloc: Global, row: &(u64, u64, bool)) -> bool {
     let &(first, second, in_time) = row;
     let clock = Moments {
         first: AtomicU64::new(first),
         second,
     };
     let admitted = admit(&clock, alloc, &NoHook {}, &());
-    assert!(rt; is_timeout(&admitted) != in_time, "{first} {second}");
-    assert!(rt; admitted.is_ok() == in_time, "{first} {second}");
+    is_timeout(&admitted) != in_time && admitted.is_ok() == in_time
 }
 
 #[test]
 fn a_hook_has_thirty_seconds(rt: HostRuntime) -> Tested {
     for row in MOMENTS {
-        is_in_time(&rt, rt.alloc(), row);
+        assert!(rt; is_as_stated(rt.alloc(), row));
     }
     Ok(())
 }
 
 /// A client whose hook refuses its connection to the server at this address isn't made.
-fn client_refuses<R: Machine + 'static>(rt: &R, address: &str) -> Tested {
+fn client_refuses<R: Machine + 'static>(rt: &R, address: &str) -> Answered<()> {
     let bare = connection(rt, address)?;
     is_told(
         rt,
@@ -74,7 +75,7 @@ fn a_refused_connection_is_closed(rt: HostRuntime) -> Tested {
 fn stamping_client<R: Machine + 'static>(
     rt: &R,
     address: &str,
-) -> Result<Client<R, StampOut, StampIn>, Fail> {
+) -> Answered<Client<R, StampOut, StampIn>> {
     let bare = connection(rt, address)?;
     let stamps = Stamps {
         name: "of the client",
@@ -82,13 +83,11 @@ fn stamping_client<R: Machine + 'static>(
     Ok(Client::with_hook(rt.clone()?, bare, &stamps)?)
 }
 
-/// Each side knows its connection by the name that its own hook gave.
-fn names_are_known<R: Host + Abort>(rt: &R, client: &Client<R, StampOut, StampIn>) -> Tested {
+/// Returns whether each side knows its connection by the name that its own hook gave.
+fn names_are_known<R: Host>(rt: &R, client: &Client<R, StampOut, StampIn>) -> Answered<bool> {
     answers(rt, client, "Name", b"", b"of the server")?;
     let name: Option<&String> = client.connection_data().get_typed("name");
-    let name = name.ok_or("no name")?;
-    assert_eq!(rt; name.as_str(), "of the client");
-    Ok(())
+    Ok(matches!(name, Some(name) if name.as_str() == "of the client"))
 }
 
 /// Both sides stamp what they send, and each knows its connection by the name that its own hook gave.
@@ -100,7 +99,7 @@ fn hooks_give_halves_and_names(rt: HostRuntime) -> Tested {
     let site = hooked(&rt, stamps)?;
     let client = stamping_client(&rt, site.address.as_str())?;
     answers_often(&rt, &client, 300)?;
-    names_are_known(&rt, &client)?;
+    assert!(rt; names_are_known(&rt, &client)?);
     site.server.shutdown();
     Ok(())
 }
@@ -113,8 +112,8 @@ const FAULTS: &[(u64, ErrorKind, bool)] = &[
     (3, ErrorKind::Interrupted, true),
 ];
 
-/// Such faults are tried again behind the interval of 10 milliseconds, or at once.
-fn is_tried_again<R: Clock + Wait + Abort>(rt: &R, row: &(u64, ErrorKind, bool)) -> Tested {
+/// Returns whether such faults are tried again after the interval of 10 milliseconds, or at once, until none are left.
+fn is_tried_again<R: Clock + Wait>(rt: &R, row: &(u64, ErrorKind, bool)) -> Result<bool, Fail> {
     let &(count, kind, at_once) = row;
     let failing = Failing {
         kind,
@@ -125,18 +124,17 @@ fn is_tried_again<R: Clock + Wait + Abort>(rt: &R, row: &(u64, ErrorKind, bool))
     // A connection that had ended before is no reason to look sooner.
     stop.note_end(rt);
     let start = Instant::now(rt)?;
-    assert!(rt; next_connection(rt, &failing, &stop, &NoWatch {}, interval).is_none());
+    let next = next_connection(rt, &failing, &stop, &NoWatch {}, interval);
     let passed = start.elapsed(rt)?;
-    assert!(rt; at_once || passed >= Duration::from_millis(30), "{count}");
-    assert_eq!(rt; failing.left.into_inner(), 0);
-    Ok(())
+    let in_time = at_once || passed >= Duration::from_millis(30);
+    Ok(next.is_none() && in_time && failing.left.into_inner() == 0)
 }
 
 /// Where the system gives no connection, a server tries again after its interval.
 #[test]
 fn accept_is_tried_again(rt: HostRuntime) -> Tested {
     for row in FAULTS {
-        is_tried_again(&rt, row)?;
+        assert!(rt; is_tried_again(&rt, row)?);
     }
     Ok(())
 }
@@ -154,7 +152,7 @@ fn a_stop_ends_the_wait(rt: HostRuntime) -> Tested {
         &rt,
         || next_connection(&rt, &failing, &stop, &NoWatch {}, interval),
         || {
-            crate::tests::sites::a_while(&rt);
+            a_while(&rt);
             stop.ask(&rt);
         },
     );

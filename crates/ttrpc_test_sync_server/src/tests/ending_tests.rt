@@ -1,15 +1,16 @@
 //! Connections that end, or stall, and what that is to others.
-use crate::tests::handlers::comes;
-use crate::tests::peers::write_all;
-use crate::tests::sites::{
-    Machine, PlainClient, Site, Tested, a_while, address_in, answered_client, answers,
-    answers_often, call, client, connection, is_told, listening, serving, serving_one,
-};
+use crate::tests::Tested;
 use std::alloc::Global;
 use std::process::Abort;
 use std::sync::atomic::{AtomicBool, Ordering};
 use std::test::Fail;
 use std::thread;
+use ttrpc_bench_threads::handlers::comes;
+use ttrpc_bench_threads::peers::write_all;
+use ttrpc_bench_threads::sites::{
+    Machine, PlainClient, Site, a_while, address_in, answered_client, answers, answers_often, call,
+    check, client, connection, is_told, listening, serving, serving_one,
+};
 use ttrpc_proto::{Response, Result as Answered};
 use ttrpc_sync::Host;
 use ttrpc_sync_server::NoHook;
@@ -21,13 +22,10 @@ const ASKED: &[u8] = b"\0\0\0\x14\0\0\0\x01\x01\0\x0a\x09demo.Echo\x12\x04Echo\x
 /// A response under id 1 of which the last byte is missing.
 const CUT_ANSWER: &[u8] = b"\0\0\0\x05\0\0\0\x01\x02\0\x0a\0\x12\x01";
 
-/// The server comes to have so many connections.
-fn has_connections<R: Machine>(rt: &R, site: &Site<R, NoHook>, count: usize) -> Tested {
-    assert!(rt;
-        comes(rt, || site.server.connection_count() == count),
-        "{count}"
-    );
-    Ok(())
+/// Waits until the server has so many connections.
+fn has_connections<R: Machine>(rt: &R, site: &Site<R, NoHook>, count: usize) -> Answered<()> {
+    let came = comes(rt, || site.server.connection_count() == count);
+    check(rt.alloc(), came, "another count of connections")
 }
 
 /// A request of `Echo` with a megabyte.
@@ -55,10 +53,7 @@ fn stalls<R: Machine>(rt: &R, address: &str) -> Answered<PipeConnection> {
 }
 
 /// A new client of a server that has another connection, which is answered a hundred times.
-fn served_beside<R: Machine + 'static>(
-    rt: &R,
-    site: &Site<R, NoHook>,
-) -> Result<PlainClient<R>, Fail> {
+fn served_beside<R: Machine + 'static>(rt: &R, site: &Site<R, NoHook>) -> Answered<PlainClient<R>> {
     let client = client(rt, site.address.as_str())?;
     answers_often(rt, &client, 100)?;
     has_connections(rt, site, 2)?;
@@ -77,8 +72,8 @@ fn a_stalled_peer_is_alone_with_that(rt: HostRuntime) -> Tested {
     Ok(())
 }
 
-/// The `wait` of a server returns behind the stop of another thread, and not before.
-fn waits_for_its_stop<R: Machine>(rt: &R, site: &Site<R, NoHook>) -> Tested {
+/// Returns whether the `wait` of a server returns after the stop of another thread, and not before.
+fn waits_for_its_stop<R: Machine>(rt: &R, site: &Site<R, NoHook>) -> Result<bool, Fail> {
     let stopper = site.server.stopper()?;
     let has_waited = AtomicBool::new(false);
     let (early, ()) = thread::join(
@@ -94,15 +89,14 @@ fn waits_for_its_stop<R: Machine>(rt: &R, site: &Site<R, NoHook>) -> Tested {
             has_waited.store(true, Ordering::SeqCst);
         },
     );
-    assert!(rt; !early);
-    Ok(())
+    Ok(!early)
 }
 
 /// The `wait` of a server returns once its stopper asks, and not before. It serves until it is shut down.
 #[test]
 fn a_server_waits_for_its_stop(rt: HostRuntime) -> Tested {
     let (site, client) = serving_one(&rt)?;
-    waits_for_its_stop(&rt, &site)?;
+    assert!(rt; waits_for_its_stop(&rt, &site)?);
     site.server.wait();
     answers(&rt, &client, "Echo", b"2", b"2")?;
     site.server.shutdown();
@@ -142,7 +136,12 @@ fn a_client_whose_server_dies_inside_an_answer_is_told(rt: HostRuntime) -> Teste
     let (listener, address) = listening(&rt)?;
     let client = client(&rt, address.as_str())?;
     is_told(&rt, cut_call(&rt, &client, &listener)?, INSIDE)?;
-    is_told(&rt, call(&rt, &client, "Echo", b"2"), INSIDE)
+    Ok(is_told(&rt, call(&rt, &client, "Echo", b"2"), INSIDE)?)
+}
+
+/// Returns whether two calls fail, one after the other.
+fn fails_twice<R: Host>(rt: &R, client: &PlainClient<R>) -> bool {
+    call(rt, client, "Echo", b"2").is_err() && call(rt, client, "Echo", b"2").is_err()
 }
 
 /// A connection that ended while nobody read it is told to the next call.
@@ -151,13 +150,12 @@ fn a_server_that_goes_away_unseen_is_told(rt: HostRuntime) -> Tested {
     let (site, client) = serving_one(&rt)?;
     answers_often(&rt, &client, 20)?;
     site.server.shutdown();
-    assert!(rt; call(&rt, &client, "Echo", b"2").is_err());
-    assert!(rt; call(&rt, &client, "Echo", b"2").is_err());
+    assert!(rt; fails_twice(&rt, &client));
     Ok(())
 }
 
 /// A second connection goes away inside a request, and is let go.
-fn dies_inside_a_request<R: Machine>(rt: &R, site: &Site<R, NoHook>) -> Tested {
+fn dies_inside_a_request<R: Machine>(rt: &R, site: &Site<R, NoHook>) -> Answered<()> {
     let dying = connection(rt, site.address.as_str())?;
     write_all(&dying, ASKED.split_at(12).0)?;
     has_connections(rt, site, 2)?;
@@ -187,7 +185,7 @@ fn an_error_of_a_handler_ends_its_connection(rt: HostRuntime) -> Tested {
 }
 
 /// A server that listens no more, and the client that it goes on serving. Nobody else comes to it.
-fn stopped<R: Machine + 'static>(rt: &R) -> Result<(Site<R, NoHook>, PlainClient<R>), Fail> {
+fn stopped<R: Machine + 'static>(rt: &R) -> Answered<(Site<R, NoHook>, PlainClient<R>)> {
     let Site {
         server,
         address,
@@ -196,7 +194,11 @@ fn stopped<R: Machine + 'static>(rt: &R) -> Result<(Site<R, NoHook>, PlainClient
     let kept = answered_client(rt, address.as_str())?;
     let server = server.stop_listen();
     answers(rt, &kept, "Echo", b"2", b"2")?;
-    assert!(rt; connection(rt, address.as_str()).is_err());
+    check(
+        rt.alloc(),
+        connection(rt, address.as_str()).is_err(),
+        "still listening",
+    )?;
     let site = Site {
         server,
         address,
@@ -206,10 +208,7 @@ fn stopped<R: Machine + 'static>(rt: &R) -> Result<(Site<R, NoHook>, PlainClient
 }
 
 /// The server listens again.
-fn listen_again<R: Machine + 'static>(
-    rt: &R,
-    site: Site<R, NoHook>,
-) -> Result<Site<R, NoHook>, Fail> {
+fn listen_again<R: Machine + 'static>(rt: &R, site: Site<R, NoHook>) -> Answered<Site<R, NoHook>> {
     let Site { server, board, .. } = site;
     let mut server = server.bind("tcp://127.0.0.1:0", true)?;
     server.start_listen()?;
@@ -227,23 +226,23 @@ fn stop_listen_keeps_connections(rt: HostRuntime) -> Tested {
     let (site, _kept) = stopped(&rt)?;
     let site = listen_again(&rt, site)?;
     let _other = answered_client(&rt, site.address.as_str())?;
-    assert_eq!(rt; site.server.connection_count(), 2);
+    assert!(rt; site.server.connection_count() == 2);
     site.server.shutdown();
     Ok(())
 }
 
-/// Once the handler waits, the server is shut down: then no handler runs, and no connection is open.
-fn is_shut_down<R: Machine + 'static>(rt: &R, site: Site<R, NoHook>) -> Tested {
+/// Shuts the server down once the handler waits. Returns whether then no handler runs, and nobody can connect.
+fn is_shut_down<R: Machine + 'static>(rt: &R, site: Site<R, NoHook>) -> bool {
     let Site {
         server,
         address,
         board,
     } = site;
-    assert!(rt; comes(rt, || board.waiting.load(Ordering::SeqCst) == 1));
+    let has_begun = comes(rt, || board.waiting.load(Ordering::SeqCst) == 1);
     server.shutdown();
-    assert_eq!(rt; board.waiting.load(Ordering::SeqCst), 0);
-    assert!(rt; connection(rt, address.as_str()).is_err());
-    Ok(())
+    has_begun
+        && board.waiting.load(Ordering::SeqCst) == 0
+        && connection(rt, address.as_str()).is_err()
 }
 
 /// A shutdown with a call in flight cancels its handler, and the caller is told.
@@ -255,8 +254,8 @@ fn a_shutdown_ends_calls_in_flight(rt: HostRuntime) -> Tested {
         || call(&rt, &client, "Waits", b""),
         move || is_shut_down(&rt, site),
     );
-    shut_down?;
-    is_told(&rt, ended, "socket err: socket disconnected")
+    assert!(rt; shut_down);
+    Ok(is_told(&rt, ended, "socket err: socket disconnected")?)
 }
 
 /// So many clients of the server at this address.
@@ -264,7 +263,7 @@ fn many_clients<R: Machine + 'static>(
     rt: &R,
     address: &str,
     count: u32,
-) -> Result<Vec<PlainClient<R>>, Fail> {
+) -> Answered<Vec<PlainClient<R>>> {
     let mut clients = Vec::new(rt.alloc());
     for _ in 0..count {
         clients.push(client(rt, address)?)?;
@@ -273,7 +272,7 @@ fn many_clients<R: Machine + 'static>(
 }
 
 /// Each of these clients is answered.
-fn each_is_answered<R: Host + Abort>(rt: &R, clients: &[PlainClient<R>]) -> Answered<()> {
+fn each_is_answered<R: Host>(rt: &R, clients: &[PlainClient<R>]) -> Answered<()> {
     for client in clients {
         answers(rt, client, "Echo", b"2", b"2")?;
     }
@@ -286,7 +285,7 @@ fn many_connections_are_open_at_once(rt: HostRuntime) -> Tested {
     let site = serving(&rt)?;
     let clients = many_clients(&rt, site.address.as_str(), 200)?;
     each_is_answered(&rt, clients.as_slice())?;
-    assert_eq!(rt; site.server.connection_count(), 200);
+    assert!(rt; site.server.connection_count() == 200);
     drop(clients);
     has_connections(&rt, &site, 0)?;
     a_while(&rt);

@@ -1,7 +1,5 @@
 //! Who is told of a server's faults.
-use crate::tests::fakes::Failing;
-use crate::tests::handlers::{Method, comes};
-use crate::tests::sites::{Machine, Tested, address_in, call_fails, new_board, unbound};
+use crate::tests::Tested;
 use std::alloc::Global;
 use std::io::ErrorKind;
 use std::process::Abort;
@@ -10,7 +8,10 @@ use std::sync::{Arc, Mutex};
 use std::test::Fail;
 use std::time::Duration;
 use ttrpc_bench::Rejects;
-use ttrpc_proto::Error;
+use ttrpc_bench_threads::fakes::Failing;
+use ttrpc_bench_threads::handlers::{Method, comes};
+use ttrpc_bench_threads::sites::{Machine, address_in, call_fails, check, new_board, unbound};
+use ttrpc_proto::{Error, Result as Answered};
 use ttrpc_secure::{SendInbound, SendOutbound};
 use ttrpc_sync::Host;
 use ttrpc_sync_server::accept::{Stop, next_connection};
@@ -66,8 +67,8 @@ impl<R: Host> Watch for Notes<R> {
     }
 }
 
-/// How often three failures of this kind to accept are told.
-fn told_accepts<R: Host + Abort>(rt: &R, kind: ErrorKind) -> Result<u64, Fail> {
+/// Returns how often three failures of this kind to accept are told, after which no connection comes.
+fn told_accepts<R: Host>(rt: &R, kind: ErrorKind) -> Answered<u64> {
     let notes = Notes::new(rt)?;
     let failing = Failing {
         kind,
@@ -75,7 +76,7 @@ fn told_accepts<R: Host + Abort>(rt: &R, kind: ErrorKind) -> Result<u64, Fail> {
     };
     let interval = Duration::from_millis(1);
     let next = next_connection(rt, &failing, &Stop::new(), &notes, interval);
-    assert!(rt; next.is_none());
+    check(rt.alloc(), next.is_none(), "a connection came")?;
     Ok(notes.told.accepts.load(Ordering::SeqCst))
 }
 
@@ -83,8 +84,7 @@ fn told_accepts<R: Host + Abort>(rt: &R, kind: ErrorKind) -> Result<u64, Fail> {
 #[test]
 fn failed_accepts_are_told(rt: HostRuntime) -> Tested {
     for (kind, count) in [(ErrorKind::Other, 3), (ErrorKind::Interrupted, 0)] {
-        let told = told_accepts(&rt, kind)?;
-        assert_eq!(rt; told, count);
+        assert!(rt; told_accepts(&rt, kind)? == count);
     }
     Ok(())
 }
@@ -93,7 +93,7 @@ fn failed_accepts_are_told(rt: HostRuntime) -> Tested {
 type Watched<R, A> = Server<R, Method<R>, A, Notes<R>>;
 
 /// A server with this hook and this watch, which doesn't listen yet.
-fn bound<R, O, I, A>(rt: &R, hook: A, notes: Notes<R>) -> Result<Watched<R, A>, Fail>
+fn bound<R, O, I, A>(rt: &R, hook: A, notes: Notes<R>) -> Answered<Watched<R, A>>
 where
     R: Machine + 'static,
     O: SendOutbound,
@@ -108,7 +108,7 @@ where
 }
 
 /// The same, which listens, and its address.
-fn watched<R, O, I, A>(rt: &R, hook: A, notes: Notes<R>) -> Result<(Watched<R, A>, String), Fail>
+fn watched<R, O, I, A>(rt: &R, hook: A, notes: Notes<R>) -> Answered<(Watched<R, A>, String)>
 where
     R: Machine + 'static,
     O: SendOutbound,
@@ -121,23 +121,18 @@ where
     Ok((server, address))
 }
 
-/// The last refusal comes to be told, with its reason.
-fn refusal_is_told<R: Host + Abort>(rt: &R, told: &Told) -> Tested {
-    assert!(rt; comes(rt, || told.refusal.lock(rt).is_some()));
-    let text = told.refusal.lock(rt).take().ok_or("not told")?;
-    assert_eq!(rt;
-        text.as_str(),
-        "ttrpc err: accept hook failed: connection rejected: no"
-    );
-    Ok(())
+/// The text of a refusal by the hook.
+const REFUSAL: &str = "ttrpc err: accept hook failed: connection rejected: no";
+
+/// Returns whether the last refusal comes to be told, with its reason.
+fn refusal_is_told<R: Host>(rt: &R, told: &Told) -> bool {
+    let came = comes(rt, || told.refusal.lock(rt).is_some());
+    let text = told.refusal.lock(rt).take();
+    came && matches!(text, Some(text) if text.as_str() == REFUSAL)
 }
 
 /// A call of a server with this hook fails. The server is given back, with what its watch is told.
-fn failed<R, O, I, A>(
-    rt: &R,
-    hook: A,
-    method: &str,
-) -> Result<(Watched<R, A>, Arc<Told, Global>), Fail>
+fn failed<R, O, I, A>(rt: &R, hook: A, method: &str) -> Answered<(Watched<R, A>, Arc<Told, Global>)>
 where
     R: Machine + 'static,
     O: SendOutbound,
@@ -155,7 +150,7 @@ where
 #[test]
 fn a_refusal_is_told(rt: HostRuntime) -> Tested {
     let (server, told) = failed(&rt, Rejects {}, "Echo")?;
-    refusal_is_told(&rt, &*told)?;
+    assert!(rt; refusal_is_told(&rt, &*told));
     server.shutdown();
     Ok(())
 }
@@ -165,6 +160,6 @@ fn a_refusal_is_told(rt: HostRuntime) -> Tested {
 fn a_failure_is_told(rt: HostRuntime) -> Tested {
     let (server, told) = failed(&rt, NoHook {}, "Fails")?;
     server.shutdown();
-    assert_eq!(rt; told.handlers.load(Ordering::SeqCst), 1);
+    assert!(rt; told.handlers.load(Ordering::SeqCst) == 1);
     Ok(())
 }

@@ -1,0 +1,9 @@
+mod ending_tests;
+mod hook_tests;
+mod settings_tests;
+mod watch_tests;
+
+use std::test::Fail;
+
+/// Nothing, or why a test ended.
+type Tested = Result<(), Fail>;
