@@ -1,7 +1,6 @@
 //! Connections that end, or stall, and what that is to others.
 use crate::tests::Tested;
 use std::alloc::Global;
-use std::process::Abort;
 use std::sync::atomic::{AtomicBool, Ordering};
 use std::test::Fail;
 use std::thread;

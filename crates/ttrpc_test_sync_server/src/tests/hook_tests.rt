@@ -2,7 +2,6 @@
 use crate::tests::Tested;
 use std::alloc::Global;
 use std::io::ErrorKind;
-use std::process::Abort;
 use std::sync::Wait;
 use std::sync::atomic::AtomicU64;
 use std::test::Fail;

@@ -2,9 +2,7 @@
 use crate::tests::Tested;
 use std::alloc::Global;
 use std::collections::BTreeMap;
-use std::process::Abort;
 use std::sync::Arc;
-use std::test::Fail;
 use ttrpc_bench_threads::handlers::{Board, Method, Way};
 use ttrpc_bench_threads::sites::{
     Machine, Site, add_method, answered_client, answers, is_told, serving, started, unbound,

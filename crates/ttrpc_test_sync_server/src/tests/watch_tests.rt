@@ -2,10 +2,8 @@
 use crate::tests::Tested;
 use std::alloc::Global;
 use std::io::ErrorKind;
-use std::process::Abort;
 use std::sync::atomic::{AtomicU64, Ordering};
 use std::sync::{Arc, Mutex};
-use std::test::Fail;
 use std::time::Duration;
 use ttrpc_bench::Rejects;
 use ttrpc_bench_threads::fakes::Failing;

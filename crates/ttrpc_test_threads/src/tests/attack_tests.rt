@@ -2,7 +2,6 @@
 use crate::tests::Tested;
 use std::alloc::Global;
 use std::net::{Shutdown, SocketAddr, TcpStream};
-use std::process::Abort;
 use std::sync::atomic::Ordering;
 use std::test::Fail;
 use std::time::{Clock, Duration, Instant};

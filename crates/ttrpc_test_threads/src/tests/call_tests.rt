@@ -1,6 +1,5 @@
 //! Calls over sockets: of threads that share a client, of a client with a limit of time, of any size, and by a path.
 use crate::tests::Tested;
-use std::process::Abort;
 use std::sync::Wait;
 use std::sync::atomic::Ordering;
 use std::test::Fail;

@@ -3,7 +3,6 @@ use crate::tests::Tested;
 use std::alloc::Global;
 use std::io::ErrorKind;
 use std::net::TcpListener;
-use std::process::Abort;
 use std::rt::Files;
 use std::sync::atomic::{AtomicBool, AtomicU64, Ordering};
 use std::sync::{Arc, Wait};

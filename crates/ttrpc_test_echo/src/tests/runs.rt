@@ -1,5 +1,5 @@
 //! One run of the program, over any reader.
-use crate::tests::echo::vectors::{NO_MEMORY_LINE, NO_MEMORY_TEXT};
+use crate::tests::vectors::{NO_MEMORY_LINE, NO_MEMORY_TEXT};
 use std::alloc::Global;
 use std::io::Read;
 use std::net::{TcpListener, TcpStream};

@@ -1,6 +1,6 @@
 //! A value that may be too long to be written.
 ghost use Rattle.std.specs.Prelude.{None};
-ghost use Rattle.ttrpc_test_programs.specs.Huge.{zeros};
+ghost use Rattle.ttrpc_test_facade.specs.Huge.{zeros};
 
 use std::alloc::Global;
 use ttrpc::proto::Codec;

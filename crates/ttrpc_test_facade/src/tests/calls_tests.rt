@@ -1,12 +1,11 @@
 //! What the macros call, over values.
-use crate::tests::facade::huge::HUGE;
-use crate::tests::facade::pairs::nothing;
+use crate::tests::huge::HUGE;
+use crate::tests::pairs::nothing;
 use std::alloc::Global;
-use std::process::Abort;
 use std::test::Fail;
 use ttrpc::calls::{decode_request, merge_reply, request_of, response_of};
 use ttrpc::context::Context;
-use ttrpc::proto::{Codec, KeyValue, Status, Text};
+use ttrpc::proto::{Codec, KeyValue, Text};
 use ttrpc::{Code, Error, Result as Answer, get_status};
 
 type Tested = Result<(), Fail>;
@@ -48,39 +47,36 @@ pub fn error_of<T: Drop>(told: Answer<T>) -> Result<Error, Fail> {
     }
 }
 
-fn prints<T: Drop>(rt: &impl Abort, alloc: Global, told: Answer<T>, text: &str) -> Tested {
-    let error = error_of(told)?;
-    assert_eq!(rt; error.text(alloc)?.as_str(), text);
-    Ok(())
+/// Returns whether the error has this text.
+fn prints<T: Drop>(alloc: Global, told: Answer<T>, text: &str) -> Result<bool, Fail> {
+    Ok(error_of(told)?.text(alloc)?.as_str() == text)
+}
+
+/// Returns whether the errors of values that can't be read or written have the texts of a service.
+fn service_prints(alloc: Global) -> Result<bool, Fail> {
+    let cut = "ttrpc err: Unpack request error the bytes end inside a field";
+    let long = "ttrpc err: Encoding response a message is longer than 4294967295 bytes";
+    Ok(
+        prints(alloc, decode_request::<KeyValue>(alloc, CUT), cut)?
+            && prints(alloc, response_of(alloc, Ok(HUGE)), long)?,
+    )
+}
+
+/// Returns whether they have the texts of a client.
+fn client_prints(alloc: Global) -> Result<bool, Fail> {
+    let long = "ttrpc err: Encoding request a message is longer than 4294967295 bytes";
+    let cut = "ttrpc err: Unpack get error the bytes end inside a field";
+    let asked = request_of(alloc, "s", "m", Context::new(alloc), &HUGE);
+    Ok(
+        prints(alloc, asked, long)?
+            && prints(alloc, merge_reply(alloc, &mut nothing(alloc), CUT), cut)?,
+    )
 }
 
 #[test]
 fn errors_of_codecs_have_their_prefixes(rt: HostRuntime) -> Tested {
-    let alloc = rt.alloc();
-    prints(
-        &rt,
-        alloc,
-        decode_request::<KeyValue>(alloc, CUT),
-        "ttrpc err: Unpack request error the bytes end inside a field",
-    )?;
-    prints(
-        &rt,
-        alloc,
-        response_of(alloc, Ok(HUGE)),
-        "ttrpc err: Encoding response a message is longer than 4294967295 bytes",
-    )?;
-    prints(
-        &rt,
-        alloc,
-        request_of(alloc, "s", "m", Context::new(alloc), &HUGE),
-        "ttrpc err: Encoding request a message is longer than 4294967295 bytes",
-    )?;
-    prints(
-        &rt,
-        alloc,
-        merge_reply(alloc, &mut nothing(alloc), CUT),
-        "ttrpc err: Unpack get error the bytes end inside a field",
-    )
+    assert!(rt; service_prints(rt.alloc())? && client_prints(rt.alloc())?);
+    Ok(())
 }
 
 #[test]
@@ -88,10 +84,9 @@ fn values_come_through(rt: HostRuntime) -> Tested {
     let alloc = rt.alloc();
     let expected = pair(alloc)?;
     let decoded: KeyValue = decode_request(alloc, PAIR)?;
-    assert_eq!(rt; decoded, expected);
     let mut merged = nothing(alloc);
     merge_reply(alloc, &mut merged, PAIR)?;
-    assert_eq!(rt; merged, expected);
+    assert!(rt; decoded == expected && merged == expected);
     Ok(())
 }
 
@@ -119,23 +114,29 @@ fn request_says_what_its_context_says(rt: HostRuntime) -> Tested {
     let pair = pair(alloc)?;
     let request = request_of(alloc, "s", "m", context_of(alloc)?, &pair)?;
     let bytes = request.encode(alloc)?;
-    assert_eq!(rt; bytes.as_slice(), REQUEST);
+    assert!(rt; bytes.as_slice() == REQUEST);
     Ok(())
 }
 
-/// The bytes of the response of an answer.
-fn answered(rt: &impl Abort, alloc: Global, answer: Answer<KeyValue>, bytes: &[u8]) -> Tested {
+/// Returns whether the response of an answer has these bytes.
+fn is_answered(alloc: Global, answer: Answer<KeyValue>, bytes: &[u8]) -> Result<bool, Fail> {
     let response = response_of(alloc, answer)?;
-    assert_eq!(rt; response.encode(alloc)?.as_slice(), bytes);
-    Ok(())
+    Ok(response.encode(alloc)?.as_slice() == bytes)
+}
+
+/// Returns whether errors are answered: one with a status by that, another by its text.
+fn errors_are_answered(alloc: Global) -> Result<bool, Fail> {
+    let status = get_status(Code::NOT_FOUND, String::from_str(alloc, "gone")?);
+    let other = Error::Others(Text::from_str(alloc, "gone")?);
+    Ok(
+        is_answered(alloc, Err(Error::RpcStatus(status)), NOT_FOUND)?
+            && is_answered(alloc, Err(other), UNKNOWN)?,
+    )
 }
 
 #[test]
 fn response_tells_what_was_answered(rt: HostRuntime) -> Tested {
     let alloc = rt.alloc();
-    let status = get_status(Code::NOT_FOUND, String::from_str(alloc, "gone")?);
-    let other = Error::Others(Text::from_str(alloc, "gone")?);
-    answered(&rt, alloc, Ok(pair(alloc)?), RESPONSE)?;
-    answered(&rt, alloc, Err(Error::RpcStatus(status)), NOT_FOUND)?;
-    answered(&rt, alloc, Err(other), UNKNOWN)
+    assert!(rt; is_answered(alloc, Ok(pair(alloc)?), RESPONSE)? && errors_are_answered(alloc)?);
+    Ok(())
 }

@@ -1,6 +1,5 @@
 //! The caller that `docs/CALLING.md` shows.
 use std::net::{Net, TcpListener, TcpStream};
-use std::process::Abort;
 use std::rt::Files;
 use std::test::Fail;
 use ttrpc::proto::{Blob, Sequence, Text};

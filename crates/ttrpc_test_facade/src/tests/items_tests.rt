@@ -6,7 +6,6 @@ use std::fmt::Debug;
 use std::fs;
 use std::net::{Net, TcpListener, TcpStream};
 use std::os::unix::net::UnixListener;
-use std::process::Abort;
 use std::rt::Files;
 use std::sync::Arc;
 use std::sync::atomic::{AtomicU64, Ordering};
@@ -25,26 +24,34 @@ use ttrpc::{
 
 type Tested = std::result::Result<(), Fail>;
 
-/// A value prints this.
-fn is_printed<T: Debug>(rt: &impl Abort, alloc: Global, value: &T, expected: &str) -> Tested {
-    let printed = format!(in alloc; "{value:?}")?;
-    assert!(rt; printed.as_str() == expected, "{printed}");
-    Ok(())
+/// Whether something holds, or why a test ended.
+type Holds = std::result::Result<bool, Fail>;
+
+/// Returns whether a value prints this.
+fn prints<T: Debug>(alloc: Global, value: &T, expected: &str) -> Holds {
+    Ok(format!(in alloc; "{value:?}")?.as_str() == expected)
 }
 
 #[test]
 fn a_context_prints_what_it_has(rt: HostRuntime) -> Tested {
     let context = with_timeout(rt.alloc(), 5).try_clone()?;
-    let expected = "Context { metadata: {}, timeout_nano: 5 }";
-    is_printed(&rt, rt.alloc(), &context, expected)
+    assert!(rt;
+        prints(
+            rt.alloc(),
+            &context,
+            "Context { metadata: {}, timeout_nano: 5 }"
+        )?
+    );
+    Ok(())
 }
 
 #[test]
 fn a_connection_prints_what_is_known_of_it(rt: HostRuntime) -> Tested {
-    assert!(rt; matches!(HookError::from(AllocError), HookError::Io(_)));
+    let is_io = matches!(HookError::from(AllocError), HookError::Io(_));
     let connection = plain_context(rt.alloc());
     let expected = "ConnectionContext { connection_data: {}, .. }";
-    is_printed(&rt, rt.alloc(), &connection, expected)
+    assert!(rt; is_io && prints(rt.alloc(), &connection, expected)?);
+    Ok(())
 }
 
 /// Whether bytes count, compare and give their items.
@@ -241,13 +248,11 @@ impl<R: Host> ItemsClient<R> {
 const PRINTED: &str =
     "TtrpcContext { mh: MessageHeader { length: 19, stream_id: 1, type_: 1, flags: 0 }, metadata: {}, timeout_nano: 0, .. }";
 
-/// The first call prints the context of its handler, and the second ends the connection.
-fn items_are_called<R: Host + Abort>(rt: &R, client: &ItemsClient<R>) -> Tested {
-    let alloc = rt.alloc();
+/// Returns whether the first call prints the context of its handler, and the second ends the connection.
+fn items_are_called<R: Host>(client: &ItemsClient<R>, alloc: Global) -> Holds {
     let printed = client.print(Context::new(alloc), &Blob::new(alloc))?;
-    assert!(rt; printed.is_equal(PRINTED.as_bytes()), "{printed:?}");
-    assert!(rt; client.stop(Context::new(alloc), &Blob::new(alloc)).is_err());
-    Ok(())
+    let stopped = client.stop(Context::new(alloc), &Blob::new(alloc));
+    Ok(printed.is_equal(PRINTED.as_bytes()) && stopped.is_err())
 }
 
 /// The server at work.
@@ -262,11 +267,11 @@ fn started<R: Machine + 'static>(
     Ok(server)
 }
 
-fn call<R: Machine + Abort + 'static>(rt: &R) -> Tested {
+fn call<R: Machine + 'static>(rt: &R) -> Holds {
     let client = ItemsClient {
         client: Client::connect(rt.clone()?, "unix://items.sock", true)?,
     };
-    items_are_called(rt, &client)
+    items_are_called(&client, rt.alloc())
 }
 
 #[test]
@@ -274,10 +279,10 @@ fn a_server_is_watched_and_waited_for(rt: HostRuntime) -> Tested {
     let _ = fs::remove_file(&rt, PATH);
     let count = Arc::new(rt.alloc(), AtomicU64::new(0))?;
     let server = started(&rt, &count)?;
-    call(&rt)?;
+    let is_called = call(&rt)?;
     server.wait();
     server.shutdown();
-    assert_eq!(rt; count.load(Ordering::SeqCst), 1);
+    assert!(rt; is_called && count.load(Ordering::SeqCst) == 1);
     fs::remove_file(&rt, PATH)?;
     Ok(())
 }

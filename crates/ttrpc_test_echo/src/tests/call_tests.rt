@@ -1,17 +1,15 @@
 //! The word `call`, beside a server of this process.
-use crate::tests::echo::runs::{ROOM, Ran, Sockets, Tester, add_word, run_words, words_of};
+use crate::tests::runs::{ROOM, Ran, Sockets, Tester, add_word, run_words, words_of};
+use crate::tests::{Holds, Tested};
 use std::alloc::Global;
-use std::process::Abort;
 use std::sync::{Arc, Wait};
 use std::test::Fail;
 use std::time::Duration;
 use std::{fs, thread};
-use ttrpc::sync::{NoWatch, Watch};
 use ttrpc_echo::program::{begin, tell_next};
 use ttrpc_echo::{EchoServer, FaultKeeper, Faults, start_server, tell_address};
 use ttrpc_proto::Error;
-
-type Tested = Result<(), Fail>;
+use ttrpc_sync_server::{NoWatch, Watch};
 
 /// A call of the server: service, method, digits and limit of time, and then the status and the output.
 type Call = (&'static [&'static str; 4], u8, &'static [u8]);
@@ -45,22 +43,24 @@ fn call_words(alloc: Global, address: &str, rest: &[&str]) -> Result<Vec<String>
     Ok(words)
 }
 
-/// A run with such words. It reads nothing.
+/// Runs the program with such words. A run that reads its input is an error.
 fn called<S: Tester + 'static>(rt: &S, address: &str, rest: &[&str]) -> Result<Ran, Fail> {
     let words = call_words(rt.alloc(), address, rest)?;
     let mut input = b"unread".as_slice();
     let ran = run_words(rt, words.as_slice(), &mut input, ROOM)?;
-    assert_eq!(rt; input.len(), 6);
-    Ok(ran)
+    if input.len() == 6 {
+        Ok(ran)
+    } else {
+        Err("the input was read".into())
+    }
 }
 
-fn is_told<S: Tester + 'static>(rt: &S, address: &str, call: &Call) -> Tested {
+/// Returns whether the call at this address ends as its row says, and tells of no error.
+fn is_told<S: Tester + 'static>(rt: &S, address: &str, call: &Call) -> Holds {
     let (words, status, output) = call;
     let ran = called(rt, address, words.as_slice())?;
-    assert!(rt; ran.status == *status, "{}", words[1]);
-    assert!(rt; ran.output.as_slice() == *output, "{}", words[1]);
-    assert!(rt; ran.errors.is_empty(), "{}", words[1]);
-    Ok(())
+    let is_answered = ran.status == *status && ran.output.as_slice() == *output;
+    Ok(is_answered && ran.errors.is_empty())
 }
 
 /// What a server tells of its address.
@@ -80,10 +80,7 @@ fn a_path_is_told(rt: HostRuntime) -> Tested {
     let _ = fs::remove_file(&rt, "told.sock");
     let server = start_server(rt, "unix://told.sock", true, NoWatch {})?;
     let line = told_line(&rt, &server, "unix://told.sock")?;
-    assert_eq!(rt;
-        line.as_str(),
-        "ttrpc-demo: listening at unix://told.sock\n"
-    );
+    assert!(rt; line.as_str() == "ttrpc-demo: listening at unix://told.sock\n");
     server.shutdown();
     fs::remove_file(&rt, "told.sock")?;
     Ok(())
@@ -105,7 +102,7 @@ fn a_server_tells_its_address_and_its_faults(rt: HostRuntime) -> Tested {
     let _sockets: Sockets = None;
     let _ = fs::remove_file(&rt, "begun.sock");
     let told = told_of(&rt, "unix://begun.sock")?;
-    assert_eq!(rt; told.as_slice(), TOLD);
+    assert!(rt; told.as_slice() == TOLD);
     fs::remove_file(&rt, "begun.sock")?;
     Ok(())
 }
@@ -113,10 +110,34 @@ fn a_server_tells_its_address_and_its_faults(rt: HostRuntime) -> Tested {
 const TOLD: &[u8] =
     b"ttrpc-demo: listening at unix://begun.sock\nttrpc-demo: no connection was accepted: eof\n";
 
-/// The next fault that is kept has this text.
-fn next_is<X: Wait + Abort>(rt: &X, faults: &Faults, text: &str) {
-    let next = faults.next(rt);
-    assert_eq!(rt; next.as_str(), text);
+/// Returns whether the next fault that is kept has this text.
+fn next_is<X: Wait>(rt: &X, faults: &Faults, text: &str) -> bool {
+    faults.next(rt).as_str() == text
+}
+
+/// Returns whether so many faults of handlers come next.
+fn handlers_are_next<X: Wait>(rt: &X, faults: &Faults, count: usize) -> bool {
+    for _ in 0..count {
+        if !next_is(
+            rt,
+            faults,
+            "a handler failed: ttrpc err: remote stream closed",
+        ) {
+            return false;
+        }
+    }
+    true
+}
+
+/// Returns whether a fault to accept comes next, then a missing worker, and then 62 faults of handlers.
+fn are_kept<X: Wait>(rt: &X, faults: &Faults) -> bool {
+    next_is(rt, faults, "no connection was accepted: eof")
+        && next_is(
+            rt,
+            faults,
+            "a worker is missing: ttrpc err: local stream closed",
+        )
+        && handlers_are_next(rt, faults, 62)
 }
 
 /// Faults are kept in order until they are told, up to 64; who is to tell them waits for the next.
@@ -129,19 +150,7 @@ fn faults_are_kept_until_they_are_told(rt: HostRuntime) -> Tested {
     for _ in 2..70 {
         keeper.handler_failed(&Error::RemoteClosed);
     }
-    next_is(&rt, &*faults, "no connection was accepted: eof");
-    next_is(
-        &rt,
-        &*faults,
-        "a worker is missing: ttrpc err: local stream closed",
-    );
-    for _ in 2..64 {
-        next_is(
-            &rt,
-            &*faults,
-            "a handler failed: ttrpc err: remote stream closed",
-        );
-    }
+    assert!(rt; are_kept(&rt, &*faults));
     let (last, ()) = thread::join(
         &rt,
         || faults.next(&rt),
@@ -150,7 +159,7 @@ fn faults_are_kept_until_they_are_told(rt: HostRuntime) -> Tested {
             keeper.connection_dropped(&Error::Eof);
         },
     );
-    assert_eq!(rt; last.as_str(), "a connection was closed: eof");
+    assert!(rt; last.as_str() == "a connection was closed: eof");
     Ok(())
 }
 
@@ -163,22 +172,17 @@ fn address_in(line: &str) -> Result<&str, Fail> {
     Ok(address)
 }
 
-/// Each row is called at this address.
-fn all_are_told<S: Tester + 'static>(rt: &S, address: &str) -> Tested {
-    for call in CALLS {
-        is_told(rt, address, call)?;
-    }
-    Ok(())
-}
-
-/// Nobody is called at this address.
-fn nobody_is_called<S: Tester + 'static>(rt: &S, address: &str) -> Tested {
+/// Returns whether nobody is called at this address.
+fn nobody_is_called<S: Tester + 'static>(rt: &S, address: &str) -> Holds {
     let ran = called(rt, address, &["x", "y", "2a", "0"])?;
-    assert_eq!(rt; ran.status, 1);
-    assert!(rt; ran.output.is_empty());
-    let errors = ran.errors.as_slice();
-    assert!(rt; errors.starts_with(b"ttrpc-demo: Nix error: "));
-    Ok(())
+    let is_quiet = ran.status == 1 && ran.output.is_empty();
+    Ok(
+        is_quiet
+            && ran
+                .errors
+                .as_slice()
+                .starts_with(b"ttrpc-demo: Nix error: "),
+    )
 }
 
 /// A server with port 0 tells its address in a line, and is called there. Once it is shut down, nobody is.
@@ -188,7 +192,10 @@ fn a_server_is_called(rt: HostRuntime) -> Tested {
     let server = start_server(rt, free, true, NoWatch {})?;
     let line = told_line(&rt, &server, free)?;
     let address = address_in(line.as_str())?;
-    all_are_told(&rt, address)?;
+    for call in CALLS {
+        assert!(rt; is_told(&rt, address, call)?);
+    }
     server.shutdown();
-    nobody_is_called(&rt, address)
+    assert!(rt; nobody_is_called(&rt, address)?);
+    Ok(())
 }

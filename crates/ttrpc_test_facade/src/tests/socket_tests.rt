@@ -1,10 +1,9 @@
 //! A service over a socket, by the macros.
-use crate::tests::facade::calls_tests::error_of;
-use crate::tests::facade::pairs::{Handler, PairsClient, methods};
+use crate::tests::calls_tests::error_of;
+use crate::tests::pairs::{Handler, PairsClient, methods};
 use std::alloc::Global;
 use std::fs;
 use std::net::{Net, TcpListener, TcpStream};
-use std::process::Abort;
 use std::rt::Files;
 use std::test::Fail;
 use std::time::Duration;
@@ -21,6 +20,7 @@ const ADDRESS: &str = "unix://pairs.sock";
 type Texts = (&'static str, &'static str);
 
 /// What comes of a call: a pair, or a status.
+#[derive(Drop)]
 enum Comes {
     Pair(Texts),
     Status(i32, &'static str),
@@ -41,31 +41,40 @@ fn pair_of(alloc: Global, texts: Texts) -> Result<KeyValue, Fail> {
     })
 }
 
-fn is_as_said(rt: &impl Abort, came: Answer<KeyValue>, said: &Comes) -> Tested {
+/// Whether a row holds, or why a test ended.
+type Holds = Result<bool, Fail>;
+
+/// Returns whether it came as said. Any other error than a status is the error.
+fn is_as_said(came: Answer<KeyValue>, said: &Comes) -> Holds {
     match (came, said) {
         (Ok(pair), Comes::Pair(texts)) => {
-            assert_eq!(rt; pair.key.as_str(), texts.0);
-            assert_eq!(rt; pair.value.as_str(), texts.1);
+            Ok(pair.key.as_str() == texts.0 && pair.value.as_str() == texts.1)
         }
         (Err(Error::RpcStatus(status)), Comes::Status(code, message)) => {
-            assert_eq!(rt; status.code, *code);
-            assert_eq!(rt; status.message.as_str(), *message);
+            Ok(status.code == *code && status.message.as_str() == *message)
         }
-        (Ok(_), _) => assert!(rt; false, "a pair came"),
-        (Err(error), _) => return Err(Fail::from(error)),
+        (Ok(_), _) => Ok(false),
+        (Err(error), _) => Err(Fail::from(error)),
     }
-    Ok(())
 }
 
-/// Each row is called.
-fn pairs_turn<R: Host + Abort>(rt: &R, client: &PairsClient<R>) -> Tested {
-    let alloc = rt.alloc();
+/// Returns whether a pair is turned as said, by either handler.
+fn turns<R: Host>(client: &PairsClient<R>, alloc: Global, texts: Texts, said: &Comes) -> Holds {
+    let pair = pair_of(alloc, texts)?;
+    Ok(
+        is_as_said(client.turn(Context::new(alloc), &pair), said)?
+            && is_as_said(client.checked(Context::new(alloc), &pair), said)?,
+    )
+}
+
+/// Returns whether each row holds.
+fn pairs_turn<R: Host>(client: &PairsClient<R>, alloc: Global) -> Holds {
     for (texts, said) in TURNED {
-        let pair = pair_of(alloc, *texts)?;
-        is_as_said(rt, client.turn(Context::new(alloc), &pair), said)?;
-        is_as_said(rt, client.checked(Context::new(alloc), &pair), said)?;
+        if !turns(client, alloc, *texts, said)? {
+            return Ok(false);
+        }
     }
-    Ok(())
+    Ok(true)
 }
 
 /// A context of a call that may take a while, with the text `kind` under the key `Tone`.
@@ -77,31 +86,22 @@ fn tone(alloc: Global) -> Result<Context, Fail> {
     Ok(context)
 }
 
-/// `Find` comes to this for the pair `tone`, `none`.
-fn finds<R: Host + Abort>(
-    rt: &R,
+/// Returns whether `Find` finds this text for the pair `tone`, `none`.
+fn finds<R: Host>(
     client: &PairsClient<R>,
+    alloc: Global,
     context: Context,
-    said: &Comes,
-) -> Tested {
-    let pair = pair_of(rt.alloc(), ("tone", "none"))?;
-    let found = client.find(context, &pair);
-    is_as_said(rt, found, said)
+    text: &'static str,
+) -> Holds {
+    let pair = pair_of(alloc, ("tone", "none"))?;
+    is_as_said(client.find(context, &pair), &Comes::Pair(("tone", text)))
 }
 
-/// Metadata comes with a call that may take a while.
-fn metadata_comes_along<R: Host + Abort>(rt: &R, client: &PairsClient<R>) -> Tested {
-    finds(
-        rt,
-        client,
-        tone(rt.alloc())?,
-        &Comes::Pair(("tone", "kind")),
-    )?;
-    finds(
-        rt,
-        client,
-        Context::new(rt.alloc()),
-        &Comes::Pair(("tone", "none")),
+/// Returns whether metadata comes with a call that may take a while.
+fn metadata_comes_along<R: Host>(client: &PairsClient<R>, alloc: Global) -> Holds {
+    Ok(
+        finds(client, alloc, tone(alloc)?, "kind")?
+            && finds(client, alloc, Context::new(alloc), "none")?,
     )
 }
 
@@ -116,27 +116,25 @@ fn other_bytes(alloc: Global, method: &str) -> Result<Request, Fail> {
     })
 }
 
-/// A handler that checks them answers such bytes with a status, and the connection goes on.
-fn other_bytes_are_refused<R: Host + Abort>(rt: &R, client: &PairsClient<R>) -> Tested {
-    let request = other_bytes(rt.alloc(), "Checked")?;
+/// Returns whether a handler that checks them answers such bytes with a status. The connection goes on.
+fn other_bytes_are_refused<R: Host>(client: &PairsClient<R>, alloc: Global) -> Holds {
+    let request = other_bytes(alloc, "Checked")?;
     match error_of(client.client.request(request))? {
         Error::RpcStatus(status) => {
-            assert_eq!(rt; status.code, 3);
-            assert!(rt; status.message.as_str().starts_with("Unpack request error "));
-            Ok(())
+            let is_told = status.message.as_str().starts_with("Unpack request error ");
+            Ok(status.code == 3 && is_told)
         }
         error => Err(Fail::from(error)),
     }
 }
 
-/// Bytes that are no pair are an error of the handler, which ends the connection.
-fn other_bytes_end_the_connection<R: Host + Abort>(rt: &R, client: &PairsClient<R>) -> Tested {
-    let request = other_bytes(rt.alloc(), "Turn")?;
+/// Returns whether bytes that are no pair are an error of the handler, which ends the connection.
+fn other_bytes_end_the_connection<R: Host>(client: &PairsClient<R>, alloc: Global) -> Holds {
+    let request = other_bytes(alloc, "Turn")?;
     match error_of(client.client.request(request))? {
-        Error::Socket(text) => assert_eq!(rt; text.as_str(), "socket disconnected"),
-        error => return Err(Fail::from(error)),
+        Error::Socket(text) => Ok(text.as_str() == "socket disconnected"),
+        error => Err(Fail::from(error)),
     }
-    Ok(())
 }
 
 /// What the test asks of the system.
@@ -159,12 +157,14 @@ fn connect<R: Machine>(rt: &R) -> Result<PairsClient<R>, Fail> {
     Ok(PairsClient { client })
 }
 
-/// All of it is called. The last call ends the connection.
-fn service_is_called<R: Host + Abort>(rt: &R, client: &PairsClient<R>) -> Tested {
-    other_bytes_are_refused(rt, client)?;
-    pairs_turn(rt, client)?;
-    metadata_comes_along(rt, client)?;
-    other_bytes_end_the_connection(rt, client)
+/// Returns whether all of it is called. The last call ends the connection.
+fn service_is_called<R: Host>(client: &PairsClient<R>, alloc: Global) -> Holds {
+    Ok(
+        other_bytes_are_refused(client, alloc)?
+            && pairs_turn(client, alloc)?
+            && metadata_comes_along(client, alloc)?
+            && other_bytes_end_the_connection(client, alloc)?,
+    )
 }
 
 #[test]
@@ -172,7 +172,7 @@ fn service_is_called_by_macros(rt: HostRuntime) -> Tested {
     let _ = fs::remove_file(&rt, "pairs.sock");
     let server = start_pairs(&rt)?;
     let client = connect(&rt)?;
-    service_is_called(&rt, &client)?;
+    assert!(rt; service_is_called(&client, rt.alloc())?);
     server.shutdown();
     fs::remove_file(&rt, "pairs.sock")?;
     Ok(())

@@ -1,14 +1,11 @@
 //! Runs of the program: its words and its input, and then its status, its output and what it tells of errors.
-use crate::tests::echo::runs::{ROOM, Ran, Sockets, Tester, run_words, words_of};
-use crate::tests::echo::vectors::*;
-use std::alloc::Global;
-use std::process::Abort;
+use crate::tests::runs::{ROOM, Ran, Sockets, Tester, run_words, words_of};
+use crate::tests::vectors::*;
+use crate::tests::{Holds, Tested};
 use std::test::Fail;
 use ttrpc_bench::{AT_ONCE, Manner, StdReader};
 use ttrpc_echo::System;
 use ttrpc_wire::values::slices::front;
-
-type Tested = Result<(), Fail>;
 
 /// A run: the words, the input, whether it is read to its end or not at all, the status, the output and the errors.
 type Run = (
@@ -82,56 +79,48 @@ const NO_PLACES: &[(&[&str], &[u8])] = &[
     (&["call", "127.0.0.1:0", "x", "y", "", "+7"], SCHEME_TEXT),
 ];
 
-/// The run ended with this status, this output and these errors.
-fn left(rt: &impl Abort, ran: &Ran, row: &Run) -> Tested {
-    let (words, _, _, status, output, errors) = row;
-    assert!(rt; ran.status == *status, "the status of {words:?}");
-    assert!(rt; ran.output.as_slice() == *output, "the output of {words:?}");
-    assert!(rt; ran.errors.as_slice() == *errors, "what {words:?} tells");
-    Ok(())
+/// Returns whether the run ended with this status, this output and these errors.
+fn left(ran: &Ran, row: &Run) -> bool {
+    let (_, _, _, status, output, errors) = row;
+    ran.status == *status && ran.output.as_slice() == *output && ran.errors.as_slice() == *errors
 }
 
-/// With all of the input at hand. It is read to its end, or not at all.
-fn runs_at_once<S: Tester + 'static>(rt: &S, row: &Run) -> Tested {
+/// Returns whether the row holds with all of the input at hand, which is read to its end, or not at all.
+fn runs_at_once<S: Tester + 'static>(rt: &S, row: &Run) -> Holds {
     let (words, bytes, reads, _, _, _) = row;
     let given = words_of(rt.alloc(), words)?;
     let mut input = *bytes;
     let ran = run_words(rt, given.as_slice(), &mut input, ROOM)?;
-    left(rt, &ran, row)?;
-    assert!(rt;
-        input.len() == if *reads { 0 } else { bytes.len() },
-        "{words:?} read"
-    );
-    Ok(())
+    let unread = if *reads { 0 } else { bytes.len() };
+    Ok(left(&ran, row) && input.len() == unread)
 }
 
-/// With an input that comes one byte at a time.
-fn runs_by_bytes<S: Tester + 'static>(rt: &S, row: &Run) -> Tested {
+/// Returns whether the row holds with an input that comes one byte at a time.
+fn runs_by_bytes<S: Tester + 'static>(rt: &S, row: &Run) -> Holds {
     let (words, bytes, _, _, _, _) = row;
     let given = words_of(rt.alloc(), words)?;
     let mut input = StdReader::new(bytes, Manner { step: 1, ..AT_ONCE });
     let ran = run_words(rt, given.as_slice(), &mut input, ROOM)?;
-    left(rt, &ran, row)
+    Ok(left(&ran, row))
 }
 
-fn runs<S: Tester + 'static>(rt: &S, row: &Run) -> Tested {
-    runs_at_once(rt, row)?;
-    runs_by_bytes(rt, row)
+fn runs<S: Tester + 'static>(rt: &S, row: &Run) -> Holds {
+    Ok(runs_at_once(rt, row)? && runs_by_bytes(rt, row)?)
 }
 
 #[test]
 fn runs_of_the_program(rt: HostRuntime) -> Tested {
     let _sockets: Sockets = None;
     for row in RUNS {
-        runs(&rt, row)?;
+        assert!(rt; runs(&rt, row)?);
     }
     for words in WRONG_WORDS {
         let row: Run = (*words, ASKED, false, 2, b"", USAGE_TEXT);
-        runs(&rt, &row)?;
+        assert!(rt; runs(&rt, &row)?);
     }
     for (words, told) in NO_PLACES {
         let row: Run = (*words, ASKED, false, 1, b"", *told);
-        runs(&rt, &row)?;
+        assert!(rt; runs(&rt, &row)?);
     }
     Ok(())
 }
@@ -148,8 +137,7 @@ fn a_frame_that_is_too_long_is_answered_behind_it(rt: HostRuntime) -> Tested {
     };
     let mut input = StdReader::new(frame.as_slice(), in_pages);
     let ran = run_words(&rt, words.as_slice(), &mut input, ROOM)?;
-    assert_eq!(rt; ran.status, 0);
-    assert!(rt; ran.output.as_slice() == OVERSIZED_ANSWER);
+    assert!(rt; ran.status == 0 && ran.output.as_slice() == OVERSIZED_ANSWER);
     Ok(())
 }
 
@@ -168,9 +156,8 @@ fn sevens<S: System + 'static>(rt: &S, count: usize, room: usize) -> Result<Ran,
 fn the_greatest_payload_is_echoed(rt: HostRuntime) -> Tested {
     let _sockets: Sockets = None;
     let ran = sevens(&rt, 4194282, 8388568)?;
-    assert_eq!(rt; ran.status, 0);
-    assert_eq!(rt; ran.output.len(), 8388568);
-    assert!(rt; front(ran.output.as_slice(), 5) == LOOPED_SEVENS);
+    let output = ran.output.as_slice();
+    assert!(rt; ran.status == 0 && output.len() == 8388568 && front(output, 5) == LOOPED_SEVENS);
     Ok(())
 }
 
@@ -178,7 +165,6 @@ fn the_greatest_payload_is_echoed(rt: HostRuntime) -> Tested {
 fn a_payload_above_the_greatest_is_refused(rt: HostRuntime) -> Tested {
     let _sockets: Sockets = None;
     let ran = sevens(&rt, 4194283, ROOM)?;
-    assert_eq!(rt; ran.status, 1);
-    assert!(rt; ran.output.as_slice() == LOOPED_TOO_LONG);
+    assert!(rt; ran.status == 1 && ran.output.as_slice() == LOOPED_TOO_LONG);
     Ok(())
 }

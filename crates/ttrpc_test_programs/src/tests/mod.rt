@@ -1,2 +1,0 @@
-mod echo;
-mod facade;
