@@ -1,9 +1,12 @@
 //! A client's ports in one thread.
 use crate::tests::ends::{
-    Tested, call, calling_client, client, client_failure, has_outcome, is_socket, limited_call,
-    written,
+    Client, Tested, call, calling_client, client, client_failure, has_outcome, is_socket,
+    limited_call, written,
 };
+use std::alloc::Global;
 use std::io::{self, ErrorKind};
+use std::sync::Wait;
+use ttrpc_client::CallId;
 use ttrpc_proto::Error;
 use ttrpc_sync::{Connected, ReadPort, read_loop};
 use ttrpc_sync_client::{ClientRead, Manner, Reader};
@@ -13,11 +16,17 @@ use ttrpc_test_cores::server::{ASKED, ECHOED};
 #[test]
 fn a_call_is_written(rt: HostRuntime) -> Tested {
     let shared = calling_client(&rt, rt.alloc())?;
-    assert!(rt; shared.held().lock(&rt).turn.take());
+    let took = shared.held().lock(&rt).turn.take();
     let bytes = written(&rt, rt.alloc(), &*shared);
-    assert!(rt; bytes.as_slice() == ASKED);
-    assert!(rt; !shared.held().lock(&rt).turn.is_taken);
+    let gave_back = !shared.held().lock(&rt).turn.is_taken;
+    assert!(rt; took && bytes.as_slice() == ASKED && gave_back);
     Ok(())
+}
+
+/// Returns whether the call has its answer, and the connection failed at the end of its input.
+fn has_answer_and_end(rt: &impl Wait, alloc: Global, client: &Client, id: CallId) -> bool {
+    let is_answered = has_outcome(rt, alloc, client, id);
+    is_answered && is_socket(&client_failure(rt, alloc, client), "socket disconnected")
 }
 
 /// What is read ends its call; at the end of the input the connection fails.
@@ -27,16 +36,29 @@ fn a_response_is_read(rt: HostRuntime) -> Tested {
     let id = call(&rt, rt.alloc(), &shared)?;
     let mut port = ClientRead::new(&rt, rt.alloc(), &*shared);
     let mut reader = ECHOED;
-    assert!(rt; shared.wait_to_read(&rt));
+    let reads = shared.wait_to_read(&rt);
     read_loop(&rt, &mut reader, &mut port);
-    assert!(rt; has_outcome(&rt, rt.alloc(), &shared, id));
-    assert!(rt;
-        is_socket(
-            &client_failure(&rt, rt.alloc(), &shared),
-            "socket disconnected"
-        )
-    );
+    assert!(rt; reads && has_answer_and_end(&rt, rt.alloc(), &shared, id));
     Ok(())
+}
+
+/// Returns whether a short call begins alone, and its caller takes the turn to read.
+fn takes_the_turn(rt: &impl Wait, client: &Client, id: CallId) -> bool {
+    let short = Manner {
+        has_deadline: false,
+        is_next: true,
+        is_short: true,
+    };
+    let mut held = client.held().lock(rt);
+    held.reading.begins(id, short) && held.reading.take(id)
+}
+
+/// Returns whether the call has its answer, and nobody reads a connection that lives on.
+fn has_answer_alone(rt: &impl Wait, alloc: Global, client: &Client, id: CallId) -> bool {
+    let is_answered = has_outcome(rt, alloc, client, id);
+    let lives = client_failure(rt, alloc, client).is_none();
+    let reader = client.held().lock(rt).reading.reader;
+    is_answered && lives && reader == Reader::Nobody
 }
 
 /// A caller that is alone reads until its call has ended, and no further.
@@ -44,19 +66,11 @@ fn a_response_is_read(rt: HostRuntime) -> Tested {
 fn a_caller_reads_for_itself(rt: HostRuntime) -> Tested {
     let shared = client(rt.alloc())?;
     let id = call(&rt, rt.alloc(), &shared)?;
-    let short = Manner {
-        has_deadline: false,
-        is_next: true,
-        is_short: true,
-    };
-    assert!(rt; shared.held().lock(&rt).reading.begins(id, short));
-    assert!(rt; shared.held().lock(&rt).reading.take(id));
+    let took = takes_the_turn(&rt, &shared, id);
     let mut port = ClientRead::new(&rt, rt.alloc(), &*shared);
     let mut reader = ECHOED;
     read_loop(&rt, &mut reader, &mut port);
-    assert!(rt; has_outcome(&rt, rt.alloc(), &shared, id));
-    assert!(rt; client_failure(&rt, rt.alloc(), &shared).is_none());
-    assert_eq!(rt; shared.held().lock(&rt).reading.reader, Reader::Nobody);
+    assert!(rt; took && has_answer_alone(&rt, rt.alloc(), &shared, id));
     Ok(())
 }
 
@@ -68,9 +82,9 @@ fn a_broken_reader_fails_the_client(rt: HostRuntime) -> Tested {
     port.begin();
     port.broke(io::Error::from(ErrorKind::ConnectionReset));
     let failure = client_failure(&rt, rt.alloc(), &shared);
-    assert!(rt; matches!(failure, Some(Error::Nix(ErrorKind::ConnectionReset))));
+    let is_told = matches!(failure, Some(Error::Nix(ErrorKind::ConnectionReset)));
     port.begin();
-    assert!(rt; port.take(ECHOED).is_none());
+    assert!(rt; is_told && port.take(ECHOED).is_none());
     Ok(())
 }
 
@@ -82,7 +96,7 @@ fn an_expired_call_is_noted_as_ended(rt: HostRuntime) -> Tested {
     let mut held = shared.held().lock(&rt);
     held.tick(5);
     let _ = held.note_ended();
-    assert!(rt; held.core.next_ended().is_none());
-    assert!(rt; matches!(held.take_outcome(rt.alloc(), limited), Some(Err(_))));
+    let is_noted = held.core.next_ended().is_none();
+    assert!(rt; is_noted && matches!(held.take_outcome(rt.alloc(), limited), Some(Err(_))));
     Ok(())
 }

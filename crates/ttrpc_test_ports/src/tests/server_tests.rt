@@ -4,7 +4,6 @@ ghost use Rattle.std.specs.Prelude.{⊤};
 use crate::tests::ends::{Server, Tested, echo, is_socket, server, server_failure, written};
 use std::alloc::Global;
 use std::io::{self, ErrorKind};
-use std::process::Abort;
 use std::sync::{Arc, Wait};
 use std::test::Fail;
 use ttrpc_proto::Error;
@@ -94,11 +93,11 @@ fn work<X: Wait + Copy + Drop>(rt: X, alloc: Global, server: &Server, fails: boo
 #[test]
 fn a_job_is_handled(rt: HostRuntime) -> Tested {
     let shared = server(rt.alloc())?;
-    assert_eq!(rt; feed(&rt, rt.alloc(), &shared, ASKED), Some(30));
+    let count = feed(&rt, rt.alloc(), &shared, ASKED);
     work(rt, rt.alloc(), &shared, false)?;
-    assert_eq!(rt; shared.held().lock(&rt).core.jobs_taken(), 0);
+    let taken = shared.held().lock(&rt).core.jobs_taken();
     let bytes = written(&rt, rt.alloc(), &*shared);
-    assert!(rt; bytes.as_slice() == ECHOED);
+    assert!(rt; count == Some(30) && taken == 0 && bytes.as_slice() == ECHOED);
     Ok(())
 }
 
@@ -109,10 +108,9 @@ fn a_failed_handler_fails_the_server(rt: HostRuntime) -> Tested {
     feed(&rt, rt.alloc(), &shared, ASKED);
     work(rt, rt.alloc(), &shared, true)?;
     let failure = server_failure(&rt, rt.alloc(), &shared);
-    assert!(rt; is_socket(&failure, "connection closed after a handler error"));
     work(rt, rt.alloc(), &shared, false)?;
-    let bytes = written(&rt, rt.alloc(), &*shared);
-    assert!(rt; bytes.is_empty());
+    let is_told = is_socket(&failure, "connection closed after a handler error");
+    assert!(rt; is_told && written(&rt, rt.alloc(), &*shared).is_empty());
     Ok(())
 }
 
@@ -132,36 +130,39 @@ fn keeps<X: Wait>(rt: &X, alloc: Global, waits: bool) -> Result<bool, Fail> {
 /// A reader handles a job itself only while the other waits for the turn.
 #[test]
 fn a_reader_keeps_a_job_beside_one_that_waits(rt: HostRuntime) -> Tested {
-    assert!(rt; keeps(&rt, rt.alloc(), true)?);
-    assert!(rt; !keeps(&rt, rt.alloc(), false)?);
+    assert!(rt; keeps(&rt, rt.alloc(), true)? && !keeps(&rt, rt.alloc(), false)?);
     Ok(())
 }
 
-/// While one reader has the turn, the other sleeps, is woken for the first round of jobs, looks again while rounds begin, and
-/// sleeps again once none has.
-fn looks_while_rounds_begin<A: Abort>(rt: &A, relay: &mut Relay) {
-    assert_eq!(rt; relay.wants(0, None), AtTurn::Reads);
-    assert_eq!(rt; relay.wants(1, None), AtTurn::Sleeps);
-    assert!(rt; relay.begins());
-    assert_eq!(rt; relay.wants(1, None), AtTurn::LooksAgain(1));
-    assert!(rt; !relay.begins());
-    assert_eq!(rt; relay.wants(1, Some(1)), AtTurn::LooksAgain(2));
-    assert_eq!(rt; relay.wants(0, None), AtTurn::Reads);
-    assert_eq!(rt; relay.wants(1, Some(1)), AtTurn::LooksAgain(2));
-    assert_eq!(rt; relay.wants(1, Some(2)), AtTurn::Sleeps);
+/// Returns whether, while one reader has the turn, the other sleeps, is woken for the first round of jobs, looks again while
+/// rounds begin, and sleeps again once none has.
+fn looks_while_rounds_begin(relay: &mut Relay) -> bool {
+    relay.wants(0, None) == AtTurn::Reads
+        && relay.wants(1, None) == AtTurn::Sleeps
+        && relay.begins()
+        && relay.wants(1, None) == AtTurn::LooksAgain(1)
+        && !relay.begins()
+        && relay.wants(1, Some(1)) == AtTurn::LooksAgain(2)
+        && relay.wants(0, None) == AtTurn::Reads
+        && relay.wants(1, Some(1)) == AtTurn::LooksAgain(2)
+        && relay.wants(1, Some(2)) == AtTurn::Sleeps
+}
+
+/// Returns whether the second reader takes the turn from the first, which handles jobs of the round that it saw.
+fn takes_the_turn(relay: &mut Relay) -> bool {
+    relay.begins()
+        && relay.wants(1, None) == AtTurn::LooksAgain(3)
+        && relay.wants(1, Some(3)) == AtTurn::Reads
+        && !relay.has_turn(0)
+        && relay.wants(0, None) == AtTurn::Sleeps
+        && relay.wants(1, None) == AtTurn::Reads
 }
 
 /// A reader takes the turn from one that still handles jobs of the round that it saw.
 #[test]
 fn a_reader_takes_the_turn_from_one_that_handles_jobs(rt: HostRuntime) -> Tested {
     let mut relay = Relay::new();
-    looks_while_rounds_begin(&rt, &mut relay);
-    assert!(rt; relay.begins());
-    assert_eq!(rt; relay.wants(1, None), AtTurn::LooksAgain(3));
-    assert_eq!(rt; relay.wants(1, Some(3)), AtTurn::Reads);
-    assert!(rt; !relay.has_turn(0));
-    assert_eq!(rt; relay.wants(0, None), AtTurn::Sleeps);
-    assert_eq!(rt; relay.wants(1, None), AtTurn::Reads);
+    assert!(rt; looks_while_rounds_begin(&mut relay) && takes_the_turn(&mut relay));
     Ok(())
 }
 
@@ -182,21 +183,19 @@ fn read_all<X: Wait>(rt: &X, alloc: Global, server: &Server, bytes: &[u8]) {
     read_loop(rt, &mut reader, &mut port);
 }
 
-/// Nothing is left to be written, and the connection has failed by a socket's error of this text.
-fn is_over<X: Wait + Abort>(rt: &X, alloc: Global, server: &Server, text: &str) {
-    assert_eq!(rt; server.held().lock(rt).next(false), Next::Leaves);
-    let failure = server_failure(rt, alloc, server);
-    assert!(rt; is_socket(&failure, text));
+/// Returns whether nothing is left to be written, and the connection has failed by a socket's error of this text.
+fn is_over<X: Wait>(rt: &X, alloc: Global, server: &Server, text: &str) -> bool {
+    let next = server.held().lock(rt).next(false);
+    next == Next::Leaves && is_socket(&server_failure(rt, alloc, server), text)
 }
 
-/// At the end of so many bytes of input the connection fails by this text, and not before all is written.
-fn ends_behind<X: Wait + Abort>(rt: &X, alloc: Global, length: usize, text: &str) -> Tested {
+/// Returns whether at the end of so many bytes of input the connection fails by this text, and not before all is written.
+fn ends_behind<X: Wait>(rt: &X, alloc: Global, length: usize, text: &str) -> Result<bool, Fail> {
     let shared = server(alloc)?;
     read_all(rt, alloc, &shared, front(NO_METHOD, length));
-    assert!(rt; server_failure(rt, alloc, &shared).is_none());
+    let lives = server_failure(rt, alloc, &shared).is_none();
     let _ = written(rt, alloc, &*shared);
-    is_over(rt, alloc, &shared, text);
-    Ok(())
+    Ok(lives && is_over(rt, alloc, &shared, text))
 }
 
 /// At the end of its input the connection fails, between two frames and inside one, once nothing is left to be written.
@@ -206,17 +205,16 @@ fn a_reader_ends(rt: HostRuntime) -> Tested {
         (27, "socket disconnected"),
         (26, "socket disconnected inside a frame"),
     ] {
-        ends_behind(&rt, rt.alloc(), length, text)?;
+        assert!(rt; ends_behind(&rt, rt.alloc(), length, text)?);
     }
     Ok(())
 }
 
-/// The answer is written by who takes the turn, while the writer thread sleeps.
-fn is_answered<X: Wait + Abort>(rt: &X, alloc: Global, server: &Server) {
-    assert!(rt; server.held().lock(rt).turn.take());
-    assert_eq!(rt; server.held().lock(rt).next(false), Next::Sleeps);
-    let bytes = written(rt, alloc, &**server);
-    assert!(rt; bytes.as_slice() == ECHOED);
+/// Returns whether the answer is written by who takes the turn, while the writer thread sleeps.
+fn is_answered<X: Wait>(rt: &X, alloc: Global, server: &Server) -> bool {
+    let took = server.held().lock(rt).turn.take();
+    let next = server.held().lock(rt).next(false);
+    took && next == Next::Sleeps && written(rt, alloc, &**server).as_slice() == ECHOED
 }
 
 /// A job that was read before the input ended is handled, and its answer is written, before the connection fails.
@@ -224,11 +222,12 @@ fn is_answered<X: Wait + Abort>(rt: &X, alloc: Global, server: &Server) {
 fn an_end_of_input_waits_for_jobs(rt: HostRuntime) -> Tested {
     let shared = server(rt.alloc())?;
     read_all(&rt, rt.alloc(), &shared, ASKED);
-    assert_eq!(rt; shared.held().lock(&rt).next(false), Next::Sleeps);
+    let next = shared.held().lock(&rt).next(false);
     work(rt, rt.alloc(), &shared, false)?;
-    assert!(rt; server_failure(&rt, rt.alloc(), &shared).is_none());
-    is_answered(&rt, rt.alloc(), &shared);
-    is_over(&rt, rt.alloc(), &shared, "socket disconnected");
+    let lives = server_failure(&rt, rt.alloc(), &shared).is_none();
+    let is_answered = is_answered(&rt, rt.alloc(), &shared);
+    let is_over = is_over(&rt, rt.alloc(), &shared, "socket disconnected");
+    assert!(rt; next == Next::Sleeps && lives && is_answered && is_over);
     Ok(())
 }
 
@@ -238,12 +237,11 @@ fn workers_are_started_once(rt: HostRuntime) -> Tested {
     let registry = registry(rt.alloc())?;
     let core = ServerCore::new(rt.alloc(), Rules::Sync, registry, plain_context(rt.alloc()));
     let mut held = ServerHeld::new(core, PoolCore::new(3, 1, 5));
-    assert_eq!(rt; held.to_start(), 3);
+    let at_first = held.to_start();
     held.starts(3);
-    assert_eq!(rt; held.to_start(), 0);
-    assert!(rt; held.enter(true));
-    assert!(rt; held.leave());
-    assert_eq!(rt; held.to_start(), 1);
+    let then = held.to_start();
+    let passes = held.enter(true) && held.leave();
+    assert!(rt; (at_first, then, passes, held.to_start()) == (3, 0, true, 1));
     Ok(())
 }
 

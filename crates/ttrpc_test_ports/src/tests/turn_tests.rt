@@ -1,44 +1,51 @@
 //! Turns, and what a writer's port does that has none.
 use crate::tests::ends::{Tested, calling_client, client_failure};
 use std::io::{self, ErrorKind};
-use std::process::Abort;
 use ttrpc_proto::Error;
 use ttrpc_sync::{Connected, Next, Turn, WritePort};
 use ttrpc_sync_client::{ClientWrite, Manner, Onward, ReadTurn};
 use ttrpc_test_cores::server::ASKED;
 use ttrpc_wire::values::slices::{behind, front};
 
+/// Returns whether a new turn goes from one thread to another, and who sleeps is woken once.
+fn is_taken_by_one(turn: &mut Turn) -> bool {
+    !turn.wakes()
+        && turn.take()
+        && !turn.take()
+        && turn.next(false, true, true) == Next::Sleeps
+        && !turn.wakes()
+        && turn.next(true, true, true) == Next::Writes
+        && turn.next(true, false, false) == Next::Leaves
+        && turn.wakes()
+        && !turn.wakes()
+        && turn.next(false, false, true) == Next::Writes
+}
+
 /// One thread at a time has the turn, and who sleeps is woken once.
 #[test]
 fn one_thread_has_the_turn(rt: HostRuntime) -> Tested {
-    let mut turn = Turn::new();
-    assert!(rt; !turn.wakes());
-    assert!(rt; turn.take());
-    assert!(rt; !turn.take());
-    assert_eq!(rt; turn.next(false, true, true), Next::Sleeps);
-    assert!(rt; !turn.wakes());
-    assert_eq!(rt; turn.next(true, true, true), Next::Writes);
-    assert_eq!(rt; turn.next(true, false, false), Next::Leaves);
-    assert!(rt; turn.wakes());
-    assert!(rt; !turn.wakes());
-    assert_eq!(rt; turn.next(false, false, true), Next::Writes);
+    assert!(rt; is_taken_by_one(&mut Turn::new()));
     Ok(())
+}
+
+/// Returns whether a new turn that is given back wakes the thread that sleeps, once, and only if bytes wait.
+fn wakes_as_it_is_left(turn: &mut Turn) -> bool {
+    turn.take()
+        && !turn.give_back(true)
+        && turn.take()
+        && turn.next(false, true, true) == Next::Sleeps
+        && !turn.give_back(false)
+        && turn.take()
+        && turn.give_back(true)
+        && turn.take()
+        && !turn.give_back(true)
+        && !turn.is_taken
 }
 
 /// Who gives the turn back wakes the thread that sleeps, once, and only where bytes wait.
 #[test]
 fn who_leaves_wakes_the_writer(rt: HostRuntime) -> Tested {
-    let mut turn = Turn::new();
-    assert!(rt; turn.take());
-    assert!(rt; !turn.give_back(true));
-    assert!(rt; turn.take());
-    assert_eq!(rt; turn.next(false, true, true), Next::Sleeps);
-    assert!(rt; !turn.give_back(false));
-    assert!(rt; turn.take());
-    assert!(rt; turn.give_back(true));
-    assert!(rt; turn.take());
-    assert!(rt; !turn.give_back(true));
-    assert!(rt; !turn.is_taken);
+    assert!(rt; wakes_as_it_is_left(&mut Turn::new()));
     Ok(())
 }
 
@@ -66,74 +73,95 @@ const BEHIND: Manner = Manner {
     ..SHORT
 };
 
-/// A turn behind one call, which was not alone, and was answered.
-fn behind_one(rt: &impl Abort, manner: Manner) -> ReadTurn {
-    let mut turn = ReadTurn::new();
-    assert!(rt; !turn.begins(1, manner));
+/// Ends the call, which was answered or not.
+fn end(turn: &mut ReadTurn, call: u32, is_answered: bool) {
+    turn.ended(call);
+    turn.finished(call, is_answered);
+}
+
+/// Returns whether one call isn't alone, which is then answered.
+fn is_not_alone(turn: &mut ReadTurn, call: u32, manner: Manner) -> bool {
+    let is_alone = turn.begins(call, manner);
+    end(turn, call, true);
+    !is_alone
+}
+
+/// Returns whether one caller takes the turn, alone, and neither another nor the thread takes it beside.
+fn is_read_by_one(turn: &mut ReadTurn) -> bool {
+    !turn.wakes()
+        && turn.begins(1, SHORT)
+        && turn.take(1)
+        && !turn.take(1)
+        && !turn.thread_takes()
+        && !turn.begins(3, SHORT)
+        && !turn.wakes()
+        && turn.onward() == Onward::Reads
+}
+
+/// Returns whether the caller hands the turn over after its call has ended, and the thread reads on.
+fn is_handed_over(turn: &mut ReadTurn) -> bool {
     turn.ended(1);
+    let hands_over = !turn.take(1) && turn.onward() == Onward::HandsOver;
     turn.finished(1, true);
-    turn
+    let takes = turn.thread_takes();
+    turn.ended(3);
+    let reads = turn.onward() == Onward::Reads;
+    turn.finished(3, true);
+    hands_over && takes && reads
 }
 
 /// One thread at a time reads. Callers that are alone read for themselves; for the others the thread is woken once.
 #[test]
 fn one_thread_reads(rt: HostRuntime) -> Tested {
     let mut turn = ReadTurn::new();
-    assert!(rt; !turn.wakes());
-    assert!(rt; turn.begins(1, SHORT));
-    assert!(rt; turn.take(1));
-    assert!(rt; !turn.take(1));
-    assert!(rt; !turn.thread_takes());
-    assert!(rt; !turn.begins(3, SHORT));
-    assert!(rt; !turn.wakes());
-    assert_eq!(rt; turn.onward(), Onward::Reads);
-    turn.ended(1);
-    assert!(rt; !turn.take(1));
-    assert_eq!(rt; turn.onward(), Onward::HandsOver);
-    turn.finished(1, true);
-    assert!(rt; turn.thread_takes());
-    turn.ended(3);
-    assert_eq!(rt; turn.onward(), Onward::Reads);
-    turn.finished(3, true);
+    assert!(rt; is_read_by_one(&mut turn) && is_handed_over(&mut turn));
     Ok(())
+}
+
+/// Returns whether the thread reads on before a call and while it is under way. The call is answered.
+fn is_read_beside(turn: &mut ReadTurn, call: u32) -> bool {
+    let reads = turn.onward() == Onward::Reads
+        && turn.begins(call, SHORT)
+        && turn.onward() == Onward::Reads;
+    end(turn, call, true);
+    reads
+}
+
+/// Returns whether the thread leaves the turn to the next caller, and goes on to rest after that call.
+fn rests(turn: &mut ReadTurn) -> bool {
+    let leaves = turn.onward() == Onward::Leaves
+        && !turn.thread_takes()
+        && turn.begins(99, SHORT)
+        && turn.take(99);
+    turn.ended(99);
+    leaves && turn.onward() == Onward::Leaves
 }
 
 /// The thread rests behind eight calls in a row that were alone, and not before the last one has ended.
 #[test]
 fn the_reader_rests_behind_lone_calls(rt: HostRuntime) -> Tested {
-    let mut turn = behind_one(&rt, LIMITED);
-    assert!(rt; turn.thread_takes());
+    let mut turn = ReadTurn::new();
+    assert!(rt; is_not_alone(&mut turn, 1, LIMITED) && turn.thread_takes());
     for call in 0..8 {
-        assert_eq!(rt; turn.onward(), Onward::Reads);
-        assert!(rt; turn.begins(call, SHORT));
-        assert_eq!(rt; turn.onward(), Onward::Reads);
-        turn.ended(call);
-        turn.finished(call, true);
+        assert!(rt; is_read_beside(&mut turn, call));
     }
-    assert_eq!(rt; turn.onward(), Onward::Leaves);
-    assert!(rt; !turn.thread_takes());
-    assert!(rt; turn.begins(99, SHORT));
-    assert!(rt; turn.take(99));
-    turn.ended(99);
-    assert_eq!(rt; turn.onward(), Onward::Leaves);
+    assert!(rt; rests(&mut turn));
     Ok(())
+}
+
+/// Returns whether a call is alone after a long one that was answered, and not after one that wasn't.
+fn is_alone_once_answered(turn: &mut ReadTurn) -> bool {
+    let after_a_long_one = is_not_alone(turn, 1, LONG) && turn.begins(3, SHORT);
+    end(turn, 3, false);
+    after_a_long_one && is_not_alone(turn, 5, SHORT) && turn.begins(7, SHORT)
 }
 
 /// A long call isn't alone, and neither is one behind a call that the peer hasn't answered: it may not have read that. Its
 /// caller still writes it, unless it has a limit, or something waits before it.
 #[test]
 fn a_call_that_may_wait_is_not_alone(rt: HostRuntime) -> Tested {
-    let mut turn = behind_one(&rt, LONG);
-    assert!(rt; LONG.may_write());
-    assert!(rt; !LIMITED.may_write());
-    assert!(rt; !BEHIND.may_write());
-    assert!(rt; turn.begins(3, SHORT));
-    turn.ended(3);
-    turn.finished(3, false);
-    assert!(rt; !turn.begins(5, SHORT));
-    turn.ended(5);
-    turn.finished(5, true);
-    assert!(rt; turn.begins(7, SHORT));
+    assert!(rt; LONG.may_write() && !LIMITED.may_write() && !BEHIND.may_write());
+    assert!(rt; is_alone_once_answered(&mut ReadTurn::new()));
     Ok(())
 }
 
@@ -144,13 +172,11 @@ fn a_writer_waits_for_its_turn(rt: HostRuntime) -> Tested {
     let mut port = ClientWrite::staying(&rt, &*shared);
     let mut buffer = [0; 64];
     port.begin();
-    assert_eq!(rt; port.lend(&mut buffer), 0);
-    assert!(rt; port.more());
-    assert_eq!(rt; port.lend(&mut buffer), 30);
-    assert!(rt; front(&buffer, 30) == ASKED);
+    let waits = port.lend(&mut buffer) == 0 && port.more();
+    let lends = port.lend(&mut buffer) == 30 && front(&buffer, 30) == ASKED;
     port.wrote(12);
-    assert_eq!(rt; port.lend(&mut buffer), 18);
-    assert!(rt; front(&buffer, 18) == behind(ASKED, 12));
+    let lends_on = port.lend(&mut buffer) == 18 && front(&buffer, 18) == behind(ASKED, 12);
+    assert!(rt; waits && lends && lends_on);
     Ok(())
 }
 
@@ -162,10 +188,9 @@ fn a_broken_writer_fails_the_client(rt: HostRuntime) -> Tested {
     port.begin();
     port.broke(io::Error::from(ErrorKind::BrokenPipe));
     let failure = client_failure(&rt, rt.alloc(), &shared);
-    assert!(rt; matches!(failure, Some(Error::Nix(ErrorKind::BrokenPipe))));
+    let is_told = matches!(failure, Some(Error::Nix(ErrorKind::BrokenPipe)));
     port.begin();
     let mut buffer = [0; 64];
-    assert_eq!(rt; port.lend(&mut buffer), 0);
-    assert!(rt; !port.more());
+    assert!(rt; is_told && port.lend(&mut buffer) == 0 && !port.more());
     Ok(())
 }

@@ -3,7 +3,6 @@ use crate::tests::ends::{Client, Server, Tested, call, client, request, server};
 use crate::tests::server_tests::feed;
 use std::alloc::Global;
 use std::io::{self, ErrorKind, Write};
-use std::process::Abort;
 use std::sync::{Arc, Wait};
 use std::test::Fail;
 use std::thread;
@@ -46,13 +45,12 @@ impl<X: Wait> Write for Crowded<'_, X> {
     }
 }
 
-/// A client whose caller has taken the turn, while nobody else writes.
-fn turned_client<X: Wait + Abort>(rt: &X, alloc: Global) -> Result<Client, Fail> {
-    let shared = client(alloc)?;
-    assert_eq!(rt; shared.held().lock(rt).next(false), Next::Sleeps);
-    call(rt, alloc, &shared)?;
-    assert!(rt; shared.held().lock(rt).turn.take());
-    Ok(shared)
+/// Returns whether a caller of this client takes the turn, while nobody else writes.
+fn takes_the_turn<X: Wait>(rt: &X, alloc: Global, client: &Client) -> Result<bool, Fail> {
+    let next = client.held().lock(rt).next(false);
+    call(rt, alloc, client)?;
+    let took = client.held().lock(rt).turn.take();
+    Ok(next == Next::Sleeps && took)
 }
 
 /// What who has the turn writes, while another caller queues a request.
@@ -70,21 +68,19 @@ fn written_beside<X: Wait>(rt: &X, alloc: Global, client: &Client) -> Result<Vec
     Ok(crowded.taken)
 }
 
-/// The turn is given back, and the writer thread is to write a request.
-fn is_left_to_the_writer<X: Wait + Abort>(rt: &X, client: &Client) {
+/// Returns whether the turn was given back, and the writer thread is to write a request.
+fn is_left_to_the_writer<X: Wait>(rt: &X, client: &Client) -> bool {
     let held = client.held().lock(rt);
-    assert_eq!(rt; held.core.lendable(), 30);
-    assert!(rt; !held.turn.is_taken);
-    assert!(rt; !held.turn.sleeps);
+    held.core.lendable() == 30 && !held.turn.is_taken && !held.turn.sleeps
 }
 
 /// Who writes for himself leaves behind his own frame, and has the writer thread write what others queued meanwhile.
 #[test]
 fn a_caller_writes_its_own_frame_alone(rt: HostRuntime) -> Tested {
-    let shared = turned_client(&rt, rt.alloc())?;
+    let shared = client(rt.alloc())?;
+    let took = takes_the_turn(&rt, rt.alloc(), &shared)?;
     let taken = written_beside(&rt, rt.alloc(), &shared)?;
-    assert!(rt; taken.as_slice() == ASKED);
-    is_left_to_the_writer(&rt, &shared);
+    assert!(rt; took && taken.as_slice() == ASKED && is_left_to_the_writer(&rt, &shared));
     Ok(())
 }
 
@@ -127,14 +123,14 @@ fn writes_slowly<X: Wait + Clock>(rt: &X, client: &Client) -> usize {
 fn a_writer_without_the_turn_reports_nothing(rt: HostRuntime) -> Tested {
     let waiting = client(rt.alloc())?;
     call(&rt, rt.alloc(), &waiting)?;
-    assert!(rt; waiting.held().lock(&rt).turn.take());
+    let took = waiting.held().lock(&rt).turn.take();
     let writing = Arc::try_clone(&waiting)?;
     let written = thread::join(
         &rt,
         move || writes_beside(&rt, rt.alloc(), &waiting),
         move || writes_slowly(&rt, &writing),
     );
-    assert_eq!(rt; written, (0, 0));
+    assert!(rt; took && written == (0, 0));
     Ok(())
 }
 
@@ -185,7 +181,6 @@ fn ready_answers_leave_in_batches(rt: HostRuntime) -> Tested {
     let mut gather = Gather::new(rt.alloc(), counting);
     let mut port = WriteEnd::staying(&rt, &*shared);
     write_loop(&rt, &mut gather, &mut port);
-    assert_eq!(rt; gather.writer().first, 2944);
-    assert_eq!(rt; gather.writer().calls, 16);
+    assert!(rt; gather.writer().first == 2944 && gather.writer().calls == 16);
     Ok(())
 }
