@@ -1,6 +1,5 @@
-//! The messages and services of shim_task.proto.
+//! The services of shim_task.proto.
 #![tactic(auto)]
 
-pub mod messages;
 pub mod polled;
 pub mod service;

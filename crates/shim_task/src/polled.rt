@@ -1,15 +1,15 @@
 //! The services of shim_task.proto for polled ends: for each a trait, the handlers of its methods and streams, and a client.
 //! Written by tools/messages from shim_task.proto: change that, and run the tool.
 
-use crate::messages::{
+use futures::Future;
+use futures::future::Either;
+use shim_task_messages::messages::{
     CheckpointTaskRequest, CloseIORequest, ConnectRequest, ConnectResponse, CreateTaskRequest,
     CreateTaskResponse, DeleteRequest, DeleteResponse, Empty, ExecProcessRequest,
     ExecProcessResponse, KillRequest, PauseRequest, PidsRequest, PidsResponse, ResizePtyRequest,
     ResumeRequest, ShutdownRequest, StartRequest, StartResponse, StateRequest, StateResponse,
     StatsRequest, StatsResponse, UpdateTaskRequest, WaitRequest, WaitResponse,
 };
-use futures::Future;
-use futures::future::Either;
 use std::alloc::Global;
 use std::collections::BTreeMap;
 use std::sync::Arc;

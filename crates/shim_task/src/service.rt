@@ -1,7 +1,7 @@
 //! The services of shim_task.proto: for each a trait, the handlers of its methods, and a client.
 //! Written by tools/messages from shim_task.proto: change that, and run the tool.
 
-use crate::messages::{
+use shim_task_messages::messages::{
     CheckpointTaskRequest, CloseIORequest, ConnectRequest, ConnectResponse, CreateTaskRequest,
     CreateTaskResponse, DeleteRequest, DeleteResponse, Empty, ExecProcessRequest,
     ExecProcessResponse, KillRequest, PauseRequest, PidsRequest, PidsResponse, ResizePtyRequest,

@@ -52,7 +52,7 @@ impl TryClone for Any {
 }
 
 impl WireMessage for Any {
-    ghost use Rattle.shim_task.specs.Messages.{any};
+    ghost use Rattle.shim_task_messages.specs.Messages.{any};
 
     ghost is_value = { any.part.is_value };
 
@@ -111,7 +111,7 @@ impl TryClone for Empty {
 }
 
 impl WireMessage for Empty {
-    ghost use Rattle.shim_task.specs.Messages.{empty};
+    ghost use Rattle.shim_task_messages.specs.Messages.{empty};
 
     ghost is_value = { empty.part.is_value };
 
@@ -169,7 +169,7 @@ impl TryClone for Timestamp {
 }
 
 impl WireMessage for Timestamp {
-    ghost use Rattle.shim_task.specs.Messages.{timestamp};
+    ghost use Rattle.shim_task_messages.specs.Messages.{timestamp};
 
     ghost is_value = { timestamp.part.is_value };
 
@@ -256,7 +256,7 @@ impl TryClone for Mount {
 }
 
 impl WireMessage for Mount {
-    ghost use Rattle.shim_task.specs.Messages.{mount};
+    ghost use Rattle.shim_task_messages.specs.Messages.{mount};
 
     ghost is_value = { mount.part.is_value };
 
@@ -341,7 +341,7 @@ impl TryClone for ProcessInfo {
 }
 
 impl WireMessage for ProcessInfo {
-    ghost use Rattle.shim_task.specs.Messages.{process_info};
+    ghost use Rattle.shim_task_messages.specs.Messages.{process_info};
 
     ghost is_value = { process_info.part.is_value };
 
@@ -473,7 +473,7 @@ impl TryClone for CreateTaskRequest {
 }
 
 impl WireMessage for CreateTaskRequest {
-    ghost use Rattle.shim_task.specs.Messages.{create_task_request};
+    ghost use Rattle.shim_task_messages.specs.Messages.{create_task_request};
 
     ghost is_value = { create_task_request.part.is_value };
 
@@ -622,7 +622,7 @@ impl TryClone for CreateTaskResponse {
 }
 
 impl WireMessage for CreateTaskResponse {
-    ghost use Rattle.shim_task.specs.Messages.{create_task_response};
+    ghost use Rattle.shim_task_messages.specs.Messages.{create_task_response};
 
     ghost is_value = { create_task_response.part.is_value };
 
@@ -687,7 +687,7 @@ impl TryClone for DeleteRequest {
 }
 
 impl WireMessage for DeleteRequest {
-    ghost use Rattle.shim_task.specs.Messages.{delete_request};
+    ghost use Rattle.shim_task_messages.specs.Messages.{delete_request};
 
     ghost is_value = { delete_request.part.is_value };
 
@@ -764,7 +764,7 @@ impl TryClone for DeleteResponse {
 }
 
 impl WireMessage for DeleteResponse {
-    ghost use Rattle.shim_task.specs.Messages.{delete_response};
+    ghost use Rattle.shim_task_messages.specs.Messages.{delete_response};
 
     ghost is_value = { delete_response.part.is_value };
 
@@ -878,7 +878,7 @@ impl TryClone for ExecProcessRequest {
 }
 
 impl WireMessage for ExecProcessRequest {
-    ghost use Rattle.shim_task.specs.Messages.{exec_process_request};
+    ghost use Rattle.shim_task_messages.specs.Messages.{exec_process_request};
 
     ghost is_value = { exec_process_request.part.is_value };
 
@@ -983,7 +983,7 @@ impl TryClone for ExecProcessResponse {
 }
 
 impl WireMessage for ExecProcessResponse {
-    ghost use Rattle.shim_task.specs.Messages.{exec_process_response};
+    ghost use Rattle.shim_task_messages.specs.Messages.{exec_process_response};
 
     ghost is_value = { exec_process_response.part.is_value };
 
@@ -1053,7 +1053,7 @@ impl TryClone for ResizePtyRequest {
 }
 
 impl WireMessage for ResizePtyRequest {
-    ghost use Rattle.shim_task.specs.Messages.{resize_pty_request};
+    ghost use Rattle.shim_task_messages.specs.Messages.{resize_pty_request};
 
     ghost is_value = { resize_pty_request.part.is_value };
 
@@ -1142,7 +1142,7 @@ impl TryClone for StateRequest {
 }
 
 impl WireMessage for StateRequest {
-    ghost use Rattle.shim_task.specs.Messages.{state_request};
+    ghost use Rattle.shim_task_messages.specs.Messages.{state_request};
 
     ghost is_value = { state_request.part.is_value };
 
@@ -1266,7 +1266,7 @@ impl TryClone for StateResponse {
 }
 
 impl WireMessage for StateResponse {
-    ghost use Rattle.shim_task.specs.Messages.{state_response};
+    ghost use Rattle.shim_task_messages.specs.Messages.{state_response};
 
     ghost is_value = { state_response.part.is_value };
 
@@ -1418,7 +1418,7 @@ impl TryClone for KillRequest {
 }
 
 impl WireMessage for KillRequest {
-    ghost use Rattle.shim_task.specs.Messages.{kill_request};
+    ghost use Rattle.shim_task_messages.specs.Messages.{kill_request};
 
     ghost is_value = { kill_request.part.is_value };
 
@@ -1509,7 +1509,7 @@ impl TryClone for CloseIORequest {
 }
 
 impl WireMessage for CloseIORequest {
-    ghost use Rattle.shim_task.specs.Messages.{close_io_request};
+    ghost use Rattle.shim_task_messages.specs.Messages.{close_io_request};
 
     ghost is_value = { close_io_request.part.is_value };
 
@@ -1582,7 +1582,7 @@ impl TryClone for PidsRequest {
 }
 
 impl WireMessage for PidsRequest {
-    ghost use Rattle.shim_task.specs.Messages.{pids_request};
+    ghost use Rattle.shim_task_messages.specs.Messages.{pids_request};
 
     ghost is_value = { pids_request.part.is_value };
 
@@ -1642,7 +1642,7 @@ impl TryClone for PidsResponse {
 }
 
 impl WireMessage for PidsResponse {
-    ghost use Rattle.shim_task.specs.Messages.{pids_response};
+    ghost use Rattle.shim_task_messages.specs.Messages.{pids_response};
 
     ghost is_value = { pids_response.part.is_value };
 
@@ -1715,7 +1715,7 @@ impl TryClone for CheckpointTaskRequest {
 }
 
 impl WireMessage for CheckpointTaskRequest {
-    ghost use Rattle.shim_task.specs.Messages.{checkpoint_task_request};
+    ghost use Rattle.shim_task_messages.specs.Messages.{checkpoint_task_request};
 
     ghost is_value = { checkpoint_task_request.part.is_value };
 
@@ -1805,7 +1805,7 @@ impl TryClone for UpdateTaskRequest {
 }
 
 impl WireMessage for UpdateTaskRequest {
-    ghost use Rattle.shim_task.specs.Messages.{update_task_request};
+    ghost use Rattle.shim_task_messages.specs.Messages.{update_task_request};
 
     ghost is_value = { update_task_request.part.is_value };
 
@@ -1886,7 +1886,7 @@ impl TryClone for StartRequest {
 }
 
 impl WireMessage for StartRequest {
-    ghost use Rattle.shim_task.specs.Messages.{start_request};
+    ghost use Rattle.shim_task_messages.specs.Messages.{start_request};
 
     ghost is_value = { start_request.part.is_value };
 
@@ -1950,7 +1950,7 @@ impl TryClone for StartResponse {
 }
 
 impl WireMessage for StartResponse {
-    ghost use Rattle.shim_task.specs.Messages.{start_response};
+    ghost use Rattle.shim_task_messages.specs.Messages.{start_response};
 
     ghost is_value = { start_response.part.is_value };
 
@@ -2015,7 +2015,7 @@ impl TryClone for WaitRequest {
 }
 
 impl WireMessage for WaitRequest {
-    ghost use Rattle.shim_task.specs.Messages.{wait_request};
+    ghost use Rattle.shim_task_messages.specs.Messages.{wait_request};
 
     ghost is_value = { wait_request.part.is_value };
 
@@ -2087,7 +2087,7 @@ impl TryClone for WaitResponse {
 }
 
 impl WireMessage for WaitResponse {
-    ghost use Rattle.shim_task.specs.Messages.{wait_response};
+    ghost use Rattle.shim_task_messages.specs.Messages.{wait_response};
 
     ghost is_value = { wait_response.part.is_value };
 
@@ -2158,7 +2158,7 @@ impl TryClone for StatsRequest {
 }
 
 impl WireMessage for StatsRequest {
-    ghost use Rattle.shim_task.specs.Messages.{stats_request};
+    ghost use Rattle.shim_task_messages.specs.Messages.{stats_request};
 
     ghost is_value = { stats_request.part.is_value };
 
@@ -2218,7 +2218,7 @@ impl TryClone for StatsResponse {
 }
 
 impl WireMessage for StatsResponse {
-    ghost use Rattle.shim_task.specs.Messages.{stats_response};
+    ghost use Rattle.shim_task_messages.specs.Messages.{stats_response};
 
     ghost is_value = { stats_response.part.is_value };
 
@@ -2278,7 +2278,7 @@ impl TryClone for ConnectRequest {
 }
 
 impl WireMessage for ConnectRequest {
-    ghost use Rattle.shim_task.specs.Messages.{connect_request};
+    ghost use Rattle.shim_task_messages.specs.Messages.{connect_request};
 
     ghost is_value = { connect_request.part.is_value };
 
@@ -2350,7 +2350,7 @@ impl TryClone for ConnectResponse {
 }
 
 impl WireMessage for ConnectResponse {
-    ghost use Rattle.shim_task.specs.Messages.{connect_response};
+    ghost use Rattle.shim_task_messages.specs.Messages.{connect_response};
 
     ghost is_value = { connect_response.part.is_value };
 
@@ -2430,7 +2430,7 @@ impl TryClone for ShutdownRequest {
 }
 
 impl WireMessage for ShutdownRequest {
-    ghost use Rattle.shim_task.specs.Messages.{shutdown_request};
+    ghost use Rattle.shim_task_messages.specs.Messages.{shutdown_request};
 
     ghost is_value = { shutdown_request.part.is_value };
 
@@ -2495,7 +2495,7 @@ impl TryClone for PauseRequest {
 }
 
 impl WireMessage for PauseRequest {
-    ghost use Rattle.shim_task.specs.Messages.{pause_request};
+    ghost use Rattle.shim_task_messages.specs.Messages.{pause_request};
 
     ghost is_value = { pause_request.part.is_value };
 
@@ -2555,7 +2555,7 @@ impl TryClone for ResumeRequest {
 }
 
 impl WireMessage for ResumeRequest {
-    ghost use Rattle.shim_task.specs.Messages.{resume_request};
+    ghost use Rattle.shim_task_messages.specs.Messages.{resume_request};
 
     ghost is_value = { resume_request.part.is_value };
 

@@ -1,0 +1,4 @@
+//! The messages of shim_task.proto.
+#![tactic(auto)]
+
+pub mod messages;
