@@ -8,7 +8,7 @@ use crate::tests::script::Told::{self, Others, Socket};
 use crate::tests::script::{Cuts, FRESH, Row, Start};
 use crate::tests::servers::{
     ABOVE_LIMIT_ROWS, ANSWERS_FIRST, BAD_STAMP_FIRST, EOF_ANSWER, GREATEST_IS_SENT, KNOWN_ROWS,
-    LONG_ANSWER, LONG_ROWS, STAMPED_ECHOED, TAKES_FIRST, UNREADABLE_ROWS,
+    LONG_ANSWER, LONG_ROWS, SINGLE_ROWS, STAMPED_ECHOED, TAKES_FIRST, UNREADABLE_ROWS,
 };
 use crate::tests::streams::IN_USE;
 use crate::tests::told::{OTHER_RULES, SEALED_UP, UNKNOWN_JOB};
@@ -87,183 +87,39 @@ const NOPE: &[u8] = b"\0\0\0\x11\0\0\0\x01\x02\0\x0a\x0f\x08\x0c\x12\x0bNope met
 const STATUS_ANSWER: &[u8] = b"\
     \0\0\0\x18\0\0\0\x01\x02\0\x0a\x16\x08\x02\x12\x12rpc status: 5 gone";
 
+#[rattlefmt::skip]
 const ANSWERED_ROWS: &[Row] = &[
-    Row {
-        name: "even ids are refused, whatever the type",
-        steps: &[Serves(EVEN_IDS, EVEN_IDS_ANSWER)],
-        ..FRESH
-    },
-    Row {
-        name: "other types are ignored",
-        steps: &[Serves(OTHER_TYPES, b""), IsAlive],
-        ..FRESH
-    },
-    Row {
-        name: "data find no stream",
-        steps: &[Serves(DATA, DATA_ANSWER)],
-        ..FRESH
-    },
-    Row {
-        name: "data find no stream under the id of a job, which goes on",
-        steps: &[
-            Feed(ASKED_AND_DATA),
-            Writes(OWN_DATA_ANSWER),
-            TAKES_FIRST,
-            ANSWERS_FIRST,
-            Writes(ECHOED),
-        ],
-        ..FRESH
-    },
-    Row {
-        name: "an id with an active job is in use, and free again behind its answer",
-        steps: &[
-            Feed(TWICE),
-            Writes(IN_USE),
-            TAKES_FIRST,
-            TakesNone,
-            Feed(ASKED),
-            Writes(IN_USE),
-            ANSWERS_FIRST,
-            Writes(ECHOED),
-            Feed(ASKED),
-            Takes(2, 1, b"\x2a"),
-            HasUnsent(false),
-        ],
-        ..FRESH
-    },
-    Row {
-        name: "an id in use is told before the request is read",
-        steps: &[Feed(ASKED_AND_UNREADABLE), Writes(IN_USE)],
-        ..FRESH
-    },
-    Row {
-        name: "unknown services are answered",
-        steps: &[Serves(OTHER_SERVICE, OTHER_SERVICE_ANSWER)],
-        ..FRESH
-    },
-    Row {
-        name: "unknown methods are answered",
-        steps: &[Serves(NO_METHOD, NOPE)],
-        ..FRESH
-    },
-    Row {
-        name: "those of a service without methods, too",
-        steps: &[Serves(EMPTY_SERVICE, EMPTY_SERVICE_ANSWER)],
-        ..FRESH
-    },
+    Row { name: "even ids are refused, whatever the type", steps: &[Serves(EVEN_IDS, EVEN_IDS_ANSWER)], ..FRESH },
+    Row { name: "other types are ignored", steps: &[Serves(OTHER_TYPES, b""), IsAlive], ..FRESH },
+    Row { name: "data find no stream", steps: &[Serves(DATA, DATA_ANSWER)], ..FRESH },
+    Row { name: "data find no stream under the id of a job, which goes on", steps: &[Feed(ASKED_AND_DATA), Writes(OWN_DATA_ANSWER), TAKES_FIRST, ANSWERS_FIRST, Writes(ECHOED)], ..FRESH },
+    Row { name: "an id with an active job is in use, and free again behind its answer", steps: &[Feed(TWICE), Writes(IN_USE), TAKES_FIRST, TakesNone, Feed(ASKED), Writes(IN_USE), ANSWERS_FIRST, Writes(ECHOED), Feed(ASKED), Takes(2, 1, b"\x2a"), HasUnsent(false)], ..FRESH },
+    Row { name: "an id in use is told before the request is read", steps: &[Feed(ASKED_AND_UNREADABLE), Writes(IN_USE)], ..FRESH },
+    Row { name: "unknown services are answered", steps: &[Serves(OTHER_SERVICE, OTHER_SERVICE_ANSWER)], ..FRESH },
+    Row { name: "unknown methods are answered", steps: &[Serves(NO_METHOD, NOPE)], ..FRESH },
+    Row { name: "those of a service without methods, too", steps: &[Serves(EMPTY_SERVICE, EMPTY_SERVICE_ANSWER)], ..FRESH },
 ];
 
+#[rattlefmt::skip]
 const JOB_ROWS: &[Row] = &[
-    Row {
-        name: "a job is handed out and answered once",
-        steps: &[
-            TakesNone,
-            Feed(ASKED),
-            RefusesAnswer(1, UNKNOWN_JOB),
-            TAKES_FIRST,
-            TakesNone,
-            ANSWERS_FIRST,
-            RefusesAnswer(1, UNKNOWN_JOB),
-            Writes(ECHOED),
-        ],
-        ..FRESH
-    },
-    Row {
-        name: "responses and ends without one are calls of other rules",
-        steps: &[
-            RefusesResponse(1, OTHER_RULES),
-            RefusesFinish(1, OTHER_RULES),
-            Feed(ASKED),
-            TAKES_FIRST,
-            RefusesResponse(1, OTHER_RULES),
-            RefusesFinish(1, OTHER_RULES),
-            StreamOf(1, Some(1)),
-            FailsBy("first"),
-            RefusesResponse(1, Socket("first")),
-            RefusesFinish(1, Socket("first")),
-        ],
-        ..FRESH
-    },
-    Row {
-        name: "a handler's error is answered by its text",
-        steps: &[
-            Feed(ASKED),
-            TAKES_FIRST,
-            Breaks(1),
-            Writes(EOF_ANSWER),
-            RefusesAnswer(1, UNKNOWN_JOB),
-            IsAlive,
-        ],
-        ..FRESH
-    },
-    Row {
-        name: "also where that is a status",
-        steps: &[
-            Feed(ASKED),
-            TAKES_FIRST,
-            BreaksBy(1, 5, "gone"),
-            Writes(STATUS_ANSWER),
-            IsAlive,
-        ],
-        ..FRESH
-    },
+    Row { name: "a job is handed out and answered once", steps: &[TakesNone, Feed(ASKED), RefusesAnswer(1, UNKNOWN_JOB), TAKES_FIRST, TakesNone, ANSWERS_FIRST, RefusesAnswer(1, UNKNOWN_JOB), Writes(ECHOED)], ..FRESH },
+    Row { name: "responses and ends without one are calls of other rules", steps: &[RefusesResponse(1, OTHER_RULES), RefusesFinish(1, OTHER_RULES), Feed(ASKED), TAKES_FIRST, RefusesResponse(1, OTHER_RULES), RefusesFinish(1, OTHER_RULES), StreamOf(1, Some(1)), FailsBy("first"), RefusesResponse(1, Socket("first")), RefusesFinish(1, Socket("first"))], ..FRESH },
+    Row { name: "a handler's error is answered by its text", steps: &[Feed(ASKED), TAKES_FIRST, Breaks(1), Writes(EOF_ANSWER), RefusesAnswer(1, UNKNOWN_JOB), IsAlive], ..FRESH },
+    Row { name: "also where that is a status", steps: &[Feed(ASKED), TAKES_FIRST, BreaksBy(1, 5, "gone"), Writes(STATUS_ANSWER), IsAlive], ..FRESH },
 ];
 
+#[rattlefmt::skip]
 const GREATEST_ROWS: &[Row] = &[
     GREATEST_IS_SENT,
-    Row {
-        name: "answers longer than a message may be are replaced",
-        steps: &[
-            Feed(ASKED),
-            TAKES_FIRST,
-            AnswersSevens(1, 4194298),
-            Writes(LONG_ANSWER),
-        ],
-        ..FRESH
-    },
+    Row { name: "answers longer than a message may be are replaced", steps: &[Feed(ASKED), TAKES_FIRST, AnswersSevens(1, 4194298), Writes(LONG_ANSWER)], ..FRESH },
 ];
 
 // Under either rules.
+#[rattlefmt::skip]
 const DRAINING_ROWS: &[Row] = &[
-    Row {
-        name: "a server that drains takes nothing, and gives and answers the jobs that it has",
-        steps: &[
-            Feed(ASKED),
-            Feed(ASKED_BEHIND),
-            TAKES_FIRST,
-            Drains,
-            TakesNothing(ASKED),
-            Jobs(1, 1),
-            ANSWERS_FIRST,
-            Writes(ECHOED),
-            Takes(2, 3, b"\x2b"),
-            Answers(2, b"\x2b"),
-            Writes(ECHOED_BEHIND),
-            TakesNothing(ASKED),
-            TakesNone,
-            IsAlive,
-        ],
-        ..FRESH
-    },
-    Row {
-        name: "a server that drains inside a frame takes no more of it",
-        steps: &[
-            FeedToCut(ASKED),
-            Drains,
-            TakesNothing(ASKED),
-            AtBoundary(false),
-            Jobs(0, 0),
-            EndsInput,
-            HasFailed("socket disconnected inside a frame"),
-        ],
-        cuts: Cuts::Inside(30),
-        ..FRESH
-    },
-    Row {
-        name: "a server that drains tells its failure",
-        steps: &[Drains, FailsBy("first"), HasFailed("first")],
-        ..FRESH
-    },
+    Row { name: "a server that drains takes nothing, and gives and answers the jobs that it has", steps: &[Feed(ASKED), Feed(ASKED_BEHIND), TAKES_FIRST, Drains, TakesNothing(ASKED), Jobs(1, 1), ANSWERS_FIRST, Writes(ECHOED), Takes(2, 3, b"\x2b"), Answers(2, b"\x2b"), Writes(ECHOED_BEHIND), TakesNothing(ASKED), TakesNone, IsAlive], ..FRESH },
+    Row { name: "a server that drains inside a frame takes no more of it", steps: &[FeedToCut(ASKED), Drains, TakesNothing(ASKED), AtBoundary(false), Jobs(0, 0), EndsInput, HasFailed("socket disconnected inside a frame")], cuts: Cuts::Inside(30), ..FRESH },
+    Row { name: "a server that drains tells its failure", steps: &[Drains, FailsBy("first"), HasFailed("first")], ..FRESH },
 ];
 
 const STAMP_ROWS: &[Row] = &[Row {
@@ -287,29 +143,10 @@ const SWELLING_ROWS: &[Row] = &[Row {
 const ABOVE_LIMIT: &str =
     "payload 84 bytes exceeds safe limit 1 bytes (MESSAGE_LENGTH_MAX - transform overhead); reduce payload size";
 
+#[rattlefmt::skip]
 const SEALED_ROWS: &[Row] = &[
-    Row {
-        name: "an answer that is not sealed is refused for the half's reason, and its job awaits another",
-        start: Start::Room(4194304),
-        steps: &[
-            Feed(ASKED),
-            TAKES_FIRST,
-            RefusesAnswer(1, SEALED_UP),
-            StreamOf(1, Some(1)),
-        ],
-        ..FRESH
-    },
-    Row {
-        name: "an answer above the limit is refused with advice where what replaces it is, too",
-        start: Start::Room(1),
-        steps: &[
-            Feed(ASKED),
-            TAKES_FIRST,
-            RefusesAnswer(1, Others(ABOVE_LIMIT)),
-            StreamOf(1, Some(1)),
-        ],
-        ..FRESH
-    },
+    Row { name: "an answer that is not sealed is refused for the half's reason, and its job awaits another", start: Start::Room(4194304), steps: &[Feed(ASKED), TAKES_FIRST, RefusesAnswer(1, SEALED_UP), StreamOf(1, Some(1))], ..FRESH },
+    Row { name: "an answer above the limit is refused with advice where what replaces it is, too", start: Start::Room(1), steps: &[Feed(ASKED), TAKES_FIRST, RefusesAnswer(1, Others(ABOVE_LIMIT)), StreamOf(1, Some(1))], ..FRESH },
 ];
 
 // ---- jobs that expire
@@ -338,159 +175,22 @@ const TWO_TIMEOUTS: &[u8] = b"\
     \0\0\0\x0d\0\0\0\x03\x02\0\x0a\x0b\x08\x04\x12\x07timeout\
     \0\0\0\x0d\0\0\0\x05\x02\0\x0a\x0b\x08\x04\x12\x07timeout";
 
+#[rattlefmt::skip]
 const DEADLINE_ROWS: &[Row] = &[
-    Row {
-        name: "an answer before the tick of its deadline is sent, and nothing expires",
-        steps: &[
-            NextDeadline(None),
-            FeedAt(TIMED, 5),
-            NextDeadline(Some(15)),
-            TAKES_FIRST,
-            Ticks(14),
-            HasUnsent(false),
-            ANSWERS_FIRST,
-            NextDeadline(None),
-            Ticks(15),
-            Writes(ECHOED),
-            NextExpired(None),
-        ],
-        ..FRESH
-    },
-    Row {
-        name: "an answer behind that tick is refused, and the stream's id is free",
-        steps: &[
-            FeedAt(TIMED, 5),
-            TAKES_FIRST,
-            Ticks(15),
-            RefusesAnswer(1, UNKNOWN_JOB),
-            StreamOf(1, None),
-            Writes(TIMEOUT),
-            NextDeadline(None),
-            NextExpired(Some(1)),
-            NextExpired(None),
-            IsAlive,
-            Feed(ASKED),
-            Takes(2, 1, b"\x2a"),
-            RefusesAnswer(1, UNKNOWN_JOB),
-            Answers(2, b"\x2a"),
-            Writes(ECHOED),
-        ],
-        ..FRESH
-    },
-    Row {
-        name: "a negative timeout is a long one",
-        steps: &[
-            FeedAt(NEGATIVE, 0),
-            NextDeadline(Some(18446744073709551615)),
-            Ticks(18446744073709551614),
-            HasUnsent(false),
-            Ticks(18446744073709551615),
-            Writes(TIMEOUT),
-            TakesNone,
-        ],
-        ..FRESH
-    },
-    Row {
-        name: "no tick reaches a deadline above the greatest moment",
-        steps: &[
-            FeedAt(NEGATIVE, 1),
-            NextDeadline(None),
-            Ticks(18446744073709551615),
-            HasUnsent(false),
-            TAKES_FIRST,
-        ],
-        ..FRESH
-    },
-    Row {
-        name: "a request without a timeout has no deadline",
-        steps: &[
-            FeedAt(ASKED, 0),
-            NextDeadline(None),
-            Ticks(18446744073709551615),
-            HasUnsent(false),
-            TAKES_FIRST,
-        ],
-        ..FRESH
-    },
+    Row { name: "an answer before the tick of its deadline is sent, and nothing expires", steps: &[NextDeadline(None), FeedAt(TIMED, 5), NextDeadline(Some(15)), TAKES_FIRST, Ticks(14), HasUnsent(false), ANSWERS_FIRST, NextDeadline(None), Ticks(15), Writes(ECHOED), NextExpired(None)], ..FRESH },
+    Row { name: "an answer behind that tick is refused, and the stream's id is free", steps: &[FeedAt(TIMED, 5), TAKES_FIRST, Ticks(15), RefusesAnswer(1, UNKNOWN_JOB), StreamOf(1, None), Writes(TIMEOUT), NextDeadline(None), NextExpired(Some(1)), NextExpired(None), IsAlive, Feed(ASKED), Takes(2, 1, b"\x2a"), RefusesAnswer(1, UNKNOWN_JOB), Answers(2, b"\x2a"), Writes(ECHOED)], ..FRESH },
+    Row { name: "a negative timeout is a long one", steps: &[FeedAt(NEGATIVE, 0), NextDeadline(Some(18446744073709551615)), Ticks(18446744073709551614), HasUnsent(false), Ticks(18446744073709551615), Writes(TIMEOUT), TakesNone], ..FRESH },
+    Row { name: "no tick reaches a deadline above the greatest moment", steps: &[FeedAt(NEGATIVE, 1), NextDeadline(None), Ticks(18446744073709551615), HasUnsent(false), TAKES_FIRST], ..FRESH },
+    Row { name: "a request without a timeout has no deadline", steps: &[FeedAt(ASKED, 0), NextDeadline(None), Ticks(18446744073709551615), HasUnsent(false), TAKES_FIRST], ..FRESH },
 ];
 
+#[rattlefmt::skip]
 const EXPIRY_ROWS: &[Row] = &[
-    Row {
-        name: "jobs expire by rising id, whatever the order of their deadlines",
-        steps: &[
-            FeedAt(FOUR_TIMED, 0),
-            NextDeadline(Some(10)),
-            TAKES_FIRST,
-            Ticks(30),
-            Writes(THREE_TIMEOUTS),
-            Jobs(1, 0),
-            NextDeadline(Some(99)),
-            Takes(4, 7, b"\x2d"),
-            NextExpired(Some(1)),
-            NextExpired(None),
-        ],
-        ..FRESH
-    },
-    Row {
-        name: "taken and waiting jobs expire, and those that were taken are told of",
-        steps: &[
-            FeedAt(FOUR_TIMED, 0),
-            TAKES_FIRST,
-            Takes(2, 3, b"\x2b"),
-            Ticks(20),
-            Writes(TWO_TIMEOUTS),
-            Jobs(1, 1),
-            NextDeadline(Some(30)),
-            Takes(4, 7, b"\x2d"),
-            TakesNone,
-            Ticks(99),
-            Jobs(0, 0),
-            NextExpired(Some(2)),
-            NextExpired(Some(1)),
-            NextExpired(Some(4)),
-            NextExpired(None),
-        ],
-        ..FRESH
-    },
-    Row {
-        name: "those that expired are let go where a job is made and none was left",
-        steps: &[
-            FeedAt(TIMED, 0),
-            TAKES_FIRST,
-            Ticks(10),
-            FeedAt(TIMED, 10),
-            NextExpired(None),
-            Takes(2, 1, b"\x2a"),
-            Ticks(20),
-            NextExpired(Some(2)),
-        ],
-        ..FRESH
-    },
-    Row {
-        name: "and kept where one was left",
-        steps: &[
-            FeedAt(FOUR_TIMED, 0),
-            TAKES_FIRST,
-            Ticks(30),
-            FeedAt(TIMED, 30),
-            NextExpired(Some(1)),
-        ],
-        ..FRESH
-    },
-    Row {
-        name: "nothing expires after a failure",
-        steps: &[
-            FeedAt(TIMED, 0),
-            TAKES_FIRST,
-            FailsBy("first"),
-            NextDeadline(None),
-            Ticks(10),
-            StreamOf(1, Some(1)),
-            NextExpired(None),
-            HasUnsent(false),
-        ],
-        ..FRESH
-    },
+    Row { name: "jobs expire by rising id, whatever the order of their deadlines", steps: &[FeedAt(FOUR_TIMED, 0), NextDeadline(Some(10)), TAKES_FIRST, Ticks(30), Writes(THREE_TIMEOUTS), Jobs(1, 0), NextDeadline(Some(99)), Takes(4, 7, b"\x2d"), NextExpired(Some(1)), NextExpired(None)], ..FRESH },
+    Row { name: "taken and waiting jobs expire, and those that were taken are told of", steps: &[FeedAt(FOUR_TIMED, 0), TAKES_FIRST, Takes(2, 3, b"\x2b"), Ticks(20), Writes(TWO_TIMEOUTS), Jobs(1, 1), NextDeadline(Some(30)), Takes(4, 7, b"\x2d"), TakesNone, Ticks(99), Jobs(0, 0), NextExpired(Some(2)), NextExpired(Some(1)), NextExpired(Some(4)), NextExpired(None)], ..FRESH },
+    Row { name: "those that expired are let go where a job is made and none was left", steps: &[FeedAt(TIMED, 0), TAKES_FIRST, Ticks(10), FeedAt(TIMED, 10), NextExpired(None), Takes(2, 1, b"\x2a"), Ticks(20), NextExpired(Some(2))], ..FRESH },
+    Row { name: "and kept where one was left", steps: &[FeedAt(FOUR_TIMED, 0), TAKES_FIRST, Ticks(30), FeedAt(TIMED, 30), NextExpired(Some(1))], ..FRESH },
+    Row { name: "nothing expires after a failure", steps: &[FeedAt(TIMED, 0), TAKES_FIRST, FailsBy("first"), NextDeadline(None), Ticks(10), StreamOf(1, Some(1)), NextExpired(None), HasUnsent(false)], ..FRESH },
 ];
 
 const UNTIMED_ROWS: &[Row] = &[Row {
@@ -548,6 +248,11 @@ fn a_polled_server_keeps_its_table_over_stamps(rt: HostRuntime) -> Tested {
 #[test]
 fn a_polled_server_answers_oversized_requests(rt: HostRuntime) -> Tested {
     hold::<PlainServer>(&rt, rt.alloc(), OVERLONG)
+}
+
+#[test]
+fn an_async_server_takes_an_oversized_frame_byte_by_byte(rt: HostRuntime) -> Tested {
+    hold::<PlainServer>(&rt, rt.alloc(), &[(ASYNC_RULES, SINGLE_ROWS)])
 }
 
 #[test]

@@ -25,8 +25,10 @@ pub enum Step {
     // ---- of either core
     /// Takes these bytes, in the run's pieces.
     Feed(&'static [u8]),
-    /// Takes so many bytes 7, in the run's pieces.
+    /// Takes so many bytes 7, in pieces of at least a 4,096th of them, and otherwise in the run's.
     FeedSevens(usize),
+    /// Takes so many bytes 7, one at a time.
+    FeedSingly(usize),
     /// Takes the front of these bytes up to the run's cut, as one piece.
     FeedToCut(&'static [u8]),
     /// Takes what stands behind the run's cut, as one piece.

@@ -3,7 +3,7 @@ use crate::server::{
     ASKED, ECHOED, EMPTY_ECHOED, FLAGGED, GREATEST, OVERSIZED, OVERSIZED_ANSWER, UNREADABLE,
 };
 use crate::tests::script::Step::{self, *};
-use crate::tests::script::{FRESH, Row};
+use crate::tests::script::{Cuts, FRESH, Row};
 
 // ---- what goes over the wire
 
@@ -36,17 +36,10 @@ pub const ANSWERS_FIRST: Step = Answers(1, b"\x2a");
 
 // ---- rows that hold under either rules
 
+#[rattlefmt::skip]
 pub const KNOWN_ROWS: &[Row] = &[
-    Row {
-        name: "known requests are run",
-        steps: &[Serves(ASKED, ECHOED)],
-        ..FRESH
-    },
-    Row {
-        name: "flags of a request mean nothing",
-        steps: &[Serves(FLAGGED, EMPTY_ECHOED)],
-        ..FRESH
-    },
+    Row { name: "known requests are run", steps: &[Serves(ASKED, ECHOED)], ..FRESH },
+    Row { name: "flags of a request mean nothing", steps: &[Serves(FLAGGED, EMPTY_ECHOED)], ..FRESH },
 ];
 
 // How the text begins is stated, what follows isn't.
@@ -65,6 +58,18 @@ pub const LONG_ROWS: &[Row] = &[Row {
     steps: &[
         Feed(OVERSIZED),
         FeedSevens(4194305),
+        Serves(ASKED, OVERSIZED_ANSWER),
+    ],
+    ..FRESH
+}];
+
+/// Run once, by its cut, since each of its bytes comes alone anyhow.
+pub const SINGLE_ROWS: &[Row] = &[Row {
+    name: "an oversized frame may come byte by byte",
+    cuts: Cuts::Inside(2),
+    steps: &[
+        Feed(OVERSIZED),
+        FeedSingly(4194305),
         Serves(ASKED, OVERSIZED_ANSWER),
     ],
     ..FRESH

@@ -11,7 +11,8 @@ use ttrpc_wire::values::slices::{behind, front};
 pub fn act<C: Core>(alloc: Global, core: &mut C, step: &Step, cut: usize) -> Met {
     match *step {
         Step::Feed(bytes) => feeds(alloc, core, bytes, cut),
-        Step::FeedSevens(length) => feeds_sevens(alloc, core, length, cut),
+        Step::FeedSevens(length) => feeds_sevens(alloc, core, length, cut.max(length / 4096)),
+        Step::FeedSingly(length) => feeds_sevens(alloc, core, length, 1),
         Step::FeedToCut(bytes) => feeds(alloc, core, front(bytes, cut), usize::MAX),
         Step::FeedFromCut(bytes) => feeds(alloc, core, behind(bytes, cut), usize::MAX),
         Step::Writes(expected) => Ok(writes(core, expected)),

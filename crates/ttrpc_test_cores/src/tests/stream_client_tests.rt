@@ -91,231 +91,30 @@ const WITH_PAYLOAD: Told = Status(
     "Creating a ClientStream and sending payload at the same time is not allowed",
 );
 
+#[rattlefmt::skip]
 const OPEN_ROWS: &[Row] = &[
-    Row {
-        name: "a stream that sends is opened",
-        steps: &[OPENS_FIRST, ReceivesNone(1), Writes(OPENED)],
-        ..FRESH
-    },
-    Row {
-        name: "a stream that sends none is opened closed",
-        steps: &[
-            Opens(false, true, b"", 1),
-            Writes(OPENED_CLOSED),
-            RefusesSending(1, NOT_SENDABLE),
-        ],
-        ..FRESH
-    },
-    Row {
-        name: "its request may carry its one item",
-        steps: &[Opens(false, true, b"\x2a", 1), Writes(OPENED_WITH_ITEM)],
-        ..FRESH
-    },
-    Row {
-        name: "a stream that sends items is refused with a payload, and uses no id",
-        steps: &[
-            RefusesStream(true, b"\x01", WITH_PAYLOAD),
-            Writes(b""),
-            CALLS_FIRST_IN_TIME,
-            Writes(ASKED),
-        ],
-        ..FRESH
-    },
-    Row {
-        name: "calls and streams have ids of one row",
-        steps: &[
-            CALLS_FIRST_IN_TIME,
-            OPENS_SECOND,
-            Calls(10, 0, 5),
-            Opens(false, false, b"", 7),
-            Waits(3),
-            DropsCall(3),
-            ReceivesNone(3),
-            ReceivesError(1, UNKNOWN),
-            RefusesSending(1, UNKNOWN),
-            DropsReceiver(1),
-            DropsSender(1),
-            Feed(ITEM_OF_THIRD),
-            Receives(3, b"y"),
-            Waits(1),
-            Feed(ANSWERED),
-            Gives(1, true, 0x2a),
-            IsAlive,
-        ],
-        ..FRESH
-    },
-    Row {
-        name: "the last id may be a stream's",
-        start: Start::AtLastId,
-        steps: &[
-            Opens(true, true, b"", 4294967295),
-            RefusesStream(true, b"\x01", WITH_PAYLOAD),
-            RefusesStream(true, b"", USED_UP),
-            RefusesCall(USED_UP),
-            ReceivesNone(4294967295),
-        ],
-        ..FRESH
-    },
-    Row {
-        name: "that a request is too long is told before that it has a payload, and a failure before both",
-        steps: &[
-            RefusesStreamOfSevens(4194294, LONG),
-            EndsInput,
-            RefusesStreamOfSevens(4194294, DISCONNECTED),
-            RefusesStream(true, b"\x01", DISCONNECTED),
-        ],
-        ..FRESH
-    },
+    Row { name: "a stream that sends is opened", steps: &[OPENS_FIRST, ReceivesNone(1), Writes(OPENED)], ..FRESH },
+    Row { name: "a stream that sends none is opened closed", steps: &[Opens(false, true, b"", 1), Writes(OPENED_CLOSED), RefusesSending(1, NOT_SENDABLE)], ..FRESH },
+    Row { name: "its request may carry its one item", steps: &[Opens(false, true, b"\x2a", 1), Writes(OPENED_WITH_ITEM)], ..FRESH },
+    Row { name: "a stream that sends items is refused with a payload, and uses no id", steps: &[RefusesStream(true, b"\x01", WITH_PAYLOAD), Writes(b""), CALLS_FIRST_IN_TIME, Writes(ASKED)], ..FRESH },
+    Row { name: "calls and streams have ids of one row", steps: &[CALLS_FIRST_IN_TIME, OPENS_SECOND, Calls(10, 0, 5), Opens(false, false, b"", 7), Waits(3), DropsCall(3), ReceivesNone(3), ReceivesError(1, UNKNOWN), RefusesSending(1, UNKNOWN), DropsReceiver(1), DropsSender(1), Feed(ITEM_OF_THIRD), Receives(3, b"y"), Waits(1), Feed(ANSWERED), Gives(1, true, 0x2a), IsAlive], ..FRESH },
+    Row { name: "the last id may be a stream's", start: Start::AtLastId, steps: &[Opens(true, true, b"", 4294967295), RefusesStream(true, b"\x01", WITH_PAYLOAD), RefusesStream(true, b"", USED_UP), RefusesCall(USED_UP), ReceivesNone(4294967295)], ..FRESH },
+    Row { name: "that a request is too long is told before that it has a payload, and a failure before both", steps: &[RefusesStreamOfSevens(4194294, LONG), EndsInput, RefusesStreamOfSevens(4194294, DISCONNECTED), RefusesStream(true, b"\x01", DISCONNECTED)], ..FRESH },
 ];
 
+#[rattlefmt::skip]
 const ITEM_ROWS: &[Row] = &[
-    Row {
-        name: "items go and come in order, and an end behind them",
-        steps: &[
-            OPENS_FIRST,
-            Sends(1, b"a", 1),
-            Sends(1, b"", 2),
-            Sends(1, b"b", 3),
-            Closes(1, 4),
-            Writes(OPENED_AND_SENT),
-            Feed(ITEMS_AND_CLOSE),
-            Receives(1, b"a"),
-            Receives(1, b""),
-            Receives(1, b"b"),
-            ReceivesError(1, Eof),
-            ReceivesError(1, RemoteClosed),
-            ReceivesError(1, RemoteClosed),
-            IsAlive,
-        ],
-        ..FRESH
-    },
-    Row {
-        name: "an item may be the last",
-        steps: &[
-            OPENS_FIRST,
-            Feed(LAST_ITEM),
-            Feed(DATA),
-            Receives(1, b"z"),
-            ReceivesError(1, RemoteClosed),
-        ],
-        ..FRESH
-    },
-    Row {
-        name: "the flag for no item means nothing without a close",
-        steps: &[
-            OPENS_FIRST,
-            Feed(FLAGGED_ITEM),
-            Feed(DATA),
-            Receives(1, b"z"),
-            Receives(1, b"z"),
-            ReceivesNone(1),
-        ],
-        ..FRESH
-    },
-    Row {
-        name: "a close has no data",
-        steps: &[
-            OPENS_FIRST,
-            Feed(CLOSE_WITH_DATA),
-            ReceivesError(1, Others("stream 1: close message cannot include data")),
-            ReceivesError(1, RemoteClosed),
-        ],
-        ..FRESH
-    },
-    Row {
-        name: "a stream that was opened to receive none gets no data",
-        steps: &[
-            Opens(true, false, b"", 1),
-            Feed(DATA),
-            Feed(ANSWERED),
-            ReceivesError(1, Others("received data from non-streaming server.")),
-            ReceivesError(1, RemoteClosed),
-            Opens(true, false, b"", 3),
-            Feed(b"\0\0\0\0\0\0\0\x03\x03\x05"),
-            ReceivesError(3, Others("received data from non-streaming server.")),
-            ReceivesError(3, RemoteClosed),
-        ],
-        ..FRESH
-    },
-    Row {
-        name: "an OK response is the last item",
-        steps: &[
-            Opens(true, false, b"", 1),
-            Feed(ANSWERED_FLAGGED),
-            Feed(REFUSED),
-            Receives(1, b"\x2a"),
-            ReceivesError(1, RemoteClosed),
-        ],
-        ..FRESH
-    },
-    Row {
-        name: "a response with another code ends the stream",
-        steps: &[
-            OPENS_FIRST,
-            Feed(DATA),
-            Feed(GONE),
-            Feed(DATA),
-            Receives(1, b"z"),
-            ReceivesError(1, Status(5, "gone")),
-            ReceivesError(1, RemoteClosed),
-        ],
-        ..FRESH
-    },
-    Row {
-        name: "an unreadable response ends it",
-        steps: &[
-            OPENS_FIRST,
-            Feed(UNREADABLE),
-            ReceivesError(1, Begins("Decode message failed.")),
-            ReceivesError(1, RemoteClosed),
-        ],
-        ..FRESH
-    },
-    Row {
-        name: "a frame of another type breaks it",
-        steps: &[
-            OPENS_FIRST,
-            Feed(NO_TYPE),
-            Feed(DATA),
-            ReceivesError(
-                1,
-                Others("Receiver got malformed packet: type 0, flags 0, stream 1"),
-            ),
-            ReceivesError(1, PAST),
-            ReceivesError(1, PAST),
-        ],
-        ..FRESH
-    },
-    Row {
-        name: "a request under it breaks it",
-        steps: &[
-            OPENS_FIRST,
-            Feed(DATA),
-            Feed(REQUEST),
-            Receives(1, b"z"),
-            ReceivesError(
-                1,
-                Others("Receiver got malformed packet: type 1, flags 0, stream 1"),
-            ),
-            ReceivesError(1, PAST),
-        ],
-        ..FRESH
-    },
-    Row {
-        name: "frames that find no stream do nothing",
-        steps: &[
-            OPENS_FIRST,
-            Feed(FOREIGN),
-            Feed(ITEM_OF_THIRD),
-            ReceivesNone(1),
-            ReceivesError(0, UNKNOWN),
-            ReceivesError(2, UNKNOWN),
-            ReceivesError(3, UNKNOWN),
-            IsAlive,
-            NextHeard(None),
-        ],
-        ..FRESH
-    },
+    Row { name: "items go and come in order, and an end behind them", steps: &[OPENS_FIRST, Sends(1, b"a", 1), Sends(1, b"", 2), Sends(1, b"b", 3), Closes(1, 4), Writes(OPENED_AND_SENT), Feed(ITEMS_AND_CLOSE), Receives(1, b"a"), Receives(1, b""), Receives(1, b"b"), ReceivesError(1, Eof), ReceivesError(1, RemoteClosed), ReceivesError(1, RemoteClosed), IsAlive], ..FRESH },
+    Row { name: "an item may be the last", steps: &[OPENS_FIRST, Feed(LAST_ITEM), Feed(DATA), Receives(1, b"z"), ReceivesError(1, RemoteClosed)], ..FRESH },
+    Row { name: "the flag for no item means nothing without a close", steps: &[OPENS_FIRST, Feed(FLAGGED_ITEM), Feed(DATA), Receives(1, b"z"), Receives(1, b"z"), ReceivesNone(1)], ..FRESH },
+    Row { name: "a close has no data", steps: &[OPENS_FIRST, Feed(CLOSE_WITH_DATA), ReceivesError(1, Others("stream 1: close message cannot include data")), ReceivesError(1, RemoteClosed)], ..FRESH },
+    Row { name: "a stream that was opened to receive none gets no data", steps: &[Opens(true, false, b"", 1), Feed(DATA), Feed(ANSWERED), ReceivesError(1, Others("received data from non-streaming server.")), ReceivesError(1, RemoteClosed), Opens(true, false, b"", 3), Feed(b"\0\0\0\0\0\0\0\x03\x03\x05"), ReceivesError(3, Others("received data from non-streaming server.")), ReceivesError(3, RemoteClosed)], ..FRESH },
+    Row { name: "an OK response is the last item", steps: &[Opens(true, false, b"", 1), Feed(ANSWERED_FLAGGED), Feed(REFUSED), Receives(1, b"\x2a"), ReceivesError(1, RemoteClosed)], ..FRESH },
+    Row { name: "a response with another code ends the stream", steps: &[OPENS_FIRST, Feed(DATA), Feed(GONE), Feed(DATA), Receives(1, b"z"), ReceivesError(1, Status(5, "gone")), ReceivesError(1, RemoteClosed)], ..FRESH },
+    Row { name: "an unreadable response ends it", steps: &[OPENS_FIRST, Feed(UNREADABLE), ReceivesError(1, Begins("Decode message failed.")), ReceivesError(1, RemoteClosed)], ..FRESH },
+    Row { name: "a frame of another type breaks it", steps: &[OPENS_FIRST, Feed(NO_TYPE), Feed(DATA), ReceivesError(1, Others("Receiver got malformed packet: type 0, flags 0, stream 1")), ReceivesError(1, PAST), ReceivesError(1, PAST)], ..FRESH },
+    Row { name: "a request under it breaks it", steps: &[OPENS_FIRST, Feed(DATA), Feed(REQUEST), Receives(1, b"z"), ReceivesError(1, Others("Receiver got malformed packet: type 1, flags 0, stream 1")), ReceivesError(1, PAST)], ..FRESH },
+    Row { name: "frames that find no stream do nothing", steps: &[OPENS_FIRST, Feed(FOREIGN), Feed(ITEM_OF_THIRD), ReceivesNone(1), ReceivesError(0, UNKNOWN), ReceivesError(2, UNKNOWN), ReceivesError(3, UNKNOWN), IsAlive, NextHeard(None)], ..FRESH },
 ];
 
 const HEARD_ROWS: &[Row] = &[Row {
@@ -340,43 +139,11 @@ const HEARD_ROWS: &[Row] = &[Row {
     ..FRESH
 }];
 
+#[rattlefmt::skip]
 const SENDING_ROWS: &[Row] = &[
-    Row {
-        name: "a failure is told before an unknown stream",
-        steps: &[
-            RefusesSending(1, UNKNOWN),
-            EndsInput,
-            RefusesSending(1, DISCONNECTED),
-            ReceivesError(1, UNKNOWN),
-        ],
-        ..FRESH
-    },
-    Row {
-        name: "a stream that sends none is told before that its sender was dropped",
-        steps: &[
-            Opens(false, true, b"", 1),
-            RefusesSending(1, NOT_SENDABLE),
-            DropsSender(1),
-            RefusesSending(1, NOT_SENDABLE),
-            RefusesSevensOn(1, 4194305, NOT_SENDABLE),
-        ],
-        ..FRESH
-    },
-    Row {
-        name: "that the sender has closed is told before that an item is too long",
-        steps: &[
-            OPENS_FIRST,
-            RefusesSevensOn(1, 4194305, LONG),
-            Closes(1, 1),
-            RefusesSending(1, LocalClosed),
-            RefusesSevensOn(1, 4194305, LocalClosed),
-            OPENS_SECOND,
-            DropsSender(3),
-            RefusesSending(3, LocalClosed),
-            RefusesSevensOn(3, 4194305, LocalClosed),
-        ],
-        ..FRESH
-    },
+    Row { name: "a failure is told before an unknown stream", steps: &[RefusesSending(1, UNKNOWN), EndsInput, RefusesSending(1, DISCONNECTED), ReceivesError(1, UNKNOWN)], ..FRESH },
+    Row { name: "a stream that sends none is told before that its sender was dropped", steps: &[Opens(false, true, b"", 1), RefusesSending(1, NOT_SENDABLE), DropsSender(1), RefusesSending(1, NOT_SENDABLE), RefusesSevensOn(1, 4194305, NOT_SENDABLE)], ..FRESH },
+    Row { name: "that the sender has closed is told before that an item is too long", steps: &[OPENS_FIRST, RefusesSevensOn(1, 4194305, LONG), Closes(1, 1), RefusesSending(1, LocalClosed), RefusesSevensOn(1, 4194305, LocalClosed), OPENS_SECOND, DropsSender(3), RefusesSending(3, LocalClosed), RefusesSevensOn(3, 4194305, LocalClosed)], ..FRESH },
 ];
 
 const GREATEST_ROWS: &[Row] = &[Row {
@@ -390,155 +157,24 @@ const GREATEST_ROWS: &[Row] = &[Row {
     ..FRESH
 }];
 
+#[rattlefmt::skip]
 const TICKET_ROWS: &[Row] = &[
-    Row {
-        name: "a frame is sent once it was reported whole",
-        steps: &[
-            OPENS_FIRST,
-            IsUnsent(0),
-            IsUnsent(1),
-            Sends(1, b"a", 1),
-            Sends(1, b"", 2),
-            Leaves(OPENED_AND_SENT, 0, 27),
-            IsUnsent(1),
-            Leaves(OPENED_AND_SENT, 27, 37),
-            IsUnsent(1),
-            Leaves(OPENED_AND_SENT, 37, 38),
-            IsSent(1),
-            IsUnsent(2),
-            Leaves(OPENED_AND_SENT, 38, 48),
-            IsSent(2),
-            IsSent(1),
-            IsUnsent(0),
-            IsUnsent(3),
-        ],
-        ..FRESH
-    },
-    Row {
-        name: "what wasn't sent before a failure never is",
-        steps: &[
-            OPENS_FIRST,
-            Sends(1, b"a", 1),
-            Sends(1, b"", 2),
-            Leaves(OPENED_AND_SENT, 0, 27),
-            Leaves(OPENED_AND_SENT, 27, 38),
-            Leaves(OPENED_AND_SENT, 38, 47),
-            FailsBy("first"),
-            IsSent(1),
-            IsNeverSent(2, Socket("first")),
-            IsNeverSent(0, Socket("first")),
-            IsNeverSent(3, Socket("first")),
-            HasFailed("first"),
-        ],
-        ..FRESH
-    },
+    Row { name: "a frame is sent once it was reported whole", steps: &[OPENS_FIRST, IsUnsent(0), IsUnsent(1), Sends(1, b"a", 1), Sends(1, b"", 2), Leaves(OPENED_AND_SENT, 0, 27), IsUnsent(1), Leaves(OPENED_AND_SENT, 27, 37), IsUnsent(1), Leaves(OPENED_AND_SENT, 37, 38), IsSent(1), IsUnsent(2), Leaves(OPENED_AND_SENT, 38, 48), IsSent(2), IsSent(1), IsUnsent(0), IsUnsent(3)], ..FRESH },
+    Row { name: "what wasn't sent before a failure never is", steps: &[OPENS_FIRST, Sends(1, b"a", 1), Sends(1, b"", 2), Leaves(OPENED_AND_SENT, 0, 27), Leaves(OPENED_AND_SENT, 27, 38), Leaves(OPENED_AND_SENT, 38, 47), FailsBy("first"), IsSent(1), IsNeverSent(2, Socket("first")), IsNeverSent(0, Socket("first")), IsNeverSent(3, Socket("first")), HasFailed("first")], ..FRESH },
 ];
 
+#[rattlefmt::skip]
 const DROP_ROWS: &[Row] = &[
-    Row {
-        name: "with both halves dropped a stream is unknown",
-        steps: &[
-            OPENS_FIRST,
-            Feed(DATA),
-            DropsReceiver(1),
-            ReceivesError(1, PAST),
-            Feed(DATA),
-            ReceivesError(1, PAST),
-            Sends(1, b"a", 1),
-            DropsSender(1),
-            ReceivesError(1, UNKNOWN),
-            RefusesSending(1, UNKNOWN),
-            DropsReceiver(1),
-            DropsSender(1),
-            Feed(DATA),
-            ReceivesError(1, UNKNOWN),
-            IsAlive,
-            Writes(OPENED_AND_FIRST),
-            IsSent(1),
-            OPENS_SECOND,
-        ],
-        ..FRESH
-    },
-    Row {
-        name: "whose sender is dropped still receives",
-        steps: &[
-            OPENS_FIRST,
-            DropsSender(1),
-            Feed(DATA),
-            Feed(CLOSE),
-            Receives(1, b"z"),
-            ReceivesError(1, Eof),
-            ReceivesError(1, RemoteClosed),
-            DropsReceiver(1),
-            ReceivesError(1, UNKNOWN),
-        ],
-        ..FRESH
-    },
-    Row {
-        name: "a receiver may go before anything comes",
-        steps: &[
-            OPENS_FIRST,
-            Closes(1, 1),
-            DropsReceiver(1),
-            Feed(ANSWERED),
-            ReceivesError(1, PAST),
-            RefusesSending(1, LocalClosed),
-            DropsSender(1),
-            RefusesSending(1, UNKNOWN),
-        ],
-        ..FRESH
-    },
+    Row { name: "with both halves dropped a stream is unknown", steps: &[OPENS_FIRST, Feed(DATA), DropsReceiver(1), ReceivesError(1, PAST), Feed(DATA), ReceivesError(1, PAST), Sends(1, b"a", 1), DropsSender(1), ReceivesError(1, UNKNOWN), RefusesSending(1, UNKNOWN), DropsReceiver(1), DropsSender(1), Feed(DATA), ReceivesError(1, UNKNOWN), IsAlive, Writes(OPENED_AND_FIRST), IsSent(1), OPENS_SECOND], ..FRESH },
+    Row { name: "whose sender is dropped still receives", steps: &[OPENS_FIRST, DropsSender(1), Feed(DATA), Feed(CLOSE), Receives(1, b"z"), ReceivesError(1, Eof), ReceivesError(1, RemoteClosed), DropsReceiver(1), ReceivesError(1, UNKNOWN)], ..FRESH },
+    Row { name: "a receiver may go before anything comes", steps: &[OPENS_FIRST, Closes(1, 1), DropsReceiver(1), Feed(ANSWERED), ReceivesError(1, PAST), RefusesSending(1, LocalClosed), DropsSender(1), RefusesSending(1, UNKNOWN)], ..FRESH },
 ];
 
+#[rattlefmt::skip]
 const FAILURE_ROWS: &[Row] = &[
-    Row {
-        name: "a failure comes behind all items, once",
-        steps: &[
-            OPENS_FIRST,
-            OPENS_SECOND,
-            Feed(DATA),
-            FailsBy("first"),
-            EndsInput,
-            Receives(1, b"z"),
-            ReceivesError(1, Socket("first")),
-            ReceivesError(1, PAST),
-            ReceivesError(3, Socket("first")),
-            ReceivesError(3, PAST),
-            NextHeard(Some(1)),
-            NextHeard(None),
-            HasFailed("first"),
-        ],
-        ..FRESH
-    },
-    Row {
-        name: "an ended stream has no failure",
-        steps: &[
-            OPENS_FIRST,
-            Feed(LAST_ITEM),
-            EndsInput,
-            Receives(1, b"z"),
-            ReceivesError(1, RemoteClosed),
-        ],
-        ..FRESH
-    },
-    Row {
-        name: "after a failure halves can be dropped",
-        steps: &[
-            OPENS_FIRST,
-            OPENS_SECOND,
-            Opens(true, true, b"", 5),
-            EndsInput,
-            DropsReceiver(1),
-            ReceivesError(1, PAST),
-            DropsSender(1),
-            ReceivesError(1, UNKNOWN),
-            DropsSender(3),
-            ReceivesError(3, DISCONNECTED),
-            ReceivesError(3, PAST),
-            ReceivesError(5, DISCONNECTED),
-        ],
-        ..FRESH
-    },
+    Row { name: "a failure comes behind all items, once", steps: &[OPENS_FIRST, OPENS_SECOND, Feed(DATA), FailsBy("first"), EndsInput, Receives(1, b"z"), ReceivesError(1, Socket("first")), ReceivesError(1, PAST), ReceivesError(3, Socket("first")), ReceivesError(3, PAST), NextHeard(Some(1)), NextHeard(None), HasFailed("first")], ..FRESH },
+    Row { name: "an ended stream has no failure", steps: &[OPENS_FIRST, Feed(LAST_ITEM), EndsInput, Receives(1, b"z"), ReceivesError(1, RemoteClosed)], ..FRESH },
+    Row { name: "after a failure halves can be dropped", steps: &[OPENS_FIRST, OPENS_SECOND, Opens(true, true, b"", 5), EndsInput, DropsReceiver(1), ReceivesError(1, PAST), DropsSender(1), ReceivesError(1, UNKNOWN), DropsSender(3), ReceivesError(3, DISCONNECTED), ReceivesError(3, PAST), ReceivesError(5, DISCONNECTED)], ..FRESH },
 ];
 
 const PART_ROWS: &[Row] = &[Row {
@@ -624,33 +260,10 @@ const ASYNC_STAMP_ROWS: &[Row] = &[Row {
     ..FRESH
 }];
 
+#[rattlefmt::skip]
 const STAMP_ROWS: &[Row] = &[
-    Row {
-        name: "each frame of a stream is sealed, a close too, and none is thrown away",
-        steps: &[
-            OPENS_FIRST,
-            Sends(1, b"a", 1),
-            Closes(1, 2),
-            DropsReceiver(1),
-            DropsSender(1),
-            Writes(STAMPED_AND_SENT),
-            IsSent(2),
-        ],
-        ..FRESH
-    },
-    Row {
-        name: "a bad stamp breaks its stream, and uses no stamp up",
-        steps: &[
-            OPENS_FIRST,
-            OPENS_SECOND,
-            Feed(STAMPED_ITEMS),
-            Receives(1, b"a"),
-            ReceivesError(1, Others("transform_inbound failed: bad stamp")),
-            ReceivesError(1, PAST),
-            Receives(3, b"c"),
-        ],
-        ..FRESH
-    },
+    Row { name: "each frame of a stream is sealed, a close too, and none is thrown away", steps: &[OPENS_FIRST, Sends(1, b"a", 1), Closes(1, 2), DropsReceiver(1), DropsSender(1), Writes(STAMPED_AND_SENT), IsSent(2)], ..FRESH },
+    Row { name: "a bad stamp breaks its stream, and uses no stamp up", steps: &[OPENS_FIRST, OPENS_SECOND, Feed(STAMPED_ITEMS), Receives(1, b"a"), ReceivesError(1, Others("transform_inbound failed: bad stamp")), ReceivesError(1, PAST), Receives(3, b"c")], ..FRESH },
 ];
 
 const SWELLING_ROWS: &[Row] = &[Row {
@@ -669,29 +282,10 @@ const ABOVE_LIMIT: Told = Others(
     "payload 17 bytes exceeds safe limit 16 bytes (MESSAGE_LENGTH_MAX - transform overhead)",
 );
 
+#[rattlefmt::skip]
 const SEALED_ROWS: &[Row] = &[
-    Row {
-        name: "a stream's request above the safe limit is refused",
-        start: Start::Room(16),
-        steps: &[
-            RefusesStream(true, b"", ABOVE_LIMIT),
-            RefusesStream(true, b"\x01", WITH_PAYLOAD),
-            ReceivesError(1, UNKNOWN),
-            Writes(b""),
-        ],
-        ..FRESH
-    },
-    Row {
-        name: "a stream's request that isn't sealed is refused for the half's reason",
-        start: Start::Room(17),
-        steps: &[
-            RefusesStream(true, b"", SEALED_UP),
-            ReceivesError(1, UNKNOWN),
-            Writes(b""),
-            IsAlive,
-        ],
-        ..FRESH
-    },
+    Row { name: "a stream's request above the safe limit is refused", start: Start::Room(16), steps: &[RefusesStream(true, b"", ABOVE_LIMIT), RefusesStream(true, b"\x01", WITH_PAYLOAD), ReceivesError(1, UNKNOWN), Writes(b"")], ..FRESH },
+    Row { name: "a stream's request that isn't sealed is refused for the half's reason", start: Start::Room(17), steps: &[RefusesStream(true, b"", SEALED_UP), ReceivesError(1, UNKNOWN), Writes(b""), IsAlive], ..FRESH },
 ];
 
 const LONG_ITEM: Told = Others(

@@ -40,44 +40,11 @@ const BAD_STAMP_FIRST: &[u8] = b"\
 const NO_ROOM_FOR_STAMP: &str =
     "payload 4194304 bytes exceeds safe limit 4194303 bytes (MESSAGE_LENGTH_MAX - transform overhead); reduce payload size";
 
+#[rattlefmt::skip]
 const STAMP_ROWS: &[Row] = &[
-    Row {
-        name: "a sealed request is written in full: begun or not, expired or dropped",
-        steps: &[
-            CALLS_FIRST_IN_TIME,
-            CALLS_SECOND_IN_TIME,
-            Leaves(STAMPED, 0, 12),
-            Ticks(10),
-            Ends(1, Others("Request deadline elapsed")),
-            DropsCall(3),
-            Leaves(STAMPED, 12, 35),
-            Leaves(STAMPED_NEXT, 0, 35),
-            Lends(8, b"", 0, 0),
-            IsAlive,
-            Calls(10, 0, 5),
-        ],
-        ..FRESH
-    },
-    Row {
-        name: "each frame passes the inbound half once, also one that finds no call",
-        steps: &[
-            CALLS_FIRST,
-            Feed(ANSWERED_BEHIND_DATA),
-            Gives(1, true, 0x2a),
-        ],
-        ..FRESH
-    },
-    Row {
-        name: "a bad stamp ends its call, and uses no stamp up",
-        steps: &[
-            CALLS_FIRST,
-            CALLS_SECOND,
-            Feed(BAD_STAMP_FIRST),
-            Ends(1, Others("transform_inbound failed: bad stamp")),
-            Gives(3, true, 0x2b),
-        ],
-        ..FRESH
-    },
+    Row { name: "a sealed request is written in full: begun or not, expired or dropped", steps: &[CALLS_FIRST_IN_TIME, CALLS_SECOND_IN_TIME, Leaves(STAMPED, 0, 12), Ticks(10), Ends(1, Others("Request deadline elapsed")), DropsCall(3), Leaves(STAMPED, 12, 35), Leaves(STAMPED_NEXT, 0, 35), Lends(8, b"", 0, 0), IsAlive, Calls(10, 0, 5)], ..FRESH },
+    Row { name: "each frame passes the inbound half once, also one that finds no call", steps: &[CALLS_FIRST, Feed(ANSWERED_BEHIND_DATA), Gives(1, true, 0x2a)], ..FRESH },
+    Row { name: "a bad stamp ends its call, and uses no stamp up", steps: &[CALLS_FIRST, CALLS_SECOND, Feed(BAD_STAMP_FIRST), Ends(1, Others("transform_inbound failed: bad stamp")), Gives(3, true, 0x2b)], ..FRESH },
 ];
 
 // With eleven bytes around it, a payload of 4194293 bytes makes a request of 4194304.
@@ -112,19 +79,10 @@ const SYNC_SEALED_ROWS: &[Row] = &[Row {
     ..FRESH
 }];
 
+#[rattlefmt::skip]
 const ASYNC_SEALED_ROWS: &[Row] = &[
-    Row {
-        name: "a request above the safe limit is refused with an advice",
-        start: Start::Room(23),
-        steps: &[RefusesFirstCall(ABOVE_LIMIT_ADVICE)],
-        ..FRESH
-    },
-    Row {
-        name: "a request that is not sealed is refused for the half's reason",
-        start: Start::Room(4194304),
-        steps: &[RefusesFirstCall(SEALED_UP)],
-        ..FRESH
-    },
+    Row { name: "a request above the safe limit is refused with an advice", start: Start::Room(23), steps: &[RefusesFirstCall(ABOVE_LIMIT_ADVICE)], ..FRESH },
+    Row { name: "a request that is not sealed is refused for the half's reason", start: Start::Room(4194304), steps: &[RefusesFirstCall(SEALED_UP)], ..FRESH },
 ];
 
 #[test]

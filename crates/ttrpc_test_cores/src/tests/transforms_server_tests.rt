@@ -32,27 +32,12 @@ const BAD_STAMP_ANSWERS: &[u8] = b"\
     \x0a\x32\x08\x02\x12\x2ettrpc err: transform_inbound failed: bad stamp\0\
     \0\0\0\x06\0\0\0\x01\x02\0\x0a\0\x12\x01\x2a\x01";
 
+#[rattlefmt::skip]
 const STAMP_ROWS: &[Row] = &[
-    Row {
-        name: "a stamped request is answered with a stamp",
-        steps: &[Serves(STAMPED, STAMPED_ECHOED)],
-        ..FRESH
-    },
-    Row {
-        name: "the core's own answer has a stamp, too",
-        steps: &[Serves(STAMPED_UNKNOWN, STAMPED_ANSWER)],
-        ..FRESH
-    },
-    Row {
-        name: "a frame of data passes the inbound half, too, and counts",
-        steps: &[Serves(STAMPED_BEHIND_DATA, STAMPED_ECHOED)],
-        ..FRESH
-    },
-    Row {
-        name: "a bad stamp is answered, and uses no stamp up",
-        steps: &[Serves(BAD_STAMP_FIRST, BAD_STAMP_ANSWERS)],
-        ..FRESH
-    },
+    Row { name: "a stamped request is answered with a stamp", steps: &[Serves(STAMPED, STAMPED_ECHOED)], ..FRESH },
+    Row { name: "the core's own answer has a stamp, too", steps: &[Serves(STAMPED_UNKNOWN, STAMPED_ANSWER)], ..FRESH },
+    Row { name: "a frame of data passes the inbound half, too, and counts", steps: &[Serves(STAMPED_BEHIND_DATA, STAMPED_ECHOED)], ..FRESH },
+    Row { name: "a bad stamp is answered, and uses no stamp up", steps: &[Serves(BAD_STAMP_FIRST, BAD_STAMP_ANSWERS)], ..FRESH },
 ];
 
 const SWELLING_ROWS: &[Row] = &[Row {
@@ -64,44 +49,12 @@ const SWELLING_ROWS: &[Row] = &[Row {
 const ABOVE_LIMIT: &str =
     "payload 84 bytes exceeds safe limit 1 bytes (MESSAGE_LENGTH_MAX - transform overhead)";
 
+#[rattlefmt::skip]
 const SEALED_ROWS: &[Row] = &[
-    Row {
-        name: "an answer that is not sealed is refused for the half's reason, and its job awaits another",
-        start: Start::Room(4194304),
-        steps: &[
-            Feed(ASKED),
-            TAKES_FIRST,
-            RefusesAnswer(1, SEALED_UP),
-            RefusesResponse(1, SEALED_UP),
-            StreamOf(1, Some(1)),
-        ],
-        ..FRESH
-    },
-    Row {
-        name: "an answer above the limit is refused where what replaces it is, too",
-        start: Start::Room(1),
-        steps: &[
-            Feed(ASKED),
-            TAKES_FIRST,
-            RefusesAnswer(1, Others(ABOVE_LIMIT)),
-            RefusesResponse(1, Others(ABOVE_LIMIT)),
-            StreamOf(1, Some(1)),
-        ],
-        ..FRESH
-    },
+    Row { name: "an answer that is not sealed is refused for the half's reason, and its job awaits another", start: Start::Room(4194304), steps: &[Feed(ASKED), TAKES_FIRST, RefusesAnswer(1, SEALED_UP), RefusesResponse(1, SEALED_UP), StreamOf(1, Some(1))], ..FRESH },
+    Row { name: "an answer above the limit is refused where what replaces it is, too", start: Start::Room(1), steps: &[Feed(ASKED), TAKES_FIRST, RefusesAnswer(1, Others(ABOVE_LIMIT)), RefusesResponse(1, Others(ABOVE_LIMIT)), StreamOf(1, Some(1))], ..FRESH },
     // The connection lives.
-    Row {
-        name: "the core's own answer that is not sealed is left out",
-        start: Start::Room(4194304),
-        steps: &[
-            Serves(NO_SERVICE, b""),
-            IsAlive,
-            HasUnsent(false),
-            Feed(ASKED),
-            TAKES_FIRST,
-        ],
-        ..FRESH
-    },
+    Row { name: "the core's own answer that is not sealed is left out", start: Start::Room(4194304), steps: &[Serves(NO_SERVICE, b""), IsAlive, HasUnsent(false), Feed(ASKED), TAKES_FIRST], ..FRESH },
 ];
 
 #[test]

@@ -202,36 +202,48 @@ fn holds_at<C: Core>(
     form: Form,
 ) -> Tested {
     let mut core = C::start(alloc, kind, row.start)?;
-    match form {
-        Form::AsTheyStand => run(rt, alloc, &mut core, row, cut),
-        Form::Stamped => run_stamped(rt, alloc, &mut core, row, cut),
-    }
-}
-
-/// Each step of the row is met.
-fn run<C: Core>(rt: &impl Abort, alloc: Global, core: &mut C, row: &Row, cut: usize) -> Tested {
-    for (number, step) in row.steps.iter().enumerate() {
-        let met = act(alloc, core, step, cut)?;
-        assert!(rt; met, "{}: step {number}, cut at {cut}", row.name);
-    }
+    let unmet = match form {
+        Form::AsTheyStand => first_unmet(alloc, &mut core, row, cut)?,
+        Form::Stamped => first_unmet_stamped(alloc, &mut core, row, cut)?,
+    };
+    assert!(rt;
+        unmet.is_none(),
+        "{}: {unmet:?} isn't met, cut at {cut}",
+        row.name
+    );
     Ok(())
 }
 
-/// The same over halves that stamp.
-fn run_stamped<C: Core>(
-    rt: &impl Abort,
+/// Returns the number of the first step that isn't met, if there is one.
+fn first_unmet<C: Core>(
     alloc: Global,
     core: &mut C,
     row: &Row,
     cut: usize,
-) -> Tested {
+) -> Result<Option<usize>, Fail> {
+    for (number, step) in row.steps.iter().enumerate() {
+        if !act(alloc, core, step, cut)? {
+            return Ok(Some(number));
+        }
+    }
+    Ok(None)
+}
+
+/// The same over halves that stamp.
+fn first_unmet_stamped<C: Core>(
+    alloc: Global,
+    core: &mut C,
+    row: &Row,
+    cut: usize,
+) -> Result<Option<usize>, Fail> {
     let mut stamps = Stamps {
         comes: 0,
         leaves: 0,
     };
     for (number, step) in row.steps.iter().enumerate() {
-        let met = act_stamped(alloc, core, step, cut, &mut stamps)?;
-        assert!(rt; met, "{}, stamped: step {number}, cut at {cut}", row.name);
+        if !act_stamped(alloc, core, step, cut, &mut stamps)? {
+            return Ok(Some(number));
+        }
     }
-    Ok(())
+    Ok(None)
 }

@@ -146,23 +146,10 @@ const FAULTS: &[(Order, Rows)] = &[
 ];
 
 /// Traces whose items are in order, and what was given.
+#[rattlefmt::skip]
 const KEPT: &[(Order, Rows)] = &[
-    (
-        Order::Kept(Counts {
-            items_up: 2,
-            ends_up: 2,
-            items_down: 2,
-            ends_down: 1,
-        }),
-        GIVEN,
-    ),
-    (
-        Order::Kept(Counts {
-            items_down: 1,
-            ..NONE
-        }),
-        BROKEN,
-    ),
+    (Order::Kept(Counts { items_up: 2, ends_up: 2, items_down: 2, ends_down: 1 }), GIVEN),
+    (Order::Kept(Counts { items_down: 1, ..NONE }), BROKEN),
 ];
 
 /// This order is read of the trace.

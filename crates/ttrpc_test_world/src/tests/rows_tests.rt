@@ -13,59 +13,33 @@ use ttrpc_world::Entry;
 pub type Tested = Result<(), Fail>;
 
 /// Both kinds of client, to a server with sync rules.
+#[rattlefmt::skip]
 pub const SYNC: [Ways; 2] = [
-    Ways {
-        kind: ClientKind::Sync,
-        rules: Rules::Sync,
-    },
-    Ways {
-        kind: ClientKind::Async,
-        rules: Rules::Sync,
-    },
+    Ways { kind: ClientKind::Sync, rules: Rules::Sync },
+    Ways { kind: ClientKind::Async, rules: Rules::Sync },
 ];
 
 /// The same to one with async rules.
+#[rattlefmt::skip]
 pub const ASYNC: [Ways; 2] = [
-    Ways {
-        kind: ClientKind::Sync,
-        rules: Rules::Async,
-    },
-    Ways {
-        kind: ClientKind::Async,
-        rules: Rules::Async,
-    },
+    Ways { kind: ClientKind::Sync, rules: Rules::Async },
+    Ways { kind: ClientKind::Async, rules: Rules::Async },
 ];
 
 /// Both kinds of client, to a server with either rules.
+#[rattlefmt::skip]
 pub const ALL: [Ways; 4] = [
-    Ways {
-        kind: ClientKind::Sync,
-        rules: Rules::Sync,
-    },
-    Ways {
-        kind: ClientKind::Async,
-        rules: Rules::Sync,
-    },
-    Ways {
-        kind: ClientKind::Sync,
-        rules: Rules::Async,
-    },
-    Ways {
-        kind: ClientKind::Async,
-        rules: Rules::Async,
-    },
+    Ways { kind: ClientKind::Sync, rules: Rules::Sync },
+    Ways { kind: ClientKind::Async, rules: Rules::Sync },
+    Ways { kind: ClientKind::Sync, rules: Rules::Async },
+    Ways { kind: ClientKind::Async, rules: Rules::Async },
 ];
 
 /// The async client, to a server with sync rules and to one with async rules.
+#[rattlefmt::skip]
 const ASYNC_CLIENT: [Ways; 2] = [
-    Ways {
-        kind: ClientKind::Async,
-        rules: Rules::Sync,
-    },
-    Ways {
-        kind: ClientKind::Async,
-        rules: Rules::Async,
-    },
+    Ways { kind: ClientKind::Async, rules: Rules::Sync },
+    Ways { kind: ClientKind::Async, rules: Rules::Async },
 ];
 
 /// One call, carried and delivered whole. The request's frame has 30 bytes, the response's 15.
@@ -226,15 +200,13 @@ const LATE_STAMPED_ANSWER: Rows = &[
 ];
 
 /// A request of 34 bytes expires when 12 of them have left, and the connection fails.
+#[rattlefmt::skip]
 const EXPIRES_INSIDE: Rows = &[
     (Call(b"\x01\x02\x03", 10), Named(1)),
     (CarryUp(12), Count(12)),
     (Tick(10), Done),
     (Outcome(1), Others("Request deadline elapsed")),
-    (
-        Call(b"\x2a", 0),
-        Socket("connection closed after a request deadline elapsed during write"),
-    ),
+    (Call(b"\x2a", 0), Socket("connection closed after a request deadline elapsed during write")),
     (CarryUp(64), Count(0)),
     (DeliverUp(64), Count(12)),
 ];
@@ -264,6 +236,7 @@ const DROPPED_BEFORE: Rows = &[
 ];
 
 /// What can't happen is no step, and a handler's error fails the server.
+#[rattlefmt::skip]
 const NO_STEPS: Rows = &[
     (Answer(1, b"\x2a"), NoStep),
     (Tick(5), Done),
@@ -274,14 +247,8 @@ const NO_STEPS: Rows = &[
     (Answer(1, b"\x2a"), NoStep),
     (Take, Job(1, 1, b"\x2a")),
     (Break(1), Done),
-    (
-        Answer(1, b"\x2a"),
-        Socket("connection closed after a handler error"),
-    ),
-    (
-        DeliverUp(1),
-        Socket("connection closed after a handler error"),
-    ),
+    (Answer(1, b"\x2a"), Socket("connection closed after a handler error")),
+    (DeliverUp(1), Socket("connection closed after a handler error")),
 ];
 
 /// Sides that are failed.
@@ -550,11 +517,9 @@ fn a_request_that_has_not_begun_is_thrown_away(rt: HostRuntime) -> Tested {
     are_told(&rt, rt.alloc(), &[(&ASYNC_CLIENT, DROPPED)])
 }
 
+#[rattlefmt::skip]
 const NO_STEP_TABLES: &[Table] = &[
-    (
-        &SYNC,
-        &[(Over::Plain, &[NO_STEPS]), (Over::Plain, &[SYNC_NO_STEPS])],
-    ),
+    (&SYNC, &[(Over::Plain, &[NO_STEPS]), (Over::Plain, &[SYNC_NO_STEPS])]),
     (&ASYNC, &[(Over::Plain, &[ASYNC_NO_STEPS])]),
     (&ALL, &[(Over::Plain, &[FAILED])]),
 ];

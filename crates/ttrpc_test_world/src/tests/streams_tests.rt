@@ -71,6 +71,7 @@ const CUT_INSIDE: Rows = &[
 ];
 
 /// A call that meets a stream gets its payload as the first item, and no end. Data that come back are no outcome.
+#[rattlefmt::skip]
 const CALL_GETS_DATA: Rows = &[
     (CallOf("Chat", b"\x2a"), Named(1)),
     (CarryUp(64), Count(30)),
@@ -84,10 +85,7 @@ const CALL_GETS_DATA: Rows = &[
     (CarryDown(64), Count(11)),
     (CarryDown(64), Count(15)),
     (DeliverDown(64), Count(26)),
-    (
-        Outcome(1),
-        Others("Receiver got malformed packet: type 3, flags 0, stream 1"),
-    ),
+    (Outcome(1), Others("Receiver got malformed packet: type 3, flags 0, stream 1")),
     (Outcome(1), Waits),
 ];
 
@@ -105,6 +103,7 @@ const CALL_GETS_RESPONSE: Rows = &[
 ];
 
 /// A close is none, and neither is a handler's error.
+#[rattlefmt::skip]
 const CALL_GETS_CLOSE: Rows = &[
     (CallOf("Chat", b"\x2a"), Named(1)),
     (CallOf("Chat", b"\x2a"), Named(3)),
@@ -118,10 +117,7 @@ const CALL_GETS_CLOSE: Rows = &[
     (CarryDown(64), Count(10)),
     (CarryDown(64), Count(19)),
     (DeliverDown(64), Count(29)),
-    (
-        Outcome(1),
-        Others("Receiver got malformed packet: type 3, flags 5, stream 1"),
-    ),
+    (Outcome(1), Others("Receiver got malformed packet: type 3, flags 5, stream 1")),
     (Outcome(3), Status(2, "eof")),
 ];
 
@@ -321,27 +317,10 @@ const ALTERNATE_BACK: Rows = &[
 ];
 
 /// The bytes of each go up, one by one, and down.
+#[rattlefmt::skip]
 const ALTERNATING: &[Script] = &[
-    (
-        Over::Plain,
-        &[
-            ALTERNATE_UP,
-            &[(BytesUp(118), Count(1)), (CarryUp(1), Count(0))],
-            ALTERNATE_DOWN,
-            &[(BytesDown(58), Count(1)), (CarryDown(1), Count(0))],
-            ALTERNATE_BACK,
-        ],
-    ),
-    (
-        Over::Stamps,
-        &[
-            ALTERNATE_UP,
-            &[(BytesUp(126), Count(1)), (CarryUp(1), Count(0))],
-            ALTERNATE_DOWN,
-            &[(BytesDown(63), Count(1)), (CarryDown(1), Count(0))],
-            ALTERNATE_BACK,
-        ],
-    ),
+    (Over::Plain, &[ALTERNATE_UP, &[(BytesUp(118), Count(1)), (CarryUp(1), Count(0))], ALTERNATE_DOWN, &[(BytesDown(58), Count(1)), (CarryDown(1), Count(0))], ALTERNATE_BACK]),
+    (Over::Stamps, &[ALTERNATE_UP, &[(BytesUp(126), Count(1)), (CarryUp(1), Count(0))], ALTERNATE_DOWN, &[(BytesDown(63), Count(1)), (CarryDown(1), Count(0))], ALTERNATE_BACK]),
 ];
 
 #[test]

@@ -419,12 +419,10 @@ fn nothing_is_said_of_other_runs(rt: HostRuntime) -> Tested {
 }
 
 /// Items are moved up byte by byte, their stream ends, and nothing more moves.
+#[rattlefmt::skip]
 const MOVED_TO_REST: &[(Over, &[Rows])] = &[
     (Over::Plain, &[QUEUED, MOVED, RECEIVED, ENDED, AT_REST]),
-    (
-        Over::Stamps,
-        &[QUEUED, STAMPED_MOVED, RECEIVED, ENDED, AT_REST],
-    ),
+    (Over::Stamps, &[QUEUED, STAMPED_MOVED, RECEIVED, ENDED, AT_REST]),
 ];
 
 /// Three items were given upwards.
@@ -563,25 +561,10 @@ fn finds_all(rt: &impl Abort, alloc: Global, faults: &[Fault]) -> Tested {
 }
 
 /// A response is kept back, or another outcome is given.
+#[rattlefmt::skip]
 const BROKEN_CALLS: &[Fault] = &[
-    (
-        ANSWERED,
-        &[
-            &[(8, Outcome(1), Waits)],
-            &[(8, Outcome(1), Payload(b"c"))],
-            &[(8, Outcome(1), Status(2, "eof"))],
-        ],
-        Rest::BrokenCall,
-    ),
-    (
-        BROKEN_HANDLER,
-        &[
-            &[(8, Outcome(1), Status(2, ""))],
-            &[(8, Outcome(1), Status(3, "eof"))],
-            &[(8, Outcome(1), Payload(b"\x2a"))],
-        ],
-        Rest::BrokenCall,
-    ),
+    (ANSWERED, &[&[(8, Outcome(1), Waits)], &[(8, Outcome(1), Payload(b"c"))], &[(8, Outcome(1), Status(2, "eof"))]], Rest::BrokenCall),
+    (BROKEN_HANDLER, &[&[(8, Outcome(1), Status(2, ""))], &[(8, Outcome(1), Status(3, "eof"))], &[(8, Outcome(1), Payload(b"\x2a"))]], Rest::BrokenCall),
 ];
 
 #[test]
@@ -602,29 +585,11 @@ fn a_call_that_is_not_run_is_found(rt: HostRuntime) -> Tested {
 }
 
 /// An item is kept back, or another one is given.
+#[rattlefmt::skip]
 const BROKEN_STREAMS: &[Fault] = &[
-    (
-        ITEMS,
-        &[
-            &[(12, RecvUp(1), Waits)],
-            &[(12, RecvUp(1), Payload(b"e"))],
-            &[(15, RecvUp(1), Waits)],
-            &[(15, RecvUp(1), Payload(b"e"))],
-            &[(16, RecvUp(1), Waits)],
-            &[(16, RecvUp(1), Payload(b"e"))],
-            &[(24, Recv(1), Waits)],
-            &[(24, Recv(1), Payload(b"e"))],
-            &[(25, Recv(1), Waits)],
-            &[(25, Recv(1), Payload(b"e"))],
-        ],
-        Rest::BrokenStream,
-    ),
+    (ITEMS, &[&[(12, RecvUp(1), Waits)], &[(12, RecvUp(1), Payload(b"e"))], &[(15, RecvUp(1), Waits)], &[(15, RecvUp(1), Payload(b"e"))], &[(16, RecvUp(1), Waits)], &[(16, RecvUp(1), Payload(b"e"))], &[(24, Recv(1), Waits)], &[(24, Recv(1), Payload(b"e"))], &[(25, Recv(1), Waits)], &[(25, Recv(1), Payload(b"e"))]], Rest::BrokenStream),
     (UNCLOSED, &[&[(7, RecvUp(1), Waits)]], Rest::BrokenStream),
-    (
-        OPEN_MEETS_METHOD,
-        &[&[(8, Recv(1), Waits)]],
-        Rest::BrokenStream,
-    ),
+    (OPEN_MEETS_METHOD, &[&[(8, Recv(1), Waits)]], Rest::BrokenStream),
 ];
 
 #[test]
