@@ -1,13 +1,12 @@
 //! Many calls in one write, and when their answers come.
-use crate::calling::request_of;
 use crate::figures::{Moments, percentile};
-use crate::load::Load;
 use crate::measuring::Measured;
 use crate::raw::write_all;
 use std::alloc::Global;
 use std::io::BufReader;
 use std::sync::Arc;
 use std::thread::{Builder, JoinHandle};
+use ttrpc_load_polled::{Load, request_of};
 use ttrpc_proto::{Error, GenMessage, GenMessageError, MessageHeader, Result};
 use ttrpc_sync::{Runtime, moment};
 use ttrpc_transport::{ClientConnection, PipeConnection};

@@ -1,5 +1,7 @@
 //! What is measured, as the words say it.
-ghost use Rattle.std.specs.Prelude.{◌≡◌, ◌+◌, ◌/◌, ◌%◌, ◌<◌, nat_lt, if◌then◌else◌, IfSome};
+ghost use Rattle.std.specs.Prelude.{◌≡◌, ◌<◌, IfSome};
+
+use ttrpc_load_polled::Load;
 
 /// Whom the calls are made to.
 #[derive(Clone, Copy, Debug)]
@@ -16,14 +18,6 @@ pub enum Target<'a> {
     Streams(&'a str),
     /// Nobody: as many such clients as there are calls rest, at the server at this address, or over readers and writers in memory.
     Rest(Option<&'a str>),
-}
-
-/// How many calls are made, by how many callers, with how many bytes.
-#[derive(Clone, Copy, Debug)]
-pub struct Load {
-    pub calls: usize,
-    pub callers: usize,
-    pub bytes: usize,
 }
 
 /// The load and its target that the words name: an address or `raw`, calls, callers and bytes; or `burst`, an address, calls
@@ -94,21 +88,5 @@ fn count_of(word: &String) -> Option<usize>
     match word.as_str().parse::<usize>() {
         Ok(0) | Err(_) => None,
         Ok(count) => Some(count),
-    }
-}
-
-/// How many of the calls the caller of this number makes, from 0: all make as many, and the first ones one more where calls
-/// are left over.
-pub fn share(load: Load, caller: usize) -> usize
-    ensures { 0 < load.callers → result ≡ load.calls / load.callers + (if nat_lt caller (load.calls % load.callers) then 1 else 0) }
-{
-    if load.callers == 0 {
-        return 0;
-    }
-    let all = load.calls / load.callers;
-    if caller < load.calls % load.callers {
-        all + 1
-    } else {
-        all
     }
 }

@@ -7,7 +7,6 @@ mod calling;
 mod figures;
 mod load;
 mod measuring;
-mod polled;
 mod raw;
 
 use crate::measuring::run;

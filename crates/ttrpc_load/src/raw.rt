@@ -1,10 +1,11 @@
 //! A bare echo over loopback: each byte is written back as it comes.
-use crate::calling::{Echoes, same};
+use crate::calling::Echoes;
 use std::alloc::Global;
 use std::net::{Net, TcpListener, TcpStream};
 use std::rt::Files;
 use std::sync::Arc;
 use std::thread::Builder;
+use ttrpc_load_polled::same;
 use ttrpc_proto::{Error, Result};
 use ttrpc_sync::{Host, Runtime};
 use ttrpc_transport::{ClientConnection, PipeConnection, PipeListener};

@@ -1,23 +1,30 @@
 //! The program's calls, each over a connection of its own.
 use crate::beside::Beside;
-use crate::echo_client::EchoClient;
+use crate::echo_client::{EchoClient, Line};
 use crate::system::{System, nix};
 use crate::telling::{tell_end, tell_item, tell_outcome};
 use futures::Future;
 use std::io::Write;
 use tokio::runtime::LocalRuntime;
-use ttrpc_polled_client::{Client, TcpConnection};
+use ttrpc_polled::{ClientStream, ClientStreamSender};
+use ttrpc_polled_client::{Client, ClientStreamReceiver, TcpConnection};
 use ttrpc_proto::{Error, Result};
 use ttrpc_secure::Plain;
 use ttrpc_wire::Blob;
 
-/// A client, and its connection as long as that isn't over.
+/// An event loop, and a connection that is polled on it as long as it isn't over.
 #[derive(Drop)]
-pub struct Site<R: System> {
+struct Driver<R: System> {
     rt: R,
     runtime: LocalRuntime,
-    client: EchoClient<R>,
     connection: Option<TcpConnection<R, Plain, Plain>>,
+}
+
+/// A client, and what drives its connection.
+#[derive(Drop)]
+pub struct Site<R: System> {
+    driver: Driver<R>,
+    client: EchoClient<R>,
 }
 
 impl<R: System> Site<R> {
@@ -26,85 +33,119 @@ impl<R: System> Site<R> {
         let mut runtime = nix(LocalRuntime::new(&rt))?;
         let connecting = Client::connect(rt.clone()?, runtime.handle(), address, nodelay)?;
         let (client, connection) = nix(runtime.block_on(&rt, connecting))??;
-        Ok(Site {
+        let driver = Driver {
             rt,
             runtime,
-            client: EchoClient { client },
             connection: Some(connection),
+        };
+        Ok(Site {
+            driver,
+            client: EchoClient { client },
         })
     }
 
     /// Calls `Echo`, and tells what came of it.
     pub fn call<W: Write>(&mut self, item: &Blob, output: &mut W) -> Result<u8> {
-        let call = self.client.echo(item);
-        let outcome = done(&self.rt, &mut self.runtime, &mut self.connection, call)?;
+        let outcome = self.driver.done(self.client.echo(item))?;
         tell_outcome(outcome, output)
     }
 
     /// Sends each item to `Chat`, and tells what comes back.
     pub fn chat<W: Write>(&mut self, items: &[Blob], output: &mut W) -> Result<u8> {
-        let (rt, runtime, connection) = (&self.rt, &mut self.runtime, &mut self.connection);
-        let opening = self.client.chat();
-        let mut stream = done(rt, runtime, connection, opening)??;
+        let mut stream = self.driver.done(self.client.chat())??;
         for item in items {
-            let sent = done(rt, runtime, connection, stream.send(item))?;
-            if let Err(error) = sent {
-                return tell_end(error, output);
-            }
-            match done(rt, runtime, connection, stream.recv())? {
-                Ok(item) => tell_item(&item, output)?,
-                Err(error) => return tell_end(error, output),
+            if let Some(status) = self.driver.talk(&mut stream, item, output)? {
+                return Ok(status);
             }
         }
-        done(rt, runtime, connection, stream.close_send())??;
-        match done(rt, runtime, connection, stream.recv())? {
-            Ok(item) => {
-                tell_item(&item, output)?;
-                Ok(1)
-            }
-            Err(error) => tell_end(error, output),
-        }
+        self.driver.end_chat(&mut stream, output)
     }
 
     /// Sends the items to `Sum`, and tells what it answers.
     pub fn sum<W: Write>(&mut self, items: &[Blob], output: &mut W) -> Result<u8> {
-        let (rt, runtime, connection) = (&self.rt, &mut self.runtime, &mut self.connection);
-        let opening = self.client.sum();
-        let mut stream = done(rt, runtime, connection, opening)??;
+        let mut stream = self.driver.done(self.client.sum())??;
         for item in items {
-            done(rt, runtime, connection, stream.send(item))??;
+            self.driver.send(&stream, item)?;
         }
-        let answer = done(rt, runtime, connection, stream.close_and_recv())?;
+        let answer = self.driver.done(stream.close_and_recv())?;
         tell_outcome(answer, output)
     }
 
     /// Asks `Count` for so many items, and tells each.
     pub fn count<W: Write>(&mut self, count: u32, output: &mut W) -> Result<u8> {
-        let request = Blob::from_slice(self.rt.alloc(), &count.to_be_bytes())?;
-        let (rt, runtime, connection) = (&self.rt, &mut self.runtime, &mut self.connection);
-        let opening = self.client.count(&request);
-        let mut stream = done(rt, runtime, connection, opening)??;
+        let request = Blob::from_slice(self.driver.rt.alloc(), &count.to_be_bytes())?;
+        let mut stream = self.driver.done(self.client.count(&request))??;
         for _ in 0..u64::MAX {
-            match done(rt, runtime, connection, stream.recv())? {
-                Ok(Some(item)) => tell_item(&item, output)?,
-                Ok(None) => return tell_end(Error::Eof, output),
-                Err(error) => return tell_end(error, output),
+            if let Some(status) = self.driver.tell_next(&mut stream, output)? {
+                return Ok(status);
             }
         }
         Ok(1)
     }
 }
 
-/// Does this step, while the connection goes on.
-fn done<R: System, F: Future>(
-    rt: &R,
-    runtime: &mut LocalRuntime,
-    connection: &mut Option<TcpConnection<R, Plain, Plain>>,
-    step: F,
-) -> Result<F::Output>
-where
-    F::Output: Drop,
-    requires { F.can_poll step }
-{
-    nix(runtime.block_on(rt, Beside { step, connection }))
+impl<R: System> Driver<R> {
+    /// Does this step, while the connection goes on.
+    fn done<F: Future>(&mut self, step: F) -> Result<F::Output>
+    where
+        F::Output: Drop,
+        requires { F.can_poll step }
+    {
+        let connection = &mut self.connection;
+        nix(self.runtime.block_on(&self.rt, Beside { step, connection }))
+    }
+
+    /// Sends an item, and tells what comes back. Gives the status if that is an end.
+    fn talk<W: Write>(
+        &mut self,
+        stream: &mut ClientStream<Blob, Blob, Line>,
+        item: &Blob,
+        output: &mut W,
+    ) -> Result<Option<u8>> {
+        if let Err(error) = self.done(stream.send(item))? {
+            return Ok(Some(tell_end(error, output)?));
+        }
+        tell_received(self.done(stream.recv())?, output)
+    }
+
+    /// Closes a chat, and tells how it ends.
+    fn end_chat<W: Write>(
+        &mut self,
+        stream: &mut ClientStream<Blob, Blob, Line>,
+        output: &mut W,
+    ) -> Result<u8> {
+        self.done(stream.close_send())??;
+        let told = tell_received(self.done(stream.recv())?, output)?;
+        Ok(told.unwrap_or(1))
+    }
+
+    /// Sends an item.
+    fn send(&mut self, stream: &ClientStreamSender<Blob, Blob, Line>, item: &Blob) -> Result<()> {
+        self.done(stream.send(item))?
+    }
+
+    /// Receives the next item, and tells it. Gives the status if there is none.
+    fn tell_next<W: Write>(
+        &mut self,
+        stream: &mut ClientStreamReceiver<Blob, R, Plain, Plain>,
+        output: &mut W,
+    ) -> Result<Option<u8>> {
+        let received = match self.done(stream.recv())? {
+            Ok(Some(item)) => Ok(item),
+            Ok(None) => Err(Error::Eof),
+            Err(error) => Err(error),
+        };
+        tell_received(received, output)
+    }
+}
+
+/// Tells what was received. Gives the status if that is an end.
+fn tell_received<W: Write>(received: Result<Blob>, output: &mut W) -> Result<Option<u8>> {
+    match received {
+        Ok(item) => {
+            tell_item(&item, output)?;
+            Ok(None)
+        }
+        Err(error) => Ok(Some(tell_end(error, output)?)),
+    }
 }

@@ -43,35 +43,52 @@ impl<L: StreamLine> Chatting<L> {
         }
     }
 
+    /// Polls for an item. Ready: none if one came, which is then sent back, or how the chat ends.
+    fn poll_item(&mut self, cx: &mut Context<'_>) -> Poll<Option<Result<()>>>
+        ensures registered { OnPending result (Covers cx.new (ChattingNeeds L.came self.new)) }
+        ensures kept { Keeps cx.old cx.new }
+    {
+        match self.receiver.poll_recv(cx) {
+            Poll::Pending => {
+                self.turn = Turn::Receives;
+                Poll::Pending
+            }
+            Poll::Ready(Ok(Some(item))) => {
+                self.turn = Turn::Sends(Sending::Sends(item));
+                Poll::Ready(None)
+            }
+            Poll::Ready(Ok(None)) => Poll::Ready(Some(Ok(()))),
+            Poll::Ready(Err(error)) => Poll::Ready(Some(Err(error))),
+        }
+    }
+
+    /// Polls an item that is sent. Ready: none if it has left, or how the chat ends.
+    fn poll_sending(&mut self, sending: Sending, cx: &mut Context<'_>) -> Poll<Option<Result<()>>>
+        ensures registered { OnPending result (Covers cx.new (ChattingNeeds L.came self.new)) }
+        ensures kept { Keeps cx.old cx.new }
+    {
+        let mut sending = sending;
+        match self.sender.poll_sending(&mut sending, cx) {
+            Poll::Pending => {
+                self.turn = Turn::Sends(sending);
+                Poll::Pending
+            }
+            Poll::Ready(Ok(())) => {
+                self.turn = Turn::Receives;
+                Poll::Ready(None)
+            }
+            Poll::Ready(Err(error)) => Poll::Ready(Some(Err(error))),
+        }
+    }
+
     /// Goes on by one turn. Ready: what came of it, which is the end unless it is none.
     fn poll_turn(&mut self, cx: &mut Context<'_>) -> Poll<Option<Result<()>>>
         ensures registered { OnPending result (Covers cx.new (ChattingNeeds L.came self.new)) }
         ensures kept { Keeps cx.old cx.new }
     {
         match replace(&mut self.turn, Turn::Done) {
-            Turn::Receives => match self.receiver.poll_recv(cx) {
-                Poll::Pending => {
-                    self.turn = Turn::Receives;
-                    Poll::Pending
-                }
-                Poll::Ready(Ok(Some(item))) => {
-                    self.turn = Turn::Sends(Sending::Sends(item));
-                    Poll::Ready(None)
-                }
-                Poll::Ready(Ok(None)) => Poll::Ready(Some(Ok(()))),
-                Poll::Ready(Err(error)) => Poll::Ready(Some(Err(error))),
-            },
-            Turn::Sends(mut sending) => match self.sender.poll_sending(&mut sending, cx) {
-                Poll::Pending => {
-                    self.turn = Turn::Sends(sending);
-                    Poll::Pending
-                }
-                Poll::Ready(Ok(())) => {
-                    self.turn = Turn::Receives;
-                    Poll::Ready(None)
-                }
-                Poll::Ready(Err(error)) => Poll::Ready(Some(Err(error))),
-            },
+            Turn::Receives => self.poll_item(cx),
+            Turn::Sends(sending) => self.poll_sending(sending, cx),
             Turn::Done => Poll::Ready(Some(Err(Error::LocalClosed))),
         }
     }

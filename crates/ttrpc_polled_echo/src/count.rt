@@ -43,33 +43,60 @@ impl<L: StreamLine> Counting<L> {
         }
     }
 
+    /// Polls for the request. Ready: none if it came and asks for an item, or how the count ends.
+    fn poll_request(
+        &mut self,
+        opening: ServerStreamOpening<Blob, Blob, L>,
+        cx: &mut Context<'_>,
+    ) -> Poll<Option<Result<()>>>
+        ensures registered { OnPending result (Covers cx.new (CountingNeeds L.came self.new.at)) }
+        ensures kept { Keeps cx.old cx.new }
+    {
+        let mut opening = opening;
+        match opening.poll(cx) {
+            Poll::Pending => {
+                self.at = Counted::Opens(opening);
+                Poll::Pending
+            }
+            Poll::Ready(Ok((request, sender))) => {
+                let left = number_in(request.as_slice());
+                Poll::Ready(self.send_next(sender, left))
+            }
+            Poll::Ready(Err(error)) => Poll::Ready(Some(Err(error))),
+        }
+    }
+
+    /// Polls an item that is sent, behind which so many others are still to be sent. Ready: none if it has left and another is
+    /// sent, or how the count ends.
+    fn poll_sending(
+        &mut self,
+        sender: ServerStreamSender<Blob, L>,
+        sending: Sending,
+        left: u64,
+        cx: &mut Context<'_>,
+    ) -> Poll<Option<Result<()>>>
+        ensures registered { OnPending result (Covers cx.new (CountingNeeds L.came self.new.at)) }
+        ensures kept { Keeps cx.old cx.new }
+    {
+        let mut sending = sending;
+        match sender.poll_sending(&mut sending, cx) {
+            Poll::Pending => {
+                self.at = Counted::Sends(sender, sending, left);
+                Poll::Pending
+            }
+            Poll::Ready(Ok(())) => Poll::Ready(self.send_next(sender, left)),
+            Poll::Ready(Err(error)) => Poll::Ready(Some(Err(error))),
+        }
+    }
+
     /// Goes on by one turn. Ready: what came of it, which is the end unless it is none.
     fn poll_turn(&mut self, cx: &mut Context<'_>) -> Poll<Option<Result<()>>>
         ensures registered { OnPending result (Covers cx.new (CountingNeeds L.came self.new.at)) }
         ensures kept { Keeps cx.old cx.new }
     {
         match replace(&mut self.at, Counted::Done) {
-            Counted::Opens(mut opening) => match opening.poll(cx) {
-                Poll::Pending => {
-                    self.at = Counted::Opens(opening);
-                    Poll::Pending
-                }
-                Poll::Ready(Ok((request, sender))) => {
-                    let left = number_in(request.as_slice());
-                    Poll::Ready(self.send_next(sender, left))
-                }
-                Poll::Ready(Err(error)) => Poll::Ready(Some(Err(error))),
-            },
-            Counted::Sends(sender, mut sending, left) => {
-                match sender.poll_sending(&mut sending, cx) {
-                    Poll::Pending => {
-                        self.at = Counted::Sends(sender, sending, left);
-                        Poll::Pending
-                    }
-                    Poll::Ready(Ok(())) => Poll::Ready(self.send_next(sender, left)),
-                    Poll::Ready(Err(error)) => Poll::Ready(Some(Err(error))),
-                }
-            }
+            Counted::Opens(opening) => self.poll_request(opening, cx),
+            Counted::Sends(sender, sending, left) => self.poll_sending(sender, sending, left, cx),
             Counted::Done => Poll::Ready(Some(Err(Error::LocalClosed))),
         }
     }

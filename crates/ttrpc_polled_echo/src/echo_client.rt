@@ -16,7 +16,7 @@ pub struct EchoClient<R: System> {
 }
 
 /// What the program's streams share.
-type Line = ClientLine<Plain, Plain>;
+pub type Line = ClientLine<Plain, Plain>;
 
 /// A stream that is opened.
 type Opening<K, R> = ClientOpening<K, R, Plain, Plain>;

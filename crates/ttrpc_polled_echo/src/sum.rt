@@ -29,6 +29,12 @@ impl<L: StreamLine> Summing<L> {
         }
     }
 
+    /// Counts an item.
+    fn add(&mut self, item: &Blob) {
+        self.items = self.items.saturating_add(1);
+        self.bytes = self.bytes.saturating_add(item.len() as u64);
+    }
+
     /// Both numbers, eight bytes each, the greatest first.
     fn told(&self) -> Result<Blob> {
         let mut told = Vec::with_capacity(self.alloc, 16)?;
@@ -50,10 +56,7 @@ impl<L: StreamLine> Future for Summing<L> {
         for _ in 0..TURNS {
             match self.receiver.poll_recv(cx) {
                 Poll::Pending => return Poll::Pending,
-                Poll::Ready(Ok(Some(item))) => {
-                    self.items = self.items.saturating_add(1);
-                    self.bytes = self.bytes.saturating_add(item.len() as u64);
-                }
+                Poll::Ready(Ok(Some(item))) => self.add(&item),
                 Poll::Ready(Ok(None)) => return Poll::Ready(self.told()),
                 Poll::Ready(Err(error)) => return Poll::Ready(Err(error)),
             }

@@ -8,11 +8,11 @@ use futures::task::{Context, Poll, Waker};
 use std::alloc::Global;
 use std::cell::Cell;
 use std::io::{self, ErrorKind};
-use std::process::Abort;
 use std::sync::Arc;
 use std::test::Fail;
 use tokio::io::{AsyncRead, AsyncWrite};
 use tokio::runtime::LocalRuntime;
+use ttrpc_bench_polled::checks::ensure;
 use ttrpc_polled::{Held, OUTLET_LIMIT, Outlet};
 use ttrpc_polled_client::{Client, ClientConnection};
 use ttrpc_secure::Plain;
@@ -141,9 +141,8 @@ fn gathered(alloc: Global, length: usize) -> Result<(usize, usize), Fail> {
 #[test]
 fn an_outlet_keeps_no_frame_behind_its_limit(rt: HostRuntime) -> Result<(), Fail> {
     let (kept, left) = gathered(rt.alloc(), 409_600)?;
-    assert!(rt; kept < OUTLET_LIMIT + FRAME, "{kept}");
-    assert_eq!(rt; kept.saturating_add(left), 409_600);
-    Ok(())
+    let is_so = kept < OUTLET_LIMIT + FRAME && kept.saturating_add(left) == 409_600;
+    ensure(is_so, "it keeps too much, or loses something")
 }
 
 /// A client that writes to one who takes all, and to whom nothing comes.
@@ -180,8 +179,10 @@ fn offers_of_a_long_call<R: System>(rt: &R) -> Result<(u32, usize), Fail> {
 /// The frame has a header of 10 bytes, and a request of 11 for the service, 6 for the method, 4 before the payload, and that.
 #[test]
 fn a_long_frame_leaves_by_one_write(rt: HostRuntime) -> Result<(), Fail> {
-    assert_eq!(rt; offers_of_a_long_call(&rt)?, (1, 100_031));
-    Ok(())
+    ensure(
+        offers_of_a_long_call(&rt)? == (1, 100_031),
+        "it leaves by other writes",
+    )
 }
 
 /// A frame of a stream that a client has not opened.
@@ -234,7 +235,6 @@ fn left_by_one_poll<R: System>(rt: &R, frames: u32) -> Result<(bool, u32), Fail>
 #[test]
 fn one_poll_leaves_frames_for_the_next(rt: HostRuntime) -> Result<(), Fail> {
     let (is_pending, left) = left_by_one_poll(&rt, 10_000)?;
-    assert!(rt; is_pending);
-    assert!(rt; 0 < left && left < 10_000, "{left}");
-    Ok(())
+    let is_so = is_pending && 0 < left && left < 10_000;
+    ensure(is_so, "it reads nothing, or all")
 }

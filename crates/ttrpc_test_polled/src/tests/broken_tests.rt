@@ -8,11 +8,11 @@ use futures::future::Either;
 use futures::task::{Context, Poll, Source, Waker};
 use std::alloc::Global;
 use std::io::{self, ErrorKind};
-use std::process::Abort;
 use std::test::Fail;
 use tokio::io::{AsyncRead, AsyncWrite, DuplexStream};
 use tokio::runtime::LocalRuntime;
 use ttrpc_bench_polled::acts::{Act, Script};
+use ttrpc_bench_polled::checks::{ensure, ensure_at};
 use ttrpc_bench_polled::lines::{Line, Side, Speaker};
 use ttrpc_bench_polled::parts::{Fault, Parts};
 
@@ -82,8 +82,8 @@ fn cut_acts(alloc: Global, cut: usize) -> Result<Vec<Act>, Fail> {
     Ok(acts)
 }
 
-/// Each stream is told so where the connection is cut behind so many bytes.
-fn is_told_of_a_cut<R: System + Abort>(rt: &R, cut: usize) -> Result<(), Fail> {
+/// Whether each stream is told so where the connection is cut behind so many bytes.
+fn is_told_of_a_cut<R: System>(rt: &R, cut: usize) -> Result<bool, Fail> {
     let acts = cut_acts(rt.alloc(), cut)?;
     let said = SAID.get(..cut).unwrap_or(&[]);
     let lines = [
@@ -92,15 +92,13 @@ fn is_told_of_a_cut<R: System + Abort>(rt: &R, cut: usize) -> Result<(), Fail> {
         Line::DownEnds,
         Line::UpEnds,
     ];
-    let fault = speak(rt, 4096, acts.as_slice(), &lines)?;
-    assert_eq!(rt; fault, None, "{cut}");
-    Ok(())
+    Ok(speak(rt, 4096, acts.as_slice(), &lines)?.is_none())
 }
 
 #[test]
 fn each_stream_is_told_once_that_its_connection_was_cut(rt: HostRuntime) -> Result<(), Fail> {
     for cut in 0..=SAID.len() {
-        is_told_of_a_cut(&rt, cut)?;
+        ensure_at(is_told_of_a_cut(&rt, cut)?, "behind so many bytes", cut)?;
     }
     Ok(())
 }
@@ -178,8 +176,7 @@ const BESIDE_UNREAD: &[Act] = &[
 fn streams_receive_beside_bytes_that_are_never_read(rt: HostRuntime) -> Result<(), Fail> {
     let lines = [Line::Up(TWO_STREAMS), Line::Down(SAID)];
     let fault = run_beside_unread(&rt, BESIDE_UNREAD, &lines)?;
-    assert_eq!(rt; fault, None);
-    Ok(())
+    ensure(fault.is_none(), "an act or a line comes otherwise")
 }
 
 /// A reader to which nothing comes.
@@ -268,7 +265,7 @@ fn run_failing<R: System>(rt: &R, left: usize, acts: &[Act]) -> Result<Option<Fa
 fn a_failing_writer_ends_all_calls(rt: HostRuntime) -> Result<(), Fail> {
     for left in 0..38 {
         let fault = run_failing(&rt, left, FAILED)?;
-        assert_eq!(rt; fault, None, "{left}");
+        ensure_at(fault.is_none(), "behind so many bytes", left)?;
     }
     Ok(())
 }

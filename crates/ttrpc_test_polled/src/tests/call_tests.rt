@@ -1,12 +1,12 @@
 use crate::tests::peer::Manners;
-use crate::tests::sites::{Site, System, Wired, done, make_site, make_wired, request};
+use crate::tests::sites::{Site, System, Wired, done, is_answered, make_site, make_wired, request};
 use futures::Future;
 use futures::future::{Either, join, select};
 use futures::task::{Context, Poll};
-use std::process::Abort;
 use std::test::Fail;
 use std::time::{Duration, Instant};
 use tokio::runtime::LocalRuntime;
+use ttrpc_bench_polled::checks::ensure;
 use ttrpc_polled::Timed;
 use ttrpc_polled_client::{Client, ClientRequest};
 use ttrpc_proto::{Error, Response, Result as RpcResult};
@@ -37,13 +37,6 @@ fn echo<R: System>(
     Ok(client.request(request)?)
 }
 
-/// A call came to this payload.
-fn is_answered(rt: &impl Abort, outcome: RpcResult<Response>, payload: &[u8]) -> Result<(), Fail> {
-    let response = outcome?;
-    assert_eq!(rt; response.payload.as_slice(), payload);
-    Ok(())
-}
-
 /// Two calls.
 fn two_calls<R: System>(rt: &R, client: &Client<R, Plain, Plain>) -> Result<(Call, Call), Fail> {
     let first = echo(rt, client, b"1", 0)?;
@@ -67,8 +60,8 @@ fn joined_calls_get_their_own_answers(rt: HostRuntime) -> Result<(), Fail> {
     let site = make_site(&rt, 4096, Manners::AnswersBackwards)?;
     let calls = two_calls(&rt, &site.client)?;
     let (first, second) = both_outcomes(&rt, site, calls)?;
-    is_answered(&rt, first, b"1")?;
-    is_answered(&rt, second, b"2")
+    let is_so = is_answered(&first, b"1") && is_answered(&second, b"2");
+    ensure(is_so, "a call has another answer")
 }
 
 /// What a call of a site comes to.
@@ -88,7 +81,10 @@ fn a_long_call_passes_a_narrow_pipe(rt: HostRuntime) -> Result<(), Fail> {
     let site = make_site(&rt, 100, Manners::Echoes)?;
     let call = echo(&rt, &site.client, long.as_slice(), 0)?;
     let outcome = outcome_of(&rt, site, call)?;
-    is_answered(&rt, outcome, long.as_slice())
+    ensure(
+        is_answered(&outcome, long.as_slice()),
+        "it has another answer",
+    )
 }
 
 /// A call whose bytes are many, and one with a limit of 50 ms.
@@ -164,8 +160,10 @@ fn a_call_ends_whose_connection_is_dropped(rt: HostRuntime) -> Result<(), Fail> 
     let site = make_site(&rt, 100, Manners::IsSilent)?;
     let call = echo(&rt, &site.client, b"2", 0)?;
     let outcome = dropped_outcome(&rt, site, call)?;
-    assert!(rt; matches!(outcome, Err(Error::LocalClosed)));
-    Ok(())
+    ensure(
+        matches!(&outcome, Err(Error::LocalClosed)),
+        "it ends otherwise",
+    )
 }
 
 /// A client that is dropped as this is polled.

@@ -1,12 +1,12 @@
 //! Clones of a client and of a sender, behind whose original they go on; and what is dropped of a stream.
-use crate::tests::lone::Lone;
 use crate::tests::peer::Manners;
-use crate::tests::sites::{Ends, Site, System, done, make_site, request};
+use crate::tests::sites::{Ends, Site, System, done, is_answered, is_item, make_site, request};
 use futures::future::poll_immediate;
-use std::process::Abort;
 use std::sync::Arc;
 use std::test::Fail;
 use tokio::runtime::LocalRuntime;
+use ttrpc_bench_polled::checks::ensure;
+use ttrpc_bench_polled::lone::Lone;
 use ttrpc_polled::{StreamInner, StreamReceiver, StreamSender};
 use ttrpc_polled_client::{Client, ClientLine};
 use ttrpc_proto::{Response, Result as RpcResult};
@@ -29,9 +29,8 @@ fn clone_calls<R: System>(rt: &R) -> Result<RpcResult<Response>, Fail> {
 
 #[test]
 fn a_clone_calls_behind_its_original(rt: HostRuntime) -> Result<(), Fail> {
-    let response = clone_calls(&rt)??;
-    assert_eq!(rt; response.payload.as_slice(), b"1".as_slice());
-    Ok(())
+    let outcome = clone_calls(&rt)?;
+    ensure(is_answered(&outcome, b"1"), "it has another answer")
 }
 
 /// The line of a client over no transform.
@@ -93,19 +92,19 @@ fn clone_sends<R: System>(rt: &R) -> Result<(RpcResult<Blob>, RpcResult<()>), Fa
 #[test]
 fn a_clone_sends_behind_its_original(rt: HostRuntime) -> Result<(), Fail> {
     let (item, last) = clone_sends(&rt)?;
-    assert_eq!(rt; item?.as_slice(), b"a".as_slice());
-    assert!(rt; last.is_ok());
-    Ok(())
+    ensure(is_item(&item, b"a") && last.is_ok(), "an item is lost")
 }
 
 #[test]
 fn a_dropped_receiver_tells_its_line_once(rt: HostRuntime) -> Result<(), Fail> {
     let line = Arc::new(rt.alloc(), Lone::new(7u32))?;
     let receiver = StreamReceiver::new(rt.alloc(), Arc::try_clone(&line)?, 7);
-    assert_eq!(rt; line.left(), (0, 0));
+    let before = line.left();
     drop(receiver);
-    assert_eq!(rt; line.left(), (1, 0));
-    Ok(())
+    ensure(
+        before == (0, 0) && line.left() == (1, 0),
+        "it tells otherwise",
+    )
 }
 
 #[test]
@@ -114,10 +113,12 @@ fn only_the_last_sender_tells_its_line(rt: HostRuntime) -> Result<(), Fail> {
     let sender = StreamSender::new(rt.alloc(), Arc::try_clone(&line)?, 7)?;
     let clone = sender.try_clone()?;
     drop(sender);
-    assert_eq!(rt; line.left(), (0, 0));
+    let before = line.left();
     drop(clone);
-    assert_eq!(rt; line.left(), (0, 1));
-    Ok(())
+    ensure(
+        before == (0, 0) && line.left() == (0, 1),
+        "it tells otherwise",
+    )
 }
 
 /// Whether an item waits to be sent whose call is polled once, and dropped then.
@@ -159,7 +160,8 @@ fn first_echo<R: System>(rt: &R) -> Result<(bool, RpcResult<Blob>), Fail> {
 #[test]
 fn an_item_arrives_whose_call_is_dropped(rt: HostRuntime) -> Result<(), Fail> {
     let (is_dropped, item) = first_echo(&rt)?;
-    assert!(rt; is_dropped);
-    assert_eq!(rt; item?.as_slice(), b"a".as_slice());
-    Ok(())
+    ensure(
+        is_dropped && is_item(&item, b"a"),
+        "another item comes first",
+    )
 }

@@ -2,8 +2,8 @@
 use crate::tests::peer::Manners;
 use crate::tests::sites::{Site, System, done, make_site, request};
 use std::alloc::Global;
-use std::process::Abort;
 use std::test::Fail;
+use ttrpc_bench_polled::checks::ensure;
 use ttrpc_client::{ClientCore, ClientKind};
 use ttrpc_polled::{
     ClientStream, ClientStreamSender, SSReceiver, StreamInner, StreamReceiver, StreamSender,
@@ -65,18 +65,15 @@ const ITEM: &[u8] = b"\0\0\0\x01\0\0\0\x01\x03\0\x2a";
 
 const ITEM_AND_END: &[u8] = b"\0\0\0\x01\0\0\0\x01\x03\0\x2a\0\0\0\0\0\0\0\x01\x03\x05";
 
-/// What an item comes to that is stepped twice, the frame of which leaves between.
-fn steps_of_sending(
-    alloc: Global,
-    sender: &StreamSender<PlainLine>,
-) -> Result<(bool, bool, bool), Fail> {
+/// Whether an item has no answer as it is stepped twice, and is sent once its frame has left.
+fn steps_of_sending(alloc: Global, sender: &StreamSender<PlainLine>) -> Result<bool, Fail> {
     let mut core = lent(alloc, b"")?;
     let mut sending = sender.send(Vec::from_slice(alloc, b"a")?);
     let first = sending.step(&mut core).is_none();
     let second = sending.step(&mut core).is_none();
     write_all(&mut core);
     let last = matches!(sending.step(&mut core), Some(Ok(())));
-    Ok((first, second, last))
+    Ok(first && second && last)
 }
 
 /// Whether the item came.
@@ -102,10 +99,9 @@ fn steps_of_receiving(
 #[test]
 fn items_are_stepped(rt: HostRuntime) -> Result<(), Fail> {
     let (sender, mut receiver) = first_stream(&rt)?.split();
-    let sent = steps_of_sending(rt.alloc(), &sender)?;
-    assert_eq!(rt; sent, (true, true, true));
-    assert!(rt; steps_of_receiving(rt.alloc(), &mut receiver)?);
-    Ok(())
+    let is_so = steps_of_sending(rt.alloc(), &sender)?
+        && steps_of_receiving(rt.alloc(), &mut receiver)?;
+    ensure(is_so, "a step comes to something else")
 }
 
 /// Whether a message is received, and then nothing yet.
@@ -152,10 +148,10 @@ fn steps_of_closing(alloc: Global, inner: StreamInner<PlainLine>) -> Result<bool
 
 #[test]
 fn messages_are_stepped(rt: HostRuntime) -> Result<(), Fail> {
-    assert!(rt; steps_of_messages(rt.alloc(), first_stream(&rt)?)?);
-    assert!(rt; steps_to_the_end(rt.alloc(), first_stream(&rt)?)?);
-    assert!(rt; steps_of_closing(rt.alloc(), first_stream(&rt)?)?);
-    Ok(())
+    let is_so = steps_of_messages(rt.alloc(), first_stream(&rt)?)?
+        && steps_to_the_end(rt.alloc(), first_stream(&rt)?)?
+        && steps_of_closing(rt.alloc(), first_stream(&rt)?)?;
+    ensure(is_so, "a step comes to something else")
 }
 
 /// Whether a stream is opened on such a core, and once alone.
@@ -174,6 +170,8 @@ fn an_opening_is_stepped(rt: HostRuntime) -> Result<(), Fail> {
         ends: _ends,
     } = make_site(&rt, 4096, Manners::Echoes)?;
     let opening = client.new_stream(request(rt.alloc(), "Chat", b"", 0)?, true, true)?;
-    assert!(rt; steps_of_opening(rt.alloc(), opening));
-    Ok(())
+    ensure(
+        steps_of_opening(rt.alloc(), opening),
+        "a step comes to something else",
+    )
 }

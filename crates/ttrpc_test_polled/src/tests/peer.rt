@@ -50,21 +50,27 @@ impl PeerHeld {
         }
     }
 
-    // Takes what came for it, and answers.
+    /// Takes a job: whether there was one.
+    fn take_job(&mut self) -> bool {
+        let Some(job) = self.core.take_job() else {
+            return false;
+        };
+        let is_kept = if job.stream {
+            self.streams.push(job.id).is_ok()
+        } else {
+            self.calls.push((job.id, job.request.payload)).is_ok()
+        };
+        if !is_kept {
+            self.core.fail(Error::NoMemory);
+        }
+        true
+    }
+
+    /// Takes what came for it, and answers.
     fn serve(&mut self, alloc: Global) {
         for _ in 0..u64::MAX {
-            let Some(job) = self.core.take_job() else {
+            if !self.take_job() {
                 break;
-            };
-            let (id, stream) = (job.id, job.stream);
-            let request = job.request;
-            let is_kept = if stream {
-                self.streams.push(id).is_ok()
-            } else {
-                self.calls.push((id, request.payload)).is_ok()
-            };
-            if !is_kept {
-                self.core.fail(Error::NoMemory);
             }
         }
         match self.manners {
@@ -86,12 +92,9 @@ impl PeerHeld {
             let Some((id, payload)) = self.calls.pop() else {
                 return;
             };
-            let mut response = Response::init_status(
-                alloc,
-                get_status(Code::OK, String::new(alloc)),
-            );
-            response.payload = payload;
-            let answered = self.core.answer(alloc, id, &Ok(response));
+            let answered = self
+                .core
+                .answer(alloc, id, &Ok(response_of(alloc, payload)));
             leave_without_memory(&mut self.core, &answered);
         }
     }
@@ -101,6 +104,14 @@ impl PeerHeld {
             echo(alloc, &mut self.core, *id);
         }
     }
+}
+
+/// The response of an OK status with this payload.
+fn response_of(alloc: Global, payload: Blob) -> Response {
+    let status = get_status(Code::OK, String::new(alloc));
+    let mut response = Response::init_status(alloc, status);
+    response.payload = payload;
+    response
 }
 
 // A peer that finds no memory goes away, so that its client doesn't wait for it.

@@ -15,9 +15,10 @@ use tokio::runtime::{Handle, LocalRuntime};
 use ttrpc_bench_polled::registry::registry;
 use ttrpc_polled::{Link, Timed};
 use ttrpc_polled_client::{Client, ClientConnection};
-use ttrpc_proto::{Request, RequestInit};
+use ttrpc_proto::{Request, RequestInit, Response, Result as RpcResult};
 use ttrpc_secure::{ConnectionContext, HookOutput, Plain};
 use ttrpc_server::{Rules, ServerCore};
+use ttrpc_wire::Blob;
 
 /// What a test needs of the system.
 pub trait System: Timed + Wait + Net + RandomSource {}
@@ -159,6 +160,22 @@ where
     match runtime.block_on(rt, select(future, ends))? {
         Either::Left((output, ends)) => Ok((output, ends)),
         Either::Right(_) => Err("both ends are over first".into()),
+    }
+}
+
+/// Whether a call came to this payload.
+pub fn is_answered(outcome: &RpcResult<Response>, payload: &[u8]) -> bool {
+    match outcome {
+        Ok(response) => response.payload.as_slice() == payload,
+        Err(_) => false,
+    }
+}
+
+/// Whether this item came.
+pub fn is_item(outcome: &RpcResult<Blob>, item: &[u8]) -> bool {
+    match outcome {
+        Ok(came) => came.as_slice() == item,
+        Err(_) => false,
     }
 }
 

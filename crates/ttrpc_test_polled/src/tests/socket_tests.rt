@@ -8,11 +8,11 @@ use futures::future::{Either, Ready, join};
 use futures::task::{Context, Poll};
 use futures::{Future, StreamExt};
 use std::net::SocketAddr;
-use std::process::Abort;
 use std::test::Fail;
 use tokio::runtime::LocalRuntime;
 use ttrpc_bench::{Rejects, Stamps};
 use ttrpc_bench_polled::acts::{Act, Script};
+use ttrpc_bench_polled::checks::ensure;
 use ttrpc_bench_polled::lines::{Line, Side, Speaker};
 use ttrpc_bench_polled::parts::{Fault, Parts};
 use ttrpc_polled::{Listener, Socket};
@@ -204,10 +204,8 @@ fn talk_to_the_end<R: System>(rt: &R, near_stays: bool) -> Result<bool, Fail> {
 
 #[test]
 fn sockets_talk_by_polls_to_the_end(rt: HostRuntime) -> Result<(), Fail> {
-    for near_stays in [true, false] {
-        assert!(rt; talk_to_the_end(&rt, near_stays)?, "{near_stays}");
-    }
-    Ok(())
+    let is_so = talk_to_the_end(&rt, true)? && talk_to_the_end(&rt, false)?;
+    ensure(is_so, "something else is heard")
 }
 
 /// Whether the writes of both ends go out at once exactly where each is told so, the far end by its listener.
@@ -218,10 +216,8 @@ fn is_told_of_delay<R: System>(rt: &R, near: bool, far: bool) -> Result<bool, Fa
 
 #[test]
 fn delay_is_off_where_it_is_told(rt: HostRuntime) -> Result<(), Fail> {
-    for (near, far) in [(true, false), (false, true)] {
-        assert!(rt; is_told_of_delay(&rt, near, far)?);
-    }
-    Ok(())
+    let is_so = is_told_of_delay(&rt, true, false)? && is_told_of_delay(&rt, false, true)?;
+    ensure(is_so, "an end has the other setting")
 }
 
 /// A call and its answer.
@@ -280,10 +276,8 @@ fn call<R: System>(rt: &R, nodelay: bool) -> Result<Option<Fault>, Fail> {
 
 #[test]
 fn a_client_connects_and_calls(rt: HostRuntime) -> Result<(), Fail> {
-    for nodelay in [true, false] {
-        assert_eq!(rt; call(&rt, nodelay)?, None);
-    }
-    Ok(())
+    let is_so = call(&rt, true)?.is_none() && call(&rt, false)?.is_none();
+    ensure(is_so, "an act or a line comes otherwise")
 }
 
 /// Whether a client whose hook refuses its socket is refused by that hook's text.
@@ -308,9 +302,7 @@ fn is_known<R: System>(rt: &R) -> Result<bool, Fail> {
 
 #[test]
 fn a_hook_looks_at_the_socket(rt: HostRuntime) -> Result<(), Fail> {
-    assert!(rt; is_refused(&rt)?);
-    assert!(rt; is_known(&rt)?);
-    Ok(())
+    ensure(is_refused(&rt)? && is_known(&rt)?, "a hook isn't asked")
 }
 
 /// A call and its answer over a connection that is one of these tasks.
@@ -338,6 +330,8 @@ fn call_spawned<R: System>(rt: &R) -> Result<Option<Fault>, Fail> {
 
 #[test]
 fn a_spawned_connection_is_polled(rt: HostRuntime) -> Result<(), Fail> {
-    assert_eq!(rt; call_spawned(&rt)?, None);
-    Ok(())
+    ensure(
+        call_spawned(&rt)?.is_none(),
+        "an act or a line comes otherwise",
+    )
 }

@@ -1,14 +1,13 @@
 //! What a server says to a client that speaks line by line. Frames are written by hand.
 use crate::tests::gate::Gate;
-use crate::tests::runs::{System, pipes, run_beside, run_lines, speaker};
-use crate::tests::sites::{Behind, make_server};
+use crate::tests::runs::{Bench, System, make_bench, run_beside, run_lines, speaker};
+use crate::tests::sites::Behind;
 use futures::Future;
 use futures::task::{Context, Poll};
-use std::alloc::{AllocGlobal, Global};
-use std::process::Abort;
+use std::alloc::Global;
 use std::sync::Arc;
 use std::test::Fail;
-use tokio::runtime::LocalRuntime;
+use ttrpc_bench_polled::checks::{ensure, ensure_at};
 use ttrpc_bench_polled::lines::Line::{self, *};
 use ttrpc_bench_polled::parts::Fault;
 use ttrpc_bench_polled::recorded::{Said, served_to_go, served_to_go_bare, served_to_rust};
@@ -88,12 +87,12 @@ fn row(number: u8) -> Option<(&'static [u8], &'static [u8])> {
 #[test]
 fn frames_have_their_answers(rt: HostRuntime) -> Result<(), Fail> {
     let gate = Arc::new(rt.alloc(), Gate::new(rt.alloc()))?;
-    for number in 0..100 {
+    for number in 0..100u8 {
         if let Some((frames, answers)) = row(number) {
+            let lines = [Up(frames), Down(answers), UpEnds, DownEnds];
             for room in [1, 4096] {
-                let lines = [Up(frames), Down(answers), UpEnds, DownEnds];
                 let fault = run_lines(&rt, &gate, room, false, &lines)?;
-                assert_eq!(rt; fault, None, "{number}, {room}");
+                ensure_at(fault.is_none(), "a row", usize::from(number))?;
             }
         }
     }
@@ -108,9 +107,9 @@ const IN_VAIN: &[Line<'static>] = &[Up(OPENS), UpEnds, DownEnds];
 #[test]
 fn answers_come_behind_the_end_of_input(rt: HostRuntime) -> Result<(), Fail> {
     let gate = Arc::new(rt.alloc(), Gate::new(rt.alloc()))?;
-    assert_eq!(rt; run_lines(&rt, &gate, 4096, false, AT_ONCE)?, None);
-    assert_eq!(rt; run_lines(&rt, &gate, 4096, false, IN_VAIN)?, None);
-    Ok(())
+    let is_so = run_lines(&rt, &gate, 4096, false, AT_ONCE)?.is_none()
+        && run_lines(&rt, &gate, 4096, false, IN_VAIN)?.is_none();
+    ensure(is_so, "a line comes otherwise")
 }
 
 /// A handler that waits, one that lets it go on, and two calls behind them, in one write.
@@ -143,21 +142,15 @@ const WAKES: &[Line<'static>] = &[
 #[test]
 fn a_woken_handler_goes_before_calls_that_wait(rt: HostRuntime) -> Result<(), Fail> {
     let gate = Arc::new(rt.alloc(), Gate::new(rt.alloc()))?;
-    assert_eq!(rt; run_lines(&rt, &gate, 4096, false, WAKES)?, None);
-    Ok(())
+    let fault = run_lines(&rt, &gate, 4096, false, WAKES)?;
+    ensure(fault.is_none(), "a line comes otherwise")
 }
 
 /// This conversation goes as stated.
-fn hold<R: System + Abort>(
-    rt: &R,
-    gate: &Arc<Gate, Global>,
-    bare: bool,
-    said: Said,
-) -> Result<(), Fail> {
+fn hold<R: System>(rt: &R, gate: &Arc<Gate, Global>, bare: bool, said: Said) -> Result<(), Fail> {
     let (name, lines) = said;
     let fault = run_lines(rt, gate, 4096, bare, lines)?;
-    assert_eq!(rt; fault, None, "{name}, {bare}");
-    Ok(())
+    ensure(fault.is_none(), name)
 }
 
 #[test]
@@ -202,8 +195,7 @@ fn all_calls_are_answered_behind_the_end_of_input(rt: HostRuntime) -> Result<(),
         put(&mut echoed, ECHOED, u32::from(number), Some(number))?;
     }
     let fault = answer_behind(&rt, &gate, asked.as_slice(), echoed.as_slice())?;
-    assert_eq!(rt; fault, None);
-    Ok(())
+    ensure(fault.is_none(), "a line comes otherwise")
 }
 
 /// These frames are answered so behind the end of the input.
@@ -223,19 +215,24 @@ const LEAVES: &[Line<'static>] = &[Up(OPENS), Up(ITEMS), Down(ITEMS), UpEnds, Do
 /// A client that goes away without having read.
 const LEAVES_UNREAD: &[Line<'static>] = &[Up(OPENS), Up(ITEMS), Up(ITEMS)];
 
+/// Whether these lines go as stated, and nothing of a handler stays behind them.
+fn leaves_nothing<R: System>(
+    rt: &R,
+    gate: &Arc<Gate, Global>,
+    room: usize,
+    lines: &[Line<'_>],
+) -> Result<bool, Fail> {
+    Ok(run_lines(rt, gate, room, false, lines)?.is_none() && Arc::strong_count(gate) == 1)
+}
+
 #[test]
 fn a_handler_is_told_that_its_client_went_away(rt: HostRuntime) -> Result<(), Fail> {
     let gate = Arc::new(rt.alloc(), Gate::new(rt.alloc()))?;
-    assert_eq!(rt; run_lines(&rt, &gate, 4096, false, LEAVES)?, None);
-    assert!(rt; gate.was_told("socket err: socket disconnected"));
-    // Nothing of the handler stays.
-    assert_eq!(rt; Arc::strong_count(&gate), 1);
-
+    let is_told = leaves_nothing(&rt, &gate, 4096, LEAVES)?
+        && gate.was_told("socket err: socket disconnected");
     gate.note(String::new(rt.alloc()));
-    assert_eq!(rt; run_lines(&rt, &gate, 4, false, LEAVES_UNREAD)?, None);
-    assert!(rt; !gate.was_told(""));
-    assert_eq!(rt; Arc::strong_count(&gate), 1);
-    Ok(())
+    let is_told_unread = leaves_nothing(&rt, &gate, 4, LEAVES_UNREAD)? && !gate.was_told("");
+    ensure(is_told && is_told_unread, "a handler stays, or isn't told")
 }
 
 /// A request of a handler that never ends, without a limit, and one that is answered behind it.
@@ -274,10 +271,13 @@ fn count_handlers<R: System>(
     handlers: usize,
     lines: &[Line<'_>],
 ) -> Result<Option<Fault>, Fail> {
-    let mut runtime = LocalRuntime::new(rt)?;
     let gate = Arc::new(rt.alloc(), Gate::new(rt.alloc()))?;
-    let mut server = make_server(rt, runtime.handle(), &gate)?;
-    let (near, far) = pipes(rt.alloc(), 4096)?;
+    let Bench {
+        mut runtime,
+        mut server,
+        near,
+        far,
+    } = make_bench(rt, &gate, 4096)?;
     let count = Arc::strong_count(&gate).saturating_add(handlers);
     let both = Behind {
         first: Some(speaker(lines, near)),
@@ -288,9 +288,9 @@ fn count_handlers<R: System>(
 
 #[test]
 fn a_handler_whose_time_is_over_is_dropped(rt: HostRuntime) -> Result<(), Fail> {
-    assert_eq!(rt; count_handlers(&rt, 1, GOES_ON)?, None);
-    assert_eq!(rt; count_handlers(&rt, 0, IS_OVER)?, None);
-    Ok(())
+    let is_so = count_handlers(&rt, 1, GOES_ON)?.is_none()
+        && count_handlers(&rt, 0, IS_OVER)?.is_none();
+    ensure(is_so, "other handlers are there")
 }
 
 /// A stream, and what answers it: that 250 items came, all of them in order.
@@ -341,6 +341,5 @@ fn items_and_a_close_in_one_write_keep_their_order(rt: HostRuntime) -> Result<()
     lines.push(UpEnds)?;
     lines.push(DownEnds)?;
     let fault = run_lines(&rt, &gate, 16384, false, lines.as_slice())?;
-    assert_eq!(rt; fault, None);
-    Ok(())
+    ensure(fault.is_none(), "a line comes otherwise")
 }

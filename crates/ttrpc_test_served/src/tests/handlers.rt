@@ -86,6 +86,38 @@ impl MethodHandler for Method {
 const LOOKS: u32 = 10_000;
 
 impl MethodCall {
+    /// Waits until the gate is open, and then answers with the payload.
+    fn poll_waiting(&mut self, cx: &mut Context<'_>) -> Poll<Result<Response>>
+        ensures registered { OnPending result (IsArmed cx.new) }
+        ensures kept { Keeps cx.old cx.new }
+    {
+        if let Some(gate) = &self.gate {
+            if gate.poll_open(cx).is_pending() {
+                return Poll::Pending;
+            }
+        }
+        Poll::Ready(Ok(answer(self.alloc, self.payload.take())))
+    }
+
+    /// Ends what waits for nothing.
+    fn end(&mut self) -> Result<Response> {
+        match self.does {
+            Does::Ends => Err(Error::Eof),
+            Does::Fails => Ok(failure(self.alloc, self.payload.take())),
+            Does::Opens => {
+                self.open();
+                Ok(answer(self.alloc, self.payload.take()))
+            }
+            _ => Ok(answer(self.alloc, self.payload.take())),
+        }
+    }
+
+    fn open(&self) {
+        if let Some(gate) = &self.gate {
+            gate.open();
+        }
+    }
+
     /// Looks at a tick whether the gate is open, and then lets others go on.
     fn poll_look(&mut self, cx: &mut Context<'_>) -> Poll<Result<Response>>
         ensures registered { OnPending result (IsArmed cx.new) }
@@ -120,25 +152,13 @@ impl Future for MethodCall {
 
     fn poll(&mut self, cx: &mut Context<'_>) -> Poll<Result<Response>> {
         match self.does {
-            Does::NeverEnds => return cx.register(&self.never, &mut self.slot),
-            Does::Looks => return self.poll_look(cx),
-            Does::Ends => return Poll::Ready(Err(Error::Eof)),
-            Does::Fails => return Poll::Ready(Ok(failure(self.alloc, self.payload.take()))),
-            Does::Waits => {
-                if let Some(gate) = &self.gate {
-                    if gate.poll_open(cx).is_pending() {
-                        return Poll::Pending;
-                    }
-                }
-            }
-            Does::Opens => {
-                if let Some(gate) = &self.gate {
-                    gate.open();
-                }
-            }
-            Does::Answers | Does::Tells => {}
+            Does::NeverEnds => cx.register(&self.never, &mut self.slot),
+            Does::Looks => self.poll_look(cx),
+            Does::Waits => self.poll_waiting(cx),
+            Does::Answers | Does::Tells | Does::Ends | Does::Fails | Does::Opens => Poll::Ready(
+                self.end(),
+            ),
         }
-        Poll::Ready(Ok(answer(self.alloc, self.payload.take())))
     }
 }
 

@@ -1,15 +1,18 @@
 //! Two calls of one client, of which the first is answered behind the second.
+ghost use Rattle.futures.specs.Poll.{OnPending};
+ghost use Rattle.futures.specs.Task.{IsArmed, Keeps};
+
 use crate::tests::gate::Gate;
-use crate::tests::runs::{System, client_of, pipes, run_beside_client};
-use crate::tests::sites::make_server;
+use crate::tests::runs::{Bench, System, client_of, make_bench, run_beside_client};
 use futures::Future;
 use futures::task::{Context, Poll};
 use std::alloc::Global;
 use std::sync::Arc;
 use std::test::Fail;
 use std::time::Duration;
-use tokio::runtime::{Handle, LocalRuntime};
+use tokio::runtime::Handle;
 use ttrpc_bench_polled::acts::{is_so, request};
+use ttrpc_bench_polled::checks::ensure;
 use ttrpc_bench_polled::parts::Fault;
 use ttrpc_polled_client::{Client, ClientRequest};
 use ttrpc_proto::{Response, Result as RpcResult};
@@ -24,31 +27,55 @@ struct Joined {
     gate: Arc<Gate, Global>,
 }
 
-impl Future for Joined {
-    type Output = Option<Fault>;
-
-    fn poll(&mut self, cx: &mut Context<'_>) -> Poll<Option<Fault>> {
-        if let Some(mut second) = self.second.take() {
-            match second.poll(cx) {
-                Poll::Pending => self.second = Some(second),
-                Poll::Ready(outcome) => {
-                    if !has(self.alloc, outcome, b"2") {
-                        return Poll::Ready(Some(Fault::Act(1)));
-                    }
+impl Joined {
+    /// Polls the second call, and opens the gate once it is answered. Whether it goes on, or was answered as it should be.
+    fn poll_second(&mut self, cx: &mut Context<'_>) -> bool
+        ensures kept { Keeps cx.old cx.new }
+    {
+        let Some(mut second) = self.second.take() else {
+            return true;
+        };
+        match second.poll(cx) {
+            Poll::Pending => {
+                self.second = Some(second);
+                true
+            }
+            Poll::Ready(outcome) => {
+                let is_own = has(self.alloc, outcome, b"2");
+                if is_own {
                     self.gate.open();
                 }
+                is_own
             }
         }
+    }
+
+    /// Polls the first call. Ready: a fault, unless it was answered as it should be, and behind the second.
+    fn poll_first(&mut self, cx: &mut Context<'_>) -> Poll<Option<Fault>>
+        ensures registered { OnPending result (IsArmed cx.new) }
+        ensures kept { Keeps cx.old cx.new }
+    {
         match self.first.poll(cx) {
             Poll::Pending => Poll::Pending,
             Poll::Ready(outcome) => {
-                let is_own = has(self.alloc, outcome, b"1");
-                if is_own && self.second.is_none() {
+                if has(self.alloc, outcome, b"1") && self.second.is_none() {
                     Poll::Ready(None)
                 } else {
                     Poll::Ready(Some(Fault::Act(0)))
                 }
             }
+        }
+    }
+}
+
+impl Future for Joined {
+    type Output = Option<Fault>;
+
+    fn poll(&mut self, cx: &mut Context<'_>) -> Poll<Option<Fault>> {
+        if self.poll_second(cx) {
+            self.poll_first(cx)
+        } else {
+            Poll::Ready(Some(Fault::Act(1)))
         }
     }
 }
@@ -61,11 +88,10 @@ fn has(alloc: Global, outcome: RpcResult<Response>, payload: &'static [u8]) -> b
     }
 }
 
-/// A gate that looks once a millisecond.
-fn ticking_gate<R: System>(rt: &R, handle: &Handle) -> Result<Arc<Gate, Global>, Fail> {
-    let gate = Arc::new(rt.alloc(), Gate::new(rt.alloc()))?;
+/// Has a gate looked at once a millisecond.
+fn set_ticks<R: System>(rt: &R, handle: &Handle, gate: &Gate) -> Result<(), Fail> {
     gate.set_ticks(handle.time().interval(rt, Duration::from_millis(1))?);
-    Ok(gate)
+    Ok(())
 }
 
 /// Two calls of this client: the handler of the first looks once a millisecond whether the second was answered.
@@ -86,10 +112,14 @@ fn make_joined<R: System>(
 
 /// Makes two calls of one client at once.
 fn join_calls<R: System>(rt: &R) -> Result<Option<Fault>, Fail> {
-    let mut runtime = LocalRuntime::new(rt)?;
-    let gate = ticking_gate(rt, runtime.handle())?;
-    let mut server = make_server(rt, runtime.handle(), &gate)?;
-    let (near, far) = pipes(rt.alloc(), 4096)?;
+    let gate = Arc::new(rt.alloc(), Gate::new(rt.alloc()))?;
+    let Bench {
+        mut runtime,
+        mut server,
+        near,
+        far,
+    } = make_bench(rt, &gate, 4096)?;
+    set_ticks(rt, runtime.handle(), &gate)?;
     let (client, connection) = client_of(rt, runtime.handle(), near)?;
     let joined = make_joined(rt.alloc(), &client, gate)?;
     run_beside_client(rt, &mut runtime, &mut server, far, connection, joined)
@@ -97,6 +127,5 @@ fn join_calls<R: System>(rt: &R) -> Result<Option<Fault>, Fail> {
 
 #[test]
 fn a_call_waits_for_one_that_is_joined(rt: HostRuntime) -> Result<(), Fail> {
-    assert_eq!(rt; join_calls(&rt)?, None);
-    Ok(())
+    ensure(join_calls(&rt)?.is_none(), "a call has another answer")
 }

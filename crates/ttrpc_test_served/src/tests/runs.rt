@@ -1,6 +1,6 @@
 //! What the tests run: the acts of a client beside a server, and the lines of a client to a server.
 use crate::tests::gate::Gate;
-use crate::tests::sites::{Ends, Near, TestServer, make_server};
+use crate::tests::sites::{Ends, Far, Near, TestServer, make_server};
 use futures::Future;
 use std::alloc::{AllocError, Global};
 use std::net::Net;
@@ -29,7 +29,7 @@ pub struct Pipe {
 }
 
 /// The client's ends and the server's, between which so many bytes are under way each way at most.
-pub fn pipes(alloc: Global, room: usize) -> Result<(Pipe, Pipe), AllocError> {
+fn pipes(alloc: Global, room: usize) -> Result<(Pipe, Pipe), AllocError> {
     let (up, up_far) = duplex(alloc, room.max(1))?;
     let (down, down_far) = duplex(alloc, room.max(1))?;
     let near = Pipe {
@@ -43,13 +43,41 @@ pub fn pipes(alloc: Global, room: usize) -> Result<(Pipe, Pipe), AllocError> {
     Ok((near, far))
 }
 
+/// An event loop with a server of the tests, and both sides' ends of bytes in memory.
+#[derive(Drop)]
+pub struct Bench<R: System> {
+    pub runtime: LocalRuntime,
+    pub server: TestServer<R>,
+    pub near: Pipe,
+    pub far: Pipe,
+}
+
+/// A server whose handlers have this gate, with so many bytes under way each way at most.
+pub fn make_bench<R: System>(
+    rt: &R,
+    gate: &Arc<Gate, Global>,
+    room: usize,
+) -> Result<Bench<R>, Fail> {
+    let runtime = LocalRuntime::new(rt)?;
+    let server = make_server(rt, runtime.handle(), gate)?;
+    let (near, far) = pipes(rt.alloc(), room)?;
+    Ok(Bench {
+        runtime,
+        server,
+        near,
+        far,
+    })
+}
+
 /// Does these acts of a client beside a server, with so many bytes under way each way at most.
 pub fn run_acts<R: System>(rt: &R, room: usize, acts: &[Act]) -> Result<Option<Fault>, Fail> {
-    let alloc = rt.alloc();
-    let mut runtime = LocalRuntime::new(rt)?;
-    let gate = Arc::new(alloc, Gate::new(alloc))?;
-    let mut server = make_server(rt, runtime.handle(), &gate)?;
-    let (near, far) = pipes(alloc, room)?;
+    let gate = Arc::new(rt.alloc(), Gate::new(rt.alloc()))?;
+    let Bench {
+        mut runtime,
+        mut server,
+        near,
+        far,
+    } = make_bench(rt, &gate, room)?;
     let (client, connection) = client_of(rt, runtime.handle(), near)?;
     let script = Script::new(client, acts);
     run_beside_client(rt, &mut runtime, &mut server, far, connection, script)
@@ -77,9 +105,7 @@ pub fn run_beside_client<R: System, D: Future<Output = Option<Fault>>>(
 ) -> Result<Option<Fault>, Fail>
     requires { D.can_poll does }
 {
-    let Pipe { reader, writer } = pipe;
-    let output = HookOutput::of_halves(rt.alloc(), Plain {}, Plain {});
-    let far = server.over(reader, writer, output)?;
+    let far = served_at(rt.alloc(), server, pipe)?;
     let parts = Parts::beside(rt.alloc(), does, Ends::new(near, far))?;
     Ok(runtime.block_on(rt, parts)?)
 }
@@ -94,9 +120,7 @@ pub fn run_beside<R: System, D: Future<Output = Option<Fault>>>(
 ) -> Result<Option<Fault>, Fail>
     requires { D.can_poll does }
 {
-    let Pipe { reader, writer } = pipe;
-    let output = HookOutput::of_halves(rt.alloc(), Plain {}, Plain {});
-    let far = server.over(reader, writer, output)?;
+    let far = served_at(rt.alloc(), server, pipe)?;
     let parts = Parts::beside(rt.alloc(), does, far)?;
     Ok(runtime.block_on(rt, parts)?)
 }
@@ -110,14 +134,30 @@ pub fn run_lines<R: System>(
     bare: bool,
     lines: &[Line<'_>],
 ) -> Result<Option<Fault>, Fail> {
-    let mut runtime = LocalRuntime::new(rt)?;
-    let mut server = make_server(rt, runtime.handle(), gate)?.set_bare_openings(bare);
-    let (near, far) = pipes(rt.alloc(), room)?;
-    let Pipe { reader, writer } = far;
-    let output = HookOutput::of_halves(rt.alloc(), Plain {}, Plain {});
-    let served = server.over(reader, writer, output)?;
+    let Bench {
+        mut runtime,
+        server,
+        near,
+        far,
+    } = make_bench(rt, gate, room)?;
+    let mut server = server.set_bare_openings(bare);
+    let served = served_at(rt.alloc(), &mut server, far)?;
     let parts = Parts::lasting(rt.alloc(), speaker(lines, near), served)?;
     Ok(runtime.block_on(rt, parts)?)
+}
+
+/// A connection of the server that reads and writes here.
+fn served_at<R: Timed>(
+    alloc: Global,
+    server: &mut TestServer<R>,
+    pipe: Pipe,
+) -> Result<Far<R>, Fail> {
+    let Pipe { reader, writer } = pipe;
+    Ok(server.over(
+        reader,
+        writer,
+        HookOutput::of_halves(alloc, Plain {}, Plain {}),
+    )?)
 }
 
 /// Who says a client's part of these lines here.

@@ -1,7 +1,11 @@
 //! Connections that a server ends: with jobs under way, at rest, with a handler that never ends, and with a peer that doesn't read.
+ghost use Rattle.futures.specs.Poll.{OnPending};
+ghost use Rattle.futures.specs.Task.{IsArmed, Keeps};
+
 use crate::tests::gate::Gate;
-use crate::tests::runs::{System, client_of, pipes, run_beside, run_beside_client, speaker};
-use crate::tests::sites::make_server;
+use crate::tests::runs::{
+    Bench, System, client_of, make_bench, run_beside, run_beside_client, speaker,
+};
 use futures::Future;
 use futures::future::Either;
 use futures::task::{Context, Poll};
@@ -10,8 +14,8 @@ use std::sync::Arc;
 use std::test::Fail;
 use std::time::Duration;
 use tokio::io::DuplexStream;
-use tokio::runtime::LocalRuntime;
 use ttrpc_bench_polled::acts::{Act, Script};
+use ttrpc_bench_polled::checks::ensure;
 use ttrpc_bench_polled::lines::{Line, Speaker};
 use ttrpc_bench_polled::parts::Fault;
 use ttrpc_polled::Timed;
@@ -31,31 +35,59 @@ struct Stopping<'a, R: Timed> {
     after: &'a [Act],
 }
 
+impl<R: Timed> Stopping<'_, R> {
+    /// Polls the server's end, at which the gate is opened. Ready: whether connections are left as they should be.
+    fn poll_disconnect(&mut self, disconnect: Disconnect, cx: &mut Context<'_>) -> Poll<bool>
+        ensures registered { OnPending result (IsArmed cx.new) }
+        ensures kept { Keeps cx.old cx.new }
+    {
+        let mut disconnect = disconnect;
+        match disconnect.poll(cx) {
+            Poll::Pending => {
+                self.gate.open();
+                self.disconnect = Some(disconnect);
+                Poll::Pending
+            }
+            Poll::Ready(ended) => Poll::Ready(has_left(&ended) == self.leaves_waiters),
+        }
+    }
+
+    /// Polls the server's end, and then the other acts. Ready: the first fault, or none.
+    fn poll_stop(&mut self, cx: &mut Context<'_>) -> Poll<Option<Fault>>
+        ensures registered { OnPending result (IsArmed cx.new) }
+        ensures kept { Keeps cx.old cx.new }
+    {
+        let Some(disconnect) = self.disconnect.take() else {
+            return Poll::Ready(None);
+        };
+        match self.poll_disconnect(disconnect, cx) {
+            Poll::Pending => Poll::Pending,
+            Poll::Ready(false) => Poll::Ready(Some(Fault::Stop)),
+            Poll::Ready(true) => self.poll_after(cx),
+        }
+    }
+
+    /// Begins the other acts.
+    fn poll_after(&mut self, cx: &mut Context<'_>) -> Poll<Option<Fault>>
+        ensures registered { OnPending result (IsArmed cx.new) }
+        ensures kept { Keeps cx.old cx.new }
+    {
+        if let Either::Left(script) = &mut self.doer {
+            script.go_on(self.after);
+        }
+        self.doer.poll(cx)
+    }
+}
+
 impl<R: Timed> Future for Stopping<'_, R> {
     type Output = Option<Fault>;
 
     fn poll(&mut self, cx: &mut Context<'_>) -> Poll<Option<Fault>> {
         match self.doer.poll(cx) {
-            Poll::Pending => return Poll::Pending,
-            Poll::Ready(Some(fault)) => return Poll::Ready(Some(fault)),
-            Poll::Ready(None) => {}
+            Poll::Pending => Poll::Pending,
+            Poll::Ready(Some(fault)) => Poll::Ready(Some(fault)),
+            Poll::Ready(None) => self.poll_stop(cx),
         }
-        let Some(mut disconnect) = self.disconnect.take() else {
-            return Poll::Ready(None);
-        };
-        match disconnect.poll(cx) {
-            Poll::Pending => {
-                self.gate.open();
-                self.disconnect = Some(disconnect);
-                return Poll::Pending;
-            }
-            Poll::Ready(ended) if has_left(&ended) == self.leaves_waiters => {}
-            Poll::Ready(_) => return Poll::Ready(Some(Fault::Stop)),
-        }
-        if let Either::Left(script) = &mut self.doer {
-            script.go_on(self.after);
-        }
-        self.doer.poll(cx)
     }
 }
 
@@ -75,10 +107,14 @@ fn stop<'a, R: System>(
     leaves_waiters: bool,
     after: &'a [Act],
 ) -> Result<Option<Fault>, Fail> {
-    let mut runtime = LocalRuntime::new(rt)?;
     let gate = Arc::new(rt.alloc(), Gate::new(rt.alloc()))?;
-    let mut server = make_server(rt, runtime.handle(), &gate)?.set_disconnect_limit(limit);
-    let (near, far) = pipes(rt.alloc(), 4096)?;
+    let Bench {
+        mut runtime,
+        server,
+        near,
+        far,
+    } = make_bench(rt, &gate, 4096)?;
+    let mut server = server.set_disconnect_limit(limit);
     let (client, connection) = client_of(rt, runtime.handle(), near)?;
     let stopping = Stopping {
         doer: Either::Left(Script::new(client, before)),
@@ -147,7 +183,7 @@ fn a_server_ends_its_connections(rt: HostRuntime) -> Result<(), Fail> {
         if let Some((name, limit, before, leaves_waiters, after)) = end(number) {
             let limit = Duration::from_millis(limit);
             let fault = stop(&rt, limit, before, leaves_waiters, after)?;
-            assert_eq!(rt; fault, None, "{name}");
+            ensure(fault.is_none(), name)?;
         }
     }
     Ok(())
@@ -160,10 +196,13 @@ const ASKED_OFTEN: &[Line<'static>] = &[Line::Up(
 
 #[test]
 fn a_server_ends_the_connection_of_a_peer_that_reads_nothing(rt: HostRuntime) -> Result<(), Fail> {
-    let mut runtime = LocalRuntime::new(&rt)?;
     let gate = Arc::new(rt.alloc(), Gate::new(rt.alloc()))?;
-    let mut server = make_server(&rt, runtime.handle(), &gate)?;
-    let (near, far) = pipes(rt.alloc(), 15)?;
+    let Bench {
+        mut runtime,
+        mut server,
+        near,
+        far,
+    } = make_bench(&rt, &gate, 15)?;
     let doer: Before<'_, HostRuntime> = Either::Right(speaker(ASKED_OFTEN, near));
     let stopping = Stopping {
         doer,
@@ -173,6 +212,5 @@ fn a_server_ends_the_connection_of_a_peer_that_reads_nothing(rt: HostRuntime) ->
         after: NOTHING,
     };
     let fault = run_beside(&rt, &mut runtime, &mut server, far, stopping)?;
-    assert_eq!(rt; fault, None);
-    Ok(())
+    ensure(fault.is_none(), "a line comes otherwise, or it doesn't end")
 }

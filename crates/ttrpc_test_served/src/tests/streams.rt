@@ -147,28 +147,29 @@ impl StreamingCall {
                 self.turn = Turn::Sends(Sending::Sends(item));
                 None
             }
-            Streams::Sum => {
-                self.items = self.items.saturating_add(1);
-                self.bytes = self.bytes.saturating_add(item.len() as u64);
-                self.turn = Turn::Receives;
-                None
-            }
-            Streams::Order => {
-                let number = item.as_slice().last().map(|byte| u64::from(*byte));
-                if number == Some(self.items) {
-                    self.bytes = self.bytes.saturating_add(1);
-                }
-                self.items = self.items.saturating_add(1);
-                self.turn = Turn::Receives;
+            Streams::Sum | Streams::Order => {
+                self.add(&item);
                 None
             }
             Streams::Count => {
-                self.left = item.as_slice().last().map_or(0, |count| u64::from(*count));
+                self.left = number_in(&item).unwrap_or(0);
                 self.send_next()
             }
             Streams::Fail => Some(Ok(Some(failure(self.alloc, Some(item))))),
             Streams::Early => Some(Ok(None)),
         }
+    }
+
+    /// Adds an item to both sums, and waits for the next.
+    fn add(&mut self, item: &Blob) {
+        let more = if self.does == Streams::Sum {
+            item.len() as u64
+        } else {
+            u64::from(number_in(item) == Some(self.items))
+        };
+        self.bytes = self.bytes.saturating_add(more);
+        self.items = self.items.saturating_add(1);
+        self.turn = Turn::Receives;
     }
 
     fn on_end(&mut self) -> Turned {
@@ -234,6 +235,14 @@ impl StreamingCall {
         if let (Some(gate), Ok(text)) = (&self.gate, format!(in self.alloc; "{error}")) {
             gate.note(text);
         }
+    }
+}
+
+/// The number with which an item ends.
+fn number_in(item: &Blob) -> Option<u64> {
+    match item.as_slice().last() {
+        Some(byte) => Some(u64::from(*byte)),
+        None => None,
     }
 }
 

@@ -1,8 +1,8 @@
 //! The recorded frames beside either core alone, without a reader, a writer or a handler.
-use std::alloc::{AllocGlobal, Global};
-use std::process::Abort;
+use std::alloc::Global;
 use std::test::Fail;
 use ttrpc_bench_polled::acts::{Act, Outcome, is_so, request};
+use ttrpc_bench_polled::checks::ensure_at;
 use ttrpc_bench_polled::lines::Line;
 use ttrpc_bench_polled::recorded::{
     Conversation, Said, client_beside_go, client_beside_rust, served_to_go, served_to_go_bare,
@@ -70,6 +70,20 @@ fn server_says(core: &mut ServerCore<Plain, Plain>, buffer: &mut [u8], frame: &[
     buffer.get(..count) == Some(frame) && core.lendable() == 0
 }
 
+/// Feeds a frame, and takes the job that comes of it. Whether all of it was taken.
+fn hear(
+    alloc: Global,
+    core: &mut ServerCore<Plain, Plain>,
+    handled: &mut Handled,
+    frame: &[u8],
+) -> RpcResult<bool> {
+    let count = core.feed(alloc, frame, 0)?;
+    if let Some(job) = core.take_job() {
+        *handled = Some((job.id, job.stream));
+    }
+    Ok(count == frame.len())
+}
+
 /// What the core does with the next line of a conversation: whether it is as stated.
 fn answer_line(
     alloc: Global,
@@ -78,13 +92,7 @@ fn answer_line(
     line: Line<'_>,
 ) -> RpcResult<bool> {
     match line {
-        Line::Up(frame) => {
-            let whole = core.feed(alloc, frame, 0)? == frame.len();
-            if let Some(job) = core.take_job() {
-                *handled = Some((job.id, job.stream));
-            }
-            Ok(whole)
-        }
+        Line::Up(frame) => hear(alloc, core, handled, frame),
         Line::Down(frame) => {
             if core.lendable() == 0 {
                 handle(alloc, core, *handled, frame)?;
@@ -101,13 +109,16 @@ fn answer_line(
 }
 
 /// A server's core does as stated what was said to it.
-fn serve<R: Abort + AllocGlobal>(rt: &R, bare: bool, said: Said) -> Result<(), Fail> {
+fn serve(alloc: Global, bare: bool, said: Said) -> Result<(), Fail> {
     let (name, lines) = said;
-    let mut core = server(rt.alloc(), bare)?;
+    let mut core = server(alloc, bare)?;
     let mut handled = None;
     for (at, line) in lines.iter().enumerate() {
-        let is_so = answer_line(rt.alloc(), &mut core, &mut handled, *line)?;
-        assert!(rt; is_so, "{name}, {bare}, {at}");
+        ensure_at(
+            answer_line(alloc, &mut core, &mut handled, *line)?,
+            name,
+            at,
+        )?;
     }
     Ok(())
 }
@@ -116,14 +127,14 @@ fn serve<R: Abort + AllocGlobal>(rt: &R, bare: bool, said: Said) -> Result<(), F
 fn a_core_serves_recorded_clients(rt: HostRuntime) -> Result<(), Fail> {
     for number in 0..100 {
         if let Some(said) = served_to_rust(number) {
-            serve(&rt, false, said)?;
-            serve(&rt, true, said)?;
+            serve(rt.alloc(), false, said)?;
+            serve(rt.alloc(), true, said)?;
         }
         if let Some(said) = served_to_go(number) {
-            serve(&rt, false, said)?;
+            serve(rt.alloc(), false, said)?;
         }
         if let Some(said) = served_to_go_bare(number) {
-            serve(&rt, true, said)?;
+            serve(rt.alloc(), true, said)?;
         }
     }
     Ok(())
@@ -166,13 +177,9 @@ impl Caller {
     /// Does the act: whether it came to what is stated, unless nothing has come of it yet.
     fn act(&mut self, alloc: Global, act: Act) -> RpcResult<Option<bool>> {
         match act {
-            Act::Calls(name, payload, limit) => {
-                let request = request(alloc, name, payload, limit)?;
-                self.call = self.core.request(alloc, &request, 0)?;
-            }
+            Act::Calls(name, payload, limit) => self.make_call(alloc, name, payload, limit)?,
             Act::Opens(name, payload, sends, receives) => {
-                let request = request(alloc, name, payload, 0)?;
-                self.stream = self.core.new_stream(alloc, &request, sends, receives)?;
+                self.open_stream(alloc, name, payload, sends, receives)?;
             }
             Act::Sends(_, item, _) => {
                 self.core.send(alloc, self.stream, item)?;
@@ -181,13 +188,40 @@ impl Caller {
                 self.core.close_send(alloc, self.stream)?;
             }
             Act::Ends(_, expected) => return Ok(self.end(alloc, expected)),
-            Act::Receives(_, expected) => {
-                let given = self.core.recv(alloc, self.stream);
-                return Ok(given.map(|given| is_so(alloc, given, expected)));
-            }
+            Act::Receives(_, expected) => return Ok(self.receive(alloc, expected)),
             _ => {}
         }
         Ok(Some(true))
+    }
+
+    fn make_call(
+        &mut self,
+        alloc: Global,
+        name: &str,
+        payload: &[u8],
+        limit: i64,
+    ) -> RpcResult<()> {
+        let request = request(alloc, name, payload, limit)?;
+        self.call = self.core.request(alloc, &request, 0)?;
+        Ok(())
+    }
+
+    fn open_stream(
+        &mut self,
+        alloc: Global,
+        name: &str,
+        payload: &[u8],
+        sends: bool,
+        receives: bool,
+    ) -> RpcResult<()> {
+        let request = request(alloc, name, payload, 0)?;
+        self.stream = self.core.new_stream(alloc, &request, sends, receives)?;
+        Ok(())
+    }
+
+    fn receive(&mut self, alloc: Global, expected: Outcome) -> Option<bool> {
+        let given = self.core.recv(alloc, self.stream)?;
+        Some(is_so(alloc, given, expected))
     }
 
     fn end(&mut self, alloc: Global, expected: Outcome) -> Option<bool> {
@@ -196,6 +230,19 @@ impl Caller {
             Err(error) => Err(error),
         };
         Some(is_so(alloc, given, expected))
+    }
+
+    /// Does the act, and hears what the server says until something comes of it: whether that is what is stated.
+    fn acts(&mut self, alloc: Global, act: Act) -> RpcResult<bool> {
+        for _ in 0..=self.lines.len() {
+            if let Some(is_so) = self.act(alloc, act)? {
+                return Ok(is_so);
+            }
+            if !self.hears(alloc)? {
+                return Ok(false);
+            }
+        }
+        Ok(false)
     }
 
     /// Whether what the core has to write is what the client says next. What the server says before it is heard.
@@ -239,19 +286,11 @@ impl Caller {
 }
 
 /// A client's core understands a conversation as stated.
-fn understand<R: Abort + AllocGlobal>(rt: &R, conversation: Conversation) -> Result<(), Fail> {
+fn understand(alloc: Global, conversation: Conversation) -> Result<(), Fail> {
     let (name, acts, lines) = conversation;
-    let mut caller = Caller::new(rt.alloc(), lines);
-    for act in acts.iter() {
-        let mut is_so = caller.act(rt.alloc(), *act)?;
-        for _ in 0..lines.len() {
-            if is_so.is_some() || !caller.hears(rt.alloc())? {
-                break;
-            }
-            is_so = caller.act(rt.alloc(), *act)?;
-        }
-        assert_eq!(rt; is_so, Some(true), "{name}");
-        assert!(rt; caller.says(rt.alloc())?, "{name}");
+    let mut caller = Caller::new(alloc, lines);
+    for (at, act) in acts.iter().enumerate() {
+        ensure_at(caller.acts(alloc, *act)? && caller.says(alloc)?, name, at)?;
     }
     Ok(())
 }
@@ -260,10 +299,10 @@ fn understand<R: Abort + AllocGlobal>(rt: &R, conversation: Conversation) -> Res
 fn a_core_understands_recorded_servers(rt: HostRuntime) -> Result<(), Fail> {
     for number in 0..100 {
         if let Some(conversation) = client_beside_go(number) {
-            understand(&rt, conversation)?;
+            understand(rt.alloc(), conversation)?;
         }
         if let Some(conversation) = client_beside_rust(number) {
-            understand(&rt, conversation)?;
+            understand(rt.alloc(), conversation)?;
         }
     }
     Ok(())

@@ -5,12 +5,12 @@ use Rattle.std.specs.Arc.{arc_value}
 use Rattle.ttrpc_polled_client.specs.declared.request.ClientRequest.{ClientRequest}
 use Rattle.ttrpc_polled_client.specs.Needs.{line_source}
 use Rattle.ttrpc_polled.specs.Streams.Needs.{receiver_source, sender_source}
-use Rattle.ttrpc_load.specs.declared.polled.counts.CountAt.{CountAt}
-use Rattle.ttrpc_load.specs.declared.polled.counts.CountAt.TheVariants.{Opens as OpensCount, Receives as ReceivesItem, Done as IsCounted}
-use Rattle.ttrpc_load.specs.declared.polled.exchanges.Exchanges.{Exchanges}
-use Rattle.ttrpc_load.specs.declared.polled.exchanges.Exchanges.TheVariants.{Calls as OfCalls, Talks as OfTalks, Counts as OfCounts}
-use Rattle.ttrpc_load.specs.declared.polled.talks.TalkAt.{TalkAt}
-use Rattle.ttrpc_load.specs.declared.polled.talks.TalkAt.TheVariants.{Opens, Sends, Receives, Done}
+use Rattle.ttrpc_load_polled.specs.declared.counts.CountAt.{CountAt}
+use Rattle.ttrpc_load_polled.specs.declared.counts.CountAt.TheVariants.{Opens as OpensCount, Receives as ReceivesItem, Done as IsCounted}
+use Rattle.ttrpc_load_polled.specs.declared.exchanges.Exchanges.{Exchanges}
+use Rattle.ttrpc_load_polled.specs.declared.exchanges.Exchanges.TheVariants.{Calls as OfCalls, Talks as OfTalks, Counts as OfCounts}
+use Rattle.ttrpc_load_polled.specs.declared.talks.TalkAt.{TalkAt}
+use Rattle.ttrpc_load_polled.specs.declared.talks.TalkAt.TheVariants.{Opens, Sends, Receives, Done}
 
 -- a caller waits for its call's answer
 abbrev pub CallNeeds : {O I : Type 0} → Option (ClientRequest O I) → ℕ → Type 0

@@ -1,5 +1,5 @@
 use Rattle.futures.specs.Task.{Keeps}
-use Rattle.ttrpc_load.proofs.polled.task.TalliedFuture.poll.Given as goal
+use Rattle.ttrpc_load_polled.proofs.task.TalliedFuture.poll.Given as goal
 
 -- it is still a poll of the same task
 abbrev pub invariant-loop : goal.invariant-loop

@@ -1,19 +1,9 @@
 //! What a client measures whose calls and streams are polled, on one event loop.
-mod calls;
-mod counts;
-mod exchanges;
-mod rest;
-mod talks;
-mod tally;
-mod task;
-
+use crate::exchanges::{Exchanges, Work};
 use crate::load::{Load, share};
-use crate::polled::exchanges::Exchanges;
-use crate::polled::tally::Tally;
-use crate::polled::task::Tallied;
-pub use exchanges::Work;
+use crate::tally::Tally;
+use crate::task::Tallied;
 use futures::executor::TaskSet;
-pub use rest::{rest, rest_at};
 use std::alloc::Global;
 use std::io;
 use std::net::{Net, TcpListener, TcpStream};
@@ -50,20 +40,33 @@ pub fn run_polled<R: Looped>(
     let mut runtime = nix(LocalRuntime::new(rt))?;
     let (client, connection) = connect(rt, &mut runtime, address, nodelay)?;
     let tally = Rc::new(rt.alloc(), Tally::new(rt.alloc(), load.calls)?)?;
-    let tasks = nix(runtime.task_set(rt))?;
-    let start = moment(rt)?;
-    // The connection is over once the last caller is.
-    spawn_all(rt, &tasks, client, work, load, start, &tally)?;
-    nix(runtime.block_on_with(rt, &tasks, connection))?;
-    let elapsed = moment(rt)?.saturating_sub(start);
+    let elapsed = run_callers(rt, &mut runtime, client, connection, work, load, &tally)?;
     Ok(Ran {
         elapsed,
         times: tally.taken()?,
     })
 }
 
+/// Runs the callers of a client beside its connection, and gives how long that took.
+fn run_callers<R: Looped>(
+    rt: &R,
+    runtime: &mut LocalRuntime,
+    client: Client<R, Plain, Plain>,
+    connection: TcpConnection<R, Plain, Plain>,
+    work: Work,
+    load: Load,
+    tally: &Rc<Tally, Global>,
+) -> Result<u64> {
+    let tasks = nix(runtime.task_set(rt))?;
+    let start = moment(rt)?;
+    // The connection is over once the last caller is.
+    spawn_all(rt, &tasks, client, work, load, start, tally)?;
+    nix(runtime.block_on_with(rt, &tasks, connection))?;
+    Ok(moment(rt)?.saturating_sub(start))
+}
+
 /// A client that is connected there, and its connection.
-fn connect<R: Looped>(
+pub(crate) fn connect<R: Looped>(
     rt: &R,
     runtime: &mut LocalRuntime,
     address: &str,
@@ -111,8 +114,8 @@ fn spawn<R: Looped>(
     }
 }
 
-/// A fault of the system, as an error of this crate.
-fn nix<T>(res: io::Result<T>) -> Result<T> {
+/// A fault of the system, as an error of a call.
+pub(crate) fn nix<T>(res: io::Result<T>) -> Result<T> {
     match res {
         Ok(value) => Ok(value),
         Err(error) => Err(Error::Nix(error.kind())),

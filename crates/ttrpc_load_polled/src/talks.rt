@@ -1,4 +1,8 @@
 //! Streams on which a client sends items.
+ghost use Rattle.futures.specs.Poll.{OnPending};
+ghost use Rattle.futures.specs.Task.{Covers, Keeps};
+ghost use Rattle.ttrpc_load_polled.specs.Needs.{TalkNeeds};
+
 use crate::calling::same;
 use futures::task::{Context, Poll};
 use futures::{Future, Stream};
@@ -39,11 +43,14 @@ pub struct Halves {
     rx: CSReceiver<Blob, Line>,
 }
 
+/// A stream that is opened.
+type OpeningTalk<R> = ClientOpening<ClientStream<Blob, Blob, Line>, R, Plain, Plain>;
+
 /// Where a talk is.
 #[derive(Drop)]
 pub enum TalkAt<R: Timed> {
     /// The stream is to be opened.
-    Opens(ClientOpening<ClientStream<Blob, Blob, Line>, R, Plain, Plain>),
+    Opens(OpeningTalk<R>),
     /// An item is sent, or that there are no more.
     Sends(Halves, Sending),
     /// An item is to come.
@@ -110,45 +117,81 @@ impl<R: Timed> Talks<R> {
         }
         Ok(true)
     }
+
+    /// Polls the opening of the stream. Ready: that no exchange is done by it, or why it doesn't open.
+    fn poll_opening(
+        &mut self,
+        opening: OpeningTalk<R>,
+        cx: &mut Context<'_>,
+    ) -> Poll<Option<Result<bool>>>
+        ensures registered { OnPending result (Covers cx.new (TalkNeeds self.new.at)) }
+        ensures kept { Keeps cx.old cx.new }
+    {
+        let mut opening = opening;
+        match opening.poll(cx) {
+            Poll::Pending => {
+                self.at = TalkAt::Opens(opening);
+                Poll::Pending
+            }
+            Poll::Ready(Ok(stream)) => {
+                let (tx, rx) = stream.split();
+                self.send_next(Halves { tx, rx });
+                Poll::Ready(Some(Ok(false)))
+            }
+            Poll::Ready(Err(error)) => Poll::Ready(Some(Err(error))),
+        }
+    }
+
+    /// Polls a frame that is sent. Ready: whether an exchange is done by it, or why it isn't sent.
+    fn poll_sending(
+        &mut self,
+        halves: Halves,
+        sending: Sending,
+        cx: &mut Context<'_>,
+    ) -> Poll<Option<Result<bool>>>
+        ensures registered { OnPending result (Covers cx.new (TalkNeeds self.new.at)) }
+        ensures kept { Keeps cx.old cx.new }
+    {
+        let mut sending = sending;
+        match halves.tx.poll_sending(&mut sending, cx) {
+            Poll::Pending => {
+                self.at = TalkAt::Sends(halves, sending);
+                Poll::Pending
+            }
+            Poll::Ready(Ok(())) => Poll::Ready(Some(Ok(self.sent(halves)))),
+            Poll::Ready(Err(error)) => Poll::Ready(Some(Err(error))),
+        }
+    }
+
+    /// Polls for an item. Ready: whether an exchange is done by it, or why none comes.
+    fn poll_item(&mut self, halves: Halves, cx: &mut Context<'_>) -> Poll<Option<Result<bool>>>
+        ensures registered { OnPending result (Covers cx.new (TalkNeeds self.new.at)) }
+        ensures kept { Keeps cx.old cx.new }
+    {
+        let mut halves = halves;
+        match halves.rx.poll_recv(cx) {
+            Poll::Pending => {
+                self.at = TalkAt::Receives(halves);
+                Poll::Pending
+            }
+            Poll::Ready(Ok(item)) => Poll::Ready(Some(self.received(halves, &item))),
+            Poll::Ready(Err(error)) => Poll::Ready(Some(Err(error))),
+        }
+    }
 }
 
 impl<R: Timed> Stream for Talks<R> {
     type Item = Result<bool>;
 
-    ghost use Rattle.ttrpc_load.specs.Needs.{TalkNeeds};
+    ghost use Rattle.ttrpc_load_polled.specs.Needs.{TalkNeeds};
 
     ghost needs = { λ t. TalkNeeds t.at };
 
     fn poll_next(&mut self, cx: &mut Context<'_>) -> Poll<Option<Result<bool>>> {
         match replace(&mut self.at, TalkAt::Done) {
-            TalkAt::Opens(mut opening) => match opening.poll(cx) {
-                Poll::Pending => {
-                    self.at = TalkAt::Opens(opening);
-                    Poll::Pending
-                }
-                Poll::Ready(Ok(stream)) => {
-                    let (tx, rx) = stream.split();
-                    self.send_next(Halves { tx, rx });
-                    Poll::Ready(Some(Ok(false)))
-                }
-                Poll::Ready(Err(error)) => Poll::Ready(Some(Err(error))),
-            },
-            TalkAt::Sends(halves, mut sending) => match halves.tx.poll_sending(&mut sending, cx) {
-                Poll::Pending => {
-                    self.at = TalkAt::Sends(halves, sending);
-                    Poll::Pending
-                }
-                Poll::Ready(Ok(())) => Poll::Ready(Some(Ok(self.sent(halves)))),
-                Poll::Ready(Err(error)) => Poll::Ready(Some(Err(error))),
-            },
-            TalkAt::Receives(mut halves) => match halves.rx.poll_recv(cx) {
-                Poll::Pending => {
-                    self.at = TalkAt::Receives(halves);
-                    Poll::Pending
-                }
-                Poll::Ready(Ok(item)) => Poll::Ready(Some(self.received(halves, &item))),
-                Poll::Ready(Err(error)) => Poll::Ready(Some(Err(error))),
-            },
+            TalkAt::Opens(opening) => self.poll_opening(opening, cx),
+            TalkAt::Sends(halves, sending) => self.poll_sending(halves, sending, cx),
+            TalkAt::Receives(halves) => self.poll_item(halves, cx),
             TalkAt::Done => Poll::Ready(None),
         }
     }

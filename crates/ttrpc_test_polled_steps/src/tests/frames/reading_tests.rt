@@ -2,8 +2,8 @@
 use crate::tests::frames::ends::{Slow, System, come};
 use std::alloc::{AllocError, Global};
 use std::io::ErrorKind;
-use std::process::Abort;
 use std::test::Fail;
+use ttrpc_bench_polled::checks::{ensure, ensure_at};
 use ttrpc_message::Message;
 use ttrpc_polled_frames::{AsMessage, AsParts, AsValue, PollRead, ReadHeader, Tells};
 use ttrpc_proto::{Error, GenMessage, GenMessageError, MessageHeader, Request, Result};
@@ -146,7 +146,7 @@ impl Told for AsValue<Request> {
 }
 
 /// What comes of these bytes, so many a read, is told so; and what follows a frame isn't read.
-fn holds<R: System + Abort, T: Told>(
+fn holds<R: System, T: Told>(
     rt: &R,
     input: &[u8],
     at_once: usize,
@@ -169,23 +169,22 @@ fn left_of(input: &[u8]) -> usize {
     }
 }
 
+/// Whether input that comes so many bytes a read is told as its row says, in each way.
+fn is_told<R: System>(rt: &R, row: Row, at_once: usize) -> std::result::Result<bool, Fail> {
+    let (input, parts, message, value) = row;
+    Ok(
+        holds::<_, AsParts>(rt, input, at_once, parts)?
+            && holds::<_, AsMessage>(rt, input, at_once, message)?
+            && holds::<_, AsValue<Request>>(rt, input, at_once, value)?,
+    )
+}
+
 #[test]
 fn input_is_told_as_it_is(rt: HostRuntime) -> std::result::Result<(), Fail> {
-    for number in 0..100 {
-        if let Some((input, parts, message, value)) = row(number) {
+    for number in 0..100u8 {
+        if let Some(row) = row(number) {
             for at_once in [1, 7, 4096] {
-                assert!(rt;
-                    holds::<_, AsParts>(&rt, input, at_once, parts)?,
-                    "{number}, {at_once}"
-                );
-                assert!(rt;
-                    holds::<_, AsMessage>(&rt, input, at_once, message)?,
-                    "{number}, {at_once}"
-                );
-                assert!(rt;
-                    holds::<_, AsValue<Request>>(&rt, input, at_once, value)?,
-                    "{number}, {at_once}"
-                );
+                ensure_at(is_told(&rt, row, at_once)?, "a row", usize::from(number))?;
             }
         }
     }
@@ -199,29 +198,38 @@ fn oversized(alloc: Global, count: usize) -> std::result::Result<Vec<u8>, Fail> 
     Ok(input)
 }
 
+/// Whether a frame that is too long is told so, in each way, and read to its end.
+fn is_too_long<R: System>(rt: &R, input: &[u8]) -> std::result::Result<bool, Fail> {
+    let returned = "return rpc status: 3 message length 4194305";
+    Ok(
+        holds::<_, AsParts>(rt, input, 4096, TOO_LONG)?
+            && holds::<_, AsMessage>(rt, input, 4096, returned)?
+            && holds::<_, AsValue<Request>>(rt, input, 4096, "5  0")?,
+    )
+}
+
 #[test]
 fn a_frame_that_is_too_long_is_read_to_its_end(rt: HostRuntime) -> std::result::Result<(), Fail> {
     let input = oversized(rt.alloc(), 4194306)?;
-    assert!(rt; holds::<_, AsParts>(&rt, input.as_slice(), 4096, TOO_LONG)?);
-    assert!(rt;
-        holds::<_, AsMessage>(
-            &rt,
-            input.as_slice(),
-            4096,
-            "return rpc status: 3 message length 4194305"
-        )?
-    );
-    assert!(rt; holds::<_, AsValue<Request>>(&rt, input.as_slice(), 4096, "5  0")?);
-    Ok(())
+    ensure(is_too_long(&rt, input.as_slice())?, "it is told otherwise")
+}
+
+/// Whether a reader's failure behind this input is told, and not as an end.
+fn is_told_of_failure<R: System>(rt: &R, input: &[u8]) -> std::result::Result<bool, Fail> {
+    let reader = Slow::new(input, 3, Some(ErrorKind::ConnectionReset));
+    let reading: PollRead<_, AsParts> = PollRead::new(rt.alloc(), reader);
+    let told = AsParts::told(rt.alloc(), come(rt, reading)?)?;
+    Ok(told.as_str().starts_with("socket err: ") && told.as_str() != GONE)
 }
 
 #[test]
 fn a_readers_failure_is_told(rt: HostRuntime) -> std::result::Result<(), Fail> {
     for input in [b"" as &[u8], SHORT, BARE, CUT, LONG] {
-        let reader = Slow::new(input, 3, Some(ErrorKind::ConnectionReset));
-        let reading: PollRead<_, AsParts> = PollRead::new(rt.alloc(), reader);
-        let told = AsParts::told(rt.alloc(), come(&rt, reading)?)?;
-        assert!(rt; told.as_str().starts_with("socket err: ") && told.as_str() != GONE);
+        ensure_at(
+            is_told_of_failure(&rt, input)?,
+            "behind so many bytes",
+            input.len(),
+        )?;
     }
     Ok(())
 }
@@ -252,13 +260,14 @@ fn told_of_cut<R: System>(
 #[test]
 fn headers_are_read_alone(rt: HostRuntime) -> std::result::Result<(), Fail> {
     for at_once in [1, 4, 4096] {
-        assert!(rt; is_read_alone(&rt, at_once)?);
+        ensure_at(
+            is_read_alone(&rt, at_once)?,
+            "so many bytes a read",
+            at_once,
+        )?;
     }
-    for (end, told) in [
-        (None, ErrorKind::UnexpectedEof),
-        (Some(ErrorKind::ConnectionReset), ErrorKind::ConnectionReset),
-    ] {
-        assert_eq!(rt; told_of_cut(&rt, end)?, Some(told));
-    }
-    Ok(())
+    let reset = ErrorKind::ConnectionReset;
+    let is_so = told_of_cut(&rt, None)? == Some(ErrorKind::UnexpectedEof)
+        && told_of_cut(&rt, Some(reset))? == Some(reset);
+    ensure(is_so, "a cut is told otherwise")
 }

@@ -1,5 +1,5 @@
 //! Connections at rest, whose memory is looked at from outside.
-use crate::polled::{Looped, connect, nix};
+use crate::looped::{Looped, connect, nix};
 use futures::executor::TaskSet;
 use tokio::io::{DuplexStream, duplex};
 use tokio::runtime::{Handle, LocalRuntime};

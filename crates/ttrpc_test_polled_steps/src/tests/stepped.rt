@@ -1,8 +1,8 @@
 //! The states of a client's calls and streams, stepped by hand on a core that is lent, beside the core of a server.
-use crate::tests::lone::Lone;
 use std::alloc::Global;
 use std::sync::Arc;
 use ttrpc_bench_polled::acts::{Outcome, request};
+use ttrpc_bench_polled::lone::Lone;
 use ttrpc_bench_polled::registry::registry;
 use ttrpc_client::{CallId, ClientCore, ClientKind, StreamId};
 use ttrpc_connection::StreamCore;
@@ -83,19 +83,12 @@ impl Bench {
     /// Does a step: whether it came to what was stated.
     pub fn take(&mut self, step: Step) -> Result<bool> {
         match step {
-            Step::Asks(name, payload) => {
-                let request = request(self.alloc, name, payload, 0)?;
-                self.calls.push(Asked::Asks(request, 0))?;
-                Ok(true)
-            }
+            Step::Asks(name, payload) => self.ask(name, payload),
             Step::Steps(number, expected) => self.step_call(number, expected),
             Step::Opens(name, payload, sends, receives) => {
                 self.open(name, payload, sends, receives)
             }
-            Step::Sends(number, item) => {
-                let item = Blob::from_slice(self.alloc, item)?;
-                self.add_sending(number, Sending::Sends(item))
-            }
+            Step::Sends(number, item) => self.add_item(number, item),
             Step::Closes(number) => self.add_sending(number, Sending::Closes),
             Step::Stepped(number, expected) => self.step_sending(number, expected),
             Step::Receives(number, expected) => self.receive(number, expected),
@@ -109,6 +102,12 @@ impl Bench {
             Step::Finishes(number, status, refusal) => self.finish(number, status, refusal),
             Step::Answers(number, payload) => self.answer(number, payload),
         }
+    }
+
+    fn ask(&mut self, name: &str, payload: &[u8]) -> Result<bool> {
+        let request = request(self.alloc, name, payload, 0)?;
+        self.calls.push(Asked::Asks(request, 0))?;
+        Ok(true)
     }
 
     fn step_call(&mut self, number: usize, expected: Option<Outcome>) -> Result<bool> {
@@ -130,6 +129,11 @@ impl Bench {
         let id = opening.step(self.alloc, &mut self.client)?;
         self.streams.push(id)?;
         Ok(true)
+    }
+
+    fn add_item(&mut self, number: usize, item: &[u8]) -> Result<bool> {
+        let item = Blob::from_slice(self.alloc, item)?;
+        self.add_sending(number, Sending::Sends(item))
     }
 
     fn add_sending(&mut self, number: usize, sending: Sending) -> Result<bool> {

@@ -1,6 +1,6 @@
 //! A task of the event loop.
-use crate::polled::exchanges::Exchanges;
-use crate::polled::tally::Tally;
+use crate::exchanges::Exchanges;
+use crate::tally::Tally;
 use futures::task::{Context, Poll};
 use futures::{Future, Stream};
 use std::alloc::Global;
@@ -30,12 +30,23 @@ impl<R: Timed> Tallied<R> {
         }
         Ok(())
     }
+
+    /// Keeps the time of an exchange, or the fault that ends the task. Whether it goes on.
+    fn goes_on(&mut self, came: Result<bool>) -> bool {
+        match self.note(came) {
+            Ok(()) => true,
+            Err(error) => {
+                self.tally.fail(error);
+                false
+            }
+        }
+    }
 }
 
 impl<R: Timed> Future for Tallied<R> {
     type Output = ();
 
-    ghost use Rattle.ttrpc_load.specs.Needs.{ExchangesNeed};
+    ghost use Rattle.ttrpc_load_polled.specs.Needs.{ExchangesNeed};
 
     ghost needs = { λ t. ExchangesNeed t.exchanges };
 
@@ -45,8 +56,7 @@ impl<R: Timed> Future for Tallied<R> {
                 Poll::Pending => return Poll::Pending,
                 Poll::Ready(None) => return Poll::Ready(()),
                 Poll::Ready(Some(came)) => {
-                    if let Err(error) = self.note(came) {
-                        self.tally.fail(error);
+                    if !self.goes_on(came) {
                         return Poll::Ready(());
                     }
                 }

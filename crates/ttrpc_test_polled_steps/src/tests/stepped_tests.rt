@@ -1,5 +1,7 @@
 use crate::tests::stepped::{Bench, Step};
+use std::alloc::Global;
 use std::test::Fail;
+use ttrpc_bench_polled::checks::ensure_at;
 
 /// A stream, as a client that sends and receives opens it; its items and its close.
 const OPENS: &[u8] = b"\0\0\0\x11\0\0\0\x01\x01\x06\x0a\x09demo.Echo\x12\x04Chat";
@@ -142,16 +144,19 @@ const STEPS: &[(&str, &[Step])] = &[
     ("calls", CALLS),
 ];
 
+/// Does these steps, and fails at the first that came to something else.
+fn take_all(alloc: Global, name: &'static str, steps: &[Step]) -> Result<(), Fail> {
+    let mut bench = Bench::new(alloc)?;
+    for (number, step) in steps.iter().enumerate() {
+        ensure_at(bench.take(*step)?, name, number)?;
+    }
+    Ok(())
+}
+
 #[test]
 fn steps_come_to_what_they_state(rt: HostRuntime) -> Result<(), Fail> {
     for (name, steps) in STEPS {
-        let mut bench = Bench::new(rt.alloc())?;
-        let mut number = 0u32;
-        for step in *steps {
-            let is_so = bench.take(*step)?;
-            assert!(rt; is_so, "{name}, {number}");
-            number = number.saturating_add(1);
-        }
+        take_all(rt.alloc(), name, steps)?;
     }
     Ok(())
 }

@@ -3,6 +3,7 @@ use crate::tests::frames::ends::{Narrow, System, come};
 use std::alloc::Global;
 use std::io::{self, ErrorKind};
 use std::test::Fail;
+use ttrpc_bench_polled::checks::{ensure, ensure_at};
 use ttrpc_message::Message;
 use ttrpc_polled_frames::{AsValue, PollRead, PollWrite, WriteHeader, WriteMessage};
 use ttrpc_proto::{GenMessage, MessageHeader, Request, Result};
@@ -62,14 +63,18 @@ fn write<R: System>(
     Ok((told(rt.alloc(), ended)?, writer))
 }
 
+/// Whether a writer took these bytes, and was flushed so often.
+fn has_taken(writer: &Narrow, took: &[u8], flushes: u32) -> bool {
+    writer.took.as_slice() == took && writer.flushes == flushes
+}
+
 #[test]
 fn frames_are_written_whole(rt: HostRuntime) -> std::result::Result<(), Fail> {
     for flushes in [false, true] {
         for at_once in [1, 4, 4096] {
             let (told, writer) = write(&rt, flushes, at_once, 4096, None)?;
-            assert_eq!(rt; told.as_str(), "ok");
-            assert_eq!(rt; writer.took.as_slice(), FRAME);
-            assert_eq!(rt; writer.flushes, u32::from(flushes));
+            let is_so = told.as_str() == "ok" && has_taken(&writer, FRAME, u32::from(flushes));
+            ensure_at(is_so, "so many bytes a write", at_once)?;
         }
     }
     Ok(())
@@ -80,24 +85,27 @@ fn a_front_is_written_where_a_writer_fails(rt: HostRuntime) -> std::result::Resu
     for flushes in [false, true] {
         for room in 0..13 {
             let (told, writer) = write(&rt, flushes, 2, room, Some(ErrorKind::BrokenPipe))?;
-            assert!(rt; told.as_str().starts_with("socket err: "));
-            assert_eq!(rt; writer.took.as_slice(), &FRAME[..room]);
-            assert_eq!(rt; writer.flushes, 0);
+            let is_told = told.as_str().starts_with("socket err: ");
+            let is_so = is_told && has_taken(&writer, &FRAME[..room], 0);
+            ensure_at(is_so, "with so much room", room)?;
         }
     }
     Ok(())
 }
 
+/// What is told where a writer takes 11 bytes of a frame, and then nothing.
+fn told_of_full<R: System>(rt: &R, flushes: bool) -> std::result::Result<String, Fail> {
+    let (told, _) = write(rt, flushes, 4, 11, None)?;
+    Ok(told)
+}
+
 #[test]
 fn a_writer_that_takes_nothing_is_told(rt: HostRuntime) -> std::result::Result<(), Fail> {
-    let (zero, _) = write(&rt, false, 4, 11, None)?;
-    assert_eq!(rt;
-        zero.as_str(),
-        "socket err: failed to write ttrpc frame: write zero"
-    );
-    let (open, _) = write(&rt, true, 4, 11, None)?;
-    assert!(rt; open.as_str().starts_with("socket err: "));
-    Ok(())
+    let zero = told_of_full(&rt, false)?;
+    let open = told_of_full(&rt, true)?;
+    let is_so = zero.as_str() == "socket err: failed to write ttrpc frame: write zero"
+        && open.as_str().starts_with("socket err: ");
+    ensure(is_so, "it is told otherwise")
 }
 
 /// A header of type 1 and flags 239, and a request of 67 bytes.
@@ -109,16 +117,25 @@ fn read_request<R: System>(rt: &R) -> std::result::Result<Message<Request>, Fail
     Ok(come(rt, reading)??)
 }
 
+/// What a writer takes of this request.
+fn write_request<R: System>(
+    rt: &R,
+    message: &Message<Request>,
+) -> std::result::Result<Narrow, Fail> {
+    let mut writer = Narrow::new(Vec::new(rt.alloc()), 3, 4096, None);
+    come(
+        rt,
+        WriteMessage::of_value(rt.alloc(), &mut writer, message)?,
+    )??;
+    Ok(writer)
+}
+
 #[test]
 fn a_value_is_read_and_written_again(rt: HostRuntime) -> std::result::Result<(), Fail> {
     let message = read_request(&rt)?;
-    let mut writer = Narrow::new(Vec::new(rt.alloc()), 3, 4096, None);
-    come(
-        &rt,
-        WriteMessage::of_value(rt.alloc(), &mut writer, &message)?,
-    )??;
-    assert!(rt; writer.took.as_slice() == ASKED && writer.flushes == 1);
-    Ok(())
+    let writer = write_request(&rt, &message)?;
+    let is_so = writer.took.as_slice() == ASKED && writer.flushes == 1;
+    ensure(is_so, "other bytes are written")
 }
 
 /// What comes of a header that is written to a writer with so much room.
@@ -131,27 +148,40 @@ fn write_header<R: System>(
     Ok((ended, writer))
 }
 
+/// Whether a header is written, and flushed.
+fn is_header_written<R: System>(rt: &R) -> std::result::Result<bool, Fail> {
+    let (written, writer) = write_header(rt, 4096)?;
+    Ok(written.is_ok() && writer.took.as_slice() == &FRAME[..10] && writer.flushes == 1)
+}
+
+/// Whether a writer that takes four bytes, and then nothing, is told so.
+fn is_header_refused<R: System>(rt: &R) -> std::result::Result<bool, Fail> {
+    let (refused, _) = write_header(rt, 4)?;
+    let told = refused.err().map(|error| error.kind());
+    Ok(told == Some(ErrorKind::WriteZero))
+}
+
 #[test]
 fn headers_are_written_alone(rt: HostRuntime) -> std::result::Result<(), Fail> {
-    let (written, writer) = write_header(&rt, 4096)?;
-    written?;
-    assert!(rt; writer.took.as_slice() == &FRAME[..10] && writer.flushes == 1);
-    let (refused, _) = write_header(&rt, 4)?;
-    let told = refused.err().map(|error| error.kind());
-    assert_eq!(rt; told, Some(ErrorKind::WriteZero));
-    Ok(())
+    let is_so = is_header_written(&rt)? && is_header_refused(&rt)?;
+    ensure(is_so, "it is told otherwise")
+}
+
+/// How many bytes a writer takes of the frame of so many, and by how many offers.
+fn offers_of<R: System>(rt: &R, length: usize) -> std::result::Result<(usize, u32), Fail> {
+    let alloc = rt.alloc();
+    let payload = vec![in alloc; 7u8; length]?;
+    let mut writer = Narrow::new(Vec::new(alloc), 8192, 8192, None);
+    come(rt, PollWrite::new(alloc, &mut writer, &HEADER, payload)?)??;
+    Ok((writer.took.len(), writer.offers))
 }
 
 /// The payloads whose frames a page has just, and one byte more: how many offers are made.
 #[test]
 fn a_page_has_the_first_offer(rt: HostRuntime) -> std::result::Result<(), Fail> {
     for (length, offers) in [(4085, 1), (4086, 1), (4087, 2)] {
-        let alloc = rt.alloc();
-        let payload = vec![in alloc; 7u8; length]?;
-        let mut writer = Narrow::new(Vec::new(alloc), 8192, 8192, None);
-        come(&rt, PollWrite::new(alloc, &mut writer, &HEADER, payload)?)??;
-        assert_eq!(rt; writer.took.len(), length + 10);
-        assert_eq!(rt; writer.offers, offers);
+        let is_so = offers_of(&rt, length)? == (length + 10, offers);
+        ensure_at(is_so, "a payload of so many bytes", length)?;
     }
     Ok(())
 }

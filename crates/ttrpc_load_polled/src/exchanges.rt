@@ -1,7 +1,7 @@
 //! What a task does, one exchange behind the other.
-use crate::polled::calls::Calls;
-use crate::polled::counts::Counts;
-use crate::polled::talks::{Talk, Talks};
+use crate::calls::Calls;
+use crate::counts::Counts;
+use crate::talks::{Talk, Talks};
 use futures::Stream;
 use futures::task::{Context, Poll};
 use ttrpc_polled::Timed;
@@ -60,7 +60,7 @@ impl<R: Timed> Exchanges<R> {
 impl<R: Timed> Stream for Exchanges<R> {
     type Item = Result<bool>;
 
-    ghost use Rattle.ttrpc_load.specs.Needs.{ExchangesNeed};
+    ghost use Rattle.ttrpc_load_polled.specs.Needs.{ExchangesNeed};
 
     ghost needs = { ExchangesNeed };
 

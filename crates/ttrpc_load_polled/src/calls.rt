@@ -1,0 +1,88 @@
+//! Calls that are polled, one behind the other.
+ghost use Rattle.futures.specs.Poll.{OnPending};
+ghost use Rattle.futures.specs.Task.{Covers, Keeps};
+ghost use Rattle.ttrpc_load_polled.specs.Needs.{CallNeeds};
+
+use crate::calling::{request_of, same};
+use futures::task::{Context, Poll};
+use futures::{Future, Stream};
+use ttrpc_polled::Timed;
+use ttrpc_polled_client::{Client, ClientRequest};
+use ttrpc_proto::{Response, Result};
+use ttrpc_secure::Plain;
+
+/// So many calls of `Echo`, each of which is made once the one before it was answered.
+#[derive(Drop)]
+pub struct Calls<R: Timed> {
+    client: Client<R, Plain, Plain>,
+    payload: Vec<u8>,
+    left: usize,
+    call: Option<ClientRequest<Plain, Plain>>,
+}
+
+impl<R: Timed> Calls<R> {
+    /// So many calls by this client, with this payload.
+    pub fn new(client: Client<R, Plain, Plain>, payload: Vec<u8>, left: usize) -> Calls<R> {
+        Calls {
+            client,
+            payload,
+            left,
+            call: None,
+        }
+    }
+
+    /// The call that is under way, or the next.
+    fn current(&mut self) -> Result<ClientRequest<Plain, Plain>> {
+        if let Some(call) = self.call.take() {
+            return Ok(call);
+        }
+        let request = request_of(self.client.alloc(), self.payload.as_slice())?;
+        self.client.request(request)
+    }
+
+    /// Counts a call that was answered, by what was sent or by something else.
+    fn answered(&mut self, response: &Response) -> Result<bool> {
+        self.left = self.left.saturating_sub(1);
+        let payload = self.payload.as_slice();
+        same(self.client.alloc(), response.payload.as_slice(), payload)?;
+        Ok(true)
+    }
+
+    /// Polls a call. Ready: that it was answered, or why it wasn't.
+    fn poll_call(
+        &mut self,
+        call: ClientRequest<Plain, Plain>,
+        cx: &mut Context<'_>,
+    ) -> Poll<Option<Result<bool>>>
+        ensures registered { OnPending result (Covers cx.new (CallNeeds self.new.call)) }
+        ensures kept { Keeps cx.old cx.new }
+    {
+        let mut call = call;
+        match call.poll(cx) {
+            Poll::Pending => {
+                self.call = Some(call);
+                Poll::Pending
+            }
+            Poll::Ready(Ok(response)) => Poll::Ready(Some(self.answered(&response))),
+            Poll::Ready(Err(error)) => Poll::Ready(Some(Err(error))),
+        }
+    }
+}
+
+impl<R: Timed> Stream for Calls<R> {
+    type Item = Result<bool>;
+
+    ghost use Rattle.ttrpc_load_polled.specs.Needs.{CallNeeds};
+
+    ghost needs = { λ c. CallNeeds c.call };
+
+    fn poll_next(&mut self, cx: &mut Context<'_>) -> Poll<Option<Result<bool>>> {
+        if self.left == 0 {
+            return Poll::Ready(None);
+        }
+        match self.current() {
+            Ok(call) => self.poll_call(call, cx),
+            Err(error) => Poll::Ready(Some(Err(error))),
+        }
+    }
+}

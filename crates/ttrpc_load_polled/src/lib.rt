@@ -1,0 +1,20 @@
+//! The exchanges of the program `ttrpc-load` that are polled on one event loop: calls, streams of each kind, and clients at rest. Beside
+//! them what the program's callers in threads need, too: the request of a call, and how many calls each caller makes.
+#![tactic(auto)]
+
+mod calling;
+mod calls;
+mod counts;
+mod exchanges;
+mod load;
+mod looped;
+mod resting;
+mod talks;
+mod tally;
+mod task;
+
+pub use calling::{request_of, same};
+pub use exchanges::Work;
+pub use load::{Load, share};
+pub use looped::{Looped, Ran, run_polled};
+pub use resting::{rest, rest_at};

@@ -1,0 +1,4 @@
+mod frames;
+mod recorded_tests;
+mod stepped;
+mod stepped_tests;
