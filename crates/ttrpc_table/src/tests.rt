@@ -1,9 +1,9 @@
 //! Tables of more entries than the row has: what calls give and leave, and what is there where memory was refused.
 
 use super::Table;
-use std::alloc::{AllocError, Global};
-use std::process::Abort;
 use std::test::Fail;
+
+type Tested = Result<(), Fail>;
 
 /// Keys that rise, and their values: four more than a row has.
 const RISING: [(u64, u64); 20] = [
@@ -29,75 +29,96 @@ const RISING: [(u64, u64); 20] = [
     (200, 20),
 ];
 
-/// The table has these entries and no others.
-fn has(rt: &impl Abort, table: &Table<u64>, entries: &[(u64, u64)]) {
-    assert_eq!(rt; table.len(), entries.len());
-    assert!(rt; table.is_empty() == entries.is_empty());
-    assert_eq!(rt; table.first(), entries.first().map(|entry| entry.0));
-    for (key, value) in entries {
-        assert_eq!(rt; table.get(*key).copied(), Some(*value), "at {key}");
+/// Fails if the condition does not hold.
+fn check(holds: bool) -> Tested {
+    if holds {
+        Ok(())
+    } else {
+        Err(Fail::new("a condition does not hold"))
     }
 }
 
-/// Puts a value under a key. Where memory is refused, the table is as it was.
-fn put(
-    rt: &impl Abort,
+/// Returns whether the table has these entries and no others.
+fn has(table: &Table<u64>, entries: &[(u64, u64)]) -> bool {
+    let mut all = table.len() == entries.len()
+        && table.is_empty() == entries.is_empty()
+        && table.first() == entries.first().map(|entry| entry.0);
+    for (key, value) in entries {
+        all = all && table.get(*key).copied() == Some(*value);
+    }
+    all
+}
+
+/// Puts a value under a key, and returns whether this was there before. Where memory is refused, the table is as it was.
+fn puts(
     table: &mut Table<u64>,
     (key, value): (u64, u64),
     before: &[(u64, u64)],
-) -> Result<Option<u64>, AllocError> {
-    let was = table.insert(key, value);
-    if was.is_err() {
-        has(rt, table, before);
-        assert!(rt; table.get(key).is_none(), "{key} was refused");
+    was: Option<u64>,
+) -> Result<bool, Fail> {
+    match table.insert(key, value) {
+        Ok(found) => Ok(found == was),
+        Err(error) => {
+            check(has(table, before) && table.get(key).is_none())?;
+            Err(error.into())
+        }
     }
-    was
 }
 
-/// A table of the keys that rise.
-fn risen(rt: &impl Abort, alloc: Global) -> Result<Table<u64>, AllocError> {
-    let mut table = Table::new(alloc);
-    has(rt, &table, &[]);
+/// Puts the keys that rise into an empty table, and returns whether it has them then.
+fn rises(table: &mut Table<u64>) -> Result<bool, Fail> {
+    let mut all = has(table, &[]);
     for (i, entry) in RISING.iter().enumerate() {
-        let was = put(rt, &mut table, *entry, &RISING[..i])?;
-        assert!(rt; was.is_none(), "at {i}");
+        all = puts(table, *entry, &RISING[..i], None)? && all;
     }
-    has(rt, &table, &RISING);
-    Ok(table)
+    Ok(all && has(table, &RISING))
 }
 
-#[test]
-fn entries_leave_in_order(rt: HostRuntime) -> Result<(), Fail> {
-    let mut table = risen(&rt, rt.alloc())?;
+/// Returns whether the entries leave in their order, and leave the others.
+fn leave_in_order(table: &mut Table<u64>) -> bool {
+    let mut all = true;
     for (i, (key, value)) in RISING.iter().enumerate() {
-        assert!(rt; table.remove(*key) == Some(*value), "at {key}");
-        assert!(rt; table.remove(*key).is_none(), "at {key} again");
-        has(&rt, &table, &RISING[i + 1..]);
+        all = all
+            && table.remove(*key) == Some(*value)
+            && table.remove(*key).is_none()
+            && has(table, &RISING[i + 1..]);
     }
-    Ok(())
+    all
 }
 
 #[test]
-fn entries_leave_out_of_order(rt: HostRuntime) -> Result<(), Fail> {
-    let mut table = risen(&rt, rt.alloc())?;
-    for (key, value) in [
-        (200, Some(20)),
-        (150, Some(15)),
-        (155, None),
-        (20, Some(2)),
-        (50, Some(5)),
-        (5, None),
-        (10, Some(1)),
-        (210, None),
-    ] {
-        assert!(rt; table.remove(key) == value, "at {key}");
-        assert!(rt; table.get(key).is_none(), "at {key}");
+fn entries_leave_in_order(rt: HostRuntime) -> Tested {
+    let mut table = Table::new(rt.alloc());
+    check(rises(&mut table)? && leave_in_order(&mut table))
+}
+
+/// Keys that are removed, and the values that are found.
+const REMOVED: [(u64, Option<u64>); 8] = [
+    (200, Some(20)),
+    (150, Some(15)),
+    (155, None),
+    (20, Some(2)),
+    (50, Some(5)),
+    (5, None),
+    (10, Some(1)),
+    (210, None),
+];
+
+/// Returns whether these keys leave out of their order.
+fn leave_out_of_order(table: &mut Table<u64>) -> bool {
+    let mut all = true;
+    for (key, value) in REMOVED {
+        all = all && table.remove(key) == value && table.get(key).is_none();
     }
-    assert_eq!(rt; table.len(), 15);
-    assert_eq!(rt; table.first(), Some(30));
+    all && table.len() == 15 && table.first() == Some(30)
+}
+
+#[test]
+fn entries_leave_out_of_order(rt: HostRuntime) -> Tested {
+    let mut table = Table::new(rt.alloc());
+    let leave = rises(&mut table)? && leave_out_of_order(&mut table);
     table.clear();
-    has(&rt, &table, &[]);
-    Ok(())
+    check(leave && has(&table, &[]))
 }
 
 /// An entry for a table of the keys that rise, what is there before, and how many entries are then: its key is among the
@@ -111,42 +132,65 @@ const MORE: [((u64, u64), Option<u64>, usize); 6] = [
     ((205, 26), None, 21),
 ];
 
+/// Returns whether all entries that rise leave the table, of which this one has replaced its value.
+fn rising_leave(table: &mut Table<u64>, entry: (u64, u64)) -> bool {
+    let mut all = true;
+    for (key, value) in RISING {
+        let expected = if key == entry.0 { entry.1 } else { value };
+        all = all && table.remove(key) == Some(expected);
+    }
+    all
+}
+
+/// Returns whether the entry comes into the table, which has so many then, and stays there alone if its key is new.
+fn comes(
+    table: &mut Table<u64>,
+    entry: (u64, u64),
+    was: Option<u64>,
+    len: usize,
+) -> Result<bool, Fail> {
+    let is_put = puts(table, entry, &RISING, was)? && table.len() == len;
+    let left = if len > 20 { Some(entry.0) } else { None };
+    Ok(is_put && rising_leave(table, entry) && table.first() == left)
+}
+
 #[test]
-fn entries_come_anywhere(rt: HostRuntime) -> Result<(), Fail> {
+fn entries_come_anywhere(rt: HostRuntime) -> Tested {
     for (entry, was, len) in MORE {
-        let mut table = risen(&rt, rt.alloc())?;
-        let found = put(&rt, &mut table, entry, &RISING)?;
-        assert!(rt; found == was, "{entry:?}");
-        assert_eq!(rt; table.len(), len, "{entry:?}");
-        for (key, value) in RISING {
-            let expected = if key == entry.0 { entry.1 } else { value };
-            assert_eq!(rt; table.remove(key), Some(expected), "{entry:?} at {key}");
-        }
-        assert_eq!(rt; table.first(), if len > 20 { Some(entry.0) } else { None });
+        let mut table = Table::new(rt.alloc());
+        check(rises(&mut table)? && comes(&mut table, entry, was, len)?)?;
     }
     Ok(())
 }
 
-#[test]
-fn the_least_leaves_first(rt: HostRuntime) -> Result<(), Fail> {
-    let mut table = risen(&rt, rt.alloc())?;
-    for (i, entry) in RISING.iter().enumerate() {
-        assert!(rt; table.pop_first() == Some(*entry), "at {i}");
+/// Returns whether the entries leave by rising key, and nothing behind them.
+fn leave_by_key(table: &mut Table<u64>) -> bool {
+    let mut all = true;
+    for entry in RISING {
+        all = all && table.pop_first() == Some(entry);
     }
-    assert!(rt; table.pop_first().is_none());
-    Ok(())
+    all && table.pop_first().is_none()
 }
 
 #[test]
-fn values_are_lent(rt: HostRuntime) -> Result<(), Fail> {
-    let mut table = risen(&rt, rt.alloc())?;
+fn the_least_leaves_first(rt: HostRuntime) -> Tested {
+    let mut table = Table::new(rt.alloc());
+    check(rises(&mut table)? && leave_by_key(&mut table))
+}
+
+#[test]
+fn values_are_lent(rt: HostRuntime) -> Tested {
+    let mut table = Table::new(rt.alloc());
+    let has_risen = rises(&mut table)?;
     for (key, new) in [(10, 101), (200, 102), (15, 103)] {
         if let Some(value) = table.get_mut(key) {
             *value = new;
         }
     }
-    assert_eq!(rt; table.get(10).copied(), Some(101));
-    assert_eq!(rt; table.get(200).copied(), Some(102));
-    assert!(rt; table.get(15).is_none());
-    Ok(())
+    check(
+        has_risen
+            && table.get(10).copied() == Some(101)
+            && table.get(200).copied() == Some(102)
+            && table.get(15).is_none(),
+    )
 }

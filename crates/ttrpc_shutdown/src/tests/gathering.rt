@@ -1,11 +1,11 @@
 //! A notifier that takes its waiters back.
 
 use crate::new;
-use std::test::Fail;
+use crate::tests::checks::{Tested, check};
 
 /// Without a waiter that is left, what is given back can be gathered again, once it is whole.
 #[test]
-fn all_waiters_that_are_left_are_gathered(rt: HostRuntime) -> Result<(), Fail> {
+fn all_waiters_that_are_left_are_gathered(rt: HostRuntime) -> Tested {
     let (mut notifier, mut first) = new(rt.alloc())?;
     let clone = first.clone()?;
     let subscribed = notifier.subscribe()?;
@@ -13,30 +13,28 @@ fn all_waiters_that_are_left_are_gathered(rt: HostRuntime) -> Result<(), Fail> {
     let mut waiters = Vec::with_capacity(rt.alloc(), 2)?;
     waiters.push(first)?;
     let Err((count, notifier, mut waiters)) = notifier.gather(waiters) else {
-        panic!(rt; "one of two waiters is not all");
+        return Err("one of two waiters is not all".into());
     };
-    assert_eq!(rt; (count, waiters.len()), (2, 1));
+    let are_not_all = count == 2 && waiters.len() == 1;
     waiters.push(subscribed)?;
     let Ok(gathered) = notifier.gather(waiters) else {
-        panic!(rt; "two of two waiters are all");
+        return Err("two of two waiters are all".into());
     };
-    assert_eq!(rt; gathered, (2, false));
-    Ok(())
+    check(are_not_all && gathered == (2, false))
 }
 
 /// With no waiter left none is gathered. The result says that the flag is set.
 #[test]
-fn no_waiter_is_gathered_where_none_is_left(rt: HostRuntime) -> Result<(), Fail> {
+fn no_waiter_is_gathered_where_none_is_left(rt: HostRuntime) -> Tested {
     let (mut notifier, first) = new(rt.alloc())?;
     notifier.shutdown();
     let Err((count, notifier, waiters)) = notifier.gather(Vec::new(rt.alloc())) else {
-        panic!(rt; "a waiter is left");
+        return Err("a waiter is left".into());
     };
-    assert_eq!(rt; (count, waiters.len()), (1, 0));
+    let is_not_all = count == 1 && waiters.is_empty();
     drop(first);
     let Ok(gathered) = notifier.gather(waiters) else {
-        panic!(rt; "no waiter is left");
+        return Err("no waiter is left".into());
     };
-    assert_eq!(rt; gathered, (0, true));
-    Ok(())
+    check(is_not_all && gathered == (0, true))
 }

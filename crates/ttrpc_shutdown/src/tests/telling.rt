@@ -1,7 +1,7 @@
 //! Threads that tell one another of shutdowns.
 
+use crate::tests::checks::{Tested, check};
 use crate::{Waiter, new};
-use std::test::Fail;
 use std::thread;
 use std::time::{Clock, Duration};
 
@@ -19,7 +19,7 @@ fn finds<X: Clock>(rt: &X, waiter: &mut Waiter) -> bool {
 /// One thread shuts the first down and looks for the other's flag. The other looks for the first's flag, and shuts its
 /// own down then.
 #[test]
-fn threads_tell_each_other(rt: HostRuntime) -> Result<(), Fail> {
+fn threads_tell_each_other(rt: HostRuntime) -> Tested {
     let (mut first, mut of_first) = new(rt.alloc())?;
     let (mut second, mut of_second) = new(rt.alloc())?;
     let (one, other) = thread::join(
@@ -34,6 +34,5 @@ fn threads_tell_each_other(rt: HostRuntime) -> Result<(), Fail> {
             found
         },
     );
-    assert!(rt; one && other);
-    Ok(())
+    check(one && other)
 }

@@ -1,7 +1,7 @@
 //! Threads that wait for the flag, or for all waiters to go.
 
+use crate::tests::checks::{Tested, check};
 use crate::{new, with_timeout};
-use std::test::Fail;
 use std::thread;
 use std::time::{Duration, Instant};
 use ttrpc_proto::Error;
@@ -12,7 +12,7 @@ fn a_while() -> Duration {
 
 /// Who waits for the flag wakes at `shutdown` and at the notifier's drop.
 #[test]
-fn a_shutdown_wakes_who_waits_for_it(rt: HostRuntime) -> Result<(), Fail> {
+fn a_shutdown_wakes_who_waits_for_it(rt: HostRuntime) -> Tested {
     for by_drop in [false, true] {
         let (mut notifier, mut waiter) = new(rt.alloc())?;
         let (told, _left) = thread::join(
@@ -30,14 +30,14 @@ fn a_shutdown_wakes_who_waits_for_it(rt: HostRuntime) -> Result<(), Fail> {
                 Some(notifier)
             },
         );
-        assert!(rt; told);
+        check(told)?;
     }
     Ok(())
 }
 
 /// Who waits for all waiters to go wakes at the drop of the last one.
 #[test]
-fn the_last_drop_wakes_who_waits_for_all(rt: HostRuntime) -> Result<(), Fail> {
+fn the_last_drop_wakes_who_waits_for_all(rt: HostRuntime) -> Tested {
     let (mut notifier, mut first) = new(rt.alloc())?;
     let second = first.clone()?;
     let ((waited, left), _) = thread::join(
@@ -51,26 +51,24 @@ fn the_last_drop_wakes_who_waits_for_all(rt: HostRuntime) -> Result<(), Fail> {
         },
     );
     waited?;
-    assert_eq!(rt; left, 0);
-    Ok(())
+    check(left == 0)
 }
 
 /// A wait with a limit fails behind it with a text of its own, and is over as soon as no waiter is left.
 #[test]
-fn a_wait_has_its_limit(rt: HostRuntime) -> Result<(), Fail> {
+fn a_wait_has_its_limit(rt: HostRuntime) -> Tested {
     let (mut notifier, waiter) = with_timeout(rt.alloc(), a_while())?;
     notifier.shutdown();
     let start = Instant::now(&rt)?;
     let refused = notifier.wait_all_exit(&rt, rt.alloc());
-    assert!(rt; start.elapsed(&rt)? >= a_while());
+    let is_late = start.elapsed(&rt)? >= a_while();
     let text = match refused {
         Err(Error::Others(text)) => text,
         Err(other) => return Err(other.into()),
-        Ok(()) => panic!(rt; "a waiter is left"),
+        Ok(()) => return Err("a waiter is left".into()),
     };
-    assert_eq!(rt; text.as_str(), "waiters are left");
-    assert_eq!(rt; notifier.waiters(), 1);
+    let is_told = text.as_str() == "waiters are left" && notifier.waiters() == 1;
     drop(waiter);
     notifier.wait_all_exit(&rt, rt.alloc())?;
-    Ok(())
+    check(is_late && is_told)
 }

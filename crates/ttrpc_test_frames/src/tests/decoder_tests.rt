@@ -1,14 +1,12 @@
 //! Frames out of bytes that were cut in all ways.
+use crate::tests::checks::{Tested, check, check_row};
 use crate::tests::rows::{FrameRow, message_of};
 use std::alloc::Global;
-use std::process::Abort;
 use std::test::Fail;
 use ttrpc_proto::{
     Error, FrameDecoder, GenMessage, GenMessageError, Incoming, MESSAGE_LENGTH_MAX, MessageHeader,
 };
 use ttrpc_wire::{Blob, TryClone};
-
-type Tested = Result<(), Fail>;
 
 /// A request of twenty bytes, a frame that closes stream 1, two bytes of data on stream 3, and the front of
 /// another frame.
@@ -98,103 +96,128 @@ fn plainly(alloc: Global, bytes: &[u8]) -> Result<(Vec<Incoming>, usize), Fail> 
     Ok((given, rest.len()))
 }
 
-/// The stream in pieces of this size, and the byte behind it, which makes its last frame whole.
-fn comes_in_pieces(rt: &impl Abort, alloc: Global, step: usize) -> Tested {
+/// Returns whether bytes that come `step` at a time are just these frames.
+fn gives(
+    alloc: Global,
+    decoder: &mut FrameDecoder,
+    bytes: &[u8],
+    step: usize,
+    rows: &[FrameRow],
+) -> Result<bool, Fail> {
+    let (given, _) = fed(alloc, decoder, bytes, step)?;
+    are(alloc, given.as_slice(), rows)
+}
+
+/// Returns whether the stream in pieces of this size gives its frames, and the byte behind it its last one.
+fn comes_in_pieces(alloc: Global, step: usize) -> Result<bool, Fail> {
     let mut decoder = FrameDecoder::new(alloc);
-    let (given, _) = fed(alloc, &mut decoder, STREAM, step)?;
-    assert!(rt;
-        are(alloc, given.as_slice(), FRAMES)?,
-        "in pieces of {step}"
-    );
-    assert!(rt; !decoder.at_boundary());
-    let (last, _) = fed(alloc, &mut decoder, &[10], step)?;
-    assert!(rt; are(alloc, last.as_slice(), &[FrameRow(2, 3, 3, 0, &[9, 10])])?);
-    assert!(rt; decoder.at_boundary());
-    Ok(())
+    let are_frames = gives(alloc, &mut decoder, STREAM, step, FRAMES)?;
+    let is_inside = !decoder.at_boundary();
+    let last = FrameRow(2, 3, 3, 0, &[9, 10]);
+    let is_last = gives(alloc, &mut decoder, &[10], step, &[last])?;
+    Ok(are_frames && is_inside && is_last && decoder.at_boundary())
 }
 
 #[test]
 fn frames_however_they_are_cut(rt: HostRuntime) -> Tested {
     let (plain, behind) = plainly(rt.alloc(), STREAM)?;
-    assert_eq!(rt; behind, 11);
-    assert!(rt; are(rt.alloc(), plain.as_slice(), FRAMES)?);
+    check(behind == 11 && are(rt.alloc(), plain.as_slice(), FRAMES)?)?;
     for step in 1..STREAM.len() {
-        comes_in_pieces(&rt, rt.alloc(), step)?;
+        check_row(step, comes_in_pieces(rt.alloc(), step)?)?;
     }
     Ok(())
 }
 
-/// A decoder that was fed the front of a frame, and gave nothing.
-fn begun(rt: &impl Abort, alloc: Global, front: &[u8], step: usize) -> Result<FrameDecoder, Fail> {
+/// A decoder that was fed the front of a frame, and whether it gave nothing.
+fn begun(alloc: Global, front: &[u8], step: usize) -> Result<(FrameDecoder, bool), Fail> {
     let mut decoder = FrameDecoder::new(alloc);
     let (none, _) = fed(alloc, &mut decoder, front, step)?;
-    assert!(rt; none.is_empty());
-    Ok(decoder)
+    Ok((decoder, none.is_empty()))
 }
 
-/// A frame in two pieces.
-fn comes_in_two(rt: &impl Abort, alloc: Global, cut: usize) -> Tested {
+/// Returns whether a frame comes in two pieces.
+fn comes_in_two(alloc: Global, cut: usize) -> Result<bool, Fail> {
     let bytes = [0, 0, 0, 1, 0, 0, 0, 9, 3, 4, 42];
     let (front, back) = bytes.split_at(cut.min(11));
-    let mut decoder = begun(rt, alloc, front, 11)?;
-    assert!(rt; decoder.at_boundary() == (cut == 0));
-    let (one, _) = fed(alloc, &mut decoder, back, 11)?;
-    assert!(rt;
-        are(alloc, one.as_slice(), &[FrameRow(1, 9, 3, 4, &[42])])?,
-        "cut at {cut}"
-    );
-    assert!(rt; decoder.at_boundary());
-    Ok(())
+    let (mut decoder, has_begun) = begun(alloc, front, 11)?;
+    let is_cut = decoder.at_boundary() == (cut == 0);
+    let is_one = gives(
+        alloc,
+        &mut decoder,
+        back,
+        11,
+        &[FrameRow(1, 9, 3, 4, &[42])],
+    )?;
+    Ok(has_begun && is_cut && is_one && decoder.at_boundary())
 }
 
 #[test]
 fn header_cut_at_each_byte(rt: HostRuntime) -> Tested {
     for cut in 0..11 {
-        comes_in_two(&rt, rt.alloc(), cut)?;
+        check_row(cut, comes_in_two(rt.alloc(), cut)?)?;
     }
     Ok(())
+}
+
+/// Returns whether the decoder takes these bytes as one piece, and gives nothing.
+fn takes(alloc: Global, decoder: &mut FrameDecoder, bytes: &[u8]) -> bool {
+    decoder.feed(alloc, bytes) == Ok((bytes.len(), None))
 }
 
 #[test]
 fn an_empty_piece_is_nothing(rt: HostRuntime) -> Tested {
     let mut decoder = FrameDecoder::new(rt.alloc());
-    assert!(rt; decoder.feed(rt.alloc(), &[]) == Ok((0, None)));
-    assert!(rt; decoder.at_boundary());
-    Ok(())
+    check(takes(rt.alloc(), &mut decoder, &[]) && decoder.at_boundary())
+}
+
+/// Returns whether the decoder takes so many pieces of one byte, and gives nothing.
+fn takes_bytes(alloc: Global, decoder: &mut FrameDecoder, count: u32) -> bool {
+    let mut all = true;
+    for _ in 0..count {
+        all = all && takes(alloc, decoder, &[1]);
+    }
+    all
 }
 
 /// A frame that is too long, one byte a call, and the frame behind it.
 #[test]
 fn an_oversized_frame_is_counted(rt: HostRuntime) -> Tested {
     let alloc = rt.alloc();
-    let mut decoder = begun(&rt, alloc, &[0, 0x40, 0, 1, 0, 0, 0, 5, 1, 0], 1)?;
-    for _ in 0..4194304 {
-        assert!(rt; decoder.feed(alloc, &[1]) == Ok((1, None)));
-    }
+    let (mut decoder, has_begun) = begun(alloc, &[0, 0x40, 0, 1, 0, 0, 0, 5, 1, 0], 1)?;
+    let is_taken = takes_bytes(alloc, &mut decoder, 4194304);
     let header = MessageHeader::new_request(5, 4194305);
-    assert!(rt; decoder.feed(alloc, &[1]) == Ok((1, Some(Incoming::Oversize(header)))));
-    assert!(rt; decoder.at_boundary());
-    let (closed, _) = fed(alloc, &mut decoder, &[0, 0, 0, 0, 0, 0, 0, 1, 3, 5], 1)?;
-    assert!(rt; are(alloc, closed.as_slice(), &[FrameRow(0, 1, 3, 5, b"")])?);
-    Ok(())
+    let is_oversize = decoder.feed(alloc, &[1]) == Ok((1, Some(Incoming::Oversize(header))));
+    let is_over = decoder.at_boundary();
+    let closing = [0, 0, 0, 0, 0, 0, 0, 1, 3, 5];
+    let is_closed = gives(
+        alloc,
+        &mut decoder,
+        &closing,
+        1,
+        &[FrameRow(0, 1, 3, 5, b"")],
+    )?;
+    check(has_begun && is_taken && is_oversize && is_over && is_closed)
+}
+
+/// Returns whether it is a frame of the greatest length, whose memory is what its header states.
+fn is_greatest(frame: GenMessage) -> bool {
+    let has_header = frame.header == MessageHeader::new_request(5, 4194304);
+    let payload = frame.payload.into_vec();
+    has_header && payload.len() == 4194304 && payload.capacity() == 4194304
 }
 
 /// A frame of the greatest length is kept, and its memory is what its header states.
 #[test]
 fn the_greatest_frame_is_kept(rt: HostRuntime) -> Tested {
     let alloc = rt.alloc();
-    let mut decoder = begun(&rt, alloc, &[0, 0x40, 0, 0, 0, 0, 0, 5, 1, 0], 10)?;
-    assert!(rt; decoder.feed(alloc, &[7]) == Ok((1, None)));
+    let (mut decoder, has_begun) = begun(alloc, &[0, 0x40, 0, 0, 0, 0, 0, 5, 1, 0], 10)?;
+    let is_taken = takes(alloc, &mut decoder, &[7]);
     let body = vec![in alloc; 7; 4194303]?;
     let (mut one, _) = fed(alloc, &mut decoder, body.as_slice(), 4096)?;
     let Some(Incoming::Frame(frame)) = one.pop() else {
         return Err("no frame came".into());
     };
-    assert!(rt; frame.header == MessageHeader::new_request(5, 4194304));
-    let payload = frame.payload.into_vec();
-    assert_eq!(rt; payload.len(), 4194304);
-    assert_eq!(rt; payload.capacity(), 4194304);
-    Ok(())
+    check(has_begun && is_taken && is_greatest(frame))
 }
 
 /// How many frames and calls a stream takes in pieces of this size.
@@ -204,6 +227,16 @@ fn counted(alloc: Global, bytes: &[u8], step: usize) -> Result<(usize, usize), F
     Ok((given.len(), calls))
 }
 
+/// Returns whether so many bytes are 2000 frames, and take at most two calls for a frame, and one for each piece.
+fn are_few_calls(alloc: Global, bytes: &[u8], step: usize) -> Result<bool, Fail> {
+    let (frames, calls) = counted(alloc, bytes, step)?;
+    let pieces = bytes.len() / step.max(1);
+    Ok(frames == 2000 && calls <= pieces.saturating_add(4001))
+}
+
+/// Sizes of pieces.
+const STEPS: &[usize] = &[1, 7, 100, 4096, 1000000];
+
 /// The calls grow with the bytes: at most two for a frame, and one for each piece.
 #[test]
 fn calls_grow_with_the_bytes(rt: HostRuntime) -> Tested {
@@ -212,11 +245,8 @@ fn calls_grow_with_the_bytes(rt: HostRuntime) -> Tested {
         bytes.extend_from_slice(STREAM)?;
         bytes.push(10)?;
     }
-    for step in [1, 7, 100, 4096, 1000000] {
-        let (frames, calls) = counted(rt.alloc(), bytes.as_slice(), step)?;
-        assert_eq!(rt; frames, 2000);
-        let most = (bytes.len() / step).saturating_add(4001);
-        assert!(rt; calls <= most, "{calls} calls for pieces of {step}");
+    for (at, step) in STEPS.iter().enumerate() {
+        check_row(at, are_few_calls(rt.alloc(), bytes.as_slice(), *step)?)?;
     }
     Ok(())
 }
@@ -225,15 +255,26 @@ fn calls_grow_with_the_bytes(rt: HostRuntime) -> Tested {
 #[test]
 fn a_refused_piece_may_come_again(rt: HostRuntime) -> Tested {
     let alloc = rt.alloc();
-    let mut decoder = begun(&rt, alloc, &[0, 0, 0, 2, 0, 0, 0, 9, 3, 4], 10)?;
+    let (mut decoder, has_begun) = begun(alloc, &[0, 0, 0, 2, 0, 0, 0, 9, 3, 4], 10)?;
     let mut first = decoder.feed(alloc, &[42]);
     if first == Err(Error::NoMemory) {
         first = decoder.feed(alloc, &[42]);
     }
-    assert!(rt; first == Ok((1, None)));
-    let (last, _) = fed(alloc, &mut decoder, &[43], 1)?;
-    assert!(rt; are(alloc, last.as_slice(), &[FrameRow(2, 9, 3, 4, &[42, 43])])?);
-    Ok(())
+    let is_taken = first == Ok((1, None));
+    let is_whole = gives(
+        alloc,
+        &mut decoder,
+        &[43],
+        1,
+        &[FrameRow(2, 9, 3, 4, &[42, 43])],
+    )?;
+    check(has_begun && is_taken && is_whole)
+}
+
+/// Returns whether the error is the status of a message that is too long.
+fn is_too_long(error: &Error) -> bool {
+    let told = "message length 4194305 exceed maximum message size of 4194304";
+    matches!(error, Error::RpcStatus(status) if status.code == 3 && status.message.as_str() == told)
 }
 
 /// The header says how long a message is, and not the payload that is there.
@@ -241,35 +282,26 @@ fn a_refused_piece_may_come_again(rt: HostRuntime) -> Tested {
 fn long_messages_are_refused(rt: HostRuntime) -> Tested {
     let alloc = rt.alloc();
     let greatest = message_of(alloc, &FrameRow(4194304, 1, 1, 0, b""))?;
-    assert!(rt; greatest.check(alloc).is_ok());
     let longer = message_of(alloc, &FrameRow(4194305, 1, 1, 0, b""))?;
     match longer.check(alloc) {
-        Err(Error::NoMemory) => return Err(Error::NoMemory.into()),
-        Err(Error::RpcStatus(status)) => {
-            assert_eq!(rt; status.code, 3);
-            assert_eq!(rt;
-                status.message.as_str(),
-                "message length 4194305 exceed maximum message size of 4194304"
-            );
-        }
-        _ => return Err("it wasn't refused by a status".into()),
+        Err(Error::NoMemory) => Err(Error::NoMemory.into()),
+        Err(error) => check(greatest.check(alloc).is_ok() && is_too_long(&error)),
+        Ok(()) => Err("it wasn't refused".into()),
     }
-    Ok(())
 }
 
 #[test]
 fn messages_are_copied(rt: HostRuntime) -> Tested {
     let alloc = rt.alloc();
     let empty = GenMessage::new(alloc);
-    assert!(rt; empty == message_of(alloc, &FrameRow(0, 0, 0, 0, b""))?);
+    let is_empty = empty == message_of(alloc, &FrameRow(0, 0, 0, 0, b""))?;
     let message = message_of(alloc, &FrameRow(3, 258, 2, 1, b"abc"))?;
-    assert!(rt; message.try_clone()? == message);
-    assert!(rt; message != empty);
-    Ok(())
+    let copy = message.try_clone()?;
+    check(is_empty && copy == message && message != empty)
 }
 
 #[test]
-fn errors_of_a_connection_are_its_own(rt: HostRuntime) {
+fn errors_of_a_connection_are_its_own() -> Tested {
     let error = GenMessageError::from(Error::Eof);
-    assert!(rt; error == GenMessageError::InternalError(Error::Eof));
+    check(error == GenMessageError::InternalError(Error::Eof))
 }

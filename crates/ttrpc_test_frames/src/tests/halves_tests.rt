@@ -1,59 +1,60 @@
 //! Plain halves, through their bounds, the sealing of a frame, and the errors that `?` makes.
 ghost use Rattle.std.specs.Prelude.{◌≡◌, IfErr};
 
+use crate::tests::checks::{Tested, check, check_row};
 use crate::tests::rows::{FrameRow, header_of, queued_of};
 use std::alloc::{AllocError, Global};
-use std::process::Abort;
 use std::test::Fail;
 use ttrpc_proto::{MESSAGE_LENGTH_MAX, Outgoing};
 use ttrpc_secure::sending::{SendError, associated_bytes, send};
 use ttrpc_secure::{InboundTransform, OutboundTransform, Plain, TransformError};
 
-type Tested = Result<(), Fail>;
-
-/// What the one half seals is `expected`, and the other half opens that to `data`.
+/// Returns whether what the one half seals is `expected`, and the other half opens that to `data`.
 fn crosses<O: OutboundTransform, I: InboundTransform>(
-    rt: &impl Abort,
     alloc: Global,
     halves: (&mut O, &mut I),
     data: &[u8],
     expected: &[u8],
-) -> Tested {
+) -> Result<bool, Fail> {
     let (outbound, inbound) = halves;
     let sealed = outbound.transform_outbound(alloc, data, b"header")?;
-    assert!(rt; sealed.as_slice() == expected);
     let opened = inbound.transform_inbound(alloc, sealed.as_slice(), b"header")?;
-    assert!(rt; opened.as_slice() == data);
-    crosses_as_it_is(rt, alloc, (outbound, inbound), opened, expected)
+    Ok(sealed.as_slice() == expected && opened.as_slice() == data)
 }
 
 /// The same by the calls that take a vector.
 fn crosses_as_it_is<O: OutboundTransform, I: InboundTransform>(
-    rt: &impl Abort,
     alloc: Global,
     halves: (&mut O, &mut I),
-    data: Vec<u8>,
+    data: &[u8],
     expected: &[u8],
-) -> Tested {
+) -> Result<bool, Fail> {
     let (outbound, inbound) = halves;
-    let copy = Vec::from_slice(alloc, data.as_slice())?;
-    let sealed = outbound.transform_outbound_vec(alloc, data, b"header")?;
-    assert!(rt; sealed.as_slice() == expected);
+    let copy = Vec::from_slice(alloc, data)?;
+    let sealed = outbound.transform_outbound_vec(alloc, copy, b"header")?;
+    let is_sealed = sealed.as_slice() == expected;
     let opened = inbound.transform_inbound_vec(alloc, sealed, b"header")?;
-    assert!(rt; opened == copy);
-    Ok(())
+    Ok(is_sealed && opened.as_slice() == data)
 }
+
+/// Returns whether plain halves leave the data as they are, by either call.
+fn stay(alloc: Global, data: &[u8]) -> Result<bool, Fail> {
+    let mut outbound = Plain::default();
+    let mut inbound = Plain {};
+    let crosses = crosses(alloc, (&mut outbound, &mut inbound), data, data)?;
+    Ok(crosses && crosses_as_it_is(alloc, (&mut outbound, &mut inbound), data, data)?)
+}
+
+/// Data that cross plain halves.
+const DATA: &[&[u8]] = &[b"a payload", &[0, 255, 0], &[]];
 
 #[test]
 fn plain_halves_leave_data_as_it_is(rt: HostRuntime) -> Tested {
-    let mut outbound = Plain::default();
-    let mut inbound = Plain {};
-    for data in [b"a payload".as_slice(), &[0, 255, 0], &[]] {
-        crosses(&rt, rt.alloc(), (&mut outbound, &mut inbound), data, data)?;
+    for (at, data) in DATA.iter().enumerate() {
+        check_row(at, stay(rt.alloc(), data)?)?;
     }
-    assert!(rt; outbound.max_overhead() == 0);
-    assert!(rt; <Plain as OutboundTransform>::SEALS == false);
-    Ok(())
+    let outbound = Plain::default();
+    check(outbound.max_overhead() == 0 && <Plain as OutboundTransform>::SEALS == false)
 }
 
 // Only memory is an error in these two, and the clauses see which error the `?` makes of it.
@@ -72,17 +73,16 @@ fn copied(alloc: Global, items: &[u8]) -> Result<Vec<u8>, TransformError>
 
 #[test]
 fn refused_memory_is_an_error(rt: HostRuntime) -> Tested {
-    assert!(rt; TransformError::from(AllocError) == TransformError::NoMemory);
     let mut items = copied(rt.alloc(), &[5, 6])?;
     pushed(&mut items, 7)?;
-    assert!(rt; items.as_slice() == [5, 6, 7].as_slice());
-    Ok(())
+    let are_kept = items.as_slice() == [5, 6, 7].as_slice();
+    check(are_kept && TransformError::from(AllocError) == TransformError::NoMemory)
 }
 
 #[test]
-fn a_payload_is_bound_to_its_header(rt: HostRuntime) {
+fn a_payload_is_bound_to_its_header() -> Tested {
     let header = header_of(&FrameRow(7, 16909060, 3, 5, b""));
-    assert!(rt; associated_bytes(&header) == [1, 2, 3, 4, 3, 5]);
+    check(associated_bytes(&header) == [1, 2, 3, 4, 3, 5])
 }
 
 /// Sends so many bytes as they are.
@@ -96,19 +96,20 @@ fn send_sevens(
     Ok(send(alloc, &mut Plain {}, outgoing, frame, data))
 }
 
+/// The front of a frame of the greatest length.
+const GREATEST: [u8; 11] = [0, 0x40, 0, 0, 0, 0, 0, 1, 3, 0, 7];
+
 /// The greatest payload is queued, and one byte more is refused.
 #[test]
 fn a_payload_too_long_is_not_queued(rt: HostRuntime) -> Tested {
     let mut outgoing = Outgoing::new(rt.alloc());
     let refused = send_sevens(rt.alloc(), &mut outgoing, MESSAGE_LENGTH_MAX + 1)?;
-    assert!(rt; refused == Err(SendError::TooLong));
-    assert!(rt; outgoing.is_empty());
-    match send_sevens(rt.alloc(), &mut outgoing, MESSAGE_LENGTH_MAX)? {
+    let is_refused = refused == Err(SendError::TooLong) && outgoing.is_empty();
+    let is_sent = match send_sevens(rt.alloc(), &mut outgoing, MESSAGE_LENGTH_MAX)? {
         Err(SendError::Failed(error)) => return Err(error.into()),
-        sent => assert!(rt; sent.is_ok()),
-    }
+        sent => sent.is_ok(),
+    };
     let mut buffer = [0; 11];
-    assert!(rt; outgoing.lend(&mut buffer) == 11);
-    assert!(rt; buffer == [0, 0x40, 0, 0, 0, 0, 0, 1, 3, 0, 7]);
-    Ok(())
+    let is_lent = outgoing.lend(&mut buffer) == 11 && buffer == GREATEST;
+    check(is_refused && is_sent && is_lent)
 }

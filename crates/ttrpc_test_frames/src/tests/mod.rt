@@ -1,3 +1,4 @@
+mod checks;
 mod decoder_tests;
 mod halves_tests;
 mod queue_tests;

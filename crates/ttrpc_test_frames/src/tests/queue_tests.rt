@@ -1,14 +1,12 @@
 //! Frames that leave in pieces, frames that are thrown away, and a last frame that is filled or taken back. All bytes
 //! are written by hand.
+use crate::tests::checks::{Tested, check, check_row};
 use crate::tests::rows::{FrameRow, queued_of};
 use std::alloc::Global;
-use std::process::Abort;
 use std::test::Fail;
 use ttrpc_proto::framing::owners::Owners;
 use ttrpc_proto::{Error, Outgoing};
 use ttrpc_wire::Blob;
-
-type Tested = Result<(), Fail>;
 
 /// One call of a queue, with what it answers.
 #[derive(Clone, Copy, Debug)]
@@ -176,7 +174,7 @@ const SCRIPTS: &[(&[Act], &[u8])] = &[
     ),
 ];
 
-/// So many bytes are offered, and these are lent.
+/// Returns whether these bytes are lent if so many are offered.
 fn lends(queue: &mut Outgoing, size: usize, expected: &[u8]) -> bool {
     let mut buffer = [0xee; 16];
     let room = &mut buffer[..size.min(16)];
@@ -184,7 +182,7 @@ fn lends(queue: &mut Outgoing, size: usize, expected: &[u8]) -> bool {
     &room[..count] == expected && room[count..].iter().all(|byte| *byte == 0xee)
 }
 
-/// Makes one call, and says whether it answered as it must.
+/// Makes one call, and returns whether it answered as it must.
 fn does(alloc: Global, queue: &mut Outgoing, act: Act) -> Result<bool, Fail> {
     match act {
         Act::Place(row) => queue.place(queued_of(alloc, &row, None)?)?,
@@ -214,23 +212,22 @@ fn drained(alloc: Global, queue: &mut Outgoing, size: usize) -> Result<Vec<u8>, 
     Ok(bytes)
 }
 
-/// The queue does what the script says, and gives these bytes behind it.
-fn runs(rt: &impl Abort, alloc: Global, script: &[Act], expected: &[u8], size: usize) -> Tested {
+/// Returns whether the queue does what the script says, and gives these bytes behind it.
+fn runs(alloc: Global, script: &[Act], expected: &[u8], size: usize) -> Result<bool, Fail> {
     let mut queue = Outgoing::new(alloc);
+    let mut all = true;
     for act in script {
-        assert!(rt; does(alloc, &mut queue, *act)?, "{act:?}");
+        all = all && does(alloc, &mut queue, *act)?;
     }
     let bytes = drained(alloc, &mut queue, size)?;
-    assert!(rt; bytes.as_slice() == expected, "{bytes:?} behind {script:?}");
-    assert!(rt; queue.is_empty());
-    Ok(())
+    Ok(all && bytes.as_slice() == expected && queue.is_empty())
 }
 
 #[test]
 fn scripts_of_a_queue(rt: HostRuntime) -> Tested {
-    for (script, expected) in SCRIPTS {
+    for (at, (script, expected)) in SCRIPTS.iter().enumerate() {
         for size in [1, 3, 16] {
-            runs(&rt, rt.alloc(), script, expected, size)?;
+            check_row(at, runs(rt.alloc(), script, expected, size)?)?;
         }
     }
     Ok(())
@@ -241,11 +238,11 @@ fn scripts_of_a_queue(rt: HostRuntime) -> Tested {
 fn a_refused_frame_is_not_queued(rt: HostRuntime) -> Tested {
     let alloc = rt.alloc();
     let mut queue = Outgoing::new(alloc);
+    let mut is_unchanged = true;
     if queue.place(queued_of(alloc, &ANSWERING, None)?) == Err(Error::NoMemory) {
-        assert!(rt; queue.is_empty());
+        is_unchanged = queue.is_empty();
         queue.place(queued_of(alloc, &ANSWERING, None)?)?;
     }
     let bytes = drained(alloc, &mut queue, 16)?;
-    assert!(rt; bytes.as_slice() == ANSWERED);
-    Ok(())
+    check(is_unchanged && bytes.as_slice() == ANSWERED)
 }

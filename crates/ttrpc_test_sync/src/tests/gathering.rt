@@ -1,18 +1,16 @@
 //! Writers that gather, behind the loop that writes and alone: whole frames go out, in time, and nothing is lost.
 
+use crate::tests::checks::{Tested, check, check_row};
 use crate::tests::fakes::{BYTES, Lender};
 use std::alloc::{AllocError, Global};
 use std::cell::Cell;
 use std::io::{self, ErrorKind};
-use std::process::Abort;
 use std::sync::Wait;
 use std::test::Fail;
 use ttrpc_bench::{AT_ONCE, Manner, Receiver};
 use ttrpc_proto::Sink;
 use ttrpc_sync::{GATHER_LIMIT, Gather, PART_LIMIT, PortState, WritePort, write_loop};
 use ttrpc_wire::values::slices::{behind, front};
-
-type Tested = Result<(), Fail>;
 
 /// Lets all bytes through, and keeps how many they are, and by how many calls they went.
 #[derive(Drop)]
@@ -44,27 +42,27 @@ impl Sink for &Through {
     }
 }
 
-/// One loop writes for one port, through a writer that gathers. Each batch goes through by one call, and before the
-/// port is asked for more.
-fn batch_goes_out_whole<X: Wait + Abort>(
+/// Writes by one loop for one port, through a writer that gathers. Returns whether each batch went through by one call, and
+/// before the port was asked for more.
+fn batch_goes_out_whole<X: Wait>(
     rt: &X,
     alloc: Global,
     lent: usize,
     batch: usize,
     calls: usize,
-) -> Tested {
+) -> Result<bool, Fail> {
     let through = Through::none();
     let mut port = Lender::new(BYTES, lent, batch);
     port.through = Some(&through.bytes);
     let mut writer = Gather::new(alloc, &through);
     write_loop(rt, &mut writer, &mut port);
-    assert!(rt; port.state == PortState::Stopped);
-    assert_eq!(rt; port.early, 0);
-    assert_eq!(rt; through.bytes.get(), 20);
-    if through.calls.get() != calls {
+    let is_through = port.state == PortState::Stopped
+        && port.early == 0
+        && through.bytes.get() == 20;
+    if is_through && through.calls.get() != calls {
         return Err(AllocError.into());
     }
-    Ok(())
+    Ok(is_through)
 }
 
 /// Where memory is refused, the bytes go through uncut all the same, and the test ends with that error.
@@ -72,52 +70,52 @@ fn batch_goes_out_whole<X: Wait + Abort>(
 fn what_was_written_is_there_before_more_is_asked(rt: HostRuntime) -> Tested {
     for lent in [1, 7, 4096] {
         for (batch, calls) in [(1, 20), (6, 4), (20, 1), (99, 1)] {
-            batch_goes_out_whole(&rt, rt.alloc(), lent, batch, calls)?;
+            let is_whole = batch_goes_out_whole(&rt, rt.alloc(), lent, batch, calls)?;
+            check_row(batch, is_whole)?;
         }
     }
     Ok(())
 }
 
-/// That so many bytes are kept. Else memory was refused.
-fn keeps<W>(gather: &Gather<W>, count: usize) -> Tested {
+/// Fails if another number of bytes is kept: then memory was refused.
+fn check_kept<W>(gather: &Gather<W>, count: usize) -> Tested {
     if gather.kept().len() != count {
         return Err(AllocError.into());
     }
     Ok(())
 }
 
-/// So many calls went through, and so many bytes by them.
-fn went(rt: &impl Abort, through: &Through, calls: usize, bytes: usize) -> Tested {
-    assert_eq!(rt; through.calls.get(), calls);
-    assert_eq!(rt; through.bytes.get(), bytes);
-    Ok(())
+/// Returns whether so many calls went through, and so many bytes by them.
+fn went(through: &Through, calls: usize, bytes: usize) -> bool {
+    through.calls.get() == calls && through.bytes.get() == bytes
 }
 
-/// So many pieces of 4096 bytes are taken.
-fn takes(rt: &impl Abort, gather: &mut Gather<&Through>, pieces: u32) {
+/// Returns whether so many pieces of 4096 bytes are taken.
+fn takes(gather: &mut Gather<&Through>, pieces: u32) -> bool {
+    let mut all = true;
     for _ in 0..pieces {
-        assert!(rt; matches!(gather.write(&[7; 4096]), Ok(4096)));
+        all = all && matches!(gather.write(&[7; 4096]), Ok(4096));
     }
+    all
 }
 
-/// Behind a flush nothing is kept.
-fn lets_all_out(rt: &impl Abort, gather: &mut Gather<&Through>) -> Tested {
-    assert!(rt; gather.flush().is_ok());
-    keeps(gather, 0)
+/// Fails if something is kept behind a flush.
+fn check_flush(gather: &mut Gather<&Through>) -> Tested {
+    check(gather.flush().is_ok())?;
+    check_kept(gather, 0)
 }
 
 #[test]
 fn a_frame_of_the_greatest_length_is_kept_whole(rt: HostRuntime) -> Tested {
     let through = Through::none();
     let mut gather = Gather::new(rt.alloc(), &through);
-    takes(&rt, &mut gather, 1024);
-    assert!(rt; matches!(gather.write(&[7; 10]), Ok(10)));
-    keeps(&gather, 4194314)?;
-    assert_eq!(rt; through.calls.get(), 0);
-    assert!(rt; matches!(gather.write(b"A"), Ok(1)));
-    went(&rt, &through, 1, 4194314)?;
-    lets_all_out(&rt, &mut gather)?;
-    went(&rt, &through, 2, 4194315)
+    check(takes(&mut gather, 1024) && matches!(gather.write(&[7; 10]), Ok(10)))?;
+    check_kept(&gather, 4194314)?;
+    let is_kept = through.calls.get() == 0;
+    let is_taken = matches!(gather.write(b"A"), Ok(1));
+    check(is_kept && is_taken && went(&through, 1, 4194314))?;
+    check_flush(&mut gather)?;
+    check(went(&through, 2, 4194315))
 }
 
 /// With a lower limit the front of a long frame leaves before its end is there: eight pages fit into a part of 33,792 bytes,
@@ -126,13 +124,12 @@ fn a_frame_of_the_greatest_length_is_kept_whole(rt: HostRuntime) -> Tested {
 fn a_long_frame_leaves_in_parts(rt: HostRuntime) -> Tested {
     let through = Through::none();
     let mut gather = Gather::with_limit(rt.alloc(), &through, PART_LIMIT);
-    takes(&rt, &mut gather, 16);
-    keeps(&gather, 32768)?;
-    went(&rt, &through, 1, 32768)?;
-    assert!(rt; matches!(gather.write(&[7; 1024]), Ok(1024)));
-    keeps(&gather, 33792)?;
-    lets_all_out(&rt, &mut gather)?;
-    went(&rt, &through, 2, 66560)
+    check(takes(&mut gather, 16))?;
+    check_kept(&gather, 32768)?;
+    check(went(&through, 1, 32768) && matches!(gather.write(&[7; 1024]), Ok(1024)))?;
+    check_kept(&gather, 33792)?;
+    check_flush(&mut gather)?;
+    check(went(&through, 2, 66560))
 }
 
 /// Such a write is no frame.
@@ -142,33 +139,35 @@ fn more_than_a_frame_goes_through_at_once(rt: HostRuntime) -> Tested {
     let mut long = Vec::new(rt.alloc());
     long.resize(GATHER_LIMIT + 1, 7)?;
     let mut gather = Gather::new(rt.alloc(), &through);
-    assert!(rt; matches!(gather.write(b"A"), Ok(1)));
-    keeps(&gather, 1)?;
-    assert!(rt; matches!(gather.write(long.as_slice()), Ok(4194315)));
-    went(&rt, &through, 2, 4194316)?;
-    keeps(&gather, 0)
+    check(matches!(gather.write(b"A"), Ok(1)))?;
+    check_kept(&gather, 1)?;
+    let is_taken = matches!(gather.write(long.as_slice()), Ok(4194315));
+    check(is_taken && went(&through, 2, 4194316))?;
+    check_kept(&gather, 0)
 }
 
-/// Twenty bytes are written in two parts, and flushed until that isn't interrupted. What the writer took then and what
-/// is kept are the twenty bytes.
-fn nothing_is_lost<X: Abort>(
-    rt: &X,
-    alloc: Global,
-    manner: Manner,
-    error: Option<ErrorKind>,
-) -> Tested {
-    let mut gather = Gather::new(alloc, Receiver::new(alloc, manner)?);
+/// Returns whether twenty bytes are gathered that are written in two parts.
+fn gathers(gather: &mut Gather<Receiver>) -> Result<bool, Fail> {
     let first = gather.write(front(BYTES, 9));
-    keeps(&gather, 9)?;
-    assert!(rt; matches!(first, Ok(9)));
+    check_kept(gather, 9)?;
     let second = gather.write(&BYTES[9..]);
-    keeps(&gather, 20)?;
-    assert!(rt; matches!(second, Ok(11)));
-    assert!(rt; flush_again(&mut gather) == error);
+    check_kept(gather, 20)?;
+    Ok(matches!(first, Ok(9)) && matches!(second, Ok(11)))
+}
+
+/// Writes twenty bytes in two parts, and flushes until that isn't interrupted. Returns whether what the writer took then and
+/// what is kept are the twenty bytes.
+fn nothing_is_lost(alloc: Global, manner: Manner, error: Option<ErrorKind>) -> Result<bool, Fail> {
+    let mut gather = Gather::new(alloc, Receiver::new(alloc, manner)?);
+    let are_gathered = gathers(&mut gather)?;
+    let has_failed_so = flush_again(&mut gather) == error;
     let taken = gather.writer().taken.as_slice();
-    assert_eq!(rt; taken, front(BYTES, manner.room));
-    assert_eq!(rt; gather.kept(), behind(BYTES, manner.room));
-    Ok(())
+    Ok(
+        are_gathered
+            && has_failed_so
+            && taken == front(BYTES, manner.room)
+            && gather.kept() == behind(BYTES, manner.room),
+    )
 }
 
 /// Flushes until that isn't interrupted, and says how it failed.
@@ -197,10 +196,11 @@ fn what_a_failing_writer_leaves_is_kept(rt: HostRuntime) -> Tested {
     };
     for room in 0..20 {
         let ending = Manner { room, ..AT_ONCE };
-        nothing_is_lost(&rt, rt.alloc(), ending, Some(ErrorKind::WriteZero))?;
+        let ends = nothing_is_lost(rt.alloc(), ending, Some(ErrorKind::WriteZero))?;
         let failing = Manner { room, ..in_threes };
-        nothing_is_lost(&rt, rt.alloc(), failing, Some(ErrorKind::BrokenPipe))?;
+        let fails = nothing_is_lost(rt.alloc(), failing, Some(ErrorKind::BrokenPipe))?;
+        check_row(room, ends && fails)?;
     }
-    nothing_is_lost(&rt, rt.alloc(), AT_ONCE, None)?;
-    nothing_is_lost(&rt, rt.alloc(), in_threes, None)
+    let at_once = nothing_is_lost(rt.alloc(), AT_ONCE, None)?;
+    check(at_once && nothing_is_lost(rt.alloc(), in_threes, None)?)
 }

@@ -3,12 +3,12 @@ ghost use Rattle.std.specs.Prelude.{◌≡◌, ◌⊎◌, ◌++◌, [], map, tak
 ghost use Rattle.std.specs.declared.io.ErrorKind.{ErrorKind as AKind};
 ghost use Rattle.ttrpc_sync.specs.declared.ports.PortState.{PortState as AWord};
 
+use crate::tests::checks::{Tested, check};
 use crate::tests::fakes::{BYTES, Lender, Taker};
 use crate::tests::workers::{Queue, Refuser, Turnstile};
 use std::io;
 use std::process::Abort;
 use std::sync::Wait;
-use std::test::Fail;
 use ttrpc_bench::{Giver, ROOM, Receiver};
 use ttrpc_proto::{Sink, write_part};
 use ttrpc_sync::{Gather, PortState, read_loop, work_loop, write_loop};
@@ -71,23 +71,19 @@ pub fn jobs_are_reported<'r, 'a, X: Wait + Abort>(
 }
 
 #[test]
-fn a_vector_gathers(rt: HostRuntime) -> Result<(), Fail> {
+fn a_vector_gathers(rt: HostRuntime) -> Tested {
     let mut gather = Gather::new(rt.alloc(), Vec::with_capacity(rt.alloc(), ROOM)?);
     vector_gathers(&mut gather, BYTES)?;
-    assert_eq!(rt; gather.writer().as_slice(), BYTES);
-    Ok(())
+    check(gather.writer().as_slice() == BYTES)
 }
 
 #[test]
-fn slices_and_vectors_are_readers_and_writers(rt: HostRuntime) -> Result<(), Fail> {
+fn slices_and_vectors_are_readers_and_writers(rt: HostRuntime) -> Tested {
     let mut taker = Taker::new(Vec::with_capacity(rt.alloc(), ROOM)?, 7, ROOM, false);
     slice_is_taken(&rt, BYTES, &mut taker);
-    assert_eq!(rt; taker.taken.as_slice(), BYTES);
-    assert!(rt; taker.state == PortState::Ended);
+    let is_taken = taker.taken.as_slice() == BYTES && taker.state == PortState::Ended;
     let mut written = Vec::with_capacity(rt.alloc(), ROOM)?;
     let mut lender = Lender::new(BYTES, 7, 20);
     vector_is_written(&rt, &mut written, &mut lender);
-    assert_eq!(rt; written.as_slice(), BYTES);
-    assert!(rt; lender.state == PortState::Stopped);
-    Ok(())
+    check(is_taken && written.as_slice() == BYTES && lender.state == PortState::Stopped)
 }

@@ -1,4 +1,5 @@
 mod again;
+mod checks;
 mod fakes;
 mod gathering;
 mod known;

@@ -1,12 +1,9 @@
 //! The pool of workers, over rows of calls and their answers, and behind the gate of a worker.
 
+use crate::tests::checks::{Tested, check, check_row};
 use crate::tests::pooling::Call::*;
 use crate::tests::workers::{Queue, Refuser, Seen};
-use std::process::Abort;
-use std::test::Fail;
 use ttrpc_sync::{Gate, PoolCore, PortState, work_loop};
-
-type Tested = Result<(), Fail>;
 
 /// A call of a pool, with its answer.
 #[derive(Clone, Copy)]
@@ -23,21 +20,25 @@ struct Pooling {
     calls: &'static [Call],
 }
 
-fn pools<X: Abort>(rt: &X, row: &Pooling) -> Tested {
+/// Makes one call, and returns whether it answered so.
+fn answers(pool: &mut PoolCore, call: Call) -> bool {
+    match call {
+        Call::Starts(count) => pool.to_start() == count,
+        Call::Enters(answer) => pool.enter() == answer,
+        Call::Leaves(answer) => pool.waiting() > 0 && pool.leave() == answer,
+        Call::Waiting(count) => pool.waiting() == count,
+    }
+}
+
+/// Returns whether a pool of the row's limits answers so.
+fn pools(row: &Pooling) -> bool {
     let (default, min, max) = row.limits;
     let mut pool = PoolCore::new(default, min, max);
+    let mut all = true;
     for call in row.calls {
-        match *call {
-            Call::Starts(count) => assert_eq!(rt; pool.to_start(), count),
-            Call::Enters(answer) => assert!(rt; pool.enter() == answer),
-            Call::Leaves(answer) => {
-                assert!(rt; pool.waiting() > 0);
-                assert!(rt; pool.leave() == answer);
-            }
-            Call::Waiting(count) => assert_eq!(rt; pool.waiting(), count),
-        }
+        all = all && answers(&mut pool, *call);
     }
-    Ok(())
+    all
 }
 
 const LET_IN: Call = Enters(true);
@@ -91,9 +92,9 @@ const POOLINGS: &[Pooling] = &[
 ];
 
 #[test]
-fn workers_wait_within_limits(rt: HostRuntime) -> Tested {
-    for row in POOLINGS {
-        pools(&rt, row)?;
+fn workers_wait_within_limits() -> Tested {
+    for (at, row) in POOLINGS.iter().enumerate() {
+        check_row(at, pools(row))?;
     }
     Ok(())
 }
@@ -150,9 +151,10 @@ fn worker_leaves_its_pool_each_time(rt: HostRuntime) -> Tested {
         },
         &mut gate,
     );
-    assert!(rt; queue.reported.as_slice() == [(1, Ok(())), (3, Ok(()))].as_slice());
-    assert_eq!(rt; gate.pool.waiting(), 0);
-    assert_eq!(rt; gate.started, 9);
-    assert!(rt; !gate.is_shut);
-    Ok(())
+    check(
+        queue.reported.as_slice() == [(1, Ok(())), (3, Ok(()))].as_slice()
+            && gate.pool.waiting() == 0
+            && gate.started == 9
+            && !gate.is_shut,
+    )
 }

@@ -1,17 +1,15 @@
 //! The loop that reads, over rows of a reader, a port, and what comes of them.
 
+use crate::tests::checks::{Tested, check_named};
 use crate::tests::fakes::{BYTES, Taker, long_bytes};
 use crate::tests::known::reader_had_it;
 use std::alloc::Global;
 use std::io::ErrorKind;
-use std::process::Abort;
 use std::sync::Wait;
 use std::test::Fail;
 use ttrpc_bench::{AT_ONCE, Giver, Manner, ROOM};
 use ttrpc_sync::PortState;
 use ttrpc_wire::values::slices::front;
-
-type Tested = Result<(), Fail>;
 
 /// Readers of these bytes that give so many a call, and ports that take so many of a piece: each is read to each.
 #[derive(Clone, Copy)]
@@ -55,14 +53,14 @@ const STOPPED: Reading<'static> = Reading {
     ..ALL
 };
 
-/// One reader is read to one port, and what comes of it is what the row says.
-fn reads_once<X: Wait + Abort>(
+/// Reads one reader to one port, and returns whether what comes of it is what the row says.
+fn reads_once<X: Wait>(
     rt: &X,
     alloc: Global,
     row: &Reading<'_>,
     given: usize,
     wanted: usize,
-) -> Tested {
+) -> Result<bool, Fail> {
     let taken = Vec::with_capacity(alloc, ROOM)?;
     let mut port = Taker::new(taken, wanted, row.room, row.rests);
     port.reads = row.reads;
@@ -72,23 +70,19 @@ fn reads_once<X: Wait + Abort>(
     };
     let mut reader = Giver::new(row.bytes, manner);
     reader_had_it(rt, &mut reader, &mut port);
-    assert_eq!(rt;
-        port.taken.as_slice(),
-        front(row.bytes, row.taken),
-        "{}",
-        row.name
-    );
-    assert_eq!(rt; reader.left(), row.left, "{}", row.name);
-    assert!(rt; port.state == row.state, "{}", row.name);
-    Ok(())
+    Ok(
+        port.taken.as_slice() == front(row.bytes, row.taken)
+            && reader.left() == row.left
+            && port.state == row.state,
+    )
 }
 
-/// Each reader of each row is read to each of the row's ports.
-fn reads<X: Wait + Abort>(rt: &X, alloc: Global, rows: &[Reading<'_>]) -> Tested {
+/// Reads each reader of each row to each of the row's ports, and checks what comes of it.
+fn check_reads<X: Wait>(rt: &X, alloc: Global, rows: &[Reading<'_>]) -> Tested {
     for row in rows {
         for given in row.given {
             for wanted in row.wanted {
-                reads_once(rt, alloc, row, *given, *wanted)?;
+                check_named(row.name, reads_once(rt, alloc, row, *given, *wanted)?)?;
             }
         }
     }
@@ -193,7 +187,7 @@ const READINGS: &[Reading<'static>] = &[
 
 #[test]
 fn what_was_read_is_handed_on(rt: HostRuntime) -> Tested {
-    reads(&rt, rt.alloc(), READINGS)
+    check_reads(&rt, rt.alloc(), READINGS)
 }
 
 #[test]
@@ -205,7 +199,7 @@ fn more_than_a_piece_is_handed_on(rt: HostRuntime) -> Tested {
         taken: ROOM,
         ..ALL
     };
-    reads(&rt, rt.alloc(), &[row])
+    check_reads(&rt, rt.alloc(), &[row])
 }
 
 /// Behind each front of the bytes the reader fails.
@@ -224,7 +218,7 @@ fn a_failing_read_is_a_break(rt: HostRuntime) -> Tested {
             state: PortState::Broke(ErrorKind::ConnectionReset),
             ..ALL
         };
-        reads(&rt, rt.alloc(), &[row])?;
+        check_reads(&rt, rt.alloc(), &[row])?;
     }
     Ok(())
 }

@@ -1,6 +1,7 @@
 //! The loop of a worker, over rows of jobs, a gate, and what comes of them.
 
 use crate::passes::Pass;
+use crate::tests::checks::{Tested, check_named};
 use crate::tests::known::jobs_are_reported;
 use crate::tests::workers::{Queue, Refuser, Seen, Turnstile};
 use std::alloc::Global;
@@ -8,8 +9,6 @@ use std::process::Abort;
 use std::sync::Wait;
 use std::test::Fail;
 use ttrpc_sync::PortState;
-
-type Tested = Result<(), Fail>;
 
 /// More than any of the tests needs, so that no queue and no gate wants memory.
 const ROOM: usize = 100;
@@ -78,15 +77,15 @@ const WORKINGS: &[Working] = &[
     },
 ];
 
-/// Each request was handled once, outside the gate, and each job was asked for inside.
-fn stands_outside<X: Abort>(rt: &X, seen: &Seen, row: &Working) -> Tested {
-    assert_eq!(rt; seen.handled.get(), row.reported.len(), "{}", row.name);
-    assert_eq!(rt; seen.handled_inside.get(), 0, "{}", row.name);
-    assert_eq!(rt; seen.taken_outside.get(), 0, "{}", row.name);
-    Ok(())
+/// Returns whether each request was handled once, outside the gate, and each job was asked for inside.
+fn stands_outside(seen: &Seen, row: &Working) -> bool {
+    seen.handled.get() == row.reported.len()
+        && seen.handled_inside.get() == 0
+        && seen.taken_outside.get() == 0
 }
 
-fn works<X: Wait + Abort>(rt: &X, alloc: Global, row: &Working) -> Tested {
+/// Returns whether what comes of a worker is what the row says.
+fn works<X: Wait + Abort>(rt: &X, alloc: Global, row: &Working) -> Result<bool, Fail> {
     let seen = Seen::nothing();
     let mut queue = Queue {
         rt,
@@ -115,18 +114,20 @@ fn works<X: Wait + Abort>(rt: &X, alloc: Global, row: &Working) -> Tested {
         },
         &mut gate,
     );
-    assert!(rt; queue.reported.as_slice() == row.reported, "{}", row.name);
-    assert!(rt; gate.passes.as_slice() == row.passes, "{}", row.name);
-    assert!(rt; queue.state == row.state, "{}", row.name);
-    assert!(rt; gate.is_shut == row.is_shut, "{}", row.name);
-    assert!(rt; queue.begun == Some(1), "{}", row.name);
-    stands_outside(rt, &seen, row)
+    Ok(
+        queue.reported.as_slice() == row.reported
+            && gate.passes.as_slice() == row.passes
+            && queue.state == row.state
+            && gate.is_shut == row.is_shut
+            && queue.begun == Some(1)
+            && stands_outside(&seen, row),
+    )
 }
 
 #[test]
 fn each_job_is_handled_and_reported(rt: HostRuntime) -> Tested {
     for row in WORKINGS {
-        works(&rt, rt.alloc(), row)?;
+        check_named(row.name, works(&rt, rt.alloc(), row)?)?;
     }
     Ok(())
 }

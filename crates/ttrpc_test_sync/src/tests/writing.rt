@@ -1,17 +1,15 @@
 //! The loop that writes, over rows of a port, a writer, and what comes of them.
 
+use crate::tests::checks::{Tested, check_named};
 use crate::tests::fakes::{BYTES, Lender, long_bytes};
 use crate::tests::known::writer_had_it;
 use std::alloc::Global;
 use std::io::ErrorKind;
-use std::process::Abort;
 use std::sync::Wait;
 use std::test::Fail;
 use ttrpc_bench::{AT_ONCE, Manner, ROOM, Receiver};
 use ttrpc_sync::PortState;
 use ttrpc_wire::values::slices::front;
-
-type Tested = Result<(), Fail>;
 
 /// Ports that lend so many of these bytes at once, and writers that take so many a call: each writes for each.
 #[derive(Clone, Copy)]
@@ -49,14 +47,14 @@ const IN_BATCHES: Writing<'static> = Writing {
     ..ALL
 };
 
-/// One writer writes for one port, and what comes of it is what the row says.
-fn writes_once<X: Wait + Abort>(
+/// Writes by one writer for one port, and returns whether what comes of it is what the row says.
+fn writes_once<X: Wait>(
     rt: &X,
     alloc: Global,
     row: &Writing<'_>,
     lent: usize,
     taken: usize,
-) -> Tested {
+) -> Result<bool, Fail> {
     let mut port = Lender::new(row.bytes, lent, row.batch);
     let manner = Manner {
         step: taken,
@@ -64,24 +62,20 @@ fn writes_once<X: Wait + Abort>(
     };
     let mut writer = Receiver::new(alloc, manner)?;
     writer_had_it(rt, &mut writer, &mut port);
-    assert_eq!(rt;
-        writer.taken.as_slice(),
-        front(row.bytes, row.written),
-        "{}",
-        row.name
-    );
-    assert_eq!(rt; port.at, row.written, "{}", row.name);
-    assert_eq!(rt; port.asked, row.asked, "{}", row.name);
-    assert!(rt; port.state == row.state, "{}", row.name);
-    Ok(())
+    Ok(
+        writer.taken.as_slice() == front(row.bytes, row.written)
+            && port.at == row.written
+            && port.asked == row.asked
+            && port.state == row.state,
+    )
 }
 
-/// Each writer of each row writes for each of the row's ports.
-fn writes<X: Wait + Abort>(rt: &X, alloc: Global, rows: &[Writing<'_>]) -> Tested {
+/// Writes by each writer of each row for each of the row's ports, and checks what comes of it.
+fn check_writes<X: Wait>(rt: &X, alloc: Global, rows: &[Writing<'_>]) -> Tested {
     for row in rows {
         for lent in row.lent {
             for taken in row.taken {
-                writes_once(rt, alloc, row, *lent, *taken)?;
+                check_named(row.name, writes_once(rt, alloc, row, *lent, *taken)?)?;
             }
         }
     }
@@ -124,7 +118,7 @@ const WRITINGS: &[Writing<'static>] = &[
 
 #[test]
 fn what_is_lent_is_written(rt: HostRuntime) -> Tested {
-    writes(&rt, rt.alloc(), WRITINGS)
+    check_writes(&rt, rt.alloc(), WRITINGS)
 }
 
 #[test]
@@ -136,16 +130,11 @@ fn more_than_a_piece_is_written(rt: HostRuntime) -> Tested {
         written: ROOM,
         ..ALL
     };
-    writes(&rt, rt.alloc(), &[row])
+    check_writes(&rt, rt.alloc(), &[row])
 }
 
-/// After so many bytes the writer fails, or takes no more: those were written and reported.
-fn breaks_behind<X: Wait + Abort>(
-    rt: &X,
-    alloc: Global,
-    count: usize,
-    behind: Option<ErrorKind>,
-) -> Tested {
+/// Checks that a writer that fails or takes no more after so many bytes has written and reported those.
+fn check_break<X: Wait>(rt: &X, alloc: Global, count: usize, behind: Option<ErrorKind>) -> Tested {
     let row = Writing {
         name: "a writer that fails",
         lent: &[9],
@@ -155,14 +144,14 @@ fn breaks_behind<X: Wait + Abort>(
         state: PortState::Broke(behind.unwrap_or(ErrorKind::WriteZero)),
         ..IN_BATCHES
     };
-    writes(rt, alloc, &[row])
+    check_writes(rt, alloc, &[row])
 }
 
 #[test]
 fn a_failing_write_is_a_break(rt: HostRuntime) -> Tested {
     for count in 0..20 {
-        breaks_behind(&rt, rt.alloc(), count, Some(ErrorKind::BrokenPipe))?;
-        breaks_behind(&rt, rt.alloc(), count, None)?;
+        check_break(&rt, rt.alloc(), count, Some(ErrorKind::BrokenPipe))?;
+        check_break(&rt, rt.alloc(), count, None)?;
     }
     Ok(())
 }
@@ -183,7 +172,7 @@ fn a_failing_flush_is_a_break(rt: HostRuntime) -> Tested {
             state: PortState::Broke(ErrorKind::StorageFull),
             ..IN_BATCHES
         };
-        writes(&rt, rt.alloc(), &[row])?;
+        check_writes(&rt, rt.alloc(), &[row])?;
     }
     Ok(())
 }

@@ -1,12 +1,10 @@
 //! What addresses say, and why some are refused.
 
+use crate::tests::checks::{Tested, check_named};
 use std::alloc::Global;
-use std::process::Abort;
 use std::test::Fail;
 use ttrpc_proto::{Error, Result as Answer};
 use ttrpc_transport::{Domain, Place, nodelay_from, parse_sockaddr, parse_vsock, socket_of};
-
-type Tested = Result<(), Fail>;
 
 /// Addresses, each with its domain and its part.
 const ADDRESSES: &[(&str, Domain, &str)] = &[
@@ -111,19 +109,22 @@ const SWITCHES: &[(Option<&str>, bool)] = &[
     (Some("yes"), false),
 ];
 
-/// The answer is a refusal whose text begins so, and ends there unless a colon and a space end this.
-pub fn is_refused<T: Drop>(rt: &impl Abort, answer: Answer<T>, beginning: &str) -> Tested {
-    let text = match answer {
-        Err(Error::Others(text)) => text,
-        Err(other) => return Err(other.into()),
-        Ok(_) => return Err("not refused".into()),
-    };
+/// Returns whether the text begins so, and ends there unless a colon and a space end this.
+fn tells(text: &str, beginning: &str) -> bool {
     if beginning.ends_with(": ") {
-        assert!(rt; text.as_str().starts_with(beginning), "{text}");
+        text.starts_with(beginning)
     } else {
-        assert_eq!(rt; text.as_str(), beginning);
+        text == beginning
     }
-    Ok(())
+}
+
+/// Returns whether the answer is a refusal whose text begins so, and ends there unless a colon and a space end this.
+pub fn is_refused<T: Drop>(answer: Answer<T>, beginning: &str) -> Result<bool, Fail> {
+    match answer {
+        Err(Error::Others(text)) => Ok(tells(text.as_str(), beginning)),
+        Err(other) => Err(other.into()),
+        Ok(_) => Ok(false),
+    }
 }
 
 fn text_of(alloc: Global, place: Place<'_>) -> Result<String, Fail> {
@@ -133,32 +134,38 @@ fn text_of(alloc: Global, place: Place<'_>) -> Result<String, Fail> {
     })
 }
 
+/// Returns whether the address has this domain and this part.
+fn has_domain(alloc: Global, address: &str, domain: Domain, part: &str) -> Result<bool, Fail> {
+    let (found, rest) = parse_sockaddr(alloc, address)?;
+    Ok(found == domain && rest == part)
+}
+
 #[test]
 fn addresses_are_of_their_domains(rt: HostRuntime) -> Tested {
-    let alloc = rt.alloc();
     for (address, domain, part) in ADDRESSES {
-        let parsed = parse_sockaddr(alloc, address)?;
-        assert_eq!(rt; parsed.0, *domain);
-        assert_eq!(rt; parsed.1, *part);
+        check_named(address, has_domain(rt.alloc(), address, *domain, part)?)?;
     }
     Ok(())
 }
 
 #[test]
 fn parts_of_vsock_are_read(rt: HostRuntime) -> Tested {
-    let alloc = rt.alloc();
     for (part, expected) in PARTS {
-        assert_eq!(rt; parse_vsock(alloc, part)?, *expected);
+        check_named(part, parse_vsock(rt.alloc(), part)? == *expected)?;
     }
     Ok(())
 }
 
+/// Returns whether the place that the address names prints this.
+fn is_place(alloc: Global, address: &str, expected: &str) -> Result<bool, Fail> {
+    let text = text_of(alloc, socket_of(alloc, address)?)?;
+    Ok(text.as_str() == expected)
+}
+
 #[test]
 fn places_are_found(rt: HostRuntime) -> Tested {
-    let alloc = rt.alloc();
     for (address, expected) in PLACES {
-        let text = text_of(alloc, socket_of(alloc, address)?)?;
-        assert_eq!(rt; text.as_str(), *expected);
+        check_named(address, is_place(rt.alloc(), address, expected)?)?;
     }
     Ok(())
 }
@@ -167,20 +174,21 @@ fn places_are_found(rt: HostRuntime) -> Tested {
 fn what_names_nothing_is_refused(rt: HostRuntime) -> Tested {
     let alloc = rt.alloc();
     for (address, text) in UNKNOWN {
-        is_refused(&rt, parse_sockaddr(alloc, address), text)?;
+        check_named(text, is_refused(parse_sockaddr(alloc, address), text)?)?;
     }
     for (part, text) in NO_PARTS {
-        is_refused(&rt, parse_vsock(alloc, part), text)?;
+        check_named(text, is_refused(parse_vsock(alloc, part), text)?)?;
     }
     for (address, text) in NO_PLACES {
-        is_refused(&rt, socket_of(alloc, address), text)?;
+        check_named(text, is_refused(socket_of(alloc, address), text)?)?;
     }
     Ok(())
 }
 
 #[test]
-fn delay_is_switched_off(rt: HostRuntime) {
+fn delay_is_switched_off() -> Tested {
     for (value, expected) in SWITCHES {
-        assert_eq!(rt; nodelay_from(*value), *expected);
+        check_named(value.unwrap_or("none"), nodelay_from(*value) == *expected)?;
     }
+    Ok(())
 }

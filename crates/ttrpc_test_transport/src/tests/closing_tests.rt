@@ -1,23 +1,23 @@
 //! Threads that wait, and are woken.
 
+use crate::tests::checks::{Tested, check};
 use crate::tests::pairs::{
-    Site, Tested, a_while, address_of, clean_behind, connect, is_ended, join, listen, passes,
+    Pair, Site, a_while, address_of, clean_behind, connect, is_ended, join, listen, passes,
 };
 use std::alloc::Global;
 use std::net::{Net, TcpListener, TcpStream};
 use std::os::unix::net::UnixListener;
-use std::process::Abort;
 use std::rt::Files;
 use std::test::Fail;
 use std::thread::Threads;
 use std::time::Clock;
-use std::{fs, thread};
+use std::{fs, io, thread};
 use ttrpc_transport::{PipeConnection, PipeListener};
 
-/// A thread that reads is at the end once another thread closes the connection, or ends its reads.
-fn reader_wakes<R>(rt: &R, reader: &PipeConnection, by_close: bool) -> Tested
+/// Returns whether a thread that reads is at the end once another thread closes the connection, or ends its reads.
+fn reader_wakes<R>(rt: &R, reader: &PipeConnection, by_close: bool) -> Result<bool, Fail>
 where
-    R: Threads + Clock + Abort + Sync,
+    R: Threads + Clock + Sync,
 {
     let (read, ended) = thread::join(
         rt,
@@ -32,72 +32,76 @@ where
         },
     );
     ended?;
-    assert_eq!(rt; read?, 0);
-    Ok(())
+    Ok(read? == 0)
 }
 
-/// To close either end again does nothing.
-fn close_wakes<R>(rt: &R, alloc: Global, site: Site) -> Tested
-where
-    R: Files + Net<Listener = TcpListener, Stream = TcpStream> + Threads + Clock + Abort + Sync,
-{
-    let pair = connect(rt, alloc, site)?;
-    reader_wakes(rt, &pair.connection, true)?;
-    is_ended(rt, &pair.accepted)?;
+/// Closes all ends of the pair, also one that is closed.
+fn close_all(pair: &Pair) -> Tested {
     pair.connection.close()?;
     pair.client.close()?;
     Ok(pair.accepted.close()?)
 }
 
-#[test]
-fn close_wakes_who_reads(rt: HostRuntime) -> Tested {
-    close_wakes(&rt, rt.alloc(), Site::Port)?;
-    close_wakes(&rt, rt.alloc(), Site::Path("reads.sock"))
-}
-
-/// The other side still gets what is written.
-fn shutdown_wakes<R>(rt: &R, alloc: Global, site: Site) -> Tested
+/// Returns whether a close wakes who reads. To close either end again does nothing.
+fn close_wakes<R>(rt: &R, alloc: Global, site: Site) -> Result<bool, Fail>
 where
-    R: Files + Net<Listener = TcpListener, Stream = TcpStream> + Threads + Clock + Abort + Sync,
+    R: Files + Net<Listener = TcpListener, Stream = TcpStream> + Threads + Clock + Sync,
 {
     let pair = connect(rt, alloc, site)?;
-    reader_wakes(rt, &pair.connection, false)?;
-    passes(rt, &pair.connection, &pair.accepted, b"last")
+    let wakes = reader_wakes(rt, &pair.connection, true)? && is_ended(&pair.accepted)?;
+    close_all(&pair)?;
+    Ok(wakes)
+}
+
+#[test]
+fn close_wakes_who_reads(rt: HostRuntime) -> Tested {
+    let at_port = close_wakes(&rt, rt.alloc(), Site::Port)?;
+    check(at_port && close_wakes(&rt, rt.alloc(), Site::Path("reads.sock"))?)
+}
+
+/// Returns whether an end of reads wakes who reads, and the other side still gets what is written.
+fn shutdown_wakes<R>(rt: &R, alloc: Global, site: Site) -> Result<bool, Fail>
+where
+    R: Files + Net<Listener = TcpListener, Stream = TcpStream> + Threads + Clock + Sync,
+{
+    let pair = connect(rt, alloc, site)?;
+    let wakes = reader_wakes(rt, &pair.connection, false)?;
+    Ok(wakes && passes(&pair.connection, &pair.accepted, b"last")?)
 }
 
 #[test]
 fn shutdown_ends_reads_alone(rt: HostRuntime) -> Tested {
-    shutdown_wakes(&rt, rt.alloc(), Site::Port)?;
-    shutdown_wakes(&rt, rt.alloc(), Site::Path("shutdown.sock"))
+    let at_port = shutdown_wakes(&rt, rt.alloc(), Site::Port)?;
+    check(at_port && shutdown_wakes(&rt, rt.alloc(), Site::Path("shutdown.sock"))?)
 }
 
-fn has_none(rt: &impl Abort, listener: &PipeListener) -> Tested {
-    assert!(rt; listener.accept()?.is_none());
-    Ok(())
+fn has_none(listener: &PipeListener) -> io::Result<bool> {
+    Ok(listener.accept()?.is_none())
 }
 
-/// A thread that waits for a connection has none once another thread closes the listener, and none comes afterwards.
-fn acceptor_wakes<R>(rt: &R, listener: &PipeListener) -> Tested
+/// Returns whether a thread that waits for a connection has none once another thread closes the listener, and none comes
+/// afterwards.
+fn acceptor_wakes<R>(rt: &R, listener: &PipeListener) -> Result<bool, Fail>
 where
-    R: Threads + Clock + Abort + Sync,
+    R: Threads + Clock + Sync,
 {
     let (accepted, closed) = thread::join(
         rt,
-        || has_none(rt, listener),
+        || has_none(listener),
         || {
             thread::sleep(rt, a_while());
             listener.close()
         },
     );
-    accepted?;
     closed?;
-    has_none(rt, listener)?;
-    Ok(listener.close()?)
+    let wakes = accepted? && has_none(listener)?;
+    listener.close()?;
+    Ok(wakes)
 }
 
-fn accepting_ends<R>(rt: &R, alloc: Global, site: Site) -> Tested
+fn accepting_ends<R>(rt: &R, alloc: Global, site: Site) -> Result<bool, Fail>
 where
-    R: Files + Net<Listener = TcpListener, Stream = TcpStream> + Threads + Clock + Abort + Sync,
+    R: Files + Net<Listener = TcpListener, Stream = TcpStream> + Threads + Clock + Sync,
 {
     let listening = listen(rt, alloc, site)?;
     clean_behind(rt, site, acceptor_wakes(rt, &listening.listener))
@@ -105,8 +109,8 @@ where
 
 #[test]
 fn close_wakes_who_accepts(rt: HostRuntime) -> Tested {
-    accepting_ends(&rt, rt.alloc(), Site::Port)?;
-    accepting_ends(&rt, rt.alloc(), Site::Path("accepts.sock"))
+    let at_port = accepting_ends(&rt, rt.alloc(), Site::Port)?;
+    check(at_port && accepting_ends(&rt, rt.alloc(), Site::Path("accepts.sock"))?)
 }
 
 /// A listener that a caller has bound.
@@ -115,7 +119,7 @@ fn listeners_of_std_are_taken_over(rt: HostRuntime) -> Tested {
     let listener = PipeListener::from_tcp(TcpListener::bind(&rt, "127.0.0.1:0")?)?;
     let address = address_of(rt.alloc(), &listener)?;
     let pair = join(&rt, rt.alloc(), &listener, address.as_str())?;
-    passes(&rt, &pair.accepted, &pair.connection, b"hello")
+    check(passes(&pair.accepted, &pair.connection, b"hello")?)
 }
 
 /// The same at a path.
@@ -124,8 +128,8 @@ fn listeners_of_std_at_a_path_are_taken_over(rt: HostRuntime) -> Tested {
     let path = "handed.sock";
     let _ = fs::remove_file(&rt, path);
     let listener = PipeListener::from_unix(UnixListener::bind(&rt, path)?)?;
-    assert!(rt; listener.local_addr()?.is_none());
+    let has_no_port = listener.local_addr()?.is_none();
     let joined = join(&rt, rt.alloc(), &listener, "unix://handed.sock");
     let pair = clean_behind(&rt, Site::Path(path), joined)?;
-    passes(&rt, &pair.accepted, &pair.connection, b"hello")
+    check(has_no_port && passes(&pair.accepted, &pair.connection, b"hello")?)
 }

@@ -1,4 +1,5 @@
 mod address_tests;
+mod checks;
 mod closing_tests;
 mod pairs;
 mod refusal_tests;

@@ -3,13 +3,10 @@
 use std::alloc::Global;
 use std::fs;
 use std::net::{Net, TcpListener, TcpStream};
-use std::process::Abort;
 use std::rt::Files;
 use std::test::Fail;
 use std::time::Duration;
 use ttrpc_transport::{ClientConnection, PipeConnection, PipeListener};
-
-pub type Tested = Result<(), Fail>;
 
 /// Where a test listens: at a free port, or at this path.
 #[derive(Clone, Copy)]
@@ -104,17 +101,15 @@ pub fn clean_behind<R: Files, T: Drop>(
     done
 }
 
-/// A text of at most eight bytes is written at one end, and read at the other.
-pub fn passes(rt: &impl Abort, from: &PipeConnection, to: &PipeConnection, text: &[u8]) -> Tested {
-    assert_eq!(rt; from.write(text)?, text.len());
+/// Writes a text of at most eight bytes at one end, and returns whether it is read at the other.
+pub fn passes(from: &PipeConnection, to: &PipeConnection, text: &[u8]) -> Result<bool, Fail> {
+    let written = from.write(text)?;
     let mut buffer = [0u8; 8];
     let count = to.read(&mut buffer)?;
-    assert_eq!(rt; &buffer[..count], text);
-    Ok(())
+    Ok(written == text.len() && &buffer[..count] == text)
 }
 
-/// The connection is at its end.
-pub fn is_ended(rt: &impl Abort, connection: &PipeConnection) -> Tested {
-    assert_eq!(rt; connection.read(&mut [0u8; 8])?, 0);
-    Ok(())
+/// Returns whether the connection is at its end.
+pub fn is_ended(connection: &PipeConnection) -> Result<bool, Fail> {
+    Ok(connection.read(&mut [0u8; 8])? == 0)
 }

@@ -1,13 +1,14 @@
 //! Addresses at which nothing is bound or connected.
 
 use crate::tests::address_tests::is_refused;
-use crate::tests::pairs::{Site, Tested, address_of, clean_behind};
+use crate::tests::checks::{Tested, check, check_named};
+use crate::tests::pairs::{Site, address_of, clean_behind};
 use std::alloc::Global;
 use std::fs;
 use std::io::{ErrorKind, Read};
 use std::net::{Net, TcpListener, TcpStream};
-use std::process::Abort;
 use std::rt::Files;
+use std::test::Fail;
 use ttrpc_proto::{Error, Result as Answer};
 use ttrpc_transport::{ClientConnection, PipeListener};
 
@@ -29,50 +30,50 @@ const REFUSED: &[(&str, &str)] = &[
 fn no_places_are_refused(rt: HostRuntime) -> Tested {
     let alloc = rt.alloc();
     for (address, text) in REFUSED {
-        is_refused(&rt, PipeListener::new(&rt, alloc, address, false), text)?;
+        let bound = PipeListener::new(&rt, alloc, address, false);
         let connected = ClientConnection::client_connect(&rt, alloc, address, false);
-        is_refused(&rt, connected, text)?;
+        let is_unbound = is_refused(bound, text)?;
+        check_named(address, is_refused(connected, text)? && is_unbound)?;
     }
     Ok(())
 }
 
-/// The answer is the system's refusal of this kind.
-fn is_fault<T: Drop>(rt: &impl Abort, answer: Answer<T>, expected: ErrorKind) -> Tested {
+/// Returns whether the answer is the system's refusal of this kind.
+fn is_fault<T: Drop>(answer: Answer<T>, expected: ErrorKind) -> Result<bool, Fail> {
     match answer {
-        Err(Error::Nix(kind)) => assert!(rt; kind == expected, "{kind}"),
-        Err(other) => return Err(other.into()),
-        Ok(_) => return Err("not refused".into()),
+        Err(Error::Nix(kind)) => Ok(kind == expected),
+        Err(other) => Err(other.into()),
+        Ok(_) => Ok(false),
     }
-    Ok(())
 }
 
-/// Nobody can listen at the address.
-fn is_in_use<R>(rt: &R, alloc: Global, address: &str) -> Tested
+/// Returns whether nobody can listen at the address.
+fn is_in_use<R>(rt: &R, alloc: Global, address: &str) -> Result<bool, Fail>
 where
-    R: Files + Net<Listener = TcpListener, Stream = TcpStream> + Abort,
+    R: Files + Net<Listener = TcpListener, Stream = TcpStream>,
 {
     let bound = PipeListener::new(rt, alloc, address, false);
-    is_fault(rt, bound, ErrorKind::AddrInUse)
+    is_fault(bound, ErrorKind::AddrInUse)
 }
 
-/// Nobody listens at the address.
-fn is_alone<R>(rt: &R, alloc: Global, address: &str, expected: ErrorKind) -> Tested
+/// Returns whether nobody listens at the address.
+fn is_alone<R>(rt: &R, alloc: Global, address: &str, expected: ErrorKind) -> Result<bool, Fail>
 where
-    R: Net<Stream = TcpStream> + Abort,
+    R: Net<Stream = TcpStream>,
 {
     let connected = ClientConnection::client_connect(rt, alloc, address, false);
-    is_fault(rt, connected, expected)
+    is_fault(connected, expected)
 }
 
 /// A file that is there is left as it is.
 #[test]
 fn a_file_is_not_replaced(rt: HostRuntime) -> Tested {
     fs::write(&rt, "file.sock", "a file")?;
-    is_in_use(&rt, rt.alloc(), "unix://file.sock")?;
+    let is_in_use = is_in_use(&rt, rt.alloc(), "unix://file.sock")?;
     let mut text = [0u8; 8];
     let count = fs::open(&rt, "file.sock")?.read(&mut text)?;
-    assert_eq!(rt; &text[..count], b"a file".as_slice());
-    Ok(fs::remove_file(&rt, "file.sock")?)
+    fs::remove_file(&rt, "file.sock")?;
+    check(is_in_use && &text[..count] == b"a file".as_slice())
 }
 
 /// So is the file of a listener, also once the listener is closed.
@@ -82,20 +83,21 @@ fn a_listeners_file_stays(rt: HostRuntime) -> Tested {
     let address = "unix://stays.sock";
     let _ = fs::remove_file(&rt, "stays.sock");
     let listener = PipeListener::new(&rt, alloc, address, false)?;
-    is_in_use(&rt, alloc, address)?;
+    let before = is_in_use(&rt, alloc, address)?;
     listener.close()?;
     let after = is_in_use(&rt, alloc, address);
-    clean_behind(&rt, Site::Path("stays.sock"), after)
+    check(clean_behind(&rt, Site::Path("stays.sock"), after)? && before)
 }
 
 /// Nobody listens at a path where there is nothing, nor at a port whose listener is gone.
 #[test]
 fn nobody_listens(rt: HostRuntime) -> Tested {
     let alloc = rt.alloc();
-    is_alone(&rt, alloc, "unix://nobody.sock", ErrorKind::NotFound)?;
+    let is_not_found = is_alone(&rt, alloc, "unix://nobody.sock", ErrorKind::NotFound)?;
     let listener = PipeListener::new(&rt, alloc, "tcp://127.0.0.1:0", false)?;
     let address = address_of(alloc, &listener)?;
-    is_in_use(&rt, alloc, address.as_str())?;
+    let is_in_use = is_in_use(&rt, alloc, address.as_str())?;
     drop(listener);
-    is_alone(&rt, alloc, address.as_str(), ErrorKind::ConnectionRefused)
+    let is_gone = is_alone(&rt, alloc, address.as_str(), ErrorKind::ConnectionRefused)?;
+    check(is_not_found && is_in_use && is_gone)
 }

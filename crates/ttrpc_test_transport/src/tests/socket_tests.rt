@@ -1,10 +1,10 @@
 //! Bytes between the two ends of a connection.
 
-use crate::tests::pairs::{Pair, Site, Tested, a_while, connect, is_ended, passes};
+use crate::tests::checks::{Tested, check};
+use crate::tests::pairs::{Pair, Site, a_while, connect, is_ended, passes};
 use std::alloc::Global;
 use std::net::{Net, TcpListener, TcpStream};
 use std::os::unix::net::UnixStream;
-use std::process::Abort;
 use std::rt::Files;
 use std::test::Fail;
 use std::thread::{self, Threads};
@@ -12,21 +12,22 @@ use std::time::{Clock, Duration, Instant};
 use ttrpc_proto::{Error, Result as Answer, fill, write_part};
 use ttrpc_transport::{ClientConnection, PipeConnection, Stream};
 
-fn bytes_pass<R>(rt: &R, alloc: Global, site: Site) -> Tested
+/// Returns whether bytes pass both ways, and one end is at its end once the other is closed.
+fn bytes_pass<R>(rt: &R, alloc: Global, site: Site) -> Result<bool, Fail>
 where
-    R: Files + Net<Listener = TcpListener, Stream = TcpStream> + Abort,
+    R: Files + Net<Listener = TcpListener, Stream = TcpStream>,
 {
     let pair = connect(rt, alloc, site)?;
-    passes(rt, &pair.connection, &pair.accepted, b"ping")?;
-    passes(rt, &pair.accepted, &pair.connection, b"answer")?;
+    let there = passes(&pair.connection, &pair.accepted, b"ping")?;
+    let back = passes(&pair.accepted, &pair.connection, b"answer")?;
     pair.client.close()?;
-    is_ended(rt, &pair.accepted)
+    Ok(there && back && is_ended(&pair.accepted)?)
 }
 
 #[test]
 fn bytes_pass_both_ways(rt: HostRuntime) -> Tested {
-    bytes_pass(&rt, rt.alloc(), Site::Port)?;
-    bytes_pass(&rt, rt.alloc(), Site::Path("both_ways.sock"))
+    let at_port = bytes_pass(&rt, rt.alloc(), Site::Port)?;
+    check(at_port && bytes_pass(&rt, rt.alloc(), Site::Path("both_ways.sock"))?)
 }
 
 /// Two ends at no address, of which the first doesn't wait: where it would, its calls answer so at once.
@@ -52,10 +53,9 @@ fn reads_that_would_block_are_tried_again(rt: HostRuntime) -> Tested {
             ends.1.write(b"late")
         },
     );
-    assert_eq!(rt; wrote?, 4);
+    let written = wrote?;
     read.1?;
-    assert_eq!(rt; &buffer, b"late");
-    Ok(())
+    check(written == 4 && &buffer == b"late")
 }
 
 /// The same of writes, of more bytes than the socket holds.
@@ -71,8 +71,7 @@ fn writes_that_would_block_are_tried_again(rt: HostRuntime) -> Tested {
         },
     );
     wrote?;
-    assert_eq!(rt; read?, 400_000);
-    Ok(())
+    check(read? == 400_000)
 }
 
 /// How many of the next bytes are this one, of so many that come.
@@ -90,6 +89,14 @@ fn count_of(reader: &PipeConnection, byte: u8, all: usize) -> Answer<usize> {
     Ok(count)
 }
 
+/// Returns whether the end sends its writes at once, if it is one by TCP.
+fn sends_at_once(end: PipeConnection) -> Result<bool, Fail> {
+    match end.into_stream() {
+        Stream::Tcp(stream) => Ok(stream.nodelay()?),
+        Stream::Unix(_) => Ok(true),
+    }
+}
+
 /// Each end by TCP sends its writes at once where it is told to.
 #[test]
 fn delay_is_off_where_it_is_told(rt: HostRuntime) -> Tested {
@@ -98,12 +105,8 @@ fn delay_is_off_where_it_is_told(rt: HostRuntime) -> Tested {
         connection,
         accepted,
     } = connect(&rt, rt.alloc(), Site::Port)?;
-    for end in [connection, accepted] {
-        if let Stream::Tcp(stream) = end.into_stream() {
-            assert!(rt; stream.nodelay()?);
-        }
-    }
-    Ok(())
+    let at_once = sends_at_once(connection)?;
+    check(sends_at_once(accepted)? && at_once)
 }
 
 /// Whether something is there to be read: before bytes came, once they did, and once they were read.
@@ -123,32 +126,32 @@ fn is_ready(client: &ClientConnection) -> Answer<bool> {
     }
 }
 
-/// Its receiver is closed then, which ends nothing else.
-fn ready_tells<R>(rt: &R, alloc: Global, site: Site) -> Tested
+/// Returns whether it is told what came. Its receiver is closed then, which ends nothing else.
+fn ready_tells<R>(rt: &R, alloc: Global, site: Site) -> Result<bool, Fail>
 where
-    R: Files + Net<Listener = TcpListener, Stream = TcpStream> + Abort + Clock,
+    R: Files + Net<Listener = TcpListener, Stream = TcpStream> + Clock,
 {
     let pair = connect(rt, alloc, site)?;
-    assert_eq!(rt; readiness(rt, &pair)?, [false, true, false]);
+    let is_told = readiness(rt, &pair)? == [false, true, false];
     pair.client.close_receiver()?;
-    is_closed(rt, alloc, &pair.client)?;
-    passes(rt, &pair.connection, &pair.accepted, b"pong")
+    let is_closed = is_closed(alloc, &pair.client)?;
+    Ok(is_told && is_closed && passes(&pair.connection, &pair.accepted, b"pong")?)
 }
 
 #[test]
 fn ready_tells_what_came(rt: HostRuntime) -> Tested {
-    ready_tells(&rt, rt.alloc(), Site::Port)?;
-    ready_tells(&rt, rt.alloc(), Site::Path("ready.sock"))
+    let at_port = ready_tells(&rt, rt.alloc(), Site::Port)?;
+    check(at_port && ready_tells(&rt, rt.alloc(), Site::Path("ready.sock"))?)
 }
 
-fn is_closed(rt: &impl Abort, alloc: Global, client: &ClientConnection) -> Tested {
+/// Returns whether the client's receiver is closed.
+fn is_closed(alloc: Global, client: &ClientConnection) -> Result<bool, Fail> {
     match client.ready() {
         Err(error) => {
             let text = error.to_string(alloc)?;
-            assert_eq!(rt; text.as_str(), "pipe closed");
-            Ok(())
+            Ok(text.as_str() == "pipe closed")
         }
-        Ok(_) => Err("not closed".into()),
+        Ok(_) => Ok(false),
     }
 }
 
@@ -157,9 +160,9 @@ fn is_closed(rt: &impl Abort, alloc: Global, client: &ClientConnection) -> Teste
 fn ready_tells_the_end(rt: HostRuntime) -> Tested {
     let (one, other) = UnixStream::pair(&rt)?;
     let client = ClientConnection::new(Stream::Unix(one))?;
-    assert!(rt; !is_ready(&client)?);
+    let before = is_ready(&client)?;
     drop(other);
-    assert!(rt; is_ready(&client)?);
+    let after = is_ready(&client)?;
     client.close()?;
-    is_closed(&rt, rt.alloc(), &client)
+    check(!before && after && is_closed(rt.alloc(), &client)?)
 }

@@ -2,6 +2,7 @@
 ghost use Rattle.std.specs.Prelude.{◌≡◌, string_bytes, IfOk, Some};
 ghost use Rattle.ttrpc_proto.specs.Messages.{non_ok_of};
 
+use crate::tests::checks::{Tested, check, check_row};
 use crate::tests::rows::{RequestRow, request_of, response_of, status_of};
 use std::alloc::{AllocError, Global};
 use std::test::Fail;
@@ -90,7 +91,7 @@ fn made(alloc: Global, row: &RequestRow) -> Result<Request, Fail> {
 }
 
 #[test]
-fn a_request_is_made(rt: HostRuntime) -> Result<(), Fail> {
+fn a_request_is_made(rt: HostRuntime) -> Tested {
     let row = RequestRow {
         service: "s",
         method: "m",
@@ -98,11 +99,10 @@ fn a_request_is_made(rt: HostRuntime) -> Result<(), Fail> {
         timeout_nano: -1,
         metadata: &[("k", "v")],
     };
-    assert!(rt; made(rt.alloc(), &row)? == request_of(rt.alloc(), &row)?);
-    Ok(())
+    check(made(rt.alloc(), &row)? == request_of(rt.alloc(), &row)?)
 }
 
-/// The code of a second status, which alone says whether the call failed.
+/// Returns whether the code of a second status alone says whether the call failed.
 fn is_answered(alloc: Global, code: i32) -> Result<bool, Fail> {
     let first = status_of(alloc, &(5, "first", &[]))?;
     let second = status_of(alloc, &(code, "x", &[]))?;
@@ -116,11 +116,13 @@ fn is_answered(alloc: Global, code: i32) -> Result<bool, Fail> {
     Ok(response == expected && is_refusal == (code != 0))
 }
 
+/// The codes of second statuses.
+const CODES: &[i32] = &[0, 3, -7];
+
 #[test]
-fn a_response_is_made(rt: HostRuntime) -> Result<(), Fail> {
-    for code in [0, 3, -7] {
-        assert!(rt; is_answered(rt.alloc(), code)?, "with the code {code}");
+fn a_response_is_made(rt: HostRuntime) -> Tested {
+    for (at, code) in CODES.iter().enumerate() {
+        check_row(at, is_answered(rt.alloc(), *code)?)?;
     }
-    assert!(rt; response_of(rt.alloc(), &(None, b""))?.non_ok()?.is_none());
-    Ok(())
+    check(response_of(rt.alloc(), &(None, b""))?.non_ok()?.is_none())
 }

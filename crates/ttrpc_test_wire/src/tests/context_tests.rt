@@ -1,14 +1,12 @@
 //! Contexts: how long a request may take, its metadata, and the pairs of an envelope that these are.
+use crate::tests::checks::{Tested, check, check_row};
 use std::alloc::Global;
 use std::collections::BTreeMap;
-use std::process::Abort;
 use std::test::Fail;
 use std::time::Duration;
 use ttrpc_message::{Context, from_pb, to_pb, with_duration, with_metadata, with_timeout};
 use ttrpc_proto::{Error, KeyValue};
 use ttrpc_wire::{Text, TryClone};
-
-type Tested = Result<(), Fail>;
 
 /// What is done to a context.
 enum Step {
@@ -68,36 +66,49 @@ fn take(alloc: Global, context: &mut Context, step: &Step) -> Tested {
     Ok(())
 }
 
-/// The map has these texts under these keys, and no other key.
-fn has(rt: &impl Abort, metadata: &BTreeMap<String, Vec<String>>, expected: &[(&str, &[&str])]) {
-    assert_eq!(rt; metadata.len(), expected.len());
-    for &(key, texts) in expected {
-        let Some(found) = metadata.get(key) else {
-            assert!(rt; false, "{key:?} is a key");
-            return;
-        };
-        assert_eq!(rt; found.len(), texts.len(), "{key:?}");
-        for (text, wanted) in found.iter().zip(texts) {
-            assert!(rt; text.as_str() == *wanted, "{key:?}");
-        }
+/// Returns whether the strings are these texts.
+fn are_texts(found: &[String], texts: &[&str]) -> bool {
+    let mut all = found.len() == texts.len();
+    for (text, wanted) in found.iter().zip(texts) {
+        all = all && text.as_str() == *wanted;
     }
+    all
+}
+
+/// Returns whether the map has these texts under these keys, and no other key.
+fn has(metadata: &BTreeMap<String, Vec<String>>, expected: &[(&str, &[&str])]) -> bool {
+    let mut all = metadata.len() == expected.len();
+    for &(key, texts) in expected {
+        all = all
+            && match metadata.get(key) {
+                Some(found) => are_texts(found.as_slice(), texts),
+                None => false,
+            };
+    }
+    all
+}
+
+/// Returns whether the context has these texts and this limit.
+fn carries(context: &Context, expected: &[(&str, &[&str])], timeout_nano: i64) -> bool {
+    has(&context.metadata, expected) && context.timeout_nano == timeout_nano
+}
+
+/// Returns whether these steps lead to a context of these texts, whose copy has them, too, and so has one of its metadata.
+fn leads_to(alloc: Global, steps: &[Step], expected: &[(&str, &[&str])]) -> Result<bool, Fail> {
+    let mut context = with_timeout(alloc, 5);
+    for step in steps {
+        take(alloc, &mut context, step)?;
+    }
+    let copy = context.try_clone()?;
+    let is_made = carries(&context, expected, 5) && carries(&copy, expected, 5);
+    let same = with_metadata(context.metadata);
+    Ok(is_made && carries(&same, expected, 0))
 }
 
 #[test]
 fn keys_have_their_texts(rt: HostRuntime) -> Tested {
-    for (steps, expected) in STEPS {
-        let mut context = with_timeout(rt.alloc(), 5);
-        for step in *steps {
-            take(rt.alloc(), &mut context, step)?;
-        }
-        has(&rt, &context.metadata, expected);
-        assert!(rt; context.timeout_nano == 5);
-        let copy = context.try_clone()?;
-        has(&rt, &copy.metadata, expected);
-        assert!(rt; copy.timeout_nano == 5);
-        let same = with_metadata(context.metadata);
-        has(&rt, &same.metadata, expected);
-        assert!(rt; same.timeout_nano == 0);
+    for (at, (steps, expected)) in STEPS.iter().enumerate() {
+        check_row(at, leads_to(rt.alloc(), steps, expected)?)?;
     }
     Ok(())
 }
@@ -108,8 +119,7 @@ fn contexts_print_what_they_carry(rt: HostRuntime) -> Tested {
     take(rt.alloc(), &mut context, &Step::Add("Key", "a"))?;
     let printed = format!(in rt.alloc(); "{context:?}")?;
     let expected = r#"Context { metadata: {"key": ["a"]}, timeout_nano: 5 }"#;
-    assert!(rt; printed.as_str() == expected, "{printed}");
-    Ok(())
+    check(printed.as_str() == expected)
 }
 
 /// Durations by seconds and nanoseconds, and as many nanoseconds where an `i64` holds these.
@@ -121,21 +131,21 @@ const DURATIONS: &[(u64, u32, Option<i64>)] = &[
     (18446744073709551615, 999999999, None),
 ];
 
+/// Returns whether the duration is so many nanoseconds, or is refused if no number is given.
+fn is_as_long(alloc: Global, duration: Duration, expected: Option<i64>) -> Result<bool, Fail> {
+    match (with_duration(alloc, duration), expected) {
+        (Ok(context), Some(wanted)) => Ok(context.timeout_nano == wanted),
+        (Err(Error::NoMemory), _) => Err(Error::NoMemory.into()),
+        (Err(Error::Others(text)), None) => Ok(text.is_equal("timeout does not fit")),
+        _ => Ok(false),
+    }
+}
+
 #[test]
 fn durations_fit_or_are_refused(rt: HostRuntime) -> Tested {
-    for &(seconds, nanoseconds, expected) in DURATIONS {
-        match (
-            with_duration(rt.alloc(), Duration::new(seconds, nanoseconds)),
-            expected,
-        ) {
-            (Ok(context), Some(wanted)) => assert!(rt; context.timeout_nano == wanted),
-            (Err(Error::NoMemory), _) => return Err(Error::NoMemory.into()),
-            (Err(refused), None) => {
-                let text = Text::from_str(rt.alloc(), "timeout does not fit")?;
-                assert!(rt; refused == Error::Others(text));
-            }
-            _ => assert!(rt; false, "{seconds} {nanoseconds}"),
-        }
+    for (at, &(seconds, nanoseconds, expected)) in DURATIONS.iter().enumerate() {
+        let duration = Duration::new(seconds, nanoseconds);
+        check_row(at, is_as_long(rt.alloc(), duration, expected)?)?;
     }
     Ok(())
 }
@@ -171,14 +181,24 @@ fn pairs_of(alloc: Global, rows: &[(&str, &str)]) -> Result<Vec<KeyValue>, Fail>
     Ok(pairs)
 }
 
+/// Returns whether the pairs are metadata of these texts, which are these pairs again.
+fn are_metadata(
+    alloc: Global,
+    rows: &[(&str, &str)],
+    expected: &[(&str, &[&str])],
+    again: &[(&str, &str)],
+) -> Result<bool, Fail> {
+    let given = pairs_of(alloc, rows)?;
+    let metadata = from_pb(alloc, given.as_slice())?;
+    let is_read = has(&metadata, expected);
+    let pairs = to_pb(alloc, metadata)?;
+    Ok(is_read && pairs == pairs_of(alloc, again)?)
+}
+
 #[test]
 fn pairs_are_metadata(rt: HostRuntime) -> Tested {
-    let alloc = rt.alloc();
-    for (rows, expected, again) in PAIRS {
-        let metadata = from_pb(alloc, pairs_of(alloc, rows)?.as_slice())?;
-        has(&rt, &metadata, expected);
-        let pairs = to_pb(alloc, metadata)?;
-        assert!(rt; pairs == pairs_of(alloc, again)?);
+    for (at, (rows, expected, again)) in PAIRS.iter().enumerate() {
+        check_row(at, are_metadata(rt.alloc(), rows, expected, again)?)?;
     }
     Ok(())
 }
@@ -190,6 +210,5 @@ fn no_texts_are_no_pairs(rt: HostRuntime) -> Tested {
     let mut metadata = BTreeMap::new(alloc);
     metadata.insert(string(alloc, "none")?, Vec::new(alloc))?;
     metadata.insert(string(alloc, "one")?, strings(alloc, &["1"])?)?;
-    assert!(rt; to_pb(alloc, metadata)? == pairs_of(alloc, &[("one", "1")])?);
-    Ok(())
+    check(to_pb(alloc, metadata)? == pairs_of(alloc, &[("one", "1")])?)
 }

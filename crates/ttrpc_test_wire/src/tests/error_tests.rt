@@ -2,10 +2,10 @@
 ghost use Rattle.std.specs.Prelude.{◌≡◌, codes, MatchResult, IfErr, IsErrAnd};
 ghost use Rattle.ttrpc_proto.specs.ErrorText.{error_text, IsOthers};
 
+use crate::tests::checks::{Tested, check, check_row};
 use crate::tests::rows::{ErrorRow, error_of, response_of, status_of};
 use std::alloc::{AllocError, Global};
 use std::io::ErrorKind;
-use std::process::Abort;
 use std::test::Fail;
 use ttrpc_proto::error::causes::others_of;
 use ttrpc_proto::framing::header::oversize::check_oversize;
@@ -14,7 +14,8 @@ use ttrpc_proto::{
 };
 use ttrpc_wire::{Code, TryClone};
 
-type Tested = std::result::Result<(), Fail>;
+/// What is found out of a condition, where memory may be refused.
+type Found = std::result::Result<bool, Fail>;
 
 /// The codes, in the order of their numbers.
 const CODES: [Code; 17] = [
@@ -37,17 +38,23 @@ const CODES: [Code; 17] = [
     Code::UNAUTHENTICATED,
 ];
 
+/// Numbers of no code.
+const NO_CODES: &[i32] = &[17, 258, 2147483647, -1, -2147483648];
+
+/// Returns whether a status of this number has this code.
+fn stands_for(alloc: Global, number: i32, code: Code) -> Found {
+    Ok(status_of(alloc, &(number, "", &[]))?.code() == code)
+}
+
 #[test]
 fn codes_have_their_numbers(rt: HostRuntime) -> Tested {
-    let mut number = 0i32;
-    for code in CODES {
-        assert_eq!(rt; code.number(), number);
-        assert!(rt; status_of(rt.alloc(), &(number, "", &[]))?.code() == code);
-        number = number.wrapping_add(1);
+    for (at, code) in CODES.iter().enumerate() {
+        let number = i32::try_from(at)?;
+        let holds = stands_for(rt.alloc(), number, *code)?;
+        check_row(at, holds && code.number() == number)?;
     }
-    for number in [17, 258, 2147483647, -1, -2147483648] {
-        let status = status_of(rt.alloc(), &(number, "", &[]))?;
-        assert!(rt; status.code() == Code::UNKNOWN, "at {number}");
+    for (at, number) in NO_CODES.iter().enumerate() {
+        check_row(at, stands_for(rt.alloc(), *number, Code::UNKNOWN)?)?;
     }
     Ok(())
 }
@@ -109,49 +116,38 @@ fn has_no_message(response: &Response) -> bool {
     }
 }
 
-/// The error prints so, its copy is equal, and it becomes this response, also where its text is never left out.
-fn is_told(
-    rt: &impl Abort,
-    alloc: Global,
-    row: &(ErrorRow, &'static str, i32, &'static str),
-) -> Tested {
+/// Returns whether the error prints so, its copy is equal, and it becomes this response, also if its text is never left out.
+fn is_told(alloc: Global, row: &(ErrorRow, &'static str, i32, &'static str)) -> Found {
     let (error, printed, code, message) = row;
     let error = error_of(alloc, error)?;
-    is_printed(rt, alloc, &error, *printed)?;
+    let is_printed = is_printed(alloc, &error, *printed)?;
     let told = error.try_clone()?.try_into_response(alloc)?;
-    is_response(rt, alloc, &told, *code, *message)?;
+    let is_told = is_response(alloc, &told, *code, *message)?;
     let response = error.into_response(alloc);
     if has_no_message(&response) {
         return Err(Error::NoMemory.into());
     }
-    is_response(rt, alloc, &response, *code, *message)
+    Ok(is_printed && is_told && is_response(alloc, &response, *code, *message)?)
 }
 
-/// The error prints so, by either call, and its copy is equal.
-fn is_printed(rt: &impl Abort, alloc: Global, error: &Error, printed: &str) -> Tested {
-    assert!(rt; error.to_string(alloc)?.as_str() == printed, "{printed}");
-    assert!(rt; error.text(alloc)?.as_str() == printed, "{printed}");
-    assert!(rt; error.try_clone()? == *error, "{printed} is copied");
-    Ok(())
+/// Returns whether the error prints so, by either call, and its copy is equal.
+fn is_printed(alloc: Global, error: &Error, printed: &str) -> Found {
+    let shown = error.to_string(alloc)?;
+    let text = error.text(alloc)?;
+    let copy = error.try_clone()?;
+    Ok(shown.as_str() == printed && text.as_str() == printed && copy == *error)
 }
 
-/// It is a response of this status alone.
-fn is_response(
-    rt: &impl Abort,
-    alloc: Global,
-    response: &Response,
-    code: i32,
-    message: &'static str,
-) -> Tested {
+/// Returns whether it is a response of this status alone.
+fn is_response(alloc: Global, response: &Response, code: i32, message: &'static str) -> Found {
     let expected = response_of(alloc, &(Some((code, message, &[])), b""))?;
-    assert!(rt; *response == expected, "a response of {message}");
-    Ok(())
+    Ok(*response == expected)
 }
 
 #[test]
 fn errors_are_told(rt: HostRuntime) -> Tested {
-    for row in ERRORS {
-        is_told(&rt, rt.alloc(), row)?;
+    for (at, row) in ERRORS.iter().enumerate() {
+        check_row(at, is_told(rt.alloc(), row)?)?;
     }
     Ok(())
 }
@@ -202,13 +198,17 @@ const KINDS: [ErrorKind; 42] = [
     ErrorKind::Uncategorized,
 ];
 
-/// An error of the system prints its kind as std does.
+/// Returns whether an error of the system prints its kind as std does.
+fn prints_as_std(alloc: Global, kind: ErrorKind) -> Found {
+    let printed = Error::Nix(kind).text(alloc)?;
+    let expected = format!(in alloc; "Nix error: {kind}")?;
+    Ok(printed == expected)
+}
+
 #[test]
 fn kinds_print_as_std_prints_them(rt: HostRuntime) -> Tested {
-    for kind in KINDS {
-        let printed = Error::Nix(kind).text(rt.alloc())?;
-        let expected = format!(in rt.alloc(); "Nix error: {kind}")?;
-        assert!(rt; printed == expected, "{kind:?}");
+    for (at, kind) in KINDS.iter().enumerate() {
+        check_row(at, prints_as_std(rt.alloc(), *kind)?)?;
     }
     Ok(())
 }
@@ -223,32 +223,25 @@ fn pushed(items: &mut Vec<u8>, item: u8) -> Result<()>
 
 #[test]
 fn refused_memory_is_an_error(rt: HostRuntime) -> Tested {
-    assert!(rt; Error::from(AllocError) == Error::NoMemory);
     let mut items = Vec::new(rt.alloc());
     pushed(&mut items, 7)?;
-    assert_eq!(rt; items.as_slice(), [7].as_slice());
-    Ok(())
+    let is_pushed = items.as_slice() == [7].as_slice();
+    check(is_pushed && Error::from(AllocError) == Error::NoMemory)
 }
 
-/// The error is as expected, where memory for it wasn't refused: then the test ends with that error.
-fn is_error(rt: &impl Abort, alloc: Global, error: Error, expected: ErrorRow) -> Tested {
+/// Returns whether the error is as expected. If memory for it was refused, the test ends with that error.
+fn is_error(alloc: Global, error: Error, expected: ErrorRow) -> Found {
     if error == Error::NoMemory {
         return Err(error.into());
     }
-    assert!(rt; error == error_of(alloc, &expected)?, "{expected:?}");
-    Ok(())
+    Ok(error == error_of(alloc, &expected)?)
 }
 
-/// It went wrong so.
-fn is_refused<T: Drop>(
-    rt: &impl Abort,
-    alloc: Global,
-    outcome: Result<T>,
-    expected: ErrorRow,
-) -> Tested {
+/// Returns whether it went wrong so.
+fn is_refused<T: Drop>(alloc: Global, outcome: Result<T>, expected: ErrorRow) -> Found {
     match outcome {
-        Ok(_) => Err("it went well".into()),
-        Err(error) => is_error(rt, alloc, error, expected),
+        Ok(_) => Ok(false),
+        Err(error) => is_error(alloc, error, expected),
     }
 }
 
@@ -256,18 +249,23 @@ fn is_refused<T: Drop>(
 fn statuses_and_errors_are_made(rt: HostRuntime) -> Tested {
     let alloc = rt.alloc();
     let made = get_status(Code::NOT_FOUND, String::from_str(alloc, "no such task")?);
-    assert!(rt; made == status_of(alloc, &(5, "no such task", &[]))?);
+    let is_made = made == status_of(alloc, &(5, "no such task", &[]))?;
     let aborted = get_rpc_status(Code::ABORTED, String::from_str(alloc, "a")?);
-    is_error(&rt, alloc, aborted, ErrorRow::RpcStatus(10, "a"))
+    let is_aborted = is_error(alloc, aborted, ErrorRow::RpcStatus(10, "a"))?;
+    check(is_made && is_aborted)
+}
+
+/// Returns whether a socket's error behind so many bytes is this.
+fn is_of_socket(alloc: Global, size: usize, expected: ErrorRow) -> Found {
+    let error = sock_error_msg(size, String::from_str(alloc, "short")?);
+    is_error(alloc, error, expected)
 }
 
 #[test]
 fn errors_of_sockets_are_made(rt: HostRuntime) -> Tested {
-    let alloc = rt.alloc();
-    let gone = sock_error_msg(0, String::from_str(alloc, "short")?);
-    is_error(&rt, alloc, gone, ErrorRow::Socket("socket disconnected"))?;
-    let cut = sock_error_msg(9, String::from_str(alloc, "short")?);
-    is_error(&rt, alloc, cut, ErrorRow::RpcStatus(3, "short"))
+    let gone = is_of_socket(rt.alloc(), 0, ErrorRow::Socket("socket disconnected"))?;
+    let cut = is_of_socket(rt.alloc(), 9, ErrorRow::RpcStatus(3, "short"))?;
+    check(gone && cut)
 }
 
 // What the closure of `err_to_others!` makes is known where it is used.
@@ -278,31 +276,47 @@ fn called(alloc: Global, outcome: Result<u8>) -> Result<u8>
     outcome.map_err(err_to_others!(alloc, e, "calling: "))
 }
 
-#[test]
-fn other_errors_are_taken(rt: HostRuntime) -> Tested {
-    let alloc = rt.alloc();
+/// Returns whether what is no number is refused with a text before the cause.
+fn is_no_number(alloc: Global) -> Found {
     let parsed = "x"
         .parse::<u8>()
         .map_err(err_to_others!(alloc, e, "the port: "));
     let text = "the port: invalid digit found in string";
-    is_refused(&rt, alloc, parsed, ErrorRow::Others(text))?;
-    let closed = others_of(alloc, "stream 3: ", &Error::Eof);
-    is_error(&rt, alloc, closed, ErrorRow::Others("stream 3: eof"))?;
-    assert!(rt; called(alloc, Ok(7)) == Ok(7));
+    is_refused(alloc, parsed, ErrorRow::Others(text))
+}
+
+/// Returns whether an error that is called for has a text before it, and a number none.
+fn is_called(alloc: Global) -> Found {
     let text = "calling: ttrpc err: remote stream closed";
     let error = called(alloc, Err(Error::RemoteClosed));
-    is_refused(&rt, alloc, error, ErrorRow::Others(text))
+    let is_told = is_refused(alloc, error, ErrorRow::Others(text))?;
+    Ok(is_told && called(alloc, Ok(7)) == Ok(7))
+}
+
+#[test]
+fn other_errors_are_taken(rt: HostRuntime) -> Tested {
+    let alloc = rt.alloc();
+    let closed = others_of(alloc, "stream 3: ", &Error::Eof);
+    let is_closed = is_error(alloc, closed, ErrorRow::Others("stream 3: eof"))?;
+    check(is_closed && is_no_number(alloc)? && is_called(alloc)?)
 }
 
 const TOO_LONG: &str = "message length 4194305 exceed maximum message size of 4194304";
 
+/// Returns whether a message of this length may be sent, be it answered or not.
+fn is_fitting(alloc: Global, length: usize) -> bool {
+    check_oversize(alloc, length, true).is_ok() && check_oversize(alloc, length, false).is_ok()
+}
+
+/// Returns whether a message of this length is refused so, by whether the refusal is answered.
+fn is_too_long(alloc: Global, length: usize, answered: bool, expected: ErrorRow) -> Found {
+    is_refused(alloc, check_oversize(alloc, length, answered), expected)
+}
+
 #[test]
 fn long_messages_are_refused(rt: HostRuntime) -> Tested {
     let alloc = rt.alloc();
-    assert!(rt; check_oversize(alloc, 4194304, true).is_ok());
-    assert!(rt; check_oversize(alloc, 4194304, false).is_ok());
-    let answered = check_oversize(alloc, 4194305, true);
-    is_refused(&rt, alloc, answered, ErrorRow::RpcStatus(3, TOO_LONG))?;
-    let kept = check_oversize(alloc, 4194305, false);
-    is_refused(&rt, alloc, kept, ErrorRow::Others(TOO_LONG))
+    let answered = is_too_long(alloc, 4194305, true, ErrorRow::RpcStatus(3, TOO_LONG))?;
+    let kept = is_too_long(alloc, 4194305, false, ErrorRow::Others(TOO_LONG))?;
+    check(is_fitting(alloc, 4194304) && answered && kept)
 }

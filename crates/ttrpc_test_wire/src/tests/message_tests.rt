@@ -1,18 +1,18 @@
 //! The envelope's messages as bytes, and what those bytes mean.
+use crate::tests::checks::{Tested, check, check_row};
 use crate::tests::rows::{
     RequestRow, ResponseRow, Row, StatusRow, any_of, key_value_of, request_of, response_of,
     status_of,
 };
 use std::alloc::Global;
-use std::fmt::Debug;
-use std::process::Abort;
 use std::test::Fail;
 use ttrpc_message::decode_request;
 use ttrpc_proto::{Any, KeyValue, Request, Response, Status};
 use ttrpc_wire::codec::in_place::{CarriesPayload, decode_in_place};
 use ttrpc_wire::{Blob, Codec, CodecError, TryClone};
 
-type Tested = Result<(), Fail>;
+/// What is found out of a condition, where memory may be refused.
+type Found = Result<bool, Fail>;
 
 /// A request that has no member.
 const NOTHING_ASKED: RequestRow = RequestRow {
@@ -156,67 +156,49 @@ const REFUSED: &[(&[u8], Row, CodecError)] = &[
     ),
 ];
 
-/// The bytes mean the value. It is asked through the bound alone.
-fn reads<C: Codec<E = CodecError> + PartialEq>(
-    rt: &impl Abort,
-    alloc: Global,
-    bytes: &[u8],
-    value: &C,
-) -> Tested {
+/// Returns whether the bytes mean the value. It is asked through the bound alone.
+fn reads<C: Codec<E = CodecError> + PartialEq>(alloc: Global, bytes: &[u8], value: &C) -> Found {
     let read = C::decode(alloc, bytes)?;
-    assert!(rt; read == *value, "{bytes:?} are read");
-    Ok(())
+    Ok(read == *value)
 }
 
-/// The value has this size and this written form, which means it, and nothing more changes it.
+/// Returns whether the value's copy is equal to it, also if no bytes are merged into it.
+fn is_copied<C: Codec<E = CodecError> + PartialEq + TryClone>(alloc: Global, value: &C) -> Found {
+    let mut copy = value.try_clone()?;
+    copy.merge(alloc, &[])?;
+    Ok(copy == *value)
+}
+
+/// Returns whether the value has this size and this written form, which means it, and nothing more changes it.
 fn travels<C: Codec<E = CodecError> + PartialEq + TryClone>(
-    rt: &impl Abort,
     alloc: Global,
     value: &C,
     written: &[u8],
-) -> Tested {
-    assert_eq!(rt; value.size() as usize, written.len(), "its size");
+) -> Found {
     let bytes = value.encode(alloc)?;
-    assert!(rt; bytes.as_slice() == written, "{written:?} are written");
-    reads(rt, alloc, written, value)?;
-    let mut copy = value.try_clone()?;
-    copy.merge(alloc, &[])?;
-    assert!(rt; copy == *value, "nothing was merged");
-    Ok(())
+    let is_written = bytes.as_slice() == written && value.size() as usize == written.len();
+    Ok(is_written && reads(alloc, written, value)? && is_copied(alloc, value)?)
 }
 
-/// The bytes mean no such value.
-fn refuses<C: Codec<E = CodecError>>(
-    rt: &impl Abort,
-    alloc: Global,
-    bytes: &[u8],
-    expected: CodecError,
-) -> Tested {
-    match C::decode(alloc, bytes) {
-        Ok(_) => assert!(rt; false, "{bytes:?} are read"),
-        Err(CodecError::NoMemory) => return Err(CodecError::NoMemory.into()),
-        Err(error) => assert!(rt; error == expected, "{bytes:?} are refused otherwise"),
+/// Returns whether the outcome is this error. If memory was refused, the test ends with that error.
+fn is_error<C: Drop>(outcome: Result<C, CodecError>, expected: CodecError) -> Found {
+    match outcome {
+        Ok(_) => Ok(false),
+        Err(CodecError::NoMemory) => Err(CodecError::NoMemory.into()),
+        Err(error) => Ok(error == expected),
     }
-    Ok(())
 }
 
-/// The bytes mean no such value, read in place or not.
-fn refuses_in_place<C: CarriesPayload>(
-    rt: &impl Abort,
-    alloc: Global,
-    bytes: &[u8],
-    expected: CodecError,
-) -> Tested {
-    refuses::<C>(rt, alloc, bytes, expected)?;
-    match decode_in_place::<C>(alloc, Vec::from_slice(alloc, bytes)?) {
-        Ok(_) => assert!(rt; false, "{bytes:?} are read in place"),
-        Err(CodecError::NoMemory) => return Err(CodecError::NoMemory.into()),
-        Err(error) => assert!(rt;
-            error == expected,
-            "{bytes:?} are refused otherwise in place"
-        ),
-    }
-    Ok(())
+/// Returns whether the bytes mean no such value.
+fn refuses<C: Codec<E = CodecError>>(alloc: Global, bytes: &[u8], expected: CodecError) -> Found {
+    is_error(C::decode(alloc, bytes), expected)
+}
+
+/// Returns whether the bytes mean no such value, read in place or not.
+fn refuses_in_place<C: CarriesPayload>(alloc: Global, bytes: &[u8], expected: CodecError) -> Found {
+    let is_refused = refuses::<C>(alloc, bytes, expected)?;
+    let outcome = decode_in_place::<C>(alloc, Vec::from_slice(alloc, bytes)?);
+    Ok(is_refused && is_error(outcome, expected)?)
 }
 
 /// What a row is asked: to travel as its written form, or to be what other bytes mean.
@@ -227,93 +209,90 @@ enum Asked {
 }
 
 fn is_so<C: Codec<E = CodecError> + PartialEq + TryClone>(
-    rt: &impl Abort,
     alloc: Global,
     value: &C,
     asked: Asked,
-) -> Tested {
+) -> Found {
     match asked {
-        Asked::Travels(written) => travels(rt, alloc, value, written),
-        Asked::IsReadFrom(bytes) => reads(rt, alloc, bytes, value),
+        Asked::Travels(written) => travels(alloc, value, written),
+        Asked::IsReadFrom(bytes) => reads(alloc, bytes, value),
     }
 }
 
-fn pair_is_so(rt: &impl Abort, alloc: Global, key: &str, value: &str, asked: Asked) -> Tested {
+fn pair_is_so(alloc: Global, key: &str, value: &str, asked: Asked) -> Found {
     let pair = key_value_of(alloc, key, value)?;
-    is_so(rt, alloc, &pair, asked)
+    is_so(alloc, &pair, asked)
 }
 
-fn any_is_so(rt: &impl Abort, alloc: Global, url: &str, value: &[u8], asked: Asked) -> Tested {
+fn any_is_so(alloc: Global, url: &str, value: &[u8], asked: Asked) -> Found {
     let any = any_of(alloc, url, value)?;
-    is_so(rt, alloc, &any, asked)
+    is_so(alloc, &any, asked)
 }
 
-fn status_is_so(rt: &impl Abort, alloc: Global, row: &StatusRow, asked: Asked) -> Tested {
+fn status_is_so(alloc: Global, row: &StatusRow, asked: Asked) -> Found {
     let status = status_of(alloc, row)?;
-    is_so(rt, alloc, &status, asked)
+    is_so(alloc, &status, asked)
 }
 
-/// The row holds, and a payload that stays where it lies is the same payload.
-fn is_so_in_place<C: CarriesPayload + PartialEq>(
-    rt: &impl Abort,
-    alloc: Global,
-    value: &C,
-    asked: Asked,
-) -> Tested {
-    is_so(rt, alloc, value, asked)?;
+/// Returns whether the row holds, and a payload that stays where it lies is the same payload.
+fn is_so_in_place<C: CarriesPayload + PartialEq>(alloc: Global, value: &C, asked: Asked) -> Found {
+    let is_so = is_so(alloc, value, asked)?;
     let (Asked::Travels(bytes) | Asked::IsReadFrom(bytes)) = asked;
     let read: C = decode_in_place(alloc, Vec::from_slice(alloc, bytes)?)?;
-    assert!(rt; read == *value, "{bytes:?} are read in place");
-    Ok(())
+    Ok(is_so && read == *value)
 }
 
-fn request_is_so(rt: &impl Abort, alloc: Global, row: &RequestRow, asked: Asked) -> Tested {
+fn request_is_so(alloc: Global, row: &RequestRow, asked: Asked) -> Found {
     let request = request_of(alloc, row)?;
-    is_so_in_place(rt, alloc, &request, asked)
+    is_so_in_place(alloc, &request, asked)
 }
 
-fn response_is_so(rt: &impl Abort, alloc: Global, row: &ResponseRow, asked: Asked) -> Tested {
+fn response_is_so(alloc: Global, row: &ResponseRow, asked: Asked) -> Found {
     let response = response_of(alloc, row)?;
-    is_so_in_place(rt, alloc, &response, asked)
+    is_so_in_place(alloc, &response, asked)
 }
 
-fn row_is_so(rt: &impl Abort, alloc: Global, row: &Row, asked: Asked) -> Tested {
+fn row_is_so(alloc: Global, row: &Row, asked: Asked) -> Found {
     match row {
-        Row::KeyValue(key, value) => pair_is_so(rt, alloc, key, value, asked),
-        Row::Any(url, value) => any_is_so(rt, alloc, url, value, asked),
-        Row::Status(row) => status_is_so(rt, alloc, row, asked),
-        Row::Request(row) => request_is_so(rt, alloc, row, asked),
-        Row::Response(row) => response_is_so(rt, alloc, row, asked),
+        Row::KeyValue(key, value) => pair_is_so(alloc, key, value, asked),
+        Row::Any(url, value) => any_is_so(alloc, url, value, asked),
+        Row::Status(row) => status_is_so(alloc, row, asked),
+        Row::Request(row) => request_is_so(alloc, row, asked),
+        Row::Response(row) => response_is_so(alloc, row, asked),
     }
 }
 
 #[test]
 fn messages_are_written(rt: HostRuntime) -> Tested {
-    for (row, written) in WRITTEN {
-        row_is_so(&rt, rt.alloc(), row, Asked::Travels(written))?;
+    for (at, (row, written)) in WRITTEN.iter().enumerate() {
+        check_row(at, row_is_so(rt.alloc(), row, Asked::Travels(written))?)?;
     }
     Ok(())
 }
 
 #[test]
 fn bytes_mean_messages(rt: HostRuntime) -> Tested {
-    for (bytes, row) in READ {
-        row_is_so(&rt, rt.alloc(), row, Asked::IsReadFrom(bytes))?;
+    for (at, (bytes, row)) in READ.iter().enumerate() {
+        check_row(at, row_is_so(rt.alloc(), row, Asked::IsReadFrom(bytes))?)?;
     }
     Ok(())
 }
 
+/// Returns whether the bytes mean no message of the type of the row.
+fn row_is_refused(alloc: Global, bytes: &[u8], row: &Row, error: CodecError) -> Found {
+    match row {
+        Row::KeyValue(_, _) => refuses::<KeyValue>(alloc, bytes, error),
+        Row::Any(_, _) => refuses::<Any>(alloc, bytes, error),
+        Row::Status(_) => refuses::<Status>(alloc, bytes, error),
+        Row::Request(_) => refuses_in_place::<Request>(alloc, bytes, error),
+        Row::Response(_) => refuses_in_place::<Response>(alloc, bytes, error),
+    }
+}
+
 #[test]
 fn bytes_without_a_meaning_are_refused(rt: HostRuntime) -> Tested {
-    let alloc = rt.alloc();
-    for (bytes, row, error) in REFUSED {
-        match row {
-            Row::KeyValue(_, _) => refuses::<KeyValue>(&rt, alloc, bytes, *error)?,
-            Row::Any(_, _) => refuses::<Any>(&rt, alloc, bytes, *error)?,
-            Row::Status(_) => refuses::<Status>(&rt, alloc, bytes, *error)?,
-            Row::Request(_) => refuses_in_place::<Request>(&rt, alloc, bytes, *error)?,
-            Row::Response(_) => refuses_in_place::<Response>(&rt, alloc, bytes, *error)?,
-        }
+    for (at, (bytes, row, error)) in REFUSED.iter().enumerate() {
+        check_row(at, row_is_refused(rt.alloc(), bytes, row, *error)?)?;
     }
     Ok(())
 }
@@ -323,25 +302,22 @@ fn bytes_without_a_meaning_are_refused(rt: HostRuntime) -> Tested {
 fn raw_bytes_travel(rt: HostRuntime) -> Tested {
     let alloc = rt.alloc();
     let mut raw = decode_request::<Blob>(alloc, b"\xff\x00")?;
-    assert!(rt; raw.is_equal(b"\xff\x00") && raw.size() == 2);
+    let is_read = raw.is_equal(b"\xff\x00") && raw.size() == 2;
     let response = ttrpc_message::response_of(alloc, Ok(raw.try_clone()?))?;
-    assert!(rt; response.payload == raw);
+    let is_answered = response.payload == raw;
     raw.merge(alloc, b"\x2a")?;
-    assert!(rt; raw.encode(alloc)?.as_slice() == b"\xff\x00\x2a".as_slice());
-    Ok(())
+    let written = raw.encode(alloc)?;
+    check(is_read && is_answered && written.as_slice() == b"\xff\x00\x2a".as_slice())
 }
 
+/// A refused merge changes nothing.
 #[test]
 fn merged_status(rt: HostRuntime) -> Tested {
     let alloc = rt.alloc();
     let mut response = response_of(alloc, &(None, b"\x2a"))?;
     response.merge(alloc, b"\x0a\x02\x08\x03\x0a\x03\x12\x01x")?;
     let merged = response_of(alloc, &(Some((3, "x", &[])), b"\x2a"))?;
-    assert!(rt; response == merged);
-    match response.merge(alloc, b"\x0a\x01") {
-        Err(CodecError::NoMemory) => return Err(CodecError::NoMemory.into()),
-        refused => assert!(rt; refused == Err(CodecError::Truncated)),
-    }
-    assert!(rt; response == merged, "a refused merge changes nothing");
-    Ok(())
+    let is_merged = response == merged;
+    let refused = response.merge(alloc, b"\x0a\x01");
+    check(is_merged && is_error(refused, CodecError::Truncated)? && response == merged)
 }

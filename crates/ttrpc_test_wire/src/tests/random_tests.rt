@@ -1,6 +1,6 @@
 //! Generated lists of fields, on which the decoder agrees with a plain reading of the definitions.
+use crate::tests::checks::{Tested, check};
 use std::alloc::Global;
-use std::process::Abort;
 use std::test::Fail;
 use ttrpc_proto::{KeyValue, Request};
 use ttrpc_wire::{Codec, CodecError, Field, FieldNumber, Value, put_field};
@@ -82,7 +82,7 @@ fn field_of(seed: u64) -> Result<Field<'static>, Fail> {
     Ok(Field { number, value })
 }
 
-/// Whether the request has the members of a plain reading.
+/// Returns whether the request has the members of a plain reading.
 fn is_read(request: &Request, fields: &[Field<'_>]) -> bool {
     request.service.as_bytes() == last_delimited(fields, 1)
         && request.method.as_bytes() == last_delimited(fields, 2)
@@ -90,39 +90,41 @@ fn is_read(request: &Request, fields: &[Field<'_>]) -> bool {
         && request.timeout_nano.cast_unsigned() == last_varint(fields, 4)
 }
 
-/// Whether the bytes of the fields were read, as they must be.
-fn agrees(rt: &impl Abort, alloc: Global, fields: &[Field<'_>]) -> Result<bool, Fail> {
+/// Returns whether the bytes of the fields were read.
+fn are_read(alloc: Global, fields: &[Field<'_>]) -> Result<bool, Fail> {
     let mut bytes = Vec::new(alloc);
     for field in fields {
         put_field(&mut bytes, *field)?;
     }
-    let read = match Request::decode(alloc, bytes.as_slice()) {
-        Ok(request) => is_read(&request, fields),
-        Err(CodecError::NoMemory) => return Err(CodecError::NoMemory.into()),
-        Err(_) => false,
-    };
-    assert!(rt; read == has_meaning(alloc, fields)?, "{bytes:?}");
-    Ok(read)
+    match Request::decode(alloc, bytes.as_slice()) {
+        Ok(request) => Ok(is_read(&request, fields)),
+        Err(CodecError::NoMemory) => Err(CodecError::NoMemory.into()),
+        Err(_) => Ok(false),
+    }
+}
+
+/// So many fields from the seed on, and the seed behind them.
+fn fields_from(alloc: Global, seed: u64, count: u64) -> Result<(Vec<Field<'static>>, u64), Fail> {
+    let mut seed = seed;
+    let mut fields = Vec::new(alloc);
+    for _ in 0..count {
+        seed = next(seed);
+        fields.push(field_of(seed)?)?;
+    }
+    Ok((fields, seed))
 }
 
 #[test]
-fn decoder_agrees_with_a_plain_reading(rt: HostRuntime) -> Result<(), Fail> {
+fn decoder_agrees_with_a_plain_reading(rt: HostRuntime) -> Tested {
     let mut seed: u64 = 1;
     let mut readable: u32 = 0;
+    let mut agrees = true;
     for _ in 0..300 {
-        let mut fields = Vec::new(rt.alloc());
-        for _ in 0..seed % 7 {
-            seed = next(seed);
-            fields.push(field_of(seed)?)?;
-        }
-        seed = next(seed) >> 1;
-        if agrees(&rt, rt.alloc(), fields.as_slice())? {
-            readable = readable.saturating_add(1);
-        }
+        let (fields, last) = fields_from(rt.alloc(), seed, seed % 7)?;
+        seed = next(last) >> 1;
+        let read = are_read(rt.alloc(), fields.as_slice())?;
+        agrees = agrees && read == has_meaning(rt.alloc(), fields.as_slice())?;
+        readable = readable.saturating_add(read as u32);
     }
-    assert!(rt;
-        readable > 50 && readable < 290,
-        "{readable} of 300 were read"
-    );
-    Ok(())
+    check(agrees && readable > 50 && readable < 290)
 }

@@ -1,35 +1,57 @@
 //! Texts, bytes and lists, and the error of refused memory.
+use crate::tests::checks::{Tested, check, check_row};
 use std::alloc::Global;
-use std::process::Abort;
+use std::cmp::Ordering;
 use std::test::Fail;
 use ttrpc_wire::values::codec_error::CodecFailure;
 use ttrpc_wire::{Blob, CodecError, Sequence, Text, TryClone};
 
-type Tested = Result<(), Fail>;
+/// Returns whether the text has these bytes.
+fn has_bytes(text: &Text, expected: &str) -> bool {
+    text.as_str() == expected
+        && text.as_bytes() == expected.as_bytes()
+        && text.len() == expected.len()
+}
 
-/// The text has these bytes, is equal to its copy and to no other text, and is the same behind a `String`.
-fn is_kept(rt: &impl Abort, alloc: Global, text: Text, expected: &str) -> Tested {
-    assert!(rt; text.as_str() == expected);
-    assert!(rt; text.as_bytes() == expected.as_bytes());
-    assert!(rt; text.to_string(alloc)?.as_str() == expected);
-    assert!(rt; text.len() == expected.len());
-    assert!(rt; text.is_equal(expected) && !text.is_equal("green"));
-    assert!(rt; !text.is_empty() && Text::new(alloc).is_empty());
-    assert!(rt; text.starts_with("gr"), "a text reads as std's does");
-    assert!(rt; text.iter().nth(1) == expected.chars().nth(1));
-    assert!(rt; text.try_clone()? == text);
-    assert!(rt; Text::new(alloc) != text);
+/// Returns whether the text reads as std's does, and is equal to no other text.
+fn reads_as_text(text: &Text, expected: &str) -> bool {
+    text.is_equal(expected)
+        && !text.is_equal("green")
+        && !text.is_empty()
+        && text.starts_with("gr")
+        && text.iter().nth(1) == expected.chars().nth(1)
+}
+
+/// Returns whether the text is equal to its copy and not to an empty one.
+fn is_copied(alloc: Global, text: &Text) -> Result<bool, Fail> {
+    let copy = text.try_clone()?;
+    let empty = Text::new(alloc);
+    Ok(copy == *text && empty != *text && empty.is_empty())
+}
+
+/// Returns whether the text has these bytes, is equal to its copy and to no other text, and is the same behind a `String`.
+fn is_kept(alloc: Global, text: Text, expected: &str) -> Result<bool, Fail> {
+    let is_text = has_bytes(&text, expected) && reads_as_text(&text, expected);
+    let is_shown = text.to_string(alloc)?.as_str() == expected;
+    let is_copied = is_copied(alloc, &text)?;
     let back = Text::from_string(text.into_string());
-    assert!(rt; back.as_str() == expected);
-    Ok(())
+    Ok(is_text && is_shown && is_copied && back.as_str() == expected)
 }
 
 #[test]
 fn texts(rt: HostRuntime) -> Tested {
     let alloc = rt.alloc();
     let green = "gr\u{fc}n";
-    is_kept(&rt, alloc, Text::from_utf8(alloc, b"gr\xc3\xbcn")?, green)?;
-    is_kept(&rt, alloc, Text::from_str(alloc, green)?, green)
+    let from_bytes = is_kept(alloc, Text::from_utf8(alloc, b"gr\xc3\xbcn")?, green)?;
+    let from_text = is_kept(alloc, Text::from_str(alloc, green)?, green)?;
+    check(from_bytes && from_text)
+}
+
+/// Returns whether the first text stands so to the second.
+fn is_ordered(alloc: Global, low: &str, high: &str, expected: Ordering) -> Result<bool, Fail> {
+    let low = Text::from_str(alloc, low)?;
+    let high = Text::from_str(alloc, high)?;
+    Ok(low.cmp(&high) == expected)
 }
 
 /// Texts have the order of their bytes, whatever letters these are.
@@ -37,38 +59,49 @@ fn texts(rt: HostRuntime) -> Tested {
 fn texts_have_an_order(rt: HostRuntime) -> Tested {
     let rising = ["", "Z", "a", "aa", "b", "gr\u{fc}n"];
     for (i, low) in rising.iter().enumerate() {
-        let low = Text::from_str(rt.alloc(), low)?;
         for (j, high) in rising.iter().enumerate() {
-            let high = Text::from_str(rt.alloc(), high)?;
-            assert!(rt; low.cmp(&high) == i.cmp(&j), "{low:?} {high:?}");
+            check_row(i, is_ordered(rt.alloc(), low, high, i.cmp(&j))?)?;
         }
     }
     Ok(())
 }
 
+/// Bytes that are no text.
+const NO_TEXTS: &[&[u8]] = &[b"\xff", b"a\xc3", b"\xc0\x80", b"\xed\xa0\x80"];
+
 #[test]
 fn what_is_no_text_is_refused(rt: HostRuntime) -> Tested {
-    for bytes in [b"\xff".as_slice(), b"a\xc3", b"\xc0\x80", b"\xed\xa0\x80"] {
+    for (at, bytes) in NO_TEXTS.iter().enumerate() {
         let refused = Text::from_utf8(rt.alloc(), bytes);
-        assert!(rt; refused == Err(CodecError::BadUtf8), "{bytes:?}");
+        check_row(at, refused == Err(CodecError::BadUtf8))?;
     }
-    assert!(rt; Text::new(rt.alloc()).as_str().is_empty());
-    Ok(())
+    check(Text::new(rt.alloc()).as_str().is_empty())
+}
+
+/// Returns whether the blob has these bytes, of which 255 is the first and the greatest, and reads as a slice does.
+fn reads_as_slice(blob: &Blob, bytes: &[u8]) -> bool {
+    blob.as_slice() == bytes
+        && blob.is_equal(bytes)
+        && !blob.is_equal(b"\xff")
+        && blob.iter().copied().max() == Some(255)
+        && blob.first() == Some(&255)
+        && !blob.is_empty()
+}
+
+/// Returns whether the blob is equal to its copy and not to an empty one.
+fn is_blob_copied(alloc: Global, blob: &Blob) -> Result<bool, Fail> {
+    let copy = blob.try_clone()?;
+    let empty = Blob::new(alloc);
+    Ok(copy == *blob && empty != *blob && empty.is_empty())
 }
 
 #[test]
 fn blobs(rt: HostRuntime) -> Tested {
     let bytes = b"\xff\x00".as_slice();
     let blob = Blob::from_slice(rt.alloc(), bytes)?;
-    assert!(rt; blob.as_slice() == bytes);
-    assert!(rt; blob.is_equal(bytes) && !blob.is_equal(b"\xff"));
-    assert!(rt; blob.iter().copied().max() == Some(255));
-    assert!(rt; blob.first() == Some(&255), "bytes read as a slice does");
-    assert!(rt; blob.try_clone()? == blob);
-    assert!(rt; Blob::new(rt.alloc()).is_empty() && !blob.is_empty());
-    assert!(rt; Blob::new(rt.alloc()) != blob);
-    assert!(rt; Blob::from_vec(blob.into_vec()).as_slice() == bytes);
-    Ok(())
+    let is_blob = reads_as_slice(&blob, bytes) && is_blob_copied(rt.alloc(), &blob)?;
+    let back = Blob::from_vec(blob.into_vec());
+    check(is_blob && back.as_slice() == bytes)
 }
 
 /// Parts of the bytes 1 to 5, by where they begin and how many bytes are asked for.
@@ -82,15 +115,20 @@ const PARTS: &[(usize, usize, &[u8])] = &[
     (usize::MAX, usize::MAX, &[]),
 ];
 
+/// Returns whether a blob of this part of the bytes 1 to 5 has these bytes, and so has its vector.
+fn is_part(alloc: Global, start: usize, count: usize, part: &[u8]) -> Result<bool, Fail> {
+    let blob = Blob::from_part(Vec::from_slice(alloc, &[1, 2, 3, 4, 5])?, start, count);
+    let copy = blob.try_clone()?;
+    let is_part = blob.as_slice() == part && blob.len() == part.len();
+    let is_copied = copy == Blob::from_slice(alloc, part)?;
+    let back = blob.into_vec();
+    Ok(is_part && is_copied && back.as_slice() == part)
+}
+
 #[test]
 fn parts_of_a_vector_are_blobs(rt: HostRuntime) -> Tested {
-    for &(start, count, part) in PARTS {
-        let bytes = Vec::from_slice(rt.alloc(), &[1, 2, 3, 4, 5])?;
-        let blob = Blob::from_part(bytes, start, count);
-        assert!(rt; blob.as_slice() == part, "{start} {count}");
-        assert!(rt; blob.len() == part.len());
-        assert!(rt; blob.try_clone()? == Blob::from_slice(rt.alloc(), part)?);
-        assert!(rt; blob.into_vec().as_slice() == part, "{start} {count}");
+    for (at, (start, count, part)) in PARTS.iter().enumerate() {
+        check_row(at, is_part(rt.alloc(), *start, *count, part)?)?;
     }
     Ok(())
 }
@@ -104,27 +142,53 @@ fn listed(alloc: Global, texts: &[&str]) -> Result<Sequence<Text>, Fail> {
     Ok(list)
 }
 
+/// Returns whether the list has the texts `a` and `b`.
+fn are_two(texts: &Sequence<Text>) -> bool {
+    texts.len() == 2
+        && !texts.is_empty()
+        && texts.iter().all(|text| text.len() == 1)
+        && texts.as_slice()[1].is_equal("b")
+        && texts.last().is_some_and(|text| text.is_equal("b"))
+        && texts.is_equal(texts.as_slice())
+        && !texts.is_equal(&[])
+}
+
 #[test]
 fn sequences(rt: HostRuntime) -> Tested {
     let texts = listed(rt.alloc(), &["a", "b"])?;
-    assert!(rt; texts.len() == 2);
-    assert!(rt; !texts.is_empty());
-    assert!(rt; texts.iter().all(|text| text.len() == 1));
-    assert!(rt; texts.as_slice()[1].is_equal("b"));
-    assert!(rt; texts.last().is_some_and(|text| text.is_equal("b")));
-    assert!(rt; texts.is_equal(texts.as_slice()) && !texts.is_equal(&[]));
-    Ok(())
+    check(are_two(&texts))
+}
+
+/// Returns whether a list of these texts is equal to this one.
+fn is_list(alloc: Global, list: &Sequence<Text>, texts: &[&str]) -> Result<bool, Fail> {
+    let other = listed(alloc, texts)?;
+    Ok(other == *list)
+}
+
+/// Returns whether a list of these texts differs from this one.
+fn differs(alloc: Global, list: &Sequence<Text>, texts: &[&str]) -> Result<bool, Fail> {
+    let other = listed(alloc, texts)?;
+    Ok(other != *list)
 }
 
 #[test]
 fn sequences_are_compared(rt: HostRuntime) -> Tested {
     let texts = listed(rt.alloc(), &["a", "b"])?;
-    assert!(rt; texts.try_clone()? == texts);
-    differs(&rt, &texts, listed(rt.alloc(), &[])?)?;
-    differs(&rt, &texts, listed(rt.alloc(), &["a", "b", ""])?)?;
+    let is_copied = texts.try_clone()? == texts;
+    let has_others = differs(rt.alloc(), &texts, &[])?
+        && differs(rt.alloc(), &texts, &["a", "b", ""])?;
     let back = Sequence::from_vec(texts.into_vec());
-    assert!(rt; back == listed(rt.alloc(), &["a", "b"])?);
-    Ok(())
+    check(is_copied && has_others && is_list(rt.alloc(), &back, &["a", "b"])?)
+}
+
+/// Returns whether numbers and truth values are copied.
+fn are_copied() -> Result<bool, Fail> {
+    Ok(
+        true.try_clone()?
+            && 7_u64.try_clone()? == 7
+            && (-7_i64).try_clone()? == -7
+            && 7_u32.try_clone()? == 7,
+    )
 }
 
 /// Lists of numbers are copied and compared as others are.
@@ -133,17 +197,8 @@ fn sequences_of_numbers(rt: HostRuntime) -> Tested {
     let mut numbers: Sequence<i32> = Sequence::new(rt.alloc());
     numbers.push(-1)?;
     numbers.push(i32::MAX)?;
-    assert!(rt; numbers.try_clone()? == numbers);
-    assert!(rt; numbers.is_equal(&[-1, i32::MAX]));
-    assert!(rt; true.try_clone()? && 7_u64.try_clone()? == 7);
-    assert!(rt; (-7_i64).try_clone()? == -7 && 7_u32.try_clone()? == 7);
-    Ok(())
-}
-
-/// The second is another one.
-fn differs(rt: &impl Abort, texts: &Sequence<Text>, other: Sequence<Text>) -> Tested {
-    assert!(rt; other != *texts);
-    Ok(())
+    let is_copied = numbers.try_clone()? == numbers;
+    check(is_copied && numbers.is_equal(&[-1, i32::MAX]) && are_copied()?)
 }
 
 /// What a caller that asks for memory answers by `?`.
@@ -155,12 +210,9 @@ fn reserved(alloc: Global, room: usize) -> Result<Vec<u8>, CodecError> {
 
 #[test]
 fn refused_memory_has_its_name(rt: HostRuntime) -> Tested {
-    let refused = reserved(rt.alloc(), usize::MAX).err();
-    assert!(rt; refused == Some(CodecError::NoMemory));
-    assert!(rt; CodecError::NoMemory.is_no_memory());
-    assert!(rt; !CodecError::TooLong.is_no_memory());
-    assert!(rt; reserved(rt.alloc(), 1)?.is_empty());
+    let is_refused = reserved(rt.alloc(), usize::MAX).err() == Some(CodecError::NoMemory);
+    let is_empty = reserved(rt.alloc(), 1)?.is_empty();
     let text = CodecError::NoMemory.to_string(rt.alloc())?;
-    assert!(rt; text.as_str() == "out of memory");
-    Ok(())
+    let has_name = CodecError::NoMemory.is_no_memory() && !CodecError::TooLong.is_no_memory();
+    check(is_refused && is_empty && has_name && text.as_str() == "out of memory")
 }

@@ -1,14 +1,12 @@
 //! The encoding guide's examples, the edges, and each refusal.
+use crate::tests::checks::{Tested, check, check_row};
 use std::alloc::Global;
-use std::process::Abort;
 use std::test::Fail;
 use ttrpc_wire::{
     CodecError, Field, FieldNumber, Reader, Value, WireType, field_len, int32_to_varint,
     int64_to_varint, put_field, put_tag, put_varint, tag_len, varint_len, varint_to_int32,
     varint_to_int64,
 };
-
-type Tested = Result<(), Fail>;
 
 /// Numbers, and the one varint that is written for each.
 const WRITTEN: [(u64, &[u8]); 8] = [
@@ -28,95 +26,114 @@ const WRITTEN: [(u64, &[u8]); 8] = [
     ),
 ];
 
-/// The number is written behind what is there, measured before, and read from in front of others.
-fn varint_travels(rt: &impl Abort, alloc: Global, n: u64, bytes: &[u8]) -> Tested {
-    assert!(rt; varint_len(n) == bytes.len(), "{n} is measured");
+/// Returns whether the number is read from these bytes, and what follows them is 7 alone.
+fn leads(bytes: &[u8], n: u64) -> bool {
+    let mut reader = Reader::new(bytes);
+    reader.varint() == Ok(n) && reader.rest() == [7].as_slice()
+}
+
+/// Returns whether the number is written behind what is there, measured before, and read from in front of others.
+fn varint_travels(alloc: Global, n: u64, bytes: &[u8]) -> Result<bool, Fail> {
     let mut out = Vec::from_slice(alloc, &[0xaa])?;
     put_varint(&mut out, n)?;
-    assert!(rt; out[0] == 0xaa, "what was there stays");
-    assert!(rt; &out[1..] == bytes, "{n} is written");
+    let is_written = varint_len(n) == bytes.len() && out[0] == 0xaa && &out[1..] == bytes;
     put_varint(&mut out, 7)?;
-    let mut reader = Reader::new(&out[1..]);
-    assert!(rt; reader.varint()? == n, "{n} is read");
-    assert!(rt; reader.rest() == [7].as_slice(), "what follows {n} is left");
-    Ok(())
+    Ok(is_written && leads(&out[1..], n))
 }
 
 #[test]
 fn varints_are_written_and_read(rt: HostRuntime) -> Tested {
-    for (n, bytes) in WRITTEN {
-        varint_travels(&rt, rt.alloc(), n, bytes)?;
+    for (at, (n, bytes)) in WRITTEN.iter().enumerate() {
+        check_row(at, varint_travels(rt.alloc(), *n, bytes)?)?;
     }
     Ok(())
 }
 
+/// Longer spellings of numbers.
+const SPELLINGS: [(&[u8], u64); 4] = [
+    (&[0x80, 0x00], 0),
+    (
+        &[0x80, 0x80, 0x80, 0x80, 0x80, 0x80, 0x80, 0x80, 0x80, 0x00],
+        0,
+    ),
+    (&[0x96, 0x81, 0x00], 150),
+    (
+        &[0x81, 0x80, 0x80, 0x80, 0x80, 0x80, 0x80, 0x80, 0x80, 0x01],
+        9223372036854775809,
+    ),
+];
+
+/// Returns whether the bytes are read as this number, to their end.
+fn is_spelled(bytes: &[u8], n: u64) -> bool {
+    let mut reader = Reader::new(bytes);
+    reader.varint() == Ok(n) && reader.is_empty()
+}
+
 #[test]
-fn longer_spellings_are_read(rt: HostRuntime) {
-    let spellings: [(&[u8], u64); 4] = [
-        (&[0x80, 0x00], 0),
-        (
-            &[0x80, 0x80, 0x80, 0x80, 0x80, 0x80, 0x80, 0x80, 0x80, 0x00],
-            0,
-        ),
-        (&[0x96, 0x81, 0x00], 150),
-        (
-            &[0x81, 0x80, 0x80, 0x80, 0x80, 0x80, 0x80, 0x80, 0x80, 0x01],
-            9223372036854775809,
-        ),
-    ];
-    for (bytes, n) in spellings {
-        let mut reader = Reader::new(bytes);
-        assert_eq!(rt; reader.varint(), Ok(n), "{bytes:?}");
-        assert!(rt; reader.is_empty(), "{bytes:?} is read to its end");
+fn longer_spellings_are_read() -> Tested {
+    for (at, (bytes, n)) in SPELLINGS.iter().enumerate() {
+        check_row(at, is_spelled(bytes, *n))?;
     }
+    Ok(())
 }
 
 /// No bytes, a cut spelling, an eleventh byte, and a tenth byte above 1.
+const NO_VARINTS: [(&[u8], CodecError); 5] = [
+    (&[], CodecError::Truncated),
+    (&[0x80], CodecError::Truncated),
+    (
+        &[0xff, 0xff, 0xff, 0xff, 0xff, 0xff, 0xff, 0xff, 0xff],
+        CodecError::Truncated,
+    ),
+    (
+        &[
+            0x80, 0x80, 0x80, 0x80, 0x80, 0x80, 0x80, 0x80, 0x80, 0x80, 0x00,
+        ],
+        CodecError::BadVarint,
+    ),
+    (
+        &[0xff, 0xff, 0xff, 0xff, 0xff, 0xff, 0xff, 0xff, 0xff, 0x02],
+        CodecError::BadVarint,
+    ),
+];
+
+/// Returns whether the bytes are refused as a varint, and the reader is unchanged.
+fn is_no_varint(bytes: &[u8], error: CodecError) -> bool {
+    let mut reader = Reader::new(bytes);
+    reader.varint() == Err(error) && reader.rest() == bytes
+}
+
 #[test]
-fn what_is_no_varint_is_refused(rt: HostRuntime) {
-    let refused: [(&[u8], CodecError); 5] = [
-        (&[], CodecError::Truncated),
-        (&[0x80], CodecError::Truncated),
-        (
-            &[0xff, 0xff, 0xff, 0xff, 0xff, 0xff, 0xff, 0xff, 0xff],
-            CodecError::Truncated,
-        ),
-        (
-            &[
-                0x80, 0x80, 0x80, 0x80, 0x80, 0x80, 0x80, 0x80, 0x80, 0x80, 0x00,
-            ],
-            CodecError::BadVarint,
-        ),
-        (
-            &[0xff, 0xff, 0xff, 0xff, 0xff, 0xff, 0xff, 0xff, 0xff, 0x02],
-            CodecError::BadVarint,
-        ),
-    ];
-    for (bytes, error) in refused {
-        let mut reader = Reader::new(bytes);
-        assert_eq!(rt; reader.varint(), Err(error), "{bytes:?}");
-        assert_eq!(rt; reader.rest(), bytes, "the reader is unchanged");
+fn what_is_no_varint_is_refused() -> Tested {
+    for (at, (bytes, error)) in NO_VARINTS.iter().enumerate() {
+        check_row(at, is_no_varint(bytes, *error))?;
     }
+    Ok(())
 }
 
 /// Numbers 0 and 2^29, and wire types 3, 4, 6 and 7.
+const NO_TAGS: [(&[u8], CodecError); 7] = [
+    (&[0x00, 0x01], CodecError::BadTag),
+    (&[0x02, 0x00], CodecError::BadTag),
+    (&[0x80, 0x80, 0x80, 0x80, 0x10, 0x01], CodecError::BadTag),
+    (&[0x0b], CodecError::BadWireType),
+    (&[0x0c], CodecError::BadWireType),
+    (&[0x0e], CodecError::BadWireType),
+    (&[0x0f], CodecError::BadWireType),
+];
+
+/// Returns whether the bytes are refused as a tag and as a field, and the reader is unchanged.
+fn is_no_tag(bytes: &[u8], error: CodecError) -> bool {
+    let mut reader = Reader::new(bytes);
+    reader.tag() == Err(error) && reader.field() == Err(error) && reader.rest() == bytes
+}
+
 #[test]
-fn what_is_no_tag_is_refused(rt: HostRuntime) {
-    let refused: [(&[u8], CodecError); 7] = [
-        (&[0x00, 0x01], CodecError::BadTag),
-        (&[0x02, 0x00], CodecError::BadTag),
-        (&[0x80, 0x80, 0x80, 0x80, 0x10, 0x01], CodecError::BadTag),
-        (&[0x0b], CodecError::BadWireType),
-        (&[0x0c], CodecError::BadWireType),
-        (&[0x0e], CodecError::BadWireType),
-        (&[0x0f], CodecError::BadWireType),
-    ];
-    for (bytes, error) in refused {
-        let mut reader = Reader::new(bytes);
-        assert_eq!(rt; reader.tag(), Err(error), "{bytes:?}");
-        assert_eq!(rt; reader.field(), Err(error), "{bytes:?}");
-        assert_eq!(rt; reader.rest(), bytes, "the reader is unchanged");
+fn what_is_no_tag_is_refused() -> Tested {
+    for (at, (bytes, error)) in NO_TAGS.iter().enumerate() {
+        check_row(at, is_no_tag(bytes, *error))?;
     }
+    Ok(())
 }
 
 /// Fields of each wire type, and their bytes. The first two are the guide's.
@@ -137,100 +154,122 @@ const FIELDS: [(u32, Value<'static>, &[u8]); 6] = [
     ),
 ];
 
-/// The field is written as these bytes, measured before, and read from in front of others.
-fn field_travels(rt: &impl Abort, alloc: Global, field: Field<'_>, bytes: &[u8]) -> Tested {
+/// Returns whether the field is written as these bytes, measured before, and read from in front of others.
+fn field_travels(alloc: Global, field: Field<'_>, bytes: &[u8]) -> Result<bool, Fail> {
     let mut out = Vec::new(alloc);
     put_field(&mut out, field)?;
-    assert!(rt; out.as_slice() == bytes, "{field:?} is written");
-    assert!(rt; field_len(field) == bytes.len(), "{field:?} is measured");
+    let is_written = out.as_slice() == bytes && field_len(field) == bytes.len();
     put_field(&mut out, field)?;
-    is_read(rt, out.as_slice(), field, bytes)
+    Ok(is_written && is_read(out.as_slice(), field, bytes))
 }
 
-/// The field is read from in front of these bytes, which are passed over.
-fn is_read(rt: &impl Abort, twice: &[u8], field: Field<'_>, bytes: &[u8]) -> Tested {
+/// Returns whether the field is read from in front of these bytes, which are passed over.
+fn is_read(twice: &[u8], field: Field<'_>, bytes: &[u8]) -> bool {
     let mut reader = Reader::new(twice);
-    assert!(rt; reader.field()? == field, "{field:?} is read");
-    assert!(rt; reader.rest() == bytes, "what follows {field:?} is left");
-    reader.tag()?;
-    reader.skip(field.value.wire_type())?;
-    assert!(rt; reader.is_empty(), "{field:?} is passed over");
-    Ok(())
+    reader.field() == Ok(field)
+        && reader.rest() == bytes
+        && reader.tag().is_ok()
+        && reader.skip(field.value.wire_type()).is_ok()
+        && reader.is_empty()
 }
 
-/// The field's tag is written and measured, and stands in front of its bytes.
-fn tag_travels(rt: &impl Abort, alloc: Global, field: Field<'_>, bytes: &[u8]) -> Tested {
+/// Returns whether the field's tag is written and measured, and stands in front of its bytes.
+fn tag_travels(alloc: Global, field: Field<'_>, bytes: &[u8]) -> Result<bool, Fail> {
     let mut out = Vec::new(alloc);
     put_tag(&mut out, field.tag())?;
-    assert!(rt;
-        out.len() == tag_len(field.tag()),
-        "the tag of {field:?} is measured"
-    );
-    assert!(rt;
-        bytes.starts_with(out.as_slice()),
-        "the tag of {field:?} is written"
-    );
-    assert!(rt;
-        Reader::new(bytes).tag()? == field.tag(),
-        "the tag of {field:?} is read"
-    );
-    Ok(())
+    Ok(
+        out.len() == tag_len(field.tag())
+            && bytes.starts_with(out.as_slice())
+            && Reader::new(bytes).tag() == Ok(field.tag()),
+    )
 }
 
 #[test]
 fn fields_are_written_and_read(rt: HostRuntime) -> Tested {
-    for (number, value, bytes) in FIELDS {
-        let number = FieldNumber::new(number).ok_or("it is a field's number")?;
+    for (at, (number, value, bytes)) in FIELDS.iter().enumerate() {
+        let number = FieldNumber::new(*number).ok_or("it is a field's number")?;
+        let value = *value;
         let field = Field { number, value };
-        field_travels(&rt, rt.alloc(), field, bytes)?;
-        tag_travels(&rt, rt.alloc(), field, bytes)?;
+        let travels = field_travels(rt.alloc(), field, bytes)?;
+        check_row(at, travels && tag_travels(rt.alloc(), field, bytes)?)?;
+    }
+    Ok(())
+}
+
+/// Returns whether the bytes are refused as a field that is cut, and the reader is unchanged.
+fn is_cut(bytes: &[u8]) -> bool {
+    let mut reader = Reader::new(bytes);
+    reader.field() == Err(CodecError::Truncated) && reader.rest() == bytes
+}
+
+/// Returns whether each front of the bytes is refused as a field that is cut.
+fn is_cut_anywhere(bytes: &[u8]) -> bool {
+    let mut all = true;
+    for end in 0..bytes.len() {
+        all = all && is_cut(&bytes[..end]);
+    }
+    all
+}
+
+#[test]
+fn cut_fields_are_refused() -> Tested {
+    for (at, (_, _, bytes)) in FIELDS.iter().enumerate() {
+        check_row(at, is_cut_anywhere(bytes))?;
     }
     Ok(())
 }
 
 #[test]
-fn cut_fields_are_refused(rt: HostRuntime) {
-    for (_, _, bytes) in FIELDS {
-        for end in 0..bytes.len() {
-            let front = &bytes[..end];
-            let mut reader = Reader::new(front);
-            assert_eq!(rt; reader.field(), Err(CodecError::Truncated), "{front:?}");
-            assert_eq!(rt; reader.rest(), front, "the reader is unchanged");
-        }
-    }
-}
-
-#[test]
-fn values_are_read_by_their_wire_type(rt: HostRuntime) -> Tested {
+fn values_are_read_by_their_wire_type() -> Tested {
     let bytes = b"\x01\x02\x03\x04\x05\x06\x07\x08\x01\x02\x03\x04\x02hi\x07";
     let mut reader = Reader::new(bytes);
-    assert_eq!(rt; reader.fixed64()?, 0x0807060504030201);
-    assert_eq!(rt; reader.fixed32()?, 0x04030201);
-    assert_eq!(rt; reader.length_delimited()?, b"hi".as_slice());
-    assert_eq!(rt; reader.value(WireType::Varint)?, Value::Varint(7));
-    assert_eq!(rt; reader.value(WireType::Varint), Err(CodecError::Truncated));
-    Ok(())
+    check(
+        reader.fixed64() == Ok(0x0807060504030201)
+            && reader.fixed32() == Ok(0x04030201)
+            && reader.length_delimited() == Ok(b"hi".as_slice())
+            && reader.value(WireType::Varint) == Ok(Value::Varint(7))
+            && reader.value(WireType::Varint) == Err(CodecError::Truncated),
+    )
 }
 
 #[test]
-fn values_that_are_cut_are_refused(rt: HostRuntime) -> Tested {
+fn values_that_are_cut_are_refused() -> Tested {
     let mut reader = Reader::new(b"\x07");
-    assert_eq!(rt; reader.fixed32(), Err(CodecError::Truncated));
-    assert_eq!(rt; reader.fixed64(), Err(CodecError::Truncated));
-    assert_eq!(rt; reader.length_delimited(), Err(CodecError::Truncated));
-    assert_eq!(rt; reader.rest(), b"\x07".as_slice());
-    Ok(())
+    check(
+        reader.fixed32() == Err(CodecError::Truncated)
+            && reader.fixed64() == Err(CodecError::Truncated)
+            && reader.length_delimited() == Err(CodecError::Truncated)
+            && reader.rest() == b"\x07".as_slice(),
+    )
 }
 
 /// A length of 2^64 - 1 and one byte.
 #[test]
-fn a_length_past_the_end_is_refused(rt: HostRuntime) {
+fn a_length_past_the_end_is_refused() -> Tested {
     let bytes = [
         0x12, 0xff, 0xff, 0xff, 0xff, 0xff, 0xff, 0xff, 0xff, 0xff, 0x01, 0x61,
     ];
-    let mut reader = Reader::new(&bytes);
-    assert_eq!(rt; reader.field(), Err(CodecError::Truncated));
-    assert_eq!(rt; reader.rest(), bytes.as_slice());
+    check(is_cut(&bytes))
+}
+
+/// The guide's -2.
+const MINUS_TWO: &[u8] = &[0xfe, 0xff, 0xff, 0xff, 0xff, 0xff, 0xff, 0xff, 0xff, 0x01];
+
+/// Returns whether each of these numbers comes back.
+fn come_back(longs: &[i64], shorts: &[i32]) -> bool {
+    longs
+        .iter()
+        .all(|n| varint_to_int64(int64_to_varint(*n)) == *n)
+        && shorts
+            .iter()
+            .all(|n| varint_to_int32(int32_to_varint(*n)) == *n)
+}
+
+/// Returns whether bits above the low 32 mean nothing where 32 are asked for.
+fn are_cut_to_32_bits() -> bool {
+    varint_to_int32(4294967301) == 5
+        && varint_to_int32(4294967295) == -1
+        && varint_to_int64(4294967295) == 4294967295
 }
 
 /// The guide's -2, the ends of both ranges, and bits above the low 32.
@@ -238,26 +277,24 @@ fn a_length_past_the_end_is_refused(rt: HostRuntime) {
 fn signed_numbers(rt: HostRuntime) -> Tested {
     let mut out = Vec::new(rt.alloc());
     put_varint(&mut out, int64_to_varint(-2))?;
-    assert_eq!(rt;
-        out.as_slice(),
-        [0xfe, 0xff, 0xff, 0xff, 0xff, 0xff, 0xff, 0xff, 0xff, 0x01].as_slice()
-    );
-    assert_eq!(rt; int32_to_varint(-2), int64_to_varint(-2));
-    for n in [0, 1, -1, i64::MAX, i64::MIN] {
-        assert_eq!(rt; varint_to_int64(int64_to_varint(n)), n);
-    }
-    for n in [0, 1, -1, i32::MAX, i32::MIN] {
-        assert_eq!(rt; varint_to_int32(int32_to_varint(n)), n);
-    }
-    assert_eq!(rt; varint_to_int32(4294967301), 5);
-    assert_eq!(rt; varint_to_int32(4294967295), -1);
-    assert_eq!(rt; varint_to_int64(4294967295), 4294967295);
-    Ok(())
+    check(
+        out.as_slice() == MINUS_TWO
+            && int32_to_varint(-2) == int64_to_varint(-2)
+            && come_back(
+                &[0, 1, -1, i64::MAX, i64::MIN],
+                &[0, 1, -1, i32::MAX, i32::MIN],
+            )
+            && are_cut_to_32_bits(),
+    )
 }
 
+/// Numbers, and whether each is a field's.
+const NUMBERS: [(u32, bool); 4] = [(0, false), (1, true), (536870911, true), (536870912, false)];
+
 #[test]
-fn field_numbers(rt: HostRuntime) {
-    for (number, valid) in [(0, false), (1, true), (536870911, true), (536870912, false)] {
-        assert_eq!(rt; FieldNumber::new(number).is_some(), valid, "{number}");
+fn field_numbers() -> Tested {
+    for (at, (number, valid)) in NUMBERS.iter().enumerate() {
+        check_row(at, FieldNumber::new(*number).is_some() == *valid)?;
     }
+    Ok(())
 }

@@ -1,14 +1,12 @@
 //! Packets of halves that bind data to a header by a tag, as they are written, read, and refused under another header.
+use crate::tests::checks::{Tested, check_row};
 use crate::tests::secure::context_tests::is_others;
 use crate::tests::secure::masking::{Masking, masking_context};
 use std::alloc::Global;
-use std::process::Abort;
 use std::test::Fail;
 use ttrpc_proto::{GenMessage, MessageHeader};
 use ttrpc_secure::ConnectionContext;
 use ttrpc_wire::Blob;
-
-type Tested = Result<(), Fail>;
 
 /// What of a header its payload is bound to: stream, type and flags.
 type Head = (u32, u8, u8);
@@ -104,41 +102,47 @@ fn message_under(alloc: Global, head: Head, payload: &[u8]) -> Result<GenMessage
 
 type Context = ConnectionContext<Masking, Masking>;
 
-/// The packet is refused so under this header, and the message stays.
+/// Returns whether the packet is refused so under this header, and the message stays.
 fn is_refused(
-    rt: &impl Abort,
     alloc: Global,
     context: &mut Context,
     head: Head,
     packet: &[u8],
     told: &str,
-) -> Tested {
+) -> Result<bool, Fail> {
     let mut message = message_under(alloc, head, packet)?;
     let refused = context.inbound(alloc, &mut message, true);
-    assert!(rt; message == message_under(alloc, head, packet)?);
-    assert!(rt; is_others(&refused, told)?, "{told}");
-    Ok(())
+    let is_told = is_others(&refused, told)?;
+    Ok(is_told && message == message_under(alloc, head, packet)?)
 }
 
-/// The data are sealed to the packet, which opens under its header alone.
-fn is_bound(rt: &impl Abort, alloc: Global, context: &mut Context, row: &Bound) -> Tested {
+/// Returns whether the data are sealed to the packet, which opens under its header.
+fn is_sealed(alloc: Global, context: &mut Context, row: &Bound) -> Result<bool, Fail> {
     let mut message = message_under(alloc, row.head, row.data)?;
     context.outbound(alloc, &mut message, false)?;
-    assert!(rt; message == message_under(alloc, row.head, row.packet)?);
+    let is_sealed = message == message_under(alloc, row.head, row.packet)?;
     context.inbound(alloc, &mut message, false)?;
-    assert!(rt; message == message_under(alloc, row.head, row.data)?);
-    is_refused(rt, alloc, context, row.other, row.packet, row.told)
+    Ok(is_sealed && message == message_under(alloc, row.head, row.data)?)
+}
+
+/// Returns whether the data are sealed to the packet, which opens under its header alone.
+fn is_bound(alloc: Global, context: &mut Context, row: &Bound) -> Result<bool, Fail> {
+    let is_sealed = is_sealed(alloc, context, row)?;
+    Ok(is_sealed && is_refused(alloc, context, row.other, row.packet, row.told)?)
 }
 
 #[test]
 fn packets_open_under_their_header_alone(rt: HostRuntime) -> Tested {
     let alloc = rt.alloc();
     let mut context = masking_context(alloc, true);
-    for row in BOUND {
-        is_bound(&rt, alloc, &mut context, row)?;
+    for (at, row) in BOUND.iter().enumerate() {
+        check_row(at, is_bound(alloc, &mut context, row)?)?;
     }
-    for (packet, told) in REFUSED {
-        is_refused(&rt, alloc, &mut context, (1, 1, 0), packet, told)?;
+    for (at, (packet, told)) in REFUSED.iter().enumerate() {
+        check_row(
+            at,
+            is_refused(alloc, &mut context, (1, 1, 0), packet, told)?,
+        )?;
     }
     Ok(())
 }

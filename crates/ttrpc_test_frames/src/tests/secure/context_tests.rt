@@ -1,13 +1,14 @@
 //! The context of a connection, over halves that stamp, leave data as they are, swell and seal nothing.
+use crate::tests::checks::{Tested, check};
 use std::alloc::Global;
-use std::process::Abort;
 use std::test::Fail;
 use ttrpc_bench::{Sealed, StampIn, StampOut, Swelling, stamps};
 use ttrpc_proto::{Error, GenMessage, MESSAGE_LENGTH_MAX, MessageHeader, Outgoing, Result};
 use ttrpc_secure::{ConnectionContext, Plain, plain_context};
 use ttrpc_wire::Blob;
 
-type Tested = std::result::Result<(), Fail>;
+/// What is found out of a condition, where memory may be refused.
+type Found = std::result::Result<bool, Fail>;
 
 const LONG: &str = "message length 4194305 exceed maximum message size of 4194304";
 
@@ -34,8 +35,8 @@ pub fn data_frame(
     })
 }
 
-/// An error of this text alone.
-pub fn is_others<T>(answer: &Result<T>, expected: &str) -> std::result::Result<bool, Fail> {
+/// Returns whether the answer is an error of this text alone.
+pub fn is_others<T>(answer: &Result<T>, expected: &str) -> Found {
     match answer {
         Err(Error::Others(text)) => Ok(text.as_str() == expected),
         Err(Error::NoMemory) => Err(Error::NoMemory.into()),
@@ -43,8 +44,8 @@ pub fn is_others<T>(answer: &Result<T>, expected: &str) -> std::result::Result<b
     }
 }
 
-/// A status of code INVALID_ARGUMENT.
-fn is_status<T>(answer: &Result<T>, expected: &str) -> std::result::Result<bool, Fail> {
+/// Returns whether the answer is a status of code INVALID_ARGUMENT and of this text.
+fn is_status<T>(answer: &Result<T>, expected: &str) -> Found {
     match answer {
         Err(Error::RpcStatus(status)) => {
             Ok(status.code == 3 && status.message.as_str() == expected)
@@ -54,64 +55,51 @@ fn is_status<T>(answer: &Result<T>, expected: &str) -> std::result::Result<bool,
     }
 }
 
-/// The answer is an error of this text alone.
-fn is_told<T: Drop>(rt: &impl Abort, answer: Result<T>, expected: &str) -> Tested {
-    assert!(rt; is_others(&answer, expected)?);
-    Ok(())
+/// Returns whether the message is the data frame of this length and payload.
+fn is_frame(alloc: Global, message: &GenMessage, length: u32, payload: &[u8]) -> Found {
+    let expected = data_frame(alloc, length, payload)?;
+    Ok(*message == expected)
 }
 
-/// The answer is a status of this text.
-fn is_status_told<T: Drop>(rt: &impl Abort, answer: Result<T>, expected: &str) -> Tested {
-    assert!(rt; is_status(&answer, expected)?);
-    Ok(())
-}
-
-/// The message is the data frame of this length and payload.
-fn is_frame(
-    rt: &impl Abort,
-    alloc: Global,
-    message: &GenMessage,
-    length: u32,
-    payload: &[u8],
-) -> Tested {
-    assert!(rt; *message == data_frame(alloc, length, payload)?);
-    Ok(())
-}
-
-/// The bytes are sealed to these, and these are opened to them, by the calls that bind or not.
+/// Returns whether the bytes are sealed to these, and these are opened to them, by the calls that bind or not.
 fn go_and_come(
-    rt: &impl Abort,
     alloc: Global,
     context: &mut ConnectionContext<StampOut, StampIn>,
     bytes: &[u8],
     sealed: &[u8],
-) -> Tested {
+) -> Found {
     let there = context.outbound_buf(alloc, bytes, b"bound to", true)?;
-    assert!(rt; there.as_slice() == sealed);
     let back = context.inbound_buf(alloc, sealed, b"bound to", true)?;
-    assert!(rt; back.as_slice() == bytes);
-    Ok(())
+    Ok(there.as_slice() == sealed && back.as_slice() == bytes)
+}
+
+/// The same by the calls that check no length.
+fn go_and_come_unchecked(
+    alloc: Global,
+    context: &mut ConnectionContext<StampOut, StampIn>,
+    bytes: &[u8],
+    sealed: &[u8],
+) -> Found {
+    let there = context.transform_outbound(alloc, bytes, b"bound to")?;
+    let back = context.transform_inbound(alloc, sealed, b"bound to")?;
+    Ok(there.as_slice() == sealed && back.as_slice() == bytes)
 }
 
 #[test]
 fn bytes_go_out_and_come_in(rt: HostRuntime) -> Tested {
     let alloc = rt.alloc();
     let mut context = stamped(alloc);
-    assert_eq!(rt; context.max_raw_payload_len(), 4194303);
-    go_and_come(&rt, alloc, &mut context, &[0x2a], &[0x2a, 0])?;
-    let sealed = context.transform_outbound(alloc, &[0x2b], b"bound to")?;
-    assert!(rt; sealed.as_slice() == [0x2b, 1].as_slice());
-    let opened = context.transform_inbound(alloc, &[0x2b, 1], b"bound to")?;
-    assert!(rt; opened.as_slice() == [0x2b].as_slice());
-    Ok(())
+    check(
+        context.max_raw_payload_len() == 4194303
+            && go_and_come(alloc, &mut context, &[0x2a], &[0x2a, 0])?
+            && go_and_come_unchecked(alloc, &mut context, &[0x2b], &[0x2b, 1])?,
+    )
 }
 
 #[test]
 fn contexts_print_what_is_known(rt: HostRuntime) -> Tested {
     let printed = format!(in rt.alloc(); "{:?}", stamped(rt.alloc()))?;
-    let expected = "ConnectionContext { connection_data: {}, .. }";
-    assert!(rt; printed.as_str() == expected, "{printed}");
-    Ok(())
+    check(printed.as_str() == "ConnectionContext { connection_data: {}, .. }")
 }
 
 #[test]
@@ -120,9 +108,15 @@ fn messages_are_sealed_and_opened(rt: HostRuntime) -> Tested {
     let mut context = stamped(alloc);
     let mut message = data_frame(alloc, 1, &[0x2a])?;
     context.outbound(alloc, &mut message, false)?;
-    is_frame(&rt, alloc, &message, 2, &[0x2a, 0])?;
+    let is_sealed = is_frame(alloc, &message, 2, &[0x2a, 0])?;
     context.inbound(alloc, &mut message, false)?;
-    is_frame(&rt, alloc, &message, 1, &[0x2a])
+    check(is_sealed && is_frame(alloc, &message, 1, &[0x2a])?)
+}
+
+/// Returns whether these twelve bytes are lent next.
+fn lends(outgoing: &mut Outgoing, expected: [u8; 12]) -> bool {
+    let mut buffer = [0; 12];
+    outgoing.lend(&mut buffer) == 12 && buffer == expected
 }
 
 #[test]
@@ -132,16 +126,14 @@ fn messages_are_queued(rt: HostRuntime) -> Tested {
     let mut outgoing = Outgoing::new(alloc);
     let mut message = data_frame(alloc, 1, &[0x2a])?;
     context.transform_send(alloc, &mut message, &mut outgoing)?;
-    assert!(rt; message == GenMessage::new(alloc));
+    let is_taken = message == GenMessage::new(alloc);
     let header = MessageHeader::new_response(3, 0);
     context.send_response_sync(alloc, &[0x2b], b"bound to", &mut outgoing, header)?;
-    let mut buffer = [0; 12];
-    assert_eq!(rt; outgoing.lend(&mut buffer), 12);
-    assert!(rt; buffer == [0, 0, 0, 2, 0, 0, 0, 1, 3, 0, 0x2a, 0]);
-    outgoing.wrote(12);
-    assert_eq!(rt; outgoing.lend(&mut buffer), 12);
-    assert!(rt; buffer == [0, 0, 0, 2, 0, 0, 0, 3, 2, 0, 0x2b, 1]);
-    Ok(())
+    let is_first = lends(&mut outgoing, [0, 0, 0, 2, 0, 0, 0, 1, 3, 0, 0x2a, 0]);
+    let lent = outgoing.lent();
+    outgoing.wrote(lent);
+    let is_second = lends(&mut outgoing, [0, 0, 0, 2, 0, 0, 0, 3, 2, 0, 0x2b, 1]);
+    check(is_taken && lent == 12 && is_first && is_second)
 }
 
 /// A payload above the safe limit is told by each call that seals, and changes nothing.
@@ -151,11 +143,11 @@ fn a_payload_above_the_limit_is_told(rt: HostRuntime) -> Tested {
     let mut context = ConnectionContext::of_halves(alloc, Sealed { room: 23 }, Plain {});
     let long = [7; 24];
     let sealed = context.outbound_buf(alloc, &long, b"", true);
-    is_told(&rt, sealed, ABOVE_LIMIT)?;
+    let is_told = is_others(&sealed, ABOVE_LIMIT)?;
     let mut message = data_frame(alloc, 24, &long)?;
     let sealed = context.outbound(alloc, &mut message, true);
-    is_told(&rt, sealed, ABOVE_LIMIT_ADVICE)?;
-    is_frame(&rt, alloc, &message, 24, &long)
+    let is_advised = is_others(&sealed, ABOVE_LIMIT_ADVICE)?;
+    check(is_told && is_advised && is_frame(alloc, &message, 24, &long)?)
 }
 
 /// The same of the calls that queue.
@@ -166,13 +158,11 @@ fn a_payload_above_the_limit_is_not_queued(rt: HostRuntime) -> Tested {
     let mut outgoing = Outgoing::new(alloc);
     let mut message = data_frame(alloc, 24, &[7; 24])?;
     let sent = context.transform_send(alloc, &mut message, &mut outgoing);
-    is_told(&rt, sent, ABOVE_LIMIT_ADVICE)?;
-    is_frame(&rt, alloc, &message, 24, &[7; 24])?;
+    let is_advised = is_others(&sent, ABOVE_LIMIT_ADVICE)?;
+    let is_left = is_frame(alloc, &message, 24, &[7; 24])?;
     let header = MessageHeader::new_response(3, 0);
     let sent = context.send_response_sync(alloc, &[7; 24], b"", &mut outgoing, header);
-    is_told(&rt, sent, ABOVE_LIMIT)?;
-    assert!(rt; outgoing.is_empty());
-    Ok(())
+    check(is_advised && is_left && is_others(&sent, ABOVE_LIMIT)? && outgoing.is_empty())
 }
 
 /// What the half refuses is told by its text, and isn't queued.
@@ -183,12 +173,24 @@ fn what_is_not_sealed_is_told(rt: HostRuntime) -> Tested {
     let mut outgoing = Outgoing::new(alloc);
     let unsealed = "transform_outbound failed: sealed up";
     let sealed = context.outbound_buf(alloc, &[7; 23], b"", true);
-    is_told(&rt, sealed, unsealed)?;
+    let is_told = is_others(&sealed, unsealed)?;
     let mut message = data_frame(alloc, 23, &[7; 23])?;
     let sent = context.transform_send(alloc, &mut message, &mut outgoing);
-    is_told(&rt, sent, unsealed)?;
-    assert!(rt; outgoing.is_empty());
-    Ok(())
+    check(is_told && is_others(&sent, unsealed)? && outgoing.is_empty())
+}
+
+/// Returns whether bytes are refused as too long by the calls that seal and open, by an error or a status.
+fn are_too_long(
+    alloc: Global,
+    context: &mut ConnectionContext<Plain, Plain>,
+    long: &[u8],
+) -> Found {
+    Ok(
+        is_others(&context.outbound_buf(alloc, long, b"", false), LONG)?
+            && is_status(&context.outbound_buf(alloc, long, b"", true), LONG)?
+            && is_others(&context.inbound_buf(alloc, long, b"", false), LONG)?
+            && is_status(&context.inbound_buf(alloc, long, b"", true), LONG)?,
+    )
 }
 
 /// Where sealing adds nothing, the greatest message is the limit, and its own text is told.
@@ -196,14 +198,9 @@ fn what_is_not_sealed_is_told(rt: HostRuntime) -> Tested {
 fn a_message_too_long_is_told(rt: HostRuntime) -> Tested {
     let alloc = rt.alloc();
     let mut context = plain_context(alloc);
-    assert!(rt; context.connection_data.is_empty());
-    assert_eq!(rt; context.max_raw_payload_len(), 4194304);
+    let is_plain = context.connection_data.is_empty() && context.max_raw_payload_len() == 4194304;
     let long = vec![in alloc; 7; MESSAGE_LENGTH_MAX + 1]?;
-    let long = long.as_slice();
-    is_told(&rt, context.outbound_buf(alloc, long, b"", false), LONG)?;
-    is_status_told(&rt, context.outbound_buf(alloc, long, b"", true), LONG)?;
-    is_told(&rt, context.inbound_buf(alloc, long, b"", false), LONG)?;
-    is_status_told(&rt, context.inbound_buf(alloc, long, b"", true), LONG)
+    check(is_plain && are_too_long(alloc, &mut context, long.as_slice())?)
 }
 
 /// What opens to more than a message may have isn't handed on, and the message stays.
@@ -212,9 +209,9 @@ fn what_swells_is_told(rt: HostRuntime) -> Tested {
     let alloc = rt.alloc();
     let mut context = ConnectionContext::of_halves(alloc, Plain {}, Swelling {});
     let mut message = data_frame(alloc, 1, &[1])?;
-    is_status_told(&rt, context.inbound(alloc, &mut message, true), LONG)?;
-    is_told(&rt, context.inbound(alloc, &mut message, false), LONG)?;
-    is_frame(&rt, alloc, &message, 1, &[1])
+    let is_status = is_status(&context.inbound(alloc, &mut message, true), LONG)?;
+    let is_told = is_others(&context.inbound(alloc, &mut message, false), LONG)?;
+    check(is_status && is_told && is_frame(alloc, &message, 1, &[1])?)
 }
 
 /// What isn't opened is told, and the half opens what comes next.
@@ -223,9 +220,8 @@ fn what_is_not_opened_is_told(rt: HostRuntime) -> Tested {
     let alloc = rt.alloc();
     let mut context = stamped(alloc);
     let bad = "transform_inbound failed: bad stamp";
-    let refused = context.inbound_buf(alloc, &[0x2a, 7], b"", true);
-    is_told(&rt, refused, bad)?;
+    let is_told = is_others(&context.inbound_buf(alloc, &[0x2a, 7], b"", true), bad)?;
     let mut message = data_frame(alloc, 2, &[0x2a, 0])?;
     context.inbound(alloc, &mut message, true)?;
-    is_frame(&rt, alloc, &message, 1, &[0x2a])
+    check(is_told && is_frame(alloc, &message, 1, &[0x2a])?)
 }

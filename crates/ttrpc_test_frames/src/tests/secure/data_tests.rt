@@ -4,13 +4,11 @@ ghost use Rattle.std.specs.BTreeMap.{get_by_text};
 ghost use Rattle.std.specs.Option.{option_and_then, option_copied};
 ghost use Rattle.ttrpc_secure.specs.Hooks.Kinds.{u32_of};
 
+use crate::tests::checks::{Tested, check};
 use std::alloc::Global;
 use std::collections::BTreeMap;
-use std::process::Abort;
 use std::test::Fail;
 use ttrpc_secure::{ConnectionData, ConnectionDataExt, Datum, Kind};
-
-type Tested = Result<(), Fail>;
 
 /// Nothing known but one value, under this name.
 fn known(alloc: Global, name: &str, datum: Datum) -> Result<ConnectionData, Fail> {
@@ -19,54 +17,61 @@ fn known(alloc: Global, name: &str, datum: Datum) -> Result<ConnectionData, Fail
     Ok(data)
 }
 
-/// The value is found under its name and as its kind, and not under another name or as another kind.
+/// Returns whether the value is found under its name and as its kind, and not under another name or as another kind.
 fn is_found<T: Kind + PartialEq, U: Kind>(
-    rt: &impl Abort,
     alloc: Global,
     datum: Datum,
     expected: &T,
-) -> Tested {
+) -> Result<bool, Fail> {
     let data = known(alloc, "key", datum)?;
-    match data.get_typed::<T>("key") {
-        Some(value) => assert!(rt; value == expected),
-        None => assert!(rt; false),
-    }
-    assert!(rt; data.get_typed::<T>("missing").is_none());
-    assert!(rt; data.get_typed::<T>("").is_none());
-    assert!(rt; data.get_typed::<U>("key").is_none());
-    Ok(())
+    let is_found = match data.get_typed::<T>("key") {
+        Some(value) => value == expected,
+        None => false,
+    };
+    Ok(
+        is_found
+            && data.get_typed::<T>("missing").is_none()
+            && data.get_typed::<T>("").is_none()
+            && data.get_typed::<U>("key").is_none(),
+    )
 }
 
 #[test]
 fn signed_numbers_are_found(rt: HostRuntime) -> Tested {
     let alloc = rt.alloc();
-    is_found::<i8, u8>(&rt, alloc, Datum::I8(-128), &-128)?;
-    is_found::<i16, u16>(&rt, alloc, Datum::I16(-32768), &-32768)?;
-    is_found::<i32, u32>(&rt, alloc, Datum::I32(-1), &-1)?;
-    is_found::<i64, i32>(&rt, alloc, Datum::I64(42), &42)?;
-    is_found::<i128, i64>(&rt, alloc, Datum::I128(-5), &-5)?;
-    is_found::<isize, i64>(&rt, alloc, Datum::Isize(0), &0)
+    check(
+        is_found::<i8, u8>(alloc, Datum::I8(-128), &-128)?
+            && is_found::<i16, u16>(alloc, Datum::I16(-32768), &-32768)?
+            && is_found::<i32, u32>(alloc, Datum::I32(-1), &-1)?
+            && is_found::<i64, i32>(alloc, Datum::I64(42), &42)?
+            && is_found::<i128, i64>(alloc, Datum::I128(-5), &-5)?
+            && is_found::<isize, i64>(alloc, Datum::Isize(0), &0)?,
+    )
 }
 
 #[test]
 fn unsigned_numbers_are_found(rt: HostRuntime) -> Tested {
     let alloc = rt.alloc();
-    is_found::<u8, i8>(&rt, alloc, Datum::U8(255), &255)?;
-    is_found::<u16, u8>(&rt, alloc, Datum::U16(65535), &65535)?;
-    is_found::<u32, i32>(&rt, alloc, Datum::U32(1234), &1234)?;
-    is_found::<u64, bool>(&rt, alloc, Datum::U64(42), &42)?;
-    is_found::<u128, u64>(&rt, alloc, Datum::U128(7), &7)?;
-    is_found::<usize, u64>(&rt, alloc, Datum::Usize(9), &9)
+    check(
+        is_found::<u8, i8>(alloc, Datum::U8(255), &255)?
+            && is_found::<u16, u8>(alloc, Datum::U16(65535), &65535)?
+            && is_found::<u32, i32>(alloc, Datum::U32(1234), &1234)?
+            && is_found::<u64, bool>(alloc, Datum::U64(42), &42)?
+            && is_found::<u128, u64>(alloc, Datum::U128(7), &7)?
+            && is_found::<usize, u64>(alloc, Datum::Usize(9), &9)?,
+    )
 }
 
 #[test]
 fn other_values_are_found(rt: HostRuntime) -> Tested {
     let alloc = rt.alloc();
-    is_found::<bool, u8>(&rt, alloc, Datum::Bool(true), &true)?;
-    let text = Datum::Text(String::from_str(alloc, "test")?);
-    is_found::<String, Vec<u8>>(&rt, alloc, text, &String::from_str(alloc, "test")?)?;
-    let bytes = Datum::Bytes(Vec::from_slice(alloc, b"test")?);
-    is_found::<Vec<u8>, String>(&rt, alloc, bytes, &Vec::from_slice(alloc, b"test")?)
+    let text = String::from_str(alloc, "test")?;
+    let stored = Datum::Text(text.clone()?);
+    let is_text = is_found::<String, Vec<u8>>(alloc, stored, &text)?;
+    let bytes = Vec::from_slice(alloc, b"test")?;
+    let stored = Datum::Bytes(bytes.clone()?);
+    let are_bytes = is_found::<Vec<u8>, String>(alloc, stored, &bytes)?;
+    check(is_text && are_bytes && is_found::<bool, u8>(alloc, Datum::Bool(true), &true)?)
 }
 
 // What is found is known where it is used.
@@ -76,16 +81,20 @@ fn peer(connection_data: &ConnectionData) -> Option<&u32>
     connection_data.get_typed::<u32>("peer")
 }
 
+/// Returns whether the values are found that the test below stores.
+fn are_known(data: &ConnectionData) -> bool {
+    peer(data) == Some(&1234)
+        && data.get_typed::<u64>("count") == Some(&42)
+        && data.get_typed::<bool>("flag") == Some(&true)
+        && data.get_typed::<bool>("count").is_none()
+}
+
 #[test]
 fn several_values_are_known(rt: HostRuntime) -> Tested {
     let alloc = rt.alloc();
     let mut data = known(alloc, "count", Datum::U64(42))?;
     data.insert(String::from_str(alloc, "flag")?, Datum::Bool(true))?;
     data.insert(String::from_str(alloc, "peer")?, Datum::U32(1234))?;
-    assert!(rt; peer(&data) == Some(&1234));
-    assert!(rt; data.get_typed::<u64>("count") == Some(&42));
-    assert!(rt; data.get_typed::<bool>("flag") == Some(&true));
-    assert!(rt; data.get_typed::<bool>("count").is_none());
-    assert!(rt; BTreeMap::new(alloc).get_typed::<u64>("count").is_none());
-    Ok(())
+    let nothing = BTreeMap::new(alloc);
+    check(are_known(&data) && nothing.get_typed::<u64>("count").is_none())
 }

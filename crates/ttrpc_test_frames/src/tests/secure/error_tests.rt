@@ -2,6 +2,7 @@
 ghost use Rattle.std.specs.Prelude.{IfErr};
 ghost use Rattle.ttrpc_secure.specs.Hooks.{IsRefusedMemory};
 
+use crate::tests::checks::{Tested, check, check_row};
 use std::alloc::{AllocError, Global};
 use std::io::{self, ErrorKind};
 use std::test::Fail;
@@ -40,29 +41,39 @@ const ERRORS: &[(Row, &str, &str)] = &[
     (Row::Other(""), "", "Other()"),
 ];
 
+/// Returns whether `{}` writes this for the error.
+fn is_printed(alloc: Global, error: &HookError, printed: &str) -> Result<bool, Fail> {
+    let text = error.to_string(alloc)?;
+    Ok(text.as_str() == printed)
+}
+
+/// Returns whether `{}` and `{:?}` write these for the error of this row.
+fn prints(alloc: Global, row: &Row, printed: &str, debugged: &str) -> Result<bool, Fail> {
+    let error = error_of(alloc, row)?;
+    let text = format!(in alloc; "{error:?}")?;
+    Ok(text.as_str() == debugged && is_printed(alloc, &error, printed)?)
+}
+
 #[test]
-fn errors_print_their_texts(rt: HostRuntime) -> Result<(), Fail> {
-    let alloc = rt.alloc();
-    for (row, printed, debugged) in ERRORS {
-        let error = error_of(alloc, row)?;
-        assert_eq!(rt; error.to_string(alloc)?.as_str(), *printed);
-        assert_eq!(rt; format!(in alloc; "{error:?}")?.as_str(), *debugged);
+fn errors_print_their_texts(rt: HostRuntime) -> Tested {
+    for (at, (row, printed, debugged)) in ERRORS.iter().enumerate() {
+        check_row(at, prints(rt.alloc(), row, printed, debugged)?)?;
     }
     Ok(())
 }
 
 /// What follows is the standard library's text.
 #[test]
-fn failed_reads_print_their_cause(rt: HostRuntime) -> Result<(), Fail> {
+fn failed_reads_print_their_cause(rt: HostRuntime) -> Tested {
     let alloc = rt.alloc();
     let error = HookError::Io(io::Error::from(ErrorKind::BrokenPipe));
-    let printed = error.to_string(alloc)?;
-    assert_eq!(rt; printed.as_str(), "I/O error: broken pipe");
     let debugged = format!(in alloc; "{error:?}")?;
-    assert!(rt; debugged.as_str().starts_with("Io("), "{debugged}");
-    let error = HookError::Io(io::Error::other("no such peer"));
-    assert_eq!(rt; error.to_string(alloc)?.as_str(), "I/O error: no such peer");
-    Ok(())
+    let other = HookError::Io(io::Error::other("no such peer"));
+    check(
+        debugged.as_str().starts_with("Io(")
+            && is_printed(alloc, &error, "I/O error: broken pipe")?
+            && is_printed(alloc, &other, "I/O error: no such peer")?,
+    )
 }
 
 // What a hook that asks for memory answers by `?`.
@@ -75,13 +86,17 @@ fn reserved(alloc: Global, room: usize) -> Result<Vec<u8>, HookError>
     Ok(out)
 }
 
-#[test]
-fn refused_memory_is_a_failure_of_that_kind(rt: HostRuntime) -> Result<(), Fail> {
-    let alloc = rt.alloc();
-    assert_eq!(rt; reserved(alloc, 1)?.len(), 1);
-    match reserved(alloc, usize::MAX) {
-        Err(HookError::Io(cause)) => assert!(rt; cause.kind() == ErrorKind::OutOfMemory),
-        _ => assert!(rt; false, "memory was refused"),
+/// Returns whether memory was refused, as a failure of that kind.
+fn is_refused(outcome: &Result<Vec<u8>, HookError>) -> bool {
+    match outcome {
+        Err(HookError::Io(cause)) => cause.kind() == ErrorKind::OutOfMemory,
+        _ => false,
     }
-    Ok(())
+}
+
+#[test]
+fn refused_memory_is_a_failure_of_that_kind(rt: HostRuntime) -> Tested {
+    let one = reserved(rt.alloc(), 1)?;
+    let refused = reserved(rt.alloc(), usize::MAX);
+    check(one.len() == 1 && is_refused(&refused))
 }

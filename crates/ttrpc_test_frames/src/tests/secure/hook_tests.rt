@@ -1,17 +1,15 @@
 //! Hooks that are run, and the limit of their time.
+use crate::tests::checks::{Tested, check, check_row};
 use crate::tests::secure::fakes::{Agrees, Line, Listens};
 use std::alloc::{AllocError, Global};
 use std::io::ErrorKind;
-use std::process::Abort;
 use std::test::Fail;
-use ttrpc_bench::{AT_ONCE, Manner};
+use ttrpc_bench::{AT_ONCE, Manner, StampIn, StampOut};
 use ttrpc_secure::{
     ACCEPT_HOOK_TIMEOUT, AcceptHook, ConnectHook, ConnectionDataExt, HookError, HookOutput,
     InboundTransform, OutboundTransform, Plain, hook_result,
 };
 use ttrpc_wire::Text;
-
-type Tested = Result<(), Fail>;
 
 /// Moments at which a hook is started and at which it ends, and whether it ends in time.
 const MOMENTS: &[(u64, u64, bool)] = &[
@@ -51,21 +49,28 @@ fn is_timeout(hooked: &Hooked) -> bool {
     matches!(hooked, Err(HookError::Timeout))
 }
 
+/// Returns whether a hook that lets pass at these moments does so in time, or too late.
+fn passes_in_time(alloc: Global, started: u64, now: u64, in_time: bool) -> bool {
+    let halves = HookOutput::of_halves(alloc, Plain {}, Plain {});
+    let passed = hook_result(started, now, Ok(halves));
+    is_passed(&passed) == in_time && is_timeout(&passed) != in_time
+}
+
+/// Returns whether a hook that rejects at these moments does so in time, or too late.
+fn rejects_in_time(alloc: Global, started: u64, now: u64, in_time: bool) -> Result<bool, Fail> {
+    let reason = Text::from_str(alloc, "no")?;
+    let rejected: Hooked = hook_result(started, now, Err(HookError::Rejected(reason)));
+    Ok(is_rejected(&rejected, "no") == in_time && is_timeout(&rejected) != in_time)
+}
+
 #[test]
 fn results_come_in_time_or_late(rt: HostRuntime) -> Tested {
     let alloc = rt.alloc();
-    assert_eq!(rt; ACCEPT_HOOK_TIMEOUT, 30000000000);
-    for &(started, now, in_time) in MOMENTS {
-        let halves = HookOutput::of_halves(alloc, Plain {}, Plain {});
-        let passed = hook_result(started, now, Ok(halves));
-        assert!(rt; is_passed(&passed) == in_time, "{started} {now}");
-        assert!(rt; is_timeout(&passed) != in_time, "{started} {now}");
-        let reason = Text::from_str(alloc, "no")?;
-        let rejected: Hooked = hook_result(started, now, Err(HookError::Rejected(reason)));
-        assert!(rt; is_rejected(&rejected, "no") == in_time, "{started} {now}");
-        assert!(rt; is_timeout(&rejected) != in_time, "{started} {now}");
+    for (at, &(started, now, in_time)) in MOMENTS.iter().enumerate() {
+        let passes = passes_in_time(alloc, started, now, in_time);
+        check_row(at, passes && rejects_in_time(alloc, started, now, in_time)?)?;
     }
-    Ok(())
+    check(ACCEPT_HOOK_TIMEOUT == 30000000000)
 }
 
 /// What a hook that ends at this moment, and was started at 0, gives for a connection that a server has accepted.
@@ -78,15 +83,15 @@ fn accepted<S, H: AcceptHook<S>>(
     hook_result(0, now, hook.on_accept(alloc, stream))
 }
 
-/// The error prints this, where memory wasn't refused: then the test ends with that error.
-fn prints(rt: &impl Abort, alloc: Global, error: HookError, expected: &str) -> Tested {
+/// Returns whether the error prints this, if memory wasn't refused: else the test ends with that error.
+fn prints(alloc: Global, error: HookError, expected: &str) -> Result<bool, Fail> {
     if let HookError::Io(cause) = &error {
         if cause.kind() == ErrorKind::OutOfMemory {
             return Err(AllocError.into());
         }
     }
-    assert_eq!(rt; error.to_string(alloc)?.as_str(), expected);
-    Ok(())
+    let text = error.to_string(alloc)?;
+    Ok(text.as_str() == expected)
 }
 
 /// It fails behind its bytes.
@@ -113,19 +118,33 @@ const ACCEPTED: &[(Line, u64, Result<&[u8], &str>)] = &[
     (Line(b"", AT_ONCE), 30000000000, Err("handshake timeout")),
 ];
 
+/// Returns whether these words are known of the connection.
+fn knows(output: &HookOutput<Plain, Plain>, words: &[u8]) -> bool {
+    match output.connection_data.get_typed::<Vec<u8>>("said") {
+        Some(said) => said.as_slice() == words,
+        None => false,
+    }
+}
+
+/// Returns whether a hook that listens and ends at this moment knows these words, or fails so.
+fn is_heard(
+    alloc: Global,
+    line: &Line,
+    now: u64,
+    expected: &Result<&[u8], &str>,
+) -> Result<bool, Fail> {
+    match (accepted(alloc, &Listens {}, line, now), expected) {
+        (Ok(output), Ok(words)) => Ok(knows(&output, words)),
+        (Err(error), Err(text)) => prints(alloc, error, text),
+        (Err(error), Ok(_)) => prints(alloc, error, "memory was refused"),
+        (Ok(_), Err(_)) => Ok(false),
+    }
+}
+
 #[test]
 fn a_server_listens(rt: HostRuntime) -> Tested {
-    let alloc = rt.alloc();
-    for (line, now, expected) in ACCEPTED {
-        match (accepted(alloc, &Listens {}, line, *now), expected) {
-            (Ok(output), Ok(words)) => match output.connection_data.get_typed::<Vec<u8>>("said") {
-                Some(said) => assert!(rt; said.as_slice() == *words),
-                None => assert!(rt; false),
-            },
-            (Err(error), Err(text)) => prints(&rt, alloc, error, text)?,
-            (Err(error), Ok(_)) => prints(&rt, alloc, error, "memory was refused")?,
-            (Ok(_), Err(text)) => assert!(rt; false, "{text}"),
-        }
+    for (at, (line, now, expected)) in ACCEPTED.iter().enumerate() {
+        check_row(at, is_heard(rt.alloc(), line, *now, expected)?)?;
     }
     Ok(())
 }
@@ -139,22 +158,35 @@ fn connected<S, H: ConnectHook<S>>(
     hook.on_connect(alloc, stream)
 }
 
+/// Returns whether the halves stamp, and nothing is known of the connection.
+fn stamps(alloc: Global, output: HookOutput<StampOut, StampIn>) -> Result<bool, Fail> {
+    let mut output = output;
+    let sealed = output.outbound.transform_outbound(alloc, b"ab", b"")?;
+    let opened = output.inbound.transform_inbound(alloc, b"ab\0", b"")?;
+    Ok(
+        sealed.as_slice() == b"ab\0".as_slice()
+            && opened.as_slice() == b"ab".as_slice()
+            && output.connection_data.is_empty(),
+    )
+}
+
+/// Returns whether a hook agrees on stamps with the other side that wants them.
+fn is_agreed(alloc: Global) -> Result<bool, Fail> {
+    match connected(alloc, &Agrees {}, &Line(b"stamp", AT_ONCE)) {
+        Ok(output) => stamps(alloc, output),
+        Err(error) => prints(alloc, error, "memory was refused"),
+    }
+}
+
+/// Returns whether a hook fails if the other side wants no stamps.
+fn is_not_agreed(alloc: Global) -> Result<bool, Fail> {
+    match connected(alloc, &Agrees {}, &Line(b"plain", AT_ONCE)) {
+        Ok(_) => Ok(false),
+        Err(error) => prints(alloc, error, "no stamps"),
+    }
+}
+
 #[test]
 fn a_client_agrees_on_stamps(rt: HostRuntime) -> Tested {
-    let alloc = rt.alloc();
-    match connected(alloc, &Agrees {}, &Line(b"stamp", AT_ONCE)) {
-        Ok(mut output) => {
-            assert!(rt; output.connection_data.is_empty());
-            let sealed = output.outbound.transform_outbound(alloc, b"ab", b"")?;
-            assert!(rt; sealed.as_slice() == b"ab\0".as_slice());
-            let opened = output.inbound.transform_inbound(alloc, b"ab\0", b"")?;
-            assert!(rt; opened.as_slice() == b"ab".as_slice());
-        }
-        Err(error) => prints(&rt, alloc, error, "memory was refused")?,
-    }
-    match connected(alloc, &Agrees {}, &Line(b"plain", AT_ONCE)) {
-        Ok(_) => assert!(rt; false),
-        Err(error) => prints(&rt, alloc, error, "no stamps")?,
-    }
-    Ok(())
+    check(is_agreed(rt.alloc())? && is_not_agreed(rt.alloc())?)
 }

@@ -1,12 +1,13 @@
 //! Packets of halves that mask, as they are written, read and refused through the context of a connection.
+use crate::tests::checks::{Tested, check, check_row};
 use crate::tests::secure::context_tests::{data_frame, is_others};
-use crate::tests::secure::masking::masking_context;
+use crate::tests::secure::masking::{Masking, masking_context};
 use std::alloc::Global;
-use std::process::Abort;
 use std::test::Fail;
 use ttrpc_proto::{GenMessage, MessageHeader};
+use ttrpc_secure::ConnectionContext;
 
-type Tested = Result<(), Fail>;
+type Context = ConnectionContext<Masking, Masking>;
 
 /// Data, each with its packet.
 const PACKETS: &[(&[u8], &[u8])] = &[
@@ -68,34 +69,36 @@ const REFUSED: &[(&[u8], &str)] = &[
     ),
 ];
 
-/// The packet opens to the data, by each call that opens bytes.
-fn opens(rt: &impl Abort, alloc: Global, packet: &[u8], data: &[u8]) -> Tested {
+/// Returns whether the packet opens to the data, by each call that opens bytes.
+fn opens(alloc: Global, packet: &[u8], data: &[u8]) -> Result<bool, Fail> {
     let mut context = masking_context(alloc, false);
     let opened = context.inbound_buf(alloc, packet, b"", false)?;
-    assert_eq!(rt; opened.as_slice(), data);
-    let opened = context.transform_inbound(alloc, packet, b"")?;
-    assert_eq!(rt; opened.as_slice(), data);
-    Ok(())
+    let unchecked = context.transform_inbound(alloc, packet, b"")?;
+    Ok(opened.as_slice() == data && unchecked.as_slice() == data)
+}
+
+/// Returns whether the data are masked to the packet, by each call that seals bytes.
+fn masks(alloc: Global, context: &mut Context, data: &[u8], packet: &[u8]) -> Result<bool, Fail> {
+    let masked = context.outbound_buf(alloc, data, b"", false)?;
+    let unchecked = context.transform_outbound(alloc, data, b"")?;
+    Ok(masked.as_slice() == packet && unchecked.as_slice() == packet)
 }
 
 #[test]
 fn data_are_masked_and_unmasked(rt: HostRuntime) -> Tested {
     let alloc = rt.alloc();
     let mut context = masking_context(alloc, false);
-    for (data, packet) in PACKETS {
-        let masked = context.outbound_buf(alloc, data, b"", false)?;
-        assert_eq!(rt; masked.as_slice(), *packet);
-        let masked = context.transform_outbound(alloc, data, b"")?;
-        assert_eq!(rt; masked.as_slice(), *packet);
-        opens(&rt, alloc, packet, data)?;
+    for (at, (data, packet)) in PACKETS.iter().enumerate() {
+        let are_masked = masks(alloc, &mut context, data, packet)?;
+        check_row(at, are_masked && opens(alloc, packet, data)?)?;
     }
-    for (packet, data) in OTHER_PACKETS {
-        opens(&rt, alloc, packet, data)?;
+    for (at, (packet, data)) in OTHER_PACKETS.iter().enumerate() {
+        check_row(at, opens(alloc, packet, data)?)?;
     }
     Ok(())
 }
 
-/// A data frame of stream 1 with this payload, and with its length in the header.
+/// Returns whether it is a data frame of stream 1 with this payload, and with its length in the header.
 fn carries(message: &GenMessage, payload: &[u8]) -> bool {
     let header = message.header;
     header == MessageHeader::new_data(1, header.length)
@@ -103,16 +106,26 @@ fn carries(message: &GenMessage, payload: &[u8]) -> bool {
         && message.payload.as_slice() == payload
 }
 
+/// Returns whether a message of the data becomes one of the packet, and one of the data again.
+fn comes_back(
+    alloc: Global,
+    context: &mut Context,
+    data: &[u8],
+    packet: &[u8],
+) -> Result<bool, Fail> {
+    let mut message = data_frame(alloc, 0, data)?;
+    context.outbound(alloc, &mut message, false)?;
+    let is_masked = carries(&message, packet);
+    context.inbound(alloc, &mut message, false)?;
+    Ok(is_masked && carries(&message, data))
+}
+
 #[test]
 fn messages_are_masked_and_unmasked(rt: HostRuntime) -> Tested {
     let alloc = rt.alloc();
     let mut context = masking_context(alloc, false);
-    for (data, packet) in PACKETS {
-        let mut message = data_frame(alloc, 0, data)?;
-        context.outbound(alloc, &mut message, false)?;
-        assert!(rt; carries(&message, packet));
-        context.inbound(alloc, &mut message, false)?;
-        assert!(rt; carries(&message, data));
+    for (at, (data, packet)) in PACKETS.iter().enumerate() {
+        check_row(at, comes_back(alloc, &mut context, data, packet)?)?;
     }
     Ok(())
 }
@@ -127,15 +140,22 @@ fn long_data_come_back(rt: HostRuntime) -> Tested {
         data.push((number % 256) as u8)?;
     }
     let masked = context.outbound_buf(alloc, data.as_slice(), b"", false)?;
-    assert_eq!(rt; masked.len(), 1030);
-    assert!(rt;
-        masked
-            .as_slice()
-            .starts_with(&[0, 1, 0, 0, 3, 0xff, 0xa5, 0xa4])
-    );
     let opened = context.inbound_buf(alloc, masked.as_slice(), b"", false)?;
-    assert!(rt; opened == data);
-    Ok(())
+    let head = [0, 1, 0, 0, 3, 0xff, 0xa5, 0xa4];
+    check(masked.len() == 1030 && masked.as_slice().starts_with(&head) && opened == data)
+}
+
+/// Returns whether the packet is refused by this reason, and a message of it stays as it was.
+fn is_refused(
+    alloc: Global,
+    context: &mut Context,
+    packet: &[u8],
+    expected: &str,
+) -> Result<bool, Fail> {
+    let is_told = is_others(&context.inbound_buf(alloc, packet, b"", true), expected)?;
+    let mut message = data_frame(alloc, 1, packet)?;
+    let is_message_told = is_others(&context.inbound(alloc, &mut message, true), expected)?;
+    Ok(is_told && is_message_told && message == data_frame(alloc, 1, packet)?)
 }
 
 /// What is refused is told by its reason, and leaves a message as it was.
@@ -143,11 +163,8 @@ fn long_data_come_back(rt: HostRuntime) -> Tested {
 fn refusals_are_told(rt: HostRuntime) -> Tested {
     let alloc = rt.alloc();
     let mut context = masking_context(alloc, false);
-    for (packet, expected) in REFUSED {
-        assert!(rt; is_others(&context.inbound_buf(alloc, packet, b"", true), expected)?);
-        let mut message = data_frame(alloc, 1, packet)?;
-        assert!(rt; is_others(&context.inbound(alloc, &mut message, true), expected)?);
-        assert!(rt; message == data_frame(alloc, 1, packet)?);
+    for (at, (packet, expected)) in REFUSED.iter().enumerate() {
+        check_row(at, is_refused(alloc, &mut context, packet, expected)?)?;
     }
     Ok(())
 }

@@ -1,14 +1,15 @@
 //! What halves that seal queue, up to the limit and beyond it, and that refused memory changes nothing.
+use crate::tests::checks::{Tested, check};
 use crate::tests::secure::context_tests::{data_frame, is_others};
 use crate::tests::secure::masking::masking_context;
 use std::alloc::Global;
-use std::process::Abort;
 use std::test::Fail;
 use ttrpc_bench::stamps;
 use ttrpc_proto::{Error, GenMessage, MESSAGE_LENGTH_MAX, MessageHeader, Outgoing};
 use ttrpc_secure::{ConnectionContext, InboundTransform, OutboundTransform};
 
-type Tested = Result<(), Fail>;
+/// What is found out of a condition, where memory may be refused.
+type Found = Result<bool, Fail>;
 
 /// What the response is bound to.
 const RESPONSE: &[u8] = &[0, 0, 0, 3, 2, 0];
@@ -22,22 +23,30 @@ fn is_done<T: Drop>(answer: ttrpc_proto::Result<T>) -> Result<bool, Fail> {
     }
 }
 
-/// A message of these data is queued, and then a response of them. Where memory is refused nothing has changed, and the
-/// call is made again.
+/// Queues a message of these data, and returns whether that went well. Where memory is refused nothing has changed, and
+/// the call is made again.
 fn sends<O: OutboundTransform, I: InboundTransform>(
-    rt: &impl Abort,
+    alloc: Global,
+    context: &mut ConnectionContext<O, I>,
+    outgoing: &mut Outgoing,
+    data: &[u8],
+) -> Found {
+    let mut message = data_frame(alloc, 0, data)?;
+    let mut is_unchanged = true;
+    if !is_done(context.transform_send(alloc, &mut message, outgoing))? {
+        is_unchanged = message == data_frame(alloc, 0, data)? && outgoing.is_empty();
+        context.transform_send(alloc, &mut message, outgoing)?;
+    }
+    Ok(is_unchanged && message == GenMessage::new(alloc))
+}
+
+/// Queues a response of these data. Where memory is refused the call is made again.
+fn send_response<O: OutboundTransform, I: InboundTransform>(
     alloc: Global,
     context: &mut ConnectionContext<O, I>,
     outgoing: &mut Outgoing,
     data: &[u8],
 ) -> Tested {
-    let mut message = data_frame(alloc, 0, data)?;
-    if !is_done(context.transform_send(alloc, &mut message, outgoing))? {
-        assert!(rt; message == data_frame(alloc, 0, data)?);
-        assert!(rt; outgoing.is_empty());
-        context.transform_send(alloc, &mut message, outgoing)?;
-    }
-    assert!(rt; message == GenMessage::new(alloc));
     let header = MessageHeader::new_response(3, 0);
     if !is_done(context.send_response_sync(alloc, data, RESPONSE, outgoing, header))? {
         context.send_response_sync(alloc, data, RESPONSE, outgoing, header)?;
@@ -45,17 +54,22 @@ fn sends<O: OutboundTransform, I: InboundTransform>(
     Ok(())
 }
 
-/// The queue has these frames, and no other.
-fn has(rt: &impl Abort, outgoing: &mut Outgoing, frames: &[&[u8]]) -> Tested {
+/// Returns whether the queue has this frame first, and takes that from it.
+fn leaves(outgoing: &mut Outgoing, frame: &[u8]) -> bool {
+    let mut buffer = [0; 64];
+    let count = outgoing.lend(&mut buffer);
+    let is_frame = &buffer[..count] == frame;
+    outgoing.wrote(count);
+    is_frame
+}
+
+/// Returns whether the queue has these frames, and no other.
+fn has(outgoing: &mut Outgoing, frames: &[&[u8]]) -> bool {
+    let mut all = true;
     for frame in frames {
-        let mut buffer = [0; 64];
-        let count = outgoing.lend(&mut buffer);
-        assert!(rt; count <= 64);
-        assert_eq!(rt; &buffer[..count], *frame);
-        outgoing.wrote(count);
+        all = all && leaves(outgoing, frame);
     }
-    assert!(rt; outgoing.is_empty());
-    Ok(())
+    all && outgoing.is_empty()
 }
 
 const MASKED: &[&[u8]] = &[
@@ -78,132 +92,165 @@ const STAMPED: &[&[u8]] = &[
     &[0, 0, 0, 3, 0, 0, 0, 3, 2, 0, 0x68, 0x69, 1],
 ];
 
+/// Returns whether a message and a response are queued as these frames.
 fn is_queued<O: OutboundTransform, I: InboundTransform>(
-    rt: &impl Abort,
     alloc: Global,
     context: &mut ConnectionContext<O, I>,
     frames: &[&[u8]],
-) -> Tested {
+) -> Found {
     let mut outgoing = Outgoing::new(alloc);
-    sends(rt, alloc, context, &mut outgoing, b"hi")?;
-    has(rt, &mut outgoing, frames)
+    let is_sent = sends(alloc, context, &mut outgoing, b"hi")?;
+    send_response(alloc, context, &mut outgoing, b"hi")?;
+    Ok(is_sent && has(&mut outgoing, frames))
+}
+
+/// Returns whether halves that mask queue these frames, by whether they bind.
+fn masking_queues(alloc: Global, binds: bool, frames: &[&[u8]]) -> Found {
+    let mut masking = masking_context(alloc, binds);
+    is_queued(alloc, &mut masking, frames)
+}
+
+/// Returns whether halves that stamp queue these frames.
+fn stamping_queues(alloc: Global, frames: &[&[u8]]) -> Found {
+    let (outbound, inbound) = stamps();
+    let mut stamping = ConnectionContext::of_halves(alloc, outbound, inbound);
+    is_queued(alloc, &mut stamping, frames)
 }
 
 #[test]
 fn sealed_frames_are_queued_in_order(rt: HostRuntime) -> Tested {
     let alloc = rt.alloc();
-    let mut masked = masking_context(alloc, false);
-    is_queued(&rt, alloc, &mut masked, MASKED)?;
-    let mut bound = masking_context(alloc, true);
-    is_queued(&rt, alloc, &mut bound, BOUND)?;
-    let (outbound, inbound) = stamps();
-    let mut stamping = ConnectionContext::of_halves(alloc, outbound, inbound);
-    is_queued(&rt, alloc, &mut stamping, STAMPED)
+    check(
+        masking_queues(alloc, false, MASKED)?
+            && masking_queues(alloc, true, BOUND)?
+            && stamping_queues(alloc, STAMPED)?,
+    )
 }
 
-/// A message is sealed and opened, and so are bytes. Where memory is refused nothing has changed, and the call is made
-/// again.
+/// Returns whether a message that is sealed and opened comes back. Where memory is refused nothing has changed, and the
+/// call is made again.
 fn comes_back<O: OutboundTransform, I: InboundTransform>(
-    rt: &impl Abort,
     alloc: Global,
     context: &mut ConnectionContext<O, I>,
-) -> Tested {
+) -> Found {
     let mut message = data_frame(alloc, 3, b"abc")?;
+    let mut is_unchanged = true;
     if !is_done(context.outbound(alloc, &mut message, false))? {
-        assert!(rt; message == data_frame(alloc, 3, b"abc")?);
+        is_unchanged = message == data_frame(alloc, 3, b"abc")?;
         context.outbound(alloc, &mut message, false)?;
     }
     if !is_done(context.inbound(alloc, &mut message, false))? {
         context.inbound(alloc, &mut message, false)?;
     }
-    assert!(rt; message == data_frame(alloc, 3, b"abc")?);
-    Ok(())
+    Ok(is_unchanged && message == data_frame(alloc, 3, b"abc")?)
+}
+
+/// Returns whether a message comes back through halves that mask, by whether they bind.
+fn comes_back_masked(alloc: Global, binds: bool) -> Found {
+    let mut masking = masking_context(alloc, binds);
+    comes_back(alloc, &mut masking)
+}
+
+/// Returns whether a message comes back through halves that stamp.
+fn comes_back_stamped(alloc: Global) -> Found {
+    let (outbound, inbound) = stamps();
+    let mut stamping = ConnectionContext::of_halves(alloc, outbound, inbound);
+    comes_back(alloc, &mut stamping)
 }
 
 #[test]
 fn messages_come_back(rt: HostRuntime) -> Tested {
     let alloc = rt.alloc();
-    let mut masked = masking_context(alloc, false);
-    comes_back(&rt, alloc, &mut masked)?;
-    let mut bound = masking_context(alloc, true);
-    comes_back(&rt, alloc, &mut bound)?;
-    let (outbound, inbound) = stamps();
-    let mut stamping = ConnectionContext::of_halves(alloc, outbound, inbound);
-    comes_back(&rt, alloc, &mut stamping)
+    check(
+        comes_back_masked(alloc, false)?
+            && comes_back_masked(alloc, true)?
+            && comes_back_stamped(alloc)?,
+    )
 }
 
-/// Data of the limit are sealed to the longest message by each call that seals.
+/// Returns whether data of the limit are sealed to the longest message by each call that seals.
 fn is_longest<O: OutboundTransform, I: InboundTransform>(
-    rt: &impl Abort,
     alloc: Global,
     context: &mut ConnectionContext<O, I>,
     data: &[u8],
-) -> Tested {
+) -> Found {
     let sealed = context.outbound_buf(alloc, data, RESPONSE, true)?;
-    assert_eq!(rt; sealed.len(), MESSAGE_LENGTH_MAX);
+    let is_sealed = sealed.len() == MESSAGE_LENGTH_MAX;
     let mut message = data_frame(alloc, 0, data)?;
     context.outbound(alloc, &mut message, true)?;
-    assert_eq!(rt; message.header.length, 4194304);
-    let mut outgoing = Outgoing::new(alloc);
-    let mut message = data_frame(alloc, 0, data)?;
-    context.transform_send(alloc, &mut message, &mut outgoing)?;
-    assert_eq!(rt; outgoing.open_len(), 4194314);
-    let mut outgoing = Outgoing::new(alloc);
-    let header = MessageHeader::new_response(3, 0);
-    context.send_response_sync(alloc, data, RESPONSE, &mut outgoing, header)?;
-    assert_eq!(rt; outgoing.open_len(), 4194314);
-    Ok(())
+    Ok(is_sealed && message.header.length == 4194304 && is_longest_queued(alloc, context, data)?)
 }
 
-/// Data above the limit are refused by each call that seals, in its text.
+/// The same of the calls that queue.
+fn is_longest_queued<O: OutboundTransform, I: InboundTransform>(
+    alloc: Global,
+    context: &mut ConnectionContext<O, I>,
+    data: &[u8],
+) -> Found {
+    let mut sent = Outgoing::new(alloc);
+    let mut message = data_frame(alloc, 0, data)?;
+    context.transform_send(alloc, &mut message, &mut sent)?;
+    let mut answered = Outgoing::new(alloc);
+    let header = MessageHeader::new_response(3, 0);
+    context.send_response_sync(alloc, data, RESPONSE, &mut answered, header)?;
+    Ok(sent.open_len() == 4194314 && answered.open_len() == 4194314)
+}
+
+/// Returns whether data above the limit are refused by each call that seals, in its text.
 fn is_too_long<O: OutboundTransform, I: InboundTransform>(
-    rt: &impl Abort,
     alloc: Global,
     context: &mut ConnectionContext<O, I>,
     data: &[u8],
     told: &str,
     advised: &str,
-) -> Tested {
-    assert!(rt; is_others(&context.outbound_buf(alloc, data, RESPONSE, true), told)?);
-    is_left(rt, alloc, context, data, advised)?;
-    is_not_queued(rt, alloc, context, data, advised)?;
+) -> Found {
+    let is_sealed_never = is_others(&context.outbound_buf(alloc, data, RESPONSE, true), told)?;
+    Ok(
+        is_sealed_never
+            && is_left(alloc, context, data, advised)?
+            && is_not_queued(alloc, context, data, advised)?
+            && is_not_answered(alloc, context, data, told)?,
+    )
+}
+
+/// Returns whether a response above the limit is refused in this text, and not queued.
+fn is_not_answered<O: OutboundTransform, I: InboundTransform>(
+    alloc: Global,
+    context: &mut ConnectionContext<O, I>,
+    data: &[u8],
+    told: &str,
+) -> Found {
     let mut outgoing = Outgoing::new(alloc);
     let header = MessageHeader::new_response(3, 0);
     let refused = context.send_response_sync(alloc, data, RESPONSE, &mut outgoing, header);
-    assert!(rt; outgoing.is_empty());
-    assert!(rt; is_others(&refused, told)?);
-    Ok(())
+    Ok(is_others(&refused, told)? && outgoing.is_empty())
 }
 
-/// A message above the limit is refused in this text, and left as it was.
+/// Returns whether a message above the limit is refused in this text, and left as it was.
 fn is_left<O: OutboundTransform, I: InboundTransform>(
-    rt: &impl Abort,
     alloc: Global,
     context: &mut ConnectionContext<O, I>,
     data: &[u8],
     advised: &str,
-) -> Tested {
+) -> Found {
     let mut message = data_frame(alloc, 0, data)?;
     let refused = context.outbound(alloc, &mut message, true);
-    assert!(rt; is_others(&refused, advised)?);
-    assert!(rt; message == data_frame(alloc, 0, data)?);
-    Ok(())
+    let is_told = is_others(&refused, advised)?;
+    Ok(is_told && message == data_frame(alloc, 0, data)?)
 }
 
 /// The same where it would be queued.
 fn is_not_queued<O: OutboundTransform, I: InboundTransform>(
-    rt: &impl Abort,
     alloc: Global,
     context: &mut ConnectionContext<O, I>,
     data: &[u8],
     advised: &str,
-) -> Tested {
+) -> Found {
     let mut message = data_frame(alloc, 0, data)?;
     let mut outgoing = Outgoing::new(alloc);
     let refused = context.transform_send(alloc, &mut message, &mut outgoing);
-    assert!(rt; is_others(&refused, advised)?);
-    assert!(rt; message == data_frame(alloc, 0, data)?);
-    Ok(())
+    let is_told = is_others(&refused, advised)?;
+    Ok(is_told && message == data_frame(alloc, 0, data)?)
 }
 
 const MASKED_TOLD: &str =
@@ -223,18 +270,24 @@ fn sevens(alloc: Global, length: usize) -> Result<Vec<u8>, Fail> {
     Ok(vec![in alloc; 7; length]?)
 }
 
+/// Returns whether halves that mask take so many bytes at most, and tell so of one more.
+fn has_limit(alloc: Global, binds: bool, limit: usize, told: &str, advised: &str) -> Found {
+    let mut context = masking_context(alloc, binds);
+    let longest = sevens(alloc, limit)?;
+    let long = sevens(alloc, limit.saturating_add(1))?;
+    Ok(
+        context.max_raw_payload_len() == limit
+            && is_longest(alloc, &mut context, &longest)?
+            && is_too_long(alloc, &mut context, &long, told, advised)?,
+    )
+}
+
 /// A packet is to fit into a message with its head and the byte that makes its length even.
 #[test]
 fn room_is_left_for_the_head(rt: HostRuntime) -> Tested {
     let alloc = rt.alloc();
-    let mut masked = masking_context(alloc, false);
-    assert_eq!(rt; masked.max_raw_payload_len(), 4194297);
-    is_longest(&rt, alloc, &mut masked, &sevens(alloc, 4194297)?)?;
-    let long = sevens(alloc, 4194298)?;
-    is_too_long(&rt, alloc, &mut masked, &long, MASKED_TOLD, MASKED_ADVISED)?;
-    let mut bound = masking_context(alloc, true);
-    assert_eq!(rt; bound.max_raw_payload_len(), 4194295);
-    is_longest(&rt, alloc, &mut bound, &sevens(alloc, 4194295)?)?;
-    let long = sevens(alloc, 4194296)?;
-    is_too_long(&rt, alloc, &mut bound, &long, BOUND_TOLD, BOUND_ADVISED)
+    check(
+        has_limit(alloc, false, 4194297, MASKED_TOLD, MASKED_ADVISED)?
+            && has_limit(alloc, true, 4194295, BOUND_TOLD, BOUND_ADVISED)?,
+    )
 }

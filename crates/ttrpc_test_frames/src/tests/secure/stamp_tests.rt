@@ -1,6 +1,6 @@
 //! Stamps as they are written, refused and counted.
+use crate::tests::checks::{Tested, check, check_row};
 use std::alloc::Global;
-use std::process::Abort;
 use std::test::Fail;
 use ttrpc_bench::{StampIn, StampOut, Transformed, stamps};
 use ttrpc_proto::{GenMessage, MessageHeader, Outgoing, Queued};
@@ -8,79 +8,73 @@ use ttrpc_secure::sending::{SendError, send};
 use ttrpc_secure::{InboundTransform, OutboundTransform, TransformError};
 use ttrpc_wire::Blob;
 
-type Tested = Result<(), Fail>;
-
-/// The half made this of its data.
-fn is(rt: &impl Abort, made: Transformed, expected: &[u8]) -> Tested {
+/// Returns whether a half made this of its data.
+fn is(made: Transformed, expected: &[u8]) -> Result<bool, Fail> {
     let made = made?;
-    assert_eq!(rt; made.as_slice(), expected);
-    Ok(())
+    Ok(made.as_slice() == expected)
 }
 
-/// The half refuses the data, and says why.
-fn refuses<I: InboundTransform>(
-    rt: &impl Abort,
-    alloc: Global,
-    half: &mut I,
-    data: &[u8],
-) -> Tested {
+/// Returns whether the half refuses the data, and says why.
+fn refuses<I: InboundTransform>(alloc: Global, half: &mut I, data: &[u8]) -> Result<bool, Fail> {
     match half.transform_inbound(alloc, data, &[]) {
-        Err(TransformError::Refused(text)) => assert_eq!(rt; text.as_str(), "bad stamp"),
-        other => {
-            let opened = other?;
-            panic!(rt; "{data:?} was opened to {opened:?}");
-        }
+        Err(TransformError::Refused(text)) => Ok(text.as_str() == "bad stamp"),
+        Err(other) => Err(other.into()),
+        Ok(_) => Ok(false),
     }
-    Ok(())
 }
+
+/// Returns whether the half opens the sealed data to these.
+fn opens(alloc: Global, half: &mut StampIn, sealed: &[u8], data: &[u8]) -> Result<bool, Fail> {
+    is(half.transform_inbound(alloc, sealed, &[]), data)
+}
+
+/// Returns whether the data are sealed to these, which are opened to the data.
+fn crosses(
+    alloc: Global,
+    halves: (&mut StampOut, &mut StampIn),
+    data: &[u8],
+    sealed: &[u8],
+) -> Result<bool, Fail> {
+    let (outbound, inbound) = halves;
+    let is_sealed = is(outbound.transform_outbound(alloc, data, &[]), sealed)?;
+    Ok(is_sealed && opens(alloc, inbound, sealed, data)?)
+}
+
+/// Data, and what they are sealed to one after the other.
+const FRAMES: &[(&[u8], &[u8])] = &[(b"one", b"one\x00"), (b"two", b"two\x01"), (b"", b"\x02")];
 
 #[test]
 fn frames_are_stamped_in_turn(rt: HostRuntime) -> Tested {
-    let alloc = rt.alloc();
     let (mut outbound, mut inbound) = stamps();
-    let frames = [
-        (b"one".as_slice(), b"one\x00".as_slice()),
-        (b"two", b"two\x01"),
-        (b"", b"\x02"),
-    ];
-    for (data, sealed) in frames {
-        is(&rt, outbound.transform_outbound(alloc, data, &[]), sealed)?;
-        is(&rt, inbound.transform_inbound(alloc, sealed, &[]), data)?;
+    for (at, (data, sealed)) in FRAMES.iter().enumerate() {
+        let halves = (&mut outbound, &mut inbound);
+        check_row(at, crosses(rt.alloc(), halves, data, sealed)?)?;
     }
-    assert_eq!(rt; outbound.max_overhead(), 1);
-    assert_eq!(rt; <StampOut as OutboundTransform>::SEALS, true);
-    Ok(())
+    check(outbound.max_overhead() == 1 && <StampOut as OutboundTransform>::SEALS == true)
 }
 
 #[test]
 fn a_wrong_stamp_is_refused(rt: HostRuntime) -> Tested {
     let alloc = rt.alloc();
     let mut inbound = StampIn::new();
-    refuses(&rt, alloc, &mut inbound, b"frame\x01")?;
-    refuses(&rt, alloc, &mut inbound, b"")?;
-    is(
-        &rt,
-        inbound.transform_inbound(alloc, b"frame\x00", &[]),
-        b"frame",
-    )?;
-    refuses(&rt, alloc, &mut inbound, b"frame\x00")?;
-    is(
-        &rt,
-        inbound.transform_inbound(alloc, b"frame\x01", &[]),
-        b"frame",
+    check(
+        refuses(alloc, &mut inbound, b"frame\x01")?
+            && refuses(alloc, &mut inbound, b"")?
+            && opens(alloc, &mut inbound, b"frame\x00", b"frame")?
+            && refuses(alloc, &mut inbound, b"frame\x00")?
+            && opens(alloc, &mut inbound, b"frame\x01", b"frame")?,
     )
 }
 
 #[test]
 fn stamps_wrap_around(rt: HostRuntime) -> Tested {
-    let alloc = rt.alloc();
     let mut outbound = StampOut::new();
     let mut inbound = StampIn::new();
     for number in 0..258u16 {
         let stamp = (number % 256) as u8;
-        let sealed = [7, stamp];
-        is(&rt, outbound.transform_outbound(alloc, &[7], &[]), &sealed)?;
-        is(&rt, inbound.transform_inbound(alloc, &sealed, &[]), &[7])?;
+        let halves = (&mut outbound, &mut inbound);
+        let crosses = crosses(rt.alloc(), halves, &[7], &[7, stamp])?;
+        check_row(number as usize, crosses)?;
     }
     Ok(())
 }
@@ -106,6 +100,15 @@ fn sent(outcome: Result<(), SendError>) -> Tested {
     }
 }
 
+/// Returns whether the bytes that are lent next are these, and takes them.
+fn leaves(outgoing: &mut Outgoing, expected: &[u8]) -> bool {
+    let mut buffer = [0; 64];
+    let count = outgoing.lend(&mut buffer);
+    let is_frame = &buffer[..count] == expected;
+    outgoing.wrote(count);
+    is_frame
+}
+
 /// Where memory was refused, nothing is queued, and the half has counted nothing.
 #[test]
 fn a_refused_frame_is_not_counted(rt: HostRuntime) -> Tested {
@@ -113,20 +116,21 @@ fn a_refused_frame_is_not_counted(rt: HostRuntime) -> Tested {
     let (mut half, _) = stamps();
     let mut outgoing = Outgoing::new(alloc);
     let data = vec![in alloc; 7]?;
+    let mut is_unchanged = true;
     if send(alloc, &mut half, &mut outgoing, request(alloc, 1), data).is_err() {
-        assert!(rt; outgoing.is_empty());
+        let is_empty = outgoing.is_empty();
         let data = vec![in alloc; 7]?;
         let again = send(alloc, &mut half, &mut outgoing, request(alloc, 1), data);
-        assert!(rt; again.is_ok());
+        is_unchanged = is_empty && again.is_ok();
     }
-    let mut buffer = [0; 64];
-    assert_eq!(rt; outgoing.lend(&mut buffer), 12);
-    assert_eq!(rt;
-        &buffer[..12],
-        [0, 0, 0, 2, 0, 0, 0, 1, 1, 0, 7, 0].as_slice()
-    );
-    Ok(())
+    check(is_unchanged && leaves(&mut outgoing, &[0, 0, 0, 2, 0, 0, 0, 1, 1, 0, 7, 0]))
 }
+
+const FIRST: &[u8] =
+    b"\0\0\0\x19\0\0\0\x01\x01\0\x0a\x09demo.Echo\x12\x04Echo\x1a\x03\x01\x02\x03\x20\x0a\0";
+
+const SECOND: &[u8] =
+    b"\0\0\0\x19\0\0\0\x03\x01\0\x0a\x09demo.Echo\x12\x04Echo\x1a\x03\x01\x02\x03\x20\x0a\x01";
 
 /// Two requests with one payload leave under the stamps 0 and 1, and their headers count the stamps.
 #[test]
@@ -140,16 +144,5 @@ fn frames_are_sealed_as_they_are_queued(rt: HostRuntime) -> Tested {
         let data = Vec::from_slice(alloc, data)?;
         sent(send(alloc, &mut half, &mut outgoing, request, data))?;
     }
-    let mut buffer = [0; 64];
-    assert_eq!(rt; outgoing.lend(&mut buffer), 35);
-    let first =
-        b"\0\0\0\x19\0\0\0\x01\x01\0\x0a\x09demo.Echo\x12\x04Echo\x1a\x03\x01\x02\x03\x20\x0a\0";
-    assert_eq!(rt; &buffer[..35], first.as_slice());
-    let lent = outgoing.lent();
-    outgoing.wrote(lent);
-    assert_eq!(rt; outgoing.lend(&mut buffer), 35);
-    let second =
-        b"\0\0\0\x19\0\0\0\x03\x01\0\x0a\x09demo.Echo\x12\x04Echo\x1a\x03\x01\x02\x03\x20\x0a\x01";
-    assert_eq!(rt; &buffer[..35], second.as_slice());
-    Ok(())
+    check(leaves(&mut outgoing, FIRST) && leaves(&mut outgoing, SECOND))
 }

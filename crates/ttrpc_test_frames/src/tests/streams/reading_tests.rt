@@ -1,14 +1,12 @@
 //! Each row is read by each reader, from a source that gives it at once, byte by byte, or interrupted.
+use crate::tests::checks::{Tested, check, check_named, check_row};
 use crate::tests::streams::rows::{MANNERS, Parts, REQUEST, REQUEST_HEADER, ROWS, Reads, Row};
 use std::alloc::Global;
 use std::io::ErrorKind;
-use std::process::Abort;
 use std::test::Fail;
 use ttrpc_bench::{AT_ONCE, Giver, Manner};
 use ttrpc_message::{Message, read_message};
 use ttrpc_proto::{Error, GenMessage, GenMessageError, MessageHeader, Request};
-
-type Tested = Result<(), Fail>;
 
 /// A long row comes in some thousand steps at least.
 fn giver_of(row: &Row, manner: Manner) -> Giver<'static> {
@@ -89,54 +87,50 @@ fn is_value(
     }
 }
 
-/// As many bytes weren't read as the row says.
-fn leaves(rt: &impl Abort, row: &Row, giver: &Giver<'_>) -> Tested {
-    assert_eq!(rt; giver.left(), row.left, "{}", row.name);
-    Ok(())
-}
-
-fn reads_parts(rt: &impl Abort, alloc: Global, row: &Row, manner: Manner) -> Tested {
+/// Returns whether the row is read as parts.
+fn reads_parts(alloc: Global, row: &Row, manner: Manner) -> Result<bool, Fail> {
     let mut giver = giver_of(row, manner);
     let read = read_message(alloc, &mut giver);
     if let Err(Error::NoMemory) | Ok((_, Err(Error::NoMemory))) = read {
         return Err(Error::NoMemory.into());
     }
-    assert!(rt; are_parts(row, &read), "{}", row.name);
-    leaves(rt, row, &giver)
+    Ok(are_parts(row, &read) && giver.left() == row.left)
 }
 
-fn reads_message(rt: &impl Abort, alloc: Global, row: &Row, manner: Manner) -> Tested {
+/// Returns whether the row is read as a message.
+fn reads_message(alloc: Global, row: &Row, manner: Manner) -> Result<bool, Fail> {
     let mut giver = giver_of(row, manner);
     let read = GenMessage::read_from(alloc, &mut giver);
     if is_refused(&read) {
         return Err(Error::NoMemory.into());
     }
-    assert!(rt; is_message(row, &read), "{}", row.name);
-    leaves(rt, row, &giver)
+    Ok(is_message(row, &read) && giver.left() == row.left)
 }
 
-fn reads_value(rt: &impl Abort, alloc: Global, row: &Row, manner: Manner) -> Tested {
+/// Returns whether the row is read as a value.
+fn reads_value(alloc: Global, row: &Row, manner: Manner) -> Result<bool, Fail> {
     let mut giver = giver_of(row, manner);
     let read = Message::<Request>::read_from(alloc, &mut giver);
     if let Err(Error::NoMemory) = read {
         return Err(Error::NoMemory.into());
     }
-    assert!(rt; is_value(alloc, row, read)?, "{}", row.name);
-    leaves(rt, row, &giver)
+    Ok(is_value(alloc, row, read)? && giver.left() == row.left)
 }
 
-/// The row is read in each way.
-fn reads(rt: &impl Abort, alloc: Global, row: &Row, manner: Manner) -> Tested {
-    reads_parts(rt, alloc, row, manner)?;
-    reads_message(rt, alloc, row, manner)?;
-    reads_value(rt, alloc, row, manner)
+/// Returns whether the row is read in each way.
+fn reads(alloc: Global, row: &Row, manner: Manner) -> Result<bool, Fail> {
+    Ok(
+        reads_parts(alloc, row, manner)?
+            && reads_message(alloc, row, manner)?
+            && reads_value(alloc, row, manner)?,
+    )
 }
 
 #[test]
 fn rows_are_read_as_parts_messages_and_values(rt: HostRuntime) -> Tested {
     for row in ROWS {
         for manner in MANNERS {
-            reads(&rt, rt.alloc(), row, *manner)?;
+            check_named(row.name, reads(rt.alloc(), row, *manner)?)?;
         }
     }
     Ok(())
@@ -164,12 +158,8 @@ fn failing_behind(count: usize) -> Row {
 #[test]
 fn a_reader_fails_at_each_place(rt: HostRuntime) -> Tested {
     for count in 0..30 {
-        reads(
-            &rt,
-            rt.alloc(),
-            &failing_behind(count),
-            broken_behind(count),
-        )?;
+        let row = failing_behind(count);
+        check_row(count, reads(rt.alloc(), &row, broken_behind(count))?)?;
     }
     Ok(())
 }
@@ -184,38 +174,40 @@ fn a_reader_fails_in_what_is_thrown_away(rt: HostRuntime) -> Tested {
         left: 4184315,
         ..failing_behind(0)
     };
-    reads(&rt, rt.alloc(), &row, broken_behind(10000))
+    check(reads(rt.alloc(), &row, broken_behind(10000))?)
 }
 
-fn reads_header(rt: &impl Abort, count: usize, manner: Manner) -> Tested {
-    let mut giver = Giver::new(&REQUEST[..count.min(30)], manner);
-    match MessageHeader::read_from(&mut giver) {
-        Ok(header) => {
-            assert!(rt; header == REQUEST_HEADER && count >= 10);
-            assert_eq!(rt; giver.left(), count.saturating_sub(10));
-        }
-        Err(error) => {
-            let kind = if manner.behind.is_some() {
-                ErrorKind::ConnectionReset
-            } else {
-                ErrorKind::UnexpectedEof
-            };
-            assert!(rt; error.kind() == kind);
-            assert!(rt; count < 10 || manner.behind.is_some());
-        }
+/// The kind with which such a reader of a header fails.
+fn kind_of(manner: Manner) -> ErrorKind {
+    if manner.behind.is_some() {
+        ErrorKind::ConnectionReset
+    } else {
+        ErrorKind::UnexpectedEof
     }
-    Ok(())
+}
+
+/// Returns whether so many bytes of a request read as its header, or fail as they should.
+fn reads_header(count: usize, manner: Manner) -> bool {
+    let mut giver = Giver::new(&REQUEST[..count.min(30)], manner);
+    let read = MessageHeader::read_from(&mut giver);
+    let left = giver.left();
+    match read {
+        Ok(header) => {
+            header == REQUEST_HEADER && count >= 10 && left == count.saturating_sub(10)
+        }
+        Err(error) => { error.kind() == kind_of(manner) && (count < 10 || manner.behind.is_some()) }
+    }
 }
 
 #[test]
-fn headers_are_read_alone(rt: HostRuntime) -> Tested {
+fn headers_are_read_alone() -> Tested {
     for count in 0..31 {
         for manner in MANNERS {
-            reads_header(&rt, count, *manner)?;
+            check_row(count, reads_header(count, *manner))?;
         }
     }
     for behind in 0..10 {
-        reads_header(&rt, 30, broken_behind(behind))?;
+        check_row(behind, reads_header(30, broken_behind(behind)))?;
     }
     Ok(())
 }

@@ -1,16 +1,14 @@
 //! Each writer writes messages to a sink that takes them at once, byte by byte, interrupted, or not whole.
+use crate::tests::checks::{Tested, check, check_row};
 use crate::tests::streams::recorder::{Kept, Recorder};
 use crate::tests::streams::rows::{MANNERS, REQUEST, REQUEST_HEADER, REQUEST_PAYLOAD};
 use std::alloc::Global;
 use std::io::ErrorKind;
-use std::process::Abort;
 use std::test::Fail;
 use ttrpc_bench::{AT_ONCE, Manner, Receiver, StdWriter};
 use ttrpc_message::{Message, write_message};
 use ttrpc_proto::{Error, GenMessage, MessageHeader, Request, Result as Answer};
 use ttrpc_wire::Blob;
-
-type Tested = Result<(), Fail>;
 
 /// The three writers of messages, and whether each flushes.
 #[derive(Clone, Copy, PartialEq, Eq)]
@@ -44,55 +42,61 @@ fn write_by(alloc: Global, writer: Writer, receiver: &mut Receiver) -> Result<An
     })
 }
 
-fn writes_whole(rt: &impl Abort, alloc: Global, writer: Writer, manner: Manner) -> Tested {
+/// Returns whether the receiver got these bytes, and so many flushes.
+fn got(receiver: &Receiver, bytes: &[u8], flushes: usize) -> bool {
+    receiver.taken.as_slice() == bytes && receiver.flushes == flushes
+}
+
+/// Returns whether the writer writes the request whole, and flushes as it should.
+fn writes_whole(alloc: Global, writer: Writer, manner: Manner) -> Result<bool, Fail> {
     let mut receiver = Receiver::new(alloc, manner)?;
     write_by(alloc, writer, &mut receiver)??;
-    assert_eq!(rt; receiver.taken.as_slice(), REQUEST);
     let flushes = if writer == Writer::Parts { 0 } else { 1 };
-    assert_eq!(rt; receiver.flushes, flushes);
-    Ok(())
+    Ok(got(&receiver, REQUEST, flushes))
 }
 
 #[test]
 fn a_request_is_written(rt: HostRuntime) -> Tested {
     for writer in WRITERS {
-        for manner in MANNERS {
-            writes_whole(&rt, rt.alloc(), *writer, *manner)?;
+        for (at, manner) in MANNERS.iter().enumerate() {
+            check_row(at, writes_whole(rt.alloc(), *writer, *manner)?)?;
         }
     }
     Ok(())
 }
 
-/// After so many bytes the writer fails or takes nothing: those went out, and nothing behind them.
+/// Returns whether the answer is a socket's error, of the right text where the writer of parts writes nothing.
+fn is_broken(writer: Writer, behind: Option<ErrorKind>, answer: Answer<()>) -> Result<bool, Fail> {
+    match answer {
+        Err(Error::Socket(text)) => Ok(
+            writer != Writer::Parts
+                || behind.is_some()
+                || text.as_str() == "failed to write ttrpc frame: write zero",
+        ),
+        Err(error) => Err(error.into()),
+        Ok(()) => Ok(false),
+    }
+}
+
+/// Returns whether a writer that fails or takes nothing after so many bytes has got those, and nothing behind them.
 fn breaks_behind(
-    rt: &impl Abort,
     alloc: Global,
     writer: Writer,
     count: usize,
     behind: Option<ErrorKind>,
-) -> Tested {
+) -> Result<bool, Fail> {
     let mut receiver = Receiver::new(alloc, AT_ONCE.ending(count, behind))?;
-    match write_by(alloc, writer, &mut receiver)? {
-        Err(Error::Socket(text)) => {
-            if writer == Writer::Parts && behind.is_none() {
-                let told = "failed to write ttrpc frame: write zero";
-                assert_eq!(rt; text.as_str(), told);
-            }
-        }
-        Err(error) => return Err(error.into()),
-        Ok(()) => assert!(rt; false, "written behind an error"),
-    }
-    assert_eq!(rt; receiver.taken.as_slice(), &REQUEST[..count.min(30)]);
-    assert_eq!(rt; receiver.flushes, 0);
-    Ok(())
+    let answer = write_by(alloc, writer, &mut receiver)?;
+    Ok(is_broken(writer, behind, answer)? && got(&receiver, &REQUEST[..count.min(30)], 0))
 }
 
 #[test]
 fn a_writer_breaks_at_each_place(rt: HostRuntime) -> Tested {
+    let broken = Some(ErrorKind::BrokenPipe);
     for writer in WRITERS {
         for count in 0..30 {
-            breaks_behind(&rt, rt.alloc(), *writer, count, Some(ErrorKind::BrokenPipe))?;
-            breaks_behind(&rt, rt.alloc(), *writer, count, None)?;
+            check_row(count, breaks_behind(rt.alloc(), *writer, count, broken)?)?;
+            check_row(count, breaks_behind(rt.alloc(), *writer, count, None)?)?;
         }
     }
     Ok(())
@@ -105,22 +109,27 @@ const UNFLUSHED: Manner = Manner {
     ..AT_ONCE
 };
 
+/// Returns whether a failed flush is an error of the writers that flush.
+fn is_unflushed(alloc: Global, writer: Writer) -> Result<bool, Fail> {
+    let mut receiver = Receiver::new(alloc, UNFLUSHED)?;
+    let answer = write_by(alloc, writer, &mut receiver)?;
+    if let Err(Error::NoMemory) = answer {
+        return Err(Error::NoMemory.into());
+    }
+    let fails = writer != Writer::Parts;
+    Ok(answer.is_err() == fails && receiver.taken.as_slice() == REQUEST)
+}
+
 #[test]
 fn a_failed_flush_is_an_error(rt: HostRuntime) -> Tested {
-    for writer in WRITERS {
-        let mut receiver = Receiver::new(rt.alloc(), UNFLUSHED)?;
-        let answer = write_by(rt.alloc(), *writer, &mut receiver)?;
-        if let Err(Error::NoMemory) = answer {
-            return Err(Error::NoMemory.into());
-        }
-        assert!(rt; answer.is_err() == (*writer != Writer::Parts));
-        assert_eq!(rt; receiver.taken.as_slice(), REQUEST);
+    for (at, writer) in WRITERS.iter().enumerate() {
+        check_row(at, is_unflushed(rt.alloc(), *writer)?)?;
     }
     Ok(())
 }
 
-/// A payload of so many bytes, and the offers that a writer that takes all gets.
-fn is_offered(rt: &impl Abort, alloc: Global, count: usize, offers: &[usize]) -> Tested {
+/// Returns whether a writer that takes all gets these offers of a payload of so many bytes.
+fn is_offered(alloc: Global, count: usize, offers: &[usize]) -> Result<bool, Fail> {
     let mut payload = Vec::new(alloc);
     payload.resize(count, 7)?;
     let mut prefix = Vec::new(alloc);
@@ -133,18 +142,25 @@ fn is_offered(rt: &impl Abort, alloc: Global, count: usize, offers: &[usize]) ->
         payload.as_slice(),
         &mut prefix,
     )?;
-    assert_eq!(rt; receiver.offers.as_slice(), offers, "{count} bytes");
-    assert_eq!(rt; receiver.taken.len(), count.saturating_add(10));
-    Ok(())
+    let is_whole = receiver.taken.len() == count.saturating_add(10);
+    Ok(is_whole && receiver.offers.as_slice() == offers)
 }
+
+/// Lengths of payloads, and the offers that are made of each.
+const OFFERS: &[(usize, &[usize])] = &[
+    (0, &[10]),
+    (4085, &[4095]),
+    (4086, &[4096]),
+    (4087, &[4096, 1]),
+];
 
 /// A page has the header and 4086 bytes. The header stands as it was handed in.
 #[test]
 fn a_page_is_offered_first(rt: HostRuntime) -> Tested {
-    is_offered(&rt, rt.alloc(), 0, &[10])?;
-    is_offered(&rt, rt.alloc(), 4085, &[4095])?;
-    is_offered(&rt, rt.alloc(), 4086, &[4096])?;
-    is_offered(&rt, rt.alloc(), 4087, &[4096, 1])
+    for (at, (count, offers)) in OFFERS.iter().enumerate() {
+        check_row(at, is_offered(rt.alloc(), *count, offers)?)?;
+    }
+    Ok(())
 }
 
 /// The lengths of the offers that a recorder kept, and 0 for a flush.
@@ -174,30 +190,32 @@ fn a_flush_comes_last(rt: HostRuntime) -> Tested {
     };
     message.write_to(alloc, &mut recorder)?;
     let offers = lengths(alloc, recorder.kept.as_slice())?;
-    assert_eq!(rt; offers.as_slice(), [4096, 914, 0].as_slice());
-    Ok(())
+    check(offers.as_slice() == [4096, 914, 0].as_slice())
 }
 
-fn writes_header(rt: &impl Abort, alloc: Global, manner: Manner) -> Tested {
+/// Returns whether a header is offered and written alone, and flushed.
+fn writes_header(alloc: Global, manner: Manner) -> Result<bool, Fail> {
     let mut receiver = Receiver::new(alloc, manner)?;
     REQUEST_HEADER.write_to(&mut receiver)?;
-    assert_eq!(rt; receiver.taken.as_slice(), &REQUEST[..10]);
-    assert_eq!(rt; receiver.offers.as_slice().first().copied(), Some(10));
-    assert_eq!(rt; receiver.flushes, 1);
-    Ok(())
+    let offered = receiver.offers.as_slice().first().copied();
+    Ok(offered == Some(10) && got(&receiver, &REQUEST[..10], 1))
+}
+
+/// Returns whether a failed flush behind a header is an error.
+fn fails_to_flush(alloc: Global) -> Result<bool, Fail> {
+    let mut failing = Receiver::new(alloc, UNFLUSHED)?;
+    match REQUEST_HEADER.write_to(&mut failing) {
+        Err(error) => Ok(error.kind() == ErrorKind::BrokenPipe),
+        Ok(()) => Ok(false),
+    }
 }
 
 #[test]
 fn a_header_is_written_alone(rt: HostRuntime) -> Tested {
-    for manner in MANNERS {
-        writes_header(&rt, rt.alloc(), *manner)?;
+    for (at, manner) in MANNERS.iter().enumerate() {
+        check_row(at, writes_header(rt.alloc(), *manner)?)?;
     }
-    let mut failing = Receiver::new(rt.alloc(), UNFLUSHED)?;
-    match REQUEST_HEADER.write_to(&mut failing) {
-        Err(error) => assert!(rt; error.kind() == ErrorKind::BrokenPipe),
-        Ok(()) => assert!(rt; false, "a failed flush"),
-    }
-    Ok(())
+    check(fails_to_flush(rt.alloc())?)
 }
 
 /// A flush of a writer of std's is handed on.
@@ -205,9 +223,7 @@ fn a_header_is_written_alone(rt: HostRuntime) -> Tested {
 fn a_writer_of_std_is_flushed(rt: HostRuntime) -> Tested {
     let mut writer = StdWriter::new(rt.alloc(), AT_ONCE)?;
     REQUEST_HEADER.write_to(&mut writer)?;
-    assert_eq!(rt; writer.receiver.taken.as_slice(), &REQUEST[..10]);
-    assert_eq!(rt; writer.receiver.flushes, 1);
     let mut failing = StdWriter::new(rt.alloc(), UNFLUSHED)?;
-    assert!(rt; REQUEST_HEADER.write_to(&mut failing).is_err());
-    Ok(())
+    let is_refused = REQUEST_HEADER.write_to(&mut failing).is_err();
+    check(is_refused && got(&writer.receiver, &REQUEST[..10], 1))
 }

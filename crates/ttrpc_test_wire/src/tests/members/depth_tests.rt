@@ -1,8 +1,8 @@
 //! Messages that contain themselves, down to the limit of depth and beyond it.
-use crate::tests::members::members_tests::{Tested, all_are_one, all_are_refused};
+use crate::tests::checks::{Tested, check, check_row};
+use crate::tests::members::members_tests::{check_pairs, check_refusals, is_refused, is_written};
 use crate::tests::members::vectors::TREE;
 use std::alloc::{AllocError, Global};
-use std::process::Abort;
 use std::test::Fail;
 use ttrpc_members::enclosed::Enclosed;
 use ttrpc_test_members::messages::{Cell, CellKind, Row, Sheet, Tree, TreeRules};
@@ -30,27 +30,40 @@ fn nested(alloc: Global, tag: u8, levels: usize) -> Result<Vec<u8>, AllocError> 
     Ok(bytes)
 }
 
-/// What the bytes mean is written as these.
-fn is_kept<M: WireMessage>(rt: &impl Abort, alloc: Global, bytes: &[u8]) -> Tested {
-    let message = M::decode(alloc, bytes)?;
-    assert_eq!(rt; message.encode(alloc)?.as_slice(), bytes);
-    Ok(())
+/// Returns whether what the bytes mean is a tree that is written as these.
+fn is_kept(alloc: Global, bytes: &[u8]) -> Result<bool, Fail> {
+    is_written::<Tree>(alloc, bytes, bytes)
 }
 
-/// What the bytes mean nests too deep.
-fn is_too_deep<M: WireMessage>(rt: &impl Abort, alloc: Global, bytes: &[u8]) -> Tested {
-    all_are_refused::<M>(rt, alloc, &[(bytes, CodecError::TooDeep)])
+/// Returns whether the tree that the bytes mean nests too deep.
+fn is_too_deep(alloc: Global, bytes: &[u8]) -> bool {
+    is_refused::<Tree>(alloc, bytes, CodecError::TooDeep)
+}
+
+/// Numbers of levels, and whether so many are taken.
+const LEVELS: &[(usize, bool)] = &[
+    (0, true),
+    (1, true),
+    (100, true),
+    (101, false),
+    (1000, false),
+];
+
+/// Returns whether so many levels under this tag are taken, or refused.
+fn are_levels(alloc: Global, tag: u8, levels: usize, taken: bool) -> Result<bool, Fail> {
+    let bytes = nested(alloc, tag, levels)?;
+    if taken {
+        is_kept(alloc, bytes.as_slice())
+    } else {
+        Ok(is_too_deep(alloc, bytes.as_slice()))
+    }
 }
 
 #[test]
 fn a_hundred_levels_are_taken_and_no_more(rt: HostRuntime) -> Tested {
-    let alloc = rt.alloc();
-    for tag in [CHILDREN, BEST] {
-        is_kept::<Tree>(&rt, alloc, nested(alloc, tag, 0)?.as_slice())?;
-        is_kept::<Tree>(&rt, alloc, nested(alloc, tag, 1)?.as_slice())?;
-        is_kept::<Tree>(&rt, alloc, nested(alloc, tag, 100)?.as_slice())?;
-        is_too_deep::<Tree>(&rt, alloc, nested(alloc, tag, 101)?.as_slice())?;
-        is_too_deep::<Tree>(&rt, alloc, nested(alloc, tag, 1000)?.as_slice())?;
+    for (at, (levels, taken)) in LEVELS.iter().enumerate() {
+        check_row(at, are_levels(rt.alloc(), CHILDREN, *levels, *taken)?)?;
+        check_row(at, are_levels(rt.alloc(), BEST, *levels, *taken)?)?;
     }
     Ok(())
 }
@@ -59,8 +72,8 @@ fn a_hundred_levels_are_taken_and_no_more(rt: HostRuntime) -> Tested {
 fn megabytes_of_levels_take_no_stack(rt: HostRuntime) -> Tested {
     let alloc = rt.alloc();
     let bytes = nested(alloc, CHILDREN, 926000)?;
-    assert!(rt; bytes.len() > 4000000 && bytes.len() < 4194304);
-    is_too_deep::<Tree>(&rt, alloc, bytes.as_slice())
+    let is_long = bytes.len() > 4000000 && bytes.len() < 4194304;
+    check(is_long && is_too_deep(alloc, bytes.as_slice()))
 }
 
 /// A map's value in a map's value, and so on: so many. Each entry has no key.
@@ -83,53 +96,55 @@ fn nested_in_maps(alloc: Global, levels: usize) -> Result<Vec<u8>, AllocError> {
 #[test]
 fn an_entry_of_a_map_is_a_level_too(rt: HostRuntime) -> Tested {
     let alloc = rt.alloc();
-    is_kept::<Tree>(&rt, alloc, nested_in_maps(alloc, 50)?.as_slice())?;
-    is_too_deep::<Tree>(&rt, alloc, nested_in_maps(alloc, 51)?.as_slice())
+    let most = nested_in_maps(alloc, 50)?;
+    let more = nested_in_maps(alloc, 51)?;
+    check(is_kept(alloc, most.as_slice())? && is_too_deep(alloc, more.as_slice()))
 }
 
-#[test]
-fn a_deep_value_is_not_made(rt: HostRuntime) -> Tested {
-    let alloc = rt.alloc();
+/// A tree of a hundred levels, made from the innermost one on.
+fn deep_tree(alloc: Global) -> Result<Tree, Fail> {
     let mut tree = Tree::new(alloc);
     for _ in 0..100 {
         let child = Enclosed::from_message(alloc, &tree)?;
         tree = Tree::new(alloc);
         tree.children.push(child)?;
     }
+    Ok(tree)
+}
+
+#[test]
+fn a_deep_value_is_not_made(rt: HostRuntime) -> Tested {
+    let alloc = rt.alloc();
+    let tree = deep_tree(alloc)?;
     let written = tree.encode(alloc)?;
-    assert_eq!(rt;
-        written.as_slice(),
-        nested(alloc, CHILDREN, 100)?.as_slice()
-    );
+    let is_written = written.as_slice() == nested(alloc, CHILDREN, 100)?.as_slice();
     let refused: Result<Enclosed<TreeRules>, CodecError> = Enclosed::from_message(alloc, &tree);
-    assert!(rt; refused.err() == Some(CodecError::TooDeep));
-    Ok(())
+    check(is_written && refused.err() == Some(CodecError::TooDeep))
 }
 
 #[test]
 fn trees_are_those_of_the_other_implementation(rt: HostRuntime) -> Tested {
-    all_are_one::<Tree>(&rt, rt.alloc(), TREE)
+    check_pairs::<Tree>(rt.alloc(), TREE)
 }
 
 #[test]
 fn bytes_are_taken_and_joined(rt: HostRuntime) -> Tested {
     let alloc = rt.alloc();
     let mut tree: Enclosed<TreeRules> = Enclosed::new(alloc);
-    assert!(rt; tree.as_bytes().is_empty());
+    let is_empty = tree.as_bytes().is_empty();
     tree.append(b"\x0a\x01a")?;
     tree.append(b"\x12\0")?;
-    assert!(rt; tree.append(b"\x0a\x01\xff") == Err(CodecError::BadUtf8));
-    assert_eq!(rt; tree.as_bytes(), &b"\x0a\x01a\x12\0"[..]);
+    let is_refused = tree.append(b"\x0a\x01\xff") == Err(CodecError::BadUtf8);
+    let is_joined = tree.as_bytes() == &b"\x0a\x01a\x12\0"[..];
     let copy = tree.try_clone()?;
-    is_read_again(&rt, alloc, copy.as_bytes())
+    check(is_empty && is_refused && is_joined && is_read_again(alloc, copy.as_bytes())?)
 }
 
-/// These bytes are a tree of the name `a` with a child.
-fn is_read_again(rt: &impl Abort, alloc: Global, bytes: &[u8]) -> Tested {
+/// Returns whether these bytes are a tree of the name `a` with a child.
+fn is_read_again(alloc: Global, bytes: &[u8]) -> Result<bool, Fail> {
     let same: Enclosed<TreeRules> = Enclosed::from_bytes(alloc, bytes)?;
     let message: Tree = same.message(alloc)?;
-    assert_eq!(rt; (message.name.as_str(), message.children.len()), ("a", 1));
-    Ok(())
+    Ok(message.name.as_str() == "a" && message.children.len() == 1)
 }
 
 #[test]
@@ -140,8 +155,7 @@ fn deep_bytes_are_not_taken(rt: HostRuntime) -> Tested {
         alloc,
         deep.as_slice(),
     );
-    assert!(rt; refused.err() == Some(CodecError::TooDeep));
-    Ok(())
+    check(refused.err() == Some(CodecError::TooDeep))
 }
 
 /// A tree with a member of each kind, and a child with each, too.
@@ -152,31 +166,39 @@ const GROWN: &[u8] = b"\x0a\x01a\
     \x2a\x03\x0a\x01f\
     \x32\x02\x03\x04";
 
+/// Returns whether the one child of the tree above has what is in it.
+fn has_grown_child(alloc: Global, tree: &Tree) -> Result<bool, Fail> {
+    let mut all = tree.children.len() == 1;
+    for child in tree.children.iter() {
+        let child: Tree = child.message(alloc)?;
+        all = all && is_grown(&child) && is_best_c(alloc, &child)?;
+    }
+    Ok(all)
+}
+
 #[test]
 fn what_is_in_a_tree_is_read(rt: HostRuntime) -> Tested {
     let alloc = rt.alloc();
-    is_kept::<Tree>(&rt, alloc, GROWN)?;
+    let is_kept = is_kept(alloc, GROWN)?;
     let tree = Tree::decode(alloc, GROWN)?;
-    assert_eq!(rt; tree.children.len(), 1);
-    for child in tree.children.iter() {
-        is_grown(&rt, alloc, &child.message(alloc)?)?;
-    }
-    Ok(())
+    check(is_kept && has_grown_child(alloc, &tree)?)
 }
 
-/// The child of the tree above, with what is in it.
-fn is_grown(rt: &impl Abort, alloc: Global, child: &Tree) -> Tested {
-    assert_eq!(rt; child.name.as_str(), "b");
-    assert_eq!(rt; child.numbers.as_slice(), &[-1, 1][..]);
-    assert_eq!(rt; (child.children.len(), child.named.len()), (1, 1));
-    match &child.best {
-        Some(best) => {
-            let best: Tree = best.message(alloc)?;
-            assert_eq!(rt; best.name.as_str(), "c");
-        }
-        None => assert!(rt; false, "no best"),
-    }
-    Ok(())
+/// Returns whether this has the name, the numbers and the children of the child of the tree above.
+fn is_grown(child: &Tree) -> bool {
+    child.name.as_str() == "b"
+        && child.numbers.as_slice() == &[-1, 1][..]
+        && child.children.len() == 1
+        && child.named.len() == 1
+}
+
+/// Returns whether the optional child has the name `c`.
+fn is_best_c(alloc: Global, child: &Tree) -> Result<bool, Fail> {
+    let Some(best) = &child.best else {
+        return Ok(false);
+    };
+    let best: Tree = best.message(alloc)?;
+    Ok(best.name.as_str() == "c")
 }
 
 /// An optional message in two parts: the later one goes behind the first.
@@ -193,8 +215,8 @@ const CHOSEN: &[(&[u8], &[u8])] = &[
 
 #[test]
 fn parts_are_joined(rt: HostRuntime) -> Tested {
-    all_are_one::<Tree>(&rt, rt.alloc(), PARTED)?;
-    all_are_one::<Cell>(&rt, rt.alloc(), CHOSEN)
+    check_pairs::<Tree>(rt.alloc(), PARTED)?;
+    check_pairs::<Cell>(rt.alloc(), CHOSEN)
 }
 
 /// Bytes that mean no tree, and why: what is in one is read, too.
@@ -221,7 +243,7 @@ const BAD_TREES: &[(&[u8], CodecError)] = &[
 
 #[test]
 fn bad_trees_are_refused(rt: HostRuntime) -> Tested {
-    all_are_refused::<Tree>(&rt, rt.alloc(), BAD_TREES)
+    check_refusals::<Tree>(rt.alloc(), BAD_TREES)
 }
 
 /// A row of a number, a text, a sheet of a number under a key, and an empty row.
@@ -230,23 +252,25 @@ const CELLS: &[u8] = b"\x0a\x09\x09\0\0\0\0\0\0\xf0\x3f\
     \x0a\x12\x1a\x10\x0a\x0e\x0a\x01k\x12\x09\x09\0\0\0\0\0\0\0\x40\
     \x0a\x02\x22\0";
 
+/// Returns whether the row has four cells, and a sheet of one cell in one of them.
+fn has_cells(alloc: Global, row: &Row) -> Result<bool, Fail> {
+    let mut has_sheet = false;
+    for cell in row.cells.iter() {
+        let cell: Cell = cell.message(alloc)?;
+        has_sheet = has_small_sheet(alloc, &cell)? || has_sheet;
+    }
+    Ok(has_sheet && row.cells.len() == 4)
+}
+
 #[test]
 fn messages_contain_one_another(rt: HostRuntime) -> Tested {
     let alloc = rt.alloc();
-    is_kept::<Row>(&rt, alloc, CELLS)?;
+    let is_kept = is_written::<Row>(alloc, CELLS, CELLS)?;
     let row = Row::decode(alloc, CELLS)?;
-    let mut sheets = 0;
-    for cell in row.cells.iter() {
-        let cell: Cell = cell.message(alloc)?;
-        if has_small_sheet(alloc, &cell)? {
-            sheets = 1;
-        }
-    }
-    assert_eq!(rt; (row.cells.len(), sheets), (4, 1));
-    Ok(())
+    check(is_kept && has_cells(alloc, &row)?)
 }
 
-/// Whether there is a sheet of one cell in it.
+/// Returns whether there is a sheet of one cell in it.
 fn has_small_sheet(alloc: Global, cell: &Cell) -> Result<bool, Fail> {
     let Some(CellKind::Sheet(sheet)) = &cell.kind else {
         return Ok(false);

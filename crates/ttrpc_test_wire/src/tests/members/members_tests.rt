@@ -1,15 +1,13 @@
 //! Messages as bytes, and what those bytes mean.
+use crate::tests::checks::{Tested, check_row};
 use crate::tests::members::vectors::{ALL, CHOICES, FIGURES, LISTS, OPTIONS, TABLES};
 use std::alloc::Global;
-use std::process::Abort;
 use std::test::Fail;
 use ttrpc_test_members::messages::{All, Choices, Figures, Lists, Options, Tables};
 use ttrpc_wire::codec::message::WireMessage;
 use ttrpc_wire::{Codec, CodecError};
 
-pub type Tested = Result<(), Fail>;
-
-/// Whether the numbers are equal.
+/// Returns whether the numbers are equal.
 fn are_equal(a: &Figures, b: &Figures) -> bool {
     let varints = a.a == b.a && a.b == b.b && a.c == b.c && a.d == b.d && a.g == b.g && a.n == b.n;
     let zigzags = a.e == b.e && a.f == b.f;
@@ -17,57 +15,65 @@ fn are_equal(a: &Figures, b: &Figures) -> bool {
     varints && zigzags && fixed
 }
 
-/// Each pair of bytes means one value, whose written form the first ones are.
-pub fn all_are_one<M: WireMessage>(
-    rt: &impl Abort,
+/// Returns whether what the bytes mean is written as these.
+pub fn is_written<M: WireMessage>(
     alloc: Global,
-    rows: &[(&[u8], &[u8])],
-) -> Tested {
-    for (canonical, other) in rows {
-        for bytes in [*canonical, *other] {
-            let message = M::decode(alloc, bytes)?;
-            let written = message.encode(alloc)?;
-            assert_eq!(rt; written.as_slice(), *canonical);
-        }
+    bytes: &[u8],
+    written: &[u8],
+) -> Result<bool, Fail> {
+    let message = M::decode(alloc, bytes)?;
+    let encoded = message.encode(alloc)?;
+    Ok(encoded.as_slice() == written)
+}
+
+/// Checks that each pair of bytes means one value, whose written form the first ones are.
+pub fn check_pairs<M: WireMessage>(alloc: Global, rows: &[(&[u8], &[u8])]) -> Tested {
+    for (at, (canonical, other)) in rows.iter().enumerate() {
+        check_row(at, is_written::<M>(alloc, canonical, canonical)?)?;
+        check_row(at, is_written::<M>(alloc, other, canonical)?)?;
     }
     Ok(())
 }
 
+/// Returns whether the bytes mean these numbers, and are their written form.
+fn are_figures(alloc: Global, bytes: &[u8], figures: &Figures) -> Result<bool, Fail> {
+    let read = Figures::decode(alloc, bytes)?;
+    let written = figures.encode(alloc)?;
+    Ok(are_equal(&read, figures) && written.as_slice() == bytes)
+}
+
 #[test]
 fn numbers_are_those_of_the_other_implementation(rt: HostRuntime) -> Tested {
-    for (bytes, figures) in FIGURES {
-        let read = Figures::decode(rt.alloc(), bytes)?;
-        assert!(rt; are_equal(&read, figures));
-        let written = figures.encode(rt.alloc())?;
-        assert_eq!(rt; written.as_slice(), *bytes);
+    for (at, (bytes, figures)) in FIGURES.iter().enumerate() {
+        check_row(at, are_figures(rt.alloc(), bytes, figures)?)?;
     }
     Ok(())
 }
 
 #[test]
 fn lists_are_read_in_either_spelling(rt: HostRuntime) -> Tested {
-    all_are_one::<Lists>(&rt, rt.alloc(), LISTS)
+    check_pairs::<Lists>(rt.alloc(), LISTS)
 }
 
 #[test]
 fn presence_is_kept(rt: HostRuntime) -> Tested {
-    all_are_one::<Options>(&rt, rt.alloc(), OPTIONS)
+    check_pairs::<Options>(rt.alloc(), OPTIONS)
 }
 
 #[test]
 fn maps_are_written_by_rising_key(rt: HostRuntime) -> Tested {
-    all_are_one::<Tables>(&rt, rt.alloc(), TABLES)
+    check_pairs::<Tables>(rt.alloc(), TABLES)
 }
 
 #[test]
 fn the_last_of_several_wins(rt: HostRuntime) -> Tested {
-    all_are_one::<Choices>(&rt, rt.alloc(), CHOICES)?;
-    all_are_one::<Choices>(&rt, rt.alloc(), MERGED)
+    check_pairs::<Choices>(rt.alloc(), CHOICES)?;
+    check_pairs::<Choices>(rt.alloc(), MERGED)
 }
 
 #[test]
 fn nested_messages_are_one_value(rt: HostRuntime) -> Tested {
-    all_are_one::<All>(&rt, rt.alloc(), ALL)
+    check_pairs::<All>(rt.alloc(), ALL)
 }
 
 /// Bytes that mean none of the messages, and why.
@@ -131,32 +137,33 @@ const MERGED: &[(&[u8], &[u8])] = &[
     (b"\x12\x01a", b"\x12\x01a\x0a\x01b\x25\0\0\0\0"),
 ];
 
-/// Each of the bytes is refused so.
-pub fn all_are_refused<M: WireMessage>(
-    rt: &impl Abort,
-    alloc: Global,
-    rows: &[(&[u8], CodecError)],
-) -> Tested {
-    for (bytes, error) in rows {
-        match M::decode(alloc, bytes) {
-            Ok(_message) => assert!(rt; false, "taken"),
-            Err(told) => assert_eq!(rt; told, *error),
-        }
+/// Returns whether the bytes are refused so.
+pub fn is_refused<M: WireMessage>(alloc: Global, bytes: &[u8], error: CodecError) -> bool {
+    match M::decode(alloc, bytes) {
+        Ok(_message) => false,
+        Err(told) => told == error,
+    }
+}
+
+/// Checks that each of the bytes is refused so.
+pub fn check_refusals<M: WireMessage>(alloc: Global, rows: &[(&[u8], CodecError)]) -> Tested {
+    for (at, (bytes, error)) in rows.iter().enumerate() {
+        check_row(at, is_refused::<M>(alloc, bytes, *error))?;
     }
     Ok(())
 }
 
 #[test]
 fn bad_lists_are_refused(rt: HostRuntime) -> Tested {
-    all_are_refused::<Lists>(&rt, rt.alloc(), REFUSED)
+    check_refusals::<Lists>(rt.alloc(), REFUSED)
 }
 
 #[test]
 fn bad_maps_are_refused(rt: HostRuntime) -> Tested {
-    all_are_refused::<Tables>(&rt, rt.alloc(), NO_TABLES)
+    check_refusals::<Tables>(rt.alloc(), NO_TABLES)
 }
 
 #[test]
 fn entries_are_read_in_any_spelling(rt: HostRuntime) -> Tested {
-    all_are_one::<Tables>(&rt, rt.alloc(), SPELLED)
+    check_pairs::<Tables>(rt.alloc(), SPELLED)
 }
