@@ -5,7 +5,7 @@ use std::alloc::Global;
 use ttrpc_proto::{Error, Request, Result};
 use ttrpc_wire::{Blob, Sequence, Text};
 
-/// A request of `Echo` with this payload.
+/// Makes a request of `Echo` with this payload.
 pub fn request_of(alloc: Global, payload: &[u8]) -> Result<Request>
     ensures { IfOk result (λ request. request ≡ record {
       service = codes "demo.Echo";
@@ -24,7 +24,7 @@ pub fn request_of(alloc: Global, payload: &[u8]) -> Result<Request>
     })
 }
 
-/// The answer is what was sent.
+/// Compares an answer with what was sent, and fails if they differ.
 pub fn same(alloc: Global, answer: &[u8], payload: &[u8]) -> Result<()>
     ensures ok { OnOk result (answer.now ≡ payload.now) }
     ensures err { OnErr result (answer.now ≢ payload.now) }

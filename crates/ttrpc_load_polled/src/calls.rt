@@ -21,7 +21,7 @@ pub struct Calls<R: Timed> {
 }
 
 impl<R: Timed> Calls<R> {
-    /// So many calls by this client, with this payload.
+    /// Prepares so many calls by this client, with this payload.
     pub fn new(client: Client<R, Plain, Plain>, payload: Vec<u8>, left: usize) -> Calls<R> {
         Calls {
             client,
@@ -31,7 +31,7 @@ impl<R: Timed> Calls<R> {
         }
     }
 
-    /// The call that is under way, or the next.
+    /// Takes the call that is under way, or makes the next.
     fn current(&mut self) -> Result<ClientRequest<Plain, Plain>> {
         if let Some(call) = self.call.take() {
             return Ok(call);

@@ -32,7 +32,7 @@ pub enum Exchanges<R: Timed> {
 }
 
 impl<R: Timed> Exchanges<R> {
-    /// So many exchanges by this client, with so many bytes each.
+    /// Prepares so many exchanges by this client, with so many bytes each.
     pub fn new(
         client: Client<R, Plain, Plain>,
         work: Work,

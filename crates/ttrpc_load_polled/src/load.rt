@@ -9,8 +9,8 @@ pub struct Load {
     pub bytes: usize,
 }
 
-/// How many of the calls the caller of this number makes, from 0: all make as many, and the first ones one more where calls
-/// are left over.
+/// Returns how many of the calls the caller of this number makes, from 0: all make as many, and the first ones one more where
+/// calls are left over.
 pub fn share(load: Load, caller: usize) -> usize
     ensures { 0 < load.callers → result ≡ load.calls / load.callers + (if nat_lt caller (load.calls % load.callers) then 1 else 0) }
 {

@@ -65,7 +65,7 @@ fn run_callers<R: Looped>(
     Ok(moment(rt)?.saturating_sub(start))
 }
 
-/// A client that is connected there, and its connection.
+/// Connects a client, and gives it with its connection.
 pub(crate) fn connect<R: Looped>(
     rt: &R,
     runtime: &mut LocalRuntime,
@@ -114,7 +114,7 @@ fn spawn<R: Looped>(
     }
 }
 
-/// A fault of the system, as an error of a call.
+/// Turns a fault of the system into an error of a call.
 pub(crate) fn nix<T>(res: io::Result<T>) -> Result<T> {
     match res {
         Ok(value) => Ok(value),

@@ -30,7 +30,7 @@ pub fn rest<R: Looped>(rt: &R, count: usize) -> Result<()> {
     nix(runtime.block_on_with(rt, &tasks, last))
 }
 
-/// One more of them.
+/// Adds one more of them.
 fn rest_one<R: Looped>(
     rt: &R,
     handle: &Handle,
@@ -59,7 +59,7 @@ fn resting<R: Looped>(rt: &R, handle: &Handle) -> Result<(Kept<R>, Resting<R>)> 
     Ok((kept, connection))
 }
 
-/// The same, each connected to the server at this address.
+/// Holds so many clients that are connected to the server at this address. It doesn't end by itself, either.
 pub fn rest_at<R: Looped>(rt: &R, address: &str, count: usize, nodelay: bool) -> Result<()> {
     let mut runtime = nix(LocalRuntime::new(rt))?;
     let tasks = nix(runtime.task_set(rt))?;
@@ -71,7 +71,7 @@ pub fn rest_at<R: Looped>(rt: &R, address: &str, count: usize, nodelay: bool) ->
     nix(runtime.block_on_with(rt, &tasks, last))
 }
 
-/// One more of them.
+/// Adds one more of them.
 fn connect_one<R: Looped>(
     rt: &R,
     runtime: &mut LocalRuntime,

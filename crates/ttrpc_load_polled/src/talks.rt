@@ -27,7 +27,7 @@ pub enum Talk {
 }
 
 impl Talk {
-    /// The name of the stream of `demo.Echo`.
+    /// Returns the name of the stream of `demo.Echo`.
     fn name(self) -> &'static str {
         match self {
             Talk::Chat => "Chat",
@@ -70,7 +70,7 @@ pub struct Talks<R: Timed> {
 }
 
 impl<R: Timed> Talks<R> {
-    /// So many items of this kind of talk, by this client.
+    /// Prepares so many items of this kind of talk, by this client.
     pub fn new(client: Client<R, Plain, Plain>, talk: Talk, item: Blob, left: usize) -> Talks<R> {
         let context = CallContext::new(client.alloc());
         let answered = talk == Talk::Chat;

@@ -12,7 +12,7 @@ pub struct Tally {
 }
 
 impl Tally {
-    /// One with room for so many times, whose pages are touched, so that memory stays as it is meanwhile.
+    /// Makes one with room for so many times, whose pages are touched, so that memory stays as it is meanwhile.
     pub fn new(alloc: Global, count: usize) -> std::result::Result<Tally, AllocError> {
         let mut times = Vec::from_elem(alloc, u64::MAX, count)?;
         times.clear();
@@ -37,7 +37,7 @@ impl Tally {
         self.fault.set(Some(before.unwrap_or(error)));
     }
 
-    /// The times, or the fault.
+    /// Takes the times, or the fault.
     pub fn taken(&self) -> Result<Vec<u64>> {
         match self.fault.replace(None) {
             Some(error) => Err(error),

@@ -33,7 +33,7 @@ pub struct Chatting<L: StreamLine> {
 }
 
 impl<L: StreamLine> Chatting<L> {
-    /// The chat on this stream.
+    /// Begins the chat on this stream.
     pub fn new(stream: ServerStream<Blob, Blob, L>) -> Chatting<L> {
         let (sender, receiver) = stream.split();
         Chatting {

@@ -34,7 +34,7 @@ pub struct Counting<L: StreamLine> {
 }
 
 impl<L: StreamLine> Counting<L> {
-    /// The count of this stream.
+    /// Begins the count of this stream.
     pub fn new(alloc: Global, opening: ServerStreamOpening<Blob, Blob, L>) -> Counting<L> {
         Counting {
             alloc,
@@ -135,7 +135,7 @@ impl<L: StreamLine> Future for Counting<L> {
     }
 }
 
-/// The number that these bytes are, the greatest first; of more than eight the last eight count.
+/// Returns the number that these bytes are, the greatest first; of more than eight the last eight count.
 fn number_in(bytes: &[u8]) -> u64 {
     let mut number: u64 = 0;
     for byte in bytes {

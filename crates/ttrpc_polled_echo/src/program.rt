@@ -72,7 +72,8 @@ fn call_by<R: System, W: Write>(site: &mut Site<R>, call: &Call, output: &mut W)
 /// The server of the program.
 pub type EchoServer<R> = Server<R, EchoMethod, EchoStream>;
 
-/// A server at an address, with the services of the program. A stream that is opened without a payload begins without an item.
+/// Makes a server at an address, with the services of the program. A stream that is opened without a payload begins without an
+/// item.
 pub fn server_at<R: System>(
     rt: &R,
     handle: &Handle,

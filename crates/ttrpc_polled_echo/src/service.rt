@@ -136,7 +136,7 @@ impl<L: StreamLine> StreamHandler<L> for EchoStream {
     }
 }
 
-/// The services of the program, each under its name.
+/// Makes the services of the program, each under its name.
 pub fn services(
     alloc: Global,
 ) -> std::result::Result<BTreeMap<String, Service<EchoMethod, EchoStream>>, AllocError> {

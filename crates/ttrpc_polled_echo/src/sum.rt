@@ -19,7 +19,7 @@ pub struct Summing<L: StreamLine> {
 }
 
 impl<L: StreamLine> Summing<L> {
-    /// The sum of this stream.
+    /// Begins the sum of this stream.
     pub fn new(alloc: Global, receiver: ServerStreamReceiver<Blob, L>) -> Summing<L> {
         Summing {
             alloc,
@@ -35,7 +35,7 @@ impl<L: StreamLine> Summing<L> {
         self.bytes = self.bytes.saturating_add(item.len() as u64);
     }
 
-    /// Both numbers, eight bytes each, the greatest first.
+    /// Returns both numbers, eight bytes each, the greatest first.
     fn told(&self) -> Result<Blob> {
         let mut told = Vec::with_capacity(self.alloc, 16)?;
         told.extend_from_slice(&self.items.to_be_bytes())?;

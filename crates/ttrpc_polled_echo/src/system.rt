@@ -12,7 +12,7 @@ pub trait System: Timed + Wait + RandomSource + Net<Listener = TcpListener, Stre
 impl<R: Timed + Wait + RandomSource + Net<Listener = TcpListener, Stream = TcpStream>> System
     for R {}
 
-/// A fault of the system, as an error of this crate.
+/// Turns a fault of the system into an error of this crate.
 pub fn nix<T>(res: io::Result<T>) -> Result<T> {
     match res {
         Ok(value) => Ok(value),

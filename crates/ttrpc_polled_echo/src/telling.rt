@@ -4,7 +4,7 @@ use std::io::Write;
 use ttrpc_proto::{Error, Result};
 use ttrpc_wire::Blob;
 
-/// `ok` and the answer's digits, or the error. Gives the status.
+/// Writes `ok` and the answer's digits, or the error. Gives the status.
 pub fn tell_outcome<W: Write>(outcome: Result<Blob>, output: &mut W) -> Result<u8> {
     match outcome {
         Ok(answer) => {
@@ -18,12 +18,12 @@ pub fn tell_outcome<W: Write>(outcome: Result<Blob>, output: &mut W) -> Result<u
     }
 }
 
-/// `item` and its digits.
+/// Writes `item` and its digits.
 pub fn tell_item<W: Write>(item: &Blob, output: &mut W) -> Result<()> {
     tell(output, "item", item)
 }
 
-/// How a stream ended. Gives the status, which is 0 where it was closed.
+/// Tells how a stream ended. Gives the status, which is 0 if it was closed.
 pub fn tell_end<W: Write>(error: Error, output: &mut W) -> Result<u8> {
     match error {
         Error::Eof => {
@@ -37,7 +37,7 @@ pub fn tell_end<W: Write>(error: Error, output: &mut W) -> Result<u8> {
     }
 }
 
-/// A word, and a space and the digits of the bytes, if there are any.
+/// Writes a word, and a space and the digits of the bytes, if there are any.
 fn tell<W: Write>(output: &mut W, word: &str, bytes: &Blob) -> Result<()> {
     nix(write!(output, "{word}"))?;
     if !bytes.is_empty() {

@@ -24,7 +24,7 @@ pub enum Call {
     Count(u32),
 }
 
-/// What these words ask for. An error is want of memory.
+/// Reads what these words ask for. An error is want of memory.
 pub fn read_words(alloc: Global, words: &[String]) -> Result<Asked<'_>> {
     let [first, address, rest @ ..] = words else {
         return Ok(Asked::Wrong);
@@ -53,7 +53,7 @@ pub fn read_words(alloc: Global, words: &[String]) -> Result<Asked<'_>> {
     Ok(Asked::Calls(address, call))
 }
 
-/// The bytes of all these words, if each has digits alone.
+/// Reads the bytes of all these words, if each has digits alone.
 fn all_bytes(alloc: Global, words: &[String]) -> Result<Option<Vec<Blob>>> {
     let mut items = Vec::new(alloc);
     for word in words {
@@ -65,7 +65,7 @@ fn all_bytes(alloc: Global, words: &[String]) -> Result<Option<Vec<Blob>>> {
     Ok(Some(items))
 }
 
-/// The bytes of these hexadecimal digits, if there is an even number of digits and nothing else.
+/// Reads the bytes of these hexadecimal digits, if there is an even number of digits and nothing else.
 fn bytes_of(alloc: Global, digits: &str) -> Result<Option<Blob>> {
     match hex::decode(alloc, digits) {
         Ok(bytes) => Ok(Some(Blob::from_vec(bytes))),

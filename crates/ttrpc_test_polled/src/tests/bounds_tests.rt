@@ -49,7 +49,7 @@ impl AsyncWrite for Taking {
     }
 }
 
-/// Nothing was offered yet.
+/// Counts offers, of which there are none yet.
 fn nothing_offered(alloc: Global) -> Result<Offered, Fail> {
     Ok(Arc::new(alloc, Cell::new((0, 0)))?)
 }
@@ -125,7 +125,7 @@ impl Held for Frames {
     }
 }
 
-/// How many bytes are kept, and how many are left to be lent, once an outlet has gathered from so many.
+/// Returns how many bytes are kept, and how many are left to be lent, once an outlet has gathered from so many.
 fn gathered(alloc: Global, length: usize) -> Result<(usize, usize), Fail> {
     let offered = nothing_offered(alloc)?;
     let mut outlet = Outlet::new(alloc, Taking { offered })?;
@@ -151,7 +151,7 @@ type Taken<R> = (
     ClientConnection<R, Silent, Taking, Plain, Plain>,
 );
 
-/// A call of 100,000 bytes and its connection are each polled once.
+/// Polls a call of 100,000 bytes and its connection once each.
 fn begin_long_call<R: System>(
     rt: &R,
     runtime: &mut LocalRuntime,
@@ -164,7 +164,7 @@ fn begin_long_call<R: System>(
     Ok(())
 }
 
-/// How often a writer is offered something of such a call, and how many bytes in all.
+/// Returns how often a writer is offered something of such a call, and how many bytes in all.
 fn offers_of_a_long_call<R: System>(rt: &R) -> Result<(u32, usize), Fail> {
     let mut runtime = LocalRuntime::new(rt)?;
     let offered = nothing_offered(rt.alloc())?;
@@ -217,7 +217,7 @@ impl AsyncRead for Strays {
     }
 }
 
-/// Whether a connection is pending that is polled once, and how many frames its reader has left of so many.
+/// Returns whether a connection is pending that is polled once, and how many frames its reader has left of so many.
 fn left_by_one_poll<R: System>(rt: &R, frames: u32) -> Result<(bool, u32), Fail> {
     let mut runtime = LocalRuntime::new(rt)?;
     let left = Arc::new(rt.alloc(), Cell::new(frames))?;

@@ -35,7 +35,8 @@ const CLOSED: Act = Act::Receives(0, Err("eof"));
 
 const REMOTE_CLOSED: Act = Act::Receives(0, Err("ttrpc err: remote stream closed"));
 
-/// What is received from a stream whose item is whole or not, whose close is or not, and where the cut is between two frames or not.
+/// Adds what is received from a stream whose item is whole or not, whose close is or not, and where the cut is between two frames
+/// or not.
 fn receipts(
     acts: &mut Vec<Act>,
     stream: usize,
@@ -57,7 +58,7 @@ fn receipts(
     Ok(())
 }
 
-/// The same receipt from the stream of this number.
+/// Returns the same receipt from the stream of this number.
 fn of_stream(act: Act, stream: usize) -> Act {
     match act {
         Act::Receives(_, outcome) => Act::Receives(stream, outcome),
@@ -65,12 +66,12 @@ fn of_stream(act: Act, stream: usize) -> Act {
     }
 }
 
-/// The item, where the cut is behind its end.
+/// Returns the item, if the cut is after its end.
 fn item_before(cut: usize, end: usize, item: &'static [u8]) -> Option<&'static [u8]> {
     if cut >= end { Some(item) } else { None }
 }
 
-/// Two streams are opened, and what comes of them where the connection is cut behind so many bytes is received.
+/// Returns acts that open two streams, and receive what comes of them if the connection is cut after so many bytes.
 fn cut_acts(alloc: Global, cut: usize) -> Result<Vec<Act>, Fail> {
     let is_between = cut == 0 || ENDS.contains(&cut);
     let mut acts = Vec::new(alloc);
@@ -82,7 +83,7 @@ fn cut_acts(alloc: Global, cut: usize) -> Result<Vec<Act>, Fail> {
     Ok(acts)
 }
 
-/// Whether each stream is told so where the connection is cut behind so many bytes.
+/// Returns whether each stream is told so where the connection is cut behind so many bytes.
 fn is_told_of_a_cut<R: System>(rt: &R, cut: usize) -> Result<bool, Fail> {
     let acts = cut_acts(rt.alloc(), cut)?;
     let said = SAID.get(..cut).unwrap_or(&[]);
@@ -128,7 +129,7 @@ impl Future for Stays<'_> {
 }
 
 impl<'a> Stays<'a> {
-    /// This side, before its first line.
+    /// Begins this side, before its first line.
     fn new(speaker: Speaker<'a, DuplexStream, DuplexStream>) -> Stays<'a> {
         Stays {
             speaker: Some(speaker),
@@ -187,7 +188,7 @@ pub struct Silent {
 }
 
 impl Silent {
-    /// Nobody has asked it yet.
+    /// Makes a reader that nobody has asked yet.
     pub fn new() -> Silent {
         Silent {
             source: Source::new(),

@@ -26,7 +26,7 @@ type Call = ClientRequest<Plain, Plain>;
 /// What two calls came to.
 type Outcomes = (RpcResult<Response>, RpcResult<Response>);
 
-/// A call of `Echo` with this payload and timeout in nanoseconds.
+/// Makes a call of `Echo` with this payload and timeout in nanoseconds.
 fn echo<R: System>(
     rt: &R,
     client: &Client<R, Plain, Plain>,
@@ -37,14 +37,14 @@ fn echo<R: System>(
     Ok(client.request(request)?)
 }
 
-/// Two calls.
+/// Makes two calls.
 fn two_calls<R: System>(rt: &R, client: &Client<R, Plain, Plain>) -> Result<(Call, Call), Fail> {
     let first = echo(rt, client, b"1", 0)?;
     let second = echo(rt, client, b"2", 0)?;
     Ok((first, second))
 }
 
-/// What two calls of a site come to.
+/// Returns what two calls of a site come to.
 fn both_outcomes<R: System>(rt: &R, site: Site<R>, calls: (Call, Call)) -> Result<Outcomes, Fail> {
     let Site {
         mut runtime,
@@ -64,7 +64,7 @@ fn joined_calls_get_their_own_answers(rt: HostRuntime) -> Result<(), Fail> {
     ensure(is_so, "a call has another answer")
 }
 
-/// What a call of a site comes to.
+/// Returns what a call of a site comes to.
 fn outcome_of<R: System>(rt: &R, site: Site<R>, call: Call) -> Result<RpcResult<Response>, Fail> {
     let Site {
         mut runtime,
@@ -87,7 +87,7 @@ fn a_long_call_passes_a_narrow_pipe(rt: HostRuntime) -> Result<(), Fail> {
     )
 }
 
-/// A call whose bytes are many, and one with a limit of 50 ms.
+/// Makes a call whose bytes are many, and one with a limit of 50 ms.
 fn long_and_limited<R: System>(
     rt: &R,
     client: &Client<R, Plain, Plain>,
@@ -98,7 +98,7 @@ fn long_and_limited<R: System>(
     Ok((other, call))
 }
 
-/// What the second of two calls of a site comes to, which ends before the first.
+/// Returns what the second of two calls of a site comes to, which ends before the first.
 fn second_outcome<R: System>(
     rt: &R,
     site: Site<R>,
@@ -119,7 +119,7 @@ fn second_outcome<R: System>(
     }
 }
 
-/// Whether a call with a limit of 50 ms is told within 500 ms that it has expired, behind one whose bytes are never read.
+/// Returns whether a call with a limit of 50 ms is told within 500 ms that it has expired, behind one whose bytes are never read.
 fn expires_in_time<R: System>(rt: &R) -> Result<bool, Fail> {
     let site = make_site(rt, 100, Manners::ReadsNothing)?;
     let calls = long_and_limited(rt, &site.client)?;
@@ -140,7 +140,7 @@ fn a_call_expires_whose_bytes_are_never_read(rt: HostRuntime) -> Result<(), Fail
     Err("it comes late".into())
 }
 
-/// What a call of a site comes to whose both ends are dropped.
+/// Returns what a call of a site comes to whose both ends are dropped.
 fn dropped_outcome<R: System>(
     rt: &R,
     site: Site<R>,
@@ -181,7 +181,7 @@ impl<R: Timed> Future for Leaves<R> {
     }
 }
 
-/// A connection is polled, which waits, and its client is dropped, while both far ends stay. The connection is woken, and ends.
+/// Polls a connection, which waits, and drops its client, while both far ends stay. The connection is woken, and ends.
 fn end_behind_the_client<R: System>(
     rt: &R,
     runtime: &mut LocalRuntime,

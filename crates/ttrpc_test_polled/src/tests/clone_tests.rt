@@ -13,7 +13,7 @@ use ttrpc_proto::{Response, Result as RpcResult};
 use ttrpc_secure::Plain;
 use ttrpc_wire::Blob;
 
-/// What a call of a clone comes to whose original is dropped.
+/// Returns what a call of a clone comes to whose original is dropped.
 fn clone_calls<R: System>(rt: &R) -> Result<RpcResult<Response>, Fail> {
     let Site {
         mut runtime,
@@ -36,7 +36,7 @@ fn a_clone_calls_behind_its_original(rt: HostRuntime) -> Result<(), Fail> {
 /// The line of a client over no transform.
 type PlainLine = ClientLine<Plain, Plain>;
 
-/// A clone of a stream's sender, which is dropped, and the stream's receiver.
+/// Returns a clone of a stream's sender, which is dropped, and the stream's receiver.
 fn halves<R: System>(
     rt: &R,
     runtime: &mut LocalRuntime,
@@ -51,7 +51,7 @@ fn halves<R: System>(
     Ok((clone, receiver, ends))
 }
 
-/// What comes of an item that is sent.
+/// Sends an item, and returns what comes of it.
 fn sent<R: System>(
     rt: &R,
     runtime: &mut LocalRuntime,
@@ -63,7 +63,7 @@ fn sent<R: System>(
     done(rt, runtime, ends, sending)
 }
 
-/// What comes back of an item that is sent.
+/// Sends an item, and returns what comes back.
 fn echoed<R: System>(
     rt: &R,
     runtime: &mut LocalRuntime,
@@ -76,7 +76,7 @@ fn echoed<R: System>(
     done(rt, runtime, ends, receiver.recv())
 }
 
-/// What comes back of an item that a clone sends, and what comes of one more once nobody receives.
+/// Returns what comes back of an item that a clone sends, and what comes of one more once nobody receives.
 fn clone_sends<R: System>(rt: &R) -> Result<(RpcResult<Blob>, RpcResult<()>), Fail> {
     let Site {
         mut runtime,
@@ -121,7 +121,7 @@ fn only_the_last_sender_tells_its_line(rt: HostRuntime) -> Result<(), Fail> {
     )
 }
 
-/// Whether an item waits to be sent whose call is polled once, and dropped then.
+/// Returns whether an item waits to be sent whose call is polled once, and dropped then.
 fn waits_and_is_dropped<R: System>(
     rt: &R,
     runtime: &mut LocalRuntime,
@@ -131,7 +131,7 @@ fn waits_and_is_dropped<R: System>(
     Ok(runtime.block_on(rt, poll_immediate(sending))?.is_none())
 }
 
-/// What comes back first of an item whose call is dropped, and of one behind it.
+/// Returns what comes back first of an item whose call is dropped, and of one behind it.
 fn first_of_two<R: System>(
     rt: &R,
     runtime: &mut LocalRuntime,
@@ -145,7 +145,7 @@ fn first_of_two<R: System>(
     Ok((is_dropped, item))
 }
 
-/// The same of the first stream of a client.
+/// Returns the same of the first stream of a client.
 fn first_echo<R: System>(rt: &R) -> Result<(bool, RpcResult<Blob>), Fail> {
     let Site {
         mut runtime,

@@ -11,7 +11,7 @@ use ttrpc_bench_polled::recorded::{Conversation, client_beside_go, client_beside
 /// How many bytes are under way at most each way.
 const ROOMS: [usize; 3] = [1, 11, 4096];
 
-/// A client that does these acts, and a server that says its part of these lines.
+/// Runs a client that does these acts beside a server that says its part of these lines.
 pub fn speak<R: System>(
     rt: &R,
     room: usize,
@@ -31,7 +31,7 @@ pub fn speak<R: System>(
     Ok(runtime.block_on(rt, parts)?)
 }
 
-/// This conversation goes as stated, however many bytes are under way.
+/// Fails unless this conversation goes as stated, however many bytes are under way.
 fn understand<R: System>(rt: &R, conversation: Conversation) -> Result<(), Fail> {
     let (name, acts, lines) = conversation;
     for room in ROOMS {

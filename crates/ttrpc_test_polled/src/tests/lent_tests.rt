@@ -19,7 +19,7 @@ type PlainLine = ClientLine<Plain, Plain>;
 /// The core of such a client.
 type Core = ClientCore<Plain, Plain>;
 
-/// The first stream of a client, whose id is 1.
+/// Opens the first stream of a client, whose id is 1.
 fn first_stream<R: System>(rt: &R) -> Result<StreamInner<PlainLine>, Fail> {
     let Site {
         mut runtime,
@@ -31,13 +31,13 @@ fn first_stream<R: System>(rt: &R) -> Result<StreamInner<PlainLine>, Fail> {
     Ok(stream?)
 }
 
-/// Another core, without a stream.
+/// Makes another core, without a stream.
 fn bare(alloc: Global) -> Core {
     let context = ConnectionContext::of_halves(alloc, Plain {}, Plain {});
     ClientCore::new(alloc, ClientKind::Async, context)
 }
 
-/// Another core with a stream of that id, to which this came.
+/// Makes another core with a stream of that id, to which this came.
 fn lent(alloc: Global, came: &[u8]) -> Result<Core, Fail> {
     let mut core = bare(alloc);
     let opening = Opening {
@@ -50,7 +50,7 @@ fn lent(alloc: Global, came: &[u8]) -> Result<Core, Fail> {
     Ok(core)
 }
 
-/// All that the core has to write leaves it.
+/// Writes all that the core has to write.
 fn write_all(core: &mut Core) {
     let mut buffer = [0u8; 64];
     for _ in 0..4u32 {
@@ -65,7 +65,7 @@ const ITEM: &[u8] = b"\0\0\0\x01\0\0\0\x01\x03\0\x2a";
 
 const ITEM_AND_END: &[u8] = b"\0\0\0\x01\0\0\0\x01\x03\0\x2a\0\0\0\0\0\0\0\x01\x03\x05";
 
-/// Whether an item has no answer as it is stepped twice, and is sent once its frame has left.
+/// Returns whether an item has no answer as it is stepped twice, and is sent once its frame has left.
 fn steps_of_sending(alloc: Global, sender: &StreamSender<PlainLine>) -> Result<bool, Fail> {
     let mut core = lent(alloc, b"")?;
     let mut sending = sender.send(Vec::from_slice(alloc, b"a")?);
@@ -76,7 +76,7 @@ fn steps_of_sending(alloc: Global, sender: &StreamSender<PlainLine>) -> Result<b
     Ok(first && second && last)
 }
 
-/// Whether the item came.
+/// Returns whether the item came.
 fn has_come(given: &Option<RpcResult<Blob>>) -> bool {
     match given {
         Some(Ok(item)) => item.as_slice() == b"\x2a".as_slice(),
@@ -84,7 +84,7 @@ fn has_come(given: &Option<RpcResult<Blob>>) -> bool {
     }
 }
 
-/// Whether an item is received, and then nothing yet.
+/// Returns whether an item is received, and then nothing yet.
 fn steps_of_receiving(
     alloc: Global,
     receiver: &mut StreamReceiver<PlainLine>,
@@ -104,7 +104,7 @@ fn items_are_stepped(rt: HostRuntime) -> Result<(), Fail> {
     ensure(is_so, "a step comes to something else")
 }
 
-/// Whether a message is received, and then nothing yet.
+/// Returns whether a message is received, and then nothing yet.
 fn steps_of_messages(alloc: Global, inner: StreamInner<PlainLine>) -> Result<bool, Fail> {
     let mut core = lent(alloc, ITEM)?;
     let mut stream: ClientStream<Blob, Blob, PlainLine> = ClientStream::new(inner);
@@ -114,7 +114,7 @@ fn steps_of_messages(alloc: Global, inner: StreamInner<PlainLine>) -> Result<boo
     Ok(has_come(&first) && second.is_none())
 }
 
-/// The message that came, or the error in its place.
+/// Returns the message that came, or the error in its place.
 fn some(given: Option<RpcResult<Option<Blob>>>) -> Option<RpcResult<Blob>> {
     match given {
         Some(Ok(Some(item))) => Some(Ok(item)),
@@ -123,7 +123,7 @@ fn some(given: Option<RpcResult<Option<Blob>>>) -> Option<RpcResult<Blob>> {
     }
 }
 
-/// Whether a message is received, and then that there is none.
+/// Returns whether a message is received, and then that there is none.
 fn steps_to_the_end(alloc: Global, inner: StreamInner<PlainLine>) -> Result<bool, Fail> {
     let mut core = lent(alloc, ITEM_AND_END)?;
     let mut receiver: SSReceiver<Blob, PlainLine> = SSReceiver::new(inner);
@@ -134,7 +134,7 @@ fn steps_to_the_end(alloc: Global, inner: StreamInner<PlainLine>) -> Result<bool
     Ok(has_come(&first) && is_over)
 }
 
-/// Whether a stream is closed, and what answers is received behind that alone.
+/// Returns whether a stream is closed, and what answers is received behind that alone.
 fn steps_of_closing(alloc: Global, inner: StreamInner<PlainLine>) -> Result<bool, Fail> {
     let mut core = lent(alloc, ITEM)?;
     let mut stream: ClientStreamSender<Blob, Blob, PlainLine> = ClientStreamSender::new(inner);
@@ -154,7 +154,7 @@ fn messages_are_stepped(rt: HostRuntime) -> Result<(), Fail> {
     ensure(is_so, "a step comes to something else")
 }
 
-/// Whether a stream is opened on such a core, and once alone.
+/// Returns whether a stream is opened on such a core, and once alone.
 fn steps_of_opening(alloc: Global, mut opening: ClientNewStream<Plain, Plain>) -> bool {
     let mut core = bare(alloc);
     let first = opening.step(&mut core);

@@ -106,7 +106,7 @@ impl PeerHeld {
     }
 }
 
-/// The response of an OK status with this payload.
+/// Makes the response of an OK status with this payload.
 fn response_of(alloc: Global, payload: Blob) -> Response {
     let status = get_status(Code::OK, String::new(alloc));
     let mut response = Response::init_status(alloc, status);

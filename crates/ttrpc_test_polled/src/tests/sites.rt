@@ -61,7 +61,7 @@ pub struct Wired<R: Timed> {
     pub writer: DuplexStream,
 }
 
-/// A client that reads and writes here, over no transform.
+/// Makes a client that reads and writes here, over no transform.
 pub fn client_over<R: System, S: AsyncRead, W: AsyncWrite>(
     rt: &R,
     handle: &Handle,
@@ -78,7 +78,7 @@ pub fn client_over<R: System, S: AsyncRead, W: AsyncWrite>(
     Ok(Client::over(rt.clone()?, handle, reader, writer, output)?)
 }
 
-/// A client over bytes in memory, of which so many are under way at most.
+/// Makes a client over bytes in memory, of which so many are under way at most.
 pub fn make_wired<R: System>(rt: &R, handle: &Handle, room: usize) -> Result<Wired<R>, Fail> {
     let (up, up_far) = duplex(rt.alloc(), room.max(1))?;
     let (down, down_far) = duplex(rt.alloc(), room.max(1))?;
@@ -91,7 +91,7 @@ pub fn make_wired<R: System>(rt: &R, handle: &Handle, room: usize) -> Result<Wir
     })
 }
 
-/// What a peer of these manners shares.
+/// Makes what a peer of these manners shares.
 fn peer_shared(alloc: Global, manners: Manners) -> Result<Arc<PeerShared, Global>, Fail> {
     let registry = registry(alloc)?;
     let context = ConnectionContext::of_halves(alloc, Plain {}, Plain {});
@@ -100,7 +100,7 @@ fn peer_shared(alloc: Global, manners: Manners) -> Result<Arc<PeerShared, Global
     Ok(Arc::new(alloc, PeerShared::new(held))?)
 }
 
-/// A peer of these manners that reads and writes here.
+/// Makes a peer of these manners that reads and writes here.
 fn make_peer<R: System>(
     rt: &R,
     handle: &Handle,
@@ -126,7 +126,7 @@ pub struct Site<R: Timed> {
     pub ends: Ends<R>,
 }
 
-/// A client over bytes in memory, of which so many are under way at most, beside a peer of these manners.
+/// Makes a client over bytes in memory, of which so many are under way at most, beside a peer of these manners.
 pub fn make_site<R: System>(rt: &R, room: usize, manners: Manners) -> Result<Site<R>, Fail> {
     let runtime = LocalRuntime::new(rt)?;
     let Wired {
@@ -163,7 +163,7 @@ where
     }
 }
 
-/// Whether a call came to this payload.
+/// Returns whether a call came to this payload.
 pub fn is_answered(outcome: &RpcResult<Response>, payload: &[u8]) -> bool {
     match outcome {
         Ok(response) => response.payload.as_slice() == payload,
@@ -171,7 +171,7 @@ pub fn is_answered(outcome: &RpcResult<Response>, payload: &[u8]) -> bool {
     }
 }
 
-/// Whether this item came.
+/// Returns whether this item came.
 pub fn is_item(outcome: &RpcResult<Blob>, item: &[u8]) -> bool {
     match outcome {
         Ok(came) => came.as_slice() == item,
@@ -179,7 +179,7 @@ pub fn is_item(outcome: &RpcResult<Blob>, item: &[u8]) -> bool {
     }
 }
 
-/// A request of `demo.Echo` for this name, with this payload and timeout in nanoseconds.
+/// Makes a request of `demo.Echo` for this name, with this payload and timeout in nanoseconds.
 pub fn request(
     alloc: Global,
     method: &str,
@@ -191,7 +191,7 @@ pub fn request(
     Ok(request)
 }
 
-/// The same without a payload.
+/// Makes the same without a payload.
 fn empty_request(alloc: Global, method: &str, timeout_nano: i64) -> Result<Request, Fail> {
     let service = String::from_str(alloc, "demo.Echo")?;
     let method = String::from_str(alloc, method)?;

@@ -106,7 +106,7 @@ impl Future for Talk<'_> {
     }
 }
 
-/// A socket that is connected to this address. Whether its writes go out at once is `nodelay`.
+/// Connects a socket to this address. Whether its writes go out at once is `nodelay`.
 fn connected<R: System>(
     rt: &R,
     runtime: &mut LocalRuntime,
@@ -117,7 +117,7 @@ fn connected<R: System>(
     Ok(runtime.block_on(rt, connecting)??)
 }
 
-/// The next socket that a listener accepts.
+/// Accepts the next socket of a listener.
 fn accepted<R: System>(
     rt: &R,
     runtime: &mut LocalRuntime,
@@ -129,7 +129,7 @@ fn accepted<R: System>(
     Ok(far?)
 }
 
-/// Both ends of a connection to a listener.
+/// Makes both ends of a connection to a listener.
 fn both_ends<R: System>(
     rt: &R,
     runtime: &mut LocalRuntime,
@@ -142,13 +142,13 @@ fn both_ends<R: System>(
     Ok((near, far))
 }
 
-/// A listener at a free port. Whether the writes of its sockets go out at once is `nodelay`.
+/// Makes a listener at a free port. Whether the writes of its sockets go out at once is `nodelay`.
 fn listening<R: System>(rt: &R, runtime: &LocalRuntime, nodelay: bool) -> Result<Listener, Fail> {
     let reactor = runtime.handle().reactor();
     Ok(Listener::bind(rt, rt.alloc(), reactor, "tcp://127.0.0.1:0", nodelay)?)
 }
 
-/// Both ends of a connection, and the loop that polls them. Whether the writes of each go out at once.
+/// Makes both ends of a connection, and the loop that polls them. Whether the writes of each go out at once.
 fn connection<R: System>(
     rt: &R,
     near: bool,
@@ -160,7 +160,7 @@ fn connection<R: System>(
     Ok((runtime, near, far))
 }
 
-/// Whether both ends say and hear what they are to.
+/// Returns whether both ends say and hear what they are to.
 fn both_talk<R: System>(
     rt: &R,
     runtime: &mut LocalRuntime,
@@ -192,7 +192,7 @@ impl Future for Rest {
     }
 }
 
-/// Whether both ends talk, and the one that stays hears nothing more behind that, as the other is dropped.
+/// Returns whether both ends talk, and the one that stays hears nothing more behind that, as the other is dropped.
 fn talk_to_the_end<R: System>(rt: &R, near_stays: bool) -> Result<bool, Fail> {
     let (mut runtime, mut near, mut far) = connection(rt, true, true)?;
     let talked = both_talk(rt, &mut runtime, &mut near, &mut far)?;
@@ -208,7 +208,7 @@ fn sockets_talk_by_polls_to_the_end(rt: HostRuntime) -> Result<(), Fail> {
     ensure(is_so, "something else is heard")
 }
 
-/// Whether the writes of both ends go out at once exactly where each is told so, the far end by its listener.
+/// Returns whether the writes of both ends go out at once exactly where each is told so, the far end by its listener.
 fn is_told_of_delay<R: System>(rt: &R, near: bool, far: bool) -> Result<bool, Fail> {
     let (_runtime, near_end, far_end) = connection(rt, near, far)?;
     Ok(near_end.nodelay()? == near && far_end.nodelay()? == far)
@@ -233,12 +233,12 @@ type PlainClient<R> = Client<R, Plain, Plain>;
 
 type Tcp<R> = TcpConnection<R, Plain, Plain>;
 
-/// The address that a client is given for this one.
+/// Returns the address that a client is given for this one.
 fn named<R: System>(rt: &R, address: SocketAddr) -> Result<String, Fail> {
     Ok(format!(in rt.alloc(); "tcp://{address}")?)
 }
 
-/// A client that connects to this address.
+/// Connects a client to this address.
 fn client_at<R: System>(
     rt: &R,
     runtime: &mut LocalRuntime,
@@ -249,7 +249,7 @@ fn client_at<R: System>(
     Ok(runtime.block_on(rt, connecting)??)
 }
 
-/// A call and its answer over this connection, at the far end of which a recorded server answers.
+/// Makes a call over this connection, at the far end of which a recorded server answers.
 fn exchange<R: System>(
     rt: &R,
     runtime: &mut LocalRuntime,
@@ -264,7 +264,7 @@ fn exchange<R: System>(
     Ok(runtime.block_on(rt, parts)?)
 }
 
-/// A client that connects and calls, and the server that it reaches.
+/// Connects a client, and makes a call at the server that it reaches.
 fn call<R: System>(rt: &R, nodelay: bool) -> Result<Option<Fault>, Fail> {
     let mut runtime = LocalRuntime::new(rt)?;
     let mut listener = listening(rt, &runtime, true)?;
@@ -280,7 +280,7 @@ fn a_client_connects_and_calls(rt: HostRuntime) -> Result<(), Fail> {
     ensure(is_so, "an act or a line comes otherwise")
 }
 
-/// Whether a client whose hook refuses its socket is refused by that hook's text.
+/// Returns whether a client whose hook refuses its socket is refused by that hook's text.
 fn is_refused<R: System>(rt: &R) -> Result<bool, Fail> {
     let (runtime, near, _far) = connection(rt, true, true)?;
     match Client::with_hook(rt.clone()?, runtime.handle(), near, &Rejects {}) {
@@ -291,7 +291,7 @@ fn is_refused<R: System>(rt: &R) -> Result<bool, Fail> {
     }
 }
 
-/// Whether a client knows its connection by the name that its hook gave.
+/// Returns whether a client knows its connection by the name that its hook gave.
 fn is_known<R: System>(rt: &R) -> Result<bool, Fail> {
     let (runtime, near, _far) = connection(rt, true, true)?;
     let stamps = Stamps { name: "the client" };
@@ -305,7 +305,7 @@ fn a_hook_looks_at_the_socket(rt: HostRuntime) -> Result<(), Fail> {
     ensure(is_refused(&rt)? && is_known(&rt)?, "a hook isn't asked")
 }
 
-/// A call and its answer over a connection that is one of these tasks.
+/// Makes a call over a connection that is one of these tasks.
 fn exchange_beside<R: System>(
     rt: &R,
     runtime: &mut LocalRuntime,
@@ -320,7 +320,7 @@ fn exchange_beside<R: System>(
     Ok(runtime.block_on_with(rt, tasks, parts)?)
 }
 
-/// A client that calls, its connection being a task, and the server that it reaches.
+/// Makes a call of a client whose connection is a task.
 fn call_spawned<R: System>(rt: &R) -> Result<Option<Fault>, Fail> {
     let (mut runtime, near, far) = connection(rt, true, true)?;
     let tasks = runtime.task_set(rt)?;

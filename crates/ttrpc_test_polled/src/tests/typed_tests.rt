@@ -74,7 +74,7 @@ impl Future for Receipts {
     }
 }
 
-/// Whether this comes as the receipt of this number, from 0.
+/// Returns whether this comes as the receipt of this number, from 0.
 fn is_stated(number: usize, given: &RpcResult<Option<KeyValue>>) -> bool {
     match (number, given) {
         (0, Ok(Some(pair))) => pair.key.as_str() == "k" && pair.value.as_str() == "v",
@@ -91,7 +91,7 @@ const LINES: &[Line<'static>] = &[
     Line::Down(b"\0\0\0\0\0\0\0\x01\x03\x05"),
 ];
 
-/// What comes on a stream that this client opens.
+/// Prepares what comes on a stream that this client opens.
 fn make_receipts<R: System>(rt: &R, client: &Client<R, Plain, Plain>) -> Result<Receipts, Fail> {
     let request = request(rt.alloc(), "Chat", b"", 0)?;
     Ok(Receipts {

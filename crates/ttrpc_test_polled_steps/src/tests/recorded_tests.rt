@@ -18,7 +18,7 @@ use ttrpc_wire::Codec;
 /// The job that a recorded server handled, and whether it is a stream's.
 type Handled = Option<(JobId, bool)>;
 
-/// The core of a server that knows what the recorded ones know.
+/// Makes the core of a server that knows what the recorded ones know.
 fn server(alloc: Global, bare: bool) -> RpcResult<ServerCore<Plain, Plain>> {
     let mut registry = recorded_registry(alloc)?;
     registry.set_bare_openings(bare);
@@ -26,7 +26,7 @@ fn server(alloc: Global, bare: bool) -> RpcResult<ServerCore<Plain, Plain>> {
     Ok(ServerCore::new(alloc, Rules::Async, registry, context))
 }
 
-/// The response that a payload is.
+/// Reads the response that a payload is.
 fn response_in(alloc: Global, payload: &[u8]) -> RpcResult<Response> {
     match Response::decode(alloc, payload) {
         Ok(response) => Ok(response),
@@ -62,7 +62,7 @@ fn handle(
     }
 }
 
-/// Whether these bytes, and no others, are what the core of a server lends. They are reported.
+/// Returns whether these bytes, and no others, are what the core of a server lends. They are reported.
 fn server_says(core: &mut ServerCore<Plain, Plain>, buffer: &mut [u8], frame: &[u8]) -> bool {
     let count = core.lend(buffer);
     let lent = core.lent();
@@ -84,7 +84,7 @@ fn hear(
     Ok(count == frame.len())
 }
 
-/// What the core does with the next line of a conversation: whether it is as stated.
+/// Hands the core the next line of a conversation. Returns whether what it does is as stated.
 fn answer_line(
     alloc: Global,
     core: &mut ServerCore<Plain, Plain>,
@@ -108,7 +108,7 @@ fn answer_line(
     }
 }
 
-/// A server's core does as stated what was said to it.
+/// Fails unless a server's core does as stated what was said to it.
 fn serve(alloc: Global, bare: bool, said: Said) -> Result<(), Fail> {
     let (name, lines) = said;
     let mut core = server(alloc, bare)?;
@@ -162,7 +162,7 @@ impl Caller {
         }
     }
 
-    /// The line that is said next.
+    /// Returns the line that is said next.
     fn line(&self) -> Option<Line<'static>> {
         match self.lines.get(self.at) {
             Some(line) => Some(*line),
@@ -245,7 +245,7 @@ impl Caller {
         Ok(false)
     }
 
-    /// Whether what the core has to write is what the client says next. What the server says before it is heard.
+    /// Returns whether what the core has to write is what the client says next. What the server says before it is heard.
     fn says(&mut self, alloc: Global) -> RpcResult<bool> {
         let mut buffer = [0u8; 64];
         for _ in 0..=self.lines.len() {
@@ -285,7 +285,7 @@ impl Caller {
     }
 }
 
-/// A client's core understands a conversation as stated.
+/// Fails unless a client's core understands a conversation as stated.
 fn understand(alloc: Global, conversation: Conversation) -> Result<(), Fail> {
     let (name, acts, lines) = conversation;
     let mut caller = Caller::new(alloc, lines);

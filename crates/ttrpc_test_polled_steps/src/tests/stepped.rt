@@ -64,7 +64,7 @@ pub struct Bench {
 }
 
 impl Bench {
-    /// Both cores, new.
+    /// Makes both cores.
     pub fn new(alloc: Global) -> Result<Bench> {
         let near = ConnectionContext::of_halves(alloc, Plain {}, Plain {});
         let far = ConnectionContext::of_halves(alloc, Plain {}, Plain {});
@@ -232,7 +232,7 @@ impl Bench {
         Ok(true)
     }
 
-    /// What the client has to write goes to the server, so many bytes at a time: whether it was this.
+    /// Passes what the client has to write to the server, so many bytes at a time. Returns whether it was this.
     fn pass_up(&mut self, bytes: &[u8], at_a_time: usize) -> Result<bool> {
         let mut passed = Vec::new(self.alloc);
         let mut buffer = vec![in self.alloc; 0u8; at_a_time.max(1)]?;
@@ -250,7 +250,7 @@ impl Bench {
         Ok(passed.as_slice() == bytes)
     }
 
-    /// What the server has to write goes to the client.
+    /// Passes what the server has to write to the client.
     fn pass_down(&mut self, bytes: &[u8], at_a_time: usize) -> Result<bool> {
         let mut passed = Vec::new(self.alloc);
         let mut buffer = vec![in self.alloc; 0u8; at_a_time.max(1)]?;
@@ -269,14 +269,14 @@ impl Bench {
     }
 }
 
-/// What a receipt from this stream comes to on a core that is lent.
+/// Returns what a receipt from this stream comes to on a core that is lent.
 fn receipt<C: StreamCore>(alloc: Global, core: &mut C, id: C::Id) -> Result<Option<Result<Blob>>> {
     let line = Arc::new(alloc, Lone::new(id))?;
     let mut receiver = StreamReceiver::new(alloc, line, id);
     Ok(receiver.recv().step(core))
 }
 
-/// What was given, but that memory was refused, which ends the test: what follows is then another story.
+/// Returns what was given, but that memory was refused, which ends the test: what follows is then another story.
 fn memory_is_found<T>(given: Result<T>) -> Result<Result<T>> {
     match given {
         Err(Error::NoMemory) => Err(Error::NoMemory),
@@ -284,7 +284,7 @@ fn memory_is_found<T>(given: Result<T>) -> Result<Result<T>> {
     }
 }
 
-/// Whether the error has this text.
+/// Returns whether the error has this text.
 fn has_text(alloc: Global, error: &Error, text: &str) -> Result<bool> {
     match format!(in alloc; "{error}") {
         Ok(told) => Ok(told.as_str() == text),
@@ -292,7 +292,7 @@ fn has_text(alloc: Global, error: &Error, text: &str) -> Result<bool> {
     }
 }
 
-/// Whether this was to be given.
+/// Returns whether this was to be given.
 fn came_to(alloc: Global, given: Result<Blob>, expected: Option<Outcome>) -> Result<bool> {
     match (memory_is_found(given)?, expected) {
         (Ok(given), Some(Ok(bytes))) => Ok(given.as_slice() == bytes),
@@ -301,7 +301,7 @@ fn came_to(alloc: Global, given: Result<Blob>, expected: Option<Outcome>) -> Res
     }
 }
 
-/// Whether it was done, or refused by this text.
+/// Returns whether it was done, or refused by this text.
 fn is_told(alloc: Global, told: Result<()>, refusal: Option<&'static str>) -> Result<bool> {
     match (memory_is_found(told)?, refusal) {
         (Ok(()), None) => Ok(true),
@@ -317,7 +317,7 @@ fn payload_of(outcome: Result<Response>) -> Result<Blob> {
     }
 }
 
-/// The response of a status of this code and message.
+/// Makes the response of a status of this code and message.
 fn response_of(alloc: Global, code: i32, message: &str) -> Result<Response> {
     let status = Status {
         code,

@@ -71,7 +71,7 @@ const ITEMS: &[u8] = b"\
 
 const CLOSES: &[u8] = b"\0\0\0\0\0\0\0\x01\x03\x05";
 
-/// The frames of this number, from 0, with what answers them.
+/// Returns the frames of this number, from 0, with what answers them.
 fn row(number: u8) -> Option<(&'static [u8], &'static [u8])> {
     Some(match number {
         0 => (ASKED, ECHOED),
@@ -146,7 +146,7 @@ fn a_woken_handler_goes_before_calls_that_wait(rt: HostRuntime) -> Result<(), Fa
     ensure(fault.is_none(), "a line comes otherwise")
 }
 
-/// This conversation goes as stated.
+/// Fails unless this conversation goes as stated.
 fn hold<R: System>(rt: &R, gate: &Arc<Gate, Global>, bare: bool, said: Said) -> Result<(), Fail> {
     let (name, lines) = said;
     let fault = run_lines(rt, gate, 4096, bare, lines)?;
@@ -171,7 +171,7 @@ fn recorded_clients_are_answered(rt: HostRuntime) -> Result<(), Fail> {
     Ok(())
 }
 
-/// The frame with the id of this number, and with this byte in the place of the last where one is given.
+/// Adds the frame with the id of this number, and with this byte in place of the last if one is given.
 fn put(frames: &mut Vec<u8>, frame: &[u8], number: u32, last: Option<u8>) -> Result<(), Fail> {
     let id = number.saturating_mul(2).saturating_add(1).to_be_bytes();
     let [a, b, c, d, _, _, _, _, rest @ ..] = frame else {
@@ -198,7 +198,7 @@ fn all_calls_are_answered_behind_the_end_of_input(rt: HostRuntime) -> Result<(),
     ensure(fault.is_none(), "a line comes otherwise")
 }
 
-/// These frames are answered so behind the end of the input.
+/// Says these frames to a server, which answers so after the end of the input.
 fn answer_behind<'a, R: System>(
     rt: &R,
     gate: &Arc<Gate, Global>,
@@ -215,7 +215,7 @@ const LEAVES: &[Line<'static>] = &[Up(OPENS), Up(ITEMS), Down(ITEMS), UpEnds, Do
 /// A client that goes away without having read.
 const LEAVES_UNREAD: &[Line<'static>] = &[Up(OPENS), Up(ITEMS), Up(ITEMS)];
 
-/// Whether these lines go as stated, and nothing of a handler stays behind them.
+/// Returns whether these lines go as stated, and nothing of a handler stays behind them.
 fn leaves_nothing<R: System>(
     rt: &R,
     gate: &Arc<Gate, Global>,
@@ -301,7 +301,7 @@ const ITEM: &[u8] = b"\0\0\0\x01\0\0\0\x01\x03\0a";
 const ALL_IN_ORDER: &[u8] = b"\
     \0\0\0\x14\0\0\0\x01\x02\0\x0a\0\x12\x10\0\0\0\0\0\0\0\xfa\0\0\0\0\0\0\0\xfa";
 
-/// 250 items of the stream of this number, and its close.
+/// Makes 250 items of the stream of this number, and its close.
 fn items_of(alloc: Global, number: u32) -> Result<Vec<u8>, Fail> {
     let mut frames = Vec::new(alloc);
     put(&mut frames, ORDERS, number, None)?;
@@ -312,7 +312,7 @@ fn items_of(alloc: Global, number: u32) -> Result<Vec<u8>, Fail> {
     Ok(frames)
 }
 
-/// All that 1,000 streams of this connection say, and what answers each.
+/// Returns all that 1,000 streams of this connection say, and what answers each.
 fn thousand_streams(alloc: Global) -> Result<(Vec<Vec<u8>>, Vec<Vec<u8>>), Fail> {
     let (mut ups, mut downs) = (Vec::new(alloc), Vec::new(alloc));
     for number in 0..1000u32 {
@@ -322,7 +322,7 @@ fn thousand_streams(alloc: Global) -> Result<(Vec<Vec<u8>>, Vec<Vec<u8>>), Fail>
     Ok((ups, downs))
 }
 
-/// What answers the stream of this number.
+/// Returns what answers the stream of this number.
 fn answer_of(alloc: Global, number: u32) -> Result<Vec<u8>, Fail> {
     let mut answer = Vec::new(alloc);
     put(&mut answer, ALL_IN_ORDER, number, None)?;

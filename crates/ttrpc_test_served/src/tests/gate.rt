@@ -26,7 +26,7 @@ struct GateHeld {
 }
 
 impl Gate {
-    /// A gate that is closed.
+    /// Makes a gate that is closed.
     pub fn new(alloc: Global) -> Gate {
         Gate {
             source: Source::new(),
@@ -54,7 +54,7 @@ impl Gate {
         cx.register(&self.source, &mut held.waits)
     }
 
-    /// Whether it is open.
+    /// Returns whether it is open.
     pub fn is_open(&self) -> bool {
         match lock(&self.held) {
             Some(guard) => guard.is_open,
@@ -69,7 +69,7 @@ impl Gate {
         }
     }
 
-    /// Its ticks, for the first who asks.
+    /// Takes its ticks, for the first who asks.
     pub fn take_ticks(&self) -> Option<Interval> {
         match lock(&self.held) {
             Some(mut guard) => (&mut *guard).ticks.take(),
@@ -95,7 +95,7 @@ impl Gate {
         }
     }
 
-    /// Whether the last handler that ended did so with this text.
+    /// Returns whether the last handler that ended did so with this text.
     pub fn was_told(&self, text: &str) -> bool {
         match lock(&self.held) {
             Some(guard) => guard.told.as_str() == text,

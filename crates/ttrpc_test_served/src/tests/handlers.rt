@@ -162,14 +162,14 @@ impl Future for MethodCall {
     }
 }
 
-/// The stream's id, the limit in nanoseconds, how many keys the metadata has, and the method.
+/// Writes the stream's id, the limit in nanoseconds, how many keys the metadata has, and the method.
 fn handed(ctx: &TtrpcContext, req: &Request) -> std::result::Result<Blob, AllocError> {
     let (id, limit, keys) = (ctx.mh.stream_id, ctx.timeout_nano, ctx.metadata.len());
     let told = format!(in ctx.alloc(); "{id} {limit} {keys} {}", req.method)?;
     Blob::from_slice(ctx.alloc(), told.as_bytes())
 }
 
-/// The response of an OK status with this payload.
+/// Makes the response of an OK status with this payload.
 pub fn answer(alloc: Global, payload: Option<Blob>) -> Response {
     let status = get_status(Code::OK, String::new(alloc));
     let mut response = Response::init_status(alloc, status);
@@ -179,7 +179,7 @@ pub fn answer(alloc: Global, payload: Option<Blob>) -> Response {
     response
 }
 
-/// The response of the status whose code is the first byte and whose message the rest; of no bytes, that of a plain error.
+/// Makes the response of the status whose code is the first byte and whose message the rest; of no bytes, that of a plain error.
 pub fn failure(alloc: Global, payload: Option<Blob>) -> Response {
     failure_of(alloc, payload).into_response(alloc)
 }

@@ -80,7 +80,7 @@ impl Future for Joined {
     }
 }
 
-/// Whether it is a response with this payload.
+/// Returns whether it is a response with this payload.
 fn has(alloc: Global, outcome: RpcResult<Response>, payload: &'static [u8]) -> bool {
     match outcome {
         Ok(response) => is_so(alloc, Ok(response.payload), Ok(payload)),
@@ -94,7 +94,7 @@ fn set_ticks<R: System>(rt: &R, handle: &Handle, gate: &Gate) -> Result<(), Fail
     Ok(())
 }
 
-/// Two calls of this client: the handler of the first looks once a millisecond whether the second was answered.
+/// Makes two calls of this client: the handler of the first looks once a millisecond whether the second was answered.
 fn make_joined<R: System>(
     alloc: Global,
     client: &Client<R, Plain, Plain>,

@@ -28,7 +28,7 @@ pub struct Pipe {
     pub writer: DuplexStream,
 }
 
-/// The client's ends and the server's, between which so many bytes are under way each way at most.
+/// Makes the client's ends and the server's, between which so many bytes are under way each way at most.
 fn pipes(alloc: Global, room: usize) -> Result<(Pipe, Pipe), AllocError> {
     let (up, up_far) = duplex(alloc, room.max(1))?;
     let (down, down_far) = duplex(alloc, room.max(1))?;
@@ -52,7 +52,7 @@ pub struct Bench<R: System> {
     pub far: Pipe,
 }
 
-/// A server whose handlers have this gate, with so many bytes under way each way at most.
+/// Makes a server whose handlers have this gate, with so many bytes under way each way at most.
 pub fn make_bench<R: System>(
     rt: &R,
     gate: &Arc<Gate, Global>,
@@ -83,7 +83,7 @@ pub fn run_acts<R: System>(rt: &R, room: usize, acts: &[Act]) -> Result<Option<F
     run_beside_client(rt, &mut runtime, &mut server, far, connection, script)
 }
 
-/// A client that reads and writes here, and its connection.
+/// Makes a client that reads and writes here, and its connection.
 pub fn client_of<R: System>(
     rt: &R,
     handle: &Handle,
@@ -146,7 +146,7 @@ pub fn run_lines<R: System>(
     Ok(runtime.block_on(rt, parts)?)
 }
 
-/// A connection of the server that reads and writes here.
+/// Makes a connection of the server that reads and writes here.
 fn served_at<R: Timed>(
     alloc: Global,
     server: &mut TestServer<R>,
@@ -160,7 +160,7 @@ fn served_at<R: Timed>(
     )?)
 }
 
-/// Who says a client's part of these lines here.
+/// Makes who says a client's part of these lines here.
 pub fn speaker<'a>(lines: &'a [Line<'a>], pipe: Pipe) -> Speaker<'a, DuplexStream, DuplexStream> {
     let Pipe { reader, writer } = pipe;
     Speaker::new(Side::Client, lines, reader, writer)

@@ -133,7 +133,7 @@ const LONG: &[Act] = &[
     EndsLong(1, 100000),
 ];
 
-/// The script of this number, from 0, with its name.
+/// Returns the script of this number, from 0, with its name.
 fn script(number: u8) -> Option<(&'static str, &'static [Act])> {
     Some(match number {
         0 => ("sent back", SENT_BACK),

@@ -38,7 +38,7 @@ pub struct Ends<A, B> {
 }
 
 impl<A: Future<Output = ()>, B: Future<Output = ()>> Ends<A, B> {
-    /// These ends.
+    /// Joins these ends.
     pub fn new(near: A, far: B) -> Ends<A, B>
         ensures { (result.near ≡ Some near) × (result.far ≡ Some far) }
     {
@@ -134,7 +134,7 @@ impl<A: Future<Output = Option<Fault>>, B: Future<Output = Option<Fault>>> Futur
     }
 }
 
-/// The server of the tests, which waits shortly for what is left.
+/// Makes the server of the tests, which waits shortly for what is left.
 pub fn make_server<R: Timed>(
     rt: &R,
     handle: &Handle,
@@ -171,7 +171,7 @@ const STREAMS: [(&str, Streams); 9] = [
     ("Early", Streams::Early),
 ];
 
-/// The service `demo.Echo`.
+/// Makes the service `demo.Echo`.
 pub fn services(
     alloc: Global,
     gate: &Arc<Gate, Global>,

@@ -91,7 +91,7 @@ impl<R: Timed> Future for Stopping<'_, R> {
     }
 }
 
-/// Whether connections are left.
+/// Returns whether connections are left.
 fn has_left(ended: &RpcResult<()>) -> bool {
     match ended {
         Err(Error::Others(text)) => text.as_str() == "waiters are left",
@@ -165,7 +165,7 @@ const GONE_STREAM: &[Act] = &[Act::Receives(0, Err(GONE))];
 /// A name, a limit in milliseconds, what is done before, whether connections are left, and what is done behind.
 type Stopped = (&'static str, u64, &'static [Act], bool, &'static [Act]);
 
-/// The end of this number, from 0.
+/// Returns the end of this number, from 0.
 fn end(number: u8) -> Option<Stopped> {
     Some(match number {
         0 => ("at rest", 400, ECHOED, false, GONE_BEHIND),

@@ -209,7 +209,7 @@ impl StreamingCall {
         None
     }
 
-    /// How it ends once the client sends no more.
+    /// Returns how it ends once the client sends no more.
     fn at_end(&self) -> Result<Option<Response>> {
         match self.does {
             Streams::Last => Ok(Some(answer(
@@ -223,7 +223,7 @@ impl StreamingCall {
         }
     }
 
-    /// Both sums, eight bytes each, the greatest first.
+    /// Returns both sums, eight bytes each, the greatest first.
     fn sums(&self) -> std::result::Result<Blob, AllocError> {
         let mut told = Vec::with_capacity(self.alloc, 16)?;
         told.extend_from_slice(&self.items.to_be_bytes())?;
@@ -238,7 +238,7 @@ impl StreamingCall {
     }
 }
 
-/// The number with which an item ends.
+/// Returns the number with which an item ends.
 fn number_in(item: &Blob) -> Option<u64> {
     match item.as_slice().last() {
         Some(byte) => Some(u64::from(*byte)),

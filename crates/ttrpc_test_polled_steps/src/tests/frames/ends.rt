@@ -19,7 +19,7 @@ pub trait System: AllocGlobal + Clock + Wait + Net + RandomSource {}
 
 impl<R: AllocGlobal + Clock + Wait + Net + RandomSource> System for R {}
 
-/// What a future comes to.
+/// Runs a future, and returns what it comes to.
 pub fn come<R: System, F: Future>(rt: &R, future: F) -> Result<F::Output, Fail>
     requires { F.can_poll future }
 {
@@ -38,7 +38,7 @@ pub struct Slow<'a> {
 }
 
 impl<'a> Slow<'a> {
-    /// These bytes, and then the end.
+    /// Makes a reader of these bytes, and then the end.
     pub fn new(rest: &'a [u8], at_once: usize, end: Option<ErrorKind>) -> Slow<'a> {
         Slow {
             rest,
@@ -88,7 +88,7 @@ pub struct Narrow {
 }
 
 impl Narrow {
-    /// Nothing was taken yet.
+    /// Makes a writer that took nothing yet.
     pub fn new(took: Vec<u8>, at_once: usize, room: usize, end: Option<ErrorKind>) -> Narrow {
         Narrow {
             took,

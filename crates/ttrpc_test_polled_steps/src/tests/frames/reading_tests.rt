@@ -36,7 +36,7 @@ const TOO_LONG: &str =
 /// is given.
 type Row = (&'static [u8], &'static str, &'static str, &'static str);
 
-/// The row of this number, from 0.
+/// Returns the row of this number, from 0.
 fn row(number: u8) -> Option<Row> {
     Some(match number {
         0 => (
@@ -71,7 +71,7 @@ fn row(number: u8) -> Option<Row> {
     })
 }
 
-/// An error's text behind this one. Want of memory is handed on.
+/// Returns an error's text behind this one. Want of memory is handed on.
 fn error_text(
     alloc: Global,
     before: &str,
@@ -145,7 +145,7 @@ impl Told for AsValue<Request> {
     }
 }
 
-/// What comes of these bytes, so many a read, is told so; and what follows a frame isn't read.
+/// Returns whether what comes of these bytes, so many a read, is told so, and what follows a frame isn't read.
 fn holds<R: System, T: Told>(
     rt: &R,
     input: &[u8],
@@ -158,7 +158,7 @@ fn holds<R: System, T: Told>(
     Ok(told.as_str().starts_with(expected) && reader.rest.len() == left_of(input))
 }
 
-/// How many bytes stand behind a first frame.
+/// Returns how many bytes stand behind a first frame.
 fn left_of(input: &[u8]) -> usize {
     match MessageHeader::try_from_slice(input) {
         Some(header) => input
@@ -169,7 +169,7 @@ fn left_of(input: &[u8]) -> usize {
     }
 }
 
-/// Whether input that comes so many bytes a read is told as its row says, in each way.
+/// Returns whether input that comes so many bytes a read is told as its row says, in each way.
 fn is_told<R: System>(rt: &R, row: Row, at_once: usize) -> std::result::Result<bool, Fail> {
     let (input, parts, message, value) = row;
     Ok(
@@ -191,14 +191,14 @@ fn input_is_told_as_it_is(rt: HostRuntime) -> std::result::Result<(), Fail> {
     Ok(())
 }
 
-/// A header that states 4194305 bytes, and so many.
+/// Makes a header that states 4194305 bytes, and so many.
 fn oversized(alloc: Global, count: usize) -> std::result::Result<Vec<u8>, Fail> {
     let mut input = Vec::from_slice(alloc, b"\0\x40\0\x01\0\0\0\x05\x01\0")?;
     input.resize(count.saturating_add(10), 7)?;
     Ok(input)
 }
 
-/// Whether a frame that is too long is told so, in each way, and read to its end.
+/// Returns whether a frame that is too long is told so, in each way, and read to its end.
 fn is_too_long<R: System>(rt: &R, input: &[u8]) -> std::result::Result<bool, Fail> {
     let returned = "return rpc status: 3 message length 4194305";
     Ok(
@@ -214,7 +214,7 @@ fn a_frame_that_is_too_long_is_read_to_its_end(rt: HostRuntime) -> std::result::
     ensure(is_too_long(&rt, input.as_slice())?, "it is told otherwise")
 }
 
-/// Whether a reader's failure behind this input is told, and not as an end.
+/// Returns whether a reader's failure behind this input is told, and not as an end.
 fn is_told_of_failure<R: System>(rt: &R, input: &[u8]) -> std::result::Result<bool, Fail> {
     let reader = Slow::new(input, 3, Some(ErrorKind::ConnectionReset));
     let reading: PollRead<_, AsParts> = PollRead::new(rt.alloc(), reader);
@@ -241,14 +241,14 @@ const READ: MessageHeader = MessageHeader {
     flags: 239,
 };
 
-/// Whether a header is read, and no byte behind it.
+/// Returns whether a header is read, and no byte behind it.
 fn is_read_alone<R: System>(rt: &R, at_once: usize) -> std::result::Result<bool, Fail> {
     let mut reader = Slow::new(ASKED, at_once, None);
     let header = come(rt, ReadHeader::new(&mut reader))??;
     Ok(header == READ && reader.rest.len() == 69)
 }
 
-/// What is told where a header is cut, by its end or by this failure.
+/// Returns what is told where a header is cut, by its end or by this failure.
 fn told_of_cut<R: System>(
     rt: &R,
     end: Option<ErrorKind>,

@@ -26,7 +26,7 @@ fn message_of(alloc: Global) -> std::result::Result<GenMessage, Fail> {
     })
 }
 
-/// What is told, as a text.
+/// Returns what is told, as a text.
 fn told(alloc: Global, ended: Result<()>) -> std::result::Result<String, Fail> {
     Ok(match ended {
         Ok(()) => String::from_str(alloc, "ok")?,
@@ -63,7 +63,7 @@ fn write<R: System>(
     Ok((told(rt.alloc(), ended)?, writer))
 }
 
-/// Whether a writer took these bytes, and was flushed so often.
+/// Returns whether a writer took these bytes, and was flushed so often.
 fn has_taken(writer: &Narrow, took: &[u8], flushes: u32) -> bool {
     writer.took.as_slice() == took && writer.flushes == flushes
 }
@@ -93,7 +93,7 @@ fn a_front_is_written_where_a_writer_fails(rt: HostRuntime) -> std::result::Resu
     Ok(())
 }
 
-/// What is told where a writer takes 11 bytes of a frame, and then nothing.
+/// Returns what is told where a writer takes 11 bytes of a frame, and then nothing.
 fn told_of_full<R: System>(rt: &R, flushes: bool) -> std::result::Result<String, Fail> {
     let (told, _) = write(rt, flushes, 4, 11, None)?;
     Ok(told)
@@ -117,7 +117,7 @@ fn read_request<R: System>(rt: &R) -> std::result::Result<Message<Request>, Fail
     Ok(come(rt, reading)??)
 }
 
-/// What a writer takes of this request.
+/// Writes this request, and returns the writer.
 fn write_request<R: System>(
     rt: &R,
     message: &Message<Request>,
@@ -138,7 +138,7 @@ fn a_value_is_read_and_written_again(rt: HostRuntime) -> std::result::Result<(),
     ensure(is_so, "other bytes are written")
 }
 
-/// What comes of a header that is written to a writer with so much room.
+/// Writes a header, and returns what comes of it, to a writer with so much room.
 fn write_header<R: System>(
     rt: &R,
     room: usize,
@@ -148,13 +148,13 @@ fn write_header<R: System>(
     Ok((ended, writer))
 }
 
-/// Whether a header is written, and flushed.
+/// Returns whether a header is written, and flushed.
 fn is_header_written<R: System>(rt: &R) -> std::result::Result<bool, Fail> {
     let (written, writer) = write_header(rt, 4096)?;
     Ok(written.is_ok() && writer.took.as_slice() == &FRAME[..10] && writer.flushes == 1)
 }
 
-/// Whether a writer that takes four bytes, and then nothing, is told so.
+/// Returns whether a writer that takes four bytes, and then nothing, is told so.
 fn is_header_refused<R: System>(rt: &R) -> std::result::Result<bool, Fail> {
     let (refused, _) = write_header(rt, 4)?;
     let told = refused.err().map(|error| error.kind());
@@ -167,7 +167,7 @@ fn headers_are_written_alone(rt: HostRuntime) -> std::result::Result<(), Fail> {
     ensure(is_so, "it is told otherwise")
 }
 
-/// How many bytes a writer takes of the frame of so many, and by how many offers.
+/// Returns how many bytes a writer takes of the frame of so many, and by how many offers.
 fn offers_of<R: System>(rt: &R, length: usize) -> std::result::Result<(usize, u32), Fail> {
     let alloc = rt.alloc();
     let payload = vec![in alloc; 7u8; length]?;
