@@ -1,7 +1,8 @@
 //! Benches nothing by itself: halves with no cipher, hooks, readers and writers, for programs that try out and measure a
-//! connection, and for tests.
+//! connection, and for tests. In `checks` how a test fails.
 #![tactic(auto)]
 
+pub mod checks;
 mod hooks;
 mod manners;
 mod odd_halves;

@@ -3,7 +3,6 @@
 #![tactic(auto)]
 
 pub mod acts;
-pub mod checks;
 pub mod lines;
 pub mod lone;
 pub mod parts;

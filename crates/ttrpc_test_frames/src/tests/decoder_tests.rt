@@ -1,8 +1,8 @@
 //! Frames out of bytes that were cut in all ways.
-use crate::tests::checks::{Tested, check, check_row};
 use crate::tests::rows::{FrameRow, message_of};
 use std::alloc::Global;
 use std::test::Fail;
+use ttrpc_bench::checks::{Tested, check, check_row};
 use ttrpc_proto::{
     Error, FrameDecoder, GenMessage, GenMessageError, Incoming, MESSAGE_LENGTH_MAX, MessageHeader,
 };

@@ -1,10 +1,10 @@
 //! Plain halves, through their bounds, the sealing of a frame, and the errors that `?` makes.
 ghost use Rattle.std.specs.Prelude.{◌≡◌, IfErr};
 
-use crate::tests::checks::{Tested, check, check_row};
 use crate::tests::rows::{FrameRow, header_of, queued_of};
 use std::alloc::{AllocError, Global};
 use std::test::Fail;
+use ttrpc_bench::checks::{Tested, check, check_row};
 use ttrpc_proto::{MESSAGE_LENGTH_MAX, Outgoing};
 use ttrpc_secure::sending::{SendError, associated_bytes, send};
 use ttrpc_secure::{InboundTransform, OutboundTransform, Plain, TransformError};

@@ -1,4 +1,3 @@
-mod checks;
 mod decoder_tests;
 mod halves_tests;
 mod queue_tests;

@@ -1,9 +1,9 @@
 //! Frames that leave in pieces, frames that are thrown away, and a last frame that is filled or taken back. All bytes
 //! are written by hand.
-use crate::tests::checks::{Tested, check, check_row};
 use crate::tests::rows::{FrameRow, queued_of};
 use std::alloc::Global;
 use std::test::Fail;
+use ttrpc_bench::checks::{Tested, check, check_row};
 use ttrpc_proto::framing::owners::Owners;
 use ttrpc_proto::{Error, Outgoing};
 use ttrpc_wire::Blob;

@@ -12,7 +12,7 @@ use std::sync::Arc;
 use std::test::Fail;
 use tokio::io::{AsyncRead, AsyncWrite};
 use tokio::runtime::LocalRuntime;
-use ttrpc_bench_polled::checks::ensure;
+use ttrpc_bench::checks::check_named;
 use ttrpc_polled::{Held, OUTLET_LIMIT, Outlet};
 use ttrpc_polled_client::{Client, ClientConnection};
 use ttrpc_secure::Plain;
@@ -142,7 +142,7 @@ fn gathered(alloc: Global, length: usize) -> Result<(usize, usize), Fail> {
 fn an_outlet_keeps_no_frame_behind_its_limit(rt: HostRuntime) -> Result<(), Fail> {
     let (kept, left) = gathered(rt.alloc(), 409_600)?;
     let is_so = kept < OUTLET_LIMIT + FRAME && kept.saturating_add(left) == 409_600;
-    ensure(is_so, "it keeps too much, or loses something")
+    check_named("it keeps too much, or loses something", is_so)
 }
 
 /// A client that writes to one who takes all, and to whom nothing comes.
@@ -179,9 +179,9 @@ fn offers_of_a_long_call<R: System>(rt: &R) -> Result<(u32, usize), Fail> {
 /// The frame has a header of 10 bytes, and a request of 11 for the service, 6 for the method, 4 before the payload, and that.
 #[test]
 fn a_long_frame_leaves_by_one_write(rt: HostRuntime) -> Result<(), Fail> {
-    ensure(
-        offers_of_a_long_call(&rt)? == (1, 100_031),
+    check_named(
         "it leaves by other writes",
+        offers_of_a_long_call(&rt)? == (1, 100_031),
     )
 }
 
@@ -236,5 +236,5 @@ fn left_by_one_poll<R: System>(rt: &R, frames: u32) -> Result<(bool, u32), Fail>
 fn one_poll_leaves_frames_for_the_next(rt: HostRuntime) -> Result<(), Fail> {
     let (is_pending, left) = left_by_one_poll(&rt, 10_000)?;
     let is_so = is_pending && 0 < left && left < 10_000;
-    ensure(is_so, "it reads nothing, or all")
+    check_named("it reads nothing, or all", is_so)
 }

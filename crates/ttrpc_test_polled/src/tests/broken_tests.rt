@@ -11,8 +11,8 @@ use std::io::{self, ErrorKind};
 use std::test::Fail;
 use tokio::io::{AsyncRead, AsyncWrite, DuplexStream};
 use tokio::runtime::LocalRuntime;
+use ttrpc_bench::checks::{check_named, check_named_row};
 use ttrpc_bench_polled::acts::{Act, Script};
-use ttrpc_bench_polled::checks::{ensure, ensure_at};
 use ttrpc_bench_polled::lines::{Line, Side, Speaker};
 use ttrpc_bench_polled::parts::{Fault, Parts};
 
@@ -99,7 +99,7 @@ fn is_told_of_a_cut<R: System>(rt: &R, cut: usize) -> Result<bool, Fail> {
 #[test]
 fn each_stream_is_told_once_that_its_connection_was_cut(rt: HostRuntime) -> Result<(), Fail> {
     for cut in 0..=SAID.len() {
-        ensure_at(is_told_of_a_cut(&rt, cut)?, "behind so many bytes", cut)?;
+        check_named_row("behind so many bytes", cut, is_told_of_a_cut(&rt, cut)?)?;
     }
     Ok(())
 }
@@ -177,7 +177,7 @@ const BESIDE_UNREAD: &[Act] = &[
 fn streams_receive_beside_bytes_that_are_never_read(rt: HostRuntime) -> Result<(), Fail> {
     let lines = [Line::Up(TWO_STREAMS), Line::Down(SAID)];
     let fault = run_beside_unread(&rt, BESIDE_UNREAD, &lines)?;
-    ensure(fault.is_none(), "an act or a line comes otherwise")
+    check_named("an act or a line comes otherwise", fault.is_none())
 }
 
 /// A reader to which nothing comes.
@@ -266,7 +266,7 @@ fn run_failing<R: System>(rt: &R, left: usize, acts: &[Act]) -> Result<Option<Fa
 fn a_failing_writer_ends_all_calls(rt: HostRuntime) -> Result<(), Fail> {
     for left in 0..38 {
         let fault = run_failing(&rt, left, FAILED)?;
-        ensure_at(fault.is_none(), "behind so many bytes", left)?;
+        check_named_row("behind so many bytes", left, fault.is_none())?;
     }
     Ok(())
 }

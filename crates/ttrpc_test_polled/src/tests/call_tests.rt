@@ -6,7 +6,7 @@ use futures::task::{Context, Poll};
 use std::test::Fail;
 use std::time::{Duration, Instant};
 use tokio::runtime::LocalRuntime;
-use ttrpc_bench_polled::checks::ensure;
+use ttrpc_bench::checks::check_named;
 use ttrpc_polled::Timed;
 use ttrpc_polled_client::{Client, ClientRequest};
 use ttrpc_proto::{Error, Response, Result as RpcResult};
@@ -61,7 +61,7 @@ fn joined_calls_get_their_own_answers(rt: HostRuntime) -> Result<(), Fail> {
     let calls = two_calls(&rt, &site.client)?;
     let (first, second) = both_outcomes(&rt, site, calls)?;
     let is_so = is_answered(&first, b"1") && is_answered(&second, b"2");
-    ensure(is_so, "a call has another answer")
+    check_named("a call has another answer", is_so)
 }
 
 /// Returns what a call of a site comes to.
@@ -81,9 +81,9 @@ fn a_long_call_passes_a_narrow_pipe(rt: HostRuntime) -> Result<(), Fail> {
     let site = make_site(&rt, 100, Manners::Echoes)?;
     let call = echo(&rt, &site.client, long.as_slice(), 0)?;
     let outcome = outcome_of(&rt, site, call)?;
-    ensure(
-        is_answered(&outcome, long.as_slice()),
+    check_named(
         "it has another answer",
+        is_answered(&outcome, long.as_slice()),
     )
 }
 
@@ -160,9 +160,9 @@ fn a_call_ends_whose_connection_is_dropped(rt: HostRuntime) -> Result<(), Fail> 
     let site = make_site(&rt, 100, Manners::IsSilent)?;
     let call = echo(&rt, &site.client, b"2", 0)?;
     let outcome = dropped_outcome(&rt, site, call)?;
-    ensure(
-        matches!(&outcome, Err(Error::LocalClosed)),
+    check_named(
         "it ends otherwise",
+        matches!(&outcome, Err(Error::LocalClosed)),
     )
 }
 

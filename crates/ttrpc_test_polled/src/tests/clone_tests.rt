@@ -5,7 +5,7 @@ use futures::future::poll_immediate;
 use std::sync::Arc;
 use std::test::Fail;
 use tokio::runtime::LocalRuntime;
-use ttrpc_bench_polled::checks::ensure;
+use ttrpc_bench::checks::check_named;
 use ttrpc_bench_polled::lone::Lone;
 use ttrpc_polled::{StreamInner, StreamReceiver, StreamSender};
 use ttrpc_polled_client::{Client, ClientLine};
@@ -30,7 +30,7 @@ fn clone_calls<R: System>(rt: &R) -> Result<RpcResult<Response>, Fail> {
 #[test]
 fn a_clone_calls_behind_its_original(rt: HostRuntime) -> Result<(), Fail> {
     let outcome = clone_calls(&rt)?;
-    ensure(is_answered(&outcome, b"1"), "it has another answer")
+    check_named("it has another answer", is_answered(&outcome, b"1"))
 }
 
 /// The line of a client over no transform.
@@ -92,7 +92,7 @@ fn clone_sends<R: System>(rt: &R) -> Result<(RpcResult<Blob>, RpcResult<()>), Fa
 #[test]
 fn a_clone_sends_behind_its_original(rt: HostRuntime) -> Result<(), Fail> {
     let (item, last) = clone_sends(&rt)?;
-    ensure(is_item(&item, b"a") && last.is_ok(), "an item is lost")
+    check_named("an item is lost", is_item(&item, b"a") && last.is_ok())
 }
 
 #[test]
@@ -101,9 +101,9 @@ fn a_dropped_receiver_tells_its_line_once(rt: HostRuntime) -> Result<(), Fail> {
     let receiver = StreamReceiver::new(rt.alloc(), Arc::try_clone(&line)?, 7);
     let before = line.left();
     drop(receiver);
-    ensure(
-        before == (0, 0) && line.left() == (1, 0),
+    check_named(
         "it tells otherwise",
+        before == (0, 0) && line.left() == (1, 0),
     )
 }
 
@@ -115,9 +115,9 @@ fn only_the_last_sender_tells_its_line(rt: HostRuntime) -> Result<(), Fail> {
     drop(sender);
     let before = line.left();
     drop(clone);
-    ensure(
-        before == (0, 0) && line.left() == (0, 1),
+    check_named(
         "it tells otherwise",
+        before == (0, 0) && line.left() == (0, 1),
     )
 }
 
@@ -160,8 +160,8 @@ fn first_echo<R: System>(rt: &R) -> Result<(bool, RpcResult<Blob>), Fail> {
 #[test]
 fn an_item_arrives_whose_call_is_dropped(rt: HostRuntime) -> Result<(), Fail> {
     let (is_dropped, item) = first_echo(&rt)?;
-    ensure(
-        is_dropped && is_item(&item, b"a"),
+    check_named(
         "another item comes first",
+        is_dropped && is_item(&item, b"a"),
     )
 }

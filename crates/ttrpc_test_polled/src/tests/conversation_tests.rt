@@ -2,8 +2,8 @@ use crate::tests::sites::{System, Wired, make_wired};
 use futures::future::Either;
 use std::test::Fail;
 use tokio::runtime::LocalRuntime;
+use ttrpc_bench::checks::{check_named, check_named_row};
 use ttrpc_bench_polled::acts::{Act, Script};
-use ttrpc_bench_polled::checks::{ensure, ensure_at};
 use ttrpc_bench_polled::lines::{Line, Side, Speaker};
 use ttrpc_bench_polled::parts::{Fault, Parts};
 use ttrpc_bench_polled::recorded::{Conversation, client_beside_go, client_beside_rust};
@@ -36,7 +36,7 @@ fn understand<R: System>(rt: &R, conversation: Conversation) -> Result<(), Fail>
     let (name, acts, lines) = conversation;
     for room in ROOMS {
         let fault = speak(rt, room, acts, lines)?;
-        ensure_at(fault.is_none(), name, room)?;
+        check_named_row(name, room, fault.is_none())?;
     }
     Ok(())
 }
@@ -72,5 +72,5 @@ const REMEMBERED: &[Line<'static>] = &[
 #[test]
 fn a_dropped_call_leaves_no_frame(rt: HostRuntime) -> Result<(), Fail> {
     let fault = speak(&rt, 4096, FORGOTTEN, REMEMBERED)?;
-    ensure(fault.is_none(), "an act or a line comes otherwise")
+    check_named("an act or a line comes otherwise", fault.is_none())
 }

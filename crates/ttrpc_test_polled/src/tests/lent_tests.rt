@@ -3,7 +3,7 @@ use crate::tests::peer::Manners;
 use crate::tests::sites::{Site, System, done, make_site, request};
 use std::alloc::Global;
 use std::test::Fail;
-use ttrpc_bench_polled::checks::ensure;
+use ttrpc_bench::checks::check_named;
 use ttrpc_client::{ClientCore, ClientKind};
 use ttrpc_polled::{
     ClientStream, ClientStreamSender, SSReceiver, StreamInner, StreamReceiver, StreamSender,
@@ -101,7 +101,7 @@ fn items_are_stepped(rt: HostRuntime) -> Result<(), Fail> {
     let (sender, mut receiver) = first_stream(&rt)?.split();
     let is_so = steps_of_sending(rt.alloc(), &sender)?
         && steps_of_receiving(rt.alloc(), &mut receiver)?;
-    ensure(is_so, "a step comes to something else")
+    check_named("a step comes to something else", is_so)
 }
 
 /// Returns whether a message is received, and then nothing yet.
@@ -151,7 +151,7 @@ fn messages_are_stepped(rt: HostRuntime) -> Result<(), Fail> {
     let is_so = steps_of_messages(rt.alloc(), first_stream(&rt)?)?
         && steps_to_the_end(rt.alloc(), first_stream(&rt)?)?
         && steps_of_closing(rt.alloc(), first_stream(&rt)?)?;
-    ensure(is_so, "a step comes to something else")
+    check_named("a step comes to something else", is_so)
 }
 
 /// Returns whether a stream is opened on such a core, and once alone.
@@ -170,8 +170,8 @@ fn an_opening_is_stepped(rt: HostRuntime) -> Result<(), Fail> {
         ends: _ends,
     } = make_site(&rt, 4096, Manners::Echoes)?;
     let opening = client.new_stream(request(rt.alloc(), "Chat", b"", 0)?, true, true)?;
-    ensure(
-        steps_of_opening(rt.alloc(), opening),
+    check_named(
         "a step comes to something else",
+        steps_of_opening(rt.alloc(), opening),
     )
 }

@@ -10,9 +10,9 @@ use futures::{Future, StreamExt};
 use std::net::SocketAddr;
 use std::test::Fail;
 use tokio::runtime::LocalRuntime;
+use ttrpc_bench::checks::check_named;
 use ttrpc_bench::{Rejects, Stamps};
 use ttrpc_bench_polled::acts::{Act, Script};
-use ttrpc_bench_polled::checks::ensure;
 use ttrpc_bench_polled::lines::{Line, Side, Speaker};
 use ttrpc_bench_polled::parts::{Fault, Parts};
 use ttrpc_polled::{Listener, Socket};
@@ -205,7 +205,7 @@ fn talk_to_the_end<R: System>(rt: &R, near_stays: bool) -> Result<bool, Fail> {
 #[test]
 fn sockets_talk_by_polls_to_the_end(rt: HostRuntime) -> Result<(), Fail> {
     let is_so = talk_to_the_end(&rt, true)? && talk_to_the_end(&rt, false)?;
-    ensure(is_so, "something else is heard")
+    check_named("something else is heard", is_so)
 }
 
 /// Returns whether the writes of both ends go out at once exactly where each is told so, the far end by its listener.
@@ -217,7 +217,7 @@ fn is_told_of_delay<R: System>(rt: &R, near: bool, far: bool) -> Result<bool, Fa
 #[test]
 fn delay_is_off_where_it_is_told(rt: HostRuntime) -> Result<(), Fail> {
     let is_so = is_told_of_delay(&rt, true, false)? && is_told_of_delay(&rt, false, true)?;
-    ensure(is_so, "an end has the other setting")
+    check_named("an end has the other setting", is_so)
 }
 
 /// A call and its answer.
@@ -277,7 +277,7 @@ fn call<R: System>(rt: &R, nodelay: bool) -> Result<Option<Fault>, Fail> {
 #[test]
 fn a_client_connects_and_calls(rt: HostRuntime) -> Result<(), Fail> {
     let is_so = call(&rt, true)?.is_none() && call(&rt, false)?.is_none();
-    ensure(is_so, "an act or a line comes otherwise")
+    check_named("an act or a line comes otherwise", is_so)
 }
 
 /// Returns whether a client whose hook refuses its socket is refused by that hook's text.
@@ -302,7 +302,7 @@ fn is_known<R: System>(rt: &R) -> Result<bool, Fail> {
 
 #[test]
 fn a_hook_looks_at_the_socket(rt: HostRuntime) -> Result<(), Fail> {
-    ensure(is_refused(&rt)? && is_known(&rt)?, "a hook isn't asked")
+    check_named("a hook isn't asked", is_refused(&rt)? && is_known(&rt)?)
 }
 
 /// Makes a call over a connection that is one of these tasks.
@@ -330,8 +330,8 @@ fn call_spawned<R: System>(rt: &R) -> Result<Option<Fault>, Fail> {
 
 #[test]
 fn a_spawned_connection_is_polled(rt: HostRuntime) -> Result<(), Fail> {
-    ensure(
-        call_spawned(&rt)?.is_none(),
+    check_named(
         "an act or a line comes otherwise",
+        call_spawned(&rt)?.is_none(),
     )
 }

@@ -8,8 +8,8 @@ use futures::future::Either;
 use futures::task::{Context, Poll};
 use std::test::Fail;
 use tokio::runtime::LocalRuntime;
+use ttrpc_bench::checks::check_named;
 use ttrpc_bench_polled::acts::request;
-use ttrpc_bench_polled::checks::ensure;
 use ttrpc_bench_polled::lines::{Line, Side, Speaker};
 use ttrpc_bench_polled::parts::{Fault, Parts};
 use ttrpc_polled::ServerStreamReceiver;
@@ -120,5 +120,5 @@ fn receive<R: System>(rt: &R, lines: &[Line<'_>]) -> Result<Option<Fault>, Fail>
 #[test]
 fn messages_come_until_there_are_no_more(rt: HostRuntime) -> Result<(), Fail> {
     let fault = receive(&rt, LINES)?;
-    ensure(fault.is_none(), "an act or a line comes otherwise")
+    check_named("an act or a line comes otherwise", fault.is_none())
 }

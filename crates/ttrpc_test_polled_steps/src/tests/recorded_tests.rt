@@ -1,8 +1,8 @@
 //! The recorded frames beside either core alone, without a reader, a writer or a handler.
 use std::alloc::Global;
 use std::test::Fail;
+use ttrpc_bench::checks::check_named_row;
 use ttrpc_bench_polled::acts::{Act, Outcome, is_so, request};
-use ttrpc_bench_polled::checks::ensure_at;
 use ttrpc_bench_polled::lines::Line;
 use ttrpc_bench_polled::recorded::{
     Conversation, Said, client_beside_go, client_beside_rust, served_to_go, served_to_go_bare,
@@ -114,10 +114,10 @@ fn serve(alloc: Global, bare: bool, said: Said) -> Result<(), Fail> {
     let mut core = server(alloc, bare)?;
     let mut handled = None;
     for (at, line) in lines.iter().enumerate() {
-        ensure_at(
-            answer_line(alloc, &mut core, &mut handled, *line)?,
+        check_named_row(
             name,
             at,
+            answer_line(alloc, &mut core, &mut handled, *line)?,
         )?;
     }
     Ok(())
@@ -290,7 +290,7 @@ fn understand(alloc: Global, conversation: Conversation) -> Result<(), Fail> {
     let (name, acts, lines) = conversation;
     let mut caller = Caller::new(alloc, lines);
     for (at, act) in acts.iter().enumerate() {
-        ensure_at(caller.acts(alloc, *act)? && caller.says(alloc)?, name, at)?;
+        check_named_row(name, at, caller.acts(alloc, *act)? && caller.says(alloc)?)?;
     }
     Ok(())
 }

@@ -1,7 +1,7 @@
 use crate::tests::stepped::{Bench, Step};
 use std::alloc::Global;
 use std::test::Fail;
-use ttrpc_bench_polled::checks::ensure_at;
+use ttrpc_bench::checks::check_named_row;
 
 /// A stream, as a client that sends and receives opens it; its items and its close.
 const OPENS: &[u8] = b"\0\0\0\x11\0\0\0\x01\x01\x06\x0a\x09demo.Echo\x12\x04Chat";
@@ -148,7 +148,7 @@ const STEPS: &[(&str, &[Step])] = &[
 fn take_all(alloc: Global, name: &'static str, steps: &[Step]) -> Result<(), Fail> {
     let mut bench = Bench::new(alloc)?;
     for (number, step) in steps.iter().enumerate() {
-        ensure_at(bench.take(*step)?, name, number)?;
+        check_named_row(name, number, bench.take(*step)?)?;
     }
     Ok(())
 }

@@ -7,7 +7,7 @@ use futures::task::{Context, Poll};
 use std::alloc::Global;
 use std::sync::Arc;
 use std::test::Fail;
-use ttrpc_bench_polled::checks::{ensure, ensure_at};
+use ttrpc_bench::checks::{check_named, check_named_row};
 use ttrpc_bench_polled::lines::Line::{self, *};
 use ttrpc_bench_polled::parts::Fault;
 use ttrpc_bench_polled::recorded::{Said, served_to_go, served_to_go_bare, served_to_rust};
@@ -92,7 +92,7 @@ fn frames_have_their_answers(rt: HostRuntime) -> Result<(), Fail> {
             let lines = [Up(frames), Down(answers), UpEnds, DownEnds];
             for room in [1, 4096] {
                 let fault = run_lines(&rt, &gate, room, false, &lines)?;
-                ensure_at(fault.is_none(), "a row", usize::from(number))?;
+                check_named_row("a row", usize::from(number), fault.is_none())?;
             }
         }
     }
@@ -109,7 +109,7 @@ fn answers_come_behind_the_end_of_input(rt: HostRuntime) -> Result<(), Fail> {
     let gate = Arc::new(rt.alloc(), Gate::new(rt.alloc()))?;
     let is_so = run_lines(&rt, &gate, 4096, false, AT_ONCE)?.is_none()
         && run_lines(&rt, &gate, 4096, false, IN_VAIN)?.is_none();
-    ensure(is_so, "a line comes otherwise")
+    check_named("a line comes otherwise", is_so)
 }
 
 /// A handler that waits, one that lets it go on, and two calls behind them, in one write.
@@ -143,14 +143,14 @@ const WAKES: &[Line<'static>] = &[
 fn a_woken_handler_goes_before_calls_that_wait(rt: HostRuntime) -> Result<(), Fail> {
     let gate = Arc::new(rt.alloc(), Gate::new(rt.alloc()))?;
     let fault = run_lines(&rt, &gate, 4096, false, WAKES)?;
-    ensure(fault.is_none(), "a line comes otherwise")
+    check_named("a line comes otherwise", fault.is_none())
 }
 
 /// Fails unless this conversation goes as stated.
 fn hold<R: System>(rt: &R, gate: &Arc<Gate, Global>, bare: bool, said: Said) -> Result<(), Fail> {
     let (name, lines) = said;
     let fault = run_lines(rt, gate, 4096, bare, lines)?;
-    ensure(fault.is_none(), name)
+    check_named(name, fault.is_none())
 }
 
 #[test]
@@ -195,7 +195,7 @@ fn all_calls_are_answered_behind_the_end_of_input(rt: HostRuntime) -> Result<(),
         put(&mut echoed, ECHOED, u32::from(number), Some(number))?;
     }
     let fault = answer_behind(&rt, &gate, asked.as_slice(), echoed.as_slice())?;
-    ensure(fault.is_none(), "a line comes otherwise")
+    check_named("a line comes otherwise", fault.is_none())
 }
 
 /// Says these frames to a server, which answers so after the end of the input.
@@ -232,7 +232,7 @@ fn a_handler_is_told_that_its_client_went_away(rt: HostRuntime) -> Result<(), Fa
         && gate.was_told("socket err: socket disconnected");
     gate.note(String::new(rt.alloc()));
     let is_told_unread = leaves_nothing(&rt, &gate, 4, LEAVES_UNREAD)? && !gate.was_told("");
-    ensure(is_told && is_told_unread, "a handler stays, or isn't told")
+    check_named("a handler stays, or isn't told", is_told && is_told_unread)
 }
 
 /// A request of a handler that never ends, without a limit, and one that is answered behind it.
@@ -290,7 +290,7 @@ fn count_handlers<R: System>(
 fn a_handler_whose_time_is_over_is_dropped(rt: HostRuntime) -> Result<(), Fail> {
     let is_so = count_handlers(&rt, 1, GOES_ON)?.is_none()
         && count_handlers(&rt, 0, IS_OVER)?.is_none();
-    ensure(is_so, "other handlers are there")
+    check_named("other handlers are there", is_so)
 }
 
 /// A stream, and what answers it: that 250 items came, all of them in order.
@@ -341,5 +341,5 @@ fn items_and_a_close_in_one_write_keep_their_order(rt: HostRuntime) -> Result<()
     lines.push(UpEnds)?;
     lines.push(DownEnds)?;
     let fault = run_lines(&rt, &gate, 16384, false, lines.as_slice())?;
-    ensure(fault.is_none(), "a line comes otherwise")
+    check_named("a line comes otherwise", fault.is_none())
 }

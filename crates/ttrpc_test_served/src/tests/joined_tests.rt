@@ -11,8 +11,8 @@ use std::sync::Arc;
 use std::test::Fail;
 use std::time::Duration;
 use tokio::runtime::Handle;
+use ttrpc_bench::checks::check_named;
 use ttrpc_bench_polled::acts::{is_so, request};
-use ttrpc_bench_polled::checks::ensure;
 use ttrpc_bench_polled::parts::Fault;
 use ttrpc_polled_client::{Client, ClientRequest};
 use ttrpc_proto::{Response, Result as RpcResult};
@@ -127,5 +127,5 @@ fn join_calls<R: System>(rt: &R) -> Result<Option<Fault>, Fail> {
 
 #[test]
 fn a_call_waits_for_one_that_is_joined(rt: HostRuntime) -> Result<(), Fail> {
-    ensure(join_calls(&rt)?.is_none(), "a call has another answer")
+    check_named("a call has another answer", join_calls(&rt)?.is_none())
 }

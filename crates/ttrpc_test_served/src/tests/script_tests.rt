@@ -1,8 +1,8 @@
 //! What a client does beside a server, act by act.
 use crate::tests::runs::run_acts;
 use std::test::Fail;
+use ttrpc_bench::checks::{check_named, check_named_row};
 use ttrpc_bench_polled::acts::Act::{self, *};
-use ttrpc_bench_polled::checks::{ensure, ensure_at};
 
 pub const SENT_BACK: &[Act] = &[Calls("Echo", b"\x2a", 0), Ends(0, Ok(b"\x2a"))];
 
@@ -157,7 +157,7 @@ fn scripts_come_to_what_they_state(rt: HostRuntime) -> Result<(), Fail> {
         if let Some((name, acts)) = script(number) {
             for room in [1, 7, 4096] {
                 let fault = run_acts(&rt, room, acts)?;
-                ensure_at(fault.is_none(), name, room)?;
+                check_named_row(name, room, fault.is_none())?;
             }
         }
     }
@@ -177,5 +177,5 @@ fn a_thousand_calls_pass_one_that_never_ends(rt: HostRuntime) -> Result<(), Fail
         acts.push(Ends(number, Ok(b"\x2a")))?;
     }
     let fault = run_acts(&rt, 4096, acts.as_slice())?;
-    ensure(fault.is_none(), "an act comes to something else")
+    check_named("an act comes to something else", fault.is_none())
 }

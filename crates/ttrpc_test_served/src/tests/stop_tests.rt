@@ -14,8 +14,8 @@ use std::sync::Arc;
 use std::test::Fail;
 use std::time::Duration;
 use tokio::io::DuplexStream;
+use ttrpc_bench::checks::check_named;
 use ttrpc_bench_polled::acts::{Act, Script};
-use ttrpc_bench_polled::checks::ensure;
 use ttrpc_bench_polled::lines::{Line, Speaker};
 use ttrpc_bench_polled::parts::Fault;
 use ttrpc_polled::Timed;
@@ -183,7 +183,7 @@ fn a_server_ends_its_connections(rt: HostRuntime) -> Result<(), Fail> {
         if let Some((name, limit, before, leaves_waiters, after)) = end(number) {
             let limit = Duration::from_millis(limit);
             let fault = stop(&rt, limit, before, leaves_waiters, after)?;
-            ensure(fault.is_none(), name)?;
+            check_named(name, fault.is_none())?;
         }
     }
     Ok(())
@@ -212,5 +212,5 @@ fn a_server_ends_the_connection_of_a_peer_that_reads_nothing(rt: HostRuntime) ->
         after: NOTHING,
     };
     let fault = run_beside(&rt, &mut runtime, &mut server, far, stopping)?;
-    ensure(fault.is_none(), "a line comes otherwise, or it doesn't end")
+    check_named("a line comes otherwise, or it doesn't end", fault.is_none())
 }

@@ -1,8 +1,8 @@
 //! One loop after the other over one port.
 
-use crate::tests::checks::{Tested, check};
 use crate::tests::fakes::{BYTES, Lender, Taker};
 use std::io::ErrorKind;
+use ttrpc_bench::checks::{Tested, check};
 use ttrpc_bench::{AT_ONCE, Giver, Manner, ROOM, Receiver};
 use ttrpc_sync::{PortState, read_loop, write_loop};
 use ttrpc_wire::values::slices::front;

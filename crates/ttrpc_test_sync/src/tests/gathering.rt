@@ -1,12 +1,12 @@
 //! Writers that gather, behind the loop that writes and alone: whole frames go out, in time, and nothing is lost.
 
-use crate::tests::checks::{Tested, check, check_row};
 use crate::tests::fakes::{BYTES, Lender};
 use std::alloc::{AllocError, Global};
 use std::cell::Cell;
 use std::io::{self, ErrorKind};
 use std::sync::Wait;
 use std::test::Fail;
+use ttrpc_bench::checks::{Tested, check, check_row};
 use ttrpc_bench::{AT_ONCE, Manner, Receiver};
 use ttrpc_proto::Sink;
 use ttrpc_sync::{GATHER_LIMIT, Gather, PART_LIMIT, PortState, WritePort, write_loop};

@@ -3,12 +3,12 @@ ghost use Rattle.std.specs.Prelude.{◌≡◌, ◌⊎◌, ◌++◌, [], map, tak
 ghost use Rattle.std.specs.declared.io.ErrorKind.{ErrorKind as AKind};
 ghost use Rattle.ttrpc_sync.specs.declared.ports.PortState.{PortState as AWord};
 
-use crate::tests::checks::{Tested, check};
 use crate::tests::fakes::{BYTES, Lender, Taker};
 use crate::tests::workers::{Queue, Refuser, Turnstile};
 use std::io;
 use std::process::Abort;
 use std::sync::Wait;
+use ttrpc_bench::checks::{Tested, check};
 use ttrpc_bench::{Giver, ROOM, Receiver};
 use ttrpc_proto::{Sink, write_part};
 use ttrpc_sync::{Gather, PortState, read_loop, work_loop, write_loop};

@@ -1,5 +1,4 @@
 mod again;
-mod checks;
 mod fakes;
 mod gathering;
 mod known;

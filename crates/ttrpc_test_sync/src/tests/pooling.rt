@@ -1,8 +1,8 @@
 //! The pool of workers, over rows of calls and their answers, and behind the gate of a worker.
 
-use crate::tests::checks::{Tested, check, check_row};
 use crate::tests::pooling::Call::*;
 use crate::tests::workers::{Queue, Refuser, Seen};
+use ttrpc_bench::checks::{Tested, check, check_row};
 use ttrpc_sync::{Gate, PoolCore, PortState, work_loop};
 
 /// A call of a pool, with its answer.

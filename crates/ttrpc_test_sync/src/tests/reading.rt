@@ -1,12 +1,12 @@
 //! The loop that reads, over rows of a reader, a port, and what comes of them.
 
-use crate::tests::checks::{Tested, check_named};
 use crate::tests::fakes::{BYTES, Taker, long_bytes};
 use crate::tests::known::reader_had_it;
 use std::alloc::Global;
 use std::io::ErrorKind;
 use std::sync::Wait;
 use std::test::Fail;
+use ttrpc_bench::checks::{Tested, check_named};
 use ttrpc_bench::{AT_ONCE, Giver, Manner, ROOM};
 use ttrpc_sync::PortState;
 use ttrpc_wire::values::slices::front;

@@ -1,13 +1,13 @@
 //! The loop of a worker, over rows of jobs, a gate, and what comes of them.
 
 use crate::passes::Pass;
-use crate::tests::checks::{Tested, check_named};
 use crate::tests::known::jobs_are_reported;
 use crate::tests::workers::{Queue, Refuser, Seen, Turnstile};
 use std::alloc::Global;
 use std::process::Abort;
 use std::sync::Wait;
 use std::test::Fail;
+use ttrpc_bench::checks::{Tested, check_named};
 use ttrpc_sync::PortState;
 
 /// More than any of the tests needs, so that no queue and no gate wants memory.

@@ -1,12 +1,12 @@
 //! The loop that writes, over rows of a port, a writer, and what comes of them.
 
-use crate::tests::checks::{Tested, check_named};
 use crate::tests::fakes::{BYTES, Lender, long_bytes};
 use crate::tests::known::writer_had_it;
 use std::alloc::Global;
 use std::io::ErrorKind;
 use std::sync::Wait;
 use std::test::Fail;
+use ttrpc_bench::checks::{Tested, check_named};
 use ttrpc_bench::{AT_ONCE, Manner, ROOM, Receiver};
 use ttrpc_sync::PortState;
 use ttrpc_wire::values::slices::front;

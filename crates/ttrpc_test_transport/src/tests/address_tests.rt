@@ -1,8 +1,8 @@
 //! What addresses say, and why some are refused.
 
-use crate::tests::checks::{Tested, check_named};
 use std::alloc::Global;
 use std::test::Fail;
+use ttrpc_bench::checks::{Tested, check_named};
 use ttrpc_proto::{Error, Result as Answer};
 use ttrpc_transport::{Domain, Place, nodelay_from, parse_sockaddr, parse_vsock, socket_of};
 

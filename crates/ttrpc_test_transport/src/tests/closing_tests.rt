@@ -1,6 +1,5 @@
 //! Threads that wait, and are woken.
 
-use crate::tests::checks::{Tested, check};
 use crate::tests::pairs::{
     Pair, Site, a_while, address_of, clean_behind, connect, is_ended, join, listen, passes,
 };
@@ -12,6 +11,7 @@ use std::test::Fail;
 use std::thread::Threads;
 use std::time::Clock;
 use std::{fs, io, thread};
+use ttrpc_bench::checks::{Tested, check};
 use ttrpc_transport::{PipeConnection, PipeListener};
 
 /// Returns whether a thread that reads is at the end once another thread closes the connection, or ends its reads.

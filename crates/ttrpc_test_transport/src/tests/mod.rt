@@ -1,5 +1,4 @@
 mod address_tests;
-mod checks;
 mod closing_tests;
 mod pairs;
 mod refusal_tests;

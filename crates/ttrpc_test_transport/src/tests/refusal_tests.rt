@@ -1,7 +1,6 @@
 //! Addresses at which nothing is bound or connected.
 
 use crate::tests::address_tests::is_refused;
-use crate::tests::checks::{Tested, check, check_named};
 use crate::tests::pairs::{Site, address_of, clean_behind};
 use std::alloc::Global;
 use std::fs;
@@ -9,6 +8,7 @@ use std::io::{ErrorKind, Read};
 use std::net::{Net, TcpListener, TcpStream};
 use std::rt::Files;
 use std::test::Fail;
+use ttrpc_bench::checks::{Tested, check, check_named};
 use ttrpc_proto::{Error, Result as Answer};
 use ttrpc_transport::{ClientConnection, PipeListener};
 

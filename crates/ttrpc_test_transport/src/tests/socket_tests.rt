@@ -1,6 +1,5 @@
 //! Bytes between the two ends of a connection.
 
-use crate::tests::checks::{Tested, check};
 use crate::tests::pairs::{Pair, Site, a_while, connect, is_ended, passes};
 use std::alloc::Global;
 use std::net::{Net, TcpListener, TcpStream};
@@ -9,6 +8,7 @@ use std::rt::Files;
 use std::test::Fail;
 use std::thread::{self, Threads};
 use std::time::{Clock, Duration, Instant};
+use ttrpc_bench::checks::{Tested, check};
 use ttrpc_proto::{Error, Result as Answer, fill, write_part};
 use ttrpc_transport::{ClientConnection, PipeConnection, Stream};
 

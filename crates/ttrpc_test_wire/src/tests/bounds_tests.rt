@@ -2,10 +2,10 @@
 ghost use Rattle.std.specs.Prelude.{◌≡◌, string_bytes, IfOk, Some};
 ghost use Rattle.ttrpc_proto.specs.Messages.{non_ok_of};
 
-use crate::tests::checks::{Tested, check, check_row};
 use crate::tests::rows::{RequestRow, request_of, response_of, status_of};
 use std::alloc::{AllocError, Global};
 use std::test::Fail;
+use ttrpc_bench::checks::{Tested, check, check_row};
 use ttrpc_proto::{KeyValue, Request, RequestInit, Response, ResponseInit, Status};
 
 /// What is made of these parts.

@@ -1,9 +1,9 @@
 //! Contexts: how long a request may take, its metadata, and the pairs of an envelope that these are.
-use crate::tests::checks::{Tested, check, check_row};
 use std::alloc::Global;
 use std::collections::BTreeMap;
 use std::test::Fail;
 use std::time::Duration;
+use ttrpc_bench::checks::{Tested, check, check_row};
 use ttrpc_message::{Context, from_pb, to_pb, with_duration, with_metadata, with_timeout};
 use ttrpc_proto::{Error, KeyValue};
 use ttrpc_wire::{Text, TryClone};

@@ -2,11 +2,11 @@
 ghost use Rattle.std.specs.Prelude.{◌≡◌, codes, MatchResult, IfErr, IsErrAnd};
 ghost use Rattle.ttrpc_proto.specs.ErrorText.{error_text, IsOthers};
 
-use crate::tests::checks::{Tested, check, check_row};
 use crate::tests::rows::{ErrorRow, error_of, response_of, status_of};
 use std::alloc::{AllocError, Global};
 use std::io::ErrorKind;
 use std::test::Fail;
+use ttrpc_bench::checks::{Tested, check, check_row};
 use ttrpc_proto::error::causes::others_of;
 use ttrpc_proto::framing::header::oversize::check_oversize;
 use ttrpc_proto::{

@@ -1,7 +1,7 @@
 //! The protocol's example of a header, its edges, and the headers that are made.
-use crate::tests::checks::{Tested, check, check_row};
 use std::alloc::Global;
 use std::test::Fail;
+use ttrpc_bench::checks::{Tested, check, check_row};
 use ttrpc_proto::{
     FLAG_NO_DATA, FLAG_REMOTE_CLOSED, FLAG_REMOTE_OPEN, MESSAGE_TYPE_DATA, MessageHeader,
 };

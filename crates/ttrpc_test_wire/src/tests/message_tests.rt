@@ -1,11 +1,11 @@
 //! The envelope's messages as bytes, and what those bytes mean.
-use crate::tests::checks::{Tested, check, check_row};
 use crate::tests::rows::{
     RequestRow, ResponseRow, Row, StatusRow, any_of, key_value_of, request_of, response_of,
     status_of,
 };
 use std::alloc::Global;
 use std::test::Fail;
+use ttrpc_bench::checks::{Tested, check, check_row};
 use ttrpc_message::decode_request;
 use ttrpc_proto::{Any, KeyValue, Request, Response, Status};
 use ttrpc_wire::codec::in_place::{CarriesPayload, decode_in_place};

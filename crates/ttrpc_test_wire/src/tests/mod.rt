@@ -1,5 +1,4 @@
 mod bounds_tests;
-mod checks;
 mod context_tests;
 mod error_tests;
 mod header_tests;

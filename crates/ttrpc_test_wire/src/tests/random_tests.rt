@@ -1,7 +1,7 @@
 //! Generated lists of fields, on which the decoder agrees with a plain reading of the definitions.
-use crate::tests::checks::{Tested, check};
 use std::alloc::Global;
 use std::test::Fail;
+use ttrpc_bench::checks::{Tested, check};
 use ttrpc_proto::{KeyValue, Request};
 use ttrpc_wire::{Codec, CodecError, Field, FieldNumber, Value, put_field};
 

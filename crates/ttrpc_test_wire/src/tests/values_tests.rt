@@ -1,8 +1,8 @@
 //! Texts, bytes and lists, and the error of refused memory.
-use crate::tests::checks::{Tested, check, check_row};
 use std::alloc::Global;
 use std::cmp::Ordering;
 use std::test::Fail;
+use ttrpc_bench::checks::{Tested, check, check_row};
 use ttrpc_wire::values::codec_error::CodecFailure;
 use ttrpc_wire::{Blob, CodecError, Sequence, Text, TryClone};
 

@@ -1,7 +1,7 @@
 //! The encoding guide's examples, the edges, and each refusal.
-use crate::tests::checks::{Tested, check, check_row};
 use std::alloc::Global;
 use std::test::Fail;
+use ttrpc_bench::checks::{Tested, check, check_row};
 use ttrpc_wire::{
     CodecError, Field, FieldNumber, Reader, Value, WireType, field_len, int32_to_varint,
     int64_to_varint, put_field, put_tag, put_varint, tag_len, varint_len, varint_to_int32,

@@ -1,9 +1,9 @@
 //! Packets of halves that bind data to a header by a tag, as they are written, read, and refused under another header.
-use crate::tests::checks::{Tested, check_row};
 use crate::tests::secure::context_tests::is_others;
 use crate::tests::secure::masking::{Masking, masking_context};
 use std::alloc::Global;
 use std::test::Fail;
+use ttrpc_bench::checks::{Tested, check_row};
 use ttrpc_proto::{GenMessage, MessageHeader};
 use ttrpc_secure::ConnectionContext;
 use ttrpc_wire::Blob;

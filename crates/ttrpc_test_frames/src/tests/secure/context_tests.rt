@@ -1,7 +1,7 @@
 //! The context of a connection, over halves that stamp, leave data as they are, swell and seal nothing.
-use crate::tests::checks::{Tested, check};
 use std::alloc::Global;
 use std::test::Fail;
+use ttrpc_bench::checks::{Tested, check};
 use ttrpc_bench::{Sealed, StampIn, StampOut, Swelling, stamps};
 use ttrpc_proto::{Error, GenMessage, MESSAGE_LENGTH_MAX, MessageHeader, Outgoing, Result};
 use ttrpc_secure::{ConnectionContext, Plain, plain_context};

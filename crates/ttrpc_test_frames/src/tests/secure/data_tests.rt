@@ -4,10 +4,10 @@ ghost use Rattle.std.specs.BTreeMap.{get_by_text};
 ghost use Rattle.std.specs.Option.{option_and_then, option_copied};
 ghost use Rattle.ttrpc_secure.specs.Hooks.Kinds.{u32_of};
 
-use crate::tests::checks::{Tested, check};
 use std::alloc::Global;
 use std::collections::BTreeMap;
 use std::test::Fail;
+use ttrpc_bench::checks::{Tested, check};
 use ttrpc_secure::{ConnectionData, ConnectionDataExt, Datum, Kind};
 
 /// Nothing known but one value, under this name.

@@ -2,10 +2,10 @@
 ghost use Rattle.std.specs.Prelude.{IfErr};
 ghost use Rattle.ttrpc_secure.specs.Hooks.{IsRefusedMemory};
 
-use crate::tests::checks::{Tested, check, check_row};
 use std::alloc::{AllocError, Global};
 use std::io::{self, ErrorKind};
 use std::test::Fail;
+use ttrpc_bench::checks::{Tested, check, check_row};
 use ttrpc_secure::HookError;
 use ttrpc_wire::Text;
 

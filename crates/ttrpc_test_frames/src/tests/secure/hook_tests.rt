@@ -1,9 +1,9 @@
 //! Hooks that are run, and the limit of their time.
-use crate::tests::checks::{Tested, check, check_row};
 use crate::tests::secure::fakes::{Agrees, Line, Listens};
 use std::alloc::{AllocError, Global};
 use std::io::ErrorKind;
 use std::test::Fail;
+use ttrpc_bench::checks::{Tested, check, check_row};
 use ttrpc_bench::{AT_ONCE, Manner, StampIn, StampOut};
 use ttrpc_secure::{
     ACCEPT_HOOK_TIMEOUT, AcceptHook, ConnectHook, ConnectionDataExt, HookError, HookOutput,

@@ -1,9 +1,9 @@
 //! Packets of halves that mask, as they are written, read and refused through the context of a connection.
-use crate::tests::checks::{Tested, check, check_row};
 use crate::tests::secure::context_tests::{data_frame, is_others};
 use crate::tests::secure::masking::{Masking, masking_context};
 use std::alloc::Global;
 use std::test::Fail;
+use ttrpc_bench::checks::{Tested, check, check_row};
 use ttrpc_proto::{GenMessage, MessageHeader};
 use ttrpc_secure::ConnectionContext;
 

@@ -1,9 +1,9 @@
 //! What halves that seal queue, up to the limit and beyond it, and that refused memory changes nothing.
-use crate::tests::checks::{Tested, check};
 use crate::tests::secure::context_tests::{data_frame, is_others};
 use crate::tests::secure::masking::masking_context;
 use std::alloc::Global;
 use std::test::Fail;
+use ttrpc_bench::checks::{Tested, check};
 use ttrpc_bench::stamps;
 use ttrpc_proto::{Error, GenMessage, MESSAGE_LENGTH_MAX, MessageHeader, Outgoing};
 use ttrpc_secure::{ConnectionContext, InboundTransform, OutboundTransform};

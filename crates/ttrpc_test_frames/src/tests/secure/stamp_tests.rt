@@ -1,7 +1,7 @@
 //! Stamps as they are written, refused and counted.
-use crate::tests::checks::{Tested, check, check_row};
 use std::alloc::Global;
 use std::test::Fail;
+use ttrpc_bench::checks::{Tested, check, check_row};
 use ttrpc_bench::{StampIn, StampOut, Transformed, stamps};
 use ttrpc_proto::{GenMessage, MessageHeader, Outgoing, Queued};
 use ttrpc_secure::sending::{SendError, send};

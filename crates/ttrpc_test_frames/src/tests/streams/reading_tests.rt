@@ -1,9 +1,9 @@
 //! Each row is read by each reader, from a source that gives it at once, byte by byte, or interrupted.
-use crate::tests::checks::{Tested, check, check_named, check_row};
 use crate::tests::streams::rows::{MANNERS, Parts, REQUEST, REQUEST_HEADER, ROWS, Reads, Row};
 use std::alloc::Global;
 use std::io::ErrorKind;
 use std::test::Fail;
+use ttrpc_bench::checks::{Tested, check, check_named, check_row};
 use ttrpc_bench::{AT_ONCE, Giver, Manner};
 use ttrpc_message::{Message, read_message};
 use ttrpc_proto::{Error, GenMessage, GenMessageError, MessageHeader, Request};

@@ -1,8 +1,8 @@
 //! Values that become messages, and messages that become values.
-use crate::tests::checks::{Tested, check};
 use crate::tests::streams::rows::{REQUEST, REQUEST_HEADER, REQUEST_PAYLOAD};
 use std::alloc::Global;
 use std::test::Fail;
+use ttrpc_bench::checks::{Tested, check};
 use ttrpc_bench::{AT_ONCE, Giver};
 use ttrpc_message::{Message, read_message};
 use ttrpc_proto::{Error, GenMessage, MessageHeader, Request};

@@ -1,10 +1,10 @@
 //! Each writer writes messages to a sink that takes them at once, byte by byte, interrupted, or not whole.
-use crate::tests::checks::{Tested, check, check_row};
 use crate::tests::streams::recorder::{Kept, Recorder};
 use crate::tests::streams::rows::{MANNERS, REQUEST, REQUEST_HEADER, REQUEST_PAYLOAD};
 use std::alloc::Global;
 use std::io::ErrorKind;
 use std::test::Fail;
+use ttrpc_bench::checks::{Tested, check, check_row};
 use ttrpc_bench::{AT_ONCE, Manner, Receiver, StdWriter};
 use ttrpc_message::{Message, write_message};
 use ttrpc_proto::{Error, GenMessage, MessageHeader, Request, Result as Answer};

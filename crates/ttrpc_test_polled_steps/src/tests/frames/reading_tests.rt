@@ -3,7 +3,7 @@ use crate::tests::frames::ends::{Slow, System, come};
 use std::alloc::{AllocError, Global};
 use std::io::ErrorKind;
 use std::test::Fail;
-use ttrpc_bench_polled::checks::{ensure, ensure_at};
+use ttrpc_bench::checks::{check_named, check_named_row};
 use ttrpc_message::Message;
 use ttrpc_polled_frames::{AsMessage, AsParts, AsValue, PollRead, ReadHeader, Tells};
 use ttrpc_proto::{Error, GenMessage, GenMessageError, MessageHeader, Request, Result};
@@ -184,7 +184,7 @@ fn input_is_told_as_it_is(rt: HostRuntime) -> std::result::Result<(), Fail> {
     for number in 0..100u8 {
         if let Some(row) = row(number) {
             for at_once in [1, 7, 4096] {
-                ensure_at(is_told(&rt, row, at_once)?, "a row", usize::from(number))?;
+                check_named_row("a row", usize::from(number), is_told(&rt, row, at_once)?)?;
             }
         }
     }
@@ -211,7 +211,7 @@ fn is_too_long<R: System>(rt: &R, input: &[u8]) -> std::result::Result<bool, Fai
 #[test]
 fn a_frame_that_is_too_long_is_read_to_its_end(rt: HostRuntime) -> std::result::Result<(), Fail> {
     let input = oversized(rt.alloc(), 4194306)?;
-    ensure(is_too_long(&rt, input.as_slice())?, "it is told otherwise")
+    check_named("it is told otherwise", is_too_long(&rt, input.as_slice())?)
 }
 
 /// Returns whether a reader's failure behind this input is told, and not as an end.
@@ -225,10 +225,10 @@ fn is_told_of_failure<R: System>(rt: &R, input: &[u8]) -> std::result::Result<bo
 #[test]
 fn a_readers_failure_is_told(rt: HostRuntime) -> std::result::Result<(), Fail> {
     for input in [b"" as &[u8], SHORT, BARE, CUT, LONG] {
-        ensure_at(
-            is_told_of_failure(&rt, input)?,
+        check_named_row(
             "behind so many bytes",
             input.len(),
+            is_told_of_failure(&rt, input)?,
         )?;
     }
     Ok(())
@@ -260,14 +260,14 @@ fn told_of_cut<R: System>(
 #[test]
 fn headers_are_read_alone(rt: HostRuntime) -> std::result::Result<(), Fail> {
     for at_once in [1, 4, 4096] {
-        ensure_at(
-            is_read_alone(&rt, at_once)?,
+        check_named_row(
             "so many bytes a read",
             at_once,
+            is_read_alone(&rt, at_once)?,
         )?;
     }
     let reset = ErrorKind::ConnectionReset;
     let is_so = told_of_cut(&rt, None)? == Some(ErrorKind::UnexpectedEof)
         && told_of_cut(&rt, Some(reset))? == Some(reset);
-    ensure(is_so, "a cut is told otherwise")
+    check_named("a cut is told otherwise", is_so)
 }

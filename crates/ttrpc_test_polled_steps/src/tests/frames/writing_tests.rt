@@ -3,7 +3,7 @@ use crate::tests::frames::ends::{Narrow, System, come};
 use std::alloc::Global;
 use std::io::{self, ErrorKind};
 use std::test::Fail;
-use ttrpc_bench_polled::checks::{ensure, ensure_at};
+use ttrpc_bench::checks::{check_named, check_named_row};
 use ttrpc_message::Message;
 use ttrpc_polled_frames::{AsValue, PollRead, PollWrite, WriteHeader, WriteMessage};
 use ttrpc_proto::{GenMessage, MessageHeader, Request, Result};
@@ -74,7 +74,7 @@ fn frames_are_written_whole(rt: HostRuntime) -> std::result::Result<(), Fail> {
         for at_once in [1, 4, 4096] {
             let (told, writer) = write(&rt, flushes, at_once, 4096, None)?;
             let is_so = told.as_str() == "ok" && has_taken(&writer, FRAME, u32::from(flushes));
-            ensure_at(is_so, "so many bytes a write", at_once)?;
+            check_named_row("so many bytes a write", at_once, is_so)?;
         }
     }
     Ok(())
@@ -87,7 +87,7 @@ fn a_front_is_written_where_a_writer_fails(rt: HostRuntime) -> std::result::Resu
             let (told, writer) = write(&rt, flushes, 2, room, Some(ErrorKind::BrokenPipe))?;
             let is_told = told.as_str().starts_with("socket err: ");
             let is_so = is_told && has_taken(&writer, &FRAME[..room], 0);
-            ensure_at(is_so, "with so much room", room)?;
+            check_named_row("with so much room", room, is_so)?;
         }
     }
     Ok(())
@@ -105,7 +105,7 @@ fn a_writer_that_takes_nothing_is_told(rt: HostRuntime) -> std::result::Result<(
     let open = told_of_full(&rt, true)?;
     let is_so = zero.as_str() == "socket err: failed to write ttrpc frame: write zero"
         && open.as_str().starts_with("socket err: ");
-    ensure(is_so, "it is told otherwise")
+    check_named("it is told otherwise", is_so)
 }
 
 /// A header of type 1 and flags 239, and a request of 67 bytes.
@@ -135,7 +135,7 @@ fn a_value_is_read_and_written_again(rt: HostRuntime) -> std::result::Result<(),
     let message = read_request(&rt)?;
     let writer = write_request(&rt, &message)?;
     let is_so = writer.took.as_slice() == ASKED && writer.flushes == 1;
-    ensure(is_so, "other bytes are written")
+    check_named("other bytes are written", is_so)
 }
 
 /// Writes a header, and returns what comes of it, to a writer with so much room.
@@ -164,7 +164,7 @@ fn is_header_refused<R: System>(rt: &R) -> std::result::Result<bool, Fail> {
 #[test]
 fn headers_are_written_alone(rt: HostRuntime) -> std::result::Result<(), Fail> {
     let is_so = is_header_written(&rt)? && is_header_refused(&rt)?;
-    ensure(is_so, "it is told otherwise")
+    check_named("it is told otherwise", is_so)
 }
 
 /// Returns how many bytes a writer takes of the frame of so many, and by how many offers.
@@ -181,7 +181,7 @@ fn offers_of<R: System>(rt: &R, length: usize) -> std::result::Result<(usize, u3
 fn a_page_has_the_first_offer(rt: HostRuntime) -> std::result::Result<(), Fail> {
     for (length, offers) in [(4085, 1), (4086, 1), (4087, 2)] {
         let is_so = offers_of(&rt, length)? == (length + 10, offers);
-        ensure_at(is_so, "a payload of so many bytes", length)?;
+        check_named_row("a payload of so many bytes", length, is_so)?;
     }
     Ok(())
 }
