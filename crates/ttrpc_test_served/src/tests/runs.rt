@@ -1,6 +1,6 @@
 //! What the tests run: the acts of a client beside a server, and the lines of a client to a server.
 use crate::tests::gate::Gate;
-use crate::tests::sites::{Ends, Far, Near, TestServer, make_server};
+use crate::tests::sites::{Ends, Near, TestServer, make_server};
 use futures::Future;
 use std::alloc::{AllocError, Global};
 use std::net::Net;
@@ -105,7 +105,9 @@ pub fn run_beside_client<R: System, D: Future<Output = Option<Fault>>>(
 ) -> Result<Option<Fault>, Fail>
     requires { D.can_poll does }
 {
-    let far = served_at(rt.alloc(), server, pipe)?;
+    let Pipe { reader, writer } = pipe;
+    let output = HookOutput::of_halves(rt.alloc(), Plain {}, Plain {});
+    let far = server.over(reader, writer, output)?;
     let parts = Parts::beside(rt.alloc(), does, Ends::new(near, far))?;
     Ok(runtime.block_on(rt, parts)?)
 }
@@ -120,7 +122,9 @@ pub fn run_beside<R: System, D: Future<Output = Option<Fault>>>(
 ) -> Result<Option<Fault>, Fail>
     requires { D.can_poll does }
 {
-    let far = served_at(rt.alloc(), server, pipe)?;
+    let Pipe { reader, writer } = pipe;
+    let output = HookOutput::of_halves(rt.alloc(), Plain {}, Plain {});
+    let far = server.over(reader, writer, output)?;
     let parts = Parts::beside(rt.alloc(), does, far)?;
     Ok(runtime.block_on(rt, parts)?)
 }
@@ -141,23 +145,11 @@ pub fn run_lines<R: System>(
         far,
     } = make_bench(rt, gate, room)?;
     let mut server = server.set_bare_openings(bare);
-    let served = served_at(rt.alloc(), &mut server, far)?;
+    let Pipe { reader, writer } = far;
+    let output = HookOutput::of_halves(rt.alloc(), Plain {}, Plain {});
+    let served = server.over(reader, writer, output)?;
     let parts = Parts::lasting(rt.alloc(), speaker(lines, near), served)?;
     Ok(runtime.block_on(rt, parts)?)
-}
-
-/// Makes a connection of the server that reads and writes here.
-fn served_at<R: Timed>(
-    alloc: Global,
-    server: &mut TestServer<R>,
-    pipe: Pipe,
-) -> Result<Far<R>, Fail> {
-    let Pipe { reader, writer } = pipe;
-    Ok(server.over(
-        reader,
-        writer,
-        HookOutput::of_halves(alloc, Plain {}, Plain {}),
-    )?)
 }
 
 /// Makes who says a client's part of these lines here.
