@@ -9,7 +9,7 @@ use Rattle.ttrpc_world.proofs.Numbers.{IsRightRun, stream_of_run}
 use Rattle.ttrpc_world.proofs.Since.{since_holds, Starts, Stays}
 use Rattle.ttrpc_world_trace.proofs.Tidy.{IsAsked}
 use Rattle.ttrpc_world_trace.proofs.StoryWords.{Opened}
-use Rattle.ttrpc_world.proofs.Words.{[], Act, act_of, ActiveJob, acts, AllByRecursion, Answer, Answered, ap, AreWholeCalls, Around, asked_by, asks_outcome, Bool, Born, ByCall, ByOpen, call_at, Called, CallEvent, calls, calls_work, ClientSide, Done, Ended, EndStream, Entry, eq-eqb, eqb-true, Error, Event, false, Gave, Given, Halves, Handed, has_method, has_response, Here, here_at, if◌then◌else◌, inl, inr, is_answer_of, is_done, is_stream, IsAnsweredIn, IsAskedFor, IsClean, IsDrained, IsEmpty, IsFresh, IsQuiet, IsRightAt, IsStreamOf, IsWholeCall, Job, jobs_at, Known, List, list_any, list_any-append, Named, names, nat_eq, Net, nil_parts, None, NoneWaits, Ok, once, only_if, OpenEvent, or_cases, or_left, or_right, Origin, Outcome, parcels, Ran, refl, Reply, Request, Respond, Response, Result, Runs, safe_limit, ServerCore, ServerSide, Settings, Some, some_of, subst, sym, Take, takes_nothing, true, Unborn, ups_of, Waits, whole_call, Work, work, ℕ, ◌||◌, ◌∙◌, ◌∷◌, ◌≡◌}
+use Rattle.ttrpc_world.proofs.Words.{[], Act, act_of, ActiveJob, acts, AllByRecursion, Answer, Answered, ap, AreWholeCalls, Around, asked_by, asks_outcome, begun_calls, Bool, Born, ByCall, ByOpen, call_at, Called, CallEvent, calls, calls_work, ClientSide, Done, Ended, EndStream, Entry, eq-eqb, eqb-true, Error, Event, false, Gave, Given, Halves, Handed, has_method, has_response, Here, here_at, if◌then◌else◌, inl, inr, is_answer_of, is_done, is_stream, IsAnsweredIn, IsAskedFor, IsClean, IsDrained, IsEmpty, IsFresh, IsQuiet, IsRightAt, IsStreamOf, IsWholeCall, Job, jobs_at, Known, List, list_any, list_any-append, Named, names, nat_eq, Net, nil_parts, None, NoneWaits, Ok, once, only_if, OpenEvent, or_cases, or_left, or_right, Origin, Outcome, parcels, Ran, refl, Reply, Request, Respond, Response, Result, Runs, safe_limit, ServerCore, ServerSide, Settings, Some, some_of, subst, sym, Take, takes_nothing, true, Unborn, ups_of, Waits, whole_call, Work, work, ℕ, ◌||◌, ◌∙◌, ◌∷◌, ◌≡◌}
 
 -- ---- what a run of a job says of the trace
 
@@ -91,22 +91,14 @@ module _ (f : ℕ → ℕ) (k : ℕ) where
 
 -- ---- the call of an id
 
-names_none : (a : List Act) → names a ≡ [] → calls a ≡ []
-names_none [] h = refl
-names_none (Called request ∷ a) h = cc
-names_none (Opened request up down ∷ a) h = cc
-names_none (act ∷ a) h = names_none a h
-
 -- an id that has a call was used by it
 called_by : {w : Around} {k : ℕ} {h : Here} (o : Origin) (p : Work) (q : Request) → Known w k h o p → calls h.acts ≡ q ∷ [] → o ≡ Born (ByCall q)
 called_by {h = h} Unborn p q n one = let bad : [] ≡ q ∷ [] = sym (calls_work h.acts ∙ ap calls n.server.works_is) ∙ one in cc
 called_by {w} {k} {h} (Born (ByOpen r up down)) p q n one =
-    let d = is_done w.set.rules w.had k (ByOpen r up down) p n.server.is_work in
-    let bad : [] ≡ q ∷ [] = sym (calls_work h.acts ∙ ap calls (n.server.works_is ∙ d.is) ∙ names_none d.rest d.unnamed) ∙ one in
+    let bad : [] ≡ q ∷ [] = sym (calls_work h.acts ∙ ap calls n.server.works_is ∙ begun_calls (ByOpen r up down) (is_done w.set.rules w.had k (ByOpen r up down) p n.server.is_work)) ∙ one in
     cc
 called_by {w} {k} {h} (Born (ByCall r)) p q n one =
-    let d = is_done w.set.rules w.had k (ByCall r) p n.server.is_work in
-    let both : r ∷ calls d.rest ≡ q ∷ [] = sym (calls_work h.acts ∙ ap calls (n.server.works_is ∙ d.is)) ∙ one in
+    let both : r ∷ [] ≡ q ∷ [] = sym (calls_work h.acts ∙ ap calls n.server.works_is ∙ begun_calls (ByCall r) (is_done w.set.rules w.had k (ByCall r) p n.server.is_work)) ∙ one in
     let same : r ≡ q = cc in
     ap (λ (x : Request). Born (ByCall x)) same
 

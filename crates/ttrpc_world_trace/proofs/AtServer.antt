@@ -1,6 +1,6 @@
 -- The server's side of one id: its request and the data behind it in flight, its job, what is in flight to the client, and the
 -- acts but for the outcome. It knows no outcome, and nothing of what the client keeps.
-use Rattle.ttrpc_world_trace.proofs.StoryWords.{◌++◌, ◌∙◌, ◌∷◌, ◌≡◌, ◌≤◌, ℕ, [], Act, ActiveJob, all_joined, AllByRecursion, Answered, ap, arith, asked_by, Bool, calls, calls_work, Err, Error, false, Flying, Gives, HasOkStatus, is_stream, IsRequest, landing_of, last_id, length, List, map, MESSAGE_LENGTH_MAX, MESSAGE_TYPE_DATA, MESSAGE_TYPE_REQUEST, MessageHeader, names, names_work, None, Ok, OpenedPayload, Option, Ran, refl, Request, request_bytes, Response, Result, Rules, runs, runs_work, Some, StaysFound, subst, sym, SyncRules, true, work}
+use Rattle.ttrpc_world_trace.proofs.StoryWords.{◌⊎◌, ◌++◌, ◌∙◌, ◌∷◌, ◌≡◌, ◌≤◌, ℕ, [], Act, ActiveJob, all_joined, AllByRecursion, Answered, ap, arith, asked_by, Bool, calls, calls_work, Err, Error, false, Flying, Gives, HasOkStatus, inl, inr, IsBegun, is_stream, IsRequest, IsWorkOf, landing_of, last_id, length, List, map, MESSAGE_LENGTH_MAX, MESSAGE_TYPE_DATA, MESSAGE_TYPE_REQUEST, MessageHeader, None, Ok, OpenedPayload, Option, Ran, refl, Request, request_bytes, Response, Result, Rules, Some, StaysFound, subst, sym, SyncRules, true, work}
 use Rattle.ttrpc_world_trace.proofs.Here.{Asking, Birth, Born, ByCall, ByOpen, first_act, Idle, IsAnswer, jobs_of, Left, Origin, Over, request_of, Runs, Unborn, ups_of, Waits, Work, works_of}
 
 -- ---- what is in flight, and what is left to be done
@@ -38,12 +38,9 @@ pub record IsJob (rules : Rules) (k : ℕ) (asked : Option Request) (j : ActiveJ
   pub stream : j.header.stream_id ≡ k
   pub kind : rules ≡ SyncRules → is_stream j.body ≡ false
 
--- behind the act that uses the id there is no other such act, and at most one run
-pub record IsDone (b : Birth) (done : List Act) : Type 0 where
-  pub rest : List Act
-  pub is : done ≡ first_act b ∷ rest
-  pub unnamed : names rest ≡ []
-  pub one_run : length (runs rest) ≤ 1
+-- what was done for this call or stream
+abbrev pub IsDone : Birth → List Act → Type 0
+IsDone b done = IsBegun (first_act b) (request_of b) done
 
 -- What is right of the work. A job goes on only behind its response, and is no stream's; `had` says which jobs have one.
 abbrev pub IsWork : Rules → (ℕ → Bool) → ℕ → Origin → Work → Type 0
@@ -151,11 +148,14 @@ done_downs k over o a [] h = tt
 done_downs k over o a (x ∷ d) h =
     (record { stream = h.0.stream; outcome = h.0.outcome; lands = h.0.lands; answer = λ r e. let y = h.0.answer r e in (y.0, (refl, y.1.1)) }, done_downs k over o a d h.1)
 
--- the work so far is one name and at most one run
+-- the work so far is a name, or that and a run, or both and an answer
 pub is_done : (rules : Rules) (had : ℕ → Bool) (k : ℕ) (b : Birth) (p : Work) → IsWork rules had k (Born b) p → IsDone b (works_of (Born b) p)
 is_done rules had k b Idle h = absurd h
+is_done rules had k b (Asking x) h = inl refl
+is_done rules had k b (Waits j) h = inl refl
+is_done rules had k b (Runs j) h = inr (j.id, is_stream j.body, inl refl)
+is_done rules had k b (Left j response) h = inr (j.id, is_stream j.body, inr (false, Ok (Some response), refl))
 is_done rules had k b (Over done) h = h
-is_done rules had k b p h = record { rest = _; is = refl; unnamed = refl; one_run = omega arith }
 
 -- The work is over, and nothing more was done: no request and no job is left, and what may go down ends no call well.
 pub concludes : {rules : Rules} {had : ℕ → Bool} {k : ℕ} {b : Birth} {p : Work} {works : List Act} {ups downs ups2 : List Flying} {jobs jobs2 : List ActiveJob} (items down : List Flying) → AtServer rules had k (Born b) p works ups jobs downs → AreItems k items → MayHave (Born b) items
@@ -236,30 +236,29 @@ unanswered (Born b) (Left j x) r e h = let bad : true ≡ false = e in cc
 unanswered (Born b) (Over done) r e h = let bad : true ≡ false = e in cc
 unanswered (Born b) p r e h = let bad : works_of (Born b) p ≡ first_act b ∷ Ran h.0 h.1 (asked_by h.1 (request_of b)) ∷ Answered h.1 (Ok (Some r)) ∷ [] = h.2 in cc
 
--- the act that uses the id is its one name, and no run
-first_counts : (b : Birth) (rest : List Act) → (names (first_act b ∷ rest) ≡ request_of b ∷ names rest) × (runs (first_act b ∷ rest) ≡ runs rest)
-first_counts (ByCall request) rest = (refl, refl)
-first_counts (ByOpen request up down) rest = (refl, refl)
+-- the calls among these acts are the one that they were done for
+abbrev pub calls_of : Birth → List Request
+calls_of (ByCall request) = request ∷ []
+calls_of (ByOpen request up down) = []
 
-abbrev IsOnce : List Act → Type 0
-IsOnce acts = (length (names acts) ≤ 1) × (length (runs acts) ≤ 1)
+pub begun_calls : (b : Birth) {xs : List Act} → IsDone b xs → calls xs ≡ calls_of b
+begun_calls (ByCall q) (inl e) = ap calls e
+begun_calls (ByCall q) (inr (job, stream, inl e)) = ap calls e
+begun_calls (ByCall q) (inr (job, stream, inr (kind, result, e))) = ap calls e
+begun_calls (ByOpen q up down) (inl e) = ap calls e
+begun_calls (ByOpen q up down) (inr (job, stream, inl e)) = ap calls e
+begun_calls (ByOpen q up down) (inr (job, stream, inr (kind, result, e))) = ap calls e
 
-works_once : (rules : Rules) (had : ℕ → Bool) (k : ℕ) (o : Origin) (p : Work) → IsWork rules had k o p → IsOnce (works_of o p)
-works_once rules had k Unborn p h = (omega arith, omega arith)
-works_once rules had k (Born b) p h =
-    let d = is_done rules had k b p h in
-    let first = first_counts b d.rest in
-    (rw (d.is, first.0, d.unnamed) (omega arith), rw (d.is, first.1) d.one_run)
-
--- There is at most one name, and one run.
-pub acts_once : {rules : Rules} {had : ℕ → Bool} {k : ℕ} {o : Origin} {p : Work} {ups downs : List Flying} {jobs : List ActiveJob} (acts : List Act) → AtServer rules had k o p (work acts) ups jobs downs → (length (names acts) ≤ 1) × (length (runs acts) ≤ 1)
-acts_once {rules} {had} {k} {o} {p} acts s = let n = works_once rules had k o p s.is_work in (rw (names_work acts, s.works_is) n.0, rw (runs_work acts, s.works_is) n.1)
+-- What was done is nothing, or is done for one call or stream.
+pub acts_begun : {rules : Rules} {had : ℕ → Bool} {k : ℕ} {o : Origin} {p : Work} {ups downs : List Flying} {jobs : List ActiveJob} (acts : List Act) → AtServer rules had k o p (work acts) ups jobs downs → (work acts ≡ []) ⊎ IsWorkOf (work acts)
+acts_begun {o = Unborn} acts s = inl s.works_is
+acts_begun {rules = rules} {had = had} {k = k} {o = Born (ByCall q)} {p = p} acts s = inr (subst IsWorkOf (sym s.works_is) (inl (q, is_done rules had k (ByCall q) p s.is_work)))
+acts_begun {rules = rules} {had = had} {k = k} {o = Born (ByOpen q up down)} {p = p} acts s = inr (subst IsWorkOf (sym s.works_is) (inr (q, up, down, is_done rules had k (ByOpen q up down) p s.is_work)))
 
 -- who has no call is no call
 pub uncalled : {rules : Rules} {had : ℕ → Bool} {k : ℕ} {q : Request} {p : Work} {ups downs : List Flying} {jobs : List ActiveJob} (acts : List Act) → AtServer rules had k (Born (ByCall q)) p (work acts) ups jobs downs → calls acts ≡ [] → ⊥
 uncalled {rules} {had} {k} {q} {p} acts s e =
-    let d = is_done rules had k (ByCall q) p s.is_work in
-    let bad : q ∷ calls d.rest ≡ [] = sym (calls_work acts ∙ ap calls (s.works_is ∙ d.is)) ∙ e in
+    let bad : q ∷ [] ≡ [] = sym (calls_work acts ∙ ap calls s.works_is ∙ begun_calls (ByCall q) (is_done rules had k (ByCall q) p s.is_work)) ∙ e in
     cc
 
 -- a call has at most its request in flight

@@ -1,10 +1,14 @@
 -- A stream of one item each way, and its ends: the definitions say of it what it is, by computing alone.
 use Rattle.ttrpc_world_trace.proofs.Words.{[], AreInOrder, Entry, Eof, Err, flows, Fresh, has_end, heard_down, heard_up, Item, List, None, Ok, put_down, put_up, refl, Request, Rules, Some, ThingEnd, ThingItem, true, ℕ, ◌∷◌, ◌≡◌, IsInOrder, RemoteClosed, false}
 use Rattle.ttrpc_world_trace.proofs.Words.{acts, arith, AsyncRules, calls, Event, inl, inr, sym, told_by, Given, MessageHeader, Ok, Outcome, pos, Reply, Response, SyncRules, ◌++◌}
+use Rattle.ttrpc_world_trace.proofs.Words.{Act, AllByRecursion, Answered, ap, asked_by, Called, Error, Gave, IsExactlyOnce, IsWorkOf, Ran, Result, subst, ◌∙◌, ◌⊎◌}
+use Rattle.ttrpc_world_trace.proofs.Here.{never_empty, no_cons}
 use Rattle.std.specs.Prelude.{◌+◌, ◌-◌}
-use Rattle.ttrpc_world_trace.specs.Types.{Answer, CallEvent, Carry, Close, Count, Deliver, Done, EndStream, Handed, Named, Open, Recv, Send, Take, Tick, Ticket}
+use Rattle.ttrpc_world_trace.specs.Flows.{Tells}
+use Rattle.ttrpc_world_trace.specs.Trace.{IsOneToOne, IsStreamOf, some_of}
+use Rattle.ttrpc_world_trace.specs.Types.{Answer, CallEvent, Carry, Close, Count, Deliver, Done, EndStream, Handed, Drain, Named, Open, Recv, Refused, Send, Take, Tick, Ticket}
 use Rattle.ttrpc_world_trace.specs.declared.events.Side.TheVariants.{Client as ClientSide, Server as ServerSide}
-use Rattle.ttrpc_world_trace.specs.Clean.{is_clean_answer, is_clean_event, is_clean_reply, IsAskedFor, IsAskedOutDown, IsAskedOutUp, IsClean, IsCleanAt, IsInTime, IsQuiet, IsWholeCall, IsWholeStream}
+use Rattle.ttrpc_world_trace.specs.Clean.{is_clean_answer, is_clean_event, is_clean_reply, IsAskedFor, IsAskedOutDown, IsAskedOutUp, IsClean, IsCleanAt, IsDrained, IsAnsweredIn, IsInTime, IsQuiet, IsWholeCall, IsWholeStream, since, takes_nothing}
 use Rattle.ttrpc_world_trace.specs.declared.events.StreamEnd.TheVariants as end
 
 -- It is opened by this request, and its job is 7. The client sends `a` and closes, the server sends `b` and ends it.
@@ -119,6 +123,102 @@ isnt_asked_for (inr late) = cc
 -- A moment that reaches the deadline of a call that waits isn't clean.
 pub late : IsInTime id_of (e (CallEvent asked) (Named 1) ∷ []) (Tick 5) Done → ⊥
 late h = cc
+
+-- ---- made-up stories of one id, each of which lacks one thing
+
+-- a second outcome
+pub two_outcomes : (one two : Result Response Error) → IsExactlyOnce (Called asked ∷ Gave one ∷ Gave two ∷ []) → ⊥
+two_outcomes one two h = absurd (omega (arith, h.one_outcome))
+
+-- an `Ok` without a run
+pub no_run : IsExactlyOnce (Called asked ∷ Gave (Ok replied) ∷ []) → ⊥
+no_run h = let w = h.whole replied refl in
+    let bad : Called asked ∷ Gave (Ok replied) ∷ [] ≡ Called w.1.0 ∷ Ran w.1.1 w.1.2 (asked_by w.1.2 w.1.0) ∷ Answered w.1.2 (Ok (Some replied)) ∷ Gave (Ok replied) ∷ [] = w.1.3 in
+    cc
+
+-- an `Ok` of another answer than that of the run
+abbrev other_reply : Response
+other_reply = record { status = None; payload = [] }
+
+pub another_answer : IsExactlyOnce (Called asked ∷ Ran 1 false asked ∷ Answered false (Ok (Some replied)) ∷ Gave (Ok other_reply) ∷ []) → ⊥
+another_answer h = let w = h.whole other_reply refl in
+    let all : Called asked ∷ Ran 1 false asked ∷ Answered false (Ok (Some replied)) ∷ Gave (Ok other_reply) ∷ []
+    ≡ Called w.1.0 ∷ Ran w.1.1 w.1.2 (asked_by w.1.2 w.1.0) ∷ Answered w.1.2 (Ok (Some other_reply)) ∷ Gave (Ok other_reply) ∷ [] = w.1.3 in
+    let same : replied ≡ other_reply = cc in
+    no_cons 98 [] (ap (λ (r : Response). r.payload) same)
+
+-- a run without a call or a stream, and one of another request than the call's
+unnamed : (Ran 1 false asked ∷ [] ≡ []) ⊎ IsWorkOf (Ran 1 false asked ∷ []) → ⊥
+unnamed (inl e) = cc
+unnamed (inr (inl (q, inl e))) = cc
+unnamed (inr (inl (q, inr (job, stream, inl e)))) = cc
+unnamed (inr (inl (q, inr (job, stream, inr (kind, result, e))))) = cc
+unnamed (inr (inr (q, up, down, inl e))) = cc
+unnamed (inr (inr (q, up, down, inr (job, stream, inl e)))) = cc
+unnamed (inr (inr (q, up, down, inr (job, stream, inr (kind, result, e))))) = cc
+
+pub no_call : IsExactlyOnce (Ran 1 false asked ∷ []) → ⊥
+no_call h = unnamed h.work_is
+
+-- a whole call whose outcome isn't what is told of its answer
+untold_by : (limit : ℕ) (result : Result Response Error) → told_by SyncRules limit replied ≡ Ok replied → some_of result ≡ Ok (Some replied) → Tells SyncRules limit result (Err Eof) → ⊥
+untold_by limit (Ok r) told same t =
+    let sent : t.0 ≡ r = t.1 in
+    let is : r ≡ replied = cc in
+    let bad : Err Eof ≡ Ok replied = t.2 ∙ ap (told_by SyncRules limit) (sent ∙ is) ∙ told in
+    cc
+untold_by limit (Err x) told same t = cc
+
+pub another_outcome : (limit : ℕ) → told_by SyncRules limit replied ≡ Ok replied → IsWholeCall SyncRules limit asked (Called asked ∷ Ran 1 false asked ∷ Answered false (Ok (Some replied)) ∷ Gave (Err Eof) ∷ []) → ⊥
+another_outcome limit told w =
+    let all : Called asked ∷ Ran 1 false asked ∷ Answered false (Ok (Some replied)) ∷ Gave (Err Eof) ∷ [] ≡ Called asked ∷ Ran w.0 false asked ∷ Answered false (some_of w.1) ∷ Gave w.2 ∷ [] = w.3 in
+    let answer : some_of w.1 ≡ Ok (Some replied) = cc in
+    let given : w.2 ≡ Err Eof = cc in
+    untold_by limit w.1 told answer (subst (Tells SyncRules limit w.1) given w.4)
+
+-- a second job of one id, under a function that is right for both
+abbrev handed : ℕ → Entry
+handed id = e Take (Handed (Some (record { id = id; header = header_at 1; stream = false; request = asked })))
+
+pub two_jobs : (f : ℕ → ℕ) → IsStreamOf f (handed 1 ∷ handed 2 ∷ []) → IsOneToOne f → ⊥
+two_jobs f right one = absurd (omega (arith, one 1 2 (right.0 ∙ sym right.1.0)))
+
+-- ---- events that aren't clean, each for one reason alone
+
+pub unclean_event : (IsCleanAt SyncRules id_of [] Drain Done → ⊥) × (is_clean_reply Done ≡ true) × (is_clean_answer SyncRules Drain Done ≡ true) × IsInTime id_of [] Drain Done
+unclean_event = ((λ c. let bad : false ≡ true = c.event_is in cc), refl, refl, tt)
+
+pub unclean_reply : (IsCleanAt SyncRules id_of [] (CallEvent asked) (Refused Eof) → ⊥) × (is_clean_event (CallEvent asked) ≡ true) × (is_clean_answer SyncRules (CallEvent asked) (Refused Eof) ≡ true) × IsInTime id_of [] (CallEvent asked) (Refused Eof)
+unclean_reply = ((λ c. let bad : false ≡ true = c.reply_is in cc), refl, refl, tt)
+
+pub unclean_answer : (IsCleanAt SyncRules id_of [] (Answer 1 (Err Eof)) Done → ⊥) × (is_clean_event (Answer 1 (Err Eof)) ≡ true) × (is_clean_reply Done ≡ true) × IsInTime id_of [] (Answer 1 (Err Eof)) Done
+unclean_answer = ((λ c. let bad : false ≡ true = c.answer_is in cc), refl, refl, tt)
+
+pub unclean_moment : (IsCleanAt SyncRules id_of (e (CallEvent asked) (Named 1) ∷ []) (Tick 5) Done → ⊥) × (is_clean_event (Tick 5) ≡ true) × (is_clean_reply Done ≡ true) × (is_clean_answer SyncRules (Tick 5) Done ≡ true)
+unclean_moment = ((λ c. late c.in_time), refl, refl, refl)
+
+-- ---- runs that aren't quiet, each for one reason alone
+
+-- the last four events aren't those of a run in which nothing moves
+pub undrained : (IsDrained [] → ⊥) × AllByRecursion (λ (x : Entry). IsAnsweredIn [] x.event x.reply) [] × (since ServerSide takes_nothing true [] ≡ true)
+undrained = ((λ d. never_empty d.front _ _ (sym d.ends)), tt, refl)
+
+drained_behind : (front : List Entry) → IsDrained (front ++ last_four)
+drained_behind front = record { front = front; from = ClientSide; to = ServerSide; a = 1; b = 1; c = 1; d = 1; some = (omega arith, omega arith, omega arith, omega arith); ends = refl }
+
+-- a job that was handed out has no answer
+abbrev kept_waiting : List Entry
+kept_waiting = (handed 1 ∷ e Take (Handed None) ∷ []) ++ last_four
+
+pub unanswered_job : IsDrained kept_waiting × (AllByRecursion (λ (x : Entry). IsAnsweredIn kept_waiting x.event x.reply) kept_waiting → ⊥) × (since ServerSide takes_nothing true kept_waiting ≡ true)
+unanswered_job = (drained_behind (handed 1 ∷ e Take (Handed None) ∷ []), (λ all. let bad : false ≡ true = all.0 in cc), refl)
+
+-- nobody asked for a job behind the last bytes
+abbrev unasked_for : List Entry
+unasked_for = (e (Deliver ServerSide 40) (Count 30) ∷ []) ++ last_four
+
+pub untaken : IsDrained unasked_for × AllByRecursion (λ (x : Entry). IsAnsweredIn unasked_for x.event x.reply) unasked_for × (since ServerSide takes_nothing true unasked_for ≡ true → ⊥)
+untaken = (drained_behind (e (Deliver ServerSide 40) (Count 30) ∷ []), (tt, (tt, (tt, (tt, (tt, tt))))), (λ late. let bad : false ≡ true = late in cc))
 
 -- ---- the stream above, which is clean where nothing else is of it: both its receivers were told of an end
 

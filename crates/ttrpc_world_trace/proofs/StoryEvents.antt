@@ -1,7 +1,7 @@
 -- What each event does to one id: to a job of it, at the client, and to the items of both receivers.
-use Rattle.ttrpc_world_trace.proofs.StoryWords.{[], Act, Call, ActiveJob, all_joined, AllByRecursion, Answered, ap, append-nil, append_assoc, AreInOrder, arith, asked_by, Bool, calls, closed, Dropped, EndedDown, ending_thing, Err, Error, expired_at, Failure, false, Flow, Flying, gave_of, Gives, GivesOutcome, heard_down, heard_up, HeardDown, HeardUp, is_entered, is_some, is_stream, IsExactlyOnce, LandsOn, last_id, left_of, length, List, Mail, map, None, Ok, OpenedPayload, Option, outcomes, put_down, put_up, Ran, Reaches, Receiver, Receives, ReceivesAt, refl, Request, Response, Result, Rules, Sender, SenderDropped, SentDown, Some, StaysFound, Stream, StreamBody, subst, sym, SyncRules, taken, Thing, ThingEnd, ThingItem, ThingLast, told_of, true, unless_dropped, unless_unheard, unsendable, without_reader, without_receiver, without_sender, Word, words_of, work, work_append, ℕ, ◌++◌, ◌∙◌, ◌∷◌, ◌≡◌, ◌≤◌, SentUp, ClosedUp, inl, heard_down_append, heard_up_append, put_down_append, put_up_append}
+use Rattle.ttrpc_world_trace.proofs.StoryWords.{[], Act, Call, ActiveJob, all_joined, AllByRecursion, Answered, ap, append-nil, append_assoc, AreInOrder, arith, asked_by, Bool, calls, closed, Dropped, EndedDown, ending_thing, Err, Error, expired_at, Failure, false, Flow, Flying, gave_of, Gives, GivesOutcome, heard_down, heard_up, HeardDown, HeardUp, is_entered, is_some, is_stream, IsExactlyOnce, LandsOn, last_id, left_of, length, List, Mail, map, None, Ok, OpenedPayload, Option, outcomes, put_down, put_up, Ran, Reaches, Receiver, Receives, ReceivesAt, refl, Request, Response, Result, Rules, Sender, SenderDropped, SentDown, Some, StaysFound, Stream, StreamBody, subst, sym, SyncRules, taken, Thing, ThingEnd, ThingItem, ThingLast, told_of, true, unless_dropped, unless_unheard, unsendable, without_reader, without_receiver, without_sender, Word, words_of, work, work_append, ℕ, ◌++◌, ◌∙◌, ◌∷◌, ◌≡◌, ◌≤◌, SentUp, ClosedUp, inl, inr, heard_down_append, heard_up_append, put_down_append, put_up_append}
 use Rattle.ttrpc_world_trace.proofs.Here.{answered_work, Birth, Born, ByCall, ByOpen, first_act, Here, IsAnswer, jobs_of, Left, never_empty, only_one, Origin, Over, request_of, Runs, Unborn, ups_of, Waits, Work, works_of}
-use Rattle.ttrpc_world_trace.proofs.AtServer.{acts_once, AtServer, goes_on, is_over, IsDown, IsItem, IsNever, mapped, never_down, one_up, uncalled}
+use Rattle.ttrpc_world_trace.proofs.AtServer.{acts_begun, AtServer, goes_on, is_over, IsDown, IsItem, IsNever, mapped, never_down, one_up, uncalled}
 use Rattle.ttrpc_world_trace.proofs.AtClient.{whole_given}
 use Rattle.ttrpc_world_trace.proofs.Reading.{closed_item, IsPlain}
 use Rattle.ttrpc_world_trace.proofs.Flowing.{Follows, IsPlainFailure}
@@ -98,7 +98,7 @@ pub answers_here : {w : Around} {k : ℕ} {h : Here} {front back : List ActiveJo
     → Place w k (record h { acts = h.acts ++ Answered kind result ∷ []; flows = h.flows ++ EndedDown result ∷ []; jobs = front ++ back; downs = h.downs ++ down })
 answers_here {w} {k} {h} job kind result down i new goes back =
     let q : Work = Over (answered_work i.b job kind result) in
-    turns q (Answered kind result ∷ []) down i.known (unchanged w k) refl refl (record { rest = _; is = refl; unnamed = refl; one_run = omega arith }) refl refl i.known.server.ups_is i.left refl new
+    turns q (Answered kind result ∷ []) down i.known (unchanged w k) refl refl (inr (job.id, is_stream job.body, inr (kind, result, refl))) refl refl i.known.server.ups_is i.left refl new
     (answered_up q result refl tt i.known) (answered_down q result down i.known refl refl goes) (λ clean. answered_tidy w.set i.b job kind result down h.acts h.downs h.call (back clean) i.known.server.works_is (i.known.tidy clean))
 
 -- A response is queued for the job, which goes on.
@@ -333,8 +333,7 @@ no_call_by (Born (ByOpen q up down)) p n none = n.client.1
 
 pub exactly_once : {w : Around} {k : ℕ} {h : Here} → Place w k h → IsExactlyOnce h.acts
 exactly_once {h = h} s = record {
-  one_name = (acts_once h.acts s.known.server).0;
-  one_run = (acts_once h.acts s.known.server).1;
+  work_is = acts_begun h.acts s.known.server;
   one_outcome = client.one_outcome s.origin h.acts h.call h.stream s.known.client;
   no_call = λ none. no_call_by s.origin s.so_far s.known none;
   whole = λ r g. client.whole_given s.origin h.acts h.call h.stream r s.known.client g;

@@ -1,5 +1,5 @@
 -- A trace with one more entry, and what it says of one id; and lists of acts, and of what happened to items.
-use Rattle.ttrpc_world_trace.proofs.Words.{◌≡◌, ◌≢◌, ℕ, List, [], ◌∷◌, ◌++◌, true, false, Option, Some, None, Result, nat_eq, refl, sym, ap, ◌∙◌, append_assoc, eq-eqb, ne_eqb, append-nil, flat_map, Error, Response, Rules, Event, Reply, Entry, Outcome, Given, Item, Thing, ThingEnd, ThingItem, ThingLast, Act, Called, Opened, Ran, Gave, act_of, acts, calls, names, only_if, outcomes, runs, work}
+use Rattle.ttrpc_world_trace.proofs.Words.{Bool, ◌≡◌, ◌≢◌, ◌≤◌, ◌⊎◌, arith, inl, inr, IsBegun, IsExactlyOnce, IsWorkOf, length, Request, subst, ℕ, List, [], ◌∷◌, ◌++◌, true, false, Option, Some, None, Result, nat_eq, refl, sym, ap, ◌∙◌, append_assoc, eq-eqb, ne_eqb, append-nil, flat_map, Error, Response, Rules, Event, Reply, Entry, Outcome, Given, Item, Thing, ThingEnd, ThingItem, ThingLast, Act, Called, Opened, Ran, Gave, act_of, acts, calls, names, only_if, outcomes, runs, work}
 use Rattle.ttrpc_world_trace.proofs.Words.{Asked, Began, ClosedUp, EndedDown, ending_thing, Flow, heard_down, heard_up, HeardDown, HeardUp, put_down, put_up, SentDown, SentUp, Word}
 
 -- the trace after one more entry
@@ -99,6 +99,28 @@ pub runs_work : (a : List Act) → runs a ≡ runs (work a)
 runs_work [] = refl
 runs_work (Ran job stream request ∷ a) = ap (λ xs. job ∷ xs) (runs_work a)
 runs_work (act ∷ a) = runs_work a
+
+-- what was done for one call or stream has one name and at most one run
+abbrev pub IsOnce : List Act → Type 0
+IsOnce xs = (length (names xs) ≤ 1) × (length (runs xs) ≤ 1)
+
+call_once : (q : Request) {xs : List Act} → IsBegun (Called q) q xs → IsOnce xs
+call_once q (inl e) = subst IsOnce (sym e) (omega arith, omega arith)
+call_once q (inr (job, stream, inl e)) = subst IsOnce (sym e) (omega arith, omega arith)
+call_once q (inr (job, stream, inr (kind, result, e))) = subst IsOnce (sym e) (omega arith, omega arith)
+
+stream_once : (q : Request) (up down : Bool) {xs : List Act} → IsBegun (Opened q up down) q xs → IsOnce xs
+stream_once q up down (inl e) = subst IsOnce (sym e) (omega arith, omega arith)
+stream_once q up down (inr (job, stream, inl e)) = subst IsOnce (sym e) (omega arith, omega arith)
+stream_once q up down (inr (job, stream, inr (kind, result, e))) = subst IsOnce (sym e) (omega arith, omega arith)
+
+work_once : (xs : List Act) → (xs ≡ []) ⊎ IsWorkOf xs → IsOnce xs
+work_once xs (inl e) = subst IsOnce (sym e) (omega arith, omega arith)
+work_once xs (inr (inl (q, b))) = call_once q b
+work_once xs (inr (inr (q, up, down, b))) = stream_once q up down b
+
+pub named_once : (xs : List Act) → IsExactlyOnce xs → IsOnce xs
+named_once xs h = let n = work_once (work xs) h.work_is in (rw (names_work xs) n.0, rw (runs_work xs) n.1)
 
 pub all_work : (a : List Act) → outcomes a ≡ [] → a ≡ work a
 all_work [] h = refl

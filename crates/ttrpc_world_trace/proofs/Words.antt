@@ -46,5 +46,5 @@ pub use Rattle.ttrpc_server.proofs.Mapped.{StaysFound}
 pub use Rattle.ttrpc_client.proofs.Words.{if◌then◌else◌, ℕ, ◌++◌, ◌∙◌, ◌∷◌, ◌≡◌, ◌≢◌, ◌≤◌, ◌⊎◌, [], all_joined, AllByRecursion, ap, append-nil, append_assoc, arith, Bool, eq-eqb, Err, false, inl, inr, is_some, length, List, nat_eq, ne_eqb, None, Ok, Option, refl, Result, Some, subst, sym, true}
 pub use Rattle.ttrpc_world_trace.specs.Types.{Entry, Error, Event, Given, Item, Outcome, Reply, Request, Response}
 pub use Rattle.ttrpc_world_trace.specs.Trace.{Act, act_of, acts, Answered, Called, Gave, IsOneToOne, IsRightAt, IsStreamOf, only_if, Opened, Ran}
-pub use Rattle.ttrpc_world_trace.specs.Told.{asked_by, calls, HasOkStatus, IsExactlyOnce, names, outcomes, runs, work}
+pub use Rattle.ttrpc_world_trace.specs.Told.{asked_by, calls, HasOkStatus, IsBegun, IsExactlyOnce, IsWorkOf, names, outcomes, runs, work}
 pub use Rattle.ttrpc_world_trace.specs.Flows.{after, after_closed, AfterError, AreInOrder, Asked, Began, closed, ClosedUp, EndedDown, ending_thing, Flow, flow_of, flows, Fresh, got, has_end, heard_down, heard_up, HeardDown, HeardUp, is_end, IsInOrder, items, last_thing, Mood, put_down, put_up, SentDown, SentUp, told_by, Word}

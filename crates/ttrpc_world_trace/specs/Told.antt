@@ -1,7 +1,7 @@
--- What is told of one id: that it names one call or stream at most, that a call has one outcome at most, and that an `Ok` is
--- the answer of its one run.
+-- What is told of one id: that no handler runs without a call or a stream, nor twice, nor with another request; that a call has
+-- at most one outcome; and that an `Ok` is the answer of its one run.
 -- Source: this project's.
-use Rattle.std.specs.Prelude.{◌≡◌, ◌≤◌, ℕ, List, [], ◌∷◌, length, Bool, true, false, Option, Some, None, Result, Ok}
+use Rattle.std.specs.Prelude.{◌≡◌, ◌≤◌, ◌⊎◌, ℕ, List, [], ◌∷◌, length, Bool, true, false, Option, Some, None, Result, Ok}
 use Rattle.ttrpc_proto.specs.declared.messages.Status.{Status}
 use Rattle.ttrpc_proto.specs.Messages.{is_ok_code}
 use Rattle.ttrpc_server.specs.State.{without_payload}
@@ -51,12 +51,22 @@ abbrev pub asked_by : Bool → Request → Request
 asked_by true request = without_payload request
 asked_by false request = request
 
--- THE HEADLINE, for one id: it names at most one call or stream, which is run at most once, and has at most one outcome, and
--- none where it names no call. If the outcome is `Ok(r)`, then these and no others happened, in this order: the call; one
+-- these acts are a name with this request; or that and one run of exactly this request; or both and one answer
+abbrev pub IsBegun : Act → Request → List Act → Type 0
+IsBegun name request xs = (xs ≡ name ∷ [])
+    ⊎ ((job : ℕ) × (stream : Bool) × ((xs ≡ name ∷ Ran job stream (asked_by stream request) ∷ [])
+    ⊎ ((kind : Bool) × (result : Result (Option Response) Error) × (xs ≡ name ∷ Ran job stream (asked_by stream request) ∷ Answered kind result ∷ []))))
+
+-- the acts of one call or of one stream, its outcome aside: a beginning of its name, one run of its request and one answer
+abbrev pub IsWorkOf : List Act → Type 0
+IsWorkOf xs = ((request : Request) × IsBegun (Called request) request xs)
+    ⊎ ((request : Request) × (up : Bool) × (down : Bool) × IsBegun (Opened request up down) request xs)
+
+-- THE HEADLINE, for one id: nothing was done under it, or what was done for one call or one stream; and it has at most one
+-- outcome, and none where it names no call. If the outcome is `Ok(r)`, then these and no others happened, in this order: the call; one
 -- run, for exactly its request, though a stream's job has its payload beside it; one answer, which is `Ok(r)`; the outcome.
 pub record IsExactlyOnce (xs : List Act) : Type 0 where
-  pub one_name : length (names xs) ≤ 1
-  pub one_run : length (runs xs) ≤ 1
+  pub work_is : (work xs ≡ []) ⊎ IsWorkOf (work xs)
   pub one_outcome : length (outcomes xs) ≤ 1
   pub no_call : calls xs ≡ [] → outcomes xs ≡ []
   pub whole : (r : Response) → outcomes xs ≡ Ok r ∷ []

@@ -5,5 +5,6 @@
 
 mod events;
 pub mod flight;
+pub mod laws;
 
 pub use events::{Entry, Event, Reply, Side, StreamEnd, Trace};

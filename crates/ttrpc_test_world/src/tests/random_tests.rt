@@ -6,8 +6,8 @@ use crate::tests::made::trace_of;
 use crate::tests::plainly::{Finding, read_headline};
 use crate::tests::rows_tests::has_finding;
 use crate::tests::script::{
-    Act, Events, Over, Rows, Said, Ways, answer, call, end_with, open, put, put_made, put_times,
-    respond, run_over, send,
+    Act, Events, Over, Rows, Said, Ways, answer, call, end_with, had_memory, open, put, put_made,
+    put_times, respond, run_over, send,
 };
 use crate::tests::told::{Terms, terms_of};
 use crate::tests::whole::{Rest, read_rest};
@@ -351,9 +351,10 @@ fn with_trace(alloc: Global, sums: Sums, terms: Terms, trace: &[Entry]) -> Resul
     })
 }
 
-/// The same with one that is made by chance.
+/// The same with one that is made by chance. Nothing in it wanted memory, since there was enough.
 fn with_chance(alloc: Global, sums: Sums, chance: &mut Chance) -> Result<Sums, Fail> {
     let (terms, trace) = trace_by(alloc, chance)?;
+    had_memory(trace.as_slice())?;
     with_trace(alloc, sums, terms, trace.as_slice())
 }
 
