@@ -1,4 +1,7 @@
-//! Messages with members of every kind, as `tools/messages` writes them, for the tests of `ttrpc_test_wire`.
+//! Messages with members of every kind, as `tools/messages` writes them, and their tests: values as another implementation
+//! writes them, and messages that contain themselves.
 #![tactic(auto)]
 
 pub mod messages;
+#[cfg(test)]
+mod tests;

@@ -2,7 +2,6 @@ mod bounds_tests;
 mod context_tests;
 mod error_tests;
 mod header_tests;
-mod members;
 mod message_tests;
 mod random_tests;
 mod rows;

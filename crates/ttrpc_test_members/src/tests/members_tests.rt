@@ -1,9 +1,9 @@
 //! Messages as bytes, and what those bytes mean.
-use crate::tests::members::vectors::{ALL, CHOICES, FIGURES, LISTS, OPTIONS, TABLES};
+use crate::messages::{All, Choices, Figures, Lists, Options, Tables};
+use crate::tests::vectors::{ALL, CHOICES, FIGURES, LISTS, OPTIONS, TABLES};
 use std::alloc::Global;
 use std::test::Fail;
 use ttrpc_bench::checks::{Tested, check_row};
-use ttrpc_test_members::messages::{All, Choices, Figures, Lists, Options, Tables};
 use ttrpc_wire::codec::message::WireMessage;
 use ttrpc_wire::{Codec, CodecError};
 

@@ -1,6 +1,6 @@
 //! Values as Google's implementation for Python writes them. Written by tools/member-vectors.
 
-use ttrpc_test_members::messages::Figures;
+use crate::messages::Figures;
 
 /// Numbers of every kind, each with its written form.
 #[rattlefmt::skip]

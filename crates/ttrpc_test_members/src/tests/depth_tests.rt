@@ -1,11 +1,11 @@
 //! Messages that contain themselves, down to the limit of depth and beyond it.
-use crate::tests::members::members_tests::{check_pairs, check_refusals, is_refused, is_written};
-use crate::tests::members::vectors::TREE;
+use crate::messages::{Cell, CellKind, Row, Sheet, Tree, TreeRules};
+use crate::tests::members_tests::{check_pairs, check_refusals, is_refused, is_written};
+use crate::tests::vectors::TREE;
 use std::alloc::{AllocError, Global};
 use std::test::Fail;
 use ttrpc_bench::checks::{Tested, check, check_row};
 use ttrpc_members::enclosed::Enclosed;
-use ttrpc_test_members::messages::{Cell, CellKind, Row, Sheet, Tree, TreeRules};
 use ttrpc_wire::codec::message::WireMessage;
 use ttrpc_wire::{Codec, CodecError, TryClone, put_varint, varint_len};
 
