@@ -67,7 +67,7 @@ impl OutboundTransform for Masking {
     ghost use Rattle.std.specs.Prelude.{◌≤◌, true, false};
     ghost use Rattle.std.proofs.Common.{ap, arith};
     ghost use Rattle.ttrpc_test_frames.specs.Masking.{Lengthens, RefusesAnything, overhead_of};
-    ghost use Rattle.ttrpc_test_frames.specs.declared.tests.masking.Masking.{Masking as AMasking};
+    ghost use Rattle.ttrpc_test_frames.specs.declared.tests.secure.masking.Masking.{Masking as AMasking};
 
     const SEALS: bool = true;
 
