@@ -28,7 +28,7 @@ type Tested = std::result::Result<(), Fail>;
 type Holds = std::result::Result<bool, Fail>;
 
 /// Returns whether a value prints this.
-fn prints<T: Debug>(alloc: Global, value: &T, expected: &str) -> Holds {
+fn is_printed<T: Debug>(alloc: Global, value: &T, expected: &str) -> Holds {
     Ok(format!(in alloc; "{value:?}")?.as_str() == expected)
 }
 
@@ -36,7 +36,7 @@ fn prints<T: Debug>(alloc: Global, value: &T, expected: &str) -> Holds {
 fn a_context_prints_what_it_has(rt: HostRuntime) -> Tested {
     let context = with_timeout(rt.alloc(), 5).try_clone()?;
     assert!(rt;
-        prints(
+        is_printed(
             rt.alloc(),
             &context,
             "Context { metadata: {}, timeout_nano: 5 }"
@@ -50,7 +50,7 @@ fn a_connection_prints_what_is_known_of_it(rt: HostRuntime) -> Tested {
     let is_io = matches!(HookError::from(AllocError), HookError::Io(_));
     let connection = plain_context(rt.alloc());
     let expected = "ConnectionContext { connection_data: {}, .. }";
-    assert!(rt; is_io && prints(rt.alloc(), &connection, expected)?);
+    assert!(rt; is_io && is_printed(rt.alloc(), &connection, expected)?);
     Ok(())
 }
 
