@@ -50,27 +50,21 @@ impl PeerHeld {
         }
     }
 
-    /// Takes a job: whether there was one.
-    fn take_job(&mut self) -> bool {
-        let Some(job) = self.core.take_job() else {
-            return false;
-        };
-        let is_kept = if job.stream {
-            self.streams.push(job.id).is_ok()
-        } else {
-            self.calls.push((job.id, job.request.payload)).is_ok()
-        };
-        if !is_kept {
-            self.core.fail(Error::NoMemory);
-        }
-        true
-    }
-
     /// Takes what came for it, and answers.
     fn serve(&mut self, alloc: Global) {
         for _ in 0..u64::MAX {
-            if !self.take_job() {
+            let Some(job) = self.core.take_job() else {
                 break;
+            };
+            let (id, stream) = (job.id, job.stream);
+            let request = job.request;
+            let is_kept = if stream {
+                self.streams.push(id).is_ok()
+            } else {
+                self.calls.push((id, request.payload)).is_ok()
+            };
+            if !is_kept {
+                self.core.fail(Error::NoMemory);
             }
         }
         match self.manners {
