@@ -165,18 +165,20 @@ fn a_call_that_may_wait_is_not_alone(rt: HostRuntime) -> Tested {
     Ok(())
 }
 
-/// Without the turn nothing is lent. With it a report is made by the next loan.
+/// Without the turn nothing is lent. With it a report is made by the next loan. Each assertion gives what the next call asks.
 #[test]
 fn a_writer_waits_for_its_turn(rt: HostRuntime) -> Tested {
     let shared = calling_client(&rt, rt.alloc())?;
     let mut port = ClientWrite::staying(&rt, &*shared);
     let mut buffer = [0; 64];
     port.begin();
-    let waits = port.lend(&mut buffer) == 0 && port.more();
-    let lends = port.lend(&mut buffer) == 30 && front(&buffer, 30) == ASKED;
+    assert_eq!(rt; port.lend(&mut buffer), 0);
+    assert!(rt; port.more());
+    assert_eq!(rt; port.lend(&mut buffer), 30);
+    assert!(rt; front(&buffer, 30) == ASKED);
     port.wrote(12);
-    let lends_on = port.lend(&mut buffer) == 18 && front(&buffer, 18) == behind(ASKED, 12);
-    assert!(rt; waits && lends && lends_on);
+    assert_eq!(rt; port.lend(&mut buffer), 18);
+    assert!(rt; front(&buffer, 18) == behind(ASKED, 12));
     Ok(())
 }
 
