@@ -2,10 +2,10 @@
 -- none does.
 use Rattle.ttrpc_world.proofs.Ending.{idle_down, idle_up}
 use Rattle.ttrpc_world.proofs.Keeps.{Keeps}
-use Rattle.ttrpc_world.proofs.Numbers.{error_ends, received}
+use Rattle.ttrpc_world.proofs.Numbers.{received}
 use Rattle.ttrpc_world.proofs.Timed.{called_back, expired_is, Makes}
-use Rattle.ttrpc_world.proofs.Serves.{passes_so}
-use Rattle.ttrpc_world.proofs.Words.{[], ActiveJob, all_at, all_less, Answer, AnswersBy, ap, arith, asks_outcome, Bool, Call, call_at, CallEvent, Client, ClientSide, Count, deadline_of, Deliver, Done, Ended, EndsOne, EndStream, Entry, eqb-true, Err, Error, Event, false, Finish, Given, Halves, Handed, inl, inr, is_clean_event, is_clean_reply, is_some, IsOpen, Item, JobList, left_of, List, Lives, ltb-false, map, Named, nat_lt, Net, None, NoneWaits, Ok, Option, Outcome, Recv, Reply, Response, Result, rules, Server, ServerCore, ServerEnd, ServerSide, Settings, Some, StaysFound, Steps, subst, sym, Take, takes_bytes, takes_nothing, Tick, true, Waiting, ℕ, ◌∙◌, ◌∷◌, ◌≡◌, ◌≤◌}
+use Rattle.ttrpc_world.proofs.Serves.{one_less, passes_so}
+use Rattle.ttrpc_world.proofs.Words.{[], ActiveJob, all_at, all_less, Answer, ap, arith, asks_outcome, Bool, Call, call_at, CallEvent, Client, ClientSide, Count, deadline_of, Deliver, Done, Ended, EndsOne, EndStream, Entry, eqb-true, Error, Event, false, Finish, Given, Halves, Handed, inl, inr, is_clean_event, is_clean_reply, is_some, IsOpen, Item, JobList, left_of, List, Lives, ltb-false, map, Named, nat_lt, Net, None, NoneWaits, Option, Outcome, Recv, Reply, Response, Result, rules, Server, ServerEnd, ServerSide, Settings, Some, StaysFound, Steps, subst, sym, Take, takes_bytes, takes_nothing, Tick, true, Waiting, ℕ, ◌∙◌, ◌∷◌, ◌≡◌, ◌≤◌}
 
 pub none_taken : (k : ℕ) → nat_lt 0 k ≡ false → k ≡ 0
 none_taken k h = let le : k ≤ 0 = ltb-false 0 k h in omega (arith, le)
@@ -50,10 +50,6 @@ module _ {CO CI SO SI : Type 0} (c : Halves CO CI) (s : Halves SO SI) (seals : B
   maps_idle g found [] h = tt
   maps_idle g found (j ∷ js) h = (found.request j ∙ h.0, maps_idle g found js h.1)
 
-  answered_idle : (x y : ServerCore SO SI) (id : ℕ) (result : Result Response Error) → AnswersBy c s seals x id result y → NoneWaits x.state.jobs.list → NoneWaits y.state.jobs.list
-  answered_idle x y id (Ok response) a h = ends_idle x.state.jobs.list y.state.jobs.list id a.1.job a.1.ends h
-  answered_idle x y id (Err error) a h = let e = error_ends s.out x.state.rules x id error y a in ends_idle x.state.jobs.list y.state.jobs.list id e.0 e.1 h
-
   same_idle : (w v : Net CO CI SO SI) → v.server.state.jobs ≡ w.server.state.jobs → NoneWaits w.server.state.jobs.list → NoneWaits v.server.state.jobs.list
   same_idle w v e h = subst (λ (x : JobList). NoneWaits x.list) (sym e) h
 
@@ -64,7 +60,7 @@ module _ {CO CI SO SI : Type 0} (c : Halves CO CI) (s : Halves SO SI) (seals : B
       let hands = p.0.hands in
       let bad : Some job.request ≡ None = sym hands.request ∙ all_at (λ (j : ActiveJob). j.request ≡ None) hands.front hands.back hands.job (subst NoneWaits hands.was h) in
       cc
-  idle_still set f t w (Answer id result) Done v i u e r z p h = answered_idle w.server v.server id result p.0 h
+  idle_still set f t w (Answer id result) Done v i u e r z p h = let a = one_less c s seals w.server id result v.server p.0 in ends_idle w.server.state.jobs.list v.server.state.jobs.list id a.0 a.1 h
   idle_still set f t w (Finish id) Done v i u e r z p h = ends_idle w.server.state.jobs.list v.server.state.jobs.list id p.0.job p.0.ends h
   idle_still set f t w (EndStream id result) Done v i u e r z p h = ends_idle w.server.state.jobs.list v.server.state.jobs.list id p.0.job p.0.ends h
   idle_still set f t w (Recv (ServerEnd id)) (Item given) v i u e r z p h =

@@ -9,7 +9,7 @@ use Rattle.ttrpc_world.proofs.Numbers.{IsRightRun, stream_of_run}
 use Rattle.ttrpc_world.proofs.Since.{since_holds, Starts, Stays}
 use Rattle.ttrpc_world_trace.proofs.Tidy.{IsAsked}
 use Rattle.ttrpc_world_trace.proofs.StoryWords.{Opened}
-use Rattle.ttrpc_world.proofs.Words.{[], Act, act_of, ActiveJob, acts, AllByRecursion, Answer, Answered, ap, AreWholeCalls, Around, asked_by, asks_outcome, begun_calls, Bool, Born, ByCall, ByOpen, call_at, Called, CallEvent, calls, calls_work, ClientSide, Done, Ended, EndStream, Entry, eq-eqb, eqb-true, Error, Event, false, Gave, Given, Halves, Handed, has_method, has_response, Here, here_at, if◌then◌else◌, inl, inr, is_answer_of, is_done, is_stream, IsAnsweredIn, IsAskedFor, IsClean, IsDrained, IsEmpty, IsFresh, IsQuiet, IsRightAt, IsStreamOf, IsWholeCall, Job, jobs_at, Known, List, list_any, list_any-append, Named, names, nat_eq, Net, nil_parts, None, NoneWaits, Ok, once, only_if, OpenEvent, or_cases, or_left, or_right, Origin, Outcome, parcels, Ran, refl, Reply, Request, Respond, Response, Result, Runs, safe_limit, ServerCore, ServerSide, Settings, Some, some_of, subst, sym, Take, takes_nothing, true, Unborn, ups_of, Waits, whole_call, Work, work, ℕ, ◌||◌, ◌∙◌, ◌∷◌, ◌≡◌}
+use Rattle.ttrpc_world.proofs.Words.{[], Act, act_of, ActiveJob, acts, AllByRecursion, Answer, Answered, ap, AreWholeCalls, Around, asked_by, asks_outcome, begun_calls, Bool, Born, ByCall, ByOpen, call_at, Called, CallEvent, calls, calls_work, ClientSide, Done, Ended, EndStream, Entry, eq-eqb, eqb-true, Error, Event, false, Gave, Given, Halves, Handed, has_method, has_response, Here, here_at, if◌then◌else◌, inl, inr, is_answer_of, is_done, is_stream, IsAnsweredIn, IsAskedFor, IsClean, IsDrained, IsEmpty, IsFresh, IsQuiet, IsRightAt, IsStreamOf, IsWholeCall, Job, jobs_at, Known, List, list_any, list_any-append, Named, nat_eq, Net, nil_parts, None, NoneWaits, Ok, once, only_if, OpenEvent, or_cases, or_left, or_right, Origin, Outcome, parcels, Ran, refl, Reply, Request, Respond, Response, Result, Runs, safe_limit, ServerCore, ServerSide, Settings, Some, some_of, subst, sym, Take, takes_nothing, true, Unborn, ups_of, Waits, whole_call, Work, work, ℕ, ◌||◌, ◌∙◌, ◌∷◌, ◌≡◌}
 
 -- ---- what a run of a job says of the trace
 

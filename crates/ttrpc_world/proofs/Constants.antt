@@ -1,6 +1,6 @@
 -- What stays the same in a run: the server's rules, its services, and the limit of its outbound half.
-use Rattle.ttrpc_world.proofs.Serves.{passes_so}
-use Rattle.ttrpc_world.proofs.Words.{[], ActiveJob, ActsAll, Answer, AnswersBy, AnswersError, ap, arrives, AsyncRules, Bool, Connection, Count, Cut, cut_to, Deliver, Does, Done, EndsStream, EndStream, Entry, Err, Error, Event, ExpiresOne, Halves, header_of_frame, Hears, Incoming, inl, inr, is_over, List, MESSAGE_LENGTH_MAX, MessageHeader, Net, None, Ok, Option, OutboundTransform, Outbox, PutIn, refl, Refused, Reply, Respond, Response, Result, Row, row_of, Rules, rules, rules_stay, Runs, safe_limit, Scene, scene, Send, SendsAll, Sent, Server, ServerCore, ServerEnd, ServerSide, serving, Some, Steps, subst, SyncRules, taken_from, Tick, Ticket, ℕ, ◌-◌, ◌∙◌, ◌∷◌, ◌≡◌}
+use Rattle.ttrpc_world.proofs.Serves.{answered, passes_so}
+use Rattle.ttrpc_world.proofs.Words.{[], ActiveJob, ActsAll, Answer, ap, arrives, Bool, Connection, Count, Cut, cut_to, Deliver, Does, Done, EndsStream, EndStream, Entry, Err, Error, Event, ExpiresOne, Halves, header_of_frame, Hears, Incoming, inl, inr, is_over, List, MESSAGE_LENGTH_MAX, MessageHeader, Net, None, Ok, Option, OutboundTransform, Outbox, PutIn, refl, Refused, Reply, Respond, Response, Result, Row, row_of, rules, rules_stay, Runs, safe_limit, Scene, scene, Send, SendsAll, Sent, Server, ServerCore, ServerEnd, ServerSide, serving, Some, Steps, taken_from, Tick, Ticket, ℕ, ◌-◌, ◌∙◌, ◌∷◌, ◌≡◌}
 use Rattle.ttrpc_world.proofs.OneWay.{as_heard}
 
 -- these stay, of a server's state and its outbox
@@ -47,15 +47,6 @@ module _ {CO CI SO SI : Type 0} (c : Halves CO CI) (s : Halves SO SI) (seals : B
       } in
       both first (acted now fs mid new acts.2)
 
-  answered : (old : ServerCore SO SI) (id : ℕ) (result : Result Response Error) (new : ServerCore SO SI) (r : Rules) → old.state.rules ≡ r → AnswersBy c s seals old id result new → Stays old new
-  answered old id (Ok response) new r e p = as_this s.out old new p.1.same refl refl (limit_sent s.out fixed p.1.sent old.connection.outbox new.connection.outbox p.1.sends)
-  answered old id (Err error) new SyncRules e p =
-      let drops = subst (λ (x : Rules). AnswersError s.out x old id error new) e p in
-      as_this s.out old new drops.same refl refl (ap (λ (x : ServerCore SO SI). safe_limit s.out x.connection.outbox.half) drops.same)
-  answered old id (Err error) new AsyncRules e p =
-      let a = (subst (λ (x : Rules). AnswersError s.out x old id error new) e p).2 in
-      as_this s.out old new a.same refl refl (limit_sent s.out fixed a.sent old.connection.outbox new.connection.outbox a.sends)
-
   ended : (old : ServerCore SO SI) (id : ℕ) (result : Result (Option Response) Error) (new : ServerCore SO SI) → EndsStream s.out old id result new → safe_limit s.out new.connection.outbox.half ≡ safe_limit s.out old.connection.outbox.half
   ended old id (Ok None) new p = ap (λ n. MESSAGE_LENGTH_MAX - n) (fixed _ _ _ _ _ p.sends.2.seal)
   ended old id (Ok (Some response)) new p = limit_sent s.out fixed p.sends.0 old.connection.outbox new.connection.outbox p.sends.2
@@ -72,7 +63,10 @@ module _ {CO CI SO SI : Type 0} (c : Halves CO CI) (s : Halves SO SI) (seals : B
   heard_same over old new h = as_heard (λ (y : Connection SO SI). y.outbox ≡ old.outbox) over old new h refl (λ why. refl)
 
   pub stepped : (w : Net CO CI SO SI) (event : Event) (reply : Reply) (v : Net CO CI SO SI) → Steps c s seals w event reply v → Stays w.server v.server
-  stepped w (Answer id result) Done v p = answered w.server id result v.server w.server.state.rules refl p.0
+  stepped w (Answer id result) Done v p = elim (answered c s seals w.server id result v.server p.0) [
+    | inl a ↦ as_this s.out w.server v.server a.1.same refl refl (limit_sent s.out fixed a.1.sent w.server.connection.outbox v.server.connection.outbox a.1.sends)
+    | inr d ↦ as_this s.out w.server v.server d.2.same refl refl (ap (λ (x : ServerCore SO SI). safe_limit s.out x.connection.outbox.half) d.2.same)
+  ]
   stepped w (Respond id response) Done v p = as_this s.out w.server v.server p.does.same refl refl (limit_sent s.out fixed p.does.sent w.server.connection.outbox v.server.connection.outbox p.does.sends)
   stepped w (EndStream id result) Done v p = as_this s.out w.server v.server p.0.same refl refl (ended w.server id result v.server p.0)
   stepped w (Send (ServerEnd id) item) (Ticket ticket) v p = as_this s.out w.server v.server p.0.same refl refl (ap (λ n. MESSAGE_LENGTH_MAX - n) (fixed _ _ _ _ _ p.0.sends.sends.seal))

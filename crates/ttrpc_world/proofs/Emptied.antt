@@ -5,8 +5,8 @@ use Rattle.ttrpc_world.proofs.Behind.{none_taken}
 use Rattle.ttrpc_world.proofs.Living.{heard_whole, never_over}
 use Rattle.ttrpc_world.proofs.Since.{IsKnown}
 use Rattle.ttrpc_world.proofs.Timed.{none_due}
-use Rattle.ttrpc_world.proofs.Serves.{passes_so}
-use Rattle.ttrpc_world.proofs.Words.{[], ActsAll, after_report, Answer, AnswersBy, AnswersError, ap, arith, Asked, AsyncRules, Began, Bool, Call, call_at, CallEvent, calling, Carry, ClientCore, ClientEnd, ClientSide, Close, ClosedUp, Connection, Count, DeadlineDuringWrite, Deliver, Done, due_at, EndedDown, EndsStream, EndStream, Entry, Err, Error, Event, Expired, expired_at, Failure, false, Flow, flow_of, Halves, HeardDown, HeardUp, if◌then◌else◌, Incoming, inl, inr, is_clean_event, is_clean_reply, is_call_due, is_over, IsOpen, IsQueue, Item, items, length, length-take, lent_of, List, min, Named, nat_eq, Net, never_empty, nil_parts, None, none_reported, none_thrown, Ok, only_if, open_part, OpenEvent, Option, OutboundTransform, Outbox, Passes, put_down, put_up, Queue, Queued, Recv, refl, Reply, Respond, Responds, Response, Result, Rules, rules, Scene, scene, Send, SendsAll, SendsOne, Sent, SentDown, SentUp, ServerCore, ServerEnd, ServerSide, serving, Settings, Some, some_of, Steps, StreamEnd, subst, sym, SyncRules, take, taken_back, taken_from, takes_bytes, throws, Tick, Ticket, true, Waiting, Ways, with_lent, with_payload, Word, ℕ, ◌++◌, ◌∙◌, ◌∷◌, ◌≡◌}
+use Rattle.ttrpc_world.proofs.Serves.{answered, IsAnswered, passes_so}
+use Rattle.ttrpc_world.proofs.Words.{[], ActsAll, after_report, Answer, ap, arith, Asked, AsyncRules, Began, Bool, Call, call_at, CallEvent, calling, Carry, ClientCore, ClientEnd, ClientSide, Close, ClosedUp, Connection, Count, DeadlineDuringWrite, Deliver, Done, due_at, EndedDown, EndsStream, EndStream, Entry, Err, Error, Event, Expired, expired_at, Failure, false, Flow, flow_of, Halves, HeardDown, HeardUp, if◌then◌else◌, Incoming, inl, inr, is_clean_event, is_clean_reply, is_call_due, is_over, IsOpen, IsQueue, Item, items, length, length-take, lent_of, List, min, Named, nat_eq, Net, never_empty, nil_parts, None, none_reported, none_thrown, Ok, only_if, open_part, OpenEvent, Option, OutboundTransform, Outbox, Passes, put_down, put_up, Queue, Queued, Recv, refl, Reply, Respond, Responds, Response, Result, Rules, rules, Scene, scene, Send, SendsAll, SendsOne, Sent, SentDown, SentUp, ServerCore, ServerEnd, ServerSide, serving, Settings, Some, some_of, Steps, StreamEnd, subst, sym, take, taken_back, taken_from, takes_bytes, throws, Tick, Ticket, true, Waiting, Ways, with_lent, with_payload, Word, ℕ, ◌++◌, ◌∙◌, ◌∷◌, ◌≡◌}
 
 -- NOTHING IS ON A WAY
 pub record IsIdle (queued : List Queued) (pipe : List ℕ) : Type 0 where
@@ -142,14 +142,11 @@ module _ {CO CI SO SI : Type 0} (c : Halves CO CI) (s : Halves SO SI) (seals : B
       (idle_as (ap (λ (x : Queue). x.frames) queue) pipe idle, λ k. refl)
 
   -- what an answer or an end queues
-  answered_down : (r : Rules) (old : ServerCore SO SI) (id : ℕ) (result : Result Response Error) (new : ServerCore SO SI) → old.state.rules ≡ r → AnswersBy c s seals old id result new → new.connection.outbox.queue.frames ≡ [] → (old.connection.outbox.queue.frames ≡ []) × ((k : ℕ) → items (put_down set.rules set.limit (only_if (nat_eq (f id) k) (EndedDown (some_of result)))) ≡ [])
-  answered_down r old id (Ok response) new e p none = absurd (responded s.out old.state.rules _ _ response p.1.sent old.connection.outbox new.connection.outbox p.1.responds p.1.sends none)
-  answered_down SyncRules old id (Err error) new e p none =
-      let d = subst (λ (x : Rules). AnswersError s.out x old id error new) e p in
-      (sym (ap (λ (x : ServerCore SO SI). x.connection.outbox.queue.frames) d.same) ∙ none, λ k. nothing_put (λ xs. items (put_down set.rules set.limit xs)) (nat_eq (f id) k) (EndedDown (Err error)) refl refl)
-  answered_down AsyncRules old id (Err error) new e p none =
-      let d = subst (λ (x : Rules). AnswersError s.out x old id error new) e p in
-      absurd (responded s.out old.state.rules _ _ d.0 d.2.sent old.connection.outbox new.connection.outbox d.2.responds d.2.sends none)
+  answered_down : (old : ServerCore SO SI) (id : ℕ) (result : Result Response Error) (new : ServerCore SO SI) → IsAnswered s.out old id result new → new.connection.outbox.queue.frames ≡ [] → (old.connection.outbox.queue.frames ≡ []) × PutsDown (Answer id result) Done
+  answered_down old id result new a none = elim a [
+    | inl r ↦ absurd (responded s.out old.state.rules _ _ r.0 r.1.sent old.connection.outbox new.connection.outbox r.1.responds r.1.sends none)
+    | inr d ↦ (sym (ap (λ (x : ServerCore SO SI). x.connection.outbox.queue.frames) d.2.same) ∙ none, λ k. nothing_put (λ xs. items (put_down set.rules set.limit xs)) (nat_eq (f id) k) (EndedDown (some_of result)) refl (rw d.1 refl))
+  ]
 
   ended_down : (old : ServerCore SO SI) (id : ℕ) (result : Result (Option Response) Error) (new : ServerCore SO SI) → EndsStream s.out old id result new → new.connection.outbox.queue.frames ≡ [] → ⊥
   ended_down old id (Ok None) new p none = sent_one s.out old.connection.outbox p.sends.0 [] new.connection.outbox p.sends.2 none
@@ -166,7 +163,7 @@ module _ {CO CI SO SI : Type 0} (c : Halves CO CI) (s : Halves SO SI) (seals : B
   down_back t w (Recv (ServerEnd id)) (Item given) v i a b z p idle = (idle_as (ap (λ (x : ServerCore SO SI). x.connection.outbox.queue.frames) p.0.same) (ap (λ (x : Net CO CI SO SI). x.down.bytes) p.1) idle, heard_none (λ xs. items (put_down set.rules set.limit xs)) refl (λ word. refl) (λ word. refl) (ServerEnd id) given)
   down_back t w (Send (ServerEnd id) item) (Ticket ticket) v i a b z p idle = absurd (sent_one s.out w.server.connection.outbox _ _ v.server.connection.outbox p.0.sends.sends idle.none_queued)
   down_back t w (Answer id result) Done v i a b z p idle =
-      let y = answered_down w.server.state.rules w.server id result v.server refl p.0 idle.none_queued in
+      let y = answered_down w.server id result v.server (answered c s seals w.server id result v.server p.0) idle.none_queued in
       (record { none_queued = y.0; none_carried = sym (ap (λ (x : Net CO CI SO SI). x.down.bytes) p.1) ∙ idle.none_carried }, y.1)
   down_back t w (Respond id response) Done v i a b z p idle = absurd (responded s.out w.server.state.rules _ _ response p.does.sent w.server.connection.outbox v.server.connection.outbox p.does.responds p.does.sends idle.none_queued)
   down_back t w (EndStream id result) Done v i a b z p idle = absurd (ended_down w.server id result v.server p.0 idle.none_queued)

@@ -1,6 +1,7 @@
 -- How a side fails in a run: no step clears a failure, and what is told of one is no end of a stream.
 use Rattle.ttrpc_world.proofs.OneWay.{either_way}
-use Rattle.ttrpc_world.proofs.Words.{[], ActiveJob, Answer, AnswersBy, AnswersError, ap, AsyncRules, Bool, call_at, calling, CancelledDuringWrite, Client, ClientCore, ClientSide, Connection, Count, Cut, cut_to, DeadlineDuringWrite, Deliver, Disconnected, DisconnectedInside, Done, DropCall, due_at, Err, Error, error_of, Event, Fail, failed_by_hand, Failure, false, first_failure, Halves, has_begun, Hears, if◌then◌else◌, Incoming, inl, inr, is_over, IsFresh, IsPlain, IsPlainFailure, IsWhy, List, Lives, nat_eq, Net, None, Ok, Option, Passes, refl, Refused, Reply, Response, Result, Rules, rules, Scene, Server, ServerCore, ServerPasses, ServerSide, serving, Some, Steps, subst, sym, SyncRules, taken_back, taken_from, takes_back, throws, Tick, Told, told, true, want_for, ℕ, ◌∙◌, ◌∷◌, ◌≡◌}
+use Rattle.ttrpc_world.proofs.Serves.{answered}
+use Rattle.ttrpc_world.proofs.Words.{[], ActiveJob, Answer, ap, AsyncRules, Bool, call_at, calling, CancelledDuringWrite, Client, ClientCore, ClientSide, Connection, Count, Cut, cut_to, DeadlineDuringWrite, Deliver, Disconnected, DisconnectedInside, Done, DropCall, due_at, error_of, Event, Fail, failed_by_hand, Failure, false, first_failure, Halves, has_begun, Hears, if◌then◌else◌, Incoming, inl, inr, is_over, IsFresh, IsPlain, IsPlainFailure, IsWhy, List, Lives, nat_eq, Net, None, Option, Passes, refl, Refused, Reply, Rules, rules, Scene, Server, ServerCore, ServerPasses, ServerSide, serving, Some, Steps, subst, sym, SyncRules, taken_back, taken_from, takes_back, throws, Tick, Told, told, true, want_for, ℕ, ◌∙◌, ◌∷◌, ◌≡◌}
 
 -- what becomes of the failure of a side: it is kept, and one that is no end stays so
 pub record Fails (old new : Option Failure) : Type 0 where
@@ -87,21 +88,15 @@ module _ {CO CI SO SI : Type 0} (c : Halves CO CI) (s : Halves SO SI) (seals : B
   passes_server AsyncRules None old now new e p = lived_fails e (same_plain (ap (λ (x : ServerCore SO SI). x.connection.failure) p.same) (want_plain p.left))
   passes_server AsyncRules (Some why) old now new e same = same_fails (ap (λ (x : ServerCore SO SI). x.connection.failure) same)
 
-  answers_fail : (r : Rules) (old : ServerCore SO SI) (id : ℕ) (result : Result Response Error) (new : ServerCore SO SI) → old.state.rules ≡ r → AnswersBy c s seals old id result new → Fails old.connection.failure new.connection.failure
-  answers_fail r old id (Ok response) new e p = same_fails (ap (λ (x : ServerCore SO SI). x.connection.failure) p.1.same)
-  answers_fail SyncRules old id (Err error) new e p =
-      let d = subst (λ (x : Rules). AnswersError s.out x old id error new) e p in
-      lived_fails d.alive (same_plain (ap (λ (x : ServerCore SO SI). x.connection.failure) d.same) (λ m. refl))
-  answers_fail AsyncRules old id (Err error) new e p =
-      let d = subst (λ (x : Rules). AnswersError s.out x old id error new) e p in
-      same_fails (ap (λ (x : ServerCore SO SI). x.connection.failure) d.2.same)
-
   -- WHAT A STEP DOES TO THE FAILURES.
   fails : (w : Net CO CI SO SI) (event : Event) (reply : Reply) (v : Net CO CI SO SI) → Steps c s seals w event reply v → BothFail w v
   fails w (DropCall id) Done v p =
       by_client w v (ap (λ (x : Net _ _ _ _). x.server.connection.failure) p.only)
       (fails_as (ap (λ (x : ClientCore CO CI). x.connection.failure) p.does.same) (back_fails (takes_back seals w.client id) w.client.connection (λ k. nat_eq k id) CancelledDuringWrite (λ m. refl)))
-  fails w (Answer id result) Done v p = by_server w v (ap (λ (x : Net _ _ _ _). x.client.connection.failure) p.1) (answers_fail w.server.state.rules w.server id result v.server refl p.0)
+  fails w (Answer id result) Done v p = by_server w v (ap (λ (x : Net _ _ _ _). x.client.connection.failure) p.1) (elim (answered c s seals w.server id result v.server p.0) [
+    | inl a ↦ same_fails (ap (λ (x : ServerCore SO SI). x.connection.failure) a.1.same)
+    | inr d ↦ lived_fails d.2.alive (same_plain (ap (λ (x : ServerCore SO SI). x.connection.failure) d.2.same) (λ m. refl))
+  ])
   fails w (Tick now) Done v p = record {
     client = passes_client w.client.connection.failure w.client now v.client p.does;
     server = passes_server w.server.state.rules w.server.connection.failure w.server now v.server refl p.serves;

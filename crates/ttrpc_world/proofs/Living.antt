@@ -1,8 +1,8 @@
 -- Both sides live at each place of a clean quiet run: no step clears a failure, and the last deliveries found none. No pipe was
 -- cut, and the server takes what comes.
 use Rattle.ttrpc_world.proofs.Failing.{lives_back}
-use Rattle.ttrpc_world.proofs.Serves.{passes_so}
-use Rattle.ttrpc_world.proofs.Words.{[], ActsAll, Answer, AnswersBy, AnswersError, ap, AreClean, AsyncRules, Bool, Carry, ClientCore, ClientSide, Connection, Count, Deliver, Done, Entry, Err, Error, Event, false, Halves, Hears, Incoming, inl, inr, is_clean_event, is_clean_reply, is_over, IsDrained, IsFresh, IsOpen, List, Lives, Net, None, not, Ok, other, Pipe, refl, Reply, Response, Result, Rules, rules, Runs, Scene, scene, Server, ServerCore, ServerSide, serving, Side, Steps, subst, sym, SyncRules, taken_from, Tick, true, ℕ, ◌++◌, ◌∙◌, ◌∷◌, ◌≡◌}
+use Rattle.ttrpc_world.proofs.Serves.{one_less, passes_so}
+use Rattle.ttrpc_world.proofs.Words.{[], ActsAll, Answer, ap, AreClean, Bool, Carry, ClientCore, ClientSide, Connection, Count, Deliver, Done, Entry, Event, false, Halves, Hears, Incoming, inl, inr, is_clean_event, is_clean_reply, is_over, IsDrained, IsFresh, IsOpen, List, Lives, Net, None, not, other, Pipe, refl, Reply, Rules, rules, Runs, Scene, scene, Server, ServerCore, ServerSide, serving, Side, Steps, subst, sym, taken_from, Tick, true, ℕ, ◌++◌, ◌∙◌, ◌∷◌, ◌≡◌}
 
 module _ {CO CI SO SI : Type 0} (c : Halves CO CI) (s : Halves SO SI) (seals : Bool) where
   -- who lives behind a run lived all along
@@ -12,17 +12,12 @@ module _ {CO CI SO SI : Type 0} (c : Halves CO CI) (s : Halves SO SI) (seals : B
 
   -- ---- pipes stay whole, and the server goes on taking
 
-  drains_answered : (r : Rules) (old : ServerCore SO SI) (id : ℕ) (result : Result Response Error) (new : ServerCore SO SI) → old.state.rules ≡ r → AnswersBy c s seals old id result new → not new.state.draining ≡ not old.state.draining
-  drains_answered r old id (Ok response) new e p = ap (λ (x : ServerCore SO SI). not x.state.draining) p.1.same
-  drains_answered SyncRules old id (Err error) new e p = let d = subst (λ (x : Rules). AnswersError s.out x old id error new) e p in ap (λ (x : ServerCore SO SI). not x.state.draining) d.same
-  drains_answered AsyncRules old id (Err error) new e p = let d = subst (λ (x : Rules). AnswersError s.out x old id error new) e p in ap (λ (x : ServerCore SO SI). not x.state.draining) d.2.same
-
   drains_acted : (now : ℕ) (fs : List Incoming) (old new : Scene Server SO SI) → ActsAll (serving s.out s.in_) now old fs new → not new.state.draining ≡ not old.state.draining
   drains_acted now [] old new same = ap (λ (x : Scene Server SO SI). not x.state.draining) same
   drains_acted now (f ∷ fs) old new acts = drains_acted now fs acts.0 new acts.2 ∙ acts.1.takes
 
   takes_stay : (w : Net CO CI SO SI) (event : Event) (reply : Reply) (v : Net CO CI SO SI) → is_clean_event event ≡ true → is_clean_reply reply ≡ true → Steps c s seals w event reply v → not v.server.state.draining ≡ not w.server.state.draining
-  takes_stay w (Answer id result) Done v e r p = drains_answered w.server.state.rules w.server id result v.server refl p.0
+  takes_stay w (Answer id result) Done v e r p = ap (λ (x : Server). not x.draining) (one_less c s seals w.server id result v.server p.0).2
   takes_stay w (Deliver ServerSide n) (Count k) v e r (inr p) = ap (λ (x : Net _ _ _ _). not x.server.state.draining) p.only
   takes_stay w (Tick now) Done v e r p =
       passes_so s.out (λ a x b y. not b.draining ≡ not a.draining) (λ a x. refl) (λ a b d x y z job e later. later ∙ ap (λ (t : Server). not t.draining) e.state) w.server.state.rules w.server.connection.failure w.server now v.server p.serves

@@ -2,8 +2,8 @@
 -- made rise, and so do the ids of the requests in flight, from above them to below the client's next. So no two jobs have
 -- the same stream.
 use Rattle.ttrpc_pair.proofs.Words.{unheard}
-use Rattle.ttrpc_world.proofs.Serves.{passes_so}
-use Rattle.ttrpc_world.proofs.Words.{[], ActiveJob, ActsAll, ActsOn, all_at, all_changed, all_in_front, all_less, AllByRecursion, Answer, AnswersBy, AnswersError, ap, arith, arrives, AsyncRules, at_stays, Bool, brought_by, cases_lt, cases_order, changed_at, changed_under, ClientSide, cond-false, cond-true, Count, Deliver, Does, Done, DropReceiver, EndsOne, EndStream, Entry, eq-eqb, Err, Error, Event, ExpiresOne, Failure, false, filter, Finish, Flying, flying_without, Halves, Handed, header_of_frame, id_of, if◌then◌else◌, Incoming, inl, inr, IsFresh, IsOneToOne, IsRightAt, IsStreamOf, Item, Job, JobList, last_id, left_behind, List, Mail, MakeJob, MakeStream, map, MESSAGE_TYPE_REQUEST, MessageHeader, nat_eq, ne_eqb, Net, new_job, None, Ok, on_mail, Option, OutboundTransform, Outbox, PutIn, ReceivesBy, Recv, refl, Refused, Reply, Result, Row, row_of, Rules, rules, Runs, Scene, scene, Sent, Server, ServerCore, ServerEnd, ServerSide, serving, Some, stays, StaysFound, Steps, stream_body, subst, sym, SyncRules, Take, Tick, true, unary_body, under_stays, with_server, without_payload, without_receiver, ℕ, ◌++◌, ◌+◌, ◌<◌, ◌∙◌, ◌∷◌, ◌≡◌, ◌≤◌}
+use Rattle.ttrpc_world.proofs.Serves.{one_less, passes_so}
+use Rattle.ttrpc_world.proofs.Words.{[], ActiveJob, ActsAll, ActsOn, all_at, all_changed, all_in_front, all_less, AllByRecursion, Answer, ap, arith, arrives, AsyncRules, at_stays, Bool, brought_by, cases_lt, cases_order, changed_at, changed_under, ClientSide, cond-false, cond-true, Count, Deliver, Does, Done, DropReceiver, EndsOne, EndStream, Entry, eq-eqb, Error, Event, ExpiresOne, Failure, false, filter, Finish, Flying, flying_without, Halves, Handed, header_of_frame, id_of, if◌then◌else◌, Incoming, inl, inr, IsFresh, IsOneToOne, IsRightAt, IsStreamOf, Item, Job, JobList, last_id, left_behind, List, Mail, MakeJob, MakeStream, map, MESSAGE_TYPE_REQUEST, MessageHeader, nat_eq, ne_eqb, Net, new_job, None, on_mail, Option, OutboundTransform, Outbox, PutIn, ReceivesBy, Recv, refl, Refused, Reply, Result, Row, row_of, Rules, rules, Runs, Scene, scene, Sent, Server, ServerCore, ServerEnd, ServerSide, serving, Some, stays, StaysFound, Steps, stream_body, subst, sym, SyncRules, Take, Tick, true, unary_body, under_stays, with_server, without_payload, without_receiver, ℕ, ◌++◌, ◌+◌, ◌<◌, ◌∙◌, ◌∷◌, ◌≡◌, ◌≤◌}
 
 -- ---- streams that rise
 
@@ -254,12 +254,6 @@ ends_go : (f : ℕ → ℕ) (old new : JobList) (id : ℕ) (job : ActiveJob) →
 ends_go f old new id job last t p =
     stay_placed f old new last (subst (λ (js : List ActiveJob). AreBelow f old.last js) (sym t.jobs) (all_less (IsPlaced f old.last) t.at.front t.at.back job (subst (λ (js : List ActiveJob). AreBelow f old.last js) t.at.is p.below))) p
 
--- a handler's error ends its job under either rules
-pub error_ends : {O I : Type 0} (out : OutboundTransform O) (rules : Rules) (old : ServerCore O I) (id : ℕ) (error : Error) (new : ServerCore O I) → AnswersError out rules old id error new
-    → (job : ActiveJob) × EndsOne old.state.jobs.list id job new.state.jobs.list × (new.state.jobs.last ≡ old.state.jobs.last)
-error_ends out SyncRules old id error new a = (a.job, a.ends, ap (λ (z : ServerCore _ _). z.state.jobs.last) a.same)
-error_ends out AsyncRules old id error new a = (a.2.job, a.2.ends, ap (λ (z : ServerCore _ _). z.state.jobs.last) a.2.same)
-
 -- ---- it is right
 
 abbrev IsRight : (ℕ → ℕ) → ActiveJob → Type 0
@@ -297,10 +291,6 @@ module _ {CO CI SO SI : Type 0} (c : Halves CO CI) (s : Halves SO SI) (seals : B
   abbrev jobs : Net CO CI SO SI → JobList
   jobs w = w.server.state.jobs
 
-  answer_goes : (f : ℕ → ℕ) (x y : ServerCore SO SI) (id : ℕ) (result : Result _ Error) → AnswersBy c s seals x id result y → Placed f x.state.jobs → Goes f x.state.jobs y.state.jobs
-  answer_goes f x y id (Ok response) a p = ends_go f x.state.jobs y.state.jobs id a.1.job (ap (λ (z : ServerCore SO SI). z.state.jobs.last) a.1.same) a.1.ends p
-  answer_goes f x y id (Err error) a p = let e = error_ends s.out x.state.rules x id error y a in ends_go f x.state.jobs y.state.jobs id e.0 e.2 e.1 p
-
   hand_goes : (f : ℕ → ℕ) (w v : Net CO CI SO SI) (job : Job) → Steps c s seals w Take (Handed (Some job)) v → Placed f (jobs w) → Goes f (jobs w) (jobs v)
   hand_goes f w v job q p =
       let t = q.0.hands in
@@ -312,7 +302,7 @@ module _ {CO CI SO SI : Type 0} (c : Halves CO CI) (s : Halves SO SI) (seals : B
 
   goes : (f : ℕ → ℕ) (w : Net CO CI SO SI) (event : Event) (reply : Reply) (v : Net CO CI SO SI) → Placed f (jobs w) → Steps c s seals w event reply v → Goes f (jobs w) (jobs v)
   goes f w Take (Handed (Some job)) v p q = hand_goes f w v job q p
-  goes f w (Answer id result) Done v p q = answer_goes f w.server v.server id result q.0 p
+  goes f w (Answer id result) Done v p q = let t = one_less c s seals w.server id result v.server q.0 in ends_go f (jobs w) (jobs v) id t.0 (ap (λ (z : Server). z.jobs.last) t.2) t.1 p
   goes f w (EndStream id result) Done v p q = let t = q.0 in ends_go f (jobs w) (jobs v) id t.job (ap (λ (z : ServerCore SO SI). z.state.jobs.last) t.same) t.ends p
   goes f w (Recv (ServerEnd id)) (Item given) v p q =
       changed_goes f (jobs w) (jobs v) (ap (λ (z : ServerCore SO SI). z.state.jobs.last) q.0.same) (received w.server.state.rules w.server.connection.failure w.server.state id given v.server.state.jobs.list q.0.own) p

@@ -1,5 +1,5 @@
--- What a moment does to a server, one job after the other.
-use Rattle.ttrpc_world.proofs.Words.{[], ActiveJob, AsyncRules, ExpireAll, ExpiresOne, Failure, List, None, Option, Outbox, OutboundTransform, Rules, Server, ServerCore, ServerPasses, Some, subst, sym, SyncRules, ℕ, ◌∷◌}
+-- What a moment does to a server, one job after the other, and what an answer leaves of it.
+use Rattle.ttrpc_world.proofs.Words.{[], ActiveJob, Answers, AnswersBy, AnswersError, ap, AsyncRules, Bool, Drops, EndsOne, Err, Error, ExpireAll, ExpiresOne, Failure, Halves, inl, inr, List, None, Ok, Option, OutboundTransform, Outbox, refl, Response, Result, Rules, Server, ServerCore, ServerPasses, Some, subst, sym, SyncRules, ℕ, ◌∷◌, ◌≡◌, ◌⊎◌}
 
 -- Of a server's state and its outbox: what holds where nothing changes, and of a job that expires and what comes behind it, holds
 -- of all that a moment does.
@@ -13,3 +13,24 @@ module _ {O : Type 0} (out : OutboundTransform O) (P : Server → Outbox O → S
   passes_so AsyncRules None old now new t = expired_so t.expired old.state old.connection.outbox new.state new.connection.outbox t.expire
   passes_so AsyncRules (Some why) old now new same = subst (λ (x : ServerCore _ _). P old.state old.connection.outbox x.state x.connection.outbox) (sym same) (none old.state old.connection.outbox)
   passes_so SyncRules failure old now new same = subst (λ (x : ServerCore _ _). P old.state old.connection.outbox x.state x.connection.outbox) (sym same) (none old.state old.connection.outbox)
+
+-- WHAT AN ANSWER IS: a response was sent, or under sync rules none to an error, and the side fails.
+abbrev pub IsAnswered : {O I : Type 0} → OutboundTransform O → ServerCore O I → ℕ → Result Response Error → ServerCore O I → Type 0
+IsAnswered out old id result new = ((r : Response) × Answers out old id r new) ⊎ ((e : Error) × (result ≡ Err e) × Drops old id new)
+
+by_error : {O I : Type 0} (out : OutboundTransform O) (r : Rules) (old : ServerCore O I) (id : ℕ) (e : Error) (new : ServerCore O I) → AnswersError out r old id e new → IsAnswered out old id (Err e) new
+by_error out AsyncRules old id e new a = inl (a.0, a.2)
+by_error out SyncRules old id e new d = inr (e, refl, d)
+
+module _ {CO CI SO SI : Type 0} (c : Halves CO CI) (s : Halves SO SI) (seals : Bool) where
+  pub answered : (old : ServerCore SO SI) (id : ℕ) (result : Result Response Error) (new : ServerCore SO SI) → AnswersBy c s seals old id result new → IsAnswered s.out old id result new
+  answered old id (Ok r) new p = inl (r, p.1)
+  answered old id (Err e) new p = by_error s.out old.state.rules old id e new p
+
+  -- Either way there is one job less, and the rest of the state is the same.
+  pub one_less : (old : ServerCore SO SI) (id : ℕ) (result : Result Response Error) (new : ServerCore SO SI) → AnswersBy c s seals old id result new
+      → (job : ActiveJob) × EndsOne old.state.jobs.list id job new.state.jobs.list × (new.state ≡ record old.state { jobs = record old.state.jobs { list = new.state.jobs.list } })
+  one_less old id result new p = elim (answered old id result new p) [
+    | inl a ↦ (a.1.job, a.1.ends, ap (λ (x : ServerCore SO SI). x.state) a.1.same)
+    | inr d ↦ (d.2.job, d.2.ends, ap (λ (x : ServerCore SO SI). x.state) d.2.same)
+  ]
