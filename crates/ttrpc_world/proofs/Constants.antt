@@ -1,6 +1,6 @@
 -- What stays the same in a run: the server's rules, its services, and the limit of its outbound half.
-use Rattle.ttrpc_world.proofs.Serves.{answered, passes_so}
-use Rattle.ttrpc_world.proofs.Words.{[], ActiveJob, ActsAll, Answer, ap, arrives, Bool, Connection, Count, Cut, cut_to, Deliver, Does, Done, EndsStream, EndStream, Entry, Err, Error, Event, ExpiresOne, Halves, header_of_frame, Hears, Incoming, inl, inr, is_over, List, MESSAGE_LENGTH_MAX, MessageHeader, Net, None, Ok, Option, OutboundTransform, Outbox, PutIn, refl, Refused, Reply, Respond, Response, Result, Row, row_of, rules, rules_stay, Runs, safe_limit, Scene, scene, Send, SendsAll, Sent, Server, ServerCore, ServerEnd, ServerSide, serving, Some, Steps, taken_from, Tick, Ticket, ℕ, ◌-◌, ◌∙◌, ◌∷◌, ◌≡◌}
+use Rattle.ttrpc_world.proofs.Serves.{acts_so, answered, passes_so}
+use Rattle.ttrpc_world.proofs.Words.{[], ActiveJob, ActsAll, Answer, ap, Bool, Connection, Count, Cut, cut_to, Deliver, Does, Done, EndsStream, EndStream, Entry, Err, Error, Event, ExpiresOne, Halves, header_of_frame, Hears, Incoming, inl, inr, is_over, List, MESSAGE_LENGTH_MAX, MessageHeader, Net, None, Ok, Option, OutboundTransform, Outbox, PutIn, refl, Refused, Reply, Respond, Response, Result, Row, rules, rules_stay, Runs, safe_limit, Scene, scene, Send, SendsAll, Sent, Server, ServerCore, ServerEnd, ServerSide, serving, Some, Steps, taken_from, Tick, Ticket, ℕ, ◌-◌, ◌∙◌, ◌∷◌, ◌≡◌}
 use Rattle.ttrpc_world.proofs.OneWay.{as_heard}
 
 -- these stay, of a server's state and its outbox
@@ -35,17 +35,12 @@ module _ {CO CI SO SI : Type 0} (c : Halves CO CI) (s : Halves SO SI) (seals : B
   Stays old new = Constant s.out old.state old.connection.outbox new.state new.connection.outbox
 
   acted : (now : ℕ) (fs : List Incoming) (old new : Scene Server SO SI) → ActsAll (serving s.out s.in_) now old fs new → Constant s.out old.state old.outbox new.state new.outbox
-  acted now [] old new same = stays_same s.out (ap (λ (x : Scene Server SO SI). x.state) same) (ap (λ (x : Scene Server SO SI). x.outbox) same)
-  acted now (f ∷ fs) old new acts =
-      let mid = acts.0 in
-      let one = acts.1 in
-      let row = row_of old.state (arrives f one.opening now) in
-      let first : Constant s.out old.state old.outbox mid.state mid.outbox = record {
-        rules = rules_stay s.out row old.state old.outbox.half (header_of_frame f) now one.sent mid.state one.reacts;
-        services = services_stay s.out row old.state old.outbox.half (header_of_frame f) now one.sent mid.state one.reacts;
-        limit = limit_sent s.out fixed one.sent old.outbox mid.outbox one.sends;
-      } in
-      both first (acted now fs mid new acts.2)
+  acted now = acts_so (serving s.out s.in_) now (λ x y. Constant s.out x.state x.outbox y.state y.outbox) (λ x. stays_same s.out refl refl) (λ f fs x y a later.
+      both (record {
+        rules = rules_stay s.out _ x.state x.outbox.half (header_of_frame f) now a.1.sent a.0.state a.1.reacts;
+        services = services_stay s.out _ x.state x.outbox.half (header_of_frame f) now a.1.sent a.0.state a.1.reacts;
+        limit = limit_sent s.out fixed a.1.sent x.outbox a.0.outbox a.1.sends;
+      }) later)
 
   ended : (old : ServerCore SO SI) (id : ℕ) (result : Result (Option Response) Error) (new : ServerCore SO SI) → EndsStream s.out old id result new → safe_limit s.out new.connection.outbox.half ≡ safe_limit s.out old.connection.outbox.half
   ended old id (Ok None) new p = ap (λ n. MESSAGE_LENGTH_MAX - n) (fixed _ _ _ _ _ p.sends.2.seal)

@@ -5,7 +5,7 @@ use Rattle.ttrpc_world.proofs.Behind.{none_taken}
 use Rattle.ttrpc_world.proofs.Living.{heard_whole, never_over}
 use Rattle.ttrpc_world.proofs.Since.{IsKnown}
 use Rattle.ttrpc_world.proofs.Timed.{none_due}
-use Rattle.ttrpc_world.proofs.Serves.{answered, IsAnswered, passes_so}
+use Rattle.ttrpc_world.proofs.Serves.{acts_so, answered, IsAnswered, passes_so}
 use Rattle.ttrpc_world.proofs.Words.{[], ActsAll, after_report, Answer, ap, arith, Asked, AsyncRules, Began, Bool, Call, call_at, CallEvent, calling, Carry, ClientCore, ClientEnd, ClientSide, Close, ClosedUp, Connection, Count, DeadlineDuringWrite, Deliver, Done, due_at, EndedDown, EndsStream, EndStream, Entry, Err, Error, Event, Expired, expired_at, Failure, false, Flow, flow_of, Halves, HeardDown, HeardUp, if◌then◌else◌, Incoming, inl, inr, is_clean_event, is_clean_reply, is_call_due, is_over, IsOpen, IsQueue, Item, items, length, length-take, lent_of, List, min, Named, nat_eq, Net, never_empty, nil_parts, None, none_reported, none_thrown, Ok, only_if, open_part, OpenEvent, Option, OutboundTransform, Outbox, Passes, put_down, put_up, Queue, Queued, Recv, refl, Reply, Respond, Responds, Response, Result, Rules, rules, Scene, scene, Send, SendsAll, SendsOne, Sent, SentDown, SentUp, ServerCore, ServerEnd, ServerSide, serving, Settings, Some, some_of, Steps, StreamEnd, subst, sym, take, taken_back, taken_from, takes_bytes, throws, Tick, Ticket, true, Waiting, Ways, with_lent, with_payload, Word, ℕ, ◌++◌, ◌∙◌, ◌∷◌, ◌≡◌}
 
 -- NOTHING IS ON A WAY
@@ -38,8 +38,7 @@ responded out rs limit k r sent old new p sends e =
     sent_one out old _ _ one.0 one.1 (sym (ap (λ (x : Outbox _). x.queue.frames) one.2) ∙ e)
 
 acted : {S O I : Type 0} (w : Ways S O I) (now : ℕ) (fs : List Incoming) (old new : Scene S O I) → ActsAll w now old fs new → new.outbox.queue.frames ≡ [] → old.outbox.queue.frames ≡ []
-acted w now [] old new same e = sym (ap (λ (x : Scene _ _ _). x.outbox.queue.frames) same) ∙ e
-acted w now (f ∷ fs) old new p e = sent_all w.out p.1.sent old.outbox p.0.outbox p.1.sends (acted w now fs p.0 new p.2 e)
+acted w now = acts_so w now (λ x y. y.outbox.queue.frames ≡ [] → x.outbox.queue.frames ≡ []) (λ x e. e) (λ f fs x y a later e. sent_all w.out a.1.sent x.outbox a.0.outbox a.1.sends (later e))
 
 -- ---- a carry
 

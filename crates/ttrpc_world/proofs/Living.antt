@@ -1,8 +1,8 @@
 -- Both sides live at each place of a clean quiet run: no step clears a failure, and the last deliveries found none. No pipe was
 -- cut, and the server takes what comes.
 use Rattle.ttrpc_world.proofs.Failing.{lives_back}
-use Rattle.ttrpc_world.proofs.Serves.{one_less, passes_so}
-use Rattle.ttrpc_world.proofs.Words.{[], ActsAll, Answer, ap, AreClean, Bool, Carry, ClientCore, ClientSide, Connection, Count, Deliver, Done, Entry, Event, false, Halves, Hears, Incoming, inl, inr, is_clean_event, is_clean_reply, is_over, IsDrained, IsFresh, IsOpen, List, Lives, Net, None, not, other, Pipe, refl, Reply, Rules, rules, Runs, Scene, scene, Server, ServerCore, ServerSide, serving, Side, Steps, subst, sym, taken_from, Tick, true, ℕ, ◌++◌, ◌∙◌, ◌∷◌, ◌≡◌}
+use Rattle.ttrpc_world.proofs.Serves.{acts_so, one_less, passes_so}
+use Rattle.ttrpc_world.proofs.Words.{[], Answer, ap, AreClean, Bool, Carry, ClientCore, ClientSide, Connection, Count, Deliver, Done, Entry, Event, false, Halves, Hears, inl, inr, is_clean_event, is_clean_reply, is_over, IsDrained, IsFresh, IsOpen, List, Lives, Net, None, not, other, Pipe, refl, Reply, Rules, rules, Runs, scene, Server, ServerCore, ServerSide, serving, Side, Steps, subst, sym, taken_from, Tick, true, ℕ, ◌++◌, ◌∙◌, ◌∷◌, ◌≡◌}
 
 module _ {CO CI SO SI : Type 0} (c : Halves CO CI) (s : Halves SO SI) (seals : Bool) where
   -- who lives behind a run lived all along
@@ -12,16 +12,13 @@ module _ {CO CI SO SI : Type 0} (c : Halves CO CI) (s : Halves SO SI) (seals : B
 
   -- ---- pipes stay whole, and the server goes on taking
 
-  drains_acted : (now : ℕ) (fs : List Incoming) (old new : Scene Server SO SI) → ActsAll (serving s.out s.in_) now old fs new → not new.state.draining ≡ not old.state.draining
-  drains_acted now [] old new same = ap (λ (x : Scene Server SO SI). not x.state.draining) same
-  drains_acted now (f ∷ fs) old new acts = drains_acted now fs acts.0 new acts.2 ∙ acts.1.takes
-
   takes_stay : (w : Net CO CI SO SI) (event : Event) (reply : Reply) (v : Net CO CI SO SI) → is_clean_event event ≡ true → is_clean_reply reply ≡ true → Steps c s seals w event reply v → not v.server.state.draining ≡ not w.server.state.draining
   takes_stay w (Answer id result) Done v e r p = ap (λ (x : Server). not x.draining) (one_less c s seals w.server id result v.server p.0).2
   takes_stay w (Deliver ServerSide n) (Count k) v e r (inr p) = ap (λ (x : Net _ _ _ _). not x.server.state.draining) p.only
   takes_stay w (Tick now) Done v e r p =
       passes_so s.out (λ a x b y. not b.draining ≡ not a.draining) (λ a x. refl) (λ a b d x y z job e later. later ∙ ap (λ (t : Server). not t.draining) e.state) w.server.state.rules w.server.connection.failure w.server now v.server p.serves
-  takes_stay w (Deliver ServerSide n) (Count k) v e r (inl p) = drains_acted w.moment p.does.does.frames (scene w.server.state w.server.connection) (scene v.server.state p.does.mid) p.does.does.acts
+  takes_stay w (Deliver ServerSide n) (Count k) v e r (inl p) =
+      acts_so (serving s.out s.in_) w.moment (λ x y. not y.state.draining ≡ not x.state.draining) (λ x. refl) (λ f fs x y a later. later ∙ a.1.takes) p.does.does.frames (scene w.server.state w.server.connection) (scene v.server.state p.does.mid) p.does.does.acts
   takes_stay w event reply v e r p = first_of (cc, search rules)
 
   abbrev CutsStay : Net CO CI SO SI → Net CO CI SO SI → Type 0

@@ -2,8 +2,8 @@
 -- made rise, and so do the ids of the requests in flight, from above them to below the client's next. So no two jobs have
 -- the same stream.
 use Rattle.ttrpc_pair.proofs.Words.{unheard}
-use Rattle.ttrpc_world.proofs.Serves.{one_less, passes_so}
-use Rattle.ttrpc_world.proofs.Words.{[], ActiveJob, ActsAll, ActsOn, all_at, all_changed, all_in_front, all_less, AllByRecursion, Answer, ap, arith, arrives, AsyncRules, at_stays, Bool, brought_by, cases_lt, cases_order, changed_at, changed_under, ClientSide, cond-false, cond-true, Count, Deliver, Does, Done, DropReceiver, EndsOne, EndStream, Entry, eq-eqb, Error, Event, ExpiresOne, Failure, false, filter, Finish, Flying, flying_without, Halves, Handed, header_of_frame, id_of, if◌then◌else◌, Incoming, inl, inr, IsFresh, IsOneToOne, IsRightAt, IsStreamOf, Item, Job, JobList, last_id, left_behind, List, Mail, MakeJob, MakeStream, map, MESSAGE_TYPE_REQUEST, MessageHeader, nat_eq, ne_eqb, Net, new_job, None, on_mail, Option, OutboundTransform, Outbox, PutIn, ReceivesBy, Recv, refl, Refused, Reply, Result, Row, row_of, Rules, rules, Runs, Scene, scene, Sent, Server, ServerCore, ServerEnd, ServerSide, serving, Some, stays, StaysFound, Steps, stream_body, subst, sym, SyncRules, Take, Tick, true, unary_body, under_stays, with_server, without_payload, without_receiver, ℕ, ◌++◌, ◌+◌, ◌<◌, ◌∙◌, ◌∷◌, ◌≡◌, ◌≤◌}
+use Rattle.ttrpc_world.proofs.Serves.{acts_so, one_less, passes_so}
+use Rattle.ttrpc_world.proofs.Words.{[], ActiveJob, ActsAll, ActsOn, all_at, all_changed, all_in_front, all_less, AllByRecursion, Answer, ap, arith, AsyncRules, at_stays, Bool, brought_by, cases_lt, cases_order, changed_at, changed_under, ClientSide, cond-false, cond-true, Count, Deliver, Does, Done, DropReceiver, EndsOne, EndStream, Entry, eq-eqb, Error, Event, ExpiresOne, Failure, false, filter, Finish, Flying, flying_without, Halves, Handed, header_of_frame, id_of, if◌then◌else◌, Incoming, inl, inr, IsFresh, IsOneToOne, IsRightAt, IsStreamOf, Item, Job, JobList, last_id, left_behind, List, Mail, MakeJob, MakeStream, map, MESSAGE_TYPE_REQUEST, MessageHeader, nat_eq, ne_eqb, Net, new_job, None, on_mail, Option, OutboundTransform, Outbox, PutIn, ReceivesBy, Recv, refl, Refused, Reply, Result, Row, Rules, rules, Runs, Scene, scene, Sent, Server, ServerCore, ServerEnd, ServerSide, serving, Some, stays, StaysFound, Steps, stream_body, subst, sym, SyncRules, Take, Tick, true, unary_body, under_stays, with_server, without_payload, without_receiver, ℕ, ◌++◌, ◌+◌, ◌<◌, ◌∙◌, ◌∷◌, ◌≡◌, ◌≤◌}
 
 -- ---- streams that rise
 
@@ -154,13 +154,10 @@ stay_placed f old new last below p = record {
 same_placed : (f : ℕ → ℕ) (old new : JobList) → new ≡ old → Placed f old → Goes f old new
 same_placed f old new same p = subst (λ (js : JobList). Goes f old js) (sym same) (stay_placed f old old refl p.below p)
 
-then_goes : (f : ℕ → ℕ) (a b c : JobList) → (one : Goes f a b) → Goes one.g b c → Goes f a c
-then_goes f a b c one two = record {
-  g = two.g;
-  agrees = λ j h. two.agrees j (omega (arith, h, one.more)) ∙ one.agrees j h;
-  more = omega (arith, one.more, two.more);
-  placed = two.placed;
-}
+then_goes : (f : ℕ → ℕ) (a b c : JobList) → Goes f a b → ((g : ℕ → ℕ) → Placed g b → Goes g b c) → Goes f a c
+then_goes f a b c one later =
+    let two = later one.g one.placed in
+    record { g = two.g; agrees = λ j h. two.agrees j (omega (arith, h, one.more)) ∙ one.agrees j h; more = omega (arith, one.more, two.more); placed = two.placed }
 
 -- one more job
 abbrev moved : (ℕ → ℕ) → ℕ → ℕ → ℕ → ℕ
@@ -238,17 +235,13 @@ changed_goes f old new last c p = stay_placed f old new last (subst (λ (js : Li
 expires_go : {O : Type 0} (out : OutboundTransform O) (old mid new : Server) (from between to : Outbox O) (job : ActiveJob) → ExpiresOne out old from job mid between → ((f : ℕ → ℕ) → Placed f mid.jobs → Goes f mid.jobs new.jobs) → (f : ℕ → ℕ) → Placed f old.jobs → Goes f old.jobs new.jobs
 expires_go out old mid new from between to job e later f p =
     let list : mid.jobs.list ≡ e.at.front ++ e.at.back = ap (λ (t : Server). t.jobs.list) e.state in
-    let first = stay_placed f old.jobs mid.jobs (ap (λ (t : Server). t.jobs.last) e.state)
-    (subst (λ (xs : List ActiveJob). AreBelow f old.jobs.last xs) (sym list) (all_less (IsPlaced f old.jobs.last) e.at.front e.at.back job (subst (λ (xs : List ActiveJob). AreBelow f old.jobs.last xs) e.at.is p.below))) p in
-    then_goes f old.jobs mid.jobs new.jobs first (later first.g first.placed)
+    then_goes f old.jobs mid.jobs new.jobs (stay_placed f old.jobs mid.jobs (ap (λ (t : Server). t.jobs.last) e.state)
+    (subst (λ (xs : List ActiveJob). AreBelow f old.jobs.last xs) (sym list) (all_less (IsPlaced f old.jobs.last) e.at.front e.at.back job (subst (λ (xs : List ActiveJob). AreBelow f old.jobs.last xs) e.at.is p.below))) p) later
 
-acts_go : {O I : Type 0} (h : Halves O I) (f : ℕ → ℕ) (now : ℕ) (fs : List Incoming) (old new : Scene Server O I) → ActsAll (serving h.out h.in_) now old fs new
-    → Placed f old.state.jobs → Goes f old.state.jobs new.state.jobs
-acts_go h f now [] old new a p = same_placed f old.state.jobs new.state.jobs (ap (λ (x : Scene Server _ _). x.state.jobs) a) p
-acts_go h f now (x ∷ fs) old new a p =
-    let one = a.1 in
-    let first = does_goes h.out f (row_of old.state (arrives x one.opening now)) old.state old.outbox.half (header_of_frame x) now one.sent a.0.state one.reacts p in
-    then_goes f old.state.jobs a.0.state.jobs new.state.jobs first (acts_go h first.g now fs a.0 new a.2 first.placed)
+acts_go : {O I : Type 0} (h : Halves O I) (f : ℕ → ℕ) (now : ℕ) (fs : List Incoming) (old new : Scene Server O I) → ActsAll (serving h.out h.in_) now old fs new → Placed f old.state.jobs → Goes f old.state.jobs new.state.jobs
+acts_go h f now fs old new a =
+    acts_so (serving h.out h.in_) now (λ x y. (g : ℕ → ℕ) → Placed g x.state.jobs → Goes g x.state.jobs y.state.jobs) (λ x g p. same_placed g x.state.jobs x.state.jobs refl p)
+    (λ i is x y b later g p. then_goes g x.state.jobs b.0.state.jobs y.state.jobs (does_goes h.out g _ x.state x.outbox.half (header_of_frame i) now b.1.sent b.0.state b.1.reacts p) later) fs old new a f
 
 ends_go : (f : ℕ → ℕ) (old new : JobList) (id : ℕ) (job : ActiveJob) → new.last ≡ old.last → EndsOne old.list id job new.list → Placed f old → Goes f old new
 ends_go f old new id job last t p =

@@ -1,5 +1,12 @@
--- What a moment does to a server, one job after the other, and what an answer leaves of it.
-use Rattle.ttrpc_world.proofs.Words.{[], ActiveJob, Answers, AnswersBy, AnswersError, ap, AsyncRules, Bool, Drops, EndsOne, Err, Error, ExpireAll, ExpiresOne, Failure, Halves, inl, inr, List, None, Ok, Option, OutboundTransform, Outbox, refl, Response, Result, Rules, Server, ServerCore, ServerPasses, Some, subst, sym, SyncRules, ℕ, ◌∷◌, ◌≡◌, ◌⊎◌}
+-- What frames do that come to a side, one after the other, what a moment does to a server, one job after the other, and what an
+-- answer leaves of it.
+use Rattle.ttrpc_world.proofs.Words.{[], ActiveJob, ActsAll, Answers, AnswersBy, AnswersError, ap, AsyncRules, Bool, Drops, EndsOne, Err, Error, ExpireAll, ExpiresOne, Failure, Halves, Incoming, inl, inr, List, None, Ok, Option, OutboundTransform, Outbox, refl, Response, Result, Rules, Scene, Server, ServerCore, ServerPasses, Some, subst, sym, SyncRules, Ways, ℕ, ◌∷◌, ◌≡◌, ◌⊎◌}
+
+-- What holds where nothing changes, and of a frame that acts and what comes behind it, holds of all frames that come.
+pub acts_so : {S O I : Type 0} (w : Ways S O I) (now : ℕ) (P : Scene S O I → Scene S O I → Type 0) → ((x : Scene S O I) → P x x)
+    → ((f : Incoming) (fs : List Incoming) (old new : Scene S O I) → (a : ActsAll w now old (f ∷ fs) new) → P a.0 new → P old new) → (fs : List Incoming) (old new : Scene S O I) → ActsAll w now old fs new → P old new
+acts_so w now P none one [] old new same = subst (P old) (sym same) (none old)
+acts_so w now P none one (f ∷ fs) old new a = one f fs old new a (acts_so w now P none one fs a.0 new a.2)
 
 -- Of a server's state and its outbox: what holds where nothing changes, and of a job that expires and what comes behind it, holds
 -- of all that a moment does.

@@ -1,6 +1,7 @@
 -- A call that waits has the deadline of its call in the trace. So a moment that reaches no deadline finds none due, and changes
 -- nothing at the client.
 use Rattle.ttrpc_world.proofs.Keeps.{Keeps}
+use Rattle.ttrpc_world.proofs.Serves.{acts_so}
 use Rattle.ttrpc_world.proofs.Words.{[], Act, act_of, acts, ActsAll, ap, append_assoc, arith, arrives, AtClient, Bool, Born, ByCall, ByOpen, Call, call_at, Called, CallEvent, calling, calls, calls_append, cases_eq, Client, ClientCore, ClientSide, Count, deadline_of, Deliver, Done, Ended, Entry, eq-eqb, Event, Expired, expired_at, Failure, false, Given, Halves, if◌then◌else◌, Incoming, inl, inr, is_clean_event, is_clean_reply, is_call_due, is_none_of, is_some, IsFresh, IsInTime, IsPatient, Landing, landing_of, LandsOn, left_of, List, moment_after, moment_behind, Named, negsuc, Net, None, number_of, only_if, only_one, Option, or_parts, Origin, Outcome, outcomes, Passes, pos, reaches, reaches_at, reaches_one, refl, Refused, Reply, Request, rules, said_then, Scene, scene, ServerSide, Settings, Some, Steps, Stream, subst, suc, sym, Tick, true, Unborn, Waiting, with_entry, zero, ℕ, ℤ, ◌&&◌, ◌++◌, ◌+◌, ◌∙◌, ◌∷◌, ◌≡◌, ◌≢◌, ◌≤◌, ◌⊎◌}
 
 -- this is the call of an id, made at such a moment, and this is its deadline
@@ -145,16 +146,14 @@ module _ {CO CI SO SI : Type 0} (c : Halves CO CI) (s : Halves SO SI) (seals : B
 
 module _ {CO CI SO SI : Type 0} (c : Halves CO CI) (s : Halves SO SI) (seals : Bool) where
   acted_waits : (fs : List Incoming) (old new : Scene Client CO CI) (k : ℕ) (d : Option ℕ) → ActsAll (calling c.out c.in_) 0 old fs new → call_at new.state k ≡ Some (Waiting d) → call_at old.state k ≡ Some (Waiting d)
-  acted_waits [] old new k d same h = sym (ap (λ (x : Scene Client CO CI). call_at x.state k) same) ∙ h
-  acted_waits (f ∷ fs) old new k d acts h =
-      let mid = acted_waits fs acts.0 new k d acts.2 h in
+  acted_waits fs old new k d = acts_so (calling c.out c.in_) 0 (λ x y. call_at y.state k ≡ Some (Waiting d) → call_at x.state k ≡ Some (Waiting d)) (λ x h. h) (λ f fs x y acts later h.
       let l = acts.1.reacts.lands in
       let a = arrives f acts.1.opening 0 in
       let landing : Landing = landing_of a.header a.opening in
       elim (cases_eq a.header.stream_id k) [
-        | inl e ↦ landed_waits landing (call_at old.state k) (call_at acts.0.state k) d (subst (λ (i : ℕ). LandsOn landing (call_at old.state i) (call_at acts.0.state i)) e l.own) mid
-        | inr e ↦ sym (l.others k (λ same. e (sym same))) ∙ mid
-      ]
+        | inl e ↦ landed_waits landing (call_at x.state k) (call_at acts.0.state k) d (subst (λ (i : ℕ). LandsOn landing (call_at x.state i) (call_at acts.0.state i)) e l.own) (later h)
+        | inr e ↦ sym (l.others k (λ same. e (sym same))) ∙ later h
+      ]) fs old new
 
   made_call : (k : ℕ) (d : Option ℕ) (moment : ℕ) (event : Event) (reply : Reply) → Makes (λ (e : Option Call). e ≡ Some (Waiting d)) k moment event reply → IsCallOf k d moment event reply
   made_call k d moment (CallEvent request) (Named id) made =
