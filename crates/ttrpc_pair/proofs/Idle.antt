@@ -1,6 +1,6 @@
 -- What is idle: a piece of no bytes makes no frame whole, a queue that has no byte to lend has no frame, and where no byte is
--- reported and no request is thrown away the frames stay.
-use Rattle.std.proofs.Common.{◌≡◌, ◌++◌, ◌∷◌, ◌∙◌, ◌+◌, ◌-◌, ◌&&◌, not, ap, arith, sym, List, [], ℕ, append-nil, refl, length, drop, take, take-append-drop, nat_lt, Bool, true, false}
+-- reported the frames stay.
+use Rattle.std.proofs.Common.{◌≡◌, ◌++◌, ◌∷◌, ◌∙◌, ◌+◌, ◌-◌, arith, sym, List, [], ℕ, append-nil, refl, length, drop, nat_lt, Bool, true}
 use Rattle.std.proofs.lemmas.Bool.{lt-ltb}
 use Rattle.std.proofs.lemmas.List.{length-drop}
 use Rattle.ttrpc_proto.proofs.Pieces.{no_frame}
@@ -10,7 +10,7 @@ pub use Rattle.ttrpc_world_trace.proofs.Bytes.{all_has_come}
 pub use Rattle.ttrpc_proto.specs.Framing.Frames.{Fed}
 pub use Rattle.ttrpc_proto.specs.Framing.Queue.{IsQueue}
 use Rattle.ttrpc_proto.specs.Framing.Frames.{Held, Holds}
-use Rattle.ttrpc_proto.specs.Framing.Queue.{after_report, begun_count, first_open, frames_without, IsWithin, open_part, Queue, report_first, with_lent, without, written}
+use Rattle.ttrpc_proto.specs.Framing.Queue.{after_report, first_open, IsWithin, open_part, Queue, report_first, with_lent, written}
 
 pub no_frames_come : (held new : Held) (before : List ℕ) (frames : List Incoming) → Holds held before → Fed held [] frames new → frames ≡ []
 no_frames_come held new before [] holds fed = refl
@@ -35,15 +35,3 @@ report_none (f ∷ fs) n k begun sent within e = let less : nat_lt (n + k) (leng
 -- no byte was reported
 pub none_reported : (q : Queue) (k : ℕ) → IsQueue q → k ≡ 0 → (after_report (with_lent q k) k).frames ≡ q.frames
 none_reported q k is e = report_none q.frames q.reported k (with_lent q k).begun q.sent is.within e
-
-no_request : (unary owned : Bool) → owned ≡ false → not (unary && owned) ≡ true
-no_request true owned e = rw e refl
-no_request false owned e = refl
-
-all_left : (owners : ℕ → Bool) → ((k : ℕ) → owners k ≡ false) → (frames : List Queued) → frames_without owners frames ≡ frames
-all_left owners none [] = refl
-all_left owners none (f ∷ fs) = rw (no_request f.is_unary_request (owners f.owner) (none f.owner)) (ap (λ (xs : List Queued). f ∷ xs) (all_left owners none fs))
-
--- no request was thrown away
-pub none_thrown : (q : Queue) (owners : ℕ → Bool) → ((k : ℕ) → owners k ≡ false) → (without q owners).frames ≡ q.frames
-none_thrown q owners none = ap (λ (xs : List Queued). take (begun_count q) q.frames ++ xs) (all_left owners none (drop (begun_count q) q.frames)) ∙ take-append-drop (begun_count q) q.frames

@@ -6,7 +6,7 @@ use Rattle.ttrpc_world.proofs.Living.{heard_whole, never_over}
 use Rattle.ttrpc_world.proofs.Since.{IsKnown}
 use Rattle.ttrpc_world.proofs.Timed.{none_due}
 use Rattle.ttrpc_world.proofs.Serves.{acts_so, answered, IsAnswered, passes_so}
-use Rattle.ttrpc_world.proofs.Words.{[], ActsAll, after_report, Answer, ap, arith, Asked, AsyncRules, Began, Bool, Call, call_at, CallEvent, calling, Carry, ClientCore, ClientEnd, ClientSide, Close, ClosedUp, Connection, Count, DeadlineDuringWrite, Deliver, Done, due_at, EndedDown, EndsStream, EndStream, Entry, Err, Error, Event, Expired, expired_at, Failure, false, Flow, flow_of, Halves, HeardDown, HeardUp, if◌then◌else◌, Incoming, inl, inr, is_clean_event, is_clean_reply, is_call_due, is_over, IsOpen, IsQueue, Item, items, length, length-take, lent_of, List, min, Named, nat_eq, Net, never_empty, nil_parts, None, none_reported, none_thrown, Ok, only_if, open_part, OpenEvent, Option, OutboundTransform, Outbox, Passes, put_down, put_up, Queue, Queued, Recv, refl, Reply, Respond, Responds, Response, Result, Rules, rules, Scene, scene, Send, SendsAll, SendsOne, Sent, SentDown, SentUp, ServerCore, ServerEnd, ServerSide, serving, Settings, Some, some_of, Steps, StreamEnd, subst, sym, take, taken_back, taken_from, takes_bytes, throws, Tick, Ticket, true, Waiting, Ways, with_lent, with_payload, Word, ℕ, ◌++◌, ◌∙◌, ◌∷◌, ◌≡◌}
+use Rattle.ttrpc_world.proofs.Words.{[], ActsAll, after_report, Answer, ap, arith, Asked, AsyncRules, Began, Bool, call_at, CallEvent, calling, Carry, ClientCore, ClientEnd, ClientSide, Close, ClosedUp, Connection, Count, DeadlineDuringWrite, Deliver, Done, due_at, EndedDown, EndsStream, EndStream, Entry, Err, Error, Event, Failure, false, Flow, flow_of, fun_ext, Halves, HeardDown, HeardUp, if◌then◌else◌, Incoming, inl, inr, is_clean_event, is_clean_reply, is_over, IsOpen, IsQueue, Item, items, length, length-take, lent_of, List, min, Named, nat_eq, Net, never_empty, nil_parts, None, none_reported, nothing_due, Ok, only_if, open_part, OpenEvent, Option, OutboundTransform, Outbox, Passes, put_down, put_up, Queue, Queued, Recv, refl, Reply, Respond, Responds, Response, Result, Rules, rules, Scene, scene, Send, SendsAll, SendsOne, Sent, SentDown, SentUp, ServerCore, ServerEnd, ServerSide, serving, Settings, Some, some_of, Steps, StreamEnd, subst, sym, take, taken_back, taken_from, takes_bytes, throws, Tick, Ticket, true, Ways, with_lent, with_payload, Word, ℕ, ◌++◌, ◌∙◌, ◌∷◌, ◌≡◌}
 
 -- NOTHING IS ON A WAY
 pub record IsIdle (queued : List Queued) (pipe : List ℕ) : Type 0 where
@@ -55,20 +55,6 @@ carried failure false q pipe n k alive whole is e i =
     let none : k ≡ 0 = none_moved (open_part q) k n (lent_alive failure n k q alive e) parts.1 in
     record { none_queued = sym (none_reported q k is none) ∙ i.none_queued; none_carried = parts.0 }
 
--- ---- a moment
-
-due_not : (now : ℕ) (e : Option Call) → expired_at now e ≡ e → due_at now e ≡ false
-due_not now (Some (Waiting d)) h = by (is_call_due now (Waiting d)) h
-  where
-    by : (b : Bool) → Some (if b then Expired else Waiting d) ≡ Some (Waiting d) → b ≡ false
-    by false same = refl
-    by true same = cc
-due_not now e h = refl
-
-back_taken : {O I : Type 0} (b : Bool) (c : Connection O I) (ids : ℕ → Bool) (why : Failure) → ((k : ℕ) → ids k ≡ false) → (if b then taken_back c ids why else c).outbox.queue.frames ≡ c.outbox.queue.frames
-back_taken true c ids why none = none_thrown c.outbox.queue ids none
-back_taken false c ids why none = refl
-
 -- ---- what happened puts in no item
 
 nothing_put : (says : List Flow → List (List ℕ)) (b : Bool) (x : Flow) → says [] ≡ [] → says (x ∷ []) ≡ [] → says (only_if b x) ≡ []
@@ -90,11 +76,12 @@ module _ {CO CI SO SI : Type 0} (c : Halves CO CI) (s : Halves SO SI) (seals : B
   heard_none says none up down (ClientEnd id) (Some word) k = nothing_put says (nat_eq id k) (HeardDown word) none (down word)
   heard_none says none up down (ServerEnd id) (Some word) k = nothing_put says (nat_eq (f id) k) (HeardUp word) none (up word)
 
-  ticked_up : (failure : Option Failure) (old : ClientCore CO CI) (now : ℕ) (new : ClientCore CO CI) → ((k : ℕ) → expired_at now (call_at old.state k) ≡ call_at old.state k) → Passes seals failure old now new
+  -- where no call is due a moment does what it does where there is no call
+  ticked_up : (failure : Option Failure) (old : ClientCore CO CI) (now : ℕ) (new : ClientCore CO CI) → ((k : ℕ) → due_at now (call_at old.state k) ≡ false) → Passes seals failure old now new
       → new.connection.outbox.queue.frames ≡ old.connection.outbox.queue.frames
   ticked_up None old now new none p =
-      ap (λ (x : Connection CO CI). x.outbox.queue.frames) p.connection
-      ∙ back_taken (throws old.state.kind seals) old.connection (λ k. due_at now (call_at old.state k)) DeadlineDuringWrite (λ k. due_not now (call_at old.state k) (none k))
+      let none_called = (nothing_due seals (record old { state = record old.state { calls = [] } }) now refl).connection in
+      ap (λ (x : Connection CO CI). x.outbox.queue.frames) (p.connection ∙ ap (λ ids. if throws old.state.kind seals then taken_back old.connection ids DeadlineDuringWrite else old.connection) (fun_ext none) ∙ sym none_called)
   ticked_up (Some why) old now new none same = ap (λ (x : ClientCore CO CI). x.connection.outbox.queue.frames) same
 
   delivered_up : (w v : Net CO CI SO SI) (n k : ℕ) → IsOpen w → Steps c s seals w (Deliver ServerSide n) (Count k) v → v.server.connection.outbox.queue.frames ≡ [] → w.server.connection.outbox.queue.frames ≡ []

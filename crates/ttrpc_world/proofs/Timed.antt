@@ -2,7 +2,7 @@
 -- nothing at the client.
 use Rattle.ttrpc_world.proofs.Keeps.{Keeps}
 use Rattle.ttrpc_world.proofs.Serves.{acts_so}
-use Rattle.ttrpc_world.proofs.Words.{[], Act, act_of, acts, ActsAll, ap, append_assoc, arith, arrives, AtClient, Bool, Born, ByCall, ByOpen, Call, call_at, Called, CallEvent, calling, calls, calls_append, cases_eq, Client, ClientCore, ClientSide, Count, deadline_of, Deliver, Done, Ended, Entry, eq-eqb, Event, Expired, expired_at, Failure, false, Given, Halves, if◌then◌else◌, Incoming, inl, inr, is_clean_event, is_clean_reply, is_call_due, is_none_of, is_some, IsFresh, IsInTime, IsPatient, Landing, landing_of, LandsOn, left_of, List, moment_after, moment_behind, Named, negsuc, Net, None, number_of, only_if, only_one, Option, or_parts, Origin, Outcome, outcomes, Passes, pos, reaches, reaches_at, reaches_one, refl, Refused, Reply, Request, rules, said_then, Scene, scene, ServerSide, Settings, Some, Steps, Stream, subst, suc, sym, Tick, true, Unborn, Waiting, with_entry, zero, ℕ, ℤ, ◌&&◌, ◌++◌, ◌+◌, ◌∙◌, ◌∷◌, ◌≡◌, ◌≢◌, ◌≤◌, ◌⊎◌}
+use Rattle.ttrpc_world.proofs.Words.{[], Act, act_of, acts, ActsAll, ap, append_assoc, arith, arrives, AtClient, Bool, Born, ByCall, ByOpen, Call, call_at, Called, CallEvent, calling, calls, calls_append, cases_eq, Client, ClientCore, ClientSide, Count, deadline_of, Deliver, Done, due_at, Ended, Entry, eq-eqb, Event, Expired, expired_at, Failure, false, Given, Halves, if◌then◌else◌, Incoming, inl, inr, is_call_due, is_clean_event, is_clean_reply, is_none_of, is_some, IsFresh, IsInTime, IsPatient, Landing, landing_of, LandsOn, left_of, List, moment_after, moment_behind, Named, negsuc, Net, None, number_of, only_if, only_one, Option, or_parts, Origin, Outcome, outcomes, Passes, pos, reaches, reaches_at, reaches_one, refl, Refused, Reply, Request, rules, said_then, Scene, scene, ServerSide, Settings, Some, Steps, Stream, subst, suc, sym, Tick, true, Unborn, Waiting, with_entry, zero, ℕ, ℤ, ◌&&◌, ◌++◌, ◌+◌, ◌∙◌, ◌∷◌, ◌≡◌, ◌≢◌, ◌≤◌, ◌⊎◌}
 
 -- this is the call of an id, made at such a moment, and this is its deadline
 abbrev pub IsCallOf : ℕ → Option ℕ → ℕ → Event → Reply → Type 0
@@ -220,16 +220,16 @@ module _ {CO CI SO SI : Type 0} (c : Halves CO CI) (s : Halves SO SI) (seals : B
   due_reaches now None = refl
   due_reaches now (Some at) = refl
 
-  -- what isn't due stays
-  undue : (now : ℕ) (e : Option Call) → ((d : Option ℕ) → e ≡ Some (Waiting d) → reaches now d ≡ false) → expired_at now e ≡ e
-  undue now (Some (Waiting d)) h = ap (λ (b : Bool). Some (if b then Expired else Waiting d)) (due_reaches now d ∙ h d refl)
+  -- what is reached by no moment isn't due
+  undue : (now : ℕ) (e : Option Call) → ((d : Option ℕ) → e ≡ Some (Waiting d) → reaches now d ≡ false) → due_at now e ≡ false
+  undue now (Some (Waiting d)) h = due_reaches now d ∙ h d refl
   undue now e h = refl
 
   -- A CLEAN MOMENT REACHES NO DEADLINE of a call that waits, so it finds none due.
   pub none_reached : (set : Settings) (f : ℕ → ℕ) (t : List Entry) (w : Net CO CI SO SI) (now : ℕ) → Keeps c s set f t w → IsTimed t w → IsInTime f t (Tick now) Done → (k : ℕ) (d : Option ℕ) → call_at w.client.state k ≡ Some (Waiting d) → reaches now d ≡ false
   none_reached set f t w now i h clean k d waits = in_time f t now 0 k d t (h.calls k d waits) (waits_ungiven k (i.stories k).origin _ _ _ d (i.stories k).known.client waits) clean
 
-  pub none_due : (set : Settings) (f : ℕ → ℕ) (t : List Entry) (w : Net CO CI SO SI) (now : ℕ) → Keeps c s set f t w → IsTimed t w → IsInTime f t (Tick now) Done → (k : ℕ) → expired_at now (call_at w.client.state k) ≡ call_at w.client.state k
+  pub none_due : (set : Settings) (f : ℕ → ℕ) (t : List Entry) (w : Net CO CI SO SI) (now : ℕ) → Keeps c s set f t w → IsTimed t w → IsInTime f t (Tick now) Done → (k : ℕ) → due_at now (call_at w.client.state k) ≡ false
   none_due set f t w now i h clean k = undue now (call_at w.client.state k) (none_reached set f t w now i h clean k)
 
 pub fresh_timed : {CO CI SO SI : Type 0} (c : Halves CO CI) (s : Halves SO SI) (seals : Bool) (w : Net CO CI SO SI) → IsFresh c s w → IsTimed c s seals [] w
