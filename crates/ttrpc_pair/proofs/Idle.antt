@@ -1,6 +1,6 @@
 -- What is idle: a piece of no bytes makes no frame whole, a queue that has no byte to lend has no frame, and where no byte is
 -- reported the frames stay.
-use Rattle.std.proofs.Common.{◌≡◌, ◌++◌, ◌∷◌, ◌∙◌, ◌+◌, ◌-◌, arith, sym, List, [], ℕ, append-nil, refl, length, drop, nat_lt, Bool, true}
+use Rattle.std.proofs.Common.{◌≡◌, ◌∷◌, ◌∙◌, ◌+◌, ◌-◌, arith, sym, List, [], ℕ, append-nil, refl, length, drop, nat_lt, Bool, true}
 use Rattle.std.proofs.lemmas.Bool.{lt-ltb}
 use Rattle.std.proofs.lemmas.List.{length-drop}
 use Rattle.ttrpc_proto.proofs.Pieces.{no_frame}
