@@ -25,9 +25,6 @@ none_open (f ∷ fs) n within e = absurd (let long : length (drop n (written f.m
 pub none_to_lend : (q : Queue) → IsQueue q → length (open_part q) ≡ 0 → q.frames ≡ []
 none_to_lend q is e = none_open q.frames q.reported is.within e
 
-pub still_none : (q : Queue) → q.frames ≡ [] → (after_report (with_lent q 0) 0).frames ≡ []
-still_none q e = rw e refl
-
 report_none : (frames : List Queued) (n k : ℕ) (begun : Bool) (sent : ℕ) → IsWithin frames n → k ≡ 0 → (report_first frames (n + k) begun sent).frames ≡ frames
 report_none [] n k begun sent within e = refl
 report_none (f ∷ fs) n k begun sent within e = let less : nat_lt (n + k) (length (written f.message)) ≡ true = lt-ltb (n + k) (length (written f.message)) (omega (arith, within, e)) in rw less refl

@@ -1,11 +1,11 @@
 -- What holds behind the last bytes that a side took: where a call's outcome was asked for, none is kept; and where no job waited,
 -- none does.
-use Rattle.ttrpc_world.proofs.Ending.{idle_down, idle_up}
+use Rattle.ttrpc_world.proofs.Ending.{idle}
 use Rattle.ttrpc_world.proofs.Keeps.{Keeps}
 use Rattle.ttrpc_world.proofs.Numbers.{received}
 use Rattle.ttrpc_world.proofs.Timed.{called_back, expired_is, Makes}
 use Rattle.ttrpc_world.proofs.Serves.{one_less, passes_so}
-use Rattle.ttrpc_world.proofs.Words.{[], ActiveJob, all_at, all_less, Answer, ap, arith, asks_outcome, Bool, Call, call_at, CallEvent, Client, ClientSide, Count, deadline_of, Deliver, Done, Ended, EndsOne, EndStream, Entry, eqb-true, Error, Event, false, Finish, Given, Halves, Handed, inl, inr, is_clean_event, is_clean_reply, is_some, IsOpen, Item, JobList, left_of, List, Lives, ltb-false, map, Named, nat_lt, Net, None, NoneWaits, Option, Outcome, Recv, Reply, Response, Result, rules, Server, ServerEnd, ServerSide, Settings, Some, StaysFound, Steps, subst, sym, Take, takes_bytes, takes_nothing, Tick, true, Waiting, ℕ, ◌∙◌, ◌∷◌, ◌≡◌, ◌≤◌}
+use Rattle.ttrpc_world.proofs.Words.{[], ActiveJob, all_at, all_less, Answer, ap, arith, asks_outcome, Bool, Call, call_at, CallEvent, ClientSide, Count, deadline_of, Deliver, Done, Ended, EndsOne, EndStream, Entry, eqb-true, Error, Event, false, Finish, Given, Halves, Handed, inl, inr, is_clean_event, is_clean_reply, is_some, IsOpen, Item, JobList, left_of, List, Lives, ltb-false, map, Named, nat_lt, Net, None, NoneWaits, Option, Outcome, Recv, Reply, Response, Result, rules, Server, ServerEnd, ServerSide, Settings, Some, StaysFound, Steps, subst, sym, Take, takes_bytes, takes_nothing, Tick, true, Waiting, ℕ, ◌∙◌, ◌∷◌, ◌≡◌, ◌≤◌}
 
 pub none_taken : (k : ℕ) → nat_lt 0 k ≡ false → k ≡ 0
 none_taken k h = let le : k ≤ 0 = ltb-false 0 k h in omega (arith, le)
@@ -28,7 +28,7 @@ module _ {CO CI SO SI : Type 0} (c : Halves CO CI) (s : Halves SO SI) (seals : B
       elim (called_back c s seals (λ (x : Option Call). x ≡ Some (Ended o)) (λ failed x y. absurd (left_none failed x o y)) (λ now x. expired_is now x (Ended o) (λ same. cc)) w event reply v k e r
       (λ n j is count q g.
       let none : takes_bytes ClientSide (Deliver ClientSide n) (Count j) ≡ false = subst (λ (y : Reply). takes_bytes ClientSide (Deliver ClientSide n) y ≡ false) count (subst (λ (x : Event). takes_bytes ClientSide x reply ≡ false) is z) in
-      sym (ap (λ (x : Client). call_at x k) (idle_down c s seals set f t w v n j i u (none_taken j none) q).0) ∙ g) p h) [
+      sym (ap (λ x. call_at x.0.state k) (idle c s seals set f ClientSide t w v n j i u (none_taken j none) q)) ∙ g) p h) [
         | inl was ↦ was
         | inr made ↦ absurd (never_made k o w.moment event reply made)
       ]
@@ -70,7 +70,7 @@ module _ {CO CI SO SI : Type 0} (c : Halves CO CI) (s : Halves SO SI) (seals : B
       passes_so s.out (λ a x b y. NoneWaits a.jobs.list → NoneWaits b.jobs.list) (λ a x none. none) (λ a b d x y z job one later none.
       later (subst (λ (t : Server). NoneWaits t.jobs.list) (sym one.state) (all_less (λ (j : ActiveJob). j.request ≡ None) one.at.front one.at.back job (subst NoneWaits one.at.is none))))
       w.server.state.rules w.server.connection.failure w.server now v.server p.serves h
-  idle_still set f t w (Deliver ServerSide n) (Count k) v i u e r z p h = same_idle w v (ap (λ (x : Server). x.jobs) (idle_up c s seals set f t w v n k i u (none_taken k z) p).0) h
+  idle_still set f t w (Deliver ServerSide n) (Count k) v i u e r z p h = same_idle w v (ap (λ x. x.1.state.jobs) (idle c s seals set f ServerSide t w v n k i u (none_taken k z) p)) h
   idle_still set f t w event reply v i u e r z p h = let same : v.server.state.jobs ≡ w.server.state.jobs = first_of (cc, search rules) in same_idle w v same h
 
   -- Where none was found, none waits.

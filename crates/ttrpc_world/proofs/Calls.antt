@@ -1,7 +1,7 @@
 -- EACH CALL OF A CLEAN QUIET RUN IS WHOLE, if it names a method of the server and was asked for.
 use Rattle.ttrpc_world.proofs.Behind.{idle_still, kept_before, none_kept, none_waits}
 use Rattle.ttrpc_world.proofs.Cleanly.{fresh_run}
-use Rattle.ttrpc_world.proofs.Ending.{empty_at_end, none_down, none_up}
+use Rattle.ttrpc_world.proofs.Ending.{empty_at_end, none_flies}
 use Rattle.ttrpc_world.proofs.Delivers.{around}
 use Rattle.ttrpc_world.proofs.Sentences.{begins, kept_at_end, Stands}
 use Rattle.ttrpc_world.proofs.Living.{stay_open}
@@ -156,7 +156,7 @@ module _ {CO CI SO SI : Type 0} (c : Halves CO CI) (s : Halves SO SI) (seals : B
       let place = i.stories k in
       let known = subst (λ (o : Origin). Known (around set (has_response v) v.client.state.next) k (here_at f trace i.up i.down v.server.state.jobs.list v.client.state k) o place.so_far) (called_by place.origin place.so_far q place.known one) place.known in
       whole_of q place.so_far known clean method
-      (ap (parcels k) (none_up c s seals still fixed set f trace v i z.lives whole empty.up_queue empty.up)) (ap (parcels k) (none_down c s seals still fixed set f trace v i z.lives whole empty.down_queue empty.down)) (filtered_idle k v.server.state.jobs.list idle)
+      (ap (parcels k) (none_flies i.upward z.lives.server whole.up empty.up_queue empty.up)) (ap (parcels k) (none_flies i.downward z.lives.client whole.down empty.down_queue empty.down)) (filtered_idle k v.server.state.jobs.list idle)
       (λ job is. none_unanswered f k trace quiet (stream_of_run c s seals f w trace v x.run x.right) q job is)
       (elim asked [
         | inl some ↦ inl some

@@ -1,12 +1,12 @@
 -- A way on which nothing is: no frame is queued, and no byte is in the pipe. A clean step by which its side takes no bytes, and
 -- that leaves it so, found it so and put no item in.
-use Rattle.ttrpc_world.proofs.Ending.{idle_down, idle_up, lent_alive}
+use Rattle.ttrpc_world.proofs.Ending.{idle, lent_alive}
 use Rattle.ttrpc_world.proofs.Behind.{none_taken}
-use Rattle.ttrpc_world.proofs.Living.{heard_whole, never_over}
+use Rattle.ttrpc_world.proofs.Living.{fed_whole, takes_up}
 use Rattle.ttrpc_world.proofs.Since.{IsKnown}
 use Rattle.ttrpc_world.proofs.Timed.{none_due}
 use Rattle.ttrpc_world.proofs.Serves.{acts_so, answered, IsAnswered, passes_so}
-use Rattle.ttrpc_world.proofs.Words.{[], ActsAll, after_report, Answer, ap, arith, Asked, AsyncRules, Began, Bool, call_at, CallEvent, calling, Carry, ClientCore, ClientEnd, ClientSide, Close, ClosedUp, Connection, Count, DeadlineDuringWrite, Deliver, Done, due_at, EndedDown, EndsStream, EndStream, Entry, Err, Error, Event, Failure, false, Flow, flow_of, fun_ext, Halves, HeardDown, HeardUp, if◌then◌else◌, Incoming, inl, inr, is_clean_event, is_clean_reply, is_over, IsOpen, IsQueue, Item, items, length, length-take, lent_of, List, min, Named, nat_eq, Net, never_empty, nil_parts, None, none_reported, nothing_due, Ok, only_if, open_part, OpenEvent, Option, OutboundTransform, Outbox, Passes, put_down, put_up, Queue, Queued, Recv, refl, Reply, Respond, Responds, Response, Result, Rules, rules, Scene, scene, Send, SendsAll, SendsOne, Sent, SentDown, SentUp, ServerCore, ServerEnd, ServerSide, serving, Settings, Some, some_of, Steps, StreamEnd, subst, sym, take, taken_back, taken_from, takes_bytes, throws, Tick, Ticket, true, Ways, with_lent, with_payload, Word, ℕ, ◌++◌, ◌∙◌, ◌∷◌, ◌≡◌}
+use Rattle.ttrpc_world.proofs.Words.{[], after_report, Answer, ap, arith, Asked, AsyncRules, Began, Bool, call_at, CallEvent, Carry, ClientCore, ClientEnd, ClientSide, Close, ClosedUp, Connection, Count, DeadlineDuringWrite, Deliver, Done, due_at, EndedDown, EndsStream, EndStream, Entry, Err, Error, Event, Failure, false, Feeds, Flow, flow_of, fun_ext, Halves, HeardDown, HeardUp, if◌then◌else◌, inl, inr, is_clean_event, is_clean_reply, IsQueue, Item, items, length, length-take, lent_of, List, min, Named, nat_eq, Net, never_empty, nil_parts, None, none_reported, nothing_due, Ok, only_if, open_part, OpenEvent, Option, OutboundTransform, Outbox, Passes, put_down, put_up, Queue, Queued, Recv, refl, Reply, Respond, Responds, Response, Result, Rules, rules, scene, Send, SendsAll, SendsOne, Sent, SentDown, SentUp, ServerCore, ServerEnd, ServerSide, Settings, Some, some_of, Steps, StreamEnd, subst, sym, take, taken_back, takes_bytes, throws, Tick, Ticket, true, Ways, with_lent, with_payload, Word, ℕ, ◌++◌, ◌∙◌, ◌∷◌, ◌≡◌}
 
 -- NOTHING IS ON A WAY
 pub record IsIdle (queued : List Queued) (pipe : List ℕ) : Type 0 where
@@ -37,8 +37,10 @@ responded out rs limit k r sent old new p sends e =
     let one = subst (λ (xs : List Sent). SendsAll out old xs new) p.is sends in
     sent_one out old _ _ one.0 one.1 (sym (ap (λ (x : Outbox _). x.queue.frames) one.2) ∙ e)
 
-acted : {S O I : Type 0} (w : Ways S O I) (now : ℕ) (fs : List Incoming) (old new : Scene S O I) → ActsAll w now old fs new → new.outbox.queue.frames ≡ [] → old.outbox.queue.frames ≡ []
-acted w now = acts_so w now (λ x y. y.outbox.queue.frames ≡ [] → x.outbox.queue.frames ≡ []) (λ x e. e) (λ f fs x y a later e. sent_all w.out a.1.sent x.outbox a.0.outbox a.1.sends (later e))
+-- what is fed and leaves none queued found none
+none_before : {S O I : Type 0} {w : Ways S O I} {s t : S} {old new : Connection O I} {piece : List ℕ} {now : ℕ} → Feeds w s old piece now t new → new.outbox.queue.frames ≡ [] → old.outbox.queue.frames ≡ []
+none_before {w = w} {s} {t} {old} {new} {now = now} fed =
+    acts_so w now (λ x y. y.outbox.queue.frames ≡ [] → x.outbox.queue.frames ≡ []) (λ x e. e) (λ f fs x y a later e. sent_all w.out a.1.sent x.outbox a.0.outbox a.1.sends (later e)) fed.frames (scene s old) (scene t new) fed.acts
 
 -- ---- a carry
 
@@ -84,21 +86,6 @@ module _ {CO CI SO SI : Type 0} (c : Halves CO CI) (s : Halves SO SI) (seals : B
       ap (λ (x : Connection CO CI). x.outbox.queue.frames) (p.connection ∙ ap (λ ids. if throws old.state.kind seals then taken_back old.connection ids DeadlineDuringWrite else old.connection) (fun_ext none) ∙ sym none_called)
   ticked_up (Some why) old now new none same = ap (λ (x : ClientCore CO CI). x.connection.outbox.queue.frames) same
 
-  delivered_up : (w v : Net CO CI SO SI) (n k : ℕ) → IsOpen w → Steps c s seals w (Deliver ServerSide n) (Count k) v → v.server.connection.outbox.queue.frames ≡ [] → w.server.connection.outbox.queue.frames ≡ []
-  delivered_up w v n k o (inl p) e =
-      let heard = heard_whole c s seals (is_over (taken_from w.up k)) p.does.mid v.server.connection (never_over c s seals (taken_from w.up k) o.up) p.does.hears in
-      acted (serving s.out s.in_) w.moment p.does.does.frames (scene w.server.state w.server.connection) (scene v.server.state p.does.mid) p.does.does.acts (sym (ap (λ (x : Connection SO SI). x.outbox.queue.frames) heard) ∙ e)
-  delivered_up w v n k o (inr p) e = let bad : true ≡ false = sym o.takes ∙ p.drains in cc
-
-  down_same : (w v : Net CO CI SO SI) (n k : ℕ) → IsOpen w → Steps c s seals w (Deliver ServerSide n) (Count k) v → v.down.bytes ≡ w.down.bytes
-  down_same w v n k o (inl p) = ap (λ (x : Net CO CI SO SI). x.down.bytes) p.only
-  down_same w v n k o (inr p) = ap (λ (x : Net CO CI SO SI). x.down.bytes) p.only
-
-  delivered_down : (w v : Net CO CI SO SI) (n k : ℕ) → IsOpen w → Steps c s seals w (Deliver ClientSide n) (Count k) v → v.client.connection.outbox.queue.frames ≡ [] → w.client.connection.outbox.queue.frames ≡ []
-  delivered_down w v n k o p e =
-      let heard = heard_whole c s seals (is_over (taken_from w.down k)) p.does.mid v.client.connection (never_over c s seals (taken_from w.down k) o.down) p.does.hears in
-      acted (calling c.out c.in_) 0 p.does.does.frames (scene w.client.state w.client.connection) (scene v.client.state p.does.mid) p.does.does.acts (sym (ap (λ (x : Connection CO CI). x.outbox.queue.frames) heard) ∙ e)
-
   -- BEHIND THE LAST BYTES THAT THE SERVER TOOK, upwards.
   pub up_back : (t : List Entry) (w : Net CO CI SO SI) (event : Event) (reply : Reply) (v : Net CO CI SO SI) → IsKnown c s seals still fixed set f t w event reply v → is_clean_event event ≡ true → is_clean_reply reply ≡ true → takes_bytes ServerSide event reply ≡ false → Steps c s seals w event reply v → UpIdle v → UpIdle w × PutsUp event reply
   up_back t w (CallEvent request) (Named id) v i a b z p idle = absurd (sent_one c.out w.client.connection.outbox _ _ v.client.connection.outbox p.1.sends idle.none_queued)
@@ -118,10 +105,10 @@ module _ {CO CI SO SI : Type 0} (c : Halves CO CI) (s : Halves SO SI) (seals : B
         (idle_as (ap (λ (x : Net CO CI SO SI). x.client.connection.outbox.queue.frames) p.only) (ap (λ (x : Net CO CI SO SI). x.up.bytes) p.only) idle),
     λ j. refl,
   )
-  up_back t w (Deliver ServerSide n) (Count k) v i a b z p idle =
-      let none = idle_up c s seals set f t w v n k i.before i.cleanly.whole (none_taken k z) p in
-      (idle_as (ap (λ (x : ClientCore CO CI). x.connection.outbox.queue.frames) none.2) none.3 idle, λ j. refl)
-  up_back t w (Deliver ClientSide n) (Count k) v i a b z p idle = (record { none_queued = delivered_down w v n k i.cleanly.whole p idle.none_queued; none_carried = sym (ap (λ (x : Net CO CI SO SI). x.up.bytes) p.only) ∙ idle.none_carried }, λ j. refl)
+  up_back t w (Deliver ServerSide n) (Count k) v i a b z p idles =
+      let same = idle c s seals set f ServerSide t w v n k i.before i.cleanly.whole (none_taken k z) p in
+      (idle_as (ap (λ x. x.0.outbox.queue.frames) same) (ap (λ x. x.2) same) idles, λ j. refl)
+  up_back t w (Deliver ClientSide n) (Count k) v i a b z p idle = (record { none_queued = none_before (fed_whole i.cleanly.whole.down p.does) idle.none_queued; none_carried = sym (ap (λ (x : Net CO CI SO SI). x.up.bytes) p.only) ∙ idle.none_carried }, λ j. refl)
   up_back t w event reply v i a b z p idle =
       let queue : v.client.connection.outbox.queue ≡ w.client.connection.outbox.queue = first_of (cc, search rules) in
       let pipe : v.up.bytes ≡ w.up.bytes = first_of (cc, search rules) in
@@ -160,10 +147,12 @@ module _ {CO CI SO SI : Type 0} (c : Halves CO CI) (s : Halves SO SI) (seals : B
         (idle_as (ap (λ (x : Net CO CI SO SI). x.server.connection.outbox.queue.frames) p.only) (ap (λ (x : Net CO CI SO SI). x.down.bytes) p.only) idle),
     λ j. refl,
   )
-  down_back t w (Deliver ClientSide n) (Count k) v i a b z p idle =
-      let none = idle_down c s seals set f t w v n k i.before i.cleanly.whole (none_taken k z) p in
-      (idle_as (ap (λ (x : ServerCore SO SI). x.connection.outbox.queue.frames) none.2) none.3 idle, λ j. refl)
-  down_back t w (Deliver ServerSide n) (Count k) v i a b z p idle = (record { none_queued = delivered_up w v n k i.cleanly.whole p idle.none_queued; none_carried = sym (down_same w v n k i.cleanly.whole p) ∙ idle.none_carried }, λ j. refl)
+  down_back t w (Deliver ClientSide n) (Count k) v i a b z p idles =
+      let same = idle c s seals set f ClientSide t w v n k i.before i.cleanly.whole (none_taken k z) p in
+      (idle_as (ap (λ x. x.1.outbox.queue.frames) same) (ap (λ x. x.3) same) idles, λ j. refl)
+  down_back t w (Deliver ServerSide n) (Count k) v i a b z p idle =
+      let up = takes_up c s seals i.cleanly.whole p in
+      (record { none_queued = none_before (fed_whole i.cleanly.whole.up up.does) idle.none_queued; none_carried = sym (ap (λ (x : Net CO CI SO SI). x.down.bytes) up.only) ∙ idle.none_carried }, λ j. refl)
   down_back t w event reply v i a b z p idle =
       let queue : v.server.connection.outbox.queue ≡ w.server.connection.outbox.queue = first_of (cc, search rules) in
       let pipe : v.down.bytes ≡ w.down.bytes = first_of (cc, search rules) in

@@ -1,9 +1,10 @@
 -- THE FOUR ZEROS: at the end of a clean drained run both queues and both pipes are empty, and nothing is in flight.
 use Rattle.ttrpc_world.proofs.Sentences.{begins, Stands, stands_at, step_on}
 use Rattle.ttrpc_world.proofs.Keeps.{Keeps}
-use Rattle.ttrpc_world.proofs.Living.{clean_front, fresh_open, heard_whole, lived, lives_at_end, never_over, stay_open, stays_open}
+use Rattle.ttrpc_world.proofs.Living.{clean_front, fed_whole, fresh_open, lived, lives_at_end, stay_open, stays_open, takes_up}
+use Rattle.ttrpc_world.proofs.OneWay.{OneWay}
 use Rattle.ttrpc_world.proofs.Numbers.{streams_of}
-use Rattle.ttrpc_world.proofs.Words.{[], ActsAll, after_report, all_has_come, ap, AreClean, arith, Bool, calling, Carry, Client, ClientCore, ClientSide, Connection, Count, Deliver, drop, Entry, Failure, false, Fed, Flying, Halves, Incoming, inl, inr, is_over, IsDrained, IsEmpty, IsFresh, IsOpen, IsQueue, length, lent_of, List, Lives, min, Net, nil_from_length, no_frames_come, None, none_to_lend, open_part, Option, other, Outbox, Pipe, Queue, refl, Rules, Runs, safe_limit, Scene, scene, Server, ServerCore, ServerSide, serving, Settings, Side, Some, Steps, still_none, subst, sym, take, taken_from, true, Ways, with_lent, ℕ, ◌++◌, ◌<◌, ◌∙◌, ◌∷◌, ◌≡◌}
+use Rattle.ttrpc_world.proofs.Words.{[], ActsAll, all_has_come, ap, AreClean, arith, Bool, Carry, Client, ClientSide, Connection, Count, Deliver, Delivers, drop, Entry, Failure, false, Fed, Flying, Halves, InboundTransform, Incoming, IsDrained, IsEmpty, IsFresh, IsOpen, IsQueue, length, lent_of, List, Lives, min, Net, nil_from_length, no_frames_come, None, none_reported, none_to_lend, open_part, Option, other, OutboundTransform, Outbox, Pipe, Queue, Queued, refl, Rules, Runs, safe_limit, Scene, scene, Server, ServerSide, Settings, Side, Some, Steps, subst, sym, take, Ways, ℕ, ◌++◌, ◌<◌, ◌∙◌, ◌∷◌, ◌≡◌}
 
 -- ---- nothing was lent, and nothing was taken
 
@@ -14,105 +15,89 @@ pub lent_alive : (failure : Option Failure) (n k : ℕ) (q : Queue) → failure 
 lent_alive None n k q e h = h
 lent_alive (Some why) n k q e h = cc
 
--- a piece of no bytes changes neither the core nor what it sends
+-- A DELIVERY OF NO BYTES DOES NOTHING: it changes neither the core nor what it sends.
 acts_on_none : {S O I : Type 0} (w : Ways S O I) (now : ℕ) (frames : List Incoming) (old new : Scene S O I) → frames ≡ [] → ActsAll w now old frames new → new ≡ old
 acts_on_none w now [] old new e acts = acts
 acts_on_none w now (f ∷ fs) old new e acts = cc
 
--- what a side has queued, and what is in the pipe to it
-abbrev queue_of : {CO CI SO SI : Type 0} → Side → Net CO CI SO SI → Queue
-queue_of ClientSide w = w.client.connection.outbox.queue
-queue_of ServerSide w = w.server.connection.outbox.queue
+none_fed : {S O I XO : Type 0} {out : OutboundTransform XO} {w : Ways S O I} {s t : S} {x : Outbox XO} {old new : Connection O I} {p : Pipe} {flights : List Flying} {now n k : ℕ} → OneWay out w.in_ x old p flights → p.cut ≡ false → k ≡ 0 → Delivers w s old p now n k t new → scene t new ≡ scene s old
+none_fed {w = w} {s} {t} {old = old} {new} {p} {now = now} way whole e d =
+    let f = fed_whole whole d in
+    let b = (way.bytes f.alive).bytes in
+    let fed = subst (λ (x : ℕ). Fed old.decoder (take x p.bytes) f.frames new.decoder) e f.fed in
+    acts_on_none w now f.frames (scene s old) (scene t new) (no_frames_come old.decoder new.decoder b.before f.frames b.holds fed) f.acts
 
-abbrev pipe_to : {CO CI SO SI : Type 0} → Side → Net CO CI SO SI → List ℕ
-pipe_to ClientSide w = w.down.bytes
-pipe_to ServerSide w = w.up.bytes
+-- Where nothing is queued and nothing is in the pipe, NOTHING IS IN FLIGHT.
+pub none_flies : {XO YO YI : Type 0} {out : OutboundTransform XO} {in_ : InboundTransform YI} {x : Outbox XO} {y : Connection YO YI} {p : Pipe} {flights : List Flying} → OneWay out in_ x y p flights → y.failure ≡ None → p.cut ≡ false → x.queue.frames ≡ [] → p.bytes ≡ [] → flights ≡ []
+none_flies {x = x} {y} {p} way alive whole queued carried =
+    let b = way.bytes alive in
+    let h = all_has_come y.decoder p.bytes p.cut x.queue b.transit b.queued carried whole queued b.bytes in
+    sym b.all ∙ ap (λ (xs : List Flying). xs ++ b.queued) h.0 ∙ h.1
+
+-- both cores with what they send, and both pipes
+abbrev pub Seen : Type 0 → Type 0 → Type 0 → Type 0 → Type 0
+Seen CO CI SO SI = Scene Client CO CI × Scene Server SO SI × List ℕ × List ℕ
+
+abbrev pub seen : {CO CI SO SI : Type 0} → Net CO CI SO SI → Seen CO CI SO SI
+seen w = (scene w.client.state w.client.connection, scene w.server.state w.server.connection, w.up.bytes, w.down.bytes)
+
+-- what a side has queued, and what is in the pipe to it
+abbrev queue_of : {CO CI SO SI : Type 0} → Side → Seen CO CI SO SI → List Queued
+queue_of ClientSide x = x.0.outbox.queue.frames
+queue_of ServerSide x = x.1.outbox.queue.frames
+
+abbrev pipe_to : {CO CI SO SI : Type 0} → Side → Seen CO CI SO SI → List ℕ
+pipe_to ClientSide x = x.3
+pipe_to ServerSide x = x.2
+
+-- what holds of a side and of the other holds of each
+of_each : (P : Side → Type 0) (side : Side) → P side → P (other side) → (x : Side) → P x
+of_each P ClientSide a b ClientSide = a
+of_each P ClientSide a b ServerSide = b
+of_each P ServerSide a b ClientSide = b
+of_each P ServerSide a b ServerSide = a
 
 module _ {CO CI SO SI : Type 0} (c : Halves CO CI) (s : Halves SO SI) (seals : Bool) where
-  -- A DELIVERY OF NO BYTES DOES NOTHING.
-  pub idle_up : (set : Settings) (f : ℕ → ℕ) (t : List Entry) (w v : Net CO CI SO SI) (n k : ℕ) → Keeps c s set f t w → IsOpen w → k ≡ 0 → Steps c s seals w (Deliver ServerSide n) (Count k) v
-      → (v.server.state ≡ w.server.state) × (v.server.connection.outbox ≡ w.server.connection.outbox) × (v.client ≡ w.client) × (v.up.bytes ≡ w.up.bytes) × (v.down ≡ w.down)
-  idle_up set f t w v n k i o e (inl p) =
-      let d = p.does.does in
-      let fed = subst (λ (x : ℕ). Fed w.server.connection.decoder (take x w.up.bytes) d.frames p.does.mid.decoder) e d.fed in
-      let b = (i.upward.bytes d.alive).bytes in
-      let none = no_frames_come w.server.connection.decoder p.does.mid.decoder b.before d.frames b.holds fed in
-      let same = acts_on_none (serving s.out s.in_) w.moment d.frames (scene w.server.state w.server.connection) (scene v.server.state p.does.mid) none d.acts in
-      let heard = heard_whole c s seals (is_over (taken_from w.up k)) p.does.mid v.server.connection (never_over c s seals (taken_from w.up k) o.up) p.does.hears in (
-        ap (λ (x : Scene Server SO SI). x.state) same,
-        ap (λ (x : Connection SO SI). x.outbox) heard ∙ ap (λ (x : Scene Server SO SI). x.outbox) same,
-        ap (λ (x : Net CO CI SO SI). x.client) p.only,
-        ap (λ (x : Net CO CI SO SI). x.up.bytes) p.only ∙ ap (λ (x : ℕ). drop x w.up.bytes) e,
-        ap (λ (x : Net CO CI SO SI). x.down) p.only,
-      )
-  idle_up set f t w v n k i o e (inr p) = let bad : true ≡ false = sym o.takes ∙ p.drains in cc
-
-  pub idle_down : (set : Settings) (f : ℕ → ℕ) (t : List Entry) (w v : Net CO CI SO SI) (n k : ℕ) → Keeps c s set f t w → IsOpen w → k ≡ 0 → Steps c s seals w (Deliver ClientSide n) (Count k) v
-      → (v.client.state ≡ w.client.state) × (v.client.connection.outbox ≡ w.client.connection.outbox) × (v.server ≡ w.server) × (v.down.bytes ≡ w.down.bytes) × (v.up ≡ w.up)
-  idle_down set f t w v n k i o e p =
-      let d = p.does.does in
-      let fed = subst (λ (x : ℕ). Fed w.client.connection.decoder (take x w.down.bytes) d.frames p.does.mid.decoder) e d.fed in
-      let b = (i.downward.bytes d.alive).bytes in
-      let none = no_frames_come w.client.connection.decoder p.does.mid.decoder b.before d.frames b.holds fed in
-      let same = acts_on_none (calling c.out c.in_) 0 d.frames (scene w.client.state w.client.connection) (scene v.client.state p.does.mid) none d.acts in
-      let heard = heard_whole c s seals (is_over (taken_from w.down k)) p.does.mid v.client.connection (never_over c s seals (taken_from w.down k) o.down) p.does.hears in (
-        ap (λ (x : Scene Client CO CI). x.state) same,
-        ap (λ (x : Connection CO CI). x.outbox) heard ∙ ap (λ (x : Scene Client CO CI). x.outbox) same,
-        ap (λ (x : Net CO CI SO SI). x.server) p.only,
-        ap (λ (x : Net CO CI SO SI). x.down.bytes) p.only ∙ ap (λ (x : ℕ). drop x w.down.bytes) e,
-        ap (λ (x : Net CO CI SO SI). x.up) p.only,
-      )
+  pub idle : (set : Settings) (f : ℕ → ℕ) (to : Side) (t : List Entry) (w v : Net CO CI SO SI) (n k : ℕ) → Keeps c s set f t w → IsOpen w → k ≡ 0 → Steps c s seals w (Deliver to n) (Count k) v → seen v ≡ seen w
+  idle set f ServerSide t w v n k i o e p =
+      let up = takes_up c s seals o p in
+      let same = none_fed i.upward o.up e up.does in
+      ap seen up.only ∙ ap (λ x. (scene w.client.state w.client.connection, x, drop k w.up.bytes, w.down.bytes)) same ∙ ap (λ (j : ℕ). (scene w.client.state w.client.connection, scene w.server.state w.server.connection, drop j w.up.bytes, w.down.bytes)) e
+  idle set f ClientSide t w v n k i o e p =
+      let same = none_fed i.downward o.down e p.does in
+      ap seen p.only ∙ ap (λ x. (x, scene w.server.state w.server.connection, w.up.bytes, drop k w.down.bytes)) same ∙ ap (λ (j : ℕ). (scene w.client.state w.client.connection, scene w.server.state w.server.connection, w.up.bytes, drop j w.down.bytes)) e
 
   -- ---- a carry that moves nothing
 
-  none_queued : (failure : Option Failure) (n : ℕ) (q : Queue) → 0 < n → failure ≡ None → IsQueue q → 0 ≡ lent_of failure n q → (after_report (with_lent q 0) 0).frames ≡ []
-  none_queued failure n q some alive is e = still_none q (none_to_lend q is (min_zero n (length (open_part q)) some (lent_alive failure n 0 q alive e)))
+  none_queued : (failure : Option Failure) (n : ℕ) (q : Queue) → 0 < n → failure ≡ None → IsQueue q → 0 ≡ lent_of failure n q → q.frames ≡ []
+  none_queued failure n q some alive is e = none_to_lend q is (min_zero n (length (open_part q)) some (lent_alive failure n 0 q alive e))
 
   carry_zero : (set : Settings) (f : ℕ → ℕ) (from : Side) (t : List Entry) (w v : Net CO CI SO SI) (n : ℕ) → 0 < n → Keeps c s set f t w → Lives w → Steps c s seals w (Carry from n) (Count 0) v
-      → ((queue_of from v).frames ≡ []) × (queue_of (other from) v ≡ queue_of (other from) w)
-  carry_zero set f ClientSide t w v n some i a p = (
-    ap (λ (x : Net CO CI SO SI). x.client.connection.outbox.queue.frames) p.only ∙ none_queued w.client.connection.failure n w.client.connection.outbox.queue some a.client (i.upward.bytes a.server).bytes.valid p.count,
-    ap (λ (x : Net CO CI SO SI). x.server.connection.outbox.queue) p.only,
-  )
-  carry_zero set f ServerSide t w v n some i a p = (
-    ap (λ (x : Net CO CI SO SI). x.server.connection.outbox.queue.frames) p.only ∙ none_queued w.server.connection.failure n w.server.connection.outbox.queue some a.server (i.downward.bytes a.client).bytes.valid p.count,
-    ap (λ (x : Net CO CI SO SI). x.client.connection.outbox.queue) p.only,
-  )
+      → (queue_of from (seen w) ≡ []) × ((side : Side) → queue_of side (seen v) ≡ queue_of side (seen w))
+  carry_zero set f ClientSide t w v n some i a p =
+      let q = w.client.connection.outbox.queue in
+      let is = (i.upward.bytes a.server).bytes.valid in (
+        none_queued w.client.connection.failure n q some a.client is p.count,
+        of_each (λ side. queue_of side (seen v) ≡ queue_of side (seen w)) ClientSide (ap (λ (x : Net CO CI SO SI). x.client.connection.outbox.queue.frames) p.only ∙ none_reported q 0 is refl) (ap (λ (x : Net CO CI SO SI). x.server.connection.outbox.queue.frames) p.only),
+      )
+  carry_zero set f ServerSide t w v n some i a p =
+      let q = w.server.connection.outbox.queue in
+      let is = (i.downward.bytes a.client).bytes.valid in (
+        none_queued w.server.connection.failure n q some a.server is p.count,
+        of_each (λ side. queue_of side (seen v) ≡ queue_of side (seen w)) ServerSide (ap (λ (x : Net CO CI SO SI). x.server.connection.outbox.queue.frames) p.only ∙ none_reported q 0 is refl) (ap (λ (x : Net CO CI SO SI). x.client.connection.outbox.queue.frames) p.only),
+      )
 
   -- ---- a delivery that takes nothing
 
-  by_side : (w v : Net CO CI SO SI) → v.client.connection.outbox.queue ≡ w.client.connection.outbox.queue → v.server.connection.outbox.queue ≡ w.server.connection.outbox.queue → (side : Side) → queue_of side v ≡ queue_of side w
-  by_side w v x y ClientSide = x
-  by_side w v x y ServerSide = y
-
-  count_up : (w v : Net CO CI SO SI) (n : ℕ) → IsOpen w → Steps c s seals w (Deliver ServerSide n) (Count 0) v → 0 ≡ min n (length w.up.bytes)
-  count_up w v n o (inl p) = p.does.count
-  count_up w v n o (inr p) = let bad : true ≡ false = sym o.takes ∙ p.drains in cc
+  count_zero : (to : Side) (w v : Net CO CI SO SI) (n : ℕ) → IsOpen w → Steps c s seals w (Deliver to n) (Count 0) v → 0 ≡ min n (length (pipe_to to (seen w)))
+  count_zero ServerSide w v n o p = (takes_up c s seals o p).does.count
+  count_zero ClientSide w v n o p = p.does.count
 
   deliver_zero : (set : Settings) (f : ℕ → ℕ) (to : Side) (t : List Entry) (w v : Net CO CI SO SI) (n : ℕ) → 0 < n → Keeps c s set f t w → IsOpen w → Steps c s seals w (Deliver to n) (Count 0) v
-      → (pipe_to to v ≡ []) × (pipe_to (other to) v ≡ pipe_to (other to) w) × ((side : Side) → queue_of side v ≡ queue_of side w)
-  deliver_zero set f ServerSide t w v n some i o p =
-      let idle = idle_up set f t w v n 0 i o refl p in (
-        idle.3 ∙ nil_from_length w.up.bytes (min_zero n (length w.up.bytes) some (count_up w v n o p)),
-        ap (λ (x : Pipe). x.bytes) idle.4,
-        by_side w v (ap (λ (x : ClientCore CO CI). x.connection.outbox.queue) idle.2) (ap (λ (x : Outbox SO). x.queue) idle.1),
-      )
-  deliver_zero set f ClientSide t w v n some i o p =
-      let idle = idle_down set f t w v n 0 i o refl p in (
-        idle.3 ∙ nil_from_length w.down.bytes (min_zero n (length w.down.bytes) some p.does.count),
-        ap (λ (x : Pipe). x.bytes) idle.4,
-        by_side w v (ap (λ (x : Outbox CO). x.queue) idle.1) (ap (λ (x : ServerCore SO SI). x.connection.outbox.queue) idle.2),
-      )
-
-  empty_by : (from to : Side) (v : Net CO CI SO SI) → (queue_of from v).frames ≡ [] → (queue_of (other from) v).frames ≡ [] → pipe_to to v ≡ [] → pipe_to (other to) v ≡ [] → IsEmpty v
-  empty_by ClientSide ClientSide v a b x y = record { up_queue = a; down_queue = b; up = y; down = x }
-  empty_by ClientSide ServerSide v a b x y = record { up_queue = a; down_queue = b; up = x; down = y }
-  empty_by ServerSide ClientSide v a b x y = record { up_queue = b; down_queue = a; up = y; down = x }
-  empty_by ServerSide ServerSide v a b x y = record { up_queue = b; down_queue = a; up = x; down = y }
-
-other_other : (x : Side) → other (other x) ≡ x
-other_other ClientSide = refl
-other_other ServerSide = refl
+      → (pipe_to to (seen w) ≡ []) × (seen v ≡ seen w)
+  deliver_zero set f to t w v n some i o p =
+      let pipe = pipe_to to (seen w) in
+      (nil_from_length pipe (min_zero n (length pipe) some (count_zero to w v n o p)), idle set f to t w v n 0 i o refl p)
 
 module _ {CO CI SO SI : Type 0} (c : Halves CO CI) (s : Halves SO SI) (seals : Bool) (still : seals ≡ false → (from to : CO) (plain aad sealed : List ℕ) → c.out.seals from plain aad sealed to → to ≡ from)
     (fixed : (x y : SO) (plain aad sealed : List ℕ) → s.out.seals x plain aad sealed y → s.out.overhead y ≡ s.out.overhead x) (set : Settings) (f : ℕ → ℕ) where
@@ -136,25 +121,15 @@ module _ {CO CI SO SI : Type 0} (c : Halves CO CI) (s : Halves SO SI) (seals : B
       let z2 = carry_zero c s seals set f (other d.from) _ x1.run.0 x2.run.0 d.b d.some.1 x2.kept (lived c s seals x1.run.0 later v x2.run alive) x2.run.1 in
       let z3 = deliver_zero c s seals set f d.to _ x2.run.0 x3.run.0 d.c d.some.2 x3.kept o3 x3.run.1 in
       let z4 = deliver_zero c s seals set f (other d.to) _ x3.run.0 x4.run.0 d.d d.some.3 x4.kept o4 x4.run.1 in
-      subst IsEmpty (sym x4.run.2) (empty_by c s seals d.from d.to x4.run.0
-      (ap (λ (y : Queue). y.frames) (z4.2 d.from ∙ z3.2 d.from ∙ subst (λ (y : Side). queue_of y x2.run.0 ≡ queue_of y x1.run.0) (other_other d.from) z2.1) ∙ z1.0) (ap (λ (y : Queue). y.frames) (z4.2 (other d.from) ∙ z3.2 (other d.from)) ∙ z2.0)
-      (subst (λ (y : Side). pipe_to y x4.run.0 ≡ pipe_to y x3.run.0) (other_other d.to) z4.1 ∙ z3.0) z4.0)
-
-  no_flights : (transit queued flights : List Flying) → transit ++ queued ≡ flights → transit ≡ [] → queued ≡ [] → flights ≡ []
-  no_flights transit queued flights all a b = sym all ∙ ap (λ (xs : List Flying). xs ++ queued) a ∙ b
-
-  -- Where nothing is queued and nothing is in the pipe, NOTHING IS IN FLIGHT.
-  pub none_up : (t : List Entry) (v : Net CO CI SO SI) → (i : Keeps c s set f t v) → Lives v → IsOpen v → v.client.connection.outbox.queue.frames ≡ [] → v.up.bytes ≡ [] → i.up ≡ []
-  none_up t v i a o queued carried =
-      let b = i.upward.bytes a.server in
-      let h = all_has_come v.server.connection.decoder v.up.bytes v.up.cut v.client.connection.outbox.queue b.transit b.queued carried o.up queued b.bytes in
-      no_flights b.transit b.queued i.up b.all h.0 h.1
-
-  pub none_down : (t : List Entry) (v : Net CO CI SO SI) → (i : Keeps c s set f t v) → Lives v → IsOpen v → v.server.connection.outbox.queue.frames ≡ [] → v.down.bytes ≡ [] → i.down ≡ []
-  none_down t v i a o queued carried =
-      let b = i.downward.bytes a.client in
-      let h = all_has_come v.client.connection.decoder v.down.bytes v.down.cut v.server.connection.outbox.queue b.transit b.queued carried o.down queued b.bytes in
-      no_flights b.transit b.queued i.down b.all h.0 h.1
+      let end : seen v ≡ seen x2.run.0 = ap seen x4.run.2 ∙ z4.1 ∙ z3.1 in
+      let queues = of_each (λ (side : Side). queue_of side (seen x2.run.0) ≡ []) d.from (z2.1 d.from ∙ z1.1 d.from ∙ z1.0) (z2.1 (other d.from) ∙ z2.0) in
+      let pipes = of_each (λ (side : Side). pipe_to side (seen x2.run.0) ≡ []) d.to z3.0 (sym (ap (λ x. pipe_to (other d.to) x) z3.1) ∙ z4.0) in
+      record {
+        up_queue = ap (λ x. queue_of ClientSide x) end ∙ queues ClientSide;
+        down_queue = ap (λ x. queue_of ServerSide x) end ∙ queues ServerSide;
+        up = ap (λ x. pipe_to ServerSide x) end ∙ pipes ServerSide;
+        down = ap (λ x. pipe_to ClientSide x) end ∙ pipes ClientSide;
+      }
 
 -- for any run from a fresh start
 pub empty_at_end : {CO CI SO SI : Type 0} (c : Halves CO CI) (s : Halves SO SI) (seals : Bool) (still : seals ≡ false → (from to : CO) (plain aad sealed : List ℕ) → c.out.seals from plain aad sealed to → to ≡ from)

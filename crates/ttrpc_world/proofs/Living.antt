@@ -2,7 +2,14 @@
 -- cut, and the server takes what comes.
 use Rattle.ttrpc_world.proofs.Failing.{lives_back}
 use Rattle.ttrpc_world.proofs.Serves.{acts_so, one_less, passes_so}
-use Rattle.ttrpc_world.proofs.Words.{[], Answer, ap, AreClean, Bool, Carry, ClientCore, ClientSide, Connection, Count, Deliver, Done, Entry, Event, false, Halves, Hears, inl, inr, is_clean_event, is_clean_reply, is_over, IsDrained, IsFresh, IsOpen, List, Lives, Net, None, not, other, Pipe, refl, Reply, Rules, rules, Runs, scene, Server, ServerCore, ServerSide, serving, Side, Steps, subst, sym, taken_from, Tick, true, ℕ, ◌++◌, ◌∙◌, ◌∷◌, ◌≡◌}
+use Rattle.ttrpc_world.proofs.Words.{[], Answer, ap, AreClean, Bool, Carry, ClientSide, Connection, Count, Deliver, Delivers, DeliversUp, Done, Entry, Event, false, Feeds, Halves, Hears, inl, inr, is_clean_event, is_clean_reply, is_over, IsDrained, IsFresh, IsOpen, List, Lives, Net, not, other, Pipe, refl, Reply, Rules, rules, Runs, scene, Server, ServerCore, ServerSide, serving, Side, Steps, subst, sym, take, taken_from, Tick, true, Ways, ℕ, ◌++◌, ◌∙◌, ◌∷◌, ◌≡◌}
+
+-- What a pipe that is whole delivers is fed, and no end is heard behind it.
+pub fed_whole : {S O I : Type 0} {w : Ways S O I} {s t : S} {old new : Connection O I} {p : Pipe} {now n k : ℕ} → p.cut ≡ false → Delivers w s old p now n k t new → Feeds w s old (take k p.bytes) now t new
+fed_whole {w = w} {s} {t} {old} {new} {p} {now} {k = k} whole d =
+    let whole_still : is_over (taken_from p k) ≡ false = rw whole refl in
+    let same : new ≡ d.mid = subst (λ (b : Bool). Hears b d.mid new) whole_still d.hears in
+    subst (λ (y : Connection _ _). Feeds w s old (take k p.bytes) now t y) (sym same) d.does
 
 module _ {CO CI SO SI : Type 0} (c : Halves CO CI) (s : Halves SO SI) (seals : Bool) where
   -- who lives behind a run lived all along
@@ -52,37 +59,19 @@ module _ {CO CI SO SI : Type 0} (c : Halves CO CI) (s : Halves SO SI) (seals : B
   clean_front rules f done [] back clean = tt
   clean_front rules f done (e ∷ front) back clean = (clean.0, clean_front rules f (done ++ e ∷ []) front back clean.1)
 
-  -- a pipe that is whole isn't over
-  pub never_over : (p : Pipe) → p.cut ≡ false → is_over p ≡ false
-  never_over p e = rw e refl
+  -- a server that takes what comes is fed
+  pub takes_up : {w v : Net CO CI SO SI} {n k : ℕ} → IsOpen w → Steps c s seals w (Deliver ServerSide n) (Count k) v → DeliversUp c s seals w n k v
+  takes_up o (inl p) = p
+  takes_up o (inr p) = let bad : true ≡ false = sym o.takes ∙ p.drains in cc
 
-  pub heard_whole : {O I : Type 0} (over : Bool) (old new : Connection O I) → over ≡ false → Hears over old new → new ≡ old
-  heard_whole true old new e h = cc
-  heard_whole false old new e h = h
-
-  -- A delivery that replies a count leaves its side alive, and the other side as it was.
-  delivered_up : (w v : Net CO CI SO SI) (n k : ℕ) → IsOpen w → Steps c s seals w (Deliver ServerSide n) (Count k) v → (v.server.connection.failure ≡ None) × (v.client ≡ w.client)
-  delivered_up w v n k o (inl p) = (
-    ap (λ (x : Connection SO SI). x.failure) (heard_whole (is_over (taken_from w.up k)) p.does.mid v.server.connection (never_over (taken_from w.up k) o.up) p.does.hears) ∙ p.does.does.still,
-    ap (λ (x : Net _ _ _ _). x.client) p.only,
-  )
-  delivered_up w v n k o (inr p) = let bad : true ≡ false = sym o.takes ∙ p.drains in cc
-
-  delivered_down : (w v : Net CO CI SO SI) (n k : ℕ) → IsOpen w → Steps c s seals w (Deliver ClientSide n) (Count k) v → (v.client.connection.failure ≡ None) × (v.server ≡ w.server)
-  delivered_down w v n k o p = (
-    ap (λ (x : Connection CO CI). x.failure) (heard_whole (is_over (taken_from w.down k)) p.does.mid v.client.connection (never_over (taken_from w.down k) o.down) p.does.hears) ∙ p.does.does.still,
-    ap (λ (x : Net _ _ _ _). x.server) p.only,
-  )
-
+  -- Deliveries that reply a count leave their sides alive.
   last_two : (to : Side) (a b : ℕ) (w x v : Net CO CI SO SI) → IsOpen w → IsOpen x → Steps c s seals w (Deliver to a) (Count 0) x → Steps c s seals x (Deliver (other to) b) (Count 0) v → Lives v
   last_two ServerSide a b w x v o o2 p q =
-      let one = delivered_up w x a 0 o p in
-      let two = delivered_down x v b 0 o2 q in
-      record { client = two.0; server = ap (λ (y : ServerCore SO SI). y.connection.failure) two.1 ∙ one.0 }
+      let up = takes_up o p in
+      record { client = (fed_whole o2.down q.does).still; server = ap (λ (y : Net CO CI SO SI). y.server.connection.failure) q.only ∙ (fed_whole o.up up.does).still }
   last_two ClientSide a b w x v o o2 p q =
-      let one = delivered_down w x a 0 o p in
-      let two = delivered_up x v b 0 o2 q in
-      record { server = two.0; client = ap (λ (y : ClientCore CO CI). y.connection.failure) two.1 ∙ one.0 }
+      let up = takes_up o2 q in
+      record { server = (fed_whole o2.up up.does).still; client = ap (λ (y : Net CO CI SO SI). y.client.connection.failure) up.only ∙ (fed_whole o.down p.does).still }
 
   -- At the end of a clean drained run both sides live.
   pub lives_at_end : (rules : Rules) (f : ℕ → ℕ) (w : Net CO CI SO SI) (trace : List Entry) (v : Net CO CI SO SI) → IsOpen w → AreClean rules f [] trace → IsDrained trace → Runs c s seals w trace v → Lives v

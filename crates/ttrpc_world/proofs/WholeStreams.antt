@@ -1,7 +1,7 @@
 -- A CLEAN QUIET RUN IS WHOLE, of streams: a receiver that is asked out was given all that was put in.
 use Rattle.ttrpc_world.proofs.Cleanly.{fresh_run}
 use Rattle.ttrpc_world.proofs.Emptied.{down_back, DownIdle, up_back, UpIdle}
-use Rattle.ttrpc_world.proofs.Ending.{empty_at_end, none_down, none_up}
+use Rattle.ttrpc_world.proofs.Ending.{empty_at_end, none_flies}
 use Rattle.ttrpc_world.proofs.Sentences.{begins, kept_at_end, Stands}
 use Rattle.ttrpc_world.proofs.Jobs.{job_is, mailed}
 use Rattle.ttrpc_world.proofs.Keeps.{Keeps}
@@ -69,7 +69,7 @@ module _ {CO CI SO SI : Type 0} (c : Halves CO CI) (s : Halves SO SI) (seals : B
   up_starts k t w (Recv (ServerEnd id)) (Item None) v i is = λ idle.
       let b = up_back c s seals still fixed set f t w (Recv (ServerEnd id)) (Item None) v i refl refl refl i.does idle in
       let same = same_flows k t (Recv (ServerEnd id)) (Item None) refl in
-      let none = none_up c s seals still fixed set f t w i.before i.cleanly.before i.cleanly.whole b.0.none_queued b.0.none_carried in
+      let none = none_flies i.before.upward i.cleanly.before.server i.cleanly.whole.up b.0.none_queued b.0.none_carried in
       ap (λ xs. got (heard_up xs)) same ∙ found_up w.server.state.rules w.server.connection.failure t w id k v.server.state.jobs.list i.before i.right i.cleanly.before.server (eqb-true (f id) k is) none i.does.0.own ∙ sym (ap (λ xs. items (put_up xs)) same)
   up_starts k t w event reply v i is = let bad : false ≡ true = is in cc
 
@@ -77,7 +77,7 @@ module _ {CO CI SO SI : Type 0} (c : Halves CO CI) (s : Halves SO SI) (seals : B
   down_starts k t w (Recv (ClientEnd id)) (Item None) v i is = λ idle.
       let b = down_back c s seals still fixed set f t w (Recv (ClientEnd id)) (Item None) v i refl refl refl i.does idle in
       let same = same_flows k t (Recv (ClientEnd id)) (Item None) refl in
-      let none = none_down c s seals still fixed set f t w i.before i.cleanly.before i.cleanly.whole b.0.none_queued b.0.none_carried in
+      let none = none_flies i.before.downward i.cleanly.before.client i.cleanly.whole.down b.0.none_queued b.0.none_carried in
       ap (λ xs. got (heard_down xs)) same ∙ found_down w.client.connection.failure t w id k (stream_at v.client.state id) i.before i.cleanly.before.client (eqb-true id k is) none i.does.0.own ∙ sym (ap (λ xs. items (put_down set.rules set.limit xs)) same)
   down_starts k t w event reply v i is = let bad : false ≡ true = is in cc
 
