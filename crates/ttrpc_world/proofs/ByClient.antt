@@ -1,6 +1,6 @@
 -- Each event of the client keeps the invariant.
 use Rattle.ttrpc_world.proofs.Delivers.{around, at_one, next_up, Stories}
-use Rattle.ttrpc_world.proofs.Keeps.{Keeps, keeps_still}
+use Rattle.ttrpc_world.proofs.Keeps.{AreSteady, Keeps, keeps_still}
 use Rattle.ttrpc_world.proofs.Numbers.{asked_more, Between, items_more, Numbers, other_requests}
 use Rattle.ttrpc_world.proofs.OneWay.{goes_on, joins}
 use Rattle.ttrpc_world.proofs.Flights.{data_brings, IsData, IsRequestFlight, sends_data, sends_request, SendsFlight}
@@ -37,7 +37,7 @@ sender_box : (sender : Sender) (st : Option Stream) → (box_down (with_sender s
 sender_box sender None = (refl, refl)
 sender_box sender (Some s) = (refl, refl)
 
-module _ {CO CI SO SI : Type 0} (c : Halves CO CI) (s : Halves SO SI) (seals : Bool) (still : seals ≡ false → (from to : CO) (plain aad sealed : List ℕ) → c.out.seals from plain aad sealed to → to ≡ from)
+module _ {CO CI SO SI : Type 0} (c : Halves CO CI) (s : Halves SO SI) (seals : Bool) (steady : AreSteady c s seals)
     (set : Settings) (f : ℕ → ℕ) (trace : List Entry) where
   abbrev Kept : List Entry → Net CO CI SO SI → Type 0
   Kept t w = Keeps c s set f t w
@@ -246,7 +246,7 @@ module _ {CO CI SO SI : Type 0} (c : Halves CO CI) (s : Halves SO SI) (seals : B
   back_throws w ids true why may some i = record {
     owners = ids;
     some = some refl;
-    left = some_thrown c.out s.in_ w.client.connection.outbox w.server.connection w.up i.up w.server.connection.failure refl (still (throws_unsealed w.client.state.kind seals (may refl))) ids (single ids w (some refl) i) i.own i.upward;
+    left = some_thrown c.out s.in_ w.client.connection.outbox w.server.connection w.up i.up w.server.connection.failure refl (steady.still (throws_unsealed w.client.state.kind seals (may refl))) ids (single ids w (some refl) i) i.own i.upward;
   }
   back_throws w ids false why may some i = record {
     owners = λ k. false;

@@ -3,6 +3,7 @@ use Rattle.ttrpc_world.proofs.Behind.{idle_still, kept_before, none_kept, none_w
 use Rattle.ttrpc_world.proofs.Cleanly.{fresh_run}
 use Rattle.ttrpc_world.proofs.Ending.{empty_at_end, none_flies}
 use Rattle.ttrpc_world.proofs.Delivers.{around}
+use Rattle.ttrpc_world.proofs.Keeps.{AreSteady}
 use Rattle.ttrpc_world.proofs.Sentences.{begins, kept_at_end, Stands}
 use Rattle.ttrpc_world.proofs.Living.{stay_open}
 use Rattle.ttrpc_world.proofs.Numbers.{IsRightRun, stream_of_run}
@@ -122,36 +123,35 @@ whole_of {w} {k} {h} q p n clean method ups downs idle run asked =
         let bad : Some (asked_by (is_stream j.body) q) ≡ None = sym m.server.is_work.request ∙ (subst NoneWaits m.server.jobs_is idle).0 in
         cc
 
-module _ {CO CI SO SI : Type 0} (c : Halves CO CI) (s : Halves SO SI) (seals : Bool) (still : seals ≡ false → (from to : CO) (plain aad sealed : List ℕ) → c.out.seals from plain aad sealed to → to ≡ from)
-    (fixed : (x y : SO) (plain aad sealed : List ℕ) → s.out.seals x plain aad sealed y → s.out.overhead y ≡ s.out.overhead x) (set : Settings) (f : ℕ → ℕ) (clean : set.clean) where
+module _ {CO CI SO SI : Type 0} (c : Halves CO CI) (s : Halves SO SI) (seals : Bool) (steady : AreSteady c s seals) (set : Settings) (f : ℕ → ℕ) (clean : set.clean) where
   -- no job waits
   abbrev NoneWaiting : List Entry → Net CO CI SO SI → Type 0
   NoneWaiting t w = NoneWaits w.server.state.jobs.list
 
-  idle_stays : Stays c s seals still fixed set f ServerSide NoneWaiting
+  idle_stays : Stays c s seals steady set f ServerSide NoneWaiting
   idle_stays t w event reply v i none h = idle_still c s seals set f t w event reply v i.before i.cleanly.whole i.cleanly.at.event_is i.cleanly.at.reply_is none i.does h
 
-  idle_starts : Starts c s seals still fixed set f takes_nothing NoneWaiting
+  idle_starts : Starts c s seals steady set f takes_nothing NoneWaiting
   idle_starts t w event reply v i is = none_waits c s seals w event reply v i.cleanly.before is i.does
 
   -- no outcome of this call is kept
   abbrev NoneKept : ℕ → List Entry → Net CO CI SO SI → Type 0
   NoneKept k t w = (o : Result Response Error) → call_at w.client.state k ≡ Some (Ended o) → ⊥
 
-  asked_stays : (k : ℕ) → Stays c s seals still fixed set f ClientSide (NoneKept k)
+  asked_stays : (k : ℕ) → Stays c s seals steady set f ClientSide (NoneKept k)
   asked_stays k t w event reply v i none h o is = h o (kept_before c s seals set f t w event reply v k o i.before i.cleanly.whole i.cleanly.at.event_is i.cleanly.at.reply_is none i.does is)
 
-  asked_starts : (k : ℕ) → Starts c s seals still fixed set f (asks_outcome k) (NoneKept k)
+  asked_starts : (k : ℕ) → Starts c s seals steady set f (asks_outcome k) (NoneKept k)
   asked_starts k t w event reply v i is o = none_kept c s seals w event reply v k o i.cleanly.at.reply_is is i.does
 
   -- A CALL IS WHOLE at the end of the run.
-  pub whole_at_end : (w : Net CO CI SO SI) (trace : List Entry) (v : Net CO CI SO SI) → IsFresh c s w → (x : Stands c s seals still fixed set f [] w trace v) → IsEmpty v
+  pub whole_at_end : (w : Net CO CI SO SI) (trace : List Entry) (v : Net CO CI SO SI) → IsFresh c s w → (x : Stands c s seals steady set f [] w trace v) → IsEmpty v
       → IsQuiet trace → (k : ℕ) (q : Request) → calls (acts f k trace) ≡ q ∷ [] → has_method set.services q.service q.method ≡ true → IsAskedFor f k trace → IsWholeCall set.rules set.limit q (acts f k trace)
   whole_at_end w trace v n x empty quiet k q one method asked =
       let z = x.clean clean in
-      let i = kept_at_end c s seals still fixed set f [] trace w v x in
+      let i = kept_at_end c s seals steady set f [] trace w v x in
       let whole = stay_open c s seals set.rules f [] w trace v z.clean x.run z.whole in
-      let idle : NoneWaits v.server.state.jobs.list = since_holds c s seals still fixed set f ServerSide takes_nothing NoneWaiting idle_stays idle_starts clean [] trace w v true x
+      let idle : NoneWaits v.server.state.jobs.list = since_holds c s seals steady set f ServerSide takes_nothing NoneWaiting idle_stays idle_starts clean [] trace w v true x
       (λ e. subst (λ (y : ServerCore SO SI). NoneWaits y.state.jobs.list) (sym n.server) tt) quiet.taken in
       let place = i.stories k in
       let known = subst (λ (o : Origin). Known (around set (has_response v) v.client.state.next) k (here_at f trace i.up i.down v.server.state.jobs.list v.client.state k) o place.so_far) (called_by place.origin place.so_far q place.known one) place.known in
@@ -160,14 +160,13 @@ module _ {CO CI SO SI : Type 0} (c : Halves CO CI) (s : Halves SO SI) (seals : B
       (λ job is. none_unanswered f k trace quiet (stream_of_run c s seals f w trace v x.run x.right) q job is)
       (elim asked [
         | inl some ↦ inl some
-        | inr late ↦ inr (since_holds c s seals still fixed set f ClientSide (asks_outcome k) (NoneKept k) (asked_stays k) (asked_starts k) clean [] trace w v false x (λ e. cc) late)
+        | inr late ↦ inr (since_holds c s seals steady set f ClientSide (asks_outcome k) (NoneKept k) (asked_stays k) (asked_starts k) clean [] trace w v false x (λ e. cc) late)
       ])
 
 -- EACH CALL OF A CLEAN QUIET RUN IS WHOLE: of any run from a fresh start.
-pub whole_calls : {CO CI SO SI : Type 0} (c : Halves CO CI) (s : Halves SO SI) (seals : Bool) (still : seals ≡ false → (from to : CO) (plain aad sealed : List ℕ) → c.out.seals from plain aad sealed to → to ≡ from)
-    (fixed : (x y : SO) (plain aad sealed : List ℕ) → s.out.seals x plain aad sealed y → s.out.overhead y ≡ s.out.overhead x)
+pub whole_calls : {CO CI SO SI : Type 0} (c : Halves CO CI) (s : Halves SO SI) (seals : Bool) (steady : AreSteady c s seals)
     (w v : Net CO CI SO SI) (trace : List Entry) (f : ℕ → ℕ) → IsFresh c s w → (r : Runs c s seals w trace v) → IsRightRun c s seals f w trace v r → AreWholeCalls w.server.state.rules w.server.state.services (safe_limit s.out w.server.connection.outbox.half) f trace
-whole_calls c s seals still fixed w v trace f n r right clean quiet k q one method asked =
+whole_calls c s seals steady w v trace f n r right clean quiet k q one method asked =
     let set : Settings = record { rules = w.server.state.rules; services = w.server.state.services; limit = safe_limit s.out w.server.connection.outbox.half; clean = IsClean w.server.state.rules f trace × IsDrained trace } in
-    let x = begins c s seals still fixed set f w trace v (refl, refl, refl) n r right (λ z. fresh_run c s seals set.rules f w trace v n z.0 z.1 r) in
-    whole_at_end c s seals still fixed set f (clean, quiet.drained) w trace v n x (empty_at_end c s seals still fixed w v trace w.server.state.rules f n r clean quiet.drained) quiet k q one method asked
+    let x = begins c s seals steady set f w trace v (refl, refl, refl) n r right (λ z. fresh_run c s seals set.rules f w trace v n z.0 z.1 r) in
+    whole_at_end c s seals steady set f (clean, quiet.drained) w trace v n x (empty_at_end c s seals steady w v trace w.server.state.rules f n r clean quiet.drained) quiet k q one method asked

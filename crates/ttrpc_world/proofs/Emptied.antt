@@ -2,6 +2,7 @@
 -- that leaves it so, found it so and put no item in.
 use Rattle.ttrpc_world.proofs.Ending.{idle, lent_alive}
 use Rattle.ttrpc_world.proofs.Behind.{none_taken}
+use Rattle.ttrpc_world.proofs.Keeps.{AreSteady}
 use Rattle.ttrpc_world.proofs.Living.{fed_whole, takes_up}
 use Rattle.ttrpc_world.proofs.Since.{IsKnown}
 use Rattle.ttrpc_world.proofs.Timed.{none_due}
@@ -63,8 +64,7 @@ nothing_put : (says : List Flow → List (List ℕ)) (b : Bool) (x : Flow) → s
 nothing_put says true x none one = one
 nothing_put says false x none one = none
 
-module _ {CO CI SO SI : Type 0} (c : Halves CO CI) (s : Halves SO SI) (seals : Bool) (still : seals ≡ false → (from to : CO) (plain aad sealed : List ℕ) → c.out.seals from plain aad sealed to → to ≡ from)
-    (fixed : (x y : SO) (plain aad sealed : List ℕ) → s.out.seals x plain aad sealed y → s.out.overhead y ≡ s.out.overhead x) (set : Settings) (f : ℕ → ℕ) where
+module _ {CO CI SO SI : Type 0} (c : Halves CO CI) (s : Halves SO SI) (seals : Bool) (steady : AreSteady c s seals) (set : Settings) (f : ℕ → ℕ) where
   -- an event with its reply puts in no item
   abbrev PutsUp : Event → Reply → Type 0
   PutsUp event reply = (k : ℕ) → items (put_up (flow_of f k event reply)) ≡ []
@@ -87,7 +87,7 @@ module _ {CO CI SO SI : Type 0} (c : Halves CO CI) (s : Halves SO SI) (seals : B
   ticked_up (Some why) old now new none same = ap (λ (x : ClientCore CO CI). x.connection.outbox.queue.frames) same
 
   -- BEHIND THE LAST BYTES THAT THE SERVER TOOK, upwards.
-  pub up_back : (t : List Entry) (w : Net CO CI SO SI) (event : Event) (reply : Reply) (v : Net CO CI SO SI) → IsKnown c s seals still fixed set f t w event reply v → is_clean_event event ≡ true → is_clean_reply reply ≡ true → takes_bytes ServerSide event reply ≡ false → Steps c s seals w event reply v → UpIdle v → UpIdle w × PutsUp event reply
+  pub up_back : (t : List Entry) (w : Net CO CI SO SI) (event : Event) (reply : Reply) (v : Net CO CI SO SI) → IsKnown c s seals steady set f t w event reply v → is_clean_event event ≡ true → is_clean_reply reply ≡ true → takes_bytes ServerSide event reply ≡ false → Steps c s seals w event reply v → UpIdle v → UpIdle w × PutsUp event reply
   up_back t w (CallEvent request) (Named id) v i a b z p idle = absurd (sent_one c.out w.client.connection.outbox _ _ v.client.connection.outbox p.1.sends idle.none_queued)
   up_back t w (OpenEvent request up down) (Named id) v i a b z p idle = absurd (sent_one c.out w.client.connection.outbox _ _ v.client.connection.outbox p.1.sends idle.none_queued)
   up_back t w (Send (ClientEnd id) item) (Ticket ticket) v i a b z p idle = absurd (sent_one c.out w.client.connection.outbox _ _ v.client.connection.outbox p.0.sends.sends idle.none_queued)
@@ -127,7 +127,7 @@ module _ {CO CI SO SI : Type 0} (c : Halves CO CI) (s : Halves SO SI) (seals : B
   ended_down old id (Err error) new p none = let q = p.sends.2 in responded s.out AsyncRules _ _ p.sends.0 q.0 old.connection.outbox new.connection.outbox q.1 q.2 none
 
   -- BEHIND THE LAST BYTES THAT THE CLIENT TOOK, downwards.
-  pub down_back : (t : List Entry) (w : Net CO CI SO SI) (event : Event) (reply : Reply) (v : Net CO CI SO SI) → IsKnown c s seals still fixed set f t w event reply v → is_clean_event event ≡ true → is_clean_reply reply ≡ true → takes_bytes ClientSide event reply ≡ false → Steps c s seals w event reply v → DownIdle v → DownIdle w × PutsDown event reply
+  pub down_back : (t : List Entry) (w : Net CO CI SO SI) (event : Event) (reply : Reply) (v : Net CO CI SO SI) → IsKnown c s seals steady set f t w event reply v → is_clean_event event ≡ true → is_clean_reply reply ≡ true → takes_bytes ClientSide event reply ≡ false → Steps c s seals w event reply v → DownIdle v → DownIdle w × PutsDown event reply
   down_back t w (CallEvent request) (Named id) v i a b z p idle = (subst (λ (x : Net CO CI SO SI). DownIdle x) p.2 idle, λ k. nothing_put (λ xs. items (put_down set.rules set.limit xs)) (nat_eq id k) (Asked request) refl refl)
   down_back t w (OpenEvent request up down) (Named id) v i a b z p idle = (subst (λ (x : Net CO CI SO SI). DownIdle x) p.2 idle, λ k. nothing_put (λ xs. items (put_down set.rules set.limit xs)) (nat_eq id k) (Began request up) refl refl)
   down_back t w (Send (ClientEnd id) item) (Ticket ticket) v i a b z p idle = (subst (λ (x : Net CO CI SO SI). DownIdle x) p.1 idle, λ k. nothing_put (λ xs. items (put_down set.rules set.limit xs)) (nat_eq id k) (SentUp item) refl refl)

@@ -1,6 +1,6 @@
 -- THE FOUR ZEROS: at the end of a clean drained run both queues and both pipes are empty, and nothing is in flight.
 use Rattle.ttrpc_world.proofs.Sentences.{begins, Stands, stands_at, step_on}
-use Rattle.ttrpc_world.proofs.Keeps.{Keeps}
+use Rattle.ttrpc_world.proofs.Keeps.{AreSteady, Keeps}
 use Rattle.ttrpc_world.proofs.Living.{clean_front, fed_whole, fresh_open, lived, lives_at_end, stay_open, stays_open, takes_up}
 use Rattle.ttrpc_world.proofs.OneWay.{OneWay}
 use Rattle.ttrpc_world.proofs.Numbers.{streams_of}
@@ -99,19 +99,18 @@ module _ {CO CI SO SI : Type 0} (c : Halves CO CI) (s : Halves SO SI) (seals : B
       let pipe = pipe_to to (seen w) in
       (nil_from_length pipe (min_zero n (length pipe) some (count_zero to w v n o p)), idle set f to t w v n 0 i o refl p)
 
-module _ {CO CI SO SI : Type 0} (c : Halves CO CI) (s : Halves SO SI) (seals : Bool) (still : seals ≡ false → (from to : CO) (plain aad sealed : List ℕ) → c.out.seals from plain aad sealed to → to ≡ from)
-    (fixed : (x y : SO) (plain aad sealed : List ℕ) → s.out.seals x plain aad sealed y → s.out.overhead y ≡ s.out.overhead x) (set : Settings) (f : ℕ → ℕ) where
+module _ {CO CI SO SI : Type 0} (c : Halves CO CI) (s : Halves SO SI) (seals : Bool) (steady : AreSteady c s seals) (set : Settings) (f : ℕ → ℕ) where
   -- AT THE END NOTHING IS QUEUED AND NOTHING IS IN A PIPE.
-  pub ends_empty : (rules : Rules) (g : ℕ → ℕ) (w : Net CO CI SO SI) (trace : List Entry) (v : Net CO CI SO SI) → IsFresh c s w → Stands c s seals still fixed set f [] w trace v → AreClean rules g [] trace → IsDrained trace → IsEmpty v
+  pub ends_empty : (rules : Rules) (g : ℕ → ℕ) (w : Net CO CI SO SI) (trace : List Entry) (v : Net CO CI SO SI) → IsFresh c s w → Stands c s seals steady set f [] w trace v → AreClean rules g [] trace → IsDrained trace → IsEmpty v
   ends_empty rules g w trace v n x clean d =
       let later = record { event = Carry (other d.from) d.b; reply = Count 0 } ∷ record { event = Deliver d.to d.c; reply = Count 0 } ∷ record { event = Deliver (other d.to) d.d; reply = Count 0 } ∷ [] in
       let last = record { event = Carry d.from d.a; reply = Count 0 } ∷ later in
       let all = subst (λ (t : List Entry). AreClean rules g [] t) d.ends clean in
-      let at = stands_at c s seals still fixed set f [] d.front last w v (subst (λ (t : List Entry). Stands c s seals still fixed set f [] w t v) d.ends x) in
+      let at = stands_at c s seals steady set f [] d.front last w v (subst (λ (t : List Entry). Stands c s seals steady set f [] w t v) d.ends x) in
       let x1 = at.2 in
-      let x2 = step_on c s seals still fixed set f x1 in
-      let x3 = step_on c s seals still fixed set f x2 in
-      let x4 = step_on c s seals still fixed set f x3 in
+      let x2 = step_on c s seals steady set f x1 in
+      let x3 = step_on c s seals steady set f x2 in
+      let x4 = step_on c s seals steady set f x3 in
       let alive = lives_at_end c s seals rules g w trace v (fresh_open n) clean d x.run in
       let o1 = stay_open c s seals rules g [] w d.front at.0 (clean_front c s seals rules g [] d.front last all) at.1 (fresh_open n) in
       let o2 = stays_open c s seals at.0 (Carry d.from d.a) (Count 0) x1.run.0 refl refl x1.run.1 o1 in
@@ -132,10 +131,9 @@ module _ {CO CI SO SI : Type 0} (c : Halves CO CI) (s : Halves SO SI) (seals : B
       }
 
 -- for any run from a fresh start
-pub empty_at_end : {CO CI SO SI : Type 0} (c : Halves CO CI) (s : Halves SO SI) (seals : Bool) (still : seals ≡ false → (from to : CO) (plain aad sealed : List ℕ) → c.out.seals from plain aad sealed to → to ≡ from)
-    (fixed : (x y : SO) (plain aad sealed : List ℕ) → s.out.seals x plain aad sealed y → s.out.overhead y ≡ s.out.overhead x)
+pub empty_at_end : {CO CI SO SI : Type 0} (c : Halves CO CI) (s : Halves SO SI) (seals : Bool) (steady : AreSteady c s seals)
     (w v : Net CO CI SO SI) (trace : List Entry) (rules : Rules) (f : ℕ → ℕ) → IsFresh c s w → Runs c s seals w trace v → AreClean rules f [] trace → IsDrained trace → IsEmpty v
-empty_at_end c s seals still fixed w v trace rules f n p clean d =
+empty_at_end c s seals steady w v trace rules f n p clean d =
     let g = streams_of c s seals w trace v n p in
     let set : Settings = record { rules = w.server.state.rules; services = w.server.state.services; limit = safe_limit s.out w.server.connection.outbox.half; clean = ⊥ } in
-    ends_empty c s seals still fixed set g.f rules f w trace v n (begins c s seals still fixed set g.f w trace v (refl, refl, refl) n p g.right (λ never. absurd never)) clean d
+    ends_empty c s seals steady set g.f rules f w trace v n (begins c s seals steady set g.f w trace v (refl, refl, refl) n p g.right (λ never. absurd never)) clean d

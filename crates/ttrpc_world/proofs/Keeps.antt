@@ -2,7 +2,13 @@
 use Rattle.ttrpc_world.proofs.Delivers.{around, IsQuiet, Stories}
 use Rattle.ttrpc_world.proofs.Numbers.{Numbers}
 use Rattle.ttrpc_world.proofs.OneWay.{OneWay}
-use Rattle.ttrpc_world.proofs.Words.{act_of, AllByRecursion, elsewhere, Entry, Event, flow_of, Flying, Halves, has_response, IsOwned, List, Net, refl, Reply, Settings, silent, unchanged, with_entry, ℕ}
+use Rattle.ttrpc_world.proofs.Words.{act_of, AllByRecursion, Bool, elsewhere, Entry, Event, false, flow_of, Flying, Halves, has_response, IsOwned, List, Net, refl, Reply, Settings, silent, unchanged, with_entry, ℕ, ◌≡◌}
+
+-- What the two halves keep that send: the client's seals so that nothing of it moves, unless it seals always; and the server's adds
+-- as many bytes to each message.
+pub record AreSteady {CO CI SO SI : Type 0} (c : Halves CO CI) (s : Halves SO SI) (seals : Bool) : Type 0 where
+  pub still : seals ≡ false → (x y : CO) (plain aad sealed : List ℕ) → c.out.seals x plain aad sealed y → y ≡ x
+  pub fixed : (x y : SO) (plain aad sealed : List ℕ) → s.out.seals x plain aad sealed y → s.out.overhead y ≡ s.out.overhead x
 
 -- THE INVARIANT, under rules that stay. In flight are these frames each way, in order: as bytes, as seals, and each as a part
 -- of one call or stream. A side that failed takes no more, so nothing need be said of what is still in flight to it. `f`

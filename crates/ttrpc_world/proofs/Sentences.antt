@@ -6,14 +6,13 @@ use Rattle.ttrpc_world.proofs.Constants.{stepped}
 use Rattle.ttrpc_world.proofs.Delivers.{IsQuiet, IsTimely}
 use Rattle.ttrpc_world.proofs.Timed.{none_due, none_reached, passed_waits, was_timely}
 use Rattle.ttrpc_world.proofs.Failing.{ArePlain, fresh_plain, plainly}
-use Rattle.ttrpc_world.proofs.Keeps.{Keeps, keeps_still}
+use Rattle.ttrpc_world.proofs.Keeps.{AreSteady, Keeps, keeps_still}
 use Rattle.ttrpc_world.proofs.Moves.{break_down, break_up, carry_down, carry_up, client_fails, cut_down, cut_up, deliver_down, deliver_up, server_fails, stay_up}
 use Rattle.ttrpc_world.proofs.Numbers.{AreRight, fresh_numbers, IsRightRun, Numbers}
 use Rattle.ttrpc_world.proofs.OneWay.{starts}
 use Rattle.ttrpc_world.proofs.Words.{[], act_of, Answer, ap, append-nil, append_assoc, AreInOrder, arith, Bool, call_at, CallEvent, calls, Carry, ClientCore, ClientEnd, ClientSide, Close, close_put, ClosedUp, Count, Cut, Deliver, Done, Drain, DropCall, DropReceiver, DropSender, EndStream, Entry, Event, Fail, failed_by_hand, false, Finish, flows, Given, given, Halves, Handed, Idle, in_order_here, inl, inr, IsFresh, Item, item_put, jobs_at, List, Named, Net, nothing_read, OpenEvent, Outcome, Recv, refl, Refused, Reply, Respond, rules, Runs, Send, SentUp, ServerCore, ServerEnd, ServerSide, Settings, silent, Some, stays_as_it_is, Steps, stream_at, subst, sym, Take, ThingEnd, ThingItem, Tick, Ticket, Told, true, Unborn, with_client, with_entry, with_server, ℕ, ◌++◌, ◌∙◌, ◌∷◌, ◌≡◌}
 
-module _ {CO CI SO SI : Type 0} (c : Halves CO CI) (s : Halves SO SI) (seals : Bool) (still : seals ≡ false → (from to : CO) (plain aad sealed : List ℕ) → c.out.seals from plain aad sealed to → to ≡ from)
-    (fixed : (x y : SO) (plain aad sealed : List ℕ) → s.out.seals x plain aad sealed y → s.out.overhead y ≡ s.out.overhead x) (set : Settings) (f : ℕ → ℕ) where
+module _ {CO CI SO SI : Type 0} (c : Halves CO CI) (s : Halves SO SI) (seals : Bool) (steady : AreSteady c s seals) (set : Settings) (f : ℕ → ℕ) where
   abbrev pub Kept : List Entry → Net CO CI SO SI → Type 0
   Kept trace w = Keeps c s set f trace w
 
@@ -60,23 +59,23 @@ module _ {CO CI SO SI : Type 0} (c : Halves CO CI) (s : Halves SO SI) (seals : B
       let undue = λ (clean : set.clean). none_reached c s seals set f trace w now i (z clean).timed (z clean).at.in_time in
       along _ _ v p.only (at_moment _ (with_server x v.server) now (quietly trace (with_server x v.server) (Tick now) Done (λ k. (refl, refl))
       (keeps_ticks c s seals set f trace w.server.state.rules w.server.connection.failure x now v.server refl
-      (keeps_passes c s seals still set f trace w now v.client w.client.connection.failure i (λ clean k. stays_as_it_is now (call_at w.client.state k) (none_due c s seals set f trace w now i (z clean).timed (z clean).at.in_time k)) p.does)
+      (keeps_passes c s seals steady set f trace w now v.client w.client.connection.failure i (λ clean k. stays_as_it_is now (call_at w.client.state k) (none_due c s seals set f trace w now i (z clean).timed (z clean).at.in_time k)) p.does)
       (λ clean k d waits. undue clean k d (passed_waits c s seals w.client.connection.failure w.client now v.client k d p.does waits)) p.serves)))
 
   -- EACH STEP KEEPS IT, where the function is right before it and behind it.
   pub keeps : (trace : List Entry) (w : Net CO CI SO SI) (event : Event) (reply : Reply) (v : Net CO CI SO SI) → Kept trace w → Ruled w → Right w → Right v → (set.clean → CleanStep trace w event reply v) → Steps c s seals w event reply v → Kept (with_entry trace event reply) v
-  keeps trace w (CallEvent request) (Named id) v i u r r2 z p = along _ _ v p.2 (keeps_call c s seals still set f trace w request id v i p.0 p.1 p.3)
-  keeps trace w (OpenEvent request up down) (Named id) v i u r r2 z p = along _ _ v p.2 (keeps_open c s seals still set f trace w request up down id v i p.0 p.1)
-  keeps trace w (Outcome id) (Given outcome) v i u r r2 z p = along _ _ v p.1 (keeps_ask c s seals still set f trace w id outcome v i (λ clean. (z clean).before.client) p.0)
-  keeps trace w (DropCall id) Done v i u r r2 z p = along _ _ v p.only (keeps_drop c s seals still set f trace w id v i (λ clean. let bad : false ≡ true = (z clean).at.event_is in cc) p)
-  keeps trace w (Recv (ClientEnd id)) (Item given) v i u r r2 z p = along _ _ v p.1 (keeps_recv c s seals still set f trace w id given v i u.plain.client p.0)
+  keeps trace w (CallEvent request) (Named id) v i u r r2 z p = along _ _ v p.2 (keeps_call c s seals steady set f trace w request id v i p.0 p.1 p.3)
+  keeps trace w (OpenEvent request up down) (Named id) v i u r r2 z p = along _ _ v p.2 (keeps_open c s seals steady set f trace w request up down id v i p.0 p.1)
+  keeps trace w (Outcome id) (Given outcome) v i u r r2 z p = along _ _ v p.1 (keeps_ask c s seals steady set f trace w id outcome v i (λ clean. (z clean).before.client) p.0)
+  keeps trace w (DropCall id) Done v i u r r2 z p = along _ _ v p.only (keeps_drop c s seals steady set f trace w id v i (λ clean. let bad : false ≡ true = (z clean).at.event_is in cc) p)
+  keeps trace w (Recv (ClientEnd id)) (Item given) v i u r r2 z p = along _ _ v p.1 (keeps_recv c s seals steady set f trace w id given v i u.plain.client p.0)
   keeps trace w (Recv (ServerEnd id)) (Item given) v i u r r2 z p = along _ _ v p.1 (keeps_recv_up c s seals set f trace w id given v.server i r u.plain.server p.0)
-  keeps trace w (Send (ClientEnd id) item) (Ticket ticket) v i u r r2 z p = along _ _ v p.1 (keeps_send c s seals still set f trace w (Send (ClientEnd id) item) (Ticket ticket) id _ _ _ _ v (SentUp item) (ThingItem item) i (omega arith) p.0 (λ k. (refl, refl)) (item_put item) refl (λ e. refl))
+  keeps trace w (Send (ClientEnd id) item) (Ticket ticket) v i u r r2 z p = along _ _ v p.1 (keeps_send c s seals steady set f trace w (Send (ClientEnd id) item) (Ticket ticket) id _ _ _ _ v (SentUp item) (ThingItem item) i (omega arith) p.0 (λ k. (refl, refl)) (item_put item) refl (λ e. refl))
   keeps trace w (Send (ServerEnd id) item) (Ticket ticket) v i u r r2 z p = along _ _ v p.1 (keeps_send_up c s seals set f trace w id item ticket v.server i r p.0)
-  keeps trace w (Close id) (Ticket ticket) v i u r r2 z p = along _ _ v p.1 (keeps_send c s seals still set f trace w (Close id) (Ticket ticket) id _ _ _ _ v ClosedUp ThingEnd i (omega arith) p.0 (λ k. (refl, refl)) close_put refl (λ e. absurd (closed_sends (stream_at w.client.state id) e)))
-  keeps trace w (DropReceiver (ClientEnd id)) Done v i u r r2 z p = along _ _ v p.1 (keeps_unheard c s seals still set f trace w id v i p.0)
+  keeps trace w (Close id) (Ticket ticket) v i u r r2 z p = along _ _ v p.1 (keeps_send c s seals steady set f trace w (Close id) (Ticket ticket) id _ _ _ _ v ClosedUp ThingEnd i (omega arith) p.0 (λ k. (refl, refl)) close_put refl (λ e. absurd (closed_sends (stream_at w.client.state id) e)))
+  keeps trace w (DropReceiver (ClientEnd id)) Done v i u r r2 z p = along _ _ v p.1 (keeps_unheard c s seals steady set f trace w id v i p.0)
   keeps trace w (DropReceiver (ServerEnd id)) Done v i u r r2 z p = along _ _ v p.1 (keeps_unheard_up c s seals set f trace w id i (λ clean. let bad : false ≡ true = (z clean).at.event_is in cc))
-  keeps trace w (DropSender id) Done v i u r r2 z p = along _ _ v p.1 (keeps_unsent c s seals still set f trace w id v i p.0)
+  keeps trace w (DropSender id) Done v i u r r2 z p = along _ _ v p.1 (keeps_unsent c s seals steady set f trace w id v i p.0)
   keeps trace w Take (Handed (Some job)) v i u r r2 z p = along _ _ v p.1 (keeps_hand c s seals set f trace w job v i p.0)
   keeps trace w (Answer id result) Done v i u r r2 z p = along _ _ v p.1 (keeps_answer c s seals set f trace w id result v.server i u.is_set (λ clean. (z clean).at.answer_is) r p.0 p.2)
   keeps trace w (Respond id response) Done v i u r r2 z p = along _ _ v p.only (keeps_respond c s seals set f trace w id response v i u.is_set r p)
@@ -104,7 +103,7 @@ module _ {CO CI SO SI : Type 0} (c : Halves CO CI) (s : Halves SO SI) (seals : B
   -- the settings stay, and no step fails a side so that it is an end
   pub ruled : (w : Net CO CI SO SI) (event : Event) (reply : Reply) (v : Net CO CI SO SI) → Steps c s seals w event reply v → Ruled w → Ruled v
   ruled w event reply v p u =
-      let stays = stepped c s seals fixed w event reply v p in
+      let stays = stepped c s seals steady.fixed w event reply v p in
       record { is_set = (stays.rules ∙ u.is_set.0, stays.limit ∙ u.is_set.1, stays.services ∙ u.is_set.2); plain = plainly c s seals w event reply v p u.plain }
 
   -- right at the first state of what is left of a run

@@ -2,7 +2,7 @@
 -- over a clean run that ends drained.
 use Rattle.ttrpc_world.proofs.Cleanly.{first_step, IsCleanStep}
 use Rattle.ttrpc_world.proofs.Sentences.{Stands, step_on}
-use Rattle.ttrpc_world.proofs.Keeps.{Keeps}
+use Rattle.ttrpc_world.proofs.Keeps.{AreSteady, Keeps}
 use Rattle.ttrpc_world.proofs.Numbers.{AreRight}
 use Rattle.ttrpc_world.proofs.Words.{[], append-nil, append_assoc, Bool, Entry, Event, false, Halves, if◌then◌else◌, List, Net, refl, Reply, Settings, Side, since, Steps, subst, sym, takes_bytes, true, with_entry, ℕ, ◌++◌, ◌||◌, ◌∷◌, ◌≡◌}
 
@@ -11,8 +11,7 @@ since_next P Q true is before start on had h = cc
 since_next P Q false true before start on had h = start refl
 since_next P Q false false before start on had h = on refl (had h)
 
-module _ {CO CI SO SI : Type 0} (c : Halves CO CI) (s : Halves SO SI) (seals : Bool) (still : seals ≡ false → (from to : CO) (plain aad sealed : List ℕ) → c.out.seals from plain aad sealed to → to ≡ from)
-    (fixed : (x y : SO) (plain aad sealed : List ℕ) → s.out.seals x plain aad sealed y → s.out.overhead y ≡ s.out.overhead x) (set : Settings) (f : ℕ → ℕ) where
+module _ {CO CI SO SI : Type 0} (c : Halves CO CI) (s : Halves SO SI) (seals : Bool) (steady : AreSteady c s seals) (set : Settings) (f : ℕ → ℕ) where
   -- WHAT IS KNOWN OF A STEP of such a run
   pub record IsKnown (t : List Entry) (w : Net CO CI SO SI) (event : Event) (reply : Reply) (v : Net CO CI SO SI) : Type 0 where
     pub does : Steps c s seals w event reply v
@@ -30,11 +29,11 @@ module _ {CO CI SO SI : Type 0} (c : Halves CO CI) (s : Halves SO SI) (seals : B
   Starts is_it P = (t : List Entry) (w : Net CO CI SO SI) (event : Event) (reply : Reply) (v : Net CO CI SO SI) → IsKnown t w event reply v → is_it event reply ≡ true → P (with_entry t event reply) v
 
   -- IT HOLDS AT THE END, where such an entry stands behind the last bytes that this side took; or it held at first.
-  pub since_holds : (at : Side) (is_it : Event → Reply → Bool) (P : List Entry → Net CO CI SO SI → Type 0) → Stays at P → Starts is_it P → set.clean → (t rest : List Entry) (w v : Net CO CI SO SI) (before : Bool) → Stands c s seals still fixed set f t w rest v
+  pub since_holds : (at : Side) (is_it : Event → Reply → Bool) (P : List Entry → Net CO CI SO SI → Type 0) → Stays at P → Starts is_it P → set.clean → (t rest : List Entry) (w v : Net CO CI SO SI) (before : Bool) → Stands c s seals steady set f t w rest v
       → (before ≡ true → P t w) → since at is_it before rest ≡ true → P (t ++ rest) v
   since_holds at is_it P stays starts clean t [] w v before x had h = subst (λ (y : List Entry). P y v) (sym (append-nil t)) (subst (λ (y : Net CO CI SO SI). P t y) (sym x.run) (had h))
   since_holds at is_it P stays starts clean t (e ∷ rest) w v before x had h =
-      let next = step_on c s seals still fixed set f x in
+      let next = step_on c s seals steady set f x in
       let step = first_step c s seals set.rules f t w e rest v (x.clean clean) x.run in
       let known : IsKnown t w e.event e.reply x.run.0 = record { does = x.run.1; cleanly = step; right = x.right.0; before = x.kept; behind = next.kept } in
       let takes : Bool = takes_bytes at e.event e.reply in
