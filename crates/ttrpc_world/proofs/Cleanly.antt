@@ -20,11 +20,11 @@ module _ {CO CI SO SI : Type 0} (c : Halves CO CI) (s : Halves SO SI) (seals : B
     pub whole : IsOpen w
     pub timed : IsTimed c s seals t w
 
-  pub first_step : (t : List Entry) (w : Net CO CI SO SI) (e : Entry) (rest : List Entry) (v : Net CO CI SO SI) → IsCleanRun t w (e ∷ rest) v → (r : Runs c s seals w (e ∷ rest) v) → IsCleanStep t w e.event e.reply r.0
-  first_step t w e rest v z r = record { at = z.clean.0; before = lived c s seals w (e ∷ rest) v r z.lives; behind = lived c s seals r.0 rest v r.2 z.lives; whole = z.whole; timed = z.timed }
+  pub first_step : {t : List Entry} {w : Net CO CI SO SI} {e : Entry} {rest : List Entry} {v : Net CO CI SO SI} → IsCleanRun t w (e ∷ rest) v → (r : Runs c s seals w (e ∷ rest) v) → IsCleanStep t w e.event e.reply r.0
+  first_step {w = w} {e} {rest} {v} z r = record { at = z.clean.0; before = lived c s seals w (e ∷ rest) v r z.lives; behind = lived c s seals r.0 rest v r.2 z.lives; whole = z.whole; timed = z.timed }
 
-  pub later_run : (t : List Entry) (w : Net CO CI SO SI) (e : Entry) (rest : List Entry) (v : Net CO CI SO SI) → IsCleanRun t w (e ∷ rest) v → (r : Runs c s seals w (e ∷ rest) v) → IsCleanRun (t ++ e ∷ []) r.0 rest v
-  later_run t w e rest v z r =
+  pub later_run : {t : List Entry} {w : Net CO CI SO SI} {e : Entry} {rest : List Entry} {v : Net CO CI SO SI} → IsCleanRun t w (e ∷ rest) v → (r : Runs c s seals w (e ∷ rest) v) → IsCleanRun (t ++ e ∷ []) r.0 rest v
+  later_run {t} {w} {e} z r =
       let at = z.clean.0 in
       record {
         clean = z.clean.1;

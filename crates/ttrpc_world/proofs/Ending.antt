@@ -1,7 +1,8 @@
 -- THE FOUR ZEROS: at the end of a clean drained run both queues and both pipes are empty, and nothing is in flight.
-use Rattle.ttrpc_world.proofs.Sentences.{begins, Stands, stands_at, step_on}
+use Rattle.ttrpc_world.proofs.Sentences.{begins, Stands, step_on}
+use Rattle.ttrpc_world.proofs.Cleanly.{first_step, fresh_run, IsCleanRun, later_run}
 use Rattle.ttrpc_world.proofs.Keeps.{AreSteady, Keeps}
-use Rattle.ttrpc_world.proofs.Living.{clean_front, fed_whole, fresh_open, lived, lives_at_end, stay_open, stays_open, takes_up}
+use Rattle.ttrpc_world.proofs.Living.{fed_whole, last_four, takes_up}
 use Rattle.ttrpc_world.proofs.OneWay.{OneWay}
 use Rattle.ttrpc_world.proofs.Numbers.{streams_of}
 use Rattle.ttrpc_world.proofs.Words.{[], ActsAll, all_has_come, ap, AreClean, arith, Bool, Carry, Client, ClientSide, Connection, Count, Deliver, Delivers, drop, Entry, Failure, false, Fed, Flying, Halves, InboundTransform, Incoming, IsDrained, IsEmpty, IsFresh, IsOpen, IsQueue, length, lent_of, List, Lives, min, Net, nil_from_length, no_frames_come, None, none_reported, none_to_lend, open_part, Option, other, OutboundTransform, Outbox, Pipe, Queue, Queued, refl, Rules, Runs, safe_limit, Scene, scene, Server, ServerSide, Settings, Side, Some, Steps, subst, sym, take, Ways, ℕ, ◌++◌, ◌<◌, ◌∙◌, ◌∷◌, ◌≡◌}
@@ -101,25 +102,19 @@ module _ {CO CI SO SI : Type 0} (c : Halves CO CI) (s : Halves SO SI) (seals : B
 
 module _ {CO CI SO SI : Type 0} (c : Halves CO CI) (s : Halves SO SI) (seals : Bool) (steady : AreSteady c s seals) (set : Settings) (f : ℕ → ℕ) where
   -- AT THE END NOTHING IS QUEUED AND NOTHING IS IN A PIPE.
-  pub ends_empty : (rules : Rules) (g : ℕ → ℕ) (w : Net CO CI SO SI) (trace : List Entry) (v : Net CO CI SO SI) → IsFresh c s w → Stands c s seals steady set f [] w trace v → AreClean rules g [] trace → IsDrained trace → IsEmpty v
-  ends_empty rules g w trace v n x clean d =
-      let later = record { event = Carry (other d.from) d.b; reply = Count 0 } ∷ record { event = Deliver d.to d.c; reply = Count 0 } ∷ record { event = Deliver (other d.to) d.d; reply = Count 0 } ∷ [] in
-      let last = record { event = Carry d.from d.a; reply = Count 0 } ∷ later in
-      let all = subst (λ (t : List Entry). AreClean rules g [] t) d.ends clean in
-      let at = stands_at c s seals steady set f [] d.front last w v (subst (λ (t : List Entry). Stands c s seals steady set f [] w t v) d.ends x) in
-      let x1 = at.2 in
-      let x2 = step_on c s seals steady set f x1 in
+  empty_behind : (rules : Rules) (g : ℕ → ℕ) {trace : List Entry} (d : IsDrained trace) (t front : List Entry) (w v : Net CO CI SO SI) → IsCleanRun c s seals rules g t w (front ++ last_four d) v → Stands c s seals steady set f t w (front ++ last_four d) v → IsEmpty v
+  empty_behind rules g d t (e ∷ front) w v y x = empty_behind rules g d (t ++ e ∷ []) front x.run.0 v (later_run c s seals rules g y x.run) (step_on c s seals steady set f x)
+  empty_behind rules g d t [] w v y x =
+      let x2 = step_on c s seals steady set f x in
       let x3 = step_on c s seals steady set f x2 in
       let x4 = step_on c s seals steady set f x3 in
-      let alive = lives_at_end c s seals rules g w trace v (fresh_open n) clean d x.run in
-      let o1 = stay_open c s seals rules g [] w d.front at.0 (clean_front c s seals rules g [] d.front last all) at.1 (fresh_open n) in
-      let o2 = stays_open c s seals at.0 (Carry d.from d.a) (Count 0) x1.run.0 refl refl x1.run.1 o1 in
-      let o3 = stays_open c s seals x1.run.0 (Carry (other d.from) d.b) (Count 0) x2.run.0 refl refl x2.run.1 o2 in
-      let o4 = stays_open c s seals x2.run.0 (Deliver d.to d.c) (Count 0) x3.run.0 refl refl x3.run.1 o3 in
-      let z1 = carry_zero c s seals set f d.from d.front at.0 x1.run.0 d.a d.some.0 x1.kept (lived c s seals at.0 last v x1.run alive) x1.run.1 in
-      let z2 = carry_zero c s seals set f (other d.from) _ x1.run.0 x2.run.0 d.b d.some.1 x2.kept (lived c s seals x1.run.0 later v x2.run alive) x2.run.1 in
-      let z3 = deliver_zero c s seals set f d.to _ x2.run.0 x3.run.0 d.c d.some.2 x3.kept o3 x3.run.1 in
-      let z4 = deliver_zero c s seals set f (other d.to) _ x3.run.0 x4.run.0 d.d d.some.3 x4.kept o4 x4.run.1 in
+      let y2 = later_run c s seals rules g y x.run in
+      let y3 = later_run c s seals rules g y2 x2.run in
+      let y4 = later_run c s seals rules g y3 x3.run in
+      let z1 = carry_zero c s seals set f d.from t w x.run.0 d.a d.some.0 x.kept (first_step c s seals rules g y x.run).before x.run.1 in
+      let z2 = carry_zero c s seals set f (other d.from) _ x.run.0 x2.run.0 d.b d.some.1 x2.kept (first_step c s seals rules g y2 x2.run).before x2.run.1 in
+      let z3 = deliver_zero c s seals set f d.to _ x2.run.0 x3.run.0 d.c d.some.2 x3.kept y3.whole x3.run.1 in
+      let z4 = deliver_zero c s seals set f (other d.to) _ x3.run.0 x4.run.0 d.d d.some.3 x4.kept y4.whole x4.run.1 in
       let end : seen v ≡ seen x2.run.0 = ap seen x4.run.2 ∙ z4.1 ∙ z3.1 in
       let queues = of_each (λ (side : Side). queue_of side (seen x2.run.0) ≡ []) d.from (z2.1 d.from ∙ z1.1 d.from ∙ z1.0) (z2.1 (other d.from) ∙ z2.0) in
       let pipes = of_each (λ (side : Side). pipe_to side (seen x2.run.0) ≡ []) d.to z3.0 (sym (ap (λ x. pipe_to (other d.to) x) z3.1) ∙ z4.0) in
@@ -136,4 +131,6 @@ pub empty_at_end : {CO CI SO SI : Type 0} (c : Halves CO CI) (s : Halves SO SI) 
 empty_at_end c s seals steady w v trace rules f n p clean d =
     let g = streams_of c s seals w trace v n p in
     let set : Settings = record { rules = w.server.state.rules; services = w.server.state.services; limit = safe_limit s.out w.server.connection.outbox.half; clean = ⊥ } in
-    ends_empty c s seals steady set g.f rules f w trace v n (begins c s seals steady set g.f w trace v (refl, refl, refl) n p g.right (λ never. absurd never)) clean d
+    let x = begins c s seals steady set g.f w trace v (refl, refl, refl) n p g.right (λ never. absurd never) in
+    empty_behind c s seals steady set g.f rules f d [] d.front w v (subst (λ (t : List Entry). IsCleanRun c s seals rules f [] w t v) d.ends (fresh_run c s seals rules f w trace v n clean d p))
+    (subst (λ (t : List Entry). Stands c s seals steady set g.f [] w t v) d.ends x)

@@ -11,6 +11,11 @@ fed_whole {w = w} {s} {t} {old} {new} {p} {now} {k = k} whole d =
     let same : new ≡ d.mid = subst (λ (b : Bool). Hears b d.mid new) whole_still d.hears in
     subst (λ (y : Connection _ _). Feeds w s old (take k p.bytes) now t y) (sym same) d.does
 
+-- the last four events of a drained run
+abbrev pub last_four : {trace : List Entry} → IsDrained trace → List Entry
+last_four d = record { event = Carry d.from d.a; reply = Count 0 } ∷ record { event = Carry (other d.from) d.b; reply = Count 0 }
+    ∷ record { event = Deliver d.to d.c; reply = Count 0 } ∷ record { event = Deliver (other d.to) d.d; reply = Count 0 } ∷ []
+
 module _ {CO CI SO SI : Type 0} (c : Halves CO CI) (s : Halves SO SI) (seals : Bool) where
   -- who lives behind a run lived all along
   pub lived : (w : Net CO CI SO SI) (rest : List Entry) (v : Net CO CI SO SI) → Runs c s seals w rest v → Lives v → Lives w
@@ -46,11 +51,6 @@ module _ {CO CI SO SI : Type 0} (c : Halves CO CI) (s : Halves SO SI) (seals : B
 
   -- ---- what the last four events are
 
-  -- a run is a run up to a place, and one from there on
-  split_at : (w : Net CO CI SO SI) (front back : List Entry) (v : Net CO CI SO SI) → Runs c s seals w (front ++ back) v → (mid : Net CO CI SO SI) × Runs c s seals w front mid × Runs c s seals mid back v
-  split_at w [] back v r = (w, refl, r)
-  split_at w (e ∷ front) back v r = let l = split_at r.0 front back v r.2 in (l.0, (r.0, r.1, l.1), l.2)
-
   pub runs_joined : (w : Net CO CI SO SI) (front : List Entry) (mid : Net CO CI SO SI) (back : List Entry) (v : Net CO CI SO SI) → Runs c s seals w front mid → Runs c s seals mid back v → Runs c s seals w (front ++ back) v
   runs_joined w [] mid back v same r = subst (λ (x : Net CO CI SO SI). Runs c s seals x back v) same r
   runs_joined w (e ∷ front) mid back v p r = (p.0, p.1, runs_joined p.0 front mid back v p.2 r)
@@ -74,17 +74,18 @@ module _ {CO CI SO SI : Type 0} (c : Halves CO CI) (s : Halves SO SI) (seals : B
       record { server = (fed_whole o2.up up.does).still; client = ap (λ (y : Net CO CI SO SI). y.client.connection.failure) up.only ∙ (fed_whole o.down p.does).still }
 
   -- At the end of a clean drained run both sides live.
+  lives_behind : (rules : Rules) (f : ℕ → ℕ) {trace : List Entry} (d : IsDrained trace) (done front : List Entry) (w v : Net CO CI SO SI) → IsOpen w → AreClean rules f done (front ++ last_four d) → Runs c s seals w (front ++ last_four d) v → Lives v
+  lives_behind rules f d done [] w v o clean r =
+      let o1 = stays_open w (Carry d.from d.a) (Count 0) r.0 refl refl r.1 o in
+      let o2 = stays_open r.0 (Carry (other d.from) d.b) (Count 0) r.2.0 refl refl r.2.1 o1 in
+      let o3 = stays_open r.2.0 (Deliver d.to d.c) (Count 0) r.2.2.0 refl refl r.2.2.1 o2 in
+      subst Lives (sym r.2.2.2.2) (last_two d.to d.c d.d r.2.0 r.2.2.0 r.2.2.2.0 o2 o3 r.2.2.1 r.2.2.2.1)
+  lives_behind rules f d done (e ∷ front) w v o clean r =
+      lives_behind rules f d (done ++ e ∷ []) front r.0 v (stays_open w e.event e.reply r.0 clean.0.event_is clean.0.reply_is r.1 o) clean.1 r.2
+
   pub lives_at_end : (rules : Rules) (f : ℕ → ℕ) (w : Net CO CI SO SI) (trace : List Entry) (v : Net CO CI SO SI) → IsOpen w → AreClean rules f [] trace → IsDrained trace → Runs c s seals w trace v → Lives v
   lives_at_end rules f w trace v o clean d run =
-      let last = record { event = Carry d.from d.a; reply = Count 0 } ∷ record { event = Carry (other d.from) d.b; reply = Count 0 } ∷ record { event = Deliver d.to d.c; reply = Count 0 } ∷ record { event = Deliver (other d.to) d.d; reply = Count 0 } ∷ [] in
-      let at = split_at w d.front last v (subst (λ (t : List Entry). Runs c s seals w t v) d.ends run) in
-      let all = subst (λ (t : List Entry). AreClean rules f [] t) d.ends clean in
-      let o0 = stay_open rules f [] w d.front at.0 (clean_front rules f [] d.front last all) at.1 o in
-      let four = at.2 in
-      let o1 = stays_open at.0 (Carry d.from d.a) (Count 0) four.0 refl refl four.1 o0 in
-      let o2 = stays_open four.0 (Carry (other d.from) d.b) (Count 0) four.2.0 refl refl four.2.1 o1 in
-      let o3 = stays_open four.2.0 (Deliver d.to d.c) (Count 0) four.2.2.0 refl refl four.2.2.1 o2 in
-      subst Lives (sym four.2.2.2.2) (last_two d.to d.c d.d four.2.0 four.2.2.0 four.2.2.2.0 o2 o3 four.2.2.1 four.2.2.2.1)
+      lives_behind rules f d [] d.front w v o (subst (λ (t : List Entry). AreClean rules f [] t) d.ends clean) (subst (λ (t : List Entry). Runs c s seals w t v) d.ends run)
 
 pub fresh_open : {CO CI SO SI : Type 0} {c : Halves CO CI} {s : Halves SO SI} {w : Net CO CI SO SI} → IsFresh c s w → IsOpen w
 fresh_open n = record { up = ap (λ (p : Pipe). p.cut) n.up; down = ap (λ (p : Pipe). p.cut) n.down; takes = ap (λ (x : ServerCore _ _). not x.state.draining) n.server }

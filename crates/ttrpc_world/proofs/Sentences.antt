@@ -121,11 +121,11 @@ module _ {CO CI SO SI : Type 0} (c : Halves CO CI) (s : Halves SO SI) (seals : B
 
   pub step_on : {t : List Entry} {w : Net CO CI SO SI} {e : Entry} {rest : List Entry} {v : Net CO CI SO SI} → (x : Stands t w (e ∷ rest) v) → Stands (t ++ e ∷ []) x.run.0 rest v
   step_on {t} {w} {e} {rest} {v} x = record {
-    kept = keeps t w e.event e.reply x.run.0 x.kept x.is_ruled x.right.0 (now_right x.run.0 rest v x.run.2 x.right.1) (λ clean. first_step c s seals set.rules f t w e rest v (x.clean clean) x.run) x.run.1;
+    kept = keeps t w e.event e.reply x.run.0 x.kept x.is_ruled x.right.0 (now_right x.run.0 rest v x.run.2 x.right.1) (λ clean. first_step c s seals set.rules f (x.clean clean) x.run) x.run.1;
     is_ruled = ruled w e.event e.reply x.run.0 x.run.1 x.is_ruled;
     run = x.run.2;
     right = x.right.1;
-    clean = λ clean. later_run c s seals set.rules f t w e rest v (x.clean clean) x.run;
+    clean = λ clean. later_run c s seals set.rules f (x.clean clean) x.run;
   }
 
   pub kept_at_end : (t rest : List Entry) (w v : Net CO CI SO SI) → Stands t w rest v → Kept (t ++ rest) v
@@ -133,11 +133,11 @@ module _ {CO CI SO SI : Type 0} (c : Halves CO CI) (s : Halves SO SI) (seals : B
   kept_at_end t (e ∷ rest) w v x = subst (λ (y : List Entry). Kept y v) (append_assoc t (e ∷ []) rest) (kept_at_end (t ++ e ∷ []) rest x.run.0 v (step_on x))
 
   -- up to a place, and where it stands there
-  pub stands_at : (t front back : List Entry) (w v : Net CO CI SO SI) → Stands t w (front ++ back) v → (mid : Net CO CI SO SI) × Runs c s seals w front mid × Stands (t ++ front) mid back v
-  stands_at t [] back w v x = (w, refl, subst (λ (y : List Entry). Stands y w back v) (sym (append-nil t)) x)
+  stands_at : (t front back : List Entry) (w v : Net CO CI SO SI) → Stands t w (front ++ back) v → (mid : Net CO CI SO SI) × Stands (t ++ front) mid back v
+  stands_at t [] back w v x = (w, subst (λ (y : List Entry). Stands y w back v) (sym (append-nil t)) x)
   stands_at t (e ∷ front) back w v x =
       let l = stands_at (t ++ e ∷ []) front back x.run.0 v (step_on x) in
-      (l.0, (x.run.0, x.run.1, l.1), subst (λ (y : List Entry). Stands y l.0 back v) (append_assoc t (e ∷ []) front) l.2)
+      (l.0, subst (λ (y : List Entry). Stands y l.0 back v) (append_assoc t (e ∷ []) front) l.1)
 
   -- it holds at the start
   pub fresh : (w : Net CO CI SO SI) → IsFresh c s w → Kept [] w
@@ -167,4 +167,4 @@ module _ {CO CI SO SI : Type 0} (c : Halves CO CI) (s : Halves SO SI) (seals : B
 
   -- AT EACH PLACE the items of each id are in order.
   pub in_order : (w : Net CO CI SO SI) (trace : List Entry) (v : Net CO CI SO SI) → Stands [] w trace v → (front back : List Entry) → trace ≡ front ++ back → (id : ℕ) → AreInOrder set.rules set.limit (flows f id front)
-  in_order w trace v x front back is id = in_order_here ((stands_at [] front back w v (subst (λ (t : List Entry). Stands [] w t v) is x)).2.kept.stories id)
+  in_order w trace v x front back is id = in_order_here ((stands_at [] front back w v (subst (λ (t : List Entry). Stands [] w t v) is x)).1.kept.stories id)

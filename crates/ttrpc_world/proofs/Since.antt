@@ -34,7 +34,7 @@ module _ {CO CI SO SI : Type 0} (c : Halves CO CI) (s : Halves SO SI) (seals : B
   since_holds at is_it P stays starts clean t [] w v before x had h = subst (λ (y : List Entry). P y v) (sym (append-nil t)) (subst (λ (y : Net CO CI SO SI). P t y) (sym x.run) (had h))
   since_holds at is_it P stays starts clean t (e ∷ rest) w v before x had h =
       let next = step_on c s seals steady set f x in
-      let step = first_step c s seals set.rules f t w e rest v (x.clean clean) x.run in
+      let step = first_step c s seals set.rules f (x.clean clean) x.run in
       let known : IsKnown t w e.event e.reply x.run.0 = record { does = x.run.1; cleanly = step; right = x.right.0; before = x.kept; behind = next.kept } in
       let takes : Bool = takes_bytes at e.event e.reply in
       let is : Bool = is_it e.event e.reply in
