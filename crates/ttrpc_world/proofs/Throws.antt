@@ -32,6 +32,7 @@ module _ {XO YO YI : Type 0} (out : OutboundTransform XO) (in_ : InboundTransfor
   unfoldable pub nothing_thrown : (owners : ℕ → Bool) → AllByRecursion IsOwned flights → OneWay out in_ x y p flights → Thrown out in_ owners x y p flights
   nothing_thrown owners own way = record { left = flights; parts = λ k. inl refl; own = own; rising = λ low high b. b; way = way }
 
+module _ {XO YO YI : Type 0} (out : OutboundTransform XO) (in_ : InboundTransform YI) (x : Outbox XO) (y : Connection YO YI) (p : Pipe) (flights : List Flying) where
   lives_thrown : (still : (s t : XO) (plain aad sealed : List ℕ) → out.seals s plain aad sealed t → t ≡ s) (owners : ℕ → Bool) → AreSingle owners flights → AllByRecursion IsOwned flights → InFlight y.decoder p x.queue flights
       → AreLinked out.seals in_.opens in_.refuses flights x.half y.inbound → Thrown out in_ owners (record x { queue = without x.queue owners }) y p flights
   lives_thrown still owners single own b l =
@@ -52,13 +53,7 @@ module _ {XO YO YI : Type 0} (out : OutboundTransform XO) (in_ : InboundTransfor
   pub some_thrown : (failure : Option Failure) → y.failure ≡ failure → (still : (s t : XO) (plain aad sealed : List ℕ) → out.seals s plain aad sealed t → t ≡ s) (owners : ℕ → Bool) → AreSingle owners flights → AllByRecursion IsOwned flights
       → OneWay out in_ x y p flights → Thrown out in_ owners (record x { queue = without x.queue owners }) y p flights
   some_thrown None alive still owners single own way = lives_thrown still owners single own (way.bytes alive) (way.linked alive)
-  some_thrown (Some why) failed still owners single own way = record {
-    left = flights;
-    parts = λ k. inl refl;
-    own = own;
-    rising = λ low high b. b;
-    way = dead out in_ _ y p flights (λ alive. not_both y.failure why failed alive);
-  }
+  some_thrown (Some why) failed still owners single own way = nothing_thrown out in_ _ y p flights owners own (dead out in_ _ y p flights (λ alive. not_both y.failure why failed alive))
 
 -- ---- what taking requests back leaves of the connection
 
