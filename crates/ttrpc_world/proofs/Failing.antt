@@ -1,7 +1,7 @@
 -- How a side fails in a run: no step clears a failure, and what is told of one is no end of a stream.
 use Rattle.ttrpc_world.proofs.OneWay.{either_way}
 use Rattle.ttrpc_world.proofs.Serves.{answered}
-use Rattle.ttrpc_world.proofs.Words.{[], ActiveJob, Answer, ap, AsyncRules, Bool, call_at, calling, CancelledDuringWrite, Client, ClientCore, ClientSide, Connection, Count, Cut, cut_to, DeadlineDuringWrite, Deliver, Disconnected, DisconnectedInside, Done, DropCall, due_at, error_of, Event, Fail, failed_by_hand, Failure, false, first_failure, Halves, has_begun, Hears, if◌then◌else◌, Incoming, inl, inr, is_over, IsFresh, IsPlain, IsPlainFailure, IsWhy, List, Lives, nat_eq, Net, None, Option, Passes, refl, Refused, Reply, Rules, rules, Scene, Server, ServerCore, ServerPasses, ServerSide, serving, Some, Steps, subst, sym, SyncRules, taken_back, taken_from, takes_back, throws, Tick, Told, told, true, want_for, ℕ, ◌∙◌, ◌∷◌, ◌≡◌}
+use Rattle.ttrpc_world.proofs.Words.{[], ActiveJob, Answer, ap, AsyncRules, Bool, call_at, calling, CancelledDuringWrite, ClientCore, ClientSide, Connection, Count, Cut, cut_to, DeadlineDuringWrite, Deliver, Disconnected, DisconnectedInside, Done, DropCall, due_at, error_of, Event, Fail, failed_by_hand, Failure, false, first_failure, Halves, has_begun, Hears, if◌then◌else◌, Incoming, inl, inr, is_over, IsFresh, IsPlain, IsPlainFailure, IsWhy, List, Lives, nat_eq, Net, None, Option, Passes, refl, Refused, Reply, Rules, rules, Scene, ServerCore, ServerPasses, ServerSide, serving, Some, Steps, subst, sym, SyncRules, taken_back, taken_from, takes_back, throws, Tick, Told, told, true, want_for, Ways, ℕ, ◌∙◌, ◌∷◌, ◌≡◌}
 
 -- what becomes of the failure of a side: it is kept, and one that is no end stays so
 pub record Fails (old new : Option Failure) : Type 0 where
@@ -46,16 +46,11 @@ want_plain : (left : List ActiveJob) → IsPlainFailure (want_for left)
 want_plain [] = tt
 want_plain (j ∷ js) = λ m. refl
 
--- why a side fails while it is fed
-client_why : {CO CI : Type 0} (c : Halves CO CI) (now : ℕ) (mid : Scene Client CO CI) (last : Option Incoming) (failure : Failure) → IsWhy (calling c.out c.in_) now mid last failure → IsPlain (error_of failure)
-client_why c now mid None failure why = subst (λ (x : Failure). IsPlain (error_of x)) (sym why) (λ m. refl)
-client_why c now mid (Some f) failure (inl why) = subst (λ (x : Failure). IsPlain (error_of x)) (sym why) (λ m. refl)
-client_why c now mid (Some f) failure (inr why) = absurd why.3
-
-server_why : {SO SI : Type 0} (s : Halves SO SI) (now : ℕ) (mid : Scene Server SO SI) (last : Option Incoming) (failure : Failure) → IsWhy (serving s.out s.in_) now mid last failure → IsPlain (error_of failure)
-server_why s now mid None failure why = subst (λ (x : Failure). IsPlain (error_of x)) (sym why) (λ m. refl)
-server_why s now mid (Some f) failure (inl why) = subst (λ (x : Failure). IsPlain (error_of x)) (sym why) (λ m. refl)
-server_why s now mid (Some f) failure (inr why) = subst (λ (x : Failure). IsPlain (error_of x)) (sym why.3.failure_is) (λ m. refl)
+-- why a side fails while it is fed: want of memory, or what its core says
+why_plain : {S O I : Type 0} (w : Ways S O I) (now : ℕ) (mid : Scene S O I) (last : Option Incoming) (failure : Failure) → ((s : S) (a : _) → w.core.fails s a failure → IsPlain (error_of failure)) → IsWhy w now mid last failure → IsPlain (error_of failure)
+why_plain w now mid None failure core why = subst (λ (x : Failure). IsPlain (error_of x)) (sym why) (λ m. refl)
+why_plain w now mid (Some f) failure core (inl why) = subst (λ (x : Failure). IsPlain (error_of x)) (sym why) (λ m. refl)
+why_plain w now mid (Some f) failure core (inr why) = core mid.state _ why.3
 
 -- no side has failed so that it is an end
 pub record ArePlain {CO CI SO SI : Type 0} (w : Net CO CI SO SI) : Type 0 where
@@ -106,12 +101,12 @@ module _ {CO CI SO SI : Type 0} (c : Halves CO CI) (s : Halves SO SI) (seals : B
       (lived_fails p.does.does.alive ((heard_fails (is_over (taken_from w.up k)) p.does.mid v.server.connection p.does.hears).plain (same_plain p.does.does.still tt)))
   fails w (Deliver ServerSide n) (Count k) v (inr p) = by_server w v (ap (λ (x : Net _ _ _ _). x.client.connection.failure) p.only) (heard_fails (is_over w.up) w.server.connection v.server.connection p.hears)
   fails w (Deliver ServerSide n) (Refused told) v (inl p) =
-      by_server w v (ap (λ (x : Net _ _ _ _). x.client.connection.failure) p.1) (lived_fails p.0.alive (same_plain p.0.fails (server_why s w.moment p.0.mid p.0.last p.0.failure p.0.why)))
+      by_server w v (ap (λ (x : Net _ _ _ _). x.client.connection.failure) p.1) (lived_fails p.0.alive (same_plain p.0.fails (why_plain (serving s.out s.in_) w.moment p.0.mid p.0.last p.0.failure (λ x a used. subst (λ (y : Failure). IsPlain (error_of y)) (sym used.failure_is) (λ m. refl)) p.0.why)))
   fails w (Deliver ClientSide n) (Count k) v p =
       by_client w v (ap (λ (x : Net _ _ _ _). x.server.connection.failure) p.only)
       (lived_fails p.does.does.alive ((heard_fails (is_over (taken_from w.down k)) p.does.mid v.client.connection p.does.hears).plain (same_plain p.does.does.still tt)))
   fails w (Deliver ClientSide n) (Refused told) v (inl p) =
-      by_client w v (ap (λ (x : Net _ _ _ _). x.server.connection.failure) p.1) (lived_fails p.0.alive (same_plain p.0.fails (client_why c 0 p.0.mid p.0.last p.0.failure p.0.why)))
+      by_client w v (ap (λ (x : Net _ _ _ _). x.server.connection.failure) p.1) (lived_fails p.0.alive (same_plain p.0.fails (why_plain (calling c.out c.in_) 0 p.0.mid p.0.last p.0.failure (λ x a never. absurd never) p.0.why)))
   fails w (Cut ServerSide keep) Done v p =
       by_server w v (ap (λ (x : Net _ _ _ _). x.client.connection.failure) p.only)
       (fails_as (ap (λ (x : Net _ _ _ _). x.server.connection.failure) p.only) (heard_fails (is_over (cut_to w.up keep)) w.server.connection p.connection p.hears))
