@@ -10,7 +10,7 @@ use Rattle.ttrpc_world.proofs.Keeps.{AreSteady, Keeps, keeps_still}
 use Rattle.ttrpc_world.proofs.Moves.{break_down, break_up, carry_down, carry_up, client_fails, cut_down, cut_up, deliver_down, deliver_up, server_fails, stay_up}
 use Rattle.ttrpc_world.proofs.Numbers.{AreRight, fresh_numbers, IsRightRun, Numbers}
 use Rattle.ttrpc_world.proofs.OneWay.{starts}
-use Rattle.ttrpc_world.proofs.Words.{[], act_of, Answer, ap, append-nil, append_assoc, AreInOrder, arith, Bool, call_at, CallEvent, calls, Carry, ClientCore, ClientEnd, ClientSide, Close, close_put, ClosedUp, Count, Cut, Deliver, Done, Drain, DropCall, DropReceiver, DropSender, EndStream, Entry, Event, Fail, failed_by_hand, false, Finish, flows, Given, given, Halves, Handed, Idle, in_order_here, inl, inr, IsFresh, Item, item_put, jobs_at, List, Named, Net, nothing_read, OpenEvent, Outcome, Recv, refl, Refused, Reply, Respond, rules, Runs, Send, SentUp, ServerCore, ServerEnd, ServerSide, Settings, silent, Some, stays_as_it_is, Steps, stream_at, subst, sym, Take, ThingEnd, ThingItem, Tick, Ticket, Told, true, Unborn, with_client, with_entry, with_server, ℕ, ◌++◌, ◌∙◌, ◌∷◌, ◌≡◌}
+use Rattle.ttrpc_world.proofs.Words.{[], act_of, Answer, ap, append-nil, append_assoc, AreInOrder, arith, Bool, call_at, CallEvent, calls, Carry, ClientCore, ClientEnd, ClientSide, Close, close_put, ClosedUp, Count, Cut, Deliver, Done, Drain, DropCall, DropReceiver, DropSender, EndStream, Entry, Event, Fail, failed_by_hand, false, Finish, flows, Given, given, Halves, Handed, Idle, in_order_here, inl, inr, IsFresh, Item, item_put, jobs_at, List, Named, Net, nothing_read, OpenEvent, Outcome, Recv, refl, Refused, Reply, Respond, rules, Runs, Send, SentUp, ServerCore, ServerEnd, ServerSide, Settings, silent, Some, Steps, stream_at, subst, sym, Take, ThingEnd, ThingItem, Tick, Ticket, Told, true, Unborn, with_client, with_entry, with_server, ℕ, ◌++◌, ◌∙◌, ◌∷◌, ◌≡◌}
 
 module _ {CO CI SO SI : Type 0} (c : Halves CO CI) (s : Halves SO SI) (seals : Bool) (steady : AreSteady c s seals) (set : Settings) (f : ℕ → ℕ) where
   abbrev pub Kept : List Entry → Net CO CI SO SI → Type 0
@@ -59,7 +59,7 @@ module _ {CO CI SO SI : Type 0} (c : Halves CO CI) (s : Halves SO SI) (seals : B
       let undue = λ (clean : set.clean). none_reached c s seals set f trace w now i (z clean).timed (z clean).at.in_time in
       along _ _ v p.only (at_moment _ (with_server x v.server) now (quietly trace (with_server x v.server) (Tick now) Done (λ k. (refl, refl))
       (keeps_ticks c s seals set f trace w.server.state.rules w.server.connection.failure x now v.server refl
-      (keeps_passes c s seals steady set f trace w now v.client w.client.connection.failure i (λ clean k. stays_as_it_is now (call_at w.client.state k) (none_due c s seals set f trace w now i (z clean).timed (z clean).at.in_time k)) p.does)
+      (keeps_passes c s seals steady set f trace w now v.client w.client.connection.failure i (λ clean. none_due c s seals set f trace w now i (z clean).timed (z clean).at.in_time) p.does)
       (λ clean k d waits. undue clean k d (passed_waits c s seals w.client.connection.failure w.client now v.client k d p.does waits)) p.serves)))
 
   -- EACH STEP KEEPS IT, where the function is right before it and behind it.
