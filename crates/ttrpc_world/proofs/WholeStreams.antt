@@ -7,7 +7,7 @@ use Rattle.ttrpc_world.proofs.Jobs.{job_is, mailed}
 use Rattle.ttrpc_world.proofs.Keeps.{AreSteady, Keeps}
 use Rattle.ttrpc_world.proofs.Numbers.{AreRight, IsRightRun}
 use Rattle.ttrpc_world.proofs.Since.{since_holds, Starts, Stays}
-use Rattle.ttrpc_world.proofs.Words.{[], ActiveJob, all_at, all_given_down, all_given_up, ap, append-nil, AreWholeStreams, AsyncRules, between_own, Bool, ClientEnd, ClientSide, Entry, eqb-true, Event, Failure, false, finds_nothing_down, finds_nothing_up, Flow, flow_of, flows, given_by_end, given_still, got, Halves, heard_down, heard_down_append, heard_up, heard_up_append, in_order_here, inl, inr, IsClean, IsEmpty, IsFresh, IsWholeStream, Item, items, items_append, job_at, jobs_at, List, Net, None, only_of, Option, parcels, put_down, put_down_append, put_up, put_up_append, ReceivesAt, ReceivesBy, Recv, refl, Reply, Rules, Runs, safe_limit, said_then, ServerEnd, ServerSide, Settings, Some, Stream, stream_at, stream_id_of, subst, sym, SyncRules, Thing, true, with_entry, ℕ, ◌++◌, ◌∙◌, ◌≡◌}
+use Rattle.ttrpc_world.proofs.Words.{[], ActiveJob, all_at, all_given_down, all_given_up, ap, append-nil, AreWholeStreams, AsyncRules, between_own, Bool, ClientEnd, ClientSide, Entry, eqb-true, Event, Failure, false, finds_nothing_down, finds_nothing_up, Flow, flow_of, flows, given_by_end, given_still, got, Halves, heard_down, heard_down_append, heard_up, heard_up_append, in_order_here, inl, inr, IsClean, IsEmpty, IsFresh, IsInOrder, IsWholeStream, Item, items, items_append, job_at, jobs_at, List, Net, None, only_of, Option, parcels, put_down, put_down_append, put_up, put_up_append, ReceivesAt, ReceivesBy, Recv, refl, Reply, Rules, Runs, safe_limit, said_then, ServerEnd, ServerSide, Settings, Some, Stream, stream_at, stream_id_of, subst, sym, SyncRules, Thing, true, with_entry, Word, ℕ, ◌++◌, ◌∙◌, ◌≡◌}
 
 module _ {CO CI SO SI : Type 0} (c : Halves CO CI) (s : Halves SO SI) (seals : Bool) (steady : AreSteady c s seals) (set : Settings) (f : ℕ → ℕ) where
   abbrev AllUp : ℕ → List Entry → Net CO CI SO SI → Type 0
@@ -16,29 +16,25 @@ module _ {CO CI SO SI : Type 0} (c : Halves CO CI) (s : Halves SO SI) (seals : B
   abbrev AllDown : ℕ → List Entry → Net CO CI SO SI → Type 0
   AllDown k t w = DownIdle w → got (heard_down (flows f k t)) ≡ items (put_down set.rules set.limit (flows f k t))
 
-  -- what was put in, where this step puts in no item
-  put_still : (says : List Flow → List Thing) → ((a b : List Flow) → says (a ++ b) ≡ says a ++ says b) → (k : ℕ) (t : List Entry) (event : Event) (reply : Reply) → items (says (flow_of f k event reply)) ≡ [] → items (says (flows f k (with_entry t event reply))) ≡ items (says (flows f k t))
-  put_still says append k t event reply none =
-      let old = says (flows f k t) in
+  -- A step that puts in no item leaves all given that was, of what goes either way.
+  given_on : (says : List Flow → List Thing) → ((a b : List Flow) → says (a ++ b) ≡ says a ++ says b) → (hears : List Flow → List Word) → ((a b : List Flow) → hears (a ++ b) ≡ hears a ++ hears b) → (k : ℕ) (t : List Entry) (event : Event) (reply : Reply) → items (says (flow_of f k event reply)) ≡ []
+      → IsInOrder (says (flows f k (with_entry t event reply))) (hears (flows f k (with_entry t event reply))) → got (hears (flows f k t)) ≡ items (says (flows f k t)) → got (hears (flows f k (with_entry t event reply))) ≡ items (says (flows f k (with_entry t event reply)))
+  given_on says append hears joins k t event reply none order all =
+      let old = flows f k t in
       let new = flow_of f k event reply in
-      ap (λ xs. items (says xs)) (said_then (flow_of f k) t event reply) ∙ ap items (append (flows f k t) new) ∙ items_append old (says new) ∙ ap (λ ys. items old ++ ys) none ∙ append-nil (items old)
+      let now = said_then (flow_of f k) t event reply in
+      let put = ap (λ xs. items (says xs)) now ∙ ap items (append old new) ∙ items_append (says old) (says new) ∙ ap (λ ys. items (says old) ++ ys) none ∙ append-nil (items (says old)) in
+      given_still (says old) (says (flows f k (with_entry t event reply))) (hears old) (hears (flows f k (with_entry t event reply))) (hears new) put (ap hears now ∙ joins old new) order all
 
   up_stays : (k : ℕ) → Stays c s seals steady set f ServerSide (AllUp k)
   up_stays k t w event reply v i none all = λ idle.
       let b = up_back c s seals steady set f t w event reply v i i.cleanly.at.event_is i.cleanly.at.reply_is none i.does idle in
-      let old = flows f k t in
-      let now = flows f k (with_entry t event reply) in
-      let new = flow_of f k event reply in
-      given_still (put_up old) (put_up now) (heard_up old) (heard_up now) (heard_up new) (put_still put_up put_up_append k t event reply (b.1 k)) (ap heard_up (said_then (flow_of f k) t event reply) ∙ heard_up_append (flows f k t) new) (in_order_here (i.behind.stories k)).up (all b.0)
+      given_on put_up put_up_append heard_up heard_up_append k t event reply (b.1 k) (in_order_here (i.behind.stories k)).up (all b.0)
 
   down_stays : (k : ℕ) → Stays c s seals steady set f ClientSide (AllDown k)
   down_stays k t w event reply v i none all = λ idle.
       let b = down_back c s seals steady set f t w event reply v i i.cleanly.at.event_is i.cleanly.at.reply_is none i.does idle in
-      let old = flows f k t in
-      let now = flows f k (with_entry t event reply) in
-      let new = flow_of f k event reply in
-      given_still (put_down set.rules set.limit old) (put_down set.rules set.limit now) (heard_down old) (heard_down now) (heard_down new) (put_still (put_down set.rules set.limit) (put_down_append set.rules set.limit) k t event reply (b.1 k)) (ap heard_down (said_then (flow_of f k) t event reply) ∙ heard_down_append (flows f k t) new)
-      (in_order_here (i.behind.stories k)).down (all b.0)
+      given_on (put_down set.rules set.limit) (put_down_append set.rules set.limit) heard_down heard_down_append k t event reply (b.1 k) (in_order_here (i.behind.stories k)).down (all b.0)
 
   -- ---- where a receiver has nothing yet
 

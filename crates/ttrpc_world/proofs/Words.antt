@@ -30,5 +30,5 @@ pub use Rattle.ttrpc_world_trace.proofs.Reading.{IsPlain, items_append, nothing_
 pub use Rattle.ttrpc_world_trace.proofs.Tidy.{IsPatient, IsSentBack, IsTooSoon, once, whole_call}
 pub use Rattle.ttrpc_world_trace.proofs.Turns.{IsAnsweredBy}
 pub use Rattle.ttrpc_world_trace.proofs.Upward.{box_of, box_up, flags_of, IsDeaf, IsMade, IsStarted, thing_up}
-pub use Rattle.ttrpc_world_trace.proofs.StoryWords.{Act, act_of, acts, Answered, AreInOrder, Asked, asked, asked_by, Began, Body, Call, Called, calls, calls_append, calls_work, close_flags, ClosedUp, closing_news, data_news, data_thing, deadline_in, Dropped, Ended, EndedDown, ending_thing, Expired, expired_at, Flow, flow_of, flows, Gave, got, HasOkStatus, heard, heard_down, heard_down_append, heard_up, heard_up_append, HeardDown, HeardUp, is_due as is_call_due, IsOneToOne, IsRightAt, IsStreamOf, IsWhy, items, last_thing, left_of, names, News, news_of, only_if, Open, past_error, put_down, put_down_append, put_up, put_up_append, Ran, ReceivesAt, said, said_then, SentDown, SentUp, silent, StreamBody, Thing, ThingEnd, ThingItem, ThingLast, told, told_by, UnaryBody, unasked, unheard, untold, Waiting, want_for, with_entry, with_mail, Word, work, ℤ, ◌%◌}
+pub use Rattle.ttrpc_world_trace.proofs.StoryWords.{Act, act_of, acts, Answered, AreInOrder, Asked, asked, asked_by, Began, Body, Call, Called, calls, calls_append, calls_work, close_flags, ClosedUp, closing_news, data_news, data_thing, deadline_in, Dropped, Ended, EndedDown, ending_thing, Expired, expired_at, Flow, flow_of, flows, Gave, got, HasOkStatus, heard, heard_down, heard_down_append, heard_up, heard_up_append, HeardDown, HeardUp, is_due as is_call_due, IsInOrder, IsOneToOne, IsRightAt, IsStreamOf, IsWhy, items, last_thing, left_of, names, News, news_of, only_if, Open, past_error, put_down, put_down_append, put_up, put_up_append, Ran, ReceivesAt, said, said_then, SentDown, SentUp, silent, StreamBody, Thing, ThingEnd, ThingItem, ThingLast, told, told_by, UnaryBody, unasked, unheard, untold, Waiting, want_for, with_entry, with_mail, Word, work, ℤ, ◌%◌}
 pub use Rattle.ttrpc_world.specs.Headline.Living.{IsEmpty, IsOpen, Lives}
