@@ -3,7 +3,7 @@
 -- the same stream.
 use Rattle.ttrpc_pair.proofs.Words.{unheard}
 use Rattle.ttrpc_world.proofs.Serves.{acts_so, one_less, passes_so}
-use Rattle.ttrpc_world.proofs.Words.{[], ActiveJob, ActsAll, ActsOn, all_at, all_changed, all_in_front, all_less, AllByRecursion, Answer, ap, arith, AsyncRules, at_stays, Bool, brought_by, cases_lt, cases_order, changed_at, changed_under, ClientSide, cond-false, cond-true, Count, Deliver, Does, Done, DropReceiver, EndsOne, EndStream, Entry, eq-eqb, Error, Event, ExpiresOne, Failure, false, filter, Finish, Flying, flying_without, Halves, Handed, header_of_frame, id_of, if◌then◌else◌, Incoming, inl, inr, IsFresh, IsOneToOne, IsRightAt, IsStreamOf, Item, Job, JobList, last_id, left_behind, List, Mail, MakeJob, MakeStream, map, MESSAGE_TYPE_REQUEST, MessageHeader, nat_eq, ne_eqb, Net, new_job, None, on_mail, Option, OutboundTransform, Outbox, PutIn, ReceivesBy, Recv, refl, Refused, Reply, Result, Row, Rules, rules, Runs, Scene, scene, Sent, Server, ServerCore, ServerEnd, ServerSide, serving, Some, stays, StaysFound, Steps, stream_body, subst, sym, SyncRules, Take, Tick, true, unary_body, under_stays, with_server, without_payload, without_receiver, ℕ, ◌++◌, ◌+◌, ◌<◌, ◌∙◌, ◌∷◌, ◌≡◌, ◌≤◌}
+use Rattle.ttrpc_world.proofs.Words.{[], ActiveJob, ActsAll, ActsOn, all_at, all_changed, all_in_front, all_less, AllByRecursion, Answer, ap, arith, AsyncRules, at_stays, Bool, brought_by, cases_lt, cases_order, changed_at, changed_under, ClientSide, cond-false, cond-true, Count, Deliver, Does, Done, DropReceiver, EndsOne, EndStream, Entry, eq-eqb, Error, Event, ExpiresOne, Failure, false, filter, Finish, Flying, flying_without, Halves, Handed, header_of_frame, id_of, if◌then◌else◌, Incoming, inl, inr, IsFresh, IsOneToOne, IsRightAt, IsStreamOf, Item, Job, JobList, last_id, left_behind, List, Mail, MakeJob, MakeStream, map, MESSAGE_TYPE_REQUEST, MessageHeader, nat_eq, ne_eqb, Net, new_job, None, on_mail, Option, OutboundTransform, Outbox, PutIn, ReceivesBy, Recv, refl, Refused, Reply, Result, Row, Rules, rules, Runs, Scene, scene, Sent, Server, ServerCore, ServerEnd, ServerSide, serving, Some, stays, StaysFound, Steps, stream_body, subst, sym, SyncRules, Take, Tick, true, unary_body, under_stays, with_server, without_payload, without_receiver, ℕ, ◌++◌, ◌+◌, ◌<◌, ◌∙◌, ◌∷◌, ◌≡◌, ◌≤◌, ◌⊎◌}
 
 -- ---- streams that rise
 
@@ -216,20 +216,25 @@ jobs_map : (f : ℕ → ℕ) (n : ℕ) (change : ActiveJob → ActiveJob) → St
 jobs_map f n change stay [] h = tt
 jobs_map f n change stay (j ∷ js) h = (rw (stay.id j, stay.header j) h.0, jobs_map f n change stay js h.1)
 
-does_goes : {O : Type 0} (out : OutboundTransform O) (f : ℕ → ℕ) (r : Row) (old : Server) (o : O) (header : MessageHeader) (now : ℕ) (sent : List Sent) (new : Server) → Does out r old o header now sent new
-    → Placed f old.jobs → Goes f old.jobs new.jobs
-does_goes out f (MakeJob request) old o header now sent new d p =
-    subst (λ (t : Server). Goes f old.jobs t.jobs) (sym d.0) (make_placed f old.jobs (new_job (old.jobs.last + 1) header request (unary_body old.rules now request)) refl p)
-does_goes out f (MakeStream request) old o header now sent new d p =
-    subst (λ (t : Server). Goes f old.jobs t.jobs) (sym d.0) (make_placed f old.jobs (new_job (old.jobs.last + 1) header (without_payload request) (stream_body old.services.bare_openings header.flags request.payload)) refl p)
-does_goes out f (PutIn payload) old o header now sent new d p =
-    let change = changed_under header.stream_id (brought_by header payload) in
-    subst (λ (t : Server). Goes f old.jobs t.jobs) (sym d.0)
-    (stay_placed f old.jobs _ refl (jobs_map f old.jobs.last change (under_stays header.stream_id (brought_by header payload)) old.jobs.list p.below) p)
-does_goes out f r old o header now sent new d p = same_placed f old.jobs new.jobs (ap (λ (t : Server). t.jobs) d.0) p
-
 changed_goes : (f : ℕ → ℕ) (old new : JobList) → new.last ≡ old.last → AreChanged old.list new.list → Placed f old → Goes f old new
 changed_goes f old new last c p = stay_placed f old new last (subst (λ (js : List ActiveJob). AreBelow f old.last js) (sym c.is) (jobs_map f old.last c.g c.found old.list p.below)) p
+
+-- WHAT A ROW LEAVES OF THE JOBS: one more is made, or mailboxes change.
+abbrev RowLeaves : JobList → JobList → Type 0
+RowLeaves old new = ((job : ActiveJob) × (job.id ≡ old.last + 1) × (new ≡ record { last = old.last + 1; list = old.list ++ job ∷ [] })) ⊎ (AreChanged old.list new.list × (new.last ≡ old.last))
+
+row_leaves : {O : Type 0} (out : OutboundTransform O) (r : Row) (old : Server) (o : O) (header : MessageHeader) (now : ℕ) (sent : List Sent) (new : Server) → Does out r old o header now sent new → RowLeaves old.jobs new.jobs
+row_leaves out (MakeJob request) old o header now sent new d = inl (new_job (old.jobs.last + 1) header request (unary_body old.rules now request), refl, ap (λ (t : Server). t.jobs) d.0)
+row_leaves out (MakeStream request) old o header now sent new d =
+    inl (new_job (old.jobs.last + 1) header (without_payload request) (stream_body old.services.bare_openings header.flags request.payload), refl, ap (λ (t : Server). t.jobs) d.0)
+row_leaves out (PutIn payload) old o header now sent new d =
+    let into = brought_by header payload in
+    inr (record { g = changed_under header.stream_id into; found = under_stays header.stream_id into; is = ap (λ (t : Server). t.jobs.list) d.0 }, ap (λ (t : Server). t.jobs.last) d.0)
+row_leaves out r old o header now sent new d = inr (unchanged old.jobs.list new.jobs.list (ap (λ (t : Server). t.jobs.list) d.0), ap (λ (t : Server). t.jobs.last) d.0)
+
+row_goes : (f : ℕ → ℕ) (old new : JobList) → RowLeaves old new → Placed f old → Goes f old new
+row_goes f old new (inl made) p = subst (λ (js : JobList). Goes f old js) (sym made.2) (make_placed f old made.0 made.1 p)
+row_goes f old new (inr changed) p = changed_goes f old new changed.1 changed.0 p
 
 -- one job expires
 expires_go : {O : Type 0} (out : OutboundTransform O) (old mid new : Server) (from between to : Outbox O) (job : ActiveJob) → ExpiresOne out old from job mid between → ((f : ℕ → ℕ) → Placed f mid.jobs → Goes f mid.jobs new.jobs) → (f : ℕ → ℕ) → Placed f old.jobs → Goes f old.jobs new.jobs
@@ -241,7 +246,7 @@ expires_go out old mid new from between to job e later f p =
 acts_go : {O I : Type 0} (h : Halves O I) (f : ℕ → ℕ) (now : ℕ) (fs : List Incoming) (old new : Scene Server O I) → ActsAll (serving h.out h.in_) now old fs new → Placed f old.state.jobs → Goes f old.state.jobs new.state.jobs
 acts_go h f now fs old new a =
     acts_so (serving h.out h.in_) now (λ x y. (g : ℕ → ℕ) → Placed g x.state.jobs → Goes g x.state.jobs y.state.jobs) (λ x g p. same_placed g x.state.jobs x.state.jobs refl p)
-    (λ i is x y b later g p. then_goes g x.state.jobs b.0.state.jobs y.state.jobs (does_goes h.out g _ x.state x.outbox.half (header_of_frame i) now b.1.sent b.0.state b.1.reacts p) later) fs old new a f
+    (λ i is x y b later g p. then_goes g x.state.jobs b.0.state.jobs y.state.jobs (row_goes g x.state.jobs b.0.state.jobs (row_leaves h.out _ x.state x.outbox.half (header_of_frame i) now b.1.sent b.0.state b.1.reacts) p) later) fs old new a f
 
 ends_go : (f : ℕ → ℕ) (old new : JobList) (id : ℕ) (job : ActiveJob) → new.last ≡ old.last → EndsOne old.list id job new.list → Placed f old → Goes f old new
 ends_go f old new id job last t p =
@@ -265,18 +270,14 @@ right_unmap f change stay [] h = tt
 right_unmap f change stay (j ∷ js) h = (ap f (sym (stay.id j)) ∙ h.0 ∙ ap (λ (x : MessageHeader). x.stream_id) (stay.header j), right_unmap f change stay js h.1)
 
 -- what is right behind a frame was right before
-does_right : {O : Type 0} (out : OutboundTransform O) (f : ℕ → ℕ) (r : Row) (old : Server) (o : O) (header : MessageHeader) (now : ℕ) (sent : List Sent) (new : Server) → Does out r old o header now sent new
-    → AreRight f new.jobs.list → AreRight f old.jobs.list
-does_right out f (MakeJob request) old o header now sent new d right = all_in_front (IsRight f) old.jobs.list _ (subst (λ (t : Server). AreRight f t.jobs.list) d.0 right)
-does_right out f (MakeStream request) old o header now sent new d right = all_in_front (IsRight f) old.jobs.list _ (subst (λ (t : Server). AreRight f t.jobs.list) d.0 right)
-does_right out f (PutIn payload) old o header now sent new d right =
-    right_unmap f (changed_under header.stream_id (brought_by header payload)) (under_stays header.stream_id (brought_by header payload)) old.jobs.list (subst (λ (t : Server). AreRight f t.jobs.list) d.0 right)
-does_right out f r old o header now sent new d right = subst (λ (t : Server). AreRight f t.jobs.list) d.0 right
+row_right : (f : ℕ → ℕ) (old new : JobList) → RowLeaves old new → AreRight f new.list → AreRight f old.list
+row_right f old new (inl made) right = all_in_front (IsRight f) old.list _ (subst (λ (js : JobList). AreRight f js.list) made.2 right)
+row_right f old new (inr changed) right = right_unmap f changed.0.g changed.0.found old.list (subst (λ (js : List ActiveJob). AreRight f js) changed.0.is right)
 
 pub acts_right : {O I : Type 0} (h : Halves O I) (f : ℕ → ℕ) (now : ℕ) (front : List Flying) (old new : Scene Server O I) → ActsOn (serving h.out h.in_) now old front new
     → AreRight f new.state.jobs.list → AreRight f old.state.jobs.list
 acts_right h f now [] old new a right = subst (λ (x : Scene Server _ _). AreRight f x.state.jobs.list) a right
-acts_right h f now (x ∷ front) old new a right = does_right h.out f _ old.state _ _ now a.1 a.0.state a.2 (acts_right h f now front a.0 new a.4 right)
+acts_right h f now (x ∷ front) old new a right = row_right f old.state.jobs a.0.state.jobs (row_leaves h.out _ old.state _ _ now a.1 a.0.state a.2) (acts_right h f now front a.0 new a.4 right)
 
 -- ---- at every state of a run
 
