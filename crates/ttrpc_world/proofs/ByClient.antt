@@ -189,15 +189,18 @@ module _ {CO CI SO SI : Type 0} (c : Halves CO CI) (s : Halves SO SI) (seals : B
       (λ k e. elsewhere (later_of w v.client.state next k) (stories k) (unasked f k id trace given e) (silent (flow_of f k) trace (Outcome id) (Given given) refl) refl refl refl (p.others k (λ same. e (sym same))) (streams k)))
 
   -- What is kept of one stream changes, and no other id hears of it.
-  keeps_stream : (w : Net CO CI SO SI) (event : Event) (reply : Reply) (id : ℕ) (x : ClientCore CO CI) → (i : Kept trace w) → x.connection ≡ w.client.connection → (next : x.state.next ≡ w.client.state.next)
-      → ((k : ℕ) → call_at x.state k ≡ call_at w.client.state k) → ((k : ℕ) → k ≢ id → stream_at x.state k ≡ stream_at w.client.state k)
-      → ((k : ℕ) → act_of f k event reply ≡ []) → ((k : ℕ) → id ≢ k → said (flow_of f k) (with_entry trace event reply) ≡ said (flow_of f k) trace)
-      → (Place (around set (has_response w) w.client.state.next) id (here_at f trace i.up i.down w.server.state.jobs.list w.client.state id) → PlaceOf w (with_entry trace event reply) i.up i.down x.state id)
-      → Kept (with_entry trace event reply) (with_client w x)
-  keeps_stream w event reply id x i connection next calls others quiet unheard_by here =
+  keeps_stream : (w : Net CO CI SO SI) (event : Event) (reply : Reply) (id : ℕ) (x : ClientCore CO CI) → (i : Kept trace w) → {this : ClientCore CO CI} → x ≡ this → this.connection ≡ w.client.connection → this.state.next ≡ w.client.state.next
+      → ((k : ℕ) → call_at this.state k ≡ call_at w.client.state k) → ((k : ℕ) → k ≢ id → stream_at x.state k ≡ stream_at w.client.state k)
+      → ((k : ℕ) → act_of f k event reply ≡ []) → ((k : ℕ) → id ≢ k → said (flow_of f k) (with_entry trace event reply) ≡ said (flow_of f k) trace) → {flow : List Flow} {st : Option Stream}
+      → Place (around set (has_response w) w.client.state.next) id (record (here_at f trace i.up i.down w.server.state.jobs.list w.client.state id) { flows = flow; stream = st })
+      → said (flow_of f id) (with_entry trace event reply) ≡ flow → stream_at x.state id ≡ st → Kept (with_entry trace event reply) (with_client w x)
+  keeps_stream w event reply id x i same connection was_next was_called others quiet unheard_by here flow stream =
       let t = with_entry trace event reply in
-      state_changes w t x i connection next
-      (λ stories. at_one (PlaceOf w t i.up i.down x.state) id (here (stories id))
+      let next : x.state.next ≡ w.client.state.next = ap (λ (y : ClientCore CO CI). y.state.next) same ∙ was_next in
+      let calls : (k : ℕ) → call_at x.state k ≡ call_at w.client.state k = λ k. ap (λ (y : ClientCore CO CI). call_at y.state k) same ∙ was_called k in
+      state_changes w t x i (ap (λ (y : ClientCore CO CI). y.connection) same ∙ connection) next
+      (λ stories. at_one (PlaceOf w t i.up i.down x.state) id
+      (elsewhere (later_of w x.state next id) here (silent (act_of f id) trace event reply (quiet id)) flow refl refl refl (calls id) stream)
       (λ k e. elsewhere (later_of w x.state next k) (stories k) (silent (act_of f k) trace event reply (quiet k)) (unheard_by k e) refl refl refl (calls k) (others k (λ same. e (sym same)))))
 
   -- An item is asked for.
@@ -205,29 +208,21 @@ module _ {CO CI SO SI : Type 0} (c : Halves CO CI) (s : Halves SO SI) (seals : B
       → Kept (with_entry trace (Recv (ClientEnd id)) (Item given)) (with_client w v.client)
   keeps_recv w id given v i plain p =
       let event = Recv (ClientEnd id) in
-      let next : v.client.state.next ≡ w.client.state.next = ap (λ (x : ClientCore CO CI). x.state.next) p.same in
-      let calls : (k : ℕ) → call_at v.client.state k ≡ call_at w.client.state k = λ k. ap (λ (x : ClientCore CO CI). call_at x.state k) p.same in
-      keeps_stream w event (Item given) id v.client i (ap (λ (x : ClientCore CO CI). x.connection) p.same) next calls p.others (λ k. refl)
+      keeps_stream w event (Item given) id v.client i p.same refl refl (λ k. refl) p.others (λ k. refl)
       (λ k e. untold (flow_of f k) k id trace event HeardDown given refl (λ word. refl) e)
-      (λ story. elsewhere (later_of w v.client.state next id) (hears_here {st = stream_at v.client.state id} w.client.connection.failure given story plain p.own) (silent (act_of f id) trace event (Item given) refl)
-      (told (flow_of f id) id id trace event HeardDown given refl (λ word. refl) refl) refl refl refl (calls id) refl)
+      (hears_here {st = stream_at v.client.state id} w.client.connection.failure given (i.stories id) plain p.own)
+      (told (flow_of f id) id id trace event HeardDown given refl (λ word. refl) refl) refl
 
   -- A receiver is dropped, or a sender.
   pub keeps_unheard : (w : Net CO CI SO SI) (id : ℕ) (v : Net CO CI SO SI) → Kept trace w → DropsReceiver w.client id v.client → Kept (with_entry trace (DropReceiver (ClientEnd id)) Done) (with_client w v.client)
   keeps_unheard w id v i p =
-      let event = DropReceiver (ClientEnd id) in
-      let next : v.client.state.next ≡ w.client.state.next = ap (λ (x : ClientCore CO CI). x.state.next) p.same in
-      let calls : (k : ℕ) → call_at v.client.state k ≡ call_at w.client.state k = λ k. ap (λ (x : ClientCore CO CI). call_at x.state k) p.same in
-      keeps_stream w event Done id v.client i (ap (λ (x : ClientCore CO CI). x.connection) p.same) next calls p.others (λ k. refl) (λ k e. silent (flow_of f k) trace event Done refl)
-      (λ story. elsewhere (later_of w v.client.state next id) (unheard_here story) (silent (act_of f id) trace event Done refl) (silent (flow_of f id) trace event Done refl) refl refl refl (calls id) p.own)
+      let quiet = λ (k : ℕ). silent (flow_of f k) trace (DropReceiver (ClientEnd id)) Done refl in
+      keeps_stream w (DropReceiver (ClientEnd id)) Done id v.client i p.same refl refl (λ k. refl) p.others (λ k. refl) (λ k e. quiet k) (unheard_here (i.stories id)) (quiet id) p.own
 
   pub keeps_unsent : (w : Net CO CI SO SI) (id : ℕ) (v : Net CO CI SO SI) → Kept trace w → DropsSender w.client id v.client → Kept (with_entry trace (DropSender id) Done) (with_client w v.client)
   keeps_unsent w id v i p =
-      let event = DropSender id in
-      let next : v.client.state.next ≡ w.client.state.next = ap (λ (x : ClientCore CO CI). x.state.next) p.same in
-      let calls : (k : ℕ) → call_at v.client.state k ≡ call_at w.client.state k = λ k. ap (λ (x : ClientCore CO CI). call_at x.state k) p.same in
-      keeps_stream w event Done id v.client i (ap (λ (x : ClientCore CO CI). x.connection) p.same) next calls p.others (λ k. refl) (λ k e. silent (flow_of f k) trace event Done refl)
-      (λ story. elsewhere (later_of w v.client.state next id) (unsent_here story) (silent (act_of f id) trace event Done refl) (silent (flow_of f id) trace event Done refl) refl refl refl (calls id) p.own)
+      let quiet = λ (k : ℕ). silent (flow_of f k) trace (DropSender id) Done refl in
+      keeps_stream w (DropSender id) Done id v.client i p.same refl refl (λ k. refl) p.others (λ k. refl) (λ k e. quiet k) (unsent_here (i.stories id)) (quiet id) p.own
 
   -- ---- requests are taken back, where they may be
 
