@@ -206,11 +206,6 @@ module _ {CO CI SO SI : Type 0} (c : Halves CO CI) (s : Halves SO SI) (seals : B
   by_end w id result x i right p sends =
       concludes w (EndStream id result) id true result x i right (λ k. (refl, refl)) p.job p.ends (of_stream w p.job p.stream) sends p.same refl refl refl (λ alive. p.alive)
 
-  -- what it sends, by the rules that are there
-  by_rules : (w : Net CO CI SO SI) (k : ℕ) (response : Response) (sent : List Sent) → w.server.state.rules ≡ AsyncRules → Responds AsyncRules (safe_limit s.out w.server.connection.outbox.half) k response sent
-      → Responds w.server.state.rules (safe_limit s.out w.server.connection.outbox.half) k response sent
-  by_rules w k response sent is p = subst (λ (r : Rules). Responds r (safe_limit s.out w.server.connection.outbox.half) k response sent) (sym is) p
-
   pub keeps_end : (w : Net CO CI SO SI) (id : ℕ) (result : Result (Option Response) Error) (x : ServerCore SO SI) → Kept trace w → IsSet w → AreRight f w.server.state.jobs.list → EndsStream s.out w.server id result x → IsEnd c s seals result
       → Kept (with_entry trace (EndStream id result) Done) (with_server w x)
   keeps_end w id (Ok None) x i ruled right p is =
@@ -220,11 +215,11 @@ module _ {CO CI SO SI : Type 0} (c : Halves CO CI) (s : Halves SO SI) (seals : B
       (sends_close s.out w.server.connection.outbox k p.sends.0 x.connection.outbox within p.sends.1 p.sends.2)))
   keeps_end w id (Ok (Some response)) x i ruled right p is =
       by_end w id (Ok (Some response)) x i right p
-      (sent_answer w x p.job true response p.sends.0 ruled is p.stream (by_rules w p.job.header.stream_id response p.sends.0 p.rules p.sends.1) p.sends.2)
+      (sent_answer w x p.job true response p.sends.0 ruled is p.stream (rw p.rules p.sends.1) p.sends.2)
   keeps_end w id (Err error) x i ruled right p is =
       let q = p.sends.2 in
       by_end w id (Err error) x i right p
-      (sent_error w x p.job true error p.sends.0 q.0 ruled p.rules p.stream p.sends.1 p.sends.3 (by_rules w p.job.header.stream_id p.sends.0 q.0 p.rules q.1) q.2)
+      (sent_error w x p.job true error p.sends.0 q.0 ruled p.rules p.stream p.sends.1 p.sends.3 (rw p.rules q.1) q.2)
 
   -- ---- a response is queued for a job, which goes on
 

@@ -233,11 +233,7 @@ module _ {CO CI SO SI : Type 0} (c : Halves CO CI) (s : Halves SO SI) (set : Set
       let h : MessageHeader = x.frame.message.header in
       let sent = a.known.server.is_work in
       let none : jobs_at t.jobs.list h.stream_id ≡ [] = a.known.server.jobs_is in
-      subst (λ (v : Services). IsRowOf v h.stream_id set.rules (request_of a.b) (row_at t x)) served
-      (subst (λ (plain : List ℕ). IsRowOf t.services h.stream_id set.rules (request_of a.b) (case_row t.rules t.services h (case_of t.rules h (Opened plain) (inlet_of (jobs_at t.jobs.list h.stream_id))))) (sym sent.plain)
-      (subst (λ (jobs : List ActiveJob). IsRowOf t.services h.stream_id set.rules (request_of a.b) (case_row t.rules t.services h (case_of t.rules h (Opened (request_bytes (request_of a.b))) (inlet_of jobs)))) (sym none)
-      (subst (λ (r : Rules). IsRowOf t.services h.stream_id set.rules (request_of a.b) (case_row r t.services h (case_of r h (Opened (request_bytes (request_of a.b))) Absent))) (sym ruled)
-      (ask_row set.rules t.services h (request_of a.b) sent.known sent.short sent.type_))))
+      rw (sent.plain, none, ruled, ← served) (ask_row set.rules t.services h (request_of a.b) sent.known sent.short sent.type_)
 
   passed_row_is : (x : Flying) (rest down : List Flying) (t : Server) → (a : HerePassed x rest down t.jobs.list) → IsItemRow x.frame.message.header.stream_id t.rules (inlet_of (jobs_at t.jobs.list x.frame.message.header.stream_id)) x.plain (row_at t x)
   passed_row_is x rest down t a =

@@ -63,15 +63,12 @@ record BothFail {CO CI SO SI : Type 0} (w v : Net CO CI SO SI) : Type 0 where
   server : Fails w.server.connection.failure v.server.connection.failure
 
 module _ {CO CI SO SI : Type 0} (c : Halves CO CI) (s : Halves SO SI) (seals : Bool) where
-  -- the client changed, or the server, or neither
+  -- the client changed, or the server
   by_client : (w v : Net CO CI SO SI) → v.server.connection.failure ≡ w.server.connection.failure → Fails w.client.connection.failure v.client.connection.failure → BothFail w v
   by_client w v server client = record { client = client; server = same_fails server }
 
   by_server : (w v : Net CO CI SO SI) → v.client.connection.failure ≡ w.client.connection.failure → Fails w.server.connection.failure v.server.connection.failure → BothFail w v
   by_server w v client server = record { client = same_fails client; server = server }
-
-  by_none : (w v : Net CO CI SO SI) → v ≡ w → BothFail w v
-  by_none w v same = subst (λ (x : Net CO CI SO SI). BothFail w x) (sym same) (record { client = same_fails refl; server = same_fails refl })
 
   passes_client : (failure : Option Failure) (old : ClientCore CO CI) (now : ℕ) (new : ClientCore CO CI) → Passes seals failure old now new → Fails old.connection.failure new.connection.failure
   passes_client None old now new p =
@@ -115,8 +112,7 @@ module _ {CO CI SO SI : Type 0} (c : Halves CO CI) (s : Halves SO SI) (seals : B
       (fails_as (ap (λ (x : Net _ _ _ _). x.client.connection.failure) p.only) (heard_fails (is_over (cut_to w.down keep)) w.client.connection p.connection p.hears))
   fails w (Fail ClientSide) Done v p = subst (λ (x : Net CO CI SO SI). BothFail w x) (sym p) (record { client = first_fails w.client.connection.failure (Told failed_by_hand) (λ m. refl); server = same_fails refl })
   fails w (Fail ServerSide) Done v p = subst (λ (x : Net CO CI SO SI). BothFail w x) (sym p) (record { client = same_fails refl; server = first_fails w.server.connection.failure (Told failed_by_hand) (λ m. refl) })
-  fails w (Deliver ServerSide n) (Refused told) v (inr p) = by_none w v p.1
-  fails w (Deliver ClientSide n) (Refused told) v (inr p) = by_none w v p.1
+  fails w (Deliver to n) (Refused told) v (inr p) = subst (λ (x : Net CO CI SO SI). BothFail w x) (sym p.1) (record { client = same_fails refl; server = same_fails refl })
   fails w event reply v p =
       let client : v.client.connection.failure ≡ w.client.connection.failure = first_of (cc, search rules) in
       let server : v.server.connection.failure ≡ w.server.connection.failure = first_of (cc, search rules) in
