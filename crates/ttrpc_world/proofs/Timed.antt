@@ -4,10 +4,18 @@ use Rattle.ttrpc_world.proofs.Keeps.{Keeps}
 use Rattle.ttrpc_world.proofs.Serves.{acts_so}
 use Rattle.ttrpc_world.proofs.Words.{[], Act, act_of, acts, ActsAll, ap, append_assoc, arith, arrives, AtClient, Bool, Born, ByCall, ByOpen, Call, call_at, Called, CallEvent, calling, calls, calls_append, cases_eq, Client, ClientCore, ClientSide, Count, deadline_of, Deliver, Done, due_at, Ended, Entry, eq-eqb, Event, Expired, expired_at, Failure, false, Given, Halves, if◌then◌else◌, Incoming, inl, inr, is_call_due, is_clean_event, is_clean_reply, is_none_of, is_some, IsFresh, IsInTime, IsPatient, Landing, landing_of, LandsOn, left_of, List, moment_after, moment_behind, Named, negsuc, Net, None, number_of, only_if, only_one, Option, or_parts, Origin, Outcome, outcomes, Passes, pos, reaches, reaches_at, reaches_one, refl, Refused, Reply, Request, rules, said_then, Scene, scene, ServerSide, Settings, Some, Steps, Stream, subst, suc, sym, Tick, true, Unborn, Waiting, with_entry, zero, ℕ, ℤ, ◌&&◌, ◌++◌, ◌+◌, ◌∙◌, ◌∷◌, ◌≡◌, ◌≢◌, ◌≤◌, ◌⊎◌}
 
--- this is the call of an id, made at such a moment, and this is its deadline
+-- the call of this id is made at such a moment, and this is right of it
+abbrev pub Makes : (Option Call → Type 0) → ℕ → ℕ → Event → Reply → Type 0
+Makes P k moment (CallEvent request) (Named id) = (id ≡ k) × P (Some (Waiting (deadline_of moment request.timeout_nano)))
+Makes P k moment event reply = ⊥
+
+-- it is made, and this is its deadline
 abbrev pub IsCallOf : ℕ → Option ℕ → ℕ → Event → Reply → Type 0
-IsCallOf k d moment (CallEvent request) (Named id) = (id ≡ k) × (d ≡ deadline_of moment request.timeout_nano)
-IsCallOf k d moment event reply = ⊥
+IsCallOf k d = Makes (λ e. e ≡ Some (Waiting d)) k
+
+-- who wait alike have one deadline
+same_deadline : (a b : Option ℕ) → Some (Waiting a) ≡ Some (Waiting b) → b ≡ a
+same_deadline a b e = cc
 
 -- it is among these entries, of which the first stands at such a moment
 abbrev pub HasCall : ℕ → Option ℕ → ℕ → List Entry → Type 0
@@ -35,7 +43,7 @@ and_false true b h e = let bad : true ≡ false = sym h ∙ e in cc
 
 reaches_not : (f : ℕ → ℕ) (front : List Entry) (now moment k : ℕ) (d : Option ℕ) (event : Event) (reply : Reply) → IsCallOf k d moment event reply → outcomes (acts f k front) ≡ [] → reaches_at f front now moment event reply ≡ false → reaches now d ≡ false
 reaches_not f front now moment k d (CallEvent request) (Named id) is none h =
-    ap (reaches now) is.1 ∙ and_false (reaches now (deadline_of moment request.timeout_nano)) (is_none_of (outcomes (acts f id front))) (ap is_none_of (ap (λ (i : ℕ). outcomes (acts f i front)) is.0 ∙ none)) h
+    ap (reaches now) (same_deadline _ d is.1) ∙ and_false (reaches now (deadline_of moment request.timeout_nano)) (is_none_of (outcomes (acts f id front))) (ap is_none_of (ap (λ (i : ℕ). outcomes (acts f i front)) is.0 ∙ none)) h
 reaches_not f front now moment k d event reply is none h = absurd is
 
 pub in_time : (f : ℕ → ℕ) (front : List Entry) (now moment k : ℕ) (d : Option ℕ) (es : List Entry) → HasCall k d moment es → outcomes (acts f k front) ≡ [] → reaches_one f front now moment es ≡ false → reaches now d ≡ false
@@ -92,7 +100,7 @@ called_now k d t now later (CallEvent request) (Named id) rises is = record {
   moment = now;
   request = request;
   early = rises;
-  deadline = is.1;
+  deadline = same_deadline _ d is.1;
   named = λ f. (calls (acts f k t), [], calls_grow f k t (CallEvent request) (Named id) ∙ ap (λ (b : Bool). calls (acts f k t) ++ calls (only_if b (Called request))) (eq-eqb id k is.0));
 }
 called_now k d t now later event reply rises is = absurd is
@@ -111,11 +119,6 @@ was_timely f k q d t now w one =
 
 same_least : (a b d : ℕ) → a ≤ b → d ≡ b → a ≤ d
 same_least a b d le is = omega (arith, le, is)
-
--- the call of this id is made at such a moment, and this is right of it
-abbrev pub Makes : (Option Call → Type 0) → ℕ → ℕ → Event → Reply → Type 0
-Makes P k moment (CallEvent request) (Named id) = (id ≡ k) × P (Some (Waiting (deadline_of moment request.timeout_nano)))
-Makes P k moment event reply = ⊥
 
 -- WHAT IS RIGHT OF A CALL BEHIND A CLEAN STEP was so before it, or the call was made: where it is so of what asking leaves, of what
 -- a moment leaves, and of what a delivery leaves.
@@ -155,24 +158,14 @@ module _ {CO CI SO SI : Type 0} (c : Halves CO CI) (s : Halves SO SI) (seals : B
         | inr e ↦ sym (l.others k (λ same. e (sym same))) ∙ later h
       ]) fs old new
 
-  made_call : (k : ℕ) (d : Option ℕ) (moment : ℕ) (event : Event) (reply : Reply) → Makes (λ (e : Option Call). e ≡ Some (Waiting d)) k moment event reply → IsCallOf k d moment event reply
-  made_call k d moment (CallEvent request) (Named id) made =
-      let same : Some (Waiting (deadline_of moment request.timeout_nano)) ≡ Some (Waiting d) = made.1 in
-      let is : deadline_of moment request.timeout_nano ≡ d = cc in
-      (made.0, sym is)
-  made_call k d moment event reply made = absurd made
-
   pub passed_waits : (failure : Option Failure) (old : ClientCore CO CI) (now : ℕ) (new : ClientCore CO CI) (k : ℕ) (d : Option ℕ) → Passes seals failure old now new → call_at new.state k ≡ Some (Waiting d) → call_at old.state k ≡ Some (Waiting d)
   passed_waits failure old now new k d = passed_back c s seals (λ (e : Option Call). e ≡ Some (Waiting d)) (λ failed e. left_waits failed e d) (λ at e. expired_is at e (Waiting d) (λ same. cc)) failure old now new k
 
   waited : (w : Net CO CI SO SI) (event : Event) (reply : Reply) (v : Net CO CI SO SI) (k : ℕ) (d : Option ℕ) → is_clean_event event ≡ true → is_clean_reply reply ≡ true → Steps c s seals w event reply v
       → call_at v.client.state k ≡ Some (Waiting d) → (call_at w.client.state k ≡ Some (Waiting d)) ⊎ IsCallOf k d w.moment event reply
   waited w event reply v k d e r p h =
-      elim (called_back c s seals (λ (x : Option Call). x ≡ Some (Waiting d)) (λ failed x. left_waits failed x d) (λ at x. expired_is at x (Waiting d) (λ same. cc)) w event reply v k e r
-      (λ n j is count q. acted_waits q.does.does.frames (scene w.client.state w.client.connection) (scene v.client.state q.does.mid) k d q.does.does.acts) p h) [
-        | inl was ↦ inl was
-        | inr made ↦ inr (made_call k d w.moment event reply made)
-      ]
+      called_back c s seals (λ (x : Option Call). x ≡ Some (Waiting d)) (λ failed x. left_waits failed x d) (λ at x. expired_is at x (Waiting d) (λ same. cc)) w event reply v k e r
+      (λ n j is count q. acted_waits q.does.does.frames (scene w.client.state w.client.connection) (scene v.client.state q.does.mid) k d q.does.does.acts) p h
 
   moment_goes : (w : Net CO CI SO SI) (event : Event) (reply : Reply) (v : Net CO CI SO SI) → Steps c s seals w event reply v → v.moment ≡ moment_after w.moment event reply
   moment_goes w (Tick now) Done v p = ap (λ (x : Net CO CI SO SI). x.moment) p.only
