@@ -4,7 +4,7 @@ use Rattle.ttrpc_world.proofs.OneWay.{joins, OneWay}
 use Rattle.ttrpc_world.proofs.Constants.{services_stay}
 use Rattle.ttrpc_world.proofs.Payloads.{ask_row, IsItemRow, IsRefusal, IsRowOf, item_row}
 use Rattle.ttrpc_world.proofs.Flights.{behind_other, behind_own, sends_refusal}
-use Rattle.ttrpc_world.proofs.Words.{[], Absent, Act, act_of, ActiveJob, acts, ActsOn, all_behind, AllByRecursion, ap, append-nil, append_assoc, arith, Around, arrives_here, asked_by, Asking, AsyncRules, Birth, Bool, Born, box_up, brought_by, ByCall, ByOpen, Call, call_at, calling, calls, calls_work, case_of, case_row, cases_eq, changed_under, Client, comes_of, Connection, deadline_in, deadline_of, Does, down_of, elsewhere, Entry, eq-eqb, Event, false, first_act, flags_of, flow_of, Flying, Halves, has_method, Here, here_at, id_of, Ignore, inl, inlet_of, inr, is_stream, IsAsked, IsHeldBy, IsItem, IsJob, IsMade, IsNever, IsNoMethod, IsPassed, IsPatient, IsTurned, jobs_at, Landing, lands_here, LandsOn, LandsOnce, last_id, Later, List, MakeJob, MakeStream, MESSAGE_TYPE_REQUEST, MessageHeader, nat_eq, new_job, Open, Opened, Option, OutboundTransform, Outbox, parcels, passes_here, Pipe, Place, pushed_other, pushed_own, PutIn, puts_here, refers_here, refl, Reply, Request, request_bytes, request_of, Response, Row, row_elsewhere, row_made, Rules, rules, rules_stay, Scene, SendResponse, SendsAll, SendsOwnAnswer, Sent, Server, Services, serving, Settings, Some, stream_at, stream_body, stream_id_of, subst, sym, SyncRules, TidyOf, true, unary_body, unchanged, under_other, under_own, under_stays, untaken, Waiting, with_mail, without_payload, ℕ, ◌%◌, ◌++◌, ◌+◌, ◌∙◌, ◌∷◌, ◌≡◌, ◌≢◌, ◌≤◌, ◌⊎◌}
+use Rattle.ttrpc_world.proofs.Words.{[], Act, act_of, ActiveJob, acts, ActsOn, all_behind, AllByRecursion, ap, append-nil, append_assoc, arith, Around, arrives_here, asked_by, Asking, AsyncRules, Birth, Bool, Born, box_up, brought_by, ByCall, ByOpen, Call, call_at, calling, calls, calls_work, case_of, case_row, cases_eq, changed_under, Client, comes_of, Connection, deadline_in, deadline_of, Does, down_of, elsewhere, Entry, eq-eqb, Event, false, first_act, flags_of, flow_of, Flying, Halves, has_method, Here, here_at, id_of, Ignore, inl, inlet_of, inr, is_stream, IsAsked, IsHeldBy, IsItem, IsJob, IsMade, IsNever, IsNoMethod, IsPassed, IsPatient, IsTurned, jobs_at, Landing, lands_here, LandsOn, LandsOnce, last_id, Later, List, MakeJob, MakeStream, MESSAGE_TYPE_REQUEST, MessageHeader, nat_eq, new_job, Open, Opened, Option, OutboundTransform, Outbox, parcels, passes_here, Pipe, Place, pushed_other, pushed_own, PutIn, puts_here, refers_here, refl, Reply, Request, request_of, Response, Row, row_elsewhere, row_made, Rules, rules, rules_stay, Scene, SendResponse, SendsAll, SendsOwnAnswer, Sent, Server, serving, Settings, Some, stream_at, stream_body, stream_id_of, subst, sym, SyncRules, TidyOf, true, unary_body, unchanged, under_other, under_own, under_stays, untaken, Waiting, with_mail, without_payload, ℕ, ◌%◌, ◌++◌, ◌+◌, ◌∙◌, ◌∷◌, ◌≡◌, ◌≢◌, ◌≤◌, ◌⊎◌}
 
 abbrev pub around : Settings → (ℕ → Bool) → ℕ → Around
 around set had next = record { set = set; had = had; next = next }

@@ -1,5 +1,5 @@
 -- What is sent reads back, what a core makes of it then, and the flights that it is sent as.
-use Rattle.ttrpc_world.proofs.Words.{[], Absent, Act, and_parts, arith, asked_row, AskedCall, Asks, AsyncRules, Bool, Busy, by_status, Case, case_of, case_row, Chat, closing_news, codes, data_case, data_news, decimal, empty_request, empty_response, Err, even_id_text, EvenId, false, fit_to_message, fitted, Full, Gives, has_method, has_service, has_stream, HasOkStatus, if◌then◌else◌, Ignore, inactive_text, Inlet, INVALID_ARGUMENT, IsAnswer, IsAscii, IsAscii-decimal, IsRequest, IsResponse, IsUtf8, IsUtf8-append, IsUtf8-from_ascii, landing_of, le-ltb, length, limit_text, List, ltb-true, MakeJob, MakeStream, malformed_text, MESSAGE_LENGTH_MAX, MESSAGE_TYPE_DATA, MESSAGE_TYPE_REQUEST, MESSAGE_TYPE_RESPONSE, MessageHeader, method_text, nat_eq, nat_lt, news_of, NoMethod, NoService, Opened, Origin, other_of, Others, oversize_text, path_text, PutIn, reads_back, refl, Request, request_again, request_bytes, request_fields, request_fits, request_row, request_step, Response, response_again, response_bytes, response_fields, response_fits, response_size, response_step, Row, Rules, rules, SendResponse, service_text, Services, Skipped, Some, status_response, subst, suc, sym, SyncRules, Taking, timeout_response, true, UNIMPLEMENTED, UNKNOWN, zero, ℕ, ◌%◌, ◌&&◌, ◌++◌, ◌-◌, ◌<◌, ◌^◌, ◌∙◌, ◌∷◌, ◌≡◌, ◌≤◌}
+use Rattle.ttrpc_world.proofs.Words.{[], Absent, Act, and_parts, arith, asked_row, AskedCall, Asks, AsyncRules, Bool, Busy, by_status, case_of, case_row, Chat, closing_news, codes, data_case, data_news, decimal, empty_request, empty_response, Err, even_id_text, EvenId, false, fit_to_message, fitted, Full, Gives, has_method, has_service, has_stream, HasOkStatus, if◌then◌else◌, Ignore, inactive_text, Inlet, INVALID_ARGUMENT, IsAnswer, IsAscii, IsAscii-decimal, IsRequest, IsResponse, IsUtf8, IsUtf8-append, IsUtf8-from_ascii, landing_of, le-ltb, length, limit_text, List, ltb-true, MakeJob, MakeStream, malformed_text, MESSAGE_LENGTH_MAX, MESSAGE_TYPE_DATA, MESSAGE_TYPE_REQUEST, MESSAGE_TYPE_RESPONSE, MessageHeader, method_text, nat_eq, nat_lt, news_of, NoMethod, NoService, Opened, Origin, other_of, Others, oversize_text, path_text, PutIn, reads_back, refl, Request, request_again, request_bytes, request_fields, request_fits, request_row, request_step, Response, response_again, response_bytes, response_fields, response_fits, response_size, response_step, Row, Rules, rules, SendResponse, service_text, Services, Some, status_response, subst, suc, sym, SyncRules, Taking, timeout_response, true, UNIMPLEMENTED, UNKNOWN, zero, ℕ, ◌%◌, ◌&&◌, ◌++◌, ◌-◌, ◌<◌, ◌^◌, ◌∙◌, ◌∷◌, ◌≡◌, ◌≤◌}
 
 -- ---- texts
 
@@ -123,13 +123,10 @@ pub ask_row : (r : Rules) (services : Services) (h : MessageHeader) (q : Request
     → IsRowOf services h.stream_id r q (case_row r services h (case_of r h (Opened (request_bytes q)) Absent))
 ask_row SyncRules services h q is short type_ =
     let within : nat_lt MESSAGE_LENGTH_MAX (length (request_bytes q)) ≡ false = le-ltb _ _ short in
-    let case : case_of SyncRules h (Opened (request_bytes q)) Absent ≡ Asks (request_bytes q) = rw (within, type_) refl in
-    subst (λ (x : Case). IsRowOf services h.stream_id SyncRules q (case_row SyncRules services h x)) (sym case)
-    (subst (IsRowOf services h.stream_id SyncRules q) (sym (read_is SyncRules services h q is short)) (asked_is h.stream_id SyncRules (λ a. let bad : SyncRules ≡ AsyncRules = a in cc) services q is))
+    rw (within, type_) (subst (IsRowOf services h.stream_id SyncRules q) (sym (read_is SyncRules services h q is short)) (asked_is h.stream_id SyncRules (λ a. let bad : SyncRules ≡ AsyncRules = a in cc) services q is))
 ask_row AsyncRules services h q is short type_ =
     let within : nat_lt MESSAGE_LENGTH_MAX (length (request_bytes q)) ≡ false = le-ltb _ _ short in
-    let case : case_of AsyncRules h (Opened (request_bytes q)) Absent ≡ (if nat_eq (h.stream_id % 2) 0 then EvenId else Asks (request_bytes q)) = rw (within, type_) refl in
-    subst (λ (x : Case). IsRowOf services h.stream_id AsyncRules q (case_row AsyncRules services h x)) (sym case) (even_or_asked services h q is short (nat_eq (h.stream_id % 2) 0) refl)
+    rw (within, type_) (even_or_asked services h q is short (nat_eq (h.stream_id % 2) 0) refl)
 
 even_or_item : (services : Services) (h : MessageHeader) (plain : List ℕ) (inlet : Inlet) (even : Bool) → nat_eq (h.stream_id % 2) 0 ≡ even
     → IsItemRow h.stream_id AsyncRules inlet plain (case_row AsyncRules services h (if even then EvenId else data_case plain inlet))
@@ -143,12 +140,10 @@ pub item_row : (r : Rules) (services : Services) (h : MessageHeader) (plain : Li
     → IsItemRow h.stream_id r inlet plain (case_row r services h (case_of r h (Opened plain) inlet))
 item_row SyncRules services h plain inlet short type_ =
     let within : nat_lt MESSAGE_LENGTH_MAX (length plain) ≡ false = le-ltb _ _ short in
-    let case : case_of SyncRules h (Opened plain) inlet ≡ Skipped = rw (within, type_) refl in
-    subst (λ (x : Case). IsItemRow h.stream_id SyncRules inlet plain (case_row SyncRules services h x)) (sym case) (λ a odd t. let bad : SyncRules ≡ AsyncRules = a in cc)
+    rw (within, type_) (λ a odd t. let bad : SyncRules ≡ AsyncRules = a in cc)
 item_row AsyncRules services h plain inlet short type_ =
     let within : nat_lt MESSAGE_LENGTH_MAX (length plain) ≡ false = le-ltb _ _ short in
-    let case : case_of AsyncRules h (Opened plain) inlet ≡ (if nat_eq (h.stream_id % 2) 0 then EvenId else data_case plain inlet) = rw (within, type_) refl in
-    subst (λ (x : Case). IsItemRow h.stream_id AsyncRules inlet plain (case_row AsyncRules services h x)) (sym case) (even_or_item services h plain inlet (nat_eq (h.stream_id % 2) 0) refl)
+    rw (within, type_) (even_or_item services h plain inlet (nat_eq (h.stream_id % 2) 0) refl)
 
 -- ---- what the client makes of what comes
 
