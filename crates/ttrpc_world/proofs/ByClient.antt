@@ -5,7 +5,7 @@ use Rattle.ttrpc_world.proofs.Numbers.{asked_more, Between, items_more, Numbers,
 use Rattle.ttrpc_world.proofs.OneWay.{goes_on, joins}
 use Rattle.ttrpc_world.proofs.Flights.{data_brings, IsData, IsRequestFlight, sends_data, sends_request, SendsFlight}
 use Rattle.ttrpc_world.proofs.Throws.{AreSingle, back_stays, nothing_thrown, PartsOf, some_thrown, Stays, Thrown}
-use Rattle.ttrpc_world.proofs.Words.{[], act_of, all_joined, ap, arith, asked, asks_here, AsyncKind, begins_here, Birth, Bool, box_down, ByCall, ByOpen, call_at, CallEvent, calls, CancelledDuringWrite, Client, ClientCore, ClientEnd, ClientKind, closed_error, Connection, data_thing, deadline_of, DeadlineDuringWrite, Done, DropCall, DropReceiver, drops_here, DropSender, DropsReceiver, DropsSender, due_at, elsewhere, Entry, eqb-true, Error, Event, expires_here, Failure, false, first_act, first_flow, flags_of, Flow, flow_of, Flying, Forgot, Given, given, GoesOn, Halves, has_response, heard, HeardDown, hears_here, here_at, id_of, if◌then◌else◌, inl, inr, is_some, IsBegun, IsOdd, IsOwned, IsPlainFailure, IsPut, IsRequest, IsStarted, Item, last_id, Later, List, Named, nat_eq, Net, None, one_request, only_if, OpenEvent, opening_flags, OpensStream, Option, Outbox, Outcome, parcels, Passes, Place, pushed_other, pushed_own, Recv, refl, Reply, Request, request_of, Requests, Response, Result, said, Sender, SenderClosed, sends_here, SendsOn, Settings, silent, Some, stays_as_it_is, Stream, stream_at, stream_within, StreamReceives, subst, sym, SyncKind, taken_back, takes_back, TakesOutcome, Thing, thrown_here, throws, Ticks, told, true, unasked, unchanged, unheard, unheard_here, unsendable, unsendable_error, unsent_here, untold, waits, wants, with_client, with_entry, with_sender, ℕ, ◌%◌, ◌++◌, ◌+◌, ◌<◌, ◌^◌, ◌∙◌, ◌∷◌, ◌≡◌, ◌≢◌, ◌≤◌, ◌⊎◌}
+use Rattle.ttrpc_world.proofs.Words.{[], act_of, all_joined, ap, arith, asked, asks_here, AsyncKind, begins_here, Birth, Bool, box_down, ByCall, ByOpen, call_at, CallEvent, CancelledDuringWrite, Client, ClientCore, ClientEnd, ClientKind, closed_error, Connection, data_thing, deadline_of, DeadlineDuringWrite, Done, DropCall, DropReceiver, drops_here, DropSender, DropsReceiver, DropsSender, due_at, elsewhere, Entry, eqb-true, Error, Event, expires_here, Failure, false, first_act, first_flow, flags_of, Flow, flow_of, Flying, Forgot, Given, given, GoesOn, Halves, has_response, heard, HeardDown, hears_here, here_at, id_of, if◌then◌else◌, inl, inr, is_some, IsBegun, IsOdd, IsOwned, IsPlainFailure, IsPut, IsRequest, IsStarted, Item, last_id, Later, List, Named, nat_eq, Net, None, one_request, only_if, OpenEvent, opening_flags, OpensStream, Option, Outbox, Outcome, parcels, Passes, Place, pushed_other, pushed_own, Recv, refl, Reply, Request, request_of, Requests, Response, Result, said, Sender, SenderClosed, sends_here, SendsOn, Settings, silent, Some, stays_as_it_is, Stream, stream_at, stream_within, StreamReceives, subst, sym, SyncKind, taken_back, takes_back, TakesOutcome, Thing, thrown_here, throws, told, true, unasked, unchanged, unheard, unheard_here, unsendable, unsendable_error, unsent_here, untold, waits, wants, with_client, with_entry, with_sender, ℕ, ◌%◌, ◌++◌, ◌+◌, ◌<◌, ◌^◌, ◌∙◌, ◌∷◌, ◌≡◌, ◌≢◌, ◌≤◌, ◌⊎◌}
 
 -- dropping takes a request back only where requests are thrown away, and where the call waits
 back_only : (failed may waiting : Bool) → (if failed then false else if may then waiting else false) ≡ true → (may ≡ true) × (waiting ≡ true)
@@ -279,18 +279,15 @@ module _ {CO CI SO SI : Type 0} (c : Halves CO CI) (s : Halves SO SI) (seals : B
       (elsewhere (later_of w v.client.state next id) (drops_here (stories id) never) refl refl refl refl refl p.does.own (streams id))
       (λ k e. elsewhere (later_of w v.client.state next k) (stories k) refl refl refl refl refl (p.does.others k (λ same. e (sym same))) (streams k))))
 
-  -- A moment comes.
   -- in a clean run no call is due
   abbrev NoneDue : Net CO CI SO SI → ℕ → Type 0
   NoneDue w now = set.clean → (k : ℕ) → due_at now (call_at w.client.state k) ≡ false
 
-  tick_lives : (w : Net CO CI SO SI) (now : ℕ) (x : ClientCore CO CI) → Kept trace w → NoneDue w now → Ticks seals w.client now x → Kept trace (with_client w x)
-  tick_lives w now x i undue p =
+  -- A moment comes.
+  pub keeps_passes : (w : Net CO CI SO SI) (now : ℕ) (x : ClientCore CO CI) (failure : Option Failure) → Kept trace w → NoneDue w now → Passes seals failure w.client now x → Kept trace (with_client w x)
+  keeps_passes w now x None i undue p =
       let next : x.state.next ≡ w.client.state.next = ap (λ (y : Client). y.next) p.expires.same in
       let streams : (k : ℕ) → stream_at x.state k ≡ stream_at w.client.state k = λ k. ap (λ (y : Client). stream_at y k) p.expires.same in
       taken_back_keeps w trace x (λ id. due_at now (call_at w.client.state id)) (throws w.client.state.kind seals) DeadlineDuringWrite i (λ e. e) (λ e k due. (λ none. let bad : due_at now None ≡ true = ap (due_at now) (sym none) ∙ due in cc, λ clean. let bad : true ≡ false = sym due ∙ undue clean k in cc)) p.connection next
       (λ left stories k. elsewhere (later_of w x.state next k) (expires_here now (stories k) (λ clean. stays_as_it_is now (call_at w.client.state k) (undue clean k))) refl refl refl refl refl (p.expires.calls k) (streams k))
-
-  pub keeps_passes : (w : Net CO CI SO SI) (now : ℕ) (x : ClientCore CO CI) (failure : Option Failure) → Kept trace w → NoneDue w now → Passes seals failure w.client now x → Kept trace (with_client w x)
-  keeps_passes w now x None i undue p = tick_lives w now x i undue p
   keeps_passes w now x (Some why) i undue p = subst (λ (y : ClientCore CO CI). Kept trace (with_client w y)) (sym p) i

@@ -8,7 +8,7 @@ use Rattle.ttrpc_world.proofs.Flights.{behind_other, behind_own, flight_as, Give
 use Rattle.ttrpc_world.proofs.Jobs.{all_due, aside_plain, deaf, gone_at, gone_others, is_at, job_is, mailed, not_here, too_soon, untouched}
 use Rattle.ttrpc_pair.proofs.Words.{unheard as unheard_of}
 use Rattle.ttrpc_world.proofs.Serves.{expired_so}
-use Rattle.ttrpc_world.proofs.Words.{[], Act, act_of, ActiveJob, all_at, all_in_front, AllByRecursion, Answer, Answered, answered_work, Answers, answers_here, AnswersBy, AnswersError, ap, append-nil, append_assoc, arith, asked_by, AsyncRules, at_stays, between_own, Birth, Bool, Born, call_at, changed_at, codes, Done, Drain, drained, DropReceiver, Drops, elsewhere, EndedDown, ending_thing, ends_here, EndsOne, EndsStream, EndStream, Entry, eq-eqb, Err, Error, errs_up_here, Event, ExpireAll, Failure, false, Finish, Finishes, first_act, flow_of, Flying, given, Goes, Halves, Handed, HandlerError, Hands, has_response, HasNone, HasOkStatus, heard, HeardUp, hears_up_here, here_at, id_of, if◌then◌else◌, inl, inr, is_clean_answer, is_due, is_stream, IsAnswer, IsAnsweredBy, IsDown, IsEnd, IsErrorResponse, IsNever, IsPlain, IsPlainFailure, IsResponse, IsSentAs, IsSentBack, IsSentFor, Item, Job, job_at, job_within, JobReceives, jobs_at, last_id, last_thing, Later, List, list_any, Mail, mapped_at, may_be_error, nat_eq, Net, never_down, None, Ok, only_if, Option, Origin, Others, Outbox, parcels, Place, pushed_other, pushed_own, Ran, reaches, ReceivesBy, ReceivesFrom, Recv, refl, request_of, Respond, Responds, responds_here, RespondsTo, Response, Result, Rules, running_of, safe_limit, Send, sends_down_here, SendsAll, SendsItem, Sent, SentDown, Server, ServerCore, ServerEnd, ServerPasses, ServerTicks, Settings, silent, Some, some_of, stream_id_of, StreamBody, subst, sym, SyncRules, Take, takes_here, Thing, ThingEnd, ThingItem, Ticket, timeout_response, told, told_by, told_plain, true, unchanged, under_both, unheard, unheard_up_here, untold, Waiting, was_made, with_entry, with_mail, with_server, without_receiver, ℕ, ◌++◌, ◌∙◌, ◌∷◌, ◌≡◌, ◌≤◌, list_any-append, or_left, or_right}
+use Rattle.ttrpc_world.proofs.Words.{[], Act, act_of, ActiveJob, all_at, all_in_front, AllByRecursion, Answer, Answered, answered_work, Answers, answers_here, AnswersBy, AnswersError, ap, append-nil, append_assoc, arith, asked_by, AsyncRules, at_stays, between_own, Birth, Bool, Born, call_at, changed_at, codes, Done, Drain, drained, DropReceiver, elsewhere, EndedDown, ending_thing, ends_here, EndsOne, EndsStream, EndStream, Entry, eq-eqb, Err, Error, errs_up_here, Event, ExpireAll, Failure, false, Finish, Finishes, first_act, flow_of, Flying, given, Goes, Halves, Handed, HandlerError, Hands, has_response, HasNone, HasOkStatus, heard, HeardUp, hears_up_here, here_at, id_of, if◌then◌else◌, inl, inr, is_clean_answer, is_due, is_stream, IsAnswer, IsAnsweredBy, IsDown, IsEnd, IsErrorResponse, IsNever, IsPlain, IsPlainFailure, IsResponse, IsSentAs, IsSentBack, IsSentFor, Item, Job, job_at, job_within, JobReceives, jobs_at, last_id, last_thing, Later, List, list_any, Mail, mapped_at, may_be_error, nat_eq, Net, never_down, None, Ok, only_if, Option, Origin, Others, Outbox, parcels, Place, pushed_other, pushed_own, Ran, reaches, ReceivesBy, ReceivesFrom, Recv, refl, request_of, Respond, Responds, responds_here, RespondsTo, Response, Result, Rules, running_of, safe_limit, Send, sends_down_here, SendsAll, SendsItem, Sent, SentDown, Server, ServerCore, ServerEnd, ServerPasses, Settings, silent, Some, some_of, stream_id_of, StreamBody, subst, sym, SyncRules, Take, takes_here, Thing, ThingEnd, ThingItem, Ticket, timeout_response, told, told_by, told_plain, true, unchanged, under_both, unheard, unheard_up_here, untold, Waiting, was_made, with_entry, with_mail, with_server, without_receiver, ℕ, ◌++◌, ◌∙◌, ◌∷◌, ◌≡◌, ◌≤◌, list_any-append, or_left, or_right}
 
 module _ {CO CI SO SI : Type 0} (c : Halves CO CI) (s : Halves SO SI) (seals : Bool) (set : Settings) (f : ℕ → ℕ) (trace : List Entry) where
   abbrev Kept : List Entry → Net CO CI SO SI → Type 0
@@ -175,17 +175,13 @@ module _ {CO CI SO SI : Type 0} (c : Halves CO CI) (s : Halves SO SI) (seals : B
   by_answer w event id result response x i right says p sends none =
       concludes w event id false result x i right says p.job p.ends (none_yet w id p.job p.ends.at.is_job none) sends p.same refl refl refl (λ alive. p.alive)
 
-  -- A handler failed, under sync rules.
-  keeps_drops : (w : Net CO CI SO SI) (id : ℕ) (error : Error) (x : ServerCore SO SI) → Kept trace w → AreRight f w.server.state.jobs.list → Drops w.server id x → has_response w id ≡ false → (set.clean → ⊥)
-      → Kept (with_entry trace (Answer id (Err error)) Done) (with_server w x)
-  keeps_drops w id error x i right p none never =
-      concludes w (Answer id (Err error)) id false (Err error) x i right (λ k. (refl, refl)) p.job p.ends (none_yet w id p.job p.ends.at.is_job none)
-      (λ b within. record { more = []; downs = tt; back = λ clean. absurd (never clean); goes = λ wanted. inr refl; sent = λ flights way. rw (ap (λ (y : ServerCore SO SI). y.connection.outbox) p.same, append-nil) way })
-      p.same refl refl refl (λ alive. absurd (not_both x.connection.failure HandlerError (ap (λ (y : ServerCore SO SI). y.connection.failure) p.same) alive))
-
+  -- A handler failed: under sync rules its job is gone, and the connection fails.
   keeps_error : (r : Rules) (w : Net CO CI SO SI) (id : ℕ) (error : Error) (x : ServerCore SO SI) → Kept trace w → IsSet w → w.server.state.rules ≡ r → (r ≡ SyncRules → set.clean → ⊥) → AreRight f w.server.state.jobs.list → AnswersError s.out r w.server id error x → has_response w id ≡ false
       → Kept (with_entry trace (Answer id (Err error)) Done) (with_server w x)
-  keeps_error SyncRules w id error x i ruled rules never right p none = keeps_drops w id error x i right p none (never refl)
+  keeps_error SyncRules w id error x i ruled rules never right p none =
+      concludes w (Answer id (Err error)) id false (Err error) x i right (λ k. (refl, refl)) p.job p.ends (none_yet w id p.job p.ends.at.is_job none)
+      (λ b within. record { more = []; downs = tt; back = λ clean. absurd (never refl clean); goes = λ wanted. inr refl; sent = λ flights way. rw (ap (λ (y : ServerCore SO SI). y.connection.outbox) p.same, append-nil) way })
+      p.same refl refl refl (λ alive. absurd (not_both x.connection.failure HandlerError (ap (λ (y : ServerCore SO SI). y.connection.failure) p.same) alive))
   keeps_error AsyncRules w id error x i ruled rules never right p none =
       let q = p.2 in
       by_answer w (Answer id (Err error)) id (Err error) p.0 x i right (λ k. (refl, refl)) q (sent_error w x q.job false error p.0 q.sent ruled rules q.unary p.1 p.3 q.responds q.sends) none
@@ -254,19 +250,16 @@ module _ {CO CI SO SI : Type 0} (c : Halves CO CI) (s : Halves SO SI) (seals : B
   -- ---- events that say nothing of an id
 
   -- A job ends, and nothing is queued.
-  finishes : (w : Net CO CI SO SI) (id : ℕ) (x : ServerCore SO SI) → Kept trace w → Finishes w.server id x → Kept trace (with_server w x)
-  finishes w id x i p =
+  pub keeps_finish : (w : Net CO CI SO SI) (id : ℕ) (x : ServerCore SO SI) → Kept trace w → Finishes w.server id x → Kept (with_entry trace (Finish id) Done) (with_server w x)
+  keeps_finish w id x i p =
       let j = p.job in
       let k : ℕ = j.header.stream_id in
       let own : jobs_at w.server.state.jobs.list k ≡ jobs_at p.ends.at.front k ++ j ∷ jobs_at p.ends.at.back k = ap (λ js. jobs_at js k) p.ends.at.is ∙ between_own stream_id_of k p.ends.at.front p.ends.at.back j refl in
-      server_changes w trace x w.responded i.down i
+      keeps_still c s set f trace (with_server w x) (Finish id) Done (λ n. (refl, refl)) (server_changes w trace x w.responded i.down i
       (at_one (PlaceOf w (has_response w) trace i.up i.down x.state.jobs.list) k
       (elsewhere (as_was w k) (ends_here (jobs_at p.ends.at.front k) (jobs_at p.ends.at.back k) j [] (i.stories k) own tt tt (λ clean. inl (refl, p.ends.at.taken))) refl refl refl (gone_at w.server.state.jobs.list id j x.state.jobs.list p.ends k) (sym (append-nil (parcels k i.down))) refl refl)
       (λ n e. elsewhere (as_was w n) (i.stories n) refl refl refl (gone_others w.server.state.jobs.list id j x.state.jobs.list p.ends n e) refl refl refl))
-      p.same refl refl refl (λ alive. p.alive) (rw p.same i.downward)
-
-  pub keeps_finish : (w : Net CO CI SO SI) (id : ℕ) (x : ServerCore SO SI) → Kept trace w → Finishes w.server id x → Kept (with_entry trace (Finish id) Done) (with_server w x)
-  keeps_finish w id x i p = keeps_still c s set f trace (with_server w x) (Finish id) Done (λ k. (refl, refl)) (finishes w id x i p)
+      p.same refl refl refl (λ alive. p.alive) (rw p.same i.downward))
 
   -- the jobs change, and nothing else of the server
   jobs_change : (w : Net CO CI SO SI) (t : List Entry) (x : ServerCore SO SI) → (i : Kept trace w) → x.state.jobs.last ≡ w.server.state.jobs.last → x.connection ≡ w.server.connection
@@ -398,15 +391,12 @@ module _ {CO CI SO SI : Type 0} (c : Halves CO CI) (s : Halves SO SI) (seals : B
         sent = λ flights way. rw (← append_assoc) (later.sent (flights ++ r.more) (r.sent w.client.connection w.down flights way));
       }
 
-  ticks : (w : Net CO CI SO SI) (now : ℕ) (x : ServerCore SO SI) → (failure : w.server.connection.failure ≡ None) → Kept trace w → (set.clean → NoneIsDue w now) → ServerTicks s.out w.server now x → Kept trace (with_server w x)
-  ticks w now x alive i undue p =
+  -- A moment comes for the server.
+  pub keeps_ticks : (r : Rules) (failure : Option Failure) (w : Net CO CI SO SI) (now : ℕ) (x : ServerCore SO SI) → w.server.connection.failure ≡ failure → Kept trace w → (set.clean → NoneIsDue w now) → ServerPasses s.out r failure w.server now x → Kept trace (with_server w x)
+  keeps_ticks SyncRules failure w now x is i undue same = subst (λ (y : ServerCore SO SI). Kept trace (with_server w y)) (sym same) i
+  keeps_ticks AsyncRules None w now x alive i undue p =
       let due = all_in_front (λ (j : ActiveJob). is_due now j ≡ true) p.expired p.left (subst (λ (js : List ActiveJob). AllByRecursion (λ (j : ActiveJob). is_due now j ≡ true) js) p.due (all_due now w.server.state.jobs.list)) in
       let e = expires w now i.up i.down w.server.state w.server.connection.outbox p.expired x.state x.connection.outbox i.stories undue due p.expire in
       let last = expired_so s.out (λ a x b y. b.jobs.last ≡ a.jobs.last) (λ a x. refl) (λ a b d x y z job one later. later ∙ ap (λ (u : Server). u.jobs.last) one.state) p.expired w.server.state w.server.connection.outbox x.state x.connection.outbox p.expire in
       server_changes w trace x w.responded (i.down ++ e.more) i e.stories p.same last refl refl (λ lives. alive) (e.sent i.down i.downward)
-
-  -- A moment comes for the server.
-  pub keeps_ticks : (r : Rules) (failure : Option Failure) (w : Net CO CI SO SI) (now : ℕ) (x : ServerCore SO SI) → w.server.connection.failure ≡ failure → Kept trace w → (set.clean → NoneIsDue w now) → ServerPasses s.out r failure w.server now x → Kept trace (with_server w x)
-  keeps_ticks SyncRules failure w now x is i undue same = subst (λ (y : ServerCore SO SI). Kept trace (with_server w y)) (sym same) i
-  keeps_ticks AsyncRules None w now x is i undue p = ticks w now x is i undue p
   keeps_ticks AsyncRules (Some why) w now x is i undue same = subst (λ (y : ServerCore SO SI). Kept trace (with_server w y)) (sym same) i
