@@ -38,7 +38,7 @@ responded out rs limit k r sent old new p sends e =
     let one = subst (λ (xs : List Sent). SendsAll out old xs new) p.is sends in
     sent_one out old _ _ one.0 one.1 (sym (ap (λ (x : Outbox _). x.queue.frames) one.2) ∙ e)
 
--- what is fed and leaves none queued found none
+-- if none is queued after bytes were fed, none was before
 none_before : {S O I : Type 0} {w : Ways S O I} {s t : S} {old new : Connection O I} {piece : List ℕ} {now : ℕ} → Feeds w s old piece now t new → new.outbox.queue.frames ≡ [] → old.outbox.queue.frames ≡ []
 none_before {w = w} {s} {t} {old} {new} {now = now} fed =
     acts_so w now (λ x y. y.outbox.queue.frames ≡ [] → x.outbox.queue.frames ≡ []) (λ x e. e) (λ f fs x y a later e. sent_all w.out a.1.sent x.outbox a.0.outbox a.1.sends (later e)) fed.frames (scene s old) (scene t new) fed.acts
@@ -78,7 +78,7 @@ module _ {CO CI SO SI : Type 0} (c : Halves CO CI) (s : Halves SO SI) (seals : B
   heard_none says none up down (ClientEnd id) (Some word) k = nothing_put says (nat_eq id k) (HeardDown word) none (down word)
   heard_none says none up down (ServerEnd id) (Some word) k = nothing_put says (nat_eq (f id) k) (HeardUp word) none (up word)
 
-  -- where no call is due a moment does what it does where there is no call
+  -- if no call is due, a moment does what it does if there is no call
   ticked_up : (failure : Option Failure) (old : ClientCore CO CI) (now : ℕ) (new : ClientCore CO CI) → ((k : ℕ) → due_at now (call_at old.state k) ≡ false) → Passes seals failure old now new
       → new.connection.outbox.queue.frames ≡ old.connection.outbox.queue.frames
   ticked_up None old now new none p =

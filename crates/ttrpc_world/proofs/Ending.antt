@@ -28,7 +28,7 @@ none_fed {w = w} {s} {t} {old = old} {new} {p} {now = now} way whole e d =
     let fed = subst (λ (x : ℕ). Fed old.decoder (take x p.bytes) f.frames new.decoder) e f.fed in
     acts_on_none w now f.frames (scene s old) (scene t new) (no_frames_come old.decoder new.decoder b.before f.frames b.holds fed) f.acts
 
--- Where nothing is queued and nothing is in the pipe, NOTHING IS IN FLIGHT.
+-- If nothing is queued and nothing is in the pipe, NOTHING IS IN FLIGHT.
 pub none_flies : {XO YO YI : Type 0} {out : OutboundTransform XO} {in_ : InboundTransform YI} {x : Outbox XO} {y : Connection YO YI} {p : Pipe} {flights : List Flying} → OneWay out in_ x y p flights → y.failure ≡ None → p.cut ≡ false → x.queue.frames ≡ [] → p.bytes ≡ [] → flights ≡ []
 none_flies {x = x} {y} {p} way alive whole queued carried =
     let b = way.bytes alive in
@@ -51,7 +51,7 @@ abbrev pipe_to : {CO CI SO SI : Type 0} → Side → Seen CO CI SO SI → List �
 pipe_to ClientSide x = x.3
 pipe_to ServerSide x = x.2
 
--- what holds of a side and of the other holds of each
+-- holds of each side, if it holds of one and of the other
 of_each : (P : Side → Type 0) (side : Side) → P side → P (other side) → (x : Side) → P x
 of_each P ClientSide a b ClientSide = a
 of_each P ClientSide a b ServerSide = b

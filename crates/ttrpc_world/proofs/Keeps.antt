@@ -4,8 +4,8 @@ use Rattle.ttrpc_world.proofs.Numbers.{Numbers}
 use Rattle.ttrpc_world.proofs.OneWay.{OneWay}
 use Rattle.ttrpc_world.proofs.Words.{act_of, AllByRecursion, Bool, elsewhere, Entry, Event, false, flow_of, Flying, Halves, has_response, IsOwned, List, Net, refl, Reply, Settings, silent, unchanged, with_entry, ℕ, ◌≡◌}
 
--- What the two halves keep that send: the client's seals so that nothing of it moves, unless it seals always; and the server's adds
--- as many bytes to each message.
+-- What the outbound halves keep: the client's stays as it is when it seals, unless it always seals; and the server's adds as many
+-- bytes to each message.
 pub record AreSteady {CO CI SO SI : Type 0} (c : Halves CO CI) (s : Halves SO SI) (seals : Bool) : Type 0 where
   pub still : seals ≡ false → (x y : CO) (plain aad sealed : List ℕ) → c.out.seals x plain aad sealed y → y ≡ x
   pub fixed : (x y : SO) (plain aad sealed : List ℕ) → s.out.seals x plain aad sealed y → s.out.overhead y ≡ s.out.overhead x

@@ -4,7 +4,7 @@ use Rattle.ttrpc_world.proofs.Failing.{lives_back}
 use Rattle.ttrpc_world.proofs.Serves.{acts_so, one_less, passes_so}
 use Rattle.ttrpc_world.proofs.Words.{[], Answer, ap, AreClean, Bool, Carry, ClientSide, Connection, Count, Deliver, Delivers, DeliversUp, Done, Entry, Event, false, Feeds, Halves, Hears, inl, inr, is_clean_event, is_clean_reply, is_over, IsDrained, IsFresh, IsOpen, List, Lives, Net, not, other, Pipe, refl, Reply, Rules, rules, Runs, scene, Server, ServerCore, ServerSide, serving, Side, Steps, subst, sym, take, taken_from, Tick, true, Ways, ℕ, ◌++◌, ◌∙◌, ◌∷◌, ◌≡◌}
 
--- What a pipe that is whole delivers is fed, and no end is heard behind it.
+-- A whole pipe feeds what it delivers, and no end is heard after it.
 pub fed_whole : {S O I : Type 0} {w : Ways S O I} {s t : S} {old new : Connection O I} {p : Pipe} {now n k : ℕ} → p.cut ≡ false → Delivers w s old p now n k t new → Feeds w s old (take k p.bytes) now t new
 fed_whole {w = w} {s} {t} {old} {new} {p} {now} {k = k} whole d =
     let whole_still : is_over (taken_from p k) ≡ false = rw whole refl in
@@ -59,7 +59,7 @@ module _ {CO CI SO SI : Type 0} (c : Halves CO CI) (s : Halves SO SI) (seals : B
   clean_front rules f done [] back clean = tt
   clean_front rules f done (e ∷ front) back clean = (clean.0, clean_front rules f (done ++ e ∷ []) front back clean.1)
 
-  -- a server that takes what comes is fed
+  -- a server that takes what comes is fed by each delivery
   pub takes_up : {w v : Net CO CI SO SI} {n k : ℕ} → IsOpen w → Steps c s seals w (Deliver ServerSide n) (Count k) v → DeliversUp c s seals w n k v
   takes_up o (inl p) = p
   takes_up o (inr p) = let bad : true ≡ false = sym o.takes ∙ p.drains in cc

@@ -1,8 +1,8 @@
--- What frames do that come to a side, one after the other, what a moment does to a server, one job after the other, and what an
--- answer leaves of it.
+-- What frames do to a side, one after the other; what a moment does to a server, one job after the other; and what an answer
+-- leaves of it.
 use Rattle.ttrpc_world.proofs.Words.{[], ActiveJob, ActsAll, Answers, AnswersBy, AnswersError, ap, AsyncRules, Bool, Drops, EndsOne, Err, Error, ExpireAll, ExpiresOne, Failure, Halves, Incoming, inl, inr, List, None, Ok, Option, OutboundTransform, Outbox, refl, Response, Result, Rules, Scene, Server, ServerCore, ServerPasses, Some, subst, sym, SyncRules, Ways, ℕ, ◌∷◌, ◌≡◌, ◌⊎◌}
 
--- What holds where nothing changes, and of a frame that acts and what comes behind it, holds of all frames that come.
+-- Holds of all frames that come, if it holds when nothing changes, and of a frame that acts with what comes after it.
 pub acts_so : {S O I : Type 0} (w : Ways S O I) (now : ℕ) (P : Scene S O I → Scene S O I → Type 0) → ((x : Scene S O I) → P x x)
     → ((f : Incoming) (fs : List Incoming) (old new : Scene S O I) → (a : ActsAll w now old (f ∷ fs) new) → P a.0 new → P old new) → (fs : List Incoming) (old new : Scene S O I) → ActsAll w now old fs new → P old new
 acts_so w now P none one [] old new same = subst (P old) (sym same) (none old)
@@ -21,7 +21,7 @@ module _ {O : Type 0} (out : OutboundTransform O) (P : Server → Outbox O → S
   passes_so AsyncRules (Some why) old now new same = subst (λ (x : ServerCore _ _). P old.state old.connection.outbox x.state x.connection.outbox) (sym same) (none old.state old.connection.outbox)
   passes_so SyncRules failure old now new same = subst (λ (x : ServerCore _ _). P old.state old.connection.outbox x.state x.connection.outbox) (sym same) (none old.state old.connection.outbox)
 
--- WHAT AN ANSWER IS: a response was sent, or under sync rules none to an error, and the side fails.
+-- WHAT AN ANSWER LEAVES: a response was sent; or a handler gave an error under sync rules, none was sent, and the side fails.
 abbrev pub IsAnswered : {O I : Type 0} → OutboundTransform O → ServerCore O I → ℕ → Result Response Error → ServerCore O I → Type 0
 IsAnswered out old id result new = ((r : Response) × Answers out old id r new) ⊎ ((e : Error) × (result ≡ Err e) × Drops old id new)
 

@@ -13,7 +13,7 @@ Makes P k moment event reply = ⊥
 abbrev pub IsCallOf : ℕ → Option ℕ → ℕ → Event → Reply → Type 0
 IsCallOf k d = Makes (λ e. e ≡ Some (Waiting d)) k
 
--- who wait alike have one deadline
+-- calls that wait alike have the same deadline
 same_deadline : (a b : Option ℕ) → Some (Waiting a) ≡ Some (Waiting b) → b ≡ a
 same_deadline a b e = cc
 
@@ -213,7 +213,7 @@ module _ {CO CI SO SI : Type 0} (c : Halves CO CI) (s : Halves SO SI) (seals : B
   due_reaches now None = refl
   due_reaches now (Some at) = refl
 
-  -- what is reached by no moment isn't due
+  -- a call isn't due, if the moment doesn't reach its deadline
   undue : (now : ℕ) (e : Option Call) → ((d : Option ℕ) → e ≡ Some (Waiting d) → reaches now d ≡ false) → due_at now e ≡ false
   undue now (Some (Waiting d)) h = due_reaches now d ∙ h d refl
   undue now e h = refl
