@@ -32,7 +32,8 @@ use Rattle.ttrpc_server.specs.declared.rows.Case.TheVariants.{Asks}
 use Rattle.ttrpc_server.specs.declared.rows.Inlet.TheVariants.{Absent}
 use Rattle.ttrpc_server.specs.declared.rules.Rules.{Rules}
 use Rattle.ttrpc_server.specs.declared.rules.Rules.TheVariants.{Sync}
-use Rattle.ttrpc_server.proofs.Streams.{is_of_streams, no_streams, row_of_sync, rules_stay}
+use Rattle.ttrpc_server.proofs.Streams.{is_of_streams, no_streams, row_of_sync}
+use Rattle.ttrpc_server.proofs.RowLeaves.{row_leaves}
 use Rattle.ttrpc_server.specs.State.{NoneWaits, new_job, told_left, unary_body, with_job, Services, Server}
 use Rattle.ttrpc_echo.specs.Echo.{AreAnswers, HasEcho, IsAnswer, Says, echo_of, echo_services, framed, plainly, said_bytes}
 use Rattle.ttrpc_echo.specs.Serving.{plain_in, plain_out, IsReady, Echoes, Serves}
@@ -229,7 +230,7 @@ pub fed_rules : (now : ℕ) (o : Option Incoming) (old mid : ServerCore Plain Pl
 fed_rules now None old mid acts = ap (λ (c : Scene Server Plain Plain). c.state.rules) acts
 fed_rules now (Some f) old mid acts =
     let one = acts.1 in
-    ap (λ (c : Scene Server Plain Plain). c.state.rules) acts.2 ∙ rules_stay plain_out (row_of old.state (arrived f one.opening now)) old.state old.connection.outbox.half (header_of_frame f) now one.sent acts.0.state one.reacts
+    ap (λ (c : Scene Server Plain Plain). c.state.rules) acts.2 ∙ (row_leaves plain_out (row_of old.state (arrived f one.opening now)) old.state old.connection.outbox.half (header_of_frame f) now one.sent acts.0.state one.reacts).rules
 
 -- a front was fed, and the job that it made is echoed
 pub one_front : (now : ℕ) (o : Option Incoming) (old mid new : ServerCore Plain Plain) (front : List ℕ) → IsReady old → mid.connection.failure ≡ None → Fed old.connection.decoder front (given o) mid.connection.decoder

@@ -1,7 +1,7 @@
 -- The words that these proofs use, and those of the headline above them, in one list.
 pub use Rattle.std.proofs.Common.{codes}
 pub use Rattle.std.proofs.lemmas.Bool.{and_parts, le-ltb}
-pub use Rattle.ttrpc_proto.specs.declared.framing.header.TheConstants.{MESSAGE_TYPE_RESPONSE}
+pub use Rattle.ttrpc_proto.specs.declared.framing.header.TheConstants.{MESSAGE_TYPE_RESPONSE, MESSAGE_TYPE_DATA}
 pub use Rattle.ttrpc_proto.specs.Messages.{empty_request, empty_response, IsRequest, IsResponse, request_fields, request_step, response_fields, response_step}
 pub use Rattle.ttrpc_proto.specs.Framing.Queue.{empty_queue, has_begun}
 pub use Rattle.ttrpc_secure.specs.Halves.{IsPaired}
@@ -13,16 +13,16 @@ pub use Rattle.ttrpc_connection.specs.OneEnd.{failing}
 pub use Rattle.ttrpc_server.specs.declared.job.ActiveJob.{ActiveJob}
 pub use Rattle.ttrpc_server.specs.declared.job.Job.{Job}
 pub use Rattle.ttrpc_server.specs.declared.server.ServerCore.{ServerCore}
-pub use Rattle.ttrpc_server.proofs.Streams.{row_elsewhere, row_made, rules_stay, stream_id_of}
-pub use Rattle.ttrpc_server.proofs.Words.{Answers, Does, Drops, EndsOne, has_method, IsTaken, IsUnknown, JobList, jobs_at, MakeJob, new_job, Request, request_row, Responds, Response, response_bytes, response_size, Row, row_of, Server, serving, status_response, SendResponse}
-pub use Rattle.ttrpc_server.specs.Protocol.{AnswersError, drained, due_jobs, ExpireAll, ExpiresOne, Finishes, fit_to_message, fitted, Hands, is_due, IsErrorResponse, IsSentFor, limit_text, SendsOwnAnswer, timeout_response}
-pub use Rattle.ttrpc_server.specs.Protocol.{Passes as ServerPasses, Ticks as ServerTicks}
+pub use Rattle.ttrpc_server.proofs.RowLeaves.{AreChanged, JobsLeft, row_leaves, same_jobs}
+pub use Rattle.ttrpc_server.proofs.Streams.{stream_id_of}
+pub use Rattle.ttrpc_server.proofs.Words.{Answers, Does, Drops, EndsOne, has_method, IsTaken, IsUnknown, JobList, jobs_at, MakeJob, new_job, Request, request_row, Responds, Response, response_bytes, response_size, Row, Server, serving, status_response, SendResponse}
+pub use Rattle.ttrpc_server.specs.Protocol.{AnswersError, drained, due_jobs, ExpireAll, ExpiresOne, Finishes, fit_to_message, fitted, Hands, is_due, IsErrorResponse, IsSentFor, limit_text, SendsOwnAnswer, timeout_response, Passes as ServerPasses}
 pub use Rattle.ttrpc_server.specs.Table.{asked_row, case_of, case_row, data_case, even_id_text, Ignore, inactive_text, inlet_of, MakeStream, method_text, other_of, path_text, PutIn, service_text}
 pub use Rattle.ttrpc_client.specs.declared.client.ClientCore.{ClientCore}
 pub use Rattle.ttrpc_client.proofs.Expiring.{stays_as_it_is}
 pub use Rattle.ttrpc_client.proofs.Ticking.{nothing_due}
-pub use Rattle.ttrpc_client.proofs.Words.{call_at, calling, Client, due_at, InboundTransform, Landing, landing_of, LandsOn, LandsOnce, last_id, Passes, taken_back, takes_back, throws, Ticks}
-pub use Rattle.ttrpc_client.specs.Protocol.{by_status, Gives, request_bytes, Requests, TakesOutcome}
+pub use Rattle.ttrpc_client.proofs.Words.{call_at, calling, Client, due_at, InboundTransform, Landing, landing_of, LandsOn, LandsOnce, last_id, Passes, taken_back, takes_back, throws}
+pub use Rattle.ttrpc_client.specs.Protocol.{by_status, Gives, request_bytes, Requests, TakesOutcome, malformed_text}
 pub use Rattle.ttrpc_world_trace.proofs.Bytes.{carried_in_flight, cut_in_flight, fed_in_flight, none_in_flight, placed_in_flight, thrown_in_flight}
 pub use Rattle.ttrpc_world_trace.proofs.Losing.{all_thrown, left_behind, stays}
 pub use Rattle.ttrpc_world_trace.proofs.Parcels.{id_of, parcels_thrown, parcels_thrown_elsewhere}
@@ -34,13 +34,12 @@ pub use Rattle.ttrpc_pair.specs.Pipes.{empty_pipe, is_over, Pipe}
 pub use Rattle.ttrpc_pair.specs.Steps.{after_carry, AnswersBy, BreaksAt, IsEnd, pipe_after_carry, CarriesDown, CarriesUp, cut_to, CutsDown, CutsUp, Delivers, DeliversDown, DeliversUp, StaysUp, failed_by_hand, Forgot, Hears, lent_of, OnlyClient, OnlyServer, RespondsTo, Runs, Steps, taken_from}
 pub use Rattle.ttrpc_server.specs.State.{brought_by, changed_at, changed_under, has_service, has_stream, is_stream, job_at, NoneWaits, on_mail, Services, stream_body, unary_body, without_payload}
 pub use Rattle.ttrpc_server.specs.declared.rows.Asked.TheVariants.{Call as AskedCall, NoMethod, NoService, Stream as Chat}
-pub use Rattle.ttrpc_server.specs.declared.rows.Case.{Case}
-pub use Rattle.ttrpc_server.specs.declared.rows.Case.TheVariants.{Asks, EvenId, Skipped}
+pub use Rattle.ttrpc_server.specs.declared.rows.Case.TheVariants.{Asks, EvenId}
 pub use Rattle.ttrpc_server.specs.declared.rows.Inlet.{Inlet}
 pub use Rattle.ttrpc_server.specs.declared.rows.Inlet.TheVariants.{Absent, Busy, Full, Taking}
 pub use Rattle.ttrpc_server.specs.declared.rules.Rules.{Rules}
 pub use Rattle.ttrpc_server.specs.declared.rules.Rules.TheVariants.{Async as AsyncRules, Sync as SyncRules}
-pub use Rattle.ttrpc_client.specs.State.{waits}
+pub use Rattle.ttrpc_client.specs.State.{waits, stream_at}
 pub use Rattle.ttrpc_world_trace.specs.declared.events.Side.TheVariants.{Client as ClientSide, Server as ServerSide}
 pub use Rattle.ttrpc_world_trace.specs.declared.events.StreamEnd.TheVariants.{Client as ClientEnd, Server as ServerEnd}
 pub use Rattle.ttrpc_client.specs.declared.kind.ClientKind.{ClientKind}
@@ -51,19 +50,15 @@ pub use Rattle.ttrpc_wire.proofs.Folds.{reads_back}
 pub use Rattle.ttrpc_wire.specs.Number.{number_of}
 pub use Rattle.ttrpc_proto.specs.Laws.{request_again, request_fits, response_again, response_fits}
 pub use Rattle.ttrpc_server.proofs.Mapped.{at_stays, mapped_at, StaysFound, under_stays}
-pub use Rattle.ttrpc_server.specs.Streaming.{astray, EndsStream, IsCloseFrame, ReceivesBy, SendsItem, unheard, unknown_stream, was_made}
+pub use Rattle.ttrpc_server.specs.Streaming.{astray, EndsStream, IsCloseFrame, ReceivesBy, SendsItem, unheard, unknown_stream, was_made, ReceivesOne as JobReceives}
 pub use Rattle.ttrpc_server.specs.Mailboxes.{mail_in, mail_of, ReceivesFrom}
-pub use Rattle.ttrpc_server.specs.Streaming.{ReceivesOne as JobReceives}
-pub use Rattle.ttrpc_client.specs.Protocol.{malformed_text}
 pub use Rattle.ttrpc_client.specs.Streaming.{closed_error, DropsReceiver, DropsSender, opening_flags, OpensStream, SendsOn, unsendable, unsendable_error, ReceivesOne as StreamReceives}
 pub use Rattle.ttrpc_client.specs.Streams.{with_sender}
 pub use Rattle.ttrpc_client.specs.declared.streams.Sender.TheVariants.{Closed as SenderClosed}
 pub use Rattle.ttrpc_client.specs.declared.streams.Sender.{Sender}
-pub use Rattle.ttrpc_client.specs.State.{stream_at}
 pub use Rattle.ttrpc_client.specs.declared.streams.Stream.{Stream}
 pub use Rattle.ttrpc_connection.specs.Items.{SendsData}
 pub use Rattle.ttrpc_connection.specs.Mail.{Mail, without_receiver}
 pub use Rattle.ttrpc_proto.specs.Framing.Header.Oversize.{oversize_text}
-pub use Rattle.ttrpc_proto.specs.declared.framing.header.TheConstants.{MESSAGE_TYPE_DATA}
 pub use Rattle.ttrpc_proto.specs.declared.error.Error.TheVariants.{Others}
 pub use Rattle.ttrpc_wire.specs.declared.values.code.Code.TheVariants.{UNIMPLEMENTED, UNKNOWN}

@@ -14,7 +14,8 @@ use Rattle.ttrpc_server.proofs.Mapped.{at_stays, rising_mapped, single_mapped, u
 use Rattle.ttrpc_server.specs.Types.{Case, Asks, PutsIn, Skipped, Oversize, Unopened, EvenId, Inactive, InUse, Response}
 use Rattle.ttrpc_server.proofs.Keyed.{at_most, before_it, one_less}
 use Rattle.ttrpc_server.proofs.Kept.{asks_where_absent, none_of_absent, single_ended, single_handed, single_made}
-use Rattle.ttrpc_server.proofs.Rising.{frame_keeps, taking_keeps}
+use Rattle.ttrpc_server.proofs.Rising.{taking_keeps}
+use Rattle.ttrpc_server.proofs.RowLeaves.{left_last, left_rising, row_leaves}
 use Rattle.ttrpc_server.proofs.Running.{Lasts, call_lasts, expire_last}
 
 -- ---- ids rise
@@ -24,7 +25,7 @@ IdsRise s = Rising 0 s.jobs.list s.jobs.last
 
 pub rising_lasts : {O : Type 0} (out : OutboundTransform O) → Lasts out IdsRise
 rising_lasts out = record {
-  frame = λ old o a sent new does rising. frame_keeps out old o a sent new does rising;
+  frame = λ old o a sent new does. left_rising old.jobs new.jobs (row_leaves out (row_of old a) old o a.header a.now sent new does).jobs;
   hands = λ old handed list hands rising. taking_keeps old.jobs.list list old.jobs.last handed hands rising;
   ends = λ old id job at rising. one_less 0 old.jobs.last at.front at.back job (rw at.is at rising);
   told = λ old expired rising. rising;
@@ -33,15 +34,9 @@ rising_lasts out = record {
   hears = λ old heard rising. rising;
 }
 
-row_counts : {O : Type 0} (out : OutboundTransform O) (row : Row) (old : Server) (o : O) (header : MessageHeader) (now : ℕ) (sent : List Sent) (new : Server) (n : ℕ) → Does out row old o header now sent new
-    → n ≤ old.jobs.last → n ≤ new.jobs.last
-row_counts out (MakeJob request) old o header now sent new n does le = let is = ap (λ (s : Server). s.jobs.last) does.0 in omega (arith, is, le)
-row_counts out (MakeStream request) old o header now sent new n does le = let is = ap (λ (s : Server). s.jobs.last) does.0 in omega (arith, is, le)
-row_counts out row old o header now sent new n does le = rw does.0 le
-
 pub count_lasts : {O : Type 0} (out : OutboundTransform O) (n : ℕ) → Lasts out (λ (s : Server). n ≤ s.jobs.last)
 count_lasts out n = record {
-  frame = λ old o a sent new does le. row_counts out (row_of old a) old o a.header a.now sent new n does le;
+  frame = λ old o a sent new does le. let rises = left_last old.jobs new.jobs (row_leaves out (row_of old a) old o a.header a.now sent new does).jobs in omega (arith, rises, le);
   hands = λ old handed list hands le. le;
   ends = λ old id job at le. le;
   told = λ old expired le. le;

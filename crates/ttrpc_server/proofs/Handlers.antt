@@ -12,7 +12,6 @@ use Rattle.std.specs.String.{string_cmp}
 use Rattle.std.specs.declared.cmp.Ordering.TheVariants.{Less}
 use Rattle.std.proofs.lemmas.Cmp.{nat_list_eq_equiv}
 use Rattle.std.proofs.lemmas.Iterator.Adapters.{option_map_id}
-use Rattle.std.proofs.lemmas.List.Folds.{list_any-append}
 use Rattle.std.proofs.lemmas.Map.Keys.{sorted_head, sorted_tail}
 use Rattle.std.proofs.lemmas.Map.Text.{btree_map_updates_text, is_eq-slice_cmp, text_cmp}
 use Rattle.std.proofs.lemmas.Option.{same_Some}
@@ -45,16 +44,6 @@ last_first true true = refl
 last_first true false = refl
 last_first false true = refl
 last_first false false = refl
-
--- one more name of a service
-pub name_more : {K : Type 0} (test : K → Bool) (xs : List K) (x : K) (is_service old first new : Bool) → old ≡ ((is_service && list_any test xs) || first) → new ≡ ((is_service && test x) || old)
-    → new ≡ ((is_service && list_any test (xs ++ x ∷ [])) || first)
-name_more test xs x is_service old first new so_far adds =
-    rw (list_any-append test xs (x ∷ []), adds, so_far) (regroup is_service (test x) (list_any test xs) first)
-
--- the names of one more service
-pub service_more : {K : Type 0} (test : K → Bool) (xs : List K) (x : K) (old new : Bool) → old ≡ list_any test xs → new ≡ (test x || old) → new ≡ list_any test (xs ++ x ∷ [])
-service_more test xs x old new so_far adds = rw (list_any-append test xs (x ∷ []), adds, so_far) (last_first (test x) (list_any test xs))
 
 module _ {Y : Type 0} where
   -- entries, each under the bytes of its key

@@ -1,6 +1,6 @@
 -- What finds jobs goes on to find them, through each change of the jobs.
-use Rattle.ttrpc_server.proofs.Words.{rules, arith, inl, inr, ◌≡◌, ◌≢◌, ◌<◌, ◌≤◌, ◌&&◌, ℕ, ◌+◌, nat_eq, nat_cmp, is_at, List, [], ◌∷◌, ◌++◌, length, list_any, Option, Some, None, Bool, true, false, refl, sym, ap, subst, ◌∙◌, pushed_own, pushed_other, between_own, between_other, under_both, Request, ActiveJob, Job, Rules, Async, Sync, all_joined, all_less, HandsOne, IsJob, IsTaken, jobs_at, Rising, deadline_in, AreSingle, Finds, FindsTheSame, Indexed, IsKept, Loses, first_id, is_due_at, job_found}
-use Rattle.std.proofs.Common.{◌||◌, cond}
+use Rattle.ttrpc_server.proofs.Words.{rules, arith, inl, inr, ◌≡◌, ◌≢◌, ◌<◌, ◌≤◌, ◌&&◌, ℕ, ◌+◌, nat_eq, nat_cmp, is_at, List, [], ◌∷◌, ◌++◌, length, list_any, Option, Some, None, Bool, true, false, refl, sym, ap, subst, ◌∙◌, pushed_own, pushed_other, between_own, between_other, under_both, Request, ActiveJob, Job, Rules, Async, Sync, all_less, HandsOne, IsJob, IsTaken, jobs_at, Rising, deadline_in, AreSingle, Finds, FindsTheSame, Indexed, IsKept, Loses, first_id, is_due_at, job_found}
+use Rattle.std.proofs.Common.{◌||◌, cond, IfSome, IfNone}
 use Rattle.std.proofs.lemmas.List.Folds.{list_any-append}
 use Rattle.std.proofs.lemmas.Map.Lookups.{exact_unsigned}
 use Rattle.ttrpc_connection.specs.Deadlines.{ChangesTo, has_deadline, is_moment}
@@ -8,7 +8,6 @@ use Rattle.ttrpc_connection.proofs.Words.{if◌then◌else◌, cases_eq, eqb-tru
 use Rattle.ttrpc_connection.proofs.Lists.{all_at}
 use Rattle.ttrpc_server.proofs.Keyed.{at_most, before_it}
 use Rattle.ttrpc_server.proofs.Streams.{stream_id_of}
-use Rattle.std.proofs.Common.{IfSome, IfNone}
 use Rattle.ttrpc_connection.specs.declared.arrived.Opening.{Opening}
 use Rattle.ttrpc_server.specs.Kept.{AreUnary, no_index}
 use Rattle.std.specs.Option.{option_map, unwrap_or}
@@ -110,20 +109,6 @@ kept_made r index mid list last job kept rising next free async finds = record {
   found = λ is. found_made index mid list job (deadline_in job.body) (free is) (kept.found is) finds;
   unary = λ sync. absurd (no_two async sync);
 }
-
--- under sync rules, of one response and without a deadline
-pub kept_plainly : (r : Rules) (index : Indexed) (list : List ActiveJob) (job : ActiveJob) → IsKept r list index → job.body ≡ Unary None → (r ≡ Async → ⊥) → IsKept r (list ++ job ∷ []) index
-kept_plainly r index list job kept none sync = record {
-  deadlines = λ at id. kept.deadlines at id ∙ sym (list_any-append (is_job_due at id) list (job ∷ []) ∙ rw none (by (is_due_at list at id) (nat_eq id job.id)));
-  single = λ is. absurd (sync is);
-  found = λ is. absurd (sync is);
-  unary = λ is. all_joined (λ (j : ActiveJob). is_stream j.body ≡ false) list (job ∷ []) (kept.unary is) (rw none refl, tt);
-}
-  where
-    by : (b e : Bool) → (b || ((e && false) || false)) ≡ b
-    by true e = refl
-    by false true = refl
-    by false false = refl
 
 -- all are found as before
 pub kept_same : (r : Rules) (index new : Indexed) (list : List ActiveJob) → IsKept r list index → FindsTheSame index new → IsKept r list new

@@ -1,9 +1,6 @@
 -- The ids of jobs rise through every call.
-use Rattle.ttrpc_server.proofs.Words.{◌≡◌, ℕ, ◌≤◌, List, [], ◌∷◌, ◌++◌, Some, None, refl, arith, AllByRecursion, MessageHeader, Request, OutboundTransform, Arrived, Sent, ActiveJob, Job, EndsOne, HandsOne, NoneWaits, Rising, Server, Row, MakeJob, row_of, Does, serves}
-use Rattle.ttrpc_server.specs.State.{brought_by, changed_under}
-use Rattle.ttrpc_server.specs.Table.{MakeStream, PutIn}
-use Rattle.ttrpc_server.proofs.Keyed.{one_less, rising_more}
-use Rattle.ttrpc_server.proofs.Mapped.{rising_mapped, under_stays}
+use Rattle.ttrpc_server.proofs.Words.{◌≡◌, ℕ, ◌≤◌, List, [], ◌∷◌, ◌++◌, Some, None, arith, AllByRecursion, Request, ActiveJob, Job, EndsOne, HandsOne, NoneWaits, Rising}
+use Rattle.ttrpc_server.proofs.Keyed.{one_less}
 
 -- ---- lists of jobs
 
@@ -12,18 +9,6 @@ with_one_taken low high [] back job rising = rising
 with_one_taken low high (j ∷ front) back job rising = (rising.0, with_one_taken j.id high front back job rising.1)
 
 -- ---- calls
-
-row_keeps : {O : Type 0} (out : OutboundTransform O) (row : Row) (old : Server) (o : O) (header : MessageHeader) (now : ℕ) (sent : List Sent) (new : Server) → Does out row old o header now sent new
-    → Rising 0 old.jobs.list old.jobs.last → Rising 0 new.jobs.list new.jobs.last
-row_keeps out (MakeJob request) old o header now sent new does rising = rw does.0 (rising_more 0 old.jobs.last old.jobs.list _ refl rising)
-row_keeps out (MakeStream request) old o header now sent new does rising = rw does.0 (rising_more 0 old.jobs.last old.jobs.list _ refl rising)
-row_keeps out (PutIn payload) old o header now sent new does rising =
-    let change = brought_by header payload in rw does.0 (rising_mapped (changed_under header.stream_id change) (under_stays header.stream_id change) 0 old.jobs.last old.jobs.list rising)
-row_keeps out row old o header now sent new does rising = rw does.0 rising
-
-pub frame_keeps : {O : Type 0} (out : OutboundTransform O) (old : Server) (o : O) (a : Arrived) (sent : List Sent) (new : Server) → serves out old o a sent new
-    → Rising 0 old.jobs.list old.jobs.last → Rising 0 new.jobs.list new.jobs.last
-frame_keeps out old o a sent new does rising = row_keeps out (row_of old a) old o a.header a.now sent new does rising
 
 pub taking_keeps : (old new : List ActiveJob) (high : ℕ) (handed : Job) → HandsOne old handed new → Rising 0 old high → Rising 0 new high
 taking_keeps old new high handed one rising = rw one.jobs (with_one_taken 0 high one.front one.back one.job (rw one.was at rising))

@@ -1,15 +1,13 @@
 -- What a frame, a job that is handed out, an answer and a job that expires do to each stream id by itself.
-use Rattle.ttrpc_server.proofs.Words.{cond_both, ◌≡◌, ℕ, nat_eq, ◌≢◌, inl, inr, refl, arith, List, [], ◌∷◌, ◌++◌, None, ExpiresOne, IsJob, Outbox, timeout_response, sym, ap, ◌∙◌, ActiveJob, Job, MessageHeader, Response, OutboundTransform, Sent, EndsOne, HandsOne, NoneWaits, jobs_at, SendsOwnAnswer, Server, Arrived, Async, Row, Rules, Sync, row_of, sync_row, Opened, Refused, SendResponse, SendCode, MakeJob, Does, between_own, between_other, pushed_own, pushed_other, under_both}
+use Rattle.ttrpc_server.proofs.Words.{cond_both, ◌≡◌, ℕ, nat_eq, ◌≢◌, inl, inr, refl, arith, List, [], ◌∷◌, ◌++◌, None, ExpiresOne, IsJob, Outbox, timeout_response, sym, ap, ◌∙◌, ActiveJob, Job, MessageHeader, Response, OutboundTransform, Sent, EndsOne, HandsOne, NoneWaits, jobs_at, SendsOwnAnswer, Server, Arrived, Async, Row, Rules, Sync, row_of, sync_row, Opened, Refused, SendResponse, SendCode, Does, between_own, between_other, under_both}
 use Rattle.ttrpc_connection.specs.declared.arrived.Opening.{Opening}
 use Rattle.std.specs.Prelude.{Bool, true, false, nat_lt, length, if◌then◌else◌, Option, Some}
 use Rattle.ttrpc_wire.specs.Fold.{read_from}
 use Rattle.ttrpc_proto.specs.Messages.{empty_request, request_step}
 use Rattle.ttrpc_server.specs.Types.{TooLong, Inlet, Absent, Asks, Call, NoPath, Oversize, Skipped, MESSAGE_LENGTH_MAX, MESSAGE_TYPE_REQUEST, Request}
-use Rattle.ttrpc_server.specs.Table.{asked_row, case_of, case_row, inlet_of, request_row}
-use Rattle.ttrpc_server.specs.Streams.{IsAnswered, made_by}
-use Rattle.ttrpc_server.specs.State.{Services, brought_by, changed_under, has_method}
-use Rattle.ttrpc_server.specs.Table.{MakeStream, PutIn}
-use Rattle.ttrpc_server.proofs.Mapped.{mapped_at, under_stays, unmoved}
+use Rattle.ttrpc_server.specs.Table.{asked_row, case_of, case_row, inlet_of, request_row, MakeStream, PutIn}
+use Rattle.ttrpc_server.specs.Streams.{IsAnswered}
+use Rattle.ttrpc_server.specs.State.{Services, has_method}
 
 none_waits_at : (js : List ActiveJob) (k : ℕ) → NoneWaits js → NoneWaits (jobs_at js k)
 none_waits_at [] k none = tt
@@ -58,24 +56,6 @@ ended_elsewhere old new id job k h apart =
     ap (λ jobs. jobs_at jobs k) h.jobs ∙ under_both stream_id_of k h.at.front h.at.back
     ∙ sym (ap (λ jobs. jobs_at jobs k) h.at.is ∙ between_other stream_id_of k h.at.front h.at.back job (λ same. apart (sym same)))
 
-pub row_elsewhere : {O : Type 0} (out : OutboundTransform O) (row : Row) (old : Server) (o : O) (header : MessageHeader) (now : ℕ) (sent : List Sent) (new : Server) (k : ℕ) → Does out row old o header now sent new
-    → k ≢ header.stream_id → jobs_at new.jobs.list k ≡ jobs_at old.jobs.list k
-row_elsewhere out (MakeJob request) old o header now sent new k does apart = rw does.0 (pushed_other stream_id_of k _ old.jobs.list (λ same. apart (sym same)))
-row_elsewhere out (MakeStream request) old o header now sent new k does apart = rw does.0 (pushed_other stream_id_of k _ old.jobs.list (λ same. apart (sym same)))
-row_elsewhere out (PutIn payload) old o header now sent new k does apart =
-    let change = brought_by header payload in
-    rw does.0 (mapped_at (changed_under header.stream_id change) (under_stays header.stream_id change) old.jobs.list k ∙ unmoved k header.stream_id change old.jobs.list apart)
-row_elsewhere out row old o header now sent new k does apart = rw does.0 refl
-
-pub row_made : {O : Type 0} (out : OutboundTransform O) (row : Row) (old : Server) (o : O) (header : MessageHeader) (now : ℕ) (sent : List Sent) (new : Server) → Does out row old o header now sent new
-    → jobs_at new.jobs.list header.stream_id ≡ made_by row old header now (jobs_at old.jobs.list header.stream_id)
-row_made out (MakeJob request) old o header now sent new does = rw does.0 (pushed_own stream_id_of header.stream_id _ old.jobs.list refl)
-row_made out (MakeStream request) old o header now sent new does = rw does.0 (pushed_own stream_id_of header.stream_id _ old.jobs.list refl)
-row_made out (PutIn payload) old o header now sent new does =
-    let change = brought_by header payload in
-    rw does.0 (mapped_at (changed_under header.stream_id change) (under_stays header.stream_id change) old.jobs.list header.stream_id)
-row_made out row old o header now sent new does = rw does.0 refl
-
 none_sent : (k : ℕ) (sent : List Sent) → sent ≡ [] → IsAnswered k sent
 none_sent k sent none = rw none (record { own = tt; at_most_one = omega arith })
 
@@ -116,13 +96,6 @@ module _ {O : Type 0} (out : OutboundTransform O) (old : Server) (from : Outbox 
   one_answers one = referred old.rules out from.half job.header.stream_id timeout_response one.sent one.answers
 
 -- ---- the rules
-
-pub rules_stay : {O : Type 0} (out : OutboundTransform O) (row : Row) (old : Server) (o : O) (header : MessageHeader) (now : ℕ) (sent : List Sent) (new : Server) → Does out row old o header now sent new
-    → new.rules ≡ old.rules
-rules_stay out (MakeJob request) old o header now sent new does = ap (λ (s : Server). s.rules) does.0
-rules_stay out (MakeStream request) old o header now sent new does = ap (λ (s : Server). s.rules) does.0
-rules_stay out (PutIn payload) old o header now sent new does = ap (λ (s : Server). s.rules) does.0
-rules_stay out row old o header now sent new does = ap (λ (s : Server). s.rules) does.0
 
 -- sync rules don't ask what an id has
 pub same_case : (r : Rules) (h : MessageHeader) (opening : Opening) (x y : Inlet) → (r ≡ Async → x ≡ y) → case_of r h opening x ≡ case_of r h opening y

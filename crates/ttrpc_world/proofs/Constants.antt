@@ -1,6 +1,6 @@
 -- What stays the same in a run: the server's rules, its services, and the limit of its outbound half.
 use Rattle.ttrpc_world.proofs.Serves.{acts_so, answered, passes_so}
-use Rattle.ttrpc_world.proofs.Words.{[], ActiveJob, ActsAll, Answer, ap, Bool, Connection, Count, Cut, cut_to, Deliver, Does, Done, EndsStream, EndStream, Entry, Err, Error, Event, ExpiresOne, Halves, header_of_frame, Hears, Incoming, inl, inr, is_over, List, MESSAGE_LENGTH_MAX, MessageHeader, Net, None, Ok, Option, OutboundTransform, Outbox, PutIn, refl, Refused, Reply, Respond, Response, Result, Row, rules, rules_stay, Runs, safe_limit, Scene, scene, Send, SendsAll, Sent, Server, ServerCore, ServerEnd, ServerSide, serving, Some, Steps, taken_from, Tick, Ticket, ℕ, ◌-◌, ◌∙◌, ◌∷◌, ◌≡◌}
+use Rattle.ttrpc_world.proofs.Words.{[], ActiveJob, ActsAll, Answer, ap, Bool, Connection, Count, Cut, cut_to, Deliver, Done, EndsStream, EndStream, Entry, Err, Error, Event, ExpiresOne, Halves, header_of_frame, Hears, Incoming, inl, inr, is_over, List, MESSAGE_LENGTH_MAX, Net, None, Ok, Option, OutboundTransform, Outbox, refl, Refused, Reply, Respond, Response, Result, rules, row_leaves, Runs, safe_limit, Scene, scene, Send, SendsAll, Sent, Server, ServerCore, ServerEnd, ServerSide, serving, Some, Steps, taken_from, Tick, Ticket, ℕ, ◌-◌, ◌∙◌, ◌∷◌, ◌≡◌}
 use Rattle.ttrpc_world.proofs.OneWay.{as_heard}
 
 -- these stay, of a server's state and its outbox
@@ -8,11 +8,6 @@ pub record Constant {O : Type 0} (out : OutboundTransform O) (old : Server) (fro
   pub rules : new.rules ≡ old.rules
   pub services : new.services ≡ old.services
   pub limit : safe_limit out to.half ≡ safe_limit out from.half
-
-pub services_stay : {O : Type 0} (out : OutboundTransform O) (row : Row) (old : Server) (o : O) (header : MessageHeader) (now : ℕ) (sent : List Sent) (new : Server) → Does out row old o header now sent new
-    → new.services ≡ old.services
-services_stay out (PutIn payload) old o header now sent new does = ap (λ (s : Server). s.services) does.0
-services_stay out row old o header now sent new does = ap (λ (s : Server). s.services) does.0
 
 limit_sent : {O : Type 0} (out : OutboundTransform O) (fixed : (s t : O) (plain aad sealed : List ℕ) → out.seals s plain aad sealed t → out.overhead t ≡ out.overhead s) (sent : List Sent) (old new : Outbox O) → SendsAll out old sent new
     → safe_limit out new.half ≡ safe_limit out old.half
@@ -36,11 +31,8 @@ module _ {CO CI SO SI : Type 0} (c : Halves CO CI) (s : Halves SO SI) (seals : B
 
   acted : (now : ℕ) (fs : List Incoming) (old new : Scene Server SO SI) → ActsAll (serving s.out s.in_) now old fs new → Constant s.out old.state old.outbox new.state new.outbox
   acted now = acts_so (serving s.out s.in_) now (λ x y. Constant s.out x.state x.outbox y.state y.outbox) (λ x. stays_same s.out refl refl) (λ f fs x y a later.
-      both (record {
-        rules = rules_stay s.out _ x.state x.outbox.half (header_of_frame f) now a.1.sent a.0.state a.1.reacts;
-        services = services_stay s.out _ x.state x.outbox.half (header_of_frame f) now a.1.sent a.0.state a.1.reacts;
-        limit = limit_sent s.out fixed a.1.sent x.outbox a.0.outbox a.1.sends;
-      }) later)
+      let leaves = row_leaves s.out _ x.state x.outbox.half (header_of_frame f) now a.1.sent a.0.state a.1.reacts in
+      both (record { rules = leaves.rules; services = leaves.services; limit = limit_sent s.out fixed a.1.sent x.outbox a.0.outbox a.1.sends }) later)
 
   ended : (old : ServerCore SO SI) (id : ℕ) (result : Result (Option Response) Error) (new : ServerCore SO SI) → EndsStream s.out old id result new → safe_limit s.out new.connection.outbox.half ≡ safe_limit s.out old.connection.outbox.half
   ended old id (Ok None) new p = ap (λ n. MESSAGE_LENGTH_MAX - n) (fixed _ _ _ _ _ p.sends.2.seal)

@@ -1,10 +1,9 @@
 -- A delivery: each flight that comes in acts as it was sent, on one call or stream. No bytes, no seals that are opened.
 use Rattle.ttrpc_world.proofs.Numbers.{acts_right, AreRight, asks, made_of, Numbers, passed_by}
 use Rattle.ttrpc_world.proofs.OneWay.{joins, OneWay}
-use Rattle.ttrpc_world.proofs.Constants.{services_stay}
 use Rattle.ttrpc_world.proofs.Payloads.{ask_row, IsItemRow, IsRefusal, IsRowOf, item_row}
 use Rattle.ttrpc_world.proofs.Flights.{behind_other, behind_own, sends_refusal}
-use Rattle.ttrpc_world.proofs.Words.{[], Act, act_of, ActiveJob, acts, ActsOn, all_behind, AllByRecursion, ap, append-nil, append_assoc, arith, Around, arrives_here, asked_by, Asking, AsyncRules, Birth, Bool, Born, box_up, brought_by, ByCall, ByOpen, Call, call_at, calling, calls, calls_work, case_of, case_row, cases_eq, changed_under, Client, comes_of, Connection, deadline_in, deadline_of, Does, down_of, elsewhere, Entry, eq-eqb, Event, false, first_act, flags_of, flow_of, Flying, Halves, has_method, Here, here_at, id_of, Ignore, inl, inlet_of, inr, is_stream, IsAsked, IsHeldBy, IsItem, IsJob, IsMade, IsNever, IsNoMethod, IsPassed, IsPatient, IsTurned, jobs_at, Landing, lands_here, LandsOn, LandsOnce, last_id, Later, List, MakeJob, MakeStream, MESSAGE_TYPE_REQUEST, MessageHeader, nat_eq, new_job, Open, Opened, Option, OutboundTransform, Outbox, parcels, passes_here, Pipe, Place, pushed_other, pushed_own, PutIn, puts_here, refers_here, refl, Reply, Request, request_of, Response, Row, row_elsewhere, row_made, Rules, rules, rules_stay, Scene, SendResponse, SendsAll, SendsOwnAnswer, Sent, Server, serving, Settings, Some, stream_at, stream_body, stream_id_of, subst, sym, SyncRules, TidyOf, true, unary_body, unchanged, under_other, under_own, under_stays, untaken, Waiting, with_mail, without_payload, ℕ, ◌%◌, ◌++◌, ◌+◌, ◌∙◌, ◌∷◌, ◌≡◌, ◌≢◌, ◌≤◌, ◌⊎◌}
+use Rattle.ttrpc_world.proofs.Words.{[], Act, act_of, ActiveJob, acts, ActsOn, all_behind, AllByRecursion, ap, append-nil, append_assoc, arith, Around, arrives_here, asked_by, Asking, AsyncRules, Birth, Bool, Born, box_up, brought_by, ByCall, ByOpen, Call, call_at, calling, calls, calls_work, case_of, case_row, cases_eq, changed_under, Client, comes_of, Connection, deadline_in, deadline_of, Does, down_of, elsewhere, Entry, eq-eqb, Event, false, first_act, flags_of, flow_of, Flying, Halves, has_method, Here, here_at, id_of, Ignore, inl, inlet_of, inr, is_stream, IsAsked, IsHeldBy, IsItem, IsJob, IsMade, IsNever, IsNoMethod, IsPassed, IsPatient, IsTurned, jobs_at, Landing, lands_here, LandsOn, LandsOnce, last_id, Later, List, MakeJob, MakeStream, MESSAGE_TYPE_REQUEST, MessageHeader, nat_eq, new_job, Open, Opened, Option, OutboundTransform, Outbox, parcels, passes_here, Pipe, Place, pushed_other, pushed_own, PutIn, puts_here, refers_here, refl, Reply, Request, request_of, Response, Row, row_leaves, Rules, rules, Scene, SendResponse, SendsAll, SendsOwnAnswer, Sent, Server, serving, Settings, Some, stream_at, stream_body, stream_id_of, subst, sym, SyncRules, TidyOf, true, unary_body, unchanged, under_other, under_own, under_stays, untaken, Waiting, with_mail, without_payload, ℕ, ◌%◌, ◌++◌, ◌+◌, ◌∙◌, ◌∷◌, ◌≡◌, ◌≢◌, ◌≤◌, ◌⊎◌}
 
 abbrev pub around : Settings → (ℕ → Bool) → ℕ → Around
 around set had next = record { set = set; had = had; next = next }
@@ -166,11 +165,12 @@ module _ {CO CI SO SI : Type 0} (c : Halves CO CI) (s : Halves SO SI) (set : Set
       let h : MessageHeader = x.frame.message.header in
       let g = changed_under k (brought_by h payload) in
       let none = none_sent s.out old.outbox sent new.outbox does.1 sends in
+      let leaves = row_leaves s.out (PutIn payload) old.state old.outbox.half h now sent new.state does in
       refers_comes k rest down old new (nothing_refers c s k old.outbox new.outbox none)
       (turns_up x rest down [] old.state.jobs.list new.state.jobs.list stories tt
       (elsewhere (unchanged (around set had client.next) k) (puts_here g (under_stays k (brought_by h payload)) a (λ j mine. changed_body k payload h j mine ∙ ap (λ (plain : List ℕ). with_mail (brought_by h plain) j.body) is)) refl refl refl
-      (row_made s.out (PutIn payload) old.state old.outbox.half h now sent new.state does) (ap (parcels k) (append-nil down)) refl refl)
-      (λ i e. row_elsewhere s.out (PutIn payload) old.state old.outbox.half h now sent new.state i does (λ same. e (sym same))))
+      leaves.made (ap (parcels k) (append-nil down)) refl refl)
+      (λ i e. leaves.elsewhere i (λ same. e (sym same))))
       (subst (λ (t : Server). Numbers f t.jobs.last rest client.next) (sym does.0) (passed_by f old.state.jobs.last x rest client.next numbers))
     where
       changed_body : (k : ℕ) (payload : List ℕ) (h : MessageHeader) (j : ActiveJob) → j.header.stream_id ≡ k → (changed_under k (brought_by h payload) j).body ≡ with_mail (brought_by h payload) j.body
@@ -266,7 +266,8 @@ module _ {CO CI SO SI : Type 0} (c : Halves CO CI) (s : Halves SO SI) (set : Set
       })
   feeds_up now (x ∷ front) rest down old new ruled served timely p stories numbers right =
       let first = comes_up now x (front ++ rest) down old p.0 p.1 ruled served timely p.2 p.3 stories numbers (acts_right s f now front p.0 new p.4 right) in
-      let later = feeds_up now front rest (down ++ first.more) p.0 new (rules_stay s.out _ old.state _ _ now p.1 p.0.state p.2 ∙ ruled) (services_stay s.out _ old.state _ _ now p.1 p.0.state p.2 ∙ served) timely p.4 first.stories first.numbers right in
+      let leaves = row_leaves s.out _ old.state _ _ now p.1 p.0.state p.2 in
+      let later = feeds_up now front rest (down ++ first.more) p.0 new (leaves.rules ∙ ruled) (leaves.services ∙ served) timely p.4 first.stories first.numbers right in
       record {
         more = first.more ++ later.more;
         stories = subst (λ (d : List Flying). Stories set had f trace rest d new.state.jobs.list client) (append_assoc down first.more later.more) later.stories;

@@ -1,9 +1,9 @@
 -- The stream of each job. There is one function that is right at every state of a run; the streams of the jobs that were
 -- made rise, and so do the ids of the requests in flight, from above them to below the client's next. So no two jobs have
 -- the same stream.
-use Rattle.ttrpc_pair.proofs.Words.{unheard}
+use Rattle.ttrpc_pair.proofs.Words.{AreChanged, JobsLeft, same_jobs, unheard}
 use Rattle.ttrpc_world.proofs.Serves.{acts_so, one_less, passes_so}
-use Rattle.ttrpc_world.proofs.Words.{[], ActiveJob, ActsAll, ActsOn, all_at, all_changed, all_in_front, all_less, AllByRecursion, Answer, ap, arith, AsyncRules, at_stays, Bool, brought_by, cases_lt, cases_order, changed_at, changed_under, ClientSide, cond-false, cond-true, Count, Deliver, Does, Done, DropReceiver, EndsOne, EndStream, Entry, eq-eqb, Error, Event, ExpiresOne, Failure, false, filter, Finish, Flying, flying_without, Halves, Handed, header_of_frame, id_of, if◌then◌else◌, Incoming, inl, inr, IsFresh, IsOneToOne, IsRightAt, IsStreamOf, Item, Job, JobList, last_id, left_behind, List, Mail, MakeJob, MakeStream, map, MESSAGE_TYPE_REQUEST, MessageHeader, nat_eq, ne_eqb, Net, new_job, None, on_mail, Option, OutboundTransform, Outbox, PutIn, ReceivesBy, Recv, refl, Refused, Reply, Result, Row, Rules, rules, Runs, Scene, scene, Sent, Server, ServerCore, ServerEnd, ServerSide, serving, Some, stays, StaysFound, Steps, stream_body, subst, sym, SyncRules, Take, Tick, true, unary_body, under_stays, with_server, without_payload, without_receiver, ℕ, ◌++◌, ◌+◌, ◌<◌, ◌∙◌, ◌∷◌, ◌≡◌, ◌≤◌, ◌⊎◌}
+use Rattle.ttrpc_world.proofs.Words.{[], ActiveJob, ActsAll, ActsOn, all_at, all_changed, all_in_front, all_less, AllByRecursion, Answer, ap, arith, AsyncRules, at_stays, Bool, cases_lt, cases_order, changed_at, ClientSide, cond-false, cond-true, Count, Deliver, Done, DropReceiver, EndsOne, EndStream, Entry, eq-eqb, Error, Event, ExpiresOne, Failure, false, filter, Finish, Flying, flying_without, Halves, Handed, header_of_frame, id_of, if◌then◌else◌, Incoming, inl, inr, IsFresh, IsOneToOne, IsRightAt, IsStreamOf, Item, Job, JobList, last_id, left_behind, List, Mail, map, MESSAGE_TYPE_REQUEST, MessageHeader, nat_eq, ne_eqb, Net, None, on_mail, Option, OutboundTransform, Outbox, ReceivesBy, Recv, refl, Refused, Reply, Result, Rules, row_leaves, rules, Runs, Scene, scene, Server, ServerCore, ServerEnd, ServerSide, serving, Some, stays, StaysFound, Steps, subst, sym, SyncRules, Take, Tick, true, with_server, without_receiver, ℕ, ◌++◌, ◌+◌, ◌<◌, ◌∙◌, ◌∷◌, ◌≡◌, ◌≤◌}
 
 -- ---- streams that rise
 
@@ -186,31 +186,14 @@ make_placed f old job id p = record {
 
 -- ---- mailboxes change
 
--- these are the jobs with mailboxes changed
-pub record AreChanged (old new : List ActiveJob) : Type 0 where
-  pub g : ActiveJob → ActiveJob
-  pub found : StaysFound g
-  pub is : new ≡ map g old
-
-none_changed : (jobs : List ActiveJob) → jobs ≡ map (λ j. j) jobs
-none_changed [] = refl
-none_changed (j ∷ jobs) = ap (λ xs. j ∷ xs) (none_changed jobs)
-
-unchanged : (old new : List ActiveJob) → new ≡ old → AreChanged old new
-unchanged old new same = record { g = λ j. j; found = record { id = λ j. refl; header = λ j. refl; deadline = λ j. refl; request = λ j. refl; stream = λ j. refl }; is = same ∙ none_changed old }
-
 changed_one : (old new : List ActiveJob) (id : ℕ) (change : Mail → Mail) → new ≡ on_mail id change old → AreChanged old new
 changed_one old new id change is = record { g = changed_at id change; found = at_stays id change; is = is }
 
 -- an item was asked for of a job's stream
 pub received : (r : Rules) (failure : Option Failure) (s : Server) (id : ℕ) (given : Option (Result (List ℕ) Error)) (new : List ActiveJob) → ReceivesBy r failure s id given new → AreChanged s.jobs.list new
-received SyncRules failure s id given new h = unchanged s.jobs.list new h.1
+received SyncRules failure s id given new h = same_jobs s.jobs.list new h.1
 received AsyncRules failure s id given new (inl h) = changed_one s.jobs.list new id (λ _. h.1) h.4
-received AsyncRules failure s id given new (inr h) = unchanged s.jobs.list new h.1
-
--- its receiver was dropped
-pub dropped : (s : Server) (id : ℕ) → AreChanged s.jobs.list (on_mail id without_receiver s.jobs.list)
-dropped s id = changed_one s.jobs.list _ id without_receiver refl
+received AsyncRules failure s id given new (inr h) = same_jobs s.jobs.list new h.1
 
 jobs_map : (f : ℕ → ℕ) (n : ℕ) (change : ActiveJob → ActiveJob) → StaysFound change → (js : List ActiveJob) → AreBelow f n js → AreBelow f n (map change js)
 jobs_map f n change stay [] h = tt
@@ -219,20 +202,8 @@ jobs_map f n change stay (j ∷ js) h = (rw (stay.id j, stay.header j) h.0, jobs
 changed_goes : (f : ℕ → ℕ) (old new : JobList) → new.last ≡ old.last → AreChanged old.list new.list → Placed f old → Goes f old new
 changed_goes f old new last c p = stay_placed f old new last (subst (λ (js : List ActiveJob). AreBelow f old.last js) (sym c.is) (jobs_map f old.last c.g c.found old.list p.below)) p
 
--- WHAT A ROW LEAVES OF THE JOBS: one more is made, or mailboxes change.
-abbrev RowLeaves : JobList → JobList → Type 0
-RowLeaves old new = ((job : ActiveJob) × (job.id ≡ old.last + 1) × (new ≡ record { last = old.last + 1; list = old.list ++ job ∷ [] })) ⊎ (AreChanged old.list new.list × (new.last ≡ old.last))
-
-row_leaves : {O : Type 0} (out : OutboundTransform O) (r : Row) (old : Server) (o : O) (header : MessageHeader) (now : ℕ) (sent : List Sent) (new : Server) → Does out r old o header now sent new → RowLeaves old.jobs new.jobs
-row_leaves out (MakeJob request) old o header now sent new d = inl (new_job (old.jobs.last + 1) header request (unary_body old.rules now request), refl, ap (λ (t : Server). t.jobs) d.0)
-row_leaves out (MakeStream request) old o header now sent new d =
-    inl (new_job (old.jobs.last + 1) header (without_payload request) (stream_body old.services.bare_openings header.flags request.payload), refl, ap (λ (t : Server). t.jobs) d.0)
-row_leaves out (PutIn payload) old o header now sent new d =
-    let into = brought_by header payload in
-    inr (record { g = changed_under header.stream_id into; found = under_stays header.stream_id into; is = ap (λ (t : Server). t.jobs.list) d.0 }, ap (λ (t : Server). t.jobs.last) d.0)
-row_leaves out r old o header now sent new d = inr (unchanged old.jobs.list new.jobs.list (ap (λ (t : Server). t.jobs.list) d.0), ap (λ (t : Server). t.jobs.last) d.0)
-
-row_goes : (f : ℕ → ℕ) (old new : JobList) → RowLeaves old new → Placed f old → Goes f old new
+-- a row makes a job, or changes mailboxes
+row_goes : (f : ℕ → ℕ) (old new : JobList) → JobsLeft old new → Placed f old → Goes f old new
 row_goes f old new (inl made) p = subst (λ (js : JobList). Goes f old js) (sym made.2) (make_placed f old made.0 made.1 p)
 row_goes f old new (inr changed) p = changed_goes f old new changed.1 changed.0 p
 
@@ -246,7 +217,7 @@ expires_go out old mid new from between to job e later f p =
 acts_go : {O I : Type 0} (h : Halves O I) (f : ℕ → ℕ) (now : ℕ) (fs : List Incoming) (old new : Scene Server O I) → ActsAll (serving h.out h.in_) now old fs new → Placed f old.state.jobs → Goes f old.state.jobs new.state.jobs
 acts_go h f now fs old new a =
     acts_so (serving h.out h.in_) now (λ x y. (g : ℕ → ℕ) → Placed g x.state.jobs → Goes g x.state.jobs y.state.jobs) (λ x g p. same_placed g x.state.jobs x.state.jobs refl p)
-    (λ i is x y b later g p. then_goes g x.state.jobs b.0.state.jobs y.state.jobs (row_goes g x.state.jobs b.0.state.jobs (row_leaves h.out _ x.state x.outbox.half (header_of_frame i) now b.1.sent b.0.state b.1.reacts) p) later) fs old new a f
+    (λ i is x y b later g p. then_goes g x.state.jobs b.0.state.jobs y.state.jobs (row_goes g x.state.jobs b.0.state.jobs (row_leaves h.out _ x.state x.outbox.half (header_of_frame i) now b.1.sent b.0.state b.1.reacts).jobs p) later) fs old new a f
 
 ends_go : (f : ℕ → ℕ) (old new : JobList) (id : ℕ) (job : ActiveJob) → new.last ≡ old.last → EndsOne old.list id job new.list → Placed f old → Goes f old new
 ends_go f old new id job last t p =
@@ -270,14 +241,14 @@ right_unmap f change stay [] h = tt
 right_unmap f change stay (j ∷ js) h = (ap f (sym (stay.id j)) ∙ h.0 ∙ ap (λ (x : MessageHeader). x.stream_id) (stay.header j), right_unmap f change stay js h.1)
 
 -- what is right behind a frame was right before
-row_right : (f : ℕ → ℕ) (old new : JobList) → RowLeaves old new → AreRight f new.list → AreRight f old.list
+row_right : (f : ℕ → ℕ) (old new : JobList) → JobsLeft old new → AreRight f new.list → AreRight f old.list
 row_right f old new (inl made) right = all_in_front (IsRight f) old.list _ (subst (λ (js : JobList). AreRight f js.list) made.2 right)
 row_right f old new (inr changed) right = right_unmap f changed.0.g changed.0.found old.list (subst (λ (js : List ActiveJob). AreRight f js) changed.0.is right)
 
 pub acts_right : {O I : Type 0} (h : Halves O I) (f : ℕ → ℕ) (now : ℕ) (front : List Flying) (old new : Scene Server O I) → ActsOn (serving h.out h.in_) now old front new
     → AreRight f new.state.jobs.list → AreRight f old.state.jobs.list
 acts_right h f now [] old new a right = subst (λ (x : Scene Server _ _). AreRight f x.state.jobs.list) a right
-acts_right h f now (x ∷ front) old new a right = row_right f old.state.jobs a.0.state.jobs (row_leaves h.out _ old.state _ _ now a.1 a.0.state a.2) (acts_right h f now front a.0 new a.4 right)
+acts_right h f now (x ∷ front) old new a right = row_right f old.state.jobs a.0.state.jobs (row_leaves h.out _ old.state _ _ now a.1 a.0.state a.2).jobs (acts_right h f now front a.0 new a.4 right)
 
 -- ---- at every state of a run
 
@@ -301,7 +272,7 @@ module _ {CO CI SO SI : Type 0} (c : Halves CO CI) (s : Halves SO SI) (seals : B
   goes f w (Recv (ServerEnd id)) (Item given) v p q =
       changed_goes f (jobs w) (jobs v) (ap (λ (z : ServerCore SO SI). z.state.jobs.last) q.0.same) (received w.server.state.rules w.server.connection.failure w.server.state id given v.server.state.jobs.list q.0.own) p
   goes f w (DropReceiver (ServerEnd id)) Done v p q =
-      subst (λ (x : Net CO CI SO SI). Goes f (jobs w) (jobs x)) (sym q.1) (changed_goes f (jobs w) (jobs (with_server w (unheard w.server id))) refl (dropped w.server.state id) p)
+      subst (λ (x : Net CO CI SO SI). Goes f (jobs w) (jobs x)) (sym q.1) (changed_goes f (jobs w) (jobs (with_server w (unheard w.server id))) refl (changed_one w.server.state.jobs.list _ id without_receiver refl) p)
   goes f w (Tick now) Done v p q =
       passes_so s.out (λ a x b y. (g : ℕ → ℕ) → Placed g a.jobs → Goes g a.jobs b.jobs) (λ a x g placed. same_placed g a.jobs a.jobs refl placed) (expires_go s.out) w.server.state.rules w.server.connection.failure w.server now v.server q.serves f p
   goes f w (Finish id) Done v p q = let t = q.0 in ends_go f (jobs w) (jobs v) id t.job (ap (λ (z : ServerCore SO SI). z.state.jobs.last) t.same) t.ends p
