@@ -207,7 +207,7 @@ module _ {CO CI SO SI : Type 0} (c : Halves CO CI) (s : Halves SO SI) (seals : B
   Steps old (Outcome id) (Given outcome) new = TakesOutcome old.client id outcome new.client × OnlyClient old new
   Steps old (DropCall id) Done new = Forgot old id new
   -- the client's streams
-  Steps old (Open request up down) (Named id) new = IsRequest request × OpensStream c.out old.client request up down id new.client × OnlyClient old new
+  Steps old (Open request up down) (Named id) new = IsRequest request × OpensStream c.out old.client request up down id new.client × OnlyClient old new × (id % 2 ≡ 1)
   Steps old (Open request up down) (Refused told) new = RefusesStream c.out old.client request up told × (new ≡ old)
   Steps old (Recv (end.Client id)) (Item given) new = streaming.ReceivesOne old.client id given new.client × OnlyClient old new
   Steps old (Send (end.Client id) bytes) (Ticket ticket) new = SendsOn c.out old.client id 0 bytes sender.Open ticket new.client × OnlyClient old new

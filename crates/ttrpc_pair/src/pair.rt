@@ -136,6 +136,7 @@ impl<
             self.old (AnEvent.Open request.now up down) result self.new }
     {
         request.lemma_is_value();
+        self.client.lemma_is_client();
         match self.client.new_stream(alloc, request, up, down) {
             Ok(id) => Reply::Named(id),
             Err(error) => Reply::Refused(error),
