@@ -61,11 +61,12 @@ impl<
             (halves CO.OutboundTransform CI.InboundTransform)
             (halves SO.OutboundTransform SI.InboundTransform) CO.SEALS
             self trace.items last) }
-        // Under one function that gives each job its stream, no two the same: each call has at most one outcome, and an
-        // `Ok` is the answer of its one run. At each place of the trace the items that a receiver was given are a beginning
-        // of those that were put in, in order, and where it was told an end, they are all. Where the run is clean and quiet
-        // each call that names a method of this server, and was asked for, is whole: one run, one answer, and what is told of
-        // that answer as its outcome; and a receiver that is asked out was given all items that were put in.
+        // Under one function that gives each job its stream, no two the same: no handler runs without a call or a stream, nor
+        // twice for one, nor with another request; each call has at most one outcome, and an `Ok` is the answer of its one
+        // run. At each place of the trace the items that a receiver was given are a beginning of those that were put in, in
+        // order, and where it was told an end, they are all. Where the run is clean and quiet, each call that names a method
+        // of this server, and was asked for, is whole: one run, one answer, and what is told of that answer as its outcome;
+        // and a receiver that is asked out was given all items that were put in.
         ensures told { IfOk result (λ trace. (stream_of : ℕ → ℕ) × IsTold
             self.server.state.rules
             self.server.state.services

@@ -6,9 +6,10 @@ ghost use Rattle.ttrpc_secure.specs.Sends.{safe_limit};
 use ttrpc_secure::{InboundTransform, OutboundTransform};
 
 /// Whatever happens to a client and a server that are new, over paired halves: under one function that gives each job its
-/// stream, no two the same, each call has at most one outcome, and an `Ok` is the answer of its one run; and at each place
-/// of the trace each receiver's items are a beginning of what was put in, and its end comes behind all of it; and in a clean
-/// quiet run each call of a method that was asked for is whole, and each receiver that is asked out was given all items.
+/// stream, no two the same, no handler runs without a call or a stream, nor twice for one, nor with another request; each
+/// call has at most one outcome, and an `Ok` is the answer of its one run; at each place of the trace each receiver's items
+/// are a beginning of what was put in, and its end comes behind all of it; and in a clean quiet run each call of a method
+/// that was asked for is whole, and each receiver that is asked out was given all items.
 pub fn runs_are_told<
     CO: OutboundTransform,
     CI: InboundTransform,
