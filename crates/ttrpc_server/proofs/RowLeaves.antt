@@ -1,6 +1,6 @@
 -- What a row leaves of a server, whichever row it is.
-use Rattle.ttrpc_server.proofs.Words.{◌≡◌, ◌≢◌, ◌≤◌, ◌⊎◌, ◌∙◌, ◌+◌, ℕ, List, [], ◌∷◌, ◌++◌, inl, inr, refl, sym, ap, arith, pushed_other, pushed_own, MessageHeader, Request, Body, OutboundTransform, Sent, ActiveJob, JobList, Rising, Server, Row, MakeJob, Does, jobs_at}
-use Rattle.std.specs.Prelude.{map}
+use Rattle.ttrpc_server.proofs.Words.{◌≡◌, ◌≢◌, ◌≤◌, ◌∙◌, ◌+◌, ℕ, List, [], ◌∷◌, ◌++◌, inl, inr, refl, sym, ap, arith, pushed_other, pushed_own, MessageHeader, Request, Body, OutboundTransform, Sent, ActiveJob, JobList, Rising, Server, Row, MakeJob, Does, jobs_at}
+use Rattle.std.specs.Prelude.{◌⊎◌, map}
 use Rattle.ttrpc_server.specs.State.{brought_by, changed_under, new_job, with_made}
 use Rattle.ttrpc_server.specs.Streams.{made_by}
 use Rattle.ttrpc_server.specs.Table.{MakeStream, PutIn}

@@ -9,9 +9,6 @@ use Rattle.ttrpc_world.proofs.Words.{[], ActsAll, all_has_come, ap, AreClean, ar
 
 -- ---- nothing was lent, and nothing was taken
 
-min_zero : (a n : ℕ) → 0 < a → 0 ≡ min a n → n ≡ 0
-min_zero a n h e = omega (arith, h, e)
-
 pub lent_alive : (failure : Option Failure) (n k : ℕ) (q : Queue) → failure ≡ None → k ≡ lent_of failure n q → k ≡ min n (length (open_part q))
 lent_alive None n k q e h = h
 lent_alive (Some why) n k q e h = cc
@@ -71,7 +68,7 @@ module _ {CO CI SO SI : Type 0} (c : Halves CO CI) (s : Halves SO SI) (seals : B
   -- ---- a carry that moves nothing
 
   none_queued : (failure : Option Failure) (n : ℕ) (q : Queue) → 0 < n → failure ≡ None → IsQueue q → 0 ≡ lent_of failure n q → q.frames ≡ []
-  none_queued failure n q some alive is e = none_to_lend q is (min_zero n (length (open_part q)) some (lent_alive failure n 0 q alive e))
+  none_queued failure n q some alive is e = none_to_lend q is (omega (arith, some, lent_alive failure n 0 q alive e))
 
   carry_zero : (set : Settings) (f : ℕ → ℕ) (from : Side) (t : List Entry) (w v : Net CO CI SO SI) (n : ℕ) → 0 < n → Keeps c s set f t w → Lives w → Steps c s seals w (Carry from n) (Count 0) v
       → (queue_of from (seen w) ≡ []) × ((side : Side) → queue_of side (seen v) ≡ queue_of side (seen w))
@@ -98,7 +95,7 @@ module _ {CO CI SO SI : Type 0} (c : Halves CO CI) (s : Halves SO SI) (seals : B
       → (pipe_to to (seen w) ≡ []) × (seen v ≡ seen w)
   deliver_zero set f to t w v n some i o p =
       let pipe = pipe_to to (seen w) in
-      (nil_from_length pipe (min_zero n (length pipe) some (count_zero to w v n o p)), idle set f to t w v n 0 i o refl p)
+      (nil_from_length pipe (omega (arith, some, count_zero to w v n o p)), idle set f to t w v n 0 i o refl p)
 
 module _ {CO CI SO SI : Type 0} (c : Halves CO CI) (s : Halves SO SI) (seals : Bool) (steady : AreSteady c s seals) (set : Settings) (f : ℕ → ℕ) where
   -- AT THE END NOTHING IS QUEUED AND NOTHING IS IN A PIPE.

@@ -105,10 +105,6 @@ one_of out old rs k r sent new p q =
     let all = subst (λ (xs : List Sent). SendsAll out old xs new) p.is q in
     subst (λ (o : Outbox _). SendsOne out old p.frame (response_bytes (fitted rs (safe_limit out old.half) r)) o) (sym all.2) all.1
 
--- how long it is
-fitted_short : (rs : Rules) (limit k : ℕ) (r : Response) (sent : List Sent) → limit ≤ MESSAGE_LENGTH_MAX → (p : Responds rs limit k r sent) → length (response_bytes (fitted rs limit r)) ≤ MESSAGE_LENGTH_MAX
-fitted_short rs limit k r sent low p = omega (arith, p.fits, low)
-
 -- a flight of this response
 record IsResponseFlight (k : ℕ) (r : Response) (y : Flying) : Type 0 where
   plain : y.plain ≡ response_bytes r
@@ -122,7 +118,7 @@ sends_last out old rs k r sent new within p q =
     let last = fitted rs (safe_limit out old.half) r in
     let g = p.is_frame in
     sends_flight out old p.frame (response_bytes last) new (IsResponseFlight k last) (one_of out old rs k r sent new p q) (omega (arith, g.stream_id, within)) (omega (arith, g.type_)) (omega (arith, g.flags)) (λ unary. let bad : true ≡ false = sym unary ∙ g.is_unary_request in cc)
-    (record { plain = refl; stream = g.stream_id; type_ = g.type_; short = fitted_short rs (safe_limit out old.half) k r sent (omega arith) p })
+    (record { plain = refl; stream = g.stream_id; type_ = g.type_; short = omega (arith, p.fits) })
 
 -- what it gives a call, and brings a stream
 lands_as : {k : ℕ} {r : Response} {y : Flying} → IsResponse r → IsResponseFlight k r y → landing_of y.frame.message.header (Opened y.plain) ≡ Gives (by_status r.status r)

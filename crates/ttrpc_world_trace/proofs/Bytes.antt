@@ -207,9 +207,6 @@ written_is_frame x sound = (
   omega (arith, sound.stated, sound.short),
 )
 
-first_same : (i j : Incoming) (is js : List Incoming) → i ∷ is ≡ j ∷ js → i ≡ j
-first_same i j is js e = cc
-
 -- a frame at the front of a written form is the frame in flight, and what stands behind is the same
 first_arrives : (i : Incoming) (x : Flying) (front back more : List ℕ) → IsSound x.frame → IsFrame i front → front ++ back ≡ written x.frame.message ++ more → (i ≡ arrived x) × (back ≡ more)
 first_arrives i x front back more sound is_frame e =
@@ -217,7 +214,7 @@ first_arrives i x front back more sound is_frame e =
     let bs = is_frames back in
     let cs = is_frames more in
     let one = one_list (w ++ more) (i ∷ bs.0) (arrived x ∷ cs.0) bs.1 cs.1 (front, back, sym e, is_frame, bs.2) bs.3 (w, more, refl, written_is_frame x sound, cs.2) cs.3 in
-    let same : i ≡ arrived x = first_same i (arrived x) bs.0 cs.0 one.0 in
+    let same : i ≡ arrived x = cc (one.0) in
     let whole = subst (λ j. IsFrame j front) same is_frame in
     let size : length w ≡ length front = omega (arith, length-written x.frame.message, ap length whole.0.all, length-append whole.0.ten x.frame.message.payload, whole.0.size) in
     (same, sym (drop_at front back (length front) refl) ∙ ap (drop (length front)) e ∙ drop_at w more (length front) size)

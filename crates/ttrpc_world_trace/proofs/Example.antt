@@ -1,7 +1,5 @@
 -- A stream of one item each way, and its ends: the definitions say of it what it is, by computing alone.
-use Rattle.ttrpc_world_trace.proofs.Words.{[], AreInOrder, Entry, Eof, Err, flows, Fresh, has_end, heard_down, heard_up, Item, List, None, Ok, put_down, put_up, refl, Request, Rules, Some, ThingEnd, ThingItem, true, ℕ, ◌∷◌, ◌≡◌, IsInOrder, RemoteClosed, false}
-use Rattle.ttrpc_world_trace.proofs.Words.{acts, arith, AsyncRules, calls, Event, inl, inr, sym, told_by, Given, MessageHeader, Ok, Outcome, pos, Reply, Response, SyncRules, ◌++◌}
-use Rattle.ttrpc_world_trace.proofs.Words.{Act, AllByRecursion, Answered, ap, asked_by, Called, Error, Gave, IsExactlyOnce, IsWorkOf, Ran, Result, subst, ◌∙◌, ◌⊎◌}
+use Rattle.ttrpc_world_trace.proofs.Words.{[], AreInOrder, Entry, Eof, Err, flows, Fresh, has_end, heard_down, heard_up, Item, List, None, Ok, put_down, put_up, refl, Request, Rules, Some, ThingEnd, ThingItem, true, ℕ, ◌∷◌, ◌≡◌, IsInOrder, RemoteClosed, false, acts, arith, AsyncRules, calls, Event, inl, inr, sym, told_by, Given, MessageHeader, Outcome, pos, Reply, Response, SyncRules, ◌++◌, Act, AllByRecursion, Answered, ap, asked_by, Called, Error, Gave, IsExactlyOnce, IsWorkOf, Ran, Result, subst, ◌∙◌, ◌⊎◌}
 use Rattle.ttrpc_world_trace.proofs.Here.{never_empty, no_cons}
 use Rattle.std.specs.Prelude.{◌+◌, ◌-◌}
 use Rattle.ttrpc_world_trace.specs.Flows.{Tells}

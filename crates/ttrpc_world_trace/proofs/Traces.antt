@@ -1,6 +1,5 @@
 -- A trace with one more entry, and what it says of one id; and lists of acts, and of what happened to items.
-use Rattle.ttrpc_world_trace.proofs.Words.{Bool, ◌≡◌, ◌≢◌, ◌≤◌, ◌⊎◌, arith, inl, inr, IsBegun, IsExactlyOnce, IsWorkOf, length, Request, subst, ℕ, List, [], ◌∷◌, ◌++◌, true, false, Option, Some, None, Result, nat_eq, refl, sym, ap, ◌∙◌, append_assoc, eq-eqb, ne_eqb, append-nil, flat_map, Error, Response, Rules, Event, Reply, Entry, Outcome, Given, Item, Thing, ThingEnd, ThingItem, ThingLast, Act, Called, Opened, Ran, Gave, act_of, acts, calls, names, only_if, outcomes, runs, work}
-use Rattle.ttrpc_world_trace.proofs.Words.{Asked, Began, ClosedUp, EndedDown, ending_thing, Flow, heard_down, heard_up, HeardDown, HeardUp, put_down, put_up, SentDown, SentUp, Word}
+use Rattle.ttrpc_world_trace.proofs.Words.{Bool, ◌≡◌, ◌≢◌, ◌≤◌, ◌⊎◌, arith, inl, inr, IsBegun, IsExactlyOnce, IsWorkOf, length, Request, subst, ℕ, List, [], ◌∷◌, ◌++◌, true, false, Option, Some, None, Result, nat_eq, refl, sym, ap, ◌∙◌, append_assoc, eq-eqb, ne_eqb, append-nil, flat_map, Error, Response, Rules, Event, Reply, Entry, Outcome, Given, Item, Thing, ThingEnd, ThingItem, ThingLast, Act, Called, Opened, Ran, Gave, act_of, acts, calls, names, only_if, outcomes, runs, work, Asked, Began, ClosedUp, EndedDown, ending_thing, Flow, heard_down, heard_up, HeardDown, HeardUp, put_down, put_up, SentDown, SentUp, Word}
 
 -- the trace after one more entry
 abbrev pub with_entry : List Entry → Event → Reply → List Entry
