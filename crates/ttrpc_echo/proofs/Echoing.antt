@@ -17,6 +17,7 @@ use Rattle.ttrpc_proto.specs.Framing.Frames.{Held, Fed, given}
 use Rattle.ttrpc_proto.specs.Framing.Queue.{Queue, IsQueue, IsWithin, unsent, with_frame, with_payload, written, written_all}
 use Rattle.ttrpc_proto.proofs.Queues.{with_frame_is_queue, written_is}
 use Rattle.ttrpc_secure.specs.declared.plain.Plain.{Plain}
+use Rattle.ttrpc_connection.specs.declared.arrived.Arrived.{Arrived}
 use Rattle.ttrpc_connection.specs.declared.arrived.Opening.{Opening}
 use Rattle.ttrpc_connection.specs.declared.arrived.Opening.TheVariants.{TooLong, Opened, Refused}
 use Rattle.ttrpc_connection.specs.Outbox.{Outbox}
@@ -25,8 +26,8 @@ use Rattle.ttrpc_connection.specs.Frames.{Opens, Sent, SendsAll, SendsOne, heade
 use Rattle.ttrpc_connection.proofs.Feeding.{fed_twice, nothing_taken}
 use Rattle.ttrpc_server.specs.declared.job.ActiveJob.{ActiveJob}
 use Rattle.ttrpc_server.specs.declared.server.ServerCore.{ServerCore}
-use Rattle.ttrpc_server.specs.Protocol.{Does, serving, IsResponseFrame, SendsOwnAnswer, Responds, fit_to_limit, response_bytes, row_of}
-use Rattle.ttrpc_server.specs.Table.{Row, Ignore, SendResponse, SendCode, MakeJob, MakeStream, PutIn, case_of, case_row, request_row, sync_row}
+use Rattle.ttrpc_server.specs.Protocol.{Does, serving, IsResponseFrame, SendsOwnAnswer, Responds, case_in, fit_to_limit, response_bytes, row_of, seen_by}
+use Rattle.ttrpc_server.specs.Table.{Row, Ignore, SendResponse, SendCode, MakeJob, MakeStream, PutIn, case_of, case_row, newest_after, request_row, sync_row}
 use Rattle.ttrpc_server.specs.declared.rows.Case.{Case}
 use Rattle.ttrpc_server.specs.declared.rows.Case.TheVariants.{Asks}
 use Rattle.ttrpc_server.specs.declared.rows.Inlet.TheVariants.{Absent}
@@ -34,7 +35,7 @@ use Rattle.ttrpc_server.specs.declared.rules.Rules.{Rules}
 use Rattle.ttrpc_server.specs.declared.rules.Rules.TheVariants.{Sync}
 use Rattle.ttrpc_server.proofs.Streams.{is_of_streams, no_streams, row_of_sync}
 use Rattle.ttrpc_server.proofs.RowLeaves.{row_leaves}
-use Rattle.ttrpc_server.specs.State.{NoneWaits, new_job, told_left, unary_body, with_job, Services, Server}
+use Rattle.ttrpc_server.specs.State.{NoneWaits, new_job, told_left, unary_body, with_job, with_newest, Services, Server}
 use Rattle.ttrpc_echo.specs.Echo.{AreAnswers, HasEcho, IsAnswer, Says, echo_of, echo_services, framed, plainly, said_bytes}
 use Rattle.ttrpc_echo.specs.Serving.{plain_in, plain_out, IsReady, Echoes, Serves}
 use Rattle.ttrpc_echo.proofs.Limits.{fitted_fits}
@@ -215,7 +216,11 @@ same_case_row s h (Asks plain) has = same_request s (read_from request_step empt
 same_case_row s h case has = refl
 
 same_row : (s : Services) (h : MessageHeader) (o : Opening) → HasEcho s → sync_row s h o ≡ sync_row echo_services h o
-same_row s h o has = same_case_row s h (case_of Sync h o Absent) has
+same_row s h o has = same_case_row s h (case_of Sync h o None Absent) has
+
+-- sync rules note no newest request
+seen_of_sync : (s : Server) (a : Arrived) → s.rules ≡ Sync → seen_by s a ≡ s
+seen_of_sync s a sync = ap (λ r. with_newest s (newest_after r a.header.stream_id (case_in s a) s.jobs.newest)) sync
 
 done_frame : (now : ℕ) (f : Incoming) (old mid new : ServerCore Plain Plain) → IsReady old → mid.connection.failure ≡ None
     → Acts (serving plain_out plain_in) now (scene old.state old.connection) f (scene mid.state mid.connection) → Echoes mid new → Done f old mid new
@@ -223,14 +228,16 @@ done_frame now f old mid new ready alive acts echoes =
     let opening : acts.opening ≡ plainly f = opened_plainly old.connection.inbound mid.connection.inbound f acts.opening acts.opens in
     let row : row_of old.state (arrived f acts.opening now) ≡ sync_row echo_services (header_of_frame f) (plainly f) =
     row_of_sync old.state (arrived f acts.opening now) ready.rules ∙ ap (λ o. sync_row old.state.services (header_of_frame f) o) opening ∙ same_row old.state.services (header_of_frame f) (plainly f) ready.services in
-    done_row now (row_of old.state (arrived f acts.opening now)) f old mid new acts.sent ready row acts.reacts acts.sends alive echoes
+    let does = subst (λ (s : Server). Does plain_out (row_of old.state (arrived f acts.opening now)) s old.connection.outbox.half (header_of_frame f) now acts.sent mid.state)
+    (seen_of_sync old.state (arrived f acts.opening now) ready.rules) acts.reacts in
+    done_row now (row_of old.state (arrived f acts.opening now)) f old mid new acts.sent ready row does acts.sends alive echoes
 
 -- a front was fed, under the same rules
 pub fed_rules : (now : ℕ) (o : Option Incoming) (old mid : ServerCore Plain Plain) → ActsAll (serving plain_out plain_in) now (scene old.state old.connection) (given o) (scene mid.state mid.connection) → mid.state.rules ≡ old.state.rules
 fed_rules now None old mid acts = ap (λ (c : Scene Server Plain Plain). c.state.rules) acts
 fed_rules now (Some f) old mid acts =
     let one = acts.1 in
-    ap (λ (c : Scene Server Plain Plain). c.state.rules) acts.2 ∙ (row_leaves plain_out (row_of old.state (arrived f one.opening now)) old.state old.connection.outbox.half (header_of_frame f) now one.sent acts.0.state one.reacts).rules
+    ap (λ (c : Scene Server Plain Plain). c.state.rules) acts.2 ∙ (row_leaves plain_out (row_of old.state (arrived f one.opening now)) (seen_by old.state (arrived f one.opening now)) old.connection.outbox.half (header_of_frame f) now one.sent acts.0.state one.reacts).rules
 
 -- a front was fed, and the job that it made is echoed
 pub one_front : (now : ℕ) (o : Option Incoming) (old mid new : ServerCore Plain Plain) (front : List ℕ) → IsReady old → mid.connection.failure ≡ None → Fed old.connection.decoder front (given o) mid.connection.decoder

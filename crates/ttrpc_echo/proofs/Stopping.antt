@@ -17,7 +17,7 @@ use Rattle.ttrpc_connection.proofs.Holding.{fed_some}
 use Rattle.ttrpc_server.specs.declared.job.ActiveJob.{ActiveJob}
 use Rattle.ttrpc_server.specs.declared.job.Job.{Job}
 use Rattle.ttrpc_server.specs.declared.server.ServerCore.{ServerCore}
-use Rattle.ttrpc_server.specs.Protocol.{Does, Hands, serving, IsUnsent, RefusesAnswer, fit_to_message, row_of}
+use Rattle.ttrpc_server.specs.Protocol.{Does, Hands, serving, IsUnsent, RefusesAnswer, fit_to_message, row_of, seen_by}
 use Rattle.ttrpc_server.specs.Table.{Row, Ignore, SendResponse, SendCode, MakeJob, MakeStream, PutIn}
 use Rattle.ttrpc_server.specs.declared.rules.Rules.{Rules}
 use Rattle.ttrpc_server.specs.declared.rules.Rules.TheVariants.{Sync}
@@ -43,7 +43,7 @@ acts_count : (now : ℕ) (fs : List Incoming) (old new : Scene Server Plain Plai
 acts_count now [] old new acts = omega (arith, ap (λ (c : Scene Server Plain Plain). c.state.jobs.last) acts)
 acts_count now (f ∷ fs) old new acts =
     let one = acts.1 in
-    let count = does_count (row_of old.state (arrived f one.opening now)) old.state old.outbox.half (header_of_frame f) now one.sent acts.0.state one.reacts in
+    let count = does_count (row_of old.state (arrived f one.opening now)) (seen_by old.state (arrived f one.opening now)) old.outbox.half (header_of_frame f) now one.sent acts.0.state one.reacts in
     omega (arith, count, acts_count now fs acts.0 new acts.2)
 
 -- one that is ready takes what comes

@@ -11,7 +11,8 @@ use Rattle.ttrpc_server.specs.Kept.{AreSingle}
 use Rattle.ttrpc_server.specs.Table.{answer_row, case_answer, case_of, case_row, inlet_of, makes_job, MakeStream, PutIn}
 use Rattle.ttrpc_server.specs.State.{Services, brought_by, changed_at, changed_under}
 use Rattle.ttrpc_server.proofs.Mapped.{at_stays, rising_mapped, single_mapped, under_stays, waits_not_mapped}
-use Rattle.ttrpc_server.specs.Types.{Case, Asks, PutsIn, Skipped, Oversize, Unopened, EvenId, Inactive, InUse, Response}
+use Rattle.ttrpc_server.specs.Protocol.{case_in, seen_by}
+use Rattle.ttrpc_server.specs.Types.{Case, Asks, PutsIn, Skipped, Oversize, Unopened, EvenId, Inactive, InUse, NotAbove, Response}
 use Rattle.ttrpc_server.proofs.Keyed.{at_most, before_it, one_less}
 use Rattle.ttrpc_server.proofs.Kept.{asks_where_absent, none_of_absent, single_ended, single_handed, single_made}
 use Rattle.ttrpc_server.proofs.Rising.{taking_keeps}
@@ -25,7 +26,7 @@ IdsRise s = Rising 0 s.jobs.list s.jobs.last
 
 pub rising_lasts : {O : Type 0} (out : OutboundTransform O) → Lasts out IdsRise
 rising_lasts out = record {
-  frame = λ old o a sent new does. left_rising old.jobs new.jobs (row_leaves out (row_of old a) old o a.header a.now sent new does).jobs;
+  frame = λ old o a sent new does. left_rising (seen_by old a).jobs new.jobs (row_leaves out (row_of old a) (seen_by old a) o a.header a.now sent new does).jobs;
   hands = λ old handed list hands rising. taking_keeps old.jobs.list list old.jobs.last handed hands rising;
   ends = λ old id job at rising. one_less 0 old.jobs.last at.front at.back job (rw at.is at rising);
   told = λ old expired rising. rising;
@@ -36,7 +37,7 @@ rising_lasts out = record {
 
 pub count_lasts : {O : Type 0} (out : OutboundTransform O) (n : ℕ) → Lasts out (λ (s : Server). n ≤ s.jobs.last)
 count_lasts out n = record {
-  frame = λ old o a sent new does le. let rises = left_last old.jobs new.jobs (row_leaves out (row_of old a) old o a.header a.now sent new does).jobs in omega (arith, rises, le);
+  frame = λ old o a sent new does le. let rises = left_last (seen_by old a).jobs new.jobs (row_leaves out (row_of old a) (seen_by old a) o a.header a.now sent new does).jobs in omega (arith, rises, le);
   hands = λ old handed list hands le. le;
   ends = λ old id job at le. le;
   told = λ old expired le. le;
@@ -60,17 +61,18 @@ made_by_asking r services h (Unopened why) is = absurd (answers_make_none (case_
 made_by_asking r services h EvenId is = absurd (answers_make_none (case_answer h EvenId) is)
 made_by_asking r services h Inactive is = absurd (answers_make_none (case_answer h Inactive) is)
 made_by_asking r services h InUse is = absurd (answers_make_none (case_answer h InUse) is)
+made_by_asking r services h (NotAbove newest) is = absurd (answers_make_none (case_answer h (NotAbove newest)) is)
 
 free_where_made : (s : Server) (a : Arrived) → s.rules ≡ Async → makes_job (row_of s a) ≡ true → jobs_at s.jobs.list a.header.stream_id ≡ []
 free_where_made s a async is =
     let inlet = inlet_of (jobs_at s.jobs.list a.header.stream_id) in
-    let asks : (plain : List ℕ) × (case_of s.rules a.header a.opening inlet ≡ Asks plain) = made_by_asking s.rules s.services a.header (case_of s.rules a.header a.opening inlet) is in
-    none_of_absent (jobs_at s.jobs.list a.header.stream_id) (asks_where_absent a.header a.opening inlet asks.0 (subst (λ r. case_of r a.header a.opening inlet ≡ Asks asks.0) async asks.1))
+    let asks : (plain : List ℕ) × (case_in s a ≡ Asks plain) = made_by_asking s.rules s.services a.header (case_in s a) is in
+    none_of_absent (jobs_at s.jobs.list a.header.stream_id) (asks_where_absent a.header a.opening s.jobs.newest inlet asks.0 (subst (λ r. case_of r a.header a.opening s.jobs.newest inlet ≡ Asks asks.0) async asks.1))
 
 abbrev pub HasSingle : Server → Type 0
 HasSingle s = (s.rules ≡ Async) × AreSingle s.jobs.list
 
-row_single : {O : Type 0} (out : OutboundTransform O) (row : Row) (old : Server) (o : O) (a : Arrived) (sent : List Sent) (new : Server) → row_of old a ≡ row → Does out row old o a.header a.now sent new → HasSingle old → HasSingle new
+row_single : {O : Type 0} (out : OutboundTransform O) (row : Row) (old : Server) (o : O) (a : Arrived) (sent : List Sent) (new : Server) → row_of old a ≡ row → Does out row (seen_by old a) o a.header a.now sent new → HasSingle old → HasSingle new
 row_single out (MakeJob request) old o a sent new is does single =
     (ap (λ (s : Server). s.rules) does.0 ∙ single.0, rw does.0 (single_made old.jobs.list _ single.1 (free_where_made old a single.0 (ap makes_job is))))
 row_single out (MakeStream request) old o a sent new is does single =
@@ -111,7 +113,7 @@ row_past out row old o header now sent new id does past = rw does.0 past
 
 pub past_lasts : {O : Type 0} (out : OutboundTransform O) (id : ℕ) → Lasts out (IsPast id)
 past_lasts out id = record {
-  frame = λ old o a sent new does past. row_past out (row_of old a) old o a.header a.now sent new id does past;
+  frame = λ old o a sent new does past. row_past out (row_of old a) (seen_by old a) o a.header a.now sent new id does past;
   hands = λ old handed list hands past. (
     past.0,
     rw hands.jobs (all_changed (λ (j : ActiveJob). j.id ≡ id → j.request ≡ None) hands.front hands.back hands.job (record hands.job { request = None }) (λ _. refl)

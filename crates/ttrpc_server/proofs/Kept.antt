@@ -321,17 +321,17 @@ never_asks false false false true items plain other is = other is
 never_asks false false false false items plain other is = cc
 
 -- under async rules a request is read only where its id has no job
-pub asks_where_absent : (h : MessageHeader) (opening : Opening) (inlet : Inlet) (plain : List ℕ) → case_of Async h opening inlet ≡ Asks plain → inlet ≡ Absent
-asks_where_absent h opening Absent plain is = refl
-asks_where_absent h TooLong Busy plain is = cc
-asks_where_absent h TooLong Taking plain is = cc
-asks_where_absent h TooLong Full plain is = cc
-asks_where_absent h (Refused why) Busy plain is = cc
-asks_where_absent h (Refused why) Taking plain is = cc
-asks_where_absent h (Refused why) Full plain is = cc
-asks_where_absent h (Opened bytes) Busy plain is = absurd (never_asks _ _ _ _ Inactive plain (λ e. cc) is)
-asks_where_absent h (Opened bytes) Taking plain is = absurd (never_asks _ _ _ _ (PutsIn bytes) plain (λ e. cc) is)
-asks_where_absent h (Opened bytes) Full plain is = absurd (never_asks _ _ _ _ Skipped plain (λ e. cc) is)
+pub asks_where_absent : (h : MessageHeader) (opening : Opening) (newest : Option ℕ) (inlet : Inlet) (plain : List ℕ) → case_of Async h opening newest inlet ≡ Asks plain → inlet ≡ Absent
+asks_where_absent h opening newest Absent plain is = refl
+asks_where_absent h TooLong newest Busy plain is = cc
+asks_where_absent h TooLong newest Taking plain is = cc
+asks_where_absent h TooLong newest Full plain is = cc
+asks_where_absent h (Refused why) newest Busy plain is = cc
+asks_where_absent h (Refused why) newest Taking plain is = cc
+asks_where_absent h (Refused why) newest Full plain is = cc
+asks_where_absent h (Opened bytes) newest Busy plain is = absurd (never_asks _ _ _ _ Inactive plain (λ e. cc) is)
+asks_where_absent h (Opened bytes) newest Taking plain is = absurd (never_asks _ _ _ _ (PutsIn bytes) plain (λ e. cc) is)
+asks_where_absent h (Opened bytes) newest Full plain is = absurd (never_asks _ _ _ _ Skipped plain (λ e. cc) is)
 
 pub case_is_answered : (r : Rules) (services : Services) (h : MessageHeader) (case : Case) → ((plain : List ℕ) → case ≡ Asks plain → ⊥) → ((plain : List ℕ) → case ≡ PutsIn plain → ⊥) → case_row r services h case ≡ answer_row (case_answer h case)
 case_is_answered r services h (Asks plain) other items = absurd (other plain refl)

@@ -1,6 +1,7 @@
 -- What is queued while a piece is fed: for each frame that is whole at most one response, under its id.
 use Rattle.ttrpc_server.proofs.Words.{◌≡◌, inl, inr, ◌∙◌, ℕ, List, [], ◌∷◌, ◌++◌, append_assoc, Option, Some, None, refl, sym, ap, subst, Queued, OutboundTransform, Connection, Outbox, MessageHeader, Response, Sent, SendsAll, Server, serving, row_of, Row, Rules, SendResponse, SendCode, Does, SendsOwnAnswer, fitted, IsResponseFrame, response_bytes, safe_limit}
 use Rattle.std.specs.Prelude.{◌⊎◌}
+use Rattle.ttrpc_server.specs.Protocol.{seen_by}
 use Rattle.ttrpc_connection.specs.Calls.{Queues}
 use Rattle.ttrpc_connection.specs.Feeds.{arrived}
 use Rattle.ttrpc_connection.proofs.Words.{append-nil, ActsAll, given, Gives, header_of_frame, InboundTransform, Incoming, Scene, scene}
@@ -59,7 +60,7 @@ module _ {O I : Type 0} (out : OutboundTransform O) (in_ : InboundTransform I) w
   acts_answer at (f ∷ fs) old new acts =
       let a = acts.1 in
       let row = row_of old.state (arrived f a.opening at) in
-      let sends = row_sends out row old.state old.outbox.half (header_of_frame f) at a.sent acts.0.state a.reacts in
+      let sends = row_sends out row (seen_by old.state (arrived f a.opening at)) old.outbox.half (header_of_frame f) at a.sent acts.0.state a.reacts in
       one_more f fs old.outbox acts.0.outbox new.outbox (sent_is_queued out (header_of_frame f).stream_id old.outbox acts.0.outbox a.sent sends a.sends) (acts_answer at fs acts.0 new acts.2)
 
   pub gives_answers : (s : Server) (old : Connection O I) (piece : List ℕ) (at : ℕ) (t : Server) (new : Connection O I) → Gives (serving out in_) s old piece at t new

@@ -4,8 +4,8 @@ use Rattle.ttrpc_connection.specs.declared.arrived.Opening.{Opening}
 use Rattle.std.specs.Prelude.{Bool, true, false, nat_lt, length, if◌then◌else◌, Option, Some}
 use Rattle.ttrpc_wire.specs.Fold.{read_from}
 use Rattle.ttrpc_proto.specs.Messages.{empty_request, request_step}
-use Rattle.ttrpc_server.specs.Types.{TooLong, Inlet, Absent, Asks, Call, NoPath, Oversize, Skipped, MESSAGE_LENGTH_MAX, MESSAGE_TYPE_REQUEST, Request}
-use Rattle.ttrpc_server.specs.Table.{asked_row, case_of, case_row, inlet_of, request_row, MakeStream, PutIn}
+use Rattle.ttrpc_server.specs.Types.{TooLong, Case, Inlet, Absent, Asks, Call, NoPath, Oversize, Skipped, MESSAGE_LENGTH_MAX, MESSAGE_TYPE_REQUEST, Request}
+use Rattle.ttrpc_server.specs.Table.{asked_row, case_of, case_row, inlet_of, newest_after, request_row, MakeStream, PutIn}
 use Rattle.ttrpc_server.specs.Streams.{IsAnswered}
 use Rattle.ttrpc_server.specs.State.{Services, has_method}
 
@@ -97,15 +97,21 @@ module _ {O : Type 0} (out : OutboundTransform O) (old : Server) (from : Outbox 
 
 -- ---- the rules
 
--- sync rules don't ask what an id has
-pub same_case : (r : Rules) (h : MessageHeader) (opening : Opening) (x y : Inlet) → (r ≡ Async → x ≡ y) → case_of r h opening x ≡ case_of r h opening y
-same_case Sync h TooLong x y same = refl
-same_case Sync h (Refused why) x y same = refl
-same_case Sync h (Opened plain) x y same = refl
-same_case Async h opening x y same = ap (case_of Async h opening) (same refl)
+-- sync rules ask neither for the newest request nor for what an id has
+pub same_case : (r : Rules) (h : MessageHeader) (opening : Opening) (m n : Option ℕ) (x y : Inlet) → (r ≡ Async → (m ≡ n) × (x ≡ y)) → case_of r h opening m x ≡ case_of r h opening n y
+same_case Sync h TooLong m n x y same = refl
+same_case Sync h (Refused why) m n x y same = refl
+same_case Sync h (Opened plain) m n x y same = refl
+same_case Async h opening m n x y same = let both = same refl in ap (λ k. case_of Async h opening k x) both.0 ∙ ap (case_of Async h opening n) both.1
+
+-- nor do they note a newest request, which no frame is but a request that is read
+pub seen_else : (r : Rules) (k : ℕ) (case : Case) (newest : Option ℕ) → ((plain : List ℕ) → case ≡ Asks plain → ⊥) → newest_after r k case newest ≡ newest
+seen_else r k (Asks plain) newest other = absurd (other plain refl)
+seen_else Sync k case newest other = refl
+seen_else Async k case newest other = refl
 
 pub row_of_sync : (s : Server) (a : Arrived) → s.rules ≡ Sync → row_of s a ≡ sync_row s.services a.header a.opening
-row_of_sync s a sync = rw sync (ap (case_row Sync s.services a.header) (same_case Sync a.header a.opening (inlet_of (jobs_at s.jobs.list a.header.stream_id)) Absent (λ bad. cc)))
+row_of_sync s a sync = rw sync (ap (case_row Sync s.services a.header) (same_case Sync a.header a.opening s.jobs.newest None (inlet_of (jobs_at s.jobs.list a.header.stream_id)) Absent (λ bad. cc)))
 
 -- ---- sync rules have no streams
 

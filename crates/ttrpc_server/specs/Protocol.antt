@@ -7,7 +7,7 @@
 use Rattle.std.specs.Prelude.{◌≡◌, ◌⊎◌, ℕ, ◌<◌, ◌≤◌, ◌-◌, ◌^◌, List, [], ◌∷◌, ◌++◌, length, codes, min, Option, None, Some, Result, Ok, Err, Bool, true, nat_lt, if◌then◌else◌, ◌≢◌, filter, false, nat_le}
 use Rattle.std.specs.Fmt.{decimal}
 use Rattle.std.specs.Option.{option_map_or}
-use Rattle.ttrpc_server.specs.Types.{Code, UNKNOWN, INVALID_ARGUMENT, DEADLINE_EXCEEDED, MessageHeader, MESSAGE_LENGTH_MAX, MESSAGE_TYPE_RESPONSE, Response, Error, Others, NoMemory, Queued, OutboundTransform, Outbox, Arrived, Failure, JobIdsUsedUp, HandlerError, NoMemoryLeft, ActiveJob, Job, Rules, Sync, Async}
+use Rattle.ttrpc_server.specs.Types.{Code, UNKNOWN, INVALID_ARGUMENT, DEADLINE_EXCEEDED, MessageHeader, MESSAGE_LENGTH_MAX, MESSAGE_TYPE_RESPONSE, Response, Error, Others, NoMemory, Queued, OutboundTransform, Outbox, Arrived, Failure, JobIdsUsedUp, HandlerError, NoMemoryLeft, ActiveJob, Case, Job, Rules, Sync, Async}
 use Rattle.ttrpc_wire.specs.Field.{fields_bytes}
 use Rattle.ttrpc_proto.specs.ErrorText.{IsTextOf}
 use Rattle.ttrpc_proto.specs.Messages.{IsResponse, response_fields}
@@ -20,14 +20,22 @@ use Rattle.ttrpc_connection.specs.Failure.{IsTold}
 use Rattle.ttrpc_connection.specs.Feeds.{IsFailed, Ways, new_connection}
 use Rattle.ttrpc_connection.specs.Frames.{Sent, SendsAll, safe_limit}
 use Rattle.ttrpc_server.specs.declared.server.ServerCore.{ServerCore}
-use Rattle.ttrpc_server.specs.State.{EndsOne, HandsOne, IsTaken, IsNoUnary, is_stream, Server, Services, jobs_at, new_server, put_in, stream_body, takes_on, unary_body, with_made, without_payload, with_list, IsJob, deadline_in, waits}
-use Rattle.ttrpc_server.specs.Table.{Row, Ignore, MakeJob, MakeStream, PutIn, makes_job, SendCode, SendResponse, case_of, case_row, inlet_of, status_response}
+use Rattle.ttrpc_server.specs.State.{EndsOne, HandsOne, IsTaken, IsNoUnary, is_stream, Server, Services, jobs_at, new_server, put_in, stream_body, takes_on, unary_body, with_made, with_newest, without_payload, with_list, IsJob, deadline_in, waits}
+use Rattle.ttrpc_server.specs.Table.{Row, Ignore, MakeJob, MakeStream, PutIn, makes_job, SendCode, SendResponse, case_of, case_row, inlet_of, newest_after, status_response}
 
 -- ---- which row a frame has
 
+-- the case of a frame in the state of a core
+abbrev pub case_in : Server → Arrived → Case
+case_in s a = case_of s.rules a.header a.opening s.jobs.newest (inlet_of (jobs_at s.jobs.list a.header.stream_id))
+
 -- the row of a frame in the state of a core
 abbrev pub row_of : Server → Arrived → Row
-row_of s a = case_row s.rules s.services a.header (case_of s.rules a.header a.opening (inlet_of (jobs_at s.jobs.list a.header.stream_id)))
+row_of s a = case_row s.rules s.services a.header (case_in s a)
+
+-- the core that has seen a frame: a request that is read is the newest, whatever its row
+abbrev pub seen_by : Server → Arrived → Server
+seen_by s a = with_newest s (newest_after s.rules a.header.stream_id (case_in s a) s.jobs.newest)
 
 -- ---- how a response is sent: fitted to the limit, sealed, in a frame of its own
 -- Source: PROTOCOL.md of ttrpc, "Response"; limit and texts: the Rust crate.
@@ -112,9 +120,9 @@ Does out (MakeStream request) old o header now sent new =
     (new ≡ with_made old header (without_payload request) (stream_body old.services.bare_openings header.flags request.payload)) × (sent ≡ [])
 Does out (PutIn payload) old o header now sent new = (new ≡ put_in old header payload) × (sent ≡ [])
 
--- what its row does with a frame that arrived
+-- what its row does with a frame that arrived, once the core has seen it
 abbrev pub serves : {O : Type 0} → OutboundTransform O → Server → O → Arrived → List Sent → Server → Type 0
-serves out old o a sent new = Does out (row_of old a) old o a.header a.now sent new
+serves out old o a sent new = Does out (row_of old a) (seen_by old a) o a.header a.now sent new
 
 -- the row makes a job, and no job can get an id
 pub record IsUsedUp (row : Row) (old : Server) (failure : Failure) : Type 0 where

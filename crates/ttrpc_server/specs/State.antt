@@ -83,10 +83,12 @@ pub record JobList : Type 0 where
   pub last : ℕ
   -- the jobs that weren't answered, by rising id; one that was taken has its request no more
   pub list : List ActiveJob
+  -- the stream's id of the newest request, the last that was above all before it; none before the first, and under sync rules
+  pub newest : Option ℕ
 
 -- no job was made
 abbrev pub no_jobs : JobList
-no_jobs = record { last = 0; list = [] }
+no_jobs = record { last = 0; list = []; newest = None }
 
 -- the ids rise, from above the lower number to at most the upper one
 abbrev pub Rising : ℕ → List ActiveJob → ℕ → Type 0
@@ -111,7 +113,7 @@ new_job id header request body = record { id = id; header = header; request = So
 
 -- a job was made, and waits
 abbrev pub with_job : JobList → MessageHeader → Request → Body → JobList
-with_job s header request body = record { last = s.last + 1; list = s.list ++ new_job (s.last + 1) header request body ∷ [] }
+with_job s header request body = record s { last = s.last + 1; list = s.list ++ new_job (s.last + 1) header request body ∷ [] }
 
 -- the job of this id, waiting or taken, if there is one
 abbrev pub job_at : List ActiveJob → ℕ → Option ActiveJob
@@ -198,6 +200,10 @@ pub record Server : Type 0 where
 -- a server that has made no job
 abbrev pub new_server : Rules → Services → Server
 new_server rules services = record { rules = rules; services = services; jobs = no_jobs; heard = []; expired = []; draining = false }
+
+-- a server that has seen this newest request
+abbrev pub with_newest : Server → Option ℕ → Server
+with_newest s newest = record s { jobs = record s.jobs { newest = newest } }
 
 -- which expired jobs are still to be told, where a job is made beside these: none if no job is left
 abbrev pub told_left : List ActiveJob → List ℕ → List ℕ

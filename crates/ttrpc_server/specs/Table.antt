@@ -1,11 +1,12 @@
 -- The table of a server: which case a frame is, what a request does that was read, and what each of them does.
 -- The kinds of frames, and that a request is answered by one response under its stream's id, are PROTOCOL.md's. What it
 -- leaves open, which is codes, texts and which frames are passed over, is as the Rust crate has it, which has two servers:
--- each of the two rules is one of them. That async rules refuse an id whose job is active is this project's.
+-- each of the two rules is one of them. That async rules refuse an id whose job is active,
+-- and one that isn't above that of the newest request, is this project's.
 -- Source: PROTOCOL.md of ttrpc, "Message Frame", "Request" and "Response"; the Rust crate; this project's.
-use Rattle.std.specs.Prelude.{ℕ, ◌%◌, List, ◌++◌, length, codes, Option, None, Some, Bool, true, false, nat_eq, nat_lt, if◌then◌else◌, [], ◌∷◌}
+use Rattle.std.specs.Prelude.{◌≡◌, ◌⊎◌, ◌<◌, ℕ, ◌%◌, List, ◌++◌, length, codes, Option, None, Some, Bool, true, false, nat_eq, nat_lt, if◌then◌else◌, [], ◌∷◌}
 use Rattle.std.specs.Fmt.{decimal}
-use Rattle.ttrpc_server.specs.Types.{Code, UNKNOWN, INVALID_ARGUMENT, UNIMPLEMENTED, MessageHeader, MESSAGE_LENGTH_MAX, MESSAGE_TYPE_DATA, MESSAGE_TYPE_REQUEST, Request, Response, TooLong, Opened, Refused, ActiveJob, Rules, Sync, Async, Inlet, Absent, Busy, Full, Taking, Receiver, Open, Closed, Broken, Dropped, Body, Stream, Unary, Case, Skipped, Oversize, Unopened, EvenId, Inactive, InUse, Asks, PutsIn, Asked, Call, Chat, NoPath, NoService, NoMethod}
+use Rattle.ttrpc_server.specs.Types.{Code, UNKNOWN, INVALID_ARGUMENT, UNIMPLEMENTED, MessageHeader, MESSAGE_LENGTH_MAX, MESSAGE_TYPE_DATA, MESSAGE_TYPE_REQUEST, Request, Response, TooLong, Opened, Refused, ActiveJob, Rules, Sync, Async, Inlet, Absent, Busy, Full, Taking, Receiver, Open, Closed, Broken, Dropped, Body, Stream, Unary, Case, Skipped, Oversize, Unopened, EvenId, Inactive, InUse, NotAbove, Asks, PutsIn, Asked, Call, Chat, NoPath, NoService, NoMethod}
 use Rattle.ttrpc_wire.specs.Fold.{read_from}
 use Rattle.ttrpc_proto.specs.ErrorText.{status_of}
 use Rattle.ttrpc_proto.specs.Messages.{empty_request, request_step}
@@ -41,12 +42,26 @@ sync_case h plain =
     if nat_eq h.type_ MESSAGE_TYPE_REQUEST then Asks plain else
     Skipped
 
+-- an id is above that of the newest request, if there is one
+abbrev pub IsAbove : ℕ → Option ℕ → Type 0
+IsAbove k None = Unit {0}
+IsAbove k (Some newest) = newest < k
+
+-- the newest request stays, or one of a greater id is the newest
+abbrev pub IsNoOlder : Option ℕ → Option ℕ → Type 0
+IsNoOlder old new = (new ≡ old) ⊎ ((k : ℕ) × (new ≡ Some k) × IsAbove k old)
+
+-- a request under async rules of an id that has no job: it is read if its id is above that of the newest request
+abbrev pub newer_case : ℕ → Option ℕ → List ℕ → Case
+newer_case k None plain = Asks plain
+newer_case k (Some newest) plain = if nat_lt newest k then Asks plain else NotAbove newest
+
 -- a request under async rules, by what its id has
-abbrev pub inlet_case : List ℕ → Inlet → Case
-inlet_case plain Absent = Asks plain
-inlet_case plain Busy = InUse
-inlet_case plain Taking = InUse
-inlet_case plain Full = InUse
+abbrev pub inlet_case : ℕ → Option ℕ → List ℕ → Inlet → Case
+inlet_case k newest plain Absent = newer_case k newest plain
+inlet_case k newest plain Busy = InUse
+inlet_case k newest plain Taking = InUse
+inlet_case k newest plain Full = InUse
 
 -- data under async rules, by the same
 abbrev pub data_case : List ℕ → Inlet → Case
@@ -56,29 +71,34 @@ data_case plain Taking = PutsIn plain
 data_case plain Full = Skipped
 
 -- a payload was opened, under async rules
-abbrev pub async_case : MessageHeader → List ℕ → Inlet → Case
-async_case h plain inlet =
+abbrev pub async_case : MessageHeader → List ℕ → Option ℕ → Inlet → Case
+async_case h plain newest inlet =
     if nat_lt MESSAGE_LENGTH_MAX (length plain) then Skipped else
     if nat_eq (h.stream_id % 2) 0 then EvenId else
-    if nat_eq h.type_ MESSAGE_TYPE_REQUEST then inlet_case plain inlet else
+    if nat_eq h.type_ MESSAGE_TYPE_REQUEST then inlet_case h.stream_id newest plain inlet else
     if nat_eq h.type_ MESSAGE_TYPE_DATA then data_case plain inlet else
     Skipped
 
 -- a payload was opened
-abbrev pub opened_case : Rules → MessageHeader → List ℕ → Inlet → Case
-opened_case Sync h plain inlet = sync_case h plain
-opened_case Async h plain inlet = async_case h plain inlet
+abbrev pub opened_case : Rules → MessageHeader → List ℕ → Option ℕ → Inlet → Case
+opened_case Sync h plain newest inlet = sync_case h plain
+opened_case Async h plain newest inlet = async_case h plain newest inlet
 
 -- the inbound half refused a payload
 abbrev pub unopened_case : Rules → List ℕ → Case
 unopened_case Sync why = Unopened why
 unopened_case Async why = Skipped
 
--- the case of a frame, by what the inbound half made of its payload
-abbrev pub case_of : Rules → MessageHeader → Opening → Inlet → Case
-case_of rules h TooLong inlet = Oversize h.length
-case_of rules h (Refused why) inlet = unopened_case rules why
-case_of rules h (Opened plain) inlet = opened_case rules h plain inlet
+-- the case of a frame, by what the inbound half made of its payload, the newest request and what its id has
+abbrev pub case_of : Rules → MessageHeader → Opening → Option ℕ → Inlet → Case
+case_of rules h TooLong newest inlet = Oversize h.length
+case_of rules h (Refused why) newest inlet = unopened_case rules why
+case_of rules h (Opened plain) newest inlet = opened_case rules h plain newest inlet
+
+-- which request is the newest after a frame of this id and case: under async rules one that is read
+abbrev pub newest_after : Rules → ℕ → Case → Option ℕ → Option ℕ
+newest_after Async k (Asks plain) newest = Some k
+newest_after rules k case newest = newest
 
 -- ---- what a request does that was read
 
@@ -116,6 +136,10 @@ inactive_text = codes "Stream is no longer active"
 abbrev pub in_use_text : ℕ → List ℕ
 in_use_text k = codes "stream id " ++ decimal k ++ codes " is in use"
 
+-- an id isn't above that of the newest request
+abbrev pub not_above_text : ℕ → ℕ → List ℕ
+not_above_text k newest = codes "stream id " ++ decimal k ++ codes " is not above " ++ decimal newest
+
 -- no handler has this path
 abbrev pub path_text : List ℕ → List ℕ → List ℕ
 path_text service method = codes "/" ++ service ++ codes "/" ++ method ++ codes " does not exist"
@@ -140,6 +164,7 @@ case_answer h (Unopened why) = answer UNKNOWN (unopened_response_text why)
 case_answer h EvenId = answer INVALID_ARGUMENT even_id_text
 case_answer h Inactive = answer INVALID_ARGUMENT inactive_text
 case_answer h InUse = answer INVALID_ARGUMENT (in_use_text h.stream_id)
+case_answer h (NotAbove newest) = answer INVALID_ARGUMENT (not_above_text h.stream_id newest)
 case_answer h (Asks plain) = None
 case_answer h (PutsIn plain) = None
 
@@ -201,4 +226,4 @@ case_row rules services h case = answer_row (case_answer h case)
 
 -- the rows under sync rules, whatever the id of the frame has
 abbrev pub sync_row : Services → MessageHeader → Opening → Row
-sync_row services h opening = case_row Sync services h (case_of Sync h opening Absent)
+sync_row services h opening = case_row Sync services h (case_of Sync h opening None Absent)

@@ -23,7 +23,7 @@ pub use Rattle.ttrpc_server.specs.declared.job.Job.{Job}
 pub use Rattle.ttrpc_server.specs.declared.rows.Asked.{Asked}
 pub use Rattle.ttrpc_server.specs.declared.rows.Asked.TheVariants.{Call, NoMethod, NoPath, NoService, Stream as Chat}
 pub use Rattle.ttrpc_server.specs.declared.rows.Case.{Case}
-pub use Rattle.ttrpc_server.specs.declared.rows.Case.TheVariants.{Asks, EvenId, Inactive, InUse, Oversize, PutsIn, Skipped, Unopened}
+pub use Rattle.ttrpc_server.specs.declared.rows.Case.TheVariants.{Asks, EvenId, Inactive, InUse, NotAbove, Oversize, PutsIn, Skipped, Unopened}
 pub use Rattle.ttrpc_server.specs.declared.rows.Inlet.{Inlet}
 pub use Rattle.ttrpc_server.specs.declared.rows.Inlet.TheVariants.{Absent, Busy, Full, Taking}
 pub use Rattle.ttrpc_server.specs.declared.rules.Rules.{Rules}

@@ -20,6 +20,8 @@ pub(crate) struct Jobs {
     waiting: Table<()>,
     // The id of the last job that was made.
     last: JobId,
+    // The stream's id of the newest request, if async rules saw one.
+    newest: Option<u32>,
 }
 
 impl Model for Jobs {
@@ -29,7 +31,7 @@ impl Model for Jobs {
 
     ghost Value = { JobList };
 
-    ghost view = { λ a. record { last = a.last; list = values_of a.jobs } };
+    ghost view = { λ a. record { last = a.last; list = values_of a.jobs; newest = a.newest } };
 
     ghost invariant = { λ a. AreJobs a.last a.jobs (keys_of a.waiting) };
 }
@@ -43,7 +45,22 @@ impl Jobs {
             jobs: Table::new(alloc),
             waiting: Table::new(alloc),
             last: 0,
+            newest: None,
         }
+    }
+
+    /// Returns the stream's id of the newest request, if there is one. Takes no memory.
+    pub(crate) fn newest(&self) -> Option<u32>
+        ensures { result ≡ self.now.newest }
+    {
+        self.newest
+    }
+
+    /// Notes which request is the newest. Takes no memory.
+    pub(crate) fn note_newest(&mut self, newest: Option<u32>)
+        ensures { self.new ≡ record self.old { newest = newest } }
+    {
+        self.newest = newest;
     }
 
     /// The id of the next job, if one is left. Takes no memory.
@@ -91,6 +108,7 @@ impl Jobs {
         ensures given { IfSome result (λ job. HandsOne self.old.list job self.new.list) }
         ensures none { IfNone result ((self.new ≡ self.old) × NoneWaits self.old.list) }
         ensures last { self.new.last ≡ self.old.last }
+        ensures newest { self.new.newest ≡ self.old.newest }
     {
         let Some((id, ())) = self.waiting.pop_first() else {
             return None;
@@ -139,6 +157,7 @@ impl Jobs {
         requires { (job : AJob) × IsJob self.old.list id job }
         ensures ended { (job : AJob) → (at : IsJob self.old.list id job) → self.new.list ≡ at.front ++ at.back }
         ensures last { self.new.last ≡ self.old.last }
+        ensures newest { self.new.newest ≡ self.old.newest }
         ensures rise { Rising 0 self.old.list self.old.last }
     {
         let _ = self.waiting.remove(id);

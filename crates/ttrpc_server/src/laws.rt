@@ -18,7 +18,9 @@ ghost use Rattle.ttrpc_server.specs.declared.job.Job.{Job as AHandedJob};
 ghost use Rattle.ttrpc_server.specs.declared.server.ServerCore.{ServerCore as ACore};
 ghost use Rattle.ttrpc_server.specs.Calls.{AnswersPiece, Causes, Performs, Served, Took, WaitsNot, ids_given, served};
 ghost use Rattle.ttrpc_server.specs.Kept.{AreSingle};
-ghost use Rattle.ttrpc_server.specs.Protocol.{ExpiresOne, Ticks, serves, serving, row_of};
+ghost use Rattle.ttrpc_server.specs.Protocol.{ExpiresOne, Ticks, case_in, serves, serving, row_of};
+ghost use Rattle.ttrpc_server.specs.declared.rows.Case.{Case as ACase};
+ghost use Rattle.ttrpc_server.specs.Table.{IsAbove, IsNoOlder};
 ghost use Rattle.ttrpc_server.specs.State.{EndsOne, HandsOne, IsJob, NoneWaits, Rising, jobs_at, Server};
 ghost use Rattle.ttrpc_server.specs.Streams.{IsAnswered, made_by};
 
@@ -28,7 +30,8 @@ use ttrpc_secure::{InboundTransform, OutboundTransform};
 /// Each stream id stands by itself. A frame changes the jobs of its own id alone, adds at most the one that its row
 /// makes, and sends at most one answer, under that id. A job that is handed out, answered or expires changes in its own id
 /// alone, as if there were no other, and one that expires is answered at most once, under that id. What a receiver is given,
-/// and what is left for it, doesn't depend on whether another was asked before.
+/// and what is left for it, doesn't depend on whether another was asked before, and doesn't change which request is the newest.
+/// Beside its own id a frame reads and changes that alone (`request_ids_rise`).
 pub fn streams_stand_by_themselves<O: OutboundTransform, I: InboundTransform>()
     ensures frame_elsewhere { (old new : Server) (o : O) (a : AFrame) (sent : List Sent) (k : ℕ) → serves O.OutboundTransform old o a sent new
         → k ≢ a.header.stream_id → jobs_at new.jobs.list k ≡ jobs_at old.jobs.list k }
@@ -54,6 +57,8 @@ pub fn streams_stand_by_themselves<O: OutboundTransform, I: InboundTransform>()
     ensures received { (old mid new : ACore O I) (i j : ℕ) (other given : Option (Result (List ℕ) AnError)) → j ≢ i
         → ReceivesOne old i other mid → ReceivesOne mid j given new
         → (left : List AJob) × ReceivesBy old.state.rules old.connection.failure old.state j given left × (mail_at left j ≡ mail_at new.state.jobs.list j) }
+    ensures received_newest { (old new : ACore O I) (i : ℕ) (given : Option (Result (List ℕ) AnError)) → ReceivesOne old i given new
+        → new.state.jobs.newest ≡ old.state.jobs.newest }
 {}
 
 /// Over any run a ticket is sent once the frame that has it, or one behind it, was reported whole.
@@ -107,6 +112,21 @@ pub fn job_ids_rise<O: OutboundTransform, I: InboundTransform>()
     ensures last { (s t : Server) (old new : AConnection O I) (calls : List (Call Served)) (happenings : List Happening)
         → Runs (serving O.OutboundTransform I.InboundTransform) (served O.OutboundTransform) s old calls happenings t new
         → s.jobs.last ≤ t.jobs.last }
+{}
+
+/// Under async rules each request that is read has an id above that of the newest request before it, and is the newest after
+/// it, whatever its row. No other frame and no call changes which request is the newest, and sync rules have none. So over any
+/// run the ids of the requests that are read rise.
+pub fn request_ids_rise<O: OutboundTransform, I: InboundTransform>()
+    ensures read { (old new : Server) (o : O) (a : AFrame) (sent : List Sent) (plain : List ℕ) → serves O.OutboundTransform old o a sent new
+        → old.rules ≡ Rules.Async → case_in old a ≡ ACase.Asks plain
+        → IsAbove a.header.stream_id old.jobs.newest × (new.jobs.newest ≡ Some a.header.stream_id) }
+    ensures others { (old new : Server) (o : O) (a : AFrame) (sent : List Sent) → serves O.OutboundTransform old o a sent new
+        → (old.rules ≡ Rules.Async → (plain : List ℕ) → case_in old a ≢ ACase.Asks plain)
+        → new.jobs.newest ≡ old.jobs.newest }
+    ensures over_runs { (s t : Server) (old new : AConnection O I) (calls : List (Call Served)) (happenings : List Happening)
+        → Runs (serving O.OutboundTransform I.InboundTransform) (served O.OutboundTransform) s old calls happenings t new
+        → IsNoOlder s.jobs.newest t.jobs.newest }
 {}
 
 /// Each call has its part in what the queue goes through: an answer and a response queue one frame, under their stream's

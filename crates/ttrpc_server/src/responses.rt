@@ -3,7 +3,7 @@ ghost use Rattle.std.specs.Prelude.{◌≡◌, codes, string_bytes, IfOk};
 ghost use Rattle.ttrpc_proto.specs.Framing.Header.Oversize.{oversize_text};
 ghost use Rattle.ttrpc_connection.specs.Failure.{IsTold};
 ghost use Rattle.ttrpc_server.specs.Protocol.{IsErrorResponse, IsStatusResponse, limit_text, timeout_response};
-ghost use Rattle.ttrpc_server.specs.Table.{even_id_text, in_use_text, inactive_text, method_text, path_text, service_text, status_response, unopened_response_text};
+ghost use Rattle.ttrpc_server.specs.Table.{even_id_text, in_use_text, inactive_text, method_text, not_above_text, path_text, service_text, status_response, unopened_response_text};
 
 use std::alloc::{AllocError, Global};
 use ttrpc_proto::framing::header::oversize::oversize_message;
@@ -69,6 +69,19 @@ pub fn in_use_response(alloc: Global, stream_id: u32) -> Result<Response, AllocE
         response ≡ status_response Code.INVALID_ARGUMENT (in_use_text stream_id)) }
 {
     let text = format!(in alloc; "stream id {stream_id} is in use")?;
+    Ok(response_of(alloc, Code::INVALID_ARGUMENT, text))
+}
+
+/// Makes the answer to a request whose id isn't above that of the newest request.
+pub fn not_above_response(
+    alloc: Global,
+    stream_id: u32,
+    newest: u32,
+) -> Result<Response, AllocError>
+    ensures { IfOk result (λ response.
+        response ≡ status_response Code.INVALID_ARGUMENT (not_above_text stream_id newest)) }
+{
+    let text = format!(in alloc; "stream id {stream_id} is not above {newest}")?;
     Ok(response_of(alloc, Code::INVALID_ARGUMENT, text))
 }
 

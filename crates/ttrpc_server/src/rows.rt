@@ -1,11 +1,11 @@
 //! The table: which case a frame is, what a request does that was read, and what is answered to either.
 ghost use Rattle.std.specs.Prelude.{◌≡◌, IfOk};
-ghost use Rattle.ttrpc_server.specs.Table.{asked_answer, asked_of, async_case, case_answer, case_of, data_case, inlet_case, opened_case, sync_case};
+ghost use Rattle.ttrpc_server.specs.Table.{asked_answer, asked_of, async_case, case_answer, case_of, data_case, inlet_case, newer_case, opened_case, sync_case};
 
 use crate::registry::Registry;
 use crate::responses::{
-    even_id_response, in_use_response, inactive_response, method_response, oversize_response,
-    path_response, service_response, unopened_response,
+    even_id_response, in_use_response, inactive_response, method_response, not_above_response,
+    oversize_response, path_response, service_response, unopened_response,
 };
 use crate::rules::Rules;
 use std::alloc::{AllocError, Global};
@@ -43,6 +43,8 @@ pub enum Case {
     Inactive,
     /// Its id has an active job.
     InUse,
+    /// Its id isn't above this one, that of the newest request.
+    NotAbove(u32),
     /// This is to be read as a request.
     Asks(Blob),
     /// These data are put into the mailbox of its id's stream.
@@ -64,9 +66,15 @@ pub enum Asked {
     NoMethod,
 }
 
-/// The case of a frame, by what was opened and what its id has. The first test that fits counts.
-pub fn case_of(rules: Rules, header: &MessageHeader, opening: Opening, inlet: Inlet) -> Case
-    ensures { result ≡ case_of rules header.now opening inlet }
+/// Returns the case of a frame, by what was opened, the newest request and what its id has. The first test that fits counts.
+pub fn case_of(
+    rules: Rules,
+    header: &MessageHeader,
+    opening: Opening,
+    newest: Option<u32>,
+    inlet: Inlet,
+) -> Case
+    ensures { result ≡ case_of rules header.now opening newest inlet }
 {
     match opening {
         Opening::TooLong => Case::Oversize(header.length as usize),
@@ -74,17 +82,23 @@ pub fn case_of(rules: Rules, header: &MessageHeader, opening: Opening, inlet: In
             Rules::Sync => Case::Unopened(why),
             Rules::Async => Case::Skipped,
         },
-        Opening::Opened(plain) => opened_case(rules, header, plain, inlet),
+        Opening::Opened(plain) => opened_case(rules, header, plain, newest, inlet),
     }
 }
 
 // The case of a frame whose payload was opened.
-fn opened_case(rules: Rules, header: &MessageHeader, plain: Blob, inlet: Inlet) -> Case
-    ensures { result ≡ opened_case rules header.now plain inlet }
+fn opened_case(
+    rules: Rules,
+    header: &MessageHeader,
+    plain: Blob,
+    newest: Option<u32>,
+    inlet: Inlet,
+) -> Case
+    ensures { result ≡ opened_case rules header.now plain newest inlet }
 {
     match rules {
         Rules::Sync => sync_case(header, plain),
-        Rules::Async => async_case(header, plain, inlet),
+        Rules::Async => async_case(header, plain, newest, inlet),
     }
 }
 
@@ -100,8 +114,8 @@ fn sync_case(header: &MessageHeader, plain: Blob) -> Case
     Case::Skipped
 }
 
-fn async_case(header: &MessageHeader, plain: Blob, inlet: Inlet) -> Case
-    ensures { result ≡ async_case header.now plain inlet }
+fn async_case(header: &MessageHeader, plain: Blob, newest: Option<u32>, inlet: Inlet) -> Case
+    ensures { result ≡ async_case header.now plain newest inlet }
 {
     if plain.len() > MESSAGE_LENGTH_MAX {
         return Case::Skipped;
@@ -110,7 +124,7 @@ fn async_case(header: &MessageHeader, plain: Blob, inlet: Inlet) -> Case
         return Case::EvenId;
     }
     if header.type_ == MESSAGE_TYPE_REQUEST {
-        return inlet_case(plain, inlet);
+        return inlet_case(header.stream_id, newest, plain, inlet);
     }
     if header.type_ == MESSAGE_TYPE_DATA {
         return data_case(plain, inlet);
@@ -130,12 +144,22 @@ fn data_case(plain: Blob, inlet: Inlet) -> Case
 }
 
 // A request, by what its id has.
-fn inlet_case(plain: Blob, inlet: Inlet) -> Case
-    ensures { result ≡ inlet_case plain inlet }
+fn inlet_case(stream_id: u32, newest: Option<u32>, plain: Blob, inlet: Inlet) -> Case
+    ensures { result ≡ inlet_case stream_id newest plain inlet }
 {
     match inlet {
-        Inlet::Absent => Case::Asks(plain),
+        Inlet::Absent => newer_case(stream_id, newest, plain),
         Inlet::Busy | Inlet::Taking | Inlet::Full => Case::InUse,
+    }
+}
+
+// A request whose id has no job, by the newest request.
+fn newer_case(stream_id: u32, newest: Option<u32>, plain: Blob) -> Case
+    ensures { result ≡ newer_case stream_id newest plain }
+{
+    match newest {
+        Some(newest) if newest >= stream_id => Case::NotAbove(newest),
+        _ => Case::Asks(plain),
     }
 }
 
@@ -154,6 +178,9 @@ pub fn case_response(
         Case::EvenId => Ok(Some(even_id_response(alloc)?)),
         Case::Inactive => Ok(Some(inactive_response(alloc)?)),
         Case::InUse => Ok(Some(in_use_response(alloc, header.stream_id)?)),
+        Case::NotAbove(newest) => {
+            Ok(Some(not_above_response(alloc, header.stream_id, *newest)?))
+        }
     }
 }
 

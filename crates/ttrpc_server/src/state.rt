@@ -6,10 +6,11 @@ ghost use Rattle.ttrpc_server.specs.declared.job.ActiveJob.{ActiveJob as AJob};
 ghost use Rattle.ttrpc_server.specs.declared.job.Body.{Body as ABody};
 ghost use Rattle.ttrpc_server.specs.Protocol.{Does, ExpireAll, IsDeadline, due_jobs};
 ghost use Rattle.ttrpc_server.specs.Inside.{FailsOn, FailsToMake, SendsSome, StopsExpiring};
-ghost use Rattle.ttrpc_server.specs.State.{EndsOne, HandsOne, IsNoUnary, IsTaken, NoneWaits, is_stream, job_at, jobs_at, new_server, on_mail, put_in, stream_body, unary_body, with_job, with_list, with_made, without_payload};
+ghost use Rattle.ttrpc_server.specs.State.{EndsOne, HandsOne, IsNoUnary, IsTaken, NoneWaits, is_stream, job_at, jobs_at, new_server, on_mail, put_in, stream_body, unary_body, with_job, with_list, with_made, with_newest, without_payload};
+ghost use Rattle.ttrpc_server.specs.declared.rows.Case.{Case as ACase};
 ghost use Rattle.ttrpc_server.specs.declared.rows.Inlet.{Inlet as AnInlet};
 ghost use Rattle.ttrpc_connection.specs.declared.failure.Failure.{Failure as AFailure};
-ghost use Rattle.ttrpc_server.specs.Table.{inlet_of, request_row};
+ghost use Rattle.ttrpc_server.specs.Table.{inlet_of, newest_after, request_row};
 ghost use Rattle.ttrpc_server.specs.Mailboxes.{mail_at};
 ghost use Rattle.ttrpc_server.specs.Streaming.{HasNoStreams, ReceivesBy, unreceivable, unsendable};
 ghost use Rattle.ttrpc_connection.specs.Failure.{IsTold};
@@ -146,6 +147,40 @@ impl ServerState {
         };
         self.jobs.lemma_rise();
         self.jobs.inlet(id).unwrap_or(Inlet::Absent)
+    }
+
+    /// Reads a request that async rules take as the newest, and lets it act. An `Err` changes nothing.
+    fn see<O: OutboundTransform + Drop>(
+        &mut self,
+        alloc: Global,
+        outbox: &mut Outbox<O>,
+        header: MessageHeader,
+        plain: Blob,
+        now: u64,
+    ) -> Result<(), Failure>
+        requires { self.old.rules ≡ Rules.Async → jobs_at self.old.jobs.list header.stream_id ≡ [] }
+        ensures does { OnOk result (SendsSome O.OutboundTransform outbox.old
+            (λ sent. Does O.OutboundTransform (request_row self.old.rules self.old.services (read_from request_step empty_request plain))
+            (with_newest self.old (newest_after self.old.rules header.stream_id (ACase.Asks plain) self.old.jobs.newest))
+            outbox.old.half header now sent self.new)
+            outbox.new) }
+        ensures err { IfErr result (λ failure. (self.new ≡ self.old) × (outbox.new ≡ outbox.old)
+            × FailsOn (request_row self.old.rules self.old.services (read_from request_step empty_request plain)) self.old failure) }
+    {
+        match self.rules {
+            Rules::Sync => self.ask(alloc, outbox, header, plain, now),
+            Rules::Async => {
+                let newest = self.jobs.newest();
+                self.jobs.note_newest(Some(header.stream_id));
+                match self.ask(alloc, outbox, header, plain, now) {
+                    Ok(()) => Ok(()),
+                    Err(failure) => {
+                        self.jobs.note_newest(newest);
+                        Err(failure)
+                    }
+                }
+            }
+        }
     }
 
     /// A payload is read as a request, which acts. An `Err` changes nothing.
@@ -486,9 +521,10 @@ impl<O: OutboundTransform + Drop> Reacts<O> for ServerState {
         arrived: Arrived,
     ) -> Result<(), Failure> {
         let header = arrived.header;
+        let newest = self.jobs.newest();
         let inlet = self.inlet(header.stream_id);
-        match case_of(self.rules, &header, arrived.opening, inlet) {
-            Case::Asks(plain) => self.ask(alloc, outbox, header, plain, arrived.now),
+        match case_of(self.rules, &header, arrived.opening, newest, inlet) {
+            Case::Asks(plain) => self.see(alloc, outbox, header, plain, arrived.now),
             Case::PutsIn(plain) => self.put(alloc, &header, plain),
             case => {
                 let answer = case_response(alloc, &header, &case)?;

@@ -88,6 +88,7 @@ impl Jobs {
     ) -> Option<Option<Result<Blob, Error>>>
         ensures answer { ReceivesFrom failure.now self.old.list id result self.new.list }
         ensures last { self.new.last ≡ self.old.last }
+        ensures newest { self.new.newest ≡ self.old.newest }
     {
         let Some(job) = self.jobs.get_mut(id) else {
             return None;

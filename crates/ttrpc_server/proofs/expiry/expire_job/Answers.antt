@@ -9,8 +9,8 @@ none_is_some x same = cc
 abbrev place : ℕ → Option ℕ → ℕ × Option ℕ
 place k deadline = (k, deadline)
 
-with_list_is : (old new : JobList) (list : List ActiveJob) → new.last ≡ old.last → new.list ≡ list → new ≡ record old { list = list }
-with_list_is old new list p q = rw (p, q) refl
+with_list_is : (old new : JobList) (list : List ActiveJob) → new.last ≡ old.last → new.newest ≡ old.newest → new.list ≡ list → new ≡ record old { list = list }
+with_list_is old new list p n q = rw (p, n, q) refl
 
 pub unreachable-requires : goal.unreachable-requires
 unreachable-requires g c =
@@ -25,7 +25,7 @@ returns-clause-ok g c = λ job at.
     let to = c.send_own_answer.new.outbox in
     let sent = subst (λ (r : Response). SendsSome g.O.OutboundTransform from (SendsOwnAnswer Async g.O.OutboundTransform from.half c.in-Some.stream_id r) to) c.in_ok-response.ensures c.in_ok-send_own_answer.ensures.ok in
     record {
-      left_are = with_list_is c.args.jobs.now c.end.new.self (at.front ++ at.back) c.end.ensures.last (c.end.ensures.ended job at);
+      left_are = with_list_is c.args.jobs.now c.end.new.self (at.front ++ at.back) c.end.ensures.last c.end.ensures.newest (c.end.ensures.ended job at);
       loses = subst (λ (p : ℕ × Option ℕ). Loses c.args.index.now p.0 c.args.id p.1 c.take_away.new.self) same c.take_away.ensures;
       expired = c.tell.ensures.expired ∙ ap (λ b. if b then expired else expired ++ c.args.id ∷ []) (c.waits.ensures job at) ∙ ap (λ i. if waits job then expired else expired ++ i ∷ []) (sym at.is_job);
       due = c.tell.ensures.due;

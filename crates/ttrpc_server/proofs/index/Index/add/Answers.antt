@@ -1,4 +1,4 @@
-use Rattle.ttrpc_server.proofs.Words.{rules, ◌≡◌, ◌∙◌, ℕ, None, ap, inl, inr, subst, sym, job_found}
+use Rattle.ttrpc_server.proofs.Words.{rules, ◌≡◌, ◌∙◌, ℕ, None, ap, inl, inr, subst, sym}
 use Rattle.ttrpc_connection.proofs.Words.{cases_eq}
 use Rattle.ttrpc_connection.specs.Deadlines.{has_deadline}
 use Rattle.ttrpc_table.proofs.Users.{put_elsewhere, put_there, taken_elsewhere, taken_there}

@@ -6,7 +6,7 @@ use Rattle.ttrpc_server.proofs.jobs.Jobs.drop_receiver.Goals as goal
 pub returns-in_default : goal.returns-in_default
 returns-in_default c =
     let none : lookup (is_at (nat_cmp c.args.id)) c.self.inside.jobs ≡ None = search rules in
-    rw (← c.self.view_is) (ap (λ js. record { last = c.self.inside.last; list = js }) (sym (mail_none c.self.invariant c.args.id without_receiver none)))
+    rw (← c.self.view_is) (ap (λ js. record { last = c.self.inside.last; list = js; newest = c.self.inside.newest }) (sym (mail_none c.self.invariant c.args.id without_receiver none)))
 
 pub invariant_of-self-2 : goal.invariant_of-self-2
 invariant_of-self-2 c =
@@ -20,4 +20,4 @@ returns c =
     let job = c.in-Some.job.now in
     let body = c.drop_receiver.new.self in
     let new = set_value (is_at (nat_cmp c.args.id)) c.self.inside.jobs (record { id = job.id; header = job.header; request = job.request; body = body }) in
-    rw (← c.self.view_is) (ap (λ js. record { last = c.self.inside.last; list = js }) (mail_changed c.self.invariant c.args.id without_receiver job body new (search rules) (search rules) c.drop_receiver.ensures))
+    rw (← c.self.view_is) (ap (λ js. record { last = c.self.inside.last; list = js; newest = c.self.inside.newest }) (mail_changed c.self.invariant c.args.id without_receiver job body new (search rules) (search rules) c.drop_receiver.ensures))

@@ -21,7 +21,7 @@ returns-clause-ok c =
     let job = new_job (last + 1) c.args.header c.args.request c.args.body in
     let put : c.insert.new.self ≡ insert_entry nat_cmp c.self.inside.jobs (last + 1) job = search rules in
     rw (← c.self.view_is, put)
-    (ap {B = JobList} (λ (l : List ActiveJob). record { last = last + 1; list = l }) (made c.self.invariant job refl refl).1)
+    (ap {B = JobList} (λ (l : List ActiveJob). record { last = last + 1; list = l; newest = c.self.inside.newest }) (made c.self.invariant job refl refl).1)
 
 pub invariant_of-self-then-is_err-2 : goal.invariant_of-self-then-is_err-2
 invariant_of-self-then-is_err-2 c =

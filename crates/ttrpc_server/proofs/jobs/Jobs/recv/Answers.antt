@@ -1,4 +1,4 @@
-use Rattle.ttrpc_server.proofs.Words.{rules, refl, ◌≡◌, ap, None, is_at, lookup, nat_cmp, set_value, values_of}
+use Rattle.ttrpc_server.proofs.Words.{rules, refl, ◌≡◌, None, is_at, lookup, nat_cmp, set_value}
 use Rattle.ttrpc_server.proofs.Boxes.{rebodied, received, received_not}
 use Rattle.ttrpc_server.proofs.jobs.Jobs.recv.Goals as goal
 

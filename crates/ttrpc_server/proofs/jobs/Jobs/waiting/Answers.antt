@@ -1,4 +1,4 @@
-use Rattle.ttrpc_server.proofs.Words.{rules, ◌≡◌, ◌∙◌, ap, sym, List, ℕ, length, filter, ActiveJob, waits}
+use Rattle.ttrpc_server.proofs.Words.{◌≡◌, ◌∙◌, ap, sym, List, ℕ, length, filter, ActiveJob, waits}
 use Rattle.ttrpc_server.proofs.Keyed.{counted, jobs_rise, list_is}
 use Rattle.std.proofs.lemmas.Map.Entries.{length-keys_of}
 use Rattle.std.specs.Map.{keys_of}
