@@ -13,11 +13,12 @@ pub use Rattle.ttrpc_connection.specs.OneEnd.{failing}
 pub use Rattle.ttrpc_server.specs.declared.job.ActiveJob.{ActiveJob}
 pub use Rattle.ttrpc_server.specs.declared.job.Job.{Job}
 pub use Rattle.ttrpc_server.specs.declared.server.ServerCore.{ServerCore}
+pub use Rattle.ttrpc_server.proofs.Newest.{never_refused}
 pub use Rattle.ttrpc_server.proofs.RowLeaves.{AreChanged, JobsLeft, row_leaves, same_jobs}
 pub use Rattle.ttrpc_server.proofs.Streams.{stream_id_of}
 pub use Rattle.ttrpc_server.proofs.Words.{Answers, Does, Drops, EndsOne, has_method, IsTaken, IsUnknown, JobList, jobs_at, MakeJob, new_job, Request, request_row, Responds, Response, response_bytes, response_size, Row, Server, serving, status_response, SendResponse}
 pub use Rattle.ttrpc_server.specs.Protocol.{AnswersError, drained, due_jobs, ExpireAll, ExpiresOne, Finishes, fit_to_message, fitted, Hands, is_due, IsErrorResponse, IsSentFor, limit_text, SendsOwnAnswer, timeout_response, Passes as ServerPasses}
-pub use Rattle.ttrpc_server.specs.Table.{asked_row, case_of, case_row, data_case, even_id_text, Ignore, inactive_text, inlet_of, MakeStream, method_text, other_of, path_text, PutIn, service_text}
+pub use Rattle.ttrpc_server.specs.Table.{asked_row, case_of, case_row, data_case, even_id_text, Ignore, inactive_text, inlet_of, MakeStream, method_text, newer_case, newest_after, other_of, path_text, PutIn, service_text}
 pub use Rattle.ttrpc_client.specs.declared.client.ClientCore.{ClientCore}
 pub use Rattle.ttrpc_client.proofs.Expiring.{stays_as_it_is}
 pub use Rattle.ttrpc_client.proofs.Ticking.{nothing_due}
@@ -32,8 +33,9 @@ pub use Rattle.ttrpc_pair.specs.Types.{Answer, CallEvent, CancelledDuringWrite, 
 pub use Rattle.ttrpc_pair.specs.Net.{Halves, halves, has_response, IsFresh, Net, with_client, with_server}
 pub use Rattle.ttrpc_pair.specs.Pipes.{empty_pipe, is_over, Pipe}
 pub use Rattle.ttrpc_pair.specs.Steps.{after_carry, AnswersBy, BreaksAt, IsEnd, pipe_after_carry, CarriesDown, CarriesUp, cut_to, CutsDown, CutsUp, Delivers, DeliversDown, DeliversUp, StaysUp, failed_by_hand, Forgot, Hears, lent_of, OnlyClient, OnlyServer, RespondsTo, Runs, Steps, taken_from}
-pub use Rattle.ttrpc_server.specs.State.{brought_by, changed_at, changed_under, has_service, has_stream, is_stream, job_at, NoneWaits, on_mail, Services, stream_body, unary_body, without_payload}
+pub use Rattle.ttrpc_server.specs.State.{brought_by, changed_at, changed_under, has_service, has_stream, is_stream, job_at, NoneWaits, on_mail, Services, stream_body, unary_body, with_newest, without_payload}
 pub use Rattle.ttrpc_server.specs.declared.rows.Asked.TheVariants.{Call as AskedCall, NoMethod, NoService, Stream as Chat}
+pub use Rattle.ttrpc_server.specs.declared.rows.Case.{Case}
 pub use Rattle.ttrpc_server.specs.declared.rows.Case.TheVariants.{Asks, EvenId}
 pub use Rattle.ttrpc_server.specs.declared.rows.Inlet.{Inlet}
 pub use Rattle.ttrpc_server.specs.declared.rows.Inlet.TheVariants.{Absent, Busy, Full, Taking}

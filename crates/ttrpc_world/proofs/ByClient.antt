@@ -1,7 +1,7 @@
 -- Each event of the client keeps the invariant.
 use Rattle.ttrpc_world.proofs.Delivers.{around, at_one, next_up, Stories}
 use Rattle.ttrpc_world.proofs.Keeps.{AreSteady, Keeps, keeps_still}
-use Rattle.ttrpc_world.proofs.Numbers.{asked_more, Between, items_more, Numbers, other_requests}
+use Rattle.ttrpc_world.proofs.Numbers.{asked_more, Between, counts, items_more, Numbers, other_requests}
 use Rattle.ttrpc_world.proofs.OneWay.{goes_on, joins}
 use Rattle.ttrpc_world.proofs.Flights.{data_brings, IsData, IsRequestFlight, sends_data, sends_request, SendsFlight}
 use Rattle.ttrpc_world.proofs.Throws.{AreSingle, back_stays, nothing_thrown, PartsOf, some_thrown, Stays, Thrown}
@@ -55,7 +55,7 @@ module _ {CO CI SO SI : Type 0} (c : Halves CO CI) (s : Halves SO SI) (seals : B
 
   -- what is sent is in flight
   sends_up : (w : Net CO CI SO SI) (t : List Entry) (x : ClientCore CO CI) (is_such : Flying → Type 0) → (i : Kept trace w) → (r : SendsFlight c.out w.client.connection.outbox is_such x.connection.outbox)
-      → StoriesOf w t (i.up ++ r.y ∷ []) i.down x.state → Numbers f w.server.state.jobs.last (i.up ++ r.y ∷ []) x.state.next
+      → StoriesOf w t (i.up ++ r.y ∷ []) i.down x.state → Numbers f (counts w.server.state.jobs) (i.up ++ r.y ∷ []) x.state.next
       → x.connection.decoder ≡ w.client.connection.decoder → x.connection.inbound ≡ w.client.connection.inbound → (x.connection.failure ≡ None → w.client.connection.failure ≡ None)
       → Kept t (with_client w x)
   sends_up w t x is_such i r stories numbers held inbound lives = record {
@@ -90,7 +90,7 @@ module _ {CO CI SO SI : Type 0} (c : Halves CO CI) (s : Halves SO SI) (seals : B
       (λ k e. let o = others k e in elsewhere (next_up set (has_response w) n x.state.next k (omega (arith, next, id_is))) (i.stories k)
       (unheard (act_of f k) k id trace event (Named id) (first_act b) (birth k).0 e) (unheard (flow_of f k) k id trace event (Named id) (first_flow b) (birth k).1 e)
       (pushed_other id_of k r.y i.up (λ same. e (sym stream ∙ same))) refl refl o.0 o.1))
-      (asked_more f w.server.state.jobs.last i.up r.y n x.state.next (omega (arith, stream, id_is)) (omega (arith, stream, next)) (omega (arith, id_is, next)) i.numbers)
+      (asked_more f (counts w.server.state.jobs) i.up r.y n x.state.next (omega (arith, stream, id_is)) (omega (arith, stream, next)) (omega (arith, id_is, next)) i.numbers)
       held inbound lives
 
   -- A call is accepted.
@@ -139,7 +139,7 @@ module _ {CO CI SO SI : Type 0} (c : Halves CO CI) (s : Halves SO SI) (seals : B
       (silent (act_of f id) trace event reply (says id).0) (heard (flow_of f id) id id trace event reply put (says id).1 refl) (pushed_own id_of id r.y i.up stream) refl refl (calls id) refl)
       (λ k e. elsewhere (later_of w x.state next k) (i.stories k) (silent (act_of f k) trace event reply (says k).0) (unheard (flow_of f k) k id trace event reply put (says k).1 e)
       (pushed_other id_of k r.y i.up (λ same. e (sym stream ∙ same))) refl refl (calls k) (p.others k (λ same. e (sym same)))))
-      (subst (λ (n : ℕ). Numbers f w.server.state.jobs.last (i.up ++ r.y ∷ []) n) (sym next) (items_more f w.server.state.jobs.last i.up r.y w.client.state.next (rw r.is.item.type_ refl) i.numbers))
+      (subst (λ (n : ℕ). Numbers f (counts w.server.state.jobs) (i.up ++ r.y ∷ []) n) (sym next) (items_more f (counts w.server.state.jobs) i.up r.y w.client.state.next (rw r.is.item.type_ refl) i.numbers))
       (ap (λ (y : ClientCore CO CI). y.connection.decoder) p.same) (ap (λ (y : ClientCore CO CI). y.connection.inbound) p.same) (λ _. p.alive)
     where
       unsendable_none : (st : Option Stream) → st ≡ None → unsendable st ≡ None → ⊥

@@ -1,13 +1,13 @@
 -- Each event of the server keeps the invariant.
 use Rattle.ttrpc_world.proofs.Delivers.{around, at_one, own_refers, Stories}
 use Rattle.ttrpc_world.proofs.Keeps.{Keeps, keeps_still}
-use Rattle.ttrpc_world.proofs.Numbers.{AreRight, Numbers}
+use Rattle.ttrpc_world.proofs.Numbers.{AreRight, counts, Numbers}
 use Rattle.ttrpc_world.proofs.OneWay.{goes_on, joins, not_both, OneWay}
 use Rattle.ttrpc_world.proofs.Payloads.{too_late, unknown_never}
 use Rattle.ttrpc_world.proofs.Flights.{behind_other, behind_own, flight_as, GivesSo, IsAnswering, IsData, IsGoing, IsRefusing, item_going, sends_close, sends_data, sends_refusal, sends_response, SendsFlight}
 use Rattle.ttrpc_world.proofs.Jobs.{all_due, aside_plain, deaf, gone_at, gone_others, is_at, job_is, mailed, not_here, too_soon, untouched}
-use Rattle.ttrpc_pair.proofs.Words.{unheard as unheard_of}
 use Rattle.ttrpc_world.proofs.Serves.{expired_so}
+use Rattle.ttrpc_pair.proofs.Words.{unheard as unheard_of}
 use Rattle.ttrpc_world.proofs.Words.{[], Act, act_of, ActiveJob, all_at, all_in_front, AllByRecursion, Answer, Answered, answered_work, Answers, answers_here, AnswersBy, AnswersError, ap, append-nil, append_assoc, arith, asked_by, AsyncRules, at_stays, between_own, Birth, Bool, Born, call_at, changed_at, codes, Done, Drain, drained, DropReceiver, elsewhere, EndedDown, ending_thing, ends_here, EndsOne, EndsStream, EndStream, Entry, eq-eqb, Err, Error, errs_up_here, Event, ExpireAll, Failure, false, Finish, Finishes, first_act, flow_of, Flying, given, Goes, Halves, Handed, HandlerError, Hands, has_response, HasNone, HasOkStatus, heard, HeardUp, hears_up_here, here_at, id_of, if◌then◌else◌, inl, inr, is_clean_answer, is_due, is_stream, IsAnswer, IsAnsweredBy, IsDown, IsEnd, IsErrorResponse, IsNever, IsPlain, IsPlainFailure, IsResponse, IsSentAs, IsSentBack, IsSentFor, Item, Job, job_at, job_within, JobReceives, jobs_at, last_id, last_thing, Later, List, list_any, Mail, mapped_at, may_be_error, nat_eq, Net, never_down, None, Ok, only_if, Option, Origin, Others, Outbox, parcels, Place, pushed_other, pushed_own, Ran, reaches, ReceivesBy, ReceivesFrom, Recv, refl, request_of, Respond, Responds, responds_here, RespondsTo, Response, Result, Rules, running_of, safe_limit, Send, sends_down_here, SendsAll, SendsItem, Sent, SentDown, Server, ServerCore, ServerEnd, ServerPasses, Settings, silent, Some, some_of, stream_id_of, StreamBody, subst, sym, SyncRules, Take, takes_here, Thing, ThingEnd, ThingItem, Ticket, timeout_response, told, told_by, told_plain, true, unchanged, under_both, unheard, unheard_up_here, untold, Waiting, was_made, with_entry, with_mail, with_server, without_receiver, ℕ, ◌++◌, ◌∙◌, ◌∷◌, ◌≡◌, ◌≤◌, list_any-append, or_left, or_right}
 
 module _ {CO CI SO SI : Type 0} (c : Halves CO CI) (s : Halves SO SI) (seals : Bool) (set : Settings) (f : ℕ → ℕ) (trace : List Entry) where
@@ -23,14 +23,14 @@ module _ {CO CI SO SI : Type 0} (c : Halves CO CI) (s : Halves SO SI) (seals : B
 
   -- the server's jobs change, and frames may be queued
   server_changes : (w : Net CO CI SO SI) (t : List Entry) (x : ServerCore SO SI) (responded : List ℕ) (down : List Flying) → (i : Kept trace w)
-      → Stories set (λ job. list_any (λ j. nat_eq j job) responded) f t i.up down x.state.jobs.list w.client.state → {this : ServerCore SO SI} → x ≡ this → this.state.jobs.last ≡ w.server.state.jobs.last
+      → Stories set (λ job. list_any (λ j. nat_eq j job) responded) f t i.up down x.state.jobs.list w.client.state → {this : ServerCore SO SI} → x ≡ this → counts this.state.jobs ≡ counts w.server.state.jobs
       → this.connection.decoder ≡ w.server.connection.decoder → this.connection.inbound ≡ w.server.connection.inbound → (x.connection.failure ≡ None → w.server.connection.failure ≡ None)
       → OneWay s.out c.in_ x.connection.outbox w.client.connection w.down down → Kept t (record (with_server w x) { responded = responded })
   server_changes w t x responded down i stories same last held inbound lives downward = record {
     up = i.up;
     down = down;
     stories = stories;
-    numbers = subst (λ (n : ℕ). Numbers f n i.up w.client.state.next) (sym (ap (λ (y : ServerCore SO SI). y.state.jobs.last) same ∙ last)) i.numbers;
+    numbers = subst (λ (n : ℕ × Option ℕ). Numbers f n i.up w.client.state.next) (sym (ap (λ (y : ServerCore SO SI). counts y.state.jobs) same ∙ last)) i.numbers;
     own = i.own;
     upward = goes_on c.out s.in_ _ _ w.server.connection x.connection w.up i.up refl (ap (λ (y : ServerCore SO SI). y.connection.decoder) same ∙ held) (ap (λ (y : ServerCore SO SI). y.connection.inbound) same ∙ inbound) lives i.upward;
     downward = downward;
@@ -97,7 +97,7 @@ module _ {CO CI SO SI : Type 0} (c : Halves CO CI) (s : Halves SO SI) (seals : B
       → IsEnding event id kind result → (j : ActiveJob) → (ends : EndsOne w.server.state.jobs.list id j x.state.jobs.list)
       → HasNone (around set (has_response w) w.client.state.next) j
       → ((b : Birth) → j.header.stream_id ≤ last_id → Concludes w x j kind (Born b) (answered_work b j kind result) result)
-      → {this : ServerCore SO SI} → x ≡ this → this.state.jobs.last ≡ w.server.state.jobs.last → this.connection.decoder ≡ w.server.connection.decoder → this.connection.inbound ≡ w.server.connection.inbound → (x.connection.failure ≡ None → w.server.connection.failure ≡ None)
+      → {this : ServerCore SO SI} → x ≡ this → counts this.state.jobs ≡ counts w.server.state.jobs → this.connection.decoder ≡ w.server.connection.decoder → this.connection.inbound ≡ w.server.connection.inbound → (x.connection.failure ≡ None → w.server.connection.failure ≡ None)
       → Kept (with_entry trace event Done) (with_server w x)
   concludes w event id kind result x i right says j ends none sends same last held inbound lives =
       let k : ℕ = j.header.stream_id in
@@ -262,7 +262,7 @@ module _ {CO CI SO SI : Type 0} (c : Halves CO CI) (s : Halves SO SI) (seals : B
       p.same refl refl refl (λ alive. p.alive) (rw p.same i.downward))
 
   -- the jobs change, and nothing else of the server
-  jobs_change : (w : Net CO CI SO SI) (t : List Entry) (x : ServerCore SO SI) → (i : Kept trace w) → x.state.jobs.last ≡ w.server.state.jobs.last → x.connection ≡ w.server.connection
+  jobs_change : (w : Net CO CI SO SI) (t : List Entry) (x : ServerCore SO SI) → (i : Kept trace w) → counts x.state.jobs ≡ counts w.server.state.jobs → x.connection ≡ w.server.connection
       → Stories set (has_response w) f t i.up i.down x.state.jobs.list w.client.state → Kept t (with_server w x)
   jobs_change w t x i last connection stories =
       server_changes w t x w.responded i.down i stories refl last (ap (λ d. d.decoder) connection) (ap (λ d. d.inbound) connection) (λ alive. ap (λ d. d.failure) (sym connection) ∙ alive) (rw connection i.downward)
@@ -311,7 +311,7 @@ module _ {CO CI SO SI : Type 0} (c : Halves CO CI) (s : Halves SO SI) (seals : B
   pub keeps_recv_up : (w : Net CO CI SO SI) (id : ℕ) (given : Option (Result (List ℕ) Error)) (x : ServerCore SO SI) → Kept trace w → AreRight f w.server.state.jobs.list → IsPlainFailure w.server.connection.failure → JobReceives w.server id given x
       → Kept (with_entry trace (Recv (ServerEnd id)) (Item given)) (with_server w x)
   keeps_recv_up w id given x i right plain p =
-      jobs_change w (with_entry trace (Recv (ServerEnd id)) (Item given)) x i (ap (λ (y : ServerCore SO SI). y.state.jobs.last) p.same) (ap (λ (y : ServerCore SO SI). y.connection) p.same)
+      jobs_change w (with_entry trace (Recv (ServerEnd id)) (Item given)) x i (ap (λ (y : ServerCore SO SI). counts y.state.jobs) p.same) (ap (λ (y : ServerCore SO SI). y.connection) p.same)
       (hears_by w.server.state.rules w id given x.state.jobs.list i right plain p.own)
 
   -- A receiver is dropped.
@@ -397,6 +397,6 @@ module _ {CO CI SO SI : Type 0} (c : Halves CO CI) (s : Halves SO SI) (seals : B
   keeps_ticks AsyncRules None w now x alive i undue p =
       let due = all_in_front (λ (j : ActiveJob). is_due now j ≡ true) p.expired p.left (subst (λ (js : List ActiveJob). AllByRecursion (λ (j : ActiveJob). is_due now j ≡ true) js) p.due (all_due now w.server.state.jobs.list)) in
       let e = expires w now i.up i.down w.server.state w.server.connection.outbox p.expired x.state x.connection.outbox i.stories undue due p.expire in
-      let last = expired_so s.out (λ a x b y. b.jobs.last ≡ a.jobs.last) (λ a x. refl) (λ a b d x y z job one later. later ∙ ap (λ (u : Server). u.jobs.last) one.state) p.expired w.server.state w.server.connection.outbox x.state x.connection.outbox p.expire in
+      let last = expired_so s.out (λ a x b y. counts b.jobs ≡ counts a.jobs) (λ a x. refl) (λ a b d x y z job one later. later ∙ ap (λ (u : Server). counts u.jobs) one.state) p.expired w.server.state w.server.connection.outbox x.state x.connection.outbox p.expire in
       server_changes w trace x w.responded (i.down ++ e.more) i e.stories p.same last refl refl (λ lives. alive) (e.sent i.down i.downward)
   keeps_ticks AsyncRules (Some why) w now x is i undue same = subst (λ (y : ServerCore SO SI). Kept trace (with_server w y)) (sym same) i

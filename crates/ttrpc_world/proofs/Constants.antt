@@ -31,7 +31,7 @@ module _ {CO CI SO SI : Type 0} (c : Halves CO CI) (s : Halves SO SI) (seals : B
 
   acted : (now : ℕ) (fs : List Incoming) (old new : Scene Server SO SI) → ActsAll (serving s.out s.in_) now old fs new → Constant s.out old.state old.outbox new.state new.outbox
   acted now = acts_so (serving s.out s.in_) now (λ x y. Constant s.out x.state x.outbox y.state y.outbox) (λ x. stays_same s.out refl refl) (λ f fs x y a later.
-      let leaves = row_leaves s.out _ x.state x.outbox.half (header_of_frame f) now a.1.sent a.0.state a.1.reacts in
+      let leaves = row_leaves s.out _ _ x.outbox.half (header_of_frame f) now a.1.sent a.0.state a.1.reacts in
       both (record { rules = leaves.rules; services = leaves.services; limit = limit_sent s.out fixed a.1.sent x.outbox a.0.outbox a.1.sends }) later)
 
   ended : (old : ServerCore SO SI) (id : ℕ) (result : Result (Option Response) Error) (new : ServerCore SO SI) → EndsStream s.out old id result new → safe_limit s.out new.connection.outbox.half ≡ safe_limit s.out old.connection.outbox.half

@@ -1,9 +1,10 @@
 -- A delivery: each flight that comes in acts as it was sent, on one call or stream. No bytes, no seals that are opened.
-use Rattle.ttrpc_world.proofs.Numbers.{acts_right, AreRight, asks, made_of, Numbers, passed_by}
+use Rattle.ttrpc_world.proofs.Numbers.{acts_right, AreRight, asks, counts, made_of, Moves, Numbers, passed_by}
 use Rattle.ttrpc_world.proofs.OneWay.{joins, OneWay}
-use Rattle.ttrpc_world.proofs.Payloads.{ask_row, IsItemRow, IsRefusal, IsRowOf, item_row}
+use Rattle.ttrpc_world.proofs.Payloads.{ask_row, IsItemRow, IsRefusal, IsRowOf, item_row, data_leave, request_moves, seen_up}
+use Rattle.ttrpc_pair.specs.Types.{IsAbove}
 use Rattle.ttrpc_world.proofs.Flights.{behind_other, behind_own, sends_refusal}
-use Rattle.ttrpc_world.proofs.Words.{[], Act, act_of, ActiveJob, acts, ActsOn, all_behind, AllByRecursion, ap, append-nil, append_assoc, arith, Around, arrives_here, asked_by, Asking, AsyncRules, Birth, Bool, Born, box_up, brought_by, ByCall, ByOpen, Call, call_at, calling, calls, calls_work, case_of, case_row, cases_eq, changed_under, Client, comes_of, Connection, deadline_in, deadline_of, Does, down_of, elsewhere, Entry, eq-eqb, Event, false, first_act, flags_of, flow_of, Flying, Halves, has_method, Here, here_at, id_of, Ignore, inl, inlet_of, inr, is_stream, IsAsked, IsHeldBy, IsItem, IsJob, IsMade, IsNever, IsNoMethod, IsPassed, IsPatient, IsTurned, jobs_at, Landing, lands_here, LandsOn, LandsOnce, last_id, Later, List, MakeJob, MakeStream, MESSAGE_TYPE_REQUEST, MessageHeader, nat_eq, new_job, Open, Opened, Option, OutboundTransform, Outbox, parcels, passes_here, Pipe, Place, pushed_other, pushed_own, PutIn, puts_here, refers_here, refl, Reply, Request, request_of, Response, Row, row_leaves, Rules, rules, Scene, SendResponse, SendsAll, SendsOwnAnswer, Sent, Server, serving, Settings, Some, stream_at, stream_body, stream_id_of, subst, sym, SyncRules, TidyOf, true, unary_body, unchanged, under_other, under_own, under_stays, untaken, Waiting, with_mail, without_payload, ℕ, ◌%◌, ◌++◌, ◌+◌, ◌∙◌, ◌∷◌, ◌≡◌, ◌≢◌, ◌≤◌, ◌⊎◌}
+use Rattle.ttrpc_world.proofs.Words.{[], Act, act_of, ActiveJob, acts, ActsOn, all_behind, AllByRecursion, ap, append-nil, append_assoc, arith, Around, arrives_here, asked_by, Asking, AsyncRules, Birth, Bool, Born, box_up, brought_by, ByCall, ByOpen, Call, call_at, calling, calls, calls_work, case_of, case_row, cases_eq, changed_under, Client, comes_of, Connection, deadline_in, deadline_of, Does, down_of, elsewhere, Entry, eq-eqb, Event, false, first_act, flags_of, flow_of, Flying, Halves, has_method, Here, here_at, id_of, Ignore, inl, inlet_of, inr, is_stream, IsAsked, IsHeldBy, IsItem, IsJob, IsMade, IsNever, IsNoMethod, IsPassed, IsPatient, IsTurned, jobs_at, Landing, lands_here, LandsOn, LandsOnce, last_id, Later, List, MakeJob, MakeStream, MESSAGE_TYPE_REQUEST, MessageHeader, nat_eq, new_job, Open, Opened, Option, OutboundTransform, Outbox, parcels, passes_here, Pipe, Place, pushed_other, pushed_own, PutIn, puts_here, refers_here, refl, Reply, Request, request_of, Response, Row, row_leaves, Rules, rules, Scene, SendResponse, SendsAll, SendsOwnAnswer, Sent, Server, serving, Settings, Some, stream_at, stream_body, stream_id_of, subst, sym, SyncRules, TidyOf, true, unary_body, unchanged, under_other, under_own, under_stays, untaken, Waiting, with_mail, without_payload, ℕ, ◌%◌, ◌++◌, ◌+◌, ◌∙◌, ◌∷◌, ◌≡◌, ◌≢◌, ◌≤◌, ◌⊎◌, Case, newest_after, with_newest}
 
 abbrev pub around : Settings → (ℕ → Bool) → ℕ → Around
 around set had next = record { set = set; had = had; next = next }
@@ -34,7 +35,7 @@ IsQuiet f event reply = (k : ℕ) → (act_of f k event reply ≡ []) × (flow_o
 pub record ComesUp {CO CI SO SI : Type 0} (c : Halves CO CI) (s : Halves SO SI) (set : Settings) (had : ℕ → Bool) (f : ℕ → ℕ) (trace : List Entry) (up down : List Flying) (client : Client) (old new : Scene Server SO SI) : Type 0 where
   pub more : List Flying
   pub stories : Stories set had f trace up (down ++ more) new.state.jobs.list client
-  pub numbers : Numbers f new.state.jobs.last up client.next
+  pub numbers : Numbers f (counts new.state.jobs) up client.next
   pub sent : (y : Connection CO CI) (pipe : Pipe) (flights : List Flying) → OneWay s.out c.in_ old.outbox y pipe flights → OneWay s.out c.in_ new.outbox y pipe (flights ++ more)
 
 none_sent : {O : Type 0} (out : OutboundTransform O) (old : Outbox O) (sent : List Sent) (new : Outbox O) → sent ≡ [] → SendsAll out old sent new → new ≡ old
@@ -99,7 +100,7 @@ one_call {h = h} a q is = calls_work h.acts ∙ ap calls a.known.server.works_is
 module _ {CO CI SO SI : Type 0} (c : Halves CO CI) (s : Halves SO SI) (set : Settings) (had : ℕ → Bool) (f : ℕ → ℕ) (trace : List Entry) (client : Client) where
   -- what was turned comes
   refers_comes : (k : ℕ) (up down : List Flying) (old new : Scene Server SO SI) → (r : Refers c s k old.outbox new.outbox)
-      → Stories set had f trace up (down ++ r.more) new.state.jobs.list client → Numbers f new.state.jobs.last up client.next → ComesUp c s set had f trace up down client old new
+      → Stories set had f trace up (down ++ r.more) new.state.jobs.list client → Numbers f (counts new.state.jobs) up client.next → ComesUp c s set had f trace up down client old new
   refers_comes k up down old new r stories numbers = record { more = r.more; stories = stories; numbers = numbers; sent = r.sent }
 
   -- the frame is gone: the story that it is of turns, and the others stay
@@ -118,14 +119,14 @@ module _ {CO CI SO SI : Type 0} (c : Halves CO CI) (s : Halves SO SI) (set : Set
   HerePassed x rest down jobs = let k : ℕ = x.frame.message.header.stream_id in IsPassed (around set had client.next) k (here_at f trace (x ∷ rest) down jobs client k) x (parcels k rest)
 
   -- a job is made of a request
-  makes : (job : ActiveJob) (x : Flying) (rest down : List Flying) (old new : Scene Server SO SI) (sent : List Sent) → Stories set had f trace (x ∷ rest) down old.state.jobs.list client
-      → Numbers f old.state.jobs.last (x ∷ rest) client.next → AreRight f new.state.jobs.list → SendsAll s.out old.outbox sent new.outbox → sent ≡ []
-      → job.id ≡ old.state.jobs.last + 1 → new.state.jobs.list ≡ old.state.jobs.list ++ job ∷ [] → new.state.jobs.last ≡ old.state.jobs.last + 1
+  makes : (newest : Option ℕ) (job : ActiveJob) (x : Flying) (rest down : List Flying) (old new : Scene Server SO SI) (sent : List Sent) → Stories set had f trace (x ∷ rest) down old.state.jobs.list client
+      → Numbers f (counts old.state.jobs) (x ∷ rest) client.next → AreRight f new.state.jobs.list → SendsAll s.out old.outbox sent new.outbox → sent ≡ []
+      → job.id ≡ old.state.jobs.last + 1 → new.state.jobs.list ≡ old.state.jobs.list ++ job ∷ [] → counts new.state.jobs ≡ (old.state.jobs.last + 1, newest) → Moves x old.state.jobs.newest newest
       → (a : HereUp x rest down old.state.jobs.list) → IsJob set.rules x.frame.message.header.stream_id (Some (asked_by (is_stream job.body) (request_of a.b))) job
       → (x.frame.message.header.flags ≡ flags_of a.b → IsMade a.b job.body) → (is_stream job.body ≡ true → nat_eq (x.frame.message.header.stream_id % 2) 0 ≡ false)
       → (set.clean → IsHeldBy set a.b (call_at client x.frame.message.header.stream_id) job) → ComesUp c s set had f trace rest down client old new
   unfolding nothing_refers
-  makes job x rest down old new sent stories numbers right sends none id is last a is_job made odd held =
+  makes newest job x rest down old new sent stories numbers right sends none id is last moves a is_job made odd held =
       let k : ℕ = x.frame.message.header.stream_id in
       let jobs : List ActiveJob = old.state.jobs.list in
       let mine = (all_behind (λ (j : ActiveJob). f j.id ≡ j.header.stream_id) jobs (job ∷ []) (subst (λ (js : List ActiveJob). AreRight f js) is right)).0 in
@@ -134,14 +135,14 @@ module _ {CO CI SO SI : Type 0} (c : Halves CO CI) (s : Halves SO SI) (set : Set
       (turns_up x rest down [] jobs new.state.jobs.list stories tt
       (elsewhere (unchanged (around set had client.next) k) (arrives_here job a is_job made odd held) refl refl refl (ap (λ js. jobs_at js k) is ∙ pushed_own stream_id_of k job jobs is_job.stream) (ap (parcels k) (append-nil down)) refl refl)
       (λ i e. ap (λ js. jobs_at js i) is ∙ pushed_other stream_id_of i job jobs (λ same. e (sym is_job.stream ∙ same))))
-      (subst (λ (n : ℕ). Numbers f n rest client.next) (sym last)
-      (made_of f old.state.jobs.last x rest client.next asked (ap f (sym id) ∙ mine ∙ is_job.stream) a.known.server.within numbers))
+      (subst (λ (n : ℕ × Option ℕ). Numbers f n rest client.next) (sym last)
+      (made_of f (counts old.state.jobs) newest x rest client.next moves asked (ap f (sym id) ∙ mine ∙ is_job.stream) a.known.server.within numbers))
 
   -- nothing is made of a frame, and something may be answered
-  refers : (x : Flying) (rest down : List Flying) (old new : Scene Server SO SI) → Stories set had f trace (x ∷ rest) down old.state.jobs.list client
-      → Numbers f old.state.jobs.last (x ∷ rest) client.next → new.state ≡ old.state → Refers c s x.frame.message.header.stream_id old.outbox new.outbox
+  refers : (newest : Option ℕ) (x : Flying) (rest down : List Flying) (old new : Scene Server SO SI) → Moves x old.state.jobs.newest newest → (asks x ≡ true → id_of x ≤ last_id) → Stories set had f trace (x ∷ rest) down old.state.jobs.list client
+      → Numbers f (counts old.state.jobs) (x ∷ rest) client.next → new.state ≡ with_newest old.state newest → Refers c s x.frame.message.header.stream_id old.outbox new.outbox
       → ((a : HereUp x rest down old.state.jobs.list) × (set.clean → IsNoMethod set a.b)) ⊎ ((a : HerePassed x rest down old.state.jobs.list) × ((box_up a.so_far).receiver ≡ Open → (box_up a.so_far).ended ≡ true)) → ComesUp c s set had f trace rest down client old new
-  refers x rest down old new stories numbers same r at =
+  refers newest x rest down old new moves within stories numbers same r at =
       let k : ℕ = x.frame.message.header.stream_id in
       let jobs : new.state.jobs.list ≡ old.state.jobs.list = ap (λ (t : Server). t.jobs.list) same in
       refers_comes k rest down old new r
@@ -152,49 +153,49 @@ module _ {CO CI SO SI : Type 0} (c : Halves CO CI) (s : Halves SO SI) (set : Set
         | inr a ↦ elsewhere (unchanged (around set had client.next) k) (passes_here r.more a.0 r.never r.turned a.1) refl refl refl refl (behind_own (IsNever k) k (λ y d. d.stream) down r.more r.never) refl refl
       ])
       (λ i e. refl)))
-      (subst (λ (t : Server). Numbers f t.jobs.last rest client.next) (sym same) (passed_by f old.state.jobs.last x rest client.next numbers))
+      (subst (λ (t : Server). Numbers f (counts t.jobs) rest client.next) (sym same) (passed_by f (counts old.state.jobs) newest x rest client.next moves within numbers))
 
   -- data are put in
-  puts : (payload : List ℕ) (now : ℕ) (x : Flying) (rest down : List Flying) (old new : Scene Server SO SI) (sent : List Sent) → Stories set had f trace (x ∷ rest) down old.state.jobs.list client
-      → Numbers f old.state.jobs.last (x ∷ rest) client.next → SendsAll s.out old.outbox sent new.outbox
-      → Does s.out (PutIn payload) old.state old.outbox.half x.frame.message.header now sent new.state → HerePassed x rest down old.state.jobs.list → payload ≡ x.plain
+  puts : (newest : Option ℕ) (payload : List ℕ) (now : ℕ) (x : Flying) (rest down : List Flying) (old new : Scene Server SO SI) (sent : List Sent) → Stories set had f trace (x ∷ rest) down old.state.jobs.list client
+      → Numbers f (counts old.state.jobs) (x ∷ rest) client.next → SendsAll s.out old.outbox sent new.outbox
+      → Does s.out (PutIn payload) (with_newest old.state newest) old.outbox.half x.frame.message.header now sent new.state → Moves x old.state.jobs.newest newest → HerePassed x rest down old.state.jobs.list → payload ≡ x.plain
       → ComesUp c s set had f trace rest down client old new
   unfolding nothing_refers
-  puts payload now x rest down old new sent stories numbers sends does a is =
+  puts newest payload now x rest down old new sent stories numbers sends does moves a is =
       let k : ℕ = x.frame.message.header.stream_id in
       let h : MessageHeader = x.frame.message.header in
       let g = changed_under k (brought_by h payload) in
       let none = none_sent s.out old.outbox sent new.outbox does.1 sends in
-      let leaves = row_leaves s.out (PutIn payload) old.state old.outbox.half h now sent new.state does in
+      let leaves = row_leaves s.out (PutIn payload) (with_newest old.state newest) old.outbox.half h now sent new.state does in
       refers_comes k rest down old new (nothing_refers c s k old.outbox new.outbox none)
       (turns_up x rest down [] old.state.jobs.list new.state.jobs.list stories tt
       (elsewhere (unchanged (around set had client.next) k) (puts_here g (under_stays k (brought_by h payload)) a (λ j mine. changed_body k payload h j mine ∙ ap (λ (plain : List ℕ). with_mail (brought_by h plain) j.body) is)) refl refl refl
       leaves.made (ap (parcels k) (append-nil down)) refl refl)
       (λ i e. leaves.elsewhere i (λ same. e (sym same))))
-      (subst (λ (t : Server). Numbers f t.jobs.last rest client.next) (sym does.0) (passed_by f old.state.jobs.last x rest client.next numbers))
+      (subst (λ (t : Server). Numbers f (counts t.jobs) rest client.next) (sym does.0) (passed_by f (counts old.state.jobs) newest x rest client.next moves (λ _. a.known.server.within) numbers))
     where
       changed_body : (k : ℕ) (payload : List ℕ) (h : MessageHeader) (j : ActiveJob) → j.header.stream_id ≡ k → (changed_under k (brought_by h payload) j).body ≡ with_mail (brought_by h payload) j.body
       changed_body k payload h j mine = rw (eq-eqb j.header.stream_id k mine) refl
 
   -- what its row makes of a request
-  by_ask_row : (row : Row) (now : ℕ) (x : Flying) (rest down : List Flying) (old new : Scene Server SO SI) (sent : List Sent) → old.state.rules ≡ set.rules → Stories set had f trace (x ∷ rest) down old.state.jobs.list client
-      → Numbers f old.state.jobs.last (x ∷ rest) client.next → AreRight f new.state.jobs.list → SendsAll s.out old.outbox sent new.outbox
-      → Does s.out row old.state old.outbox.half x.frame.message.header now sent new.state → (a : HereUp x rest down old.state.jobs.list) → IsTimely set f trace client now → IsRowOf set.services x.frame.message.header.stream_id set.rules (request_of a.b) row
+  by_ask_row : (row : Row) (newest : Option ℕ) (now : ℕ) (x : Flying) (rest down : List Flying) (old new : Scene Server SO SI) (sent : List Sent) → old.state.rules ≡ set.rules → Stories set had f trace (x ∷ rest) down old.state.jobs.list client
+      → Numbers f (counts old.state.jobs) (x ∷ rest) client.next → AreRight f new.state.jobs.list → SendsAll s.out old.outbox sent new.outbox
+      → Does s.out row (with_newest old.state newest) old.outbox.half x.frame.message.header now sent new.state → Moves x old.state.jobs.newest newest → (a : HereUp x rest down old.state.jobs.list) → IsTimely set f trace client now → IsRowOf set.services x.frame.message.header.stream_id set.rules (request_of a.b) row
       → ComesUp c s set had f trace rest down client old new
-  by_ask_row (MakeJob request) now x rest down old new sent ruled stories numbers right sends does a timely is =
+  by_ask_row (MakeJob request) newest now x rest down old new sent ruled stories numbers right sends does moves a timely is =
       let k : ℕ = x.frame.message.header.stream_id in
       let job = new_job (old.state.jobs.last + 1) x.frame.message.header request (unary_body old.state.rules now request) in
       let kind : is_stream job.body ≡ false = unary_kind old.state.rules now request in
-      makes job x rest down old new sent stories numbers right sends does.1 refl (ap (λ (t : Server). t.jobs.list) does.0) (ap (λ (t : Server). t.jobs.last) does.0) a
+      makes newest job x rest down old new sent stories numbers right sends does.1 refl (ap (λ (t : Server). t.jobs.list) does.0) (ap (λ (t : Server). counts t.jobs) does.0) moves a
       (record {
         request = ap (λ (q : Request). Some q) is ∙ ap (λ (t : Bool). Some (asked_by t (request_of a.b))) (sym kind);
         stream = refl;
         kind = λ sync. kind;
       }) (λ flags. inl kind) (λ stream. let bad : true ≡ false = sym stream ∙ kind in cc)
       (λ clean. held_by set a.b (call_at client k) job now (λ q d is_call waits. timely clean k q d waits (one_call a q is_call)) (rw (ruled, is) refl))
-  by_ask_row (MakeStream request) now x rest down old new sent ruled stories numbers right sends does a timely is =
+  by_ask_row (MakeStream request) newest now x rest down old new sent ruled stories numbers right sends does moves a timely is =
       let job = new_job (old.state.jobs.last + 1) x.frame.message.header (without_payload request) (stream_body old.state.services.bare_openings x.frame.message.header.flags request.payload) in
-      makes job x rest down old new sent stories numbers right sends does.1 refl (ap (λ (t : Server). t.jobs.list) does.0) (ap (λ (t : Server). t.jobs.last) does.0) a
+      makes newest job x rest down old new sent stories numbers right sends does.1 refl (ap (λ (t : Server). t.jobs.list) does.0) (ap (λ (t : Server). counts t.jobs) does.0) moves a
       (record {
         request = ap (λ (q : Request). Some (without_payload q)) is.0;
         stream = refl;
@@ -204,58 +205,83 @@ module _ {CO CI SO SI : Type 0} (c : Halves CO CI) (s : Halves SO SI) (set : Set
     where
       stream_is : (bare : Bool) {flags flags2 : ℕ} {q q2 : Request} → flags ≡ flags2 → q ≡ q2 → stream_body bare flags q.payload ≡ stream_body bare flags2 q2.payload
       stream_is bare e same = rw (e, same) refl
-  by_ask_row (SendResponse response) now x rest down old new sent ruled stories numbers right sends does a timely is =
+  by_ask_row (SendResponse response) newest now x rest down old new sent ruled stories numbers right sends does moves a timely is =
       let k : ℕ = x.frame.message.header.stream_id in
-      refers x rest down old new stories numbers does.0
+      refers newest x rest down old new moves (λ _. a.known.server.within) stories numbers does.0
       (own_refers c s old.state.rules k response sent old.outbox new.outbox a.known.server.within is.0 does.1 sends)
       (inl (a, λ clean. refused_call set a.b x _ _ _ (a.known.tidy clean) is.1))
-  by_ask_row row now x rest down old new sent ruled stories numbers right sends does a timely is = absurd is
+  by_ask_row row newest now x rest down old new sent ruled stories numbers right sends does moves a timely is = absurd is
 
   -- and of data
-  by_item_row : (row : Row) (now : ℕ) (x : Flying) (rest down : List Flying) (old new : Scene Server SO SI) (sent : List Sent) → Stories set had f trace (x ∷ rest) down old.state.jobs.list client
-      → Numbers f old.state.jobs.last (x ∷ rest) client.next → SendsAll s.out old.outbox sent new.outbox
-      → Does s.out row old.state old.outbox.half x.frame.message.header now sent new.state → (a : HerePassed x rest down old.state.jobs.list) → old.state.rules ≡ set.rules → IsItemRow x.frame.message.header.stream_id old.state.rules (inlet_of (jobs_at old.state.jobs.list x.frame.message.header.stream_id)) x.plain row
+  by_item_row : (row : Row) (newest : Option ℕ) (now : ℕ) (x : Flying) (rest down : List Flying) (old new : Scene Server SO SI) (sent : List Sent) → Stories set had f trace (x ∷ rest) down old.state.jobs.list client
+      → Numbers f (counts old.state.jobs) (x ∷ rest) client.next → SendsAll s.out old.outbox sent new.outbox
+      → Does s.out row (with_newest old.state newest) old.outbox.half x.frame.message.header now sent new.state → Moves x old.state.jobs.newest newest → (a : HerePassed x rest down old.state.jobs.list) → old.state.rules ≡ set.rules → IsItemRow x.frame.message.header.stream_id old.state.rules (inlet_of (jobs_at old.state.jobs.list x.frame.message.header.stream_id)) x.plain row
       → ComesUp c s set had f trace rest down client old new
-  by_item_row (PutIn payload) now x rest down old new sent stories numbers sends does a ruled is = puts payload now x rest down old new sent stories numbers sends does a is
-  by_item_row (SendResponse response) now x rest down old new sent stories numbers sends does a ruled is =
-      refers x rest down old new stories numbers does.0
+  by_item_row (PutIn payload) newest now x rest down old new sent stories numbers sends does moves a ruled is = puts newest payload now x rest down old new sent stories numbers sends does moves a is
+  by_item_row (SendResponse response) newest now x rest down old new sent stories numbers sends does moves a ruled is =
+      refers newest x rest down old new moves (λ _. a.known.server.within) stories numbers does.0
       (own_refers c s old.state.rules x.frame.message.header.stream_id response sent old.outbox new.outbox a.known.server.within is.0 does.1 sends) (inr (a, untaken a.so_far a.known a.none_else (λ async. is.1 (ruled ∙ async))))
-  by_item_row Ignore now x rest down old new sent stories numbers sends does a ruled is =
-      refers x rest down old new stories numbers does.0 (nothing_refers c s x.frame.message.header.stream_id old.outbox new.outbox (none_sent s.out old.outbox sent new.outbox does.1 sends)) (inr (a, untaken a.so_far a.known a.none_else (λ async. is (ruled ∙ async))))
-  by_item_row row now x rest down old new sent stories numbers sends does a ruled is = absurd is
+  by_item_row Ignore newest now x rest down old new sent stories numbers sends does moves a ruled is =
+      refers newest x rest down old new moves (λ _. a.known.server.within) stories numbers does.0 (nothing_refers c s x.frame.message.header.stream_id old.outbox new.outbox (none_sent s.out old.outbox sent new.outbox does.1 sends)) (inr (a, untaken a.so_far a.known a.none_else (λ async. is (ruled ∙ async))))
+  by_item_row row newest now x rest down old new sent stories numbers sends does moves a ruled is = absurd is
 
   -- the row of a frame that arrives as it was sent
-  abbrev row_at : Server → Flying → Row
-  row_at t x = case_row t.rules t.services x.frame.message.header (case_of t.rules x.frame.message.header (Opened x.plain) (inlet_of (jobs_at t.jobs.list x.frame.message.header.stream_id)))
+  abbrev case_at : Server → Flying → Case
+  case_at t x = case_of t.rules x.frame.message.header (Opened x.plain) t.jobs.newest (inlet_of (jobs_at t.jobs.list x.frame.message.header.stream_id))
 
-  asked_row_is : (x : Flying) (rest down : List Flying) (t : Server) → t.rules ≡ set.rules → t.services ≡ set.services → (a : HereUp x rest down t.jobs.list) → IsRowOf set.services x.frame.message.header.stream_id set.rules (request_of a.b) (row_at t x)
-  asked_row_is x rest down t ruled served a =
+  abbrev row_at : Server → Flying → Row
+  row_at t x = case_row t.rules t.services x.frame.message.header (case_at t x)
+
+  -- the newest request behind it
+  abbrev newest_at : Server → Flying → Option ℕ
+  newest_at t x = newest_after t.rules x.frame.message.header.stream_id (case_at t x) t.jobs.newest
+
+  asked_row_is : (x : Flying) (rest down : List Flying) (t : Server) → t.rules ≡ set.rules → t.services ≡ set.services → (a : HereUp x rest down t.jobs.list) → IsAbove x.frame.message.header.stream_id t.jobs.newest → IsRowOf set.services x.frame.message.header.stream_id set.rules (request_of a.b) (row_at t x)
+  asked_row_is x rest down t ruled served a below =
       let h : MessageHeader = x.frame.message.header in
       let sent = a.known.server.is_work in
       let none : jobs_at t.jobs.list h.stream_id ≡ [] = a.known.server.jobs_is in
-      rw (sent.plain, none, ruled, ← served) (ask_row set.rules t.services h (request_of a.b) sent.known sent.short sent.type_)
+      rw (sent.plain, none, ruled, ← served) (ask_row set.rules t.services h (request_of a.b) t.jobs.newest sent.known sent.short below sent.type_)
 
   passed_row_is : (x : Flying) (rest down : List Flying) (t : Server) → (a : HerePassed x rest down t.jobs.list) → IsItemRow x.frame.message.header.stream_id t.rules (inlet_of (jobs_at t.jobs.list x.frame.message.header.stream_id)) x.plain (row_at t x)
   passed_row_is x rest down t a =
       let k : ℕ = x.frame.message.header.stream_id in
       let item : IsItem k x = (subst (λ (xs : List Flying). AllByRecursion (IsItem k) xs) a.items a.known.server.are_items).0 in
-      item_row t.rules t.services x.frame.message.header x.plain (inlet_of (jobs_at t.jobs.list k)) item.short item.type_
+      item_row t.rules t.services x.frame.message.header x.plain t.jobs.newest (inlet_of (jobs_at t.jobs.list k)) item.short item.type_
+
+  -- what becomes of the newest request
+  asked_moves : (x : Flying) (rest down : List Flying) (t : Server) → HereUp x rest down t.jobs.list → Moves x t.jobs.newest (newest_at t x)
+  asked_moves x rest down t a =
+      let asked : asks x ≡ true = eq-eqb x.frame.message.header.type_ MESSAGE_TYPE_REQUEST a.known.server.is_work.type_ in
+      elim (request_moves t.rules x.frame.message.header.stream_id (case_at t x) t.jobs.newest) [
+        | inl same ↦ inl same
+        | inr moved ↦ inr (asked, moved)
+      ]
+
+  passed_moves : (x : Flying) (rest down : List Flying) (t : Server) → HerePassed x rest down t.jobs.list → Moves x t.jobs.newest (newest_at t x)
+  passed_moves x rest down t a =
+      let k : ℕ = x.frame.message.header.stream_id in
+      let item : IsItem k x = (subst (λ (xs : List Flying). AllByRecursion (IsItem k) xs) a.items a.known.server.are_items).0 in
+      inl (data_leave t.rules x.frame.message.header x.plain t.jobs.newest (inlet_of (jobs_at t.jobs.list k)) item.short item.type_)
 
   -- one frame
   comes_up : (now : ℕ) (x : Flying) (rest down : List Flying) (old new : Scene Server SO SI) (sent : List Sent) → old.state.rules ≡ set.rules → old.state.services ≡ set.services → IsTimely set f trace client now
-      → Does s.out (row_at old.state x) old.state old.outbox.half x.frame.message.header now sent new.state → SendsAll s.out old.outbox sent new.outbox
-      → Stories set had f trace (x ∷ rest) down old.state.jobs.list client → Numbers f old.state.jobs.last (x ∷ rest) client.next → AreRight f new.state.jobs.list
+      → Does s.out (row_at old.state x) (with_newest old.state (newest_at old.state x)) old.outbox.half x.frame.message.header now sent new.state → SendsAll s.out old.outbox sent new.outbox
+      → Stories set had f trace (x ∷ rest) down old.state.jobs.list client → Numbers f (counts old.state.jobs) (x ∷ rest) client.next → AreRight f new.state.jobs.list
       → ComesUp c s set had f trace rest down client old new
   comes_up now x rest down old new sent ruled served timely does sends stories numbers right =
       let k : ℕ = x.frame.message.header.stream_id in
       elim (comes_of x (parcels k rest) (stories k).origin (stories k).so_far (stories k).known (under_own id_of k x rest refl)) [
-        | inl a ↦ by_ask_row (row_at old.state x) now x rest down old new sent ruled stories numbers right sends does a timely (asked_row_is x rest down old.state ruled served a)
-        | inr a ↦ by_item_row (row_at old.state x) now x rest down old new sent stories numbers sends does a ruled (passed_row_is x rest down old.state a)
+        | inl a ↦
+            let asked : asks x ≡ true = eq-eqb x.frame.message.header.type_ MESSAGE_TYPE_REQUEST a.known.server.is_work.type_ in
+            let below = seen_up old.state.jobs.newest numbers.low k (numbers.between.0 asked) numbers.seen in
+            by_ask_row (row_at old.state x) (newest_at old.state x) now x rest down old new sent ruled stories numbers right sends does (asked_moves x rest down old.state a) a timely (asked_row_is x rest down old.state ruled served a below)
+        | inr a ↦ by_item_row (row_at old.state x) (newest_at old.state x) now x rest down old new sent stories numbers sends does (passed_moves x rest down old.state a) a ruled (passed_row_is x rest down old.state a)
       ]
 
   -- frames, one after the other
   pub feeds_up : (now : ℕ) (front rest down : List Flying) (old new : Scene Server SO SI) → old.state.rules ≡ set.rules → old.state.services ≡ set.services → IsTimely set f trace client now
-      → ActsOn (serving s.out s.in_) now old front new → Stories set had f trace (front ++ rest) down old.state.jobs.list client → Numbers f old.state.jobs.last (front ++ rest) client.next → AreRight f new.state.jobs.list
+      → ActsOn (serving s.out s.in_) now old front new → Stories set had f trace (front ++ rest) down old.state.jobs.list client → Numbers f (counts old.state.jobs) (front ++ rest) client.next → AreRight f new.state.jobs.list
       → ComesUp c s set had f trace rest down client old new
   feeds_up now [] rest down old new ruled served timely p stories numbers right =
       subst (λ (x : Scene Server SO SI). ComesUp c s set had f trace rest down client old x) (sym p) (record {
@@ -266,7 +292,7 @@ module _ {CO CI SO SI : Type 0} (c : Halves CO CI) (s : Halves SO SI) (set : Set
       })
   feeds_up now (x ∷ front) rest down old new ruled served timely p stories numbers right =
       let first = comes_up now x (front ++ rest) down old p.0 p.1 ruled served timely p.2 p.3 stories numbers (acts_right s f now front p.0 new p.4 right) in
-      let leaves = row_leaves s.out _ old.state _ _ now p.1 p.0.state p.2 in
+      let leaves = row_leaves s.out _ _ _ _ now p.1 p.0.state p.2 in
       let later = feeds_up now front rest (down ++ first.more) p.0 new (leaves.rules ∙ ruled) (leaves.services ∙ served) timely p.4 first.stories first.numbers right in
       record {
         more = first.more ++ later.more;

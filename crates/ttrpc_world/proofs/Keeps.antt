@@ -1,6 +1,6 @@
 -- What holds of a client, a server and their pipes after any run.
 use Rattle.ttrpc_world.proofs.Delivers.{around, IsQuiet, Stories}
-use Rattle.ttrpc_world.proofs.Numbers.{Numbers}
+use Rattle.ttrpc_world.proofs.Numbers.{counts, Numbers}
 use Rattle.ttrpc_world.proofs.OneWay.{OneWay}
 use Rattle.ttrpc_world.proofs.Words.{act_of, AllByRecursion, Bool, elsewhere, Entry, Event, false, flow_of, Flying, Halves, has_response, IsOwned, List, Net, refl, Reply, Settings, silent, unchanged, with_entry, ℕ, ◌≡◌}
 
@@ -17,7 +17,7 @@ pub record Keeps {CO CI SO SI : Type 0} (c : Halves CO CI) (s : Halves SO SI) (s
   pub up : List Flying
   pub down : List Flying
   pub stories : Stories set (has_response w) f trace up down w.server.state.jobs.list w.client.state
-  pub numbers : Numbers f w.server.state.jobs.last up w.client.state.next
+  pub numbers : Numbers f (counts w.server.state.jobs) up w.client.state.next
   pub own : AllByRecursion IsOwned up
   pub upward : OneWay c.out s.in_ w.client.connection.outbox w.server.connection w.up up
   pub downward : OneWay s.out c.in_ w.server.connection.outbox w.client.connection w.down down

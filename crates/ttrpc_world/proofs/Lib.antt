@@ -25,3 +25,4 @@ pub mod Calls
 pub mod Emptied
 pub mod WholeStreams
 pub mod Telling
+pub mod Asked

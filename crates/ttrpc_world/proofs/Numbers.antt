@@ -2,8 +2,10 @@
 -- made rise, and so do the ids of the requests in flight, from above them to below the client's next. So no two jobs have
 -- the same stream.
 use Rattle.ttrpc_pair.proofs.Words.{AreChanged, JobsLeft, same_jobs, unheard}
+use Rattle.ttrpc_pair.specs.Types.{IsAbove}
+use Rattle.ttrpc_world.proofs.Payloads.{seen_up}
 use Rattle.ttrpc_world.proofs.Serves.{acts_so, one_less, passes_so}
-use Rattle.ttrpc_world.proofs.Words.{[], ActiveJob, ActsAll, ActsOn, all_at, all_changed, all_in_front, all_less, AllByRecursion, Answer, ap, arith, AsyncRules, at_stays, Bool, cases_lt, cases_order, changed_at, ClientSide, cond-false, cond-true, Count, Deliver, Done, DropReceiver, EndsOne, EndStream, Entry, eq-eqb, Error, Event, ExpiresOne, Failure, false, filter, Finish, Flying, flying_without, Halves, Handed, header_of_frame, id_of, if◌then◌else◌, Incoming, inl, inr, IsFresh, IsOneToOne, IsRightAt, IsStreamOf, Item, Job, JobList, last_id, left_behind, List, Mail, map, MESSAGE_TYPE_REQUEST, MessageHeader, nat_eq, ne_eqb, Net, None, on_mail, Option, OutboundTransform, Outbox, ReceivesBy, Recv, refl, Refused, Reply, Result, Rules, row_leaves, rules, Runs, Scene, scene, Server, ServerCore, ServerEnd, ServerSide, serving, Some, stays, StaysFound, Steps, subst, sym, SyncRules, Take, Tick, true, with_server, without_receiver, ℕ, ◌++◌, ◌+◌, ◌<◌, ◌∙◌, ◌∷◌, ◌≡◌, ◌≤◌}
+use Rattle.ttrpc_world.proofs.Words.{[], ActiveJob, ActsAll, ActsOn, all_at, all_changed, all_in_front, all_less, AllByRecursion, Answer, ap, arith, AsyncRules, at_stays, Bool, cases_lt, cases_order, changed_at, ClientSide, cond-false, cond-true, Count, Deliver, Done, DropReceiver, EndsOne, EndStream, Entry, eq-eqb, Error, Event, ExpiresOne, Failure, false, filter, Finish, Flying, flying_without, Halves, Handed, header_of_frame, id_of, if◌then◌else◌, Incoming, inl, inr, IsFresh, IsOneToOne, IsRightAt, IsStreamOf, Item, Job, JobList, last_id, left_behind, List, Mail, map, MESSAGE_TYPE_REQUEST, MessageHeader, nat_eq, ne_eqb, Net, None, on_mail, Option, OutboundTransform, Outbox, ReceivesBy, Recv, refl, Refused, Reply, Result, Rules, row_leaves, rules, Runs, Scene, scene, Server, ServerCore, ServerEnd, ServerSide, serving, Some, stays, StaysFound, Steps, subst, sym, SyncRules, Take, Tick, true, with_server, without_receiver, ℕ, ◌++◌, ◌+◌, ◌<◌, ◌∙◌, ◌∷◌, ◌≡◌, ◌≤◌, ◌⊎◌}
 
 -- ---- streams that rise
 
@@ -77,45 +79,78 @@ pub thrown_between : (owners : ℕ → Bool) (n : ℕ) (transit queued : List Fl
 thrown_between owners n transit queued low high =
     left_behind (λ all left. Between low all high → Between low left high) owners n transit queued (λ front back. behind_between (stays owners) low front back high)
 
--- THE NUMBERS OF A STATE: jobs made have streams that rise, all below some id, and the requests in flight rise from it on to
--- below the client's next.
-pub record Numbers (f : ℕ → ℕ) (last : ℕ) (up : List Flying) (next : ℕ) : Type 0 where
+-- the number of the last job, and the id of the newest request
+abbrev pub counts : JobList → ℕ × Option ℕ
+counts js = (js.last, js.newest)
+
+-- THE NUMBERS OF A STATE: jobs made have streams that rise, all below some id, as is the newest request, and the requests in
+-- flight rise from it on to below the client's next.
+pub record Numbers (f : ℕ → ℕ) (n : ℕ × Option ℕ) (up : List Flying) (next : ℕ) : Type 0 where
   pub low : ℕ
   pub within : low ≤ last_id + 1
-  pub rise : Rise f last low
+  pub seen : IsAbove low n.1
+  pub rise : Rise f n.0 low
   pub between : Between low up next
 
-pub fresh_numbers : (f : ℕ → ℕ) (next : ℕ) → Numbers f 0 [] next
+pub fresh_numbers : (f : ℕ → ℕ) (next : ℕ) → Numbers f (0, None) [] next
 fresh_numbers f next =
     let none : Rise f 0 0 = record { rise = λ i j a b c. absurd (let no : ⊥ = omega (arith, a, b, c) in no); below = λ j a b. absurd (let no : ⊥ = omega (arith, a, b) in no) } in
-    record { low = 0; within = omega arith; rise = none; between = omega arith }
+    record { low = 0; within = omega arith; seen = tt; rise = none; between = omega arith }
 
 -- other requests are in flight
-pub other_requests : {f : ℕ → ℕ} {last next next2 : ℕ} {up up2 : List Flying} → (n : Numbers f last up next) → Between n.low up2 next2 → Numbers f last up2 next2
-other_requests n between = record { low = n.low; within = n.within; rise = n.rise; between = between }
+pub other_requests : {f : ℕ → ℕ} {last : ℕ × Option ℕ} {next next2 : ℕ} {up up2 : List Flying} → (n : Numbers f last up next) → Between n.low up2 next2 → Numbers f last up2 next2
+other_requests n between = record { low = n.low; within = n.within; seen = n.seen; rise = n.rise; between = between }
+
+-- what becomes of the newest request at a flight: it stays, or the flight is a request, which is it now
+abbrev pub Moves : Flying → Option ℕ → Option ℕ → Type 0
+Moves x old new = (new ≡ old) ⊎ ((asks x ≡ true) × (new ≡ Some (id_of x)))
+
+seen_moves : (x : Flying) (old new : Option ℕ) (low low2 : ℕ) → Moves x old new → low ≤ low2 → (asks x ≡ true → id_of x < low2) → IsAbove low old → IsAbove low2 new
+seen_moves x old new low low2 (inl same) le own below = rw same (seen_up old low low2 le below)
+seen_moves x old new low low2 (inr moved) le own below = rw moved.1 (own moved.0)
+
+-- behind a request's id
+below_past : (t : Bool) (low id : ℕ) → t ≡ true → id < past t low id
+below_past true low id is = omega arith
+below_past false low id is = cc
+
+past_within : (t : Bool) (low id : ℕ) → low ≤ last_id + 1 → (t ≡ true → id ≤ last_id) → past t low id ≤ last_id + 1
+past_within true low id le own = omega (arith, own refl)
+past_within false low id le own = le
 
 -- the first flight is gone, and no job was made of it
-pub passed_by : (f : ℕ → ℕ) (last : ℕ) (x : Flying) (up : List Flying) (next : ℕ) → Numbers f last (x ∷ up) next → Numbers f last up next
-passed_by f last x up next n = other_requests n (lower (past (asks x) n.low (id_of x)) n.low up next (past_up (asks x) n.low (id_of x) n.between.0) n.between.1)
+pub passed_by : (f : ℕ → ℕ) (old : ℕ × Option ℕ) (newest : Option ℕ) (x : Flying) (up : List Flying) (next : ℕ) → Moves x old.1 newest → (asks x ≡ true → id_of x ≤ last_id) → Numbers f old (x ∷ up) next
+    → Numbers f (old.0, newest) up next
+passed_by f old newest x up next moves own n =
+    let le = past_up (asks x) n.low (id_of x) n.between.0 in
+    record {
+      low = past (asks x) n.low (id_of x);
+      within = past_within (asks x) n.low (id_of x) n.within own;
+      seen = seen_moves x old.1 newest n.low (past (asks x) n.low (id_of x)) moves le (below_past (asks x) n.low (id_of x)) n.seen;
+      rise = record { rise = n.rise.rise; below = λ j a b. omega (arith, le, n.rise.below j a b) };
+      between = n.between.1;
+    }
 
 -- a job was made of it
-pub made_of : (f : ℕ → ℕ) (last : ℕ) (x : Flying) (up : List Flying) (next : ℕ) → asks x ≡ true → f (last + 1) ≡ id_of x → id_of x ≤ last_id → Numbers f last (x ∷ up) next → Numbers f (last + 1) up next
-made_of f last x up next is_asked is within n = record {
+pub made_of : (f : ℕ → ℕ) (old : ℕ × Option ℕ) (newest : Option ℕ) (x : Flying) (up : List Flying) (next : ℕ) → Moves x old.1 newest → asks x ≡ true → f (old.0 + 1) ≡ id_of x → id_of x ≤ last_id → Numbers f old (x ∷ up) next
+    → Numbers f (old.0 + 1, newest) up next
+made_of f old newest x up next moves is_asked is within n = record {
   low = id_of x + 1;
   within = omega (arith, within);
-  rise = one_made f last n.low (id_of x) is (n.between.0 is_asked) n.rise;
+  seen = let le = n.between.0 is_asked in seen_moves x old.1 newest n.low (id_of x + 1) moves (omega (arith, le)) (λ e. omega arith) n.seen;
+  rise = one_made f old.0 n.low (id_of x) is (n.between.0 is_asked) n.rise;
   between = subst (λ (t : Bool). Between (past t n.low (id_of x)) up next) is_asked n.between.1;
 }
 
 -- one more is queued, a request of the client's next id, or data
-pub asked_more : (f : ℕ → ℕ) (last : ℕ) (up : List Flying) (x : Flying) (next next2 : ℕ) → next ≤ id_of x → id_of x + 1 ≤ next2 → next ≤ next2 → Numbers f last up next → Numbers f last (up ++ x ∷ []) next2
+pub asked_more : (f : ℕ → ℕ) (last : ℕ × Option ℕ) (up : List Flying) (x : Flying) (next next2 : ℕ) → next ≤ id_of x → id_of x + 1 ≤ next2 → next ≤ next2 → Numbers f last up next → Numbers f last (up ++ x ∷ []) next2
 asked_more f last up x next next2 le lt more n = other_requests n (more_between n.low up x next next2 (λ e. le) (by (asks x)) n.between)
   where
     by : (t : Bool) → past t next (id_of x) ≤ next2
     by true = lt
     by false = more
 
-pub items_more : (f : ℕ → ℕ) (last : ℕ) (up : List Flying) (x : Flying) (next : ℕ) → asks x ≡ false → Numbers f last up next → Numbers f last (up ++ x ∷ []) next
+pub items_more : (f : ℕ → ℕ) (last : ℕ × Option ℕ) (up : List Flying) (x : Flying) (next : ℕ) → asks x ≡ false → Numbers f last up next → Numbers f last (up ++ x ∷ []) next
 items_more f last up x next item n =
     other_requests n (more_between n.low up x next next (λ e. let bad : true ≡ false = sym e ∙ item in cc) (subst (λ (t : Bool). past t next (id_of x) ≤ next) (sym item) (omega arith)) n.between)
 
@@ -173,14 +208,14 @@ jobs_make : (f : ℕ → ℕ) (n : ℕ) (job : ActiveJob) (js : List ActiveJob) 
 jobs_make f n job [] id h = ((cond-true (nat_eq job.id (n + 1)) _ _ (eq-eqb job.id (n + 1) id), omega (arith, id)), tt)
 jobs_make f n job (j ∷ js) id h = ((moved_below f n job.header.stream_id j.id h.0.1 ∙ h.0.0, omega (arith, h.0.1)), jobs_make f n job js id h.1)
 
-make_placed : (f : ℕ → ℕ) (old : JobList) (job : ActiveJob) → job.id ≡ old.last + 1 → Placed f old → Goes f old (record { last = old.last + 1; list = old.list ++ job ∷ [] })
-make_placed f old job id p = record {
+make_placed : (f : ℕ → ℕ) (old new : JobList) (job : ActiveJob) → job.id ≡ old.last + 1 → new.last ≡ old.last + 1 → new.list ≡ old.list ++ job ∷ [] → Placed f old → Goes f old new
+make_placed f old new job id last list p = record {
   g = moved f old.last job.header.stream_id;
   agrees = λ j h. moved_below f old.last job.header.stream_id j h;
-  more = omega arith;
+  more = omega (arith, last);
   placed = record {
-    below = jobs_make f old.last job old.list id p.below;
-    beyond = λ j h. moved_other f old.last job.header.stream_id j (λ e. absurd (let no : ⊥ = omega (arith, h, e) in no)) ∙ p.beyond j (omega (arith, h));
+    below = rw (last, list) (jobs_make f old.last job old.list id p.below);
+    beyond = λ j h. moved_other f old.last job.header.stream_id j (λ e. absurd (let no : ⊥ = omega (arith, h, e, last) in no)) ∙ p.beyond j (omega (arith, h, last));
   };
 }
 
@@ -204,7 +239,7 @@ changed_goes f old new last c p = stay_placed f old new last (subst (λ (js : Li
 
 -- a row makes a job, or changes mailboxes
 row_goes : (f : ℕ → ℕ) (old new : JobList) → JobsLeft old new → Placed f old → Goes f old new
-row_goes f old new (inl made) p = subst (λ (js : JobList). Goes f old js) (sym made.2) (make_placed f old made.0 made.1 p)
+row_goes f old new (inl made) p = make_placed f old new made.0 made.1 made.2 made.3 p
 row_goes f old new (inr changed) p = changed_goes f old new changed.1 changed.0 p
 
 -- one job expires
@@ -217,7 +252,7 @@ expires_go out old mid new from between to job e later f p =
 acts_go : {O I : Type 0} (h : Halves O I) (f : ℕ → ℕ) (now : ℕ) (fs : List Incoming) (old new : Scene Server O I) → ActsAll (serving h.out h.in_) now old fs new → Placed f old.state.jobs → Goes f old.state.jobs new.state.jobs
 acts_go h f now fs old new a =
     acts_so (serving h.out h.in_) now (λ x y. (g : ℕ → ℕ) → Placed g x.state.jobs → Goes g x.state.jobs y.state.jobs) (λ x g p. same_placed g x.state.jobs x.state.jobs refl p)
-    (λ i is x y b later g p. then_goes g x.state.jobs b.0.state.jobs y.state.jobs (row_goes g x.state.jobs b.0.state.jobs (row_leaves h.out _ x.state x.outbox.half (header_of_frame i) now b.1.sent b.0.state b.1.reacts).jobs p) later) fs old new a f
+    (λ i is x y b later g p. then_goes g x.state.jobs b.0.state.jobs y.state.jobs (row_goes g x.state.jobs b.0.state.jobs (row_leaves h.out _ _ x.outbox.half (header_of_frame i) now b.1.sent b.0.state b.1.reacts).jobs p) later) fs old new a f
 
 ends_go : (f : ℕ → ℕ) (old new : JobList) (id : ℕ) (job : ActiveJob) → new.last ≡ old.last → EndsOne old.list id job new.list → Placed f old → Goes f old new
 ends_go f old new id job last t p =
@@ -242,13 +277,13 @@ right_unmap f change stay (j ∷ js) h = (ap f (sym (stay.id j)) ∙ h.0 ∙ ap 
 
 -- what is right behind a frame was right before
 row_right : (f : ℕ → ℕ) (old new : JobList) → JobsLeft old new → AreRight f new.list → AreRight f old.list
-row_right f old new (inl made) right = all_in_front (IsRight f) old.list _ (subst (λ (js : JobList). AreRight f js.list) made.2 right)
+row_right f old new (inl made) right = all_in_front (IsRight f) old.list _ (subst (λ (js : List ActiveJob). AreRight f js) made.3 right)
 row_right f old new (inr changed) right = right_unmap f changed.0.g changed.0.found old.list (subst (λ (js : List ActiveJob). AreRight f js) changed.0.is right)
 
 pub acts_right : {O I : Type 0} (h : Halves O I) (f : ℕ → ℕ) (now : ℕ) (front : List Flying) (old new : Scene Server O I) → ActsOn (serving h.out h.in_) now old front new
     → AreRight f new.state.jobs.list → AreRight f old.state.jobs.list
 acts_right h f now [] old new a right = subst (λ (x : Scene Server _ _). AreRight f x.state.jobs.list) a right
-acts_right h f now (x ∷ front) old new a right = row_right f old.state.jobs a.0.state.jobs (row_leaves h.out _ old.state _ _ now a.1 a.0.state a.2).jobs (acts_right h f now front a.0 new a.4 right)
+acts_right h f now (x ∷ front) old new a right = row_right f old.state.jobs a.0.state.jobs (row_leaves h.out _ _ _ _ now a.1 a.0.state a.2).jobs (acts_right h f now front a.0 new a.4 right)
 
 -- ---- at every state of a run
 

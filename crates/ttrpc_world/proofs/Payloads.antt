@@ -1,5 +1,7 @@
 -- What is sent reads back, what a core makes of it then, and the flights that it is sent as.
-use Rattle.ttrpc_world.proofs.Words.{[], Absent, Act, and_parts, arith, asked_row, AskedCall, Asks, AsyncRules, Bool, Busy, by_status, case_of, case_row, Chat, closing_news, codes, data_case, data_news, decimal, empty_request, empty_response, Err, even_id_text, EvenId, false, fit_to_message, fitted, Full, Gives, has_method, has_service, has_stream, HasOkStatus, if◌then◌else◌, Ignore, inactive_text, Inlet, INVALID_ARGUMENT, IsAnswer, IsAscii, IsAscii-decimal, IsRequest, IsResponse, IsUtf8, IsUtf8-append, IsUtf8-from_ascii, landing_of, le-ltb, length, limit_text, List, ltb-true, MakeJob, MakeStream, malformed_text, MESSAGE_LENGTH_MAX, MESSAGE_TYPE_DATA, MESSAGE_TYPE_REQUEST, MESSAGE_TYPE_RESPONSE, MessageHeader, method_text, nat_eq, nat_lt, news_of, NoMethod, NoService, Opened, Origin, other_of, Others, oversize_text, path_text, PutIn, reads_back, refl, Request, request_again, request_bytes, request_fields, request_fits, request_row, request_step, Response, response_again, response_bytes, response_fields, response_fits, response_size, response_step, Row, Rules, rules, SendResponse, service_text, Services, Some, status_response, subst, suc, sym, SyncRules, Taking, timeout_response, true, UNIMPLEMENTED, UNKNOWN, zero, ℕ, ◌%◌, ◌&&◌, ◌++◌, ◌-◌, ◌<◌, ◌^◌, ◌∙◌, ◌∷◌, ◌≡◌, ◌≤◌}
+use Rattle.std.proofs.lemmas.Bool.{lt-ltb}
+use Rattle.ttrpc_pair.specs.Types.{IsAbove}
+use Rattle.ttrpc_world.proofs.Words.{[], Absent, Act, and_parts, arith, asked_row, AskedCall, Asks, AsyncRules, Bool, Busy, by_status, case_of, case_row, Chat, closing_news, codes, data_case, data_news, decimal, empty_request, empty_response, Err, even_id_text, EvenId, false, fit_to_message, fitted, Full, Gives, has_method, has_service, has_stream, HasOkStatus, if◌then◌else◌, Ignore, inactive_text, Inlet, INVALID_ARGUMENT, IsAnswer, IsAscii, IsAscii-decimal, IsRequest, IsResponse, IsUtf8, IsUtf8-append, IsUtf8-from_ascii, landing_of, le-ltb, length, limit_text, List, ltb-true, MakeJob, MakeStream, malformed_text, MESSAGE_LENGTH_MAX, MESSAGE_TYPE_DATA, MESSAGE_TYPE_REQUEST, MESSAGE_TYPE_RESPONSE, MessageHeader, method_text, nat_eq, nat_lt, news_of, NoMethod, NoService, Opened, Origin, other_of, Others, oversize_text, path_text, PutIn, reads_back, refl, Request, request_again, request_bytes, request_fields, request_fits, request_row, request_step, Response, response_again, response_bytes, response_fields, response_fits, response_size, response_step, Row, Rules, rules, SendResponse, service_text, Services, Some, status_response, subst, suc, sym, SyncRules, Taking, timeout_response, true, UNIMPLEMENTED, UNKNOWN, zero, ℕ, ◌%◌, ◌&&◌, ◌++◌, ◌-◌, ◌<◌, ◌^◌, ◌∙◌, ◌∷◌, ◌≡◌, ◌≤◌, None, Option, newer_case, newest_after, Case, inl, inr, ap, ◌⊎◌}
 
 -- ---- texts
 
@@ -114,19 +116,29 @@ read_is r services h q is short =
     let fits : length (request_bytes q) < 2 ^ 64 - 1 = omega (arith, short) in
     rw (reads_back request_step empty_request q (request_fields q) (request_fits q is fits) (request_again q is fits)) refl
 
-even_or_asked : (services : Services) (h : MessageHeader) (q : Request) → IsRequest q → length (request_bytes q) ≤ MESSAGE_LENGTH_MAX → (even : Bool) → nat_eq (h.stream_id % 2) 0 ≡ even
-    → IsRowOf services h.stream_id AsyncRules q (case_row AsyncRules services h (if even then EvenId else Asks (request_bytes q)))
-even_or_asked services h q is short true e = (even_refusal, λ odd. let bad : true ≡ false = sym e ∙ odd in cc)
-even_or_asked services h q is short false e = subst (IsRowOf services h.stream_id AsyncRules q) (sym (read_is AsyncRules services h q is short)) (asked_is h.stream_id AsyncRules (λ a. e) services q is)
+pub seen_up : (newest : Option ℕ) (low low2 : ℕ) → low ≤ low2 → IsAbove low newest → IsAbove low2 newest
+seen_up None low low2 le below = tt
+seen_up (Some newest) low low2 le below = omega (arith, le, below)
 
-pub ask_row : (r : Rules) (services : Services) (h : MessageHeader) (q : Request) → IsRequest q → length (request_bytes q) ≤ MESSAGE_LENGTH_MAX → h.type_ ≡ MESSAGE_TYPE_REQUEST
-    → IsRowOf services h.stream_id r q (case_row r services h (case_of r h (Opened (request_bytes q)) Absent))
-ask_row SyncRules services h q is short type_ =
+-- a request above the newest one is read
+newer_is : (k : ℕ) (newest : Option ℕ) (plain : List ℕ) → IsAbove k newest → newer_case k newest plain ≡ Asks plain
+newer_is k None plain below = refl
+newer_is k (Some newest) plain below = rw (lt-ltb newest k below) refl
+
+even_or_asked : (services : Services) (h : MessageHeader) (q : Request) (newest : Option ℕ) → IsRequest q → length (request_bytes q) ≤ MESSAGE_LENGTH_MAX → IsAbove h.stream_id newest → (even : Bool) → nat_eq (h.stream_id % 2) 0 ≡ even
+    → IsRowOf services h.stream_id AsyncRules q (case_row AsyncRules services h (if even then EvenId else newer_case h.stream_id newest (request_bytes q)))
+even_or_asked services h q newest is short below true e = (even_refusal, λ odd. let bad : true ≡ false = sym e ∙ odd in cc)
+even_or_asked services h q newest is short below false e =
+    subst (IsRowOf services h.stream_id AsyncRules q) (sym (ap (case_row AsyncRules services h) (newer_is h.stream_id newest (request_bytes q) below) ∙ read_is AsyncRules services h q is short)) (asked_is h.stream_id AsyncRules (λ a. e) services q is)
+
+pub ask_row : (r : Rules) (services : Services) (h : MessageHeader) (q : Request) (newest : Option ℕ) → IsRequest q → length (request_bytes q) ≤ MESSAGE_LENGTH_MAX → IsAbove h.stream_id newest → h.type_ ≡ MESSAGE_TYPE_REQUEST
+    → IsRowOf services h.stream_id r q (case_row r services h (case_of r h (Opened (request_bytes q)) newest Absent))
+ask_row SyncRules services h q newest is short below type_ =
     let within : nat_lt MESSAGE_LENGTH_MAX (length (request_bytes q)) ≡ false = le-ltb _ _ short in
     rw (within, type_) (subst (IsRowOf services h.stream_id SyncRules q) (sym (read_is SyncRules services h q is short)) (asked_is h.stream_id SyncRules (λ a. let bad : SyncRules ≡ AsyncRules = a in cc) services q is))
-ask_row AsyncRules services h q is short type_ =
+ask_row AsyncRules services h q newest is short below type_ =
     let within : nat_lt MESSAGE_LENGTH_MAX (length (request_bytes q)) ≡ false = le-ltb _ _ short in
-    rw (within, type_) (even_or_asked services h q is short (nat_eq (h.stream_id % 2) 0) refl)
+    rw (within, type_) (even_or_asked services h q newest is short below (nat_eq (h.stream_id % 2) 0) refl)
 
 even_or_item : (services : Services) (h : MessageHeader) (plain : List ℕ) (inlet : Inlet) (even : Bool) → nat_eq (h.stream_id % 2) 0 ≡ even
     → IsItemRow h.stream_id AsyncRules inlet plain (case_row AsyncRules services h (if even then EvenId else data_case plain inlet))
@@ -136,14 +148,35 @@ even_or_item services h plain Busy false e = (inactive_refusal, λ a odd t. cc)
 even_or_item services h plain Taking false e = refl
 even_or_item services h plain Full false e = λ a odd t. cc
 
-pub item_row : (r : Rules) (services : Services) (h : MessageHeader) (plain : List ℕ) (inlet : Inlet) → length plain ≤ MESSAGE_LENGTH_MAX → h.type_ ≡ MESSAGE_TYPE_DATA
-    → IsItemRow h.stream_id r inlet plain (case_row r services h (case_of r h (Opened plain) inlet))
-item_row SyncRules services h plain inlet short type_ =
+pub item_row : (r : Rules) (services : Services) (h : MessageHeader) (plain : List ℕ) (newest : Option ℕ) (inlet : Inlet) → length plain ≤ MESSAGE_LENGTH_MAX → h.type_ ≡ MESSAGE_TYPE_DATA
+    → IsItemRow h.stream_id r inlet plain (case_row r services h (case_of r h (Opened plain) newest inlet))
+item_row SyncRules services h plain newest inlet short type_ =
     let within : nat_lt MESSAGE_LENGTH_MAX (length plain) ≡ false = le-ltb _ _ short in
     rw (within, type_) (λ a odd t. let bad : SyncRules ≡ AsyncRules = a in cc)
-item_row AsyncRules services h plain inlet short type_ =
+item_row AsyncRules services h plain newest inlet short type_ =
     let within : nat_lt MESSAGE_LENGTH_MAX (length plain) ≡ false = le-ltb _ _ short in
     rw (within, type_) (even_or_item services h plain inlet (nat_eq (h.stream_id % 2) 0) refl)
+
+-- and leave the newest request
+pub data_leave : (r : Rules) (h : MessageHeader) (plain : List ℕ) (newest : Option ℕ) (inlet : Inlet) → length plain ≤ MESSAGE_LENGTH_MAX → h.type_ ≡ MESSAGE_TYPE_DATA
+    → newest_after r h.stream_id (case_of r h (Opened plain) newest inlet) newest ≡ newest
+data_leave SyncRules h plain newest inlet short type_ = refl
+data_leave AsyncRules h plain newest inlet short type_ =
+    let within : nat_lt MESSAGE_LENGTH_MAX (length plain) ≡ false = le-ltb _ _ short in
+    rw (within, type_) (by (nat_eq (h.stream_id % 2) 0) inlet)
+  where
+    by : (even : Bool) (inlet : Inlet) → newest_after AsyncRules h.stream_id (if even then EvenId else data_case plain inlet) newest ≡ newest
+    by true inlet = refl
+    by false Absent = refl
+    by false Busy = refl
+    by false Taking = refl
+    by false Full = refl
+
+-- a request may be the newest then
+pub request_moves : (r : Rules) (k : ℕ) (case : Case) (newest : Option ℕ) → (newest_after r k case newest ≡ newest) ⊎ (newest_after r k case newest ≡ Some k)
+request_moves SyncRules k case newest = inl refl
+request_moves AsyncRules k (Asks plain) newest = inr refl
+request_moves AsyncRules k case newest = inl refl
 
 -- ---- what the client makes of what comes
 

@@ -8,7 +8,7 @@ use Rattle.ttrpc_world.proofs.Timed.{none_due, none_reached, passed_waits, was_t
 use Rattle.ttrpc_world.proofs.Failing.{ArePlain, fresh_plain, plainly}
 use Rattle.ttrpc_world.proofs.Keeps.{AreSteady, Keeps, keeps_still}
 use Rattle.ttrpc_world.proofs.Moves.{break_down, break_up, carry_down, carry_up, client_fails, cut_down, cut_up, deliver_down, deliver_up, server_fails, stay_up}
-use Rattle.ttrpc_world.proofs.Numbers.{AreRight, fresh_numbers, IsRightRun, Numbers}
+use Rattle.ttrpc_world.proofs.Numbers.{AreRight, counts, fresh_numbers, IsRightRun, Numbers}
 use Rattle.ttrpc_world.proofs.OneWay.{starts}
 use Rattle.ttrpc_world.proofs.Words.{[], act_of, Answer, ap, append-nil, append_assoc, AreInOrder, arith, Bool, call_at, CallEvent, calls, Carry, ClientCore, ClientEnd, ClientSide, Close, close_put, ClosedUp, Count, Cut, Deliver, Done, Drain, DropCall, DropReceiver, DropSender, EndStream, Entry, Event, Fail, failed_by_hand, false, Finish, flows, Given, given, Halves, Handed, Idle, in_order_here, inl, inr, IsFresh, Item, item_put, jobs_at, List, Named, Net, nothing_read, OpenEvent, Outcome, Recv, refl, Refused, Reply, Respond, rules, Runs, Send, SentUp, ServerCore, ServerEnd, ServerSide, Settings, silent, Some, Steps, stream_at, subst, sym, Take, ThingEnd, ThingItem, Tick, Ticket, Told, true, Unborn, with_client, with_entry, with_server, ℕ, ◌++◌, ◌∙◌, ◌∷◌, ◌≡◌}
 
@@ -156,7 +156,7 @@ module _ {CO CI SO SI : Type 0} (c : Halves CO CI) (s : Halves SO SI) (seals : B
         down = record { is = (record { none = refl; errors = nothing_read }, refl) };
       };
     };
-    numbers = subst (λ (x : ServerCore SO SI). Numbers f x.state.jobs.last [] w.client.state.next) (sym n.server) (fresh_numbers f w.client.state.next);
+    numbers = subst (λ (x : ServerCore SO SI). Numbers f (counts x.state.jobs) [] w.client.state.next) (sym n.server) (fresh_numbers f w.client.state.next);
     own = tt;
     upward = starts c.out s.in_ w.client.connection w.server.connection w.up (ap (λ (x : ClientCore CO CI). x.connection.outbox.queue) n.client) (ap (λ (x : ServerCore SO SI). x.connection.decoder) n.server) n.up n.up_paired;
     downward = starts s.out c.in_ w.server.connection w.client.connection w.down (ap (λ (x : ServerCore SO SI). x.connection.outbox.queue) n.server) (ap (λ (x : ClientCore CO CI). x.connection.decoder) n.client) n.down n.down_paired;

@@ -1,2 +1,3 @@
 pub mod Words
 pub mod Living
+pub mod Requests

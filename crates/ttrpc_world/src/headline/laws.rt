@@ -1,6 +1,7 @@
 //! The headline, as a law over the definitions.
-ghost use Rattle.std.specs.Prelude.{◌≡◌, ℕ, List};
-ghost use Rattle.ttrpc_world.specs.Headline.Words.{Entry as AnEntry, IsFresh, IsTold, Net, Runs, halves};
+ghost use Rattle.std.specs.Prelude.{◌≡◌, ◌≢◌, ◌∷◌, ℕ, List, None};
+ghost use Rattle.ttrpc_world.specs.Headline.Words.{Entry as AnEntry, Flying, IsFresh, IsTold, Net, NotAbove, Opened, Runs, Server, case_in, halves};
+ghost use Rattle.ttrpc_world.specs.Headline.Requests.{RequestsInFlight, RequestsRise};
 ghost use Rattle.ttrpc_secure.specs.Sends.{safe_limit};
 
 use ttrpc_secure::{InboundTransform, OutboundTransform};
@@ -20,6 +21,23 @@ pub fn runs_are_told<
         let s = halves SO.OutboundTransform SI.InboundTransform in
         (old new : Net CO CI SO SI) (trace : List AnEntry) → IsFresh c s old → Runs c s CO.SEALS old trace new
         → (stream_of : ℕ → ℕ) × IsTold old.server.state.rules old.server.state.services (safe_limit SO.OutboundTransform old.server.connection.outbox.half) stream_of trace }
+{}
+
+/// While the server lives, the ids of the requests in flight to it rise in any run from a fresh start, from above that of the
+/// newest request that it has seen to below the client's next. So no call and no stream of the run is refused since its id isn't
+/// above another's.
+pub fn request_ids_rise_in_flight<
+    CO: OutboundTransform,
+    CI: InboundTransform,
+    SO: OutboundTransform,
+    SI: InboundTransform,
+>()
+    ensures rise { let c = halves CO.OutboundTransform CI.InboundTransform in
+        let s = halves SO.OutboundTransform SI.InboundTransform in
+        (old new : Net CO CI SO SI) (trace : List AnEntry) → IsFresh c s old → Runs c s CO.SEALS old trace new
+        → new.server.connection.failure ≡ None → RequestsInFlight c s new }
+    ensures none_refused { (server : Server) (x : Flying) (xs : List Flying) (next now m : ℕ) → RequestsRise server.jobs.newest (x ∷ xs) next
+        → case_in server (record { header = x.frame.message.header; opening = Opened x.plain; now = now }) ≢ NotAbove m }
 {}
 
 /// In any run the server's rules and services stay as they are, and so does the limit of what its outbound half may seal.
