@@ -10,7 +10,7 @@ use crate::tests::servers::{
     ABOVE_LIMIT_ROWS, ANSWERS_FIRST, BAD_STAMP_FIRST, EOF_ANSWER, GREATEST_IS_SENT, KNOWN_ROWS,
     LONG_ANSWER, LONG_ROWS, SINGLE_ROWS, STAMPED_ECHOED, TAKES_FIRST, UNREADABLE_ROWS,
 };
-use crate::tests::streams::IN_USE;
+use crate::tests::streams::{IN_USE, INACTIVE, NOT_ABOVE};
 use crate::tests::told::{OTHER_RULES, SEALED_UP, UNKNOWN_JOB};
 use crate::tests::under_test::{Table, Tested, hold, hold_stamped};
 use ttrpc_server::Rules;
@@ -26,14 +26,19 @@ const DRAINS: &[Table<Rules>] = &[(BOTH_RULES, DRAINING_ROWS)];
 const TABLES: &[Table<Rules>] = &[
     (ASYNC_RULES, KNOWN_ROWS),
     (ASYNC_RULES, ANSWERED_ROWS),
+    (ASYNC_RULES, RISING_ROWS),
     (ASYNC_RULES, JOB_ROWS),
 ];
 
-const OVERLONG: &[Table<Rules>] = &[(ASYNC_RULES, LONG_ROWS)];
+const OVERLONG: &[Table<Rules>] = &[(ASYNC_RULES, LONG_ROWS), (ASYNC_RULES, LONG_ABOVE_ROWS)];
 
 const STAMPS: &[Table<Rules>] = &[(ASYNC_RULES, STAMP_ROWS), (ASYNC_RULES, ABOVE_LIMIT_ROWS)];
 
-const ANSWERS: &[Table<Rules>] = &[(ASYNC_RULES, UNREADABLE_ROWS), (ASYNC_RULES, GREATEST_ROWS)];
+const ANSWERS: &[Table<Rules>] = &[
+    (ASYNC_RULES, UNREADABLE_ROWS),
+    (ASYNC_RULES, UNREAD_ROWS),
+    (ASYNC_RULES, GREATEST_ROWS),
+];
 
 const SWELLING: &[Table<Rules>] = &[(ASYNC_RULES, SWELLING_ROWS)];
 
@@ -93,12 +98,83 @@ const ANSWERED_ROWS: &[Row] = &[
     Row { name: "other types are ignored", steps: &[Serves(OTHER_TYPES, b""), IsAlive], ..FRESH },
     Row { name: "data find no stream", steps: &[Serves(DATA, DATA_ANSWER)], ..FRESH },
     Row { name: "data find no stream under the id of a job, which goes on", steps: &[Feed(ASKED_AND_DATA), Writes(OWN_DATA_ANSWER), TAKES_FIRST, ANSWERS_FIRST, Writes(ECHOED)], ..FRESH },
-    Row { name: "an id with an active job is in use, and free again behind its answer", steps: &[Feed(TWICE), Writes(IN_USE), TAKES_FIRST, TakesNone, Feed(ASKED), Writes(IN_USE), ANSWERS_FIRST, Writes(ECHOED), Feed(ASKED), Takes(2, 1, b"\x2a"), HasUnsent(false)], ..FRESH },
+    Row { name: "an id with an active job is in use, and old behind its answer", steps: &[Feed(TWICE), Writes(IN_USE), TAKES_FIRST, TakesNone, Feed(ASKED), Writes(IN_USE), ANSWERS_FIRST, Writes(ECHOED), Feed(ASKED), Writes(NOT_ABOVE), TakesNone], ..FRESH },
     Row { name: "an id in use is told before the request is read", steps: &[Feed(ASKED_AND_UNREADABLE), Writes(IN_USE)], ..FRESH },
     Row { name: "unknown services are answered", steps: &[Serves(OTHER_SERVICE, OTHER_SERVICE_ANSWER)], ..FRESH },
     Row { name: "unknown methods are answered", steps: &[Serves(NO_METHOD, NOPE)], ..FRESH },
     Row { name: "those of a service without methods, too", steps: &[Serves(EMPTY_SERVICE, EMPTY_SERVICE_ANSWER)], ..FRESH },
 ];
+
+// ---- ids that rise
+
+/// A request of stream 3 to `Echo` with the payload 2a.
+const ASKED_THIRD: &[u8] = b"\0\0\0\x14\0\0\0\x03\x01\0\x0a\x09demo.Echo\x12\x04Echo\x1a\x01\x2a";
+/// What answers it.
+const ECHOED_THIRD: &[u8] = b"\0\0\0\x05\0\0\0\x03\x02\0\x0a\0\x12\x01\x2a";
+/// What answers a request of stream 1 after one of stream 3.
+const BELOW_THIRD: &[u8] = b"\
+    \0\0\0\x20\0\0\0\x01\x02\0\x0a\x1e\x08\x03\x12\x1astream id 1 is not above 3";
+/// A service that isn't there, under stream 5.
+const OTHER_SERVICE_FIFTH: &[u8] = b"\0\0\0\x06\0\0\0\x05\x01\0\x0a\x01x\x12\x01y";
+/// What answers it.
+const OTHER_SERVICE_FIFTH_ANSWER: &[u8] = b"\
+    \0\0\0\x1e\0\0\0\x05\x02\0\x0a\x1c\x08\x03\x12\x18x service does not exist";
+/// What answers a request of stream 3 after one of stream 5.
+const BELOW_FIFTH: &[u8] = b"\
+    \0\0\0\x20\0\0\0\x03\x02\0\x0a\x1e\x08\x03\x12\x1astream id 3 is not above 5";
+/// A request that opens a stream to `Chat` under stream 7.
+const OPENED_SEVENTH: &[u8] = b"\0\0\0\x11\0\0\0\x07\x01\x06\x0a\x09demo.Echo\x12\x04Chat";
+/// What closes it.
+const CLOSED_SEVENTH: &[u8] = b"\0\0\0\0\0\0\0\x07\x03\x05";
+/// A request of stream 7 to `Echo` with the payload 2a.
+const ASKED_SEVENTH: &[u8] = b"\0\0\0\x14\0\0\0\x07\x01\0\x0a\x09demo.Echo\x12\x04Echo\x1a\x01\x2a";
+/// What answers it after another of that stream.
+const AT_SEVENTH: &[u8] = b"\
+    \0\0\0\x20\0\0\0\x07\x02\0\x0a\x1e\x08\x03\x12\x1astream id 7 is not above 7";
+/// Data of stream 1.
+const DATA_FIRST: &[u8] = b"\0\0\0\x01\0\0\0\x01\x03\0z";
+/// The header of a frame of stream 9 that is one byte too long.
+const OVERSIZED_NINTH: &[u8] = b"\0\x40\0\x01\0\0\0\x09\x01\0";
+/// What answers it.
+const LONG_NINTH: &[u8] = b"\
+    \0\0\0\x43\0\0\0\x09\x02\0\
+    \x0a\x41\x08\x03\x12\x3dmessage length 4194305 exceed maximum message size of 4194304";
+
+#[rattlefmt::skip]
+const RISING_ROWS: &[Row] = &[
+    Row { name: "an id below the newest is refused, and makes no job", steps: &[Feed(ASKED_THIRD), Takes(1, 3, b"\x2a"), Answers(1, b"\x2a"), Writes(ECHOED_THIRD), Feed(ASKED), Writes(BELOW_THIRD), TakesNone], ..FRESH },
+    Row { name: "an id that was answered isn't above itself", steps: &[Feed(ASKED), TAKES_FIRST, ANSWERS_FIRST, Writes(ECHOED), Feed(ASKED), Writes(NOT_ABOVE), TakesNone], ..FRESH },
+    Row { name: "a request that can't be read is the newest all the same", steps: &[Feed(UNREADABLE), HasUnsent(true), Feed(ASKED), TakesNone], ..FRESH },
+    Row { name: "so is one that makes no job", steps: &[Feed(OTHER_SERVICE_FIFTH), Writes(OTHER_SERVICE_FIFTH_ANSWER), Feed(ASKED_THIRD), Writes(BELOW_FIFTH), TakesNone], ..FRESH },
+    Row { name: "and one that opens a stream, which then ends", steps: &[Feed(OPENED_SEVENTH), TakesStream(1, 7), EndsStream(1), Writes(CLOSED_SEVENTH), Feed(ASKED_SEVENTH), Writes(AT_SEVENTH), TakesNone], ..FRESH },
+    Row { name: "a refused id isn't the newest", steps: &[Feed(ASKED_THIRD), Takes(1, 3, b"\x2a"), Feed(ASKED), Writes(BELOW_THIRD), Feed(OTHER_SERVICE_FIFTH), Writes(OTHER_SERVICE_FIFTH_ANSWER), Feed(ASKED_SEVENTH), Takes(2, 7, b"\x2a")], ..FRESH },
+    Row { name: "data below the newest id find no stream", steps: &[Feed(ASKED_THIRD), Feed(DATA_FIRST), Writes(INACTIVE), Takes(1, 3, b"\x2a")], ..FRESH },
+];
+
+// The text of the first answer is left open.
+const UNREAD_ROWS: &[Row] = &[Row {
+    name: "an id of a request that can't be read isn't above itself",
+    steps: &[
+        Feed(UNREADABLE),
+        WritesStatus(3, ""),
+        Feed(ASKED),
+        Writes(NOT_ABOVE),
+        TakesNone,
+    ],
+    ..FRESH
+}];
+
+const LONG_ABOVE_ROWS: &[Row] = &[Row {
+    name: "the id of an oversized frame isn't the newest",
+    steps: &[
+        Feed(OVERSIZED_NINTH),
+        FeedSevens(4194305),
+        Writes(LONG_NINTH),
+        Feed(ASKED_SEVENTH),
+        Takes(1, 7, b"\x2a"),
+    ],
+    ..FRESH
+}];
 
 #[rattlefmt::skip]
 const JOB_ROWS: &[Row] = &[
@@ -153,7 +229,10 @@ const SEALED_ROWS: &[Row] = &[
 
 /// A request of stream 1 with a timeout of ten nanoseconds.
 const TIMED: &[u8] = b"\0\0\0\x16\0\0\0\x01\x01\0\x0a\x09demo.Echo\x12\x04Echo\x1a\x01\x2a\x20\x0a";
-/// What answers it once it has expired.
+/// The same of stream 9.
+const TIMED_NINTH: &[u8] =
+    b"\0\0\0\x16\0\0\0\x09\x01\0\x0a\x09demo.Echo\x12\x04Echo\x1a\x01\x2a\x20\x0a";
+/// What answers the first once it has expired.
 const TIMEOUT: &[u8] = b"\0\0\0\x0d\0\0\0\x01\x02\0\x0a\x0b\x08\x04\x12\x07timeout";
 /// A timeout of -1, which is read as 2^64 - 1.
 const NEGATIVE: &[u8] = b"\
@@ -178,7 +257,7 @@ const TWO_TIMEOUTS: &[u8] = b"\
 #[rattlefmt::skip]
 const DEADLINE_ROWS: &[Row] = &[
     Row { name: "an answer before the tick of its deadline is sent, and nothing expires", steps: &[NextDeadline(None), FeedAt(TIMED, 5), NextDeadline(Some(15)), TAKES_FIRST, Ticks(14), HasUnsent(false), ANSWERS_FIRST, NextDeadline(None), Ticks(15), Writes(ECHOED), NextExpired(None)], ..FRESH },
-    Row { name: "an answer behind that tick is refused, and the stream's id is free", steps: &[FeedAt(TIMED, 5), TAKES_FIRST, Ticks(15), RefusesAnswer(1, UNKNOWN_JOB), StreamOf(1, None), Writes(TIMEOUT), NextDeadline(None), NextExpired(Some(1)), NextExpired(None), IsAlive, Feed(ASKED), Takes(2, 1, b"\x2a"), RefusesAnswer(1, UNKNOWN_JOB), Answers(2, b"\x2a"), Writes(ECHOED)], ..FRESH },
+    Row { name: "an answer behind that tick is refused, and the next request is answered", steps: &[FeedAt(TIMED, 5), TAKES_FIRST, Ticks(15), RefusesAnswer(1, UNKNOWN_JOB), StreamOf(1, None), Writes(TIMEOUT), NextDeadline(None), NextExpired(Some(1)), NextExpired(None), IsAlive, Feed(ASKED_BEHIND), Takes(2, 3, b"\x2b"), RefusesAnswer(1, UNKNOWN_JOB), Answers(2, b"\x2b"), Writes(ECHOED_BEHIND)], ..FRESH },
     Row { name: "a negative timeout is a long one", steps: &[FeedAt(NEGATIVE, 0), NextDeadline(Some(18446744073709551615)), Ticks(18446744073709551614), HasUnsent(false), Ticks(18446744073709551615), Writes(TIMEOUT), TakesNone], ..FRESH },
     Row { name: "no tick reaches a deadline above the greatest moment", steps: &[FeedAt(NEGATIVE, 1), NextDeadline(None), Ticks(18446744073709551615), HasUnsent(false), TAKES_FIRST], ..FRESH },
     Row { name: "a request without a timeout has no deadline", steps: &[FeedAt(ASKED, 0), NextDeadline(None), Ticks(18446744073709551615), HasUnsent(false), TAKES_FIRST], ..FRESH },
@@ -188,8 +267,8 @@ const DEADLINE_ROWS: &[Row] = &[
 const EXPIRY_ROWS: &[Row] = &[
     Row { name: "jobs expire by rising id, whatever the order of their deadlines", steps: &[FeedAt(FOUR_TIMED, 0), NextDeadline(Some(10)), TAKES_FIRST, Ticks(30), Writes(THREE_TIMEOUTS), Jobs(1, 0), NextDeadline(Some(99)), Takes(4, 7, b"\x2d"), NextExpired(Some(1)), NextExpired(None)], ..FRESH },
     Row { name: "taken and waiting jobs expire, and those that were taken are told of", steps: &[FeedAt(FOUR_TIMED, 0), TAKES_FIRST, Takes(2, 3, b"\x2b"), Ticks(20), Writes(TWO_TIMEOUTS), Jobs(1, 1), NextDeadline(Some(30)), Takes(4, 7, b"\x2d"), TakesNone, Ticks(99), Jobs(0, 0), NextExpired(Some(2)), NextExpired(Some(1)), NextExpired(Some(4)), NextExpired(None)], ..FRESH },
-    Row { name: "those that expired are let go where a job is made and none was left", steps: &[FeedAt(TIMED, 0), TAKES_FIRST, Ticks(10), FeedAt(TIMED, 10), NextExpired(None), Takes(2, 1, b"\x2a"), Ticks(20), NextExpired(Some(2))], ..FRESH },
-    Row { name: "and kept where one was left", steps: &[FeedAt(FOUR_TIMED, 0), TAKES_FIRST, Ticks(30), FeedAt(TIMED, 30), NextExpired(Some(1))], ..FRESH },
+    Row { name: "those that expired are let go where a job is made and none was left", steps: &[FeedAt(TIMED, 0), TAKES_FIRST, Ticks(10), FeedAt(TIMED_NINTH, 10), NextExpired(None), Takes(2, 9, b"\x2a"), Ticks(20), NextExpired(Some(2))], ..FRESH },
+    Row { name: "and kept where one was left", steps: &[FeedAt(FOUR_TIMED, 0), TAKES_FIRST, Ticks(30), FeedAt(TIMED_NINTH, 30), NextExpired(Some(1))], ..FRESH },
     Row { name: "nothing expires after a failure", steps: &[FeedAt(TIMED, 0), TAKES_FIRST, FailsBy("first"), NextDeadline(None), Ticks(10), StreamOf(1, Some(1)), NextExpired(None), HasUnsent(false)], ..FRESH },
 ];
 

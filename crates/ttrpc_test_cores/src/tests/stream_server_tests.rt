@@ -11,8 +11,8 @@ use crate::tests::script::Told::{self, Eof, LocalClosed, Others, RemoteClosed, S
 use crate::tests::script::{Cuts, FRESH, Row, Start};
 use crate::tests::servers::{ANSWERS_FIRST, EOF_ANSWER, LONG_ANSWER, TAKES_FIRST};
 use crate::tests::streams::{
-    FLAGGED_ITEM, GONE, IN_USE, INACTIVE, LAST_ITEM, OPENED, OPENED_AND_SENT, OPENED_THIRD,
-    THREE_OF_THIRD, TWO_ITEMS,
+    FLAGGED_ITEM, GONE, IN_USE, INACTIVE, LAST_ITEM, NOT_ABOVE, OPENED, OPENED_AND_SENT,
+    OPENED_THIRD, THREE_OF_THIRD, TWO_ITEMS,
 };
 use crate::tests::told::{DISCONNECTED, LONG, OTHER_RULES, PAST, SEALED_UP, UNKNOWN, UNKNOWN_JOB};
 use crate::tests::under_test::{Table, Tested, hold, hold_stamped};
@@ -108,7 +108,7 @@ const ITEM_ROWS: &[Row] = &[
     Row { name: "data behind the end are dropped", steps: &[Feed(OPENED), Feed(LAST_ITEM), Feed(DATA), Feed(CLOSE), Receives(1, b"z"), ReceivesError(1, RemoteClosed), Feed(DATA), ReceivesError(1, RemoteClosed), Writes(b"")], ..FRESH },
     Row { name: "data behind a request that ends are dropped", steps: &[Feed(ONLY_ITEM), Feed(DATA), Receives(1, b"\x2a"), ReceivesError(1, RemoteClosed), Writes(b"")], ..FRESH },
     Row { name: "other types do nothing", steps: &[Feed(OPENED), Feed(OTHER_TYPES), ReceivesNone(1), Writes(b""), IsAlive], ..FRESH },
-    Row { name: "the id of a stream is in use until it has ended", steps: &[Feed(OPENED), Feed(OPENED), Writes(IN_USE), TakesStream(1, 1), Feed(ASKED), Writes(IN_USE), TakesNone, Feed(LAST_ITEM), Feed(OPENED), Writes(IN_USE), EndsStream(1), Writes(CLOSE), Feed(OPENED), TakesStream(2, 1), Writes(b"")], ..FRESH },
+    Row { name: "the id of a stream is in use until it has ended, and is old then", steps: &[Feed(OPENED), Feed(OPENED), Writes(IN_USE), TakesStream(1, 1), Feed(ASKED), Writes(IN_USE), TakesNone, Feed(LAST_ITEM), Feed(OPENED), Writes(IN_USE), EndsStream(1), Writes(CLOSE), Feed(OPENED), Writes(NOT_ABOVE), TakesNone], ..FRESH },
     Row { name: "data of an ended stream are answered", steps: &[Feed(OPENED), TakesStream(1, 1), EndsStream(1), Writes(CLOSE), Feed(DATA), Writes(INACTIVE), ReceivesError(1, PAST)], ..FRESH },
     Row { name: "a name that is a method's and a stream's is a method's", steps: &[Feed(ASKED), TAKES_FIRST, ANSWERS_FIRST, Writes(ECHOED)], ..FRESH },
 ];

@@ -36,6 +36,9 @@ pub const GONE: &[u8] = b"\0\0\0\x0a\0\0\0\x01\x02\0\x0a\x08\x08\x05\x12\x04gone
 /// What answers data without a stream.
 pub const INACTIVE: &[u8] = b"\
     \0\0\0\x20\0\0\0\x01\x02\0\x0a\x1e\x08\x03\x12\x1aStream is no longer active";
+/// What answers a request under the first id, which was the newest.
+pub const NOT_ABOVE: &[u8] = b"\
+    \0\0\0\x20\0\0\0\x01\x02\0\x0a\x1e\x08\x03\x12\x1astream id 1 is not above 1";
 /// What answers a request whose id has an active job.
 pub const IN_USE: &[u8] = b"\
     \0\0\0\x1b\0\0\0\x01\x02\0\x0a\x19\x08\x03\x12\x15stream id 1 is in use";

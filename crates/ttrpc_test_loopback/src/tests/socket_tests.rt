@@ -1,5 +1,5 @@
 //! A polled server's connections over loopback, at clients that speak by hand.
-use crate::tests::peers::{ASKED, Connects, ECHOED, Exchange, SERVED, calls, talks};
+use crate::tests::peers::{ASKED, Connects, Exchange, SERVED, calls, talks};
 use crate::tests::polled::start_polled;
 use std::alloc::AllocGlobal;
 use std::fs::File;
@@ -15,17 +15,19 @@ const NO_METHOD: &[u8] = b"\0\0\0\x11\0\0\0\x01\x01\0\x0a\x09demo.Echo\x12\x04No
 
 const ANSWER_TO_NO_METHOD: &[u8] = b"\0\0\0\x11\0\0\0\x01\x02\0\x0a\x0f\x08\x0c\x12\x0bNope method";
 
-/// A request twice, and the answers: to the second, and to the first.
+/// A request of stream 3 twice, and the answers: to the second, and to the first.
 const TWICE: &[u8] = b"\
-    \0\0\0\x14\0\0\0\x01\x01\0\x0a\x09demo.Echo\x12\x04Echo\x1a\x01\x2a\
-    \0\0\0\x14\0\0\0\x01\x01\0\x0a\x09demo.Echo\x12\x04Echo\x1a\x01\x2a";
+    \0\0\0\x14\0\0\0\x03\x01\0\x0a\x09demo.Echo\x12\x04Echo\x1a\x01\x2a\
+    \0\0\0\x14\0\0\0\x03\x01\0\x0a\x09demo.Echo\x12\x04Echo\x1a\x01\x2a";
 
-const IN_USE: &[u8] = b"\0\0\0\x1b\0\0\0\x01\x02\0\x0a\x19\x08\x03\x12\x15stream id 1 is in use";
+const IN_USE: &[u8] = b"\0\0\0\x1b\0\0\0\x03\x02\0\x0a\x19\x08\x03\x12\x15stream id 3 is in use";
+
+const ECHOED_THIRD: &[u8] = b"\0\0\0\x05\0\0\0\x03\x02\0\x0a\0\x12\x01\x2a";
 
 const EXCHANGES: &[Exchange] = &[
     (NO_METHOD, ANSWER_TO_NO_METHOD),
     (TWICE, IN_USE),
-    (b"", ECHOED),
+    (b"", ECHOED_THIRD),
 ];
 
 #[test]
