@@ -2,7 +2,9 @@
 
 /// The core of a client.
 pub mod client {
-    pub use ttrpc_client::{CallId, ClientCore, ClientKind, StreamId, Ticket};
+    pub use ttrpc_client::{
+        CallId, ClientCore, ClientKind, Looks, Pending, PendingId, StreamId, Ticket,
+    };
 }
 
 /// The core of a server.

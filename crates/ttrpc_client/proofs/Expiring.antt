@@ -28,6 +28,14 @@ id_fits next calls id call valid is =
       | inr not ↦ absurd (some (valid.fresh id (omega (arith, not))))
     ]
 
+-- so none is due above
+pub none_above : (next : ℕ) (calls : List (ℕ × Call)) (id now : ℕ) → IsClient next calls → 2 ^ 32 ≤ id → due_at now (call_in calls id) ≡ false
+none_above next calls id now valid above = by (call_in calls id) refl
+  where
+    by : (call : Option Call) → call_in calls id ≡ call → due_at now call ≡ false
+    by None is = refl
+    by (Some call) is = absurd (let fits = id_fits next calls id call valid is in omega (arith, fits, above))
+
 -- ---- none is due
 
 none_of : (now : ℕ) (es : List (ℕ × Call)) → AllByRecursion (λ call. is_due now call ≡ false) (values_of es) → due_ids now es ≡ []

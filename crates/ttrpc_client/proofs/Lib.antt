@@ -11,3 +11,5 @@ pub mod Turning
 pub mod Once
 pub mod Throwing
 pub mod Queueing
+pub mod Places
+pub mod Searching

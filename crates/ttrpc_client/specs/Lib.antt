@@ -6,3 +6,4 @@ pub mod Streaming
 pub mod Kept
 pub mod Inside
 pub mod Calls
+pub mod pending

@@ -17,6 +17,7 @@ ghost use Rattle.ttrpc_client.specs.declared.streams.Stream.{Stream as AStream};
 use crate::call::{Call, CallId, waits_until};
 use crate::kind::ClientKind;
 use crate::landing::{News, Outcome, news_of, outcome_of};
+use crate::pending::Pending;
 use crate::streams::{Stream, StreamId, Streams};
 use std::alloc::{AllocError, Global};
 use std::collections::{BTreeSet, VecDeque};
@@ -25,7 +26,6 @@ use ttrpc_connection::deadlines::Deadlines;
 use ttrpc_connection::{Arrived, Failure, Outbox, Reacts};
 use ttrpc_proto::Error;
 use ttrpc_secure::OutboundTransform;
-use ttrpc_table::Table;
 use ttrpc_wire::Blob;
 
 /// How far ids go.
@@ -36,7 +36,7 @@ const LAST_ID: u64 = 4294967295;
 pub struct ClientState {
     kind: ClientKind,
     next: u64,
-    calls: Table<Call>,
+    calls: Pending<Call>,
     // Those of the calls that wait.
     deadlines: Deadlines,
     // Has room for each call that waits, too, so that one can always end.
@@ -51,20 +51,21 @@ impl Model for ClientState {
     ghost use Rattle.ttrpc_client.specs.State.{Client};
     ghost use Rattle.ttrpc_client.specs.Kept.{IsKept};
     ghost use Rattle.ttrpc_client.specs.Streams.{AreStreams};
+    ghost use Rattle.ttrpc_client.specs.pending.Places.{entries_in};
 
     ghost Value = { Client };
 
     ghost view = { λ a. record {
       kind = a.kind;
       next = a.next;
-      calls = a.calls;
+      calls = entries_in a.calls;
       ended = a.ended.items;
       streams = a.streams;
       heard = a.heard.keys;
     } };
 
-    ghost invariant = { λ a. IsKept a.next a.calls a.deadlines a.ended.items (deque_len a.ended) (deque_capacity a.ended)
-        × AreStreams a.next a.calls a.streams };
+    ghost invariant = { λ a. IsKept a.next (entries_in a.calls) a.deadlines a.ended.items (deque_len a.ended) (deque_capacity a.ended)
+        × AreStreams a.next (entries_in a.calls) a.streams };
 }
 
 impl ClientState {
@@ -76,7 +77,7 @@ impl ClientState {
         ClientState {
             kind,
             next: u64::from(id),
-            calls: Table::new(alloc),
+            calls: Pending::new(alloc),
             deadlines: Deadlines::new(alloc),
             ended: VecDeque::new(alloc),
             streams: Streams::new(alloc),
@@ -117,11 +118,7 @@ impl ClientState {
     {
         self.ended.reserve(self.calls.len() + 1)?;
         self.deadlines.add(u64::from(id), deadline)?;
-        if self
-            .calls
-            .insert(u64::from(id), Call::Waiting(deadline))
-            .is_err()
-        {
+        if self.calls.push_last(id, Call::Waiting(deadline)).is_err() {
             self.deadlines.take_away(u64::from(id), deadline);
             return Err(AllocError);
         }
@@ -144,7 +141,7 @@ impl ClientState {
         ensures was { result ≡ call_at self.old id }
         ensures leaves { Leaves self.old id self.new }
     {
-        let call = self.calls.remove(u64::from(id));
+        let call = self.calls.remove(id);
         self.deadlines.take_away(u64::from(id), waits_until(&call));
         if self.calls.is_empty() {
             self.ended.clear();
@@ -158,7 +155,7 @@ impl ClientState {
         ensures given { result ≡ given_of failed (call_at self.old id) }
         ensures takes { Takes failed self.old id self.new }
     {
-        match self.calls.get(u64::from(id)) {
+        match self.calls.get(id) {
             None => None,
             Some(Call::Waiting(_)) if !failed => None,
             Some(Call::Waiting(_) | Call::Expired | Call::Ended(_)) => self.forget(id),
@@ -170,7 +167,10 @@ impl ClientState {
         ensures { result ≡ due_at now (call_at self.now id) }
     {
         let calls = &self.calls;
-        calls.get(id).is_some_and(|call| call.is_due(now))
+        match u32::try_from(id) {
+            Ok(id) => calls.get(id).is_some_and(|call| call.is_due(now)),
+            Err(_) => false,
+        }
     }
 
     /// The calls that are due at this moment expire. Takes no memory.
@@ -217,7 +217,7 @@ impl ClientState {
     fn waits(&self, id: CallId) -> bool
         ensures { result ≡ waits (call_at self.now id) }
     {
-        matches!(self.calls.get(u64::from(id)), Some(Call::Waiting(_)))
+        matches!(self.calls.get(id), Some(Call::Waiting(_)))
     }
 
     /// Ends a waiting call in this way, and lists it as ended. Takes no memory.
@@ -226,9 +226,7 @@ impl ClientState {
         requires ended { waits (Some call) ≡ false }
         ensures { Settles self.old id call self.new }
     {
-        let Ok(was) = self.calls.insert(u64::from(id), call) else {
-            unreachable!();
-        };
+        let was = self.calls.replace(id, call);
         self.deadlines.take_away(u64::from(id), waits_until(&was));
         match self.ended.push_back(id) {
             Ok(()) => {}

@@ -1,12 +1,13 @@
 use Rattle.ttrpc_client.proofs.Words.{◌≡◌, ◌+◌, ◌-◌, ◌∙◌, None, ap, call_in, is_at, nat_cmp, remove_entry, Client}
 use Rattle.ttrpc_client.proofs.Entered.{client_below, gone_stream, stream_withdrawn, streams_below}
+use Rattle.ttrpc_client.specs.pending.Places.{entries_in}
 use Rattle.ttrpc_client.proofs.state.ClientState.withdraw_stream.Goals as goal
 
 pub invariant_of-self : goal.invariant_of-self
 invariant_of-self c =
     let kept = c.self.invariant.0 in
     let next : c.self.inside.next ≡ c.args.id + 2 = rw (← c.self.view_is) at c.requires.last in
-    let none : call_in c.self.inside.calls c.args.id ≡ None = rw (← c.self.view_is) at c.requires.stream in (
+    let none : call_in (entries_in c.self.inside.calls) c.args.id ≡ None = rw (← c.self.view_is) at c.requires.stream in (
       record {
         valid = client_below _ c.args.id _ kept.valid next none;
         ordered = kept.ordered;
