@@ -21,6 +21,22 @@ pub fn calls_last_first<C: Client>(alloc: Global, core: &mut C, count: u32) -> M
     )
 }
 
+/// So many calls without a deadline are made, and every second one is dropped. Answers to all come, the last first: each
+/// call that is left is told of in that order and has its own outcome, and the other answers change nothing.
+pub fn calls_half_dropped<C: Client>(alloc: Global, core: &mut C, count: u32) -> Met {
+    let request = usual_request(alloc, 0)?;
+    if !calls(alloc, core, &request, count)? {
+        return Ok(false);
+    }
+    drops_half(core, count);
+    Ok(
+        answers_last_first(alloc, core, count)?
+            && tells_half(core, count)
+            && gives_half(alloc, core, count)?
+            && core.failure(alloc).is_none(),
+    )
+}
+
 /// So many calls are made, each due a nanosecond behind the one before, and all expire by the tick at which the last is
 /// due: each is told of and has its outcome, and no request leaves.
 pub fn calls_expire_at_once<C: Client>(alloc: Global, core: &mut C, count: u32) -> Met {
@@ -88,6 +104,46 @@ fn gives_each<C: Client>(alloc: Global, core: &mut C, count: u32) -> Met {
         let id = id_of(number);
         let [_, _, _, d] = id.to_be_bytes();
         if !gives(alloc, core, id, true, d)? {
+            return Ok(false);
+        }
+    }
+    Ok(true)
+}
+
+/// Whether the call, of those from 0 on, is one of every second that is dropped.
+fn is_dropped(number: u32) -> bool {
+    number % 2 == 1
+}
+
+fn drops_half<C: Client>(core: &mut C, count: u32) {
+    for number in 0..count {
+        if is_dropped(number) {
+            core.drop_call(id_of(number));
+        }
+    }
+}
+
+/// Those that are left are told of, the last first, and no others.
+fn tells_half<C: Client>(core: &mut C, count: u32) -> bool {
+    for number in (0..count).rev() {
+        if !is_dropped(number) && core.next_ended() != Some(id_of(number)) {
+            return false;
+        }
+    }
+    core.next_ended().is_none()
+}
+
+/// Those that are left have their own outcomes, and no others have one.
+fn gives_half<C: Client>(alloc: Global, core: &mut C, count: u32) -> Met {
+    for number in 0..count {
+        let id = id_of(number);
+        let [_, _, _, d] = id.to_be_bytes();
+        let is_met = if is_dropped(number) {
+            core.take_outcome(alloc, id).is_none()
+        } else {
+            gives(alloc, core, id, true, d)?
+        };
+        if !is_met {
             return Ok(false);
         }
     }

@@ -1,6 +1,6 @@
 //! The steps of a client.
 use crate::tests::client::{ANSWERED, CLOSE};
-use crate::tests::client_numbers::{calls_expire_at_once, calls_last_first};
+use crate::tests::client_numbers::{calls_expire_at_once, calls_half_dropped, calls_last_first};
 use crate::tests::script::{Step, Told};
 use crate::tests::steps::{feeds, lends, tells};
 use crate::tests::stream_steps::stream_step;
@@ -27,6 +27,7 @@ pub fn client_step<C: Streaming>(alloc: Global, core: &mut C, step: &Step) -> Me
         Step::NextEnded(id) => Ok(core.next_ended() == id),
         Step::NextDeadline(at) => Ok(core.next_deadline() == at),
         Step::CallsLastFirst(count) => calls_last_first(alloc, core, count),
+        Step::CallsHalfDropped(count) => calls_half_dropped(alloc, core, count),
         Step::CallsExpireAtOnce(count) => calls_expire_at_once(alloc, core, count),
         Step::DropsCall(id) => {
             core.drop_call(id);

@@ -19,6 +19,15 @@ const ANSWERED: &[Table<ClientKind>] = &[(
     }],
 )];
 
+const HALF_DROPPED: &[Table<ClientKind>] = &[(
+    BOTH_KINDS,
+    &[Row {
+        name: "of calls of which half are dropped each other one has its own outcome",
+        steps: &[CallsHalfDropped(MANY), IsAlive],
+        ..FRESH
+    }],
+)];
+
 const EXPIRING: &[Table<ClientKind>] = &[(
     ASYNC_KIND,
     &[Row {
@@ -93,6 +102,11 @@ const FOR_NOBODY: &[Table<ClientKind>] = &[(
 #[test]
 fn calls_are_answered(rt: HostRuntime) -> Tested {
     hold::<PlainClient>(&rt, rt.alloc(), ANSWERED)
+}
+
+#[test]
+fn calls_are_dropped(rt: HostRuntime) -> Tested {
+    hold::<PlainClient>(&rt, rt.alloc(), HALF_DROPPED)
 }
 
 #[test]

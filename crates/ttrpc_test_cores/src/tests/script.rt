@@ -167,6 +167,8 @@ pub enum Step {
     NextEnded(Option<u32>),
     /// So many calls are made and answered, the last first.
     CallsLastFirst(u32),
+    /// So many calls are made, every second one is dropped, and answers to all come, the last first.
+    CallsHalfDropped(u32),
     /// So many calls are made, and all expire by one tick.
     CallsExpireAtOnce(u32),
 

@@ -1,15 +1,17 @@
 //! The client core over halves that stamp, that refuse, and that open to more than a message may have.
 use crate::tests::client::ANSWERED;
 use crate::tests::clients::{CALLS_FIRST, CALLS_FIRST_IN_TIME, CALLS_SECOND, CALLS_SECOND_IN_TIME};
+use crate::tests::halves::OpensOnly;
 use crate::tests::kinds::{
     ASYNC_KIND, BOTH_KINDS, SYNC_KIND, SealedClient, StampedClient, SwellingClient,
 };
-use crate::tests::script::Step::*;
+use crate::tests::script::Step::{self, *};
 use crate::tests::script::Told::{self, Others};
 use crate::tests::script::{FRESH, Row, Start};
 use crate::tests::told::{LONG, SEALED_UP};
 use crate::tests::under_test::{Table, Tested, hold};
-use ttrpc_client::ClientKind;
+use ttrpc_client::{ClientCore, ClientKind};
+use ttrpc_secure::Plain;
 
 const STAMPS: &[Table<ClientKind>] = &[(BOTH_KINDS, STAMP_ROWS), (ASYNC_KIND, ASYNC_STAMP_ROWS)];
 
@@ -85,6 +87,23 @@ const ASYNC_SEALED_ROWS: &[Row] = &[
     Row { name: "a request that is not sealed is refused for the half's reason", start: Start::Room(4194304), steps: &[RefusesFirstCall(SEALED_UP)], ..FRESH },
 ];
 
+const TAKEN_BACK: &[Table<ClientKind>] = &[(BOTH_KINDS, TAKEN_BACK_ROWS)];
+
+/// A request with nine bytes 7 is as long as the half seals, and one with eight is shorter.
+const CALLS_SHORT: Step = CallsSevens(9, 1);
+
+/// Responses to the first three calls, the last first, with the payloads 2c, 2b and 2a.
+const THREE_ANSWERED: &[u8] = b"\
+    \0\0\0\x05\0\0\0\x05\x02\0\x0a\0\x12\x01\x2c\
+    \0\0\0\x05\0\0\0\x03\x02\0\x0a\0\x12\x01\x2b\
+    \0\0\0\x05\0\0\0\x01\x02\0\x0a\0\x12\x01\x2a";
+
+#[rattlefmt::skip]
+const TAKEN_BACK_ROWS: &[Row] = &[
+    Row { name: "a call that is taken back is made again, and has the same id and its own outcome", steps: &[RefusesSevens(8, SEALED_UP), CALLS_SHORT, RefusesSevens(8, SEALED_UP), CallsSevens(9, 3), CallsSevens(9, 5), Feed(THREE_ANSWERED), Gives(3, true, 0x2b), Gives(1, true, 0x2a), Gives(5, true, 0x2c), IsAlive], ..FRESH },
+    Row { name: "so it has behind calls that are dropped", steps: &[CALLS_SHORT, CallsSevens(9, 3), DropsCall(1), RefusesSevens(8, SEALED_UP), CallsSevens(9, 5), DropsCall(5), RefusesSevens(8, SEALED_UP), CallsSevens(9, 7), Feed(THREE_ANSWERED), Gives(3, true, 0x2b), Waits(1), Waits(5), Waits(7), IsAlive], ..FRESH },
+];
+
 #[test]
 fn stamps_are_given_and_looked_at(rt: HostRuntime) -> Tested {
     hold::<StampedClient>(&rt, rt.alloc(), STAMPS)
@@ -98,4 +117,9 @@ fn payloads_that_open_too_long_end_their_calls(rt: HostRuntime) -> Tested {
 #[test]
 fn requests_that_are_not_sealed_are_refused(rt: HostRuntime) -> Tested {
     hold::<SealedClient>(&rt, rt.alloc(), SEALED)
+}
+
+#[test]
+fn calls_that_are_taken_back_are_made_again(rt: HostRuntime) -> Tested {
+    hold::<ClientCore<OpensOnly, Plain>>(&rt, rt.alloc(), TAKEN_BACK)
 }
