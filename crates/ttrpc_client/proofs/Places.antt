@@ -64,14 +64,6 @@ module _ {Y : Type 0} where
   inserted_last id y [] under = refl
   inserted_last id y (p ∷ ps) under = let above = greater id p.0 (ranked p.0 id Less (sym under.0)) in rw (above, inserted_last id y ps under.1) refl
 
-  keys_set : (id : ℕ) (y z : Y) (ps : List (ℕ × Y)) (i : ℕ) → slice_get ps i ≡ Some (id, y) → keys_of (slice_set ps i (id, z)) ≡ keys_of ps
-  keys_set id y z [] i here = refl
-  keys_set id y z (p ∷ ps) zero here = let is : p ≡ (id, y) = cc in rw is refl
-  keys_set id y z (p ∷ ps) (suc i) here = ap (λ ks. p.0 ∷ ks) (keys_set id y z ps i here)
-
-  rise_set : (id : ℕ) (y z : Y) (ps : List (ℕ × Y)) (i : ℕ) → Rise ps → slice_get ps i ≡ Some (id, y) → Rise (slice_set ps i (id, z))
-  rise_set id y z ps i rise here = subst (IsStrictlySortedBy nat_cmp) (sym (keys_set id y z ps i here)) rise
-
   -- nothing is kept from an id on, so all ids are below it
   behind : (k : ℕ) (p : ℕ × Y) (ps : List (ℕ × Y)) → lookup (is_at (nat_cmp k)) (p ∷ ps) ≡ None → lookup (is_at (nat_cmp k)) ps ≡ None
   behind k p ps none = elim (cases_Bool (is_at (nat_cmp k) p.0)) [
@@ -176,43 +168,38 @@ module _ {X : Type 0} where
 
   -- ---- a place is emptied, or gets something else
 
-  emptied : (id : ℕ) (x : X) (ps : List (ℕ × Option X)) (i : ℕ) → Rise ps → slice_get ps i ≡ Some (id, Some x)
-      → entries_in (slice_set ps i (id, None)) ≡ remove_entry (is_at (nat_cmp id)) (entries_in ps)
+  -- what changes where the entry of an id is taken out of a place, or another is put there
+  record IsSet (id : ℕ) (ps : List (ℕ × Option X)) (i : ℕ) : Type 0 where
+    emptied : entries_in (slice_set ps i (id, None)) ≡ remove_entry (is_at (nat_cmp id)) (entries_in ps)
+    refilled : (y : X) → entries_in (slice_set ps i (id, Some y)) ≡ insert_entry nat_cmp (entries_in ps) id y
+    ids : (o : Option X) → keys_of (slice_set ps i (id, o)) ≡ keys_of ps
+    fewer : length (entries_in (slice_set ps i (id, None))) + 1 ≡ length (entries_in ps)
+    as_many : (y : X) → length (entries_in (slice_set ps i (id, Some y))) ≡ length (entries_in ps)
+
+  is_set : (id : ℕ) (x : X) (ps : List (ℕ × Option X)) (i : ℕ) → Rise ps → slice_get ps i ≡ Some (id, Some x) → IsSet id ps i
   unfolding IsStrictlySortedBy
-  emptied id x [] i rise here = absurd (cc)
-  emptied id x (p ∷ ps) zero rise here = let is : p ≡ (id, Some x) = cc in rw (is, same id) refl
-  emptied id x (p ∷ ps) (suc i) rise here =
+  is_set id x [] i rise here = absurd (cc)
+  is_set id x (p ∷ ps) zero rise here =
+      let is : p ≡ (id, Some x) = cc in
+      rw is (record { emptied = rw (same id) refl; refilled = λ y. rw (same id) refl; ids = λ o. refl; fewer = omega arith; as_many = λ y. refl })
+  is_set id x (p ∷ ps) (suc i) rise here =
       let above = greater id p.0 (under_at p.0 id (Some x) ps i rise.0 here) in
-      elim p.1 as (λ o. entry_before p.0 o (entries_in (slice_set ps i (id, None))) ≡ remove_entry (is_at (nat_cmp id)) (entry_before p.0 o (entries_in ps))) [
-        | None ↦ emptied id x ps i rise.1 here
-        | Some y ↦ rw above (ap (λ es. (p.0, y) ∷ es) (emptied id x ps i rise.1 here))
+      let more = is_set id x ps i rise.1 here in
+      let fewer = more.fewer in
+      let ids = λ (o : Option X). ap (λ ks. p.0 ∷ ks) (more.ids o) in
+      elim p.1 as (λ o. IsSet id ((p.0, o) ∷ ps) (suc i)) [
+        | None ↦ record { emptied = more.emptied; refilled = more.refilled; ids = ids; fewer = fewer; as_many = more.as_many }
+        | Some z ↦ record {
+          emptied = rw above (ap (λ es. (p.0, z) ∷ es) more.emptied);
+          refilled = λ y. rw above (ap (λ es. (p.0, z) ∷ es) (more.refilled y));
+          ids = ids;
+          fewer = omega (arith, fewer);
+          as_many = λ y. let as_many = more.as_many y in omega (arith, as_many);
+        }
       ]
 
-  refilled : (id : ℕ) (x y : X) (ps : List (ℕ × Option X)) (i : ℕ) → Rise ps → slice_get ps i ≡ Some (id, Some x)
-      → entries_in (slice_set ps i (id, Some y)) ≡ insert_entry nat_cmp (entries_in ps) id y
-  unfolding IsStrictlySortedBy
-  refilled id x y [] i rise here = absurd (cc)
-  refilled id x y (p ∷ ps) zero rise here = let is : p ≡ (id, Some x) = cc in rw (is, same id) refl
-  refilled id x y (p ∷ ps) (suc i) rise here =
-      let above = greater id p.0 (under_at p.0 id (Some x) ps i rise.0 here) in
-      elim p.1 as (λ o. entry_before p.0 o (entries_in (slice_set ps i (id, Some y))) ≡ insert_entry nat_cmp (entry_before p.0 o (entries_in ps)) id y) [
-        | None ↦ refilled id x y ps i rise.1 here
-        | Some z ↦ rw above (ap (λ es. (p.0, z) ∷ es) (refilled id x y ps i rise.1 here))
-      ]
-
-  count_set : (id : ℕ) (x : X) (o : Option X) (ps : List (ℕ × Option X)) (i : ℕ) → slice_get ps i ≡ Some (id, Some x)
-      → length (entries_in (slice_set ps i (id, o))) + 1 ≡ length (entries_in ps) + length (entry_before id o [])
-  count_set id x o [] i here = absurd (cc)
-  count_set id x o (p ∷ ps) zero here = let is : p ≡ (id, Some x) = cc in rw is (elim o as (λ o. length (entry_before id o (entries_in ps)) + 1 ≡ length (entry_before id (Some x) (entries_in ps)) + length (entry_before id o [])) [
-    | None ↦ omega arith
-    | Some y ↦ omega arith
-  ])
-  count_set id x o (p ∷ ps) (suc i) here =
-      let more = count_set id x o ps i here in
-      elim p.1 as (λ q. length (entry_before p.0 q (entries_in (slice_set ps i (id, o)))) + 1 ≡ length (entry_before p.0 q (entries_in ps)) + length (entry_before id o [])) [
-        | None ↦ more
-        | Some z ↦ omega (arith, more)
-      ]
+  set_rises : (id : ℕ) (o : Option X) (ps : List (ℕ × Option X)) (i : ℕ) → Rise ps → IsSet id ps i → Rise (slice_set ps i (id, o))
+  set_rises id o ps i rise set = subst (IsStrictlySortedBy nat_cmp) (sym (set.ids o)) rise
 
   -- ---- the last place
 
@@ -283,14 +270,14 @@ module _ {X : Type 0} where
   pub put_back : (id place taken : ℕ) (x y : X) (ps qs : List (ℕ × Option X)) → ArePlaces ps × (taken ≡ length (entries_in ps)) → slice_get ps place ≡ Some (id, Some x)
       → qs ≡ slice_set ps place (id, Some y) → IsPut id y taken ps qs
   put_back id place taken x y ps qs kept here is =
-      let count = count_set id x (Some y) ps place here in
+      let set = is_set id x ps place kept.0.rise here in let count = set.as_many y in
       let few = kept.0.few in let was = kept.1 in
       let are : ArePlaces (slice_set ps place (id, Some y)) = record {
-        rise = rise_set id (Some x) (Some y) ps place kept.0.rise here;
+        rise = set_rises id (Some y) ps place kept.0.rise set;
         last = ends_refilled id y ps place kept.0.last;
         few = omega (arith, few, count, length-set ps place (id, Some y));
       } in
-      record { entries = ap entries_in is ∙ refilled id x y ps place kept.0.rise here; kept = seen _ qs taken (sym is) (are, omega (arith, was, count)) }
+      record { entries = ap entries_in is ∙ set.refilled y; kept = seen _ qs taken (sym is) (are, omega (arith, was, count)) }
 
   -- ---- empty places are taken out
 
@@ -320,40 +307,30 @@ module _ {X : Type 0} where
   some_last [] empty = cc
   some_last (p ∷ ps) empty = omega arith
 
-  ids_kept : (ps : List (ℕ × Option X)) → keys_of (filter is_taken ps) ≡ keys_of (entries_in ps)
-  ids_kept [] = refl
-  ids_kept (p ∷ ps) = elim p.1 as (λ o. keys_of (cond (is_some o) ((p.0, o) ∷ filter is_taken ps) (filter is_taken ps)) ≡ keys_of (entry_before p.0 o (entries_in ps))) [
-    | None ↦ ids_kept ps
-    | Some x ↦ ap (λ ks. p.0 ∷ ks) (ids_kept ps)
-  ]
-
-  entries_kept : (ps : List (ℕ × Option X)) → entries_in (filter is_taken ps) ≡ entries_in ps
-  entries_kept [] = refl
-  entries_kept (p ∷ ps) = elim p.1 as (λ o. entries_in (cond (is_some o) ((p.0, o) ∷ filter is_taken ps) (filter is_taken ps)) ≡ entry_before p.0 o (entries_in ps)) [
-    | None ↦ entries_kept ps
-    | Some x ↦ ap (λ es. (p.0, x) ∷ es) (entries_kept ps)
-  ]
-
   ends_before : (id : ℕ) (x : X) (ps : List (ℕ × Option X)) → ends_empty ps ≡ false → ends_empty ((id, Some x) ∷ ps) ≡ false
   ends_before id x [] taken = refl
   ends_before id x (p ∷ ps) taken = taken
 
-  ends_kept : (ps : List (ℕ × Option X)) → ends_empty (filter is_taken ps) ≡ false
-  ends_kept [] = refl
-  ends_kept (p ∷ ps) = elim p.1 as (λ o. ends_empty (cond (is_some o) ((p.0, o) ∷ filter is_taken ps) (filter is_taken ps)) ≡ false) [
-    | None ↦ ends_kept ps
-    | Some x ↦ ends_before p.0 x (filter is_taken ps) (ends_kept ps)
+  -- what is left where all empty places are taken out
+  abbrev AreLeft : List (ℕ × Option X) → List (ℕ × X) → Type 0
+  AreLeft places entries = (entries_in places ≡ entries) × (keys_of places ≡ keys_of entries) × (ends_empty places ≡ false)
+
+  are_left : (ps : List (ℕ × Option X)) → AreLeft (filter is_taken ps) (entries_in ps)
+  are_left [] = (refl, refl, refl)
+  are_left (p ∷ ps) = let left = are_left ps in elim p.1 as (λ o. AreLeft (cond (is_some o) ((p.0, o) ∷ filter is_taken ps) (filter is_taken ps)) (entry_before p.0 o (entries_in ps))) [
+    | None ↦ left
+    | Some x ↦ (ap (λ es. (p.0, x) ∷ es) left.0, ap (λ ks. p.0 ∷ ks) left.1, ends_before p.0 x (filter is_taken ps) left.2)
   ]
 
   -- as many as there are entries
   pub count_kept : (ps : List (ℕ × Option X)) → length (filter is_taken ps) ≡ length (entries_in ps)
-  count_kept ps = sym (length-keys_of (filter is_taken ps)) ∙ ap length (ids_kept ps) ∙ length-keys_of (entries_in ps)
+  count_kept ps = sym (length-keys_of (filter is_taken ps)) ∙ ap length (are_left ps).1 ∙ length-keys_of (entries_in ps)
 
   pub kept_taken : (ps : List (ℕ × Option X)) → IsTrimmed ps (filter is_taken ps)
   kept_taken ps = record {
-    entries = entries_kept ps;
-    rise = λ rise. subst (IsStrictlySortedBy nat_cmp) (sym (ids_kept ps)) (rise_entries ps rise);
-    last = ends_kept ps;
+    entries = (are_left ps).0;
+    rise = λ rise. subst (IsStrictlySortedBy nat_cmp) (sym (are_left ps).1) (rise_entries ps rise);
+    last = (are_left ps).2;
     few = omega (arith, count_kept ps, few_entries ps);
   }
 
@@ -366,13 +343,13 @@ module _ {X : Type 0} where
       → ms ≡ slice_set ps place (id, None) → IsTrimmed ms qs → (taken - 1 ≡ length (entries_in ms) → length qs ≤ 2 * (taken - 1)) → IsLess id (taken - 1) ps qs
   removed id place taken x ps ms qs kept here is trimmed few =
       let was = kept.1 in
-      let fewer = count_set id x None ps place here in
+      let set = is_set id x ps place kept.0.rise here in let fewer = set.fewer in
       let same_count = ap (λ l. length (entries_in l)) is in
       let left : taken - 1 ≡ length (entries_in ms) = omega (arith, was, fewer, same_count) in
       let kept_count = ap length trimmed.entries in
       let are : ArePlaces qs = record {
-        rise = trimmed.rise (subst Rise (sym is) (rise_set id (Some x) None ps place kept.0.rise here));
+        rise = trimmed.rise (subst Rise (sym is) (set_rises id None ps place kept.0.rise set));
         last = trimmed.last;
         few = omega (arith, few left, left, kept_count);
       } in
-      record { entries = trimmed.entries ∙ ap entries_in is ∙ emptied id x ps place kept.0.rise here; kept = (are, left ∙ sym kept_count) }
+      record { entries = trimmed.entries ∙ ap entries_in is ∙ set.emptied; kept = (are, left ∙ sym kept_count) }

@@ -26,12 +26,12 @@ module _ {X : Type 0} where
   abbrev pub call_of : List (ℕ × Option X) → ℕ → Option X
   call_of places id = lookup (is_at (nat_cmp id)) (entries_in places)
 
-  -- what stands at a place that is there
+  -- what is kept at a place, if there is one
   abbrev pub standing : Option (ℕ × Option X) → Option X
   standing None = None
   standing (Some p) = p.1
 
-  -- what is kept at a place
+  -- what is kept at the place of this number
   abbrev pub call_there : List (ℕ × Option X) → ℕ → Option X
   call_there places place = standing (slice_get places place)
 
@@ -49,7 +49,8 @@ module _ {X : Type 0} where
   ends_empty (p ∷ []) = is_none p.1
   ends_empty (p ∷ q ∷ places) = ends_empty (q ∷ places)
 
-  -- What holds of the places of every `Pending`.
+  -- What holds of the places of every `Pending`: their ids rise, the last isn't empty, and they are at most one more than
+  -- twice the entries.
   pub record ArePlaces (places : List (ℕ × Option X)) : Type 0 where
     pub rise : Rise places
     pub last : ends_empty places ≡ false

@@ -19,7 +19,8 @@ use std::marker::Model;
 use std::mem::replace;
 use ttrpc_proto::Result;
 
-/// What is kept of pending calls, by rising id. Contracts see the places, of which some are empty.
+/// What is kept of pending calls, by rising id. Contracts see the places, of which some are empty. Only `push_last` takes
+/// memory.
 #[derive(Drop)]
 pub struct Pending<T> {
     places: Vec<(PendingId, Option<T>)>,
@@ -42,7 +43,7 @@ impl<T> Model for Pending<T> {
 }
 
 impl<T> Pending<T> {
-    /// Returns one without entries. Takes no memory.
+    /// Returns one without entries.
     pub fn new(alloc: Global) -> Self
         ensures { result ≡ [] }
     {
@@ -108,16 +109,20 @@ impl<T> Pending<T> {
         self.at(place)
     }
 
-    /// Adds an entry behind all others. An `Err` changes nothing.
+    /// Adds an entry behind all others, whose ids are below. An `Err` changes nothing.
     pub fn push_last(&mut self, id: u32, call: T) -> Result<()>
     where
         T: Drop,
         requires { (k : ℕ) → id ≤ k → call_of self.old k ≡ None }
+
+        // It has the last place, and the greatest id.
         ensures ok { OnOk result (self.new ≡ self.old ++ (id, Some call) ∷ []) }
         ensures entries { OnOk result (entries_in self.new ≡ insert_entry nat_cmp (entries_in self.old) id call) }
+        ensures rise { Rise (entries_in self.new) }
+
+        // An `Err` changes nothing.
         ensures err { OnErr result (self.new ≡ self.old) }
         ensures only_memory { IfErr result (λ e. e ≡ Error.NoMemory) }
-        ensures rise { Rise (entries_in self.new) }
     {
         self.places.push((PendingId::new(id), Some(call)))?;
         self.taken += 1;
