@@ -6,7 +6,7 @@ use crate::tests::steps::leaves;
 use crate::tests::under_test::{Client, End, Met};
 use std::alloc::Global;
 use ttrpc_proto::Request;
-use ttrpc_wire::values::slices::behind;
+use ttrpc_wire::values::slices::{behind, front};
 
 /// So many calls are made and written before the first is answered. The last is answered first, with its own id's lowest
 /// byte, which is told in that order, and each has its own outcome.
@@ -21,11 +21,12 @@ pub fn calls_last_first<C: Client>(alloc: Global, core: &mut C, count: u32) -> M
     )
 }
 
-/// So many calls without a deadline are made, and every second one is dropped. Answers to all come, the last first: each
-/// call that is left is told of in that order and has its own outcome, and the other answers change nothing.
+/// So many calls without a deadline are made and written, and every second one is dropped. Answers to all come, the last first:
+/// each call that is left is told of in that order and has its own outcome, and the other answers change nothing.
 pub fn calls_half_dropped<C: Client>(alloc: Global, core: &mut C, count: u32) -> Met {
     let request = usual_request(alloc, 0)?;
-    if !calls(alloc, core, &request, count)? {
+    let message = front(behind(ASKED, 10), 22);
+    if !calls(alloc, core, &request, count)? || !requests_leave(core, count, 0, 0x16, message) {
         return Ok(false);
     }
     drops_half(core, count);
