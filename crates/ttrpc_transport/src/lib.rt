@@ -1,5 +1,6 @@
 //! The sockets of the clients and servers with threads: a listener, the connections that it accepts, and a client's
-//! connection, by TCP or at a path. In `address` their addresses, as texts; `moment` reads the clock of all ends.
+//! connection, by TCP or at a path. In `address` their addresses, as texts; `moment` reads the clock of all ends, and `Watch`
+//! receives the faults of all servers.
 #![tactic(auto)]
 
 pub mod address;
@@ -8,6 +9,7 @@ mod clock;
 mod connection;
 mod listener;
 mod stream;
+mod watch;
 
 pub use address::{Domain, Place, nodelay_from, parse_sockaddr, parse_vsock, socket_of};
 pub use client::ClientConnection;
@@ -15,3 +17,4 @@ pub use clock::moment;
 pub use connection::PipeConnection;
 pub use listener::PipeListener;
 pub use stream::Stream;
+pub use watch::{NoWatch, Watch};
