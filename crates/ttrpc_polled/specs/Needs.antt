@@ -18,6 +18,6 @@ LinkNeeds reads writes asked c s =
     ⊎ ((c.is_reading ≡ true) × reads c.inlet.reader s)
     ⊎ (IsSome c.alarm.set_for × (s ≡ sleep_source c.alarm.sleep))
 
--- A connection that is over keeps nothing that is to be written; or its writer took none of it, or failed.
+-- A connection that is over keeps nothing that is to be written; or its writer took none of it, also in the time for that, or failed.
 abbrev pub IsOver : {R S W C : Type 0} → (W → Error → Type 0) → (W → Type 0) → Link R S W C → Type 0
-IsOver fails is_full c = (c.outlet.kept ≡ []) ⊎ is_full c.outlet.writer ⊎ ((e : Error) × fails c.outlet.writer e)
+IsOver fails is_full c = (c.outlet.kept ≡ []) ⊎ is_full c.outlet.writer ⊎ (c.is_late ≡ true) ⊎ ((e : Error) × fails c.outlet.writer e)

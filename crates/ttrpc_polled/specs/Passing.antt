@@ -1,6 +1,6 @@
 -- The bytes of a polled connection, on their way from a reader to a core and from the core to a writer.
 -- Source: this project's.
-use Rattle.std.specs.Prelude.{◌≡◌, ◌≢◌, ℕ, List, [], ◌++◌, take, drop, Bool, true, false, Option, Result, Ok, nat_lt}
+use Rattle.std.specs.Prelude.{◌≡◌, ◌≢◌, ◌≤◌, ◌<◌, ℕ, List, [], ◌++◌, take, drop, Bool, true, false, Option, None, IfSome, Result, Ok, nat_lt}
 use Rattle.std.specs.Option.{option_map_or}
 use Rattle.std.specs.declared.io.Error.{Error}
 use Rattle.futures.specs.declared.task.Poll.{Poll}
@@ -35,6 +35,14 @@ pub data Gathers {H : Type 0} (lends : H → List ℕ → ℕ → List ℕ → H
   nothing : Gathers lends first [] first
   one_more : (bytes : List ℕ) (held : H) (gathered : Gathers lends first bytes held) (before : List ℕ) (count : ℕ) (after : List ℕ) (last : H)
       → lends held before count after last → Gathers lends first (bytes ++ take count after) last
+
+-- The core was asked at which moment something expires. Where that has come it was told the moment.
+pub record TellsMoment {H : Type 0} (expires : H → Option ℕ → Type 0) (ticks : H → ℕ → H → Type 0) (old : H) (now : ℕ) (new : H) : Type 0 where
+  pub at : Option ℕ
+  pub asked : expires old at
+  pub due : IfSome at (λ moment. moment ≤ now → ticks old now new)
+  pub early : IfSome at (λ moment. now < moment → new ≡ old)
+  pub never : at ≡ None → new ≡ old
 
 -- A piece was handed to a core at a moment, which took a front of it, or whose connection has failed. More is wanted where it took
 -- some.

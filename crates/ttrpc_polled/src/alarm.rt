@@ -1,5 +1,5 @@
 //! When a core is to be told of the moment.
-ghost use Rattle.std.specs.Prelude.{◌≡◌, ◌≤◌, ◌⊎◌, None, Some, IfErr, IfOk, IfSome, IsSome};
+ghost use Rattle.std.specs.Prelude.{◌≡◌, ◌≤◌, ◌<◌, ◌⊎◌, None, Some, IfErr, IfOk, IfSome, IsSome, true, false};
 ghost use Rattle.futures.specs.Task.{Covers, Keeps};
 ghost use Rattle.futures.specs.Poll.{IfReady, OnPending};
 ghost use Rattle.tokio.specs.Timers.{sleep_source};
@@ -59,6 +59,21 @@ impl Alarm {
             self.sleep.reset(instant);
             self.set_for = Some(at);
         }
+    }
+
+    /// Returns whether it is set for this moment or an earlier one.
+    pub fn is_due(&self, now: u64) -> bool
+        ensures yes { result ≡ true → IfSome self.now.set_for (λ at. at ≤ now) × IsSome self.now.set_for }
+        ensures no { result ≡ false → IfSome self.now.set_for (λ at. now < at) }
+    {
+        self.set_for.is_some_and(|at| at <= now)
+    }
+
+    /// Sets it no more.
+    pub fn unset(&mut self)
+        ensures { self.new ≡ record self.old { set_for = None } }
+    {
+        self.set_for = None;
     }
 
     /// Ready once it rings: the moment. It isn't set any more then.

@@ -39,6 +39,9 @@ pub trait Held: Drop {
     // So many wait for frames of streams to be sent.
     ghost senders: { Self → ℕ };
 
+    // Whether more input is wanted.
+    ghost wants: { Self → Bool };
+
     /// Takes a front of a piece at this moment, in nanoseconds, and says of how many bytes. `None`: the connection has failed.
     fn take(&mut self, alloc: Global, piece: &[u8], now: u64) -> Option<usize>
         ensures bound { IfSome result (λ n. n ≤ length piece.now) }
@@ -76,6 +79,10 @@ pub trait Held: Drop {
     /// How many wait for frames of streams to be sent. They may have more to send once these are lent.
     fn senders(&self) -> usize
         ensures { result ≡ senders self.now };
+
+    /// Whether more input is wanted, before those who work at what came have gone on.
+    fn wants_input(&self) -> bool
+        ensures { result ≡ wants self.now };
 
     /// The waker of the connection's future, which is woken by being dropped.
     fn driver(&mut self) -> &mut Option<Waker>;

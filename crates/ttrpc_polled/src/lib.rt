@@ -10,6 +10,8 @@ mod link;
 mod listener;
 mod outlet;
 mod piece;
+mod reader;
+mod share;
 mod socket;
 pub mod streams;
 mod wakers;
@@ -21,6 +23,8 @@ pub use link::{Link, Step};
 pub use listener::Listener;
 pub use outlet::{OUTLET_AT_REST, OUTLET_LIMIT, Outlet};
 pub use piece::Piece;
+pub use reader::SocketReader;
+pub use share::{POLL_JOBS, POLL_TIME, Share};
 pub use socket::{Connecting, Socket, SocketConnect};
 pub use streams::{
     CSReceiver, CSReceiverRecv, CSSender, ClientStream, ClientStreamSender,

@@ -1,11 +1,12 @@
 //! The future that reads, writes and ticks for one connection.
-ghost use Rattle.std.specs.Prelude.{◌≡◌, ◌≢◌, [], IfErr, IsSome, Ok, true, false, IfOk, None};
+ghost use Rattle.std.specs.Prelude.{◌≡◌, ◌≢◌, ℕ, [], IfErr, IsSome, Ok, true, false, IfOk, None};
 ghost use Rattle.std.specs.Arc.{arc_value};
 ghost use Rattle.std.specs.IoError.{error_kind};
 ghost use Rattle.futures.specs.Task.{Covers, Hears, IsArmed, Keeps};
 ghost use Rattle.tokio.specs.Timers.{sleep_source};
 ghost use Rattle.ttrpc_polled.specs.Needs.{IsOver, LinkNeeds, OutNeeds};
-ghost use Rattle.ttrpc_polled.specs.Passing.{IsHandedOn};
+ghost use Rattle.ttrpc_polled.specs.Passing.{IsHandedOn, TellsMoment};
+ghost use Rattle.ttrpc_polled.specs.Sharing.{fresh};
 ghost use Rattle.ttrpc_polled.specs.Sockets.{IsNotMade};
 
 use crate::alarm::Alarm;
@@ -13,6 +14,7 @@ use crate::held::{Connected, Held};
 use crate::inlet::Inlet;
 use crate::outlet::Outlet;
 use crate::piece::Piece;
+use crate::share::Share;
 use futures::spin::lock;
 use futures::task::{Context, Poll, Source};
 use std::alloc::Global;
@@ -37,6 +39,9 @@ pub enum Step {
     Over,
 }
 
+/// How long a connection that has failed goes on writing what was lent before, in nanoseconds, to a peer that takes none of it.
+const LAST_WRITES: u64 = 5_000_000_000;
+
 /// The two ends of a connection, what it shares, and its alarm.
 #[derive(Drop)]
 pub struct Link<R: Clock + AllocGlobal + Drop, S, W, C> {
@@ -44,6 +49,9 @@ pub struct Link<R: Clock + AllocGlobal + Drop, S, W, C> {
     shared: Arc<C, Global>,
     inlet: Inlet<S>,
     is_reading: bool,
+    is_full: bool,
+    ends_at: Option<u64>,
+    is_late: bool,
     outlet: Outlet<W>,
     alarm: Alarm,
 }
@@ -60,6 +68,9 @@ impl<R: Clock + AllocGlobal + Drop, S: AsyncRead, W: AsyncWrite, C: Connected> L
             shared,
             inlet: Inlet::new(alloc, reader)?,
             is_reading: true,
+            is_full: false,
+            ends_at: None,
+            is_late: false,
             outlet: Outlet::new(alloc, writer)?,
             alarm: Alarm::new(&rt, handle)?,
             rt,
@@ -73,6 +84,25 @@ impl<R: Clock + AllocGlobal + Drop, S: AsyncRead, W: AsyncWrite, C: Connected> L
         &self.shared
     }
 
+    /// Whether its input goes on: it has neither ended nor failed.
+    pub fn is_reading(&self) -> bool
+        ensures { result ≡ self.now.is_reading }
+    {
+        self.is_reading
+    }
+
+    /// Begins a poll: it reads the clock, and tells the core of the moment where something has expired by then, before the poll does
+    /// anything else.
+    pub fn look(&self) -> Share
+        ensures { (now : ℕ) × (result ≡ fresh now) }
+    {
+        let now = moment(&self.rt).unwrap_or(0);
+        if let Some(mut held) = lock(self.shared.held()) {
+            tell_moment(&mut *held, now);
+        }
+        Share::new(now)
+    }
+
     /// Whether it keeps nothing that is to be written.
     pub fn keeps_nothing(&self) -> bool
         ensures yes { result ≡ true → self.now.outlet.kept ≡ [] }
@@ -82,28 +112,48 @@ impl<R: Clock + AllocGlobal + Drop, S: AsyncRead, W: AsyncWrite, C: Connected> L
     }
 
     /// Looks once at everything that it waits for, and does what there is to do: it writes, it reads, and where there was
-    /// nothing of either it looks at its alarm. It is over once the connection has failed and what was lent is written.
-    pub fn turn(&mut self, cx: &mut Context<'_>) -> Step
+    /// nothing of either it looks at its alarm. It is over once the connection has failed and what was lent is written, or 5 seconds
+    /// behind the failure where the writer takes none of that.
+    pub fn turn(&mut self, share: &mut Share, cx: &mut Context<'_>) -> Step
         ensures waits { result ≡ Step.Waits → Covers cx.new (LinkNeeds S.AsyncRead.needs W.AsyncWrite.needs C.asked self.new) }
         ensures over { result ≡ Step.Over → IsOver W.AsyncWrite.fails W.AsyncWrite.is_full self.new }
         ensures kept { Keeps cx.old cx.new }
     {
-        match self.poll_out(cx) {
+        match self.poll_out(share.now(), cx) {
             Step::Moved => {
-                let _ = self.poll_in(cx);
+                let _ = self.poll_in(share, cx);
+                share.moved(&self.rt);
                 Step::Moved
             }
-            Step::Waits => match self.poll_in(cx) {
+            Step::Waits => match self.poll_in(share, cx) {
                 Step::Waits => self.poll_alarm(cx),
-                step => step,
+                step => {
+                    share.moved(&self.rt);
+                    step
+                }
             },
             step => step,
         }
     }
 
+    /// Writes what is queued, and reads where this poll may still hand on a piece. True: the connection is over.
+    pub fn flush(&mut self, share: &mut Share, cx: &mut Context<'_>) -> bool
+        ensures over { result ≡ true → IsOver W.AsyncWrite.fails W.AsyncWrite.is_full self.new }
+        ensures kept { Keeps cx.old cx.new }
+    {
+        if let Step::Over = self.poll_out(share.now(), cx) {
+            return true;
+        }
+        if share.may_hand_on() {
+            let _ = self.poll_in(share, cx);
+        }
+        share.moved(&self.rt);
+        false
+    }
+
     /// Gathers what is queued, where nothing is kept, and writes what is kept. Also while the writer takes nothing it hears of new
     /// deadlines.
-    fn poll_out(&mut self, cx: &mut Context<'_>) -> Step
+    fn poll_out(&mut self, now: u64, cx: &mut Context<'_>) -> Step
         ensures waits { result ≡ Step.Waits → Covers cx.new (OutNeeds W.AsyncWrite.needs C.asked self.new) }
         ensures over { result ≡ Step.Over → IsOver W.AsyncWrite.fails W.AsyncWrite.is_full self.new }
         ensures inlet { (self.new.inlet ≡ self.old.inlet) × (self.new.is_reading ≡ self.old.is_reading) }
@@ -121,7 +171,7 @@ impl<R: Clock + AllocGlobal + Drop, S: AsyncRead, W: AsyncWrite, C: Connected> L
             return Step::Gathered;
         }
         match self.outlet.poll_rest(cx) {
-            Poll::Pending => self.poll_asked(cx),
+            Poll::Pending => self.poll_asked(now, cx),
             Poll::Ready(Ok(true)) => Step::Moved,
             Poll::Ready(Ok(false)) => self.broke(ErrorKind::WriteZero),
             Poll::Ready(Err(error)) => self.broke(error.kind()),
@@ -191,10 +241,10 @@ impl<R: Clock + AllocGlobal + Drop, S: AsyncRead, W: AsyncWrite, C: Connected> L
         Step::Waits
     }
 
-    /// Waits for new calls and deadlines, while the writer takes nothing.
-    fn poll_asked(&mut self, cx: &mut Context<'_>) -> Step
+    /// Waits for new calls and deadlines, while the writer takes nothing. Once the connection has failed that has a limit.
+    fn poll_asked(&mut self, now: u64, cx: &mut Context<'_>) -> Step
         ensures waits { result ≡ Step.Waits → IsArmed cx.new × Hears cx.new (C.asked (arc_value self.new.shared)) }
-        ensures goes_on { result ≢ Step.Over }
+        ensures over { result ≡ Step.Over → self.new.is_late ≡ true }
         ensures rest { (self.new.inlet ≡ self.old.inlet) × (self.new.is_reading ≡ self.old.is_reading) × (self.new.outlet ≡ self.old.outlet) × (self.new.shared ≡ self.old.shared) }
         ensures kept { Keeps cx.old cx.new }
     {
@@ -202,6 +252,15 @@ impl<R: Clock + AllocGlobal + Drop, S: AsyncRead, W: AsyncWrite, C: Connected> L
             let _: Poll<()> = cx.yield_now();
             return Step::Moved;
         };
+        if held.has_failed() {
+            let at = self.ends_at.unwrap_or(now.saturating_add(LAST_WRITES));
+            self.ends_at = Some(at);
+            self.is_late = at <= now;
+            if self.is_late {
+                return Step::Over;
+            }
+            self.alarm.set(&self.rt, at);
+        }
         wait_at(
             &self.rt,
             &mut self.alarm,
@@ -212,8 +271,9 @@ impl<R: Clock + AllocGlobal + Drop, S: AsyncRead, W: AsyncWrite, C: Connected> L
         Step::Waits
     }
 
-    /// Reads a piece, and hands it to the core.
-    fn poll_in(&mut self, cx: &mut Context<'_>) -> Step
+    /// Reads a piece, and hands it to the core. While the core wants no more input, nothing is read and the task is polled again.
+    /// Where a piece was handed on before in this poll, the next one is kept for the next poll, and this one is over.
+    fn poll_in(&mut self, share: &mut Share, cx: &mut Context<'_>) -> Step
         ensures waits { result ≡ Step.Waits → self.new.is_reading ≡ true → Covers cx.new (S.AsyncRead.needs self.new.inlet.reader) }
         ensures goes_on { result ≢ Step.Over }
         ensures outlet { (self.new.outlet ≡ self.old.outlet) × (self.new.shared ≡ self.old.shared) × (self.new.alarm ≡ self.old.alarm) }
@@ -222,18 +282,46 @@ impl<R: Clock + AllocGlobal + Drop, S: AsyncRead, W: AsyncWrite, C: Connected> L
         if !self.is_reading {
             return Step::Waits;
         }
+        if self.is_full && !self.finds_room() {
+            let _: Poll<()> = cx.yield_now();
+            return Step::Moved;
+        }
         let polled = self.inlet.poll_piece(cx);
         let Poll::Ready(given) = polled else {
             return Step::Waits;
         };
+        if !share.may_hand_on() && is_piece(&given) {
+            share.end();
+            return Step::Moved;
+        }
+        self.hand_in(given, share, cx);
+        Step::Moved
+    }
+
+    /// Returns whether the core wants input again.
+    fn finds_room(&mut self) -> bool
+        ensures { self.new ≡ record self.old { is_full = self.new.is_full } }
+    {
+        let Some(held) = lock(self.shared.held()) else {
+            return false;
+        };
+        self.is_full = !held.wants_input();
+        !self.is_full
+    }
+
+    /// Hands on what the reader gave, at the moment of this poll.
+    fn hand_in(&mut self, given: io::Result<bool>, share: &mut Share, cx: &mut Context<'_>)
+        ensures outlet { (self.new.outlet ≡ self.old.outlet) × (self.new.shared ≡ self.old.shared) × (self.new.alarm ≡ self.old.alarm) }
+        ensures kept { Keeps cx.old cx.new }
+    {
         let Some(mut held) = lock(self.shared.held()) else {
             let _: Poll<()> = cx.yield_now();
-            return Step::Moved;
+            return;
         };
-        let now = moment(&self.rt).unwrap_or(0);
         let piece = &mut self.inlet.piece;
-        self.is_reading = hand_on(self.rt.alloc(), &mut *held, piece, given, now);
-        Step::Moved
+        self.is_reading = hand_on(self.rt.alloc(), &mut *held, piece, given, share.now());
+        self.is_full = !held.wants_input();
+        share.handed_on();
     }
 
     /// Looks at the alarm, where it is set.
@@ -256,6 +344,22 @@ impl<R: Clock + AllocGlobal + Drop, S: AsyncRead, W: AsyncWrite, C: Connected> L
     }
 }
 
+/// Returns whether the reader gave a piece.
+fn is_piece(given: &io::Result<bool>) -> bool
+    ensures { result ≡ true → given.now ≡ Ok true }
+{
+    matches!(given, Ok(true))
+}
+
+/// Tells a core of this moment, where something has expired by then.
+fn tell_moment<H: Held>(held: &mut H, now: u64)
+    ensures { TellsMoment H.expires H.ticks held.old now held.new }
+{
+    if held.next_deadline().is_some_and(|at| at <= now) {
+        held.tick(now);
+    }
+}
+
 /// Sets the alarm for the soonest deadline, and waits at this source for something new.
 fn wait_at<R: Clock, H: Held>(
     rt: &R,
@@ -274,7 +378,7 @@ fn wait_at<R: Clock, H: Held>(
     let _: Poll<()> = cx.register(asked, held.driver());
 }
 
-/// Hands on what the reader gave at this moment: a piece, its end, or its error. True: the reader is to be asked for more, since
+/// Hands on what the reader gave at this moment, of which the core is told first: a piece, its end, or its error. True: the reader is to be asked for more, since
 /// the core took some of the piece.
 fn hand_on<H: Held>(
     alloc: Global,
@@ -283,18 +387,21 @@ fn hand_on<H: Held>(
     given: io::Result<bool>,
     now: u64,
 ) -> bool
-    ensures piece { given ≡ Ok true → IsHandedOn H.takes held.old piece.old now result held.new piece.new }
+    ensures piece { given ≡ Ok true → (told : H) × TellsMoment H.expires H.ticks held.old now told × IsHandedOn H.takes told piece.old now result held.new piece.new }
     ensures end { given ≡ Ok false → H.ends held.old held.new × (piece.new ≡ piece.old) × (result ≡ false) }
     ensures broke { IfErr given (λ e. H.breaks held.old (error_kind e) held.new × (piece.new ≡ piece.old) × (result ≡ false)) }
 {
     match given {
-        Ok(true) => match held.take(alloc, piece.bytes(), now) {
-            Some(count) => {
-                piece.took(count);
-                count > 0
+        Ok(true) => {
+            tell_moment(held, now);
+            match held.take(alloc, piece.bytes(), now) {
+                Some(count) => {
+                    piece.took(count);
+                    count > 0
+                }
+                None => false,
             }
-            None => false,
-        },
+        }
         Ok(false) => {
             held.ended();
             false

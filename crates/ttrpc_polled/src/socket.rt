@@ -8,6 +8,7 @@ ghost use Rattle.ttrpc_polled.specs.Connecting.{IsUnderWay, RefusesAddress};
 ghost use Rattle.ttrpc_polled.specs.Sockets.{IsNoTcp, IsTcp, IsUnsupported};
 ghost use Rattle.ttrpc_transport.specs.Sockets.{IsFault};
 
+use crate::reader::SocketReader;
 use futures::Future;
 use futures::task::{Context, Poll};
 use std::alloc::Global;
@@ -15,7 +16,7 @@ use std::io;
 use std::mem::replace;
 use std::net::{Net, SocketAddr};
 use tokio::io::{AsyncRead, AsyncWrite};
-use tokio::net::{ConnectFuture, OwnedReadHalf, OwnedWriteHalf, TcpStream};
+use tokio::net::{ConnectFuture, OwnedWriteHalf, TcpStream};
 use tokio::reactor::Handle;
 use ttrpc_proto::{Error, Result, Text};
 use ttrpc_transport::{Place, socket_of};
@@ -82,11 +83,11 @@ impl Socket {
     }
 
     /// Its two halves, which are closed once both are dropped. A fault of the system is `Nix`.
-    pub fn into_split(self) -> Result<(OwnedReadHalf, OwnedWriteHalf)>
+    pub fn into_split(self) -> Result<(SocketReader, OwnedWriteHalf)>
         ensures { IfErr result IsFault }
     {
         match self.stream.into_split() {
-            Ok(halves) => Ok(halves),
+            Ok((reader, writer)) => Ok((SocketReader::new(reader), writer)),
             Err(error) => Err(Error::Nix(error.kind())),
         }
     }

@@ -7,8 +7,8 @@ use futures::spin::lock;
 use futures::task::{Context, Poll};
 use std::time::Clock;
 use tokio::io::{AsyncRead, AsyncWrite};
-use tokio::net::{OwnedReadHalf, OwnedWriteHalf};
-use ttrpc_polled::{Link, Step};
+use tokio::net::OwnedWriteHalf;
+use ttrpc_polled::{Link, SocketReader, Step};
 use ttrpc_secure::{InboundTransform, OutboundTransform};
 
 /// How often one poll turns at most, before it lets other tasks run.
@@ -16,6 +16,9 @@ const TURNS: u8 = 64;
 
 /// The future of a client's connection: while it is polled, calls and streams go on. It is ready once the connection is
 /// over. As it is dropped the connection fails, so that nobody waits for it.
+///
+/// A poll first tells the core the moment, if a call has expired by then. It hands on at most one piece and goes on for some 100
+/// microseconds; then it lets other tasks run.
 pub struct ClientConnection<
     R: Clock + AllocGlobal + Drop,
     S: AsyncRead,
@@ -28,7 +31,7 @@ pub struct ClientConnection<
 }
 
 /// The future of a client's connection over TCP.
-pub type TcpConnection<R, O, I> = ClientConnection<R, OwnedReadHalf, OwnedWriteHalf, O, I>;
+pub type TcpConnection<R, O, I> = ClientConnection<R, SocketReader, OwnedWriteHalf, O, I>;
 
 impl<
     R: Clock + AllocGlobal + Drop,
@@ -67,9 +70,14 @@ impl<
             self.gives_way = false;
             return cx.yield_now();
         }
+        let mut share = self.link.look();
         for _ in 0..TURNS {
-            match self.link.turn(cx) {
-                Step::Moved => {}
+            match self.link.turn(&mut share, cx) {
+                Step::Moved => {
+                    if share.is_over() {
+                        return cx.yield_now();
+                    }
+                }
                 // Those who waited for what was lent come first, so that more goes out by one write. An event loop may take
                 // them in behind whoever yielded meanwhile, so this gives way twice.
                 Step::Gathered => {

@@ -179,7 +179,7 @@ impl<O: OutboundTransform + Drop, I: InboundTransform + Drop> ClientHeld<O, I> {
 }
 
 impl<O: OutboundTransform + Drop, I: InboundTransform + Drop> Held for ClientHeld<O, I> {
-    ghost use Rattle.std.specs.Prelude.{◌≡◌, length, is_some};
+    ghost use Rattle.std.specs.Prelude.{◌≡◌, length, is_some, true};
     ghost use Rattle.ttrpc_connection.specs.OneEnd.{lendable};
     ghost use Rattle.ttrpc_polled_client.specs.Held.{Breaks, EndsInput, ExpiresAt, LendsAndReports, TakesPiece, TicksAndTells};
 
@@ -200,6 +200,8 @@ impl<O: OutboundTransform + Drop, I: InboundTransform + Drop> Held for ClientHel
     ghost failed = { λ held. is_some held.core.connection.failure };
 
     ghost senders = { λ held. length held.streams.senders };
+
+    ghost wants = { λ _. true };
 
     fn take(&mut self, alloc: Global, piece: &[u8], _now: u64) -> Option<usize> {
         let Ok(count) = self.core.feed(alloc, piece) else {
@@ -248,6 +250,10 @@ impl<O: OutboundTransform + Drop, I: InboundTransform + Drop> Held for ClientHel
 
     fn senders(&self) -> usize {
         self.streams.senders()
+    }
+
+    fn wants_input(&self) -> bool {
+        true
     }
 
     fn driver(&mut self) -> &mut Option<Waker> {
