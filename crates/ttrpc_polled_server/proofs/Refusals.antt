@@ -6,14 +6,14 @@ use Rattle.ttrpc_connection.specs.OneEnd.{failing}
 use Rattle.ttrpc_connection.specs.declared.failure.Failure.TheVariants.{Told}
 use Rattle.ttrpc_server.specs.declared.server.ServerCore.{ServerCore}
 use Rattle.ttrpc_polled_server.specs.declared.ended.Ended.{Ended}
-use Rattle.ttrpc_polled_server.specs.declared.ended.Ended.TheVariants.{Answers, Ends, Expired}
+use Rattle.ttrpc_polled_server.specs.declared.ended.Ended.TheVariants.{Answers, Ends, Dropped}
 use Rattle.ttrpc_polled_server.specs.Steps.{EndsJob, IsEnded, failed_by}
 
 -- an end that is refused changes nothing
 refused_stays : {O I : Type 0} (out : OutboundTransform O) (old : ServerCore O I) (id : ℕ) (ended : Ended) (e : Error) (new : ServerCore O I) → IsEnded out old id ended (Err e) new → new ≡ old
 refused_stays out old id (Answers given) e new x = x.err
 refused_stays out old id (Ends given) e new x = x.0
-refused_stays out old id Expired e new x = absurd x
+refused_stays out old id Dropped e new x = absurd x
 
 -- what refused it was told
 pub refusal_told : {O I : Type 0} (out : OutboundTransform O) (old : ServerCore O I) (id : ℕ) (ended : Ended) (refusal : Error) (mid : ServerCore O I) → IsEnded out old id ended (Err refusal) mid

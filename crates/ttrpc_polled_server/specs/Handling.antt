@@ -4,7 +4,7 @@ use Rattle.std.specs.Prelude.{◌≡◌, ◌⊎◌, ℕ, Bool, true, Option, Res
 use Rattle.ttrpc_proto.specs.declared.error.Error.{Error}
 use Rattle.ttrpc_proto.specs.declared.messages.Response.{Response}
 use Rattle.ttrpc_polled_server.specs.declared.ended.Ended.{Ended}
-use Rattle.ttrpc_polled_server.specs.declared.ended.Ended.TheVariants.{Answers, Ends, Expired}
+use Rattle.ttrpc_polled_server.specs.declared.ended.Ended.TheVariants.{Answers, Ends, Dropped}
 use Rattle.ttrpc_polled_server.specs.declared.running.Handled.{Handled}
 use Rattle.ttrpc_polled_server.specs.declared.running.Handled.TheVariants.{Method, Stream}
 
@@ -22,12 +22,12 @@ HandledNeeds method stream (Stream call) s = stream call s
 abbrev pub HandledGives : {F G : Type 0} → (F → Result Response Error → Type 0) → (G → Result (Option Response) Error → Type 0) → Handled F G → Ended → Type 0
 HandledGives method stream (Method call) (Answers answer) = method call answer
 HandledGives method stream (Method call) (Ends end) = ⊥
-HandledGives method stream (Method call) Expired = ⊥
+HandledGives method stream (Method call) Dropped = ⊥
 HandledGives method stream (Stream call) (Answers answer) = ⊥
 HandledGives method stream (Stream call) (Ends end) = stream call end
-HandledGives method stream (Stream call) Expired = ⊥
+HandledGives method stream (Stream call) Dropped = ⊥
 
--- its own job's number is given, with what its own handler gave, or with that the job had expired, if it may expire
-pub record RunningGives {F G : Type 0} (method : F → Result Response Error → Type 0) (stream : G → Result (Option Response) Error → Type 0) (id : ℕ) (expires : Bool) (handled : Handled F G) (given : ℕ × Ended) : Type 0 where
+-- its own job's number is given, with what its own handler gave, or with that it was dropped, if it may be
+pub record RunningGives {F G : Type 0} (method : F → Result Response Error → Type 0) (stream : G → Result (Option Response) Error → Type 0) (id : ℕ) (may_be_dropped : Bool) (handled : Handled F G) (given : ℕ × Ended) : Type 0 where
   pub own : given.0 ≡ id
-  pub ended : HandledGives method stream handled given.1 ⊎ ((expires ≡ true) × (given.1 ≡ Expired))
+  pub ended : HandledGives method stream handled given.1 ⊎ ((may_be_dropped ≡ true) × (given.1 ≡ Dropped))

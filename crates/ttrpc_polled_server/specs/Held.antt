@@ -1,17 +1,25 @@
 -- What the future of a server's connection does to its core, under the lock.
 -- Source: this project's.
-use Rattle.std.specs.Prelude.{◌≡◌, ◌<◌, ◌^◌, ℕ, List, [], Option, None, Result, IfSome, IfNone, is_ok, if◌then◌else◌}
+use Rattle.std.specs.Prelude.{◌≡◌, ◌≢◌, ◌<◌, ◌≤◌, ◌⊎◌, ◌^◌, ℕ, List, [], Option, Some, None, Result, Ok, Err, IfSome, IfNone, IsSomeAnd, is_ok, min, if◌then◌else◌}
+use Rattle.std.specs.BTreeMap.{is_at}
+use Rattle.std.specs.Ordering.{nat_cmp}
+use Rattle.std.specs.Set.{remove_key}
 use Rattle.std.specs.Result.{result_ok}
 use Rattle.std.specs.declared.io.ErrorKind.{ErrorKind}
+use Rattle.ttrpc_proto.specs.Framing.Frames.{nothing}
 use Rattle.ttrpc_proto.specs.declared.error.Error.{Error}
 use Rattle.ttrpc_proto.specs.declared.error.Error.TheVariants.{Nix}
 use Rattle.ttrpc_secure.specs.declared.transform.InboundTransform.{Ghosts as InboundTransform}
 use Rattle.ttrpc_secure.specs.declared.transform.OutboundTransform.{Ghosts as OutboundTransform}
-use Rattle.ttrpc_connection.specs.declared.failure.Failure.TheVariants.{Told}
+use Rattle.ttrpc_connection.specs.Failure.{IsTold, error_of}
+use Rattle.ttrpc_connection.specs.declared.failure.Failure.TheVariants.{Disconnected, DisconnectedInside, Told}
+use Rattle.futures.specs.declared.task.Poll.{Poll}
+use Rattle.futures.specs.declared.task.Poll.TheVariants.{Ready}
 use Rattle.ttrpc_connection.specs.OneEnd.{Lends, TakesOrDrains, failing, lending, reporting}
 use Rattle.ttrpc_server.specs.declared.rules.Rules.TheVariants.{Async}
 use Rattle.ttrpc_server.specs.declared.server.ServerCore.{ServerCore}
 use Rattle.ttrpc_server.specs.Protocol.{IsDeadline, Passes, due_jobs, serving}
+use Rattle.ttrpc_server.specs.Streaming.{ReceivesOne, unheard}
 
 -- the core once it has told of all streams for which something came
 abbrev pub all_told : {O I : Type 0} → ServerCore O I → ServerCore O I
@@ -40,6 +48,42 @@ pub record TicksAndTells {O I : Type 0} (seals : OutboundTransform O) (old : Ser
   pub ticked : ServerCore O I
   pub passes : Passes seals old.state.rules old.connection.failure old now ticked
   pub told : new ≡ record ticked { state = record ticked.state { expired = [] } }
+
+-- a pause is over at this moment
+abbrev pub IsLate : Option ℕ → ℕ → Type 0
+IsLate pause now = IsSomeAnd pause (λ at. at ≤ now)
+
+-- A moment came: where a pause is over by then this broke, and else that ticked.
+pub record TicksOrBreaks (pause : Option ℕ) (now : ℕ) (Ticked Broke : Type 0) : Type 0 where
+  pub late : IsLate pause now → Broke
+  pub early : ¬ (IsLate pause now) → Ticked
+
+-- the sooner of two moments, of those that there are
+abbrev pub sooner : Option ℕ → Option ℕ → Option ℕ
+sooner None second = second
+sooner (Some first) None = Some first
+sooner (Some first) (Some second) = Some (min first second)
+
+-- who waited under this number waits no more, and at most the others do
+abbrev pub IsLeft : ℕ → List ℕ → List ℕ → Type 0
+IsLeft id old new = (new ≡ remove_key (is_at (nat_cmp id)) old) ⊎ (new ≡ [])
+
+-- it tells that the other side is gone, and whether that was inside a frame
+pub record TellsEnd {O I : Type 0} (core : ServerCore O I) (e : Error) : Type 0 where
+  pub between : core.connection.decoder ≡ nothing → IsTold (error_of Disconnected) e
+  pub inside : core.connection.decoder ≢ nothing → IsTold (error_of DisconnectedInside) e
+
+-- what is given behind the end of the input: what came, or that the other side is gone, by which nobody receives any more
+abbrev pub GivesLast : {O I : Type 0} → ServerCore O I → ℕ → Option (Result (List ℕ) Error) → Poll (Result (List ℕ) Error) → ServerCore O I → Type 0
+GivesLast core id (Some received) polled new = (polled ≡ Ready received) × (new ≡ core)
+GivesLast core id None polled new = ((e : Error) × TellsEnd core e × (polled ≡ Ready (Err e))) × (new ≡ unheard core id)
+
+-- Behind the end of the input it was received from the stream of this job.
+pub record ReceivesLast {O I : Type 0} (old : ServerCore O I) (id : ℕ) (polled : Poll (Result (List ℕ) Error)) (new : ServerCore O I) : Type 0 where
+  pub came : Option (Result (List ℕ) Error)
+  pub asked : ServerCore O I
+  pub receives : ReceivesOne old id came asked
+  pub gives : GivesLast asked id came polled new
 
 -- The least moment at which a tick would make a job expire, or that there is none.
 pub record ExpiresAt {O I : Type 0} (core : ServerCore O I) (at : Option ℕ) : Type 0 where

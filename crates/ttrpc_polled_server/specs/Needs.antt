@@ -1,7 +1,9 @@
 -- For what the futures of a server wait.
 -- Source: this project's.
-use Rattle.std.specs.Prelude.{◌≡◌, ◌⊎◌, ◌<◌, ℕ, true, false}
+use Rattle.std.specs.Prelude.{◌≡◌, ◌⊎◌, ◌<◌, ℕ, IfSome, IsSome, true, false}
 use Rattle.std.specs.Arc.{arc_value}
+use Rattle.futures.specs.Task.{Covers}
+use Rattle.futures.specs.declared.task.context.Context.{Context}
 use Rattle.futures.specs.Queued.{AllPollable, set_len, set_places}
 use Rattle.tokio.specs.Net.{listener_readable}
 use Rattle.tokio.specs.Timers.{sleep_source}
@@ -21,9 +23,17 @@ module _ {R M T S W O I F G : Type 0} where
   abbrev pub CanPoll : (F → Type 0) → (G → Type 0) → ServerConnection R M T S W O I F G → Type 0
   CanPoll method stream c = AllPollable (λ (r : Running F G O I). HandledCanPoll method stream r.handled) (set_places c.jobs)
 
-  -- It waits to be told that it is to end, or, once it was told, for the end of its time.
+  -- nothing else changed of it but of its handlers and its pace
+  abbrev pub IsSameBeside : ServerConnection R M T S W O I F G → ServerConnection R M T S W O I F G → Type 0
+  IsSameBeside old new = new ≡ record old { jobs = new.jobs; pace = new.pace }
+
+  -- Before a poll of it does anything else, it has asked to be told that it is to end, unless it ends.
+  abbrev pub HasAsked : ServerConnection R M T S W O I F G → Context → Type 0
+  HasAsked c cx = c.is_ending ≡ false → Covers cx (λ s. s ≡ (arc_value c.seat.stop).told.id)
+
+  -- It waits to be told that it is to end, and for the end of its time, once it ends or that has a limit.
   abbrev pub EndNeeds : ServerConnection R M T S W O I F G → ℕ → Type 0
-  EndNeeds c s = ((c.is_ending ≡ false) × (s ≡ (arc_value c.seat.stop).told.id)) ⊎ ((c.is_ending ≡ true) × (s ≡ sleep_source c.grace.sleep))
+  EndNeeds c s = ((c.is_ending ≡ false) × (s ≡ (arc_value c.seat.stop).told.id)) ⊎ (((c.is_ending ≡ true) ⊎ IsSome c.grace.set_for) × (s ≡ sleep_source c.grace.sleep))
 
   -- It waits for its handlers, where some run, for what its link waits for, unless that is over, and for its end.
   abbrev pub ConnectionNeeds : (S → ℕ → Type 0) → (W → ℕ → Type 0) → ServerConnection R M T S W O I F G → ℕ → Type 0
@@ -31,9 +41,11 @@ module _ {R M T S W O I F G : Type 0} where
       ⊎ ((c.is_over ≡ false) × LinkNeeds reads writes asked_source c.link s)
       ⊎ EndNeeds c s
 
--- Whoever accepts connections waits to be told to stop, and for a connection, or behind a fault for the end of a rest or of a
--- connection.
-abbrev pub ServingNeeds : {R M T A : Type 0} → Serving R M T A → ℕ → Type 0
-ServingNeeds v s = (s ≡ (arc_value v.with.stop).told.id)
-    ⊎ ((v.rests ≡ false) × (s ≡ listener_readable v.listener.listener))
+-- A server that accepts waits for a connection, and while it rests for the end of its rest or of a connection.
+abbrev pub AcceptNeeds : {R M T A V : Type 0} → Serving R M T A V → ℕ → Type 0
+AcceptNeeds v s = ((v.rests ≡ false) × IfSome v.listener (λ listener. s ≡ listener_readable listener.listener) × IsSome v.listener)
     ⊎ ((v.rests ≡ true) × ((s ≡ (arc_value v.with.stop).left.id) ⊎ (s ≡ sleep_source v.rest.sleep)))
+
+-- It also waits to be told to stop.
+abbrev pub ServingNeeds : {R M T A V : Type 0} → Serving R M T A V → ℕ → Type 0
+ServingNeeds v s = (s ≡ (arc_value v.with.stop).told.id) ⊎ AcceptNeeds v s

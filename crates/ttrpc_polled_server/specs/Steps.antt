@@ -1,8 +1,8 @@
 -- What is done to a server's core as a handler ends.
 -- Source: this project's.
-use Rattle.std.specs.Prelude.{◌≡◌, ◌⊎◌, ℕ, codes, Option, Result, Ok, Err, IfErr, OnErr, OnOk}
+use Rattle.std.specs.Prelude.{◌≡◌, ◌⊎◌, ℕ, Bool, true, codes, Option, Result, Ok, Err, IfErr, OnErr, OnOk}
 use Rattle.ttrpc_proto.specs.declared.error.Error.{Error}
-use Rattle.ttrpc_proto.specs.declared.error.Error.TheVariants.{Others}
+use Rattle.ttrpc_proto.specs.declared.error.Error.TheVariants.{Others, Socket}
 use Rattle.ttrpc_proto.specs.declared.messages.Response.{Response}
 use Rattle.ttrpc_secure.specs.declared.transform.OutboundTransform.{Ghosts as OutboundTransform}
 use Rattle.ttrpc_connection.specs.Failure.{IsTold, TellsSent}
@@ -16,7 +16,7 @@ use Rattle.ttrpc_server.specs.Streaming.{EndsStream, RefusesEnd, RefusesItem, Se
 use Rattle.ttrpc_polled.specs.Streams.Steps as streams
 use Rattle.ttrpc_polled.specs.declared.streams.sending.Sending.{Sending}
 use Rattle.ttrpc_polled_server.specs.declared.ended.Ended.{Ended}
-use Rattle.ttrpc_polled_server.specs.declared.ended.Ended.TheVariants.{Answers, Ends, Expired}
+use Rattle.ttrpc_polled_server.specs.declared.ended.Ended.TheVariants.{Answers, Ends, Dropped}
 
 -- A request's job was answered by this, or that was refused, and nothing changed.
 pub record IsAnswered {O I : Type 0} (out : OutboundTransform O) (old : ServerCore O I) (id : ℕ) (given : Result Response Error) (result : Result (Unit {0}) Error) (new : ServerCore O I) : Type 0 where
@@ -30,14 +30,25 @@ abbrev pub IsEnded : {O I : Type 0} → OutboundTransform O → ServerCore O I �
 IsEnded out old id (Answers given) result new = IsAnswered out old id given result new
 IsEnded out old id (Ends given) (Ok _) new = EndsStream out old id given new
 IsEnded out old id (Ends given) (Err e) new = (new ≡ old) × RefusesEnd out old id given e
-IsEnded out old id Expired (Ok _) new = new ≡ old
-IsEnded out old id Expired (Err e) new = ⊥
+IsEnded out old id Dropped (Ok _) new = new ≡ old
+IsEnded out old id Dropped (Err e) new = ⊥
+
+-- a stream's handler ended by the error that who receives is told behind the end of the input
+abbrev pub IsDisconnect : Ended → Type 0
+IsDisconnect (Answers given) = ⊥
+IsDisconnect (Ends (Ok end)) = ⊥
+IsDisconnect (Ends (Err e)) = (e ≡ Socket (codes "socket disconnected")) ⊎ (e ≡ Socket (codes "socket disconnected inside a frame"))
+IsDisconnect Dropped = ⊥
+
+-- behind the end of the input a handler ended by that, and nothing was told
+abbrev pub PassesOn : {O I : Type 0} → Bool → ServerCore O I → Ended → ServerCore O I → Type 0
+PassesOn input_ended old ended new = (input_ended ≡ true) × IsDisconnect ended × (new ≡ old)
 
 -- the same handler's end, by an error in the place of what it gave
 abbrev pub failed_by : Ended → Error → Ended
 failed_by (Answers given) e = Answers (Err e)
 failed_by (Ends given) e = Ends (Err e)
-failed_by Expired e = Expired
+failed_by Dropped e = Dropped
 
 -- The end of a handler was refused for this. Then its job is over, and nothing changed; or the client is told why by a status; or
 -- that is refused, too, and for this the connection fails.

@@ -21,9 +21,9 @@ IsLeftOver e = (e ≡ Others (codes "waiters are left")) ⊎ (e ≡ NoMemory)
 abbrev pub DisconnectNeeds : ADisconnect → ℕ → Type 0
 DisconnectNeeds d s = (s ≡ (arc_value d.stop).left.id) ⊎ (s ≡ sleep_source d.limit)
 
--- a shutdown waits for the listener, and then for the connections
+-- a shutdown waits for the listener, as long as it would for the connections, and then for those
 abbrev pub StoppingNeeds : Stopping → ℕ → Type 0
-StoppingNeeds (Listens listener connections) s = s ≡ (arc_value listener.stop).left.id
+StoppingNeeds (Listens listener connections) s = (s ≡ (arc_value listener.stop).left.id) ⊎ (s ≡ sleep_source connections.limit)
 StoppingNeeds (Disconnects connections) s = DisconnectNeeds connections s
 StoppingNeeds Done s = ⊥
 

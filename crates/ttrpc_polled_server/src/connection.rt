@@ -1,14 +1,16 @@
 //! The future of a server's connection.
-ghost use Rattle.std.specs.Prelude.{◌≡◌, ◌≢◌, ◌<◌, ◌⊎◌, ◌↔◌, [], pos, true, false, IfErr, IfOk, None};
+ghost use Rattle.std.specs.Prelude.{◌≡◌, ◌≢◌, ◌<◌, ◌⊎◌, [], true, false, IfErr, IfOk, IfSome, None};
 ghost use Rattle.std.specs.Arc.{arc_value};
-ghost use Rattle.futures.specs.Task.{Covers, Keeps};
+ghost use Rattle.futures.specs.Queued.{set_len};
+ghost use Rattle.futures.specs.Task.{Covers, Hears, Keeps};
 ghost use Rattle.ttrpc_proto.specs.declared.error.Error.{Error as AnError};
 ghost use Rattle.ttrpc_polled_server.specs.Handling.{HandledCanPoll};
 ghost use Rattle.ttrpc_polled.specs.Needs.{LinkNeeds};
-ghost use Rattle.ttrpc_polled_server.specs.Needs.{CanPoll, ConnectionNeeds, EndNeeds, asked_source};
+ghost use Rattle.ttrpc_polled_server.specs.Needs.{CanPoll, ConnectionNeeds, EndNeeds, HasAsked, IsSameBeside, asked_source};
 
 use crate::ended::Ended;
 use crate::handler::{MethodHandler, StreamHandler, TtrpcContext};
+use crate::input_end::InputEnd;
 use crate::pace::Pace;
 use crate::running::{Handled, Running};
 use crate::services::Services;
@@ -22,17 +24,22 @@ use std::alloc::Global;
 use std::sync::Arc;
 use std::time::{Clock, Duration};
 use tokio::io::{AsyncRead, AsyncWrite};
-use ttrpc_polled::{Alarm, Link, Step, StreamInner, Timed, moment};
-use ttrpc_proto::{Error, Result};
+use ttrpc_polled::{Alarm, Link, Share, Step, StreamInner, Timed, moment};
+use ttrpc_proto::{Error, MessageHeader, Request, Result};
 use ttrpc_secure::{ConnectionData, InboundTransform, OutboundTransform};
 use ttrpc_server::{Job, JobId};
 
 /// How often one poll turns at most, before it lets other tasks run.
 const TURNS: u8 = 64;
 
-/// The future of a server's connection: while it is polled, requests are read, their handlers run, and their answers are
-/// written. It is ready once the connection is over. Once it is over, or its server disconnects, it waits for the handlers that
-/// run, for a limited time.
+/// The future of a server's connection. While it is polled, requests are read, their handlers run, and their answers are written.
+/// It is ready when the connection is over. After the connection has failed, or the server disconnects, it waits a limited time for
+/// the handlers that still run.
+///
+/// A poll first looks whether the server disconnects, whether a time limit has passed, and whether a job has expired. It ends after
+/// one piece of at most 64 KiB, after 16 jobs that it began or ended, or after some 100 microseconds, whichever comes first, and lets
+/// other tasks run. The first 4 ready answers leave together, then the next 8, and from then on 16 at a time; the answers that are
+/// ready when a poll ends leave at its end.
 pub struct ServerConnection<
     R: Timed,
     M: MethodHandler,
@@ -52,8 +59,11 @@ pub struct ServerConnection<
     pace: Pace,
     is_over: bool,
     is_ending: bool,
+    is_leaving: bool,
     grace: Alarm,
     limit: Duration,
+    half_close: Option<Duration>,
+    input_end: Arc<InputEnd, Global>,
 }
 
 /// What a connection is made of beside its two ends.
@@ -65,6 +75,8 @@ pub(crate) struct Parts<M: Drop, T: Drop, O, I> {
     pub(crate) seat: Seat,
     pub(crate) grace: Alarm,
     pub(crate) limit: Duration,
+    pub(crate) half_close: Option<Duration>,
+    pub(crate) input_end: Arc<InputEnd, Global>,
 }
 
 impl<R, M, T, S, W, O, I> ServerConnection<R, M, T, S, W, O, I>
@@ -85,7 +97,7 @@ where
     ) -> Result<Self>
         ensures can { IfOk result (CanPoll M.Call.Future.can_poll T.Call.Future.can_poll) }
         ensures made { IfOk result (λ c. (c.link ≡ link) × (c.shared ≡ parts.shared) × (c.services ≡ parts.services) × (c.connection_data ≡ parts.connection_data)
-            × (c.seat ≡ parts.seat) × (c.limit ≡ parts.limit) × (c.is_over ≡ false) × (c.is_ending ≡ false)) }
+            × (c.seat ≡ parts.seat) × (c.limit ≡ parts.limit) × (c.half_close ≡ parts.half_close) × (c.is_over ≡ false) × (c.is_ending ≡ false) × (c.is_leaving ≡ false)) }
         ensures err { IfErr result (λ e. e ≡ AnError.NoMemory) }
     {
         let Parts {
@@ -95,6 +107,8 @@ where
             seat,
             grace,
             limit,
+            half_close,
+            input_end,
         } = parts;
         Ok(ServerConnection {
             jobs: FuturesUnordered::new(rt.alloc())?,
@@ -107,50 +121,131 @@ where
             pace: Pace::new(),
             is_over: false,
             is_ending: false,
+            is_leaving: false,
             grace,
             limit,
+            half_close,
+            input_end,
         })
     }
 
-    /// Polls the handlers, or begins a job that waits, or moves bytes and looks whether the connection is to end.
-    fn turn(&mut self, cx: &mut Context<'_>) -> Step
-        requires { CanPoll M.Call.Future.can_poll T.Call.Future.can_poll self.old }
+    /// Begins a poll: looks whether the connection is to end and whether a time limit has passed, and tells the core the moment.
+    /// Returns `None` if the time for the connection's end has passed.
+    fn look(&mut self, cx: &mut Context<'_>) -> Option<Share>
+        ensures asked { HasAsked self.new cx.new }
+        ensures due { IfSome result (λ share. self.new.is_ending ≡ true → self.old.is_ending ≡ true → IfSome self.new.grace.set_for (λ at. share.moment < at)) }
+        ensures jobs { self.new.jobs ≡ self.old.jobs }
+        ensures kept { Keeps cx.old cx.new }
+    {
+        let share = self.link.look();
+        let is_due = self.grace.is_due(share.now());
+        if self.is_ending {
+            return if is_due { None } else { Some(share) };
+        }
+        if self.is_to_end(cx) {
+            self.begin_end();
+        } else if is_due {
+            self.let_calls_go();
+        }
+        Some(share)
+    }
+
+    /// Returns whether the connection is to end: its link is over, or the server disconnects. If not, the task is woken when the server
+    /// does.
+    fn is_to_end(&mut self, cx: &mut Context<'_>) -> bool
+        ensures asked { result ≡ false → Covers cx.new (λ s. s ≡ (arc_value self.new.seat.stop).told.id) }
+        ensures rest { (self.new ≡ record self.old { seat = self.new.seat }) × (self.new.seat.stop ≡ self.old.seat.stop) }
+        ensures kept { Keeps cx.old cx.new }
+    {
+        if self.is_over {
+            return true;
+        }
+        self.seat.is_told(cx)
+    }
+
+    /// Begins or ends a job; if there is none, moves bytes and looks whether the connection may end.
+    fn turn(&mut self, share: &mut Share, cx: &mut Context<'_>) -> Step
+        requires can { CanPoll M.Call.Future.can_poll T.Call.Future.can_poll self.old }
+        requires asked { HasAsked self.old cx.old }
         ensures can { CanPoll M.Call.Future.can_poll T.Call.Future.can_poll self.new }
+        ensures asked { HasAsked self.new cx.new }
         ensures waits { result ≡ Step.Waits → Covers cx.new (ConnectionNeeds S.AsyncRead.needs W.AsyncWrite.needs self.new) }
         ensures kept { Keeps cx.old cx.new }
     {
-        if !self.jobs.is_empty() {
-            if let Poll::Ready(given) = self.jobs.poll_next(cx) {
-                if let Some((id, ended)) = given {
-                    self.end_in_time(id, &ended, cx);
-                }
-                return Step::Moved;
+        if self.works(cx) {
+            share.worked(&self.rt);
+            if self.pace.leaves() {
+                self.flush(share, cx);
             }
-        }
-        if let Some(job) = self.next_job() {
-            self.begin(job, cx);
             return Step::Moved;
         }
         self.pace = Pace::new();
-        match self.poll_link(cx) {
+        match self.poll_link(share, cx) {
             Step::Waits => self.poll_end(cx),
             step => step,
         }
     }
 
-    /// Tells the core how a handler ended. Where enough answers are ready, they leave.
-    fn end_in_time(&mut self, id: JobId, ended: &Ended, cx: &mut Context<'_>)
+    /// Polls the running handlers, or begins a waiting job. Returns whether a handler has ended or a job was begun.
+    fn works(&mut self, cx: &mut Context<'_>) -> bool
+        requires { CanPoll M.Call.Future.can_poll T.Call.Future.can_poll self.old }
+        ensures can { CanPoll M.Call.Future.can_poll T.Call.Future.can_poll self.new }
+        ensures waits { result ≡ false → 0 < set_len self.new.jobs → Hears cx.new self.new.jobs.tasks.source.id }
+        ensures rest { IsSameBeside self.old self.new }
+        ensures kept { Keeps cx.old cx.new }
+    {
+        if self.handles(cx) {
+            return true;
+        }
+        let Some(job) = self.next_job() else {
+            return false;
+        };
+        self.begin(job, cx);
+        true
+    }
+
+    /// Polls the running handlers. Returns whether one has ended.
+    fn handles(&mut self, cx: &mut Context<'_>) -> bool
+        requires { CanPoll M.Call.Future.can_poll T.Call.Future.can_poll self.old }
+        ensures can { CanPoll M.Call.Future.can_poll T.Call.Future.can_poll self.new }
+        ensures waits { result ≡ false → 0 < set_len self.new.jobs → Hears cx.new self.new.jobs.tasks.source.id }
+        ensures rest { IsSameBeside self.old self.new }
+        ensures kept { Keeps cx.old cx.new }
+    {
+        if self.jobs.is_empty() {
+            return false;
+        }
+        let Poll::Ready(given) = self.jobs.poll_next(cx) else {
+            return false;
+        };
+        if let Some((id, ended)) = given {
+            self.end(id, &ended);
+        }
+        true
+    }
+
+    /// Ends a poll: lets the ready answers leave.
+    fn end_poll(&mut self, share: &mut Share, cx: &mut Context<'_>)
         ensures jobs { self.new.jobs ≡ self.old.jobs }
         ensures kept { Keeps cx.old cx.new }
     {
-        self.end(id, ended);
-        if self.pace.one_more() {
-            let _ = self.poll_link(cx);
+        if self.pace.ends() {
+            self.flush(share, cx);
+        }
+    }
+
+    /// Lets ready answers leave, unless the link is over.
+    fn flush(&mut self, share: &mut Share, cx: &mut Context<'_>)
+        ensures rest { (self.new.jobs ≡ self.old.jobs) × (self.new.seat ≡ self.old.seat) × (self.new.grace ≡ self.old.grace) × (self.new.is_ending ≡ self.old.is_ending) }
+        ensures kept { Keeps cx.old cx.new }
+    {
+        if !self.is_over && self.link.flush(share, cx) {
+            self.is_over = true;
         }
     }
 
     /// Moves bytes, unless the link is over. It waits, too, where that is over.
-    fn poll_link(&mut self, cx: &mut Context<'_>) -> Step
+    fn poll_link(&mut self, share: &mut Share, cx: &mut Context<'_>) -> Step
         ensures waits { result ≡ Step.Waits → (self.new.is_over ≡ true) ⊎ Covers cx.new (LinkNeeds S.AsyncRead.needs W.AsyncWrite.needs asked_source self.new.link) }
         ensures rest { (self.new.jobs ≡ self.old.jobs) × (self.new.seat ≡ self.old.seat) × (self.new.grace ≡ self.old.grace) × (self.new.is_ending ≡ self.old.is_ending) }
         ensures kept { Keeps cx.old cx.new }
@@ -158,7 +253,7 @@ where
         if self.is_over {
             return Step::Waits;
         }
-        match self.link.turn(cx) {
+        match self.link.turn(share, cx) {
             Step::Waits => Step::Waits,
             Step::Moved | Step::Gathered => Step::Moved,
             Step::Over => {
@@ -171,13 +266,14 @@ where
     /// The next job that waits.
     fn next_job(&self) -> Option<Job> {
         let mut guard = lock(&self.shared.held)?;
-        (&mut *guard).core.take_job()
+        (&mut *guard).take_job()
     }
 
     /// Begins a job. Where it can't begin, its client is told why.
     fn begin(&mut self, job: Job, cx: &mut Context<'_>)
         requires { CanPoll M.Call.Future.can_poll T.Call.Future.can_poll self.old }
         ensures can { CanPoll M.Call.Future.can_poll T.Call.Future.can_poll self.new }
+        ensures rest { IsSameBeside self.old self.new }
         ensures kept { Keeps cx.old cx.new }
     {
         let id = job.id;
@@ -198,7 +294,8 @@ where
     fn run(&mut self, begun: Result<Running<M::Call, T::Call, O, I>>) -> Result<()>
         requires run { CanPoll M.Call.Future.can_poll T.Call.Future.can_poll self.old }
         requires begun { IfOk begun (λ running. HandledCanPoll M.Call.Future.can_poll T.Call.Future.can_poll running.handled) }
-        ensures { CanPoll M.Call.Future.can_poll T.Call.Future.can_poll self.new }
+        ensures can { CanPoll M.Call.Future.can_poll T.Call.Future.can_poll self.new }
+        ensures rest { IsSameBeside self.old self.new }
     {
         match self.jobs.push(begun?) {
             Ok(()) => Ok(()),
@@ -215,13 +312,14 @@ where
         requires run { CanPoll M.Call.Future.can_poll T.Call.Future.can_poll self.old }
         requires begun { IfOk begun (λ running. HandledCanPoll M.Call.Future.can_poll T.Call.Future.can_poll running.handled) }
         ensures can { CanPoll M.Call.Future.can_poll T.Call.Future.can_poll self.new }
+        ensures rest { IsSameBeside self.old self.new }
         ensures kept { Keeps cx.old cx.new }
     {
         let mut running = begun?;
         match running.poll(cx) {
             Poll::Pending => self.run(Ok(running)),
             Poll::Ready((id, ended)) => {
-                self.end_in_time(id, &ended, cx);
+                self.end(id, &ended);
                 Ok(())
             }
         }
@@ -231,7 +329,7 @@ where
     fn method_call(&self, job: Job) -> Result<Running<M::Call, T::Call, O, I>>
         ensures can { IfOk result (λ running. HandledCanPoll M.Call.Future.can_poll T.Call.Future.can_poll running.handled) }
         ensures own { IfOk result (λ running. (running.id ≡ job.id) × (arc_value running.shared ≡ arc_value self.now.shared)) }
-        ensures limited { IfOk result (λ running. (running.expires ≡ true) ↔ (job.request.timeout_nano ≢ pos 0)) }
+        ensures dropped { IfOk result (λ running. running.may_be_dropped ≡ true) }
     {
         let Job {
             id,
@@ -240,8 +338,7 @@ where
             request,
         } = job;
         let shared = Arc::try_clone(&self.shared)?;
-        let context = TtrpcContext::new(self.rt.alloc(), header, &request, &self.connection_data)?;
-        let expires = request.timeout_nano != 0;
+        let context = self.context(header, &request)?;
         let Some(handler) = self
             .services
             .method(request.service.as_str(), request.method.as_str())
@@ -251,7 +348,7 @@ where
         Ok(Running {
             shared,
             id,
-            expires,
+            may_be_dropped: true,
             handled: Handled::Method(handler.handler(context, request)),
         })
     }
@@ -260,7 +357,7 @@ where
     fn stream_call(&self, job: Job) -> Result<Running<M::Call, T::Call, O, I>>
         ensures can { IfOk result (λ running. HandledCanPoll M.Call.Future.can_poll T.Call.Future.can_poll running.handled) }
         ensures own { IfOk result (λ running. (running.id ≡ job.id) × (arc_value running.shared ≡ arc_value self.now.shared)) }
-        ensures unlimited { IfOk result (λ running. running.expires ≡ false) }
+        ensures kept { IfOk result (λ running. running.may_be_dropped ≡ false) }
     {
         let Job {
             id,
@@ -268,9 +365,8 @@ where
             stream: _,
             request,
         } = job;
-        let alloc = self.rt.alloc();
         let shared = Arc::try_clone(&self.shared)?;
-        let context = TtrpcContext::new(alloc, header, &request, &self.connection_data)?;
+        let context = self.context(header, &request)?;
         let Some(handler) = self
             .services
             .stream(request.service.as_str(), request.method.as_str())
@@ -279,24 +375,41 @@ where
         };
         let sends = Arc::try_clone(&self.shared)?;
         let receives = Arc::try_clone(&self.shared)?;
-        let stream = StreamInner::new(alloc, sends, receives, id)?;
+        let stream = StreamInner::new(self.rt.alloc(), sends, receives, id)?;
         Ok(Running {
             shared,
             id,
-            expires: false,
+            may_be_dropped: false,
             handled: Handled::Stream(handler.handler(context, stream)),
         })
     }
 
+    /// Makes the context of a request with this header.
+    fn context(&self, header: MessageHeader, request: &Request) -> Result<TtrpcContext> {
+        TtrpcContext::new(
+            self.rt.alloc(),
+            header,
+            request,
+            &self.connection_data,
+            &self.input_end,
+        )
+    }
+
     /// Tells the core how a handler ended.
-    fn end(&self, id: JobId, ended: &Ended) {
+    fn end(&mut self, id: JobId, ended: &Ended)
+        ensures jobs { self.new.jobs ≡ self.old.jobs }
+        ensures rest { IsSameBeside self.old self.new }
+    {
         if let Some(mut guard) = lock(&self.shared.held) {
             (&mut *guard).end(id, ended);
         }
+        self.pace.one_more();
     }
 
-    /// Looks whether the connection is to end, or may end by now.
+    /// Looks whether the connection may end. The poll has asked before whether it is to end.
     fn poll_end(&mut self, cx: &mut Context<'_>) -> Step
+        requires asked { HasAsked self.old cx.old }
+        ensures asked { HasAsked self.new cx.new }
         ensures waits { result ≡ Step.Waits → Covers cx.new (EndNeeds self.new) }
         ensures rest { (self.new.jobs ≡ self.old.jobs) × (self.new.link ≡ self.old.link) × (self.new.is_over ≡ self.old.is_over) }
         ensures kept { Keeps cx.old cx.new }
@@ -304,27 +417,79 @@ where
         if self.is_ending {
             return self.poll_grace(cx);
         }
-        if self.is_over || self.seat.is_told(cx) {
+        if self.is_over {
             self.begin_end();
             return Step::Moved;
         }
         if self.link.keeps_nothing() && self.finish_input() {
             return Step::Moved;
         }
-        Step::Waits
+        self.poll_half_close(cx)
     }
 
     /// Nothing more is taken, and the handlers that run have a limited time.
     fn begin_end(&mut self)
-        ensures { (self.new.jobs ≡ self.old.jobs) × (self.new.link ≡ self.old.link) × (self.new.is_over ≡ self.old.is_over) }
+        ensures rest { (self.new.jobs ≡ self.old.jobs) × (self.new.link ≡ self.old.link) × (self.new.is_over ≡ self.old.is_over) × (self.new.seat ≡ self.old.seat) }
+        ensures ends { self.new.is_ending ≡ true }
     {
         self.is_ending = true;
         if let Some(mut guard) = lock(&self.shared.held) {
             (&mut *guard).core.drain();
         }
-        let limit = u64::try_from(self.limit.as_nanos()).unwrap_or(u64::MAX);
+        self.grace.unset();
+        self.set_grace(self.limit);
+    }
+
+    /// Sets the alarm to ring after this time.
+    fn set_grace(&mut self, limit: Duration)
+        ensures { self.new ≡ record self.old { grace = self.new.grace } }
+    {
+        let limit = u64::try_from(limit.as_nanos()).unwrap_or(u64::MAX);
         let now = moment(&self.rt).unwrap_or(0);
         self.grace.set(&self.rt, now.saturating_add(limit));
+    }
+
+    /// Sets the alarm for the handlers of requests, when the input has ended.
+    fn begin_half_close(&mut self)
+        ensures { self.new ≡ record self.old { is_leaving = self.new.is_leaving; grace = self.new.grace } }
+    {
+        if self.is_leaving || self.link.is_reading() {
+            return;
+        }
+        self.is_leaving = true;
+        if let Some(limit) = self.half_close {
+            self.set_grace(limit);
+        }
+    }
+
+    /// After the input has ended, lets the handlers of requests go on for a limited time.
+    fn poll_half_close(&mut self, cx: &mut Context<'_>) -> Step
+        requires going { self.old.is_ending ≡ false }
+        requires asked { HasAsked self.old cx.old }
+        ensures asked { HasAsked self.new cx.new }
+        ensures waits { result ≡ Step.Waits → Covers cx.new (EndNeeds self.new) }
+        ensures rest { (self.new.jobs ≡ self.old.jobs) × (self.new.link ≡ self.old.link) × (self.new.is_over ≡ self.old.is_over) }
+        ensures kept { Keeps cx.old cx.new }
+    {
+        self.begin_half_close();
+        if self.grace.set_for.is_none() {
+            return Step::Waits;
+        }
+        if self.grace.poll_ring(&self.rt, cx).is_pending() {
+            return Step::Waits;
+        }
+        self.let_calls_go();
+        Step::Moved
+    }
+
+    /// Drops the handlers of requests: the input ended too long ago.
+    fn let_calls_go(&mut self)
+        ensures { self.new ≡ record self.old { grace = record self.old.grace { set_for = None } } }
+    {
+        self.grace.unset();
+        if let Some(mut guard) = lock(&self.shared.held) {
+            (&mut *guard).let_calls_go();
+        }
     }
 
     /// Tells the core that the input has ended, once nothing more comes of what it brought. True: it was told now.
@@ -333,7 +498,7 @@ where
             return false;
         };
         let held = &mut *guard;
-        if !held.is_answered(self.jobs.len()) || held.core.has_failed() {
+        if !self.jobs.is_empty() || !held.is_answered() || held.core.has_failed() {
             return false;
         }
         held.finish_input();
@@ -343,6 +508,7 @@ where
     /// Ends it once no handler runs and all is written, or once the time for that is up.
     fn poll_grace(&mut self, cx: &mut Context<'_>) -> Step
         requires { self.old.is_ending ≡ true }
+        ensures ending { self.new.is_ending ≡ true }
         ensures waits { result ≡ Step.Waits → Covers cx.new (EndNeeds self.new) }
         ensures rest { (self.new.jobs ≡ self.old.jobs) × (self.new.link ≡ self.old.link) × (self.new.is_over ≡ self.old.is_over) }
         ensures kept { Keeps cx.old cx.new }
@@ -376,13 +542,21 @@ where
     ghost needs = { ConnectionNeeds S.AsyncRead.needs W.AsyncWrite.needs };
 
     fn poll(&mut self, cx: &mut Context<'_>) -> Poll<()> {
+        let Some(mut share) = self.look(cx) else {
+            return Poll::Ready(());
+        };
         for _ in 0..TURNS {
-            match self.turn(cx) {
-                Step::Moved | Step::Gathered => {}
+            match self.turn(&mut share, cx) {
+                Step::Moved | Step::Gathered => {
+                    if share.is_over() {
+                        break;
+                    }
+                }
                 Step::Waits => return Poll::Pending,
                 Step::Over => return Poll::Ready(()),
             }
         }
+        self.end_poll(&mut share, cx);
         cx.yield_now()
     }
 }
@@ -409,8 +583,11 @@ where
             pace: _,
             is_over: _,
             is_ending: _,
+            is_leaving: _,
             grace: _,
             limit: _,
+            half_close: _,
+            input_end: _,
         } = self;
         if let Some(mut guard) = lock(&shared.held) {
             (&mut *guard).abandon();

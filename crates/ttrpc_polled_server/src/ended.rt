@@ -1,6 +1,6 @@
 //! How a handler ended.
-ghost use Rattle.std.specs.Prelude.{◌≡◌};
-ghost use Rattle.ttrpc_polled_server.specs.Steps.{IsEnded, failed_by};
+ghost use Rattle.std.specs.Prelude.{◌≡◌, true, false};
+ghost use Rattle.ttrpc_polled_server.specs.Steps.{IsDisconnect, IsEnded, failed_by};
 
 use std::alloc::Global;
 use ttrpc_proto::{Error, Response, Result};
@@ -14,8 +14,8 @@ pub enum Ended {
     Answers(Result<Response>),
     /// It ended a stream: `end_stream`.
     Ends(Result<Option<Response>>),
-    /// It was dropped, since its job had expired: no call.
-    Expired,
+    /// It was dropped, because its job had expired or its client was gone: no call.
+    Dropped,
 }
 
 impl Ended {
@@ -31,7 +31,21 @@ impl Ended {
         match self {
             Ended::Answers(response) => core.answer(alloc, id, response),
             Ended::Ends(end) => core.end_stream(alloc, id, end),
-            Ended::Expired => Ok(()),
+            Ended::Dropped => Ok(()),
+        }
+    }
+
+    /// Returns whether a stream's handler ended by the error that a receiver is given after the end of the input.
+    pub fn is_disconnect(&self) -> bool
+        ensures yes { result ≡ true → IsDisconnect self.now }
+        ensures no { result ≡ false → ¬ (IsDisconnect self.now) }
+    {
+        match self {
+            Ended::Ends(Err(Error::Socket(text))) => {
+                text.as_str() == "socket disconnected"
+                    || text.as_str() == "socket disconnected inside a frame"
+            }
+            _ => false,
         }
     }
 
@@ -42,7 +56,7 @@ impl Ended {
         match self {
             Ended::Answers(_) => Ended::Answers(Err(error)),
             Ended::Ends(_) => Ended::Ends(Err(error)),
-            Ended::Expired => Ended::Expired,
+            Ended::Dropped => Ended::Dropped,
         }
     }
 }

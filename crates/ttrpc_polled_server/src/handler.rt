@@ -3,6 +3,7 @@ ghost use Rattle.std.specs.Prelude.{◌≡◌, ℕ, List, IfErr, IfOk, IsSome, S
 ghost use Rattle.std.specs.Arc.{arc_value};
 ghost use Rattle.ttrpc_message.specs.Metadata.{seen, some_texts, texts_of, values_at};
 
+use crate::input_end::InputEnd;
 use futures::Future;
 use futures::future::{Ready, ready};
 use std::alloc::Global;
@@ -26,6 +27,8 @@ pub struct TtrpcContext {
     pub timeout_nano: i64,
     /// What is known of the connection.
     pub connection_data: Arc<ConnectionData, Global>,
+    /// The end of the connection's input. When it has come, the client may be gone. `InputEnd::wait` waits for it.
+    pub input_end: Arc<InputEnd, Global>,
 }
 
 impl TtrpcContext {
@@ -35,6 +38,7 @@ impl TtrpcContext {
         mh: MessageHeader,
         request: &Request,
         known: &Arc<ConnectionData, Global>,
+        input_end: &Arc<InputEnd, Global>,
     ) -> Result<TtrpcContext>
         // It has the header, what the request says and what is known.
         ensures header { IfOk result (λ context. context.mh ≡ mh) }
@@ -42,6 +46,7 @@ impl TtrpcContext {
             → texts_of (seen context.metadata.entries) key ≡ some_texts (values_at request.now.metadata key)) }
         ensures timeout { IfOk result (λ context. context.timeout_nano ≡ request.now.timeout_nano) }
         ensures known { IfOk result (λ context. arc_value context.connection_data ≡ arc_value known.now) }
+        ensures input_end { IfOk result (λ context. arc_value context.input_end ≡ arc_value input_end.now) }
         // An error is want of memory.
         ensures only_memory { IfErr result (λ e. e ≡ Error.NoMemory) }
     {
@@ -51,6 +56,7 @@ impl TtrpcContext {
             metadata: from_pb(alloc, request.metadata.as_slice())?,
             timeout_nano: request.timeout_nano,
             connection_data: Arc::try_clone(known)?,
+            input_end: Arc::try_clone(input_end)?,
         })
     }
 
@@ -74,7 +80,8 @@ impl fmt::Debug for TtrpcContext {
 /// Handles the requests of a method.
 pub trait MethodHandler: Drop {
     /// A request that is being handled. It gives the response, or an error, of which the client is told by a status of code
-    /// UNKNOWN and its text. Once the request's deadline has passed it is dropped.
+    /// UNKNOWN and its text. It is dropped when the request's deadline has passed, when the connection has failed, and a limited
+    /// time after the connection's input has ended.
     type Call: Future<Output = Result<Response>>;
 
     /// Begins to handle a request. What it does before it returns holds up the whole connection.

@@ -1,22 +1,30 @@
 //! What stands under the lock of a server's connection.
-ghost use Rattle.std.specs.Prelude.{◌≡◌, ◌≤◌, ◌<◌, [], length, true, false};
+ghost use Rattle.std.specs.Prelude.{◌≡◌, ◌≢◌, ◌⊎◌, [], length, None, IfNone, IfSome, IsSome, true, false};
+ghost use Rattle.ttrpc_server.specs.Protocol.{Hands};
 ghost use Rattle.futures.specs.Poll.{IfReady, OnPending};
 ghost use Rattle.futures.specs.Task.{Covers, Keeps};
 ghost use Rattle.ttrpc_proto.specs.declared.error.Error.{Error as AnError};
 ghost use Rattle.ttrpc_connection.specs.OneEnd.{Ends, failing};
 ghost use Rattle.ttrpc_proto.specs.Framing.Queue.{unsent};
 ghost use Rattle.ttrpc_connection.specs.declared.failure.Failure.{Failure as AFailure};
-ghost use Rattle.ttrpc_server.specs.State.{IsTaken, IsUnknown};
+ghost use Rattle.ttrpc_server.specs.State.{IsTaken, IsUnknown, NoneWaits};
 ghost use Rattle.ttrpc_server.specs.declared.job.ActiveJob.{ActiveJob as AJob};
 ghost use Rattle.ttrpc_server.specs.Streaming.{ReceivesOne, unheard};
 ghost use Rattle.ttrpc_polled.specs.Streams.Polling.{Polls, answer_of};
 ghost use Rattle.ttrpc_polled.specs.Streams.Steps.{is_new as is_unsent};
-ghost use Rattle.ttrpc_polled_server.specs.Steps.{EndsJob, IsSending};
+ghost use Rattle.ttrpc_polled.specs.Streams.Waiting.{nobody};
+ghost use Rattle.ttrpc_polled_server.specs.Built.{pause_end};
+ghost use Rattle.ttrpc_polled_server.specs.Held.{IsLate, IsLeft, ReceivesLast, TellsEnd, TicksAndTells, sooner};
+ghost use Rattle.ttrpc_polled_server.specs.Steps.{EndsJob, IsSending, PassesOn};
 
 use crate::ended::Ended;
+use crate::input_end::InputEnd;
+use crate::settings::Settings;
 use futures::task::{Context, Poll, Source, Waker};
 use std::alloc::Global;
 use std::io::ErrorKind;
+use std::sync::Arc;
+use ttrpc_connection::{Failure, StreamCore};
 use ttrpc_polled::{Held, Sending, StreamWakers, Wakers};
 use ttrpc_proto::{Error, Result};
 use ttrpc_secure::{InboundTransform, OutboundTransform};
@@ -30,29 +38,77 @@ pub struct ServerHeld<O, I> {
     alloc: Global,
     running: Wakers,
     streams: StreamWakers,
+    settings: Settings,
+    input_end: Arc<InputEnd, Global>,
     pub input_ended: bool,
+    pub is_gone: bool,
+    unbegun: u64,
+    pause: Option<u64>,
     pub driver: Option<Waker>,
 }
 
 impl<O: OutboundTransform + Drop, I: InboundTransform + Drop> ServerHeld<O, I> {
-    /// This core, for which nobody waits.
-    pub fn new(alloc: Global, core: ServerCore<O, I>) -> Self
-        ensures { (result.core ≡ core) × (result.input_ended ≡ false) }
+    /// Makes the state of this core, for which nobody waits, with these settings. `input_end` is told when the input has ended.
+    pub fn new(
+        alloc: Global,
+        core: ServerCore<O, I>,
+        settings: Settings,
+        input_end: Arc<InputEnd, Global>,
+    ) -> Self
+        ensures { (result.core ≡ core) × (result.settings ≡ settings) × (result.input_ended ≡ false) × (result.is_gone ≡ false) × (result.pause ≡ None) }
     {
         ServerHeld {
             core,
             alloc,
             running: Wakers::new(alloc),
             streams: StreamWakers::new(alloc),
+            settings,
+            input_end,
             input_ended: false,
+            is_gone: false,
+            unbegun: 0,
+            pause: None,
             driver: None,
         }
     }
 
-    /// Tells the core how the handler of a job ended. Where what it gave can't be sent, the client is told why by a status,
-    /// and where that can't be sent either the connection fails, so that the client doesn't wait for ever.
+    /// Returns the job that has waited longest, to be begun.
+    pub fn take_job(&mut self) -> Option<Job>
+        ensures handed { IfSome result (λ job. Hands self.old.core job self.new.core) }
+        ensures none { IfNone result ((self.new.core ≡ self.old.core)
+            × (self.old.core.connection.failure ≡ None → NoneWaits self.old.core.state.jobs.list)) }
+    {
+        let job = self.core.take_job()?;
+        if self.core.jobs_waiting() == 0 {
+            self.unbegun = 0;
+        } else {
+            let length = job.request.payload.len() as u64;
+            self.unbegun = self.unbegun.saturating_sub(length);
+        }
+        Some(job)
+    }
+
+    /// Tells the core how the handler of a job ended. If its answer can't be sent, the client gets a status that says why; if that
+    /// can't be sent either, the connection fails, so that the client doesn't wait for ever. A stream's handler that ends by the error
+    /// that it was given at the end of the input isn't answered. Wakes the tasks that wait for the job or receive from its stream.
     pub fn end(&mut self, id: JobId, ended: &Ended)
-        ensures { EndsJob O.OutboundTransform self.old.core id ended.now self.new.core }
+        ensures ends { EndsJob O.OutboundTransform self.old.core id ended.now self.new.core ⊎ PassesOn self.old.input_ended self.old.core ended.now self.new.core }
+        ensures told { ¬ (PassesOn self.old.input_ended self.old.core ended.now self.old.core) → EndsJob O.OutboundTransform self.old.core id ended.now self.new.core }
+        ensures running { IsLeft id self.old.running self.new.running }
+        ensures receivers { IsLeft id self.old.streams.receivers self.new.streams.receivers }
+    {
+        if !(self.input_ended && ended.is_disconnect()) {
+            self.tell_end(id, ended);
+        }
+        self.running.wake(id);
+        self.streams.wake_receiver(id);
+    }
+
+    /// Tells the core how the handler of a job ended, and wakes everybody if the connection fails by that.
+    fn tell_end(&mut self, id: JobId, ended: &Ended)
+        ensures ends { EndsJob O.OutboundTransform self.old.core id ended.now self.new.core }
+        ensures running { (self.new.running ≡ self.old.running) ⊎ (self.new.running ≡ []) }
+        ensures streams { (self.new.streams ≡ self.old.streams) ⊎ (self.new.streams ≡ nobody) }
     {
         let Err(refusal) = ended.step(self.alloc, &mut self.core, id) else {
             return;
@@ -68,18 +124,28 @@ impl<O: OutboundTransform + Drop, I: InboundTransform + Drop> ServerHeld<O, I> {
         }
     }
 
-    /// Waits until the job of this number has expired.
-    pub fn poll_expired(&mut self, id: JobId, came: &Source, cx: &mut Context<'_>) -> Poll<()>
-        ensures over { IfReady result (λ _. IsUnknown self.old.core.state.jobs.list id) }
+    /// Waits until the handler of this job is to be dropped: the job has expired, the connection has failed, or the input ended too
+    /// long ago.
+    pub fn poll_dropped(&mut self, id: JobId, came: &Source, cx: &mut Context<'_>) -> Poll<()>
+        ensures over { IfReady result (λ _. (self.old.is_gone ≡ true) ⊎ IsSome self.old.core.connection.failure ⊎ IsUnknown self.old.core.state.jobs.list id) }
         ensures runs { OnPending result ((job : AJob) × IsTaken self.old.core.state.jobs.list id job) }
+        ensures lives { OnPending result ((self.old.is_gone ≡ false) × (self.old.core.connection.failure ≡ None)) }
         ensures same { self.new.core ≡ self.old.core }
         ensures registered { OnPending result (Covers cx.new (λ s. s ≡ came.now.id)) }
         ensures kept { Keeps cx.old cx.new }
     {
-        if self.core.stream_of(id).is_none() {
+        if self.is_dropped(id) {
             return Poll::Ready(());
         }
         self.running.wait(id, came, cx)
+    }
+
+    /// Returns whether the handler of this job is to be dropped.
+    fn is_dropped(&self, id: JobId) -> bool
+        ensures yes { result ≡ true → (self.now.is_gone ≡ true) ⊎ IsSome self.now.core.connection.failure ⊎ IsUnknown self.now.core.state.jobs.list id }
+        ensures no { result ≡ false → (self.now.is_gone ≡ false) × (self.now.core.connection.failure ≡ None) × ((job : AJob) × IsTaken self.now.core.state.jobs.list id job) }
+    {
+        self.is_gone || self.core.has_failed() || self.core.stream_of(id).is_none()
     }
 
     /// Steps a call that sends on a stream.
@@ -99,19 +165,55 @@ impl<O: OutboundTransform + Drop, I: InboundTransform + Drop> ServerHeld<O, I> {
             .poll_sending_on(alloc, core, id, sending, came, cx)
     }
 
-    /// Receives from a stream.
+    /// Receives from a stream. After the input has ended nobody waits: a receiver gets the items that came, and then once the error
+    /// that the other side is gone.
     pub fn poll_receiving(
         &mut self,
         id: JobId,
         came: &Source,
         cx: &mut Context<'_>,
     ) -> Poll<Result<Blob>>
-        ensures receives { ReceivesOne self.old.core id (answer_of result) self.new.core }
+        ensures receives { self.old.input_ended ≡ false → ReceivesOne self.old.core id (answer_of result) self.new.core }
+        ensures ended { self.old.input_ended ≡ true → ReceivesLast self.old.core id result self.new.core }
         ensures registered { OnPending result (Covers cx.new (λ s. s ≡ came.now.id)) }
         ensures kept { Keeps cx.old cx.new }
     {
+        if self.input_ended {
+            return Poll::Ready(self.receive_last(id));
+        }
         let (alloc, core) = (self.alloc, &mut self.core);
         self.streams.poll_receiving_on(alloc, core, id, came, cx)
+    }
+
+    /// Receives from a stream after the input has ended.
+    fn receive_last(&mut self, id: JobId) -> Result<Blob>
+        ensures { ReceivesLast self.old.core id (Poll.Ready result) self.new.core }
+    {
+        if let Some(received) = self.core.recv_item(self.alloc, id) {
+            return received;
+        }
+        let error = self.end_error();
+        self.core.drop_receiver(id);
+        Err(error)
+    }
+
+    /// Returns the error of the end of the input.
+    fn end_error(&self) -> Error
+        ensures { TellsEnd self.now.core result }
+    {
+        let failure = if self.core.at_boundary() {
+            Failure::Disconnected
+        } else {
+            Failure::DisconnectedInside
+        };
+        failure.error(self.alloc)
+    }
+
+    /// Returns how many handlers wait to be dropped.
+    pub fn waiting(&self) -> usize
+        ensures { result ≡ length self.now.running }
+    {
+        self.running.len()
     }
 
     /// Nobody receives from a stream any more.
@@ -122,13 +224,20 @@ impl<O: OutboundTransform + Drop, I: InboundTransform + Drop> ServerHeld<O, I> {
         self.streams.wake_receiver(id);
     }
 
-    /// Whether the input has ended and nothing more comes of what it brought: everything was written, and each of so many
-    /// handlers waits for an item that won't come.
-    pub fn is_answered(&self, running: usize) -> bool
-        ensures yes { result ≡ true → (self.now.input_ended ≡ true) × (unsent self.now.core.connection.outbox.queue ≡ []) × (running ≤ length self.now.streams.receivers) }
-        ensures no { result ≡ false → self.now.input_ended ≡ true → unsent self.now.core.connection.outbox.queue ≡ [] → length self.now.streams.receivers < running }
+    /// Returns whether the input has ended and everything was written. If no handler runs either, nothing more comes of the input.
+    pub fn is_answered(&self) -> bool
+        ensures yes { result ≡ true → (self.now.input_ended ≡ true) × (unsent self.now.core.connection.outbox.queue ≡ []) }
+        ensures no { result ≡ false → (self.now.input_ended ≡ false) ⊎ (unsent self.now.core.connection.outbox.queue ≢ []) }
     {
-        self.input_ended && !self.core.has_unsent() && running <= self.streams.receivers()
+        self.input_ended && !self.core.has_unsent()
+    }
+
+    /// Has the handlers of requests dropped from now on: the input ended too long ago. Wakes each of them.
+    pub fn let_calls_go(&mut self)
+        ensures { self.new ≡ record self.old { running = []; is_gone = true } }
+    {
+        self.is_gone = true;
+        self.running.wake_all();
     }
 
     /// Tells the core that the input ended, once nothing more comes of what it brought.
@@ -157,11 +266,51 @@ impl<O: OutboundTransform + Drop, I: InboundTransform + Drop> ServerHeld<O, I> {
         }
     }
 
+    /// Wakes everybody: the connection has failed.
     fn wake_all(&mut self)
-        ensures { self.new.core ≡ self.old.core }
+        ensures { self.new ≡ record self.old { running = []; streams = nobody } }
     {
         self.running.wake_all();
         self.streams.wake_all();
+        self.input_end.come();
+    }
+
+    /// Notes that `count` bytes were taken at this moment: counts the bytes of waiting jobs, and sets until when the rest of a frame is
+    /// awaited.
+    fn note_taken(&mut self, count: usize, now: u64)
+        ensures core { self.new.core ≡ self.old.core }
+        ensures pause { (self.new.pause ≡ None) ⊎ (self.new.pause ≡ pause_end self.old.settings.frame_limit now) }
+    {
+        self.unbegun = if self.core.jobs_waiting() == 0 {
+            0
+        } else {
+            self.unbegun.saturating_add(count as u64)
+        };
+        self.pause = if self.core.at_boundary() {
+            None
+        } else {
+            pause_at(&self.settings, now)
+        };
+    }
+
+    /// Returns whether a pause inside a frame is over at this moment.
+    fn is_late(&self, now: u64) -> bool
+        ensures yes { result ≡ true → IsLate self.now.pause now }
+        ensures no { result ≡ false → ¬ (IsLate self.now.pause now) }
+    {
+        match self.pause {
+            Some(at) => at <= now,
+            None => false,
+        }
+    }
+
+    /// Tells the core the moment, and wakes the tasks whose job has expired by then.
+    fn tick_core(&mut self, now: u64)
+        ensures { TicksAndTells O.OutboundTransform self.old.core now self.new.core }
+    {
+        self.core.tick(self.alloc, now);
+        self.wake_expired();
+        self.wake_if_failed();
     }
 
     /// Wakes those whose job has expired.
@@ -184,14 +333,18 @@ impl<O: OutboundTransform + Drop, I: InboundTransform + Drop> ServerHeld<O, I> {
 }
 
 impl<O: OutboundTransform + Drop, I: InboundTransform + Drop> Held for ServerHeld<O, I> {
-    ghost use Rattle.std.specs.Prelude.{◌≡◌, length, true, is_some};
+    ghost use Rattle.std.specs.Prelude.{◌≡◌, ℕ, Option, None, filter, length, true, is_some};
+    ghost use Rattle.std.specs.declared.io.ErrorKind.TheVariants.{TimedOut};
+    ghost use Rattle.ttrpc_server.specs.State.{waits};
+    ghost use Rattle.ttrpc_polled.specs.Streams.Waiting.{nobody};
+    ghost use Rattle.ttrpc_polled_server.specs.Built.{has_room};
     ghost use Rattle.ttrpc_connection.specs.OneEnd.{lendable};
-    ghost use Rattle.ttrpc_polled_server.specs.Held.{ExpiresAt, LendsAndReports, TakesPiece, TicksAndTells, broken};
+    ghost use Rattle.ttrpc_polled_server.specs.Held.{ExpiresAt, LendsAndReports, TakesPiece, TicksAndTells, TicksOrBreaks, broken, sooner};
 
     ghost takes = { λ old piece now count new. TakesPiece O.OutboundTransform I.InboundTransform old.core piece now count new.core };
 
-    // The core isn't told yet: what came before is still answered.
-    ghost ends = { λ old new. new ≡ record old { input_ended = true } };
+    // The core isn't told yet, so the requests that came are still answered. Nobody waits to receive any more.
+    ghost ends = { λ old new. new ≡ record old { input_ended = true; streams = nobody; pause = None } };
 
     ghost breaks = { λ old kind new. new.core ≡ broken old.core kind };
 
@@ -199,13 +352,16 @@ impl<O: OutboundTransform + Drop, I: InboundTransform + Drop> Held for ServerHel
 
     ghost lendable = { λ held. lendable held.core.connection };
 
-    ghost ticks = { λ old now new. TicksAndTells O.OutboundTransform old.core now new.core };
+    // The connection fails after a pause inside a frame that is above its limit.
+    ghost ticks = { λ old now new. TicksOrBreaks old.pause now (TicksAndTells O.OutboundTransform old.core now new.core) (new.core ≡ broken old.core TimedOut) };
 
-    ghost expires = { λ held at. ExpiresAt held.core at };
+    ghost expires = { λ held at. (soonest : Option ℕ) × ExpiresAt held.core soonest × (at ≡ sooner soonest held.pause) };
 
     ghost failed = { λ held. is_some held.core.connection.failure };
 
     ghost senders = { λ held. length held.streams.senders };
+
+    ghost wants = { λ held. has_room held.settings (length (filter waits held.core.state.jobs.list)) held.unbegun };
 
     fn take(&mut self, alloc: Global, piece: &[u8], now: u64) -> Option<usize> {
         let Ok(count) = self.core.feed(alloc, piece, now) else {
@@ -213,11 +369,15 @@ impl<O: OutboundTransform + Drop, I: InboundTransform + Drop> Held for ServerHel
             return None;
         };
         self.wake_heard();
+        self.note_taken(count, now);
         Some(count)
     }
 
     fn ended(&mut self) {
         self.input_ended = true;
+        self.pause = None;
+        self.streams.wake_all();
+        self.input_end.come();
     }
 
     fn broke(&mut self, kind: ErrorKind) {
@@ -237,13 +397,16 @@ impl<O: OutboundTransform + Drop, I: InboundTransform + Drop> Held for ServerHel
     }
 
     fn tick(&mut self, now: u64) {
-        self.core.tick(self.alloc, now);
-        self.wake_expired();
-        self.wake_if_failed();
+        if self.is_late(now) {
+            self.pause = None;
+            self.broke(ErrorKind::TimedOut);
+        } else {
+            self.tick_core(now);
+        }
     }
 
     fn next_deadline(&self) -> Option<u64> {
-        self.core.next_deadline()
+        sooner(self.core.next_deadline(), self.pause)
     }
 
     fn has_failed(&self) -> bool {
@@ -254,7 +417,36 @@ impl<O: OutboundTransform + Drop, I: InboundTransform + Drop> Held for ServerHel
         self.streams.senders()
     }
 
+    fn wants_input(&self) -> bool {
+        self.settings
+            .has_room(self.core.jobs_waiting(), self.unbegun)
+    }
+
     fn driver(&mut self) -> &mut Option<Waker> {
         &mut self.driver
+    }
+}
+
+/// Returns until when a peer may pause that begins a pause inside a frame at this moment.
+fn pause_at(settings: &Settings, now: u64) -> Option<u64>
+    ensures { result ≡ pause_end settings.now.frame_limit now }
+{
+    match settings.frame_limit {
+        Some(limit) => {
+            let limit = u64::try_from(limit.as_nanos()).unwrap_or(u64::MAX);
+            Some(now.saturating_add(limit))
+        }
+        None => None,
+    }
+}
+
+/// Returns the earlier of two moments, or the one that there is.
+fn sooner(first: Option<u64>, second: Option<u64>) -> Option<u64>
+    ensures { result ≡ sooner first second }
+{
+    match (first, second) {
+        (Some(first), Some(second)) => Some(first.min(second)),
+        (Some(first), None) => Some(first),
+        (None, second) => second,
     }
 }

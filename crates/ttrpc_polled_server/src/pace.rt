@@ -4,8 +4,11 @@ ghost use Rattle.std.specs.Prelude.{◌≡◌, ◌≤◌, ◌<◌, ◌+◌, ◌*
 /// So many answers leave before others are ready, at first.
 const FIRST: u32 = 4;
 
-/// How many answers are ready of those that leave together: four at first, and twice as many each further time. So a client goes
-/// on while the others are made, and many answers still take few writes.
+/// The most answers that wait for others.
+const MOST: u32 = 16;
+
+/// Counts the ready answers, and says when they leave together: four at first, then eight, and from then on 16 at a time. So a client
+/// goes on while the other answers are made, and many answers still take few writes.
 #[derive(Clone, Copy, Debug)]
 pub(crate) struct Pace {
     pub(crate) ready: u32,
@@ -13,7 +16,7 @@ pub(crate) struct Pace {
 }
 
 impl Pace {
-    /// As it is where none is ready.
+    /// Makes the pace of a connection that has no ready answer.
     pub(crate) fn new() -> Pace
         ensures { result ≡ record { ready = 0; enough = 4 } }
     {
@@ -23,17 +26,33 @@ impl Pace {
         }
     }
 
-    /// One more is ready. True: those that are ready are to leave now.
-    pub(crate) fn one_more(&mut self) -> bool
-        ensures leave { result ≡ true → (self.old.enough ≤ self.old.ready + 1) × (self.new ≡ record { ready = 0; enough = min (self.old.enough * 2) (2 ^ 32 - 1) }) }
-        ensures stay { result ≡ false → (self.old.ready + 1 < self.old.enough) × (self.new ≡ record self.old { ready = self.old.ready + 1 }) }
+    /// Notes that one more answer is ready.
+    pub(crate) fn one_more(&mut self)
+        ensures { self.new ≡ record self.old { ready = min (self.old.ready + 1) (2 ^ 32 - 1) } }
     {
         self.ready = self.ready.saturating_add(1);
+    }
+
+    /// Returns whether enough answers are ready, and if so counts them as left.
+    pub(crate) fn leaves(&mut self) -> bool
+        ensures leave { result ≡ true → (self.old.enough ≤ self.old.ready) × (self.new ≡ record { ready = 0; enough = min (self.old.enough * 2) 16 }) }
+        ensures stay { result ≡ false → (self.old.ready < self.old.enough) × (self.new ≡ self.old) }
+    {
         if self.ready < self.enough {
             return false;
         }
         self.ready = 0;
-        self.enough = self.enough.saturating_mul(2);
+        self.enough = self.enough.saturating_mul(2).min(MOST);
         true
+    }
+
+    /// Returns whether any answer is ready, and if so counts them as left.
+    pub(crate) fn ends(&mut self) -> bool
+        ensures leave { result ≡ true → (0 < self.old.ready) × (self.new ≡ record self.old { ready = 0 }) }
+        ensures none { result ≡ false → (self.old.ready ≡ 0) × (self.new ≡ self.old) }
+    {
+        let is_any = 0 < self.ready;
+        self.ready = 0;
+        is_any
     }
 }

@@ -49,13 +49,13 @@ where
     }
 }
 
-/// A job whose handler runs. It gives the job's number, and how the handler ended. The handler of a job that expires is
-/// dropped.
+/// A job whose handler runs. Its output is the job's number, and how the handler ended. If the handler may be dropped, it is dropped
+/// when its job has expired, its connection has failed, or its input ended too long ago.
 #[derive(Drop)]
 pub struct Running<F, G, O, I> {
     pub shared: Arc<ServerShared<O, I>, Global>,
     pub id: JobId,
-    pub expires: bool,
+    pub may_be_dropped: bool,
     pub handled: Handled<F, G>,
 }
 
@@ -74,18 +74,18 @@ where
 
     ghost can_poll = { λ r. HandledCanPoll F.can_poll G.can_poll r.handled };
 
-    ghost needs = { λ r s. HandledNeeds F.needs G.needs r.handled s ⊎ ((r.expires ≡ true) × (s ≡ (arc_value r.shared).came.id)) };
+    ghost needs = { λ r s. HandledNeeds F.needs G.needs r.handled s ⊎ ((r.may_be_dropped ≡ true) × (s ≡ (arc_value r.shared).came.id)) };
 
-    ghost gives = { λ r given. RunningGives F.gives G.gives r.id r.expires r.handled given };
+    ghost gives = { λ r given. RunningGives F.gives G.gives r.id r.may_be_dropped r.handled given };
 
     fn poll(&mut self, cx: &mut Context<'_>) -> Poll<(JobId, Ended)> {
         if let Poll::Ready(ended) = self.handled.poll(cx) {
             return Poll::Ready((self.id, ended));
         }
-        if !self.expires {
+        if !self.may_be_dropped {
             return Poll::Pending;
         }
-        ready!(self.shared.poll_expired(self.id, cx));
-        Poll::Ready((self.id, Ended::Expired))
+        ready!(self.shared.poll_dropped(self.id, cx));
+        Poll::Ready((self.id, Ended::Dropped))
     }
 }

@@ -29,38 +29,41 @@ use tokio::runtime::Handle;
 use ttrpc_polled::{Alarm, Listener, Timed};
 use ttrpc_proto::{Error, Result};
 use ttrpc_secure::{HookOutput, InboundTransform, NoHook, OutboundTransform};
+use ttrpc_transport::{NoWatch, Watch};
 
 /// A server whose connections are polled, which contracts see as what it was built with: its settings, its listener, its services,
-/// its hook, and what its connections stop by.
+/// its hook, its watch, and what its connections stop by.
 #[derive(Drop)]
-pub struct Server<R: Timed, M: Drop, T: Drop, A: Drop = NoHook> {
+pub struct Server<R: Timed, M: Drop, T: Drop, A: Drop = NoHook, V: Watch + Drop = NoWatch> {
     rt: R,
     handle: Handle,
     settings: Settings,
     listener: Option<Listener>,
     services: Arc<Services<M, T>, Global>,
     hook: Arc<A, Global>,
+    watch: Arc<V, Global>,
     stop: Arc<Stop, Global>,
 }
 
-impl<R: Timed, M: Drop, T: Drop, A: Drop> Model for Server<R, M, T, A> {
+impl<R: Timed, M: Drop, T: Drop, A: Drop, V: Watch + Drop> Model for Server<R, M, T, A, V> {
     ghost use Rattle.std.specs.Arc.{arc_value};
     ghost use Rattle.ttrpc_polled_server.specs.Built.{Built};
 
-    ghost Value = { Built M T A };
+    ghost Value = { Built M T A V };
 
     ghost view = { λ server. record {
       settings = server.settings;
       listener = server.listener;
       services = arc_value server.services;
       hook = arc_value server.hook;
+      watch = arc_value server.watch;
       stop = arc_value server.stop;
     } };
 }
 
-impl<R: Timed, M: Drop, T: Drop> Server<R, M, T, NoHook> {
+impl<R: Timed, M: Drop, T: Drop> Server<R, M, T, NoHook, NoWatch> {
     /// A server without services and without a listener, whose sockets and timers are those of this runtime.
-    pub fn new(rt: R, handle: &Handle) -> Result<Server<R, M, T, NoHook>>
+    pub fn new(rt: R, handle: &Handle) -> Result<Server<R, M, T, NoHook, NoWatch>>
         ensures new { IfOk result IsNewServer }
         ensures err { IfErr result (λ e. e ≡ NoMemory) }
     {
@@ -71,13 +74,14 @@ impl<R: Timed, M: Drop, T: Drop> Server<R, M, T, NoHook> {
             listener: None,
             services: Arc::new(alloc, Services::new(alloc))?,
             hook: Arc::new(alloc, NoHook {})?,
+            watch: Arc::new(alloc, NoWatch {})?,
             stop: Arc::new(alloc, Stop::new(alloc)?)?,
             rt,
         })
     }
 }
 
-impl<R: Timed, M: MethodHandler, T: Drop, A: Drop> Server<R, M, T, A> {
+impl<R: Timed, M: MethodHandler, T: Drop, A: Drop, V: Watch + Drop> Server<R, M, T, A, V> {
     /// A connection over any reader and writer, with what a hook gave: a future that is to be polled. It ends with the others
     /// of this server. From here on its services are fixed.
     pub fn over<S, W, O, I>(
@@ -102,7 +106,7 @@ impl<R: Timed, M: MethodHandler, T: Drop, A: Drop> Server<R, M, T, A> {
     }
 }
 
-impl<R: Timed, M: Drop, T: Drop, A: Drop> Server<R, M, T, A> {
+impl<R: Timed, M: Drop, T: Drop, A: Drop, V: Watch + Drop> Server<R, M, T, A, V> {
     /// Its settings.
     pub fn settings(&self) -> &Settings
         ensures { result.now ≡ self.now.settings }
@@ -112,7 +116,7 @@ impl<R: Timed, M: Drop, T: Drop, A: Drop> Server<R, M, T, A> {
 
     /// Listens at an address, `tcp://IP:PORT`, in the place of where it would have listened. Whether each write goes out at
     /// once is `nodelay`. An address that names no place of TCP is `Others`, and a fault of the system `Nix`.
-    pub fn bind(self, sockaddr: &str, nodelay: bool) -> Result<Server<R, M, T, A>>
+    pub fn bind(self, sockaddr: &str, nodelay: bool) -> Result<Server<R, M, T, A, V>>
     where
         R: Net,
         ensures ok { IfOk result (λ server. (listener : AListener) × (listener.nodelay ≡ nodelay) × (server ≡ with_listener self listener)) }
@@ -126,7 +130,7 @@ impl<R: Timed, M: Drop, T: Drop, A: Drop> Server<R, M, T, A> {
     }
 
     /// Accepts the connections of this listener, in the place of an earlier one.
-    pub fn add_listener(mut self, listener: Listener) -> Server<R, M, T, A>
+    pub fn add_listener(mut self, listener: Listener) -> Server<R, M, T, A, V>
         ensures { result ≡ with_listener self listener }
     {
         self.listener = Some(listener);
@@ -150,7 +154,7 @@ impl<R: Timed, M: Drop, T: Drop, A: Drop> Server<R, M, T, A> {
     pub fn register_service(
         mut self,
         services: BTreeMap<String, Service<M, T>>,
-    ) -> Result<Server<R, M, T, A>>
+    ) -> Result<Server<R, M, T, A, V>>
         ensures ok { IfOk result (Adds self services.entries) }
         ensures refused { IfErr result (IsNotAdded self.settings) }
     {
@@ -166,8 +170,8 @@ impl<R: Timed, M: Drop, T: Drop, A: Drop> Server<R, M, T, A> {
 
     /// Lets this hook look at each connection first. What it gives after 30 seconds comes too late, and the connection is
     /// closed. While it looks nothing else of its thread goes on: one that never returns holds that for ever.
-    pub fn set_accept_hook<B: Drop>(self, hook: B) -> Result<Server<R, M, T, B>>
-        ensures ok { IfOk result (λ server. server ≡ record { settings = self.settings; listener = self.listener; services = self.services; hook = hook; stop = self.stop }) }
+    pub fn set_accept_hook<B: Drop>(self, hook: B) -> Result<Server<R, M, T, B, V>>
+        ensures ok { IfOk result (λ server. server ≡ record { settings = self.settings; listener = self.listener; services = self.services; hook = hook; watch = self.watch; stop = self.stop }) }
         ensures err { IfErr result (λ e. e ≡ NoMemory) }
     {
         let Server {
@@ -177,6 +181,7 @@ impl<R: Timed, M: Drop, T: Drop, A: Drop> Server<R, M, T, A> {
             listener,
             services,
             hook: _,
+            watch,
             stop,
         } = self;
         Ok(Server {
@@ -186,12 +191,40 @@ impl<R: Timed, M: Drop, T: Drop, A: Drop> Server<R, M, T, A> {
             settings,
             listener,
             services,
+            watch,
+            stop,
+        })
+    }
+
+    /// Sets the watch that receives faults that callers can't see: a failed accept, a refusal by the hook, a connection without memory.
+    pub fn set_watch<W: Watch + Drop>(self, watch: W) -> Result<Server<R, M, T, A, W>>
+        ensures ok { IfOk result (λ server. server ≡ record { settings = self.settings; listener = self.listener; services = self.services; hook = self.hook; watch = watch; stop = self.stop }) }
+        ensures err { IfErr result (λ e. e ≡ NoMemory) }
+    {
+        let Server {
+            rt,
+            handle,
+            settings,
+            listener,
+            services,
+            hook,
+            watch: _,
+            stop,
+        } = self;
+        Ok(Server {
+            watch: Arc::new(rt.alloc(), watch)?,
+            rt,
+            handle,
+            settings,
+            listener,
+            services,
+            hook,
             stop,
         })
     }
 
     /// How long a connection that ends waits for its handlers.
-    pub fn set_connection_limit(mut self, limit: Duration) -> Server<R, M, T, A>
+    pub fn set_connection_limit(mut self, limit: Duration) -> Server<R, M, T, A, V>
         ensures { result ≡ record self { settings = record self.settings { connection_limit = limit } } }
     {
         self.settings.connection_limit = limit;
@@ -199,7 +232,7 @@ impl<R: Timed, M: Drop, T: Drop, A: Drop> Server<R, M, T, A> {
     }
 
     /// How long `disconnect` waits for the connections.
-    pub fn set_disconnect_limit(mut self, limit: Duration) -> Server<R, M, T, A>
+    pub fn set_disconnect_limit(mut self, limit: Duration) -> Server<R, M, T, A, V>
         ensures { result ≡ record self { settings = record self.settings { disconnect_limit = limit } } }
     {
         self.settings.disconnect_limit = limit;
@@ -207,7 +240,7 @@ impl<R: Timed, M: Drop, T: Drop, A: Drop> Server<R, M, T, A> {
     }
 
     /// How long it waits to accept again, where the system gives no connection.
-    pub fn set_accept_retry_interval(mut self, interval: Duration) -> Server<R, M, T, A>
+    pub fn set_accept_retry_interval(mut self, interval: Duration) -> Server<R, M, T, A, V>
         ensures { result ≡ record self { settings = record self.settings { accept_retry_interval = interval } } }
     {
         self.settings.accept_retry_interval = interval;
@@ -215,20 +248,53 @@ impl<R: Timed, M: Drop, T: Drop, A: Drop> Server<R, M, T, A> {
     }
 
     /// Whether a stream that is opened without a payload begins without an item, as peers written in Go mean it.
-    pub fn set_bare_openings(mut self, bare: bool) -> Server<R, M, T, A>
+    pub fn set_bare_openings(mut self, bare: bool) -> Server<R, M, T, A, V>
         ensures { result ≡ record self { settings = record self.settings { bare_openings = bare } } }
     {
         self.settings.bare_openings = bare;
         self
     }
 
+    /// Sets for how long the handlers of requests go on after the input of their connection has ended. After that they are dropped. A
+    /// client that only closed its sending half is answered until then. `None` sets no limit.
+    pub fn set_half_close_limit(mut self, limit: Option<Duration>) -> Server<R, M, T, A, V>
+        ensures { result ≡ record self { settings = record self.settings { half_close_limit = limit } } }
+    {
+        self.settings.half_close_limit = limit;
+        self
+    }
+
+    /// Sets for how long a peer may pause inside a frame before its connection fails. `None` sets no limit.
+    pub fn set_frame_limit(mut self, limit: Option<Duration>) -> Server<R, M, T, A, V>
+        ensures { result ≡ record self { settings = record self.settings { frame_limit = limit } } }
+    {
+        self.settings.frame_limit = limit;
+        self
+    }
+
+    /// Sets how many jobs of a connection may wait to be begun. While more wait, the connection isn't read. `None` sets no limit.
+    pub fn set_waiting_jobs(mut self, most: Option<u64>) -> Server<R, M, T, A, V>
+        ensures { result ≡ record self { settings = record self.settings { waiting_jobs = most } } }
+    {
+        self.settings.waiting_jobs = most;
+        self
+    }
+
+    /// Sets how many bytes of jobs may wait to be begun. While more wait, their connection isn't read. `None` sets no limit.
+    pub fn set_waiting_bytes(mut self, most: Option<u64>) -> Server<R, M, T, A, V>
+        ensures { result ≡ record self { settings = record self.settings { waiting_bytes = most } } }
+    {
+        self.settings.waiting_bytes = most;
+        self
+    }
+
     /// Begins to accept: the connections, one after another, each a future that is to be polled. From here on its services are
     /// fixed. It is refused without a listener, as of a server that has started and didn't stop listening since.
-    pub fn start(&mut self) -> Result<Serving<R, M, T, A>>
+    pub fn start(&mut self) -> Result<Serving<R, M, T, A, V>>
         ensures ok { OnOk result (self.new ≡ listening self.old) }
-        ensures listener { IfOk result (λ serving. IfSome self.old.listener (λ listener. serving.listener ≡ listener)) }
+        ensures listener { IfOk result (λ serving. IfSome self.old.listener (λ listener. serving.listener ≡ Some listener)) }
         ensures served { IfOk result (λ serving. (serving.with.settings ≡ self.old.settings) × (arc_value serving.with.services ≡ self.old.services) × (arc_value serving.with.hook ≡ self.old.hook)
-            × (arc_value serving.with.stop ≡ self.old.stop)) }
+            × (arc_value serving.with.watch ≡ self.old.watch) × (arc_value serving.with.stop ≡ self.old.stop)) }
         ensures refused { IfErr result (IsNotStarted self.old.listener) }
     {
         self.restore_listener();
@@ -248,11 +314,12 @@ impl<R: Timed, M: Drop, T: Drop, A: Drop> Server<R, M, T, A> {
     }
 
     /// What each of its connections is served with: all that it was built with.
-    fn served(&self) -> Result<Served<R, M, T, A>>
+    fn served(&self) -> Result<Served<R, M, T, A, V>>
         // its settings, its services, its hook, and what its connections stop by
         ensures settings { IfOk result (λ with. with.settings ≡ self.now.settings) }
         ensures services { IfOk result (λ with. arc_value with.services ≡ self.now.services) }
         ensures hook { IfOk result (λ with. arc_value with.hook ≡ self.now.hook) }
+        ensures watch { IfOk result (λ with. arc_value with.watch ≡ self.now.watch) }
         ensures stop { IfOk result (λ with. arc_value with.stop ≡ self.now.stop) }
         // An error is want of memory.
         ensures err { IfErr result (λ e. e ≡ NoMemory) }
@@ -262,6 +329,7 @@ impl<R: Timed, M: Drop, T: Drop, A: Drop> Server<R, M, T, A> {
             handle: self.handle.clone()?,
             services: Arc::try_clone(&self.services)?,
             hook: Arc::try_clone(&self.hook)?,
+            watch: Arc::try_clone(&self.watch)?,
             stop: Arc::try_clone(&self.stop)?,
             settings: self.settings,
         })

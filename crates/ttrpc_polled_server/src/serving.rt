@@ -1,16 +1,17 @@
 //! The connections of a server, one after another.
-ghost use Rattle.std.specs.Prelude.{◌≡◌, [], true, false, IfErr, IfOk, IfSome, None};
+ghost use Rattle.std.specs.Prelude.{◌≡◌, ◌↔◌, [], true, false, IfErr, IfOk, IfSome, IsTrue, None, Some};
 ghost use Rattle.std.specs.Arc.{arc_value};
 ghost use Rattle.futures.specs.Poll.{OnPending, IfReady};
 ghost use Rattle.futures.specs.Task.{Covers, Keeps};
 ghost use Rattle.ttrpc_proto.specs.declared.error.Error.{Error as AnError};
 ghost use Rattle.ttrpc_secure.specs.Hooks.Facts.{facts_of};
 ghost use Rattle.ttrpc_polled.specs.Sockets.{IsNotMade};
-ghost use Rattle.ttrpc_polled_server.specs.Needs.{CanPoll, ServingNeeds};
-ghost use Rattle.ttrpc_polled_server.specs.Opened.{IsAccepted, IsNotOpened, IsOpened};
+ghost use Rattle.ttrpc_polled_server.specs.Needs.{AcceptNeeds, CanPoll, ServingNeeds};
+ghost use Rattle.ttrpc_polled_server.specs.Opened.{IsAccepted, IsNotOpened, IsOpened, IsPassing};
 
 use crate::connection::{Parts, ServerConnection};
 use crate::handler::{MethodHandler, StreamHandler};
+use crate::input_end::InputEnd;
 use crate::services::Services;
 use crate::settings::Settings;
 use crate::shared::ServerShared;
@@ -18,25 +19,27 @@ use crate::stop::Stop;
 use futures::task::{Context, Poll};
 use futures::{Stream, ready};
 use std::alloc::Global;
+use std::io::ErrorKind;
 use std::sync::Arc;
 use tokio::io::{AsyncRead, AsyncWrite};
-use tokio::net::{OwnedReadHalf, OwnedWriteHalf};
+use tokio::net::OwnedWriteHalf;
 use tokio::runtime::Handle;
-use ttrpc_polled::{Alarm, Link, Listener, Socket, Timed, moment};
-use ttrpc_proto::Result;
+use ttrpc_polled::{Alarm, Link, Listener, Socket, SocketReader, Timed, moment};
 use ttrpc_proto::error::causes::others_of;
+use ttrpc_proto::{Error, Result};
 use ttrpc_secure::{
     AcceptHook, ConnectionContext, ConnectionData, HookOutput, InboundTransform, OutboundTransform,
     admit,
 };
 use ttrpc_server::{Registry, Rules, ServerCore};
+use ttrpc_transport::{NoWatch, Watch};
 
 /// The future of a server's connection over TCP.
 pub type TcpServerConnection<R, M, T, O, I> = ServerConnection<
     R,
     M,
     T,
-    OwnedReadHalf,
+    SocketReader,
     OwnedWriteHalf,
     O,
     I,
@@ -44,16 +47,17 @@ pub type TcpServerConnection<R, M, T, O, I> = ServerConnection<
 
 /// What a server serves its connections with.
 #[derive(Drop)]
-pub(crate) struct Service<R, M: Drop, T: Drop, A> {
+pub(crate) struct Service<R, M: Drop, T: Drop, A, V> {
     pub(crate) rt: R,
     pub(crate) handle: Handle,
     pub(crate) services: Arc<Services<M, T>, Global>,
     pub(crate) hook: Arc<A, Global>,
+    pub(crate) watch: Arc<V, Global>,
     pub(crate) stop: Arc<Stop, Global>,
     pub(crate) settings: Settings,
 }
 
-impl<R: Timed, M: MethodHandler, T: Drop, A> Service<R, M, T, A> {
+impl<R: Timed, M: MethodHandler, T: Drop, A, V> Service<R, M, T, A, V> {
     /// A connection over this reader and this writer, with what a hook gave.
     pub(crate) fn open<S, W, O, I>(
         &self,
@@ -76,14 +80,20 @@ impl<R: Timed, M: MethodHandler, T: Drop, A> Service<R, M, T, A> {
             outbound,
             inbound,
         } = output;
-        let shared = self.shared(outbound, inbound)?;
+        let input_end = Arc::new(self.rt.alloc(), InputEnd::new(self.rt.alloc()))?;
+        let shared = self.shared(outbound, inbound, &input_end)?;
         let link = self.link(&shared, reader, writer)?;
-        let parts = self.parts(shared, connection_data)?;
+        let parts = self.parts(shared, input_end, connection_data)?;
         ServerConnection::new(self.rt.clone()?, link, parts)
     }
 
     /// A core between these halves, to be shared.
-    fn shared<O, I>(&self, outbound: O, inbound: I) -> Result<Arc<ServerShared<O, I>, Global>>
+    fn shared<O, I>(
+        &self,
+        outbound: O,
+        inbound: I,
+        input_end: &Arc<InputEnd, Global>,
+    ) -> Result<Arc<ServerShared<O, I>, Global>>
     where
         O: OutboundTransform + Drop,
         I: InboundTransform + Drop,
@@ -92,7 +102,9 @@ impl<R: Timed, M: MethodHandler, T: Drop, A> Service<R, M, T, A> {
         let alloc = self.rt.alloc();
         let context = ConnectionContext::of_halves(alloc, outbound, inbound);
         let core = ServerCore::new(alloc, Rules::Async, self.registry(alloc)?, context);
-        Ok(Arc::new(alloc, ServerShared::new(alloc, core))?)
+        let end = Arc::try_clone(input_end)?;
+        let shared = ServerShared::new(alloc, core, self.settings, end);
+        Ok(Arc::new(alloc, shared)?)
     }
 
     /// What reads and writes for a core.
@@ -119,13 +131,14 @@ impl<R: Timed, M: MethodHandler, T: Drop, A> Service<R, M, T, A> {
     fn parts<O, I>(
         &self,
         shared: Arc<ServerShared<O, I>, Global>,
+        input_end: Arc<InputEnd, Global>,
         connection_data: ConnectionData,
     ) -> Result<Parts<M, T, O, I>>
     where
         O: OutboundTransform + Drop,
         I: InboundTransform + Drop,
         ensures ok { IfOk result (λ parts. (parts.shared ≡ shared) × (arc_value parts.services ≡ arc_value self.now.services)
-            × (arc_value parts.connection_data ≡ connection_data) × (arc_value parts.seat.stop ≡ arc_value self.now.stop) × (parts.limit ≡ self.now.settings.connection_limit)) }
+            × (arc_value parts.connection_data ≡ connection_data) × (arc_value parts.seat.stop ≡ arc_value self.now.stop) × (parts.limit ≡ self.now.settings.connection_limit) × (parts.half_close ≡ self.now.settings.half_close_limit)) }
         ensures err { IfErr result IsNotOpened }
     {
         Ok(Parts {
@@ -135,6 +148,8 @@ impl<R: Timed, M: MethodHandler, T: Drop, A> Service<R, M, T, A> {
             seat: Stop::seat(&self.stop)?,
             grace: Alarm::new(&self.rt, &self.handle)?,
             limit: self.settings.connection_limit,
+            half_close: self.settings.half_close_limit,
+            input_end,
         })
     }
 
@@ -149,22 +164,25 @@ impl<R: Timed, M: MethodHandler, T: Drop, A> Service<R, M, T, A> {
 }
 
 /// The connections that a server accepts, each as a future that is to be polled, until the server listens no more.
-pub struct Serving<R: Timed, M: Drop, T: Drop, A: Drop> {
-    with: Service<R, M, T, A>,
-    listener: Listener,
+pub struct Serving<R: Timed, M: Drop, T: Drop, A: Drop, V: Watch + Drop = NoWatch> {
+    with: Service<R, M, T, A, V>,
+    // None after it was given back, because no more connections are to be accepted.
+    listener: Option<Listener>,
+    number: u64,
     rests: bool,
     ended: u64,
     rest: Alarm,
 }
 
-impl<R: Timed, M: Drop, T: Drop, A: Drop> Serving<R, M, T, A> {
+impl<R: Timed, M: Drop, T: Drop, A: Drop, V: Watch + Drop> Serving<R, M, T, A, V> {
     /// Those of this listener.
-    pub(crate) fn new(with: Service<R, M, T, A>, listener: Listener, rest: Alarm) -> Self
-        ensures { (result.with ≡ with) × (result.listener ≡ listener) × (result.rests ≡ false) }
+    pub(crate) fn new(with: Service<R, M, T, A, V>, listener: Listener, rest: Alarm) -> Self
+        ensures { (result.with ≡ with) × (result.listener ≡ Some listener) × (result.rests ≡ false) }
     {
         Serving {
+            number: with.stop.take_number(),
             with,
-            listener,
+            listener: Some(listener),
             rests: false,
             ended: 0,
             rest,
@@ -177,29 +195,67 @@ impl<R: Timed, M: Drop, T: Drop, A: Drop> Serving<R, M, T, A> {
         ensures registered { OnPending result (Covers cx.new (ServingNeeds self.new)) }
         ensures kept { Keeps cx.old cx.new }
     {
-        if self.with.stop.is_deaf(cx) {
+        if self.with.stop.is_deaf(self.number, cx) {
+            self.give_back();
             return Poll::Ready(None);
         }
-        if self.rests {
-            if !self.with.stop.has_ended(self.ended, cx) {
-                let Poll::Ready(_) = self.rest.poll_ring(&self.with.rt, cx) else {
-                    return Poll::Pending;
-                };
-            }
-            self.rests = false;
+        ready!(self.poll_rest(cx));
+        self.poll_accept(cx)
+    }
+
+    /// Waits until a rest is over: its time has passed, or a connection has ended.
+    fn poll_rest(&mut self, cx: &mut Context<'_>) -> Poll<()>
+        ensures over { IfReady result (λ _. self.new.rests ≡ false) }
+        ensures registered { OnPending result (Covers cx.new (AcceptNeeds self.new)) }
+        ensures rest { (self.new.with ≡ self.old.with) × (self.new.listener ≡ self.old.listener) }
+        ensures kept { Keeps cx.old cx.new }
+    {
+        if !self.rests {
+            return Poll::Ready(());
         }
-        match self.listener.poll_accept(cx) {
+        if !self.with.stop.has_ended(self.ended, self.number, cx) {
+            ready!(self.rest.poll_ring(&self.with.rt, cx));
+        }
+        self.rests = false;
+        Poll::Ready(())
+    }
+
+    /// Accepts a connection. After a passing fault it tries again at once; after any other it rests first.
+    fn poll_accept(&mut self, cx: &mut Context<'_>) -> Poll<Option<Socket>>
+        requires { self.old.rests ≡ false }
+        ensures registered { OnPending result (Covers cx.new (AcceptNeeds self.new)) }
+        ensures stop { self.new.with ≡ self.old.with }
+        ensures kept { Keeps cx.old cx.new }
+    {
+        let Some(listener) = &mut self.listener else {
+            return Poll::Ready(None);
+        };
+        match listener.poll_accept(cx) {
             Poll::Pending => Poll::Pending,
             Poll::Ready(Ok(socket)) => Poll::Ready(Some(socket)),
-            Poll::Ready(Err(_)) => {
-                self.begin_rest();
+            Poll::Ready(Err(fault)) => {
+                if !is_passing(&fault) {
+                    self.with.watch.accept_failed(&fault);
+                    self.begin_rest();
+                }
                 cx.yield_now()
             }
         }
     }
 
+    /// Gives the listener back, if it is still here.
+    fn give_back(&mut self)
+        ensures { self.new ≡ record self.old { listener = None } }
+    {
+        if let Some(listener) = self.listener.take() {
+            self.with.stop.give_back(listener);
+        }
+    }
+
     /// The system gave no connection.
-    fn begin_rest(&mut self) {
+    fn begin_rest(&mut self)
+        ensures { (self.new.with ≡ self.old.with) × (self.new.listener ≡ self.old.listener) }
+    {
         let interval = self.with.settings.accept_retry_interval;
         let interval = u64::try_from(interval.as_nanos()).unwrap_or(u64::MAX);
         let now = moment(&self.with.rt).unwrap_or(0);
@@ -209,7 +265,7 @@ impl<R: Timed, M: Drop, T: Drop, A: Drop> Serving<R, M, T, A> {
     }
 }
 
-impl<R: Timed, M, T, A, O, I> Serving<R, M, T, A>
+impl<R: Timed, M, T, A, V: Watch + Drop, O, I> Serving<R, M, T, A, V>
 where
     A: AcceptHook<Socket, Outbound = O, Inbound = I> + Drop,
     O: OutboundTransform + Drop,
@@ -217,7 +273,7 @@ where
     M: MethodHandler,
     T: StreamHandler<ServerShared<O, I>>,
 {
-    /// The connection of a socket, where the hook accepts it and memory is found.
+    /// Begins the connection of an accepted socket. If the hook refuses it, the watch is told.
     fn begin(&self, socket: Socket) -> Result<TcpServerConnection<R, M, T, O, I>>
         ensures can { IfOk result (CanPoll M.Call.Future.can_poll T.Call.Future.can_poll) }
         ensures accepted { IfOk result (IsAccepted (A.gives (arc_value self.now.with.hook) socket) (arc_value self.now.with.services) self.now.with.settings (arc_value self.now.with.stop)) }
@@ -226,14 +282,48 @@ where
         let alloc = with.rt.alloc();
         let output = match admit(&with.rt, alloc, &*with.hook, &socket) {
             Ok(output) => output,
-            Err(error) => return Err(others_of(alloc, "accept hook failed: ", &error)),
+            Err(error) => {
+                let refusal = others_of(alloc, "accept hook failed: ", &error);
+                with.watch.hook_refused(&refusal);
+                return Err(refusal);
+            }
         };
+        self.open(socket, output)
+    }
+
+    /// Opens the connection of an accepted socket. If the system or memory refuses, the watch is told.
+    fn open(
+        &self,
+        socket: Socket,
+        output: HookOutput<O, I>,
+    ) -> Result<TcpServerConnection<R, M, T, O, I>>
+        ensures can { IfOk result (CanPoll M.Call.Future.can_poll T.Call.Future.can_poll) }
+        ensures opened { IfOk result (λ c. (reader : _) × (writer : _) × IsOpened reader writer (facts_of output.connection_data.entries) (arc_value self.now.with.services) self.now.with.settings (arc_value self.now.with.stop) c) }
+    {
+        match self.open_split(socket, output) {
+            Ok(connection) => Ok(connection),
+            Err(error) => {
+                self.with.watch.connection_dropped(&error);
+                Err(error)
+            }
+        }
+    }
+
+    /// Opens the connection of a socket over its two halves.
+    fn open_split(
+        &self,
+        socket: Socket,
+        output: HookOutput<O, I>,
+    ) -> Result<TcpServerConnection<R, M, T, O, I>>
+        ensures can { IfOk result (CanPoll M.Call.Future.can_poll T.Call.Future.can_poll) }
+        ensures opened { IfOk result (λ c. (reader : _) × (writer : _) × IsOpened reader writer (facts_of output.connection_data.entries) (arc_value self.now.with.services) self.now.with.settings (arc_value self.now.with.stop) c) }
+    {
         let (reader, writer) = socket.into_split()?;
-        with.open(reader, writer, output)
+        self.with.open(reader, writer, output)
     }
 }
 
-impl<R: Timed, M, T, A, O, I> Stream for Serving<R, M, T, A>
+impl<R: Timed, M, T, A, V: Watch + Drop, O, I> Stream for Serving<R, M, T, A, V>
 where
     A: AcceptHook<Socket, Outbound = O, Inbound = I> + Drop,
     O: OutboundTransform + Drop,
@@ -265,15 +355,35 @@ where
     }
 }
 
-impl<R: Timed, M: Drop, T: Drop, A: Drop> Drop for Serving<R, M, T, A> {
+impl<R: Timed, M: Drop, T: Drop, A: Drop, V: Watch + Drop> Drop for Serving<R, M, T, A, V> {
     fn drop(self) {
         let Self {
             with,
             listener,
+            number: _,
             rests: _,
             ended: _,
             rest: _,
         } = self;
-        with.stop.give_back(listener);
+        if let Some(listener) = listener {
+            with.stop.give_back(listener);
+        }
     }
+}
+
+/// Returns whether a fault of `accept` passes by itself: a signal came, the other side went away, or the network is out of reach.
+fn is_passing(fault: &Error) -> bool
+    ensures { IsTrue result ↔ IsPassing fault.now }
+{
+    matches!(
+        fault,
+        Error::Nix(
+            ErrorKind::Interrupted
+                | ErrorKind::ConnectionAborted
+                | ErrorKind::ConnectionReset
+                | ErrorKind::NetworkDown
+                | ErrorKind::NetworkUnreachable
+                | ErrorKind::HostUnreachable
+        )
+    )
 }

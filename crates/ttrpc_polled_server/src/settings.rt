@@ -1,6 +1,6 @@
 //! The settings of a server.
 ghost use Rattle.std.specs.Prelude.{◌≡◌, IfErr, OnOk, false, true};
-ghost use Rattle.ttrpc_polled_server.specs.Built.{IsFixed, IsNewSettings, IsToldBy, IsUnbound};
+ghost use Rattle.ttrpc_polled_server.specs.Built.{IsFixed, IsNewSettings, IsToldBy, IsUnbound, has_room, within};
 
 use std::alloc::Global;
 use std::time::Duration;
@@ -15,6 +15,15 @@ const SERVER_SECONDS: u64 = 10;
 /// How long a server waits to accept again behind a fault, in seconds.
 const ACCEPT_SECONDS: u64 = 10;
 
+/// For how many seconds the handlers of requests go on after the input has ended.
+const HALF_CLOSE_SECONDS: u64 = 5;
+
+/// The most jobs of a connection that wait to be begun while the connection is read.
+const WAITING_JOBS: u64 = 4096;
+
+/// The most bytes of such jobs.
+const WAITING_BYTES: u64 = 8_388_608;
+
 /// The settings of a server, and what it has begun.
 #[derive(Clone, Copy, Debug, PartialEq, Eq)]
 pub struct Settings {
@@ -27,6 +36,15 @@ pub struct Settings {
     /// Whether a stream that is opened without a payload begins without an item, as peers written in Go mean it. It isn't so,
     /// where nothing is set.
     pub bare_openings: bool,
+    /// For how long the handlers of requests go on after the input of their connection has ended; `None` is no limit. 5 seconds by
+    /// default.
+    pub half_close_limit: Option<Duration>,
+    /// For how long a peer may pause inside a frame; `None`, the default, is no limit.
+    pub frame_limit: Option<Duration>,
+    /// The most jobs of a connection that wait to be begun while the connection is read; `None` is no limit. 4,096 by default.
+    pub waiting_jobs: Option<u64>,
+    /// The most bytes of such jobs; `None` is no limit. 8 MiB by default.
+    pub waiting_bytes: Option<u64>,
     /// Whether it accepts connections.
     pub is_listening: bool,
     /// Whether its services are fixed.
@@ -43,9 +61,20 @@ impl Settings {
             disconnect_limit: Duration::from_secs(SERVER_SECONDS),
             accept_retry_interval: Duration::from_secs(ACCEPT_SECONDS),
             bare_openings: false,
+            half_close_limit: Some(Duration::from_secs(HALF_CLOSE_SECONDS)),
+            frame_limit: None,
+            waiting_jobs: Some(WAITING_JOBS),
+            waiting_bytes: Some(WAITING_BYTES),
             is_listening: false,
             is_fixed: false,
         }
+    }
+
+    /// Returns whether a connection is read while `jobs` jobs and `bytes` bytes wait.
+    pub fn has_room(&self, jobs: u64, bytes: u64) -> bool
+        ensures { result ≡ has_room self.now jobs bytes }
+    {
+        is_within(self.waiting_jobs, jobs) && is_within(self.waiting_bytes, bytes)
     }
 
     /// Whether services may be registered, or that they may not once the server has started.
@@ -57,6 +86,16 @@ impl Settings {
             return Ok(());
         }
         Err(told(alloc, "services are fixed after start"))
+    }
+}
+
+/// Returns whether `count` is within the limit, if there is one.
+fn is_within(limit: Option<u64>, count: u64) -> bool
+    ensures { result ≡ within limit count }
+{
+    match limit {
+        Some(most) => count <= most,
+        None => true,
     }
 }
 

@@ -4,10 +4,12 @@ ghost use Rattle.futures.specs.Poll.{OnPending};
 ghost use Rattle.futures.specs.Task.{Covers, Keeps};
 
 use crate::held::ServerHeld;
+use crate::input_end::InputEnd;
+use crate::settings::Settings;
 use futures::spin::lock;
 use futures::task::{Context, Poll, Source};
 use std::alloc::Global;
-use std::sync::Mutex;
+use std::sync::{Arc, Mutex};
 use ttrpc_polled::{Connected, Kind, Sending, StreamLine};
 use ttrpc_proto::Result;
 use ttrpc_secure::{InboundTransform, OutboundTransform};
@@ -25,24 +27,29 @@ pub struct ServerShared<O, I> {
 }
 
 impl<O: OutboundTransform + Drop, I: InboundTransform + Drop> ServerShared<O, I> {
-    /// This core, shared.
-    pub fn new(alloc: Global, core: ServerCore<O, I>) -> Self {
+    /// Shares this core, with these settings. `input_end` is told when the input has ended.
+    pub fn new(
+        alloc: Global,
+        core: ServerCore<O, I>,
+        settings: Settings,
+        input_end: Arc<InputEnd, Global>,
+    ) -> Self {
         ServerShared {
             came: Source::new(),
             asked: Source::new(),
-            held: Mutex::new(ServerHeld::new(alloc, core)),
+            held: Mutex::new(ServerHeld::new(alloc, core, settings, input_end)),
         }
     }
 
-    /// Waits until the job of this number has expired.
-    pub fn poll_expired(&self, id: JobId, cx: &mut Context<'_>) -> Poll<()>
+    /// Waits until the handler of the job of this number is to be dropped.
+    pub fn poll_dropped(&self, id: JobId, cx: &mut Context<'_>) -> Poll<()>
         ensures registered { OnPending result (Covers cx.new (λ s. s ≡ self.now.came.id)) }
         ensures kept { Keeps cx.old cx.new }
     {
         let Some(mut guard) = lock(&self.held) else {
             return cx.yield_now();
         };
-        let polled = (&mut *guard).poll_expired(id, &self.came, cx);
+        let polled = (&mut *guard).poll_dropped(id, &self.came, cx);
         drop(guard);
         polled
     }
@@ -102,16 +109,8 @@ impl<O: OutboundTransform + Drop, I: InboundTransform + Drop> StreamLine for Ser
         let Some(mut guard) = lock(&self.held) else {
             return cx.yield_now();
         };
-        let held = &mut *guard;
-        // The connection's future looks whether all that is left waits in vain.
-        let woken = if held.input_ended {
-            held.driver.take()
-        } else {
-            None
-        };
-        let polled = held.poll_receiving(id, &self.came, cx);
+        let polled = (&mut *guard).poll_receiving(id, &self.came, cx);
         drop(guard);
-        drop(woken);
         polled
     }
 

@@ -4,6 +4,7 @@ ghost use Rattle.std.specs.Arc.{arc_value};
 ghost use Rattle.futures.specs.Task.{Hears, IsArmed, Keeps};
 ghost use Rattle.futures.specs.Task.{Covers};
 ghost use Rattle.futures.specs.Poll.{IfReady, OnPending};
+ghost use Rattle.tokio.specs.Timers.{sleep_source};
 ghost use Rattle.ttrpc_proto.specs.declared.error.Error.{Error as AnError};
 ghost use Rattle.ttrpc_polled_server.specs.Stopping.{IsLeftOver, StoppingNeeds};
 ghost use Rattle.ttrpc_polled_server.specs.declared.stop.Disconnect.{Disconnect as ADisconnect};
@@ -16,7 +17,7 @@ use std::collections::BTreeMap;
 use std::mem::replace;
 use std::sync::{Arc, Mutex};
 use tokio::time::Sleep;
-use ttrpc_polled::Listener;
+use ttrpc_polled::{Listener, Wakers};
 use ttrpc_proto::{Error, Result, Text};
 use ttrpc_shutdown::{Notifier, Waiter, new};
 
@@ -39,9 +40,10 @@ struct Places {
     next: u64,
     ended: u64,
     is_deaf: bool,
-    accepts: Option<Waker>,
-    rests: Option<Waker>,
-    stops: Option<Waker>,
+    // The wakers of those who wait, each under a number.
+    accepts: Wakers,
+    rests: Wakers,
+    stops: Wakers,
     returned: Option<Listener>,
 }
 
@@ -68,9 +70,9 @@ impl Stop {
                 next: 0,
                 ended: 0,
                 is_deaf: false,
-                accepts: None,
-                rests: None,
-                stops: None,
+                accepts: Wakers::new(alloc),
+                rests: Wakers::new(alloc),
+                stops: Wakers::new(alloc),
                 returned: None,
             }),
         })
@@ -100,6 +102,17 @@ impl Stop {
         })
     }
 
+    /// Returns a number that nobody waits under yet.
+    pub fn take_number(&self) -> u64 {
+        let Some(mut guard) = lock(&self.held) else {
+            return u64::MAX;
+        };
+        let places = &mut *guard;
+        let number = places.next;
+        places.next = number.saturating_add(1);
+        number
+    }
+
     /// Connections are to be accepted from now on.
     pub fn listen(&self) {
         if let Some(mut guard) = lock(&self.held) {
@@ -112,9 +125,7 @@ impl Stop {
         if let Some(mut guard) = lock(&self.held) {
             let places = &mut *guard;
             places.is_deaf = true;
-            let woken = places.accepts.take();
-            drop(guard);
-            drop(woken);
+            places.accepts.wake_all();
         }
     }
 
@@ -136,9 +147,7 @@ impl Stop {
         if let Some(mut guard) = lock(&self.held) {
             let places = &mut *guard;
             places.returned = Some(listener);
-            let woken = places.stops.take();
-            drop(guard);
-            drop(woken);
+            places.stops.wake_all();
         }
     }
 
@@ -148,8 +157,8 @@ impl Stop {
         (&mut *guard).returned.take()
     }
 
-    /// Whether no more connections are to be accepted. If not, the task is told once it is so.
-    pub fn is_deaf(&self, cx: &mut Context<'_>) -> bool
+    /// Returns whether no more connections are to be accepted. If not, the task is woken when that changes; it waits under `number`.
+    pub fn is_deaf(&self, number: u64, cx: &mut Context<'_>) -> bool
         ensures waits { IsFalse result → IsArmed cx.new × Hears cx.new self.now.told.id }
         ensures kept { Keeps cx.old cx.new }
     {
@@ -161,7 +170,7 @@ impl Stop {
         if places.is_deaf {
             return true;
         }
-        let _: Poll<()> = cx.register(&self.told, &mut places.accepts);
+        let _: Poll<()> = places.accepts.wait(number, &self.told, cx);
         false
     }
 
@@ -173,8 +182,8 @@ impl Stop {
         }
     }
 
-    /// Whether a connection has ended since so many had. If not, the task is told once one has.
-    pub fn has_ended(&self, since: u64, cx: &mut Context<'_>) -> bool
+    /// Returns whether more connections have ended than `since`. If not, the task is woken when one ends; it waits under `number`.
+    pub fn has_ended(&self, since: u64, number: u64, cx: &mut Context<'_>) -> bool
         ensures waits { IsFalse result → IsArmed cx.new × Hears cx.new self.now.left.id }
         ensures kept { Keeps cx.old cx.new }
     {
@@ -186,12 +195,12 @@ impl Stop {
         if places.ended != since {
             return true;
         }
-        let _: Poll<()> = cx.register(&self.left, &mut places.rests);
+        let _: Poll<()> = places.rests.wait(number, &self.left, cx);
         false
     }
 
-    /// Whether the listener was given back, or there is none under way. If not, the task is told once it was.
-    fn is_back(&self, cx: &mut Context<'_>) -> bool
+    /// Returns whether the listener was given back. If not, the task is woken when it is; it waits under `number`.
+    fn is_back(&self, number: u64, cx: &mut Context<'_>) -> bool
         ensures waits { IsFalse result → IsArmed cx.new × Hears cx.new self.now.left.id }
         ensures kept { Keeps cx.old cx.new }
     {
@@ -203,13 +212,13 @@ impl Stop {
         if places.returned.is_some() {
             return true;
         }
-        let _: Poll<()> = cx.register(&self.left, &mut places.stops);
+        let _: Poll<()> = places.stops.wait(number, &self.left, cx);
         false
     }
 
     /// Whether all connections have ended, by the count of the notifier, which isn't needed then any more. If not, the task is
-    /// told once one more has.
-    fn have_all_ended(&self, alloc: Global, cx: &mut Context<'_>) -> bool
+    /// told once one more has. It waits under this number.
+    fn have_all_ended(&self, alloc: Global, number: u64, cx: &mut Context<'_>) -> bool
         ensures waits { IsFalse result → IsArmed cx.new × Hears cx.new self.now.left.id }
         ensures kept { Keeps cx.old cx.new }
     {
@@ -225,7 +234,7 @@ impl Stop {
             Ok(_) => true,
             Err((_, notifier, _)) => {
                 places.notifier = Some(notifier);
-                let _: Poll<()> = cx.register(&self.left, &mut places.stops);
+                let _: Poll<()> = places.stops.wait(number, &self.left, cx);
                 false
             }
         }
@@ -272,11 +281,8 @@ impl Drop for Seat {
             let places = &mut *guard;
             let _ = places.seats.remove(&number);
             places.ended = places.ended.wrapping_add(1);
-            let stops = places.stops.take();
-            let rests = places.rests.take();
-            drop(guard);
-            drop(stops);
-            drop(rests);
+            places.stops.wake_all();
+            places.rests.wake_all();
         }
     }
 }
@@ -285,6 +291,7 @@ impl Drop for Seat {
 #[derive(Drop)]
 pub struct StopListen {
     stop: Arc<Stop, Global>,
+    number: u64,
     is_listening: bool,
 }
 
@@ -293,7 +300,11 @@ impl StopListen {
     pub(crate) fn new(stop: Arc<Stop, Global>, is_listening: bool) -> StopListen
         ensures { (result.stop ≡ stop) × (result.is_listening ≡ is_listening) }
     {
-        StopListen { stop, is_listening }
+        StopListen {
+            number: stop.take_number(),
+            stop,
+            is_listening,
+        }
     }
 }
 
@@ -306,7 +317,7 @@ impl Future for StopListen {
     ghost needs = { λ f s. s ≡ (arc_value f.stop).left.id };
 
     fn poll(&mut self, cx: &mut Context<'_>) -> Poll<()> {
-        if !self.is_listening || self.stop.is_back(cx) {
+        if !self.is_listening || self.stop.is_back(self.number, cx) {
             return Poll::Ready(());
         }
         Poll::Pending
@@ -318,6 +329,7 @@ impl Future for StopListen {
 pub struct Disconnect {
     alloc: Global,
     stop: Arc<Stop, Global>,
+    number: u64,
     limit: Sleep,
 }
 
@@ -326,7 +338,26 @@ impl Disconnect {
     pub(crate) fn new(alloc: Global, stop: Arc<Stop, Global>, limit: Sleep) -> Disconnect
         ensures { (result.stop ≡ stop) × (result.limit ≡ limit) }
     {
-        Disconnect { alloc, stop, limit }
+        Disconnect {
+            alloc,
+            number: stop.take_number(),
+            stop,
+            limit,
+        }
+    }
+
+    /// Waits until the limit has passed, and then tells all connections to end. Some of them may be left.
+    fn poll_limit(&mut self, cx: &mut Context<'_>) -> Poll<Result<()>>
+        ensures left { IfReady result (λ ended. IfErr ended IsLeftOver) }
+        ensures stop { self.new.stop ≡ self.old.stop }
+        ensures registered { OnPending result (Covers cx.new (λ s. s ≡ sleep_source self.new.limit)) }
+        ensures kept { Keeps cx.old cx.new }
+    {
+        if self.limit.poll(cx).is_pending() {
+            return Poll::Pending;
+        }
+        self.stop.tell();
+        Poll::Ready(Err(left_over(self.alloc)))
     }
 }
 
@@ -344,13 +375,10 @@ impl Future for Disconnect {
 
     fn poll(&mut self, cx: &mut Context<'_>) -> Poll<Result<()>> {
         self.stop.tell();
-        if self.stop.have_all_ended(self.alloc, cx) {
+        if self.stop.have_all_ended(self.alloc, self.number, cx) {
             return Poll::Ready(Ok(()));
         }
-        match self.limit.poll(cx) {
-            Poll::Pending => Poll::Pending,
-            Poll::Ready(_) => Poll::Ready(Err(left_over(self.alloc))),
-        }
+        self.poll_limit(cx)
     }
 }
 
@@ -375,7 +403,7 @@ enum Stopping {
     Done,
 }
 
-/// The end of a server: its listener is closed, and then its connections end, as by `Disconnect`.
+/// The end of a server: its listener is closed, and then its connections end, as by `Disconnect`. One limit holds for both.
 #[derive(Drop)]
 pub struct Shutdown {
     stop: Arc<Stop, Global>,
@@ -410,10 +438,7 @@ impl Future for Shutdown {
     fn poll(&mut self, cx: &mut Context<'_>) -> Poll<Result<()>> {
         match replace(&mut self.at, Stopping::Done) {
             Stopping::Listens(mut listener, connections) => match listener.poll(cx) {
-                Poll::Pending => {
-                    self.at = Stopping::Listens(listener, connections);
-                    Poll::Pending
-                }
+                Poll::Pending => self.poll_limit(listener, connections, cx),
                 Poll::Ready(()) => {
                     drop(self.stop.take_listener());
                     self.poll_connections(connections, cx)
@@ -426,6 +451,29 @@ impl Future for Shutdown {
 }
 
 impl Shutdown {
+    /// Waits for the listener, until the limit has passed.
+    fn poll_limit(
+        &mut self,
+        listener: StopListen,
+        mut connections: Disconnect,
+        cx: &mut Context<'_>,
+    ) -> Poll<Result<()>>
+        ensures ended { IfReady result (λ ended. IfErr ended IsLeftOver) }
+        ensures waits { OnPending result ((limit : ADisconnect) × (self.new.at ≡ Stopping.Listens listener limit) × Covers cx.new (λ s. s ≡ sleep_source limit.limit)) }
+        ensures kept { Keeps cx.old cx.new }
+    {
+        match connections.poll_limit(cx) {
+            Poll::Pending => {
+                self.at = Stopping::Listens(listener, connections);
+                Poll::Pending
+            }
+            Poll::Ready(ended) => {
+                self.at = Stopping::Done;
+                Poll::Ready(ended)
+            }
+        }
+    }
+
     /// Waits for the connections.
     fn poll_connections(
         &mut self,

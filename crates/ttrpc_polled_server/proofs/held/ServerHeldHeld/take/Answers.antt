@@ -10,3 +10,13 @@ returns-clause-takes g c =
       counted = rw c.in-Ok.is refl;
       told = rw c.in-Ok.is (search rules);
     }
+
+pub returns-in_default-clause-takes : goal.returns-in_default-clause-takes
+returns-in_default-clause-takes g c =
+    record {
+      fed = c.feed.new.self;
+      answer = c.feed.result;
+      takes = c.feed.ensures;
+      counted = rw c.in_default.is refl;
+      told = rw c.in_default.is (search rules);
+    }

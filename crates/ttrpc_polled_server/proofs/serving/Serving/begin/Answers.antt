@@ -16,4 +16,4 @@ pub returns-clause-accepted : goal.returns-clause-accepted
 returns-clause-accepted g c =
     let given = gave (g.A.AcceptHook.gives c.deref.result.now c.args.socket) c.in-Ok.output c.in-Ok.ensures in
     let own = subst (λ hook. g.A.AcceptHook.gives hook c.args.socket (Ok c.in-Ok.output)) c.deref.ensures given in
-    IfOk-weaker c.open.result _ _ (λ made is. (c.in-Ok.output, own, (c.in_ok-reader.reader, c.in_ok-reader.writer, is))) c.open.ensures.opened
+    IfOk-weaker c.open.result _ _ (λ made is. (c.in-Ok.output, own, is)) c.open.ensures.opened
