@@ -1,2 +1,4 @@
 pub mod Held
 pub mod Relays
+pub mod Backlogs
+pub mod Pauses

@@ -1,6 +1,6 @@
 -- What a server refuses by its settings, and by which text.
 -- Source: this project's, with the texts of the Rust crate `ttrpc`.
-use Rattle.std.specs.Prelude.{◌≡◌, ◌⊎◌, ℕ, List, Option, Some, None, Result, IfErr, IsErr, codes, false, nat_lt, true, if◌then◌else◌}
+use Rattle.std.specs.Prelude.{◌≡◌, ◌⊎◌, ℕ, List, Option, Some, None, Result, IfErr, IsErr, IsSomeAnd, codes, false, nat_lt, true, if◌then◌else◌}
 use Rattle.std.specs.Duration.{as_nanos}
 use Rattle.ttrpc_proto.specs.declared.error.Error.{Error}
 use Rattle.ttrpc_proto.specs.declared.error.Error.TheVariants as error
@@ -52,6 +52,10 @@ pub record IsNew (s : Settings) : Type 0 where
   pub min : s.thread_count_min ≡ 1
   pub max : s.thread_count_max ≡ 5
   pub retry : as_nanos s.accept_retry_interval ≡ 10000000000
+  pub jobs : s.waiting_jobs ≡ Some 4096
+  pub bytes : s.waiting_bytes ≡ Some 8388608
+  pub frame : s.frame_limit ≡ None
+  pub close : IsSomeAnd s.close_limit (λ limit. as_nanos limit ≡ 5000000000)
   pub bound : s.is_bound ≡ false
   pub listening : s.is_listening ≡ false
   pub fixed : s.is_fixed ≡ false

@@ -2,12 +2,11 @@
 ghost use Rattle.std.specs.Prelude.{◌↔◌, IsTrue};
 ghost use Rattle.ttrpc_sync_server.specs.Accepting.{IsRetriedAtOnce};
 
-use crate::connection::Watch;
 use std::io::{self, ErrorKind};
 use std::sync::{Condvar, Mutex, Wait};
 use std::time::{Clock, Duration};
 use ttrpc_proto::Error;
-use ttrpc_transport::{PipeConnection, PipeListener};
+use ttrpc_transport::{PipeConnection, PipeListener, Watch};
 
 /// Where connections come from.
 pub trait Accepts {

@@ -12,6 +12,18 @@ pub struct OpenConnection {
     pub crew: Arc<Crew, Global>,
 }
 
+impl OpenConnection {
+    // Ends the connection after its answers have left, or at once if it has no threads yet.
+    fn finish<X: Wait>(&self, rt: &X) {
+        if self.crew.drain(rt) {
+            let _ = self.stream.shutdown();
+        } else {
+            let _ = self.stream.close();
+            self.crew.end(rt);
+        }
+    }
+}
+
 /// The connections that a server has open, under their numbers.
 #[derive(Drop)]
 pub struct Connections {
@@ -60,12 +72,11 @@ impl Connections {
         self.held.lock(rt).connections.len()
     }
 
-    /// Closes all of them, and waits until they have ended.
-    pub fn close_all<X: Wait>(&self, rt: &X) {
+    /// Reads no more from any of them, and waits until each has ended after its answers have left.
+    pub fn finish_all<X: Wait>(&self, rt: &X) {
         let mut open = self.held.lock(rt);
         for (_, connection) in open.connections.iter() {
-            let _ = connection.stream.close();
-            connection.crew.end(rt);
+            connection.finish(rt);
         }
         for _ in rt.forever() {
             if open.connections.is_empty() {

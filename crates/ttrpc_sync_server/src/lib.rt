@@ -12,8 +12,8 @@ pub mod settings;
 mod stopper;
 
 pub use connection::{
-    AtTurn, Conn, Crew, MethodHandler, NoWatch, Relay, ServerHeld, ServerJobs, ServerRead,
-    ServerShared, ServerWrite, Serving, SharedHandler, SharedWatch, TtrpcContext, Watch, keep,
+    AtTurn, Backlog, Conn, Crew, MethodHandler, Relay, ServerHeld, ServerJobs, ServerRead,
+    ServerShared, ServerWrite, Serving, SharedHandler, SharedWatch, TtrpcContext, keep,
     response_error_to_channel, send_response,
 };
 pub use hook::SharedHook;
@@ -21,3 +21,4 @@ pub use server::Server;
 pub use settings::{Refusal, Settings};
 pub use stopper::Stopper;
 pub use ttrpc_secure::NoHook;
+pub use ttrpc_transport::{NoWatch, Watch};

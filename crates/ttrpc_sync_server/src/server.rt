@@ -10,7 +10,7 @@ ghost use Rattle.ttrpc_transport.specs.Sockets.{IsFault};
 ghost use Rattle.ttrpc_transport.specs.declared.address.domain.Domain.{Domain as ADomain};
 
 use crate::accept::{Stop, next_connection};
-use crate::connection::{NoWatch, Serving, SharedHandler, SharedWatch, Watch};
+use crate::connection::{Serving, SharedHandler, SharedWatch};
 use crate::connections::Connections;
 use crate::hook::SharedHook;
 use crate::service::{Service, serve};
@@ -28,7 +28,7 @@ use ttrpc_proto::{Error, Result};
 use ttrpc_secure::{NoHook, SendInbound, SendOutbound};
 use ttrpc_server::Methods;
 use ttrpc_sync::{Host, Runtime};
-use ttrpc_transport::{PipeConnection, PipeListener};
+use ttrpc_transport::{NoWatch, PipeConnection, PipeListener};
 
 /// A server with threads, which contracts see as what it was built with: its settings, its listener, its handlers, its hook
 /// and its watch. Once it has started it serves the methods that are registered, at one address.
@@ -178,6 +178,41 @@ impl<R: Host, H: Drop, A: Drop, W: Drop> Server<R, H, A, W> {
         self
     }
 
+    /// Sets how many jobs of a connection may wait to be begun. While more wait, the connection isn't read. `None` sets no limit.
+    pub fn set_waiting_jobs(mut self, count: Option<u64>) -> Server<R, H, A, W>
+        ensures { result ≡ record self { settings = record self.settings { waiting_jobs = count } } }
+    {
+        self.settings.waiting_jobs = count;
+        self
+    }
+
+    /// Sets how many bytes of jobs may wait to be begun. While more wait, their connection isn't read. The bytes are those of the frames
+    /// that came since no job waited, less the frames of the jobs that have begun since. `None` sets no limit.
+    pub fn set_waiting_bytes(mut self, count: Option<u64>) -> Server<R, H, A, W>
+        ensures { result ≡ record self { settings = record self.settings { waiting_bytes = count } } }
+    {
+        self.settings.waiting_bytes = count;
+        self
+    }
+
+    /// Sets for how long a peer may pause inside a frame. Its connection fails after the limit, a quarter of it later at most. `None`
+    /// sets no limit.
+    pub fn set_frame_limit(mut self, limit: Option<Duration>) -> Server<R, H, A, W>
+        ensures { result ≡ record self { settings = record self.settings { frame_limit = limit } } }
+    {
+        self.settings.frame_limit = limit;
+        self
+    }
+
+    /// Sets for how long a connection that ends stays open after its last answer, if its peer doesn't read. `None` waits until the peer
+    /// has read all.
+    pub fn set_close_limit(mut self, limit: Option<Duration>) -> Server<R, H, A, W>
+        ensures { result ≡ record self { settings = record self.settings { close_limit = limit } } }
+    {
+        self.settings.close_limit = limit;
+        self
+    }
+
     /// Lets this hook look at each connection first. What it gives after 30 seconds comes too late, and the connection is
     /// closed; one that never returns holds its connection, and `disconnect`, for ever.
     pub fn set_accept_hook<B: Drop>(self, hook: B) -> Result<Server<R, H, B, W>>
@@ -297,14 +332,15 @@ impl<R: Host + Threads, H: Drop, A: Drop, W: Drop> Server<R, H, A, W> {
         self
     }
 
-    /// Ends all connections, and waits for the threads that serve them, and so for the handlers and the hooks that run in
-    /// these: one that never returns holds it for ever. A server that listens stops first.
+    /// Ends all connections: reads no more requests, answers the requests that were read, and then closes each connection. A peer that
+    /// doesn't read its answers delays this by the close limit at most. Waits for the threads that serve the connections, and so for
+    /// their handlers and hooks: one that never returns holds the server for ever. A server that listens stops listening first.
     pub fn disconnect(self) {
         let server = self.stop_listen();
-        server.connections.close_all(&server.rt);
+        server.connections.finish_all(&server.rt);
     }
 
-    /// Stops listening, and ends all connections.
+    /// Stops listening, and ends all connections as `disconnect` does.
     pub fn shutdown(self) {
         self.stop_listen().disconnect();
     }

@@ -1,5 +1,5 @@
 //! What a server uses for each connection.
-ghost use Rattle.std.specs.Prelude.{◌≡◌, IfErr, IfOk};
+ghost use Rattle.std.specs.Prelude.{◌≡◌, IfErr, IfOk, false};
 ghost use Rattle.std.specs.Arc.{arc_value};
 ghost use Rattle.ttrpc_proto.specs.declared.error.Error.TheVariants.{NoMemory};
 ghost use Rattle.ttrpc_sync_server.specs.Accepting.{IsCoreFor};
@@ -7,7 +7,7 @@ ghost use Rattle.ttrpc_sync_server.specs.Built.{IsNotStarted};
 
 use crate::accept::Stop;
 use crate::connection::{
-    Conn, Crew, ServerShared, Serving, SharedHandler, SharedWatch, Watch, keep,
+    Backlog, Conn, Crew, ServerShared, Serving, SharedHandler, SharedWatch, keep,
 };
 use crate::connections::{Connections, OpenConnection};
 use crate::hook::SharedHook;
@@ -23,7 +23,7 @@ use ttrpc_secure::{
 };
 use ttrpc_server::{Methods, Rules, ServerCore};
 use ttrpc_sync::{Host, Link, PoolCore, Runtime};
-use ttrpc_transport::PipeConnection;
+use ttrpc_transport::{PipeConnection, Watch};
 
 /// What a server uses for each connection.
 #[derive(Drop)]
@@ -143,7 +143,7 @@ where
         }
     };
     match open(rt, service, stream, crew, output) {
-        Ok(conn) => keep(&conn, serving, service.settings.thread_count_default),
+        Ok(conn) => keep(&conn, serving, &service.settings),
         Err(error) => serving.watch.connection_dropped(&error),
     }
 }
@@ -173,7 +173,8 @@ where
         inbound,
     } = output;
     let core = core_of(alloc, &service.serving.methods, outbound, inbound)?;
-    let shared = ServerShared::new(core, pool_of(&service.settings));
+    let settings = &service.settings;
+    let shared = ServerShared::new(core, pool_of(settings), backlog_of(settings));
     let link = Link::new(alloc, shared, Arc::try_clone(stream)?)?;
     let conn = Conn::new(rt.clone()?, link, connection_data, crew)?;
     Ok(Arc::new(alloc, conn)?)
@@ -197,6 +198,19 @@ where
     let registry = methods.registry(alloc)?;
     let context = ConnectionContext::of_halves(alloc, outbound, inbound);
     Ok(ServerCore::new(alloc, Rules::Sync, registry, context))
+}
+
+/// Makes the backlog of a new connection, with the server's two limits.
+fn backlog_of(settings: &Settings) -> Backlog
+    ensures { result ≡ record {
+      max_jobs = settings.now.waiting_jobs;
+      max_bytes = settings.now.waiting_bytes;
+      bytes = 0;
+      pieces = 0;
+      reader_waits = false;
+    } }
+{
+    Backlog::new(settings.waiting_jobs, settings.waiting_bytes)
 }
 
 /// The workers of a connection, of whom none waits yet, by the server's three counts.

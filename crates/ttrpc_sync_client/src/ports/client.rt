@@ -2,7 +2,8 @@
 ghost use Rattle.std.specs.Prelude.{◌≡◌, length, min, nat_eq, None, Some, IfOk, IfErr, IfSome, OnErr, false};
 ghost use Rattle.std.specs.Option.{option_map};
 ghost use Rattle.ttrpc_connection.specs.declared.failure.Failure.{Failure as AFailure};
-ghost use Rattle.ttrpc_connection.specs.OneEnd.{Ends, Lends, failing, lendable, lending, reporting};
+ghost use Rattle.ttrpc_connection.specs.OneEnd.{Ends, Lends, Takes, failing, lendable, lending, reporting};
+ghost use Rattle.ttrpc_client.specs.Inside.{calling};
 ghost use Rattle.ttrpc_client.specs.State.{IsClient};
 ghost use Rattle.ttrpc_client.specs.Protocol.{Forgets, Requests, TakesOutcome, Ticks, RefusesRequest};
 ghost use Rattle.ttrpc_proto.specs.declared.error.Error.{Error as AnError};
@@ -126,6 +127,47 @@ impl<O: OutboundTransform + Drop, I: InboundTransform + Drop> ClientHeld<O, I> {
     }
 }
 
+/// The calls of `ClientRead` and `ClientWrite` on a core that is lent to them under the lock. Each makes one call of the core.
+impl<O: OutboundTransform + Drop, I: InboundTransform + Drop> ClientHeld<O, I> {
+    /// Feeds a piece to the core, as `take` of a reader's port does. Returns how many bytes the core took.
+    pub fn take_on(core: &mut ClientCore<O, I>, alloc: Global, piece: &[u8]) -> Result<usize>
+        ensures { Takes (calling O.OutboundTransform I.InboundTransform) core.old.state core.old.connection piece.now 0 result core.new.state core.new.connection }
+    {
+        core.feed(alloc, piece)
+    }
+
+    /// Tells the core that its input has ended, as `ended` of a reader's port does.
+    pub fn ended_on(core: &mut ClientCore<O, I>)
+        ensures ends { Ends core.old.connection core.new.connection }
+        ensures same { core.new ≡ record core.old { connection = core.new.connection } }
+    {
+        core.end_of_input();
+    }
+
+    /// Fails the connection by an error of this kind, as `broke` of a port does.
+    pub fn broke_on(core: &mut ClientCore<O, I>, kind: ErrorKind)
+        ensures { core.new ≡ record core.old { connection = failing core.old.connection (AFailure.Told (AnError.Nix kind)) } }
+    {
+        core.fail(Error::Nix(kind));
+    }
+
+    /// Lends bytes of the first unsent frame, as `lend` of a writer's port does. Returns how many.
+    pub fn lend_on(core: &mut ClientCore<O, I>, buffer: &mut [u8]) -> usize
+        ensures lends { Lends core.old.connection buffer.old result buffer.new }
+        ensures lent { core.new ≡ record core.old { connection = lending core.old.connection result } }
+    {
+        core.lend(buffer)
+    }
+
+    /// Reports `count` bytes of the last loan as written, at most all of them, as `wrote` of a writer's port does.
+    pub fn wrote_on(core: &mut ClientCore<O, I>, count: usize)
+        ensures { core.new ≡ record core.old { connection = reporting core.old.connection (min count core.old.connection.outbox.queue.lent) } }
+    {
+        let lent = core.lent();
+        core.wrote(count.min(lent));
+    }
+}
+
 impl<O: OutboundTransform + Drop, I: InboundTransform + Drop> Held for ClientHeld<O, I> {
     type Woken = Woken;
 
@@ -151,7 +193,7 @@ impl<O: OutboundTransform + Drop, I: InboundTransform + Drop> Held for ClientHel
         ensures same { self.new.core ≡ record self.old.core { connection = self.new.core.connection } }
         ensures turns { (self.new.turn ≡ self.old.turn) × (self.new.reading ≡ self.old.reading) }
     {
-        self.core.end_of_input();
+        ClientHeld::ended_on(&mut self.core);
     }
 
     fn wrote(&mut self, count: usize)
@@ -160,8 +202,7 @@ impl<O: OutboundTransform + Drop, I: InboundTransform + Drop> Held for ClientHel
         } }
         ensures turns { (self.new.turn ≡ self.old.turn) × (self.new.reading ≡ self.old.reading) }
     {
-        let lent = self.core.lent();
-        self.core.wrote(count.min(lent));
+        ClientHeld::wrote_on(&mut self.core, count);
     }
 
     fn lend(&mut self, buffer: &mut [u8]) -> Loan
@@ -171,7 +212,7 @@ impl<O: OutboundTransform + Drop, I: InboundTransform + Drop> Held for ClientHel
         ensures turns { (self.new.turn ≡ self.old.turn) × (self.new.reading ≡ self.old.reading) }
     {
         let open = self.core.lendable();
-        let count = self.core.lend(buffer);
+        let count = ClientHeld::lend_on(&mut self.core, buffer);
         Loan {
             count,
             ends_frame: count == open,
@@ -182,7 +223,7 @@ impl<O: OutboundTransform + Drop, I: InboundTransform + Drop> Held for ClientHel
         ensures failed { self.new.core ≡ record self.old.core { connection = failing self.old.core.connection (AFailure.Told (AnError.Nix kind)) } }
         ensures turns { (self.new.turn ≡ self.old.turn) × (self.new.reading ≡ self.old.reading) }
     {
-        self.core.fail(Error::Nix(kind));
+        ClientHeld::broke_on(&mut self.core, kind);
     }
 
     fn next(&mut self, has_turn: bool) -> Next
@@ -216,7 +257,7 @@ fn feed_piece<O: OutboundTransform + Drop, I: InboundTransform + Drop>(
     ensures whole { IfSome result (λ taken. taken.0 ≡ length piece.now) }
     ensures fed { IsFed O.OutboundTransform I.InboundTransform core.old reading.old piece.now (option_map (λ taken. taken.1) result) core.new reading.new }
 {
-    let taken = core.feed(alloc, piece);
+    let taken = ClientHeld::take_on(core, alloc, piece);
     let ended = ended_places(core, reading);
     match taken {
         Ok(count) => Some((count, ended)),

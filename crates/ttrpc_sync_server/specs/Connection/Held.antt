@@ -1,34 +1,27 @@
 -- What the calls of a server's ports do to its core, under the lock.
 -- Source: this project's.
-use Rattle.std.specs.Prelude.{◌≡◌, ◌⊎◌, ◌-◌, ℕ, Option, Some, None, List, filter, length, take, drop, min, is_some, if◌then◌else◌, Bool, true, false, nat_eq, nat_lt, Ok, Err, Result}
+use Rattle.std.specs.Prelude.{◌≡◌, ◌≢◌, ◌⊎◌, ◌-◌, ℕ, Option, Some, None, List, filter, length, take, drop, min, is_some, if◌then◌else◌, Bool, true, false, nat_eq, nat_le, nat_lt, Ok, Err, Result}
+use Rattle.ttrpc_proto.specs.Framing.Frames.{nothing}
 use Rattle.ttrpc_proto.specs.Framing.Queue.{after_report, open_part, with_lent}
 use Rattle.ttrpc_proto.specs.declared.error.Error.{Error}
 use Rattle.ttrpc_secure.specs.declared.transform.InboundTransform.{Ghosts as InboundTransform}
 use Rattle.ttrpc_secure.specs.declared.transform.OutboundTransform.{Ghosts as OutboundTransform}
-use Rattle.ttrpc_server.specs.Protocol.{AnswersError, Finishes, RefusesAnswer, RefusesFinish, serving}
+use Rattle.ttrpc_server.specs.Protocol.{serving}
 use Rattle.ttrpc_server.specs.State.{waits}
 use Rattle.ttrpc_server.specs.Types.{Ends, TakesOrDrains}
 use Rattle.ttrpc_server.specs.declared.server.ServerCore.{ServerCore}
 use Rattle.ttrpc_sync.specs.declared.ends.turn.Turn.{Turn}
+use Rattle.ttrpc_sync.specs.declared.link.queuing.AfterQueuing.{AfterQueuing}
+use Rattle.ttrpc_sync.specs.declared.link.queuing.AfterQueuing.TheVariants.{Write}
 use Rattle.ttrpc_sync_server.specs.declared.connection.ports.relay.Relay.{Relay}
 use Rattle.ttrpc_sync_server.specs.declared.connection.ports.server.Woken.{Woken}
+use Rattle.ttrpc_sync_server.specs.declared.connection.ports.backlog.Backlog.{Backlog}
+use Rattle.ttrpc_sync_server.specs.Connection.Backlogs.{is_full}
 use Rattle.ttrpc_sync_server.specs.Connection.Relays.{has_turn, relay_begun}
 
--- ---- jobs
-
--- the job may not end, since the connection has failed, the rules are others, or there is none under this id; nothing
--- changed
-abbrev pub IsKept : {O I : Type 0} → ServerCore O I → ℕ → ServerCore O I → Type 0
-IsKept old id new = ((e : Error) × RefusesFinish old id e) × (new ≡ old)
-
--- the job has ended, and nothing was queued
-abbrev pub IsFinished : {O I : Type 0} → ServerCore O I → ℕ → ServerCore O I → Type 0
-IsFinished old id new = Finishes old id new ⊎ IsKept old id new
-
--- the job has ended by an error, and under sync rules so has the connection; or its answer was refused, and nothing
--- changed
-abbrev pub IsDropped : {O I : Type 0} → OutboundTransform O → ServerCore O I → ℕ → Error → ServerCore O I → Type 0
-IsDropped out old id error new = AnswersError out old.state.rules old id error new ⊎ (((e : Error) × RefusesAnswer out old id (Err error) e) × (new ≡ old))
+-- how many jobs wait
+abbrev pub waiting_of : {O I : Type 0} → ServerCore O I → ℕ
+waiting_of core = length (filter waits core.state.jobs.list)
 
 -- ---- bytes in
 
@@ -42,6 +35,12 @@ pub record IsFed {O I : Type 0} (seals : OutboundTransform O) (opens : InboundTr
   pub answer : Result ℕ Error
   pub fed : TakesOrDrains (serving seals opens) old.state old.connection piece 0 answer new.state new.connection
   pub taken : is_whole answer (length piece) ≡ is_taken
+
+-- The input has come into a frame and not to its end, and more of it is read.
+pub record IsInsideFrame {O I : Type 0} (core : ServerCore O I) (has_ended : Bool) (backlog : Backlog) : Type 0 where
+  pub goes_on : has_ended ≡ false
+  pub room : is_full backlog (waiting_of core) ≡ false
+  pub inside : core.connection.decoder ≢ nothing
 
 -- ---- bytes out
 
@@ -91,7 +90,11 @@ turn_waking turn is_wanted = if is_wanted then record turn { sleeps = if turn.is
 
 -- whether the reader of a piece handles its jobs itself: some wait, and the other reader waits for the turn
 abbrev pub keeps_jobs : {O I : Type 0} → ServerCore O I → Relay → Bool
-keeps_jobs core relay = if nat_lt 0 (length (filter waits core.state.jobs.list)) then relay.other_waits else false
+keeps_jobs core relay = if nat_lt 0 (waiting_of core) then relay.other_waits else false
+
+-- whether the reader of a piece reads on: it handles no jobs, and not too much waits
+abbrev pub reads_on : {O I : Type 0} → ServerCore O I → Relay → Backlog → Bool
+reads_on core relay backlog = if keeps_jobs core relay then false else (if is_full backlog (waiting_of core) then false else true)
 
 -- the turn to read then: who handles jobs has begun a round
 abbrev pub relay_behind : (keeps : Bool) → Relay → Relay
@@ -100,7 +103,7 @@ relay_behind keeps relay = if keeps then relay_begun relay else relay
 -- whether a worker is woken, of so many that sleep: a job waits, and no worker is on its way
 abbrev pub calls_worker : {O I : Type 0} → ServerCore O I → (sleeping coming : ℕ) → Bool
 calls_worker core sleeping coming =
-    if nat_lt 0 (length (filter waits core.state.jobs.list)) then (if nat_lt 0 sleeping then nat_eq coming 0 else false) else false
+    if nat_lt 0 (waiting_of core) then (if nat_lt 0 sleeping then nat_eq coming 0 else false) else false
 
 -- whether it is a reader that has the turn
 abbrev pub is_turn_of : Relay → Option ℕ → Bool
@@ -128,9 +131,23 @@ woken_for core keeps sleeping coming turn relay = record {
   reader = if keeps then relay.other_sleeps else false;
 }
 
--- whether the thread that queued an answer writes it itself: nothing waited to be written before, no other job is under
--- way, and none waits
-abbrev pub is_lone_answer : {O I : Type 0} → ServerCore O I → ServerCore O I → Bool
-is_lone_answer old new =
+-- whether the thread that queued an answer writes it itself: more requests may come, nothing waited to be written before,
+-- no other job is under way, and none waits
+abbrev pub is_lone_answer : {O I : Type 0} → (has_ended : Bool) → ServerCore O I → ServerCore O I → Bool
+is_lone_answer has_ended old new =
+    if has_ended then false else
     if has_bytes old then false else
-    if nat_eq (length (filter waits new.state.jobs.list)) 0 then nat_lt (length new.state.jobs.list) 2 else false
+    if nat_eq (waiting_of new) 0 then nat_lt (length new.state.jobs.list) 2 else false
+
+-- whether a handler's thread has the turn to write then
+abbrev pub writes_behind : AfterQueuing → Bool → Bool
+writes_behind Write handler_writes = true
+writes_behind _ handler_writes = handler_writes
+
+-- whether all is answered that was asked, and nothing more comes: no job waits, and none is under way but that of a handler
+-- which writes its answer
+abbrev pub is_answered : {O I : Type 0} → ServerCore O I → (has_ended handler_writes : Bool) → Bool
+is_answered core has_ended handler_writes =
+    if has_ended then
+    (if nat_eq (waiting_of core) 0 then nat_le (length core.state.jobs.list) (if handler_writes then 1 else 0) else false)
+    else false

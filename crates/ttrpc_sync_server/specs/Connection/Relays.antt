@@ -18,6 +18,11 @@ is_number (Some other) number = nat_eq other number
 abbrev pub has_turn : Relay → (reader : ℕ) → Bool
 has_turn relay reader = is_number relay.reader reader
 
+-- A worker, or this reader, may take a job: not a reader that has the turn and reads.
+abbrev pub may_handle : Relay → (reader : Option ℕ) → Bool
+may_handle relay None = true
+may_handle relay (Some reader) = if relay.handles then true else (if has_turn relay reader then false else true)
+
 -- A reader without the turn takes it: nobody has it, or who has it still handles jobs of the round that was seen.
 abbrev pub takes : Relay → (seen : Option ℕ) → Bool
 takes relay seen = if is_some relay.reader then (if relay.handles then is_number seen relay.rounds else false) else true

@@ -3,7 +3,7 @@ ghost use Rattle.std.specs.Prelude.{◌≡◌, IfErr, IfOk, OnErr, OnOk};
 ghost use Rattle.ttrpc_proto.specs.declared.error.Error.TheVariants.{NoMemory};
 ghost use Rattle.ttrpc_server.specs.Protocol.{QueuesResponse, RefusesResponse};
 ghost use Rattle.ttrpc_sync.specs.Queuing.{queuing_of, turn_after_queuing};
-ghost use Rattle.ttrpc_sync_server.specs.Connection.Held.{is_lone_answer};
+ghost use Rattle.ttrpc_sync_server.specs.Connection.Held.{is_lone_answer, writes_behind};
 
 use crate::connection::crew::Crew;
 use crate::connection::ports::{ServerHeld, ServerShared};
@@ -98,13 +98,23 @@ impl<R: Host, O: OutboundTransform + Drop, I: InboundTransform + Drop> Conn<R, O
         self.crew.end(&self.rt);
     }
 
-    /// Ends it, if it has failed.
-    pub(crate) fn end_if_failed(&self) {
-        let has_failed = lock_soon(&self.rt, self.link.shared().held())
-            .core
-            .has_failed();
+    /// Takes no more requests. After the requests that came are answered, the writer thread ends the connection.
+    pub(crate) fn drain(&self) {
+        self.cancel();
+        self.link.shared().drain(&self.rt);
+        self.look();
+    }
+
+    /// Ends the connection if it has failed. Reports to the crew if each request is answered and no more come.
+    pub(crate) fn look(&self) {
+        let guard = lock_soon(&self.rt, self.link.shared().held());
+        let has_failed = guard.core.has_failed();
+        let is_answered = guard.is_answered();
+        drop(guard);
         if has_failed {
             self.end();
+        } else if is_answered {
+            self.crew.report_answered(&self.rt);
         }
     }
 
@@ -119,7 +129,8 @@ impl<R: Host, O: OutboundTransform + Drop, I: InboundTransform + Drop> Conn<R, O
 }
 
 /// Queues a response, and says what is to be done next. Who handles a job writes it itself where no other job is under way,
-/// and nothing else waits to be written.
+/// nothing else waits to be written, and more requests may come: while a connection ends, no handler waits for its own answer to be
+/// written.
 fn responded<O: OutboundTransform + Drop, I: InboundTransform + Drop>(
     held: &mut ServerHeld<O, I>,
     alloc: Global,
@@ -128,15 +139,20 @@ fn responded<O: OutboundTransform + Drop, I: InboundTransform + Drop>(
 ) -> Result<AfterQueuing>
     // The response is queued, and written at once where it may be.
     ensures queued { OnOk result (QueuesResponse O.OutboundTransform held.old.core stream_id response.now held.new.core) }
-    ensures next { IfOk result (λ next. next ≡ queuing_of held.old.turn (is_lone_answer held.old.core held.new.core)) }
-    ensures turn { OnOk result (held.new.turn ≡ turn_after_queuing held.old.turn (is_lone_answer held.old.core held.new.core)) }
-    ensures rest { held.new ≡ record held.old { core = held.new.core; turn = held.new.turn } }
+    ensures next { IfOk result (λ next. next ≡ queuing_of held.old.turn (is_lone_answer held.old.has_ended held.old.core held.new.core)) }
+    ensures turn { OnOk result (held.new.turn ≡ turn_after_queuing held.old.turn (is_lone_answer held.old.has_ended held.old.core held.new.core)) }
+    ensures writes { IfOk result (λ next. held.new.handler_writes ≡ writes_behind next held.old.handler_writes) }
+    ensures rest { held.new ≡ record held.old { core = held.new.core; turn = held.new.turn; handler_writes = held.new.handler_writes } }
     // Or it is refused, and nothing changed.
     ensures refused { IfErr result (RefusesResponse O.OutboundTransform held.old.core stream_id response.now) }
     ensures err { OnErr result (held.new ≡ held.old) }
 {
-    let nothing_waits = held.core.lendable() == 0;
+    let is_first = !held.has_ended && held.core.lendable() == 0;
     held.core.respond(alloc, stream_id, response)?;
     let is_alone = held.core.jobs_taken() < 2 && held.core.jobs_waiting() == 0;
-    Ok(after_queuing(&mut held.turn, nothing_waits && is_alone))
+    let next = after_queuing(&mut held.turn, is_first && is_alone);
+    if matches!(next, AfterQueuing::Write) {
+        held.handler_writes = true;
+    }
+    Ok(next)
 }

@@ -1,5 +1,6 @@
-//! The threads that serve one connection: how many there are, and when more workers are to be started.
+//! The threads that serve one connection: how many there are, when more workers are started, and how all of them end.
 use std::sync::{Condvar, Mutex, Wait};
+use std::time::{Clock, Duration};
 
 /// The threads of a connection.
 #[derive(Drop)]
@@ -14,7 +15,21 @@ struct Count {
     threads: u64,
     // How often a worker left too few behind that wait, and nobody looked yet.
     shortages: u64,
+    drain: Drain,
+    // Whether each request is answered and no more come.
+    is_answered: bool,
     is_over: bool,
+}
+
+/// Whether a connection takes requests.
+#[derive(Clone, Copy, Debug)]
+enum Drain {
+    /// It takes requests.
+    No,
+    /// It is to take no more, and its keeper doesn't know yet.
+    Asked,
+    /// It takes no more, and its keeper knows.
+    Told,
 }
 
 /// What is to be done for a connection.
@@ -22,8 +37,36 @@ struct Count {
 pub enum Order {
     /// Workers are to be started, as many as are missing.
     Fill,
+    /// The connection takes no more requests.
+    Drain,
+    /// Each request is answered, and the answers leave.
+    Flush,
+    /// The keeper looks at its connection again.
+    Look,
     /// The connection ends.
     End,
+}
+
+impl Count {
+    // Returns the next order, if something is to be done.
+    fn take_order(&mut self) -> Option<Order> {
+        if self.is_over {
+            return Some(Order::End);
+        }
+        match self.drain {
+            Drain::Asked => {
+                self.drain = Drain::Told;
+                return Some(Order::Drain);
+            }
+            Drain::Told if self.is_answered => return Some(Order::Flush),
+            Drain::Told | Drain::No => {}
+        }
+        if self.shortages == 0 {
+            return None;
+        }
+        self.shortages -= 1;
+        Some(Order::Fill)
+    }
 }
 
 impl Crew {
@@ -33,6 +76,8 @@ impl Crew {
             held: Mutex::new(Count {
                 threads: 0,
                 shortages: 0,
+                drain: Drain::No,
+                is_answered: false,
                 is_over: false,
             }),
             changed: Condvar::new(),
@@ -61,26 +106,64 @@ impl Crew {
         self.changed.notify_all();
     }
 
+    /// Asks the keeper of the connection to take no more requests, and to end the connection after the requests that came are
+    /// answered. Returns whether the connection has threads; if it has none, nobody was asked.
+    pub fn drain<X: Wait>(&self, rt: &X) -> bool {
+        let mut count = self.held.lock(rt);
+        if count.threads == 0 {
+            return false;
+        }
+        if matches!(count.drain, Drain::No) {
+            count.drain = Drain::Asked;
+        }
+        drop(count);
+        self.changed.notify_all();
+        true
+    }
+
+    /// Reports that each request is answered and no more come.
+    pub fn report_answered<X: Wait>(&self, rt: &X) {
+        self.held.lock(rt).is_answered = true;
+        self.changed.notify_all();
+    }
+
     /// The connection ends.
     pub fn end<X: Wait>(&self, rt: &X) {
         self.held.lock(rt).is_over = true;
         self.changed.notify_all();
     }
 
-    /// Waits until something is to be done.
-    pub fn next_order<X: Wait>(&self, rt: &X) -> Order {
+    /// Waits until something is to be done. If `rest` is given, waits at most so long, and then returns `Look`.
+    pub fn next_order<X: Wait + Clock>(&self, rt: &X, rest: Option<Duration>) -> Order {
         let mut count = self.held.lock(rt);
         for _ in rt.forever() {
-            if count.is_over {
-                return Order::End;
+            if let Some(order) = count.take_order() {
+                return order;
             }
-            if count.shortages > 0 {
-                count.shortages -= 1;
-                return Order::Fill;
+            match rest {
+                Some(rest) => {
+                    count = self.changed.wait_timeout(rt, count, rest).0;
+                    return count.take_order().unwrap_or(Order::Look);
+                }
+                None => count = self.changed.wait(rt, count),
             }
-            count = self.changed.wait(rt, count);
         }
         unreachable!()
+    }
+
+    /// Waits until the connection ends, or until the limit has passed, if there is one.
+    pub fn wait_for_end<X: Wait + Clock>(&self, rt: &X, limit: Option<Duration>) {
+        let count = self.held.lock(rt);
+        match limit {
+            Some(limit) => {
+                let _ = self
+                    .changed
+                    .wait_timeout_while(rt, count, limit, |count| !count.is_over);
+            }
+            None => {
+                let _ = self.changed.wait_while(rt, count, |count| !count.is_over);
+            }
+        }
     }
 
     /// Waits until all threads have done their work.

@@ -2,28 +2,37 @@
 use crate::connection::conn::Conn;
 use crate::connection::context::MethodHandler;
 use crate::connection::crew::{Crew, Order};
+use crate::connection::pause::Pause;
 use crate::connection::reader::read;
 use crate::connection::serving::Serving;
 use crate::connection::shared::SharedHandler;
-use crate::connection::watch::{SharedWatch, Watch};
+use crate::connection::watch::SharedWatch;
 use crate::connection::worker::work;
+use crate::settings::Settings;
 use std::alloc::Global;
 use std::io;
 use std::sync::Arc;
 use std::thread::Builder;
+use std::time::Duration;
 use ttrpc_proto::{Error, Result};
 use ttrpc_secure::{InboundTransform, OutboundTransform, SendInbound, SendOutbound};
-use ttrpc_sync::{Connected, Host, Runtime};
+use ttrpc_sync::{Connected, Host, Runtime, lock_soon, moment};
+use ttrpc_transport::Watch;
 
 /// How many threads read a connection in turn.
 const READERS: u32 = 2;
 
-/// Serves the connection until it ends: starts the threads that read it and write to it and `workers` workers, and starts
-/// more when too few wait. Then it waits until all of them have ended.
+/// The shortest frame limit for which the keeper looks more often, in milliseconds.
+const SHORTEST_LIMIT: u64 = 4;
+
+/// Serves the connection until it ends: starts its readers, its writer and its first workers, starts more workers when too few
+/// wait, and then waits until all threads have ended. When the server ends its connections, this one takes no more requests, and
+/// closes after the answers to the requests that came have left, or when the server's close limit has passed since the last answer.
+/// If the peer pauses inside a frame for longer than the server's frame limit, the connection fails.
 pub fn keep<R, O, I, H, W>(
     conn: &Arc<Conn<R, O, I>, Global>,
     serving: &Serving<H, W>,
-    workers: usize,
+    settings: &Settings,
 )
 where
     R: Runtime,
@@ -33,24 +42,71 @@ where
     W: SharedWatch,
 {
     let rt = conn.rt();
-    if let Err(error) = start_all(conn, serving, workers) {
+    if let Err(error) = start_all(conn, serving, settings.thread_count_default) {
         serving.watch.connection_dropped(&error);
         conn.end();
     }
+    let mut pause = Pause::new();
     for _ in rt.forever() {
-        match conn.crew().next_order(rt) {
-            Order::End => break,
-            Order::Fill => {
-                let missing = conn.link().shared().held().lock(rt).to_start();
-                // Where the system has no more threads, those that are there go on.
-                if let Err(error) = start_workers(conn, serving, missing) {
-                    serving.watch.worker_missing(&error);
-                }
+        match conn.crew().next_order(rt, rest_between_looks(settings)) {
+            Order::Fill => fill(conn, serving),
+            Order::Drain => conn.drain(),
+            Order::Flush => {
+                conn.crew().wait_for_end(rt, settings.close_limit);
+                break;
             }
+            Order::Look => {}
+            Order::End => break,
+        }
+        if pauses_too_long(&**conn, &mut pause, settings.frame_limit) {
+            break;
         }
     }
     conn.end();
     conn.crew().wait_for_all(rt);
+}
+
+/// Returns how long the keeper waits between two looks at a peer whose pauses are limited: a quarter of the limit.
+fn rest_between_looks(settings: &Settings) -> Option<Duration> {
+    let limit = settings.frame_limit?;
+    Some(limit.max(Duration::from_millis(SHORTEST_LIMIT)) / 4)
+}
+
+/// Returns whether the peer has paused inside a frame for longer than it may.
+fn pauses_too_long<R, O, I>(
+    conn: &Conn<R, O, I>,
+    pause: &mut Pause,
+    limit: Option<Duration>,
+) -> bool
+where
+    R: Host,
+    O: OutboundTransform + Drop,
+    I: InboundTransform + Drop,
+{
+    let Some(limit) = limit else {
+        return false;
+    };
+    let Ok(now) = moment(conn.rt()) else {
+        return false;
+    };
+    let held = conn.link().shared().held();
+    let pieces = lock_soon(conn.rt(), held).pieces_inside_frame();
+    u128::from(pause.look(now, pieces)) > limit.as_nanos()
+}
+
+/// Starts the missing workers. If the system has no more threads, the workers that there are go on.
+fn fill<R, O, I, H, W>(conn: &Arc<Conn<R, O, I>, Global>, serving: &Serving<H, W>)
+where
+    R: Runtime,
+    O: SendOutbound,
+    I: SendInbound,
+    H: SharedHandler<R, O, I>,
+    W: SharedWatch,
+{
+    let missing = conn.link().shared().held().lock(conn.rt()).to_start();
+    if let Err(error) = start_workers(conn, serving, missing) {
+        serving.watch.worker_missing(&error);
+    }
 }
 
 /// What a thread of a connection has: the connection, and the crew that counts it until it has let that go.
@@ -215,7 +271,7 @@ where
 {
     read(conn, serving, reader);
     conn.cancel();
-    conn.end_if_failed();
+    conn.look();
 }
 
 fn write<R, O, I>(conn: &Conn<R, O, I>)
@@ -239,5 +295,5 @@ where
     W: Watch + Drop,
 {
     work(conn, serving);
-    conn.end_if_failed();
+    conn.look();
 }

@@ -5,6 +5,7 @@ mod conn;
 mod context;
 mod crew;
 mod keeper;
+mod pause;
 pub mod ports;
 mod reader;
 mod serving;
@@ -17,8 +18,8 @@ pub use self::context::{MethodHandler, TtrpcContext, response_error_to_channel, 
 pub use self::crew::Crew;
 pub use self::keeper::keep;
 pub use self::ports::{
-    AtTurn, Relay, ServerHeld, ServerJobs, ServerRead, ServerShared, ServerWrite,
+    AtTurn, Backlog, Relay, ServerHeld, ServerJobs, ServerRead, ServerShared, ServerWrite,
 };
 pub use self::serving::Serving;
 pub use self::shared::SharedHandler;
-pub use self::watch::{NoWatch, SharedWatch, Watch};
+pub use self::watch::SharedWatch;

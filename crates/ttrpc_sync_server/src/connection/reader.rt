@@ -3,12 +3,12 @@ use crate::connection::conn::Conn;
 use crate::connection::context::MethodHandler;
 use crate::connection::ports::ServerRead;
 use crate::connection::serving::Serving;
-use crate::connection::watch::Watch;
 use crate::connection::worker::Dispatch;
 use std::alloc::Global;
 use std::sync::{Arc, Wait};
 use ttrpc_secure::{InboundTransform, OutboundTransform};
 use ttrpc_sync::Host;
+use ttrpc_transport::Watch;
 
 /// Reads until the client sends nothing more, or the connection has failed. What was asked is still answered. While the other
 /// reader waits for the turn, this one handles the jobs of what it read itself, since to wake a worker takes longer than most
@@ -30,7 +30,8 @@ where
             return;
         }
         link.read_on(rt, &mut port);
-        // Behind a loop that ended with the turn nothing more is read. The other reader waits for the end then.
+        // If the loop ended with the turn, nothing more is read, and the other reader waits for the end. Otherwise this reader
+        // handles jobs or waits for room.
         if port.has_turn() || dispatch.handle_waiting(reader) {
             return;
         }

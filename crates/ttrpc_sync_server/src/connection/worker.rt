@@ -7,7 +7,6 @@ use crate::connection::context::{
 };
 use crate::connection::ports::{ServerJobs, report, waiting_job};
 use crate::connection::serving::Serving;
-use crate::connection::watch::Watch;
 use std::alloc::Global;
 use std::sync::Arc;
 use ttrpc_proto::Result;
@@ -15,6 +14,7 @@ use ttrpc_secure::{InboundTransform, OutboundTransform};
 use ttrpc_server::Job;
 use ttrpc_server::responses::path_response;
 use ttrpc_sync::{Connected, Gate, Handler, Host, lock_soon, work_loop};
+use ttrpc_transport::Watch;
 
 /// Hands each request to the handler of its method.
 #[derive(Drop)]
@@ -92,7 +92,7 @@ where
         Dispatch { conn, serving }
     }
 
-    /// Handles the jobs that wait, in the thread of this reader. True: the connection has failed.
+    /// Handles the waiting jobs in the thread of this reader, if it may. Returns whether the connection has failed.
     pub fn handle_waiting(&self, reader: u32) -> bool {
         let (rt, shared) = (self.conn.rt(), self.conn.link().shared());
         for _ in rt.forever() {
@@ -123,7 +123,13 @@ impl<R: Host, O: OutboundTransform + Drop, I: InboundTransform + Drop> Gate
 
     fn enter(&mut self) -> bool {
         let shared = self.conn.link().shared();
-        let entered = lock_soon(self.conn.rt(), shared.held()).enter(self.is_new);
+        let mut guard = lock_soon(self.conn.rt(), shared.held());
+        let entered = guard.enter(self.is_new);
+        let is_answered = guard.is_answered();
+        drop(guard);
+        if is_answered {
+            self.conn.crew().report_answered(self.conn.rt());
+        }
         self.is_new = false;
         self.is_shut = !entered;
         entered

@@ -21,6 +21,15 @@ pub struct Settings {
     pub thread_count_max: usize,
     /// How long the server waits to accept again, where the system had no room for a connection.
     pub accept_retry_interval: Duration,
+    /// The most jobs of a connection that wait to be begun while the connection is read; `None` is no limit.
+    pub waiting_jobs: Option<u64>,
+    /// The most bytes of such jobs; `None` is no limit.
+    pub waiting_bytes: Option<u64>,
+    /// For how long a peer may pause inside a frame; `None` is no limit.
+    pub frame_limit: Option<Duration>,
+    /// For how long a connection that ends stays open after its last answer, if its peer doesn't read; `None` waits until the peer has
+    /// read all.
+    pub close_limit: Option<Duration>,
     /// Whether it has an address.
     pub is_bound: bool,
     /// Whether it listens.
@@ -30,7 +39,8 @@ pub struct Settings {
 }
 
 impl Settings {
-    /// 3 workers, of which 1 at least and 5 at most wait, 10 seconds, and no address.
+    /// Makes the settings of a server for which nothing is set: 3 workers, of which at least 1 and at most 5 wait, 10 seconds to accept
+    /// again, 4,096 waiting jobs and 8 MiB, no limit for pauses, 5 seconds to close, and no address.
     pub fn new() -> Settings
         ensures { IsNew result }
     {
@@ -39,6 +49,10 @@ impl Settings {
             thread_count_min: 1,
             thread_count_max: 5,
             accept_retry_interval: Duration::from_secs(10),
+            waiting_jobs: Some(4096),
+            waiting_bytes: Some(8388608),
+            frame_limit: None,
+            close_limit: Some(Duration::from_secs(5)),
             is_bound: false,
             is_listening: false,
             is_fixed: false,

@@ -1,5 +1,8 @@
 //! The port from which a server's workers take jobs, and how any thread takes and reports one.
-ghost use Rattle.std.specs.Prelude.{Some, None};
+ghost use Rattle.std.specs.Prelude.{◌≡◌, Err, IfErr, IfNone, IfSome, None, Ok, OnErr, OnOk, Some};
+ghost use Rattle.ttrpc_proto.specs.declared.error.Error.{Error as AnError};
+ghost use Rattle.ttrpc_server.specs.Protocol.{AnswersError, Finishes, Hands, RefusesAnswer, RefusesFinish};
+ghost use Rattle.ttrpc_server.specs.State.{NoneWaits};
 ghost use Rattle.ttrpc_sync.specs.declared.ports.PortState.{PortState};
 
 use crate::connection::ports::server::ServerShared;
@@ -7,7 +10,7 @@ use std::alloc::Global;
 use std::sync::Wait;
 use ttrpc_proto::Error;
 use ttrpc_secure::{InboundTransform, OutboundTransform};
-use ttrpc_server::{Job, JobId};
+use ttrpc_server::{Job, JobId, ServerCore, jobs_on};
 use ttrpc_sync::{Connected, Handler, JobPort, PortState, lock_soon, wait_soon};
 
 /// The port of one of a server's workers.
@@ -34,6 +37,31 @@ impl<X: Wait, O: OutboundTransform + Drop, I: InboundTransform + Drop> ServerJob
             current: None,
             state: PortState::Open,
         }
+    }
+
+    /// Takes the job that has waited longest from a core that is lent under the lock, as `take` does.
+    pub fn take_on(core: &mut ServerCore<O, I>) -> Option<Job>
+        ensures handed { IfSome result (λ job. Hands core.old job core.new) }
+        ensures none { IfNone result ((core.new ≡ core.old) × (core.old.connection.failure ≡ None → NoneWaits core.old.state.jobs.list)) }
+    {
+        core.take_job()
+    }
+
+    /// Ends a job of a core that is lent under the lock after its handler has ended, as `done` does: finishes the job, or answers it by
+    /// the handler's error, by which the connection fails.
+    pub fn done_on(
+        core: &mut ServerCore<O, I>,
+        alloc: Global,
+        id: JobId,
+        outcome: Result<(), Error>,
+    ) -> Result<(), Error>
+        ensures finished { outcome ≡ Ok tt → OnOk result (Finishes core.old id core.new) }
+        ensures failed { (e : AnError) → outcome ≡ Err e → OnOk result (AnswersError O.OutboundTransform core.old.state.rules core.old id e core.new) }
+        ensures refused { outcome ≡ Ok tt → IfErr result (RefusesFinish core.old id) }
+        ensures unsent { (e : AnError) → outcome ≡ Err e → IfErr result (RefusesAnswer O.OutboundTransform core.old id (Err e)) }
+        ensures err { OnErr result (core.new ≡ core.old) }
+    {
+        jobs_on::done_on(core, alloc, id, outcome)
     }
 }
 
@@ -83,7 +111,9 @@ pub(crate) fn report<X: Wait, O: OutboundTransform + Drop, I: InboundTransform +
     outcome: Result<(), Error>,
 ) -> bool {
     let mut guard = lock_soon(rt, shared.held());
-    let wakes = guard.done(alloc, id, outcome);
+    // If the connection has failed, nothing needs to be done.
+    let _ = ServerJobs::<X, O, I>::done_on(&mut guard.core, alloc, id, outcome);
+    let wakes = guard.wakes_behind_job();
     let has_failed = guard.core.has_failed();
     drop(guard);
     if has_failed {
@@ -95,18 +125,27 @@ pub(crate) fn report<X: Wait, O: OutboundTransform + Drop, I: InboundTransform +
 }
 
 /// The job that waits longest, if there is one, for this reader or a worker. Where another waits behind it, a worker is woken,
-/// unless the reader takes that, too, since it has the turn.
+/// unless the reader takes that, too, since it has the turn. A reader that has the turn gets no job while it reads or waits for
+/// room. A reader that waits for room is woken when there is some.
 pub(crate) fn waiting_job<X: Wait, O: OutboundTransform + Drop, I: InboundTransform + Drop>(
     rt: &X,
     shared: &ServerShared<O, I>,
     reader: Option<u32>,
 ) -> Option<Job> {
     let mut guard = lock_soon(rt, shared.held());
-    let job = guard.next_job()?;
+    if !guard.relay.may_handle(reader) {
+        return None;
+    }
+    let job = ServerJobs::<X, O, I>::take_on(&mut guard.core)?;
+    guard.begun(&job);
     let calls = guard.calls_for_next(reader);
+    let has_room = guard.calls_reader();
     drop(guard);
     if calls {
         shared.to_work().notify_one();
+    }
+    if has_room {
+        shared.to_read_on().notify_one();
     }
     Some(job)
 }

@@ -1,9 +1,12 @@
-//! The ports of a server's connection: what its threads share, how its readers take turns, and where jobs are taken.
+//! The ports of a server's connection: what its threads share, how its readers take turns, how much may wait, and where jobs
+//! are taken.
 
+mod backlog;
 mod jobs;
 mod relay;
 mod server;
 
+pub use self::backlog::Backlog;
 pub use self::jobs::ServerJobs;
 pub(crate) use self::jobs::{report, waiting_job};
 pub use self::relay::{AtTurn, Relay};

@@ -1,6 +1,6 @@
 //! Which of a server's two readers reads, and when the other takes the turn from it.
 ghost use Rattle.std.specs.Prelude.{◌≡◌};
-ghost use Rattle.ttrpc_sync_server.specs.Connection.Relays.{at_turn, has_turn, new_relay, relay_begun, relay_wanted};
+ghost use Rattle.ttrpc_sync_server.specs.Connection.Relays.{at_turn, has_turn, may_handle, new_relay, relay_begun, relay_wanted};
 
 /// The next action of a reader that wants the turn.
 #[derive(Clone, Copy, Debug, PartialEq, Eq)]
@@ -82,6 +82,17 @@ impl Relay {
         self.rounds = self.rounds.saturating_add(1);
         self.other_sleeps = false;
         wakes
+    }
+
+    /// Returns whether this reader, or a worker if there is none, may take a job. A reader that has the turn may do so only after it has
+    /// begun a round of jobs; before, it reads or waits for room.
+    pub fn may_handle(&self, reader: Option<u32>) -> bool
+        ensures { result ≡ may_handle self.now reader }
+    {
+        match reader {
+            Some(reader) => self.handles || !self.has_turn(reader),
+            None => true,
+        }
     }
 
     /// Whether this reader has the turn.

@@ -1,14 +1,16 @@
 //! What the threads of a server's connection share.
-ghost use Rattle.std.specs.Prelude.{◌≡◌, ◌↔◌, ◌+◌, ◌-◌, ◌^◌, ◌<◌, ◌≤◌, ◌||◌, min, length, if◌then◌else◌, is_some, false, nat_eq, true, Err, IfNone, IfSome, IsFalse, IsTrue, MatchOption, None, Ok};
-ghost use Rattle.ttrpc_server.specs.Types.{Ends, Failure as AFailure, failing};
+ghost use Rattle.std.specs.Prelude.{◌≡◌, ◌↔◌, ◌+◌, ◌-◌, ◌^◌, ◌<◌, ◌≤◌, ◌||◌, min, length, if◌then◌else◌, is_some, false, nat_eq, true, IfNone, IfSome, IsFalse, IsTrue, MatchOption};
+ghost use Rattle.ttrpc_connection.specs.OneEnd.{Ends, Lends, TakesOrDrains, failing, lending, reporting};
+ghost use Rattle.ttrpc_connection.specs.declared.failure.Failure.{Failure as AFailure};
 ghost use Rattle.ttrpc_proto.specs.declared.error.Error.{Error as AnError};
-ghost use Rattle.ttrpc_server.specs.Protocol.{Hands};
-ghost use Rattle.ttrpc_server.specs.State.{NoneWaits};
-ghost use Rattle.ttrpc_sync_server.specs.Connection.Held.{IsDropped, IsFed, IsFinished, IsQuiet, LendsFrame, MayTellEnd, asleep, calls_for_next, calls_worker, has_bytes, is_alive, keeps_jobs, on_their_way, relay_behind, reported_to, turn_waking, wakes_writer, woken_for};
+ghost use Rattle.ttrpc_server.specs.Protocol.{drained, serving};
+ghost use Rattle.ttrpc_sync_server.specs.Connection.Held.{IsFed, IsInsideFrame, IsQuiet, LendsFrame, MayTellEnd, asleep, calls_for_next, calls_worker, has_bytes, is_alive, is_answered, keeps_jobs, on_their_way, reads_on, relay_behind, reported_to, turn_waking, waiting_of, wakes_writer, woken_for};
+ghost use Rattle.ttrpc_sync_server.specs.Connection.Backlogs.{calls_reader, is_full, with_begun, with_piece, with_reader};
 ghost use Rattle.ttrpc_sync_server.specs.Connection.Relays.{new_relay};
 ghost use Rattle.ttrpc_sync.specs.Pool.{with_waiting};
 ghost use Rattle.ttrpc_sync.specs.Turns.{given_back, next_of, turn_after, wakes_behind};
 
+use crate::connection::ports::backlog::Backlog;
 use crate::connection::ports::relay::{AtTurn, Relay};
 use std::alloc::Global;
 use std::io::ErrorKind;
@@ -16,7 +18,7 @@ use std::sync::{Condvar, Mutex, Wait};
 use std::time::{Clock, Duration};
 use ttrpc_proto::Error;
 use ttrpc_secure::{InboundTransform, OutboundTransform};
-use ttrpc_server::{Job, JobId, ServerCore, jobs_on};
+use ttrpc_server::{Job, ServerCore};
 use ttrpc_sync::{
     Connected, Held, Loan, Next, PoolCore, ReadEnd, Taken, Turn, WriteEnd, lock_soon, wait_soon,
 };
@@ -59,13 +61,17 @@ pub struct ServerHeld<O, I> {
     coming: u64,
     /// The turn to read.
     pub relay: Relay,
+    /// The input that waits to be handled.
+    pub backlog: Backlog,
     /// Whether the reader is at its end. The core isn't told before all jobs have ended and all answers have left.
     pub has_ended: bool,
+    /// Whether a handler's thread has the turn to write, for its own answer.
+    pub handler_writes: bool,
 }
 
 impl<O: OutboundTransform + Drop, I: InboundTransform + Drop> ServerHeld<O, I> {
-    /// This core and this pool, and it is nobody's turn to write.
-    pub fn new(core: ServerCore<O, I>, pool: PoolCore) -> Self
+    /// Makes the state of this core, this pool and this backlog. Nobody has the turn to write.
+    pub fn new(core: ServerCore<O, I>, pool: PoolCore, backlog: Backlog) -> Self
         ensures core { result.core ≡ core }
         ensures turn { result.turn ≡ record { is_taken = false; sleeps = false } }
         ensures pool { result.pool ≡ pool }
@@ -73,7 +79,9 @@ impl<O: OutboundTransform + Drop, I: InboundTransform + Drop> ServerHeld<O, I> {
         ensures sleeping { result.sleeping ≡ 0 }
         ensures coming { result.coming ≡ 0 }
         ensures relay { result.relay ≡ new_relay }
+        ensures backlog { result.backlog ≡ backlog }
         ensures has_ended { result.has_ended ≡ false }
+        ensures handler_writes { result.handler_writes ≡ false }
     {
         ServerHeld {
             core,
@@ -83,18 +91,58 @@ impl<O: OutboundTransform + Drop, I: InboundTransform + Drop> ServerHeld<O, I> {
             sleeping: 0,
             coming: 0,
             relay: Relay::new(),
+            backlog,
             has_ended: false,
+            handler_writes: false,
         }
     }
 
-    /// The job that waits longest.
-    pub(crate) fn next_job(&mut self) -> Option<Job>
-        ensures handed { IfSome result (λ job. Hands self.old.core job self.new.core) }
-        ensures none { IfNone result ((self.new.core ≡ self.old.core)
-            × (self.old.core.connection.failure ≡ None → NoneWaits self.old.core.state.jobs.list)) }
-        ensures rest { self.new ≡ record self.old { core = self.new.core } }
+    /// Counts a job that was taken out of the backlog.
+    pub(crate) fn begun(&mut self, job: &Job)
+        ensures { self.new ≡ record self.old { backlog = with_begun self.old.backlog job.now.header.length (waiting_of self.old.core) } }
     {
-        self.core.take_job()
+        self.backlog
+            .begun(job.header.length, self.core.jobs_waiting());
+    }
+
+    /// Returns whether too much waits for more to be read.
+    fn is_full(&self) -> bool
+        ensures { result ≡ is_full self.now.backlog (waiting_of self.now.core) }
+    {
+        self.backlog.is_full(self.core.jobs_waiting())
+    }
+
+    /// Returns how many pieces have come, if the last one ended inside a frame and more is read.
+    pub(crate) fn pieces_inside_frame(&self) -> Option<u64>
+        ensures some { IfSome result (λ count. (count ≡ self.now.backlog.pieces) × IsInsideFrame self.now.core self.now.has_ended self.now.backlog) }
+        ensures none { IfNone result (¬ (IsInsideFrame self.now.core self.now.has_ended self.now.backlog)) }
+    {
+        if self.has_ended || self.is_full() || self.core.at_boundary() {
+            return None;
+        }
+        Some(self.backlog.pieces)
+    }
+
+    /// Returns whether the reader that has the turn waits for room.
+    pub(crate) fn waits_to_read_on(&mut self) -> bool
+        ensures result { result ≡ is_full self.old.backlog (waiting_of self.old.core) }
+        ensures rest { self.new ≡ record self.old { backlog = with_reader self.old.backlog result } }
+    {
+        let waits = self.is_full();
+        self.backlog.reader_waits = waits;
+        waits
+    }
+
+    /// Returns whether a reader that waits for room is to be woken.
+    pub(crate) fn calls_reader(&mut self) -> bool
+        ensures result { result ≡ calls_reader self.old.backlog (waiting_of self.old.core) }
+        ensures rest { self.new ≡ record self.old { backlog = with_reader self.old.backlog (if result then false else self.old.backlog.reader_waits) } }
+    {
+        let calls = self.backlog.reader_waits && !self.is_full();
+        if calls {
+            self.backlog.reader_waits = false;
+        }
+        calls
     }
 
     /// Whether a worker is to be woken for a job that still waits, where none is on its way. It wakes the next one, so no job
@@ -130,16 +178,29 @@ impl<O: OutboundTransform + Drop, I: InboundTransform + Drop> ServerHeld<O, I> {
         self.sleeping = self.sleeping.saturating_add(1);
     }
 
-    /// Ends a job after its handler. If the connection has failed, nothing needs to be done. True: the writer thread is to
-    /// be woken, since this may be the last job of an input that has ended.
-    pub(crate) fn done(&mut self, alloc: Global, id: JobId, outcome: Result<(), Error>) -> bool
-        ensures finished { outcome ≡ Ok tt → IsFinished self.old.core id self.new.core }
-        ensures failed { (e : AnError) → outcome ≡ Err e → IsDropped O.OutboundTransform self.old.core id e self.new.core }
+    /// Returns whether the writer thread is to be woken after a job has ended: this may be the last job of an input that has ended.
+    pub(crate) fn wakes_behind_job(&mut self) -> bool
         ensures wakes { result ≡ wakes_writer self.old.turn self.old.has_ended }
-        ensures rest { self.new ≡ record self.old { core = self.new.core; turn = turn_waking self.old.turn self.old.has_ended } }
+        ensures rest { self.new ≡ record self.old { turn = turn_waking self.old.turn self.old.has_ended } }
     {
-        let _ = jobs_on::done_on(&mut self.core, alloc, id, outcome);
         self.has_ended && self.turn.wakes()
+    }
+
+    /// Takes no more input, as after its end. The jobs that came go on.
+    pub(crate) fn drain(&mut self)
+        ensures { self.new ≡ record self.old { core = drained self.old.core; has_ended = true } }
+    {
+        self.core.drain();
+        self.ended();
+    }
+
+    /// Returns whether each request is answered and no more come: no job waits, and none is under way but the job of a handler that
+    /// writes its own answer.
+    pub(crate) fn is_answered(&self) -> bool
+        ensures { result ≡ is_answered self.now.core self.now.has_ended self.now.handler_writes }
+    {
+        let writing = if self.handler_writes { 1 } else { 0 };
+        self.has_ended && self.core.jobs_waiting() == 0 && self.core.jobs_taken() <= writing
     }
 
     #[tactic(auto, using(ttrpc_server::proofs::Keyed::filter_fewer))]
@@ -160,7 +221,7 @@ impl<O: OutboundTransform + Drop, I: InboundTransform + Drop> ServerHeld<O, I> {
     {
         let others_write = self.turn.is_taken && !has_turn;
         if self.has_ended && !others_write && self.is_quiet() {
-            self.core.end_of_input();
+            ServerHeld::ended_on(&mut self.core);
         }
     }
 
@@ -257,14 +318,57 @@ impl<O: OutboundTransform + Drop, I: InboundTransform + Drop> ServerHeld<O, I> {
     }
 }
 
+/// The calls of `ServerRead` and `ServerWrite` on a core that is lent to them under the lock. Each makes one call of the core.
+impl<O: OutboundTransform + Drop, I: InboundTransform + Drop> ServerHeld<O, I> {
+    /// Feeds a piece to the core, as `take` of a reader's port does. Returns how many bytes the core took. Under sync rules the moment
+    /// doesn't matter.
+    pub fn take_on(core: &mut ServerCore<O, I>, alloc: Global, piece: &[u8]) -> Result<usize, Error>
+        ensures { TakesOrDrains (serving O.OutboundTransform I.InboundTransform) core.old.state core.old.connection piece.now 0 result core.new.state core.new.connection }
+    {
+        core.feed(alloc, piece, 0)
+    }
+
+    /// Tells the core that its input has ended. `ended` of a reader's port notes the end, and the core is told after the last job has
+    /// ended and all answers have left.
+    pub fn ended_on(core: &mut ServerCore<O, I>)
+        ensures ends { Ends core.old.connection core.new.connection }
+        ensures same { core.new ≡ record core.old { connection = core.new.connection } }
+    {
+        core.end_of_input();
+    }
+
+    /// Fails the connection by an error of this kind, as `broke` of a port does.
+    pub fn broke_on(core: &mut ServerCore<O, I>, kind: ErrorKind)
+        ensures { core.new ≡ record core.old { connection = failing core.old.connection (AFailure.Told (AnError.Nix kind)) } }
+    {
+        core.fail(Error::Nix(kind));
+    }
+
+    /// Lends bytes of the first unsent frame, as `lend` of a writer's port does. Returns how many.
+    pub fn lend_on(core: &mut ServerCore<O, I>, buffer: &mut [u8]) -> usize
+        ensures lends { Lends core.old.connection buffer.old result buffer.new }
+        ensures lent { core.new ≡ record core.old { connection = lending core.old.connection result } }
+    {
+        core.lend(buffer)
+    }
+
+    /// Reports `count` bytes of the last loan as written, at most all of them, as `wrote` of a writer's port does.
+    pub fn wrote_on(core: &mut ServerCore<O, I>, count: usize)
+        ensures { core.new ≡ record core.old { connection = reporting core.old.connection (min count core.old.connection.outbox.queue.lent) } }
+    {
+        let lent = core.lent();
+        core.wrote(count.min(lent));
+    }
+}
+
 impl<O: OutboundTransform + Drop, I: InboundTransform + Drop> Held for ServerHeld<O, I> {
     type Woken = Woken;
 
-    // Under sync rules the moment plays no part. A core that drains takes no piece.
+    // A core that drains takes no piece.
     fn take(&mut self, alloc: Global, piece: &[u8]) -> Option<Taken<Woken>>
         ensures whole { IfSome result (λ taken. taken.count ≡ length piece.now) }
         ensures fed { IsFed O.OutboundTransform I.InboundTransform self.old.core piece.now (is_some result) self.new.core }
-        ensures reads_on { IfSome result (λ taken. taken.reads_on ≡ (if keeps_jobs self.new.core self.old.relay then false else true)) }
+        ensures reads_on { IfSome result (λ taken. taken.reads_on ≡ reads_on self.new.core self.old.relay self.new.backlog) }
         ensures woken { IfSome result (λ taken. taken.woken
             ≡ woken_for self.new.core (keeps_jobs self.new.core self.old.relay) self.old.sleeping self.old.coming self.old.turn self.old.relay) }
         ensures rest { MatchOption result (self.new ≡ record self.old { core = self.new.core }) (λ taken. self.new ≡ record self.old {
@@ -273,14 +377,16 @@ impl<O: OutboundTransform + Drop, I: InboundTransform + Drop> Held for ServerHel
           sleeping = asleep taken.woken.worker self.old.sleeping;
           coming = on_their_way taken.woken.worker self.old.coming;
           relay = relay_behind (keeps_jobs self.new.core self.old.relay) self.old.relay;
+          backlog = with_piece self.old.backlog (length piece.now);
         }) }
     {
-        match self.core.feed(alloc, piece, 0) {
+        match ServerHeld::take_on(&mut self.core, alloc, piece) {
             Ok(count) if count == piece.len() => {
+                self.backlog.came(count);
                 let keeps = self.keeps_jobs();
                 Some(Taken {
                     count,
-                    reads_on: !keeps,
+                    reads_on: !keeps && !self.is_full(),
                     woken: self.woken(keeps),
                 })
             }
@@ -297,8 +403,7 @@ impl<O: OutboundTransform + Drop, I: InboundTransform + Drop> Held for ServerHel
     fn wrote(&mut self, count: usize)
         ensures { self.new ≡ record self.old { core = reported_to self.old.core count } }
     {
-        let lent = self.core.lent();
-        self.core.wrote(count.min(lent));
+        ServerHeld::wrote_on(&mut self.core, count);
     }
 
     fn lend(&mut self, buffer: &mut [u8]) -> Loan
@@ -306,7 +411,7 @@ impl<O: OutboundTransform + Drop, I: InboundTransform + Drop> Held for ServerHel
         ensures rest { self.new ≡ record self.old { core = self.new.core } }
     {
         let open = self.core.lendable();
-        let count = self.core.lend(buffer);
+        let count = ServerHeld::lend_on(&mut self.core, buffer);
         Loan {
             count,
             ends_frame: count == open,
@@ -320,7 +425,7 @@ impl<O: OutboundTransform + Drop, I: InboundTransform + Drop> Held for ServerHel
           };
         } }
     {
-        self.core.fail(Error::Nix(kind));
+        ServerHeld::broke_on(&mut self.core, kind);
     }
 
     fn next(&mut self, has_turn: bool) -> Next
@@ -340,8 +445,9 @@ impl<O: OutboundTransform + Drop, I: InboundTransform + Drop> Held for ServerHel
     fn give_back(&mut self) -> bool
         ensures result { result ≡ wakes_behind self.old.turn (has_bytes self.old.core || self.old.has_ended) }
         ensures turn { self.new.turn ≡ given_back self.old.turn (has_bytes self.old.core || self.old.has_ended) }
-        ensures rest { self.new ≡ record self.old { turn = self.new.turn } }
+        ensures rest { self.new ≡ record self.old { turn = self.new.turn; handler_writes = false } }
     {
+        self.handler_writes = false;
         let bytes_wait = self.core.lendable() > 0;
         self.turn.give_back(bytes_wait || self.has_ended)
     }
@@ -354,16 +460,18 @@ pub struct ServerShared<O, I> {
     to_write: Condvar,
     to_work: Condvar,
     to_read: Condvar,
+    to_read_on: Condvar,
 }
 
 impl<O: OutboundTransform + Drop, I: InboundTransform + Drop> ServerShared<O, I> {
-    /// This core and this pool, shared.
-    pub fn new(core: ServerCore<O, I>, pool: PoolCore) -> Self {
+    /// Shares this core, this pool and this backlog.
+    pub fn new(core: ServerCore<O, I>, pool: PoolCore, backlog: Backlog) -> Self {
         ServerShared {
-            held: Mutex::new(ServerHeld::new(core, pool)),
+            held: Mutex::new(ServerHeld::new(core, pool, backlog)),
             to_write: Condvar::new(),
             to_work: Condvar::new(),
             to_read: Condvar::new(),
+            to_read_on: Condvar::new(),
         }
     }
 
@@ -373,23 +481,31 @@ impl<O: OutboundTransform + Drop, I: InboundTransform + Drop> ServerShared<O, I>
         self.wake_all();
     }
 
-    /// Waits until this reader has the turn to read. Where it takes it from one that still handles jobs, a worker is woken for
-    /// those that are left. False: the connection has failed.
-    pub(crate) fn wait_to_read<X: Wait + Clock>(&self, rt: &X, reader: u32) -> bool {
+    /// Takes no more input, and wakes the threads.
+    pub(crate) fn drain<X: Wait>(&self, rt: &X) {
+        self.held.lock(rt).drain();
+        self.wake_all();
+    }
+
+    /// Waits until this reader has the turn to read, and there is room. If it takes the turn from a reader that still handles jobs, a
+    /// worker is woken for the jobs that are left. Returns false if nothing more is read: the input has ended or the connection has
+    /// failed.
+    pub fn wait_to_read<X: Wait + Clock>(&self, rt: &X, reader: u32) -> bool {
         let (mut seen, mut pause) = (None, PAUSE);
         let mut guard = lock_soon(rt, &self.held);
         for _ in rt.forever() {
-            if guard.core.has_failed() {
+            if guard.has_ended || guard.core.has_failed() {
                 return false;
             }
             match guard.relay.wants(reader, seen) {
                 AtTurn::Reads => {
                     let calls = guard.calls_worker();
+                    let is_full = guard.is_full();
                     drop(guard);
                     if calls {
                         self.to_work.notify_one();
                     }
-                    return true;
+                    return !is_full || self.wait_to_read_on(rt);
                 }
                 AtTurn::LooksAgain(rounds) => {
                     if seen.is_some() {
@@ -410,9 +526,29 @@ impl<O: OutboundTransform + Drop, I: InboundTransform + Drop> ServerShared<O, I>
         unreachable!()
     }
 
+    /// Waits until there is room for more input. Returns false if nothing more is read.
+    fn wait_to_read_on<X: Wait>(&self, rt: &X) -> bool {
+        let mut guard = lock_soon(rt, &self.held);
+        for _ in rt.forever() {
+            if guard.has_ended || guard.core.has_failed() {
+                return false;
+            }
+            if !guard.waits_to_read_on() {
+                return true;
+            }
+            guard = wait_soon(rt, &self.to_read_on, guard);
+        }
+        unreachable!()
+    }
+
     /// Where workers wait for a job.
     pub(crate) fn to_work(&self) -> &Condvar {
         &self.to_work
+    }
+
+    /// Where the reader that has the turn waits for room.
+    pub(crate) fn to_read_on(&self) -> &Condvar {
+        &self.to_read_on
     }
 }
 
@@ -443,5 +579,6 @@ impl<O: OutboundTransform + Drop, I: InboundTransform + Drop> Connected for Serv
         self.to_write.notify_all();
         self.to_work.notify_all();
         self.to_read.notify_all();
+        self.to_read_on.notify_all();
     }
 }

@@ -8,9 +8,9 @@ returns-clause-fed g c =
     let told = c.ended_places-ended.ensures.told in
     elim c.match-taken.branch [
       | in-Ok w ↦
-          let ok : is_ok c.feed-taken.result ≡ true = search (rules, w.in-Ok.is) in
-          rw w.result-is (record { fed = c.feed-taken.new.self; answer = c.feed-taken.result; takes = c.feed-taken.ensures; taken = ok; core = told.core; turn = told.turn; callers = told.callers })
+          let ok : is_ok c.take_on-taken.result ≡ true = search (rules, w.in-Ok.is) in
+          rw w.result-is (record { fed = c.take_on-taken.new.core; answer = c.take_on-taken.result; takes = c.take_on-taken.ensures; taken = ok; core = told.core; turn = told.turn; callers = told.callers })
       | in-Err w ↦
-          let err : is_ok c.feed-taken.result ≡ false = search (rules, w.in-Err.is) in
-          rw w.result-is (record { fed = c.feed-taken.new.self; answer = c.feed-taken.result; takes = c.feed-taken.ensures; taken = err; core = told.core; turn = told.turn; callers = tt })
+          let err : is_ok c.take_on-taken.result ≡ false = search (rules, w.in-Err.is) in
+          rw w.result-is (record { fed = c.take_on-taken.new.core; answer = c.take_on-taken.result; takes = c.take_on-taken.ensures; taken = err; core = told.core; turn = told.turn; callers = tt })
     ]

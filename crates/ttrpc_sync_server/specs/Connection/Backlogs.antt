@@ -1,0 +1,40 @@
+-- How much of a connection's input waits to be handled, and when that is too much.
+-- Source: this project's.
+use Rattle.std.specs.Prelude.{◌+◌, ◌-◌, ◌^◌, min, ℕ, Bool, true, false, Option, Some, None, if◌then◌else◌, nat_eq, nat_lt}
+use Rattle.ttrpc_proto.specs.declared.framing.header.TheConstants.{MESSAGE_HEADER_LENGTH}
+use Rattle.ttrpc_sync_server.specs.declared.connection.ports.backlog.Backlog.{Backlog}
+
+-- A count is above a limit, if there is one.
+abbrev pub is_above : (limit : Option ℕ) → (count : ℕ) → Bool
+is_above None count = false
+is_above (Some limit) count = nat_lt limit count
+
+-- Too much waits, if so many jobs do: they are too many, or there are some, and too many bytes wait.
+abbrev pub is_full : Backlog → (waiting : ℕ) → Bool
+is_full backlog waiting =
+    if is_above backlog.max_jobs waiting then true else
+    (if nat_lt 0 waiting then is_above backlog.max_bytes backlog.bytes else false)
+
+-- how many bytes wait behind a job that has begun, whose frame has a payload of this length: none if no job waits, else
+-- fewer by the frame
+abbrev pub bytes_behind : ℕ → (length waiting : ℕ) → ℕ
+bytes_behind bytes length waiting = if nat_eq waiting 0 then 0 else bytes - (length + MESSAGE_HEADER_LENGTH)
+
+-- what waits once a piece of this length has come
+abbrev pub with_piece : Backlog → (length : ℕ) → Backlog
+with_piece backlog length = record backlog {
+  bytes = min (backlog.bytes + length) (2 ^ 64 - 1);
+  pieces = min (backlog.pieces + 1) (2 ^ 64 - 1);
+}
+
+-- what waits behind such a job
+abbrev pub with_begun : Backlog → (length waiting : ℕ) → Backlog
+with_begun backlog length waiting = record backlog { bytes = bytes_behind backlog.bytes length waiting }
+
+-- The reader is woken that waits: not too much does any more.
+abbrev pub calls_reader : Backlog → (waiting : ℕ) → Bool
+calls_reader backlog waiting = if backlog.reader_waits then (if is_full backlog waiting then false else true) else false
+
+-- what is kept of the reader then
+abbrev pub with_reader : Backlog → (waits : Bool) → Backlog
+with_reader backlog waits = record backlog { reader_waits = waits }
