@@ -13,7 +13,7 @@ import types
 
 PATIENCE = 10  # seconds that a step may take: a connect, an answer, the end of a program
 # what a server under attack tells of itself, a line each
-FAULTS = re.compile(r"ttrpc-demo: (no connection was accepted|a connection was closed|a worker is missing|a handler failed): .*\n")
+FAULTS = re.compile(r"ttrpc-(?:demo|chat): (no connection was accepted|a connection was closed|a worker is missing|a handler failed): .*\n")
 NEXT_CALL = 5000  # milliseconds that another client's call may take
 LET_GO = 5  # seconds until threads and descriptors are back
 DEADLINE = 50  # milliseconds that a call has, where it has a deadline
@@ -21,7 +21,8 @@ LATE = 500  # milliseconds that such a call may last longer than its deadline an
 LONGEST = 4194304  # bytes that a message may have
 MIB = 1024 * 1024
 ASKED = ("demo.Echo", "Echo", "2a")  # what `call` asks for: service, method and payload
-GIVEN = types.SimpleNamespace(program=None, folder=None)  # the program that is attacked, and a temporary folder
+# the program that is attacked, its name, whether its ends are polled, and a temporary folder
+GIVEN = types.SimpleNamespace(program=None, name=None, is_polled=False, folder=None)
 STARTED, NUMBERS = [], itertools.count()
 
 
@@ -69,8 +70,8 @@ def frame(stream, kind, body, flags=0):
     return header(len(body), stream, kind, flags) + body
 
 
-def request(stream, payload=b"*", method=b"Echo"):
-    return frame(stream, 1, field(1, b"demo.Echo") + field(2, method) + field(3, payload))
+def request(stream, payload=b"*", method=b"Echo", flags=0):
+    return frame(stream, 1, field(1, b"demo.Echo") + field(2, method) + field(3, payload), flags)
 
 
 def response(stream, payload=b"*", code=0):
@@ -206,20 +207,20 @@ def run(words, limit=PATIENCE, **options):
 
 
 class Server:
-    """`PROGRAM serve` at a free port or at a path, while the block runs. Behind it another client's call must be answered
-    within `next_call` milliseconds, and threads and descriptors must be back within `let_go` seconds."""
+    """`PROGRAM serve` at a free port or at a path, with these words, while the block runs. After the block another client's call
+    must be answered within `next_call` milliseconds, and threads and descriptors must be back within `let_go` seconds."""
 
-    def __init__(self, row, at_path=False, next_call=NEXT_CALL, let_go=LET_GO, is_judged=True, **options):
-        self.row, self.options, self.is_judged = row, options, is_judged
+    def __init__(self, row, at_path=False, next_call=NEXT_CALL, let_go=LET_GO, is_judged=True, words=(), **options):
+        self.row, self.options, self.is_judged, self.words = row, options, is_judged, words
         self.next_call, self.let_go = next_call, let_go
         self.path = new_path() if at_path else None
         self.address = f"unix://{self.path}" if at_path else "tcp://127.0.0.1:0"
 
     def __enter__(self):
         self.errors = tempfile.TemporaryFile("w+", dir=GIVEN.folder)
-        self.program = start([GIVEN.program, "serve", self.address], stderr=self.errors, **self.options)
+        self.program = start([GIVEN.program, "serve", self.address, *self.words], stderr=self.errors, **self.options)
         since = time.monotonic()
-        while not (os.path.exists(self.path) if self.path else "listening" in self.told()):
+        while not (os.path.exists(self.path) if self.path else "tcp://" in self.told()):
             if milliseconds(since) > PATIENCE * 1000 or self.program.poll() is not None:
                 raise OSError(f"the server doesn't listen: {self.told()}")
             time.sleep(0.05)
@@ -272,7 +273,7 @@ class Server:
             if self.is_judged and self.program.poll() is not None:
                 self.row.say(f"the server ended with status {self.program.returncode}", False)
             end(self.program)
-            told, faults = FAULTS.subn("", re.sub(r".*listening at.*\n", "", self.told()))
+            told, faults = FAULTS.subn("", re.sub(r".*listen(ing|s) at.*\n", "", self.told()))
             if faults:
                 self.row.say(f"{faults} faults told")
             if told:

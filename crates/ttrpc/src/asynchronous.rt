@@ -14,9 +14,9 @@ pub use ttrpc_polled_client::{
     async_client_stream_send, call_of, open_of, open_with,
 };
 pub use ttrpc_polled_server::{
-    Disconnect, Ended, MethodHandler, NoHook, NoMethods, NoStreams, Server, ServerConnection,
-    ServerShared, Service, Serving, Settings, Shutdown, StopListen, StreamHandler,
-    TcpServerConnection, TtrpcContext, async_client_streamimg_handler,
+    Disconnect, Ended, InputEnd, InputEnded, MethodHandler, NoHook, NoMethods, NoStreams, NoWatch,
+    Server, ServerConnection, ServerShared, Service, Serving, Settings, Shutdown, StopListen,
+    StreamHandler, TcpServerConnection, TtrpcContext, Watch, async_client_streamimg_handler,
     async_duplex_streamimg_handler, async_request_handler, async_server_streamimg_handler,
 };
 

@@ -7,6 +7,8 @@ use Rattle.ttrpc_polled_echo.specs.declared.chat.Chatting.{Chatting}
 use Rattle.ttrpc_polled_echo.specs.declared.chat.Turn.{Turn}
 use Rattle.ttrpc_polled_echo.specs.declared.chat.Turn.TheVariants.{Receives, Sends, Done}
 use Rattle.ttrpc_polled_echo.specs.declared.count.Counted.{Counted}
+use Rattle.ttrpc_polled_echo.specs.declared.service.MethodCall.{MethodCall}
+use Rattle.ttrpc_polled_echo.specs.declared.service.MethodCall.TheVariants.{Echoes, Waits}
 use Rattle.ttrpc_polled_echo.specs.declared.service.StreamCall.{StreamCall}
 use Rattle.ttrpc_polled_echo.specs.declared.service.StreamCall.TheVariants.{Chats, Sums, Counts}
 use Rattle.ttrpc_polled_echo.specs.declared.count.Counted.TheVariants.{Opens, Sends as SendsOne, Done as IsDone}
@@ -27,6 +29,11 @@ module _ {L I : Type 0} (came : L → ℕ) where
   CountingNeeds (Opens opening) s = opening_needs came opening.stream s
   CountingNeeds (SendsOne sender sending left) s = s ≡ sender_source came sender.tx
   CountingNeeds IsDone s = ⊥
+
+-- a request's call may be polled whose method may be
+abbrev pub MethodCallCanPoll : MethodCall → Type 0
+MethodCallCanPoll (Echoes call) = AtCanPoll (λ _. ⊤) call.at
+MethodCallCanPoll (Waits call) = AtCanPoll (λ _. ⊤) call.at
 
 -- a stream's call may be polled whose method may be
 abbrev pub StreamCallCanPoll : {L I : Type 0} → StreamCall L I → Type 0

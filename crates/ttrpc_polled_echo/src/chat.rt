@@ -30,6 +30,7 @@ pub struct Chatting<L: StreamLine> {
     sender: SSSender<Blob, L>,
     receiver: SSReceiver<Blob, L>,
     turn: Turn,
+    has_item: bool,
 }
 
 impl<L: StreamLine> Chatting<L> {
@@ -40,10 +41,12 @@ impl<L: StreamLine> Chatting<L> {
             sender,
             receiver,
             turn: Turn::Receives,
+            has_item: false,
         }
     }
 
-    /// Polls for an item. Ready: none if one came, which is then sent back, or how the chat ends.
+    /// Polls for an item. Ready: none if one came, which is then sent back, or how the chat ends. A peer may flag its last item as
+    /// that, so behind an item the close is an end.
     fn poll_item(&mut self, cx: &mut Context<'_>) -> Poll<Option<Result<()>>>
         ensures registered { OnPending result (Covers cx.new (ChattingNeeds L.came self.new)) }
         ensures kept { Keeps cx.old cx.new }
@@ -55,9 +58,11 @@ impl<L: StreamLine> Chatting<L> {
             }
             Poll::Ready(Ok(Some(item))) => {
                 self.turn = Turn::Sends(Sending::Sends(item));
+                self.has_item = true;
                 Poll::Ready(None)
             }
             Poll::Ready(Ok(None)) => Poll::Ready(Some(Ok(()))),
+            Poll::Ready(Err(Error::RemoteClosed)) if self.has_item => Poll::Ready(Some(Ok(()))),
             Poll::Ready(Err(error)) => Poll::Ready(Some(Err(error))),
         }
     }

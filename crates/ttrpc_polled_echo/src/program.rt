@@ -1,15 +1,17 @@
 //! The program at its words.
 use crate::calls::Site;
 use crate::service::{EchoMethod, EchoStream, services};
+use crate::serving::ServesFor;
 use crate::system::{System, nix};
 use crate::words::{Asked, Call, read_words};
 use std::io::Write;
+use std::time::Duration;
 use tokio::runtime::{Handle, LocalRuntime};
 use ttrpc_polled_server::Server;
 use ttrpc_proto::Result;
 
 const USAGE: &str =
-    "usage: ttrpc-chat serve ADDR | unary ADDR HEX | chat ADDR HEX.. | sum ADDR HEX.. | count ADDR N";
+    "usage: ttrpc-chat serve ADDR [SECONDS] | unary ADDR HEX | chat ADDR HEX.. | sum ADDR HEX.. | count ADDR N";
 
 /// Does what the words say, and tells on `errors` what went wrong. Whether each write goes out at once is `nodelay`. Gives the
 /// status: 0, 1 at a failure or a refused call, and 2 at wrong words.
@@ -37,7 +39,7 @@ fn perform<R: System, W: Write, X: Write>(
     errors: &mut X,
 ) -> Result<u8> {
     match read_words(rt.alloc(), words)? {
-        Asked::Serves(address) => serve(rt, address, nodelay, errors),
+        Asked::Serves(address, seconds) => serve(rt, address, nodelay, seconds, errors),
         Asked::Calls(address, call) => call_at(rt, address, nodelay, &call, output),
         Asked::Wrong => tell_usage(errors),
     }
@@ -88,14 +90,50 @@ pub fn server_at<R: System>(
     )
 }
 
-/// Serves until it is killed, and tells its address on `errors`.
-fn serve<R: System, X: Write>(rt: R, address: &str, nodelay: bool, errors: &mut X) -> Result<u8> {
+/// Serves for so many seconds, or until the program is killed, and writes the address to `errors`.
+fn serve<R: System, X: Write>(
+    rt: R,
+    address: &str,
+    nodelay: bool,
+    seconds: Option<u64>,
+    errors: &mut X,
+) -> Result<u8> {
     let mut runtime = nix(LocalRuntime::new(&rt))?;
     let mut server = server_at(&rt, runtime.handle(), address, nodelay)?;
     tell_address(&server, errors)?;
-    let serving = server.start()?;
-    nix(runtime.run_all(&rt, serving))?;
+    match seconds {
+        Some(seconds) => serve_for(&rt, &mut runtime, server, seconds)?,
+        None => {
+            let serving = server.start()?;
+            nix(runtime.run_all(&rt, serving))?;
+        }
+    }
     Ok(0)
+}
+
+/// Serves for so many seconds, and then shuts the server down. An error is that of the shutdown.
+fn serve_for<R: System>(
+    rt: &R,
+    runtime: &mut LocalRuntime,
+    mut server: EchoServer<R>,
+    seconds: u64,
+) -> Result<()> {
+    let tasks = nix(runtime.task_set(rt))?;
+    let time = nix(
+        runtime
+            .handle()
+            .time()
+            .sleep(rt, Duration::from_secs(seconds)),
+    )?;
+    let serving = server.start()?;
+    let serves = ServesFor {
+        tasks: &tasks,
+        server,
+        serving,
+        time,
+        shutdown: None,
+    };
+    nix(runtime.block_on_with(rt, &tasks, serves))?
 }
 
 fn tell_address<R: System, X: Write>(server: &EchoServer<R>, errors: &mut X) -> Result<()> {

@@ -1,9 +1,10 @@
 //! The service `demo.Echo` and its handlers.
-ghost use Rattle.ttrpc_polled_echo.specs.Needs.{StreamCallCanPoll};
+ghost use Rattle.ttrpc_polled_echo.specs.Needs.{MethodCallCanPoll, StreamCallCanPoll};
 
 use crate::chat::Chatting;
 use crate::count::Counting;
 use crate::echo::Echoing;
+use crate::never::Waiting;
 use crate::sum::Summing;
 use futures::Future;
 use futures::task::{Context, Poll};
@@ -28,6 +29,11 @@ impl Echo {
     /// Gives back what it was asked with.
     fn echo(&self, _ctx: &TtrpcContext, item: Blob) -> Echoing {
         Echoing { item: Some(item) }
+    }
+
+    /// Never answers.
+    fn never(&self, _ctx: &TtrpcContext, _item: Blob) -> Waiting {
+        Waiting::new()
     }
 
     /// Sends each item back.
@@ -58,17 +64,58 @@ impl Echo {
     }
 }
 
-/// The handler of the method `Echo`.
+/// The handlers of the methods.
 #[derive(Clone, Copy, Debug)]
 pub struct EchoMethod {
     service: Echo,
+    kind: MethodKind,
+}
+
+/// The methods.
+#[derive(Clone, Copy, Debug, PartialEq, Eq)]
+enum MethodKind {
+    Echo,
+    Never,
+}
+
+/// The call of one of them.
+#[derive(Drop)]
+pub enum MethodCall {
+    /// Of `Echo`.
+    Echoes(Handling<Echoing, Responds<Blob>>),
+    /// Of `Never`.
+    Waits(Handling<Waiting, Responds<Blob>>),
+}
+
+impl Future for MethodCall {
+    type Output = Result<Response>;
+
+    ghost use Rattle.ttrpc_polled_echo.specs.Needs.{MethodCallCanPoll};
+
+    ghost can_poll = { MethodCallCanPoll };
+
+    fn poll(&mut self, cx: &mut Context<'_>) -> Poll<Result<Response>> {
+        match self {
+            MethodCall::Echoes(call) => call.poll(cx),
+            MethodCall::Waits(call) => call.poll(cx),
+        }
+    }
 }
 
 impl MethodHandler for EchoMethod {
-    type Call = Handling<Echoing, Responds<Blob>>;
+    type Call = MethodCall;
 
-    fn handler(&self, ctx: TtrpcContext, req: Request) -> Handling<Echoing, Responds<Blob>> {
-        async_request_handler!(self, ctx, req, Blob, echo)
+    fn handler(&self, ctx: TtrpcContext, req: Request) -> MethodCall
+        ensures { MethodCallCanPoll result }
+    {
+        match self.kind {
+            MethodKind::Echo => {
+                MethodCall::Echoes(async_request_handler!(self, ctx, req, Blob, echo))
+            }
+            MethodKind::Never => {
+                MethodCall::Waits(async_request_handler!(self, ctx, req, Blob, never))
+            }
+        }
     }
 }
 
@@ -141,10 +188,15 @@ pub fn services(
     alloc: Global,
 ) -> std::result::Result<BTreeMap<String, Service<EchoMethod, EchoStream>>, AllocError> {
     let mut service = Service::new(alloc);
-    let method = EchoMethod { service: Echo {} };
-    service
-        .methods
-        .insert(String::from_str(alloc, "Echo")?, method)?;
+    for (name, kind) in [("Echo", MethodKind::Echo), ("Never", MethodKind::Never)] {
+        let method = EchoMethod {
+            service: Echo {},
+            kind,
+        };
+        service
+            .methods
+            .insert(String::from_str(alloc, name)?, method)?;
+    }
     for (name, kind) in [
         ("Chat", StreamKind::Chat),
         ("Sum", StreamKind::Sum),

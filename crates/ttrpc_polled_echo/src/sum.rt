@@ -3,7 +3,7 @@ use futures::Future;
 use futures::task::{Context, Poll};
 use std::alloc::Global;
 use ttrpc_polled::{ServerStreamReceiver, StreamLine};
-use ttrpc_proto::Result;
+use ttrpc_proto::{Error, Result};
 use ttrpc_wire::Blob;
 
 /// How many items are counted at most before other tasks run.
@@ -58,6 +58,10 @@ impl<L: StreamLine> Future for Summing<L> {
                 Poll::Pending => return Poll::Pending,
                 Poll::Ready(Ok(Some(item))) => self.add(&item),
                 Poll::Ready(Ok(None)) => return Poll::Ready(self.told()),
+                // A peer may flag its last item as that.
+                Poll::Ready(Err(Error::RemoteClosed)) if self.items > 0 => {
+                    return Poll::Ready(self.told());
+                }
                 Poll::Ready(Err(error)) => return Poll::Ready(Err(error)),
             }
         }

@@ -7,8 +7,8 @@ use ttrpc_wire::Blob;
 /// What the words ask for.
 #[derive(Drop)]
 pub enum Asked<'a> {
-    /// To serve at an address.
-    Serves(&'a str),
+    /// To serve at an address, for so many seconds or until the program is killed.
+    Serves(&'a str, Option<u64>),
     /// To call a server at an address.
     Calls(&'a str, Call),
     /// Nothing that the program does.
@@ -31,7 +31,11 @@ pub fn read_words(alloc: Global, words: &[String]) -> Result<Asked<'_>> {
     };
     let address = address.as_str();
     let call = match (first.as_str(), rest) {
-        ("serve", []) => return Ok(Asked::Serves(address)),
+        ("serve", []) => return Ok(Asked::Serves(address, None)),
+        ("serve", [seconds]) => match seconds.as_str().parse::<u64>() {
+            Ok(seconds) => return Ok(Asked::Serves(address, Some(seconds))),
+            Err(_) => return Ok(Asked::Wrong),
+        },
         ("unary", [digits]) => match bytes_of(alloc, digits.as_str())? {
             Some(item) => Call::Unary(item),
             None => return Ok(Asked::Wrong),

@@ -1,0 +1,30 @@
+//! The method `Never`.
+use futures::Future;
+use futures::task::{Context, Poll, Source, Waker};
+use ttrpc_proto::Result;
+use ttrpc_wire::Blob;
+
+/// A request that is never answered.
+#[derive(Drop)]
+pub struct Waiting {
+    never: Source,
+    slot: Option<Waker>,
+}
+
+impl Waiting {
+    /// Waits for ever.
+    pub fn new() -> Waiting {
+        Waiting {
+            never: Source::new(),
+            slot: None,
+        }
+    }
+}
+
+impl Future for Waiting {
+    type Output = Result<Blob>;
+
+    fn poll(&mut self, cx: &mut Context<'_>) -> Poll<Result<Blob>> {
+        cx.register(&self.never, &mut self.slot)
+    }
+}
