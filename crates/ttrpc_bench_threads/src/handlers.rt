@@ -66,8 +66,12 @@ pub enum Way {
     Echo,
     /// It looks whether the second call was answered, and answers `open` or `shut`.
     Gate,
+    /// It opens the gate, and answers its payload.
+    Opens,
     /// It waits for the end of its connection.
     Waits,
+    /// It waits for that, and answers `late` 0.4 seconds after.
+    Lasts,
     /// It answers nothing, and fails.
     Fails,
     /// It answers what is known of its connection as `name`.
@@ -135,9 +139,18 @@ where
                 ctx.respond(id, response_of(alloc, payload)?)
             }
             Way::Gate => ctx.respond(id, response_of(alloc, self.gate())?),
+            Way::Opens => {
+                self.board.is_open.store(true, Ordering::SeqCst);
+                ctx.respond(id, response_of(alloc, payload)?)
+            }
             Way::Waits => {
                 self.waits(&*ctx.cancelled);
                 Ok(())
+            }
+            Way::Lasts => {
+                self.waits(&*ctx.cancelled);
+                thread::sleep(&self.rt, Duration::from_millis(400));
+                ctx.respond(id, response_of(alloc, b"late")?)
             }
             Way::Fails => Err(Error::Eof),
             Way::Name => {

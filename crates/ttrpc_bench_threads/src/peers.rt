@@ -34,6 +34,18 @@ pub fn read_frame<R: Read>(alloc: Global, reader: &mut R) -> Answered<GenMessage
     }
 }
 
+/// Counts the frames that come until the end.
+pub fn frames_until_the_end<R: Read>(alloc: Global, reader: &mut R) -> usize {
+    let mut count: usize = 0;
+    for _ in 0..1000000 {
+        if read_frame(alloc, reader).is_err() {
+            break;
+        }
+        count = count.saturating_add(1);
+    }
+    count
+}
+
 /// Reads a frame, and says its stream id.
 pub fn next_id(alloc: Global, connection: &PipeConnection) -> Answered<u32> {
     let mut reader = connection;
@@ -64,9 +76,14 @@ pub fn answer<W: Write>(alloc: Global, writer: &mut W, id: u32, length: usize) -
     message.write_to(alloc, writer)
 }
 
-/// The bytes of so many requests of a method of `demo.Echo` without a payload, under the odd ids from 1 on.
+/// Returns the bytes of so many requests of a method of `demo.Echo` without a payload, under the odd ids from 1 on.
 pub fn requests(alloc: Global, method: &str, count: u32) -> Answered<Vec<u8>> {
-    let payload = encoded(alloc, &request(alloc, method, b"", 0)?)?;
+    requests_with(alloc, method, b"", count)
+}
+
+/// Returns the bytes of such requests with this payload.
+pub fn requests_with(alloc: Global, method: &str, payload: &[u8], count: u32) -> Answered<Vec<u8>> {
+    let payload = encoded(alloc, &request(alloc, method, payload, 0)?)?;
     let mut bytes = Vec::new(alloc);
     let mut id: u32 = 1;
     for _ in 0..count {

@@ -36,7 +36,9 @@ pub type PlainClient<R> = Client<R, Plain, Plain>;
 const METHODS: &[(&str, Way)] = &[
     ("/demo.Echo/Echo", Echo),
     ("/demo.Echo/Gate", Gate),
+    ("/demo.Echo/Opens", Opens),
     ("/demo.Echo/Waits", Waits),
+    ("/demo.Echo/Lasts", Lasts),
     ("/demo.Echo/Fails", Fails),
     ("/demo.Echo/Name", Name),
     ("/demo.Echo/Tells", Tells),

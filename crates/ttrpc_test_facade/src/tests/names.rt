@@ -63,11 +63,11 @@ pub mod cores {
 pub mod drivers {
     pub use ttrpc::asynchronous::shutdown::{Notifier, Waiter, new, with_timeout};
     pub use ttrpc::sync::{
-        Client, ClientRead, ClientWrite, Conn, Gate, Handler, Host, JobPort, MethodHandler, NoHook,
-        NoWatch, PortState, ReadPort, Refusal, Runtime, Server, ServerJobs, ServerRead,
-        ServerWrite, Settings, SharedHandler, SharedHook, SharedWatch, Stopper, TtrpcContext,
-        Watch, WritePort, read_loop, response_error_to_channel, send_response, work_loop,
-        write_loop,
+        Client, ClientHeld, ClientRead, ClientWrite, Conn, Gate, Handler, Host, JobPort,
+        MethodHandler, NoHook, NoWatch, PortState, ReadPort, Refusal, Runtime, Server, ServerHeld,
+        ServerJobs, ServerRead, ServerWrite, Settings, SharedHandler, SharedHook, SharedWatch,
+        Stopper, TtrpcContext, Watch, WritePort, read_loop, response_error_to_channel,
+        send_response, work_loop, write_loop,
     };
     pub use ttrpc::transport::{
         ClientConnection, Domain, PipeConnection, PipeListener, Stream, nodelay_from,

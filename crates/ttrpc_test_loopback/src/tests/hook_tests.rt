@@ -11,8 +11,10 @@ use std::test::Fail;
 use std::thread::{Builder, Threads};
 use std::time::{Clock, Duration};
 use tokio::runtime::LocalRuntime;
+use ttrpc_bench::checks::check_named;
 use ttrpc_polled_echo::{System, nix};
-use ttrpc_proto::Result;
+use ttrpc_polled_server::Watch;
+use ttrpc_proto::{Error, Result};
 use ttrpc_secure::{AcceptHook, HookError, HookOutput, Plain};
 
 /// A clock that is set on.
@@ -70,6 +72,22 @@ impl<S> AcceptHook<S> for Slow {
     }
 }
 
+/// A watch that counts what it is told of hooks.
+#[derive(Drop)]
+struct Refusals {
+    count: Arc<AtomicU64, Global>,
+}
+
+impl Watch for Refusals {
+    fn hook_refused(&self, error: &Error) {
+        if let Error::Others(text) = error {
+            if text.as_str().starts_with("accept hook failed: ") {
+                self.count.fetch_add(1, Ordering::SeqCst);
+            }
+        }
+    }
+}
+
 /// A clock, and a hook that sets it on.
 fn make_shifted<R: System>(rt: &R) -> Result<(Shifted<R>, Slow)> {
     let nanoseconds = Arc::new(rt.alloc(), AtomicU64::new(0))?;
@@ -84,22 +102,31 @@ fn make_shifted<R: System>(rt: &R) -> Result<(Shifted<R>, Slow)> {
     Ok((clock, hook))
 }
 
-/// Serves one connection behind that hook.
-fn serve_slowly<R: System>(rt: &R, listener: TcpListener) -> Result<()> {
+/// Serves one connection behind that hook, and counts its refusals.
+fn serve_slowly<R: System>(
+    rt: &R,
+    listener: TcpListener,
+    count: Arc<AtomicU64, Global>,
+) -> Result<()> {
     let mut runtime = nix(LocalRuntime::new(rt))?;
     let (clock, hook) = make_shifted(rt)?;
     let late = (clock, rt.alloc());
-    let mut server = server_of(&late, runtime.handle(), listener)?.set_accept_hook(hook)?;
+    let mut server = server_of(&late, runtime.handle(), listener)?
+        .set_accept_hook(hook)?
+        .set_watch(Refusals { count })?;
     let serving = server.start()?;
     nix(runtime.run_all(rt, serving.take(1)))
 }
 
 /// Starts that server at a free port.
-fn start_slow<R: System + Threads + Send + 'static>(rt: &R) -> std::result::Result<Served, Fail> {
+fn start_slow<R: System + Threads + Send + 'static>(
+    rt: &R,
+    count: Arc<AtomicU64, Global>,
+) -> std::result::Result<Served, Fail> {
     let listener = TcpListener::bind(rt, "127.0.0.1:0")?;
     let address = listener.local_addr()?;
     let mine = rt.clone()?;
-    let thread = Builder::new().spawn(rt, move || serve_slowly(&mine, listener))?;
+    let thread = Builder::new().spawn(rt, move || serve_slowly(&mine, listener, count))?;
     Ok(Served { address, thread })
 }
 
@@ -107,9 +134,10 @@ fn start_slow<R: System + Threads + Send + 'static>(rt: &R) -> std::result::Resu
 fn a_hook_that_answers_at_its_limit_comes_too_late(
     rt: HostRuntime,
 ) -> std::result::Result<(), Fail> {
-    let served = start_slow(&rt)?;
+    let count = Arc::new(rt.alloc(), AtomicU64::new(0))?;
+    let served = start_slow(&rt, Arc::try_clone(&count)?)?;
     let mut first = TcpStream::connect(&rt, served.address)?;
     assert!(rt; hears_end(&mut first)? && calls(&rt, served.address, SERVED)?);
     served.thread.join(&rt)?;
-    Ok(())
+    check_named("its refusal isn't told", count.load(Ordering::SeqCst) == 1)
 }

@@ -3,6 +3,7 @@ use crate::tests::polled::start_polled;
 use std::alloc::Global;
 use std::net::{SocketAddr, TcpListener, TcpStream};
 use std::test::Fail;
+use ttrpc_bench::checks::check_named;
 use ttrpc_echo::{System as ThreadedSystem, start_server};
 use ttrpc_polled_echo::System;
 use ttrpc_sync_server::NoWatch;
@@ -173,8 +174,26 @@ fn wrong_words_have_a_status_of_their_own(rt: HostRuntime) -> Result<(), Fail> {
         ["unary", "tcp://127.0.0.1:1", "2"],
         ["count", "tcp://127.0.0.1:1", "x"],
         ["talk", "tcp://127.0.0.1:1", "2a"],
+        ["serve", "tcp://127.0.0.1:1", "x"],
     ] {
         assert!(rt; is_refused(&rt, words)?, "{words:?}");
     }
     Ok(())
+}
+
+/// Whether a server that serves for no second tells its address, shuts down, and ends with status 0.
+fn serves_for_no_second<R: System>(rt: &R) -> Result<bool, Fail> {
+    let words = words_of(rt.alloc(), "serve", "tcp://127.0.0.1:0", &["0"])?;
+    let (mut output, mut errors) = (Vec::new(rt.alloc()), Vec::new(rt.alloc()));
+    let mine = rt.clone()?;
+    let status = ttrpc_polled_echo::run(mine, words.as_slice(), true, &mut output, &mut errors);
+    let tells_address = errors.starts_with(b"ttrpc-chat: listens at tcp://127.0.0.1:");
+    Ok(status == 0 && output.is_empty() && tells_address)
+}
+
+#[test]
+fn a_server_serves_for_as_long_as_it_is_told(rt: HostRuntime) -> Result<(), Fail> {
+    // A test must name the sockets of the system that it hands on.
+    let _sockets: Option<(TcpListener, TcpStream)> = None;
+    check_named("it fails", serves_for_no_second(&rt)?)
 }

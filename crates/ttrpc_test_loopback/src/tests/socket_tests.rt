@@ -8,7 +8,8 @@ use std::net::{SocketAddr, TcpListener, TcpStream};
 use std::rt::Files;
 use std::test::Fail;
 use std::thread;
-use std::time::Duration;
+use std::time::{Duration, Instant};
+use ttrpc_bench::checks::check_named;
 
 /// A request for a method that isn't there, and its answer.
 const NO_METHOD: &[u8] = b"\0\0\0\x11\0\0\0\x01\x01\0\x0a\x09demo.Echo\x12\x04Nope";
@@ -24,10 +25,26 @@ const IN_USE: &[u8] = b"\0\0\0\x1b\0\0\0\x03\x02\0\x0a\x19\x08\x03\x12\x15stream
 
 const ECHOED_THIRD: &[u8] = b"\0\0\0\x05\0\0\0\x03\x02\0\x0a\0\x12\x01\x2a";
 
+/// A stream whose only item is flagged as the last, and what answers it: the item, and a close; and the same of a sum.
+const LAST_ITEM: &[u8] = b"\
+    \0\0\0\x11\0\0\0\x05\x01\x06\x0a\x09demo.Echo\x12\x04Chat\
+    \0\0\0\x01\0\0\0\x05\x03\x01a";
+
+const ITEM_AND_CLOSE: &[u8] = b"\0\0\0\x01\0\0\0\x05\x03\0a\0\0\0\0\0\0\0\x05\x03\x05";
+
+const LAST_OF_SUM: &[u8] = b"\
+    \0\0\0\x10\0\0\0\x07\x01\x06\x0a\x09demo.Echo\x12\x03Sum\
+    \0\0\0\x01\0\0\0\x07\x03\x01a";
+
+const SUM: &[u8] = b"\
+    \0\0\0\x14\0\0\0\x07\x02\0\x0a\0\x12\x10\0\0\0\0\0\0\0\x01\0\0\0\0\0\0\0\x01";
+
 const EXCHANGES: &[Exchange] = &[
     (NO_METHOD, ANSWER_TO_NO_METHOD),
     (TWICE, IN_USE),
     (b"", ECHOED_THIRD),
+    (LAST_ITEM, ITEM_AND_CLOSE),
+    (LAST_OF_SUM, SUM),
 ];
 
 #[test]
@@ -89,4 +106,30 @@ fn a_failed_accept_is_tried_again(rt: HostRuntime) -> Result<(), Fail> {
     assert!(rt; talks(&mut stream, SERVED)?);
     served.thread.join(&rt)?;
     Ok(())
+}
+
+/// The front of a header.
+const HALF: &[u8] = b"\0\0\0\x14\0";
+
+/// Opens so many connections, says half a header on each, and closes it at once.
+fn leave<R: Connects>(rt: &R, address: SocketAddr, count: usize) -> io::Result<()> {
+    for _ in 0..count {
+        let mut stream = TcpStream::connect(rt, address)?;
+        stream.write_all(HALF)?;
+    }
+    Ok(())
+}
+
+/// How many connections are left at once.
+const LEFT: usize = 600;
+
+#[test]
+fn who_leaves_at_once_is_let_go(rt: HostRuntime) -> Result<(), Fail> {
+    // The check of borrows covers a call over sockets only where their types are named here, too.
+    let _sockets: Option<(TcpListener, TcpStream)> = None;
+    let served = start_polled(&rt, LEFT)?;
+    leave(&rt, served.address, LEFT)?;
+    let began = Instant::now(&rt)?;
+    served.thread.join(&rt)?;
+    check_named("some stay", began.elapsed(&rt)? < Duration::from_secs(4))
 }

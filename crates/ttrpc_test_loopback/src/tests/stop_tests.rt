@@ -1,11 +1,15 @@
 //! How a polled server starts and stops.
 use crate::tests::peers::{Connects, SERVED, calls};
 use crate::tests::polled::server_of;
-use futures::StreamExt;
+use futures::future::select;
+use futures::task::{Context, Poll};
+use futures::{Future, Stream, StreamExt};
 use std::net::{SocketAddr, TcpListener, TcpStream};
 use std::test::Fail;
 use std::thread::{Builder, Threads};
+use std::time::Duration;
 use tokio::runtime::LocalRuntime;
+use ttrpc_bench::checks::check_named;
 use ttrpc_polled_echo::{EchoMethod, EchoServer, EchoStream, System, services};
 use ttrpc_polled_server::Server;
 use ttrpc_proto::Error;
@@ -105,4 +109,75 @@ fn a_server_that_is_shut_down_closes_its_listener(rt: HostRuntime) -> Result<(),
     start_and_end(&rt, &mut runtime, &mut server)?;
     assert!(rt; TcpStream::connect(&rt, address).is_err());
     Ok(())
+}
+
+/// Whether a server that shuts down says that something is left, within two seconds.
+fn leaves_something<R: System>(
+    rt: &R,
+    runtime: &mut LocalRuntime,
+    server: &mut EchoServer<R>,
+) -> Result<bool, Fail> {
+    let limit = Duration::from_secs(2);
+    let shut_down = server.shutdown()?;
+    let timed = runtime.handle().time().timeout(rt, limit, shut_down)?;
+    match runtime.block_on(rt, timed)? {
+        Ok(Err(Error::Others(text))) => Ok(text.as_str() == "waiters are left"),
+        _ => Ok(false),
+    }
+}
+
+#[test]
+fn a_shutdown_has_its_limit_while_who_accepts_stays(rt: HostRuntime) -> Result<(), Fail> {
+    let mut runtime = LocalRuntime::new(&rt)?;
+    let (server, _) = listening(&rt, &runtime)?;
+    let mut server = server.set_disconnect_limit(Duration::from_millis(50));
+    let _serving = server.start()?;
+    check_named(
+        "it has none",
+        leaves_something(&rt, &mut runtime, &mut server)?,
+    )
+}
+
+/// Who accepts, and is kept behind the last connection.
+#[derive(Drop)]
+struct Kept<S> {
+    serving: S,
+}
+
+impl<S: Stream> Future for Kept<S>
+where
+    S::Item: Drop,
+{
+    type Output = ();
+
+    ghost can_poll = { λ k. S.can_poll k.serving };
+
+    fn poll(&mut self, cx: &mut Context<'_>) -> Poll<()> {
+        let _ = self.serving.poll_next(cx);
+        cx.yield_now()
+    }
+}
+
+/// Whether a server that stops listening is told so within two seconds, while who accepted is kept.
+fn stops_beside<R: System>(
+    rt: &R,
+    runtime: &mut LocalRuntime,
+    server: &mut EchoServer<R>,
+) -> Result<bool, Fail> {
+    let kept = Kept {
+        serving: server.start()?,
+    };
+    let stopped = select(server.stop_listen()?, kept);
+    let limit = Duration::from_secs(2);
+    let timed = runtime.handle().time().timeout(rt, limit, stopped)?;
+    Ok(runtime.block_on(rt, timed)?.is_ok())
+}
+
+#[test]
+fn who_accepts_no_more_gives_its_listener_back(rt: HostRuntime) -> Result<(), Fail> {
+    // The check of borrows covers a call over sockets only where their types are named here, too.
+    let _sockets: Option<(TcpListener, TcpStream)> = None;
+    let mut runtime = LocalRuntime::new(&rt)?;
+    let (mut server, _) = listening(&rt, &runtime)?;
+    check_named("it keeps it", stops_beside(&rt, &mut runtime, &mut server)?)
 }

@@ -3,6 +3,7 @@ mod broken_tests;
 mod call_tests;
 mod clone_tests;
 mod conversation_tests;
+mod flood_tests;
 mod lent_tests;
 mod peer;
 mod sites;

@@ -134,7 +134,7 @@ fn echo(alloc: Global, core: &mut ServerCore<Plain, Plain>, id: JobId) {
 }
 
 impl Held for PeerHeld {
-    ghost use Rattle.std.specs.Prelude.{⊤, is_some};
+    ghost use Rattle.std.specs.Prelude.{⊤, is_some, true};
     ghost use Rattle.ttrpc_connection.specs.OneEnd.{lendable};
 
     ghost takes = { λ _ _ _ _ _. ⊤ };
@@ -154,6 +154,8 @@ impl Held for PeerHeld {
     ghost failed = { λ held. is_some held.core.connection.failure };
 
     ghost senders = { λ _. 0 };
+
+    ghost wants = { λ _. true };
 
     fn take(&mut self, alloc: Global, piece: &[u8], _now: u64) -> Option<usize> {
         let count = self.core.feed(alloc, piece, 0).ok()?;
@@ -193,6 +195,10 @@ impl Held for PeerHeld {
 
     fn senders(&self) -> usize {
         0
+    }
+
+    fn wants_input(&self) -> bool {
+        true
     }
 
     fn driver(&mut self) -> &mut Option<Waker> {
@@ -246,8 +252,9 @@ impl<R: Clock + AllocGlobal + Drop> Future for Peer<R> {
         if !self.reads {
             return cx.register(&self.never, &mut self.slot);
         }
+        let mut share = self.link.look();
         for _ in 0..8 {
-            match self.link.turn(cx) {
+            match self.link.turn(&mut share, cx) {
                 Step::Moved | Step::Gathered => {}
                 Step::Waits => return Poll::Pending,
                 Step::Over => return Poll::Ready(()),

@@ -8,7 +8,7 @@ use ttrpc_secure::{Plain, plain_context};
 use ttrpc_server::{Rules, ServerCore};
 use ttrpc_sync::{Connected, PoolCore, WriteEnd, write_loop};
 use ttrpc_sync_client::ClientShared;
-use ttrpc_sync_server::ServerShared;
+use ttrpc_sync_server::{Backlog, ServerShared};
 use ttrpc_test_cores::server::registry;
 use ttrpc_wire::codec::message::WireMessage;
 use ttrpc_wire::{Blob, Text};
@@ -25,12 +25,22 @@ pub fn client(alloc: Global) -> Result<Client, Fail> {
     Ok(Arc::new(alloc, ClientShared::new(core))?)
 }
 
-/// A server of `demo.Echo`.
+/// A server of `demo.Echo`, at which any number of jobs may wait.
 pub fn server(alloc: Global) -> Result<Server, Fail> {
+    limited_server(alloc, None, None)
+}
+
+/// The same, at which so many jobs and bytes may wait.
+pub fn limited_server(
+    alloc: Global,
+    max_jobs: Option<u64>,
+    max_bytes: Option<u64>,
+) -> Result<Server, Fail> {
     let registry = registry(alloc)?;
     let core = ServerCore::new(alloc, Rules::Sync, registry, plain_context(alloc));
     let pool = PoolCore::new(1, 0, 1);
-    Ok(Arc::new(alloc, ServerShared::new(core, pool))?)
+    let backlog = Backlog::new(max_jobs, max_bytes);
+    Ok(Arc::new(alloc, ServerShared::new(core, pool, backlog))?)
 }
 
 /// Calls `Echo` with the payload 2a.

@@ -1,7 +1,9 @@
 //! A server's ports in one thread.
 ghost use Rattle.std.specs.Prelude.{⊤};
 
-use crate::tests::ends::{Server, Tested, echo, is_socket, server, server_failure, written};
+use crate::tests::ends::{
+    Server, Tested, echo, is_socket, limited_server, server, server_failure, written,
+};
 use std::alloc::Global;
 use std::io::{self, ErrorKind};
 use std::sync::{Arc, Wait};
@@ -10,7 +12,7 @@ use ttrpc_proto::Error;
 use ttrpc_secure::plain_context;
 use ttrpc_server::{Job, Rules, ServerCore};
 use ttrpc_sync::{Connected, Gate, Handler, Held, Next, PoolCore, ReadPort, read_loop, work_loop};
-use ttrpc_sync_server::{AtTurn, Relay, ServerHeld, ServerJobs, ServerRead};
+use ttrpc_sync_server::{AtTurn, Backlog, Relay, ServerHeld, ServerJobs, ServerRead};
 use ttrpc_test_cores::server::{ASKED, ECHOED, NO_METHOD, NO_METHOD_ANSWER, registry};
 use ttrpc_wire::values::slices::front;
 
@@ -166,6 +168,58 @@ fn a_reader_takes_the_turn_from_one_that_handles_jobs(rt: HostRuntime) -> Tested
     Ok(())
 }
 
+/// How many jobs and bytes may wait, how many requests of thirty bytes come, each as a piece, and whether the reader of the last
+/// one reads on.
+const BACKLOGS: &[(Option<u64>, Option<u64>, u32, bool)] = &[
+    (Some(2), None, 2, true),
+    (Some(2), None, 3, false),
+    (Some(0), None, 1, false),
+    (None, Some(60), 2, true),
+    (None, Some(60), 3, false),
+    (Some(3), Some(59), 2, false),
+    (None, None, 100, true),
+];
+
+/// Returns whether the reader of the last of these requests reads on.
+fn reads_on<X: Wait>(rt: &X, alloc: Global, server: &Server, requests: u32) -> bool {
+    let mut port = ServerRead::new(rt, alloc, &**server);
+    for _ in 0..requests {
+        port.begin();
+        port.take(ASKED);
+    }
+    port.has_turn()
+}
+
+/// A reader reads on until more jobs or bytes wait than may.
+#[test]
+fn a_reader_stops_where_too_much_waits(rt: HostRuntime) -> Tested {
+    for &(max_jobs, max_bytes, requests, expected) in BACKLOGS {
+        let shared = limited_server(rt.alloc(), max_jobs, max_bytes)?;
+        assert!(rt; reads_on(&rt, rt.alloc(), &shared, requests) == expected);
+    }
+    Ok(())
+}
+
+/// So many requests, one behind the other.
+fn many_requests(alloc: Global, count: u32) -> Result<Vec<u8>, Fail> {
+    let mut bytes = Vec::new(alloc);
+    for _ in 0..count {
+        bytes.extend_from_slice(ASKED)?;
+    }
+    Ok(bytes)
+}
+
+/// Of an input that goes on no more is read than may wait, but for the rest of a piece.
+#[test]
+fn an_input_waits_where_too_much_does(rt: HostRuntime) -> Tested {
+    let shared = limited_server(rt.alloc(), Some(1000), None)?;
+    let input = many_requests(rt.alloc(), 3000)?;
+    read_all(&rt, rt.alloc(), &shared, input.as_slice());
+    let waiting = shared.held().lock(&rt).core.jobs_waiting();
+    assert!(rt; waiting > 1000 && waiting <= 1137);
+    Ok(())
+}
+
 /// What the core answers itself is written.
 #[test]
 fn an_unknown_method_is_answered(rt: HostRuntime) -> Tested {
@@ -236,7 +290,7 @@ fn an_end_of_input_waits_for_jobs(rt: HostRuntime) -> Tested {
 fn workers_are_started_once(rt: HostRuntime) -> Tested {
     let registry = registry(rt.alloc())?;
     let core = ServerCore::new(rt.alloc(), Rules::Sync, registry, plain_context(rt.alloc()));
-    let mut held = ServerHeld::new(core, PoolCore::new(3, 1, 5));
+    let mut held = ServerHeld::new(core, PoolCore::new(3, 1, 5), Backlog::new(None, None));
     let at_first = held.to_start();
     held.starts(3);
     let then = held.to_start();

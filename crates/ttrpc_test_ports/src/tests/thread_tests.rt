@@ -1,8 +1,9 @@
 //! Ports of one connection in two threads.
-use crate::tests::ends::{Client, Server, Tested, client, client_failure, server};
+use crate::tests::ends::{Client, Server, Tested, client, client_failure, limited_server, server};
 use crate::tests::server_tests::Echo;
 use std::alloc::Global;
 use std::sync::{Arc, Wait};
+use std::test::Fail;
 use std::thread;
 use std::time::{Clock, Duration};
 use ttrpc_proto::Error;
@@ -102,6 +103,43 @@ fn the_reader_ends_with_its_client(rt: HostRuntime) -> Tested {
     );
     let failure = client_failure(&rt, rt.alloc(), &shared);
     assert!(rt; !reads && matches!(failure, Some(Error::LocalClosed)));
+    Ok(())
+}
+
+/// A server at which one job may wait and two do, and whose first reader has the turn.
+fn full_server(rt: &impl Wait, alloc: Global) -> Result<Server, Fail> {
+    let shared = limited_server(alloc, Some(1), None)?;
+    shared.held().lock(rt).relay.wants(0, None);
+    let mut port = ServerRead::new(rt, alloc, &*shared);
+    for _ in 0..2 {
+        port.begin();
+        port.take(ASKED);
+    }
+    Ok(shared)
+}
+
+/// Waits to read on. Returns whether then a job has begun, so that the other one may wait.
+fn reads_behind_a_job<X: Wait + Clock>(rt: &X, shared: &Server) -> bool {
+    shared.wait_to_read(rt, 0) && shared.held().lock(rt).core.jobs_waiting() == 1
+}
+
+/// A worker takes a job, after a while.
+fn take_later<X: Wait + Clock + Drop>(rt: &X, alloc: Global, shared: &Server) -> Option<JobId> {
+    thread::sleep(rt, a_while());
+    waited_for(rt, alloc, shared)
+}
+
+/// A reader that waits since too much does is woken once less waits.
+#[test]
+fn a_job_that_begins_lets_a_reader_read_on(rt: HostRuntime) -> Tested {
+    let shared = full_server(&rt, rt.alloc())?;
+    let (worker, reader) = (Arc::try_clone(&shared)?, shared);
+    let (reads, id) = thread::join(
+        &rt,
+        move || reads_behind_a_job(&rt, &reader),
+        move || take_later(&rt, rt.alloc(), &worker),
+    );
+    assert!(rt; reads && id == Some(1));
     Ok(())
 }
 

@@ -8,7 +8,7 @@ use futures::task::{Context, Poll, Source, Waker};
 use std::alloc::{AllocError, Global};
 use std::sync::Arc;
 use tokio::time::Interval;
-use ttrpc_polled_server::{MethodHandler, ServerShared, TtrpcContext};
+use ttrpc_polled_server::{InputEnd, InputEnded, MethodHandler, ServerShared, TtrpcContext};
 use ttrpc_proto::{Error, Request, Response, ResponseInit, Result, Status, get_status};
 use ttrpc_secure::Plain;
 use ttrpc_wire::{Blob, Code, Sequence, Text};
@@ -35,6 +35,8 @@ pub enum Does {
     Opens,
     /// It never ends.
     NeverEnds,
+    /// It answers with the payload once its input has ended.
+    AtEnd,
 }
 
 /// A method.
@@ -53,6 +55,8 @@ pub struct MethodCall {
     gate: Option<Arc<Gate, Global>>,
     ticks: Option<Interval>,
     looks: u32,
+    input_end: Arc<InputEnd, Global>,
+    ended: Option<InputEnded>,
     never: Source,
     slot: Option<Waker>,
 }
@@ -76,6 +80,8 @@ impl MethodHandler for Method {
             gate: Arc::try_clone(&self.gate).ok(),
             ticks,
             looks: 0,
+            ended: InputEnd::wait(&ctx.input_end).ok(),
+            input_end: ctx.input_end,
             never: Source::new(),
             slot: None,
         }
@@ -139,6 +145,23 @@ impl MethodCall {
         cx.yield_now()
     }
 
+    /// Waits until the input has ended, and then answers with the payload.
+    fn poll_ended(&mut self, cx: &mut Context<'_>) -> Poll<Result<Response>>
+        ensures registered { OnPending result (IsArmed cx.new) }
+        ensures kept { Keeps cx.old cx.new }
+    {
+        if let Some(ended) = &mut self.ended {
+            if ended.poll(cx).is_pending() {
+                return Poll::Pending;
+            }
+        }
+        if self.input_end.has_come() {
+            Poll::Ready(Ok(answer(self.alloc, self.payload.take())))
+        } else {
+            Poll::Ready(Err(Error::LocalClosed))
+        }
+    }
+
     fn is_open(&self) -> bool {
         match &self.gate {
             Some(gate) => gate.is_open(),
@@ -154,6 +177,7 @@ impl Future for MethodCall {
         match self.does {
             Does::NeverEnds => cx.register(&self.never, &mut self.slot),
             Does::Looks => self.poll_look(cx),
+            Does::AtEnd => self.poll_ended(cx),
             Does::Waits => self.poll_waiting(cx),
             Does::Answers | Does::Tells | Does::Ends | Does::Fails | Does::Opens => Poll::Ready(
                 self.end(),

@@ -1,4 +1,6 @@
 mod bytes_tests;
+mod ends_tests;
+mod floods;
 mod gate;
 mod handlers;
 mod joined_tests;
@@ -7,3 +9,4 @@ mod script_tests;
 mod sites;
 mod stop_tests;
 mod streams;
+mod turns_tests;

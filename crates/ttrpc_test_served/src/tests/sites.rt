@@ -148,7 +148,7 @@ pub fn make_server<R: Timed>(
     )
 }
 
-const METHODS: [(&str, Does); 8] = [
+const METHODS: [(&str, Does); 9] = [
     ("Echo", Does::Answers),
     ("Tells", Does::Tells),
     ("Ends", Does::Ends),
@@ -157,9 +157,10 @@ const METHODS: [(&str, Does); 8] = [
     ("Looks", Does::Looks),
     ("Opens", Does::Opens),
     ("NeverEnds", Does::NeverEnds),
+    ("AtEnd", Does::AtEnd),
 ];
 
-const STREAMS: [(&str, Streams); 9] = [
+const STREAMS: [(&str, Streams); 10] = [
     ("Chat", Streams::Chat),
     ("Last", Streams::Last),
     ("Hears", Streams::Hears),
@@ -169,6 +170,7 @@ const STREAMS: [(&str, Streams); 9] = [
     ("ChatFail", Streams::Fail),
     ("SumFail", Streams::Fail),
     ("Early", Streams::Early),
+    ("Beats", Streams::Beats),
 ];
 
 /// Makes the service `demo.Echo`.

@@ -2,25 +2,31 @@
 ghost use Rattle.futures.specs.Poll.{OnPending};
 ghost use Rattle.futures.specs.Task.{IsArmed, Keeps};
 
+use crate::tests::floods::{Behind, First, Taking};
 use crate::tests::gate::Gate;
 use crate::tests::runs::{
     Bench, System, client_of, make_bench, run_beside, run_beside_client, speaker,
 };
+use crate::tests::sites::{TestServer, make_server};
 use futures::Future;
 use futures::future::Either;
 use futures::task::{Context, Poll};
 use std::alloc::Global;
+use std::cell::Cell;
 use std::sync::Arc;
+use std::sync::atomic::AtomicU64;
 use std::test::Fail;
 use std::time::Duration;
 use tokio::io::DuplexStream;
+use tokio::runtime::LocalRuntime;
 use ttrpc_bench::checks::check_named;
 use ttrpc_bench_polled::acts::{Act, Script};
 use ttrpc_bench_polled::lines::{Line, Speaker};
-use ttrpc_bench_polled::parts::Fault;
+use ttrpc_bench_polled::parts::{Fault, Parts};
 use ttrpc_polled::Timed;
 use ttrpc_polled_server::Disconnect;
 use ttrpc_proto::{Error, Result as RpcResult};
+use ttrpc_secure::{HookOutput, Plain};
 
 /// What goes on before a server disconnects.
 type Before<'a, R> = Either<Script<'a, R>, Speaker<'a, DuplexStream, DuplexStream>>;
@@ -213,4 +219,83 @@ fn a_server_ends_the_connection_of_a_peer_that_reads_nothing(rt: HostRuntime) ->
     };
     let fault = run_beside(&rt, &mut runtime, &mut server, far, stopping)?;
     check_named("a line comes otherwise, or it doesn't end", fault.is_none())
+}
+
+/// A server's end, whose polls are counted.
+#[derive(Drop)]
+struct Counted {
+    disconnect: Disconnect,
+    polls: Arc<Cell<u32>, Global>,
+}
+
+impl Future for Counted {
+    type Output = Option<Fault>;
+
+    fn poll(&mut self, cx: &mut Context<'_>) -> Poll<Option<Fault>> {
+        self.polls.set(self.polls.get().saturating_add(1));
+        match self.disconnect.poll(cx) {
+            Poll::Pending => Poll::Pending,
+            Poll::Ready(Ok(())) => Poll::Ready(None),
+            Poll::Ready(Err(_)) => Poll::Ready(Some(Fault::Stop)),
+        }
+    }
+}
+
+/// Disconnects a server.
+fn make_counted<R: System>(
+    server: &mut TestServer<R>,
+    polls: &Arc<Cell<u32>, Global>,
+) -> Result<Counted, Fail> {
+    Ok(Counted {
+        disconnect: server.disconnect()?,
+        polls: Arc::try_clone(polls)?,
+    })
+}
+
+/// A request of a handler that never ends.
+const UNLIMITED: &[u8] = b"\0\0\0\x16\0\0\0\x01\x01\0\x0a\x09demo.Echo\x12\x09NeverEnds";
+
+/// A peer that asks for that, and says no more.
+fn asker(alloc: Global) -> Result<(First, Taking), Fail> {
+    let reader = First::new(
+        UNLIMITED,
+        Behind::Nothing,
+        Arc::new(alloc, AtomicU64::new(0))?,
+    );
+    let writer = Taking {
+        most: Arc::new(alloc, Cell::new(0))?,
+    };
+    Ok((reader, writer))
+}
+
+/// Waits twice for the end of a connection whose handler never ends. How often both were polled, unless one has failed.
+fn wait_twice<R: System>(rt: &R) -> Result<Option<u32>, Fail> {
+    let alloc = rt.alloc();
+    let polls = Arc::new(alloc, Cell::new(0))?;
+    let gate = Arc::new(alloc, Gate::new(alloc))?;
+    let mut runtime = LocalRuntime::new(rt)?;
+    let mut server = make_server(rt, runtime.handle(), &gate)?;
+    let (reader, writer) = asker(alloc)?;
+    let output = HookOutput::of_halves(alloc, Plain {}, Plain {});
+    let connection = server.over(reader, writer, output)?;
+    let (first, second) = (
+        make_counted(&mut server, &polls)?,
+        make_counted(&mut server, &polls)?,
+    );
+    let parts = Parts::both(alloc, first, second, connection)?;
+    let fault = runtime.block_on(rt, parts)?;
+    Ok(if fault.is_none() {
+        Some(polls.get())
+    } else {
+        None
+    })
+}
+
+#[test]
+fn two_who_wait_for_an_end_are_both_told(rt: HostRuntime) -> Result<(), Fail> {
+    let polls = wait_twice(&rt)?;
+    check_named(
+        "they wake each other, or one isn't told",
+        polls.is_some_and(|polls| polls < 20),
+    )
 }

@@ -34,6 +34,8 @@ pub enum Streams {
     Fail,
     /// It closes at once.
     Early,
+    /// It sends three items, with some polls before each, while it listens.
+    Beats,
 }
 
 /// A stream.
@@ -81,10 +83,17 @@ impl StreamHandler<Shared> for Streaming {
             turn: Turn::Receives,
             items: 0,
             bytes: 0,
-            left: 0,
+            left: if self.does == Streams::Beats {
+                PAUSE
+            } else {
+                0
+            },
         }
     }
 }
+
+/// How many polls are between two items of a beat.
+const PAUSE: u64 = 20;
 
 /// What a turn came to: the end of the stream, unless it is none.
 type Turned = Option<Result<Option<Response>>>;
@@ -99,9 +108,40 @@ impl StreamingCall {
             return Poll::Ready(Some(Ok(None)));
         }
         match replace(&mut self.turn, Turn::Done) {
+            Turn::Receives if self.does == Streams::Beats => self.poll_beat(cx),
             Turn::Receives => self.poll_item(cx),
             Turn::Sends(sending) => self.poll_sending(sending, cx),
             Turn::Done => Poll::Ready(Some(Err(Error::LocalClosed))),
+        }
+    }
+
+    /// Listens, and goes on to the next beat behind a pause.
+    fn poll_beat(&mut self, cx: &mut Context<'_>) -> Poll<Turned>
+        ensures registered { OnPending result (IsArmed cx.new) }
+        ensures kept { Keeps cx.old cx.new }
+    {
+        let _ = self.stream.poll_recv(cx);
+        if self.left > 0 {
+            self.left -= 1;
+            self.turn = Turn::Receives;
+            return cx.yield_now();
+        }
+        self.left = PAUSE;
+        Poll::Ready(self.next_beat())
+    }
+
+    /// Begins to send the next of three items, or closes.
+    fn next_beat(&mut self) -> Turned {
+        if self.items == 3 {
+            return Some(Ok(None));
+        }
+        self.items = self.items.saturating_add(1);
+        match Blob::from_slice(self.alloc, b"b") {
+            Ok(item) => {
+                self.turn = Turn::Sends(Sending::Sends(item));
+                None
+            }
+            Err(_) => Some(Err(Error::NoMemory)),
         }
     }
 
@@ -156,7 +196,7 @@ impl StreamingCall {
                 self.send_next()
             }
             Streams::Fail => Some(Ok(Some(failure(self.alloc, Some(item))))),
-            Streams::Early => Some(Ok(None)),
+            Streams::Early | Streams::Beats => Some(Ok(None)),
         }
     }
 
@@ -217,9 +257,12 @@ impl StreamingCall {
                 Some(Blob::from_slice(self.alloc, b"\xff")?),
             ))),
             Streams::Sum | Streams::Order => Ok(Some(answer(self.alloc, Some(self.sums()?)))),
-            Streams::Chat | Streams::Hears | Streams::Count | Streams::Fail | Streams::Early => Ok(
-                None,
-            ),
+            Streams::Chat
+            | Streams::Hears
+            | Streams::Count
+            | Streams::Fail
+            | Streams::Early
+            | Streams::Beats => Ok(None),
         }
     }
 

@@ -3,17 +3,20 @@ use crate::tests::Tested;
 use std::alloc::Global;
 use std::sync::atomic::{AtomicBool, Ordering};
 use std::test::Fail;
-use std::thread;
+use std::time::{Duration, Instant};
+use std::{fs, thread};
 use ttrpc_bench_threads::handlers::comes;
-use ttrpc_bench_threads::peers::write_all;
+use ttrpc_bench_threads::peers::{frames_until_the_end, requests, requests_with, write_all};
 use ttrpc_bench_threads::sites::{
     Machine, PlainClient, Site, a_while, address_in, answered_client, answers, answers_often, call,
-    check, client, connection, is_told, listening, serving, serving_one,
+    check, client, connection, is_told, listening, new_board, serving, serving_one, started,
+    unbound,
 };
 use ttrpc_proto::{Response, Result as Answered};
 use ttrpc_sync::Host;
 use ttrpc_sync_server::NoHook;
 use ttrpc_transport::{PipeConnection, PipeListener};
+use ttrpc_wire::values::slices::front;
 
 /// A request of `Echo` of `demo.Echo` under id 1, with the payload `2a`.
 const ASKED: &[u8] = b"\0\0\0\x14\0\0\0\x01\x01\0\x0a\x09demo.Echo\x12\x04Echo\x1a\x01\x2a";
@@ -230,31 +233,156 @@ fn stop_listen_keeps_connections(rt: HostRuntime) -> Tested {
     Ok(())
 }
 
-/// Shuts the server down once the handler waits. Returns whether then no handler runs, and nobody can connect.
+/// How many calls are in flight as a server is shut down.
+const IN_FLIGHT: u32 = 10;
+
+/// A bare connection with so many handlers under way, each of which answers 0.4 seconds after it was told of the end.
+fn in_flight<R: Machine>(rt: &R, site: &Site<R, NoHook>) -> Answered<PipeConnection> {
+    let bare = connection(rt, site.address.as_str())?;
+    let asked = requests(rt.alloc(), "Lasts", IN_FLIGHT)?;
+    write_all(&bare, asked.as_slice())?;
+    let waiting = &site.board.waiting;
+    let have_begun = comes(
+        rt,
+        || waiting.load(Ordering::SeqCst) == u64::from(IN_FLIGHT),
+    );
+    check(rt.alloc(), have_begun, "a handler hasn't begun")?;
+    Ok(bare)
+}
+
+/// Shuts the server down. Returns whether then no handler runs, and nobody can connect.
 fn is_shut_down<R: Machine + 'static>(rt: &R, site: Site<R, NoHook>) -> bool {
     let Site {
         server,
         address,
         board,
     } = site;
-    let has_begun = comes(rt, || board.waiting.load(Ordering::SeqCst) == 1);
     server.shutdown();
-    has_begun
-        && board.waiting.load(Ordering::SeqCst) == 0
-        && connection(rt, address.as_str()).is_err()
+    board.waiting.load(Ordering::SeqCst) == 0 && connection(rt, address.as_str()).is_err()
 }
 
-/// A shutdown with a call in flight cancels its handler, and the caller is told.
+/// A shutdown with calls in flight cancels their handlers, and each of them is answered.
 #[test]
-fn a_shutdown_ends_calls_in_flight(rt: HostRuntime) -> Tested {
-    let (site, client) = serving_one(&rt)?;
-    let (ended, shut_down) = thread::join(
-        &rt,
-        || call(&rt, &client, "Waits", b""),
-        move || is_shut_down(&rt, site),
-    );
-    assert!(rt; shut_down);
-    Ok(is_told(&rt, ended, "socket err: socket disconnected")?)
+fn a_shutdown_answers_calls_in_flight(rt: HostRuntime) -> Tested {
+    let site = serving(&rt)?;
+    let bare = in_flight(&rt, &site)?;
+    assert!(rt; is_shut_down(&rt, site));
+    let answered = frames_until_the_end(rt.alloc(), &mut &bare);
+    assert!(rt; answered == IN_FLIGHT as usize);
+    Ok(())
+}
+
+/// The lengths of payloads and how many calls with them a peer makes that reads no answer: one handler that writes its answer
+/// itself, and several whose answers are queued.
+const UNREAD: &[(usize, u32)] = &[(500000, 1), (100000, 16)];
+
+/// Where a server listens whose sockets keep less than half a megabyte.
+const STALLED: &str = "unix://stalled.sock";
+
+/// A server whose connections stay open for 0.2 seconds after their last answer.
+fn closing_soon<R: Machine + 'static>(rt: &R) -> Answered<Site<R, NoHook>> {
+    let _ = fs::remove_file(rt, "stalled.sock");
+    let board = new_board(rt)?;
+    let mut server = unbound(rt, &board)?
+        .set_close_limit(Some(Duration::from_millis(200)))
+        .bind(STALLED, true)?;
+    server.start()?;
+    Ok(Site {
+        server,
+        address: String::from_str(rt.alloc(), STALLED)?,
+        board,
+    })
+}
+
+/// A peer that makes these calls, each of which has begun, and reads no answer.
+fn unread<R: Machine>(
+    rt: &R,
+    site: &Site<R, NoHook>,
+    calls: (usize, u32),
+) -> Answered<PipeConnection> {
+    let (length, count) = calls;
+    let stalled = connection(rt, site.address.as_str())?;
+    let payload = Vec::from_elem(rt.alloc(), 7u8, length)?;
+    let asked = requests_with(rt.alloc(), "Echo", payload.as_slice(), count)?;
+    write_all(&stalled, asked.as_slice())?;
+    let have_begun = comes(rt, || site.board.seen.lock(rt).len() == count as usize);
+    check(rt.alloc(), have_begun, "a handler hasn't begun")?;
+    a_while(rt);
+    Ok(stalled)
+}
+
+/// Returns whether a server is shut down within twenty seconds beside a peer that reads no answer of these calls.
+fn is_soon_shut_down<R: Machine + 'static>(rt: &R, calls: (usize, u32)) -> Result<bool, Fail> {
+    let site = closing_soon(rt)?;
+    let _stalled = unread(rt, &site, calls)?;
+    let start = Instant::now(rt)?;
+    site.server.shutdown();
+    Ok(start.elapsed(rt)? < Duration::from_secs(20))
+}
+
+/// A peer that reads no answer holds a shutdown no longer than the close limit says.
+#[test]
+fn a_shutdown_waits_for_no_stalled_peer(rt: HostRuntime) -> Tested {
+    for &calls in UNREAD {
+        assert!(rt; is_soon_shut_down(&rt, calls)?);
+    }
+    Ok(fs::remove_file(&rt, "stalled.sock")?)
+}
+
+/// How many bytes of a request come, in pieces of which length, one each 60 milliseconds, and whether the connection lives after
+/// that at a server at which a peer may pause inside a frame for 200.
+const PAUSES: &[(usize, usize, bool)] = &[
+    (0, 30, true),
+    (5, 30, false),
+    (10, 30, false),
+    (29, 30, false),
+    (30, 30, true),
+    (30, 2, true),
+    (29, 2, false),
+];
+
+/// A server at which a peer may pause inside a frame for 0.2 seconds.
+fn impatient<R: Machine + 'static>(rt: &R) -> Answered<Site<R, NoHook>> {
+    let board = new_board(rt)?;
+    let server = unbound(rt, &board)?
+        .set_frame_limit(Some(Duration::from_millis(200)))
+        .bind("tcp://127.0.0.1:0", true)?;
+    started(rt, server, board)
+}
+
+/// Writes a beginning of a request in pieces of this length.
+fn asks_slowly<R: Machine>(
+    rt: &R,
+    bare: &PipeConnection,
+    length: usize,
+    size: usize,
+) -> Answered<()> {
+    for piece in front(ASKED, length).chunks(size.max(1)) {
+        thread::sleep(rt, Duration::from_millis(60));
+        write_all(bare, piece)?;
+    }
+    Ok(())
+}
+
+/// Returns whether the connection of a peer that asks so is still there a second later.
+fn lives_behind<R: Machine + 'static>(rt: &R, length: usize, size: usize) -> Result<bool, Fail> {
+    let site = impatient(rt)?;
+    let bare = connection(rt, site.address.as_str())?;
+    has_connections(rt, &site, 1)?;
+    asks_slowly(rt, &bare, length, size)?;
+    thread::sleep(rt, Duration::from_secs(1));
+    let lives = site.server.connection_count() == 1;
+    site.server.shutdown();
+    Ok(lives)
+}
+
+/// A peer that pauses inside a frame for longer than it may is let go, and no other is.
+#[test]
+fn a_peer_may_pause_between_frames(rt: HostRuntime) -> Tested {
+    for &(length, size, lives) in PAUSES {
+        assert!(rt; lives_behind(&rt, length, size)? == lives);
+    }
+    Ok(())
 }
 
 /// So many clients of the server at this address.

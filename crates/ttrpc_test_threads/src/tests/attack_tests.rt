@@ -7,7 +7,7 @@ use std::test::Fail;
 use std::time::{Clock, Duration, Instant};
 use std::{fs, thread};
 use ttrpc_bench_threads::handlers::comes;
-use ttrpc_bench_threads::peers::{answer, next_id, read_frame, requests, write_all};
+use ttrpc_bench_threads::peers::{answer, frames_until_the_end, next_id, requests, write_all};
 use ttrpc_bench_threads::sites::{
     Machine, PlainClient, Site, a_while, call, client, listening, request, serving,
 };
@@ -180,19 +180,6 @@ fn asking<R: Machine>(rt: &R, address: &str, method: &str, count: u32) -> Result
     Ok(bare)
 }
 
-/// How many frames come until the end.
-fn frames_until_the_end(alloc: Global, stream: &TcpStream) -> usize {
-    let mut reader = stream;
-    let mut count: usize = 0;
-    for _ in 0..10000 {
-        if read_frame(alloc, &mut reader).is_err() {
-            break;
-        }
-        count = count.saturating_add(1);
-    }
-    count
-}
-
 /// How often a client asks that then ends its half, on one connection after the other.
 const ASKED: &[u32] = &[
     200, 1, 1, 1, 1, 1, 1, 1, 1, 1, 1, 1, 1, 1, 1, 1, 1, 1, 1, 1, 1, 2, 3, 4, 5,
@@ -202,7 +189,8 @@ const ASKED: &[u32] = &[
 fn each_is_answered_once<R: Machine>(rt: &R, address: &str, count: u32) -> Result<bool, Fail> {
     let bare = asking(rt, address, "Echo", count)?;
     bare.shutdown(Shutdown::Write)?;
-    Ok(frames_until_the_end(rt.alloc(), &bare) == count as usize)
+    let mut reader = &bare;
+    Ok(frames_until_the_end(rt.alloc(), &mut reader) == count as usize)
 }
 
 /// A client that asks and then ends its half gets each of its answers, once.

@@ -11,7 +11,7 @@ use std::time::{Clock, Duration, Instant};
 use std::{fs, thread};
 use ttrpc_bench_threads::fakes::Failing;
 use ttrpc_bench_threads::handlers::{Board, comes};
-use ttrpc_bench_threads::peers::{next_id, requests, write_all};
+use ttrpc_bench_threads::peers::{next_id, read_frame, requests, write_all};
 use ttrpc_bench_threads::sites::{
     Machine, PlainClient, Site, a_while, answered_client, answers, answers_often, client,
     connection, hooked_at_once, serving, serving_one, started, unbound,
@@ -111,6 +111,125 @@ fn each_job_of_a_piece_has_a_worker(rt: HostRuntime) -> Tested {
     let ids = ids_around_the_gate(rt.alloc(), &bare, &*site.board)?;
     assert!(rt; ids == (3, 1));
     site.server.shutdown();
+    Ok(())
+}
+
+/// How many jobs may wait, and whether two requests come in one piece.
+const PAIRS: &[(Option<u64>, bool)] = &[
+    (Some(4096), false),
+    (Some(4096), true),
+    (Some(0), false),
+    (Some(0), true),
+    (None, true),
+];
+
+/// A server at which so many jobs and bytes of a connection may wait.
+fn limited<R: Machine + 'static>(
+    rt: &R,
+    jobs: Option<u64>,
+    bytes: Option<u64>,
+) -> Answered<Site<R, NoHook>> {
+    let board = Arc::new(rt.alloc(), Board::new(rt.alloc()))?;
+    let server = unbound(rt, &board)?
+        .set_waiting_jobs(jobs)
+        .set_waiting_bytes(bytes)
+        .bind("tcp://127.0.0.1:0", true)?;
+    started(rt, server, board)
+}
+
+/// Writes a request whose handler waits behind the gate, and one whose handler opens it, in one piece or after a while.
+fn ask_for_both(
+    alloc: Global,
+    clock: &impl Clock,
+    bare: &PipeConnection,
+    at_once: bool,
+) -> Answered<()> {
+    let gate = requests(alloc, "Gate", 1)?;
+    let opens = requests(alloc, "Opens", 1)?;
+    if at_once {
+        let mut both = gate;
+        both.extend_from_slice(opens.as_slice())?;
+        return write_all(bare, both.as_slice());
+    }
+    write_all(bare, gate.as_slice())?;
+    a_while(clock);
+    write_all(bare, opens.as_slice())
+}
+
+/// Returns whether the next two answers came, and one of them says that the gate was opened.
+fn gate_was_opened(alloc: Global, bare: &PipeConnection) -> Answered<bool> {
+    let mut reader = bare;
+    let first = read_frame(alloc, &mut reader)?;
+    let second = read_frame(alloc, &mut reader)?;
+    Ok(is_open(first.payload.as_slice()) || is_open(second.payload.as_slice()))
+}
+
+/// Returns whether an answer ends with `open`.
+fn is_open(payload: &[u8]) -> bool {
+    payload.ends_with(b"open")
+}
+
+/// A handler that blocks until a later request of its connection was handled is answered, and so is that request, however
+/// they come and however few jobs may wait.
+#[test]
+fn a_handler_may_wait_for_a_later_call(rt: HostRuntime) -> Tested {
+    for &(jobs, at_once) in PAIRS {
+        let site = limited(&rt, jobs, None)?;
+        let bare = connection(&rt, site.address.as_str())?;
+        ask_for_both(rt.alloc(), &rt, &bare, at_once)?;
+        assert!(rt; gate_was_opened(rt.alloc(), &bare)?);
+        site.server.shutdown();
+    }
+    Ok(())
+}
+
+/// How many jobs and bytes may wait while a client makes calls without pause.
+const LIMITS: &[(Option<u64>, Option<u64>)] = &[
+    (Some(0), None),
+    (Some(10), None),
+    (None, Some(1000)),
+    (Some(4096), Some(8388608)),
+];
+
+/// Writes so many requests, and ends.
+fn asks_without_pause(alloc: Global, bare: &PipeConnection, count: u32) -> Answered<()> {
+    let asked = requests(alloc, "Opens", count)?;
+    write_all(bare, asked.as_slice())
+}
+
+/// Returns whether so many calls without pause are all answered.
+fn all_are_answered<R: Machine>(rt: &R, address: &str, count: u32) -> Answered<bool> {
+    let bare = connection(rt, address)?;
+    let (asked, answered) = thread::join(
+        rt,
+        || asks_without_pause(rt.alloc(), &bare, count),
+        || frames_until(rt.alloc(), &bare, count),
+    );
+    asked?;
+    Ok(answered == count)
+}
+
+/// Counts the frames that come, up to this count.
+fn frames_until(alloc: Global, bare: &PipeConnection, count: u32) -> u32 {
+    let mut reader = bare;
+    let mut came: u32 = 0;
+    for _ in 0..count {
+        if read_frame(alloc, &mut reader).is_err() {
+            break;
+        }
+        came = came.saturating_add(1);
+    }
+    came
+}
+
+/// A client that makes calls without pause gets each answer, however few may wait.
+#[test]
+fn calls_without_pause_are_answered(rt: HostRuntime) -> Tested {
+    for &(jobs, bytes) in LIMITS {
+        let site = limited(&rt, jobs, bytes)?;
+        assert!(rt; all_are_answered(&rt, site.address.as_str(), 5000)?);
+        site.server.shutdown();
+    }
     Ok(())
 }
 
