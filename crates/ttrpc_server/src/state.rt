@@ -167,20 +167,15 @@ impl ServerState {
         ensures err { IfErr result (λ failure. (self.new ≡ self.old) × (outbox.new ≡ outbox.old)
             × FailsOn (request_row self.old.rules self.old.services (read_from request_step empty_request plain)) self.old failure) }
     {
-        match self.rules {
-            Rules::Sync => self.ask(alloc, outbox, header, plain, now),
-            Rules::Async => {
-                let newest = self.jobs.newest();
-                self.jobs.note_newest(Some(header.stream_id));
-                match self.ask(alloc, outbox, header, plain, now) {
-                    Ok(()) => Ok(()),
-                    Err(failure) => {
-                        self.jobs.note_newest(newest);
-                        Err(failure)
-                    }
-                }
-            }
+        let newest = self.jobs.newest();
+        if let Rules::Async = self.rules {
+            self.jobs.note_newest(Some(header.stream_id));
         }
+        let asked = self.ask(alloc, outbox, header, plain, now);
+        if asked.is_err() {
+            self.jobs.note_newest(newest);
+        }
+        asked
     }
 
     /// A payload is read as a request, which acts. An `Err` changes nothing.
