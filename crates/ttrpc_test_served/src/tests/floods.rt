@@ -1,5 +1,6 @@
 //! Connections whose input never runs dry, with a clock that the tests set on.
-ghost use Rattle.std.specs.Prelude.{◌≡◌, ⊤, IsSome};
+ghost use Rattle.std.specs.Prelude.{◌≡◌, ◌≤◌, ⊤, length, IsSome};
+ghost use Rattle.tokio.specs.Io.Moved.{count_moved};
 
 use crate::tests::gate::Gate;
 use crate::tests::handlers::answer;
@@ -148,18 +149,20 @@ impl First {
         }
     }
 
-    /// Gives what comes behind the first bytes.
-    fn give(&mut self, buf: &mut [u8]) -> Poll<io::Result<usize>> {
+    /// Gives what comes after the first bytes.
+    fn give(&mut self, buf: &mut [u8]) -> io::Result<usize>
+        ensures { count_moved (Poll.Ready result) ≤ length buf.new }
+    {
         match self.behind {
             Behind::Strays => {
                 self.moment.fetch_add(1_000_000, Ordering::SeqCst);
                 for (to, from) in buf.iter_mut().zip(STRAY.iter()) {
                     *to = *from;
                 }
-                Poll::Ready(Ok(STRAY.len().min(buf.len())))
+                Ok(STRAY.len().min(buf.len()))
             }
-            Behind::Nothing | Behind::End => Poll::Ready(Ok(0)),
-            Behind::Reset => Poll::Ready(Err(io::ErrorKind::ConnectionReset.into())),
+            Behind::Nothing | Behind::End => Ok(0),
+            Behind::Reset => Err(io::ErrorKind::ConnectionReset.into()),
         }
     }
 }
@@ -180,7 +183,7 @@ impl AsyncRead for First {
             return cx.register(&self.never, &mut self.slot);
         }
         if self.is_given {
-            return self.give(buf);
+            return Poll::Ready(self.give(buf));
         }
         self.is_given = true;
         for (to, from) in buf.iter_mut().zip(self.bytes.iter()) {
@@ -266,11 +269,11 @@ impl<F: Future<Output = ()>> Future for Seen<F> {
     }
 }
 
-/// A connection, and its server's end, which begins behind so many polls.
+/// A connection, and its server's end, which is polled once, after so many polls.
 #[derive(Drop)]
 pub struct Told<F, D> {
     pub connection: F,
-    pub end: D,
+    pub end: Option<D>,
     pub left: u32,
 }
 
@@ -280,13 +283,19 @@ where
 {
     type Output = ();
 
-    ghost can_poll = { λ t. F.can_poll t.connection × D.can_poll t.end };
+    ghost use Rattle.std.specs.Prelude.{IfSome};
+
+    ghost can_poll = { λ t. F.can_poll t.connection × IfSome t.end D.can_poll };
 
     fn poll(&mut self, cx: &mut Context<'_>) -> Poll<()> {
         if self.left > 0 {
             self.left -= 1;
             if self.left == 0 {
-                let _ = self.end.poll(cx);
+                if let Some(mut end) = self.end.take() {
+                    if end.poll(cx).is_pending() {
+                        self.end = Some(end);
+                    }
+                }
             }
         }
         self.connection.poll(cx)

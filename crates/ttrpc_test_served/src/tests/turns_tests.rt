@@ -163,7 +163,7 @@ fn tell_in_a_flood<R: System>(rt: &R) -> Result<Came, Fail> {
     let mut server = costly(rt.alloc(), runtime.handle(), &of, 1_000_000_000)?;
     let told = Told {
         connection: flooded(rt.alloc(), &mut server, &of)?,
-        end: server.disconnect()?,
+        end: Some(server.disconnect()?),
         left: 10,
     };
     let polled = Polled {
