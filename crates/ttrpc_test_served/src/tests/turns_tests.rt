@@ -14,7 +14,7 @@ use std::test::Fail;
 use std::time::Duration;
 use tokio::runtime::{Handle, LocalRuntime};
 use ttrpc_bench::checks::{check_named, check_named_row};
-use ttrpc_polled_server::{NoStreams, Server, ServerConnection, Service};
+use ttrpc_polled_server::{NoStreams, Server, Service};
 use ttrpc_secure::{HookOutput, Plain};
 
 /// What a test's server asks of the system: a clock that is set on, and memory.
@@ -89,19 +89,15 @@ fn costly(alloc: Global, handle: &Handle, of: &Counters, cost: u64) -> Result<Co
     Ok(Server::new(late_of(alloc, &of.moment)?, handle)?.register_service(services)?)
 }
 
-/// A connection whose input is a flood.
-type Flooded = ServerConnection<Late, Costs, NoStreams, Flood, Taking, Plain, Plain>;
-
-/// Makes a connection of this server whose input is a flood.
-fn flooded(alloc: Global, server: &mut CostlyServer, of: &Counters) -> Result<Flooded, Fail> {
+/// Makes both sides of a connection whose input is a flood.
+fn sides(of: &Counters) -> Result<(Flood, Taking), Fail> {
     let reader = Flood {
         given: Arc::try_clone(&of.given)?,
     };
     let writer = Taking {
         most: Arc::try_clone(&of.most)?,
     };
-    let output = HookOutput::of_halves(alloc, Plain {}, Plain {});
-    Ok(server.over(reader, writer, output)?)
+    Ok((reader, writer))
 }
 
 /// Polls a connection so often whose input is a flood of calls that cost so many nanoseconds, and of which so many wait at most.
@@ -110,8 +106,10 @@ fn flood<R: System>(rt: &R, polls: u32, cost: u64, waiting: u64) -> Result<Came,
     let of = Counters::new(rt.alloc())?;
     let server = costly(rt.alloc(), runtime.handle(), &of, cost)?;
     let mut server = server.set_waiting_jobs(Some(waiting));
+    let (reader, writer) = sides(&of)?;
+    let output = HookOutput::of_halves(rt.alloc(), Plain {}, Plain {});
     let polled = Polled {
-        connection: flooded(rt.alloc(), &mut server, &of)?,
+        connection: server.over(reader, writer, output)?,
         left: polls,
         moment: Arc::try_clone(&of.moment)?,
         step: 0,
@@ -161,8 +159,10 @@ fn tell_in_a_flood<R: System>(rt: &R) -> Result<Came, Fail> {
     let mut runtime = LocalRuntime::new(rt)?;
     let of = Counters::new(rt.alloc())?;
     let mut server = costly(rt.alloc(), runtime.handle(), &of, 1_000_000_000)?;
+    let (reader, writer) = sides(&of)?;
+    let output = HookOutput::of_halves(rt.alloc(), Plain {}, Plain {});
     let told = Told {
-        connection: flooded(rt.alloc(), &mut server, &of)?,
+        connection: server.over(reader, writer, output)?,
         end: Some(server.disconnect()?),
         left: 10,
     };
