@@ -1,4 +1,5 @@
 //! Connections whose input never runs dry, and one whose peer never reads, with a clock that the tests set on.
+ghost use Rattle.futures.specs.Task.{Keeps};
 ghost use Rattle.std.specs.Prelude.{◌≡◌, ⊤};
 
 use crate::tests::broken_tests::Silent;
@@ -161,17 +162,19 @@ fn expires_in_a_flood<R: System>(rt: &R) -> Result<bool, Fail> {
         output,
     )?;
     let call = client.request(request(alloc, "Echo", b"1", 20_000_000)?)?;
-    match runtime.block_on(rt, select(call, connection))? {
-        Either::Left((Err(error), _)) => {
-            let told = is_so(
-                alloc,
-                Err(error),
-                Err("ttrpc err: Request deadline elapsed"),
-            );
-            Ok(told && left.get() > FRAMES - 100)
-        }
-        _ => Ok(false),
-    }
+    let Either::Left(first) = runtime.block_on(rt, select(call, connection))? else {
+        return Ok(false);
+    };
+    let (given, _) = first;
+    let told = match given {
+        Ok(_) => false,
+        Err(error) => is_so(
+            alloc,
+            Err(error),
+            Err("ttrpc err: Request deadline elapsed"),
+        ),
+    };
+    Ok(told && left.get() > FRAMES - 100)
 }
 
 #[test]
@@ -192,7 +195,9 @@ struct LastClient {
 
 impl LastClient {
     /// Polls the call, and its connection behind that.
-    fn poll_both(&mut self, cx: &mut Context<'_>) -> Poll<()> {
+    fn poll_both(&mut self, cx: &mut Context<'_>) -> Poll<()>
+        ensures { Keeps cx.old cx.new }
+    {
         if let Some(call) = &mut self.call {
             let _ = call.poll(cx);
         }
