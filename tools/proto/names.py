@@ -11,8 +11,9 @@ DEFINITION_WORDS = set(
     "data record deriving module where use mod pub package open as unfoldable abbrev axiom unfold unfolding ruleset mutual infix infixl "
     "infixr elim let in do Type coe fcoe tcoe hcom com".split()
 )
-# Those that no member can have.
-NEVER = {"deriving"}
+# Words that no definition may have: one that no member can be named by, and the tactics that choose a term.
+TACTICS = set("search grind assumption ground simp omega cc rw grw hlevel".split())
+NEVER = {"deriving", "search", "grind", "assumption", "ground"}
 RUST_WORDS = set(
     "as break const continue crate dyn else enum extern false fn for if impl in let loop match mod move mut pub ref return self static "
     "struct super trait true type unsafe use where while async await abstract become box do final macro override priv typeof unsized "
@@ -23,9 +24,9 @@ METHODS = set(
     "try_clone clone drop client alloc deref as_ref as_mut borrow into try_into from eq ne cmp partial_cmp lt le gt ge max min clamp fmt "
     "hash to_string to_owned".split()
 )
-# Names of the libraries that the written files use, and of those files' own.
+# Names of the libraries that the written files use, and of those files' own, with the type parameters.
 KIT_TYPES = set(
-    "text blob sequence numbers field field_number codec_error try_clone wire_message alloc_error global value option some none result ok "
+    "k p r s text blob sequence numbers field field_number codec_error try_clone wire_message alloc_error global value option some none result ok "
     "err vec string box arc b_tree_map client method_handler request ttrpc_context context plain host member_kind single optional repeated "
     "packed map nested utf8 bytes boolean message bits32 bits64 signed32 signed64 drop copy clone unit type set maps future either service "
     "handling responds ends_by closes timed calling opening filled line server_line client_call client_line client_opening client_stream "
@@ -77,7 +78,7 @@ class Names:
         self.types, self.members, self.choices, self.variants = {}, {}, {}, {}
         self.constants, self.values, self.services, self.calls = {}, {}, {}, {}
         self.recursive = set(schema.recursive())
-        for word in KIT_TYPES | DEFINITION_WORDS | (KIT_TYPES_OF_RULES if self.recursive else set()):
+        for word in KIT_TYPES | DEFINITION_WORDS | TACTICS | (KIT_TYPES_OF_RULES if self.recursive else set()):
             self.take("types", [word, word.replace("_", "")], "a word of the kit")
         for message in schema.messages.values():
             self.name_type(message, "message")
