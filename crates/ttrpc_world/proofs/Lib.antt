@@ -24,5 +24,6 @@ pub mod Since
 pub mod Calls
 pub mod Emptied
 pub mod WholeStreams
+pub mod Named
 pub mod Telling
 pub mod Asked

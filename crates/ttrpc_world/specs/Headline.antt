@@ -1,3 +1,4 @@
 pub mod Words
 pub mod Living
 pub mod Requests
+pub mod Named

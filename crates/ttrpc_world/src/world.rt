@@ -3,6 +3,7 @@ ghost use Rattle.std.specs.Prelude.{◌≡◌, ◌≤◌, [], ℕ, length, map, 
 ghost use Rattle.std.specs.Vec.{vec_capacity};
 ghost use Rattle.ttrpc_proto.specs.declared.error.Error.{Error as AnError};
 ghost use Rattle.ttrpc_world.specs.Headline.Words.{Entry as AnEntry, IsFresh, IsTold, Net, Runs, empty_pipe, halves};
+ghost use Rattle.ttrpc_world.specs.Headline.Named.{AreNamed};
 ghost use Rattle.ttrpc_secure.specs.Sends.{safe_limit};
 
 use crate::headline::laws::runs_are_told;
@@ -72,6 +73,9 @@ impl<
             self.server.state.services
             (safe_limit SO.OutboundTransform self.server.connection.outbox.half)
             stream_of trace.items) }
+        // A job that was handed out, and whose request names a method of the server, is answered by one response and is no
+        // stream's.
+        ensures named { IfOk result (λ trace. AreNamed self.server.state.services trace.items) }
         ensures refused { IfErr result (λ error. error ≡ AnError.NoMemory) }
     {
         runs_are_told::<CO, CI, SO, SI>();
