@@ -111,14 +111,13 @@ fn serve<R: System, X: Write>(
     Ok(0)
 }
 
-/// Serves for so many seconds, and then shuts the server down. An error is that of the shutdown.
+/// Serves for so many seconds, and then shuts the server down.
 fn serve_for<R: System>(
     rt: &R,
     runtime: &mut LocalRuntime,
     mut server: EchoServer<R>,
     seconds: u64,
 ) -> Result<()> {
-    let tasks = nix(runtime.task_set(rt))?;
     let time = nix(
         runtime
             .handle()
@@ -126,14 +125,7 @@ fn serve_for<R: System>(
             .sleep(rt, Duration::from_secs(seconds)),
     )?;
     let serving = server.start()?;
-    let serves = ServesFor {
-        tasks: &tasks,
-        server,
-        serving,
-        time,
-        shutdown: None,
-    };
-    nix(runtime.block_on_with(rt, &tasks, serves))?
+    nix(runtime.run_all(rt, ServesFor::new(server, serving, time)))
 }
 
 fn tell_address<R: System, X: Write>(server: &EchoServer<R>, errors: &mut X) -> Result<()> {

@@ -1,50 +1,100 @@
 //! A server that is shut down after some time.
+ghost use Rattle.futures.specs.Poll.{OnPending};
+ghost use Rattle.futures.specs.Task.{IsArmed, Keeps};
+
 use crate::program::EchoServer;
 use crate::service::{EchoMethod, EchoStream};
 use crate::system::System;
-use futures::executor::TaskSet;
 use futures::task::{Context, Poll};
 use futures::{Future, Stream};
 use tokio::time::Sleep;
 use ttrpc_polled_server::{NoHook, Serving, Shutdown, TcpServerConnection};
-use ttrpc_proto::{Error, Result};
 use ttrpc_secure::Plain;
 
 /// A connection of the program's server.
 pub type EchoConnection<R> = TcpServerConnection<R, EchoMethod, EchoStream, Plain, Plain>;
 
-/// Accepts the connections of a server until a time is over, and then shuts the server down. Each connection is a task of its own.
+/// Accepts the connections of a server until a time is over, and then shuts the server down. The stream ends after the shutdown.
 #[derive(Drop)]
-pub struct ServesFor<'a, R: System> {
-    pub tasks: &'a TaskSet<EchoConnection<R>>,
-    pub server: EchoServer<R>,
-    pub serving: Serving<R, EchoMethod, EchoStream, NoHook>,
-    pub time: Sleep,
-    pub shutdown: Option<Shutdown>,
+pub struct ServesFor<R: System> {
+    server: EchoServer<R>,
+    serving: Option<Serving<R, EchoMethod, EchoStream, NoHook>>,
+    until: Until,
 }
 
-impl<R: System> Future for ServesFor<'_, R> {
-    type Output = Result<()>;
+/// What the end of the stream waits for.
+#[derive(Drop)]
+enum Until {
+    /// The time is over.
+    Time(Sleep),
+    /// The server is shut down.
+    Shutdown(Shutdown),
+}
 
-    fn poll(&mut self, cx: &mut Context<'_>) -> Poll<Result<()>> {
-        if let Poll::Ready(Some(connection)) = self.serving.poll_next(cx) {
-            if self.tasks.spawn(connection).is_err() {
-                return Poll::Ready(Err(Error::NoMemory));
-            }
-            return cx.yield_now();
+impl<R: System> ServesFor<R> {
+    /// Serves by this stream of the server's connections until the time is over.
+    pub fn new(
+        server: EchoServer<R>,
+        serving: Serving<R, EchoMethod, EchoStream, NoHook>,
+        time: Sleep,
+    ) -> ServesFor<R> {
+        ServesFor {
+            server,
+            serving: Some(serving),
+            until: Until::Time(time),
         }
-        if self.shutdown.is_none() {
-            if self.time.poll(cx).is_pending() {
-                return Poll::Pending;
+    }
+
+    /// Shuts the server down when the time is over. Ready: the server is shut down, or can't be.
+    fn poll_end(&mut self, cx: &mut Context<'_>) -> Poll<()>
+        ensures registered { OnPending result (IsArmed cx.new) }
+        ensures kept { Keeps cx.old cx.new }
+    {
+        match &mut self.until {
+            Until::Time(time) => {
+                if time.poll(cx).is_pending() {
+                    return Poll::Pending;
+                }
             }
-            match self.server.shutdown() {
-                Ok(shutdown) => self.shutdown = Some(shutdown),
-                Err(error) => return Poll::Ready(Err(error)),
+            Until::Shutdown(shutdown) => {
+                return match shutdown.poll(cx) {
+                    Poll::Pending => Poll::Pending,
+                    Poll::Ready(_) => Poll::Ready(()),
+                };
             }
         }
-        match &mut self.shutdown {
-            Some(shutdown) => shutdown.poll(cx),
-            None => Poll::Ready(Ok(())),
+        match self.server.shutdown() {
+            Ok(shutdown) => {
+                self.until = Until::Shutdown(shutdown);
+                cx.yield_now()
+            }
+            Err(_) => Poll::Ready(()),
+        }
+    }
+}
+
+impl<R: System> Stream for ServesFor<R> {
+    type Item = EchoConnection<R>;
+
+    ghost use Rattle.std.specs.Prelude.{IfSome};
+    ghost use Rattle.ttrpc_polled_server.specs.Needs.{CanPoll};
+    ghost use Rattle.ttrpc_polled_echo.specs.Needs.{MethodCallCanPoll, StreamCallCanPoll};
+
+    ghost yields = { λ _ _ last. IfSome last (CanPoll MethodCallCanPoll StreamCallCanPoll) };
+
+    fn poll_next(&mut self, cx: &mut Context<'_>) -> Poll<Option<EchoConnection<R>>> {
+        if self.poll_end(cx).is_ready() {
+            return Poll::Ready(None);
+        }
+        let Some(serving) = &mut self.serving else {
+            return Poll::Pending;
+        };
+        match serving.poll_next(cx) {
+            Poll::Ready(None) => {
+                self.serving = None;
+                cx.yield_now()
+            }
+            polled => polled,
         }
     }
 }
