@@ -1,6 +1,6 @@
 -- Who waits.
 -- Source: this project's.
-use Rattle.std.specs.Prelude.{◌≡◌, List, [], ◌∷◌}
+use Rattle.std.specs.Prelude.{◌≡◌, List, ◌∷◌}
 
 -- the key is the first of these
 abbrev pub IsFirst : {K : Type 0} → List K → K → Type 0

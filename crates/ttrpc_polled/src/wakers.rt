@@ -57,6 +57,9 @@ impl Wakers {
     pub fn wake(&mut self, key: u64)
         ensures { self.new ≡ remove_key (is_at (nat_cmp key)) self.old }
     {
+        if self.slots.is_empty() {
+            return;
+        }
         let _ = self.slots.remove(key);
     }
 
