@@ -311,10 +311,8 @@ fn unread<R: Machine>(
     Ok(stalled)
 }
 
-/// Returns whether a server is shut down within twenty seconds beside a peer that reads no answer of these calls.
-fn is_soon_shut_down<R: Machine + 'static>(rt: &R, calls: (usize, u32)) -> Result<bool, Fail> {
-    let site = closing_soon(rt)?;
-    let _stalled = unread(rt, &site, calls)?;
+/// Returns whether a server is shut down within twenty seconds.
+fn is_soon_shut_down<R: Machine + 'static>(rt: &R, site: Site<R, NoHook>) -> Result<bool, Fail> {
     let start = Instant::now(rt)?;
     site.server.shutdown();
     Ok(start.elapsed(rt)? < Duration::from_secs(20))
@@ -324,7 +322,9 @@ fn is_soon_shut_down<R: Machine + 'static>(rt: &R, calls: (usize, u32)) -> Resul
 #[test]
 fn a_shutdown_waits_for_no_stalled_peer(rt: HostRuntime) -> Tested {
     for &calls in UNREAD {
-        assert!(rt; is_soon_shut_down(&rt, calls)?);
+        let site = closing_soon(&rt)?;
+        let _stalled = unread(&rt, &site, calls)?;
+        assert!(rt; is_soon_shut_down(&rt, site)?);
     }
     Ok(fs::remove_file(&rt, "stalled.sock")?)
 }
@@ -365,22 +365,26 @@ fn asks_slowly<R: Machine>(
 }
 
 /// Returns whether the connection of a peer that asks so is still there a second later.
-fn lives_behind<R: Machine + 'static>(rt: &R, length: usize, size: usize) -> Result<bool, Fail> {
-    let site = impatient(rt)?;
+fn lives_behind<R: Machine>(
+    rt: &R,
+    site: &Site<R, NoHook>,
+    length: usize,
+    size: usize,
+) -> Answered<bool> {
     let bare = connection(rt, site.address.as_str())?;
-    has_connections(rt, &site, 1)?;
+    has_connections(rt, site, 1)?;
     asks_slowly(rt, &bare, length, size)?;
     thread::sleep(rt, Duration::from_secs(1));
-    let lives = site.server.connection_count() == 1;
-    site.server.shutdown();
-    Ok(lives)
+    Ok(site.server.connection_count() == 1)
 }
 
 /// A peer that pauses inside a frame for longer than it may is let go, and no other is.
 #[test]
 fn a_peer_may_pause_between_frames(rt: HostRuntime) -> Tested {
     for &(length, size, lives) in PAUSES {
-        assert!(rt; lives_behind(&rt, length, size)? == lives);
+        let site = impatient(&rt)?;
+        assert!(rt; lives_behind(&rt, &site, length, size)? == lives);
+        site.server.shutdown();
     }
     Ok(())
 }
