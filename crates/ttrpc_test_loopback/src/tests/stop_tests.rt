@@ -142,6 +142,7 @@ fn a_shutdown_has_its_limit_while_who_accepts_stays(rt: HostRuntime) -> Result<(
 #[derive(Drop)]
 struct Kept<S> {
     serving: S,
+    is_over: bool,
 }
 
 impl<S: Stream> Future for Kept<S>
@@ -150,10 +151,14 @@ where
 {
     type Output = ();
 
-    ghost can_poll = { λ k. S.can_poll k.serving };
+    ghost use Rattle.std.specs.Prelude.{◌≡◌, false};
+
+    ghost can_poll = { λ k. k.is_over ≡ false → S.can_poll k.serving };
 
     fn poll(&mut self, cx: &mut Context<'_>) -> Poll<()> {
-        let _ = self.serving.poll_next(cx);
+        if !self.is_over && matches!(self.serving.poll_next(cx), Poll::Ready(None)) {
+            self.is_over = true;
+        }
         cx.yield_now()
     }
 }
@@ -166,6 +171,7 @@ fn stops_beside<R: System>(
 ) -> Result<bool, Fail> {
     let kept = Kept {
         serving: server.start()?,
+        is_over: false,
     };
     let stopped = select(server.stop_listen()?, kept);
     let limit = Duration::from_secs(2);
