@@ -153,3 +153,16 @@ def use_lines(path, names):
             row = "   "
         row += f" {name},"
     return [f"use {path}::{{"] + rows + [row, "};"]
+
+
+def sorted_uses(lines):
+    """Lines of a file's head with its `use` lines in rt fmt's order; the first lines stay."""
+    first = next((place for place, line in enumerate(lines) if line.startswith("use ")), len(lines))
+    blocks = []
+    for line in lines[first:]:
+        if line.startswith("use "):
+            blocks.append([line])
+        else:
+            blocks[-1].append(line)
+    blocks.sort(key=lambda block: block[0].removeprefix("use ").removesuffix(";"))
+    return lines[:first] + [line for block in blocks for line in block]

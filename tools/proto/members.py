@@ -2,6 +2,7 @@
 import dataclasses
 
 from .layout import WIDTH, arm, call, comments, signature
+from .lexer import Refused
 from .names import snake
 
 
@@ -137,6 +138,10 @@ class Places:
         for whole in schema.recursive():
             for name in [whole] + schema.reached(whole):
                 self.messages += [name] if name not in self.messages else []
+        for whole in self.messages:
+            if whole in schema.homes and whole in schema.reached(whole):
+                message = schema.messages[whole]
+                raise Refused(message.file.shown, message.line, f"{whole} may contain itself, and is in such a message of another crate")
         self.maps = [(whole, member) for whole in self.messages for member in schema.messages[whole].members if member.label == "map"]
 
     def of(self, whole):

@@ -80,18 +80,22 @@ class Names:
         self.recursive = set(schema.recursive())
         for word in KIT_TYPES | DEFINITION_WORDS | TACTICS | (KIT_TYPES_OF_RULES if self.recursive else set()):
             self.take("types", [word, word.replace("_", "")], "a word of the kit")
-        for message in schema.messages.values():
+        for whole, home in schema.homes.items():
+            self.name_foreign(schema.messages[whole], home.names)
+        messages = [schema.messages[whole] for whole in schema.own(schema.messages)]
+        enums = [schema.enums[whole] for whole in schema.own(schema.enums)]
+        for message in messages:
             self.name_type(message, "message")
-        for enum in schema.enums.values():
+        for enum in enums:
             self.name_type(enum, "enum")
-        for message in schema.messages.values():
+        for message in messages:
             for choice in message.choices:
                 self.name_choice(message, choice)
         for service in schema.services:
             self.name_service(service)
-        for enum in schema.enums.values():
+        for enum in enums:
             self.name_values(enum)
-        for message in schema.messages.values():
+        for message in messages:
             self.name_members(message)
 
     # -- the table
@@ -127,6 +131,13 @@ class Names:
         word = kind.capitalize()
         wanted = type_name(item.file.within_package(item.name).split("."), word)
         self.types[item.name] = self.claim("types", wanted, word, f"the {kind} {item.name}", (item.file, item.line), rules)
+
+    def name_foreign(self, message, names):
+        """Names a message of another crate, as that names it if this name is free, and takes over what is in it."""
+        owner, at = f"the message {message.name}", (message.file, message.line)
+        self.types[message.name] = self.claim("types", names.types[message.name], "Message", owner, at)
+        for mine, other in ((self.members, names.members), (self.constants, names.constants), (self.choices, names.choices), (self.variants, names.variants)):
+            mine |= {key: name for key, name in other.items() if key[0] == message.name}
 
     def name_choice(self, message, choice):
         def definitions(name):

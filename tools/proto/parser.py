@@ -8,6 +8,7 @@ HIGHEST_NUMBER = 2**29 - 1
 KEPT_NUMBERS = range(19000, 20000)
 DEEPEST = 32
 KEY_TYPES = set("string bool int32 int64 uint32 uint64 sint32 sint64 fixed32 fixed64 sfixed32 sfixed64".split())
+LABELS = ("optional", "repeated", "required")
 
 
 @dataclasses.dataclass(eq=False)
@@ -214,8 +215,7 @@ class Parser:
             self.file.imports.append(Import(name.text, is_public, token.line))
             reader.take(";")
         elif token.text == "option":
-            self.option()
-            reader.take(";")
+            self.option_statement()
         elif token.text == "message":
             self.message("", token, 1)
         elif token.text == "enum":
@@ -243,6 +243,11 @@ class Parser:
             name += "."
         reader.take("=")
         return name, self.option_value()
+
+    def option_statement(self):
+        found = self.option()
+        self.reader.take(";")
+        return found
 
     def option_value(self):
         reader = self.reader
@@ -304,8 +309,7 @@ class Parser:
         elif token.text == "enum":
             self.enum(message.name, token)
         elif token.text == "option":
-            self.option()
-            reader.take(";")
+            self.option_statement()
         elif token.text == "reserved":
             self.reserved(message.kept, HIGHEST_NUMBER)
         elif token.text == "extensions":
@@ -324,7 +328,7 @@ class Parser:
         """A member, with its label or without one."""
         if token.text == "required":
             self.refuse_unless_proto2("proto3 has no required members", token.line)
-        has_label = token.text in ("optional", "repeated", "required")
+        has_label = token.text in LABELS
         first = self.reader.take() if has_label else token
         self.member(message, first, token.text if has_label else "", token, depth)
 
@@ -337,9 +341,8 @@ class Parser:
         while not reader.has("}"):
             first = reader.take()
             if first.text == "option":
-                self.option()
-                reader.take(";")
-            elif first.text in ("optional", "repeated", "required"):
+                self.option_statement()
+            elif first.text in LABELS:
                 reader.refuse(f"a member of a oneof is not {first.text}", first.line)
             elif first.text != ";":
                 self.member(message, first, "", first, depth, name.text)
@@ -349,7 +352,7 @@ class Parser:
     def type_name(self, first):
         """A type's name that begins with a token which is taken already."""
         reader = self.reader
-        if first.text not in (".",) and first.kind != "word":
+        if first.text != "." and first.kind != "word":
             reader.refuse(f"{first.text!r} stands where a type is wanted", first.line)
         text = first.text if first.kind == "word" else "." + reader.word("a type").text
         while reader.has("."):
@@ -471,9 +474,7 @@ class Parser:
         while not reader.has("}"):
             first = reader.take()
             if first.text == "option":
-                option, value = self.option()
-                enum.has_aliases |= option == "allow_alias" and value == "true"
-                reader.take(";")
+                enum.has_aliases |= self.option_statement() == ("allow_alias", "true")
             elif first.text == "reserved":
                 self.reserved(enum.kept, 2**31 - 1)
             elif first.text != ";":
@@ -507,8 +508,7 @@ class Parser:
         while not reader.has("}"):
             first = reader.take()
             if first.text == "option":
-                self.option()
-                reader.take(";")
+                self.option_statement()
             elif first.text == "rpc":
                 self.call(service, first)
             elif first.text != ";":
@@ -526,8 +526,7 @@ class Parser:
             while not reader.has("}"):
                 token = reader.take()
                 if token.text == "option":
-                    self.option()
-                    reader.take(";")
+                    self.option_statement()
                 elif token.text != ";":
                     reader.refuse(f"{token.text!r} stands where an option is wanted", token.line)
         else:

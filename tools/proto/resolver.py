@@ -4,6 +4,7 @@ import re
 
 from .checks import check_file
 from .lexer import Refused, source_of
+from .members import SCALARS
 from .parser import Parser
 
 HERE = os.path.dirname(os.path.abspath(__file__))
@@ -11,9 +12,6 @@ TOP = os.path.dirname(os.path.dirname(HERE))
 # Google's files, as far as the tool knows them, in this project's words.
 INCLUDED = os.path.join(HERE, "include")
 DESCRIPTOR = "google/protobuf/descriptor.proto"
-SCALAR_NAMES = set(
-    "string bytes bool int32 int64 uint32 uint64 sint32 sint64 fixed32 fixed64 sfixed32 sfixed64 float double".split()
-)
 
 
 def shown_path(path):
@@ -28,8 +26,12 @@ class Schema:
     def __init__(self, roots):
         self.roots = roots
         self.messages, self.enums, self.services = {}, {}, []
+        # the files of which messages are written, or all
+        self.written = None
         # each file by its path, in the order in which they were read
         self.files, self.symbols = {}, {}
+        # the crate of each message that is not written but named by one that is, and what that crate calls its own
+        self.homes = {}
 
     def add(self, path, shown, importers=()):
         """Reads a file, after those that it imports, once each."""
@@ -92,7 +94,7 @@ class Schema:
         """Finds what each member and each rpc names."""
         for message in self.messages.values():
             for member in message.members:
-                if member.type not in SCALAR_NAMES:
+                if member.type not in SCALARS:
                     member.whole = self.find(message.file, message.name, member.type, member.line, ("message", "enum"), "type")
         for file in self.files.values():
             if not file.is_proto3:
@@ -162,8 +164,23 @@ class Schema:
         return whole == part or whole in self.reached(part)
 
     def recursive(self):
-        """The messages that may contain themselves."""
-        return [whole for whole in self.messages if whole in self.reached(whole)]
+        """The messages that are written and may contain themselves."""
+        return [whole for whole in self.own(self.messages) if whole in self.reached(whole)]
+
+    # -- what is written, and what other crates have
+
+    def own(self, items):
+        """The names of those messages or enums that are written."""
+        return [whole for whole, item in items.items() if self.written is None or item.file in self.written]
+
+    def narrow(self, home_of):
+        """Writes the main file alone: `home_of` gives each other file's crate."""
+        self.written = [self.main]
+        called = [name for service in self.services for call in service.calls for name in (call.asked, call.answered)]
+        own = set(self.own(self.messages))
+        named = [part for whole in own for part in self.parts(whole)] + called
+        named += [part for whole in self.recursive() for part in self.reached(whole)]
+        self.homes = {whole: home_of(self.messages[whole].file) for whole in self.messages if whole in named and whole not in own}
 
 
 def joined_scope(file, scope):

@@ -1,5 +1,5 @@
 """The services of a file: for ends with threads, and for polled ends."""
-from .layout import WIDTH, array, arm, call, choice_of, clause_of, comments, paths_of, signature, type_lines, use_lines
+from .layout import WIDTH, array, arm, call, choice_of, clause_of, comments, paths_of, signature, sorted_uses, type_lines, use_lines
 from .names import snake
 
 
@@ -76,16 +76,10 @@ class Services:
         # no crate of the messages where they are in the same one
         self.schema, self.names, self.source, self.head, self.messages_crate = schema, names, source, head, messages_crate
 
-    def own_messages(self, used):
-        """The lines that name messages of the same crate."""
-        return [] if self.messages_crate else use_lines("crate::messages", used)
-
-    def with_other_messages(self, lines, used):
-        """The lines with those that name messages of a crate of their own, in the place that rt fmt gives them."""
-        if not self.messages_crate:
-            return lines
-        place = next((number for number, line in enumerate(lines) if line.startswith("use ") and line[4:] > self.messages_crate), len(lines))
-        return lines[:place] + use_lines(f"{self.messages_crate}::messages", used) + lines[place:]
+    def message_uses(self, used):
+        """The lines that name the messages of the calls."""
+        own = [self.names.types[whole] for whole in used if whole not in self.schema.homes]
+        return use_lines(f"{self.messages_crate or 'crate'}::messages", own) + foreign_uses(self.schema, self.names, used)
 
     def services(self):
         body, used = [], set()
@@ -93,17 +87,16 @@ class Services:
             if any(not one.is_stream() for one in service.calls):
                 body += self.service(service, used)
         lines = [f"//! The services of {self.source}: for each a trait, the handlers of its methods, and a client.", f"//! {self.head}", ""]
-        lines += self.own_messages(used)
+        lines += self.message_uses(used)
         lines += ["use std::alloc::Global;", "use std::collections::BTreeMap;", "use std::sync::Arc;", "use ttrpc::context::Context;", "use ttrpc::proto::WireMessage;"]
         lines += ["use ttrpc::security_extension::Plain;", "use ttrpc::sync::Host;"]
         lines += use_lines("ttrpc", {"Client", "MethodHandler", "Request", "Result", "TtrpcContext", "client_request", "request_handler"})
-        lines = self.with_other_messages(lines, used)
+        lines = sorted_uses(lines)
         return "\n".join(lines + body) + "\n"
 
     def call_types(self, one, used):
-        found = [self.names.types[one.asked], self.names.types[one.answered]]
-        used |= set(found)
-        return found
+        used |= {one.asked, one.answered}
+        return self.names.types[one.asked], self.names.types[one.answered]
 
     def paths(self, service, name, head):
         """The table of paths, in rt fmt's layout."""
@@ -170,13 +163,13 @@ class Services:
         lines += [f"//! {self.head}", ""]
         words = ["AtCanPoll"] + (["EitherCanPoll"] if several else [])
         lines += [f"ghost use Rattle.ttrpc_polled.specs.Streams.Handling.{{{', '.join(words)}}};", ""] if streams else []
-        lines += self.own_messages(used) + ["use futures::Future;"] + (["use futures::future::Either;"] if several else [])
+        lines += self.message_uses(used) + ["use futures::Future;"] + (["use futures::future::Either;"] if several else [])
         lines += ["use std::alloc::Global;", "use std::collections::BTreeMap;", "use std::sync::Arc;"]
         lines += use_lines("ttrpc::asynchronous", needed) + ["use ttrpc::context::Context;"]
         lines += ["use ttrpc::proto::WireMessage;"] if "ClientCall" in needed else []
         lines += ["use ttrpc::security_extension::Plain;"]
         lines += use_lines("ttrpc", {"Result"} | ({"Request"} if "MethodHandler" in needed else set()))
-        lines = self.with_other_messages(lines, used)
+        lines = sorted_uses(lines)
         if streams:
             lines += ["", "/// The connection of a server's streams.", "type ServerLine = ServerShared<Plain, Plain>;"]
         if "ClientCall" in needed:
@@ -261,7 +254,8 @@ class Services:
                 lines += [f"    for (name, call) in {low.upper()}_{word.upper()}S {{", "        let (service, call) = (Arc::try_clone(&whole)?, *call);"]
                 lines += ["        let name = String::from_str(alloc, name)?;", f"        let {word} = {name}{kind} {{ service, call }};"]
                 lines += [f"        named.{word}s.insert(name, {word})?;", "    }"]
-        lines += ["    let mut services = BTreeMap::new(alloc);", f'    services.insert(String::from_str(alloc, "{service.name}")?, named)?;']
+        lines += ["    let mut services = BTreeMap::new(alloc);"]
+        lines += call("    ", "services.insert", [f'String::from_str(alloc, "{service.name}")?', "named"], "?;")
         return lines + ["    Ok(services)", "}"]
 
     def polled_client(self, service, name, calls):
@@ -274,3 +268,21 @@ class Services:
 
     def calls(self):
         return [one for service in self.schema.services for one in service.calls]
+
+    def called(self):
+        """The messages that calls have."""
+        return {whole for one in self.calls() for whole in (one.asked, one.answered)}
+
+
+def foreign_uses(schema, names, used):
+    """The lines that name messages of other crates, where one's name is taken under another."""
+    found = {}
+    for whole in used:
+        if whole in schema.homes:
+            home = schema.homes[whole]
+            found.setdefault(home.crate, []).append(renamed(home.names.types[whole], names.types[whole]))
+    return [line for crate, items in sorted(found.items()) for line in use_lines(f"{crate}::messages", items)]
+
+
+def renamed(theirs, mine):
+    return theirs if theirs == mine else f"{theirs} as {mine}"

@@ -2,12 +2,27 @@
 import os
 import re
 
-from .layout import SEVERAL, WIDTH, call, comments, listed, pair, together, typed_call, use_lines
+from .layout import SEVERAL, WIDTH, call, comments, listed, pair, sorted_uses, together, typed_call, use_lines
 from .members import Choice, Kinds, Places
 from .names import Names, escaped, snake
-from .services import Services
+from .services import Services, foreign_uses, renamed
 
-HEAD = "Written by tools/messages{roots} from {path}: change that, and run the tool."
+HEAD = "Written by tools/messages{options} from {path}: change that, and run the tool."
+
+# What messages may name of each module.
+LIBRARIES = {
+    "std::alloc": "AllocError Global",
+    "ttrpc_members::choice": "Choice",
+    "ttrpc_members::enclosed": "Enclosable Enclosed Enclosing",
+    "ttrpc_members::entries": "MapOf",
+    "ttrpc_members::item": "Bits32 Bits64 Boolean Bytes Int32 Int64 ItemKind Nested Signed32 Signed64 Sint32 Sint64 Uint32 Uint64 Utf8",
+    "ttrpc_members::kind": "MemberKind Optional Packed Repeated Single item_len put_item",
+    "ttrpc_members::map": "Map",
+    "ttrpc_members::nesting": "Content Recursive Rule",
+    "ttrpc_members::several": "clone_eight clone_four clone_two write_eight write_four write_two",
+    "ttrpc_wire::codec::message": "WireMessage",
+    "ttrpc_wire": "Blob CodecError Field FieldNumber Sequence Text TryClone Value WireType",
+}
 
 
 class Crate:
@@ -18,10 +33,11 @@ class Crate:
         self.services_name = os.path.basename(folder)
         # the crate of the messages
         self.name = f"{self.services_name}_messages" if apart else self.services_name
-        named = "".join(f" -I {os.path.relpath(root, folder)}" for root in roots)
-        self.head = HEAD.format(roots=named, path=os.path.relpath(path, folder))
+        options = (" --each" if schema.written else "") + "".join(f" -I {os.path.relpath(root, folder)}" for root in roots)
+        self.head = HEAD.format(options=options, path=os.path.relpath(path, folder))
         self.names = Names(schema)
         self.order = self.sorted()
+        self.own = [whole for whole in self.order if whole not in schema.homes]
         self.services = Services(schema, self.names, self.source, self.head, self.name if apart else None)
 
     def kinds(self, whole):
@@ -43,7 +59,7 @@ class Crate:
         return Choice(self.names.members[key], self.names.choices[key], message.choices[name][1], kinds)
 
     def sorted(self):
-        """The messages, each behind those that it has."""
+        """The messages, each behind those that it has, with those of other crates that it names."""
         order, state = [], set()
 
         def visit(whole):
@@ -51,60 +67,38 @@ class Crate:
                 return
             state.add(whole)
             for member in self.schema.messages[whole].members:
-                part = Kinds(self.schema, self.names, whole, member).part
-                if part:
+                part = member.whole if member.whole in named else None
+                if part and not self.schema.leads_back(whole, part):
                     visit(part)
             order.append(whole)
 
+        named = set(self.schema.own(self.schema.messages)) | set(self.schema.homes)
         for whole in self.schema.messages:
-            visit(whole)
+            if whole in named:
+                visit(whole)
         return order
 
     # -- the messages
 
     def messages(self):
-        items, kinds, wire = set(), set(), {"CodecError", "Field", "TryClone"}
-        entries, maps, enclosed, chosen = set(), set(), set(), False
-        body = []
-        for whole, enum in self.schema.enums.items():
-            body += self.enum(whole, enum)
-        for whole in self.order:
-            for kind in self.kinds(whole):
-                items |= kind.items
-                kinds |= kind.of - {"MapOf"}
-                entries |= kind.of & {"MapOf"}
-                if kind.is_choice:
-                    chosen = True
-                    wire |= {"Value"} | {"Text", "Blob"} & {one.value for one in kind.members}
-                maps |= {"Map"} & set(re.findall(r"\w+", kind.type))
-                wire |= {"FieldNumber"} | {"Text", "Blob", "Sequence"} & set(re.findall(r"\w+", kind.type))
-                if kind.is_choice:
-                    enclosed |= {"Enclosed"} & set(re.findall(r"\w+", " ".join(one.value for one in kind.members)))
-                enclosed |= {"Enclosed"} & set(re.findall(r"\w+", kind.type))
+        body = [line for whole in self.schema.own(self.schema.enums) for line in self.enum(whole, self.schema.enums[whole])]
+        for whole in self.own:
             body += self.message(whole)
-        enclosed |= items & {"Enclosing"} | ({"Enclosable"} if self.schema.recursive() else set())
-        items -= enclosed
         places = Places(self.schema)
-        nesting = set()
-        if places.messages:
-            body += places.code(self.name, self.names)
-            nesting = {"Recursive", "Rule"} | ({"Content"} if places.rules() else set())
-            wire |= {"WireType"} if any(kind == "Numbers" for _, _, (kind, _) in places.rules()) else set()
+        body += places.code(self.name, self.names) if places.messages else []
         lines = [f"//! The messages of {self.source}.", f"//! {self.head}", ""]
-        if self.order:
-            lines += ["use std::alloc::{AllocError, Global};"]
-            lines += use_lines("ttrpc_members::choice", {"Choice"} if chosen else set())
-            lines += use_lines("ttrpc_members::enclosed", enclosed)
-            lines += use_lines("ttrpc_members::entries", entries)
-            lines += use_lines("ttrpc_members::item", items | ({"ItemKind"} if chosen else set()))
-            kinds |= {"MemberKind"} if kinds | entries else set()
-            lines += use_lines("ttrpc_members::kind", kinds | ({"item_len", "put_item"} if chosen else set()))
-            lines += use_lines("ttrpc_members::map", maps)
-            lines += use_lines("ttrpc_members::nesting", nesting)
-            lines += use_lines("ttrpc_members::several", set(re.findall(r"\b(?:clone|write)_(?:two|four|eight)\b", "\n".join(body))))
-            lines += ["use ttrpc_wire::codec::message::WireMessage;"]
-            lines += use_lines("ttrpc_wire", wire)
-        return "\n".join(lines + body) + "\n"
+        if self.own:
+            code = "\n".join(line for line in body if not line.strip().startswith("///"))
+            # The traits whose calls are made by a path of a type.
+            code += "\nMemberKind" * any(not kind.is_choice for whole in self.own for kind in self.kinds(whole)) + "\nItemKind" * ("impl Choice for" in code)
+            lines += self.foreign_uses(code)
+            for path, names in LIBRARIES.items():
+                lines += use_lines(path, {name for name in names.split() if re.search(rf"(?<![:\w]){name}\b(?!\()", code)})
+        return "\n".join(sorted_uses(lines) + body) + "\n"
+
+    def foreign_uses(self, body):
+        """The lines that name messages of other crates, which stand in a text."""
+        return foreign_uses(self.schema, self.names, [whole for whole in self.schema.homes if re.search(rf"\b{self.names.types[whole]}\b", body)])
 
     def enum(self, whole, enum):
         lines = []
@@ -236,6 +230,9 @@ class Crate:
             body += places.definitions()
             denoted |= {"List", "[]"} | ({"◌∷◌"} if places.rules() else set())
         for whole in self.order:
+            if whole in self.schema.homes:
+                body += self.wants(places, whole)
+                continue
             name, kinds = self.names.types[whole], self.kinds(whole)
             for kind in kinds:
                 words |= kind.words
@@ -252,12 +249,7 @@ class Crate:
             fields = "; ".join(f"{escaped(kind.name)} = x{'.0' * (count - 1 - place)}.1" for place, kind in enumerate(kinds))
             record = f"record {{ {fields} }}" if kinds else "record {}"
             body += [f"    (λ m. {parts})", f"    (λ x. {record})", "    (λ x. refl) (λ m. refl) refl"]
-            if whole in places.messages:
-                wanted = "tt"
-                for kind in kinds:
-                    wanted = f"({wanted}, {kind.wanted(places, self.names, whole)})"
-                body += ["", f"-- the rules want of `{name}` what makes them take the bytes that read as it, and no others", f"pub {low}_wants : {low}.wants all_rules {places.of(whole)}"]
-                body += [f"{low}_wants = ({wanted}, refl)"]
+            body += self.wants(places, whole)
         lines = [
             f"-- The messages of {self.source}: the number, the kind and the place of each member. {self.head}",
             f"-- Source: {self.source}.",
@@ -266,11 +258,33 @@ class Crate:
             f"use Rattle.ttrpc_members.proofs.Proved.{{{', '.join(sorted(words))}}}",
         ]
         lines += places.imports() if places.messages else []
-        lines += [f"use Rattle.{self.name}.specs.declared.messages.{self.names.types[whole]}.{{{self.names.types[whole]}}}" for whole in self.order]
+        lines += [f"use Rattle.{self.name}.specs.declared.messages.{self.names.types[whole]}.{{{self.names.types[whole]}}}" for whole in self.own]
+        lines += self.foreign_definitions("\n".join(body))
         for name in sorted(chosen):
             lines += [f"use Rattle.{self.name}.specs.declared.messages.{name}.{{{name}}}"]
             lines += [f"use Rattle.{self.name}.specs.declared.messages.{name}.TheVariants as {snake(name)}_variants"]
         return "\n".join(lines + body) + "\n"
+
+    def wants(self, places, whole):
+        """The proof that the rules want of a message what they have to, where they are of it."""
+        if whole not in places.messages:
+            return []
+        name, wanted = self.names.types[whole], "tt"
+        for kind in self.kinds(whole):
+            wanted = f"({wanted}, {kind.wanted(places, self.names, whole)})"
+        lines = ["", f"-- the rules want of `{name}` what makes them take the bytes that read as it, and no others"]
+        return lines + [f"pub {snake(name)}_wants : {snake(name)}.wants all_rules {places.of(whole)}", f"{snake(name)}_wants = ({wanted}, refl)"]
+
+    def foreign_definitions(self, body):
+        """The lines that name types and definitions of other crates, which stand in a text."""
+        lines, found = [], {}
+        for whole, home in self.schema.homes.items():
+            name, theirs = self.names.types[whole], home.names.types[whole]
+            if re.search(rf"⊎ {name}\b", body):
+                lines += [f"use Rattle.{home.crate}.specs.declared.messages.{theirs}.{{{renamed(theirs, name)}}}"]
+            if re.search(rf"\b(?:nested {snake(name)}|{snake(name)}_wants)\b", body):
+                found.setdefault(home.crate, []).append(renamed(snake(theirs), snake(name)))
+        return lines + [f"use Rattle.{crate}.specs.Messages.{{{', '.join(sorted(names))}}}" for crate, names in sorted(found.items())]
 
     def files(self, folder):
         """Each file of the crate, by its path."""
@@ -283,6 +297,16 @@ class Crate:
         services = [name for name in ("polled", "service") if f"src/{name}.rt" in files]
         files |= self.root(folder, "", services if self.apart else ["messages"] + services, "services" if self.apart else "messages and services")
         files[f"{home}specs/Lib.antt"] = self.listed(os.path.join(folder, f"{home}specs/Lib.antt"))
+        return files
+
+    def write(self, folder):
+        """Writes each file of the crate, and gives them."""
+        files = self.files(folder)
+        for name, text in files.items():
+            target = os.path.normpath(os.path.join(folder, name))
+            os.makedirs(os.path.dirname(target), exist_ok=True)
+            with open(target, "w", encoding="utf-8") as file:
+                file.write(text)
         return files
 
     def root(self, folder, home, modules, what):
@@ -310,7 +334,9 @@ class Crate:
 
     def libraries(self, files):
         """The lines of crates.txt."""
-        messages = f"{self.name}: ttrpc_wire ttrpc_members"
+        own, foreign = set(self.own), self.schema.homes
+        homes = sorted({foreign[part].crate for whole in own for part in self.schema.parts(whole) if part in foreign})
+        messages = " ".join([f"{self.name}: ttrpc_wire ttrpc_members"] + homes)
         if not self.schema.services:
             return [messages]
         others = ["ttrpc"]
@@ -318,6 +344,8 @@ class Crate:
             # A macro wants the crate that defines it, under whatever path it is named.
             streams = any(one.is_stream() for one in self.services.calls())
             others = (["ttrpc_polled"] if streams else []) + ["ttrpc_polled_client", "ttrpc_polled_server", "ttrpc", "futures"]
+        called = self.services.called()
+        named = sorted({foreign[whole].crate for whole in called if whole in foreign})
         if self.apart:
-            return [messages, " ".join([f"{self.services_name}: {self.name}"] + others)]
-        return [" ".join([messages] + others)]
+            return [messages, " ".join([f"{self.services_name}:"] + ([self.name] if called & own else []) + named + others)]
+        return [" ".join([messages] + [name for name in named if name not in homes] + others)]

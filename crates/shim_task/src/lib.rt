@@ -1,4 +1,4 @@
-//! The services of shim_task.proto.
+//! The services of shim.proto.
 #![tactic(auto)]
 
 pub mod polled;

@@ -1,14 +1,14 @@
-//! The services of shim_task.proto for polled ends: for each a trait, the handlers of its methods and streams, and a client.
-//! Written by tools/messages from shim_task.proto: change that, and run the tool.
+//! The services of shim.proto for polled ends: for each a trait, the handlers of its methods and streams, and a client.
+//! Written by tools/messages --each -I ../../tools/trees/containerd/src -I ../../tools/trees/containerd/gogo from ../../tools/trees/containerd/src/github.com/containerd/containerd/api/runtime/task/v2/shim.proto: change that, and run the tool.
 
 use futures::Future;
 use futures::future::Either;
 use shim_task_messages::messages::{
     CheckpointTaskRequest, CloseIORequest, ConnectRequest, ConnectResponse, CreateTaskRequest,
-    CreateTaskResponse, DeleteRequest, DeleteResponse, Empty, ExecProcessRequest,
-    ExecProcessResponse, KillRequest, PauseRequest, PidsRequest, PidsResponse, ResizePtyRequest,
-    ResumeRequest, ShutdownRequest, StartRequest, StartResponse, StateRequest, StateResponse,
-    StatsRequest, StatsResponse, UpdateTaskRequest, WaitRequest, WaitResponse,
+    CreateTaskResponse, DeleteRequest, DeleteResponse, ExecProcessRequest, KillRequest,
+    PauseRequest, PidsRequest, PidsResponse, ResizePtyRequest, ResumeRequest, ShutdownRequest,
+    StartRequest, StartResponse, StateRequest, StateResponse, StatsRequest, StatsResponse,
+    UpdateTaskRequest, WaitRequest, WaitResponse,
 };
 use std::alloc::Global;
 use std::collections::BTreeMap;
@@ -21,6 +21,7 @@ use ttrpc::context::Context;
 use ttrpc::proto::WireMessage;
 use ttrpc::security_extension::Plain;
 use ttrpc::{Request, Result};
+use ttrpc_well_known::messages::Empty;
 
 /// A call of a client.
 type Calling<P> = ClientCall<Plain, Plain, P>;
@@ -55,7 +56,7 @@ pub trait Task: Drop {
     type Kill: Future<Output = Result<Empty>>;
 
     /// A call of `Exec`.
-    type Exec: Future<Output = Result<ExecProcessResponse>>;
+    type Exec: Future<Output = Result<Empty>>;
 
     /// A call of `ResizePty`.
     type ResizePty: Future<Output = Result<Empty>>;
@@ -206,7 +207,7 @@ pub type TaskAnswer<S> = Either<
     Either<
         Either<
             Either<
-                Handling<<S as Task>::Exec, Responds<ExecProcessResponse>>,
+                Handling<<S as Task>::Exec, Responds<Empty>>,
                 Handling<<S as Task>::ResizePty, Responds<Empty>>,
             >,
             Either<
@@ -460,8 +461,8 @@ impl<R: Timed> TaskClient<R> {
     }
 
     /// Calls `Exec`.
-    pub fn exec(&self, ctx: Context, request: &ExecProcessRequest) -> Calling<ExecProcessResponse> {
-        let reply = ExecProcessResponse::new(self.client.alloc());
+    pub fn exec(&self, ctx: Context, request: &ExecProcessRequest) -> Calling<Empty> {
+        let reply = Empty::new(self.client.alloc());
         async_client_request!(self, ctx, request, "containerd.task.v2.Task", "Exec", reply)
     }
 

@@ -1,12 +1,12 @@
-//! The services of shim_task.proto: for each a trait, the handlers of its methods, and a client.
-//! Written by tools/messages from shim_task.proto: change that, and run the tool.
+//! The services of shim.proto: for each a trait, the handlers of its methods, and a client.
+//! Written by tools/messages --each -I ../../tools/trees/containerd/src -I ../../tools/trees/containerd/gogo from ../../tools/trees/containerd/src/github.com/containerd/containerd/api/runtime/task/v2/shim.proto: change that, and run the tool.
 
 use shim_task_messages::messages::{
     CheckpointTaskRequest, CloseIORequest, ConnectRequest, ConnectResponse, CreateTaskRequest,
-    CreateTaskResponse, DeleteRequest, DeleteResponse, Empty, ExecProcessRequest,
-    ExecProcessResponse, KillRequest, PauseRequest, PidsRequest, PidsResponse, ResizePtyRequest,
-    ResumeRequest, ShutdownRequest, StartRequest, StartResponse, StateRequest, StateResponse,
-    StatsRequest, StatsResponse, UpdateTaskRequest, WaitRequest, WaitResponse,
+    CreateTaskResponse, DeleteRequest, DeleteResponse, ExecProcessRequest, KillRequest,
+    PauseRequest, PidsRequest, PidsResponse, ResizePtyRequest, ResumeRequest, ShutdownRequest,
+    StartRequest, StartResponse, StateRequest, StateResponse, StatsRequest, StatsResponse,
+    UpdateTaskRequest, WaitRequest, WaitResponse,
 };
 use std::alloc::Global;
 use std::collections::BTreeMap;
@@ -18,6 +18,7 @@ use ttrpc::sync::Host;
 use ttrpc::{
     Client, MethodHandler, Request, Result, TtrpcContext, client_request, request_handler,
 };
+use ttrpc_well_known::messages::Empty;
 
 /// What a shim does for containerd.
 pub trait Task<R: Host>: Drop {
@@ -77,7 +78,7 @@ pub trait Task<R: Host>: Drop {
         &self,
         ctx: &TtrpcContext<R, Plain, Plain>,
         request: ExecProcessRequest,
-    ) -> Result<ExecProcessResponse>;
+    ) -> Result<Empty>;
 
     /// Answers `ResizePty`.
     fn resize_pty(
@@ -370,8 +371,8 @@ impl<R: Host> TaskClient<R> {
     }
 
     /// Calls `Exec`, and waits for its response.
-    pub fn exec(&self, ctx: Context, request: &ExecProcessRequest) -> Result<ExecProcessResponse> {
-        let mut reply = ExecProcessResponse::new(self.client.alloc());
+    pub fn exec(&self, ctx: Context, request: &ExecProcessRequest) -> Result<Empty> {
+        let mut reply = Empty::new(self.client.alloc());
         client_request!(self, ctx, request, "containerd.task.v2.Task", "Exec", reply);
         Ok(reply)
     }

@@ -1,12 +1,7 @@
--- The messages of shim_task.proto: the number, the kind and the place of each member. Written by tools/messages from shim_task.proto: change that, and run the tool.
--- Source: shim_task.proto.
+-- The messages of shim.proto: the number, the kind and the place of each member. Written by tools/messages --each -I ../../tools/trees/containerd/src -I ../../tools/trees/containerd/gogo from ../../tools/trees/containerd/src/github.com/containerd/containerd/api/runtime/task/v2/shim.proto: change that, and run the tool.
+-- Source: shim.proto.
 use Rattle.std.specs.Prelude.{refl}
-use Rattle.ttrpc_members.proofs.Proved.{Message, boolean, bytes, int32, int64, map, message, nested, none, optional, repeated, single, text, text_key, uint32, ◌&◌∶◌}
-use Rattle.shim_task_messages.specs.declared.messages.Any.{Any}
-use Rattle.shim_task_messages.specs.declared.messages.Empty.{Empty}
-use Rattle.shim_task_messages.specs.declared.messages.Timestamp.{Timestamp}
-use Rattle.shim_task_messages.specs.declared.messages.Mount.{Mount}
-use Rattle.shim_task_messages.specs.declared.messages.ProcessInfo.{ProcessInfo}
+use Rattle.ttrpc_members.proofs.Proved.{Message, boolean, int32, map, message, nested, none, optional, repeated, single, text, text_key, uint32, ◌&◌∶◌}
 use Rattle.shim_task_messages.specs.declared.messages.CreateTaskRequest.{CreateTaskRequest}
 use Rattle.shim_task_messages.specs.declared.messages.CreateTaskResponse.{CreateTaskResponse}
 use Rattle.shim_task_messages.specs.declared.messages.DeleteRequest.{DeleteRequest}
@@ -33,46 +28,9 @@ use Rattle.shim_task_messages.specs.declared.messages.ConnectResponse.{ConnectRe
 use Rattle.shim_task_messages.specs.declared.messages.ShutdownRequest.{ShutdownRequest}
 use Rattle.shim_task_messages.specs.declared.messages.PauseRequest.{PauseRequest}
 use Rattle.shim_task_messages.specs.declared.messages.ResumeRequest.{ResumeRequest}
-
--- the message `Any`: 1 type_url, 2 value
-abbrev pub any : Message Any
-any = message
-    (none & 1 ∶ single text & 2 ∶ single bytes)
-    (λ m. ((tt, m.type_url), m.value))
-    (λ x. record { type_url = x.0.1; value = x.1 })
-    (λ x. refl) (λ m. refl) refl
-
--- the message `Empty`: no member
-abbrev pub empty : Message Empty
-empty = message
-    (none)
-    (λ m. tt)
-    (λ x. record {})
-    (λ x. refl) (λ m. refl) refl
-
--- the message `Timestamp`: 1 seconds, 2 nanos
-abbrev pub timestamp : Message Timestamp
-timestamp = message
-    (none & 1 ∶ single int64 & 2 ∶ single int32)
-    (λ m. ((tt, m.seconds), m.nanos))
-    (λ x. record { seconds = x.0.1; nanos = x.1 })
-    (λ x. refl) (λ m. refl) refl
-
--- the message `Mount`: 1 type, 2 source, 3 target, 4 options
-abbrev pub mount : Message Mount
-mount = message
-    (none & 1 ∶ single text & 2 ∶ single text & 3 ∶ single text & 4 ∶ repeated text)
-    (λ m. ((((tt, m.type_), m.source), m.target), m.options))
-    (λ x. record { type_ = x.0.0.0.1; source = x.0.0.1; target = x.0.1; options = x.1 })
-    (λ x. refl) (λ m. refl) refl
-
--- the message `ProcessInfo`: 1 pid, 2 info
-abbrev pub process_info : Message ProcessInfo
-process_info = message
-    (none & 1 ∶ single uint32 & 2 ∶ optional (nested any))
-    (λ m. ((tt, m.pid), m.info))
-    (λ x. record { pid = x.0.1; info = x.1 })
-    (λ x. refl) (λ m. refl) refl
+use Rattle.containerd_types_mount.specs.Messages.{mount}
+use Rattle.containerd_v1_types_task.specs.Messages.{process_info}
+use Rattle.ttrpc_well_known.specs.Messages.{any, timestamp}
 
 -- the message `CreateTaskRequest`: 1 id, 2 bundle, 3 rootfs, 4 terminal, 5 stdin, 6 stdout, 7 stderr, 8 checkpoint, 9 parent_checkpoint, 10 options
 abbrev pub create_task_request : Message CreateTaskRequest

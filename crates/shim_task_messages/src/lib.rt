@@ -1,4 +1,4 @@
-//! The messages of shim_task.proto.
+//! The messages of shim.proto.
 #![tactic(auto)]
 
 pub mod messages;

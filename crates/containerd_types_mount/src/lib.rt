@@ -1,0 +1,4 @@
+//! The messages and services of mount.proto.
+#![tactic(auto)]
+
+pub mod messages;

@@ -1,0 +1,6 @@
+//! The messages and services of events.proto.
+#![tactic(auto)]
+
+pub mod messages;
+pub mod polled;
+pub mod service;
