@@ -29,7 +29,7 @@ KIT_TYPES = set(
     "k p r s text blob sequence numbers field field_number codec_error try_clone wire_message alloc_error global value option some none result ok "
     "err vec string box arc b_tree_map client method_handler request ttrpc_context context plain host member_kind single optional repeated "
     "packed map nested utf8 bytes boolean message bits32 bits64 signed32 signed64 drop copy clone unit type set maps future either service "
-    "handling responds ends_by closes timed calling opening filled line server_line client_call client_line client_opening client_stream "
+    "named handling responds ends_by closes timed calling opening filled line server_line client_call client_line client_opening client_stream "
     "client_stream_receiver client_stream_sender server_shared server_stream server_stream_opening server_stream_receiver stream_handler "
     "stream_inner no_methods no_streams choice item_kind map_of self list bool refl tt absurd inl inr one_of no_choice text_key boolean_key "
     "natural_key signed_key int32 int64 uint32 uint64 sint32 sint64 fixed32 fixed64 sfixed32 sfixed64 float double".split()

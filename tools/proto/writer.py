@@ -18,6 +18,7 @@ LIBRARIES = {
     "ttrpc_members::item": "Bits32 Bits64 Boolean Bytes Int32 Int64 ItemKind Nested Signed32 Signed64 Sint32 Sint64 Uint32 Uint64 Utf8",
     "ttrpc_members::kind": "MemberKind Optional Packed Repeated Single item_len put_item",
     "ttrpc_members::map": "Map",
+    "ttrpc_members::named": "Named",
     "ttrpc_members::nesting": "Content Recursive Rule",
     "ttrpc_members::several": "clone_eight clone_four clone_two write_eight write_four write_two",
     "ttrpc_wire::codec::message": "WireMessage",
@@ -127,7 +128,7 @@ class Crate:
             lines += [""] + ([f"{constant} {value}"] if len(constant) + len(value) < WIDTH else [constant, f"    {value}"])
         for kind in kinds:
             lines += kind.code(self.name) if kind.is_choice else []
-        return lines + self.cloned(name, kinds) + self.wire(name, kinds)
+        return lines + self.cloned(name, kinds) + self.wire(whole, name, kinds)
 
     def literal(self, indent, head, tail, rows):
         if not rows:
@@ -155,7 +156,7 @@ class Crate:
             lines += [f"        Ok({name} {{"] + rows + ["        })"]
         return lines + ["    }", "}"]
 
-    def wire(self, name, kinds):
+    def wire(self, whole, name, kinds):
         low = snake(name)
         lines = [
             "",
@@ -219,7 +220,9 @@ class Crate:
         for kind in kinds:
             lines += call("        ", f"{kind.path}::lemma_is_value", [f"&self.{kind.name}"], ";")
         lines += ["    }"] if kinds else []
-        return lines + ["", f"    ghost again = {{ {low}.laws.again {low}.valid }};", "", f"    ghost fits = {{ {low}.laws.fits {low}.valid }};", "}"]
+        lines += ["", f"    ghost again = {{ {low}.laws.again {low}.valid }};", "", f"    ghost fits = {{ {low}.laws.fits {low}.valid }};", "}"]
+        lines += ["", f"impl Named for {name} {{", "    ghost use Rattle.std.specs.Prelude.{codes};", "", f'    ghost full_name = {{ codes "{whole}" }};']
+        return lines + ["", "    fn full_name() -> &'static str {", f'        "{whole}"', "    }", "}"]
 
     # -- the definitions
 

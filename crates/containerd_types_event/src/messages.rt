@@ -4,6 +4,7 @@
 use std::alloc::{AllocError, Global};
 use ttrpc_members::item::{Nested, Utf8};
 use ttrpc_members::kind::{MemberKind, Optional, Single};
+use ttrpc_members::named::Named;
 use ttrpc_members::several::{clone_four, write_four};
 use ttrpc_well_known::messages::{Any, Timestamp};
 use ttrpc_wire::codec::message::WireMessage;
@@ -115,4 +116,14 @@ impl WireMessage for Envelope {
     ghost again = { envelope.laws.again envelope.valid };
 
     ghost fits = { envelope.laws.fits envelope.valid };
+}
+
+impl Named for Envelope {
+    ghost use Rattle.std.specs.Prelude.{codes};
+
+    ghost full_name = { codes "containerd.types.Envelope" };
+
+    fn full_name() -> &'static str {
+        "containerd.types.Envelope"
+    }
 }

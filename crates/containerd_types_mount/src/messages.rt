@@ -4,6 +4,7 @@
 use std::alloc::{AllocError, Global};
 use ttrpc_members::item::Utf8;
 use ttrpc_members::kind::{MemberKind, Repeated, Single};
+use ttrpc_members::named::Named;
 use ttrpc_members::several::{clone_four, write_four};
 use ttrpc_wire::codec::message::WireMessage;
 use ttrpc_wire::{CodecError, Field, FieldNumber, Sequence, Text, TryClone};
@@ -106,4 +107,14 @@ impl WireMessage for Mount {
     ghost again = { mount.laws.again mount.valid };
 
     ghost fits = { mount.laws.fits mount.valid };
+}
+
+impl Named for Mount {
+    ghost use Rattle.std.specs.Prelude.{codes};
+
+    ghost full_name = { codes "containerd.types.Mount" };
+
+    fn full_name() -> &'static str {
+        "containerd.types.Mount"
+    }
 }

@@ -4,6 +4,7 @@
 use std::alloc::{AllocError, Global};
 use ttrpc_members::item::{Boolean, Int32, Nested, Uint32, Utf8};
 use ttrpc_members::kind::{MemberKind, Optional, Single};
+use ttrpc_members::named::Named;
 use ttrpc_members::several::{clone_four, clone_two, write_eight, write_two};
 use ttrpc_well_known::messages::{Any, Timestamp};
 use ttrpc_wire::codec::message::WireMessage;
@@ -212,6 +213,16 @@ impl WireMessage for Process {
     ghost fits = { process.laws.fits process.valid };
 }
 
+impl Named for Process {
+    ghost use Rattle.std.specs.Prelude.{codes};
+
+    ghost full_name = { codes "containerd.v1.types.Process" };
+
+    fn full_name() -> &'static str {
+        "containerd.v1.types.Process"
+    }
+}
+
 /// The message `containerd.v1.types.ProcessInfo`.
 #[derive(Drop)]
 pub struct ProcessInfo {
@@ -282,4 +293,14 @@ impl WireMessage for ProcessInfo {
     ghost again = { process_info.laws.again process_info.valid };
 
     ghost fits = { process_info.laws.fits process_info.valid };
+}
+
+impl Named for ProcessInfo {
+    ghost use Rattle.std.specs.Prelude.{codes};
+
+    ghost full_name = { codes "containerd.v1.types.ProcessInfo" };
+
+    fn full_name() -> &'static str {
+        "containerd.v1.types.ProcessInfo"
+    }
 }

@@ -5,6 +5,7 @@ use containerd_types_event::messages::Envelope;
 use std::alloc::{AllocError, Global};
 use ttrpc_members::item::Nested;
 use ttrpc_members::kind::{MemberKind, Optional};
+use ttrpc_members::named::Named;
 use ttrpc_wire::codec::message::WireMessage;
 use ttrpc_wire::{CodecError, Field, FieldNumber, TryClone};
 
@@ -69,4 +70,14 @@ impl WireMessage for ForwardRequest {
     ghost again = { forward_request.laws.again forward_request.valid };
 
     ghost fits = { forward_request.laws.fits forward_request.valid };
+}
+
+impl Named for ForwardRequest {
+    ghost use Rattle.std.specs.Prelude.{codes};
+
+    ghost full_name = { codes "containerd.services.events.ttrpc.v1.ForwardRequest" };
+
+    fn full_name() -> &'static str {
+        "containerd.services.events.ttrpc.v1.ForwardRequest"
+    }
 }

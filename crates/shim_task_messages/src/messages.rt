@@ -8,6 +8,7 @@ use ttrpc_members::entries::MapOf;
 use ttrpc_members::item::{Boolean, Int32, Nested, Uint32, Utf8};
 use ttrpc_members::kind::{MemberKind, Optional, Repeated, Single};
 use ttrpc_members::map::Map;
+use ttrpc_members::named::Named;
 use ttrpc_members::several::{
     clone_eight, clone_four, clone_two, write_eight, write_four, write_two,
 };
@@ -232,6 +233,16 @@ impl WireMessage for CreateTaskRequest {
     ghost fits = { create_task_request.laws.fits create_task_request.valid };
 }
 
+impl Named for CreateTaskRequest {
+    ghost use Rattle.std.specs.Prelude.{codes};
+
+    ghost full_name = { codes "containerd.task.v2.CreateTaskRequest" };
+
+    fn full_name() -> &'static str {
+        "containerd.task.v2.CreateTaskRequest"
+    }
+}
+
 /// The message `containerd.task.v2.CreateTaskResponse`.
 #[derive(Drop)]
 pub struct CreateTaskResponse {
@@ -289,6 +300,16 @@ impl WireMessage for CreateTaskResponse {
     ghost again = { create_task_response.laws.again create_task_response.valid };
 
     ghost fits = { create_task_response.laws.fits create_task_response.valid };
+}
+
+impl Named for CreateTaskResponse {
+    ghost use Rattle.std.specs.Prelude.{codes};
+
+    ghost full_name = { codes "containerd.task.v2.CreateTaskResponse" };
+
+    fn full_name() -> &'static str {
+        "containerd.task.v2.CreateTaskResponse"
+    }
 }
 
 /// The message `containerd.task.v2.DeleteRequest`.
@@ -359,6 +380,16 @@ impl WireMessage for DeleteRequest {
     ghost again = { delete_request.laws.again delete_request.valid };
 
     ghost fits = { delete_request.laws.fits delete_request.valid };
+}
+
+impl Named for DeleteRequest {
+    ghost use Rattle.std.specs.Prelude.{codes};
+
+    ghost full_name = { codes "containerd.task.v2.DeleteRequest" };
+
+    fn full_name() -> &'static str {
+        "containerd.task.v2.DeleteRequest"
+    }
 }
 
 /// The message `containerd.task.v2.DeleteResponse`.
@@ -447,6 +478,16 @@ impl WireMessage for DeleteResponse {
     ghost again = { delete_response.laws.again delete_response.valid };
 
     ghost fits = { delete_response.laws.fits delete_response.valid };
+}
+
+impl Named for DeleteResponse {
+    ghost use Rattle.std.specs.Prelude.{codes};
+
+    ghost full_name = { codes "containerd.task.v2.DeleteResponse" };
+
+    fn full_name() -> &'static str {
+        "containerd.task.v2.DeleteResponse"
+    }
 }
 
 /// The message `containerd.task.v2.ExecProcessRequest`.
@@ -598,6 +639,16 @@ impl WireMessage for ExecProcessRequest {
     ghost fits = { exec_process_request.laws.fits exec_process_request.valid };
 }
 
+impl Named for ExecProcessRequest {
+    ghost use Rattle.std.specs.Prelude.{codes};
+
+    ghost full_name = { codes "containerd.task.v2.ExecProcessRequest" };
+
+    fn full_name() -> &'static str {
+        "containerd.task.v2.ExecProcessRequest"
+    }
+}
+
 /// The message `containerd.task.v2.ExecProcessResponse`.
 #[derive(Drop)]
 pub struct ExecProcessResponse {}
@@ -642,6 +693,16 @@ impl WireMessage for ExecProcessResponse {
     ghost again = { exec_process_response.laws.again exec_process_response.valid };
 
     ghost fits = { exec_process_response.laws.fits exec_process_response.valid };
+}
+
+impl Named for ExecProcessResponse {
+    ghost use Rattle.std.specs.Prelude.{codes};
+
+    ghost full_name = { codes "containerd.task.v2.ExecProcessResponse" };
+
+    fn full_name() -> &'static str {
+        "containerd.task.v2.ExecProcessResponse"
+    }
 }
 
 /// The message `containerd.task.v2.ResizePtyRequest`.
@@ -746,6 +807,16 @@ impl WireMessage for ResizePtyRequest {
     ghost fits = { resize_pty_request.laws.fits resize_pty_request.valid };
 }
 
+impl Named for ResizePtyRequest {
+    ghost use Rattle.std.specs.Prelude.{codes};
+
+    ghost full_name = { codes "containerd.task.v2.ResizePtyRequest" };
+
+    fn full_name() -> &'static str {
+        "containerd.task.v2.ResizePtyRequest"
+    }
+}
+
 /// The message `containerd.task.v2.StateRequest`.
 #[derive(Drop)]
 pub struct StateRequest {
@@ -814,6 +885,16 @@ impl WireMessage for StateRequest {
     ghost again = { state_request.laws.again state_request.valid };
 
     ghost fits = { state_request.laws.fits state_request.valid };
+}
+
+impl Named for StateRequest {
+    ghost use Rattle.std.specs.Prelude.{codes};
+
+    ghost full_name = { codes "containerd.task.v2.StateRequest" };
+
+    fn full_name() -> &'static str {
+        "containerd.task.v2.StateRequest"
+    }
 }
 
 /// The message `containerd.task.v2.StateResponse`.
@@ -1009,6 +1090,16 @@ impl WireMessage for StateResponse {
     ghost fits = { state_response.laws.fits state_response.valid };
 }
 
+impl Named for StateResponse {
+    ghost use Rattle.std.specs.Prelude.{codes};
+
+    ghost full_name = { codes "containerd.task.v2.StateResponse" };
+
+    fn full_name() -> &'static str {
+        "containerd.task.v2.StateResponse"
+    }
+}
+
 /// The message `containerd.task.v2.KillRequest`.
 #[derive(Drop)]
 pub struct KillRequest {
@@ -1105,6 +1196,16 @@ impl WireMessage for KillRequest {
     ghost fits = { kill_request.laws.fits kill_request.valid };
 }
 
+impl Named for KillRequest {
+    ghost use Rattle.std.specs.Prelude.{codes};
+
+    ghost full_name = { codes "containerd.task.v2.KillRequest" };
+
+    fn full_name() -> &'static str {
+        "containerd.task.v2.KillRequest"
+    }
+}
+
 /// The message `containerd.task.v2.CloseIORequest`.
 #[derive(Drop)]
 pub struct CloseIORequest {
@@ -1191,6 +1292,16 @@ impl WireMessage for CloseIORequest {
     ghost fits = { close_io_request.laws.fits close_io_request.valid };
 }
 
+impl Named for CloseIORequest {
+    ghost use Rattle.std.specs.Prelude.{codes};
+
+    ghost full_name = { codes "containerd.task.v2.CloseIORequest" };
+
+    fn full_name() -> &'static str {
+        "containerd.task.v2.CloseIORequest"
+    }
+}
+
 /// The message `containerd.task.v2.PidsRequest`.
 #[derive(Drop)]
 pub struct PidsRequest {
@@ -1249,6 +1360,16 @@ impl WireMessage for PidsRequest {
     ghost again = { pids_request.laws.again pids_request.valid };
 
     ghost fits = { pids_request.laws.fits pids_request.valid };
+}
+
+impl Named for PidsRequest {
+    ghost use Rattle.std.specs.Prelude.{codes};
+
+    ghost full_name = { codes "containerd.task.v2.PidsRequest" };
+
+    fn full_name() -> &'static str {
+        "containerd.task.v2.PidsRequest"
+    }
 }
 
 /// The message `containerd.task.v2.PidsResponse`.
@@ -1312,6 +1433,16 @@ impl WireMessage for PidsResponse {
     ghost again = { pids_response.laws.again pids_response.valid };
 
     ghost fits = { pids_response.laws.fits pids_response.valid };
+}
+
+impl Named for PidsResponse {
+    ghost use Rattle.std.specs.Prelude.{codes};
+
+    ghost full_name = { codes "containerd.task.v2.PidsResponse" };
+
+    fn full_name() -> &'static str {
+        "containerd.task.v2.PidsResponse"
+    }
 }
 
 /// The message `containerd.task.v2.CheckpointTaskRequest`.
@@ -1398,6 +1529,16 @@ impl WireMessage for CheckpointTaskRequest {
     ghost again = { checkpoint_task_request.laws.again checkpoint_task_request.valid };
 
     ghost fits = { checkpoint_task_request.laws.fits checkpoint_task_request.valid };
+}
+
+impl Named for CheckpointTaskRequest {
+    ghost use Rattle.std.specs.Prelude.{codes};
+
+    ghost full_name = { codes "containerd.task.v2.CheckpointTaskRequest" };
+
+    fn full_name() -> &'static str {
+        "containerd.task.v2.CheckpointTaskRequest"
+    }
 }
 
 /// The message `containerd.task.v2.UpdateTaskRequest`.
@@ -1490,6 +1631,16 @@ impl WireMessage for UpdateTaskRequest {
     ghost fits = { update_task_request.laws.fits update_task_request.valid };
 }
 
+impl Named for UpdateTaskRequest {
+    ghost use Rattle.std.specs.Prelude.{codes};
+
+    ghost full_name = { codes "containerd.task.v2.UpdateTaskRequest" };
+
+    fn full_name() -> &'static str {
+        "containerd.task.v2.UpdateTaskRequest"
+    }
+}
+
 /// The message `containerd.task.v2.StartRequest`.
 #[derive(Drop)]
 pub struct StartRequest {
@@ -1560,6 +1711,16 @@ impl WireMessage for StartRequest {
     ghost fits = { start_request.laws.fits start_request.valid };
 }
 
+impl Named for StartRequest {
+    ghost use Rattle.std.specs.Prelude.{codes};
+
+    ghost full_name = { codes "containerd.task.v2.StartRequest" };
+
+    fn full_name() -> &'static str {
+        "containerd.task.v2.StartRequest"
+    }
+}
+
 /// The message `containerd.task.v2.StartResponse`.
 #[derive(Drop)]
 pub struct StartResponse {
@@ -1617,6 +1778,16 @@ impl WireMessage for StartResponse {
     ghost again = { start_response.laws.again start_response.valid };
 
     ghost fits = { start_response.laws.fits start_response.valid };
+}
+
+impl Named for StartResponse {
+    ghost use Rattle.std.specs.Prelude.{codes};
+
+    ghost full_name = { codes "containerd.task.v2.StartResponse" };
+
+    fn full_name() -> &'static str {
+        "containerd.task.v2.StartResponse"
+    }
 }
 
 /// The message `containerd.task.v2.WaitRequest`.
@@ -1687,6 +1858,16 @@ impl WireMessage for WaitRequest {
     ghost again = { wait_request.laws.again wait_request.valid };
 
     ghost fits = { wait_request.laws.fits wait_request.valid };
+}
+
+impl Named for WaitRequest {
+    ghost use Rattle.std.specs.Prelude.{codes};
+
+    ghost full_name = { codes "containerd.task.v2.WaitRequest" };
+
+    fn full_name() -> &'static str {
+        "containerd.task.v2.WaitRequest"
+    }
 }
 
 /// The message `containerd.task.v2.WaitResponse`.
@@ -1767,6 +1948,16 @@ impl WireMessage for WaitResponse {
     ghost fits = { wait_response.laws.fits wait_response.valid };
 }
 
+impl Named for WaitResponse {
+    ghost use Rattle.std.specs.Prelude.{codes};
+
+    ghost full_name = { codes "containerd.task.v2.WaitResponse" };
+
+    fn full_name() -> &'static str {
+        "containerd.task.v2.WaitResponse"
+    }
+}
+
 /// The message `containerd.task.v2.StatsRequest`.
 #[derive(Drop)]
 pub struct StatsRequest {
@@ -1825,6 +2016,16 @@ impl WireMessage for StatsRequest {
     ghost again = { stats_request.laws.again stats_request.valid };
 
     ghost fits = { stats_request.laws.fits stats_request.valid };
+}
+
+impl Named for StatsRequest {
+    ghost use Rattle.std.specs.Prelude.{codes};
+
+    ghost full_name = { codes "containerd.task.v2.StatsRequest" };
+
+    fn full_name() -> &'static str {
+        "containerd.task.v2.StatsRequest"
+    }
 }
 
 /// The message `containerd.task.v2.StatsResponse`.
@@ -1887,6 +2088,16 @@ impl WireMessage for StatsResponse {
     ghost fits = { stats_response.laws.fits stats_response.valid };
 }
 
+impl Named for StatsResponse {
+    ghost use Rattle.std.specs.Prelude.{codes};
+
+    ghost full_name = { codes "containerd.task.v2.StatsResponse" };
+
+    fn full_name() -> &'static str {
+        "containerd.task.v2.StatsResponse"
+    }
+}
+
 /// The message `containerd.task.v2.ConnectRequest`.
 #[derive(Drop)]
 pub struct ConnectRequest {
@@ -1945,6 +2156,16 @@ impl WireMessage for ConnectRequest {
     ghost again = { connect_request.laws.again connect_request.valid };
 
     ghost fits = { connect_request.laws.fits connect_request.valid };
+}
+
+impl Named for ConnectRequest {
+    ghost use Rattle.std.specs.Prelude.{codes};
+
+    ghost full_name = { codes "containerd.task.v2.ConnectRequest" };
+
+    fn full_name() -> &'static str {
+        "containerd.task.v2.ConnectRequest"
+    }
 }
 
 /// The message `containerd.task.v2.ConnectResponse`.
@@ -2035,6 +2256,16 @@ impl WireMessage for ConnectResponse {
     ghost fits = { connect_response.laws.fits connect_response.valid };
 }
 
+impl Named for ConnectResponse {
+    ghost use Rattle.std.specs.Prelude.{codes};
+
+    ghost full_name = { codes "containerd.task.v2.ConnectResponse" };
+
+    fn full_name() -> &'static str {
+        "containerd.task.v2.ConnectResponse"
+    }
+}
+
 /// The message `containerd.task.v2.ShutdownRequest`.
 #[derive(Drop)]
 pub struct ShutdownRequest {
@@ -2104,6 +2335,16 @@ impl WireMessage for ShutdownRequest {
     ghost fits = { shutdown_request.laws.fits shutdown_request.valid };
 }
 
+impl Named for ShutdownRequest {
+    ghost use Rattle.std.specs.Prelude.{codes};
+
+    ghost full_name = { codes "containerd.task.v2.ShutdownRequest" };
+
+    fn full_name() -> &'static str {
+        "containerd.task.v2.ShutdownRequest"
+    }
+}
+
 /// The message `containerd.task.v2.PauseRequest`.
 #[derive(Drop)]
 pub struct PauseRequest {
@@ -2164,6 +2405,16 @@ impl WireMessage for PauseRequest {
     ghost fits = { pause_request.laws.fits pause_request.valid };
 }
 
+impl Named for PauseRequest {
+    ghost use Rattle.std.specs.Prelude.{codes};
+
+    ghost full_name = { codes "containerd.task.v2.PauseRequest" };
+
+    fn full_name() -> &'static str {
+        "containerd.task.v2.PauseRequest"
+    }
+}
+
 /// The message `containerd.task.v2.ResumeRequest`.
 #[derive(Drop)]
 pub struct ResumeRequest {
@@ -2222,4 +2473,14 @@ impl WireMessage for ResumeRequest {
     ghost again = { resume_request.laws.again resume_request.valid };
 
     ghost fits = { resume_request.laws.fits resume_request.valid };
+}
+
+impl Named for ResumeRequest {
+    ghost use Rattle.std.specs.Prelude.{codes};
+
+    ghost full_name = { codes "containerd.task.v2.ResumeRequest" };
+
+    fn full_name() -> &'static str {
+        "containerd.task.v2.ResumeRequest"
+    }
 }

@@ -4,6 +4,7 @@
 use std::alloc::{AllocError, Global};
 use ttrpc_members::item::{Bytes, Int64, Nested, Utf8};
 use ttrpc_members::kind::{MemberKind, Optional, Single};
+use ttrpc_members::named::Named;
 use ttrpc_wire::codec::message::WireMessage;
 use ttrpc_wire::{Blob, CodecError, Field, FieldNumber, Text, TryClone};
 
@@ -90,6 +91,16 @@ impl WireMessage for Entry {
     ghost fits = { entry.laws.fits entry.valid };
 }
 
+impl Named for Entry {
+    ghost use Rattle.std.specs.Prelude.{codes};
+
+    ghost full_name = { codes "example.Entry" };
+
+    fn full_name() -> &'static str {
+        "example.Entry"
+    }
+}
+
 /// The message `example.GetRequest`.
 #[derive(Drop)]
 pub struct GetRequest {
@@ -148,6 +159,16 @@ impl WireMessage for GetRequest {
     ghost again = { get_request.laws.again get_request.valid };
 
     ghost fits = { get_request.laws.fits get_request.valid };
+}
+
+impl Named for GetRequest {
+    ghost use Rattle.std.specs.Prelude.{codes};
+
+    ghost full_name = { codes "example.GetRequest" };
+
+    fn full_name() -> &'static str {
+        "example.GetRequest"
+    }
 }
 
 /// The message `example.GetResponse`.
@@ -210,6 +231,16 @@ impl WireMessage for GetResponse {
     ghost fits = { get_response.laws.fits get_response.valid };
 }
 
+impl Named for GetResponse {
+    ghost use Rattle.std.specs.Prelude.{codes};
+
+    ghost full_name = { codes "example.GetResponse" };
+
+    fn full_name() -> &'static str {
+        "example.GetResponse"
+    }
+}
+
 /// The message `example.PutResponse`.
 #[derive(Drop)]
 pub struct PutResponse {
@@ -269,4 +300,14 @@ impl WireMessage for PutResponse {
     ghost again = { put_response.laws.again put_response.valid };
 
     ghost fits = { put_response.laws.fits put_response.valid };
+}
+
+impl Named for PutResponse {
+    ghost use Rattle.std.specs.Prelude.{codes};
+
+    ghost full_name = { codes "example.PutResponse" };
+
+    fn full_name() -> &'static str {
+        "example.PutResponse"
+    }
 }

@@ -8,5 +8,6 @@ pub mod entries;
 pub mod item;
 pub mod kind;
 pub mod map;
+pub mod named;
 pub mod nesting;
 pub mod several;

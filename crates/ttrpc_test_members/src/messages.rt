@@ -11,6 +11,7 @@ use ttrpc_members::item::{
 };
 use ttrpc_members::kind::{MemberKind, Optional, Packed, Repeated, Single, item_len, put_item};
 use ttrpc_members::map::Map;
+use ttrpc_members::named::Named;
 use ttrpc_members::nesting::{Content, Recursive, Rule};
 use ttrpc_members::several::{
     clone_eight, clone_four, clone_two, write_eight, write_four, write_two,
@@ -96,6 +97,16 @@ impl WireMessage for Timestamp {
     ghost again = { timestamp.laws.again timestamp.valid };
 
     ghost fits = { timestamp.laws.fits timestamp.valid };
+}
+
+impl Named for Timestamp {
+    ghost use Rattle.std.specs.Prelude.{codes};
+
+    ghost full_name = { codes "google.protobuf.Timestamp" };
+
+    fn full_name() -> &'static str {
+        "google.protobuf.Timestamp"
+    }
 }
 
 /// One number of every kind.
@@ -303,6 +314,16 @@ impl WireMessage for Figures {
     ghost fits = { figures.laws.fits figures.valid };
 }
 
+impl Named for Figures {
+    ghost use Rattle.std.specs.Prelude.{codes};
+
+    ghost full_name = { codes "test.kinds.Figures" };
+
+    fn full_name() -> &'static str {
+        "test.kinds.Figures"
+    }
+}
+
 /// The message `test.kinds.Inner`.
 #[derive(Drop)]
 pub struct Inner {
@@ -384,6 +405,16 @@ impl WireMessage for Inner {
     ghost again = { inner.laws.again inner.valid };
 
     ghost fits = { inner.laws.fits inner.valid };
+}
+
+impl Named for Inner {
+    ghost use Rattle.std.specs.Prelude.{codes};
+
+    ghost full_name = { codes "test.kinds.Inner" };
+
+    fn full_name() -> &'static str {
+        "test.kinds.Inner"
+    }
 }
 
 /// The message `test.kinds.Lists`.
@@ -559,6 +590,16 @@ impl WireMessage for Lists {
     ghost fits = { lists.laws.fits lists.valid };
 }
 
+impl Named for Lists {
+    ghost use Rattle.std.specs.Prelude.{codes};
+
+    ghost full_name = { codes "test.kinds.Lists" };
+
+    fn full_name() -> &'static str {
+        "test.kinds.Lists"
+    }
+}
+
 /// The message `test.kinds.Options`.
 #[derive(Drop)]
 pub struct Options {
@@ -682,6 +723,16 @@ impl WireMessage for Options {
     ghost fits = { options.laws.fits options.valid };
 }
 
+impl Named for Options {
+    ghost use Rattle.std.specs.Prelude.{codes};
+
+    ghost full_name = { codes "test.kinds.Options" };
+
+    fn full_name() -> &'static str {
+        "test.kinds.Options"
+    }
+}
+
 /// The message `test.kinds.Tables`.
 #[derive(Drop)]
 pub struct Tables {
@@ -799,6 +850,16 @@ impl WireMessage for Tables {
     ghost again = { tables.laws.again tables.valid };
 
     ghost fits = { tables.laws.fits tables.valid };
+}
+
+impl Named for Tables {
+    ghost use Rattle.std.specs.Prelude.{codes};
+
+    ghost full_name = { codes "test.kinds.Tables" };
+
+    fn full_name() -> &'static str {
+        "test.kinds.Tables"
+    }
 }
 
 /// One of number, text, inner, flag, weight, way, blob.
@@ -1122,6 +1183,16 @@ impl WireMessage for Choices {
     ghost fits = { choices.laws.fits choices.valid };
 }
 
+impl Named for Choices {
+    ghost use Rattle.std.specs.Prelude.{codes};
+
+    ghost full_name = { codes "test.kinds.Choices" };
+
+    fn full_name() -> &'static str {
+        "test.kinds.Choices"
+    }
+}
+
 /// Members of all kinds.
 #[derive(Drop)]
 pub struct All {
@@ -1242,6 +1313,16 @@ impl WireMessage for All {
     ghost again = { all.laws.again all.valid };
 
     ghost fits = { all.laws.fits all.valid };
+}
+
+impl Named for All {
+    ghost use Rattle.std.specs.Prelude.{codes};
+
+    ghost full_name = { codes "test.kinds.All" };
+
+    fn full_name() -> &'static str {
+        "test.kinds.All"
+    }
 }
 
 /// A message that contains itself.
@@ -1384,6 +1465,16 @@ impl WireMessage for Tree {
     ghost fits = { tree.laws.fits tree.valid };
 }
 
+impl Named for Tree {
+    ghost use Rattle.std.specs.Prelude.{codes};
+
+    ghost full_name = { codes "test.kinds.Tree" };
+
+    fn full_name() -> &'static str {
+        "test.kinds.Tree"
+    }
+}
+
 /// Messages that contain one another.
 #[derive(Drop)]
 pub struct Sheet {
@@ -1442,6 +1533,16 @@ impl WireMessage for Sheet {
     ghost again = { sheet.laws.again sheet.valid };
 
     ghost fits = { sheet.laws.fits sheet.valid };
+}
+
+impl Named for Sheet {
+    ghost use Rattle.std.specs.Prelude.{codes};
+
+    ghost full_name = { codes "test.kinds.Sheet" };
+
+    fn full_name() -> &'static str {
+        "test.kinds.Sheet"
+    }
 }
 
 /// One of number, text, sheet, row.
@@ -1667,6 +1768,16 @@ impl WireMessage for Cell {
     ghost fits = { cell.laws.fits cell.valid };
 }
 
+impl Named for Cell {
+    ghost use Rattle.std.specs.Prelude.{codes};
+
+    ghost full_name = { codes "test.kinds.Cell" };
+
+    fn full_name() -> &'static str {
+        "test.kinds.Cell"
+    }
+}
+
 /// The message `test.kinds.Row`.
 #[derive(Drop)]
 pub struct Row {
@@ -1725,6 +1836,16 @@ impl WireMessage for Row {
     ghost again = { row.laws.again row.valid };
 
     ghost fits = { row.laws.fits row.valid };
+}
+
+impl Named for Row {
+    ghost use Rattle.std.specs.Prelude.{codes};
+
+    ghost full_name = { codes "test.kinds.Row" };
+
+    fn full_name() -> &'static str {
+        "test.kinds.Row"
+    }
 }
 
 /// What has to hold of the bytes of messages that may contain themselves, and of all that may be in them, by the place of a message.

@@ -4,6 +4,7 @@
 use std::alloc::{AllocError, Global};
 use ttrpc_members::item::{Bytes, Uint64, Utf8};
 use ttrpc_members::kind::{MemberKind, Single};
+use ttrpc_members::named::Named;
 use ttrpc_wire::codec::message::WireMessage;
 use ttrpc_wire::{Blob, CodecError, Field, FieldNumber, Text, TryClone};
 
@@ -77,6 +78,16 @@ impl WireMessage for Item {
     ghost fits = { item.laws.fits item.valid };
 }
 
+impl Named for Item {
+    ghost use Rattle.std.specs.Prelude.{codes};
+
+    ghost full_name = { codes "demo.Item" };
+
+    fn full_name() -> &'static str {
+        "demo.Item"
+    }
+}
+
 /// The message `demo.Count`.
 #[derive(Drop)]
 pub struct Count {
@@ -134,4 +145,14 @@ impl WireMessage for Count {
     ghost again = { count.laws.again count.valid };
 
     ghost fits = { count.laws.fits count.valid };
+}
+
+impl Named for Count {
+    ghost use Rattle.std.specs.Prelude.{codes};
+
+    ghost full_name = { codes "demo.Count" };
+
+    fn full_name() -> &'static str {
+        "demo.Count"
+    }
 }

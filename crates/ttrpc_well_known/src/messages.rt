@@ -10,6 +10,7 @@ use ttrpc_members::item::{
 };
 use ttrpc_members::kind::{MemberKind, Repeated, Single, item_len, put_item};
 use ttrpc_members::map::Map;
+use ttrpc_members::named::Named;
 use ttrpc_members::nesting::{Content, Recursive, Rule};
 use ttrpc_wire::codec::message::WireMessage;
 use ttrpc_wire::{Blob, CodecError, Field, FieldNumber, Sequence, Text, TryClone, Value};
@@ -87,6 +88,16 @@ impl WireMessage for Any {
     ghost fits = { any.laws.fits any.valid };
 }
 
+impl Named for Any {
+    ghost use Rattle.std.specs.Prelude.{codes};
+
+    ghost full_name = { codes "google.protobuf.Any" };
+
+    fn full_name() -> &'static str {
+        "google.protobuf.Any"
+    }
+}
+
 /// A span of time.
 #[derive(Drop)]
 pub struct Duration {
@@ -158,6 +169,16 @@ impl WireMessage for Duration {
     ghost fits = { duration.laws.fits duration.valid };
 }
 
+impl Named for Duration {
+    ghost use Rattle.std.specs.Prelude.{codes};
+
+    ghost full_name = { codes "google.protobuf.Duration" };
+
+    fn full_name() -> &'static str {
+        "google.protobuf.Duration"
+    }
+}
+
 /// Nothing.
 #[derive(Drop)]
 pub struct Empty {}
@@ -202,6 +223,16 @@ impl WireMessage for Empty {
     ghost again = { empty.laws.again empty.valid };
 
     ghost fits = { empty.laws.fits empty.valid };
+}
+
+impl Named for Empty {
+    ghost use Rattle.std.specs.Prelude.{codes};
+
+    ghost full_name = { codes "google.protobuf.Empty" };
+
+    fn full_name() -> &'static str {
+        "google.protobuf.Empty"
+    }
 }
 
 /// Some members of a message.
@@ -262,6 +293,16 @@ impl WireMessage for FieldMask {
     ghost again = { field_mask.laws.again field_mask.valid };
 
     ghost fits = { field_mask.laws.fits field_mask.valid };
+}
+
+impl Named for FieldMask {
+    ghost use Rattle.std.specs.Prelude.{codes};
+
+    ghost full_name = { codes "google.protobuf.FieldMask" };
+
+    fn full_name() -> &'static str {
+        "google.protobuf.FieldMask"
+    }
 }
 
 /// An object of JSON.
@@ -329,6 +370,16 @@ impl WireMessage for Struct {
     ghost again = { struct.laws.again struct.valid };
 
     ghost fits = { struct.laws.fits struct.valid };
+}
+
+impl Named for Struct {
+    ghost use Rattle.std.specs.Prelude.{codes};
+
+    ghost full_name = { codes "google.protobuf.Struct" };
+
+    fn full_name() -> &'static str {
+        "google.protobuf.Struct"
+    }
 }
 
 /// What it is.
@@ -648,6 +699,16 @@ impl WireMessage for ValueMessage {
     ghost fits = { value_message.laws.fits value_message.valid };
 }
 
+impl Named for ValueMessage {
+    ghost use Rattle.std.specs.Prelude.{codes};
+
+    ghost full_name = { codes "google.protobuf.Value" };
+
+    fn full_name() -> &'static str {
+        "google.protobuf.Value"
+    }
+}
+
 /// An array of JSON.
 #[derive(Drop)]
 pub struct ListValue {
@@ -711,6 +772,16 @@ impl WireMessage for ListValue {
     ghost again = { list_value.laws.again list_value.valid };
 
     ghost fits = { list_value.laws.fits list_value.valid };
+}
+
+impl Named for ListValue {
+    ghost use Rattle.std.specs.Prelude.{codes};
+
+    ghost full_name = { codes "google.protobuf.ListValue" };
+
+    fn full_name() -> &'static str {
+        "google.protobuf.ListValue"
+    }
 }
 
 /// A point in time.
@@ -784,6 +855,16 @@ impl WireMessage for Timestamp {
     ghost fits = { timestamp.laws.fits timestamp.valid };
 }
 
+impl Named for Timestamp {
+    ghost use Rattle.std.specs.Prelude.{codes};
+
+    ghost full_name = { codes "google.protobuf.Timestamp" };
+
+    fn full_name() -> &'static str {
+        "google.protobuf.Timestamp"
+    }
+}
+
 /// A double, as a message.
 #[derive(Drop)]
 pub struct DoubleValue {
@@ -841,6 +922,16 @@ impl WireMessage for DoubleValue {
     ghost again = { double_value.laws.again double_value.valid };
 
     ghost fits = { double_value.laws.fits double_value.valid };
+}
+
+impl Named for DoubleValue {
+    ghost use Rattle.std.specs.Prelude.{codes};
+
+    ghost full_name = { codes "google.protobuf.DoubleValue" };
+
+    fn full_name() -> &'static str {
+        "google.protobuf.DoubleValue"
+    }
 }
 
 /// A float, as a message.
@@ -902,6 +993,16 @@ impl WireMessage for FloatValue {
     ghost fits = { float_value.laws.fits float_value.valid };
 }
 
+impl Named for FloatValue {
+    ghost use Rattle.std.specs.Prelude.{codes};
+
+    ghost full_name = { codes "google.protobuf.FloatValue" };
+
+    fn full_name() -> &'static str {
+        "google.protobuf.FloatValue"
+    }
+}
+
 /// An int64, as a message.
 #[derive(Drop)]
 pub struct Int64Value {
@@ -959,6 +1060,16 @@ impl WireMessage for Int64Value {
     ghost again = { int64_value.laws.again int64_value.valid };
 
     ghost fits = { int64_value.laws.fits int64_value.valid };
+}
+
+impl Named for Int64Value {
+    ghost use Rattle.std.specs.Prelude.{codes};
+
+    ghost full_name = { codes "google.protobuf.Int64Value" };
+
+    fn full_name() -> &'static str {
+        "google.protobuf.Int64Value"
+    }
 }
 
 /// A uint64, as a message.
@@ -1020,6 +1131,16 @@ impl WireMessage for UInt64Value {
     ghost fits = { u_int64_value.laws.fits u_int64_value.valid };
 }
 
+impl Named for UInt64Value {
+    ghost use Rattle.std.specs.Prelude.{codes};
+
+    ghost full_name = { codes "google.protobuf.UInt64Value" };
+
+    fn full_name() -> &'static str {
+        "google.protobuf.UInt64Value"
+    }
+}
+
 /// An int32, as a message.
 #[derive(Drop)]
 pub struct Int32Value {
@@ -1077,6 +1198,16 @@ impl WireMessage for Int32Value {
     ghost again = { int32_value.laws.again int32_value.valid };
 
     ghost fits = { int32_value.laws.fits int32_value.valid };
+}
+
+impl Named for Int32Value {
+    ghost use Rattle.std.specs.Prelude.{codes};
+
+    ghost full_name = { codes "google.protobuf.Int32Value" };
+
+    fn full_name() -> &'static str {
+        "google.protobuf.Int32Value"
+    }
 }
 
 /// A uint32, as a message.
@@ -1138,6 +1269,16 @@ impl WireMessage for UInt32Value {
     ghost fits = { u_int32_value.laws.fits u_int32_value.valid };
 }
 
+impl Named for UInt32Value {
+    ghost use Rattle.std.specs.Prelude.{codes};
+
+    ghost full_name = { codes "google.protobuf.UInt32Value" };
+
+    fn full_name() -> &'static str {
+        "google.protobuf.UInt32Value"
+    }
+}
+
 /// A bool, as a message.
 #[derive(Drop)]
 pub struct BoolValue {
@@ -1195,6 +1336,16 @@ impl WireMessage for BoolValue {
     ghost again = { bool_value.laws.again bool_value.valid };
 
     ghost fits = { bool_value.laws.fits bool_value.valid };
+}
+
+impl Named for BoolValue {
+    ghost use Rattle.std.specs.Prelude.{codes};
+
+    ghost full_name = { codes "google.protobuf.BoolValue" };
+
+    fn full_name() -> &'static str {
+        "google.protobuf.BoolValue"
+    }
 }
 
 /// A string, as a message.
@@ -1257,6 +1408,16 @@ impl WireMessage for StringValue {
     ghost fits = { string_value.laws.fits string_value.valid };
 }
 
+impl Named for StringValue {
+    ghost use Rattle.std.specs.Prelude.{codes};
+
+    ghost full_name = { codes "google.protobuf.StringValue" };
+
+    fn full_name() -> &'static str {
+        "google.protobuf.StringValue"
+    }
+}
+
 /// Bytes, as a message.
 #[derive(Drop)]
 pub struct BytesValue {
@@ -1315,6 +1476,16 @@ impl WireMessage for BytesValue {
     ghost again = { bytes_value.laws.again bytes_value.valid };
 
     ghost fits = { bytes_value.laws.fits bytes_value.valid };
+}
+
+impl Named for BytesValue {
+    ghost use Rattle.std.specs.Prelude.{codes};
+
+    ghost full_name = { codes "google.protobuf.BytesValue" };
+
+    fn full_name() -> &'static str {
+        "google.protobuf.BytesValue"
+    }
 }
 
 /// What has to hold of the bytes of messages that may contain themselves, and of all that may be in them, by the place of a message.

@@ -1,3 +1,5 @@
 mod depth_tests;
 mod members_tests;
 mod vectors;
+mod well_known_tests;
+mod well_known_vectors;
