@@ -1,11 +1,23 @@
 -- Numbers of fields: which are valid, and what is among two lists of them.
-use Rattle.std.proofs.Common.{◌≡◌, ℕ, ◌<◌, ◌≤◌, ◌^◌, List, [], ◌∷◌, ◌++◌, Bool, true, false, nat_eq, nat_lt, if◌then◌else◌, refl, sym, ap, ◌∙◌, arith, inl, inr}
+use Rattle.std.proofs.Common.{◌≡◌, ◌≢◌, ℕ, ◌<◌, ◌≤◌, ◌^◌, List, [], ◌∷◌, ◌++◌, Bool, true, false, nat_eq, nat_lt, if◌then◌else◌, refl, sym, ap, ◌∙◌, arith, inl, inr}
 use Rattle.std.proofs.lemmas.Bool.{eqb-true, ltb-true}
 use Rattle.std.proofs.lemmas.Bool.Decides.{eqb_tells}
 use Rattle.ttrpc_members.specs.Laws.{is_number, is_among, are_valid}
 
 pub same_number : (n : ℕ) → nat_eq n n ≡ true
 same_number n = elim (eqb_tells n n) [ inl e ↦ e.0 | inr e ↦ absurd (e.1 refl) ]
+
+-- numbers that are equal are told so
+pub equal_number : (n k : ℕ) → n ≡ k → nat_eq n k ≡ true
+equal_number n k e = ap (λ (m : ℕ). nat_eq n m) (sym e) ∙ same_number n
+
+-- and numbers that differ
+pub other_number : (n k : ℕ) → n ≢ k → nat_eq n k ≡ false
+other_number n k differ = by_test (nat_eq n k) refl
+  where
+    by_test : (b : Bool) → nat_eq n k ≡ b → b ≡ false
+    by_test true e = absurd (differ (eqb-true n k e))
+    by_test false e = refl
 
 -- one number alone
 pub among_one : (n : ℕ) → is_among n (n ∷ []) ≡ true

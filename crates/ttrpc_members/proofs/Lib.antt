@@ -11,3 +11,4 @@ pub mod Proved
 pub mod NestingLaws
 pub mod Takes
 pub mod Exact
+pub mod MeaningLaws

@@ -5,3 +5,4 @@ pub mod Schema
 pub mod Maps
 pub mod Laws
 pub mod Choices
+pub mod Meaning

@@ -7,6 +7,7 @@ pub mod enclosed;
 pub mod entries;
 pub mod item;
 pub mod kind;
+pub mod laws;
 pub mod map;
 pub mod named;
 pub mod nesting;
