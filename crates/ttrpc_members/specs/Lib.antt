@@ -6,3 +6,4 @@ pub mod Maps
 pub mod Laws
 pub mod Choices
 pub mod Meaning
+pub mod Lent

@@ -9,7 +9,7 @@ use crate::nesting::{Recursive, check};
 use std::alloc::{AllocError, Global};
 use std::marker::{Model, PhantomData};
 use ttrpc_wire::codec::message::{WireMessage, decode, encode};
-use ttrpc_wire::{CodecError, TryClone, Value, WireType};
+use ttrpc_wire::{CodecError, Reader, TryClone, Value, WireType};
 
 /// A message that may contain the one that it is in, kept as its bytes, which contracts see as their list. They are fields of
 /// the message, and those in it, in at most 100 levels.
@@ -103,6 +103,22 @@ impl<R: Recursive> Enclosed<R> {
     {
         self.lemma_is_within();
         decode(alloc, self.as_bytes())
+    }
+
+    /// Returns the message that the bytes mean, as `message` does, and lets the bytes go. A walk that takes each message out of the
+    /// one before holds no byte more than twice, however deep they nest.
+    pub fn into_message<M: Enclosable<Rules = R>>(self, alloc: Global) -> Result<M, CodecError>
+        ensures ok { IfOk result (λ m. read_from M.step M.empty self ≡ Some m) }
+        ensures memory { IfErr result (λ e. e ≡ CodecError.NoMemory) }
+    {
+        self.message(alloc)
+    }
+
+    /// Reads the fields where they lie: the bytes of a message in it are lent, and nothing is copied.
+    pub fn reader(&self) -> Reader<'_>
+        ensures { result ≡ self.now }
+    {
+        Reader::new(self.as_bytes())
     }
 
     /// The bytes.

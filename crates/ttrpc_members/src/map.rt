@@ -1,7 +1,10 @@
 //! Maps: entries under keys, in the keys' order.
 ghost use Rattle.std.specs.Prelude.{◌≡◌, ◌≢◌, ◌↔◌, ℕ, ◌+◌, ◌-◌, ◌<◌, ◌≤◌, ◌^◌, ◌++◌, List, [], ◌∷◌, length, Option, Some, None, IfOk, OnOk, OnErr, IfErr, IsTrue, min, string_bytes};
-ghost use Rattle.std.specs.BTreeMap.{get_by, insert_entry};
-ghost use Rattle.std.specs.Option.{option_copied};
+ghost use Rattle.std.specs.Borrow.{sem};
+ghost use Rattle.std.specs.BTreeMap.{insert_entry, is_at};
+ghost use Rattle.std.specs.Map.{lookup, remove_entry};
+ghost use Rattle.std.specs.Option.{option_copied_mut};
+ghost use Rattle.ttrpc_members.specs.Lent.{LendsValue};
 
 use std::alloc::{AllocError, Global};
 use std::collections::BTreeMap;
@@ -59,6 +62,29 @@ impl<K: Ord, V> Map<K, V> {
     {
         &self.entries
     }
+
+    /// Makes a map of std's entries. Takes no memory.
+    pub fn from_map(alloc: Global, entries: BTreeMap<K, V>) -> Map<K, V>
+        ensures { result ≡ entries.entries }
+    {
+        Map { entries, alloc }
+    }
+
+    /// Gives the entries back as a map of std's. Takes no memory.
+    pub fn into_map(self) -> BTreeMap<K, V>
+        ensures { result.entries ≡ self }
+    {
+        let Map { entries, .. } = self;
+        entries
+    }
+
+    /// Lends the value under a key, to be changed in place.
+    pub fn get_mut(&mut self, key: &K) -> Option<&mut V>
+        ensures* writes_back { sem 𝓛 (LendsValue K.row V.row K.Ord self.entry key.now result) }
+        ensures value { option_copied_mut result ≡ lookup (is_at (K.cmp key.now)) self.old }
+    {
+        self.entries.get_mut(key)
+    }
 }
 
 impl<K: Ord + Drop, V: Drop> Map<K, V> {
@@ -69,5 +95,20 @@ impl<K: Ord + Drop, V: Drop> Map<K, V> {
     {
         self.entries.insert(key, value)?;
         Ok(())
+    }
+
+    /// Takes the entry of a key out, if there is one, and returns its value. Takes no memory.
+    pub fn remove(&mut self, key: &K) -> Option<V>
+        ensures value { result ≡ lookup (is_at (K.cmp key.now)) self.old }
+        ensures others { self.new ≡ remove_entry (is_at (K.cmp key.now)) self.old }
+    {
+        self.entries.remove(key)
+    }
+
+    /// Takes all entries out.
+    pub fn clear(&mut self)
+        ensures { self.new ≡ [] }
+    {
+        self.entries.clear();
     }
 }

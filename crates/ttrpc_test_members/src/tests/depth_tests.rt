@@ -7,7 +7,7 @@ use std::test::Fail;
 use ttrpc_bench::checks::{Tested, check, check_row};
 use ttrpc_members::enclosed::Enclosed;
 use ttrpc_wire::codec::message::WireMessage;
-use ttrpc_wire::{Codec, CodecError, TryClone, put_varint, varint_len};
+use ttrpc_wire::{Codec, CodecError, TryClone, Value, put_varint, varint_len};
 
 /// The member of lists, and the optional one.
 const CHILDREN: u8 = 0x12;
@@ -277,4 +277,39 @@ fn has_small_sheet(alloc: Global, cell: &Cell) -> Result<bool, Fail> {
     };
     let sheet: Sheet = sheet.message(alloc)?;
     Ok(sheet.cells.len() == 1)
+}
+
+/// Returns how many levels are below a tree, each taken out of the one above.
+fn levels_below(alloc: Global, tree: Tree) -> Result<usize, Fail> {
+    let mut best = tree.best;
+    for levels in 0..101 {
+        let Some(child) = best else {
+            return Ok(levels);
+        };
+        let child: Tree = child.into_message(alloc)?;
+        best = child.best;
+    }
+    Ok(101)
+}
+
+#[test]
+fn each_level_is_taken_out_of_the_one_above(rt: HostRuntime) -> Tested {
+    let alloc = rt.alloc();
+    let tree = Tree::decode(alloc, nested(alloc, BEST, 100)?.as_slice())?;
+    check(levels_below(alloc, tree)? == 100)
+}
+
+/// Returns whether the first field of a tree has this number and these bytes.
+fn is_first_field(tree: &Enclosed<TreeRules>, number: u32, bytes: &[u8]) -> Result<bool, Fail> {
+    let field = tree.reader().field()?;
+    match field.value {
+        Value::LengthDelimited(value) => Ok(field.number.value == number && value == bytes),
+        _ => Ok(false),
+    }
+}
+
+#[test]
+fn fields_are_read_where_they_lie(rt: HostRuntime) -> Tested {
+    let tree = Enclosed::from_bytes(rt.alloc(), b"\x1a\x03\x0a\x01a")?;
+    check(is_first_field(&tree, 3, b"\x0a\x01a")?)
 }

@@ -3,9 +3,10 @@ use crate::messages::{All, Choices, Figures, Lists, Options, Tables};
 use crate::tests::vectors::{ALL, CHOICES, FIGURES, LISTS, OPTIONS, TABLES};
 use std::alloc::Global;
 use std::test::Fail;
-use ttrpc_bench::checks::{Tested, check_row};
+use ttrpc_bench::checks::{Tested, check, check_row};
+use ttrpc_members::map::Map;
 use ttrpc_wire::codec::message::WireMessage;
-use ttrpc_wire::{Codec, CodecError};
+use ttrpc_wire::{Codec, CodecError, Text};
 
 /// Returns whether the numbers are equal.
 fn are_equal(a: &Figures, b: &Figures) -> bool {
@@ -166,4 +167,40 @@ fn bad_maps_are_refused(rt: HostRuntime) -> Tested {
 #[test]
 fn entries_are_read_in_any_spelling(rt: HostRuntime) -> Tested {
     check_pairs::<Tables>(rt.alloc(), SPELLED)
+}
+
+/// Two labels.
+fn two_labels(alloc: Global) -> Result<Map<Text, Text>, Fail> {
+    let mut labels = Map::new(alloc);
+    labels.insert(Text::from_str(alloc, "a")?, Text::from_str(alloc, "b")?)?;
+    labels.insert(Text::from_str(alloc, "c")?, Text::from_str(alloc, "d")?)?;
+    Ok(labels)
+}
+
+/// Returns whether a label is changed, and is then taken out.
+fn is_changed(alloc: Global) -> Result<bool, Fail> {
+    let mut labels = two_labels(alloc)?;
+    let key = Text::from_str(alloc, "a")?;
+    let new = Text::from_str(alloc, "e")?;
+    if let Some(value) = labels.get_mut(&key) {
+        *value = new;
+    }
+    let is_new = labels
+        .remove(&key)
+        .is_some_and(|value| value.as_str() == "e");
+    Ok(is_new && labels.len() == 1 && labels.remove(&key).is_none())
+}
+
+#[test]
+fn a_label_is_changed_and_taken_out(rt: HostRuntime) -> Tested {
+    check(is_changed(rt.alloc())?)
+}
+
+#[test]
+fn a_map_goes_to_std_and_back(rt: HostRuntime) -> Tested {
+    let alloc = rt.alloc();
+    let mut labels = Map::from_map(alloc, two_labels(alloc)?.into_map());
+    let count = labels.len();
+    labels.clear();
+    check(count == 2 && labels.is_empty())
 }
