@@ -101,7 +101,7 @@ class Kinds:
     def wanted(self, places, names, whole):
         """The proof that the rules want what they have to want of it."""
         if self.member.label == "map":
-            entry = len(places.messages) + places.maps.index((whole, self.member))
+            entry = places.of(f"{whole}.{self.member.name}")
             return f"({entry}, refl, refl, {self.wanted_item(places, names)}, refl)"
         return "(refl, refl)" if self.kind == "Packed" else self.wanted_item(places, names)
 
@@ -130,8 +130,8 @@ class Kinds:
 
 
 class Places:
-    """The messages that the rules are of: those that may contain themselves and all that may be in them, each with its place, and a
-    place for the entries of each map."""
+    """The messages that the rules are of: those that may contain themselves and all that may be in them, and the entries of each map.
+    The rules of each stand together, and the place of the first is its own; what has no rules has the place behind all."""
 
     def __init__(self, schema):
         self.schema, self.messages = schema, []
@@ -142,20 +142,21 @@ class Places:
             if whole in schema.homes and whole in schema.reached(whole):
                 message = schema.messages[whole]
                 raise Refused(message.file.shown, message.line, f"{whole} may contain itself, and is in such a message of another crate")
-        self.maps = [(whole, member) for whole in self.messages for member in schema.messages[whole].members if member.label == "map"]
+        wanted = {whole: self.of_message(whole) for whole in self.messages}
+        wanted |= {f"{whole}.{member.name}": self.of_entry(member) for whole in self.messages for member in schema.messages[whole].members if member.label == "map"}
+        self.wanted, self.places, place = wanted, {}, 0
+        for name, rows in wanted.items():
+            self.places[name] = place if rows else sum(len(rows) for rows in wanted.values())
+            place += len(rows)
 
     def of(self, whole):
-        return self.messages.index(whole)
-
-    def named(self):
-        """What is at each place."""
-        return self.messages + [f"{whole}.{member.name}" for whole, member in self.maps]
+        return self.places[whole]
 
     def content(self, member):
         """What the values of a member's type have to be: a variant, and what it holds."""
         if not member.whole:
             return ("Text", None) if member.type == "string" else None
-        return ("Message", self.of(member.whole)) if member.whole in self.schema.messages else None
+        return ("Message", member.whole) if member.whole in self.schema.messages else None
 
     def numbers(self, member):
         """The wire type of a list's numbers."""
@@ -165,30 +166,29 @@ class Places:
         wire_type = {"Bits32": "Fixed32", "Signed32": "Fixed32", "Bits64": "Fixed64", "Signed64": "Fixed64"}.get(scalar.item, "Varint")
         return ("Numbers", wire_type) if scalar.is_number else None
 
-    def rules(self):
-        """Each rule: the place of a message, the number of a member, and what its values have to be."""
+    def of_message(self, whole):
+        """What the members of a message have to be, by their numbers."""
         found = []
-        for place, whole in enumerate(self.messages):
-            for member in sorted(self.schema.messages[whole].members, key=lambda member: member.number):
-                content = self.content(member)
-                if member.label == "map":
-                    content = ("Message", len(self.messages) + self.maps.index((whole, member)))
-                elif member.label == "repeated":
-                    content = content or self.numbers(member)
-                found += [(place, member.number, content)] if content else []
-        for place, (_, member) in enumerate(self.maps, len(self.messages)):
-            found += [(place, 1, ("Text", None))] if member.key == "string" else []
-            content = self.content(member)
-            found += [(place, 2, content)] if content else []
+        for member in sorted(self.schema.messages[whole].members, key=lambda member: member.number):
+            content = ("Message", f"{whole}.{member.name}") if member.label == "map" else self.content(member)
+            content = content or (self.numbers(member) if member.label == "repeated" else None)
+            found += [(member.number, content)] if content else []
         return found
 
-    def told(self):
-        return ", ".join(f"{place} `{name}`" for place, name in enumerate(self.named()))
+    def of_entry(self, member):
+        """What the key and the value of a map's entries have to be."""
+        content = self.content(member)
+        return ([(1, ("Text", None))] if member.key == "string" else []) + ([(2, content)] if content else [])
+
+    def rules(self):
+        """Each rule: the place of a message, the number of a member, and what its values have to be."""
+        named = lambda kind, of: (kind, self.places[of] if kind == "Message" else of)
+        return [(self.places[name], number, named(*content)) for name, rows in self.wanted.items() for number, content in rows]
 
     # -- the code
 
     def code(self, crate, names):
-        lines = ["", "/// What has to hold of the bytes of messages that may contain themselves, and of all that may be in them, by the place of a message."]
+        lines = ["", "/// What has to hold of the bytes of messages that may contain themselves, and of all that may be in them, by the place of a message's first rule."]
         lines += ["const RULES: &[Rule] = &["]
         for place, number, (kind, of) in self.rules():
             content = f"Content::{kind}" + ("" if of is None else f"(WireType::{of})" if kind == "Numbers" else f"({of})")
@@ -210,8 +210,8 @@ class Places:
     # -- the definitions
 
     def definitions(self):
-        lines = ["", "-- what has to hold of the bytes of messages that may contain themselves, and of all that may be in them, by the place of a message:"]
-        lines += [f"-- {self.told()}", "abbrev pub all_rules : List Rule", "all_rules ="]
+        lines = ["", "-- what has to hold of the bytes of messages that may contain themselves, and of all that may be in them, by the place of a message's first rule:"]
+        lines += ["-- " + ", ".join(f"{place} `{name}`" for name, place in self.places.items()), "abbrev pub all_rules : List Rule", "all_rules ="]
         for place, number, (kind, of) in self.rules():
             content = f"content.{kind}" + ("" if of is None else f" wire.{of}" if kind == "Numbers" else f" {of}")
             lines += [f"    record {{ message = {place}; number = {number}; content = {content} }} ∷"]

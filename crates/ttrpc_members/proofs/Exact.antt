@@ -1,5 +1,5 @@
 -- What a message takes, the rules take in some number of levels: each item, kind of member and part takes only what its content allows.
-use Rattle.std.proofs.Common.{◌≡◌, ◌≢◌, ◌+◌, ℕ, zero, suc, List, [], ◌∷◌, ◌++◌, length, Option, Some, None, Bool, true, false, nat_eq, ◌⊎◌, inl, inr, if◌then◌else◌, unwrap_or, refl, sym, ap, subst, ◌∙◌, arith}
+use Rattle.std.proofs.Common.{◌≡◌, ◌≢◌, ◌+◌, ℕ, zero, suc, List, [], ◌∷◌, ◌++◌, length, drop, Option, Some, None, Bool, true, false, nat_eq, ◌⊎◌, inl, inr, if◌then◌else◌, unwrap_or, refl, sym, ap, subst, ◌∙◌, arith}
 use Rattle.std.specs.Option.{option_map}
 use Rattle.std.specs.Str.{is_utf8}
 use Rattle.std.proofs.lemmas.Bool.{eqb-true}
@@ -16,7 +16,7 @@ use Rattle.ttrpc_members.specs.Schema.{Part, Parts, member, none, with_part, mes
 use Rattle.ttrpc_members.specs.Maps.{always, entry, entry_item, inserted, map_take, map_of}
 use Rattle.ttrpc_members.specs.Choices.{Choices, no_choice, or_item, right_or, left_of, one_of}
 use Rattle.ttrpc_members.specs.Laws.{is_among}
-use Rattle.ttrpc_members.specs.Nesting.{content_of, value_in, field_in, numbers_upto, numbers_in, nested_upto, within}
+use Rattle.ttrpc_members.specs.Nesting.{content_from, content_of, value_in, field_in, numbers_upto, numbers_in, nested_upto, within}
 use Rattle.ttrpc_members.proofs.Takes.{some_is, folded_more, value_more, levels_more}
 
 -- ---- options
@@ -48,30 +48,37 @@ among_split n (k ∷ xs) ys e = by_first (nat_eq n k) e (λ r. among_split n xs 
     by_first true e h = inl refl
     by_first false e h = h e
 
+-- whether the first of these rules are of these numbers, up to the first rule of another message
+abbrev pub are_from : List Rule → ℕ → List ℕ → Bool
+are_from [] message numbers = true
+are_from (r ∷ rules) message numbers = if nat_eq r.message message then (if is_among r.number numbers then are_from rules message numbers else false) else true
+
 -- whether the rules of a message are of these numbers
 abbrev pub are_of : List Rule → ℕ → List ℕ → Bool
-are_of [] message numbers = true
-are_of (r ∷ rules) message numbers = if nat_eq r.message message then (if is_among r.number numbers then are_of rules message numbers else false) else are_of rules message numbers
+are_of rules message numbers = are_from (drop message rules) message numbers
 
-of_none : (rules : List Rule) (message : ℕ) (numbers : List ℕ) (n : ℕ) → are_of rules message numbers ≡ true → is_among n numbers ≡ false → content_of rules message n ≡ None
-of_none [] message numbers n all away = refl
-of_none (r ∷ rules) message numbers n all away = by_message (nat_eq r.message message) all (λ rest. of_none rules message numbers n rest away)
+from_none : (rules : List Rule) (message : ℕ) (numbers : List ℕ) (n : ℕ) → are_from rules message numbers ≡ true → is_among n numbers ≡ false → content_from rules message n ≡ None
+from_none [] message numbers n all away = refl
+from_none (r ∷ rules) message numbers n all away = by_message (nat_eq r.message message) all (λ rest. from_none rules message numbers n rest away)
   where
-    by_among : (b : Bool) → (if b then are_of rules message numbers else false) ≡ true → are_of rules message numbers ≡ true
+    by_among : (b : Bool) → (if b then are_from rules message numbers else false) ≡ true → are_from rules message numbers ≡ true
     by_among true e = e
     by_among false e = absurd cc
 
-    by_number : (b : Bool) → nat_eq r.number n ≡ b → (if is_among r.number numbers then are_of rules message numbers else false) ≡ true → (are_of rules message numbers ≡ true → content_of rules message n ≡ None)
-        → (if b then Some r.content else content_of rules message n) ≡ None
+    by_number : (b : Bool) → nat_eq r.number n ≡ b → (if is_among r.number numbers then are_from rules message numbers else false) ≡ true → (are_from rules message numbers ≡ true → content_from rules message n ≡ None)
+        → (if b then Some r.content else content_from rules message n) ≡ None
     by_number true e all h =
         let other : is_among r.number numbers ≡ false = ap (λ (m : ℕ). is_among m numbers) (eqb-true r.number n e) ∙ away in
-        absurd (let z = ap (λ (b : Bool). if b then are_of rules message numbers else false) (sym other) ∙ all in cc)
+        absurd (let z = ap (λ (b : Bool). if b then are_from rules message numbers else false) (sym other) ∙ all in cc)
     by_number false e all h = h (by_among (is_among r.number numbers) all)
 
-    by_message : (b : Bool) → (if b then (if is_among r.number numbers then are_of rules message numbers else false) else are_of rules message numbers) ≡ true → (are_of rules message numbers ≡ true → content_of rules message n ≡ None)
-        → (if (if b then nat_eq r.number n else false) then Some r.content else content_of rules message n) ≡ None
+    by_message : (b : Bool) → (if b then (if is_among r.number numbers then are_from rules message numbers else false) else true) ≡ true → (are_from rules message numbers ≡ true → content_from rules message n ≡ None)
+        → (if b then (if nat_eq r.number n then Some r.content else content_from rules message n) else None) ≡ None
     by_message true all h = by_number (nat_eq r.number n) refl all h
-    by_message false all h = h all
+    by_message false all h = refl
+
+of_none : (rules : List Rule) (message : ℕ) (numbers : List ℕ) (n : ℕ) → are_of rules message numbers ≡ true → is_among n numbers ≡ false → content_of rules message n ≡ None
+of_none rules message numbers n all away = from_none (drop message rules) message numbers n all away
 
 module _ (rules : List Rule) where
   -- what the rules take in some number of levels

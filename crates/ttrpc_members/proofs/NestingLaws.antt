@@ -1,5 +1,5 @@
 -- Messages in messages: reading their fields, and numbers in one value, one after the other.
-use Rattle.std.proofs.Common.{◌≡◌, ◌≤◌, ◌<◌, ◌-◌, ◌++◌, ℕ, zero, suc, List, [], ◌∷◌, length, Option, Some, None, refl, ap, ◌∙◌, arith, Bool, true, false, drop, get_or, ◌+◌}
+use Rattle.std.proofs.Common.{◌≡◌, ◌≢◌, nat_eq, ◌≤◌, ◌<◌, ◌-◌, ◌++◌, ℕ, zero, suc, List, [], ◌∷◌, length, Option, Some, None, refl, ap, ◌∙◌, arith, Bool, true, false, drop, get_or, ◌+◌}
 use Rattle.std.specs.Str.{is_utf8, IsUtf8}
 use Rattle.std.proofs.lemmas.Str.{is_utf8-from_IsUtf8, IsUtf8-from_is_utf8}
 use Rattle.ttrpc_wire.specs.declared.field.WireType.{WireType}
@@ -11,30 +11,43 @@ use Rattle.ttrpc_wire.proofs.Agrees.{found, shortens}
 use Rattle.ttrpc_wire.proofs.WireValues.{value_agrees}
 use Rattle.ttrpc_wire.proofs.Folds.{reads_end, reads_append, reads_on}
 use Rattle.ttrpc_members.specs.declared.nesting.Rule.{Rule}
-use Rattle.ttrpc_members.specs.Nesting.{content_of, is_of, text_in, field_in, nested_upto, numbers_upto, numbers_in, within}
+use Rattle.ttrpc_members.proofs.FieldNumbers.{equal_number, other_number}
+use Rattle.ttrpc_members.specs.Nesting.{content_from, text_in, field_in, nested_upto, numbers_upto, numbers_in, within}
 
 -- ---- what the rules want
 
-pub content_found : (rules : List Rule) (message number i : ℕ) (d : Rule) → i < length rules → is_of message number (get_or rules i d) ≡ true → content_of (drop i rules) message number ≡ Some (get_or rules i d).content
-content_found [] message number i d lt is = absurd (omega arith)
-content_found (q ∷ rules) message number zero d lt is = rw is refl
-content_found (q ∷ rules) message number (suc i) d lt is = content_found rules message number i d (omega arith) is
+module _ (message number : ℕ) where
+  pub content_found : (rules : List Rule) (i : ℕ) (d : Rule) → i < length rules → (get_or rules i d).message ≡ message → (get_or rules i d).number ≡ number → content_from (drop i rules) message number ≡ Some (get_or rules i d).content
+  content_found [] i d lt own is = absurd (omega arith)
+  content_found (q ∷ rules) zero d lt own is =
+      let m : nat_eq q.message message ≡ true = equal_number q.message message own in
+      let n : nat_eq q.number number ≡ true = equal_number q.number number is in
+      rw (m, n) refl
+  content_found (q ∷ rules) (suc i) d lt own is = content_found rules i d (omega arith) own is
 
-content_next : (rules : List Rule) (message number i : ℕ) (d : Rule) → i < length rules → is_of message number (get_or rules i d) ≡ false → content_of (drop i rules) message number ≡ content_of (drop (suc i) rules) message number
-content_next [] message number i d lt is = absurd (omega arith)
-content_next (q ∷ rules) message number zero d lt is = rw is refl
-content_next (q ∷ rules) message number (suc i) d lt is = content_next rules message number i d (omega arith) is
+  content_next : (rules : List Rule) (i : ℕ) (d : Rule) → i < length rules → (get_or rules i d).message ≡ message → (get_or rules i d).number ≢ number → content_from (drop i rules) message number ≡ content_from (drop (suc i) rules) message number
+  content_next [] i d lt own is = absurd (omega arith)
+  content_next (q ∷ rules) zero d lt own is =
+      let m : nat_eq q.message message ≡ true = equal_number q.message message own in
+      let n : nat_eq q.number number ≡ false = other_number q.number number is in
+      rw (m, n) refl
+  content_next (q ∷ rules) (suc i) d lt own is = content_next rules i d (omega arith) own is
 
-pub content_passed : (rules : List Rule) (message number i : ℕ) (d : Rule) → i < length rules → is_of message number (get_or rules i d) ≡ false → content_of (drop i rules) message number ≡ content_of (drop (i + 1) rules) message number
-content_passed rules message number i d lt is =
-    let e : i + 1 ≡ suc i = omega arith in
-    rw e (content_next rules message number i d lt is)
+  pub content_passed : (rules : List Rule) (i : ℕ) (d : Rule) → i < length rules → (get_or rules i d).message ≡ message → (get_or rules i d).number ≢ number → content_from (drop i rules) message number ≡ content_from (drop (i + 1) rules) message number
+  content_passed rules i d lt own is =
+      let e : i + 1 ≡ suc i = omega arith in
+      rw e (content_next rules i d lt own is)
 
-pub content_nowhere : (rules : List Rule) (message number i : ℕ) → length rules ≤ i → content_of (drop i rules) message number ≡ None
-content_nowhere [] message number zero ge = refl
-content_nowhere [] message number (suc i) ge = refl
-content_nowhere (q ∷ rules) message number zero ge = absurd (omega arith)
-content_nowhere (q ∷ rules) message number (suc i) ge = content_nowhere rules message number i (omega arith)
+  pub content_ended : (rules : List Rule) (i : ℕ) (d : Rule) → i < length rules → (get_or rules i d).message ≢ message → content_from (drop i rules) message number ≡ None
+  content_ended [] i d lt other = absurd (omega arith)
+  content_ended (q ∷ rules) zero d lt other = let m : nat_eq q.message message ≡ false = other_number q.message message other in rw m refl
+  content_ended (q ∷ rules) (suc i) d lt other = content_ended rules i d (omega arith) other
+
+  pub content_nowhere : (rules : List Rule) (i : ℕ) → length rules ≤ i → content_from (drop i rules) message number ≡ None
+  content_nowhere [] zero ge = refl
+  content_nowhere [] (suc i) ge = refl
+  content_nowhere (q ∷ rules) zero ge = absurd (omega arith)
+  content_nowhere (q ∷ rules) (suc i) ge = content_nowhere rules i (omega arith)
 
 -- ---- texts
 

@@ -1,6 +1,6 @@
 -- Messages that may contain themselves: what the bytes of one have to be, with all below them, and how deep they may nest.
 -- Source: the Protocol Buffers encoding guide, "Length-Delimited Records"; the limit is that of Protocol Buffers' own implementations.
-use Rattle.std.specs.Prelude.{◌≡◌, ◌≢◌, ℕ, zero, suc, List, [], ◌∷◌, ◌++◌, length, Option, Some, None, Bool, false, ◌==◌, if◌then◌else◌}
+use Rattle.std.specs.Prelude.{◌≡◌, ◌≢◌, ℕ, zero, suc, List, [], ◌∷◌, ◌++◌, length, drop, Option, Some, None, ◌==◌, if◌then◌else◌}
 use Rattle.std.specs.Option.{option_map}
 use Rattle.std.specs.Str.{is_utf8}
 use Rattle.ttrpc_wire.specs.declared.field.WireType.{WireType}
@@ -13,14 +13,14 @@ use Rattle.ttrpc_members.specs.declared.nesting.Content.{Content}
 use Rattle.ttrpc_members.specs.declared.nesting.Content.TheVariants as content
 use Rattle.ttrpc_members.specs.declared.nesting.Rule.{Rule}
 
--- the rule is of this message's member of this number
-abbrev pub is_of : ℕ → ℕ → Rule → Bool
-is_of message number r = if r.message == message then r.number == number else false
+-- what the first of these rules want of a member of their message, up to the first rule of another message
+abbrev pub content_from : List Rule → ℕ → ℕ → Option Content
+content_from [] message number = None
+content_from (r ∷ rules) message number = if r.message == message then (if r.number == number then Some r.content else content_from rules message number) else None
 
--- what the rules want of a member, by its message and its number, if they want anything
+-- what the rules want of a member, by its message and its number, if they want anything: a message's rules stand together, from its place on
 abbrev pub content_of : List Rule → ℕ → ℕ → Option Content
-content_of [] message number = None
-content_of (r ∷ rules) message number = if is_of message number r then Some r.content else content_of rules message number
+content_of rules message number = content_from (drop message rules) message number
 
 -- ---- what is taken: `Some tt`, or a refusal
 

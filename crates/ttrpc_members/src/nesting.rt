@@ -3,7 +3,7 @@ ghost use Rattle.std.specs.Prelude.{◌≡◌, ◌-◌, ℕ, List, Option, IfErr
 ghost use Rattle.ttrpc_wire.specs.Seen.{seen};
 ghost use Rattle.ttrpc_wire.specs.Fold.{Gives};
 ghost use Rattle.ttrpc_wire.specs.Reading.{Reads};
-ghost use Rattle.ttrpc_members.specs.Nesting.{TellsDepth, content_in, content_of as content_by, field_in, is_of as is_by, nested_upto, numbers_in, text_in, within};
+ghost use Rattle.ttrpc_members.specs.Nesting.{TellsDepth, content_in, content_from as content_of_first, content_of as content_by, field_in, nested_upto, numbers_in, text_in, within};
 
 use ttrpc_wire::{CodecError, Field, Reader, Value, WireType};
 
@@ -14,11 +14,11 @@ pub enum Content {
     Text,
     /// Numbers of this wire type, one behind the other.
     Numbers(WireType),
-    /// The message of this place among those that the rules are of.
+    /// The message whose first rule has this place among all rules.
     Message(u32),
 }
 
-/// What the values of one member have to be: the place of its message, its number, and that.
+/// What the values of one member have to be: the place of its message's first rule among all rules, its number, and that.
 #[derive(Clone, Copy)]
 pub struct Rule {
     pub message: u32,
@@ -33,14 +33,14 @@ pub trait Recursive {
     /// The rules.
     ghost rules: { List Rule };
 
-    /// Its place among the messages that the rules are of.
+    /// The place of its first rule among all rules, which are in the order of their messages.
     ghost message: { ℕ };
 
     /// The rules.
     fn rules() -> &'static [Rule]
         ensures { result.now ≡ rules };
 
-    /// Its place among the messages that the rules are of.
+    /// The place of its first rule among all rules.
     fn message() -> u32
         ensures { result ≡ message };
 }
@@ -97,23 +97,29 @@ fn check_field(
     }
 }
 
-/// What the rules want of a member.
+/// Returns what the rules want of a member. The rules of its message stand together, from its place on.
 fn content_of(rules: &[Rule], message: u32, number: u32) -> Option<Content>
     ensures { result ≡ content_by rules.now message number }
 {
+    if message as usize >= rules.len() {
+        return None;
+    }
+    content_from(&rules[message as usize..], message, number)
+}
+
+/// Returns what the first of these rules want of a member of their message, up to the first rule of another message.
+fn content_from(rules: &[Rule], message: u32, number: u32) -> Option<Content>
+    ensures { result ≡ content_of_first rules.now message number }
+{
     for rule in rules {
-        if is_of(message, number, *rule) {
+        if rule.message != message {
+            return None;
+        }
+        if rule.number == number {
             return Some(rule.content);
         }
     }
     None
-}
-
-/// Whether the rule is of this message's member of this number.
-fn is_of(message: u32, number: u32, rule: Rule) -> bool
-    ensures { result ≡ is_by message number rule }
-{
-    rule.message == message && rule.number == number
 }
 
 /// Whether the bytes are a text.

@@ -23,26 +23,26 @@ use Rattle.ttrpc_test_members.specs.declared.messages.CellKind.TheVariants as ce
 use Rattle.ttrpc_test_members.specs.declared.messages.ChoicesFigure.{ChoicesFigure}
 use Rattle.ttrpc_test_members.specs.declared.messages.ChoicesFigure.TheVariants as choices_figure_variants
 
--- what has to hold of the bytes of messages that may contain themselves, and of all that may be in them, by the place of a message:
--- 0 `test.kinds.Tree`, 1 `test.kinds.Inner`, 2 `test.kinds.Sheet`, 3 `test.kinds.Cell`, 4 `test.kinds.Row`, 5 `test.kinds.Tree.named`, 6 `test.kinds.Sheet.cells`
+-- what has to hold of the bytes of messages that may contain themselves, and of all that may be in them, by the place of a message's first rule:
+-- 0 `test.kinds.Tree`, 6 `test.kinds.Inner`, 7 `test.kinds.Sheet`, 8 `test.kinds.Cell`, 11 `test.kinds.Row`, 12 `test.kinds.Tree.named`, 14 `test.kinds.Sheet.cells`
 abbrev pub all_rules : List Rule
 all_rules =
     record { message = 0; number = 1; content = content.Text } ∷
     record { message = 0; number = 2; content = content.Message 0 } ∷
     record { message = 0; number = 3; content = content.Message 0 } ∷
-    record { message = 0; number = 4; content = content.Message 5 } ∷
-    record { message = 0; number = 5; content = content.Message 1 } ∷
+    record { message = 0; number = 4; content = content.Message 12 } ∷
+    record { message = 0; number = 5; content = content.Message 6 } ∷
     record { message = 0; number = 6; content = content.Numbers wire.Varint } ∷
-    record { message = 1; number = 1; content = content.Text } ∷
-    record { message = 2; number = 1; content = content.Message 6 } ∷
-    record { message = 3; number = 2; content = content.Text } ∷
-    record { message = 3; number = 3; content = content.Message 2 } ∷
-    record { message = 3; number = 4; content = content.Message 4 } ∷
-    record { message = 4; number = 1; content = content.Message 3 } ∷
-    record { message = 5; number = 1; content = content.Text } ∷
-    record { message = 5; number = 2; content = content.Message 0 } ∷
     record { message = 6; number = 1; content = content.Text } ∷
-    record { message = 6; number = 2; content = content.Message 3 } ∷
+    record { message = 7; number = 1; content = content.Message 14 } ∷
+    record { message = 8; number = 2; content = content.Text } ∷
+    record { message = 8; number = 3; content = content.Message 7 } ∷
+    record { message = 8; number = 4; content = content.Message 11 } ∷
+    record { message = 11; number = 1; content = content.Message 8 } ∷
+    record { message = 12; number = 1; content = content.Text } ∷
+    record { message = 12; number = 2; content = content.Message 0 } ∷
+    record { message = 14; number = 1; content = content.Text } ∷
+    record { message = 14; number = 2; content = content.Message 8 } ∷
     []
 
 -- the message `Timestamp`: 1 seconds, 2 nanos
@@ -70,7 +70,7 @@ inner = message
     (λ x. refl) (λ m. refl) refl
 
 -- the rules want of `Inner` what makes them take the bytes that read as it, and no others
-pub inner_wants : inner.wants all_rules 1
+pub inner_wants : inner.wants all_rules 6
 inner_wants = ((((tt, refl), refl), refl), refl)
 
 -- the message `Lists`: 1 ints, 2 zigzags, 3 doubles, 4 flags, 5 texts, 6 blobs, 7 ways, 8 inners, 9 fixeds
@@ -158,19 +158,19 @@ tree = message
 
 -- the rules want of `Tree` what makes them take the bytes that read as it, and no others
 pub tree_wants : tree.wants all_rules 0
-tree_wants = (((((((tt, refl), (refl, refl)), (refl, refl)), (5, refl, refl, (refl, refl), refl)), (1, refl, inner_wants)), (refl, refl)), refl)
+tree_wants = (((((((tt, refl), (refl, refl)), (refl, refl)), (12, refl, refl, (refl, refl), refl)), (6, refl, inner_wants)), (refl, refl)), refl)
 
 -- the message `Sheet`: 1 cells
 abbrev pub sheet : Message Sheet
 sheet = message
-    (none & 1 ∶ map text_key (enclosed all_rules 3))
+    (none & 1 ∶ map text_key (enclosed all_rules 8))
     (λ m. (tt, m.cells))
     (λ x. record { cells = x.1 })
     (λ x. refl) (λ m. refl) refl
 
 -- the rules want of `Sheet` what makes them take the bytes that read as it, and no others
-pub sheet_wants : sheet.wants all_rules 2
-sheet_wants = ((tt, (6, refl, refl, (refl, refl), refl)), refl)
+pub sheet_wants : sheet.wants all_rules 7
+sheet_wants = ((tt, (14, refl, refl, (refl, refl), refl)), refl)
 
 -- what is set of `CellKind`, as one of several
 abbrev pub cell_kind_split : CellKind → (((⊥ ⊎ ℕ) ⊎ List ℕ) ⊎ List ℕ) ⊎ List ℕ
@@ -196,7 +196,7 @@ cell_kind_joined (cell_kind_variants.Row x) = refl
 
 -- `CellKind`: one of 1 number, 2 text, 3 sheet, 4 row
 abbrev pub cell_kind : OneOf CellKind
-cell_kind = one_of (no_choice or 1 is bits64 or 2 is text or 3 is (enclosed all_rules 2) or 4 is (enclosed all_rules 4)) cell_kind_split cell_kind_join cell_kind_joined
+cell_kind = one_of (no_choice or 1 is bits64 or 2 is text or 3 is (enclosed all_rules 7) or 4 is (enclosed all_rules 11)) cell_kind_split cell_kind_join cell_kind_joined
 
 -- the message `Cell`: one of 1 number, 2 text, 3 sheet, 4 row
 abbrev pub cell : Message Cell
@@ -207,17 +207,17 @@ cell = message
     (λ x. refl) (λ m. refl) refl
 
 -- the rules want of `Cell` what makes them take the bytes that read as it, and no others
-pub cell_wants : cell.wants all_rules 3
+pub cell_wants : cell.wants all_rules 8
 cell_wants = ((tt, ((((tt, refl), refl), (refl, refl)), (refl, refl))), refl)
 
 -- the message `Row`: 1 cells
 abbrev pub row : Message Row
 row = message
-    (none & 1 ∶ repeated (enclosed all_rules 3))
+    (none & 1 ∶ repeated (enclosed all_rules 8))
     (λ m. (tt, m.cells))
     (λ x. record { cells = x.1 })
     (λ x. refl) (λ m. refl) refl
 
 -- the rules want of `Row` what makes them take the bytes that read as it, and no others
-pub row_wants : row.wants all_rules 4
+pub row_wants : row.wants all_rules 11
 row_wants = ((tt, (refl, refl)), refl)

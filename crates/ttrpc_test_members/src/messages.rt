@@ -1848,7 +1848,7 @@ impl Named for Row {
     }
 }
 
-/// What has to hold of the bytes of messages that may contain themselves, and of all that may be in them, by the place of a message.
+/// What has to hold of the bytes of messages that may contain themselves, and of all that may be in them, by the place of a message's first rule.
 const RULES: &[Rule] = &[
     Rule {
         message: 0,
@@ -1868,12 +1868,12 @@ const RULES: &[Rule] = &[
     Rule {
         message: 0,
         number: 4,
-        content: Content::Message(5),
+        content: Content::Message(12),
     },
     Rule {
         message: 0,
         number: 5,
-        content: Content::Message(1),
+        content: Content::Message(6),
     },
     Rule {
         message: 0,
@@ -1881,54 +1881,54 @@ const RULES: &[Rule] = &[
         content: Content::Numbers(WireType::Varint),
     },
     Rule {
-        message: 1,
+        message: 6,
         number: 1,
         content: Content::Text,
     },
     Rule {
-        message: 2,
+        message: 7,
         number: 1,
-        content: Content::Message(6),
+        content: Content::Message(14),
     },
     Rule {
-        message: 3,
+        message: 8,
         number: 2,
         content: Content::Text,
     },
     Rule {
-        message: 3,
+        message: 8,
         number: 3,
-        content: Content::Message(2),
+        content: Content::Message(7),
     },
     Rule {
-        message: 3,
+        message: 8,
         number: 4,
-        content: Content::Message(4),
+        content: Content::Message(11),
     },
     Rule {
-        message: 4,
+        message: 11,
         number: 1,
-        content: Content::Message(3),
+        content: Content::Message(8),
     },
     Rule {
-        message: 5,
+        message: 12,
         number: 1,
         content: Content::Text,
     },
     Rule {
-        message: 5,
+        message: 12,
         number: 2,
         content: Content::Message(0),
     },
     Rule {
-        message: 6,
+        message: 14,
         number: 1,
         content: Content::Text,
     },
     Rule {
-        message: 6,
+        message: 14,
         number: 2,
-        content: Content::Message(3),
+        content: Content::Message(8),
     },
 ];
 
@@ -1970,14 +1970,14 @@ impl Recursive for SheetRules {
 
     ghost rules = { all_rules };
 
-    ghost message = { 2 };
+    ghost message = { 7 };
 
     fn rules() -> &'static [Rule] {
         RULES
     }
 
     fn message() -> u32 {
-        2
+        7
     }
 }
 
@@ -1987,9 +1987,9 @@ impl Enclosable for Sheet {
 
     type Rules = SheetRules;
 
-    ghost reads = { reads_within sheet all_rules 2 sheet_wants };
+    ghost reads = { reads_within sheet all_rules 7 sheet_wants };
 
-    ghost deep = { reads_deep sheet all_rules 2 sheet_wants };
+    ghost deep = { reads_deep sheet all_rules 7 sheet_wants };
 }
 
 /// Stands for `Cell` where it is in another message, and kept as its bytes.
@@ -2000,14 +2000,14 @@ impl Recursive for CellRules {
 
     ghost rules = { all_rules };
 
-    ghost message = { 3 };
+    ghost message = { 8 };
 
     fn rules() -> &'static [Rule] {
         RULES
     }
 
     fn message() -> u32 {
-        3
+        8
     }
 }
 
@@ -2017,9 +2017,9 @@ impl Enclosable for Cell {
 
     type Rules = CellRules;
 
-    ghost reads = { reads_within cell all_rules 3 cell_wants };
+    ghost reads = { reads_within cell all_rules 8 cell_wants };
 
-    ghost deep = { reads_deep cell all_rules 3 cell_wants };
+    ghost deep = { reads_deep cell all_rules 8 cell_wants };
 }
 
 /// Stands for `Row` where it is in another message, and kept as its bytes.
@@ -2030,14 +2030,14 @@ impl Recursive for RowRules {
 
     ghost rules = { all_rules };
 
-    ghost message = { 4 };
+    ghost message = { 11 };
 
     fn rules() -> &'static [Rule] {
         RULES
     }
 
     fn message() -> u32 {
-        4
+        11
     }
 }
 
@@ -2047,7 +2047,7 @@ impl Enclosable for Row {
 
     type Rules = RowRules;
 
-    ghost reads = { reads_within row all_rules 4 row_wants };
+    ghost reads = { reads_within row all_rules 11 row_wants };
 
-    ghost deep = { reads_deep row all_rules 4 row_wants };
+    ghost deep = { reads_deep row all_rules 11 row_wants };
 }

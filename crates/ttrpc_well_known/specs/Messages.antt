@@ -25,17 +25,17 @@ use Rattle.ttrpc_well_known.specs.declared.messages.BytesValue.{BytesValue}
 use Rattle.ttrpc_well_known.specs.declared.messages.ValueMessageKind.{ValueMessageKind}
 use Rattle.ttrpc_well_known.specs.declared.messages.ValueMessageKind.TheVariants as value_message_kind_variants
 
--- what has to hold of the bytes of messages that may contain themselves, and of all that may be in them, by the place of a message:
--- 0 `google.protobuf.Struct`, 1 `google.protobuf.Value`, 2 `google.protobuf.ListValue`, 3 `google.protobuf.Struct.fields`
+-- what has to hold of the bytes of messages that may contain themselves, and of all that may be in them, by the place of a message's first rule:
+-- 0 `google.protobuf.Struct`, 1 `google.protobuf.Value`, 4 `google.protobuf.ListValue`, 5 `google.protobuf.Struct.fields`
 abbrev pub all_rules : List Rule
 all_rules =
-    record { message = 0; number = 1; content = content.Message 3 } ∷
+    record { message = 0; number = 1; content = content.Message 5 } ∷
     record { message = 1; number = 3; content = content.Text } ∷
     record { message = 1; number = 5; content = content.Message 0 } ∷
-    record { message = 1; number = 6; content = content.Message 2 } ∷
-    record { message = 2; number = 1; content = content.Message 1 } ∷
-    record { message = 3; number = 1; content = content.Text } ∷
-    record { message = 3; number = 2; content = content.Message 1 } ∷
+    record { message = 1; number = 6; content = content.Message 4 } ∷
+    record { message = 4; number = 1; content = content.Message 1 } ∷
+    record { message = 5; number = 1; content = content.Text } ∷
+    record { message = 5; number = 2; content = content.Message 1 } ∷
     []
 
 -- the message `Any`: 1 type_url, 2 value
@@ -80,7 +80,7 @@ struct = message
 
 -- the rules want of `Struct` what makes them take the bytes that read as it, and no others
 pub struct_wants : struct.wants all_rules 0
-struct_wants = ((tt, (3, refl, refl, (refl, refl), refl)), refl)
+struct_wants = ((tt, (5, refl, refl, (refl, refl), refl)), refl)
 
 -- what is set of `ValueMessageKind`, as one of several
 abbrev pub value_message_kind_split : ValueMessageKind → (((((⊥ ⊎ ℤ) ⊎ ℕ) ⊎ List ℕ) ⊎ Bool) ⊎ List ℕ) ⊎ List ℕ
@@ -112,7 +112,7 @@ value_message_kind_joined (value_message_kind_variants.ListValue x) = refl
 
 -- `ValueMessageKind`: one of 1 null_value, 2 number_value, 3 string_value, 4 bool_value, 5 struct_value, 6 list_value
 abbrev pub value_message_kind : OneOf ValueMessageKind
-value_message_kind = one_of (no_choice or 1 is int32 or 2 is bits64 or 3 is text or 4 is boolean or 5 is (enclosed all_rules 0) or 6 is (enclosed all_rules 2)) value_message_kind_split value_message_kind_join value_message_kind_joined
+value_message_kind = one_of (no_choice or 1 is int32 or 2 is bits64 or 3 is text or 4 is boolean or 5 is (enclosed all_rules 0) or 6 is (enclosed all_rules 4)) value_message_kind_split value_message_kind_join value_message_kind_joined
 
 -- the message `ValueMessage`: one of 1 null_value, 2 number_value, 3 string_value, 4 bool_value, 5 struct_value, 6 list_value
 abbrev pub value_message : Message ValueMessage
@@ -135,7 +135,7 @@ list_value = message
     (λ x. refl) (λ m. refl) refl
 
 -- the rules want of `ListValue` what makes them take the bytes that read as it, and no others
-pub list_value_wants : list_value.wants all_rules 2
+pub list_value_wants : list_value.wants all_rules 4
 list_value_wants = ((tt, (refl, refl)), refl)
 
 -- the message `Timestamp`: 1 seconds, 2 nanos

@@ -1488,12 +1488,12 @@ impl Named for BytesValue {
     }
 }
 
-/// What has to hold of the bytes of messages that may contain themselves, and of all that may be in them, by the place of a message.
+/// What has to hold of the bytes of messages that may contain themselves, and of all that may be in them, by the place of a message's first rule.
 const RULES: &[Rule] = &[
     Rule {
         message: 0,
         number: 1,
-        content: Content::Message(3),
+        content: Content::Message(5),
     },
     Rule {
         message: 1,
@@ -1508,20 +1508,20 @@ const RULES: &[Rule] = &[
     Rule {
         message: 1,
         number: 6,
-        content: Content::Message(2),
+        content: Content::Message(4),
     },
     Rule {
-        message: 2,
+        message: 4,
         number: 1,
         content: Content::Message(1),
     },
     Rule {
-        message: 3,
+        message: 5,
         number: 1,
         content: Content::Text,
     },
     Rule {
-        message: 3,
+        message: 5,
         number: 2,
         content: Content::Message(1),
     },
@@ -1595,14 +1595,14 @@ impl Recursive for ListValueRules {
 
     ghost rules = { all_rules };
 
-    ghost message = { 2 };
+    ghost message = { 4 };
 
     fn rules() -> &'static [Rule] {
         RULES
     }
 
     fn message() -> u32 {
-        2
+        4
     }
 }
 
@@ -1612,7 +1612,7 @@ impl Enclosable for ListValue {
 
     type Rules = ListValueRules;
 
-    ghost reads = { reads_within list_value all_rules 2 list_value_wants };
+    ghost reads = { reads_within list_value all_rules 4 list_value_wants };
 
-    ghost deep = { reads_deep list_value all_rules 2 list_value_wants };
+    ghost deep = { reads_deep list_value all_rules 4 list_value_wants };
 }
