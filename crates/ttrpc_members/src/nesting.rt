@@ -122,9 +122,10 @@ fn content_from(rules: &[Rule], message: u32, number: u32) -> Option<Content>
     None
 }
 
-/// Whether the bytes are a text.
+/// Checks that the bytes are a text. `BadUtf8` is the only error.
 fn check_text(bytes: &[u8]) -> Result<(), CodecError>
-    ensures { Reads (λ _. tt) result (text_in bytes.now) }
+    ensures taken { Reads (λ _. tt) result (text_in bytes.now) }
+    ensures told { IfErr result (λ e. e ≡ CodecError.BadUtf8) }
 {
     match std::str::from_utf8(bytes) {
         Ok(_) => Ok(()),
