@@ -313,7 +313,7 @@ class Choice:
 
     def taken(self, kind):
         variant, item = kind.variant, kind.item.replace("<", "::<", 1)
-        lines = ["", f"    /// Takes the value of a field of number {kind.member.number} in."]
+        lines = ["", f"    /// Takes the value of a field of number {kind.member.number} in.", "    #[tactic(auto, unfolding(ttrpc_members::specs::Choices::choice_take))]"]
         lines += [f"    fn take_{snake(variant)}(", f"        choice: &mut Option<{self.path}>,", "        alloc: Global,", "        value: Value<'_>,"]
         lines += ["    ) -> Result<(), CodecError>"]
         lines += [f"        ensures {{ Gives (λ _. choice.new) result ({self.low}.part.step choice.old (record {{ number = {kind.member.number}; value = seen_value value.entry }})) }}"]

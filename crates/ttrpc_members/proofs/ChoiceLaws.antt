@@ -6,7 +6,7 @@ use Rattle.ttrpc_wire.specs.Field.{Field, Fits, tag_bytes, value_bytes, field_by
 use Rattle.ttrpc_wire.specs.Fold.{folded}
 use Rattle.ttrpc_members.specs.Items.{Item}
 use Rattle.ttrpc_members.specs.Kinds.{IsOptional}
-use Rattle.ttrpc_members.specs.Choices.{Choices, no_choice, or_item, chosen_fields, one_of, either, left_of}
+use Rattle.ttrpc_members.specs.Choices.{Choices, no_choice, or_item, chosen_fields, choice_take, one_of, either, left_of}
 use Rattle.ttrpc_members.specs.Laws.{is_among, are_valid, AreShort, IsShort, LawfulItem, LawfulPart}
 use Rattle.ttrpc_members.proofs.FieldNumbers.{same_number, among_one, not_among_one, valid_cons, valid_apart, not_among_either, among_first, among_second}
 
@@ -64,10 +64,12 @@ module _ {S A : Type 0} (c : Choices S) (k : ℕ) (i : Item A) (f : LawfulChoice
 
 module _ {S C : Type 0} (c : Choices S) (split : C → S) (join : S → C) (joined : (x : C) → join (split x) ≡ x) (f : LawfulChoices c) where
   chosen_again : are_valid c.numbers ≡ true → (o : Option C) → IsOptional (λ x. c.is_value (split x)) o → AreShort (chosen_fields c.field (option_map split o)) → folded (one_of c split join).step None (chosen_fields c.field (option_map split o)) ≡ Some o
+  unfolding choice_take
   chosen_again valid None is short = refl
   chosen_again valid (Some x) is short =
+      let own = f.owned (split x) in
       let b = f.back valid (split x) is short in
-      rw b (ap (λ y. Some (Some y)) (joined x))
+      rw (own, b) (ap (λ y. Some (Some y)) (joined x))
 
   chosen_fits : are_valid c.numbers ≡ true → (o : Option C) → IsOptional (λ x. c.is_value (split x)) o → AreShort (chosen_fields c.field (option_map split o)) → AllByRecursion Fits (chosen_fields c.field (option_map split o))
   chosen_fits valid None is short = tt
@@ -78,7 +80,7 @@ module _ {S C : Type 0} (c : Choices S) (split : C → S) (join : S → C) (join
   chosen_owned (Some x) = (f.owned (split x), tt)
 
   chosen_passes : (o : Option C) (x : Field) → is_among x.number c.numbers ≡ false → (one_of c split join).step o x ≡ Some o
-  chosen_passes o x away = let p = f.passes (option_map split o) x away in rw p refl
+  chosen_passes o x away = rw away refl
 
   pub one_of_lawful : LawfulPart (one_of c split join)
   one_of_lawful = record { again = chosen_again; fits = chosen_fits; owned = chosen_owned; passes = chosen_passes }

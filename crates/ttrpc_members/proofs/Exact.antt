@@ -14,7 +14,7 @@ use Rattle.ttrpc_members.specs.Items.{Item, text, nested, enclosed}
 use Rattle.ttrpc_members.specs.Kinds.{Kind, single, single_take, taken_or, optional, optional_take, taken_else, repeated, repeated_take, one_more, packed, packed_take, packed_upto, packed_from}
 use Rattle.ttrpc_members.specs.Schema.{Part, Parts, member, none, with_part, message_of}
 use Rattle.ttrpc_members.specs.Maps.{always, entry, entry_item, inserted, map_take, map_of}
-use Rattle.ttrpc_members.specs.Choices.{Choices, no_choice, or_item, right_or, left_of, one_of}
+use Rattle.ttrpc_members.specs.Choices.{Choices, no_choice, or_item, right_or, left_of, choice_take, one_of}
 use Rattle.ttrpc_members.specs.Laws.{is_among}
 use Rattle.ttrpc_members.specs.Nesting.{content_from, content_of, value_in, field_in, numbers_upto, numbers_in, nested_upto, within}
 use Rattle.ttrpc_members.proofs.Takes.{some_is, folded_more, value_more, levels_more}
@@ -197,8 +197,12 @@ module _ (rules : List Rule) where
     pub or_exact : ExactChoices message (or_item c n i)
     or_exact o f taken own = by_choice (nat_eq f.number n) o f refl taken (among_split f.number c.numbers (n ∷ []) own)
 
+  choice_was : {S C : Type 0} (c : Choices S) (split : C → S) (join : S → C) (o : Option C) (f : Field) → choice_take c split join o f ≢ None → c.read (option_map split o) f ≢ None
+  unfolding choice_take
+  choice_was c split join o f taken = map_was _ (c.read (option_map split o) f) taken
+
   pub one_of_exact : {S C : Type 0} (message : ℕ) (c : Choices S) (split : C → S) (join : S → C) → ExactChoices message c → ExactPart message (one_of c split join)
-  one_of_exact message c split join h o f taken own = h (option_map split o) f (map_was _ (c.read (option_map split o) f) taken) own
+  one_of_exact message c split join h o f taken own = h (option_map split o) f (choice_was c split join o f (rw own at taken)) own
 
   -- ---- messages in messages
 

@@ -19,14 +19,14 @@ use Rattle.ttrpc_wire.specs.Front.{Begins}
 use Rattle.ttrpc_wire.specs.Reading.{◌>>=◌}
 use Rattle.ttrpc_wire.proofs.Folds.{folded-append, reads_written}
 use Rattle.ttrpc_wire.proofs.Varints.{varint_spells}
-use Rattle.ttrpc_members.specs.Choices.{Choices, or_item, right_or, left_of}
+use Rattle.ttrpc_members.specs.Choices.{Choices, or_item, choice_take, right_or, left_of}
 use Rattle.ttrpc_members.specs.Items.{Item, Coding, as_varint, as_fixed64, as_fixed32, bytes, text, nested, boolean_of}
 use Rattle.ttrpc_members.specs.Kinds.{Kind, single_take, single, optional, optional_take, taken_else, repeated, repeated_take, one_more, packed, packed_take, packed_from}
-use Rattle.ttrpc_members.specs.Laws.{taken}
+use Rattle.ttrpc_members.specs.Laws.{is_among, taken}
 use Rattle.ttrpc_members.specs.Maps.{map_of, map_take, inserted}
 use Rattle.ttrpc_members.specs.Meaning.{values_at, last_or, varints_in, fixed64s_in, fixed32s_in, bytes_in, in_front, items_in, Numbers, One, Several, varints_bytes, numbers_value, all_numbers, message_value, last_at, one_more_choice}
 use Rattle.ttrpc_members.specs.Schema.{member, flat}
-use Rattle.ttrpc_members.proofs.FieldNumbers.{equal_number, other_number}
+use Rattle.ttrpc_members.proofs.FieldNumbers.{equal_number, other_number, among_first, among_second}
 use Rattle.ttrpc_members.proofs.PackedLaws.{packed_on, packed_end}
 
 -- a member is made of the values of its number, in order
@@ -278,7 +278,7 @@ module _ {K V : Type 0} (order : K → K → Ordering) (total : IsTotalOrder ord
 
 -- ---- members of which at most one is set
 
-module _ {S A : Type 0} (c : Choices S) (k : ℕ) (i : Item A) where
+module _ {S A : Type 0} (c : Choices S) (passes : (o : Option S) (f : Field) → is_among f.number c.numbers ≡ false → c.read o f ≡ Some None) (k : ℕ) (i : Item A) where
   abbrev step : Option (S ⊎ A) → Field → Option (Option (S ⊎ A))
   step o f = (one_more_choice c k i).step o f
 
@@ -291,14 +291,22 @@ module _ {S A : Type 0} (c : Choices S) (k : ℕ) (i : Item A) where
   last_field fs f before after e h =
       folded-append step None fs (f ∷ []) ∙ ap (λ o. o >>= λ n. folded step n (f ∷ [])) e ∙ ap (λ o. o >>= λ n. Some n) h
 
-  is_set : (o : Option (S ⊎ A)) (f : Field) (s : S ⊎ A) → (or_item c k i).read o f ≡ Some (Some s) → step o f ≡ Some (Some s)
-  is_set o f s e = let u = unchanged o in rw (u, e) refl
+  is_set : (o : Option (S ⊎ A)) (f : Field) (s : S ⊎ A) → is_among f.number (c.numbers ++ k ∷ []) ≡ true → (or_item c k i).read o f ≡ Some (Some s) → step o f ≡ Some (Some s)
+  unfolding choice_take
+  is_set o f s own e = let u = unchanged o in rw (own, u, e) refl
 
   own : (o : Option (S ⊎ A)) (f : Field) (x : A) → f.number ≡ k → i.read (right_or i.first o) f.value ≡ Some (Some x) → step o f ≡ Some (Some (inr x))
-  own o f x n e = is_set o f (inr x) (let t = equal_number f.number k n in rw (t, e) refl)
+  own o f x n e =
+      let t = equal_number f.number k n in
+      let mine : is_among f.number (k ∷ []) ≡ true = ap (λ b. if b then true else false) t in
+      is_set o f (inr x) (among_second f.number c.numbers (k ∷ []) mine) (rw (t, e) refl)
 
   other : (o : Option (S ⊎ A)) (f : Field) (s : S) → f.number ≢ k → c.read (left_of o) f ≡ Some (Some s) → step o f ≡ Some (Some (inl s))
-  other o f s n e = is_set o f (inl s) (let t = other_number f.number k n in rw (t, e) refl)
+  other o f s n e = is_set o f (inl s) (among_first f.number c.numbers (k ∷ []) (theirs (is_among f.number c.numbers) refl)) (let t = other_number f.number k n in rw (t, e) refl)
+    where
+      theirs : (b : Bool) → is_among f.number c.numbers ≡ b → b ≡ true
+      theirs true e = refl
+      theirs false away = let p = passes (left_of o) f away in absurd cc
 
   new_own : (before : Option (S ⊎ A)) → ((old : A) → before ≢ Some (inr old)) → right_or i.first before ≡ i.first
   new_own None h = refl

@@ -12,9 +12,10 @@ use Rattle.ttrpc_members.specs.declared.nesting.Content.TheVariants as content
 use Rattle.ttrpc_members.specs.declared.nesting.Rule.{Rule}
 use Rattle.ttrpc_members.specs.Items.{Item, Coding, text, bytes, nested, enclosed, as_varint, as_fixed64, as_fixed32}
 use Rattle.ttrpc_members.specs.Kinds.{Kind, single, single_take, taken_or, optional, optional_take, taken_else, repeated, repeated_take, one_more, packed, packed_take, packed_upto, packed_from}
+use Rattle.ttrpc_members.specs.Laws.{is_among}
 use Rattle.ttrpc_members.specs.Schema.{Part, Parts, member, none, with_part, message_of}
 use Rattle.ttrpc_members.specs.Maps.{always, entry, entry_item, inserted, map_take, map_of}
-use Rattle.ttrpc_members.specs.Choices.{Choices, no_choice, or_item, right_or, left_of, one_of}
+use Rattle.ttrpc_members.specs.Choices.{Choices, no_choice, or_item, right_or, left_of, choice_take, one_of}
 use Rattle.ttrpc_members.specs.Nesting.{content_of, value_in, field_in, numbers_upto, numbers_in, nested_upto, within}
 
 -- ---- options
@@ -214,8 +215,16 @@ module _ (rules : List Rule) (k : ℕ) where
     pub or_takes : TakesChoices message (or_item c n i)
     or_takes o f allowed = by_choice (nat_eq f.number n) o f refl allowed
 
+  choice_taken : {S C : Type 0} (message : ℕ) (c : Choices S) (split : C → S) (join : S → C) → TakesChoices message c → (o : Option C) (f : Field) → AllowedField message f → choice_take c split join o f ≢ None
+  unfolding choice_take
+  choice_taken message c split join h o f allowed = map_is _ (c.read (option_map split o) f) (h (option_map split o) f allowed)
+
   pub one_of_takes : {S C : Type 0} (message : ℕ) (c : Choices S) (split : C → S) (join : S → C) → TakesChoices message c → TakesPart message (one_of c split join)
-  one_of_takes message c split join h o f allowed = map_is _ (c.read (option_map split o) f) (h (option_map split o) f allowed)
+  one_of_takes message c split join h o f allowed = by_among (is_among f.number c.numbers)
+    where
+      by_among : (b : Bool) → (if b then choice_take c split join o f else Some o) ≢ None
+      by_among true = choice_taken message c split join h o f allowed
+      by_among false = some_is o
 
 -- ---- numbers in one value
 

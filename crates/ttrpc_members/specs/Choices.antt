@@ -6,6 +6,7 @@ use Rattle.std.specs.Option.{option_map}
 use Rattle.ttrpc_wire.specs.Field.{Field}
 use Rattle.ttrpc_members.specs.Items.{Item}
 use Rattle.ttrpc_members.specs.Kinds.{IsOptional, taken_else}
+use Rattle.ttrpc_members.specs.Laws.{is_among}
 use Rattle.ttrpc_members.specs.Schema.{Part}
 
 -- Members to choose from: the values of each, what one more field makes of the one that is set (none, another, or a refusal), the field
@@ -56,12 +57,16 @@ abbrev pub chosen_fields : {S : Type 0} → (S → Field) → Option S → List 
 chosen_fields field None = []
 chosen_fields field (Some s) = field s ∷ []
 
--- the part of a message that is one of these, as the type C has them
+-- what a field of one of the numbers makes of what is set: more of it, or another, or the same where it has another wire type
+unfoldable pub choice_take : {S C : Type 0} → Choices S → (C → S) → (S → C) → Option C → Field → Option (Option C)
+choice_take c split join o f = option_map (λ t. taken_else o (option_map join t)) (c.read (option_map split o) f)
+
+-- the part of a message that is one of these, as the type C has them; fields of other numbers pass it by
 abbrev pub one_of : {S C : Type 0} → Choices S → (C → S) → (S → C) → Part (Option C)
 one_of c split join = record {
   is_value = IsOptional (λ x. c.is_value (split x));
   empty = None;
-  step = λ o f. option_map (λ t. taken_else o (option_map join t)) (c.read (option_map split o) f);
+  step = λ o f. if is_among f.number c.numbers then choice_take c split join o f else Some o;
   fields = λ o. chosen_fields c.field (option_map split o);
   numbers = c.numbers;
 }

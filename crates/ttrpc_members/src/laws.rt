@@ -64,10 +64,16 @@ where
 
 /// Some members of which at most one is set.
 pub trait Members: Sized {
+    ghost use Rattle.std.specs.Prelude.{◌≡◌, Option, Some, None, false};
+    ghost use Rattle.ttrpc_wire.specs.Field.{Field};
     ghost use Rattle.ttrpc_members.specs.Choices.{Choices};
+    ghost use Rattle.ttrpc_members.specs.Laws.{is_among};
 
     /// Their numbers, and how each is written and read.
     ghost choices: { Choices Self };
+
+    /// Fields of other numbers set none of them.
+    ghost passes: { (set : Option Self) (field : Field) → is_among field.number Self.choices.numbers ≡ false → Self.choices.read set field ≡ Some None };
 }
 
 /// Of members of which at most one is set, the last that a field sets is set, whatever was set before: it begins anew where

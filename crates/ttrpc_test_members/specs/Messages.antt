@@ -13,6 +13,7 @@ use Rattle.ttrpc_test_members.specs.declared.messages.Lists.{Lists}
 use Rattle.ttrpc_test_members.specs.declared.messages.Options.{Options}
 use Rattle.ttrpc_test_members.specs.declared.messages.Tables.{Tables}
 use Rattle.ttrpc_test_members.specs.declared.messages.Choices.{Choices}
+use Rattle.ttrpc_test_members.specs.declared.messages.Labelled.{Labelled}
 use Rattle.ttrpc_test_members.specs.declared.messages.All.{All}
 use Rattle.ttrpc_test_members.specs.declared.messages.Tree.{Tree}
 use Rattle.ttrpc_test_members.specs.declared.messages.Sheet.{Sheet}
@@ -22,6 +23,8 @@ use Rattle.ttrpc_test_members.specs.declared.messages.CellKind.{CellKind}
 use Rattle.ttrpc_test_members.specs.declared.messages.CellKind.TheVariants as cell_kind_variants
 use Rattle.ttrpc_test_members.specs.declared.messages.ChoicesFigure.{ChoicesFigure}
 use Rattle.ttrpc_test_members.specs.declared.messages.ChoicesFigure.TheVariants as choices_figure_variants
+use Rattle.ttrpc_test_members.specs.declared.messages.LabelledKind.{LabelledKind}
+use Rattle.ttrpc_test_members.specs.declared.messages.LabelledKind.TheVariants as labelled_kind_variants
 
 -- what has to hold of the bytes of messages that may contain themselves, and of all that may be in them, by the place of a message's first rule:
 -- 0 `test.kinds.Tree`, 6 `test.kinds.Inner`, 7 `test.kinds.Sheet`, 8 `test.kinds.Cell`, 11 `test.kinds.Row`, 12 `test.kinds.Tree.named`, 14 `test.kinds.Sheet.cells`
@@ -138,6 +141,34 @@ choices = message
     (none &one choices_figure & 8 ∶ single text)
     (λ m. ((tt, m.figure), m.behind))
     (λ x. record { figure = x.0.1; behind = x.1 })
+    (λ x. refl) (λ m. refl) refl
+
+-- what is set of `LabelledKind`, as one of several
+abbrev pub labelled_kind_split : LabelledKind → (⊥ ⊎ List ℕ) ⊎ Inner
+labelled_kind_split (labelled_kind_variants.Text x) = inl (inr x)
+labelled_kind_split (labelled_kind_variants.Inner x) = inr x
+
+-- the other way round
+abbrev pub labelled_kind_join : (⊥ ⊎ List ℕ) ⊎ Inner → LabelledKind
+labelled_kind_join (inl (inl x)) = absurd x
+labelled_kind_join (inl (inr x)) = labelled_kind_variants.Text x
+labelled_kind_join (inr x) = labelled_kind_variants.Inner x
+
+-- both ways give it back
+pub labelled_kind_joined : (x : LabelledKind) → labelled_kind_join (labelled_kind_split x) ≡ x
+labelled_kind_joined (labelled_kind_variants.Text x) = refl
+labelled_kind_joined (labelled_kind_variants.Inner x) = refl
+
+-- `LabelledKind`: one of 1 text, 2 inner
+abbrev pub labelled_kind : OneOf LabelledKind
+labelled_kind = one_of (no_choice or 1 is text or 2 is (nested inner)) labelled_kind_split labelled_kind_join labelled_kind_joined
+
+-- the message `Labelled`: one of 1 text, 2 inner, 3 labels
+abbrev pub labelled : Message Labelled
+labelled = message
+    (none &one labelled_kind & 3 ∶ map text_key int32)
+    (λ m. ((tt, m.kind), m.labels))
+    (λ x. record { kind = x.0.1; labels = x.1 })
     (λ x. refl) (λ m. refl) refl
 
 -- the message `All`: 1 figures, 2 lists, 3 options, 4 tables, 5 choices

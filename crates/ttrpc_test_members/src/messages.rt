@@ -912,6 +912,7 @@ impl ChoicesFigure {
     ghost use Rattle.ttrpc_test_members.specs.Messages.{choices_figure};
 
     /// Takes the value of a field of number 1 in.
+    #[tactic(auto, unfolding(ttrpc_members::specs::Choices::choice_take))]
     fn take_number(
         choice: &mut Option<ChoicesFigure>,
         alloc: Global,
@@ -931,6 +932,7 @@ impl ChoicesFigure {
     }
 
     /// Takes the value of a field of number 2 in.
+    #[tactic(auto, unfolding(ttrpc_members::specs::Choices::choice_take))]
     fn take_text(
         choice: &mut Option<ChoicesFigure>,
         alloc: Global,
@@ -950,6 +952,7 @@ impl ChoicesFigure {
     }
 
     /// Takes the value of a field of number 3 in.
+    #[tactic(auto, unfolding(ttrpc_members::specs::Choices::choice_take))]
     fn take_inner(
         choice: &mut Option<ChoicesFigure>,
         alloc: Global,
@@ -969,6 +972,7 @@ impl ChoicesFigure {
     }
 
     /// Takes the value of a field of number 4 in.
+    #[tactic(auto, unfolding(ttrpc_members::specs::Choices::choice_take))]
     fn take_flag(
         choice: &mut Option<ChoicesFigure>,
         alloc: Global,
@@ -988,6 +992,7 @@ impl ChoicesFigure {
     }
 
     /// Takes the value of a field of number 5 in.
+    #[tactic(auto, unfolding(ttrpc_members::specs::Choices::choice_take))]
     fn take_weight(
         choice: &mut Option<ChoicesFigure>,
         alloc: Global,
@@ -1007,6 +1012,7 @@ impl ChoicesFigure {
     }
 
     /// Takes the value of a field of number 6 in.
+    #[tactic(auto, unfolding(ttrpc_members::specs::Choices::choice_take))]
     fn take_way(
         choice: &mut Option<ChoicesFigure>,
         alloc: Global,
@@ -1026,6 +1032,7 @@ impl ChoicesFigure {
     }
 
     /// Takes the value of a field of number 7 in.
+    #[tactic(auto, unfolding(ttrpc_members::specs::Choices::choice_take))]
     fn take_blob(
         choice: &mut Option<ChoicesFigure>,
         alloc: Global,
@@ -1190,6 +1197,195 @@ impl Named for Choices {
 
     fn full_name() -> &'static str {
         "test.kinds.Choices"
+    }
+}
+
+/// One of text, inner.
+#[derive(Drop)]
+pub enum LabelledKind {
+    /// Field 1.
+    Text(Text),
+    /// Field 2.
+    Inner(Inner),
+}
+
+/// At most one of several, before a map.
+#[derive(Drop)]
+pub struct Labelled {
+    /// Field 1, 2.
+    pub kind: Option<LabelledKind>,
+    /// Field 3.
+    pub labels: Map<Text, i32>,
+}
+
+const LABELLED_TEXT: FieldNumber = FieldNumber { value: 1 };
+
+const LABELLED_INNER: FieldNumber = FieldNumber { value: 2 };
+
+const LABELLED_LABELS: FieldNumber = FieldNumber { value: 3 };
+
+impl LabelledKind {
+    ghost use Rattle.ttrpc_wire.specs.Fold.{Gives};
+    ghost use Rattle.ttrpc_wire.specs.Seen.{seen_value};
+    ghost use Rattle.ttrpc_test_members.specs.Messages.{labelled_kind};
+
+    /// Takes the value of a field of number 1 in.
+    #[tactic(auto, unfolding(ttrpc_members::specs::Choices::choice_take))]
+    fn take_text(
+        choice: &mut Option<LabelledKind>,
+        alloc: Global,
+        value: Value<'_>,
+    ) -> Result<(), CodecError>
+        ensures { Gives (λ _. choice.new) result (labelled_kind.part.step choice.old (record { number = 1; value = seen_value value.entry })) }
+    {
+        if let Some(LabelledKind::Text(item)) = choice {
+            Utf8::read(item, alloc, value)?;
+            return Ok(());
+        }
+        let mut item = Utf8::first(alloc);
+        if Utf8::read(&mut item, alloc, value)? {
+            *choice = Some(LabelledKind::Text(item));
+        }
+        Ok(())
+    }
+
+    /// Takes the value of a field of number 2 in.
+    #[tactic(auto, unfolding(ttrpc_members::specs::Choices::choice_take))]
+    fn take_inner(
+        choice: &mut Option<LabelledKind>,
+        alloc: Global,
+        value: Value<'_>,
+    ) -> Result<(), CodecError>
+        ensures { Gives (λ _. choice.new) result (labelled_kind.part.step choice.old (record { number = 2; value = seen_value value.entry })) }
+    {
+        if let Some(LabelledKind::Inner(item)) = choice {
+            Nested::<Inner>::read(item, alloc, value)?;
+            return Ok(());
+        }
+        let mut item = Nested::<Inner>::first(alloc);
+        if Nested::<Inner>::read(&mut item, alloc, value)? {
+            *choice = Some(LabelledKind::Inner(item));
+        }
+        Ok(())
+    }
+}
+
+impl Choice for LabelledKind {
+    ghost use Rattle.ttrpc_test_members.specs.Messages.{labelled_kind};
+
+    ghost part = { labelled_kind.part };
+
+    fn put(
+        choice: &mut Option<LabelledKind>,
+        alloc: Global,
+        field: Field<'_>,
+    ) -> Result<(), CodecError> {
+        match field.number.value {
+            1 => LabelledKind::take_text(choice, alloc, field.value),
+            2 => LabelledKind::take_inner(choice, alloc, field.value),
+            _ => Ok(()),
+        }
+    }
+
+    fn length(choice: &Option<LabelledKind>) -> u64 {
+        match choice {
+            None => 0,
+            Some(LabelledKind::Text(item)) => item_len::<Utf8>(item, LABELLED_TEXT),
+            Some(LabelledKind::Inner(item)) => item_len::<Nested<Inner>>(item, LABELLED_INNER),
+        }
+    }
+
+    fn write(choice: &Option<LabelledKind>, out: &mut Vec<u8>) -> Result<(), CodecError> {
+        match choice {
+            None => Ok(()),
+            Some(LabelledKind::Text(item)) => put_item::<Utf8>(item, LABELLED_TEXT, out),
+            Some(LabelledKind::Inner(item)) => put_item::<Nested<Inner>>(item, LABELLED_INNER, out),
+        }
+    }
+
+    fn try_clone(choice: &Option<LabelledKind>) -> Result<Option<LabelledKind>, AllocError> {
+        Ok(match choice {
+            None => None,
+            Some(LabelledKind::Text(item)) => Some(LabelledKind::Text(Utf8::try_clone(item)?)),
+            Some(LabelledKind::Inner(item)) => {
+                Some(LabelledKind::Inner(Nested::<Inner>::try_clone(item)?))
+            }
+        })
+    }
+
+    fn lemma_is_value(choice: &Option<LabelledKind>) {
+        match choice {
+            None => {}
+            Some(LabelledKind::Text(item)) => Utf8::lemma_is_value(item),
+            Some(LabelledKind::Inner(item)) => Nested::<Inner>::lemma_is_value(item),
+        }
+    }
+}
+
+impl TryClone for Labelled {
+    fn try_clone(&self) -> Result<Labelled, AllocError> {
+        let kind = LabelledKind::try_clone(&self.kind)?;
+        let labels = MapOf::<Utf8, Int32>::try_clone(&self.labels)?;
+        Ok(Labelled { kind, labels })
+    }
+}
+
+impl WireMessage for Labelled {
+    ghost use Rattle.ttrpc_test_members.specs.Messages.{labelled};
+
+    ghost is_value = { labelled.part.is_value };
+
+    ghost empty = { labelled.part.empty };
+
+    ghost step = { labelled.part.step };
+
+    ghost fields = { labelled.part.fields };
+
+    fn new(alloc: Global) -> Labelled {
+        Labelled {
+            kind: None,
+            labels: MapOf::<Utf8, Int32>::empty(alloc),
+        }
+    }
+
+    fn put(&mut self, alloc: Global, field: Field<'_>) -> Result<(), CodecError> {
+        match field.number.value {
+            1 | 2 => LabelledKind::put(&mut self.kind, alloc, field),
+            3 => MapOf::<Utf8, Int32>::take(&mut self.labels, alloc, field.value),
+            _ => Ok(()),
+        }
+    }
+
+    #[tactic(auto, using(ttrpc_members::proofs::Groups::flat_measured))]
+    fn length(&self) -> u64 {
+        let len: u64 = 0;
+        let len = len.saturating_add(LabelledKind::length(&self.kind));
+        len.saturating_add(MapOf::<Utf8, Int32>::length(&self.labels, LABELLED_LABELS))
+    }
+
+    #[tactic(auto, using(ttrpc_members::proofs::Groups::flat_written, ttrpc_members::proofs::Groups::flat_len))]
+    fn write(&self, out: &mut Vec<u8>) -> Result<(), CodecError> {
+        LabelledKind::write(&self.kind, out)?;
+        MapOf::<Utf8, Int32>::write(&self.labels, LABELLED_LABELS, out)
+    }
+
+    fn lemma_is_value(&self) {
+        LabelledKind::lemma_is_value(&self.kind);
+        MapOf::<Utf8, Int32>::lemma_is_value(&self.labels);
+    }
+
+    ghost again = { labelled.laws.again labelled.valid };
+
+    ghost fits = { labelled.laws.fits labelled.valid };
+}
+
+impl Named for Labelled {
+    ghost use Rattle.std.specs.Prelude.{codes};
+
+    ghost full_name = { codes "test.kinds.Labelled" };
+
+    fn full_name() -> &'static str {
+        "test.kinds.Labelled"
     }
 }
 
@@ -1579,6 +1775,7 @@ impl CellKind {
     ghost use Rattle.ttrpc_test_members.specs.Messages.{cell_kind};
 
     /// Takes the value of a field of number 1 in.
+    #[tactic(auto, unfolding(ttrpc_members::specs::Choices::choice_take))]
     fn take_number(
         choice: &mut Option<CellKind>,
         alloc: Global,
@@ -1598,6 +1795,7 @@ impl CellKind {
     }
 
     /// Takes the value of a field of number 2 in.
+    #[tactic(auto, unfolding(ttrpc_members::specs::Choices::choice_take))]
     fn take_text(
         choice: &mut Option<CellKind>,
         alloc: Global,
@@ -1617,6 +1815,7 @@ impl CellKind {
     }
 
     /// Takes the value of a field of number 3 in.
+    #[tactic(auto, unfolding(ttrpc_members::specs::Choices::choice_take))]
     fn take_sheet(
         choice: &mut Option<CellKind>,
         alloc: Global,
@@ -1636,6 +1835,7 @@ impl CellKind {
     }
 
     /// Takes the value of a field of number 4 in.
+    #[tactic(auto, unfolding(ttrpc_members::specs::Choices::choice_take))]
     fn take_row(
         choice: &mut Option<CellKind>,
         alloc: Global,

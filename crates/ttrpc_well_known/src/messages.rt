@@ -424,6 +424,7 @@ impl ValueMessageKind {
     ghost use Rattle.ttrpc_well_known.specs.Messages.{value_message_kind};
 
     /// Takes the value of a field of number 1 in.
+    #[tactic(auto, unfolding(ttrpc_members::specs::Choices::choice_take))]
     fn take_null_value(
         choice: &mut Option<ValueMessageKind>,
         alloc: Global,
@@ -443,6 +444,7 @@ impl ValueMessageKind {
     }
 
     /// Takes the value of a field of number 2 in.
+    #[tactic(auto, unfolding(ttrpc_members::specs::Choices::choice_take))]
     fn take_number_value(
         choice: &mut Option<ValueMessageKind>,
         alloc: Global,
@@ -462,6 +464,7 @@ impl ValueMessageKind {
     }
 
     /// Takes the value of a field of number 3 in.
+    #[tactic(auto, unfolding(ttrpc_members::specs::Choices::choice_take))]
     fn take_string_value(
         choice: &mut Option<ValueMessageKind>,
         alloc: Global,
@@ -481,6 +484,7 @@ impl ValueMessageKind {
     }
 
     /// Takes the value of a field of number 4 in.
+    #[tactic(auto, unfolding(ttrpc_members::specs::Choices::choice_take))]
     fn take_bool_value(
         choice: &mut Option<ValueMessageKind>,
         alloc: Global,
@@ -500,6 +504,7 @@ impl ValueMessageKind {
     }
 
     /// Takes the value of a field of number 5 in.
+    #[tactic(auto, unfolding(ttrpc_members::specs::Choices::choice_take))]
     fn take_struct_value(
         choice: &mut Option<ValueMessageKind>,
         alloc: Global,
@@ -519,6 +524,7 @@ impl ValueMessageKind {
     }
 
     /// Takes the value of a field of number 6 in.
+    #[tactic(auto, unfolding(ttrpc_members::specs::Choices::choice_take))]
     fn take_list_value(
         choice: &mut Option<ValueMessageKind>,
         alloc: Global,

@@ -1,6 +1,6 @@
 //! Messages as bytes, and what those bytes mean.
-use crate::messages::{All, Choices, Figures, Lists, Options, Tables};
-use crate::tests::vectors::{ALL, CHOICES, FIGURES, LISTS, OPTIONS, TABLES};
+use crate::messages::{All, Choices, Figures, Labelled, Lists, Options, Tables};
+use crate::tests::vectors::{ALL, CHOICES, FIGURES, LABELLED, LISTS, OPTIONS, TABLES};
 use std::alloc::Global;
 use std::test::Fail;
 use ttrpc_bench::checks::{Tested, check, check_row};
@@ -70,6 +70,11 @@ fn maps_are_written_by_rising_key(rt: HostRuntime) -> Tested {
 fn the_last_of_several_wins(rt: HostRuntime) -> Tested {
     check_pairs::<Choices>(rt.alloc(), CHOICES)?;
     check_pairs::<Choices>(rt.alloc(), MERGED)
+}
+
+#[test]
+fn one_of_several_stands_before_a_map(rt: HostRuntime) -> Tested {
+    check_pairs::<Labelled>(rt.alloc(), LABELLED)
 }
 
 #[test]
