@@ -1,0 +1,4 @@
+pub mod Members
+pub mod Telling
+pub mod Story
+pub mod Reported

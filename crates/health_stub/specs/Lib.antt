@@ -1,0 +1,4 @@
+pub mod Messages
+pub mod Health
+pub mod Report
+pub mod Scan

@@ -1,0 +1,4 @@
+mod answers_tests;
+mod events;
+mod run_tests;
+mod worlds;
