@@ -1,0 +1,105 @@
+//! The program's calls, over a connection of their own.
+use crate::beside::Beside;
+use crate::system::{System, nix};
+use crate::telling::{tell_error, tell_status};
+use futures::Future;
+use health_stub::HealthClient;
+use health_stub::messages::{HealthCheckRequest, HealthCheckResponse};
+use std::io::Write;
+use tokio::runtime::LocalRuntime;
+use ttrpc_message::Context;
+use ttrpc_polled_client::{Client, ClientStreamReceiver, TcpConnection};
+use ttrpc_proto::{Result, Text};
+use ttrpc_secure::Plain;
+
+/// An event loop, and a connection that is polled on it as long as it isn't over.
+#[derive(Drop)]
+struct Driver<R: System> {
+    rt: R,
+    runtime: LocalRuntime,
+    connection: Option<TcpConnection<R, Plain, Plain>>,
+}
+
+/// A client, and what drives its connection.
+#[derive(Drop)]
+pub struct Site<R: System> {
+    driver: Driver<R>,
+    client: HealthClient<R>,
+}
+
+impl<R: System> Site<R> {
+    /// Connects to an address.
+    pub fn connect(rt: R, address: &str, nodelay: bool) -> Result<Site<R>> {
+        let mut runtime = nix(LocalRuntime::new(&rt))?;
+        let connecting = Client::connect(rt.clone()?, runtime.handle(), address, nodelay)?;
+        let (client, connection) = nix(runtime.block_on(&rt, connecting))??;
+        let driver = Driver {
+            rt,
+            runtime,
+            connection: Some(connection),
+        };
+        Ok(Site {
+            driver,
+            client: HealthClient { client },
+        })
+    }
+
+    fn request(&self, name: &str) -> Result<HealthCheckRequest> {
+        let service = Text::from_str(self.driver.rt.alloc(), name)?;
+        Ok(HealthCheckRequest { service })
+    }
+
+    /// Calls `Check`, and tells the status, or why there is none. Returns the program's status.
+    pub fn check<W: Write>(&mut self, name: &str, output: &mut W) -> Result<u8> {
+        let context = Context::new(self.driver.rt.alloc());
+        let call = self.client.check(context, &self.request(name)?);
+        match self.driver.done(call)? {
+            Ok(response) => {
+                tell_status(response.status, output)?;
+                Ok(0)
+            }
+            Err(error) => tell_error(error, output),
+        }
+    }
+
+    /// Opens `Watch`, and tells each status, and why there are no more if they weren't all. Returns the program's status.
+    pub fn watch<W: Write>(&mut self, name: &str, output: &mut W) -> Result<u8> {
+        let context = Context::new(self.driver.rt.alloc());
+        let opening = self.client.watch(context, &self.request(name)?);
+        let mut stream = self.driver.done(opening)??;
+        for _ in 0..u64::MAX {
+            if let Some(status) = self.driver.tell_next(&mut stream, output)? {
+                return Ok(status);
+            }
+        }
+        Ok(1)
+    }
+}
+
+impl<R: System> Driver<R> {
+    /// Does this step, while the connection goes on.
+    fn done<F: Future>(&mut self, step: F) -> Result<F::Output>
+    where
+        F::Output: Drop,
+        requires { F.can_poll step }
+    {
+        let connection = &mut self.connection;
+        nix(self.runtime.block_on(&self.rt, Beside { step, connection }))
+    }
+
+    /// Receives the next status, and tells it. Returns the program's status if there is none.
+    fn tell_next<W: Write>(
+        &mut self,
+        stream: &mut ClientStreamReceiver<HealthCheckResponse, R, Plain, Plain>,
+        output: &mut W,
+    ) -> Result<Option<u8>> {
+        match self.done(stream.recv())? {
+            Ok(Some(response)) => {
+                tell_status(response.status, output)?;
+                Ok(None)
+            }
+            Ok(None) => Ok(Some(0)),
+            Err(error) => Ok(Some(tell_error(error, output)?)),
+        }
+    }
+}

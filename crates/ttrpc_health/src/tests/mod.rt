@@ -1,0 +1,4 @@
+mod bytes_tests;
+mod peers;
+mod runs;
+mod words_tests;

@@ -1,0 +1,67 @@
+//! Which words the program is called by.
+use health_stub::HealthTable;
+use std::alloc::Global;
+use ttrpc_proto::Result;
+
+/// What the words ask for.
+#[derive(Drop)]
+pub enum Asked<'a> {
+    /// To serve this table at an address until the program is killed.
+    Serves(&'a str, HealthTable),
+    /// To tell the last status of a name, asked at an address.
+    Checks(&'a str, &'a str),
+    /// To tell each status of a name, asked at an address.
+    Watches(&'a str, &'a str),
+    /// To tell both of a name, asked at a server of the program's own with this table.
+    Loops(&'a str, HealthTable),
+    /// Nothing that the program does.
+    Wrong,
+}
+
+/// Reads what these words ask for. The only error is `NoMemory`.
+pub fn read_words(alloc: Global, words: &[String]) -> Result<Asked<'_>> {
+    let [first, second, rest @ ..] = words else {
+        return Ok(Asked::Wrong);
+    };
+    let (first, second) = (first.as_str(), second.as_str());
+    match (first, rest) {
+        ("check", [name]) => Ok(Asked::Checks(second, name.as_str())),
+        ("watch", [name]) => Ok(Asked::Watches(second, name.as_str())),
+        ("serve", [_, ..]) => Ok(match read_table(alloc, rest)? {
+            Some(table) => Asked::Serves(second, table),
+            None => Asked::Wrong,
+        }),
+        ("loop", [_, ..]) => Ok(match read_table(alloc, rest)? {
+            Some(table) => Asked::Loops(second, table),
+            None => Asked::Wrong,
+        }),
+        _ => Ok(Asked::Wrong),
+    }
+}
+
+/// Reads the table of these words; none if one of them isn't `NAME=STATUS[,STATUS..]`. The only error is `NoMemory`.
+fn read_table(alloc: Global, words: &[String]) -> Result<Option<HealthTable>> {
+    let mut table = HealthTable::new(alloc);
+    for word in words {
+        let Some((name, list)) = word.as_str().split_once('=') else {
+            return Ok(None);
+        };
+        match read_statuses(alloc, list)? {
+            Some(statuses) => table.set(name, statuses.as_slice())?,
+            None => return Ok(None),
+        }
+    }
+    Ok(Some(table))
+}
+
+/// Reads statuses that commas part; none if one of them is no `i32`. The only error is `NoMemory`.
+fn read_statuses(alloc: Global, list: &str) -> Result<Option<Vec<i32>>> {
+    let mut statuses = Vec::new(alloc);
+    for text in list.split(',') {
+        match text.parse::<i32>() {
+            Ok(status) => statuses.push(status)?,
+            Err(_) => return Ok(None),
+        }
+    }
+    Ok(Some(statuses))
+}
