@@ -21,6 +21,7 @@ use futures::{Stream, ready};
 use std::alloc::Global;
 use std::io::ErrorKind;
 use std::sync::Arc;
+use std::time::Clock;
 use tokio::io::{AsyncRead, AsyncWrite};
 use tokio::net::OwnedWriteHalf;
 use tokio::runtime::Handle;
@@ -280,7 +281,7 @@ where
     {
         let with = &self.with;
         let alloc = with.rt.alloc();
-        let output = match admit(&with.rt, alloc, &*with.hook, &socket) {
+        let output = match admit(|| with.rt.monotonic(), alloc, &*with.hook, &socket) {
             Ok(output) => output,
             Err(error) => {
                 let refusal = others_of(alloc, "accept hook failed: ", &error);

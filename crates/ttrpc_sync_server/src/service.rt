@@ -15,6 +15,7 @@ use crate::settings::Settings;
 use std::alloc::Global;
 use std::sync::Arc;
 use std::thread::Builder;
+use std::time::Clock;
 use ttrpc_proto::error::causes::others_of;
 use ttrpc_proto::{Error, Result};
 use ttrpc_secure::{
@@ -134,7 +135,7 @@ where
 {
     let alloc = rt.alloc();
     let serving = &service.serving;
-    let output = match admit(rt, alloc, &*service.hook, &**stream) {
+    let output = match admit(|| rt.monotonic(), alloc, &*service.hook, &**stream) {
         Ok(output) => output,
         Err(error) => {
             let told = others_of(alloc, "accept hook failed: ", &error);

@@ -1,12 +1,25 @@
 -- What comes of a hook that looks at a connection which a server has accepted.
 -- Source: the Rust crate ttrpc, the time limit of its hooks.
-use Rattle.std.specs.Prelude.{◌≡◌, ◌⊎◌, Result, Err}
+use Rattle.std.specs.Prelude.{◌≡◌, ◌+◌, ◌-◌, ◌^◌, ℕ, min, nat_lt, if◌then◌else◌, Result, Ok, Err}
+use Rattle.std.specs.Duration.{as_nanos}
+use Rattle.std.specs.declared.time.Duration.{Duration}
 use Rattle.std.specs.declared.io.Error.{Error as IoError}
 use Rattle.ttrpc_secure.specs.declared.hooks.hook_error.HookError.{HookError}
 use Rattle.ttrpc_secure.specs.declared.hooks.hook_error.HookError.TheVariants.{Io, Timeout}
 
--- What comes of a hook that may give such results: what it gave, or `Timeout` in place of what it gave; or `Io`, where the
--- hook may not have been asked.
-abbrev pub IsAdmission : {T : Type 0} → (Result T HookError → Type 0) → Result T HookError → Type 0
-IsAdmission {T} gives result =
-    gives result ⊎ (((hooked : Result T HookError) × gives hooked) × (result ≡ Err Timeout)) ⊎ ((e : IoError) × (result ≡ Err (Io e)))
+-- the moment that was read, in nanoseconds
+abbrev pub moment_of : Duration → ℕ
+moment_of time = min (as_nanos time) (2 ^ 64 - 1)
+
+-- what becomes of what a hook gave between two readings of a clock: the first reading that failed is told; else what the hook gave,
+-- if fewer than 30 seconds had passed; else `Timeout`
+abbrev pub admitted : {T : Type 0} → Result Duration IoError → Result Duration IoError → Result T HookError → Result T HookError
+admitted (Err e) ended hooked = Err (Io e)
+admitted (Ok started) (Err e) hooked = Err (Io e)
+admitted (Ok started) (Ok ended) hooked = if nat_lt (moment_of ended) (moment_of started + 30000000000) then hooked else Err Timeout
+
+-- what comes of a hook that may give such results, between two such readings of a clock
+abbrev pub IsAdmission : {T : Type 0} → (Result Duration IoError → Type 0) → (Result T HookError → Type 0) → Result T HookError → Type 0
+IsAdmission {T} reads gives result =
+    (started : Result Duration IoError) × (ended : Result Duration IoError) × (hooked : Result T HookError)
+    × reads started × reads ended × gives hooked × (result ≡ admitted started ended hooked)

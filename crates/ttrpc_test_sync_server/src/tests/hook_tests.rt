@@ -38,7 +38,7 @@ fn is_as_stated(alloc: Global, row: &(u64, u64, bool)) -> bool {
         first: AtomicU64::new(first),
         second,
     };
-    let admitted = admit(&clock, alloc, &NoHook {}, &());
+    let admitted = admit(|| clock.monotonic(), alloc, &NoHook {}, &());
     is_timeout(&admitted) != in_time && admitted.is_ok() == in_time
 }
 
