@@ -1,7 +1,10 @@
 -- What contracts see of a notifier and of a waiter.
 -- Source: this project's.
-use Rattle.std.specs.Prelude.{◌≡◌, ◌≢◌, ⊤, ℕ, Bool, true, false, Option, Some, codes}
+use Rattle.std.specs.Prelude.{◌≡◌, ◌≢◌, ◌-◌, ◌≤◌, ⊤, ℕ, Bool, true, false, Option, Some, Result, Ok, Err, codes}
+use Rattle.std.specs.Duration.{as_nanos}
+use Rattle.std.specs.IoError.{error_kind}
 use Rattle.std.specs.declared.time.Duration.{Duration}
+use Rattle.std.specs.declared.io.Error.{Error as IoError}
 use Rattle.atomic_table.specs.Seated.{TableId}
 use Rattle.ttrpc_proto.specs.declared.error.Error.{Error}
 use Rattle.ttrpc_proto.specs.declared.error.Error.TheVariants.{Nix, NoMemory, Others}
@@ -48,3 +51,15 @@ IsWaitFailure (Some _) saw (Others text) = (text ≡ codes "waiters are left") �
 IsWaitFailure (Some _) saw (Nix _) = ⊤
 IsWaitFailure (Some _) saw NoMemory = SawWaiters saw
 IsWaitFailure _ saw _ = ⊥
+
+-- two readings of a clock were at least so long apart
+abbrev pub IsOver : (Result Duration IoError → Type 0) → Duration → Type 0
+IsOver reads limit = (start : Duration) × (end : Duration) × reads (Ok start) × reads (Ok end) × (as_nanos limit ≤ as_nanos end - as_nanos start)
+
+-- Why a wait with this limit failed, by the readings of its clock: waiters were left where the count was read last, and the limit was
+-- over, though memory for the text of that may have been refused; or a reading failed.
+abbrev pub TellsWait : (Result Duration IoError → Type 0) → Duration → Option ℕ → Error → Type 0
+TellsWait reads limit saw (Others text) = (text ≡ codes "waiters are left") × SawWaiters saw × IsOver reads limit
+TellsWait reads limit saw (Nix kind) = (e : IoError) × reads (Err e) × (kind ≡ error_kind e)
+TellsWait reads limit saw NoMemory = SawWaiters saw × IsOver reads limit
+TellsWait reads limit saw _ = ⊥

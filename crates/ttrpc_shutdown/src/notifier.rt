@@ -1,7 +1,7 @@
 //! The side that shuts down.
-ghost use Rattle.std.specs.Prelude.{◌≡◌, ◌≢◌, true, false, vec_len, All, IfOk, IfErr, MatchBool, OnErr, OnOk, Some, None};
+ghost use Rattle.std.specs.Prelude.{◌≡◌, ◌≢◌, true, false, vec_len, All, IfOk, IfErr, MatchBool, OnErr, OnOk, Err, Some, None};
 ghost use Rattle.ttrpc_proto.specs.declared.error.Error.{Error};
-ghost use Rattle.ttrpc_shutdown.specs.Holding.{IsWaitFailure, SawWaiters, having_read};
+ghost use Rattle.ttrpc_shutdown.specs.Holding.{IsOver, IsWaitFailure, SawWaiters, TellsWait, having_read};
 
 use crate::post::Post;
 use crate::waiter::Waiter;
@@ -9,7 +9,7 @@ use std::alloc::Global;
 use std::io;
 use std::marker::Model;
 use std::sync::Wait;
-use std::time::{Clock, Duration, Instant};
+use std::time::{Clock, Duration};
 use ttrpc_proto::{Error, Result};
 use ttrpc_wire::Text;
 
@@ -109,11 +109,7 @@ impl Notifier {
             wait_for_ever(rt, &mut self.post);
             return Ok(());
         };
-        match wait_for(rt, &mut self.post, limit) {
-            Ok(true) => Ok(()),
-            Ok(false) => Err(Error::Others(Text::from_str(alloc, "waiters are left")?)),
-            Err(refused) => Err(Error::Nix(refused.kind())),
-        }
+        wait_within(rt, alloc, || rt.monotonic(), &mut self.post, limit)
     }
 
     /// The end of a shutdown that took its waiters back: reads the count once. If that is the number of these waiters,
@@ -161,20 +157,47 @@ fn wait_for_ever<X: Wait>(rt: &X, post: &mut Post)
     unreachable!()
 }
 
-// Waits until the count is 0, for no longer than this. True if it was 0, and else it was more when it was read last.
-fn wait_for<X: Wait + Clock>(rt: &X, post: &mut Post, limit: Duration) -> io::Result<bool>
-    ensures saw { IfOk result (λ none_left. MatchBool none_left
-        (post.new.holder.saw ≡ Some 0)
-        (SawWaiters post.new.holder.saw)) }
+// Waits until the count is 0, for no longer than this by the clock that `read` reads.
+fn wait_within<X: Wait, F: Fn() -> io::Result<Duration>>(
+    rt: &X,
+    alloc: Global,
+    read: F,
+    post: &mut Post,
+    limit: Duration,
+) -> Result<()>
+    requires { F.IsAlwaysCallable read }
+    ensures ok { OnOk result (post.new.holder.saw ≡ Some 0) }
+    ensures err { IfErr result (λ e. TellsWait (λ reading. F.post read reading) limit post.new.holder.saw e) }
     ensures rest { post.new ≡ having_read post.old post.new.holder.saw }
 {
-    let start = Instant::now(rt)?;
+    match wait_for(rt, read, post, limit) {
+        Ok(true) => Ok(()),
+        Ok(false) => Err(Error::Others(Text::from_str(alloc, "waiters are left")?)),
+        Err(refused) => Err(Error::Nix(refused.kind())),
+    }
+}
+
+// Waits as above. Returns whether the count was 0 when it was read last.
+fn wait_for<X: Wait, F: Fn() -> io::Result<Duration>>(
+    rt: &X,
+    read: F,
+    post: &mut Post,
+    limit: Duration,
+) -> io::Result<bool>
+    requires { F.IsAlwaysCallable read }
+    ensures saw { IfOk result (λ none_left. MatchBool none_left
+        (post.new.holder.saw ≡ Some 0)
+        (SawWaiters post.new.holder.saw × IsOver (λ reading. F.post read reading) limit)) }
+    ensures clock { IfErr result (λ error. F.post read (Err error)) }
+    ensures rest { post.new ≡ having_read post.old post.new.holder.saw }
+{
+    let start = read()?;
     for _ in rt.forever() {
         let count = post.count();
         if count == 0 {
             return Ok(true);
         }
-        match limit.checked_sub(start.elapsed(rt)?) {
+        match limit.checked_sub(read()?.saturating_sub(start)) {
             Some(left) if left != Duration::ZERO => post.sleep_at_for(rt, count, left),
             _ => return Ok(false),
         }
