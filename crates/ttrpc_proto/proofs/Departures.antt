@@ -6,7 +6,7 @@ use Rattle.std.proofs.lemmas.Bool.{ltb-false}
 use Rattle.std.proofs.lemmas.List.{take_all, take-append-drop, take-append-le, drop-append-le, drop-drop}
 use Rattle.std.proofs.lemmas.List.Sorted.{IsPermutation-refl, IsPermutation-cons, IsPermutation-trans, IsPermutation-middle}
 use Rattle.ttrpc_proto.specs.declared.framing.outgoing.Queued.{Queued}
-use Rattle.ttrpc_proto.specs.Framing.Queue.{Queue, IsQueue, written, written_all, first_open, unsent, with_frame, with_lent, report_first, ticket_after, after_report, begun_count, is_request_of, frames_without, without, Happening, Placed, Lent, Reported, Thrown, after, after_all, all_bytes_left, report_finishes, departing, thrown_by, thrown, placed, MayHappen, Allowed, IsMerge}
+use Rattle.ttrpc_proto.specs.Framing.Queue.{Queue, IsQueue, written, written_all, first_open, unsent, with_frame, with_lent, report_first, ticket_after, after_report, begun_count, is_request_of, frames_without, gone_after, without, Happening, Placed, Lent, Reported, Thrown, after, after_all, all_bytes_left, report_finishes, departing, thrown_by, thrown, placed, MayHappen, Allowed, IsMerge}
 use Rattle.ttrpc_proto.proofs.Queues.{queue_of, with_frame_is_queue, with_lent_is_queue, after_report_is_queue, without_is_queue, report_fits}
 
 pub after_is_queue : (q : Queue) (h : Happening) → IsQueue q → MayHappen q h → IsQueue (after q h)
@@ -25,12 +25,12 @@ report_departs true f q r hs d = d
 report_departs false f q r hs d = (departing r hs, refl)
 
 -- a first frame that has begun departs first
-begun_departs : (hs : List Happening) (f : Queued) (fs : List Queued) (r l s : ℕ) → Departs f (queue_of true (f ∷ fs) r l s) hs
-begun_departs [] f fs r l s = (fs, refl)
-begun_departs (Placed g ∷ hs) f fs r l s = begun_departs hs f (fs ++ g ∷ []) r l s
-begun_departs (Lent n ∷ hs) f fs r l s = begun_departs hs f fs r n s
-begun_departs (Reported n ∷ hs) f fs r l s = report_departs (nat_lt (r + n) (length (written f.message))) f (queue_of true (f ∷ fs) (r + n) 0 s) (queue_of false fs 0 0 (ticket_after f.ticket s)) hs (begun_departs hs f fs (r + n) 0 s)
-begun_departs (Thrown owners ∷ hs) f fs r l s = begun_departs hs f (frames_without owners fs) r l s
+begun_departs : (hs : List Happening) (f : Queued) (fs : List Queued) (r l s : ℕ) (g : List ℕ) → Departs f (queue_of true (f ∷ fs) r l s g) hs
+begun_departs [] f fs r l s g = (fs, refl)
+begun_departs (Placed k ∷ hs) f fs r l s g = begun_departs hs f (fs ++ k ∷ []) r l s g
+begun_departs (Lent n ∷ hs) f fs r l s g = begun_departs hs f fs r n s g
+begun_departs (Reported n ∷ hs) f fs r l s g = report_departs (nat_lt (r + n) (length (written f.message))) f (queue_of true (f ∷ fs) (r + n) 0 s g) (queue_of false fs 0 0 (ticket_after f.ticket s) (drop 1 g)) hs (begun_departs hs f fs (r + n) 0 s g)
+begun_departs (Thrown owners ∷ hs) f fs r l s g = begun_departs hs f (frames_without owners fs) r l s (gone_after owners true (f ∷ fs) g)
 
 -- n bytes from a place on, and what stands behind them
 pieces : (w x : List ℕ) (r n : ℕ) → r + n ≤ length w → take n (drop r w) ++ drop (r + n) (w ++ x) ≡ drop r (w ++ x)
@@ -41,17 +41,17 @@ pieces w x r n le =
     ∙ ap (λ l. l ++ drop n (drop r (w ++ x))) (sym (take-append-le n (drop r w) x front) ∙ ap (take n) (sym (drop-append-le r w x inside)))
     ∙ take-append-drop n (drop r (w ++ x))
 
-part_leaves : (b : Bool) (f : Queued) (fs : List Queued) (r l s n : ℕ) (hs : List Happening) → IsQueue (queue_of b (f ∷ fs) r l s) → n ≤ l → r + n ≤ length (written f.message)
-    → take n (drop r (written f.message)) ++ drop (r + n) (written_all (departing (queue_of b (f ∷ fs) (r + n) 0 s) hs)) ≡ drop r (written_all (departing (queue_of b (f ∷ fs) (r + n) 0 s) hs))
-part_leaves true f fs r l s n hs valid le inside =
-    let d = begun_departs hs f fs (r + n) 0 s in
-    let D = departing (queue_of true (f ∷ fs) (r + n) 0 s) hs in
+part_leaves : (b : Bool) (f : Queued) (fs : List Queued) (r l s n : ℕ) (g : List ℕ) (hs : List Happening) → IsQueue (queue_of b (f ∷ fs) r l s g) → n ≤ l → r + n ≤ length (written f.message)
+    → take n (drop r (written f.message)) ++ drop (r + n) (written_all (departing (queue_of b (f ∷ fs) (r + n) 0 s g) hs)) ≡ drop r (written_all (departing (queue_of b (f ∷ fs) (r + n) 0 s g) hs))
+part_leaves true f fs r l s n g hs valid le inside =
+    let d = begun_departs hs f fs (r + n) 0 s g in
+    let D = departing (queue_of true (f ∷ fs) (r + n) 0 s g) hs in
     subst (λ (ds : List Queued). take n (drop r (written f.message)) ++ drop (r + n) (written_all ds) ≡ drop r (written_all ds)) (sym d.1) (pieces (written f.message) (written_all d.0) r n inside)
-part_leaves false f fs r l s n hs valid le inside =
+part_leaves false f fs r l s n g hs valid le inside =
     let none : n ≡ 0 = let z = (valid.fresh refl).1 in omega arith in
     let same : r + n ≡ r = omega arith in
-    ap (λ k. take k (drop r (written f.message)) ++ drop (r + n) (written_all (departing (queue_of false (f ∷ fs) (r + n) 0 s) hs))) none
-    ∙ ap (λ k. drop k (written_all (departing (queue_of false (f ∷ fs) (r + n) 0 s) hs))) same
+    ap (λ k. take k (drop r (written f.message)) ++ drop (r + n) (written_all (departing (queue_of false (f ∷ fs) (r + n) 0 s g) hs))) none
+    ∙ ap (λ k. drop k (written_all (departing (queue_of false (f ∷ fs) (r + n) 0 s g) hs))) same
 
 abbrev Leaves : List ℕ → ℕ → List Queued → Queue → List Happening → Type 0
 Leaves piece r finished q hs = piece ++ drop q.reported (written_all (departing q hs)) ≡ drop r (written_all (finished ++ departing q hs))
@@ -60,20 +60,20 @@ report_cases : (c : Bool) (piece : List ℕ) (r : ℕ) (f : Queued) (p q : Queue
 report_cases true piece r f p q hs yes' no' = yes' refl
 report_cases false piece r f p q hs yes' no' = no' refl
 
-report_leaves : (b : Bool) (fs : List Queued) (r l s n : ℕ) (hs : List Happening) → IsQueue (queue_of b fs r l s) → n ≤ l → Leaves (take n (first_open fs r)) r (report_finishes fs (r + n)) (report_first fs (r + n) b s) hs
-report_leaves b [] r l s n hs valid le =
+report_leaves : (b : Bool) (fs : List Queued) (r l s n : ℕ) (g : List ℕ) (hs : List Happening) → IsQueue (queue_of b fs r l s g) → n ≤ l → Leaves (take n (first_open fs r)) r (report_finishes fs (r + n)) (report_first fs (r + n) b s g) hs
+report_leaves b [] r l s n g hs valid le =
     let none : r ≡ 0 = valid.within in
-    ap (λ piece. piece ++ written_all (departing (report_first [] (r + n) b s) hs)) (take_all n [] (omega arith))
-    ∙ ap (λ k. drop k (written_all (departing (report_first [] (r + n) b s) hs))) (sym none)
-report_leaves b (f ∷ fs) r l s n hs valid le =
+    ap (λ piece. piece ++ written_all (departing (report_first [] (r + n) b s g) hs)) (take_all n [] (omega arith))
+    ∙ ap (λ k. drop k (written_all (departing (report_first [] (r + n) b s g) hs))) (sym none)
+report_leaves b (f ∷ fs) r l s n g hs valid le =
     let w = written f.message in
-    let inside : r + n ≤ length w = report_fits (queue_of b (f ∷ fs) r l s) n valid le in
-    report_cases (nat_lt (r + n) (length w)) (take n (drop r w)) r f (queue_of b (f ∷ fs) (r + n) 0 s) (queue_of false fs 0 0 (ticket_after f.ticket s)) hs
-    (λ _. part_leaves b f fs r l s n hs valid le inside)
+    let inside : r + n ≤ length w = report_fits (queue_of b (f ∷ fs) r l s g) n valid le in
+    report_cases (nat_lt (r + n) (length w)) (take n (drop r w)) r f (queue_of b (f ∷ fs) (r + n) 0 s g) (queue_of false fs 0 0 (ticket_after f.ticket s) (drop 1 g)) hs
+    (λ _. part_leaves b f fs r l s n g hs valid le inside)
     (λ e.
     let whole : length w ≤ r + n = ltb-false (r + n) (length w) e in
-    ap (λ piece. piece ++ written_all (departing (queue_of false fs 0 0 (ticket_after f.ticket s)) hs)) (take_all n (drop r w) (omega (arith, length-drop r w)))
-    ∙ sym (drop-append-le r w (written_all (departing (queue_of false fs 0 0 (ticket_after f.ticket s)) hs)) (omega arith)))
+    ap (λ piece. piece ++ written_all (departing (queue_of false fs 0 0 (ticket_after f.ticket s) (drop 1 g)) hs)) (take_all n (drop r w) (omega (arith, length-drop r w)))
+    ∙ sym (drop-append-le r w (written_all (departing (queue_of false fs 0 0 (ticket_after f.ticket s) (drop 1 g)) hs)) (omega arith)))
 
 pub bytes_are_written : (hs : List Happening) (q : Queue) → IsQueue q → Allowed q hs → all_bytes_left q hs ++ unsent (after_all q hs) ≡ drop q.reported (written_all (departing q hs))
 bytes_are_written [] q valid may = refl
@@ -82,7 +82,7 @@ bytes_are_written (Lent n ∷ hs) q valid may = bytes_are_written hs (with_lent 
 bytes_are_written (Reported n ∷ hs) q valid may =
     append_assoc (take n (first_open q.frames q.reported)) (all_bytes_left (after_report q n) hs) (unsent (after_all (after_report q n) hs))
     ∙ ap (λ l. take n (first_open q.frames q.reported) ++ l) (bytes_are_written hs (after_report q n) (after_is_queue q (Reported n) valid may.0) may.1)
-    ∙ report_leaves q.begun q.frames q.reported q.lent q.sent n hs valid may.0
+    ∙ report_leaves q.begun q.frames q.reported q.lent q.sent n q.gone hs valid may.0
 bytes_are_written (Thrown owners ∷ hs) q valid may = bytes_are_written hs (without q owners) (after_is_queue q (Thrown owners) valid may.0) may.1
 
 -- ---- The frames that depart and those that are thrown away
@@ -102,13 +102,13 @@ merge_more (a ∷ cs) bs g xs ys (inr p) =
     let r = merge_more cs bs g xs p.0 p.2 in
     (a ∷ r.0, inr (r.0, refl, r.1), subst (λ l. IsPermutation (a ∷ r.0) (g ∷ l)) (sym p.1) (IsPermutation-trans (a ∷ r.0) (a ∷ g ∷ p.0) (g ∷ a ∷ p.0) (IsPermutation-cons a r.0 (g ∷ p.0) r.2) (IsPermutation-middle (a ∷ []) g p.0)))
 
-report_accounts : (c : Bool) (f : Queued) (fs ps ys : List Queued) (n s : ℕ) (b : Bool) (hs : List Happening) → IsMerge (departing (cond c (queue_of b (f ∷ fs) n 0 s) (queue_of false fs 0 0 (ticket_after f.ticket s))) hs) ys ((cond c (queue_of b (f ∷ fs) n 0 s) (queue_of false fs 0 0 (ticket_after f.ticket s))).frames ++ ps) → IsMerge (cond c [] (f ∷ []) ++ departing (cond c (queue_of b (f ∷ fs) n 0 s) (queue_of false fs 0 0 (ticket_after f.ticket s))) hs) ys (f ∷ fs ++ ps)
-report_accounts true f fs ps ys n s b hs m = m
-report_accounts false f fs ps ys n s b hs m = inl (departing (queue_of false fs 0 0 (ticket_after f.ticket s)) hs, refl, m)
+report_accounts : (c : Bool) (f : Queued) (fs ps ys : List Queued) (n s : ℕ) (b : Bool) (g : List ℕ) (hs : List Happening) → IsMerge (departing (cond c (queue_of b (f ∷ fs) n 0 s g) (queue_of false fs 0 0 (ticket_after f.ticket s) (drop 1 g))) hs) ys ((cond c (queue_of b (f ∷ fs) n 0 s g) (queue_of false fs 0 0 (ticket_after f.ticket s) (drop 1 g))).frames ++ ps) → IsMerge (cond c [] (f ∷ []) ++ departing (cond c (queue_of b (f ∷ fs) n 0 s g) (queue_of false fs 0 0 (ticket_after f.ticket s) (drop 1 g))) hs) ys (f ∷ fs ++ ps)
+report_accounts true f fs ps ys n s b g hs m = m
+report_accounts false f fs ps ys n s b g hs m = inl (departing (queue_of false fs 0 0 (ticket_after f.ticket s) (drop 1 g)) hs, refl, m)
 
-finish_accounts : (fs ps ys : List Queued) (n s : ℕ) (b : Bool) (hs : List Happening) → IsMerge (departing (report_first fs n b s) hs) ys ((report_first fs n b s).frames ++ ps) → IsMerge (report_finishes fs n ++ departing (report_first fs n b s) hs) ys (fs ++ ps)
-finish_accounts [] ps ys n s b hs m = m
-finish_accounts (f ∷ fs) ps ys n s b hs m = report_accounts (nat_lt n (length (written f.message))) f fs ps ys n s b hs m
+finish_accounts : (fs ps ys : List Queued) (n s : ℕ) (b : Bool) (g : List ℕ) (hs : List Happening) → IsMerge (departing (report_first fs n b s g) hs) ys ((report_first fs n b s g).frames ++ ps) → IsMerge (report_finishes fs n ++ departing (report_first fs n b s g) hs) ys (fs ++ ps)
+finish_accounts [] ps ys n s b g hs m = m
+finish_accounts (f ∷ fs) ps ys n s b g hs m = report_accounts (nat_lt n (length (written f.message))) f fs ps ys n s b g hs m
 
 -- with the frames that are thrown away
 throw_at : (c : Bool) (f : Queued) (front fs gone left ps departed away : List Queued)
@@ -132,7 +132,7 @@ pub all_are_accounted : (hs : List Happening) (q : Queue) → Accounts (departin
 all_are_accounted [] q = ([], merge_of_one q.frames, IsPermutation-refl [])
 all_are_accounted (Placed f ∷ hs) q = subst (Accounts (departing (with_frame q f) hs) (thrown (with_frame q f) hs)) (append_assoc q.frames (f ∷ []) (placed hs)) (all_are_accounted hs (with_frame q f))
 all_are_accounted (Lent n ∷ hs) q = all_are_accounted hs (with_lent q n)
-all_are_accounted (Reported n ∷ hs) q = let h = all_are_accounted hs (after_report q n) in (h.0, finish_accounts q.frames (placed hs) h.0 (q.reported + n) q.sent q.begun hs h.1, h.2)
+all_are_accounted (Reported n ∷ hs) q = let h = all_are_accounted hs (after_report q n) in (h.0, finish_accounts q.frames (placed hs) h.0 (q.reported + n) q.sent q.begun q.gone hs h.1, h.2)
 all_are_accounted (Thrown owners ∷ hs) q =
     let n = begun_count q in
     let front = take n q.frames in

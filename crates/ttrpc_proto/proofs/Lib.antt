@@ -10,6 +10,7 @@ pub mod Decoding
 pub mod Cuts
 pub mod Pieces
 pub mod Queues
+pub mod Entries
 pub mod Departures
 pub mod Streamed
 pub mod Sent

@@ -1,5 +1,5 @@
 -- The tickets of queued frames are those behind the last that was sent, and a ticket is sent as its frame is whole.
-use Rattle.std.proofs.Common.{◌≡◌, ℕ, ◌+◌, ◌≤◌, ◌∷◌, ◌++◌, ◌&&◌, ◌||◌, not, List, [], Bool, true, false, Option, None, Some, cond, length, nat_lt, nat_le, nat_eq, refl, sym, subst, ap, ◌∙◌, arith}
+use Rattle.std.proofs.Common.{drop, ◌≡◌, ℕ, ◌+◌, ◌≤◌, ◌∷◌, ◌++◌, ◌&&◌, ◌||◌, not, List, [], Bool, true, false, Option, None, Some, cond, length, nat_lt, nat_le, nat_eq, refl, sym, subst, ap, ◌∙◌, arith}
 use Rattle.std.proofs.lemmas.Bool.{cond_both}
 use Rattle.std.proofs.lemmas.Bool.Decides.{nat_tests}
 use Rattle.ttrpc_proto.specs.declared.framing.outgoing.Queued.{Queued}
@@ -12,12 +12,12 @@ pub numbered_append : (fs : List Queued) (f : Queued) (from to : ℕ) → AreNum
 numbered_append [] f from to h next = (subst (IsNext f.ticket f.is_unary_request) (sym h) next, ap (ticket_after f.ticket) h)
 numbered_append (g ∷ fs) f from to h next = (h.0, numbered_append fs f (ticket_after g.ticket from) to h.1 next)
 
-reported : (fs : List Queued) (n : ℕ) (begun : Bool) (sent to : ℕ) → AreNumbered sent fs to → AreNumbered (report_first fs n begun sent).sent (report_first fs n begun sent).frames to
-reported [] n begun sent to h = h
-reported (f ∷ fs) n begun sent to h = cond_both (nat_lt n (length (written f.message))) _ _ (λ (q : Queue). AreNumbered q.sent q.frames to) (λ _. h) (λ _. h.1)
+reported : (fs : List Queued) (n : ℕ) (begun : Bool) (sent to : ℕ) (gone : List ℕ) → AreNumbered sent fs to → AreNumbered (report_first fs n begun sent gone).sent (report_first fs n begun sent gone).frames to
+reported [] n begun sent to gone h = h
+reported (f ∷ fs) n begun sent to gone h = cond_both (nat_lt n (length (written f.message))) _ _ (λ (q : Queue). AreNumbered q.sent q.frames to) (λ _. h) (λ _. h.1)
 
 pub numbered_reported : (q : Queue) (n to : ℕ) → AreNumbered q.sent q.frames to → AreNumbered (after_report q n).sent (after_report q n).frames to
-numbered_reported q n to h = reported q.frames (q.reported + n) q.begun q.sent to h
+numbered_reported q n to h = reported q.frames (q.reported + n) q.begun q.sent to q.gone h
 
 no_ticket : (ticket : Option ℕ) (from : ℕ) → IsNext ticket true from → ticket_after ticket from ≡ from
 no_ticket None from h = refl
@@ -34,13 +34,13 @@ fewer : (owners : ℕ → Bool) (fs : List Queued) (from to : ℕ) → AreNumber
 fewer owners [] from to h = h
 fewer owners (f ∷ fs) from to h = one_less f.is_unary_request (owners f.owner) f (frames_without owners fs) from to refl h.0 (fewer owners fs (ticket_after f.ticket from) to h.1)
 
-thrown_away : (b : Bool) (fs : List Queued) (r l s to : ℕ) (owners : ℕ → Bool) → AreNumbered s fs to → AreNumbered s (without (queue_of b fs r l s) owners).frames to
-thrown_away false fs r l s to owners h = fewer owners fs s to h
-thrown_away true [] r l s to owners h = h
-thrown_away true (f ∷ fs) r l s to owners h = (h.0, fewer owners fs (ticket_after f.ticket s) to h.1)
+thrown_away : (b : Bool) (fs : List Queued) (r l s to : ℕ) (g : List ℕ) (owners : ℕ → Bool) → AreNumbered s fs to → AreNumbered s (without (queue_of b fs r l s g) owners).frames to
+thrown_away false fs r l s to g owners h = fewer owners fs s to h
+thrown_away true [] r l s to g owners h = h
+thrown_away true (f ∷ fs) r l s to g owners h = (h.0, fewer owners fs (ticket_after f.ticket s) to h.1)
 
 pub numbered_without : (q : Queue) (owners : ℕ → Bool) (to : ℕ) → AreNumbered q.sent q.frames to → AreNumbered q.sent (without q owners).frames to
-numbered_without q owners to h = thrown_away q.begun q.frames q.reported q.lent q.sent to owners h
+numbered_without q owners to h = thrown_away q.begun q.frames q.reported q.lent q.sent to q.gone owners h
 
 -- ---- What the numbers say
 
@@ -72,11 +72,11 @@ joined : (fs gs : List Queued) (last : ℕ) → last_ticket (fs ++ gs) last ≡ 
 joined [] gs last = refl
 joined (f ∷ fs) gs last = joined fs gs (ticket_after f.ticket last)
 
-sent_by_report : (fs : List Queued) (n : ℕ) (begun : Bool) (sent : ℕ) → (report_first fs n begun sent).sent ≡ last_ticket (report_finishes fs n) sent
-sent_by_report [] n begun sent = refl
-sent_by_report (f ∷ fs) n begun sent = by (nat_lt n (length (written f.message)))
+sent_by_report : (fs : List Queued) (n : ℕ) (begun : Bool) (sent : ℕ) (gone : List ℕ) → (report_first fs n begun sent gone).sent ≡ last_ticket (report_finishes fs n) sent
+sent_by_report [] n begun sent gone = refl
+sent_by_report (f ∷ fs) n begun sent gone = by (nat_lt n (length (written f.message)))
   where
-    by : (c : Bool) → (cond c (queue_of begun (f ∷ fs) n 0 sent) (queue_of false fs 0 0 (ticket_after f.ticket sent))).sent ≡ last_ticket (cond c [] (f ∷ [])) sent
+    by : (c : Bool) → (cond c (queue_of begun (f ∷ fs) n 0 sent gone) (queue_of false fs 0 0 (ticket_after f.ticket sent) (drop 1 gone))).sent ≡ last_ticket (cond c [] (f ∷ [])) sent
     by true = refl
     by false = refl
 
@@ -86,6 +86,6 @@ sent_is_finished (Placed f ∷ hs) q = sent_is_finished hs (with_frame q f)
 sent_is_finished (Lent n ∷ hs) q = sent_is_finished hs (with_lent q n)
 sent_is_finished (Reported n ∷ hs) q =
     sent_is_finished hs (after_report q n)
-    ∙ ap (last_ticket (finished (after_report q n) hs)) (sent_by_report q.frames (q.reported + n) q.begun q.sent)
+    ∙ ap (last_ticket (finished (after_report q n) hs)) (sent_by_report q.frames (q.reported + n) q.begun q.sent q.gone)
     ∙ sym (joined (report_finishes q.frames (q.reported + n)) (finished (after_report q n) hs) q.sent)
 sent_is_finished (Thrown owners ∷ hs) q = sent_is_finished hs (without q owners)

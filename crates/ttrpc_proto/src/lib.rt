@@ -14,8 +14,9 @@ pub use error::{Error, Result, get_rpc_status, get_status, sock_error_msg};
 pub use framing::{
     DEFAULT_PAGE_SIZE, FLAG_NO_DATA, FLAG_REMOTE_CLOSED, FLAG_REMOTE_OPEN, FrameDecoder,
     GenMessage, GenMessageError, Incoming, MESSAGE_HEADER_LENGTH, MESSAGE_LENGTH_MAX,
-    MESSAGE_TYPE_DATA, MESSAGE_TYPE_REQUEST, MESSAGE_TYPE_RESPONSE, MessageHeader, Outgoing,
-    Passing, Queued, Sink, Source, fill, read_again, write_again, write_both, write_part,
+    MESSAGE_TYPE_DATA, MESSAGE_TYPE_REQUEST, MESSAGE_TYPE_RESPONSE, MessageHeader,
+    OUTGOING_LENGTH_MAX, Outgoing, Passing, Queued, Sink, Source, fill, read_again, write_again,
+    write_both, write_part,
 };
 pub use messages::{Any, KeyValue, Request, Response, Status};
 pub use request_init::RequestInit;

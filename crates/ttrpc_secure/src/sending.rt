@@ -1,19 +1,22 @@
 //! Sealing and queuing in one call.
-ghost use Rattle.std.specs.Prelude.{◌≡◌, ◌<◌, ◌≤◌, ◌+◌, ◌↔◌, length, Ok, Err, IfOk, IfErr, OnOk, OnErr, MatchResult};
-ghost use Rattle.ttrpc_proto.specs.Framing.Queue.{IsQueue, with_frame, filled, withdrawn};
+ghost use Rattle.std.specs.Prelude.{◌≡◌, ◌≢◌, ◌⊎◌, ◌<◌, ◌≤◌, ◌+◌, ◌↔◌, [], length, Ok, Err, IfOk, IfErr, OnOk, OnErr, MatchResult};
+ghost use Rattle.ttrpc_proto.specs.Framing.Queue.{IsQueue, free, with_frame, filled, withdrawn};
+ghost use Rattle.ttrpc_proto.specs.declared.framing.header.TheConstants.{MESSAGE_HEADER_LENGTH};
 ghost use Rattle.ttrpc_secure.specs.declared.transform.TransformError.{TransformError as AnError};
 ghost use Rattle.ttrpc_secure.specs.Halves.{MayFail};
-ghost use Rattle.ttrpc_secure.specs.Sends.{Sends, SendsUnder, associated, safe_limit};
+ghost use Rattle.ttrpc_secure.specs.Sends.{Sends, SendsUnder, associated, emptied, needed, safe_limit};
 
 use crate::transform::{OutboundTransform, TransformError};
 use std::alloc::Global;
-use ttrpc_proto::{Blob, MESSAGE_LENGTH_MAX, MessageHeader, Outgoing, Queued};
+use ttrpc_proto::{Blob, Error, MESSAGE_LENGTH_MAX, MessageHeader, Outgoing, Queued};
 
 /// Why nothing was sent.
 #[derive(Debug, Drop, PartialEq, Eq)]
 pub enum SendError {
     /// The data may become longer than a message may be.
     TooLong,
+    /// The queue hasn't as many free bytes as the frame may need.
+    NoRoom,
     /// The half refused the data, or the allocator refused.
     Failed(TransformError),
 }
@@ -55,8 +58,8 @@ fn check_limit<O: OutboundTransform>(half: &O, length: usize) -> Result<(), Send
 }
 
 /// Seals the data and queues the frame with it, whose payload it takes the place of; a half that adds nothing moves it
-/// there. There is room in the queue before the half is asked, so that nothing is sealed which isn't queued, and the
-/// order of sealing is that of the queue. An error changes nothing.
+/// there. Room for the frame is found before the half is asked, so that nothing is sealed which isn't queued, and the
+/// order of sealing is that of the queue. An error changes nothing: `TooLong` comes first, then `NoRoom`.
 pub fn send<O: OutboundTransform>(
     alloc: Global,
     half: &mut O,
@@ -64,15 +67,17 @@ pub fn send<O: OutboundTransform>(
     frame: Queued,
     data: Vec<u8>,
 ) -> Result<(), SendError>
-    ensures ok { OnOk result (Sends O.seals half.old outgoing.old frame «data».items half.new outgoing.new) }
+    ensures ok { OnOk result (Sends O.OutboundTransform half.old outgoing.old frame «data».items half.new outgoing.new) }
     ensures too_long { (result ≡ Err SendError.TooLong) ↔ (MESSAGE_LENGTH_MAX < length «data».items + O.overhead half.old) }
+    ensures no_room { (result ≡ Err SendError.NoRoom) ↔ ((length «data».items + O.overhead half.old ≤ MESSAGE_LENGTH_MAX)
+        × (free outgoing.old < needed O.OutboundTransform half.old «data».items)) }
     ensures refused { (t : AnError) → result ≡ Err (SendError.Failed t)
         → MayFail O.refuses half.old «data».items (associated frame.message.header) t }
     ensures err { OnErr result ((half.new ≡ half.old) × (outgoing.new ≡ outgoing.old)) }
 {
     check_limit(half, data.len())?;
     let associated = associated_bytes(&frame.message.header);
-    make_room(outgoing, frame)?;
+    make_room(alloc, outgoing, frame, data.len() + half.max_overhead())?;
     let sealed = half.transform_outbound_vec(alloc, data, &associated);
     settle(outgoing, sealed)
 }
@@ -89,6 +94,7 @@ pub fn seal<O: OutboundTransform>(
     ensures fits { IfOk result (λ sealed. length sealed.items ≤ MESSAGE_LENGTH_MAX) }
     // Or it may become longer, or the half fails, and nothing changed.
     ensures too_long { (result ≡ Err SendError.TooLong) ↔ (MESSAGE_LENGTH_MAX < length «data».now + O.overhead half.old) }
+    ensures queues_nothing { result ≢ Err SendError.NoRoom }
     ensures refused { (t : AnError) → result ≡ Err (SendError.Failed t)
         → MayFail O.refuses half.old «data».now aad.now t }
     ensures err { OnErr result (half.new ≡ half.old) }
@@ -107,28 +113,42 @@ pub fn send_copy<O: OutboundTransform>(
     data: &[u8],
     aad: &[u8],
 ) -> Result<(), SendError>
-    ensures ok { OnOk result (SendsUnder O.seals half.old outgoing.old frame «data».now aad.now half.new outgoing.new) }
+    ensures ok { OnOk result (SendsUnder O.OutboundTransform half.old outgoing.old frame «data».now aad.now half.new outgoing.new) }
     ensures too_long { (result ≡ Err SendError.TooLong) ↔ (MESSAGE_LENGTH_MAX < length «data».now + O.overhead half.old) }
+    ensures no_room { (result ≡ Err SendError.NoRoom) ↔ ((length «data».now + O.overhead half.old ≤ MESSAGE_LENGTH_MAX)
+        × (free outgoing.old < needed O.OutboundTransform half.old «data».now)) }
     ensures refused { (t : AnError) → result ≡ Err (SendError.Failed t)
         → MayFail O.refuses half.old «data».now aad.now t }
     ensures err { OnErr result ((half.new ≡ half.old) × (outgoing.new ≡ outgoing.old)) }
 {
     check_limit(half, data.len())?;
-    make_room(outgoing, frame)?;
+    make_room(alloc, outgoing, frame, data.len() + half.max_overhead())?;
     let sealed = half.transform_outbound(alloc, data, aad);
     settle(outgoing, sealed)
 }
 
-/// Queues the frame, whose payload is still to come. An error changes nothing.
-fn make_room(outgoing: &mut Outgoing, frame: Queued) -> Result<(), SendError>
-    ensures ok { OnOk result (outgoing.new ≡ with_frame outgoing.old frame) }
-    ensures err { IfErr result (λ e. (e ≡ SendError.Failed AnError.NoMemory) × (outgoing.new ≡ outgoing.old)) }
+/// Queues the frame without its payload, which is still to come, if there is room for so many bytes of it. An error changes
+/// nothing.
+fn make_room(
+    alloc: Global,
+    outgoing: &mut Outgoing,
+    mut frame: Queued,
+    room: usize,
+) -> Result<(), SendError>
+    ensures ok { OnOk result (outgoing.new ≡ with_frame outgoing.old (emptied frame)) }
+    ensures room { OnOk result (MESSAGE_HEADER_LENGTH + room ≤ free outgoing.old) }
+    ensures no_room { (result ≡ Err SendError.NoRoom) ↔ (free outgoing.old < MESSAGE_HEADER_LENGTH + room) }
+    ensures err { OnErr result (outgoing.new ≡ outgoing.old) }
+    ensures only { IfErr result (λ e. (e ≡ SendError.Failed AnError.NoMemory) ⊎ (e ≡ SendError.NoRoom)) }
 
     // What `placed_filled` and `placed_withdrawn` ask of a caller that settles the frame.
     ensures was { IsQueue outgoing.old }
+    ensures valid { IsQueue outgoing.new }
 {
-    match outgoing.place(frame) {
+    frame.message.payload = Blob::new(alloc);
+    match outgoing.place(frame, room) {
         Ok(()) => Ok(()),
+        Err(Error::NoRoom) => Err(SendError::NoRoom),
         Err(_) => Err(SendError::Failed(TransformError::NoMemory)),
     }
 }

@@ -1,9 +1,10 @@
 -- The frames still to be written, in order, how far the first of them is, and what becomes of them over time.
 -- Source: PROTOCOL.md of ttrpc, "Message Frame".
-use Rattle.std.specs.Prelude.{◌≡◌, ◌≤◌, ◌<◌, ◌+◌, ◌-◌, ◌%◌, ◌^◌, ◌&&◌, ◌||◌, ◌⊎◌, not, ℕ, Bool, false, if◌then◌else◌, nat_lt, nat_eq, List, [], ◌∷◌, ◌++◌, length, take, drop, filter, Option, None, Some}
+use Rattle.std.specs.Prelude.{◌≡◌, ◌≤◌, ◌<◌, ◌+◌, ◌-◌, ◌%◌, ◌^◌, ◌&&◌, ◌||◌, ◌⊎◌, not, ℕ, Bool, true, false, if◌then◌else◌, nat_lt, nat_le, nat_eq, List, [], ◌∷◌, ◌++◌, length, take, drop, filter, sum, Option, None, Some}
 use Rattle.std.specs.List.{flat_map}
 use Rattle.ttrpc_proto.specs.declared.framing.gen_message.GenMessage.{GenMessage}
 use Rattle.ttrpc_proto.specs.declared.framing.outgoing.Queued.{Queued}
+use Rattle.ttrpc_proto.specs.declared.framing.outgoing.TheConstants.{OUTGOING_LENGTH_MAX}
 use Rattle.ttrpc_proto.specs.Framing.Header.{header_bytes}
 
 -- a frame's bytes: the header as it stands, and the payload
@@ -25,6 +26,8 @@ pub record Queue : Type 0 where
   pub begun : Bool
   -- the ticket of the last frame with one that was reported whole, 0 before the first
   pub sent : ℕ
+  -- for each frame, how many bytes of frames that were thrown away are held directly after it; none past the list's end
+  pub gone : List ℕ
 
 -- the first frame's bytes from a place on
 abbrev pub first_open : List Queued → ℕ → List ℕ
@@ -39,6 +42,33 @@ open_part q = first_open q.frames q.reported
 abbrev pub unsent : Queue → List ℕ
 unsent q = drop q.reported (written_all q.frames)
 
+-- ---- How many bytes are held
+
+-- the first of these numbers, or 0
+abbrev pub first_gone : List ℕ → ℕ
+first_gone [] = 0
+first_gone (n ∷ ns) = n
+
+-- a number in front of others, unless all are 0
+abbrev pub in_front : ℕ → List ℕ → List ℕ
+in_front n [] = if nat_eq n 0 then [] else n ∷ []
+in_front n (m ∷ ms) = n ∷ m ∷ ms
+
+-- the numbers without the zeros at their end
+abbrev pub trimmed : List ℕ → List ℕ
+trimmed [] = []
+trimmed (n ∷ ns) = in_front n (trimmed ns)
+
+-- how many bytes are held: those still to be written, and those of frames that were thrown away after a frame that stays
+abbrev pub held : Queue → ℕ
+held q = length (unsent q) + sum q.gone
+
+-- how many bytes are free
+abbrev pub free : Queue → ℕ
+free q = OUTGOING_LENGTH_MAX - held q
+
+-- ---- What holds of every queue
+
 -- fewer bytes than the first frame has, or none where there is no frame
 abbrev pub IsWithin : List Queued → ℕ → Type 0
 IsWithin [] n = n ≡ 0
@@ -51,10 +81,12 @@ pub record IsQueue (q : Queue) : Type 0 where
   pub lent : q.lent ≤ length (open_part q)
   pub fresh : q.begun ≡ false → (q.reported ≡ 0) × (q.lent ≡ 0)
   pub none : q.frames ≡ [] → q.begun ≡ false
+  pub gone : length q.gone ≤ length q.frames
+  pub no_zero : trimmed q.gone ≡ q.gone
 
 -- the queue of no frames
 abbrev pub empty_queue : Queue
-empty_queue = record { frames = []; reported = 0; lent = 0; begun = false; sent = 0 }
+empty_queue = record { frames = []; reported = 0; lent = 0; begun = false; sent = 0; gone = [] }
 
 -- the frame is behind the others
 abbrev pub with_frame : Queue → Queued → Queue
@@ -75,13 +107,14 @@ first_ticket [] last = last
 first_ticket (f ∷ fs) last = ticket_after f.ticket last
 
 -- n bytes of the first frame are reported by now
-abbrev pub report_first : List Queued → ℕ → Bool → ℕ → Queue
-report_first [] n begun sent = record { frames = []; reported = 0; lent = 0; begun = false; sent = sent }
-report_first (f ∷ fs) n begun sent = if nat_lt n (length (written f.message)) then record { frames = f ∷ fs; reported = n; lent = 0; begun = begun; sent = sent } else record { frames = fs; reported = 0; lent = 0; begun = false; sent = ticket_after f.ticket sent }
+abbrev pub report_first : List Queued → ℕ → Bool → ℕ → List ℕ → Queue
+report_first [] n begun sent gone = record { frames = []; reported = 0; lent = 0; begun = false; sent = sent; gone = gone }
+report_first (f ∷ fs) n begun sent gone = if nat_lt n (length (written f.message)) then record { frames = f ∷ fs; reported = n; lent = 0; begun = begun; sent = sent; gone = gone } else record { frames = fs; reported = 0; lent = 0; begun = false; sent = ticket_after f.ticket sent; gone = drop 1 gone }
 
--- n more bytes of the first frame were reported; a frame that was reported whole is gone, and the next hasn't begun
+-- n more bytes of the first frame were reported; a frame that was reported whole is gone, with what is held directly after it,
+-- and the next hasn't begun
 abbrev pub after_report : Queue → ℕ → Queue
-after_report q n = report_first q.frames (q.reported + n) q.begun q.sent
+after_report q n = report_first q.frames (q.reported + n) q.begun q.sent q.gone
 
 -- how many frames have begun: the first one, or none
 abbrev pub begun_count : Queue → ℕ
@@ -101,13 +134,17 @@ last_filled [] payload = []
 last_filled (f ∷ []) payload = with_payload f payload ∷ []
 last_filled (f ∷ g ∷ fs) payload = f ∷ last_filled (g ∷ fs) payload
 
--- the last frame has this payload, unless it has begun or there is none
-abbrev pub filled : Queue → List ℕ → Queue
-filled q payload = if last_may_change q then record q { frames = last_filled q.frames payload } else q
+-- whether the last frame may get this payload: it hasn't begun, and the payload's bytes are free
+abbrev pub may_fill : Queue → List ℕ → Bool
+may_fill q payload = last_may_change q && nat_le (length payload) (free q)
 
--- the last frame is gone, unless it has begun or there is none
+-- the last frame has this payload, if it may get it
+abbrev pub filled : Queue → List ℕ → Queue
+filled q payload = if may_fill q payload then record q { frames = last_filled q.frames payload } else q
+
+-- the last frame is gone, with what is held after it, unless it has begun or there is none
 abbrev pub withdrawn : Queue → Queue
-withdrawn q = if last_may_change q then record q { frames = take (length q.frames - 1) q.frames } else q
+withdrawn q = if last_may_change q then record q { frames = take (length q.frames - 1) q.frames; gone = trimmed (take (length q.frames - 1) q.gone) } else q
 
 -- ---- What is thrown away: requests of some owners
 
@@ -128,9 +165,26 @@ has_begun q owners = q.begun && first_is_request_of owners q.frames
 abbrev pub frames_without : (ℕ → Bool) → List Queued → List Queued
 frames_without owners frames = filter (λ f. not (is_request_of owners f)) frames
 
--- the unary requests of these owners that haven't begun are gone, and the others keep their order
+-- how many bytes are gone with the first of these frames, up to one that stays: their own, and those held after them
+abbrev pub gone_first : (ℕ → Bool) → List Queued → List ℕ → ℕ
+gone_first owners [] gone = 0
+gone_first owners (f ∷ fs) gone = if is_request_of owners f then length (written f.message) + first_gone gone + gone_first owners fs (drop 1 gone) else 0
+
+-- for each of these frames that stays, how many bytes are held after it then
+abbrev pub gone_behind : (ℕ → Bool) → List Queued → List ℕ → List ℕ
+gone_behind owners [] gone = []
+gone_behind owners (f ∷ fs) gone = if is_request_of owners f then gone_behind owners fs (drop 1 gone) else in_front (first_gone gone + gone_first owners fs (drop 1 gone)) (gone_behind owners fs (drop 1 gone))
+
+-- the same where the first frame has begun, and stays
+abbrev pub gone_after : (ℕ → Bool) → Bool → List Queued → List ℕ → List ℕ
+gone_after owners false fs gone = gone_behind owners fs gone
+gone_after owners true [] gone = gone
+gone_after owners true (f ∷ fs) gone = in_front (first_gone gone + gone_first owners fs (drop 1 gone)) (gone_behind owners fs (drop 1 gone))
+
+-- The unary requests of these owners that haven't begun are gone, and the others keep their order. Their bytes are held until
+-- the frame before them leaves; if there is none, they are free at once.
 abbrev pub without : Queue → (ℕ → Bool) → Queue
-without q owners = record q { frames = take (begun_count q) q.frames ++ frames_without owners (drop (begun_count q) q.frames) }
+without q owners = record q { frames = take (begun_count q) q.frames ++ frames_without owners (drop (begun_count q) q.frames); gone = gone_after owners q.begun q.frames q.gone }
 
 -- ---- Tickets
 

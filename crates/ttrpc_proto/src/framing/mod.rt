@@ -18,7 +18,7 @@ pub use self::header::{
     MESSAGE_LENGTH_MAX, MESSAGE_TYPE_DATA, MESSAGE_TYPE_REQUEST, MESSAGE_TYPE_RESPONSE,
     MessageHeader,
 };
-pub use self::outgoing::{Outgoing, Queued};
+pub use self::outgoing::{OUTGOING_LENGTH_MAX, Outgoing, Queued};
 pub use self::streams::{
     Passing, Sink, Source, fill, read_again, write_again, write_both, write_part,
 };

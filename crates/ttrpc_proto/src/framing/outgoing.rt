@@ -1,10 +1,11 @@
 //! The frames still to be written, in order.
-ghost use Rattle.std.specs.Prelude.{◌≡◌, ◌&&◌, ℕ, nat_lt, nat_le, ◌-◌, ◌≤◌, ◌<◌, ◌↔◌, ◌++◌, [], List, IsTrue, IsPermutation, length, take, drop, min, if◌then◌else◌, option_to_list, IfSome, OnOk, OnErr, IfErr};
+ghost use Rattle.std.specs.Prelude.{◌≡◌, ◌&&◌, ◌⊎◌, ℕ, nat_lt, nat_le, ◌+◌, ◌-◌, ◌≤◌, ◌<◌, ◌↔◌, ◌++◌, [], List, IsTrue, IsPermutation, length, take, drop, min, if◌then◌else◌, option_to_list, Err, IfSome, OnOk, OnErr, IfErr};
 ghost use Rattle.std.specs.VecDeque.{deque_len, deque_capacity};
 ghost use Rattle.std.specs.List.{AllByRecursion};
 ghost use Rattle.ttrpc_proto.specs.declared.framing.outgoing.Queued.{Queued as AFrame};
 ghost use Rattle.ttrpc_proto.specs.Framing.Queue.{AreNumbered, finished, has_ticket, last_ticket, Happening, Allowed, IsMerge, after_all, all_bytes_left, departing, placed, thrown, unsent, written_all};
-ghost use Rattle.ttrpc_proto.specs.Framing.Queue.{Queue, IsQueue, written, first_open, open_part, empty_queue, with_frame, with_lent, after_report, first_ticket, last_may_change, filled, withdrawn, is_request_of, has_begun, without};
+ghost use Rattle.ttrpc_proto.specs.Framing.Inside.{all_held, frames_of, gone_before, kept_of, numbers_of};
+ghost use Rattle.ttrpc_proto.specs.Framing.Queue.{Queue, IsQueue, written, first_open, open_part, empty_queue, free, held, with_frame, with_lent, after_report, first_gone, first_ticket, last_may_change, filled, withdrawn, is_request_of, has_begun, without};
 
 use crate::framing::gen_message::GenMessage;
 use crate::framing::header::MESSAGE_HEADER_LENGTH;
@@ -14,6 +15,9 @@ use std::alloc::Global;
 use std::collections::VecDeque;
 use std::marker::Model;
 use ttrpc_wire::Blob;
+
+/// The greatest number of bytes that wait to be written: two frames of the greatest length.
+pub const OUTGOING_LENGTH_MAX: usize = 8_388_628;
 
 /// How many lengths the four bytes of a header can say.
 const LENGTHS: usize = 1 << 32;
@@ -39,36 +43,57 @@ impl Queued {
     }
 }
 
-/// The frames still to be written, in order. Their bytes are lent piece by piece, and leave as they are reported.
+/// A frame to be written, and how many bytes of frames that were thrown away are held directly after it.
+#[derive(Debug, Drop)]
+struct Entry {
+    frame: Queued,
+    gone: usize,
+}
+
+impl Entry {
+    /// Returns how many bytes the frame has.
+    fn len(&self) -> usize
+        ensures { result ≡ length (written self.now.frame.message) }
+    {
+        frame_len(&self.frame)
+    }
+}
+
+/// Returns how many bytes a frame has.
+fn frame_len(frame: &Queued) -> usize
+    ensures written { result ≡ length (written frame.now.message) }
+    ensures parts { result ≡ MESSAGE_HEADER_LENGTH + length frame.now.message.payload }
+{
+    MESSAGE_HEADER_LENGTH + frame.message.payload.as_slice().len()
+}
+
+/// The frames still to be written, in order. Their bytes are lent piece by piece, and leave as they are reported. At most
+/// [`OUTGOING_LENGTH_MAX`] bytes are held at a time.
 #[derive(Debug, Drop)]
 pub struct Outgoing {
-    frames: VecDeque<Queued>,
+    entries: VecDeque<Entry>,
     reported: usize,
     lent: usize,
     begun: bool,
     sent: u64,
+    // How many bytes are held.
+    in_use: usize,
 }
 
 impl Model for Outgoing {
-    ghost use Rattle.ttrpc_proto.specs.Framing.Queue.{Queue, IsQueue};
+    ghost use Rattle.std.specs.Prelude.{◌≡◌, ◌≤◌};
+    ghost use Rattle.ttrpc_proto.specs.declared.framing.outgoing.TheConstants.{OUTGOING_LENGTH_MAX};
+    ghost use Rattle.ttrpc_proto.specs.Framing.Inside.{of_entries};
+    ghost use Rattle.ttrpc_proto.specs.Framing.Queue.{Queue, IsQueue, held};
 
     ghost Value = { Queue };
 
-    ghost view = { λ a. record {
-      frames = a.frames.items;
-      reported = a.reported;
-      lent = a.lent;
-      begun = a.begun;
-      sent = a.sent;
-    } };
+    ghost view = { λ a. of_entries a.entries.items a.reported a.lent a.begun a.sent };
 
-    ghost invariant = { λ a. IsQueue (record {
-      frames = a.frames.items;
-      reported = a.reported;
-      lent = a.lent;
-      begun = a.begun;
-      sent = a.sent;
-    }) };
+    ghost invariant = { λ a.
+        IsQueue (of_entries a.entries.items a.reported a.lent a.begun a.sent)
+        × (held (of_entries a.entries.items a.reported a.lent a.begun a.sent) ≡ a.in_use)
+        × (a.in_use ≤ OUTGOING_LENGTH_MAX) };
 }
 
 impl Outgoing {
@@ -77,11 +102,12 @@ impl Outgoing {
         ensures { result ≡ empty_queue }
     {
         Outgoing {
-            frames: VecDeque::new(alloc),
+            entries: VecDeque::new(alloc),
             reported: 0,
             lent: 0,
             begun: false,
             sent: 0,
+            in_use: 0,
         }
     }
 
@@ -90,35 +116,54 @@ impl Outgoing {
         ensures none { IsTrue result ↔ (self.now.frames ≡ []) }
         ensures valid { IsQueue self.now }
     {
-        self.frames.is_empty()
+        self.entries.is_empty()
     }
 
-    /// Queues a frame behind the others. An `Err` changes nothing.
-    pub fn place(&mut self, frame: Queued) -> Result<()>
+    /// Returns how many bytes are free. Takes no memory.
+    pub fn free(&self) -> usize
+        ensures free { result ≡ free self.now }
+        ensures held { held self.now ≤ OUTGOING_LENGTH_MAX }
+    {
+        OUTGOING_LENGTH_MAX - self.in_use
+    }
+
+    /// Queues a frame after the others, if its bytes and so many more are free. An `Err` changes nothing: `NoRoom` if they
+    /// aren't free, and otherwise `NoMemory`.
+    pub fn place(&mut self, frame: Queued, room: usize) -> Result<()>
         ensures ok { OnOk result (self.new ≡ with_frame self.old frame) }
+        ensures no_room { (result ≡ Err Error.NoRoom) ↔ (free self.old < MESSAGE_HEADER_LENGTH + length frame.message.payload + room) }
         ensures err { OnErr result (self.new ≡ self.old) }
-        ensures only_memory { IfErr result (λ e. e ≡ Error.NoMemory) }
+        ensures only { IfErr result (λ e. (e ≡ Error.NoMemory) ⊎ (e ≡ Error.NoRoom)) }
 
         // What `placed_filled` and `placed_withdrawn` ask of a caller that fills or withdraws the frame.
         ensures was { IsQueue self.old }
         ensures valid { IsQueue self.new }
     {
-        self.frames.push_back(frame)?;
+        let length = frame_len(&frame);
+        let free = self.free();
+        if free < length || free - length < room {
+            return Err(Error::NoRoom);
+        }
+        self.entries.push_back(Entry { frame, gone: 0 })?;
+        self.in_use += length;
         Ok(())
     }
 
-    /// Gives the last frame this payload, and its header this length modulo 2^32, unless the frame has begun or there
-    /// is none. Takes no memory.
+    /// Gives the last frame this payload, and its header this length modulo 2^32, unless the frame has begun, the payload's
+    /// bytes aren't free, or there is no frame. Takes no memory.
     pub fn fill(&mut self, payload: Blob)
         ensures filled { self.new ≡ filled self.old payload }
         ensures was { IsQueue self.old }
         ensures valid { IsQueue self.new }
     {
+        let length = payload.as_slice().len();
         if self.last_may_change()
-            && let Some(frame) = self.frames.back_mut()
+            && length <= self.free()
+            && let Some(entry) = self.entries.back_mut()
         {
-            frame.message.header.length = (payload.as_slice().len() % LENGTHS) as u32;
-            frame.message.payload = payload;
+            self.in_use = self.in_use - entry.frame.message.payload.as_slice().len() + length;
+            entry.frame.message.header.length = (length % LENGTHS) as u32;
+            entry.frame.message.payload = payload;
         }
     }
 
@@ -128,8 +173,10 @@ impl Outgoing {
         ensures was { IsQueue self.old }
         ensures valid { IsQueue self.new }
     {
-        if self.last_may_change() {
-            let _ = self.frames.pop_back();
+        if self.last_may_change()
+            && let Some(entry) = self.entries.pop_back()
+        {
+            self.in_use = self.in_use - entry.len() - entry.gone;
         }
     }
 
@@ -137,7 +184,7 @@ impl Outgoing {
     fn last_may_change(&self) -> bool
         ensures { result ≡ last_may_change self.now }
     {
-        usize::from(self.begun) < self.frames.len()
+        usize::from(self.begun) < self.entries.len()
     }
 
     /// Copies a front of what is left of the first frame, as much as fits, and says how many bytes. Takes no memory.
@@ -151,9 +198,9 @@ impl Outgoing {
         ensures lent { self.new ≡ with_lent self.old result }
         ensures valid { IsQueue self.new }
     {
-        let count = match self.frames.front() {
+        let count = match self.entries.front() {
             None => 0,
-            Some(frame) => copy_written(&frame.message, self.reported, buffer),
+            Some(entry) => copy_written(&entry.frame.message, self.reported, buffer),
         };
         self.lent = count;
         self.begun = self.begun || count > 0;
@@ -164,7 +211,7 @@ impl Outgoing {
     pub fn open_len(&self) -> usize
         ensures { result ≡ length (open_part self.now) }
     {
-        first_length(&self.frames) - self.reported
+        first_length(&self.entries) - self.reported
     }
 
     /// How many bytes the last `lend` since the last report gave.
@@ -180,11 +227,14 @@ impl Outgoing {
         ensures written { self.new ≡ after_report self.old n }
         ensures valid { IsQueue self.new }
     {
-        let length = first_length(&self.frames);
+        let length = first_length(&self.entries);
         self.lent = 0;
         self.reported += n;
+        self.in_use -= n;
         if self.reported >= length {
-            self.sent = take_first(&mut self.frames, self.sent);
+            let (sent, gone) = take_first(&mut self.entries, self.sent);
+            self.sent = sent;
+            self.in_use -= gone;
             self.reported = 0;
             self.begun = false;
         }
@@ -203,20 +253,24 @@ impl Outgoing {
     {
         self.begun
             && self
-                .frames
+                .entries
                 .front()
-                .is_some_and(|frame| frame.is_request_of(owners))
+                .is_some_and(|entry| entry.frame.is_request_of(owners))
     }
 
-    /// Throws away the unary requests of these owners that haven't begun. Takes no memory.
+    /// Throws away the unary requests of these owners that haven't begun. Their bytes are held until the frame before them
+    /// leaves, if there is one. Takes no memory.
     pub fn throw_away<W: Owners>(&mut self, owners: &W)
         ensures without { self.new ≡ without self.old (W.has owners.now) }
         ensures valid { IsQueue self.new }
     {
-        let first = take_begun(&mut self.frames, self.begun);
-        self.frames.retain(|frame| !frame.is_request_of(owners));
-        if let Some(frame) = first {
-            self.frames.push_front_reserved(frame);
+        let first = take_begun(&mut self.entries, self.begun);
+        let gone = throw_from(&mut self.entries, owners);
+        if let Some(mut entry) = first {
+            entry.gone += gone;
+            self.entries.push_front_reserved(entry);
+        } else {
+            self.in_use -= gone;
         }
     }
 }
@@ -270,35 +324,63 @@ fn copy_front(from: &[u8], to: &mut [u8]) -> usize
     count
 }
 
+// Throws away the unary requests of these owners. Returns how many bytes are gone with those before the first frame that
+// stays; the bytes of the others are held after the frame before them.
+fn throw_from<W: Owners>(entries: &mut VecDeque<Entry>, owners: &W) -> usize
+    requires { all_held entries.old.items ≤ OUTGOING_LENGTH_MAX }
+    ensures kept { entries.new.items ≡ kept_of (W.has owners.now) entries.old.items }
+    ensures gone { result ≡ gone_before (W.has owners.now) entries.old.items }
+    ensures len { deque_len entries.new ≤ deque_len entries.old }
+    ensures capacity { deque_capacity entries.new ≡ deque_capacity entries.old }
+{
+    let mut gone = 0;
+    let mut left = entries.len();
+    while left > 0 {
+        left -= 1;
+        let Some(mut entry) = entries.pop_back() else {
+            unreachable!();
+        };
+        if entry.frame.is_request_of(owners) {
+            gone += entry.len() + entry.gone;
+        } else {
+            entry.gone += gone;
+            gone = 0;
+            entries.push_front_reserved(entry);
+        }
+    }
+    gone
+}
+
 // Takes the first frame out, if it has begun.
-fn take_begun(frames: &mut VecDeque<Queued>, begun: bool) -> Option<Queued>
-    ensures first { option_to_list result ≡ take (if begun then 1 else 0) frames.old.items }
-    ensures rest { frames.new.items ≡ drop (if begun then 1 else 0) frames.old.items }
-    ensures place { IfSome result (λ _. deque_len frames.new < deque_capacity frames.new) }
+fn take_begun(entries: &mut VecDeque<Entry>, begun: bool) -> Option<Entry>
+    ensures first { option_to_list result ≡ take (if begun then 1 else 0) entries.old.items }
+    ensures rest { entries.new.items ≡ drop (if begun then 1 else 0) entries.old.items }
+    ensures place { IfSome result (λ _. deque_len entries.new < deque_capacity entries.new) }
 {
     if !begun {
         return None;
     }
-    frames.pop_front()
+    entries.pop_front()
 }
 
-// Takes the first frame out, if there is one, and gives the last ticket, with its.
-fn take_first(frames: &mut VecDeque<Queued>, last: u64) -> u64
-    ensures ticket { result ≡ first_ticket frames.old.items last }
-    ensures rest { frames.new.items ≡ drop 1 frames.old.items }
+// Takes the first frame out, if there is one. Returns the last ticket, with its, and how many bytes were held after it.
+fn take_first(entries: &mut VecDeque<Entry>, last: u64) -> (u64, usize)
+    ensures ticket { result.0 ≡ first_ticket (frames_of entries.old.items) last }
+    ensures gone { result.1 ≡ first_gone (numbers_of entries.old.items) }
+    ensures rest { entries.new.items ≡ drop 1 entries.old.items }
 {
-    match frames.pop_front() {
-        Some(frame) => frame.ticket.unwrap_or(last),
-        None => last,
+    match entries.pop_front() {
+        Some(entry) => (entry.frame.ticket.unwrap_or(last), entry.gone),
+        None => (last, 0),
     }
 }
 
 // How many bytes the first frame has, or 0 where there is none.
-fn first_length(frames: &VecDeque<Queued>) -> usize
-    ensures { result ≡ length (first_open frames.now.items 0) }
+fn first_length(entries: &VecDeque<Entry>) -> usize
+    ensures { result ≡ length (first_open (frames_of entries.now.items) 0) }
 {
-    match frames.front() {
+    match entries.front() {
         None => 0,
-        Some(frame) => MESSAGE_HEADER_LENGTH + frame.message.payload.as_slice().len(),
+        Some(entry) => entry.len(),
     }
 }

@@ -5,16 +5,18 @@ use Rattle.ttrpc_proto.specs.declared.framing.header.MessageHeader.{MessageHeade
 use Rattle.ttrpc_proto.specs.declared.framing.header.TheConstants.{MESSAGE_LENGTH_MAX}
 use Rattle.ttrpc_proto.specs.Framing.Header.Oversize.{oversize_error}
 use Rattle.ttrpc_proto.specs.declared.error.Error.{Error}
-use Rattle.ttrpc_proto.specs.declared.error.Error.TheVariants.{Others, NoMemory}
+use Rattle.ttrpc_proto.specs.declared.error.Error.TheVariants.{Others, NoMemory, NoRoom}
 use Rattle.ttrpc_proto.specs.declared.framing.gen_message.GenMessage.{GenMessage}
 use Rattle.ttrpc_proto.specs.declared.framing.outgoing.Queued.{Queued}
+use Rattle.ttrpc_proto.specs.Framing.Queue.{Queue, free}
 use Rattle.ttrpc_secure.specs.declared.transform.InboundTransform.{Ghosts as InboundTransform}
 use Rattle.ttrpc_secure.specs.declared.transform.OutboundTransform.{Ghosts as OutboundTransform}
 use Rattle.ttrpc_secure.specs.declared.sending.SendError.{SendError}
 use Rattle.ttrpc_secure.specs.declared.sending.SendError.TheVariants.{TooLong, Failed}
+use Rattle.ttrpc_secure.specs.declared.sending.SendError.TheVariants.{NoRoom as Full}
 use Rattle.ttrpc_secure.specs.declared.transform.TransformError.TheVariants.{Refused, NoMemory as Starved}
 use Rattle.ttrpc_secure.specs.Halves.{Refusals}
-use Rattle.ttrpc_secure.specs.Sends.{safe_limit}
+use Rattle.ttrpc_secure.specs.Sends.{needed, safe_limit}
 use Rattle.ttrpc_secure.specs.Context.Texts.{unsafe_payload_text, unsealed_text, unopened_text}
 use Rattle.ttrpc_secure.specs.Context.Told.{IsTold}
 
@@ -40,6 +42,15 @@ FailsToSeal half rpc_error advice s bytes aad e =
     ⊎ ((safe_limit half s < length bytes) × IsTold (limit_error rpc_error (half.overhead s) (safe_limit half s) (length bytes) advice) e)
     ⊎ ((length bytes ≤ safe_limit half s) × TellsRefusal half.refuses s bytes aad unsealed_text e)
 
+-- Why bytes aren't sealed and queued: there is no memory, they are above the safe limit, or they aren't and the queue lacks room
+-- for them, or it has room and the half refuses them.
+abbrev pub FailsToSend : {O : Type 0} → OutboundTransform O → Bool → List ℕ → O → Queue → List ℕ → List ℕ → Error → Type 0
+FailsToSend half rpc_error advice s q bytes aad e =
+    (e ≡ NoMemory)
+    ⊎ ((safe_limit half s < length bytes) × IsTold (limit_error rpc_error (half.overhead s) (safe_limit half s) (length bytes) advice) e)
+    ⊎ ((length bytes ≤ safe_limit half s) × (free q < needed half s bytes) × (e ≡ NoRoom))
+    ⊎ ((length bytes ≤ safe_limit half s) × (needed half s bytes ≤ free q) × TellsRefusal half.refuses s bytes aad unsealed_text e)
+
 -- Data that may be sealed were sealed.
 abbrev pub Seals : {O : Type 0} → OutboundTransform O → O → List ℕ → List ℕ → List ℕ → O → Type 0
 Seals half s bytes aad sealed t = (length bytes ≤ safe_limit half s) × half.seals s bytes aad sealed t × (length sealed ≤ MESSAGE_LENGTH_MAX)
@@ -61,5 +72,6 @@ no_message = record { header = record { length = 0; stream_id = 0; type_ = 0; fl
 -- the error for what a call that seals answered about bytes of this length
 abbrev pub TellsUnsent : {O : Type 0} → OutboundTransform O → Bool → List ℕ → O → ℕ → SendError → Error → Type 0
 TellsUnsent half rpc_error advice s n TooLong e = IsTold (limit_error rpc_error (half.overhead s) (safe_limit half s) n advice) e
+TellsUnsent half rpc_error advice s n Full e = e ≡ NoRoom
 TellsUnsent half rpc_error advice s n (Failed (Refused why)) e = IsTold (Others (unsealed_text why)) e
 TellsUnsent half rpc_error advice s n (Failed Starved) e = e ≡ NoMemory

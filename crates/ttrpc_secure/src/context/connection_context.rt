@@ -4,7 +4,7 @@ ghost use Rattle.ttrpc_proto.specs.Framing.Queue.{with_frame, with_payload};
 ghost use Rattle.ttrpc_proto.specs.declared.framing.header.TheConstants.{MESSAGE_LENGTH_MAX};
 ghost use Rattle.ttrpc_secure.specs.Halves.{MayFail};
 ghost use Rattle.ttrpc_secure.specs.Sends.{SendsUnder, associated, safe_limit};
-ghost use Rattle.ttrpc_secure.specs.Context.Calls.{FailsToOpen, FailsToSeal, Seals, TellsUnsent, carrying, no_message, unowned};
+ghost use Rattle.ttrpc_secure.specs.Context.Calls.{FailsToOpen, FailsToSeal, FailsToSend, Seals, TellsUnsent, carrying, no_message, unowned};
 ghost use Rattle.ttrpc_secure.specs.Context.Texts.{advice_text};
 
 use crate::context::errors::{or_no_memory, unopened_error, unsafe_payload_error, unsealed_error};
@@ -195,8 +195,8 @@ impl<O: OutboundTransform, I: InboundTransform> ConnectionContext<O, I> {
         }
     }
 
-    /// Seals a message's payload as `outbound` does and queues it, and leaves the default of a message. There is room in
-    /// the queue before the half is asked. An error changes nothing.
+    /// Seals a message's payload as `outbound` does and queues it, and leaves the default of a message. Room in the queue is
+    /// found before the half is asked, and the answer is `NoRoom` if there is none. An error changes nothing.
     pub fn transform_send(
         &mut self,
         alloc: Global,
@@ -204,10 +204,10 @@ impl<O: OutboundTransform, I: InboundTransform> ConnectionContext<O, I> {
         outgoing: &mut Outgoing,
     ) -> Result<()>
         // The payload was sealed and queued, and the message is empty.
-        ensures ok { OnOk result (SendsUnder O.seals self.old.outbound outgoing.old (unowned msg.old.header) msg.old.payload (associated msg.old.header) self.new.outbound outgoing.new) }
+        ensures ok { OnOk result (SendsUnder O.OutboundTransform self.old.outbound outgoing.old (unowned msg.old.header) msg.old.payload (associated msg.old.header) self.new.outbound outgoing.new) }
         ensures gone { OnOk result (msg.new ≡ no_message) }
         // Or it was refused, and nothing changed.
-        ensures refused { IfErr result (FailsToSeal O.OutboundTransform false advice_text self.old.outbound msg.old.payload (associated msg.old.header)) }
+        ensures refused { IfErr result (FailsToSend O.OutboundTransform false advice_text self.old.outbound outgoing.old msg.old.payload (associated msg.old.header)) }
         ensures rest { self.new ≡ record self.old { outbound = self.new.outbound } }
         ensures err { OnErr result ((self.new ≡ self.old) × (msg.new ≡ msg.old) × (outgoing.new ≡ outgoing.old)) }
     {
@@ -227,7 +227,8 @@ impl<O: OutboundTransform, I: InboundTransform> ConnectionContext<O, I> {
     }
 
     /// Seals data under these associated bytes as `outbound_buf` does, refused with a status, and queues it under the
-    /// header with its length. There is room in the queue before the half is asked. An error changes nothing.
+    /// header with its length. Room in the queue is found before the half is asked, and the answer is `NoRoom` if there is
+    /// none. An error changes nothing.
     pub fn send_response_sync(
         &mut self,
         alloc: Global,
@@ -236,8 +237,8 @@ impl<O: OutboundTransform, I: InboundTransform> ConnectionContext<O, I> {
         outgoing: &mut Outgoing,
         header: MessageHeader,
     ) -> Result<()>
-        ensures ok { OnOk result (SendsUnder O.seals self.old.outbound outgoing.old (unowned header) «data».now aad.now self.new.outbound outgoing.new) }
-        ensures refused { IfErr result (FailsToSeal O.OutboundTransform true [] self.old.outbound «data».now aad.now) }
+        ensures ok { OnOk result (SendsUnder O.OutboundTransform self.old.outbound outgoing.old (unowned header) «data».now aad.now self.new.outbound outgoing.new) }
+        ensures refused { IfErr result (FailsToSend O.OutboundTransform true [] self.old.outbound outgoing.old «data».now aad.now) }
         ensures rest { self.new ≡ record self.old { outbound = self.new.outbound } }
         ensures err { OnErr result ((self.new ≡ self.old) × (outgoing.new ≡ outgoing.old)) }
     {
@@ -292,6 +293,7 @@ fn unsent_error<O: OutboundTransform>(
             or_no_memory(oversize_error(alloc, length, rpc_error))
         }
         SendError::TooLong => unsafe_payload_error(alloc, length, limit_of(half), advice),
+        SendError::NoRoom => Error::NoRoom,
         SendError::Failed(TransformError::Refused(why)) => unsealed_error(alloc, &why),
         SendError::Failed(TransformError::NoMemory) => Error::NoMemory,
     }

@@ -1,24 +1,26 @@
 use Rattle.std.proofs.Common.{rules, arith, ◌≡◌, ◌∙◌, ap}
-use Rattle.ttrpc_proto.specs.Framing.Queue.{with_frame, filled, withdrawn}
-use Rattle.ttrpc_proto.proofs.Queues.{placed_filled, placed_withdrawn}
+use Rattle.ttrpc_proto.specs.Framing.Queue.{with_frame, withdrawn}
+use Rattle.ttrpc_proto.proofs.Queues.{placed_withdrawn}
 use Rattle.ttrpc_secure.specs.declared.sending.SendError.TheVariants.{Failed}
-use Rattle.ttrpc_secure.proofs.Settles.{settled_ok, settled_err}
+use Rattle.ttrpc_secure.proofs.Settles.{sealed_is_queued, settled_ok, settled_err}
+use Rattle.ttrpc_secure.specs.Sends.{emptied}
 use Rattle.ttrpc_secure.proofs.sending.send_copy.Goals as goal
 
 pub returns-clause-ok : goal.returns-clause-ok
 returns-clause-ok g c =
-    let placed : c.make_room.new.outgoing ≡ with_frame c.args.outgoing.now c.args.frame = search rules in
+    let placed : c.make_room.new.outgoing ≡ with_frame c.args.outgoing.now (emptied c.args.frame) = search rules in
     settled_ok _ Failed c.transform_outbound-sealed.result c.settle.result c.settle.ensures c.transform_outbound-sealed.ensures.ok (λ sealed seal fill.
     let longer = g.met.O.OutboundTransform.lawful.longer _ _ _ _ _ seal in
     record {
       sealed = sealed.items;
       seal = seal;
       fits = omega (arith, longer, c.in_ok-check_limit.ensures.ok);
-      queue = fill ∙ ap (λ q. filled q sealed.items) placed ∙ placed_filled c.args.outgoing.now c.args.frame sealed.items c.in_ok-make_room.ensures.was;
+      room = omega (arith, c.in_ok-make_room.ensures.room, c.max_overhead.ensures);
+      queue = fill ∙ sealed_is_queued c.args.outgoing.now c.make_room.new.outgoing c.args.frame sealed.items _ placed c.in_ok-make_room.ensures.was c.in_ok-make_room.ensures.room (omega (arith, longer, c.max_overhead.ensures));
     })
 
 pub returns-clause-err : goal.returns-clause-err
 returns-clause-err g c =
-    let placed : c.make_room.new.outgoing ≡ with_frame c.args.outgoing.now c.args.frame = search rules in
+    let placed : c.make_room.new.outgoing ≡ with_frame c.args.outgoing.now (emptied c.args.frame) = search rules in
     settled_err _ Failed c.transform_outbound-sealed.result c.settle.result c.settle.ensures c.transform_outbound-sealed.ensures.err (λ error same back.
-    (same, back ∙ ap withdrawn placed ∙ placed_withdrawn c.args.outgoing.now c.args.frame c.in_ok-make_room.ensures.was))
+    (same, back ∙ ap withdrawn placed ∙ placed_withdrawn c.args.outgoing.now (emptied c.args.frame) c.in_ok-make_room.ensures.was))

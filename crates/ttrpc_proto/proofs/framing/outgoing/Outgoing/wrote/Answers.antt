@@ -1,16 +1,20 @@
-use Rattle.std.proofs.Common.{ap, arith, refl}
-use Rattle.ttrpc_proto.specs.Framing.Queue.{Queue}
-use Rattle.ttrpc_proto.proofs.Queues.{report_fits, fresh_is_queue}
+use Rattle.std.proofs.Common.{◌≤◌, arith, ap, sym}
+use Rattle.ttrpc_proto.specs.Framing.Queue.{Queue, held}
+use Rattle.ttrpc_proto.specs.Framing.Inside.{of_entries}
+use Rattle.ttrpc_proto.proofs.Entries.{finished_holds, finished_is_queue}
 use Rattle.ttrpc_proto.proofs.framing.outgoing.Outgoing.wrote.Goals as goal
 
-pub overflow_add-self : goal.overflow_add-self
-overflow_add-self c =
-    let q : Queue = record { frames = c.self.inside.frames.items; reported = c.self.inside.reported; lent = c.self.inside.lent; begun = c.self.inside.begun; sent = c.self.inside.sent } in
-    let lent = ap (λ (x : Queue). x.lent) c.self.view_is in
-    omega (arith, report_fits q c.args.n c.self.invariant (omega arith))
-
 pub invariant_of-self : goal.invariant_of-self
-invariant_of-self c = fresh_is_queue _ 0 0 _ (refl, refl)
+invariant_of-self c =
+    let lent = ap (λ (q : Queue). q.lent) c.self.view_is in
+    let le : c.args.n ≤ c.self.inside.lent = omega (arith, lent, c.requires) in
+    let holds = finished_holds c.self.inside.entries.items c.self.inside.reported c.self.inside.lent c.self.inside.begun c.self.inside.sent c.take_first-sent.result.0 c.args.n c.self.invariant.0 le (omega (arith, c.first_length-length.ensures, c.if-self-length.true)) in
+    let gone = c.take_first-sent.ensures.gone in
+    rw c.take_first-sent.ensures.rest (
+      finished_is_queue _ c.take_first-sent.result.0,
+      omega (arith, holds, gone, c.self.invariant.1),
+      omega (arith, c.self.invariant.2),
+    )
 
 pub returns-then-self-length-clause-valid : goal.returns-then-self-length-clause-valid
-returns-then-self-length-clause-valid c = fresh_is_queue _ 0 0 _ (refl, refl)
+returns-then-self-length-clause-valid c = finished_is_queue _ c.take_first-sent.result.0
