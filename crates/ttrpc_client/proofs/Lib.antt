@@ -13,3 +13,4 @@ pub mod Throwing
 pub mod Queueing
 pub mod Places
 pub mod Searching
+pub mod Taking

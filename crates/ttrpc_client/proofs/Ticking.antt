@@ -1,5 +1,6 @@
 -- The calls that are due expire one after the other, and where none is due nothing changes.
-use Rattle.ttrpc_client.proofs.Words.{arith, rules, ◌≡◌, ℕ, ◌<◌, List, [], ◌∷◌, ◌++◌, length, not, ◌&&◌, append_assoc, append-nil, take-append-drop, Bool, true, false, if◌then◌else◌, refl, sym, ap, subst, ◌∙◌, take, drop, IsPermutation-pop_more, IsPermutation-refl, IsPermutation-sym, length_permutation, IsPermutation, Queued, begun_count, first_is_request_of, frames_without, without, Connection, Failure, ClientCore, Client, call_at, throws, Expires, Ticks, due_at, due_ids, expired_at, taken_back, ExpiresOne, DeadlineDuringWrite}
+use Rattle.ttrpc_client.proofs.Words.{arith, rules, ◌≡◌, ◌≤◌, ◌+◌, ℕ, ◌<◌, List, [], ◌∷◌, ◌++◌, length, not, ◌&&◌, append_assoc, append-nil, take-append-drop, Bool, true, false, if◌then◌else◌, refl, sym, ap, subst, ◌∙◌, take, drop, IsPermutation-pop_more, IsPermutation-refl, IsPermutation-sym, length_permutation, IsPermutation, Queued, begun_count, first_is_request_of, frames_without, without, Connection, Failure, ClientCore, Client, call_at, throws, Expires, Ticks, due_at, due_ids, expired_at, taken_back, ExpiresOne, DeadlineDuringWrite}
+use Rattle.ttrpc_proto.specs.Framing.Queue.{gone_after, gone_behind, gone_first, in_front, IsQueue, trimmed}
 use Rattle.ttrpc_client.proofs.Expiring.{not_due, stays_as_it_is}
 
 -- some calls that are due have expired, and the others are still to
@@ -55,21 +56,54 @@ none_begun ids none false fs = refl
 none_begun ids none true [] = refl
 none_begun ids none true (f ∷ fs) = let e = none f.owner in search (rules, e)
 
-taken_back_not : {O I : Type 0} (c : Connection O I) (ids : ℕ → Bool) (why : Failure) → ((k : ℕ) → ids k ≡ false) → taken_back c ids why ≡ c
-taken_back_not c ids why none =
+-- nor is a byte gone after a frame
+not_both : (u b : Bool) → b ≡ false → (u && b) ≡ false
+not_both true b e = e
+not_both false b e = refl
+
+none_first : (ids : ℕ → Bool) → ((k : ℕ) → ids k ≡ false) → (fs : List Queued) (gone : List ℕ) → gone_first ids fs gone ≡ 0
+none_first ids none [] gone = refl
+none_first ids none (f ∷ fs) gone = rw (not_both f.is_unary_request (ids f.owner) (none f.owner)) refl
+
+abbrev goes_first : (ids : ℕ → Bool) → List Queued → List ℕ → ℕ → List ℕ
+goes_first ids fs gone n = in_front (n + gone_first ids fs gone) (gone_behind ids fs gone)
+
+one_behind : (ids : ℕ → Bool) → ((k : ℕ) → ids k ≡ false) → (fs : List Queued) (gone : List ℕ) (n : ℕ) → gone_behind ids fs gone ≡ trimmed gone → goes_first ids fs gone n ≡ in_front n (trimmed gone)
+one_behind ids none fs gone n behind =
+    let same : n + gone_first ids fs gone ≡ n = let zero = none_first ids none fs gone in omega (arith, zero) in
+    rw (same, behind) refl
+
+none_behind : (ids : ℕ → Bool) → ((k : ℕ) → ids k ≡ false) → (fs : List Queued) (gone : List ℕ) → length gone ≤ length fs → gone_behind ids fs gone ≡ trimmed gone
+none_behind ids none [] [] le = refl
+none_behind ids none [] (k ∷ ks) le = absurd (omega (arith, le))
+none_behind ids none (f ∷ fs) [] le = rw (not_both f.is_unary_request (ids f.owner) (none f.owner)) (one_behind ids none fs [] 0 (none_behind ids none fs [] (omega arith)))
+none_behind ids none (f ∷ fs) (k ∷ ks) le = rw (not_both f.is_unary_request (ids f.owner) (none f.owner)) (one_behind ids none fs ks k (none_behind ids none fs ks (omega (arith, le))))
+
+none_after : (ids : ℕ → Bool) → ((k : ℕ) → ids k ≡ false) → (begun : Bool) (fs : List Queued) (gone : List ℕ) → length gone ≤ length fs → gone_after ids begun fs gone ≡ trimmed gone
+none_after ids none false fs gone le = none_behind ids none fs gone le
+none_after ids none true [] [] le = refl
+none_after ids none true [] (k ∷ ks) le = absurd (omega (arith, le))
+none_after ids none true (f ∷ fs) [] le = one_behind ids none fs [] 0 (none_behind ids none fs [] (omega arith))
+none_after ids none true (f ∷ fs) (k ∷ ks) le = one_behind ids none fs ks k (none_behind ids none fs ks (omega (arith, le)))
+
+taken_back_not : {O I : Type 0} (c : Connection O I) (ids : ℕ → Bool) (why : Failure) → IsQueue c.outbox.queue → ((k : ℕ) → ids k ≡ false) → taken_back c ids why ≡ c
+taken_back_not c ids why is none =
     let q = c.outbox.queue in
+    let gone : gone_after ids q.begun q.frames q.gone ≡ q.gone = none_after ids none q.begun q.frames q.gone is.gone ∙ is.no_zero in
     let n = begun_count q in
     let frames : take n q.frames ++ frames_without ids (drop n q.frames) ≡ q.frames = ap (λ fs. take n q.frames ++ fs) (all_kept ids none (drop n q.frames)) ∙ take-append-drop n q.frames in
-    rw (none_begun ids none q.begun q.frames) (ap (λ fs. record c { outbox = record c.outbox { queue = record q { frames = fs } } }) frames)
+    rw (none_begun ids none q.begun q.frames)
+    (ap (λ fs. record c { outbox = record c.outbox { queue = record q { frames = fs; gone = gone_after ids q.begun q.frames q.gone } } }) frames
+    ∙ ap (λ (ns : List ℕ). record c { outbox = record c.outbox { queue = record q { gone = ns } } }) gone)
 
-back_not : {O I : Type 0} (b : Bool) (c : Connection O I) (ids : ℕ → Bool) (why : Failure) → ((k : ℕ) → ids k ≡ false) → c ≡ (if b then taken_back c ids why else c)
-back_not true c ids why none = sym (taken_back_not c ids why none)
-back_not false c ids why none = refl
+back_not : {O I : Type 0} (b : Bool) (c : Connection O I) (ids : ℕ → Bool) (why : Failure) → IsQueue c.outbox.queue → ((k : ℕ) → ids k ≡ false) → c ≡ (if b then taken_back c ids why else c)
+back_not true c ids why is none = sym (taken_back_not c ids why is none)
+back_not false c ids why is none = refl
 
-pub nothing_due : {O I : Type 0} (seals : Bool) (old : ClientCore O I) (now : ℕ) → due_ids now old.state.calls ≡ [] → Ticks seals old now old
-nothing_due seals old now none = record {
+pub nothing_due : {O I : Type 0} (seals : Bool) (old : ClientCore O I) (now : ℕ) → IsQueue old.connection.outbox.queue → due_ids now old.state.calls ≡ [] → Ticks seals old now old
+nothing_due seals old now is none = record {
   expires = all_expired old.state old.state now (none_yet old.state now) none;
-  connection = back_not (throws old.state.kind seals) old.connection (λ id. due_at now (call_at old.state id)) DeadlineDuringWrite (λ k. not_due now k old.state.calls none);
+  connection = back_not (throws old.state.kind seals) old.connection (λ id. due_at now (call_at old.state id)) DeadlineDuringWrite is (λ k. not_due now k old.state.calls none);
 }
 
 -- ---- what a tick leaves queued

@@ -8,12 +8,13 @@ use Rattle.std.specs.Map.{keys_of, remove_entry}
 use Rattle.ttrpc_client.specs.Types.{Error, NoMemory as MemoryRefused, Queued, OutboundTransform, Request, Call, Waiting, Stream, Arrived, Failure}
 use Rattle.ttrpc_secure.specs.declared.transform.TransformError.{TransformError}
 use Rattle.ttrpc_secure.specs.declared.transform.TransformError.TheVariants.{Refused, NoMemory}
+use Rattle.ttrpc_proto.specs.Framing.Queue.{free}
 use Rattle.ttrpc_secure.specs.Sends.{associated}
 use Rattle.ttrpc_connection.specs.Frames.{SendsOne, safe_limit, Sent}
 use Rattle.ttrpc_client.specs.declared.client.ClientCore.{ClientCore}
 use Rattle.ttrpc_client.specs.State.{Client, OthersStay, call_at, stream_at, told_left, waits, due_ids}
 use Rattle.ttrpc_client.specs.Streams.{StreamsStay, new_stream}
-use Rattle.ttrpc_client.specs.Protocol.{expired_at, left_of, HasNoId, IsAboveLimit, IsRequestFrame, last_id, request_bytes, request_size, LandsOnce}
+use Rattle.ttrpc_client.specs.Protocol.{expired_at, left_of, HasNoId, HasNoRoom, IsAboveLimit, IsRequestFrame, last_id, request_bytes, request_room, request_size, LandsOnce}
 use Rattle.ttrpc_secure.specs.declared.transform.InboundTransform.{Ghosts as InboundTransform}
 use Rattle.ttrpc_connection.specs.Feeds.{Ways}
 use Rattle.ttrpc_client.specs.Streaming.{IsOpeningFrame}
@@ -34,7 +35,7 @@ takes_always s = true
 
 -- what the clauses know of a client core over these halves
 abbrev pub calling : {O I : Type 0} → OutboundTransform O → InboundTransform I → Ways Client O I
-calling out in_ = record { out = out; in_ = in_; core = record { reacts = lands_once; fails = fails_not; takes = takes_always } }
+calling out in_ = record { out = out; in_ = in_; core = record { reacts = lands_once; fails = fails_not; takes = takes_always; ROOM = 0 } }
 
 -- ---- what is done to it
 
@@ -130,8 +131,9 @@ pub record IsWritten {O I : Type 0} (out : OutboundTransform O) (old : ClientCor
   pub id_is : id ≡ old.state.next
   pub in_range : id ≤ last_id
   pub fits : request_size r ≤ safe_limit out old.connection.outbox.half
+  pub room : request_room out old.connection.outbox.half r ≤ free old.connection.outbox.queue
   pub bytes_are : bytes ≡ request_bytes r
 
 -- or why nothing is
 abbrev pub IsUnwritten : {O I : Type 0} → OutboundTransform O → ClientCore O I → Request → Error → Type 0
-IsUnwritten out old r told = HasNoId old r told ⊎ IsAboveLimit out old r told ⊎ ((told ≡ MemoryRefused) × (old.connection.failure ≡ None))
+IsUnwritten out old r told = HasNoId old r told ⊎ IsAboveLimit out old r told ⊎ HasNoRoom out old r told ⊎ ((told ≡ MemoryRefused) × (old.connection.failure ≡ None))

@@ -10,14 +10,14 @@ use Rattle.std.specs.Ordering.{nat_cmp}
 use Rattle.ttrpc_wire.specs.Field.{fields_bytes}
 use Rattle.ttrpc_wire.specs.Fold.{read_from}
 use Rattle.ttrpc_wire.specs.declared.values.code.Code.TheVariants.{INVALID_ARGUMENT}
-use Rattle.ttrpc_client.specs.Types.{Error, Others, RpcStatus, NoMemory, Request, Response, Queued, OutboundTransform, Arrived, Failure, DeadlineDuringWrite, CancelledDuringWrite, Connection, Thing, Breaking, Closing, Last, Call, Waiting, Expired, Ended, ClientKind, Sync, Async, Stream}
+use Rattle.ttrpc_client.specs.Types.{Error, Others, RpcStatus, NoMemory, NoRoom, Request, Response, Queued, OutboundTransform, Arrived, Failure, DeadlineDuringWrite, CancelledDuringWrite, Connection, Thing, Breaking, Closing, Last, Call, Waiting, Expired, Ended, ClientKind, Sync, Async, Stream}
 use Rattle.ttrpc_proto.specs.declared.messages.Status.{Status}
 use Rattle.ttrpc_proto.specs.ErrorText.{status_of}
 use Rattle.ttrpc_proto.specs.Messages.{empty_response, request_fields, response_step}
 use Rattle.ttrpc_proto.specs.declared.framing.header.MessageHeader.{MessageHeader}
-use Rattle.ttrpc_proto.specs.declared.framing.header.TheConstants.{FLAG_REMOTE_CLOSED, MESSAGE_LENGTH_MAX, MESSAGE_TYPE_DATA, MESSAGE_TYPE_REQUEST, MESSAGE_TYPE_RESPONSE}
+use Rattle.ttrpc_proto.specs.declared.framing.header.TheConstants.{FLAG_REMOTE_CLOSED, MESSAGE_HEADER_LENGTH, MESSAGE_LENGTH_MAX, MESSAGE_TYPE_DATA, MESSAGE_TYPE_REQUEST, MESSAGE_TYPE_RESPONSE}
 use Rattle.ttrpc_proto.specs.Framing.Header.Oversize.{oversize_text}
-use Rattle.ttrpc_proto.specs.Framing.Queue.{has_begun, without}
+use Rattle.ttrpc_proto.specs.Framing.Queue.{free, has_begun, without}
 use Rattle.ttrpc_secure.specs.Hooks.Facts.{Facts}
 use Rattle.ttrpc_secure.specs.Context.Texts.{advice_text, unopened_text, unsafe_payload_text, unsealed_text}
 use Rattle.ttrpc_secure.specs.Sends.{associated}
@@ -322,11 +322,24 @@ pub record IsAboveLimit {O I : Type 0} (out : OutboundTransform O) (old : Client
   pub above : safe_limit out old.connection.outbox.half < request_size r
   pub is_told : IsTold (Others (unsafe_payload_text (request_size r) (safe_limit out old.connection.outbox.half) (advice old.state.kind))) told
 
--- or it isn't, and the half refuses it in such a frame, for this reason
+-- how many bytes the frame of a request may need: its header, the request, and what sealing may add
+abbrev pub request_room : {O : Type 0} → OutboundTransform O → O → Request → ℕ
+request_room out o r = MESSAGE_HEADER_LENGTH + request_size r + out.overhead o
+
+-- or it isn't, and the queue lacks room for it
+pub record HasNoRoom {O I : Type 0} (out : OutboundTransform O) (old : ClientCore O I) (r : Request) (told : Error) : Type 0 where
+  pub sendable : IsSendable old r
+  pub in_range : old.state.next ≤ last_id
+  pub fits : request_size r ≤ safe_limit out old.connection.outbox.half
+  pub lacks : free old.connection.outbox.queue < request_room out old.connection.outbox.half r
+  pub is_told : told ≡ NoRoom
+
+-- or it has room, and the half refuses it in such a frame, for this reason
 pub record IsUnsealed {O I : Type 0} (out : OutboundTransform O) (old : ClientCore O I) (r : Request) (is_such : Queued → Type 0) (told : Error) : Type 0 where
   pub sendable : IsSendable old r
   pub in_range : old.state.next ≤ last_id
   pub fits : request_size r ≤ safe_limit out old.connection.outbox.half
+  pub room : request_room out old.connection.outbox.half r ≤ free old.connection.outbox.queue
   pub frame : Queued
   pub is_frame : is_such frame
   pub why : List ℕ
@@ -337,4 +350,4 @@ pub record IsUnsealed {O I : Type 0} (out : OutboundTransform O) (old : ClientCo
 abbrev pub RefusesRequest : {O I : Type 0} → OutboundTransform O → ClientCore O I → Request → Error → Type 0
 RefusesRequest out old r told =
     IsFailed old.connection.failure told ⊎ IsTooLong old r told ⊎ HasNoId old r told ⊎ IsAboveLimit out old r told
-    ⊎ IsUnsealed out old r (IsRequestFrame old.state.next) told ⊎ ((told ≡ NoMemory) × (old.connection.failure ≡ None))
+    ⊎ HasNoRoom out old r told ⊎ IsUnsealed out old r (IsRequestFrame old.state.next) told ⊎ ((told ≡ NoMemory) × (old.connection.failure ≡ None))

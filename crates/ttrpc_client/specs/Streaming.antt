@@ -17,7 +17,7 @@ use Rattle.ttrpc_connection.specs.Mail.{Mail, Receives}
 use Rattle.ttrpc_client.specs.declared.client.ClientCore.{ClientCore}
 use Rattle.ttrpc_client.specs.State.{stream_at}
 use Rattle.ttrpc_client.specs.Streams.{StreamsStay, new_stream, with_sender, without_reader, without_sender}
-use Rattle.ttrpc_client.specs.Protocol.{HasNoId, IsAboveLimit, IsSendable, IsTooLong, IsUnsealed, advice, last_id, request_bytes, request_size}
+use Rattle.ttrpc_client.specs.Protocol.{HasNoId, HasNoRoom, IsAboveLimit, IsSendable, IsTooLong, IsUnsealed, advice, last_id, request_bytes, request_size}
 
 -- ---- streams that are opened
 -- Source: PROTOCOL.md of ttrpc, "Streaming"; the order of refusals: this project's.
@@ -66,7 +66,7 @@ abbrev pub RefusesStream : {O I : Type 0} → OutboundTransform O → ClientCore
 RefusesStream out old r streaming_client told =
     IsFailed old.connection.failure told ⊎ IsTooLong old r told ⊎ HasPayload old r streaming_client told
     ⊎ ((streaming_client ≡ true → r.payload ≡ [])
-    × (HasNoId old r told ⊎ IsAboveLimit out old r told ⊎ IsUnsealed out old r (IsOpeningFrame streaming_client old.state.next) told))
+    × (HasNoId old r told ⊎ IsAboveLimit out old r told ⊎ HasNoRoom out old r told ⊎ IsUnsealed out old r (IsOpeningFrame streaming_client old.state.next) told))
     ⊎ ((told ≡ NoMemory) × (old.connection.failure ≡ None))
 
 -- ---- items that are sent, and the close behind them

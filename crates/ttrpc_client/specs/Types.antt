@@ -2,7 +2,7 @@
 -- Source: this project's.
 pub use Rattle.ttrpc_proto.specs.declared.messages.Request.{Request}
 pub use Rattle.ttrpc_proto.specs.declared.messages.Response.{Response}
-pub use Rattle.ttrpc_proto.specs.declared.error.Error.TheVariants.{LocalClosed, NoMemory, Others, RpcStatus}
+pub use Rattle.ttrpc_proto.specs.declared.error.Error.TheVariants.{LocalClosed, NoMemory, NoRoom, Others, RpcStatus}
 pub use Rattle.ttrpc_connection.specs.Types.{Error, OutboundTransform, Queued}
 pub use Rattle.ttrpc_connection.specs.declared.arrived.Arrived.{Arrived}
 pub use Rattle.ttrpc_connection.specs.declared.connection.Connection.{Connection}

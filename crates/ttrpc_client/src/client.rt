@@ -1,8 +1,9 @@
 //! The core of a client: calls and frames in, requests and outcomes out.
 ghost use Rattle.std.specs.Prelude.{◌≡◌, ◌≢◌, ◌⊎◌, ◌<◌, ◌≤◌, ◌%◌, ◌^◌, ◌+◌, ◌++◌, ◌↔◌, ℕ, List, [], length, is_some, true, option_to_list, IfOk, IfErr, OnOk, OnErr, IfSome, IfNone, Some, None};
 ghost use Rattle.ttrpc_proto.specs.Framing.Frames.{Holds, nothing};
-ghost use Rattle.ttrpc_proto.specs.Framing.Queue.{unsent};
+ghost use Rattle.ttrpc_proto.specs.Framing.Queue.{free, unsent};
 ghost use Rattle.ttrpc_secure.specs.Hooks.Facts.{facts_of};
+ghost use Rattle.ttrpc_secure.specs.Sends.{needed};
 ghost use Rattle.ttrpc_connection.specs.declared.failure.Failure.{Failure as AFailure};
 ghost use Rattle.ttrpc_connection.specs.Feeds.{IsFailed};
 ghost use Rattle.ttrpc_connection.specs.OneEnd.{Ends, Lends, Takes, failing, lendable, lending, reporting};
@@ -79,8 +80,8 @@ impl<O: OutboundTransform + Drop, I: InboundTransform + Drop> ClientCore<O, I> {
         self.connection.connection_data()
     }
 
-    /// Makes a call: its request is sealed and queued under the next id. A refusal changes nothing. The call waits until
-    /// `now`, in nanoseconds, and its timeout together.
+    /// Makes a call: its request is sealed and queued under the next id. A refusal changes nothing; it is `NoRoom` if fewer
+    /// bytes are free than the request's frame may need. The call waits until `now`, in nanoseconds, and its timeout together.
     pub fn request(&mut self, alloc: Global, request: &Request, now: u64) -> Result<CallId, Error>
         ensures ok { IfOk result (λ id. Requests O.OutboundTransform self.old request.now now id self.new) }
         ensures refused { IfErr result (RefusesRequest O.OutboundTransform self.old request.now) }
@@ -128,6 +129,9 @@ impl<O: OutboundTransform + Drop, I: InboundTransform + Drop> ClientCore<O, I> {
         if size > limit {
             return Err(above_limit_error(alloc, self.state.kind(), size, limit));
         }
+        if !self.connection.outbox.has_room(size) {
+            return Err(Error::NoRoom);
+        }
         match encode_with_room(alloc, request, size) {
             Ok(bytes) => Ok((id, bytes)),
             Err(CodecError::NoMemory) => Err(Error::NoMemory),
@@ -143,9 +147,10 @@ impl<O: OutboundTransform + Drop, I: InboundTransform + Drop> ClientCore<O, I> {
         bytes: Vec<u8>,
         deadline: Option<u128>,
     ) -> Result<(), TransformError>
-        // The id is the next one, and the request fits.
+        // The id is the next one, and the request fits, also into the queue.
         requires next { id ≡ self.old.state.next }
         requires fits { length bytes.items ≤ safe_limit O.OutboundTransform self.old.connection.outbox.half }
+        requires room { needed O.OutboundTransform self.old.connection.outbox.half bytes.items ≤ free self.old.connection.outbox.queue }
         // The call waits, and its request is queued; or memory is wanted, or the half refuses, and nothing changed.
         ensures ok { OnOk result (Begins O.OutboundTransform self.old id bytes.items deadline self.new) }
         ensures refused { IfErr result (MayRefuse O.OutboundTransform self.old (IsRequestFrame id) bytes.items) }
@@ -161,7 +166,7 @@ impl<O: OutboundTransform + Drop, I: InboundTransform + Drop> ClientCore<O, I> {
                 self.state.withdraw(id);
                 Err(error)
             }
-            Err(SendError::TooLong) => unreachable!(),
+            Err(SendError::TooLong | SendError::NoRoom) => unreachable!(),
         }
     }
 
@@ -190,6 +195,7 @@ impl<O: OutboundTransform + Drop, I: InboundTransform + Drop> ClientCore<O, I> {
         if self.connection.has_failed() {
             return;
         }
+        self.connection.outbox.lemma_is_queue();
         let Some(soonest) = self.state.next_deadline() else {
             return;
         };
@@ -228,7 +234,8 @@ impl<O: OutboundTransform + Drop, I: InboundTransform + Drop> ClientCore<O, I> {
     /// Takes a piece whole, and says how many bytes that are. Each frame that is whole with it acts, in order. The
     /// connection fails where memory for a frame is refused; then and from then on the answer is that failure.
     pub fn feed(&mut self, alloc: Global, piece: &[u8]) -> Result<usize, Error>
-        ensures { Takes (calling O.OutboundTransform I.InboundTransform) self.old.state self.old.connection piece.now 0 result self.new.state self.new.connection }
+        ensures whole { IfOk result (λ n. n ≡ length piece.now) }
+        ensures takes { Takes (calling O.OutboundTransform I.InboundTransform) self.old.state self.old.connection piece.now 0 result self.new.state self.new.connection }
     {
         // No rule of a client asks for the moment at which a frame came.
         self.connection.feed(alloc, &mut self.state, piece, 0)

@@ -346,6 +346,10 @@ impl<O: OutboundTransform> Reacts<O> for ClientState {
 
     ghost takes = { takes_always };
 
+    const ROOM: usize = 0;
+
+    ghost ROOM = { 0 };
+
     fn takes(&self) -> bool {
         true
     }

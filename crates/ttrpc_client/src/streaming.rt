@@ -1,5 +1,7 @@
 //! The calls of a client core on its streams.
 ghost use Rattle.std.specs.Prelude.{◌≡◌, ◌≤◌, ◌++◌, [], length, option_to_list, IfOk, IfErr, OnOk, OnErr, IfNone};
+ghost use Rattle.ttrpc_proto.specs.Framing.Queue.{free};
+ghost use Rattle.ttrpc_secure.specs.Sends.{needed};
 ghost use Rattle.ttrpc_connection.specs.Failure.{TellsSent};
 ghost use Rattle.ttrpc_connection.specs.Frames.{safe_limit};
 ghost use Rattle.ttrpc_connection.specs.Items.{close_flags};
@@ -57,9 +59,10 @@ impl<O: OutboundTransform + Drop, I: InboundTransform + Drop> ClientCore<O, I> {
         streaming_client: bool,
         streaming_server: bool,
     ) -> Result<(), TransformError>
-        // The id is the next one, and the request fits.
+        // The id is the next one, and the request fits, also into the queue.
         requires next { id ≡ self.old.state.next }
         requires fits { length bytes.items ≤ safe_limit O.OutboundTransform self.old.connection.outbox.half }
+        requires room { needed O.OutboundTransform self.old.connection.outbox.half bytes.items ≤ free self.old.connection.outbox.queue }
         // The stream is kept, and its request is queued; or memory is wanted, or the half refuses, and nothing changed.
         ensures ok { OnOk result (BeginsStream O.OutboundTransform self.old streaming_client streaming_server id bytes.items self.new) }
         ensures refused { IfErr result (MayRefuse O.OutboundTransform self.old (IsOpeningFrame streaming_client id) bytes.items) }
@@ -76,7 +79,7 @@ impl<O: OutboundTransform + Drop, I: InboundTransform + Drop> ClientCore<O, I> {
                 self.state.withdraw_stream(id);
                 Err(error)
             }
-            Err(SendError::TooLong) => unreachable!(),
+            Err(SendError::TooLong | SendError::NoRoom) => unreachable!(),
         }
     }
 

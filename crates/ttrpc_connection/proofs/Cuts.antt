@@ -1,7 +1,7 @@
 -- A piece that is fed in two parts at one moment does what it does whole, so that calls with pieces cut otherwise lead
 -- to the same.
-use Rattle.ttrpc_connection.proofs.Words.{◌≡◌, ◌⊎◌, inl, inr, ℕ, Bool, true, false, cond, nat_eq, List, [], ◌∷◌, ◌++◌, length, map, Option, Some, None, IsSome, is_some, arith, rules, refl, sym, ap, subst, ◌∙◌, append_assoc, length-append, append_cancel_left, map-append, Error, Incoming, Held, nothing, Holds, Fed, given, Queue, Happening, Placed, nothing_held, exact, Connection, Ways, Scene, ActsAll, Feeds, Breaks, scene, Call, Gave, Lent, Reported, Failed, Did, Others, AreLawful, Gives, Calls, Runs, before_others, joined}
-use Rattle.ttrpc_connection.proofs.Feeding.{acts_keep, breaks_behind, breaks_so, fed_twice, feeds_joined, still_takes}
+use Rattle.ttrpc_connection.proofs.Words.{◌≡◌, ◌⊎◌, inl, inr, ℕ, Bool, true, false, cond, nat_eq, List, [], ◌∷◌, ◌++◌, length, map, Option, Some, None, IsSome, is_some, arith, rules, refl, sym, ap, subst, ◌∙◌, append_assoc, length-append, append-nil, append_cancel_left, cases_Bool, map-append, Error, Incoming, Held, nothing, Holds, Fed, given, Queue, Happening, Placed, nothing_held, exact, Connection, Ways, Scene, ActsAll, Feeds, Breaks, is_open, scene, Call, Gave, Lent, Reported, Failed, Did, Others, AreLawful, Gives, Calls, Runs, before_others, joined}
+use Rattle.ttrpc_connection.proofs.Feeding.{breaks_behind, breaks_so, fed_twice, feeds_joined, open_before, open_takes, still_takes}
 use Rattle.ttrpc_connection.proofs.Holding.{fed_one_way, fed_some}
 use Rattle.ttrpc_connection.proofs.Leaving.{gives_grow}
 
@@ -21,6 +21,10 @@ split (a ∷ taken) rest (b ∷ p) q e =
 none_behind : {X : Type 0} (xs ys : List X) → xs ++ ys ≡ [] → ys ≡ []
 none_behind [] ys e = e
 none_behind (x ∷ xs) ys e = cc
+
+none_before : {X : Type 0} (xs ys : List X) → xs ++ ys ≡ [] → xs ≡ []
+none_before [] ys e = refl
+none_before (x ∷ xs) ys e = cc
 
 abbrev LastIn : List Incoming → List Incoming → List Incoming → Option Incoming → Type 0
 LastIn fs gs frames last = (zs : List Incoming) × (gs ≡ zs ++ given last) × (frames ≡ fs ++ zs)
@@ -50,37 +54,54 @@ module _ {S O I : Type 0} (w : Ways S O I) where
 
   breaks_before : (s : S) (old : Connection O I) (at : ℕ) (told : Error) (t : S) (new : Connection O I) (p q : List ℕ) → Breaks w s old p at told t new → Breaks w s old (p ++ q) at told t new
   breaks_before s old at told t new p q b =
-      breaks_so w s s old old (p ++ q) p at told t new b b.frames b.taken (b.rest ++ q) b.takes b.alive (ap (λ xs. xs ++ q) b.piece_is ∙ append_assoc b.taken b.rest q) b.fed b.acts
+      breaks_so w s s old old (p ++ q) p at told t new b b.frames b.taken (b.rest ++ q) b.alive (ap (λ xs. xs ++ q) b.piece_is ∙ append_assoc b.taken b.rest q) b.fed b.acts
 
   pub gives_joined : (s : S) (old : Connection O I) (at : ℕ) (u : S) (mid : Connection O I) (t : S) (new : Connection O I) (p q : List ℕ) → Gives w s old p at u mid → Gives w u mid q at t new → Gives w s old (p ++ q) at t new
+  gives_joined s old at u mid t new p q one (inr (inr (inr (inr none), is, same))) = rw (none, append-nil, is, same) one
+  gives_joined s old at u mid t new p q (inr (inr (inr (inr none), is, same))) two =
+      rw none (subst (λ x. Gives w x old q at t new) is (subst (λ c. Gives w u c q at t new) same two))
   gives_joined s old at u mid t new p q (inl one) (inl two) = inl (feeds_joined w s old at u mid t new p q one two)
   gives_joined s old at u mid t new p q (inl one) (inr (inl two)) = inr (inl (two.0, breaks_behind w s old at u mid two.0 t new p q one two.1))
   gives_joined s old at u mid t new p q (inl one) (inr (inr (inl failed, is, same))) = absurd (cc (one.still, failed))
-  gives_joined s old at u mid t new p q (inl one) (inr (inr (inr drains, is, same))) = absurd (cc (still_takes w s old p at u mid one, drains))
+  gives_joined s old at u mid t new p q (inl one) (inr (inr (inr (inl drains), is, same))) = absurd (cc (still_takes w s old p at u mid one, drains))
   gives_joined s old at u mid t new p q (inr (inl one)) (inl two) = absurd (cc (one.1.fails, two.alive))
   gives_joined s old at u mid t new p q (inr (inl one)) (inr (inl two)) = absurd (cc (one.1.fails, two.1.alive))
   gives_joined s old at u mid t new p q (inr (inl one)) (inr (inr two)) = inr (inl (one.0, rw (two.1, two.2) (breaks_before s old at one.0 u mid p q one.1)))
   gives_joined s old at u mid t new p q (inr (inr (inl failed, is, same))) (inl two) = absurd (cc (failed, same, two.alive))
   gives_joined s old at u mid t new p q (inr (inr (inl failed, is, same))) (inr (inl two)) = absurd (cc (failed, same, two.1.alive))
-  gives_joined s old at u mid t new p q (inr (inr (inr drains, is, same))) (inl two) = absurd (cc (drains, ap w.core.takes is, two.takes))
-  gives_joined s old at u mid t new p q (inr (inr (inr drains, is, same))) (inr (inl two)) = absurd (cc (drains, ap w.core.takes is, two.1.takes))
-  gives_joined s old at u mid t new p q (inr (inr one)) (inr (inr two)) = inr (inr (one.0, two.1 ∙ one.1, two.2 ∙ one.2))
+  gives_joined s old at u mid t new p q (inr (inr (inr (inl drains), is, same))) (inl two) = absurd (let takes = open_takes w u mid.outbox two.was_open in cc (drains, ap w.core.takes is, takes))
+  gives_joined s old at u mid t new p q (inr (inr (inr (inl drains), is, same))) (inr (inl two)) =
+      absurd (let takes = open_takes w u mid.outbox (open_before w at two.1.frames (scene u mid) two.1.mid two.1.acts two.1.was_open) in cc (drains, ap w.core.takes is, takes))
+  gives_joined s old at u mid t new p q (inr (inr (inl failed, is, same))) (inr (inr two)) = inr (inr (inl failed, two.1 ∙ is, two.2 ∙ same))
+  gives_joined s old at u mid t new p q (inr (inr (inr (inl drains), is, same))) (inr (inr two)) = inr (inr (inr (inl drains), two.1 ∙ is, two.2 ∙ same))
 
   abbrev GivesApart : S → Connection O I → ℕ → S → Connection O I → List ℕ → List ℕ → Type 0
   GivesApart s old at t new p q = (u : S) × (mid : Connection O I) × Gives w s old p at u mid × Gives w u mid q at t new
 
+  -- a core is open before bytes that are taken
+  open_between : (at : ℕ) (t : S) (new : Connection O I) (held after : Held) (before : List ℕ) (z : ℕ) (zs : List ℕ) (fs : List Incoming) (mid : Scene S O I) → Holds held before → Fed held (z ∷ zs) fs after → after ≡ new.decoder
+      → (is_open w t new.outbox ≡ false → new.decoder ≡ nothing) → ActsAll w at mid fs (scene t new) → is_open w mid.state mid.outbox ≡ true
+  open_between at t new held after before z zs (f ∷ fs) mid holds fed same stops acts = acts.1.was_open
+  open_between at t new held after before z zs [] mid holds fed same stops acts = elim (cases_Bool (is_open w mid.state mid.outbox)) [
+    | inl was_open ↦ was_open
+    | inr shut ↦ absurd (ends_not held after before z zs holds fed (same ∙ stops (ap (λ (c : Scene S O I). is_open w c.state c.outbox) acts ∙ shut)))
+  ]
+
   feeds_apart : (s : S) (old : Connection O I) (at : ℕ) (t : S) (new : Connection O I) (before p q : List ℕ) → Holds old.decoder before → Feeds w s old (p ++ q) at t new → GivesApart s old at t new p q
-  feeds_apart s old at t new before p q holds feeds =
+  feeds_apart s old at t new before p [] holds feeds = (t, new, inl (subst (λ xs. Feeds w s old xs at t new) (append-nil p) feeds), inr (inr (inr (inr refl), refl, refl)))
+  feeds_apart s old at t new before p (z ∷ zs) holds feeds =
+      let q = z ∷ zs in
       let one = fed_some old.decoder before p holds in
       let rest = one.2 before holds in
       let two = fed_some one.1 rest.0 q rest.2 in
       let whole = fed_twice old.decoder one.1 two.1 p q one.0 two.0 one.2 two.2 in
       let same = fed_one_way old.decoder two.1 new.decoder before (p ++ q) (one.0 ++ two.0) feeds.frames holds whole feeds.fed in
-      let acts = acts_apart at one.0 two.0 (scene s old) (scene t new) (rw same.0 feeds.acts) in (
+      let acts = acts_apart at one.0 two.0 (scene s old) (scene t new) (rw same.0 feeds.acts) in
+      let was_open = open_between at t new one.1 two.1 rest.0 z zs two.0 acts.0 rest.2 two.2 same.1 feeds.stops acts.2 in (
         acts.0.state,
         record { decoder = one.1; outbox = acts.0.outbox; inbound = acts.0.inbound; failure = None; known = old.known },
-        inl (record { takes = feeds.takes; alive = feeds.alive; still = refl; frames = one.0; fed = one.2; acts = acts.1 }),
-        inl (record { takes = acts_keep w at one.0 (scene s old) acts.0 acts.1 ∙ feeds.takes; alive = refl; still = feeds.still; frames = two.0; fed = rw (← same.1) two.2; acts = acts.2 }),
+        inl (record { was_open = feeds.was_open; alive = feeds.alive; still = refl; frames = one.0; fed = one.2; acts = acts.1; stops = λ shut. absurd (cc (was_open, shut)) }),
+        inl (record { was_open = was_open; alive = refl; still = feeds.still; frames = two.0; fed = rw (← same.1) two.2; acts = acts.2; stops = feeds.stops }),
       )
 
   breaks_apart : (s : S) (old : Connection O I) (at : ℕ) (told : Error) (t : S) (new : Connection O I) (before p q : List ℕ) → Holds old.decoder before → Breaks w s old (p ++ q) at told t new → GivesApart s old at t new p q
@@ -88,7 +109,7 @@ module _ {S O I : Type 0} (w : Ways S O I) where
     | inl h ↦ (
       t,
       new,
-      inr (inl (told, breaks_so w s s old old p (p ++ q) at told t new b b.frames b.taken h.0 b.takes b.alive h.1 b.fed b.acts)),
+      inr (inl (told, breaks_so w s s old old p (p ++ q) at told t new b b.frames b.taken h.0 b.alive h.1 b.fed b.acts)),
       inr (inr (inl (ap is_some b.fails), refl, refl)),
     )
     | inr h ↦
@@ -101,18 +122,22 @@ module _ {S O I : Type 0} (w : Ways S O I) where
         let last = last_in one.0 two.0 b.frames b.last same.0
         (λ some none. ends_not one.1 two.1 rest.0 h.0 h.1 rest.2 (subst (λ fs. Fed one.1 more fs two.1) none two.2) (same.1 ∙ b.at_its_end some)) in
         let acts = acts_apart at one.0 last.0 (scene s old) b.mid (rw (← last.2) b.acts) in
-        let mid : Connection O I = record { decoder = one.1; outbox = acts.0.outbox; inbound = acts.0.inbound; failure = None; known = old.known } in (
+        let mid : Connection O I = record { decoder = one.1; outbox = acts.0.outbox; inbound = acts.0.inbound; failure = None; known = old.known } in
+        let was_open = open_before w at last.0 acts.0 b.mid acts.2 b.was_open in (
           acts.0.state,
           mid,
-          inl (record { takes = b.takes; alive = b.alive; still = refl; frames = one.0; fed = one.2; acts = acts.1 }),
-          inr (inl (told, breaks_so w acts.0.state s mid old q (p ++ q) at told t new b last.0 more b.rest (acts_keep w at one.0 (scene s old) acts.0 acts.1 ∙ b.takes) refl h.3 (rw (← last.1, ← same.1) two.2) acts.2)),
+          inl (record { was_open = open_before w at b.frames (scene s old) b.mid b.acts b.was_open; alive = b.alive; still = refl; frames = one.0; fed = one.2; acts = acts.1; stops = λ shut. absurd (cc (was_open, shut)) }),
+          inr (inl (told, breaks_so w acts.0.state s mid old q (p ++ q) at told t new b last.0 more b.rest refl h.3 (rw (← last.1, ← same.1) two.2) acts.2)),
         )
   ]
 
   pub gives_apart : (s : S) (old : Connection O I) (at : ℕ) (t : S) (new : Connection O I) (before p q : List ℕ) → Holds old.decoder before → Gives w s old (p ++ q) at t new → GivesApart s old at t new p q
   gives_apart s old at t new before p q holds (inl feeds) = feeds_apart s old at t new before p q holds feeds
   gives_apart s old at t new before p q holds (inr (inl b)) = breaks_apart s old at b.0 t new before p q holds b.1
-  gives_apart s old at t new before p q holds (inr (inr failed)) = (s, old, inr (inr (failed.0, refl, refl)), inr (inr failed))
+  gives_apart s old at t new before p q holds (inr (inr (inl failed, is, same))) = (s, old, inr (inr (inl failed, refl, refl)), inr (inr (inl failed, is, same)))
+  gives_apart s old at t new before p q holds (inr (inr (inr (inl drains), is, same))) = (s, old, inr (inr (inr (inl drains), refl, refl)), inr (inr (inr (inl drains), is, same)))
+  gives_apart s old at t new before p q holds (inr (inr (inr (inr none), is, same))) =
+      (s, old, inr (inr (inr (inr (none_before p q none)), refl, refl)), inr (inr (inr (inr (none_behind p q none)), is, same)))
 
 -- ---- calls one after the other
 

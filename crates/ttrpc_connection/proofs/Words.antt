@@ -20,5 +20,5 @@ pub use Rattle.ttrpc_connection.specs.Types.{Arrived, Connection, Error, Failure
 pub use Rattle.ttrpc_connection.proofs.Lists.{all_at, all_behind, all_changed, all_in_front, all_joined, all_less, between_other, between_own, pushed_other, pushed_own, under_both, under_other, under_own}
 pub use Rattle.ttrpc_connection.specs.Calls.{AreLawful, before_others, Call, Calls, Did, Failed, Gave, Gives, Goes, joined, Lent, Others, Own, own, Queued_one, Reported, Runs}
 pub use Rattle.ttrpc_connection.specs.Failure.{error_of, IsTold, first_failure}
-pub use Rattle.ttrpc_connection.specs.Feeds.{ActsAll, Breaks, Feeds, FeedsFront, IsWhy, Scene, scene, Ways, ways}
+pub use Rattle.ttrpc_connection.specs.Feeds.{ActsAll, Breaks, Feeds, FeedsFront, is_open, IsWhy, Scene, scene, Ways, ways}
 pub use Rattle.ttrpc_connection.specs.Frames.{header_of_frame, Opens, safe_limit, SendsAll, SendsOne, Sent}

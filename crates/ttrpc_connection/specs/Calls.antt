@@ -10,7 +10,7 @@ use Rattle.ttrpc_connection.specs.OneEnd.{failing, lending, reporting}
 
 -- a call, with what it was given and what it gave
 pub data Call (A : Type 0) : Type 0 where
-  -- a piece was fed at a moment: whole, until the connection failed, or in vain
+  -- bytes were taken at a moment, or were fed until the connection failed, or in vain
   Gave : (piece : List ℕ) → (now : ℕ) → Call A
   -- so many bytes were lent
   Lent : (n : ℕ) → Call A
@@ -35,13 +35,13 @@ pub record AreLawful {A S O I : Type 0} (others : Others A S O I) : Type 0 where
   pub decoder : (a : A) (s : S) (old : Connection O I) (happenings : List Happening) (t : S) (new : Connection O I) → others a s old happenings t new → new.decoder ≡ old.decoder
   pub queue : (a : A) (s : S) (old : Connection O I) (happenings : List Happening) (t : S) (new : Connection O I) → others a s old happenings t new → Goes old.outbox.queue happenings new.outbox.queue
 
--- a piece was fed: to a connection that took it, or failed while it did, or took nothing, since it had failed or its core
--- takes no more
+-- These bytes were fed: to a connection that took them, or failed while it did, or took nothing, since it had failed, its core
+-- takes no more, or they are none.
 abbrev pub Gives : {S O I : Type 0} → Ways S O I → S → Connection O I → List ℕ → ℕ → S → Connection O I → Type 0
 Gives w s old piece now t new =
     Feeds w s old piece now t new
     ⊎ ((told : Error) × Breaks w s old piece now told t new)
-    ⊎ (((is_some old.failure ≡ true) ⊎ (w.core.takes s ≡ false)) × (t ≡ s) × (new ≡ old))
+    ⊎ (((is_some old.failure ≡ true) ⊎ (w.core.takes s ≡ false) ⊎ (piece ≡ [])) × (t ≡ s) × (new ≡ old))
 
 -- these frames were queued
 abbrev pub Queues : {O I : Type 0} → Connection O I → List Queued → Connection O I → Type 0

@@ -1,9 +1,9 @@
 -- What it is to feed a connection, over whatever a core does at a whole frame.
 -- Source: this project's.
-use Rattle.std.specs.Prelude.{◌≡◌, ◌⊎◌, true, ℕ, List, [], ◌∷◌, ◌++◌, Option, Some, None, IsSome}
+use Rattle.std.specs.Prelude.{◌≡◌, ◌⊎◌, ◌&&◌, Bool, true, false, ℕ, nat_le, List, [], ◌∷◌, ◌++◌, Option, Some, None, IsSome}
 use Rattle.ttrpc_connection.specs.Types.{Error, Incoming, OutboundTransform, InboundTransform, Arrived, Opening, Connection, Failure, NoMemory, Outbox}
 use Rattle.ttrpc_proto.specs.Framing.Frames.{Fed, given, nothing}
-use Rattle.ttrpc_proto.specs.Framing.Queue.{empty_queue}
+use Rattle.ttrpc_proto.specs.Framing.Queue.{empty_queue, free}
 use Rattle.ttrpc_secure.specs.Hooks.Facts.{Facts}
 use Rattle.ttrpc_connection.specs.declared.reacts.Reacts.{Ghosts as Reacts}
 use Rattle.ttrpc_connection.specs.Failure.{IsTold, error_of}
@@ -43,9 +43,14 @@ scene state c = record { state = state; outbox = c.outbox; inbound = c.inbound }
 abbrev pub arrived : Incoming → Opening → ℕ → Arrived
 arrived f opening now = record { header = header_of_frame f; opening = opening; now = now }
 
--- One whole frame acts: it passes the inbound half once, unless it is too long, and the core does what it does at it, and
--- takes what comes as before.
+-- Whether a core is open to what comes in: it takes what comes, and as many bytes are free as it asks for.
+abbrev pub is_open : {S O I : Type 0} → Ways S O I → S → Outbox O → Bool
+is_open w s outbox = w.core.takes s && nat_le w.core.ROOM (free outbox.queue)
+
+-- One whole frame acts, if the core is open: it passes the inbound half once, unless it is too long, and the core does what it
+-- does at it, and takes what comes as before.
 pub record Acts {S O I : Type 0} (w : Ways S O I) (now : ℕ) (old : Scene S O I) (f : Incoming) (new : Scene S O I) : Type 0 where
+  pub was_open : is_open w old.state old.outbox ≡ true
   pub opening : Opening
   pub opens : Opens w.in_ old.inbound f opening new.inbound
   pub sent : List Sent
@@ -58,18 +63,20 @@ abbrev pub ActsAll : {S O I : Type 0} → Ways S O I → ℕ → Scene S O I →
 ActsAll w now old [] new = new ≡ old
 ActsAll w now old (f ∷ fs) new = (mid : Scene _ _ _) × Acts w now old f mid × ActsAll w now mid fs new
 
--- a piece was taken whole at a moment, and its frames acted
+-- A piece was taken whole at a moment, and its frames acted. If the core isn't open any more, that is so since the frame with
+-- which the piece ends.
 pub record Feeds {S O I : Type 0} (w : Ways S O I) (s : S) (old : Connection O I) (piece : List ℕ) (now : ℕ) (t : S) (new : Connection O I) : Type 0 where
-  pub takes : w.core.takes s ≡ true
+  pub was_open : is_open w s old.outbox ≡ true
   pub alive : old.failure ≡ None
   pub still : new.failure ≡ None
   pub frames : List Incoming
   pub fed : Fed old.decoder piece frames new.decoder
   pub acts : ActsAll w now (scene s old) frames (scene t new)
+  pub stops : is_open w t new.outbox ≡ false → new.decoder ≡ nothing
 
 -- a front of a piece was taken, and at most one frame was whole with it, of which its last byte is the last of the front
 pub record FeedsFront {S O I : Type 0} (w : Ways S O I) (s : S) (old : Connection O I) (front : List ℕ) (now : ℕ) (t : S) (new : Connection O I) : Type 0 where
-  pub takes : w.core.takes s ≡ true
+  pub was_open : is_open w s old.outbox ≡ true
   pub alive : old.failure ≡ None
   pub still : new.failure ≡ None
   pub frame : Option Incoming
@@ -77,16 +84,16 @@ pub record FeedsFront {S O I : Type 0} (w : Ways S O I) (s : S) (old : Connectio
   pub at_its_end : IsSome frame → new.decoder ≡ nothing
   pub acts : ActsAll w now (scene s old) (given frame) (scene t new)
 
--- why a connection fails while it is fed: want of memory, or, at a frame, what the core says
-abbrev pub IsWhy : {S O I : Type 0} → Ways S O I → ℕ → Scene S O I → Option Incoming → Failure → Type 0
-IsWhy w now old None failure = failure ≡ NoMemory
-IsWhy {S} {O} {I} w now old (Some f) failure = (failure ≡ NoMemory)
-    ⊎ ((opening : Opening) × (inbound : I) × Opens w.in_ old.inbound f opening inbound × w.core.fails old.state (arrived f opening now) failure)
+-- why a connection fails while it is fed: want of memory, which leaves the inbound half as it was; or, after the half has opened a
+-- frame, want of memory or what the core says
+abbrev pub IsWhy : {S O I : Type 0} → Ways S O I → ℕ → Scene S O I → Option Incoming → Failure → I → Type 0
+IsWhy w now old None failure inbound = (failure ≡ NoMemory) × (inbound ≡ old.inbound)
+IsWhy w now old (Some f) failure inbound = ((failure ≡ NoMemory) × (inbound ≡ old.inbound))
+    ⊎ ((opening : Opening) × Opens w.in_ old.inbound f opening inbound × ((failure ≡ NoMemory) ⊎ w.core.fails old.state (arrived f opening now) failure))
 
 -- A piece was taken in part: its first frames acted, and then the connection failed, at a frame or before the next one
 -- was whole. That frame changed nothing but the inbound half, and what comes behind it wasn't looked at.
 pub record Breaks {S O I : Type 0} (w : Ways S O I) (s : S) (old : Connection O I) (piece : List ℕ) (now : ℕ) (told : Error) (t : S) (new : Connection O I) : Type 0 where
-  pub takes : w.core.takes s ≡ true
   pub alive : old.failure ≡ None
   pub frames : List Incoming
   pub last : Option Incoming
@@ -97,10 +104,11 @@ pub record Breaks {S O I : Type 0} (w : Ways S O I) (s : S) (old : Connection O 
   pub at_its_end : IsSome last → new.decoder ≡ nothing
   pub mid : Scene S O I
   pub acts : ActsAll w now (scene s old) frames mid
+  pub was_open : is_open w mid.state mid.outbox ≡ true
   pub state : t ≡ mid.state
   pub outbox : new.outbox ≡ mid.outbox
   pub failure : Failure
-  pub why : IsWhy w now mid last failure
+  pub why : IsWhy w now mid last failure new.inbound
   pub fails : new.failure ≡ Some failure
   pub is_told : IsTold (error_of failure) told
 

@@ -3,8 +3,8 @@
 use Rattle.std.specs.Prelude.{◌≡◌, ◌≤◌, ℕ, List, [], ◌∷◌, length}
 use Rattle.ttrpc_connection.specs.Types.{MESSAGE_LENGTH_MAX, MessageHeader, Incoming, Queued, OutboundTransform, InboundTransform, Opening, TooLong, Opened, Refused, Outbox}
 use Rattle.ttrpc_proto.specs.declared.framing.frame.Incoming.TheVariants.{Frame, Oversize}
-use Rattle.ttrpc_proto.specs.Framing.Queue.{ticket_after, with_frame, with_payload}
-use Rattle.ttrpc_secure.specs.Sends.{associated}
+use Rattle.ttrpc_proto.specs.Framing.Queue.{free, ticket_after, with_frame, with_payload}
+use Rattle.ttrpc_secure.specs.Sends.{associated, needed}
 pub use Rattle.ttrpc_secure.specs.Sends.{safe_limit}
 
 -- the header of a frame, also of one that is too long
@@ -25,11 +25,12 @@ pub record Sent : Type 0 where
   pub plain : List ℕ
 
 -- This frame was sent: the half sealed the data, and the frame with what is sealed is behind the others; if it has a
--- ticket, that is the last that was given.
+-- ticket, that is the last that was given. There was room for as much as may have been needed.
 pub record SendsOne {O : Type 0} (half : OutboundTransform O) (old : Outbox O) (frame : Queued) (plain : List ℕ) (new : Outbox O) : Type 0 where
   pub sealed : List ℕ
   pub seal : half.seals old.half plain (associated frame.message.header) sealed new.half
   pub fits : length sealed ≤ MESSAGE_LENGTH_MAX
+  pub room : needed half old.half plain ≤ free old.queue
   pub queue : new.queue ≡ with_frame old.queue (with_payload frame sealed)
   pub tickets : new.tickets ≡ ticket_after frame.ticket old.tickets
 

@@ -3,9 +3,10 @@
 use Rattle.std.specs.Prelude.{◌≡◌, ◌⊎◌, ◌<◌, ◌≤◌, ◌+◌, ◌-◌, ◌^◌, ℕ, List, length, codes, Some, false}
 use Rattle.ttrpc_proto.specs.declared.framing.header.TheConstants.{FLAG_NO_DATA, FLAG_REMOTE_CLOSED, MESSAGE_TYPE_DATA}
 use Rattle.ttrpc_proto.specs.Framing.Header.Oversize.{oversize_text}
-use Rattle.ttrpc_proto.specs.declared.error.Error.TheVariants.{NoMemory, Others}
+use Rattle.ttrpc_proto.specs.declared.error.Error.TheVariants.{NoMemory, NoRoom, Others}
 use Rattle.ttrpc_secure.specs.Context.Texts.{unsafe_payload_text, unsealed_text}
-use Rattle.ttrpc_secure.specs.Sends.{associated}
+use Rattle.ttrpc_proto.specs.Framing.Queue.{free}
+use Rattle.ttrpc_secure.specs.Sends.{associated, needed}
 use Rattle.ttrpc_connection.specs.Types.{Error, MESSAGE_LENGTH_MAX, Outbox, OutboundTransform, Queued}
 use Rattle.ttrpc_connection.specs.Failure.{IsTold}
 use Rattle.ttrpc_connection.specs.Frames.{SendsOne, safe_limit}
@@ -56,10 +57,18 @@ pub record AreAboveLimit {O : Type 0} (out : OutboundTransform O) (advice : List
   pub above : safe_limit out old.half < length plain
   pub is_told : IsTold (Others (unsafe_payload_text (length plain) (safe_limit out old.half) advice)) told
 
--- or they aren't, and the half refuses them, for this reason
+-- or they aren't, and the queue lacks room for them
+pub record HaveNoRoom {O : Type 0} (out : OutboundTransform O) (old : Outbox O) (plain : List ℕ) (told : Error) : Type 0 where
+  pub has_ticket : old.tickets < last_ticket
+  pub fits : length plain ≤ safe_limit out old.half
+  pub lacks : free old.queue < needed out old.half plain
+  pub is_told : told ≡ NoRoom
+
+-- or it has room, and the half refuses them, for this reason
 pub record AreUnsealed {O : Type 0} (out : OutboundTransform O) (old : Outbox O) (id flags : ℕ) (plain : List ℕ) (told : Error) : Type 0 where
   pub has_ticket : old.tickets < last_ticket
   pub fits : length plain ≤ safe_limit out old.half
+  pub room : needed out old.half plain ≤ free old.queue
   pub frame : Queued
   pub is_frame : IsDataFrame id flags (old.tickets + 1) frame
   pub why : List ℕ
@@ -69,5 +78,5 @@ pub record AreUnsealed {O : Type 0} (out : OutboundTransform O) (old : Outbox O)
 -- or memory is wanted
 abbrev pub RefusesData : {O : Type 0} → OutboundTransform O → List ℕ → Outbox O → ℕ → ℕ → List ℕ → Error → Type 0
 RefusesData out advice old id flags plain told =
-    AreTooLong plain told ⊎ HaveNoTicket old plain told ⊎ AreAboveLimit out advice old plain told ⊎ AreUnsealed out old id flags plain told
+    AreTooLong plain told ⊎ HaveNoTicket old plain told ⊎ AreAboveLimit out advice old plain told ⊎ HaveNoRoom out old plain told ⊎ AreUnsealed out old id flags plain told
     ⊎ (told ≡ NoMemory)

@@ -6,14 +6,21 @@ use Rattle.ttrpc_proto.specs.Framing.Frames.{nothing}
 use Rattle.ttrpc_proto.specs.Framing.Queue.{open_part, unsent, with_lent, after_report}
 use Rattle.ttrpc_connection.specs.Types.{Error, Connection, Failure, Disconnected, DisconnectedInside}
 use Rattle.ttrpc_connection.specs.Failure.{IsTold, error_of, first_failure}
-use Rattle.ttrpc_connection.specs.Feeds.{Breaks, Feeds, FeedsFront, IsFailed, Ways}
+use Rattle.ttrpc_connection.specs.Feeds.{Breaks, Feeds, FeedsFront, IsFailed, Ways, is_open}
 
 -- ---- bytes in
 
--- A piece was fed at a moment to a core that takes, and this was answered: it was taken whole, or the connection failed
+-- So many bytes of a piece were taken: fewer than all only if the core isn't open any more, and none only of an empty piece.
+pub record AreTaken {S O I : Type 0} (w : Ways S O I) (piece : List ℕ) (n : ℕ) (t : S) (new : Connection O I) : Type 0 where
+  pub count : n ≤ length piece
+  pub some : 0 < length piece → 0 < n
+  pub short : n < length piece → is_open w t new.outbox ≡ false
+
+-- A piece was fed at a moment to a core that is open, and this was answered: a front of it was taken, or the connection failed
 -- while it was fed. Once the connection has failed nothing changes, and the answer is that failure.
 pub record Takes {S O I : Type 0} (w : Ways S O I) (s : S) (old : Connection O I) (piece : List ℕ) (now : ℕ) (result : Result ℕ Error) (t : S) (new : Connection O I) : Type 0 where
-  pub ok : IfOk result (λ n. (n ≡ length piece) × Feeds w s old piece now t new)
+  pub taken : IfOk result (λ n. AreTaken w piece n t new)
+  pub ok : IfOk result (λ n. Feeds w s old (take n piece) now t new)
   pub fails : old.failure ≡ None → IfErr result (λ e. Breaks w s old piece now e t new)
   pub failed : (f : Failure) → old.failure ≡ Some f → IfErr result (IsTold (error_of f)) × (t ≡ s) × (new ≡ old)
   pub known : new.known ≡ old.known
@@ -27,21 +34,21 @@ pub record TakesFront {S O I : Type 0} (w : Ways S O I) (s : S) (old : Connectio
   pub failed : (f : Failure) → old.failure ≡ Some f → IfErr result (IsTold (error_of f)) × (t ≡ s) × (new ≡ old)
   pub known : new.known ≡ old.known
 
--- A piece was fed to a core that takes no more: nothing changed, and this was answered: 0, or the failure.
+-- A piece was fed to a core that isn't open: nothing changed, and this was answered: 0, or the failure.
 pub record Drains {S O I : Type 0} (s : S) (old : Connection O I) (result : Result ℕ Error) (t : S) (new : Connection O I) : Type 0 where
   pub ok : IfOk result (λ n. (n ≡ 0) × (old.failure ≡ None))
   pub failed : IfErr result (IsFailed old.failure)
   pub same : (t ≡ s) × (new ≡ old)
 
--- A piece was fed, by whether the core takes.
+-- A piece was fed, by whether the core is open.
 pub record TakesOrDrains {S O I : Type 0} (w : Ways S O I) (s : S) (old : Connection O I) (piece : List ℕ) (now : ℕ) (result : Result ℕ Error) (t : S) (new : Connection O I) : Type 0 where
-  pub takes : w.core.takes s ≡ true → Takes w s old piece now result t new
-  pub drains : w.core.takes s ≡ false → Drains s old result t new
+  pub takes : is_open w s old.outbox ≡ true → Takes w s old piece now result t new
+  pub drains : is_open w s old.outbox ≡ false → Drains s old result t new
 
 -- The same of a front of the piece.
 pub record TakesFrontOrDrains {S O I : Type 0} (w : Ways S O I) (s : S) (old : Connection O I) (piece : List ℕ) (now : ℕ) (result : Result ℕ Error) (t : S) (new : Connection O I) : Type 0 where
-  pub takes : w.core.takes s ≡ true → TakesFront w s old piece now result t new
-  pub drains : w.core.takes s ≡ false → Drains s old result t new
+  pub takes : is_open w s old.outbox ≡ true → TakesFront w s old piece now result t new
+  pub drains : is_open w s old.outbox ≡ false → Drains s old result t new
 
 -- ---- bytes out
 

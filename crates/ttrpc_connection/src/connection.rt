@@ -4,7 +4,7 @@ ghost use Rattle.ttrpc_proto.specs.Framing.Frames.{Holds, nothing};
 ghost use Rattle.ttrpc_proto.specs.Framing.Queue.{unsent};
 ghost use Rattle.ttrpc_secure.specs.Hooks.Facts.{facts_of};
 ghost use Rattle.ttrpc_connection.specs.Failure.{TellsSent};
-ghost use Rattle.ttrpc_connection.specs.Feeds.{IsFailed, new_connection, ways};
+ghost use Rattle.ttrpc_connection.specs.Feeds.{IsFailed, is_open, new_connection, ways};
 ghost use Rattle.ttrpc_connection.specs.Inside.{FrontActs, StopsAt};
 ghost use Rattle.ttrpc_connection.specs.OneEnd.{Ends, Lends, TakesFrontOrDrains, TakesOrDrains, failing, lendable, lending, reporting};
 ghost use Rattle.ttrpc_connection.specs.Outbox.{is_sent};
@@ -53,9 +53,10 @@ impl<O: OutboundTransform + Drop, I: InboundTransform + Drop> Connection<O, I> {
         self.known.data()
     }
 
-    /// Takes a piece whole, and says how many bytes that are. Each frame that is whole with it acts, in order, at this
-    /// moment. The connection fails where memory is refused or the core says so; then and from then on the answer is
-    /// that failure. Of a core that takes no more the answer is 0, and nothing changes.
+    /// Takes a piece, and says how many bytes were taken: all, or those up to the end of a frame after which fewer bytes are
+    /// free than the core asks for. Each frame that is whole with it acts, in order, at this moment. The connection fails
+    /// where memory is refused or the core says so; then and from then on the answer is that failure. Of a core that takes
+    /// no more, or has too few free bytes, the answer is 0, and nothing changes.
     pub fn feed<R: Reacts<O>>(
         &mut self,
         alloc: Global,
@@ -66,15 +67,12 @@ impl<O: OutboundTransform + Drop, I: InboundTransform + Drop> Connection<O, I> {
         ensures { TakesOrDrains (ways O.OutboundTransform I.InboundTransform R.Reacts) core.old self.old piece.now now result core.new self.new }
     {
         self.check_alive(alloc)?;
-        if !core.takes() {
-            return Ok(0);
-        }
         let mut rest = piece;
-        while !rest.is_empty() {
+        while !rest.is_empty() && self.is_open_to(core) {
             let n = self.feed_front(alloc, core, rest, now)?;
             rest = behind(rest, n);
         }
-        Ok(piece.len())
+        Ok(piece.len() - rest.len())
     }
 
     /// Takes a front of the piece, and says how many bytes: at least one of a piece that isn't empty, and none behind the
@@ -89,7 +87,7 @@ impl<O: OutboundTransform + Drop, I: InboundTransform + Drop> Connection<O, I> {
         ensures { TakesFrontOrDrains (ways O.OutboundTransform I.InboundTransform R.Reacts) core.old self.old piece.now now result core.new self.new }
     {
         self.check_alive(alloc)?;
-        if !core.takes() {
+        if !self.is_open_to(core) {
             return Ok(0);
         }
         match self.take_front(alloc, core, piece, now) {
@@ -100,6 +98,13 @@ impl<O: OutboundTransform + Drop, I: InboundTransform + Drop> Connection<O, I> {
                 Err(error)
             }
         }
+    }
+
+    /// Returns whether the core takes what comes in, and as many bytes are free as it asks for.
+    fn is_open_to<R: Reacts<O>>(&self, core: &R) -> bool
+        ensures { result ≡ is_open (ways O.OutboundTransform I.InboundTransform R.Reacts) core.now self.now.outbox }
+    {
+        core.takes() && R::ROOM <= self.outbox.free()
     }
 
     /// Whether nothing of a frame has come that isn't whole. Takes no memory.
@@ -233,6 +238,7 @@ impl<O: OutboundTransform + Drop, I: InboundTransform + Drop> Connection<O, I> {
         piece: &[u8],
         now: u64,
     ) -> Result<usize, Failure>
+        requires { is_open (ways O.OutboundTransform I.InboundTransform R.Reacts) core.old self.old.outbox ≡ true }
         // A front was taken, and the frame that is whole with it acted.
         ensures count { IfOk result (λ n. (n ≤ length piece.now) × (0 < length piece.now → 0 < n)) }
         ensures ok { IfOk result (λ n.

@@ -26,7 +26,7 @@ pub type Ticket = u64;
 pub const CLOSE_FLAGS: u8 = FLAG_REMOTE_CLOSED | FLAG_NO_DATA;
 
 /// Seals and queues data of a stream in a frame of these flags, which gets this ticket. The advice stands in the text that
-/// refuses data above the safe limit. A refusal changes nothing.
+/// refuses data above the safe limit. A refusal changes nothing; it is `NoRoom` if the queue lacks room for the data.
 pub fn send_data<O: OutboundTransform + Drop>(
     alloc: Global,
     outbox: &mut Outbox<O>,
@@ -49,12 +49,15 @@ pub fn send_data<O: OutboundTransform + Drop>(
     if plain.len() > limit {
         return Err(unsafe_payload_error(alloc, plain.len(), limit, advice));
     }
+    if !outbox.has_room(plain.len()) {
+        return Err(Error::NoRoom);
+    }
     let bytes = plain.to_vec(alloc)?;
     let frame = data_frame(alloc, stream_id, flags, ticket);
     match outbox.send(alloc, frame, bytes) {
         Ok(()) => Ok(ticket),
         Err(SendError::Failed(refused)) => Err(unsent_error(alloc, &refused)),
-        Err(SendError::TooLong) => unreachable!(),
+        Err(SendError::TooLong | SendError::NoRoom) => unreachable!(),
     }
 }
 

@@ -1,16 +1,17 @@
 //! What goes out: frames that are sealed and wait to be written.
 ghost use Rattle.std.specs.Prelude.{◌≡◌, ◌≢◌, ◌^◌, ◌-◌, true, ◌<◌, ◌≤◌, ◌+◌, ◌⊎◌, ◌↔◌, [], length, take, drop, min, Err, OnOk, OnErr, IfSome, IfNone};
-ghost use Rattle.ttrpc_proto.specs.Framing.Queue.{AreNumbered, IsNext, open_part, unsent, with_lent, after_report, empty_queue, without, has_begun};
+ghost use Rattle.ttrpc_proto.specs.declared.framing.outgoing.TheConstants.{OUTGOING_LENGTH_MAX};
+ghost use Rattle.ttrpc_proto.specs.Framing.Queue.{AreNumbered, free, held, IsNext, IsQueue, open_part, unsent, with_lent, after_report, empty_queue, without, has_begun};
 ghost use Rattle.ttrpc_secure.specs.declared.transform.TransformError.{TransformError as AnError};
 ghost use Rattle.ttrpc_secure.specs.Halves.{MayFail};
-ghost use Rattle.ttrpc_secure.specs.Sends.{associated};
+ghost use Rattle.ttrpc_secure.specs.Sends.{associated, needed};
 ghost use Rattle.ttrpc_connection.specs.Frames.{SendsOne, safe_limit};
 ghost use Rattle.ttrpc_connection.specs.Outbox.{is_sent};
 
 use std::alloc::Global;
 use std::marker::Model;
 use ttrpc_proto::framing::owners::Owners;
-use ttrpc_proto::{Outgoing, Queued};
+use ttrpc_proto::{MESSAGE_HEADER_LENGTH, Outgoing, Queued};
 use ttrpc_secure::OutboundTransform;
 use ttrpc_secure::sending::{SendError, limit_of, send};
 
@@ -53,6 +54,23 @@ impl<O: OutboundTransform + Drop> Outbox<O> {
         limit_of(&self.half)
     }
 
+    /// Returns how many bytes are free. Takes no memory.
+    pub fn free(&self) -> usize
+        ensures free { result ≡ free self.now.queue }
+        ensures held { held self.now.queue ≤ OUTGOING_LENGTH_MAX }
+    {
+        self.queue.free()
+    }
+
+    /// Returns whether as many bytes are free as a frame with data of this length may need. Takes no memory.
+    pub fn has_room(&self, length: usize) -> bool
+        ensures { (result ≡ true) ↔ (MESSAGE_HEADER_LENGTH + length + O.overhead self.now.half ≤ free self.now.queue) }
+    {
+        let added = MESSAGE_HEADER_LENGTH + self.half.max_overhead();
+        let free = self.free();
+        added <= free && length <= free - added
+    }
+
     /// The ticket for the next frame that gets one, if one is left. Takes no memory.
     pub fn next_ticket(&self) -> Option<u64>
         ensures some { IfSome result (λ ticket. ticket ≡ self.now.tickets + 1) }
@@ -69,11 +87,14 @@ impl<O: OutboundTransform + Drop> Outbox<O> {
         0 < ticket && ticket <= self.queue.sent()
     }
 
-    /// Seals the data and queues the frame with it, whose payload it takes the place of. An error changes nothing.
+    /// Seals the data and queues the frame with it, whose payload it takes the place of. An error changes nothing: `TooLong`
+    /// comes first, then `NoRoom`.
     pub fn send(&mut self, alloc: Global, frame: Queued, data: Vec<u8>) -> Result<(), SendError>
         requires { IsNext frame.ticket frame.is_unary_request self.old.tickets }
         ensures ok { OnOk result (SendsOne O.OutboundTransform self.old frame «data».items self.new) }
         ensures too_long { (result ≡ Err SendError.TooLong) ↔ (safe_limit O.OutboundTransform self.old.half < length «data».items) }
+        ensures no_room { (result ≡ Err SendError.NoRoom) ↔ ((length «data».items ≤ safe_limit O.OutboundTransform self.old.half)
+            × (free self.old.queue < needed O.OutboundTransform self.old.half «data».items)) }
         ensures refused { (t : AnError) → result ≡ Err (SendError.Failed t)
             → MayFail O.refuses self.old.half «data».items (associated frame.message.header) t }
         ensures err { OnErr result (self.new ≡ self.old) }
@@ -119,6 +140,13 @@ impl<O: OutboundTransform + Drop> Outbox<O> {
         ensures { (result ≡ true) ↔ (unsent self.now.queue ≢ []) }
     {
         !self.queue.is_empty()
+    }
+
+    /// A lemma, which does nothing that stays when it runs: what waits is a queue.
+    pub fn lemma_is_queue(&self)
+        ensures { IsQueue self.now.queue }
+    {
+        self.queue.is_empty();
     }
 
     /// How many bytes the last `lend` since the last report gave.

@@ -1,5 +1,6 @@
 //! What a connection asks of the core that uses it.
-ghost use Rattle.std.specs.Prelude.{◌≡◌, ◌⊎◌, Bool, List, IfErr, OnOk, OnErr};
+ghost use Rattle.std.specs.Prelude.{◌≡◌, ◌≤◌, ◌⊎◌, ℕ, Bool, List, IfErr, OnOk, OnErr};
+ghost use Rattle.ttrpc_proto.specs.Framing.Queue.{free};
 ghost use Rattle.ttrpc_connection.specs.declared.arrived.Arrived.{Arrived as AFrame};
 ghost use Rattle.ttrpc_connection.specs.declared.failure.Failure.{Failure as AFailure};
 ghost use Rattle.ttrpc_connection.specs.Frames.{Sent, SendsAll};
@@ -21,6 +22,11 @@ pub trait Reacts<O: OutboundTransform> {
     // Whether it still takes what comes in.
     ghost takes: { Self → Bool };
 
+    /// How many free bytes it asks for in the queue before a frame acts.
+    const ROOM: usize;
+
+    ghost ROOM: { ℕ };
+
     /// Whether it still takes what comes in. Takes no memory.
     fn takes(&self) -> bool
         ensures { result ≡ takes self.now };
@@ -32,6 +38,7 @@ pub trait Reacts<O: OutboundTransform> {
         outbox: &mut Outbox<O>,
         arrived: Arrived,
     ) -> Result<(), Failure>
+        requires { ROOM ≤ free outbox.old.queue }
         ensures ok { OnOk result ((sent : List Sent) × reacts self.old outbox.old.half arrived sent self.new
             × SendsAll O.OutboundTransform outbox.old sent outbox.new) }
         ensures kept { takes self.new ≡ takes self.old }

@@ -1,10 +1,11 @@
 -- Why a call on the stream of a job isn't for it, and why its end isn't sent.
-use Rattle.ttrpc_server.proofs.Words.{◌≡◌, inl, inr, ℕ, [], Bool, true, Option, Some, None, refl, ActiveJob, Error, JobList, OutboundTransform, Queued}
+use Rattle.ttrpc_server.proofs.Words.{◌≡◌, ◌≤◌, inl, inr, ℕ, [], Bool, true, Option, Some, None, refl, ActiveJob, Error, JobList, Outbox, OutboundTransform, Queued}
 use Rattle.std.specs.Option.{option_map}
 use Rattle.ttrpc_server.specs.State.{is_stream, job_at}
 use Rattle.std.proofs.Common.{Ok}
 use Rattle.ttrpc_secure.specs.Halves.{MayFail}
-use Rattle.ttrpc_secure.specs.Sends.{associated}
+use Rattle.ttrpc_proto.specs.Framing.Queue.{free}
+use Rattle.ttrpc_secure.specs.Sends.{associated, needed}
 use Rattle.ttrpc_secure.specs.declared.transform.TransformError.{TransformError}
 use Rattle.ttrpc_secure.specs.declared.transform.TransformError.TheVariants.{NoMemory, Refused}
 use Rattle.ttrpc_connection.specs.Inside.{IsUnsentBy}
@@ -24,7 +25,7 @@ has_ended ended jobs id none made = rw (none_of_none (job_at jobs.list id) none,
 
 -- ---- a close that the half doesn't seal
 
-pub close_refused : {O : Type 0} (out : OutboundTransform O) (o : O) (k : ℕ) (frame : Queued) (error : TransformError) (told : Error) → IsCloseFrame k frame → MayFail out.refuses o [] (associated frame.message.header) error → IsUnsentBy error told
-    → IsUnconcluded out o k (Ok None) told
-close_refused out o k frame (Refused why) told is refuses unsent = inl (frame, why, is, refuses, unsent)
-close_refused out o k frame NoMemory told is refuses unsent = inr unsent
+pub close_refused : {O : Type 0} (out : OutboundTransform O) (o : Outbox O) (k : ℕ) (frame : Queued) (error : TransformError) (told : Error) → IsCloseFrame k frame → needed out o.half [] ≤ free o.queue
+    → MayFail out.refuses o.half [] (associated frame.message.header) error → IsUnsentBy error told → IsUnconcluded out o k (Ok None) told
+close_refused out o k frame (Refused why) told is room refuses unsent = inr (inl (room, (frame, why, is, refuses, unsent)))
+close_refused out o k frame NoMemory told is room refuses unsent = inr (inr unsent)

@@ -4,7 +4,8 @@ use Rattle.std.specs.Prelude.{drop, slice_get}
 use Rattle.std.proofs.lemmas.List.{drop_all, drop_more}
 use Rattle.std.proofs.lemmas.Option.{get_or_from_slice_get, slice_get_within}
 use Rattle.ttrpc_connection.proofs.Words.{append-nil}
-use Rattle.ttrpc_server.specs.Inside.{ExpiresAt, StopsExpiring}
+use Rattle.ttrpc_server.specs.declared.expiry.Stop.{Stop}
+use Rattle.ttrpc_server.specs.Inside.{ExpiresAt, IsStop, StopsExpiring}
 use Rattle.ttrpc_server.specs.Kept.{Expiring, Indexed}
 use Rattle.ttrpc_server.proofs.Due.{ids_of}
 use Rattle.ttrpc_server.proofs.Keyed.{one_less}
@@ -90,6 +91,7 @@ module _ {O : Type 0} (out : OutboundTransform O) where
         due = p.due ∙ ap (λ (l : List ActiveJob). p.expired ++ l) x.due ∙ ap (λ (l : JobList). p.expired ++ x.job ∷ due_jobs now l.list) (sym e.left_are) ∙ sym (append_assoc p.expired (x.job ∷ []) (due_jobs now left.list));
         expire = expire_more p.expired x.job old mid _ from to next p.expire (record {
           at = record { front = x.front; back = x.back; is = x.is; is_job = refl };
+          room = e.enough;
           state = rw (e.left_are, e.expired, same) refl;
           sent = e.answers.0;
           answers = subst (λ r. SendsOwnAnswer r out to.half x.job.header.stream_id timeout_response e.answers.0) (sym p.async) e.answers.1;
@@ -101,16 +103,17 @@ module _ {O : Type 0} (out : OutboundTransform O) where
         room = omega (arith, count, now_list, wide, roomy);
       }
 
-  -- where memory was refused for the answer to the next one, it is left
+  -- if no more of them expire, the next one is left
   pub stops : (old : Server) (from : Outbox O) (now place : ℕ) (mid : Server) (index : Indexed) (expiring : Expiring) (to : Outbox O) → SoFar old from now place mid index expiring to
       → (id : ℕ) → FirstDue now id (drop (place + 1) expiring.due) mid.jobs.list → (left : JobList) (told : List ℕ) (next : Outbox O) → left ≡ mid.jobs → told ≡ mid.expired → next ≡ to
-      → StopsExpiring out old from now (record mid { jobs = left; expired = told }) next
-  stops old from now place mid index expiring to p id x left told next jobs expired outbox = rw (jobs, expired, outbox) (record {
+      → (stop : Stop) → IsStop out to stop → StopsExpiring out old from now stop (record mid { jobs = left; expired = told }) next
+  stops old from now place mid index expiring to p id x left told next jobs expired outbox stop why = rw (jobs, expired, outbox) (record {
     expired = p.expired;
     first = x.job;
     others = due_jobs now (x.front ++ x.back);
     due = p.due ∙ ap (λ (l : List ActiveJob). p.expired ++ l) x.due;
     expire = p.expire;
+    why = why;
   })
 
   -- where none is listed any more, all that were due have expired

@@ -4,10 +4,10 @@
 -- leaves open, which is codes, texts and which frames are passed over, is as the Rust crate has it. Jobs and the order of
 -- refusals are this project's.
 -- Source: PROTOCOL.md of ttrpc, "Request" and "Response"; the Rust crate; this project's.
-use Rattle.std.specs.Prelude.{◌≡◌, ◌⊎◌, ℕ, ◌<◌, ◌≤◌, ◌-◌, ◌^◌, List, [], ◌∷◌, ◌++◌, length, codes, min, Option, None, Some, Result, Ok, Err, Bool, true, nat_lt, if◌then◌else◌, ◌≢◌, filter, false, nat_le}
+use Rattle.std.specs.Prelude.{◌≡◌, ◌⊎◌, ℕ, ◌<◌, ◌≤◌, ◌+◌, ◌-◌, ◌^◌, List, [], ◌∷◌, ◌++◌, length, codes, min, Option, None, Some, Result, Ok, Err, Bool, true, nat_lt, if◌then◌else◌, ◌≢◌, filter, false, nat_le}
 use Rattle.std.specs.Fmt.{decimal}
 use Rattle.std.specs.Option.{option_map_or}
-use Rattle.ttrpc_server.specs.Types.{Code, UNKNOWN, INVALID_ARGUMENT, DEADLINE_EXCEEDED, MessageHeader, MESSAGE_LENGTH_MAX, MESSAGE_TYPE_RESPONSE, Response, Error, Others, NoMemory, Queued, OutboundTransform, Outbox, Arrived, Failure, JobIdsUsedUp, HandlerError, NoMemoryLeft, ActiveJob, Case, Job, Rules, Sync, Async}
+use Rattle.ttrpc_server.specs.Types.{Code, UNKNOWN, INVALID_ARGUMENT, DEADLINE_EXCEEDED, MessageHeader, MESSAGE_LENGTH_MAX, MESSAGE_TYPE_RESPONSE, Response, Error, Others, NoMemory, NoRoom, Queued, OutboundTransform, Outbox, Arrived, Failure, JobIdsUsedUp, HandlerError, NoMemoryLeft, ActiveJob, Case, Job, Rules, Sync, Async}
 use Rattle.ttrpc_wire.specs.Field.{fields_bytes}
 use Rattle.ttrpc_proto.specs.ErrorText.{IsTextOf}
 use Rattle.ttrpc_proto.specs.Messages.{IsResponse, response_fields}
@@ -15,6 +15,8 @@ use Rattle.ttrpc_proto.specs.Framing.Header.Oversize.{oversize_text}
 use Rattle.ttrpc_secure.specs.declared.transform.InboundTransform.{Ghosts as InboundTransform}
 use Rattle.ttrpc_secure.specs.Hooks.Facts.{Facts}
 use Rattle.ttrpc_secure.specs.Context.Texts.{advice_text, unsafe_payload_text, unsealed_text}
+use Rattle.ttrpc_proto.specs.declared.framing.header.TheConstants.{MESSAGE_HEADER_LENGTH}
+use Rattle.ttrpc_proto.specs.Framing.Queue.{free}
 use Rattle.ttrpc_secure.specs.Sends.{associated}
 use Rattle.ttrpc_connection.specs.Failure.{IsTold}
 use Rattle.ttrpc_connection.specs.Feeds.{IsFailed, Ways, new_connection}
@@ -73,6 +75,10 @@ fitted rules limit r = fit_to_limit limit (fit_to_message rules r)
 abbrev pub advice : Rules → List ℕ
 advice Sync = []
 advice Async = advice_text
+
+-- how many bytes the frame of a response may need: its header, the response as it is fitted, and what sealing may add
+abbrev pub response_room : {O : Type 0} → Rules → OutboundTransform O → O → Response → ℕ
+response_room rules out o r = MESSAGE_HEADER_LENGTH + response_size (fitted rules (safe_limit out o) r) + out.overhead o
 
 -- a frame that carries a response under a stream's id
 pub record IsResponseFrame (k : ℕ) (f : Queued) : Type 0 where
@@ -136,7 +142,7 @@ stops_serving old a failure = IsUsedUp (row_of old a) old failure
 
 -- what the clauses know of a server core over these halves
 abbrev pub serving : {O I : Type 0} → OutboundTransform O → InboundTransform I → Ways Server O I
-serving out in_ = record { out = out; in_ = in_; core = record { reacts = serves out; fails = stops_serving; takes = takes_on } }
+serving out in_ = record { out = out; in_ = in_; core = record { reacts = serves out; fails = stops_serving; takes = takes_on; ROOM = MESSAGE_HEADER_LENGTH + MESSAGE_LENGTH_MAX } }
 
 -- ---- what the calls do: taking, answering and ending a job
 -- Source: this project's.
@@ -219,13 +225,19 @@ due_jobs now jobs = filter (is_due now) jobs
 abbrev pub timeout_response : Response
 timeout_response = status_response DEADLINE_EXCEEDED (codes "timeout")
 
+-- how many bytes its frame may need
+abbrev pub timeout_room : {O : Type 0} → OutboundTransform O → O → ℕ
+timeout_room out o = MESSAGE_HEADER_LENGTH + response_size timeout_response + out.overhead o
+
 -- a job that was taken is to be told of, once it has expired
 abbrev pub told_with : ActiveJob → List ℕ → List ℕ
 told_with job expired = if waits job then expired else expired ++ job.id ∷ []
 
--- One job expires: it is gone, whether it was taken or not, and it is answered, or not where that can't be sent.
+-- One job expires, as there is room for its answer: it is gone, whether it was taken or not, and it is answered, or not where that
+-- can't be sent.
 pub record ExpiresOne {O : Type 0} (out : OutboundTransform O) (old : Server) (from : Outbox O) (job : ActiveJob) (new : Server) (to : Outbox O) : Type 0 where
   pub at : IsJob old.jobs.list job.id job
+  pub room : timeout_room out from.half ≤ free from.queue
   pub state : new ≡ record (with_list old (at.front ++ at.back)) { expired = told_with job old.expired }
   pub sent : List Sent
   pub answers : SendsOwnAnswer old.rules out from.half job.header.stream_id timeout_response sent
@@ -236,19 +248,23 @@ abbrev pub ExpireAll : {O : Type 0} → OutboundTransform O → Server → Outbo
 ExpireAll out old from [] new to = (new ≡ old) × (to ≡ from)
 ExpireAll {O} out old from (j ∷ js) new to = (mid : Server) × (between : Outbox O) × ExpiresOne out old from j mid between × ExpireAll out mid between js new to
 
--- memory is wanted for the answer to the first of the jobs that are left to expire, if any is
-abbrev pub want_for : List ActiveJob → Option Failure
-want_for [] = None
-want_for (j ∷ js) = Some NoMemoryLeft
+-- Why jobs that are due are left: none is, there is no room for the answer to the first, or memory for it is wanted, for which the
+-- connection has failed.
+abbrev pub Leaves : {O : Type 0} → OutboundTransform O → List ActiveJob → Outbox O → Option Failure → Type 0
+Leaves out [] outbox failure = failure ≡ None
+Leaves out (j ∷ js) outbox failure =
+    ((free outbox.queue < timeout_room out outbox.half) × (failure ≡ None))
+    ⊎ ((timeout_room out outbox.half ≤ free outbox.queue) × (failure ≡ Some NoMemoryLeft))
 
--- A moment came: the jobs that are due expire, by rising id. Where memory for an answer is refused the connection has
--- failed, and those before have expired.
+-- A moment came: the jobs that are due expire, by rising id, as long as there is room for their answers. Where memory for an answer
+-- is refused the connection has failed. Those before have expired.
 pub record Ticks {O I : Type 0} (out : OutboundTransform O) (old : ServerCore O I) (now : ℕ) (new : ServerCore O I) : Type 0 where
   pub expired : List ActiveJob
   pub left : List ActiveJob
   pub due : due_jobs now old.state.jobs.list ≡ expired ++ left
   pub expire : ExpireAll out old.state old.connection.outbox expired new.state new.connection.outbox
-  pub same : new ≡ record old { state = new.state; connection = record old.connection { outbox = new.connection.outbox; failure = want_for left } }
+  pub leaves : Leaves out left new.connection.outbox new.connection.failure
+  pub same : new ≡ record old { state = new.state; connection = record old.connection { outbox = new.connection.outbox; failure = new.connection.failure } }
 
 -- a moment came: under sync rules and after a failure it changes nothing
 abbrev pub Passes : {O I : Type 0} → OutboundTransform O → Rules → Option Failure → ServerCore O I → ℕ → ServerCore O I → Type 0
@@ -276,11 +292,16 @@ pub record HasNoJob {O I : Type 0} (old : ServerCore O I) (id : ℕ) (told : Err
   pub unknown : IsNoUnary old.state.rules old.state.jobs.list id
   pub is_told : IsTold (Others (codes "unknown job")) told
 
--- a response can't be sent: it is above the limit, the half refuses it, or memory is wanted
-abbrev pub IsUnsent : {O : Type 0} → Rules → OutboundTransform O → O → ℕ → Response → Error → Type 0
-IsUnsent rules out o k r told =
-    (IsAboveLimit rules (safe_limit out o) r × IsTold (Others (unsafe_payload_text (response_size (fitted rules (safe_limit out o) r)) (safe_limit out o) (advice rules))) told)
-    ⊎ ((why : List ℕ) × IsUnsealed rules out o k r why × IsTold (Others (unsealed_text why)) told)
+-- the response fits into a message, and the queue lacks room for it
+abbrev pub LacksRoom : {O : Type 0} → Rules → OutboundTransform O → Outbox O → Response → Type 0
+LacksRoom rules out outbox r = (response_size (fitted rules (safe_limit out outbox.half) r) ≤ safe_limit out outbox.half) × (free outbox.queue < response_room rules out outbox.half r)
+
+-- a response can't be sent: it is above the limit, there is no room for it, the half refuses it, or memory is wanted
+abbrev pub IsUnsent : {O : Type 0} → Rules → OutboundTransform O → Outbox O → ℕ → Response → Error → Type 0
+IsUnsent rules out outbox k r told =
+    (IsAboveLimit rules (safe_limit out outbox.half) r × IsTold (Others (unsafe_payload_text (response_size (fitted rules (safe_limit out outbox.half) r)) (safe_limit out outbox.half) (advice rules))) told)
+    ⊎ (LacksRoom rules out outbox r × (told ≡ NoRoom))
+    ⊎ ((response_room rules out outbox.half r ≤ free outbox.queue) × ((why : List ℕ) × IsUnsealed rules out outbox.half k r why × IsTold (Others (unsealed_text why)) told))
     ⊎ (told ≡ NoMemory)
 
 -- what is sent for what a handler gave: its response, or under async rules one to its error
@@ -297,7 +318,7 @@ pub record HasUnsent {O I : Type 0} (out : OutboundTransform O) (old : ServerCor
   pub unary : old.state.rules ≡ Async → is_stream job.body ≡ false
   pub answer : Response
   pub is_answer : IsSentFor old.state.rules response answer
-  pub unsent : IsUnsent old.state.rules out old.connection.outbox.half job.header.stream_id answer told
+  pub unsent : IsUnsent old.state.rules out old.connection.outbox job.header.stream_id answer told
 
 -- for what an answer is refused: the connection has failed, or there is no such job, or the response can't be sent
 abbrev pub RefusesAnswer : {O I : Type 0} → OutboundTransform O → ServerCore O I → ℕ → Result Response Error → Error → Type 0
@@ -306,7 +327,7 @@ RefusesAnswer out old id response told = IsFailed old.connection.failure told �
 -- the connection lives, and the response can't be sent
 pub record HasUnsentResponse {O I : Type 0} (out : OutboundTransform O) (old : ServerCore O I) (k : ℕ) (response : Response) (told : Error) : Type 0 where
   pub alive : old.connection.failure ≡ None
-  pub unsent : IsUnsent old.state.rules out old.connection.outbox.half k response told
+  pub unsent : IsUnsent old.state.rules out old.connection.outbox k response told
 
 -- for what a response is refused: the connection has failed, or async rules have no such call, or it can't be sent
 abbrev pub RefusesResponse : {O I : Type 0} → OutboundTransform O → ServerCore O I → ℕ → Response → Error → Type 0

@@ -2,7 +2,7 @@
 -- it is refused, from top to bottom.
 -- Source: PROTOCOL.md of ttrpc, "Data" and "Streaming"; errors and texts: the Rust crate; their order: this project's. How data
 -- are sent, and for what they are refused, is said in `Items` of the connection's specs, the table of a mailbox in `Mail`.
-use Rattle.std.specs.Prelude.{◌≡◌, ◌⊎◌, ◌&&◌, ℕ, List, [], codes, nat_le, nat_lt, Bool, true, false, Option, None, Some, Result, Ok, Err, if◌then◌else◌}
+use Rattle.std.specs.Prelude.{◌≡◌, ◌<◌, ◌≤◌, ◌⊎◌, ◌&&◌, ℕ, List, [], codes, nat_le, nat_lt, Bool, true, false, Option, None, Some, Result, Ok, Err, if◌then◌else◌}
 use Rattle.std.specs.BTreeMap.{is_at}
 use Rattle.std.specs.Ordering.{nat_cmp}
 use Rattle.std.specs.Set.{remove_key}
@@ -10,14 +10,15 @@ use Rattle.ttrpc_proto.specs.declared.framing.header.TheConstants.{MESSAGE_TYPE_
 use Rattle.ttrpc_proto.specs.Messages.{IsResponse}
 use Rattle.ttrpc_proto.specs.declared.error.Error.TheVariants.{LocalClosed}
 use Rattle.ttrpc_secure.specs.Context.Texts.{unsealed_text}
-use Rattle.ttrpc_secure.specs.Sends.{associated}
+use Rattle.ttrpc_proto.specs.Framing.Queue.{free}
+use Rattle.ttrpc_secure.specs.Sends.{associated, needed}
 use Rattle.ttrpc_connection.specs.Failure.{IsTold}
 use Rattle.ttrpc_connection.specs.Feeds.{IsFailed}
 use Rattle.ttrpc_connection.specs.Frames.{Sent, SendsAll, SendsOne, safe_limit}
 use Rattle.ttrpc_connection.specs.Items.{RefusesData, SendsData, close_flags}
 use Rattle.ttrpc_connection.specs.Mail.{past_error, without_receiver}
 use Rattle.ttrpc_server.specs.declared.server.ServerCore.{ServerCore}
-use Rattle.ttrpc_server.specs.Types.{Error, Failure, NoMemory, Others, Outbox, Queued, OutboundTransform, Response, ActiveJob, Rules, Sync, Async}
+use Rattle.ttrpc_server.specs.Types.{Error, Failure, NoMemory, NoRoom, Others, Outbox, Queued, OutboundTransform, Response, ActiveJob, Rules, Sync, Async}
 use Rattle.ttrpc_server.specs.Protocol.{IsErrorResponse, IsUnsent, Responds, advice}
 use Rattle.ttrpc_server.specs.State.{EndsOne, IsTaken, IsUnknown, JobList, Server, is_stream, job_at, on_mail}
 use Rattle.ttrpc_server.specs.Mailboxes.{ReceivesFrom}
@@ -160,13 +161,16 @@ pub record HasNoStream {O I : Type 0} (old : ServerCore O I) (id : ℕ) (told : 
   pub unknown : IsNoStream old.state.jobs.list id
   pub is_told : IsTold unknown_job told
 
--- why an end isn't sent: a frame that closes is refused by the half, or memory is wanted; a response can't be sent
-abbrev pub IsUnconcluded : {O : Type 0} → OutboundTransform O → O → ℕ → Result (Option Response) Error → Error → Type 0
-IsUnconcluded out o k (Ok None) told =
-    ((frame : Queued) × (why : List ℕ) × IsCloseFrame k frame × out.refuses o [] (associated frame.message.header) why × IsTold (Others (unsealed_text why)) told)
+-- why an end isn't sent: for a frame that closes there is no room, it is refused by the half, or memory is wanted; a response
+-- can't be sent
+abbrev pub IsUnconcluded : {O : Type 0} → OutboundTransform O → Outbox O → ℕ → Result (Option Response) Error → Error → Type 0
+IsUnconcluded out outbox k (Ok None) told =
+    ((free outbox.queue < needed out outbox.half []) × (told ≡ NoRoom))
+    ⊎ ((needed out outbox.half [] ≤ free outbox.queue)
+    × ((frame : Queued) × (why : List ℕ) × IsCloseFrame k frame × out.refuses outbox.half [] (associated frame.message.header) why × IsTold (Others (unsealed_text why)) told))
     ⊎ (told ≡ NoMemory)
-IsUnconcluded out o k (Ok (Some r)) told = IsUnsent Async out o k r told
-IsUnconcluded out o k (Err error) told = ((r : Response) × IsErrorResponse error r × IsUnsent Async out o k r told) ⊎ (told ≡ NoMemory)
+IsUnconcluded out outbox k (Ok (Some r)) told = IsUnsent Async out outbox k r told
+IsUnconcluded out outbox k (Err error) told = ((r : Response) × IsErrorResponse error r × IsUnsent Async out outbox k r told) ⊎ (told ≡ NoMemory)
 
 -- the connection lives, a stream's job was taken, and its end can't be sent
 pub record HasUnconcluded {O I : Type 0} (out : OutboundTransform O) (old : ServerCore O I) (id : ℕ) (end : Result (Option Response) Error) (told : Error) : Type 0 where
@@ -175,7 +179,7 @@ pub record HasUnconcluded {O I : Type 0} (out : OutboundTransform O) (old : Serv
   pub job : ActiveJob
   pub at : IsTaken old.state.jobs.list id job
   pub stream : is_stream job.body ≡ true
-  pub unconcluded : IsUnconcluded out old.connection.outbox.half job.header.stream_id end told
+  pub unconcluded : IsUnconcluded out old.connection.outbox job.header.stream_id end told
 
 -- For what the end of a stream is refused.
 abbrev pub RefusesEnd : {O I : Type 0} → OutboundTransform O → ServerCore O I → ℕ → Result (Option Response) Error → Error → Type 0

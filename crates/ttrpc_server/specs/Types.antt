@@ -5,7 +5,7 @@ pub use Rattle.ttrpc_wire.specs.declared.values.code.Code.TheVariants.{DEADLINE_
 pub use Rattle.ttrpc_proto.specs.declared.framing.header.TheConstants.{MESSAGE_TYPE_DATA, MESSAGE_TYPE_RESPONSE}
 pub use Rattle.ttrpc_proto.specs.declared.messages.Request.{Request}
 pub use Rattle.ttrpc_proto.specs.declared.messages.Response.{Response}
-pub use Rattle.ttrpc_proto.specs.declared.error.Error.TheVariants.{NoMemory, NoMemory as MemoryRefused, Others}
+pub use Rattle.ttrpc_proto.specs.declared.error.Error.TheVariants.{NoMemory, NoMemory as MemoryRefused, NoRoom, Others}
 pub use Rattle.ttrpc_connection.specs.Types.{Error, Incoming, MESSAGE_LENGTH_MAX, MESSAGE_TYPE_REQUEST, MessageHeader, OutboundTransform, Queued}
 pub use Rattle.ttrpc_connection.specs.declared.arrived.Arrived.{Arrived}
 pub use Rattle.ttrpc_connection.specs.declared.arrived.Opening.TheVariants.{Opened, Refused, TooLong}

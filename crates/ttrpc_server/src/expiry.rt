@@ -1,9 +1,11 @@
 //! Jobs that expire, and what is told of them.
-ghost use Rattle.std.specs.Prelude.{◌≡◌, ◌<◌, ◌≤◌, ◌+◌, ◌++◌, [], ◌∷◌, if◌then◌else◌, length, slice_get, option_to_list, IfErr, IfNone, Some, IsPermutation, OnOk, OnErr};
+ghost use Rattle.std.specs.Prelude.{◌≡◌, ◌<◌, ◌≤◌, ◌↔◌, true, ◌+◌, ◌++◌, [], ◌∷◌, if◌then◌else◌, length, slice_get, option_to_list, IfErr, IfNone, Some, IsPermutation, OnOk, OnErr};
 ghost use Rattle.std.specs.List.Sorted.{IsNonDecreasing};
 ghost use Rattle.ttrpc_connection.specs.Deadlines.{due_ids};
 ghost use Rattle.ttrpc_server.specs.declared.job.ActiveJob.{ActiveJob as AJob};
-ghost use Rattle.ttrpc_server.specs.Inside.{ExpiresAt};
+ghost use Rattle.ttrpc_proto.specs.Framing.Queue.{free};
+ghost use Rattle.ttrpc_server.specs.Inside.{ExpiresAt, IsStop, SendsSome};
+ghost use Rattle.ttrpc_server.specs.Protocol.{SendsOwnAnswer, timeout_response, timeout_room};
 ghost use Rattle.ttrpc_server.specs.State.{IsJob};
 
 use crate::index::Index;
@@ -15,8 +17,8 @@ use crate::rules::Rules;
 use std::alloc::{AllocError, Global};
 use std::collections::VecDeque;
 use std::marker::Model;
+use ttrpc_connection::Outbox;
 use ttrpc_connection::deadlines::Deadlines;
-use ttrpc_connection::{Failure, Outbox};
 use ttrpc_secure::OutboundTransform;
 
 /// The jobs that are due, while they expire, and those that expired and weren't told of yet.
@@ -123,6 +125,25 @@ impl Expiry {
     }
 }
 
+/// Why no more of the jobs that are due expire.
+#[derive(Clone, Copy, Debug, PartialEq, Eq)]
+pub(crate) enum Stop {
+    /// The queue hasn't as many free bytes as the answer may need.
+    NoRoom,
+    /// The allocator refused.
+    NoMemory,
+}
+
+/// How long the answer to a job that expires is.
+const TIMEOUT_LENGTH: usize = 13;
+
+/// Returns whether there is room for the answer to a job that expires.
+pub(crate) fn has_room<O: OutboundTransform + Drop>(outbox: &Outbox<O>) -> bool
+    ensures { (result ≡ true) ↔ (timeout_room O.OutboundTransform outbox.now.half ≤ free outbox.now.queue) }
+{
+    outbox.has_room(TIMEOUT_LENGTH)
+}
+
 /// A job that is due expires: it is gone, and answered so. An `Err` changes nothing.
 pub(crate) fn expire_job<O: OutboundTransform + Drop>(
     alloc: Global,
@@ -131,21 +152,43 @@ pub(crate) fn expire_job<O: OutboundTransform + Drop>(
     index: &mut Index,
     expiry: &mut Expiry,
     id: JobId,
-) -> Result<(), Failure>
+) -> Result<(), Stop>
     requires job { (job : AJob) × IsJob jobs.old.list id job }
     requires room { 0 < expiry.old.room }
     ensures ok { (job : AJob) → (at : IsJob jobs.old.list id job) → OnOk result (ExpiresAt O.OutboundTransform
         jobs.old index.old expiry.old outbox.old job at jobs.new index.new expiry.new outbox.new) }
-    ensures err { IfErr result (λ failure. (failure ≡ Failure.NoMemory) × (jobs.new ≡ jobs.old) × (index.new ≡ index.old)
+    ensures err { IfErr result (λ stop. IsStop O.OutboundTransform outbox.old stop × (jobs.new ≡ jobs.old) × (index.new ≡ index.old)
         × (expiry.new ≡ expiry.old) × (outbox.new ≡ outbox.old)) }
 {
     let Some((stream_id, deadline)) = jobs.place_of(id) else {
         unreachable!();
     };
-    let response = timeout_response(alloc)?;
-    send_own_answer(alloc, outbox, Rules::Async, stream_id, &response)?;
+    if !has_room(outbox) {
+        return Err(Stop::NoRoom);
+    }
+    answer_timeout(alloc, outbox, stream_id)?;
     expiry.tell(id, jobs.waits(id));
     jobs.end(id);
     index.take_away(stream_id, id, deadline);
     Ok(())
+}
+
+/// Sends the answer to a job that expires, for which there is room. An `Err` changes nothing.
+fn answer_timeout<O: OutboundTransform + Drop>(
+    alloc: Global,
+    outbox: &mut Outbox<O>,
+    stream_id: u32,
+) -> Result<(), Stop>
+    requires { timeout_room O.OutboundTransform outbox.old.half ≤ free outbox.old.queue }
+    ensures ok { OnOk result (SendsSome O.OutboundTransform outbox.old
+        (SendsOwnAnswer Rules.Async O.OutboundTransform outbox.old.half stream_id timeout_response) outbox.new) }
+    ensures err { IfErr result (λ stop. (stop ≡ Stop.NoMemory) × (outbox.new ≡ outbox.old)) }
+{
+    let Ok(response) = timeout_response(alloc) else {
+        return Err(Stop::NoMemory);
+    };
+    match send_own_answer(alloc, outbox, Rules::Async, stream_id, &response) {
+        Ok(()) => Ok(()),
+        Err(_) => Err(Stop::NoMemory),
+    }
 }

@@ -1,8 +1,10 @@
 //! How a response is sent: fitted to the limit, in a frame of its own; and why it isn't.
-ghost use Rattle.std.specs.Prelude.{◌≡◌, ◌≤◌, IfOk, IfErr, OnOk};
+ghost use Rattle.std.specs.Prelude.{◌≡◌, ◌≤◌, ◌+◌, IfOk, IfErr, OnOk};
 ghost use Rattle.ttrpc_connection.specs.Frames.{safe_limit};
 ghost use Rattle.ttrpc_server.specs.Protocol.{advice, fit_to_limit, fitted, IsResponseFrame, SendsOwnAnswer, Responds, response_bytes, response_size};
-ghost use Rattle.ttrpc_server.specs.Inside.{IsUnfit, IsUnsentFor, SendsAnswer, SendsSome, TellsUnsent};
+ghost use Rattle.ttrpc_server.specs.Inside.{HasRoom, IsUnfit, IsUnsentFor, SendsAnswer, SendsSome, TellsUnsent};
+ghost use Rattle.ttrpc_proto.specs.declared.framing.header.TheConstants.{MESSAGE_HEADER_LENGTH};
+ghost use Rattle.ttrpc_proto.specs.Framing.Queue.{free};
 
 use crate::responses::{limit_response, oversize_response};
 use crate::rules::Rules;
@@ -20,6 +22,8 @@ use ttrpc_wire::{Blob, Codec, CodecError, Text};
 pub(crate) enum Unsent {
     /// It has this many bytes, which are more than fit with the half's overhead.
     AboveLimit(usize),
+    /// The queue hasn't as many free bytes as its frame may need.
+    NoRoom,
     /// The half refused it, for this reason.
     Unsealed(Text),
     /// The allocator refused.
@@ -44,6 +48,7 @@ impl Unsent {
     {
         match self {
             Unsent::AboveLimit(size) => { unsafe_payload_error(alloc, size, limit, advice(rules)) }
+            Unsent::NoRoom => Error::NoRoom,
             Unsent::Unsealed(why) => unsealed_error(alloc, &why),
             Unsent::NoMemory => Error::NoMemory,
         }
@@ -151,7 +156,7 @@ pub(crate) fn send_response<O: OutboundTransform + Drop>(
     ensures ok { OnOk result (SendsSome O.OutboundTransform outbox.old
         (Responds rules (safe_limit O.OutboundTransform outbox.old.half) stream_id response.now) outbox.new) }
     ensures err { IfErr result (λ unsent. (outbox.new ≡ outbox.old)
-        × IsUnsentFor rules O.OutboundTransform outbox.old.half stream_id response.now unsent) }
+        × IsUnsentFor rules O.OutboundTransform outbox.old stream_id response.now unsent) }
 {
     let bytes = fitted_bytes(alloc, rules, outbox.limit(), response)?;
     let frame = response_frame(alloc, stream_id);
@@ -159,11 +164,12 @@ pub(crate) fn send_response<O: OutboundTransform + Drop>(
         Ok(()) => Ok(()),
         Err(SendError::Failed(TransformError::Refused(why))) => Err(Unsent::Unsealed(why)),
         Err(SendError::Failed(TransformError::NoMemory)) => Err(Unsent::NoMemory),
+        Err(SendError::NoRoom) => Err(Unsent::NoRoom),
         Err(SendError::TooLong) => unreachable!(),
     }
 }
 
-/// Sends the core's own answer, or leaves it out where it can't be sent. An `Err` changes nothing.
+/// Sends the core's own answer, for which there is room, or leaves it out where it can't be sent. An `Err` changes nothing.
 pub(crate) fn send_own_answer<O: OutboundTransform + Drop>(
     alloc: Global,
     outbox: &mut Outbox<O>,
@@ -171,6 +177,7 @@ pub(crate) fn send_own_answer<O: OutboundTransform + Drop>(
     stream_id: u32,
     response: &Response,
 ) -> Result<(), Failure>
+    requires { HasRoom rules O.OutboundTransform outbox.old response.now }
     ensures ok { OnOk result (SendsSome O.OutboundTransform outbox.old
         (SendsOwnAnswer rules O.OutboundTransform outbox.old.half stream_id response.now) outbox.new) }
     ensures err { IfErr result (λ failure. (outbox.new ≡ outbox.old) × (failure ≡ Failure.NoMemory)) }
@@ -180,10 +187,11 @@ pub(crate) fn send_own_answer<O: OutboundTransform + Drop>(
         Err(Unsent::NoMemory) => Err(Failure::NoMemory),
         Err(Unsent::AboveLimit(_)) => Ok(()),
         Err(Unsent::Unsealed(_)) => Ok(()),
+        Err(Unsent::NoRoom) => unreachable!(),
     }
 }
 
-/// Sends what is answered, if anything is. An `Err` changes nothing.
+/// Sends what is answered, if anything is, as there is room for the longest answer. An `Err` changes nothing.
 pub(crate) fn send_answer<O: OutboundTransform + Drop>(
     alloc: Global,
     outbox: &mut Outbox<O>,
@@ -191,6 +199,7 @@ pub(crate) fn send_answer<O: OutboundTransform + Drop>(
     stream_id: u32,
     answer: &Option<Response>,
 ) -> Result<(), Failure>
+    requires { MESSAGE_HEADER_LENGTH + MESSAGE_LENGTH_MAX ≤ free outbox.old.queue }
     ensures ok { OnOk result (SendsSome O.OutboundTransform outbox.old
         (SendsAnswer rules O.OutboundTransform outbox.old.half stream_id answer.now) outbox.new) }
     ensures err { IfErr result (λ failure. (outbox.new ≡ outbox.old) × (failure ≡ Failure.NoMemory)) }

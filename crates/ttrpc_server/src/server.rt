@@ -3,14 +3,16 @@ ghost use Rattle.std.specs.Prelude.{◌≡◌, ◌≢◌, ◌⊎◌, ◌<◌, �
 ghost use Rattle.ttrpc_proto.specs.declared.error.Error.{Error as AnError};
 ghost use Rattle.ttrpc_proto.specs.declared.messages.Response.{Response as AResponse};
 ghost use Rattle.ttrpc_proto.specs.Framing.Frames.{Holds, nothing};
-ghost use Rattle.ttrpc_proto.specs.Framing.Queue.{unsent};
+ghost use Rattle.ttrpc_proto.specs.Framing.Queue.{IsQueue, free, unsent};
 ghost use Rattle.ttrpc_secure.specs.Hooks.Facts.{facts_of};
 ghost use Rattle.ttrpc_connection.specs.Feeds.{IsFailed};
 ghost use Rattle.ttrpc_connection.specs.OneEnd.{Ends, Lends, TakesFrontOrDrains, TakesOrDrains, failing, lendable, lending, reporting};
+ghost use Rattle.ttrpc_server.specs.Kept.{AreSingle, AreUnary};
 ghost use Rattle.ttrpc_server.specs.declared.job.ActiveJob.{ActiveJob as AJob};
-ghost use Rattle.ttrpc_server.specs.Protocol.{Answers, AnswersError, Finishes, Hands, HasNoJob, HasOtherRules, HasUnsent, HasUnsentResponse, QueuesResponse, drained, new_core, serving, RefusesAnswer, RefusesFinish, RefusesResponse, IsDeadline, Passes, due_jobs};
+ghost use Rattle.ttrpc_server.specs.Protocol.{Answers, AnswersError, Finishes, Hands, HasNoJob, HasOtherRules, HasUnsent, HasUnsentResponse, QueuesResponse, drained, new_core, serving, RefusesAnswer, RefusesFinish, RefusesResponse, IsDeadline, Passes, due_jobs, timeout_room};
 ghost use Rattle.ttrpc_server.specs.State.{IsTaken, IsUnknown, NoneWaits, Rising, is_stream, waits};
 
+use crate::expiry::{Stop, has_room};
 use crate::job::{Job, JobId};
 use crate::registry::Registry;
 use crate::replies::send_response;
@@ -67,6 +69,18 @@ impl<O: OutboundTransform + Drop, I: InboundTransform + Drop> ServerCore<O, I> {
         ensures { result ≡ self.now.state.rules }
     {
         self.state.rules()
+    }
+
+    /// A lemma, which does nothing that stays when it runs: under async rules a stream id has at most one active job, under sync
+    /// rules no job is a stream's, job ids rise, and what waits to be written is a queue.
+    pub fn lemma_is_server(&self)
+        ensures single { self.now.state.rules ≡ Rules.Async → AreSingle self.now.state.jobs.list }
+        ensures unary { self.now.state.rules ≡ Rules.Sync → AreUnary self.now.state.jobs.list }
+        ensures rise { Rising 0 self.now.state.jobs.list self.now.state.jobs.last }
+        ensures queue { IsQueue self.now.connection.outbox.queue }
+    {
+        self.state.lemma_is_server();
+        self.connection.outbox.lemma_is_queue();
     }
 
     /// Takes a piece whole, and says how many bytes that are. Each frame that is whole with it acts, in order. The
@@ -176,19 +190,22 @@ impl<O: OutboundTransform + Drop, I: InboundTransform + Drop> ServerCore<O, I> {
             return;
         }
         match self.state.expire(alloc, &mut self.connection.outbox, now) {
-            Ok(()) => {}
-            Err(failure) => self.connection.fail(failure),
+            Ok(()) | Err(Stop::NoRoom) => {}
+            Err(Stop::NoMemory) => self.connection.fail(Failure::NoMemory),
         }
     }
 
-    /// The least moment at which `tick` would expire a job: none where it never would. Takes no memory.
+    /// The least moment at which `tick` would expire a job: none where it never would, as long as there is no room for the
+    /// answer. Takes no memory.
     pub fn next_deadline(&self) -> Option<u64>
         ensures some { IfSome result (λ at. (self.now.connection.failure ≡ None) × (self.now.state.rules ≡ Rules.Async)
+            × (timeout_room O.OutboundTransform self.now.connection.outbox.half ≤ free self.now.connection.outbox.queue)
             × IsDeadline self.now.state.jobs.list at) }
         ensures none { IfNone result (self.now.connection.failure ≡ None → self.now.state.rules ≡ Rules.Async
+            → timeout_room O.OutboundTransform self.now.connection.outbox.half ≤ free self.now.connection.outbox.queue
             → (now : ℕ) → now < 2 ^ 64 → due_jobs now self.now.state.jobs.list ≡ []) }
     {
-        if !self.may_expire() {
+        if !self.may_expire() || !has_room(&self.connection.outbox) {
             return None;
         }
         self.state.next_deadline()

@@ -1,12 +1,14 @@
 //! The state of a server core, without its connection, and how a whole frame acts on it.
-ghost use Rattle.std.specs.Prelude.{◌≡◌, ◌⊎◌, [], true, false, IfErr, IfOk, IfSome, IfNone, OnErr, OnOk, None, Some, ◌<◌, ◌^◌, ◌++◌, ℕ, option_to_list};
+ghost use Rattle.std.specs.Prelude.{◌≡◌, ◌≤◌, ◌+◌, ◌⊎◌, [], true, false, IfErr, IfOk, IfSome, IfNone, OnErr, OnOk, None, Some, ◌<◌, ◌^◌, ◌++◌, ℕ, option_to_list};
+ghost use Rattle.ttrpc_proto.specs.Framing.Queue.{free};
 ghost use Rattle.ttrpc_proto.specs.Messages.{empty_request, request_step};
 ghost use Rattle.ttrpc_wire.specs.Fold.{read_from};
 ghost use Rattle.ttrpc_server.specs.declared.job.ActiveJob.{ActiveJob as AJob};
 ghost use Rattle.ttrpc_server.specs.declared.job.Body.{Body as ABody};
 ghost use Rattle.ttrpc_server.specs.Protocol.{Does, ExpireAll, IsDeadline, due_jobs};
+ghost use Rattle.ttrpc_server.specs.Kept.{AreSingle, AreUnary};
 ghost use Rattle.ttrpc_server.specs.Inside.{FailsOn, FailsToMake, SendsSome, StopsExpiring};
-ghost use Rattle.ttrpc_server.specs.State.{EndsOne, HandsOne, IsNoUnary, IsTaken, NoneWaits, is_stream, job_at, jobs_at, new_server, on_mail, put_in, stream_body, unary_body, with_job, with_list, with_made, with_newest, without_payload};
+ghost use Rattle.ttrpc_server.specs.State.{EndsOne, HandsOne, IsNoUnary, IsTaken, NoneWaits, Rising, is_stream, job_at, jobs_at, new_server, on_mail, put_in, stream_body, unary_body, with_job, with_list, with_made, with_newest, without_payload};
 ghost use Rattle.ttrpc_server.specs.declared.rows.Case.{Case as ACase};
 ghost use Rattle.ttrpc_server.specs.declared.rows.Inlet.{Inlet as AnInlet};
 ghost use Rattle.ttrpc_connection.specs.declared.failure.Failure.{Failure as AFailure};
@@ -21,7 +23,7 @@ ghost use Rattle.std.specs.BTreeMap.{is_at};
 ghost use Rattle.std.specs.Ordering.{nat_cmp};
 ghost use Rattle.std.specs.Set.{remove_key};
 
-use crate::expiry::{Expiry, expire_job};
+use crate::expiry::{Expiry, Stop, expire_job};
 use crate::index::Index;
 use crate::job::{Body, Job, JobId};
 use crate::jobs::Jobs;
@@ -37,7 +39,7 @@ use ttrpc_connection::deadlines::deadline_of;
 use ttrpc_connection::mailbox::past;
 use ttrpc_connection::thing::{closes, of_data, of_opening};
 use ttrpc_connection::{Arrived, Failure, Mailbox, Outbox, Reacts, Thing};
-use ttrpc_proto::{Error, MessageHeader, Request};
+use ttrpc_proto::{Error, MESSAGE_HEADER_LENGTH, MESSAGE_LENGTH_MAX, MessageHeader, Request};
 use ttrpc_secure::OutboundTransform;
 use ttrpc_wire::codec::in_place::decode_in_place;
 use ttrpc_wire::{Blob, CodecError};
@@ -69,6 +71,15 @@ impl Model for ServerState {
 }
 
 impl ServerState {
+    /// A lemma, which does nothing when it runs: what holds of every server's jobs.
+    pub(crate) fn lemma_is_server(&self)
+        ensures single { self.now.rules ≡ Rules.Async → AreSingle self.now.jobs.list }
+        ensures unary { self.now.rules ≡ Rules.Sync → AreUnary self.now.jobs.list }
+        ensures rise { Rising 0 self.now.jobs.list self.now.jobs.last }
+    {
+        self.jobs.lemma_rise();
+    }
+
     /// No jobs. Takes no memory.
     pub(crate) fn new(alloc: Global, rules: Rules, registry: Registry) -> Self
         ensures { result ≡ new_server rules registry }
@@ -158,7 +169,8 @@ impl ServerState {
         plain: Blob,
         now: u64,
     ) -> Result<(), Failure>
-        requires { self.old.rules ≡ Rules.Async → jobs_at self.old.jobs.list header.stream_id ≡ [] }
+        requires unused { self.old.rules ≡ Rules.Async → jobs_at self.old.jobs.list header.stream_id ≡ [] }
+        requires room { MESSAGE_HEADER_LENGTH + MESSAGE_LENGTH_MAX ≤ free outbox.old.queue }
         ensures does { OnOk result (SendsSome O.OutboundTransform outbox.old
             (λ sent. Does O.OutboundTransform (request_row self.old.rules self.old.services (read_from request_step empty_request plain))
             (with_newest self.old (newest_after self.old.rules header.stream_id (ACase.Asks plain) self.old.jobs.newest))
@@ -187,7 +199,8 @@ impl ServerState {
         plain: Blob,
         now: u64,
     ) -> Result<(), Failure>
-        requires { self.old.rules ≡ Rules.Async → jobs_at self.old.jobs.list header.stream_id ≡ [] }
+        requires unused { self.old.rules ≡ Rules.Async → jobs_at self.old.jobs.list header.stream_id ≡ [] }
+        requires room { MESSAGE_HEADER_LENGTH + MESSAGE_LENGTH_MAX ≤ free outbox.old.queue }
         ensures does { OnOk result (SendsSome O.OutboundTransform outbox.old
             (λ sent. Does O.OutboundTransform (request_row self.old.rules self.old.services (read_from request_step empty_request plain))
             self.old outbox.old.half header now sent self.new)
@@ -215,7 +228,8 @@ impl ServerState {
         request: Request,
         now: u64,
     ) -> Result<(), Failure>
-        requires { self.old.rules ≡ Rules.Async → jobs_at self.old.jobs.list header.stream_id ≡ [] }
+        requires unused { self.old.rules ≡ Rules.Async → jobs_at self.old.jobs.list header.stream_id ≡ [] }
+        requires room { MESSAGE_HEADER_LENGTH + MESSAGE_LENGTH_MAX ≤ free outbox.old.queue }
         ensures does { OnOk result (SendsSome O.OutboundTransform outbox.old
             (λ sent. Does O.OutboundTransform (request_row self.old.rules self.old.services (Some request))
             self.old outbox.old.half header now sent self.new)
@@ -445,18 +459,17 @@ impl ServerState {
 
 /// Jobs that expire.
 impl ServerState {
-    /// The jobs that are due at this moment expire, by rising id. An `Err` says why the connection is to fail: memory for an
-    /// answer was refused. Those before have expired.
+    /// The jobs that are due at this moment expire, by rising id. An `Err` says why no more of them do: there is no room for an
+    /// answer, or memory for one was refused. Those before have expired.
     pub(crate) fn expire<O: OutboundTransform + Drop>(
         &mut self,
         alloc: Global,
         outbox: &mut Outbox<O>,
         now: u64,
-    ) -> Result<(), Failure>
+    ) -> Result<(), Stop>
         requires { self.old.rules ≡ Rules.Async }
         ensures ok { OnOk result (ExpireAll O.OutboundTransform self.old outbox.old (due_jobs now self.old.jobs.list) self.new outbox.new) }
-        ensures err { IfErr result (λ failure. (failure ≡ Failure.NoMemory)
-            × StopsExpiring O.OutboundTransform self.old outbox.old now self.new outbox.new) }
+        ensures err { IfErr result (λ stop. StopsExpiring O.OutboundTransform self.old outbox.old now stop self.new outbox.new) }
     {
         self.jobs.lemma_rise();
         let deadlines = self.index.deadlines();
@@ -496,6 +509,8 @@ impl ServerState {
 }
 
 impl<O: OutboundTransform + Drop> Reacts<O> for ServerState {
+    ghost use Rattle.std.specs.Prelude.{◌+◌};
+    ghost use Rattle.ttrpc_proto.specs.declared.framing.header.TheConstants.{MESSAGE_HEADER_LENGTH, MESSAGE_LENGTH_MAX};
     ghost use Rattle.ttrpc_server.specs.Protocol.{serves, stops_serving};
     ghost use Rattle.ttrpc_server.specs.State.{takes_on};
 
@@ -504,6 +519,11 @@ impl<O: OutboundTransform + Drop> Reacts<O> for ServerState {
     ghost fails = { stops_serving };
 
     ghost takes = { takes_on };
+
+    // A frame's own answer is at most as long as a message may be.
+    const ROOM: usize = MESSAGE_HEADER_LENGTH + MESSAGE_LENGTH_MAX;
+
+    ghost ROOM = { MESSAGE_HEADER_LENGTH + MESSAGE_LENGTH_MAX };
 
     fn takes(&self) -> bool {
         !self.draining

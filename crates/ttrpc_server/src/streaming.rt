@@ -114,7 +114,7 @@ impl<O: OutboundTransform + Drop, I: InboundTransform + Drop> ServerCore<O, I> {
         end: &Result<Option<Response>, Error>,
     ) -> Result<(), Error>
         ensures ok { OnOk result (SendsEnd O.OutboundTransform self.old.connection.outbox stream_id end.now self.new.connection.outbox) }
-        ensures refused { IfErr result (IsUnconcluded O.OutboundTransform self.old.connection.outbox.half stream_id end.now) }
+        ensures refused { IfErr result (IsUnconcluded O.OutboundTransform self.old.connection.outbox stream_id end.now) }
         ensures err { OnErr result (self.new ≡ self.old) }
         ensures same { self.new ≡ record self.old { connection = record self.old.connection { outbox = self.new.connection.outbox } } }
     {
@@ -138,13 +138,14 @@ fn send_close<O: OutboundTransform + Drop>(
     stream_id: u32,
 ) -> Result<(), Error>
     ensures ok { OnOk result (SendsEnd O.OutboundTransform outbox.old stream_id (Ok None) outbox.new) }
-    ensures refused { IfErr result (IsUnconcluded O.OutboundTransform outbox.old.half stream_id (Ok None)) }
+    ensures refused { IfErr result (IsUnconcluded O.OutboundTransform outbox.old stream_id (Ok None)) }
     ensures err { OnErr result (outbox.new ≡ outbox.old) }
 {
     let frame = stream_frame(alloc, stream_id, MESSAGE_TYPE_DATA, CLOSE_FLAGS, None);
     match outbox.send(alloc, frame, Vec::new(alloc)) {
         Ok(()) => Ok(()),
         Err(SendError::Failed(refused)) => Err(unsent_error(alloc, &refused)),
+        Err(SendError::NoRoom) => Err(Error::NoRoom),
         Err(SendError::TooLong) => unreachable!(),
     }
 }
@@ -157,7 +158,7 @@ fn send_end<O: OutboundTransform + Drop>(
     response: &Response,
 ) -> Result<(), Error>
     ensures ok { OnOk result (SendsEnd O.OutboundTransform outbox.old stream_id (Ok (Some response.now)) outbox.new) }
-    ensures refused { IfErr result (IsUnsent Rules.Async O.OutboundTransform outbox.old.half stream_id response.now) }
+    ensures refused { IfErr result (IsUnsent Rules.Async O.OutboundTransform outbox.old stream_id response.now) }
     ensures err { OnErr result (outbox.new ≡ outbox.old) }
 {
     match send_response(alloc, outbox, Rules::Async, stream_id, response) {

@@ -13,7 +13,7 @@ returns-in-Err-Failed-clause-refused g c =
     let left : old.tickets < last_ticket = search (rules, arith, next) in
     let items : c.in_ok-bytes.bytes.items ≡ plain = search (rules, c.in_ok-bytes.ensures) in
     data_refused out c.args.advice.now old c.args.stream_id c.args.flags plain c.data_frame-frame.result c.in-Err-Failed.refused c.unsent_error.result
-    left (search (rules, c.if-plain-limit.false))
+    left (search (rules, c.if-plain-limit.false)) (search rules)
     (subst (λ t. IsDataFrame c.args.stream_id c.args.flags t c.data_frame-frame.result) next c.data_frame-frame.ensures)
     (subst (λ p. MayFail out.refuses old.half p (associated c.data_frame-frame.result.message.header) c.in-Err-Failed.refused) items (c.send.ensures.refused c.in-Err-Failed.refused (search rules)))
     c.unsent_error.ensures

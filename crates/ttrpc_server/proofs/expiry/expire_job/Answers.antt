@@ -1,4 +1,4 @@
-use Rattle.ttrpc_server.proofs.Words.{◌≡◌, ◌∙◌, ◌++◌, ◌∷◌, [], ℕ, List, Option, Some, None, refl, sym, ap, subst, same_Some, ActiveJob, Async, JobList, Loses, Response, SendsOwnAnswer, SendsSome, deadline_in, timeout_response, waits}
+use Rattle.ttrpc_server.proofs.Words.{rules, ◌≡◌, ◌∙◌, ◌++◌, ◌∷◌, [], ℕ, List, Option, Some, None, refl, sym, ap, subst, same_Some, ActiveJob, Async, JobList, Loses, SendsOwnAnswer, SendsSome, deadline_in, timeout_response, waits}
 use Rattle.std.specs.Prelude.{if◌then◌else◌}
 use Rattle.ttrpc_server.proofs.expiry.expire_job.Goals as goal
 
@@ -22,13 +22,13 @@ returns-clause-ok g c = λ job at.
     let same : place c.in-Some.stream_id c.in-Some.deadline ≡ place job.header.stream_id (deadline_in job.body) = same_Some (place c.in-Some.stream_id c.in-Some.deadline) (place job.header.stream_id (deadline_in job.body)) (c.in-Some.ensures job at) in
     let expired = c.args.expiry.now.expired in
     let from = c.args.outbox.now in
-    let to = c.send_own_answer.new.outbox in
-    let sent = subst (λ (r : Response). SendsSome g.O.OutboundTransform from (SendsOwnAnswer Async g.O.OutboundTransform from.half c.in-Some.stream_id r) to) c.in_ok-response.ensures c.in_ok-send_own_answer.ensures.ok in
+    let to = c.answer_timeout.new.outbox in
     record {
+      enough = search rules;
       left_are = with_list_is c.args.jobs.now c.end.new.self (at.front ++ at.back) c.end.ensures.last c.end.ensures.newest (c.end.ensures.ended job at);
       loses = subst (λ (p : ℕ × Option ℕ). Loses c.args.index.now p.0 c.args.id p.1 c.take_away.new.self) same c.take_away.ensures;
       expired = c.tell.ensures.expired ∙ ap (λ b. if b then expired else expired ++ c.args.id ∷ []) (c.waits.ensures job at) ∙ ap (λ i. if waits job then expired else expired ++ i ∷ []) (sym at.is_job);
       due = c.tell.ensures.due;
       room = c.tell.ensures.room;
-      answers = subst (λ (p : ℕ × Option ℕ). SendsSome g.O.OutboundTransform from (SendsOwnAnswer Async g.O.OutboundTransform from.half p.0 timeout_response) to) same sent;
+      answers = subst (λ (p : ℕ × Option ℕ). SendsSome g.O.OutboundTransform from (SendsOwnAnswer Async g.O.OutboundTransform from.half p.0 timeout_response) to) same c.in_ok-answer_timeout.ensures.ok;
     }

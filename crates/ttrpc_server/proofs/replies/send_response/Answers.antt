@@ -1,6 +1,7 @@
 use Rattle.ttrpc_server.proofs.Words.{rules}
 use Rattle.ttrpc_secure.specs.declared.transform.TransformError.TheVariants.{Refused}
-use Rattle.ttrpc_server.proofs.Sending.{sent_one}
+use Rattle.ttrpc_connection.proofs.Refusing.{room_there}
+use Rattle.ttrpc_server.proofs.Sending.{is_roomy, lacks_room, sent_one}
 use Rattle.ttrpc_server.proofs.replies.send_response.Goals as goal
 
 pub returns-in-Ok-clause-ok : goal.returns-in-Ok-clause-ok
@@ -12,15 +13,26 @@ returns-in-Ok-clause-ok g c =
 
 pub returns-in-Err-Failed-Refused-clause-err : goal.returns-in-Err-Failed-Refused-clause-err
 returns-in-Err-Failed-Refused-clause-err g c =
+    let out = g.O.OutboundTransform in
     let fit = rw c.limit.ensures at c.in_ok-bytes.ensures.ok in (
       search rules,
-      record {
-        frame = c.response_frame-frame.result;
-        is_frame = c.response_frame-frame.ensures;
-        fits = fit.1;
-        refuses = rw (← fit.0) (c.send.ensures.refused (Refused c.in-Err-Failed-Refused.why) (search rules));
-      },
+      (
+        is_roomy c.args.rules out c.args.outbox.now c.args.response.now c.in_ok-bytes.bytes.items fit.0 fit.1
+            (room_there out c.args.outbox.now c.in_ok-bytes.bytes.items c.send.result (Refused c.in-Err-Failed-Refused.why) (search rules) (search (rules, fit.1)) c.send.ensures.no_room.1),
+        record {
+          frame = c.response_frame-frame.result;
+          is_frame = c.response_frame-frame.ensures;
+          fits = fit.1;
+          refuses = rw (← fit.0) (c.send.ensures.refused (Refused c.in-Err-Failed-Refused.why) (search rules));
+        },
+      ),
     )
 
 pub send-requires : goal.send-requires
 send-requires g c = rw c.response_frame-frame.ensures.ticket tt
+
+pub returns-in-Err-NoRoom-clause-err : goal.returns-in-Err-NoRoom-clause-err
+returns-in-Err-NoRoom-clause-err g c =
+    let fit = rw c.limit.ensures at c.in_ok-bytes.ensures.ok in
+    let lacks = c.send.ensures.no_room.0 (search rules) in
+    (search rules, lacks_room c.args.rules g.O.OutboundTransform c.args.outbox.now c.args.response.now c.in_ok-bytes.bytes.items fit.0 fit.1 lacks.1)

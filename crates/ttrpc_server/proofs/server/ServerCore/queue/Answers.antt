@@ -9,8 +9,8 @@ returns-in-Ok-clause-queued g c =
 
 pub returns-in-Err-clause-refused : goal.returns-in-Err-clause-refused
 returns-in-Err-clause-refused g c =
-    let o = c.args.self.now.connection.outbox.half in
-    let limit : c.limit.result ≡ safe_limit g.O.OutboundTransform o = c.limit.ensures ∙ ap (λ b. safe_limit g.O.OutboundTransform b.half) c.in-Err.ensures.err.0 in
+    let o = c.args.self.now.connection.outbox in
+    let limit : c.limit.result ≡ safe_limit g.O.OutboundTransform o.half = c.limit.ensures ∙ ap (λ b. safe_limit g.O.OutboundTransform b.half) c.in-Err.ensures.err.0 in
     inr (record {
       alive = search rules;
       unsent = rw (← c.rules-rules.ensures) (told_unsent _ g.O.OutboundTransform o c.args.stream_id c.args.response.now c.in-Err.unsent c.limit.result c.error.result c.in-Err.ensures.err.1 limit c.error.ensures);

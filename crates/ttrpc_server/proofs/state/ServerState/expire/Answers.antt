@@ -68,7 +68,7 @@ returns-in_err-expire_job-clause-err g c =
     let x = next_due g.O.OutboundTransform _ _ _ _ _ _ _ _ p c.due_at-id.result c.due_at-id.ensures in
     let err = c.in_err-expire_job.ensures.err in
     let e : c.from_residual.result ≡ Err c.in_err-expire_job.field-0.0 = search rules in
-    rw e (err.0, stops g.O.OutboundTransform _ _ _ _ _ _ _ _ p c.due_at-id.result x c.expire_job.new.jobs c.expire_job.new.expiry.expired c.expire_job.new.outbox err.1 (ap (λ v. v.expired) err.3) err.4)
+    rw e (stops g.O.OutboundTransform _ _ _ _ _ _ _ _ p c.due_at-id.result x c.expire_job.new.jobs c.expire_job.new.expiry.expired c.expire_job.new.outbox err.1 (ap (λ v. v.expired) err.3) err.4 _ err.0)
 
 pub loop-place-preserved : goal.loop-place-preserved
 loop-place-preserved g c =
