@@ -1,5 +1,5 @@
--- What is idle: a piece of no bytes makes no frame whole, a queue that has no byte to lend has no frame, and where no byte is
--- reported the frames stay.
+-- What is idle: a piece of no bytes makes no frame whole, a queue that has no byte to lend has no frame,
+-- and where no byte is reported the frames stay.
 use Rattle.std.proofs.Common.{◌≡◌, ◌∷◌, ◌∙◌, ◌+◌, ◌-◌, arith, sym, List, [], ℕ, append-nil, refl, length, drop, nat_lt, Bool, true}
 use Rattle.std.proofs.lemmas.Bool.{lt-ltb}
 use Rattle.std.proofs.lemmas.List.{length-drop}
@@ -25,10 +25,10 @@ none_open (f ∷ fs) n within e = absurd (let long : length (drop n (written f.m
 pub none_to_lend : (q : Queue) → IsQueue q → length (open_part q) ≡ 0 → q.frames ≡ []
 none_to_lend q is e = none_open q.frames q.reported is.within e
 
-report_none : (frames : List Queued) (n k : ℕ) (begun : Bool) (sent : ℕ) → IsWithin frames n → k ≡ 0 → (report_first frames (n + k) begun sent).frames ≡ frames
-report_none [] n k begun sent within e = refl
-report_none (f ∷ fs) n k begun sent within e = let less : nat_lt (n + k) (length (written f.message)) ≡ true = lt-ltb (n + k) (length (written f.message)) (omega (arith, within, e)) in rw less refl
+report_none : (frames : List Queued) (n k : ℕ) (begun : Bool) (sent : ℕ) (gone : List ℕ) → IsWithin frames n → k ≡ 0 → (report_first frames (n + k) begun sent gone).frames ≡ frames
+report_none [] n k begun sent gone within e = refl
+report_none (f ∷ fs) n k begun sent gone within e = let less : nat_lt (n + k) (length (written f.message)) ≡ true = lt-ltb (n + k) (length (written f.message)) (omega (arith, within, e)) in rw less refl
 
 -- no byte was reported
 pub none_reported : (q : Queue) (k : ℕ) → IsQueue q → k ≡ 0 → (after_report (with_lent q k) k).frames ≡ q.frames
-none_reported q k is e = report_none q.frames q.reported k (with_lent q k).begun q.sent is.within e
+none_reported q k is e = report_none q.frames q.reported k (with_lent q k).begun q.sent q.gone is.within e

@@ -1,14 +1,34 @@
 -- Why a piece was refused, and what an answer comes to by what the core says of it.
-use Rattle.ttrpc_pair.proofs.Words.{◌≡◌, ◌++◌, ◌∙◌, ◌∷◌, ◌⊎◌, [], ActiveJob, Answers, AnswersBy, AnswersError, ap, AsyncRules, Bool, cases_Bool, Connection, Err, Error, error_of, Failure, false, Halves, has_response, inl, inr, IsEnd, IsFailed, IsResponse, IsTaken, IsTold, IsUnknown, List, Net, None, Ok, Option, refl, RespondsTo, Response, Result, Rules, ServerCore, Some, subst, sym, SyncRules, Ways, with_server, ℕ}
-use Rattle.ttrpc_connection.specs.OneEnd.{Drains, Takes, TakesOrDrains}
+use Rattle.ttrpc_pair.proofs.Words.{◌≡◌, ◌++◌, ◌∙◌, ◌∷◌, ◌⊎◌, [], ActiveJob, Answers, AnswersBy, AnswersError, ap, arith, AsyncRules, Bool, cases_Bool, Connection, Err, Error, error_of, Failure, false, Halves, has_response, inl, inr, IsEnd, IsFailed, IsResponse, IsTaken, IsTold, IsUnknown, List, Net, None, Ok, Option, refl, RespondsTo, Response, Result, Rules, ServerCore, Some, subst, sym, SyncRules, Ways, with_server, ℕ}
+use Rattle.std.specs.Prelude.{◌≤◌, ◌<◌, length, min, take}
+use Rattle.std.proofs.lemmas.List.{length-take-le, take-take}
+use Rattle.ttrpc_connection.specs.Feeds.{Feeds, is_open}
+use Rattle.ttrpc_connection.specs.OneEnd.{AreTaken, Drains, Takes, TakesOrDrains}
+use Rattle.ttrpc_pair.specs.Pipes.{Pipe, is_over}
 use Rattle.ttrpc_server.specs.State.{IsNoUnary}
 use Rattle.ttrpc_server.specs.Protocol.{QueuesResponse, RefusesFinish, RefusesResponse}
-use Rattle.ttrpc_pair.specs.Steps.{RefusesRespond}
+use Rattle.ttrpc_pair.specs.Steps.{Delivers, Hears, RefusesRespond, taken_from}
 
--- what a piece does to a core that takes, and to one that takes no more
+-- what a piece does to a core that is open, and to one that isn't
 pub by_taking : {S O I : Type 0} (w : Ways S O I) (s : S) (old : Connection O I) (piece : List ℕ) (at : ℕ) (result : Result ℕ Error) (t : S) (new : Connection O I) → TakesOrDrains w s old piece at result t new
-    → Takes w s old piece at result t new ⊎ ((w.core.takes s ≡ false) × Drains s old result t new)
-by_taking w s old piece at result t new fed = elim (cases_Bool (w.core.takes s)) [ inl takes ↦ inl (fed.takes takes) | inr drains ↦ inr (drains, fed.drains drains) ]
+    → Takes w s old piece at result t new ⊎ ((is_open w s old.outbox ≡ false) × Drains s old result t new)
+by_taking w s old piece at result t new fed = elim (cases_Bool (is_open w s old.outbox)) [ inl takes ↦ inl (fed.takes takes) | inr drains ↦ inr (drains, fed.drains drains) ]
+
+-- a front of what was offered was taken
+pub delivers : {S O I : Type 0} (w : Ways S O I) (s : S) (old : Connection O I) (pipe : Pipe) (now n k : ℕ) (piece : List ℕ) (t : S) (mid new : Connection O I) → piece ≡ take (min n (length pipe.bytes)) pipe.bytes
+    → AreTaken w piece k t mid → Feeds w s old (take k piece) now t mid → Hears (is_over (taken_from pipe k)) mid new → Delivers w s old pipe now n k t new
+delivers w s old pipe now n k piece t mid new is taken feeds hears =
+    let offered = min n (length pipe.bytes) in
+    let size : length piece ≡ offered = rw is (length-take-le offered pipe.bytes (omega arith)) in
+    let count : k ≤ offered = omega (arith, size, taken.count) in
+    let front : take k piece ≡ take k pipe.bytes = ap (take k) is ∙ take-take k offered pipe.bytes count in
+    record {
+      count = count;
+      mid = mid;
+      does = subst (λ bytes. Feeds w s old bytes now t mid) front feeds;
+      short = λ less. taken.short (omega (arith, size, less));
+      hears = hears;
+    }
 
 pub breaks_or_failed : (Breaks Same : Type 0) (failure : Option Failure) (told : Error) → (failure ≡ None → Breaks) → ((f : Failure) → failure ≡ Some f → IsTold (error_of f) told × Same)
     → Breaks ⊎ (IsFailed failure told × Same)

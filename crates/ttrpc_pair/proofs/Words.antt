@@ -8,7 +8,7 @@ pub use Rattle.ttrpc_secure.specs.Halves.{IsPaired}
 pub use Rattle.ttrpc_connection.specs.declared.arrived.Opening.TheVariants.{Opened}
 pub use Rattle.ttrpc_connection.specs.Outbox.{Outbox}
 pub use Rattle.ttrpc_connection.proofs.Words.{[], ActsAll, after_report, all_at, all_behind, all_changed, all_in_front, all_joined, all_less, AllByRecursion, ap, append-nil, append_assoc, arith, associated, begun_count, between_other, between_own, Bool, cases_Bool, cases_eq, cond-false, cond-true, drop, eq-eqb, eqb-true, Err, Error, error_of, false, Fed, Feeds, filter, first_failure, given, header_of_frame, Held, if◌then◌else◌, Incoming, inl, inr, INVALID_ARGUMENT, is_some, IsTold, length, List, ltb-true, map, MESSAGE_LENGTH_MAX, MESSAGE_TYPE_REQUEST, MessageHeader, min, nat_eq, nat_lt, ne_eqb, None, nothing, Ok, open_part, Option, OutboundTransform, pushed_other, pushed_own, Queue, Queued, refl, Result, rules, safe_limit, scene, Scene, SendsAll, SendsOne, Sent, Some, subst, suc, sym, take, take-append-drop, true, under_both, under_other, under_own, Ways, with_frame, with_lent, with_payload, without, zero, ℕ, ◌&&◌, ◌++◌, ◌+◌, ◌-◌, ◌<◌, ◌^◌, ◌∙◌, ◌∷◌, ◌≡◌, ◌≢◌, ◌≤◌, ◌⊎◌}
-pub use Rattle.ttrpc_connection.specs.Feeds.{arrived as arrives, IsFailed}
+pub use Rattle.ttrpc_connection.specs.Feeds.{arrived as arrives, is_open, IsFailed}
 pub use Rattle.ttrpc_connection.specs.OneEnd.{failing}
 pub use Rattle.ttrpc_server.specs.declared.job.ActiveJob.{ActiveJob}
 pub use Rattle.ttrpc_server.specs.declared.job.Job.{Job}

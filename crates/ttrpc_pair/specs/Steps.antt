@@ -5,13 +5,13 @@ use Rattle.ttrpc_pair.specs.Types.{Error, Response, Connection, Failure, Told, E
 use Rattle.ttrpc_proto.specs.declared.error.Error.TheVariants.{Socket}
 use Rattle.ttrpc_proto.specs.Messages.{IsRequest, IsResponse}
 use Rattle.ttrpc_proto.specs.Framing.Queue.{Queue, open_part}
-use Rattle.ttrpc_connection.specs.Feeds.{Ways, Feeds, Breaks, IsFailed}
+use Rattle.ttrpc_connection.specs.Feeds.{Ways, Feeds, Breaks, IsFailed, is_open}
 use Rattle.ttrpc_connection.specs.OneEnd.{Ends, failing, lending, reporting}
 use Rattle.ttrpc_server.specs.declared.server.ServerCore.{ServerCore}
 use Rattle.ttrpc_server.specs.declared.job.ActiveJob.{ActiveJob}
 use Rattle.ttrpc_server.specs.declared.rules.Rules.{Rules}
 use Rattle.ttrpc_server.specs.declared.rules.Rules.TheVariants.{Async, Sync}
-use Rattle.ttrpc_server.specs.State.{IsTaken, IsUnknown, NoneWaits, takes_on}
+use Rattle.ttrpc_server.specs.State.{IsTaken, IsUnknown, NoneWaits}
 use Rattle.ttrpc_server.specs.Protocol.{Answers, AnswersError, Finishes, Hands, QueuesResponse, RefusesAnswer, RefusesFinish, RefusesResponse, drained, serving}
 use Rattle.ttrpc_server.specs.Protocol as server
 use Rattle.ttrpc_server.specs.Streaming.{EndsStream, RefusesEnd, RefusesItem, SendsItem, unheard}
@@ -61,11 +61,13 @@ abbrev pub Hears : {O I : Type 0} → Bool → Connection O I → Connection O I
 Hears true old new = Ends old new
 Hears false old new = new ≡ old
 
--- Bytes moved from a pipe to its side at a moment. Where they were the last before a cut, the input ends.
+-- Bytes moved from a pipe to its side at a moment: of the first n all, unless the side isn't open any more after them. Where they
+-- were the last before a cut, the input ends.
 pub record Delivers {S O I : Type 0} (w : Ways S O I) (s : S) (old : Connection O I) (pipe : Pipe) (now n k : ℕ) (t : S) (new : Connection O I) : Type 0 where
-  pub count : k ≡ min n (length pipe.bytes)
+  pub count : k ≤ min n (length pipe.bytes)
   pub mid : Connection O I
   pub does : Feeds w s old (take k pipe.bytes) now t mid
+  pub short : k < min n (length pipe.bytes) → is_open w t mid.outbox ≡ false
   pub hears : Hears (is_over (taken_from pipe k)) mid new
 
 -- The side fails at these bytes.
@@ -148,10 +150,10 @@ module _ {CO CI SO SI : Type 0} (c : Halves CO CI) (s : Halves SO SI) (seals : B
     pub does : Delivers (serving s.out s.in_) old.server.state old.server.connection old.up old.moment n k new.server.state new.server.connection
     pub only : new ≡ record (with_server old new.server) { up = taken_from old.up k }
 
-  -- Nothing was delivered to a server that lives and takes no more.
+  -- Nothing was delivered to a server that lives and isn't open.
   pub record StaysUp (old : Net CO CI SO SI) (k : ℕ) (new : Net CO CI SO SI) : Type 0 where
     pub alive : old.server.connection.failure ≡ None
-    pub drains : takes_on old.server.state ≡ false
+    pub shut : is_open (serving s.out s.in_) old.server.state old.server.connection.outbox ≡ false
     pub none : k ≡ 0
     pub hears : Hears (is_over old.up) old.server.connection new.server.connection
     pub only : new ≡ with_server old (record old.server { connection = new.server.connection })

@@ -3,7 +3,7 @@
 use Rattle.ttrpc_world.proofs.Ending.{idle, lent_alive}
 use Rattle.ttrpc_world.proofs.Behind.{none_taken}
 use Rattle.ttrpc_world.proofs.Keeps.{AreSteady}
-use Rattle.ttrpc_world.proofs.Living.{fed_whole, takes_up}
+use Rattle.ttrpc_world.proofs.Living.{fed_or_short, fed_whole}
 use Rattle.ttrpc_world.proofs.Since.{IsKnown}
 use Rattle.ttrpc_world.proofs.Timed.{none_due}
 use Rattle.ttrpc_world.proofs.Serves.{acts_so, answered, IsAnswered, passes_so}
@@ -79,12 +79,12 @@ module _ {CO CI SO SI : Type 0} (c : Halves CO CI) (s : Halves SO SI) (seals : B
   heard_none says none up down (ServerEnd id) (Some word) k = nothing_put says (nat_eq (f id) k) (HeardUp word) none (up word)
 
   -- if no call is due, a moment does what it does if there is no call
-  ticked_up : (failure : Option Failure) (old : ClientCore CO CI) (now : ℕ) (new : ClientCore CO CI) → ((k : ℕ) → due_at now (call_at old.state k) ≡ false) → Passes seals failure old now new
+  ticked_up : (failure : Option Failure) (old : ClientCore CO CI) (now : ℕ) (new : ClientCore CO CI) → IsQueue old.connection.outbox.queue → ((k : ℕ) → due_at now (call_at old.state k) ≡ false) → Passes seals failure old now new
       → new.connection.outbox.queue.frames ≡ old.connection.outbox.queue.frames
-  ticked_up None old now new none p =
-      let none_called = (nothing_due seals (record old { state = record old.state { calls = [] } }) now refl).connection in
+  ticked_up None old now new is none p =
+      let none_called = (nothing_due seals (record old { state = record old.state { calls = [] } }) now is refl).connection in
       ap (λ (x : Connection CO CI). x.outbox.queue.frames) (p.connection ∙ ap (λ ids. if throws old.state.kind seals then taken_back old.connection ids DeadlineDuringWrite else old.connection) (fun_ext none) ∙ sym none_called)
-  ticked_up (Some why) old now new none same = ap (λ (x : ClientCore CO CI). x.connection.outbox.queue.frames) same
+  ticked_up (Some why) old now new is none same = ap (λ (x : ClientCore CO CI). x.connection.outbox.queue.frames) same
 
   -- BEHIND THE LAST BYTES THAT THE SERVER TOOK, upwards.
   pub up_back : (t : List Entry) (w : Net CO CI SO SI) (event : Event) (reply : Reply) (v : Net CO CI SO SI) → IsKnown c s seals steady set f t w event reply v → is_clean_event event ≡ true → is_clean_reply reply ≡ true → takes_bytes ServerSide event reply ≡ false → Steps c s seals w event reply v → UpIdle v → UpIdle w × PutsUp event reply
@@ -99,7 +99,7 @@ module _ {CO CI SO SI : Type 0} (c : Halves CO CI) (s : Halves SO SI) (seals : B
   up_back t w (Respond id response) Done v i a b z p idle = (subst (λ (x : Net CO CI SO SI). UpIdle x) p.only idle, λ k. nothing_put (λ xs. items (put_up xs)) (nat_eq (f id) k) (EndedDown (Ok (Some response))) refl refl)
   up_back t w (EndStream id result) Done v i a b z p idle = (subst (λ (x : Net CO CI SO SI). UpIdle x) p.1 idle, λ k. nothing_put (λ xs. items (put_up xs)) (nat_eq (f id) k) (EndedDown result) refl refl)
   up_back t w (Tick now) Done v i a b z p idle =
-      (idle_as (ticked_up w.client.connection.failure w.client now v.client (none_due c s seals set f t w now i.before i.cleanly.timed i.cleanly.at.in_time) p.does) (ap (λ (x : Net CO CI SO SI). x.up.bytes) p.only) idle, λ k. refl)
+      (idle_as (ticked_up w.client.connection.failure w.client now v.client (i.before.upward.bytes i.cleanly.before.server).bytes.valid (none_due c s seals set f t w now i.before i.cleanly.timed i.cleanly.at.in_time) p.does) (ap (λ (x : Net CO CI SO SI). x.up.bytes) p.only) idle, λ k. refl)
   up_back t w (Carry ClientSide n) (Count k) v i a b z p idle = (
     carried w.client.connection.failure w.up.cut w.client.connection.outbox.queue w.up.bytes n k i.cleanly.before.client i.cleanly.whole.up (i.before.upward.bytes i.cleanly.before.server).bytes.valid p.count
         (idle_as (ap (λ (x : Net CO CI SO SI). x.client.connection.outbox.queue.frames) p.only) (ap (λ (x : Net CO CI SO SI). x.up.bytes) p.only) idle),
@@ -150,9 +150,10 @@ module _ {CO CI SO SI : Type 0} (c : Halves CO CI) (s : Halves SO SI) (seals : B
   down_back t w (Deliver ClientSide n) (Count k) v i a b z p idles =
       let same = idle c s seals set f ClientSide t w v n k i.before i.cleanly.whole (none_taken k z) p in
       (idle_as (ap (λ x. x.1.outbox.queue.frames) same) (ap (λ x. x.3) same) idles, λ j. refl)
-  down_back t w (Deliver ServerSide n) (Count k) v i a b z p idle =
-      let up = takes_up c s seals i.cleanly.whole p in
-      (record { none_queued = none_before (fed_whole i.cleanly.whole.up up.does) idle.none_queued; none_carried = sym (ap (λ (x : Net CO CI SO SI). x.down.bytes) up.only) ∙ idle.none_carried }, λ j. refl)
+  down_back t w (Deliver ServerSide n) (Count k) v i a b z p idle = elim (fed_or_short c s seals i.cleanly.whole p) [
+    | inl up ↦ (record { none_queued = none_before (fed_whole i.cleanly.whole.up up.does) idle.none_queued; none_carried = sym (ap (λ (x : Net CO CI SO SI). x.down.bytes) up.only) ∙ idle.none_carried }, λ j. refl)
+    | inr short ↦ (subst (λ (x : Net CO CI SO SI). DownIdle x) short.same idle, λ j. refl)
+  ]
   down_back t w event reply v i a b z p idle =
       let queue : v.server.connection.outbox.queue ≡ w.server.connection.outbox.queue = first_of (cc, search rules) in
       let pipe : v.down.bytes ≡ w.down.bytes = first_of (cc, search rules) in

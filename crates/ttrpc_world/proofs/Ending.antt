@@ -2,10 +2,14 @@
 use Rattle.ttrpc_world.proofs.Sentences.{begins, Stands, step_on}
 use Rattle.ttrpc_world.proofs.Cleanly.{first_step, fresh_run, IsCleanRun, later_run}
 use Rattle.ttrpc_world.proofs.Keeps.{AreSteady, Keeps}
-use Rattle.ttrpc_world.proofs.Living.{fed_whole, last_four, takes_up}
+use Rattle.ttrpc_world.proofs.Living.{fed_or_short, fed_whole, last_four}
+use Rattle.std.proofs.lemmas.Bool.{cases_lt}
+use Rattle.std.specs.Prelude.{nat_le}
+use Rattle.ttrpc_proto.specs.Framing.Queue.{free}
+use Rattle.ttrpc_proto.proofs.Queues.{all_free}
 use Rattle.ttrpc_world.proofs.OneWay.{OneWay}
 use Rattle.ttrpc_world.proofs.Numbers.{streams_of}
-use Rattle.ttrpc_world.proofs.Words.{[], ActsAll, all_has_come, ap, AreClean, arith, Bool, Carry, Client, ClientSide, Connection, Count, Deliver, Delivers, drop, Entry, Failure, false, Fed, Flying, Halves, InboundTransform, Incoming, IsDrained, IsEmpty, IsFresh, IsOpen, IsQueue, length, lent_of, List, Lives, min, Net, nil_from_length, no_frames_come, None, none_reported, none_to_lend, open_part, Option, other, OutboundTransform, Outbox, Pipe, Queue, Queued, refl, Rules, Runs, safe_limit, Scene, scene, Server, ServerSide, Settings, Side, Some, Steps, subst, sym, take, Ways, ℕ, ◌++◌, ◌<◌, ◌∙◌, ◌∷◌, ◌≡◌}
+use Rattle.ttrpc_world.proofs.Words.{[], ActsAll, all_has_come, ap, AreClean, arith, Bool, Carry, Client, ClientSide, Connection, Count, Deliver, Delivers, drop, Entry, Failure, false, Fed, Flying, Halves, InboundTransform, Incoming, inl, inr, is_open, IsDrained, IsEmpty, IsFresh, IsOpen, IsQueue, length, lent_of, List, Lives, min, Net, nil_from_length, no_frames_come, None, none_reported, none_to_lend, open_part, Option, other, OutboundTransform, Outbox, Pipe, Queue, Queued, refl, Rules, Runs, safe_limit, Scene, scene, Server, ServerSide, serving, Settings, Side, Some, Steps, subst, sym, take, true, Feeds, Ways, ℕ, ◌++◌, ◌<◌, ◌∙◌, ◌∷◌, ◌≡◌}
 
 -- ---- nothing was lent, and nothing was taken
 
@@ -18,12 +22,25 @@ acts_on_none : {S O I : Type 0} (w : Ways S O I) (now : ℕ) (frames : List Inco
 acts_on_none w now [] old new e acts = acts
 acts_on_none w now (f ∷ fs) old new e acts = cc
 
-none_fed : {S O I XO : Type 0} {out : OutboundTransform XO} {w : Ways S O I} {s t : S} {x : Outbox XO} {old new : Connection O I} {p : Pipe} {flights : List Flying} {now n k : ℕ} → OneWay out w.in_ x old p flights → p.cut ≡ false → k ≡ 0 → Delivers w s old p now n k t new → scene t new ≡ scene s old
-none_fed {w = w} {s} {t} {old = old} {new} {p} {now = now} way whole e d =
-    let f = fed_whole whole d in
+feeds_none : {S O I XO : Type 0} {out : OutboundTransform XO} {w : Ways S O I} {s t : S} {x : Outbox XO} {old new : Connection O I} {p : Pipe} {flights : List Flying} {now k : ℕ} → OneWay out w.in_ x old p flights → k ≡ 0 → Feeds w s old (take k p.bytes) now t new → scene t new ≡ scene s old
+feeds_none {w = w} {s} {t} {old = old} {new} {p} {now = now} way e f =
     let b = (way.bytes f.alive).bytes in
     let fed = subst (λ (x : ℕ). Fed old.decoder (take x p.bytes) f.frames new.decoder) e f.fed in
     acts_on_none w now f.frames (scene s old) (scene t new) (no_frames_come old.decoder new.decoder b.before f.frames b.holds fed) f.acts
+
+none_fed : {S O I XO : Type 0} {out : OutboundTransform XO} {w : Ways S O I} {s t : S} {x : Outbox XO} {old new : Connection O I} {p : Pipe} {flights : List Flying} {now n k : ℕ} → OneWay out w.in_ x old p flights → p.cut ≡ false → k ≡ 0 → Delivers w s old p now n k t new → scene t new ≡ scene s old
+none_fed way whole e d = feeds_none way e (fed_whole whole d)
+
+-- Where an open side takes no byte, there is none.
+none_offered : {S O I XO : Type 0} {out : OutboundTransform XO} {w : Ways S O I} {s t : S} {x : Outbox XO} {old new : Connection O I} {p : Pipe} {flights : List Flying} {now n : ℕ} → OneWay out w.in_ x old p flights → Delivers w s old p now n 0 t new → min n (length p.bytes) ≡ 0
+none_offered {w = w} {p = p} {n = n} way d = elim (cases_lt 0 (min n (length p.bytes))) [
+  | inl some ↦ absurd (let same = ap (λ (c : Scene _ _ _). is_open w c.state c.outbox) (feeds_none way refl d.does) in let shut = d.short some in let opened = d.does.was_open in cc (same, shut, opened))
+  | inr none ↦ omega (arith, none)
+]
+
+-- a server whose queue is empty has room
+has_room : (q : Queue) → IsQueue q → q.frames ≡ [] → nat_le 4194314 (free q) ≡ true
+has_room q is none = rw (all_free q is none) refl
 
 -- If nothing is queued and nothing is in the pipe, NOTHING IS IN FLIGHT.
 pub none_flies : {XO YO YI : Type 0} {out : OutboundTransform XO} {in_ : InboundTransform YI} {x : Outbox XO} {y : Connection YO YI} {p : Pipe} {flights : List Flying} → OneWay out in_ x y p flights → y.failure ≡ None → p.cut ≡ false → x.queue.frames ≡ [] → p.bytes ≡ [] → flights ≡ []
@@ -57,10 +74,12 @@ of_each P ServerSide a b ServerSide = a
 
 module _ {CO CI SO SI : Type 0} (c : Halves CO CI) (s : Halves SO SI) (seals : Bool) where
   pub idle : (set : Settings) (f : ℕ → ℕ) (to : Side) (t : List Entry) (w v : Net CO CI SO SI) (n k : ℕ) → Keeps c s set f t w → IsOpen w → k ≡ 0 → Steps c s seals w (Deliver to n) (Count k) v → seen v ≡ seen w
-  idle set f ServerSide t w v n k i o e p =
-      let up = takes_up c s seals o p in
-      let same = none_fed i.upward o.up e up.does in
-      ap seen up.only ∙ ap (λ x. (scene w.client.state w.client.connection, x, drop k w.up.bytes, w.down.bytes)) same ∙ ap (λ (j : ℕ). (scene w.client.state w.client.connection, scene w.server.state w.server.connection, drop j w.up.bytes, w.down.bytes)) e
+  idle set f ServerSide t w v n k i o e p = elim (fed_or_short c s seals o p) [
+    | inl up ↦
+        let same = none_fed i.upward o.up e up.does in
+        ap seen up.only ∙ ap (λ x. (scene w.client.state w.client.connection, x, drop k w.up.bytes, w.down.bytes)) same ∙ ap (λ (j : ℕ). (scene w.client.state w.client.connection, scene w.server.state w.server.connection, drop j w.up.bytes, w.down.bytes)) e
+    | inr short ↦ ap seen short.same
+  ]
   idle set f ClientSide t w v n k i o e p =
       let same = none_fed i.downward o.down e p.does in
       ap seen p.only ∙ ap (λ x. (x, scene w.server.state w.server.connection, w.up.bytes, drop k w.down.bytes)) same ∙ ap (λ (j : ℕ). (scene w.client.state w.client.connection, scene w.server.state w.server.connection, w.up.bytes, drop j w.down.bytes)) e
@@ -87,15 +106,23 @@ module _ {CO CI SO SI : Type 0} (c : Halves CO CI) (s : Halves SO SI) (seals : B
 
   -- ---- a delivery that takes nothing
 
-  count_zero : (to : Side) (w v : Net CO CI SO SI) (n : ℕ) → IsOpen w → Steps c s seals w (Deliver to n) (Count 0) v → 0 ≡ min n (length (pipe_to to (seen w)))
-  count_zero ServerSide w v n o p = (takes_up c s seals o p).does.count
-  count_zero ClientSide w v n o p = p.does.count
+  -- if the server's queue is empty, so that the server has room
+  count_zero : (set : Settings) (f : ℕ → ℕ) (to : Side) (t : List Entry) (w v : Net CO CI SO SI) (n : ℕ) → Keeps c s set f t w → Lives w → IsOpen w → queue_of ServerSide (seen w) ≡ [] → Steps c s seals w (Deliver to n) (Count 0) v
+      → min n (length (pipe_to to (seen w))) ≡ 0
+  count_zero set f ServerSide t w v n i a o none p = elim (fed_or_short c s seals o p) [
+    | inl up ↦ none_offered i.upward up.does
+    | inr short ↦
+        let roomy = has_room w.server.connection.outbox.queue (i.downward.bytes a.client).bytes.valid none in
+        let opened : is_open (serving s.out s.in_) w.server.state w.server.connection.outbox ≡ true = rw (o.takes, roomy) refl in
+        absurd (let shut = short.shut in cc (opened, shut))
+  ]
+  count_zero set f ClientSide t w v n i a o none p = none_offered i.downward p.does
 
-  deliver_zero : (set : Settings) (f : ℕ → ℕ) (to : Side) (t : List Entry) (w v : Net CO CI SO SI) (n : ℕ) → 0 < n → Keeps c s set f t w → IsOpen w → Steps c s seals w (Deliver to n) (Count 0) v
+  deliver_zero : (set : Settings) (f : ℕ → ℕ) (to : Side) (t : List Entry) (w v : Net CO CI SO SI) (n : ℕ) → 0 < n → Keeps c s set f t w → Lives w → IsOpen w → queue_of ServerSide (seen w) ≡ [] → Steps c s seals w (Deliver to n) (Count 0) v
       → (pipe_to to (seen w) ≡ []) × (seen v ≡ seen w)
-  deliver_zero set f to t w v n some i o p =
+  deliver_zero set f to t w v n some i a o none p =
       let pipe = pipe_to to (seen w) in
-      (nil_from_length pipe (omega (arith, some, count_zero to w v n o p)), idle set f to t w v n 0 i o refl p)
+      (nil_from_length pipe (omega (arith, some, count_zero set f to t w v n i a o none p)), idle set f to t w v n 0 i o refl p)
 
 module _ {CO CI SO SI : Type 0} (c : Halves CO CI) (s : Halves SO SI) (seals : Bool) (steady : AreSteady c s seals) (set : Settings) (f : ℕ → ℕ) where
   -- AT THE END NOTHING IS QUEUED AND NOTHING IS IN A PIPE.
@@ -110,10 +137,10 @@ module _ {CO CI SO SI : Type 0} (c : Halves CO CI) (s : Halves SO SI) (seals : B
       let y4 = later_run c s seals rules g y3 x3.run in
       let z1 = carry_zero c s seals set f d.from t w x.run.0 d.a d.some.0 x.kept (first_step c s seals rules g y x.run).before x.run.1 in
       let z2 = carry_zero c s seals set f (other d.from) _ x.run.0 x2.run.0 d.b d.some.1 x2.kept (first_step c s seals rules g y2 x2.run).before x2.run.1 in
-      let z3 = deliver_zero c s seals set f d.to _ x2.run.0 x3.run.0 d.c d.some.2 x3.kept y3.whole x3.run.1 in
-      let z4 = deliver_zero c s seals set f (other d.to) _ x3.run.0 x4.run.0 d.d d.some.3 x4.kept y4.whole x4.run.1 in
-      let end : seen v ≡ seen x2.run.0 = ap seen x4.run.2 ∙ z4.1 ∙ z3.1 in
       let queues = of_each (λ (side : Side). queue_of side (seen x2.run.0) ≡ []) d.from (z2.1 d.from ∙ z1.1 d.from ∙ z1.0) (z2.1 (other d.from) ∙ z2.0) in
+      let z3 = deliver_zero c s seals set f d.to _ x2.run.0 x3.run.0 d.c d.some.2 x3.kept (first_step c s seals rules g y3 x3.run).before y3.whole (queues ServerSide) x3.run.1 in
+      let z4 = deliver_zero c s seals set f (other d.to) _ x3.run.0 x4.run.0 d.d d.some.3 x4.kept (first_step c s seals rules g y4 x4.run).before y4.whole (ap (λ x. queue_of ServerSide x) z3.1 ∙ queues ServerSide) x4.run.1 in
+      let end : seen v ≡ seen x2.run.0 = ap seen x4.run.2 ∙ z4.1 ∙ z3.1 in
       let pipes = of_each (λ (side : Side). pipe_to side (seen x2.run.0) ≡ []) d.to z3.0 (sym (ap (λ x. pipe_to (other d.to) x) z3.1) ∙ z4.0) in
       record {
         up_queue = ap (λ x. queue_of ClientSide x) end ∙ queues ClientSide;

@@ -1,7 +1,7 @@
 -- How a side fails in a run: no step clears a failure, and what is told of one is no end of a stream.
 use Rattle.ttrpc_world.proofs.OneWay.{either_way}
 use Rattle.ttrpc_world.proofs.Serves.{answered}
-use Rattle.ttrpc_world.proofs.Words.{[], ActiveJob, Answer, ap, AsyncRules, Bool, call_at, calling, CancelledDuringWrite, ClientCore, ClientSide, Connection, Count, Cut, cut_to, DeadlineDuringWrite, Deliver, Disconnected, DisconnectedInside, Done, DropCall, due_at, error_of, Event, Fail, failed_by_hand, Failure, false, first_failure, Halves, has_begun, Hears, if◌then◌else◌, Incoming, inl, inr, is_over, IsFresh, IsPlain, IsPlainFailure, IsWhy, List, Lives, nat_eq, Net, None, Option, Passes, refl, Refused, Reply, Rules, rules, Scene, ServerCore, ServerPasses, ServerSide, serving, Some, Steps, subst, sym, SyncRules, taken_back, taken_from, takes_back, throws, Tick, Told, told, true, want_for, Ways, ℕ, ◌∙◌, ◌∷◌, ◌≡◌}
+use Rattle.ttrpc_world.proofs.Words.{[], ActiveJob, Answer, ap, AsyncRules, Bool, call_at, calling, CancelledDuringWrite, ClientCore, ClientSide, Connection, Count, Cut, cut_to, DeadlineDuringWrite, Deliver, Disconnected, DisconnectedInside, Done, DropCall, due_at, error_of, Event, Fail, failed_by_hand, Failure, false, first_failure, Halves, has_begun, Hears, if◌then◌else◌, Incoming, inl, inr, is_over, IsFresh, IsPlain, IsPlainFailure, IsWhy, List, Lives, nat_eq, Net, None, Option, Passes, refl, Refused, Reply, Rules, rules, Scene, ServerCore, ServerPasses, ServerSide, serving, Some, Steps, subst, sym, SyncRules, taken_back, taken_from, takes_back, throws, Tick, Told, told, true, LeavesDue, Outbox, OutboundTransform, Ways, ℕ, ◌∙◌, ◌∷◌, ◌≡◌}
 
 -- what becomes of the failure of a side: it is kept, and one that is no end stays so
 pub record Fails (old new : Option Failure) : Type 0 where
@@ -42,15 +42,18 @@ heard_fails true old new h = either_way old.decoder
     (λ some. fails_as (ap (λ (d : Connection _ _). d.failure) (h.inside some)) (first_fails old.failure DisconnectedInside (λ m. refl)))
 heard_fails false old new h = same_fails (ap (λ (d : Connection _ _). d.failure) h)
 
-want_plain : (left : List ActiveJob) → IsPlainFailure (want_for left)
-want_plain [] = tt
-want_plain (j ∷ js) = λ m. refl
+-- why jobs that are due are left
+leaves_plain : {O : Type 0} (out : OutboundTransform O) (left : List ActiveJob) (o : Outbox O) (failure : Option Failure) → LeavesDue out left o failure → IsPlainFailure failure
+leaves_plain out [] o failure none = same_plain none tt
+leaves_plain out (j ∷ js) o failure (inl short) = same_plain short.1 tt
+leaves_plain out (j ∷ js) o failure (inr wanted) = same_plain wanted.1 (λ m. refl)
 
 -- why a side fails while it is fed: want of memory, or what its core says
-why_plain : {S O I : Type 0} (w : Ways S O I) (now : ℕ) (mid : Scene S O I) (last : Option Incoming) (failure : Failure) → ((s : S) (a : _) → w.core.fails s a failure → IsPlain (error_of failure)) → IsWhy w now mid last failure → IsPlain (error_of failure)
-why_plain w now mid None failure core why = subst (λ (x : Failure). IsPlain (error_of x)) (sym why) (λ m. refl)
-why_plain w now mid (Some f) failure core (inl why) = subst (λ (x : Failure). IsPlain (error_of x)) (sym why) (λ m. refl)
-why_plain w now mid (Some f) failure core (inr why) = core mid.state _ why.3
+why_plain : {S O I : Type 0} (w : Ways S O I) (now : ℕ) (mid : Scene S O I) (last : Option Incoming) (failure : Failure) (inbound : I) → ((s : S) (a : _) → w.core.fails s a failure → IsPlain (error_of failure)) → IsWhy w now mid last failure inbound → IsPlain (error_of failure)
+why_plain w now mid None failure inbound core why = subst (λ (x : Failure). IsPlain (error_of x)) (sym why.0) (λ m. refl)
+why_plain w now mid (Some f) failure inbound core (inl why) = subst (λ (x : Failure). IsPlain (error_of x)) (sym why.0) (λ m. refl)
+why_plain w now mid (Some f) failure inbound core (inr (opening, opens, inl why)) = subst (λ (x : Failure). IsPlain (error_of x)) (sym why) (λ m. refl)
+why_plain w now mid (Some f) failure inbound core (inr (opening, opens, inr why)) = core mid.state _ why
 
 -- no side has failed so that it is an end
 pub record ArePlain {CO CI SO SI : Type 0} (w : Net CO CI SO SI) : Type 0 where
@@ -77,7 +80,7 @@ module _ {CO CI SO SI : Type 0} (c : Halves CO CI) (s : Halves SO SI) (seals : B
 
   passes_server : (r : Rules) (failure : Option Failure) (old : ServerCore SO SI) (now : ℕ) (new : ServerCore SO SI) → old.connection.failure ≡ failure → ServerPasses s.out r failure old now new → Fails old.connection.failure new.connection.failure
   passes_server SyncRules failure old now new e same = same_fails (ap (λ (x : ServerCore SO SI). x.connection.failure) same)
-  passes_server AsyncRules None old now new e p = lived_fails e (same_plain (ap (λ (x : ServerCore SO SI). x.connection.failure) p.same) (want_plain p.left))
+  passes_server AsyncRules None old now new e p = lived_fails e (leaves_plain s.out p.left new.connection.outbox new.connection.failure p.leaves)
   passes_server AsyncRules (Some why) old now new e same = same_fails (ap (λ (x : ServerCore SO SI). x.connection.failure) same)
 
   -- WHAT A STEP DOES TO THE FAILURES.
@@ -98,12 +101,12 @@ module _ {CO CI SO SI : Type 0} (c : Halves CO CI) (s : Halves SO SI) (seals : B
       (lived_fails p.does.does.alive ((heard_fails (is_over (taken_from w.up k)) p.does.mid v.server.connection p.does.hears).plain (same_plain p.does.does.still tt)))
   fails w (Deliver ServerSide n) (Count k) v (inr p) = by_server w v (ap (λ (x : Net _ _ _ _). x.client.connection.failure) p.only) (heard_fails (is_over w.up) w.server.connection v.server.connection p.hears)
   fails w (Deliver ServerSide n) (Refused told) v (inl p) =
-      by_server w v (ap (λ (x : Net _ _ _ _). x.client.connection.failure) p.1) (lived_fails p.0.alive (same_plain p.0.fails (why_plain (serving s.out s.in_) w.moment p.0.mid p.0.last p.0.failure (λ x a used. subst (λ (y : Failure). IsPlain (error_of y)) (sym used.failure_is) (λ m. refl)) p.0.why)))
+      by_server w v (ap (λ (x : Net _ _ _ _). x.client.connection.failure) p.1) (lived_fails p.0.alive (same_plain p.0.fails (why_plain (serving s.out s.in_) w.moment p.0.mid p.0.last p.0.failure v.server.connection.inbound (λ x a used. subst (λ (y : Failure). IsPlain (error_of y)) (sym used.failure_is) (λ m. refl)) p.0.why)))
   fails w (Deliver ClientSide n) (Count k) v p =
       by_client w v (ap (λ (x : Net _ _ _ _). x.server.connection.failure) p.only)
       (lived_fails p.does.does.alive ((heard_fails (is_over (taken_from w.down k)) p.does.mid v.client.connection p.does.hears).plain (same_plain p.does.does.still tt)))
   fails w (Deliver ClientSide n) (Refused told) v (inl p) =
-      by_client w v (ap (λ (x : Net _ _ _ _). x.server.connection.failure) p.1) (lived_fails p.0.alive (same_plain p.0.fails (why_plain (calling c.out c.in_) 0 p.0.mid p.0.last p.0.failure (λ x a never. absurd never) p.0.why)))
+      by_client w v (ap (λ (x : Net _ _ _ _). x.server.connection.failure) p.1) (lived_fails p.0.alive (same_plain p.0.fails (why_plain (calling c.out c.in_) 0 p.0.mid p.0.last p.0.failure v.client.connection.inbound (λ x a never. absurd never) p.0.why)))
   fails w (Cut ServerSide keep) Done v p =
       by_server w v (ap (λ (x : Net _ _ _ _). x.client.connection.failure) p.only)
       (fails_as (ap (λ (x : Net _ _ _ _). x.server.connection.failure) p.only) (heard_fails (is_over (cut_to w.up keep)) w.server.connection p.connection p.hears))

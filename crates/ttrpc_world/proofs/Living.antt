@@ -1,8 +1,8 @@
 -- Both sides live at each place of a clean quiet run: no step clears a failure, and the last deliveries found none. No pipe was
--- cut, and the server takes what comes.
+-- cut, and the server isn't draining.
 use Rattle.ttrpc_world.proofs.Failing.{lives_back}
 use Rattle.ttrpc_world.proofs.Serves.{acts_so, one_less, passes_so}
-use Rattle.ttrpc_world.proofs.Words.{[], Answer, ap, AreClean, Bool, Carry, ClientSide, Connection, Count, Deliver, Delivers, DeliversUp, Done, Entry, Event, false, Feeds, Halves, Hears, inl, inr, is_clean_event, is_clean_reply, is_over, IsDrained, IsFresh, IsOpen, List, Lives, Net, not, other, Pipe, refl, Reply, Rules, rules, Runs, scene, Server, ServerCore, ServerSide, serving, Side, Steps, subst, sym, take, taken_from, Tick, true, Ways, ℕ, ◌++◌, ◌∙◌, ◌∷◌, ◌≡◌}
+use Rattle.ttrpc_world.proofs.Words.{[], Answer, ap, AreClean, Bool, Carry, ClientSide, Connection, Count, Deliver, Delivers, DeliversUp, Done, Entry, Event, false, Feeds, Halves, Hears, inl, inr, is_clean_event, is_clean_reply, is_open, is_over, IsDrained, IsFresh, IsOpen, List, Lives, Net, None, not, other, Pipe, refl, Reply, Rules, rules, Runs, scene, Server, ServerCore, ServerSide, serving, Side, Steps, subst, sym, take, taken_from, Tick, true, Ways, with_server, ◌⊎◌, ℕ, ◌++◌, ◌∙◌, ◌∷◌, ◌≡◌}
 
 -- A whole pipe feeds what it delivers, and no end is heard after it.
 pub fed_whole : {S O I : Type 0} {w : Ways S O I} {s t : S} {old new : Connection O I} {p : Pipe} {now n k : ℕ} → p.cut ≡ false → Delivers w s old p now n k t new → Feeds w s old (take k p.bytes) now t new
@@ -59,19 +59,37 @@ module _ {CO CI SO SI : Type 0} (c : Halves CO CI) (s : Halves SO SI) (seals : B
   clean_front rules f done [] back clean = tt
   clean_front rules f done (e ∷ front) back clean = (clean.0, clean_front rules f (done ++ e ∷ []) front back clean.1)
 
-  -- a server that takes what comes is fed by each delivery
-  pub takes_up : {w v : Net CO CI SO SI} {n k : ℕ} → IsOpen w → Steps c s seals w (Deliver ServerSide n) (Count k) v → DeliversUp c s seals w n k v
-  takes_up o (inl p) = p
-  takes_up o (inr p) = let bad : true ≡ false = sym o.takes ∙ p.drains in cc
+  -- a delivery found the server short of room, and changed nothing
+  pub record FindsNoRoom (w : Net CO CI SO SI) (k : ℕ) (v : Net CO CI SO SI) : Type 0 where
+    pub none : k ≡ 0
+    pub alive : w.server.connection.failure ≡ None
+    pub shut : is_open (serving s.out s.in_) w.server.state w.server.connection.outbox ≡ false
+    pub same : v ≡ w
+
+  -- a server that isn't draining is fed by each delivery, or short of room
+  pub fed_or_short : {w v : Net CO CI SO SI} {n k : ℕ} → IsOpen w → Steps c s seals w (Deliver ServerSide n) (Count k) v → DeliversUp c s seals w n k v ⊎ FindsNoRoom w k v
+  fed_or_short o (inl p) = inl p
+  fed_or_short {w} {v} o (inr p) =
+      let whole : is_over w.up ≡ false = rw o.up refl in
+      let same : v.server.connection ≡ w.server.connection = subst (λ (b : Bool). Hears b w.server.connection v.server.connection) whole p.hears in
+      inr (record { none = p.none; alive = p.alive; shut = p.shut; same = p.only ∙ ap (λ (d : Connection SO SI). with_server w (record w.server { connection = d })) same })
+
+  up_lives : {w v : Net CO CI SO SI} {n k : ℕ} → IsOpen w → Steps c s seals w (Deliver ServerSide n) (Count k) v → v.server.connection.failure ≡ None
+  up_lives o p = elim (fed_or_short o p) [
+    | inl up ↦ (fed_whole o.up up.does).still
+    | inr short ↦ ap (λ (y : Net CO CI SO SI). y.server.connection.failure) short.same ∙ short.alive
+  ]
+
+  up_leaves_client : {w v : Net CO CI SO SI} {n k : ℕ} → IsOpen w → Steps c s seals w (Deliver ServerSide n) (Count k) v → v.client.connection.failure ≡ w.client.connection.failure
+  up_leaves_client o p = elim (fed_or_short o p) [
+    | inl up ↦ ap (λ (y : Net CO CI SO SI). y.client.connection.failure) up.only
+    | inr short ↦ ap (λ (y : Net CO CI SO SI). y.client.connection.failure) short.same
+  ]
 
   -- Deliveries that reply a count leave their sides alive.
   last_two : (to : Side) (a b : ℕ) (w x v : Net CO CI SO SI) → IsOpen w → IsOpen x → Steps c s seals w (Deliver to a) (Count 0) x → Steps c s seals x (Deliver (other to) b) (Count 0) v → Lives v
-  last_two ServerSide a b w x v o o2 p q =
-      let up = takes_up o p in
-      record { client = (fed_whole o2.down q.does).still; server = ap (λ (y : Net CO CI SO SI). y.server.connection.failure) q.only ∙ (fed_whole o.up up.does).still }
-  last_two ClientSide a b w x v o o2 p q =
-      let up = takes_up o2 q in
-      record { server = (fed_whole o2.up up.does).still; client = ap (λ (y : Net CO CI SO SI). y.client.connection.failure) up.only ∙ (fed_whole o.down p.does).still }
+  last_two ServerSide a b w x v o o2 p q = record { client = (fed_whole o2.down q.does).still; server = ap (λ (y : Net CO CI SO SI). y.server.connection.failure) q.only ∙ up_lives o p }
+  last_two ClientSide a b w x v o o2 p q = record { server = up_lives o2 q; client = up_leaves_client o2 q ∙ (fed_whole o.down p.does).still }
 
   -- At the end of a clean drained run both sides live.
   lives_behind : (rules : Rules) (f : ℕ → ℕ) {trace : List Entry} (d : IsDrained trace) (done front : List Entry) (w v : Net CO CI SO SI) → IsOpen w → AreClean rules f done (front ++ last_four d) → Runs c s seals w (front ++ last_four d) v → Lives v

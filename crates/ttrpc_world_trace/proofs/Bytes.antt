@@ -13,7 +13,7 @@ use Rattle.ttrpc_world_trace.proofs.Losing.{all_thrown, stays}
 
 pub none_in_flight : AreInFlight nothing [] false empty_queue [] []
 none_in_flight = record {
-  valid = fresh_is_queue [] 0 0 0 (refl, refl);
+  valid = fresh_is_queue [] 0 0 0 [] (refl, refl) (record { short = omega arith; no_zero = refl });
   same = refl;
   sound = tt;
   before = [];
@@ -124,7 +124,7 @@ carried_in_flight held pipe cut q transit queued n le f =
     let reported = λ (r : Queue). take r.reported (written_all r.frames) in
     elim (cases_lt (q.reported + n) (length (first_open q.frames 0))) [
       | inl part ↦
-          let is : p ≡ record { frames = q.frames; reported = q.reported + n; lent = 0; begun = (with_lent q n).begun; sent = q.sent } = report_of_a_part (with_lent q n) n part in (
+          let is : p ≡ record { frames = q.frames; reported = q.reported + n; lent = 0; begun = (with_lent q n).begun; sent = q.sent; gone = q.gone } = report_of_a_part (with_lent q n) n part in (
             transit,
             queued,
             refl,
@@ -132,7 +132,7 @@ carried_in_flight held pipe cut q transit queued n le f =
                 (ap (λ bs. written_all (frames_of transit) ++ bs) (part_leaves q.frames q.reported n part ∙ sym (ap reported is))),
           )
       | inr whole ↦
-          let is : p ≡ record { frames = drop 1 q.frames; reported = 0; lent = 0; begun = false; sent = first_ticket q.frames q.sent } = report_of_all (with_lent q n) n whole in
+          let is : p ≡ record { frames = drop 1 q.frames; reported = 0; lent = 0; begun = false; sent = first_ticket q.frames q.sent; gone = drop 1 q.gone } = report_of_all (with_lent q n) n (with_lent_is_queue q n f.valid le) whole in
           let t = transit ++ take 1 queued in
           let all : t ++ drop 1 queued ≡ transit ++ queued = append_assoc transit (take 1 queued) (drop 1 queued) ∙ ap (λ xs. transit ++ xs) (take-append-drop 1 queued) in (
             t,

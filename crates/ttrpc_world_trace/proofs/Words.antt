@@ -19,7 +19,7 @@ pub use Rattle.ttrpc_connection.specs.Things.{data_thing, has_flag, opening_thin
 pub use Rattle.ttrpc_server.specs.declared.job.ActiveJob.{ActiveJob}
 pub use Rattle.ttrpc_server.proofs.Words.{Failure, jobs_at, MESSAGE_LENGTH_MAX, MESSAGE_TYPE_REQUEST, MessageHeader}
 pub use Rattle.ttrpc_server.specs.Types.{MESSAGE_TYPE_RESPONSE, MESSAGE_TYPE_DATA, Opened as OpenedPayload}
-pub use Rattle.ttrpc_server.specs.Protocol.{want_for}
+pub use Rattle.ttrpc_server.specs.Protocol.{Leaves as LeavesDue}
 pub use Rattle.ttrpc_client.specs.declared.call.Call.{Call}
 pub use Rattle.ttrpc_client.specs.declared.call.Call.TheVariants.{Ended, Expired, Waiting}
 pub use Rattle.ttrpc_client.specs.Protocol.{by_code, by_status, expired_at, Gives, GivesOutcome, landing_of, LandsOn, last_id, left_of, request_bytes, TellsOutcome, breaks_with, Brings, BringsBeginning, closing_news, data_news, IsNews, malformed_text, News, news_of, Reaches, response_news}

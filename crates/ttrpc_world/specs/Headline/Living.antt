@@ -8,7 +8,7 @@ pub record Lives {CO CI SO SI : Type 0} (w : Net CO CI SO SI) : Type 0 where
   pub client : w.client.connection.failure ≡ None
   pub server : w.server.connection.failure ≡ None
 
--- both pipes are whole, and the server takes what comes
+-- both pipes are whole, and the server isn't draining
 pub record IsOpen {CO CI SO SI : Type 0} (w : Net CO CI SO SI) : Type 0 where
   pub up : w.up.cut ≡ false
   pub down : w.down.cut ≡ false
