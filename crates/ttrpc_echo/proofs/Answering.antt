@@ -1,44 +1,23 @@
 -- A run of the engine, one piece after the other, and how it ends.
-use Rattle.std.proofs.Common.{◌≡◌, ◌≢◌, inl, inr, ℕ, ◌≤◌, List, [], ◌∷◌, ◌++◌, length, take, Option, Some, None, arith, refl, sym, ap, subst, ◌∙◌, codes, append_assoc, length-append}
+use Rattle.std.proofs.Common.{◌≡◌, ◌≢◌, inl, inr, ℕ, ◌+◌, ◌≤◌, List, [], ◌∷◌, ◌++◌, length, take, Option, arith, refl, sym, ap, subst, ◌∙◌, codes, length-append}
 use Rattle.std.proofs.lemmas.List.{append-nil}
 use Rattle.std.specs.Io.KnownBytes.{Appends, Consumes, IsAtEnd, Keeps}
 use Rattle.ttrpc_proto.specs.declared.error.Error.{Error}
 use Rattle.ttrpc_proto.specs.declared.error.Error.TheVariants.{Socket, NoMemory}
-use Rattle.ttrpc_proto.specs.declared.messages.Response.{Response}
 use Rattle.ttrpc_proto.specs.declared.framing.frame.Incoming.{Incoming}
 use Rattle.ttrpc_proto.specs.Framing.Frames.{Frames, Held, Holds, Fed, nothing, held_of}
 use Rattle.ttrpc_proto.specs.Framing.Queue.{unsent}
 use Rattle.ttrpc_proto.proofs.Frames.{exact, nothing_held}
 use Rattle.ttrpc_secure.specs.declared.plain.Plain.{Plain}
 use Rattle.ttrpc_connection.specs.Failure.{IsTold}
-use Rattle.ttrpc_connection.specs.Frames.{header_of_frame}
 use Rattle.ttrpc_connection.proofs.Feeding.{fed_twice, nothing_taken}
-use Rattle.ttrpc_connection.proofs.Holding.{fed_some}
 use Rattle.ttrpc_server.specs.declared.server.ServerCore.{ServerCore}
-use Rattle.ttrpc_server.specs.Table.{status_response, Row, Ignore, SendResponse, SendCode, MakeJob, MakeStream, PutIn, sync_row}
-use Rattle.ttrpc_echo.specs.Echo.{AreAnswers, Says, echo_of, echo_services, plainly, said_bytes}
+use Rattle.ttrpc_echo.specs.Echo.{AreAnswers}
 use Rattle.ttrpc_echo.specs.Answered.{AnsweredAll, Fails, IsCause, StopsEarly}
-use Rattle.ttrpc_echo.specs.Serving.{IsFresh, IsReady, IsStop, Serves, WritesOut}
-use Rattle.ttrpc_echo.proofs.Echoing.{answers_twice}
+use Rattle.ttrpc_echo.specs.Serving.{IsFresh, IsReady, PassesOn, PassesPart}
+use Rattle.ttrpc_echo.proofs.Echoing.{answers_twice, whole_front}
 use Rattle.ttrpc_echo.proofs.Known.{appends_twice, consumed_nothing, consumes_kept, consumes_nothing, consumes_twice, keeps_appends_nothing, keeps_same}
-
--- ---- each list of frames has answers
-
-says_some : (row : Row) → (said : Option Response) × Says row said
-says_some Ignore = (None, refl)
-says_some (SendResponse r) = (Some r, refl)
-says_some (SendCode code) = (Some (status_response code []), (status_response code [], ([], refl), refl))
-says_some (MakeJob request) = (Some (echo_of request), refl)
-says_some (MakeStream request) = (None, refl)
-says_some (PutIn payload) = (None, refl)
-
-answers_some : (fs : List Incoming) → (bytes : List ℕ) × AreAnswers fs bytes
-answers_some [] = ([], refl)
-answers_some (f ∷ fs) =
-    let one = says_some (sync_row echo_services (header_of_frame f) (plainly f)) in
-    let first = said_bytes ((header_of_frame f).stream_id) one.0 in
-    let more = answers_some fs in
-    (first ++ more.0, (first, more.0, record { said = one.0; says = one.1; bytes_are = refl }, refl, more.1))
+use Rattle.ttrpc_echo.proofs.Passing.{cause_past, take_past}
 
 -- ---- the run so far
 
@@ -69,31 +48,25 @@ so_far_none before held core fresh = record {
   jobs = omega (arith, fresh.last_job);
 }
 
--- what is to be written for a piece that was served
-to_write : (xs ys zs : List ℕ) → xs ≡ [] → ys ≡ xs ++ zs → ys ≡ zs
-to_write xs ys zs none is = is ∙ ap (λ l. l ++ zs) none
-
-pub so_far_more : (before now next held holds wrote : Option (List ℕ)) (core mid new : ServerCore Plain Plain) (piece : List ℕ) → SoFar before now held holds core → Consumes now next piece
-    → Serves core piece mid → WritesOut mid holds new wrote → IsReady new → unsent new.connection.outbox.queue ≡ [] → SoFar before next held wrote new
-so_far_more before now next held holds wrote core mid new piece s read serves out ready none =
-    let answers : serves.answers ≡ out.bytes = sym (to_write _ _ _ s.queue serves.more) ∙ out.sent ∙ ap (λ xs. out.bytes ++ xs) none ∙ append-nil out.bytes in
-    record {
-      bytes = s.bytes ++ piece;
-      frames = s.frames ++ serves.frames;
-      answers = s.answers ++ serves.answers;
-      read = consumes_twice before now next s.bytes piece s.read read;
-      fed = rw out.held (fed_twice nothing core.connection.decoder mid.connection.decoder s.bytes piece s.frames serves.frames s.fed serves.fed);
-      are_answers = answers_twice s.frames serves.frames s.answers serves.answers s.are_answers serves.are_answers;
-      wrote = rw answers (appends_twice held holds wrote s.answers out.bytes s.wrote out.wrote);
-      ready = ready;
-      queue = none;
-      jobs = omega (arith, s.jobs, serves.jobs, out.last_job, length-append s.frames serves.frames);
-    }
+pub so_far_more : (before now next held holds wrote : Option (List ℕ)) (core new : ServerCore Plain Plain) (piece : List ℕ) → SoFar before now held holds core → Consumes now next piece
+    → PassesOn core holds piece new wrote → IsReady new → unsent new.connection.outbox.queue ≡ [] → SoFar before next held wrote new
+so_far_more before now next held holds wrote core new piece s read passes ready none = record {
+  bytes = s.bytes ++ piece;
+  frames = s.frames ++ passes.frames;
+  answers = s.answers ++ passes.answers;
+  read = consumes_twice before now next s.bytes piece s.read read;
+  fed = fed_twice nothing core.connection.decoder new.connection.decoder s.bytes piece s.frames passes.frames s.fed passes.fed;
+  are_answers = answers_twice s.frames passes.frames s.answers passes.answers s.are_answers passes.are_answers;
+  wrote = appends_twice held holds wrote s.answers passes.answers s.wrote passes.wrote;
+  ready = ready;
+  queue = none;
+  jobs = omega (arith, s.jobs, passes.jobs, length-append s.frames passes.frames);
+}
 
 -- ---- the end
 
 -- the rest that is held
-rest_of : {before now held holds : Option (List ℕ)} {core : ServerCore Plain Plain} (s : SoFar before now held holds core) → (rest : List ℕ) × Frames s.bytes s.frames rest × Holds core.connection.decoder rest
+pub rest_of : {before now held holds : Option (List ℕ)} {core : ServerCore Plain Plain} (s : SoFar before now held holds core) → (rest : List ℕ) × Frames s.bytes s.frames rest × Holds core.connection.decoder rest
 rest_of s = s.fed [] nothing_held
 
 answered : (before now next held holds : Option (List ℕ)) (core : ServerCore Plain Plain) (s : SoFar before now held holds core) → Consumes now next [] → IsAtEnd next
@@ -116,11 +89,6 @@ ends_between before now next held holds core s read end none =
     subst (λ r. AnsweredAll before next held holds r) rest (answered before now next held holds core s read end)
 
 -- ---- what stops a run
-
--- what was written of the answers to the frames, of which some weren't served
-written_part : (xs ys : List ℕ) → take (length xs) (xs ++ ys) ≡ xs
-written_part [] ys = refl
-written_part (x ∷ xs) ys = ap (λ l. x ∷ l) (written_part xs ys)
 
 -- the run stops before it begins
 pub stops_first : (before held : Option (List ℕ)) (e : Error) → e ≡ NoMemory → StopsEarly before before held held e
@@ -152,64 +120,29 @@ stops_between before now next held holds core e s read cause = record {
     read = consumes_kept before now next s.bytes s.read read;
     are_frames = (rest_of s).1;
     are_answers = s.are_answers;
-    wrote = subst (λ xs. Appends held holds xs) (sym (ap (λ l. take (length s.answers) l) (sym (append-nil s.answers)) ∙ written_part s.answers [])) s.wrote;
+    wrote = subst (λ xs. Appends held holds xs) (sym (ap (λ l. take (length s.answers) l) (sym (append-nil s.answers)) ∙ whole_front s.answers [])) s.wrote;
   };
   cause = cause s.frames;
 }
 
--- the run stops at a piece with these frames, none of which was answered
-stops_with : (before now next held holds : Option (List ℕ)) (core : ServerCore Plain Plain) (piece : List ℕ) (e : Error) (s : SoFar before now held holds core) → Consumes now next piece
-    → (frames : List Incoming) (new : Held) → Fed core.connection.decoder piece frames new → IsCause e (s.frames ++ frames) → StopsEarly before next held holds e
-stops_with before now next held holds core piece e s read frames new fed cause =
-    let all = fed_twice nothing core.connection.decoder new s.bytes piece s.frames frames s.fed fed [] nothing_held in
-    let more = answers_some frames in
+-- the run stops in a piece
+pub stops_inside : (before now next held holds wrote : Option (List ℕ)) (core : ServerCore Plain Plain) (piece : List ℕ) (e : Error) (s : SoFar before now held holds core) → Consumes now next piece
+    → PassesPart core holds piece e wrote → StopsEarly before next held wrote e
+stops_inside before now next held holds wrote core piece e s read p =
+    let all = fed_twice nothing core.connection.decoder p.after s.bytes piece s.frames p.frames s.fed p.fed [] nothing_held in
     record {
       part = record {
         bytes = s.bytes ++ piece;
-        frames = s.frames ++ frames;
+        frames = s.frames ++ p.frames;
         rest = all.0;
-        answers = s.answers ++ more.0;
-        count = length s.answers;
+        answers = s.answers ++ p.answers;
+        count = length s.answers + p.count;
         read = consumes_twice before now next s.bytes piece s.read read;
         are_frames = all.1;
-        are_answers = answers_twice s.frames frames s.answers more.0 s.are_answers more.1;
-        wrote = subst (λ xs. Appends held holds xs) (sym (written_part s.answers more.0)) s.wrote;
+        are_answers = answers_twice s.frames p.frames s.answers p.answers s.are_answers p.are_answers;
+        wrote = subst (λ xs. Appends held wrote xs) (sym (take_past s.answers p.answers p.count)) (appends_twice held holds wrote s.answers (take p.count p.answers) s.wrote p.wrote);
       };
-      cause = cause;
-    }
-
-pub stops_serving : (before now next held holds : Option (List ℕ)) (core : ServerCore Plain Plain) (piece : List ℕ) (e : Error) → SoFar before now held holds core → Consumes now next piece
-    → IsStop core piece e → StopsEarly before next held holds e
-stops_serving before now next held holds core piece e s read (inl memory) =
-    let at = rest_of s in
-    let f = fed_some core.connection.decoder at.0 piece at.2 in
-    stops_with before now next held holds core piece e s read f.0 f.1 f.2 (inl memory)
-stops_serving before now next held holds core piece e s read (inr used) =
-    let at = rest_of s in
-    let f = used.1 at.0 at.2 in
-    stops_with before now next held holds core piece e s read f.0 f.1 f.2 (inr (inr (used.0, omega (arith, f.3, s.jobs, length-append s.frames f.0))))
-
--- the run stops while the answers to a piece are written
-pub stops_writing : (before now next held holds wrote : Option (List ℕ)) (core mid new : ServerCore Plain Plain) (piece : List ℕ) (e : Error) → SoFar before now held holds core → Consumes now next piece
-    → Serves core piece mid → WritesOut mid holds new wrote → ((frames : List Incoming) → IsCause e frames) → StopsEarly before next held wrote e
-stops_writing before now next held holds wrote core mid new piece e s read serves out cause =
-    let all = fed_twice nothing core.connection.decoder mid.connection.decoder s.bytes piece s.frames serves.frames s.fed serves.fed [] nothing_held in
-    let gone = s.answers ++ out.bytes in
-    let left = unsent new.connection.outbox.queue in
-    let answers : s.answers ++ serves.answers ≡ gone ++ left = ap (λ xs. s.answers ++ xs) (sym (to_write _ _ _ s.queue serves.more) ∙ out.sent) ∙ sym (append_assoc s.answers out.bytes left) in
-    record {
-      part = record {
-        bytes = s.bytes ++ piece;
-        frames = s.frames ++ serves.frames;
-        rest = all.0;
-        answers = s.answers ++ serves.answers;
-        count = length gone;
-        read = consumes_twice before now next s.bytes piece s.read read;
-        are_frames = all.1;
-        are_answers = answers_twice s.frames serves.frames s.answers serves.answers s.are_answers serves.are_answers;
-        wrote = rw answers (subst (λ xs. Appends held wrote xs) (sym (written_part gone left)) (appends_twice held holds wrote s.answers out.bytes s.wrote out.wrote));
-      };
-      cause = cause (s.frames ++ serves.frames);
+      cause = cause_past 0 core.state.jobs.last e s.frames p.frames (omega (arith, s.jobs)) p.cause;
     }
 
 -- the input ends inside a frame

@@ -1,7 +1,7 @@
 -- One frame, fed to the echo and answered.
-use Rattle.std.proofs.Common.{◌≡◌, inl, inr, ℕ, ◌+◌, ◌≤◌, List, [], ◌∷◌, ◌++◌, length, drop, refl, sym, ap, subst, ◌∙◌, Option, Some, None, true, false, arith, length-append, append_assoc, take}
+use Rattle.std.proofs.Common.{◌≡◌, ◌≢◌, inl, inr, ℕ, ◌+◌, ◌-◌, ◌<◌, ◌≤◌, List, [], ◌∷◌, ◌++◌, length, drop, refl, sym, ap, subst, ◌∙◌, Option, Some, None, true, false, arith, length-append, append_assoc, take}
 use Rattle.std.proofs.lemmas.Option.{same_Some}
-use Rattle.std.proofs.lemmas.List.{append-nil, drop-append-le, take-append-drop}
+use Rattle.std.proofs.lemmas.List.{append-nil, drop-append-le, length-drop, take-append-drop}
 use Rattle.std.proofs.lemmas.Grind.{flat_map-append}
 use Rattle.ttrpc_proto.specs.declared.framing.header.MessageHeader.{MessageHeader}
 use Rattle.ttrpc_proto.specs.declared.framing.header.TheConstants.{MESSAGE_LENGTH_MAX}
@@ -103,7 +103,7 @@ refers_adds old new k r sent valid (inr out) sends = absurd (elim out.1 [
 
 -- ---- the echo of a job
 
-no_more : (front back : List ActiveJob) (x : ActiveJob) → [] ≡ front ++ x ∷ back → ⊥
+pub no_more : (front back : List ActiveJob) (x : ActiveJob) → [] ≡ front ++ x ∷ back → ⊥
 no_more [] back x e = absurd cc
 no_more (a ∷ front) back x e = absurd cc
 
@@ -116,7 +116,7 @@ first_of_one j (a ∷ front) back x e = absurd (no_more front back x cc)
 
 -- ---- one frame
 
-no_job : (mid new : ServerCore Plain Plain) → mid.state.jobs.list ≡ [] → Echoes mid new → new ≡ mid
+pub no_job : (mid new : ServerCore Plain Plain) → mid.state.jobs.list ≡ [] → Echoes mid new → new ≡ mid
 no_job mid new none (inl same) = same.0
 no_job mid new none (inr e) = absurd (no_more e.hands.hands.front e.hands.hands.back e.hands.hands.job (sym none ∙ e.hands.hands.was))
 
@@ -222,15 +222,23 @@ same_row s h o has = same_case_row s h (case_of Sync h o None Absent) has
 seen_of_sync : (s : Server) (a : Arrived) → s.rules ≡ Sync → seen_by s a ≡ s
 seen_of_sync s a sync = ap (λ r. with_newest s (newest_after r a.header.stream_id (case_in s a) s.jobs.newest)) sync
 
-done_frame : (now : ℕ) (f : Incoming) (old mid new : ServerCore Plain Plain) → IsReady old → mid.connection.failure ≡ None
-    → Acts (serving plain_out plain_in) now (scene old.state old.connection) f (scene mid.state mid.connection) → Echoes mid new → Done f old mid new
-done_frame now f old mid new ready alive acts echoes =
+-- the row of a frame that acts, and what it does to a core that is ready
+pub row_acts : (now : ℕ) (f : Incoming) (old mid : ServerCore Plain Plain) → IsReady old
+    → (acts : Acts (serving plain_out plain_in) now (scene old.state old.connection) f (scene mid.state mid.connection))
+    → (row : Row) × (row ≡ sync_row echo_services (header_of_frame f) (plainly f)) × Does plain_out row old.state old.connection.outbox.half (header_of_frame f) now acts.sent mid.state
+row_acts now f old mid ready acts =
     let opening : acts.opening ≡ plainly f = opened_plainly old.connection.inbound mid.connection.inbound f acts.opening acts.opens in
     let row : row_of old.state (arrived f acts.opening now) ≡ sync_row echo_services (header_of_frame f) (plainly f) =
     row_of_sync old.state (arrived f acts.opening now) ready.rules ∙ ap (λ o. sync_row old.state.services (header_of_frame f) o) opening ∙ same_row old.state.services (header_of_frame f) (plainly f) ready.services in
     let does = subst (λ (s : Server). Does plain_out (row_of old.state (arrived f acts.opening now)) s old.connection.outbox.half (header_of_frame f) now acts.sent mid.state)
     (seen_of_sync old.state (arrived f acts.opening now) ready.rules) acts.reacts in
-    done_row now (row_of old.state (arrived f acts.opening now)) f old mid new acts.sent ready row does acts.sends alive echoes
+    (row_of old.state (arrived f acts.opening now), row, does)
+
+done_frame : (now : ℕ) (f : Incoming) (old mid new : ServerCore Plain Plain) → IsReady old → mid.connection.failure ≡ None
+    → Acts (serving plain_out plain_in) now (scene old.state old.connection) f (scene mid.state mid.connection) → Echoes mid new → Done f old mid new
+done_frame now f old mid new ready alive acts echoes =
+    let r = row_acts now f old mid ready acts in
+    done_row now r.0 f old mid new acts.sent ready r.1 r.2 acts.sends alive echoes
 
 -- a front was fed, under the same rules
 pub fed_rules : (now : ℕ) (o : Option Incoming) (old mid : ServerCore Plain Plain) → ActsAll (serving plain_out plain_in) now (scene old.state old.connection) (given o) (scene mid.state mid.connection) → mid.state.rules ≡ old.state.rules
@@ -297,6 +305,11 @@ serves_twice a b c x y one two = record {
   jobs = omega (arith, one.jobs, two.jobs, length-append one.frames two.frames);
 }
 
+-- the bytes in front
+pub whole_front : (xs ys : List ℕ) → take (length xs) (xs ++ ys) ≡ xs
+whole_front [] ys = refl
+whole_front (x ∷ xs) ys = ap (λ l. x ∷ l) (whole_front xs ys)
+
 -- so far a front of the piece was served, and the rest is to be fed
 pub record ServedSoFar (old : ServerCore Plain Plain) (piece rest : List ℕ) (now : ServerCore Plain Plain) : Type 0 where
   pub front : List ℕ
@@ -315,3 +328,19 @@ served_more old now new piece rest n p s = record {
 
 pub served_all : (old now : ServerCore Plain Plain) (piece rest : List ℕ) → ServedSoFar old piece rest now → rest ≡ [] → Serves old piece now
 served_all old now piece rest p none = subst (λ (xs : List ℕ). Serves old xs now) (sym (append-nil p.front) ∙ ap (λ xs. p.front ++ xs) (sym none) ∙ sym p.piece_is) p.serves
+
+pub served_whole : (old now : ServerCore Plain Plain) (piece rest : List ℕ) → ServedSoFar old piece rest now → rest ≡ [] → Serves old (take (length piece) piece) now
+served_whole old now piece rest p none =
+    subst (λ (xs : List ℕ). Serves old xs now) (sym (ap (λ xs. take (length piece) xs) (sym (append-nil piece)) ∙ whole_front piece [])) (served_all old now piece rest p none)
+
+-- no more of the rest was served
+pub served_short : (old now new : ServerCore Plain Plain) (piece rest : List ℕ) (n : ℕ) → ServedSoFar old piece rest now → n ≡ 0 → Serves now (take n rest) new → Serves old (take (length piece - length rest) piece) new
+served_short old now new piece rest n p none s =
+    let count : length piece - length rest ≡ length p.front = omega (arith, ap length p.piece_is, length-append p.front rest) in
+    let front : take (length piece - length rest) piece ≡ p.front = ap (λ k. take k piece) count ∙ ap (λ xs. take (length p.front) xs) p.piece_is ∙ whole_front p.front rest in
+    let nothing_more : p.front ++ take n rest ≡ p.front = ap (λ k. p.front ++ take k rest) none ∙ append-nil p.front in
+    subst (λ (xs : List ℕ). Serves old xs new) (nothing_more ∙ sym front) (serves_twice old now new p.front (take n rest) p.serves s)
+
+-- fewer bytes are left after some were served
+pub served_fewer : (old now : ServerCore Plain Plain) (piece rest : List ℕ) (n : ℕ) → ServedSoFar old piece rest now → n ≢ 0 → n ≤ length rest → length (drop n rest) < length piece
+served_fewer old now piece rest n p some within = omega (arith, some, within, ap length p.piece_is, length-append p.front rest, length-drop n rest)

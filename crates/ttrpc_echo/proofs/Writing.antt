@@ -20,11 +20,11 @@ with_queue s q = record s { connection = record s.connection { outbox = record s
 abbrev pub lent_and_reported : ServerCore Plain Plain → ℕ → ℕ → ServerCore Plain Plain
 lent_and_reported s n k = with_queue s (after_report (with_lent s.connection.outbox.queue n) k)
 
-finishes_or_keeps : (fs : List Queued) (n : ℕ) (begun : Bool) (sent : ℕ) → report_finishes fs n ++ (report_first fs n begun sent).frames ≡ fs
-finishes_or_keeps [] n begun sent = refl
-finishes_or_keeps (f ∷ fs) n begun sent = by (nat_lt n (length (written f.message))) refl
+finishes_or_keeps : (fs : List Queued) (n : ℕ) (begun : Bool) (sent : ℕ) (gone : List ℕ) → report_finishes fs n ++ (report_first fs n begun sent gone).frames ≡ fs
+finishes_or_keeps [] n begun sent gone = refl
+finishes_or_keeps (f ∷ fs) n begun sent gone = by (nat_lt n (length (written f.message))) refl
   where
-    by : (b : Bool) → nat_lt n (length (written f.message)) ≡ b → report_finishes (f ∷ fs) n ++ (report_first (f ∷ fs) n begun sent).frames ≡ f ∷ fs
+    by : (b : Bool) → nat_lt n (length (written f.message)) ≡ b → report_finishes (f ∷ fs) n ++ (report_first (f ∷ fs) n begun sent gone).frames ≡ f ∷ fs
     by true e = rw e refl
     by false e = rw e refl
 
@@ -33,7 +33,7 @@ pub lent_leaves : (q : Queue) (n k : ℕ) → IsQueue q → n ≤ length (open_p
 lent_leaves q n k valid within less =
     let rest = unsent (after_report (with_lent q n) k) in
     let written = bytes_are_written (queue.Lent n ∷ queue.Reported k ∷ []) q valid (within, (less, tt)) in
-    ap (λ fs. drop q.reported (written_all fs)) (sym (finishes_or_keeps q.frames (q.reported + k) (with_lent q n).begun q.sent))
+    ap (λ fs. drop q.reported (written_all fs)) (sym (finishes_or_keeps q.frames (q.reported + k) (with_lent q n).begun q.sent q.gone))
     ∙ sym written
     ∙ ap (λ xs. xs ++ rest) (append-nil (take k (open_part q)))
 

@@ -1,6 +1,6 @@
 -- What a run of the engine of `answer` did, over a reader and a writer whose bytes may be known.
 -- Source: this project's.
-use Rattle.std.specs.Prelude.{◌≡◌, ◌≢◌, ◌⊎◌, ℕ, ◌≤◌, ◌^◌, List, [], length, take, codes, Option, ⊤}
+use Rattle.std.specs.Prelude.{◌≡◌, ◌≢◌, ◌⊎◌, ℕ, ◌+◌, ◌≤◌, ◌^◌, List, [], length, take, codes, Option, ⊤}
 use Rattle.std.specs.Io.KnownBytes.{Appends, Consumes, IsAtEnd}
 use Rattle.ttrpc_proto.specs.declared.error.Error.{Error}
 use Rattle.ttrpc_proto.specs.declared.error.Error.TheVariants.{Socket, Others, Nix, NoMemory}
@@ -37,12 +37,16 @@ abbrev pub IsOfSystem : Error → Type 0
 IsOfSystem (Nix kind) = ⊤
 IsOfSystem e = ⊥
 
--- memory was refused, the reader or the writer failed, or there were more frames than job ids
-abbrev pub IsCause : Error → List Incoming → Type 0
-IsCause e frames =
+-- memory was refused, the reader or the writer failed, or there were more frames than job ids are left after so many
+abbrev pub IsCausePast : ℕ → Error → List Incoming → Type 0
+IsCausePast last e frames =
     (e ≡ NoMemory)
     ⊎ IsOfSystem e
-    ⊎ ((e ≡ Others (codes "job ids are used up")) × (2 ^ 64 ≤ length frames))
+    ⊎ ((e ≡ Others (codes "job ids are used up")) × (2 ^ 64 ≤ last + length frames))
+
+-- the same of a run whose every frame is among these
+abbrev pub IsCause : Error → List Incoming → Type 0
+IsCause e frames = IsCausePast 0 e frames
 
 -- a run that stopped before all was answered
 pub record StopsEarly (before after held holds : Option (List ℕ)) (e : Error) : Type 0 where

@@ -1,12 +1,13 @@
 -- How the echo goes on, one front of the input at a time.
 -- Source: this project's.
-use Rattle.std.specs.Prelude.{false, ◌≡◌, ◌⊎◌, ℕ, ◌+◌, ◌≤◌, ◌^◌, List, [], ◌++◌, length, codes, Option, None}
+use Rattle.std.specs.Prelude.{false, ◌≡◌, ◌⊎◌, ℕ, ◌+◌, ◌≤◌, ◌^◌, List, [], ◌++◌, length, take, codes, Option, None}
 use Rattle.std.specs.Io.KnownBytes.{Appends}
 use Rattle.ttrpc_proto.specs.declared.error.Error.{Error}
 use Rattle.ttrpc_proto.specs.declared.error.Error.TheVariants.{Others, NoMemory}
 use Rattle.ttrpc_proto.specs.declared.framing.frame.Incoming.{Incoming}
 use Rattle.ttrpc_proto.specs.Framing.Frames.{Held, Holds, Fed, nothing}
-use Rattle.ttrpc_proto.specs.Framing.Queue.{IsQueue, unsent}
+use Rattle.ttrpc_proto.specs.Framing.Queue.{IsQueue, free, unsent}
+use Rattle.ttrpc_proto.specs.declared.framing.header.TheConstants.{MESSAGE_HEADER_LENGTH, MESSAGE_LENGTH_MAX}
 use Rattle.ttrpc_secure.specs.declared.plain.Plain.{Plain}
 use Rattle.ttrpc_secure.specs.Halves.{RefusesNothing}
 use Rattle.ttrpc_secure.specs.Plain.{Keeps}
@@ -17,6 +18,7 @@ use Rattle.ttrpc_server.specs.declared.rules.Rules.TheVariants.{Sync}
 use Rattle.ttrpc_server.specs.declared.server.ServerCore.{ServerCore}
 use Rattle.ttrpc_server.specs.Protocol.{Answers, Hands}
 use Rattle.ttrpc_server.specs.State.{NoneWaits}
+use Rattle.ttrpc_echo.specs.Answered.{IsCausePast}
 use Rattle.ttrpc_echo.specs.Echo.{AreAnswers, HasEcho, echo_of}
 
 -- the outbound half that leaves data as it is
@@ -35,6 +37,10 @@ pub record IsReady (s : ServerCore Plain Plain) : Type 0 where
   pub jobs : s.state.jobs.list ≡ []
   pub alive : s.connection.failure ≡ None
   pub queue : IsQueue s.connection.outbox.queue
+
+-- no job waits, or there is room for the longest answer
+abbrev pub MayAnswer : ServerCore Plain Plain → Type 0
+MayAnswer s = (s.state.jobs.list ≡ []) ⊎ (MESSAGE_HEADER_LENGTH + MESSAGE_LENGTH_MAX ≤ free s.connection.outbox.queue)
 
 -- a new one: it holds and made nothing, and nothing is to be written
 pub record IsFresh (s : ServerCore Plain Plain) : Type 0 where
@@ -78,3 +84,23 @@ pub record WritesOut (old : ServerCore Plain Plain) (holding : Option (List ℕ)
   pub wrote : Appends holding holds bytes
   pub held : new.connection.decoder ≡ old.connection.decoder
   pub last_job : new.state.jobs.last ≡ old.state.jobs.last
+
+-- A piece was served, and all that answers it was written.
+pub record PassesOn (old : ServerCore Plain Plain) (held : Option (List ℕ)) (piece : List ℕ) (new : ServerCore Plain Plain) (holds : Option (List ℕ)) : Type 0 where
+  pub frames : List Incoming
+  pub answers : List ℕ
+  pub fed : Fed old.connection.decoder piece frames new.connection.decoder
+  pub are_answers : AreAnswers frames answers
+  pub wrote : Appends held holds answers
+  pub jobs : new.state.jobs.last ≤ old.state.jobs.last + length frames
+
+-- A piece wasn't passed on to its end, for this reason: a beginning of the answers to its frames was written.
+pub record PassesPart (old : ServerCore Plain Plain) (held : Option (List ℕ)) (piece : List ℕ) (e : Error) (holds : Option (List ℕ)) : Type 0 where
+  pub frames : List Incoming
+  pub after : Held
+  pub answers : List ℕ
+  pub count : ℕ
+  pub fed : Fed old.connection.decoder piece frames after
+  pub are_answers : AreAnswers frames answers
+  pub wrote : Appends held holds (take count answers)
+  pub cause : IsCausePast old.state.jobs.last e frames

@@ -1,12 +1,12 @@
 //! The engine of `answer`: frames from a reader, and the answers of a server whose one method echoes, to a writer.
 ghost use Rattle.std.specs.Prelude.{◌≡◌, ◌≢◌, ◌<◌, ◌≤◌, ℕ, List, Option, [], None, length, take, drop, IfOk, IfErr, OnOk, OnErr, MatchResult};
 ghost use Rattle.ttrpc_proto.specs.declared.error.Error.TheVariants.{NoMemory};
-ghost use Rattle.ttrpc_proto.specs.Framing.Frames.{nothing};
+ghost use Rattle.ttrpc_proto.specs.Framing.Frames.{Holds, nothing};
 ghost use Rattle.ttrpc_connection.specs.Failure.{IsTold, error_of};
 ghost use Rattle.ttrpc_connection.specs.declared.failure.Failure.TheVariants.{DisconnectedInside};
 ghost use Rattle.ttrpc_echo.specs.Echo.{echo_of};
 ghost use Rattle.ttrpc_echo.specs.Answered.{AnsweredAll, Fails, IsOfSystem};
-ghost use Rattle.ttrpc_echo.specs.Serving.{IsFresh, IsReady, IsStop, Echoes, Serves, WritesOut};
+ghost use Rattle.ttrpc_echo.specs.Serving.{IsFresh, IsReady, IsStop, Echoes, MayAnswer, PassesOn, PassesPart, Serves, WritesOut};
 ghost use Rattle.ttrpc_proto.specs.Framing.Queue.{unsent};
 ghost use Rattle.std.specs.Io.KnownBytes.{Appends, Keeps, ReadConsumes};
 ghost use Rattle.std.specs.Io.{ReadsAtMost};
@@ -53,16 +53,41 @@ fn answer_all<R: Read, W: Write>(
     ensures err { IfErr result (Fails
         (R.remaining reader.old) (R.remaining reader.new) (W.contents writer.old) (W.contents writer.new)) }
 {
-    let mut buffer = [0u8; PIECE];
+    let (mut buffer, mut loan) = ([0u8; PIECE], [0u8; PIECE]);
     for _ in 0..u64::MAX {
         let n = read_piece(reader, &mut buffer)?;
         if n == 0 {
             return finish(alloc, core);
         }
-        serve(alloc, core, &buffer[..n])?;
-        write_out(core, writer, &mut buffer)?;
+        pass_on(alloc, core, &buffer[..n], writer, &mut loan)?;
     }
     Err(Error::Nix(ErrorKind::Other))
+}
+
+/// Serves a piece and writes all that answers it. Where the queue is short of room for the rest, the rest is served after what
+/// waits was written.
+fn pass_on<W: Write>(
+    alloc: Global,
+    core: &mut EchoCore,
+    piece: &[u8],
+    writer: &mut W,
+    loan: &mut [u8; PIECE],
+) -> Result<(), Error>
+    // Nothing waits to be written, before and after.
+    requires ready { IsReady core.old }
+    requires empty { unsent core.old.connection.outbox.queue ≡ [] }
+    ensures ok { OnOk result (PassesOn core.old (W.contents writer.old) piece.now core.new (W.contents writer.new)) }
+    ensures ready { OnOk result (IsReady core.new × (unsent core.new.connection.outbox.queue ≡ [])) }
+    ensures err { (before : List ℕ) → Holds core.old.connection.decoder before
+        → IfErr result (λ e. PassesPart core.old (W.contents writer.old) piece.now e (W.contents writer.new)) }
+{
+    let mut rest = piece;
+    while !rest.is_empty() {
+        let n = serve(alloc, core, rest)?;
+        write_out(core, writer, loan)?;
+        rest = behind(rest, n);
+    }
+    Ok(())
 }
 
 /// The input has ended.
@@ -108,6 +133,7 @@ pub fn echo(alloc: Global, request: Request) -> Response
 fn echo_next(alloc: Global, core: &mut EchoCore) -> Result<(), Error>
     requires alive { core.old.connection.failure ≡ None }
     requires rules { core.old.state.rules ≡ Rules.Sync }
+    requires room { MayAnswer core.old }
     ensures ok { OnOk result (Echoes core.old core.new) }
     ensures err { IfErr result (λ e. e ≡ NoMemory) }
 {
@@ -120,10 +146,12 @@ fn echo_next(alloc: Global, core: &mut EchoCore) -> Result<(), Error>
     }
 }
 
-/// Feeds a front of the piece, up to the end of the first frame that is whole with it, and echoes the request.
+/// Feeds a front of the piece, up to the end of the first frame that is whole with it, and echoes the request. The front is
+/// empty if the queue is short of room for an answer.
 fn serve_front(alloc: Global, core: &mut EchoCore, piece: &[u8]) -> Result<usize, Error>
     requires { IsReady core.old }
-    ensures count { IfOk result (λ n. (n ≤ length piece.now) × (0 < length piece.now → 0 < n)) }
+    ensures count { IfOk result (λ n. n ≤ length piece.now) }
+    ensures some { unsent core.old.connection.outbox.queue ≡ [] → IfOk result (λ n. 0 < length piece.now → 0 < n) }
     ensures serves { IfOk result (λ n. Serves core.old (take n piece.now) core.new × IsReady core.new) }
     ensures err { IfErr result (IsStop core.old piece.now) }
 {
@@ -132,18 +160,24 @@ fn serve_front(alloc: Global, core: &mut EchoCore, piece: &[u8]) -> Result<usize
     Ok(n)
 }
 
-/// Serves a whole piece, frame by frame, so that answers are queued in the order of frames.
-fn serve(alloc: Global, core: &mut EchoCore, piece: &[u8]) -> Result<(), Error>
+/// Serves a front of a piece, frame by frame, so that answers are queued in the order of frames. Returns how many bytes that are:
+/// all, unless the queue is short of room for an answer.
+fn serve(alloc: Global, core: &mut EchoCore, piece: &[u8]) -> Result<usize, Error>
     requires { IsReady core.old }
-    ensures ok { OnOk result (Serves core.old piece.now core.new × IsReady core.new) }
+    ensures count { IfOk result (λ n. n ≤ length piece.now) }
+    ensures some { unsent core.old.connection.outbox.queue ≡ [] → IfOk result (λ n. 0 < length piece.now → 0 < n) }
+    ensures serves { IfOk result (λ n. Serves core.old (take n piece.now) core.new × IsReady core.new) }
     ensures err { IfErr result (IsStop core.old piece.now) }
 {
     let mut rest = piece;
     while !rest.is_empty() {
         let n = serve_front(alloc, core, rest)?;
+        if n == 0 {
+            return Ok(piece.len() - rest.len());
+        }
         rest = behind(rest, n);
     }
-    Ok(())
+    Ok(piece.len())
 }
 
 /// Writes all that is unsent, by way of the buffer, and reports what the writer took.

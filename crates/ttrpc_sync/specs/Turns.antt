@@ -26,3 +26,11 @@ wakes_behind t bytes_wait = if bytes_wait then t.sleeps else false
 -- and the turn then: nobody's, and of the thread that is woken known that it was
 abbrev pub given_back : Turn → (bytes_wait : Bool) → Turn
 given_back t bytes_wait = record { is_taken = false; sleeps = if bytes_wait then false else t.sleeps }
+
+-- Whether the writer thread is woken if something is there for it: it sleeps, and nobody has the turn.
+abbrev pub wakes_writer : Turn → (is_wanted : Bool) → Bool
+wakes_writer t is_wanted = if is_wanted then (if t.is_taken then false else t.sleeps) else false
+
+-- and the turn then: of the thread that is woken known that it was
+abbrev pub turn_waking : Turn → (is_wanted : Bool) → Turn
+turn_waking t is_wanted = if is_wanted then record t { sleeps = if t.is_taken then t.sleeps else false } else t

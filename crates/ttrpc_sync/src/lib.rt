@@ -16,6 +16,7 @@ mod work;
 
 pub use ends::{
     BATCH_BYTES, BATCH_LOANS, Batch, Connected, Held, Loan, Next, ReadEnd, Taken, Turn, WriteEnd,
+    wait_for_room,
 };
 pub use gather::{GATHER_LIMIT, Gather, PART_LIMIT, ROOM_AT_REST, SHORT_LIMIT};
 pub use link::{AfterQueuing, Host, Link, Outlet, Runtime, after_queuing};

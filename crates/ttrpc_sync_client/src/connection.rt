@@ -11,14 +11,15 @@ ghost use Rattle.ttrpc_transport.specs.Sockets.{IsFault};
 use crate::ports::{ClientHeld, ClientRead, ClientShared, LONE_FRAME, Manner};
 use std::alloc::Global;
 use std::marker::Model;
-use std::sync::{Arc, MutexGuard};
+use std::sync::{Arc, Condvar, MutexGuard};
 use std::time::Duration;
 use ttrpc_client::CallId;
+use ttrpc_client::errors::deadline_error;
 use ttrpc_connection::deadlines::deadline_of;
 use ttrpc_proto::{Error, Request, Response, Result};
 use ttrpc_secure::{ConnectionData, InboundTransform, OutboundTransform};
 use ttrpc_sync::{
-    AfterQueuing, Connected, Host, Link, after_queuing, lock_soon, moment, wait_soon,
+    AfterQueuing, Connected, Held, Host, Link, after_queuing, lock_soon, moment, wait_soon,
 };
 
 /// A client's connection, which contracts see as what is known of it. It is closed as the last client of it is dropped.
@@ -89,20 +90,60 @@ impl<O: OutboundTransform + Drop, I: InboundTransform + Drop> ClientConn<O, I> {
         self.wait(rt, waiting)
     }
 
-    /// Queues the request of a call, has it written, and has a thread read.
+    /// Queues the request of a call as soon as there is room, has it written, and has a thread read. A call whose deadline comes
+    /// before there is room has expired.
     fn ask<R: Host>(&self, rt: &R, request: &Request, now: u64) -> Result<Waiting>
         ensures { IfOk result (λ waiting. waiting.deadline ≡ deadline_of now request.now.timeout_nano) }
     {
         let shared = self.link.shared();
+        let deadline = deadline_of(now, request.timeout_nano);
         let mut guard = lock_soon(rt, shared.held());
-        let asked = queue_request(&mut guard, rt.alloc(), request, now)?;
-        drop(guard);
+        for _ in rt.forever() {
+            match queue_request(&mut guard, rt.alloc(), request, now) {
+                Ok(asked) => {
+                    drop(guard);
+                    return Ok(self.asked(rt, asked));
+                }
+                Err(Error::NoRoom) => {
+                    if deadline.is_some_and(|at| at <= u128::from(moment(rt).unwrap_or(0))) {
+                        return Err(deadline_error(rt.alloc()));
+                    }
+                    guard = self.wait_for_room(rt, guard, deadline);
+                }
+                Err(error) => return Err(error),
+            }
+        }
+        unreachable!()
+    }
+
+    /// Has the request of a call written, and has a thread read.
+    fn asked<R: Host>(&self, rt: &R, asked: Asked) -> Waiting
+        ensures { result ≡ asked.waiting }
+    {
         // First the reader: a peer that writes before it reads would hold who writes a long frame.
         if asked.wakes {
-            shared.wake_reader();
+            self.link.shared().wake_reader();
         }
         self.link.go_on(rt, asked.queued);
-        Ok(asked.waiting)
+        asked.waiting
+    }
+
+    /// Waits until bytes were reported as written, or this deadline has come. Meanwhile the reader thread reads: a server that is short
+    /// of room itself goes on only as its answers are read.
+    fn wait_for_room<'a, R: Host>(
+        &self,
+        rt: &R,
+        mut guard: MutexGuard<'a, ClientHeld<O, I>>,
+        deadline: Option<u128>,
+    ) -> MutexGuard<'a, ClientHeld<O, I>> {
+        let shared = self.link.shared();
+        if guard.reading.wakes() {
+            shared.wake_reader();
+        }
+        if guard.wakes_writer() {
+            shared.to_write().notify_one();
+        }
+        sleep_until(rt, shared.to_room(), guard, deadline)
     }
 
     /// Reads until this call has ended, if nobody else reads.
@@ -141,13 +182,25 @@ impl<O: OutboundTransform + Drop, I: InboundTransform + Drop> ClientConn<O, I> {
         waiting: Waiting,
     ) -> MutexGuard<'a, ClientHeld<O, I>> {
         let caller = self.link.shared().caller(waiting.id);
-        match waiting.deadline {
-            None => wait_soon(rt, caller, guard),
-            Some(deadline) => {
-                let now = u128::from(moment(rt).unwrap_or(u64::MAX));
-                let left = u64::try_from(deadline.saturating_sub(now)).unwrap_or(u64::MAX);
-                caller.wait_timeout(rt, guard, Duration::from_nanos(left)).0
-            }
+        sleep_until(rt, caller, guard, waiting.deadline)
+    }
+}
+
+/// Lets the lock go, sleeps until it is woken or this deadline has come, and locks again.
+fn sleep_until<'a, R: Host, T: Drop>(
+    rt: &R,
+    condvar: &Condvar,
+    guard: MutexGuard<'a, T>,
+    deadline: Option<u128>,
+) -> MutexGuard<'a, T> {
+    match deadline {
+        None => wait_soon(rt, condvar, guard),
+        Some(deadline) => {
+            let now = u128::from(moment(rt).unwrap_or(u64::MAX));
+            let left = u64::try_from(deadline.saturating_sub(now)).unwrap_or(u64::MAX);
+            condvar
+                .wait_timeout(rt, guard, Duration::from_nanos(left))
+                .0
         }
     }
 }

@@ -1,10 +1,11 @@
 //! What the two ends have in common under their locks.
-ghost use Rattle.std.specs.Prelude.{◌≡◌, ◌≤◌, length, IfSome};
+ghost use Rattle.std.specs.Prelude.{◌≤◌, length, IfSome};
 
 use crate::ends::turn::Next;
+use crate::wait_soon;
 use std::alloc::Global;
 use std::io::ErrorKind;
-use std::sync::{Condvar, Mutex};
+use std::sync::{Condvar, Mutex, MutexGuard, Wait};
 
 /// What came of a piece.
 #[derive(Clone, Copy, Debug)]
@@ -31,9 +32,10 @@ pub trait Held: Drop {
     /// The threads to wake for a piece.
     type Woken: Drop;
 
-    /// Takes a piece, whole. `None`: the connection has failed.
+    /// Takes a front of a piece, which is none of its bytes while the connection lacks room for its own answers. `None`: the
+    /// connection has failed, or takes no more.
     fn take(&mut self, alloc: Global, piece: &[u8]) -> Option<Taken<Self::Woken>>
-        ensures { IfSome result (λ taken. taken.count ≡ length piece.now) };
+        ensures { IfSome result (λ taken. taken.count ≤ length piece.now) };
 
     /// The reader is at its end.
     fn ended(&mut self);
@@ -53,6 +55,9 @@ pub trait Held: Drop {
 
     /// A thread that wrote for itself gives the turn back. True: the writer thread is to be woken.
     fn give_back(&mut self) -> bool;
+
+    /// Returns whether the writer thread is to be woken, before a thread waits for bytes to be reported.
+    fn wakes_writer(&mut self) -> bool;
 }
 
 /// What the threads of a connection share.
@@ -65,9 +70,24 @@ pub trait Connected: Drop {
     /// Where the writer thread waits.
     fn to_write(&self) -> &Condvar;
 
+    /// Where threads wait for room, that is until bytes are reported.
+    fn to_room(&self) -> &Condvar;
+
     /// Wakes these, for a piece.
     fn wake(&self, woken: <Self::Held as Held>::Woken);
 
     /// Wakes every thread, since the connection has failed.
     fn wake_all(&self);
+}
+
+/// Lets the lock go until bytes were reported as written or the connection has failed, and locks again. It may wake by itself, too.
+pub fn wait_for_room<'a, X: Wait, S: Connected>(
+    rt: &X,
+    shared: &'a S,
+    mut guard: MutexGuard<'a, S::Held>,
+) -> MutexGuard<'a, S::Held> {
+    if guard.wakes_writer() {
+        shared.to_write().notify_one();
+    }
+    wait_soon(rt, shared.to_room(), guard)
 }

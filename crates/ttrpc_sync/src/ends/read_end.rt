@@ -1,8 +1,8 @@
 //! The port to which a connection's reader hands what it read.
-ghost use Rattle.std.specs.Prelude.{◌≡◌, length, true, IfNone, IfSome, MatchBool};
+ghost use Rattle.std.specs.Prelude.{◌≡◌, ◌≤◌, ◌<◌, length, true, IfNone, IfSome, MatchBool};
 ghost use Rattle.ttrpc_sync.specs.declared.ports.PortState.{PortState};
 
-use crate::ends::connected::{Connected, Held, Taken};
+use crate::ends::connected::{Connected, Held, wait_for_room};
 use crate::{PortState, ReadPort, lock_soon};
 use std::alloc::Global;
 use std::io;
@@ -61,30 +61,27 @@ impl<X: Wait, S: Connected> ReadPort for ReadEnd<'_, X, S> {
 
     fn take(&mut self, piece: &[u8]) -> Option<usize>
         requires { self.old.state ≡ PortState.Open }
-        // The connection takes it whole, or has failed.
-        ensures whole { IfSome result (λ n. (n ≡ length piece.now) × (self.new.state ≡ PortState.Open)) }
+        // The connection takes at least a byte of it, after it has waited for room where there is none, or has failed.
+        ensures some { IfSome result (λ n. (0 < n) × (n ≤ length piece.now) × (self.new.state ≡ PortState.Open)) }
         ensures failed { IfNone result (self.new.state ≡ PortState.Stopped) }
     {
         let mut guard = lock_soon(self.rt, self.shared.held());
-        let taken = guard.take(self.alloc, piece);
-        drop(guard);
-        match taken {
-            Some(taken) => {
-                let Taken {
-                    count,
-                    reads_on,
-                    woken,
-                } = taken;
-                self.has_turn = reads_on;
-                self.shared.wake(woken);
-                Some(count)
-            }
-            None => {
+        for _ in self.rt.forever() {
+            let Some(taken) = guard.take(self.alloc, piece) else {
+                drop(guard);
                 self.shared.wake_all();
                 self.state = PortState::Stopped;
-                None
+                return None;
+            };
+            if taken.count > 0 {
+                drop(guard);
+                self.has_turn = taken.reads_on;
+                self.shared.wake(taken.woken);
+                return Some(taken.count);
             }
+            guard = wait_for_room(self.rt, self.shared, guard);
         }
+        unreachable!()
     }
 
     fn ended(&mut self) {

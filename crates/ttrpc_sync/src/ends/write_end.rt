@@ -69,6 +69,16 @@ impl<X: Wait, S: Connected> WriteEnd<'_, X, S> {
         self.batch.is_due(if self.stays { BATCH_LOANS } else { 1 })
     }
 
+    // Wakes the threads that wait for room, after bytes were reported.
+    fn reported(&mut self)
+        ensures { self.new ≡ record self.old { written = 0 } }
+    {
+        if self.written > 0 {
+            self.shared.to_room().notify_all();
+        }
+        self.written = 0;
+    }
+
     // Gives the turn back.
     fn give_back(&mut self)
         ensures { self.new ≡ record self.old { written = 0 } }
@@ -77,7 +87,7 @@ impl<X: Wait, S: Connected> WriteEnd<'_, X, S> {
         guard.wrote(self.written);
         let wakes = guard.give_back();
         drop(guard);
-        self.written = 0;
+        self.reported();
         if wakes {
             self.shared.to_write().notify_one();
         }
@@ -93,7 +103,7 @@ impl<X: Wait, S: Connected> WriteEnd<'_, X, S> {
         if has_turn {
             guard.wrote(self.written);
         }
-        self.written = 0;
+        self.reported();
         for _ in self.rt.forever() {
             match guard.next(has_turn) {
                 Next::Writes => return true,
@@ -126,7 +136,7 @@ impl<X: Wait, S: Connected> WritePort for WriteEnd<'_, X, S> {
         guard.wrote(self.written);
         let loan = guard.lend(buffer);
         drop(guard);
-        self.written = 0;
+        self.reported();
         self.loan = loan;
         loan.count
     }

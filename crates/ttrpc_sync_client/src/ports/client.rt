@@ -7,7 +7,7 @@ ghost use Rattle.ttrpc_client.specs.Inside.{calling};
 ghost use Rattle.ttrpc_client.specs.State.{IsClient};
 ghost use Rattle.ttrpc_client.specs.Protocol.{Forgets, Requests, TakesOutcome, Ticks, RefusesRequest};
 ghost use Rattle.ttrpc_proto.specs.declared.error.Error.{Error as AnError};
-ghost use Rattle.ttrpc_sync.specs.Turns.{given_back, next_of, turn_after, wakes_behind};
+ghost use Rattle.ttrpc_sync.specs.Turns.{given_back, next_of, turn_after, turn_waking, wakes_behind, wakes_writer};
 ghost use Rattle.ttrpc_sync_client.specs.Held.{IsFed, TakesPiece, TellsEnded, has_bytes, is_alive, place_of};
 ghost use Rattle.ttrpc_sync_client.specs.ReadTurns.{new_turn};
 
@@ -131,7 +131,8 @@ impl<O: OutboundTransform + Drop, I: InboundTransform + Drop> ClientHeld<O, I> {
 impl<O: OutboundTransform + Drop, I: InboundTransform + Drop> ClientHeld<O, I> {
     /// Feeds a piece to the core, as `take` of a reader's port does. Returns how many bytes the core took.
     pub fn take_on(core: &mut ClientCore<O, I>, alloc: Global, piece: &[u8]) -> Result<usize>
-        ensures { Takes (calling O.OutboundTransform I.InboundTransform) core.old.state core.old.connection piece.now 0 result core.new.state core.new.connection }
+        ensures whole { IfOk result (λ n. n ≡ length piece.now) }
+        ensures fed { Takes (calling O.OutboundTransform I.InboundTransform) core.old.state core.old.connection piece.now 0 result core.new.state core.new.connection }
     {
         core.feed(alloc, piece)
     }
@@ -244,6 +245,14 @@ impl<O: OutboundTransform + Drop, I: InboundTransform + Drop> Held for ClientHel
         let bytes_wait = self.core.lendable() > 0;
         self.turn.give_back(bytes_wait)
     }
+
+    fn wakes_writer(&mut self) -> bool
+        ensures result { result ≡ wakes_writer self.old.turn (has_bytes self.old.core) }
+        ensures turn { self.new.turn ≡ turn_waking self.old.turn (has_bytes self.old.core) }
+        ensures rest { (self.new.core ≡ self.old.core) × (self.new.reading ≡ self.old.reading) }
+    {
+        self.core.lendable() > 0 && self.turn.wakes()
+    }
 }
 
 /// Takes a piece, and says at which places calls have ended. None: the connection has failed.
@@ -295,6 +304,7 @@ pub struct ClientShared<O, I> {
     held: Mutex<ClientHeld<O, I>>,
     to_write: Condvar,
     to_read: Condvar,
+    to_room: Condvar,
     callers: [Condvar; PLACES],
 }
 
@@ -305,6 +315,7 @@ impl<O: OutboundTransform + Drop, I: InboundTransform + Drop> ClientShared<O, I>
             held: Mutex::new(ClientHeld::new(core)),
             to_write: Condvar::new(),
             to_read: Condvar::new(),
+            to_room: Condvar::new(),
             callers: [
                 Condvar::new(),
                 Condvar::new(),
@@ -377,6 +388,10 @@ impl<O: OutboundTransform + Drop, I: InboundTransform + Drop> Connected for Clie
         &self.to_write
     }
 
+    fn to_room(&self) -> &Condvar {
+        &self.to_room
+    }
+
     fn wake(&self, woken: Woken) {
         let mut rest = woken.callers;
         for caller in self.callers.iter() {
@@ -396,6 +411,7 @@ impl<O: OutboundTransform + Drop, I: InboundTransform + Drop> Connected for Clie
     fn wake_all(&self) {
         self.to_write.notify_all();
         self.to_read.notify_all();
+        self.to_room.notify_all();
         for caller in self.callers.iter() {
             caller.notify_all();
         }

@@ -20,9 +20,9 @@ is_full backlog waiting =
 abbrev pub bytes_behind : ℕ → (length waiting : ℕ) → ℕ
 bytes_behind bytes length waiting = if nat_eq waiting 0 then 0 else bytes - (length + MESSAGE_HEADER_LENGTH)
 
--- what waits once a piece of this length has come
+-- what waits once so many bytes of a piece have come, if any have
 abbrev pub with_piece : Backlog → (length : ℕ) → Backlog
-with_piece backlog length = record backlog {
+with_piece backlog length = if nat_eq length 0 then backlog else record backlog {
   bytes = min (backlog.bytes + length) (2 ^ 64 - 1);
   pieces = min (backlog.pieces + 1) (2 ^ 64 - 1);
 }

@@ -10,6 +10,7 @@ use Rattle.ttrpc_server.specs.Protocol.{serving}
 use Rattle.ttrpc_server.specs.State.{waits}
 use Rattle.ttrpc_server.specs.Types.{Ends, TakesOrDrains}
 use Rattle.ttrpc_server.specs.declared.server.ServerCore.{ServerCore}
+use Rattle.ttrpc_sync.specs.Turns.{wakes_writer}
 use Rattle.ttrpc_sync.specs.declared.ends.turn.Turn.{Turn}
 use Rattle.ttrpc_sync.specs.declared.link.queuing.AfterQueuing.{AfterQueuing}
 use Rattle.ttrpc_sync.specs.declared.link.queuing.AfterQueuing.TheVariants.{Write}
@@ -25,16 +26,17 @@ waiting_of core = length (filter waits core.state.jobs.list)
 
 -- ---- bytes in
 
--- whether all of a piece of this length was taken
-abbrev pub is_whole : Result ℕ Error → ℕ → Bool
-is_whole (Ok n) length = nat_eq n length
-is_whole (Err e) length = false
+-- how many bytes of a piece were taken, unless its reader is to end: the input has ended, or the connection failed
+abbrev pub taken_of : (has_ended : Bool) → Result ℕ Error → Option ℕ
+taken_of true answer = None
+taken_of false (Ok n) = Some n
+taken_of false (Err e) = None
 
--- A piece was fed to the core, and taken whole where that is said.
-pub record IsFed {O I : Type 0} (seals : OutboundTransform O) (opens : InboundTransform I) (old : ServerCore O I) (piece : List ℕ) (is_taken : Bool) (new : ServerCore O I) : Type 0 where
+-- A piece was fed to the core, and so many of its bytes were taken.
+pub record IsFed {O I : Type 0} (seals : OutboundTransform O) (opens : InboundTransform I) (old : ServerCore O I) (piece : List ℕ) (has_ended : Bool) (taken : Option ℕ) (new : ServerCore O I) : Type 0 where
   pub answer : Result ℕ Error
   pub fed : TakesOrDrains (serving seals opens) old.state old.connection piece 0 answer new.state new.connection
-  pub taken : is_whole answer (length piece) ≡ is_taken
+  pub count : taken ≡ taken_of has_ended answer
 
 -- The input has come into a frame and not to its end, and more of it is read.
 pub record IsInsideFrame {O I : Type 0} (core : ServerCore O I) (has_ended : Bool) (backlog : Backlog) : Type 0 where
@@ -80,21 +82,15 @@ reported_to core n = record core { connection = record core.connection { outbox 
 
 -- ---- who is woken
 
--- whether the writer thread is woken where something is there for it: it sleeps, and nobody has the turn
-abbrev pub wakes_writer : Turn → (is_wanted : Bool) → Bool
-wakes_writer turn is_wanted = if is_wanted then (if turn.is_taken then false else turn.sleeps) else false
+-- whether the reader of a piece that was taken whole or not handles its jobs itself: it was, some wait, and the other reader waits
+-- for the turn
+abbrev pub keeps_jobs : {O I : Type 0} → (is_whole : Bool) → ServerCore O I → Relay → Bool
+keeps_jobs is_whole core relay = if is_whole then (if nat_lt 0 (waiting_of core) then relay.other_waits else false) else false
 
--- the turn then: of the thread that is woken known that it was
-abbrev pub turn_waking : Turn → (is_wanted : Bool) → Turn
-turn_waking turn is_wanted = if is_wanted then record turn { sleeps = if turn.is_taken then turn.sleeps else false } else turn
-
--- whether the reader of a piece handles its jobs itself: some wait, and the other reader waits for the turn
-abbrev pub keeps_jobs : {O I : Type 0} → ServerCore O I → Relay → Bool
-keeps_jobs core relay = if nat_lt 0 (waiting_of core) then relay.other_waits else false
-
--- whether the reader of a piece reads on: it handles no jobs, and not too much waits
-abbrev pub reads_on : {O I : Type 0} → ServerCore O I → Relay → Backlog → Bool
-reads_on core relay backlog = if keeps_jobs core relay then false else (if is_full backlog (waiting_of core) then false else true)
+-- whether such a reader reads on: it has a rest to hand over, or it handles no jobs, and not too much waits
+abbrev pub reads_on : {O I : Type 0} → (is_whole : Bool) → ServerCore O I → Relay → Backlog → Bool
+reads_on is_whole core relay backlog =
+    if is_whole then (if keeps_jobs true core relay then false else (if is_full backlog (waiting_of core) then false else true)) else true
 
 -- the turn to read then: who handles jobs has begun a round
 abbrev pub relay_behind : (keeps : Bool) → Relay → Relay

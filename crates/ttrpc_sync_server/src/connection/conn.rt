@@ -10,9 +10,9 @@ use crate::connection::ports::{ServerHeld, ServerShared};
 use std::alloc::Global;
 use std::sync::Arc;
 use std::sync::atomic::{AtomicBool, Ordering};
-use ttrpc_proto::{Response, Result};
+use ttrpc_proto::{Error, Response, Result};
 use ttrpc_secure::{ConnectionData, InboundTransform, OutboundTransform};
-use ttrpc_sync::{AfterQueuing, Connected, Host, Link, after_queuing, lock_soon};
+use ttrpc_sync::{AfterQueuing, Connected, Host, Link, after_queuing, lock_soon, wait_for_room};
 
 /// A server's connection: its core under a lock, what is known of it, and the threads that serve it.
 pub struct Conn<R: Host, O: OutboundTransform + Drop, I: InboundTransform + Drop> {
@@ -118,13 +118,22 @@ impl<R: Host, O: OutboundTransform + Drop, I: InboundTransform + Drop> Conn<R, O
         }
     }
 
-    /// Queues a response under a stream's id, and sees to it that it is written.
+    /// Queues a response under a stream's id, as soon as there is room, and sees to it that it is written.
     pub(crate) fn respond(&self, stream_id: u32, response: &Response) -> Result<()> {
-        let mut guard = lock_soon(&self.rt, self.link.shared().held());
-        let next = responded(&mut guard, self.rt.alloc(), stream_id, response)?;
-        drop(guard);
-        self.link.go_on(&self.rt, next);
-        Ok(())
+        let shared = self.link.shared();
+        let mut guard = lock_soon(&self.rt, shared.held());
+        for _ in self.rt.forever() {
+            match responded(&mut guard, self.rt.alloc(), stream_id, response) {
+                Ok(next) => {
+                    drop(guard);
+                    self.link.go_on(&self.rt, next);
+                    return Ok(());
+                }
+                Err(Error::NoRoom) => guard = wait_for_room(&self.rt, shared, guard),
+                Err(error) => return Err(error),
+            }
+        }
+        unreachable!()
     }
 }
 

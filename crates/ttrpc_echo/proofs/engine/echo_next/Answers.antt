@@ -12,5 +12,5 @@ returns-in-Some-clause-ok c =
 pub returns-in-Some-clause-err : goal.returns-in-Some-clause-err
 returns-in-Some-clause-err c =
     IfErr-weaker c.answer.result _ _
-    (λ e refused. refused_is_memory c.args.core.now c.take_job.new.self c.in-Some.job (Ok c.echo.result) e c.requires.rules c.in-Some.ensures.handed refused)
+    (λ e refused. refused_is_memory c.args.core.now c.take_job.new.self c.in-Some.job (Ok c.echo.result) e c.requires.rules c.requires.room c.in-Some.ensures.handed refused)
     c.answer.ensures.refused

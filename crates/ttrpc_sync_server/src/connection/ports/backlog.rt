@@ -34,10 +34,13 @@ impl Backlog {
         }
     }
 
-    /// Counts a piece of this length that has come.
+    /// Counts so many bytes of a piece that have come, if any have.
     pub fn came(&mut self, length: usize)
         ensures { self.new ≡ with_piece self.old length }
     {
+        if length == 0 {
+            return;
+        }
         self.bytes = self.bytes.saturating_add(length as u64);
         self.pieces = self.pieces.saturating_add(1);
     }

@@ -1,14 +1,15 @@
 //! What the threads of a server's connection share.
-ghost use Rattle.std.specs.Prelude.{◌≡◌, ◌↔◌, ◌+◌, ◌-◌, ◌^◌, ◌<◌, ◌≤◌, ◌||◌, min, length, if◌then◌else◌, is_some, false, nat_eq, true, IfNone, IfSome, IsFalse, IsTrue, MatchOption};
+ghost use Rattle.std.specs.Prelude.{◌≡◌, ◌↔◌, ◌+◌, ◌-◌, ◌^◌, ◌<◌, ◌≤◌, ◌||◌, min, length, if◌then◌else◌, is_some, false, nat_eq, true, IfNone, IfSome, IsFalse, IsTrue, MatchOption, IfOk};
+ghost use Rattle.std.specs.Option.{option_map};
 ghost use Rattle.ttrpc_connection.specs.OneEnd.{Ends, Lends, TakesOrDrains, failing, lending, reporting};
 ghost use Rattle.ttrpc_connection.specs.declared.failure.Failure.{Failure as AFailure};
 ghost use Rattle.ttrpc_proto.specs.declared.error.Error.{Error as AnError};
 ghost use Rattle.ttrpc_server.specs.Protocol.{drained, serving};
-ghost use Rattle.ttrpc_sync_server.specs.Connection.Held.{IsFed, IsInsideFrame, IsQuiet, LendsFrame, MayTellEnd, asleep, calls_for_next, calls_worker, has_bytes, is_alive, is_answered, keeps_jobs, on_their_way, reads_on, relay_behind, reported_to, turn_waking, waiting_of, wakes_writer, woken_for};
+ghost use Rattle.ttrpc_sync_server.specs.Connection.Held.{IsFed, IsInsideFrame, IsQuiet, LendsFrame, MayTellEnd, asleep, calls_for_next, calls_worker, has_bytes, is_alive, is_answered, keeps_jobs, on_their_way, reads_on, relay_behind, reported_to, waiting_of, woken_for};
 ghost use Rattle.ttrpc_sync_server.specs.Connection.Backlogs.{calls_reader, is_full, with_begun, with_piece, with_reader};
 ghost use Rattle.ttrpc_sync_server.specs.Connection.Relays.{new_relay};
 ghost use Rattle.ttrpc_sync.specs.Pool.{with_waiting};
-ghost use Rattle.ttrpc_sync.specs.Turns.{given_back, next_of, turn_after, wakes_behind};
+ghost use Rattle.ttrpc_sync.specs.Turns.{given_back, next_of, turn_after, turn_waking, wakes_behind, wakes_writer};
 
 use crate::connection::ports::backlog::Backlog;
 use crate::connection::ports::relay::{AtTurn, Relay};
@@ -290,11 +291,18 @@ impl<O: OutboundTransform + Drop, I: InboundTransform + Drop> ServerHeld<O, I> {
         }
     }
 
-    /// Whether the reader of a piece handles its jobs itself.
-    fn keeps_jobs(&self) -> bool
-        ensures { result ≡ keeps_jobs self.now.core self.now.relay }
+    /// Returns whether the reader of a piece that was taken whole or not handles its jobs itself.
+    fn keeps_jobs(&self, is_whole: bool) -> bool
+        ensures { result ≡ keeps_jobs is_whole self.now.core self.now.relay }
     {
-        self.core.jobs_waiting() > 0 && self.relay.other_waits
+        is_whole && self.core.jobs_waiting() > 0 && self.relay.other_waits
+    }
+
+    /// Returns whether such a reader reads on: it has a rest to hand over, or handles no jobs, and not too much waits.
+    fn reads_on(&self, is_whole: bool) -> bool
+        ensures { result ≡ reads_on is_whole self.now.core self.now.relay self.now.backlog }
+    {
+        !is_whole || (!self.keeps_jobs(true) && !self.is_full())
     }
 
     /// The threads to wake for a piece, whose reader handles its jobs itself or doesn't.
@@ -323,7 +331,8 @@ impl<O: OutboundTransform + Drop, I: InboundTransform + Drop> ServerHeld<O, I> {
     /// Feeds a piece to the core, as `take` of a reader's port does. Returns how many bytes the core took. Under sync rules the moment
     /// doesn't matter.
     pub fn take_on(core: &mut ServerCore<O, I>, alloc: Global, piece: &[u8]) -> Result<usize, Error>
-        ensures { TakesOrDrains (serving O.OutboundTransform I.InboundTransform) core.old.state core.old.connection piece.now 0 result core.new.state core.new.connection }
+        ensures bound { IfOk result (λ n. n ≤ length piece.now) }
+        ensures fed { TakesOrDrains (serving O.OutboundTransform I.InboundTransform) core.old.state core.old.connection piece.now 0 result core.new.state core.new.connection }
     {
         core.feed(alloc, piece, 0)
     }
@@ -364,29 +373,32 @@ impl<O: OutboundTransform + Drop, I: InboundTransform + Drop> ServerHeld<O, I> {
 impl<O: OutboundTransform + Drop, I: InboundTransform + Drop> Held for ServerHeld<O, I> {
     type Woken = Woken;
 
-    // A core that drains takes no piece.
+    // After the end of the input nothing is taken.
     fn take(&mut self, alloc: Global, piece: &[u8]) -> Option<Taken<Woken>>
-        ensures whole { IfSome result (λ taken. taken.count ≡ length piece.now) }
-        ensures fed { IsFed O.OutboundTransform I.InboundTransform self.old.core piece.now (is_some result) self.new.core }
-        ensures reads_on { IfSome result (λ taken. taken.reads_on ≡ reads_on self.new.core self.old.relay self.new.backlog) }
+        ensures bound { IfSome result (λ taken. taken.count ≤ length piece.now) }
+        ensures fed { IsFed O.OutboundTransform I.InboundTransform self.old.core piece.now self.old.has_ended (option_map (λ taken. taken.count) result) self.new.core }
+        ensures reads_on { IfSome result (λ taken. taken.reads_on ≡ reads_on (nat_eq taken.count (length piece.now)) self.new.core self.old.relay self.new.backlog) }
         ensures woken { IfSome result (λ taken. taken.woken
-            ≡ woken_for self.new.core (keeps_jobs self.new.core self.old.relay) self.old.sleeping self.old.coming self.old.turn self.old.relay) }
+            ≡ woken_for self.new.core (keeps_jobs (nat_eq taken.count (length piece.now)) self.new.core self.old.relay) self.old.sleeping self.old.coming self.old.turn self.old.relay) }
         ensures rest { MatchOption result (self.new ≡ record self.old { core = self.new.core }) (λ taken. self.new ≡ record self.old {
           core = self.new.core;
           turn = turn_waking self.old.turn (has_bytes self.new.core);
           sleeping = asleep taken.woken.worker self.old.sleeping;
           coming = on_their_way taken.woken.worker self.old.coming;
-          relay = relay_behind (keeps_jobs self.new.core self.old.relay) self.old.relay;
-          backlog = with_piece self.old.backlog (length piece.now);
+          relay = relay_behind (keeps_jobs (nat_eq taken.count (length piece.now)) self.new.core self.old.relay) self.old.relay;
+          backlog = with_piece self.old.backlog taken.count;
         }) }
     {
+        let has_ended = self.has_ended;
         match ServerHeld::take_on(&mut self.core, alloc, piece) {
-            Ok(count) if count == piece.len() => {
+            Ok(count) if !has_ended => {
                 self.backlog.came(count);
-                let keeps = self.keeps_jobs();
+                let is_whole = count == piece.len();
+                let reads_on = self.reads_on(is_whole);
+                let keeps = self.keeps_jobs(is_whole);
                 Some(Taken {
                     count,
-                    reads_on: !keeps && !self.is_full(),
+                    reads_on,
                     woken: self.woken(keeps),
                 })
             }
@@ -451,6 +463,13 @@ impl<O: OutboundTransform + Drop, I: InboundTransform + Drop> Held for ServerHel
         let bytes_wait = self.core.lendable() > 0;
         self.turn.give_back(bytes_wait || self.has_ended)
     }
+
+    fn wakes_writer(&mut self) -> bool
+        ensures result { result ≡ wakes_writer self.old.turn (has_bytes self.old.core) }
+        ensures rest { self.new ≡ record self.old { turn = turn_waking self.old.turn (has_bytes self.old.core) } }
+    {
+        self.core.lendable() > 0 && self.turn.wakes()
+    }
 }
 
 /// What the threads of a server's connection share. No thread reads or writes a socket while it has the lock.
@@ -461,6 +480,7 @@ pub struct ServerShared<O, I> {
     to_work: Condvar,
     to_read: Condvar,
     to_read_on: Condvar,
+    to_room: Condvar,
 }
 
 impl<O: OutboundTransform + Drop, I: InboundTransform + Drop> ServerShared<O, I> {
@@ -472,6 +492,7 @@ impl<O: OutboundTransform + Drop, I: InboundTransform + Drop> ServerShared<O, I>
             to_work: Condvar::new(),
             to_read: Condvar::new(),
             to_read_on: Condvar::new(),
+            to_room: Condvar::new(),
         }
     }
 
@@ -563,6 +584,10 @@ impl<O: OutboundTransform + Drop, I: InboundTransform + Drop> Connected for Serv
         &self.to_write
     }
 
+    fn to_room(&self) -> &Condvar {
+        &self.to_room
+    }
+
     fn wake(&self, woken: Woken) {
         if woken.worker {
             self.to_work.notify_one();
@@ -580,5 +605,6 @@ impl<O: OutboundTransform + Drop, I: InboundTransform + Drop> Connected for Serv
         self.to_work.notify_all();
         self.to_read.notify_all();
         self.to_read_on.notify_all();
+        self.to_room.notify_all();
     }
 }

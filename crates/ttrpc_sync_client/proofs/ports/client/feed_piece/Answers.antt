@@ -9,8 +9,8 @@ returns-clause-fed g c =
     elim c.match-taken.branch [
       | in-Ok w ↦
           let ok : is_ok c.take_on-taken.result ≡ true = search (rules, w.in-Ok.is) in
-          rw w.result-is (record { fed = c.take_on-taken.new.core; answer = c.take_on-taken.result; takes = c.take_on-taken.ensures; taken = ok; core = told.core; turn = told.turn; callers = told.callers })
+          rw w.result-is (record { fed = c.take_on-taken.new.core; answer = c.take_on-taken.result; takes = c.take_on-taken.ensures.fed; taken = ok; core = told.core; turn = told.turn; callers = told.callers })
       | in-Err w ↦
           let err : is_ok c.take_on-taken.result ≡ false = search (rules, w.in-Err.is) in
-          rw w.result-is (record { fed = c.take_on-taken.new.core; answer = c.take_on-taken.result; takes = c.take_on-taken.ensures; taken = err; core = told.core; turn = told.turn; callers = tt })
+          rw w.result-is (record { fed = c.take_on-taken.new.core; answer = c.take_on-taken.result; takes = c.take_on-taken.ensures.fed; taken = err; core = told.core; turn = told.turn; callers = tt })
     ]
