@@ -11,11 +11,12 @@ abbrev pub OutNeeds : {R S W C : Type 0} → (W → ℕ → Type 0) → (C → �
 OutNeeds writes asked c s =
     ((c.outlet.kept ≢ []) × writes c.outlet.writer s) ⊎ (s ≡ asked (arc_value c.shared))
 
--- In all it waits to read, unless it reads no more, and for its alarm, where that is set.
+-- In all it waits to read, unless it reads no more or the core has no room for the rest of a piece, and for its alarm, where that is
+-- set.
 abbrev pub LinkNeeds : {R S W C : Type 0} → (S → ℕ → Type 0) → (W → ℕ → Type 0) → (C → ℕ) → Link R S W C → ℕ → Type 0
 LinkNeeds reads writes asked c s =
     OutNeeds writes asked c s
-    ⊎ ((c.is_reading ≡ true) × reads c.inlet.reader s)
+    ⊎ ((c.is_reading ≡ true) × (c.inlet.piece ≡ []) × reads c.inlet.reader s)
     ⊎ (IsSome c.alarm.set_for × (s ≡ sleep_source c.alarm.sleep))
 
 -- A connection that is over keeps nothing that is to be written; or its writer took none of it, also in the time for that, or failed.

@@ -1,6 +1,6 @@
 -- The bytes of a polled connection, on their way from a reader to a core and from the core to a writer.
 -- Source: this project's.
-use Rattle.std.specs.Prelude.{◌≡◌, ◌≢◌, ◌≤◌, ◌<◌, ℕ, List, [], ◌++◌, take, drop, Bool, true, false, Option, None, IfSome, Result, Ok, nat_lt}
+use Rattle.std.specs.Prelude.{◌≡◌, ◌≢◌, ◌≤◌, ◌<◌, ℕ, List, [], ◌++◌, take, drop, Bool, true, false, Option, None, IfSome, Result, Ok, is_some}
 use Rattle.std.specs.Option.{option_map_or}
 use Rattle.std.specs.declared.io.Error.{Error}
 use Rattle.futures.specs.declared.task.Poll.{Poll}
@@ -44,10 +44,10 @@ pub record TellsMoment {H : Type 0} (expires : H → Option ℕ → Type 0) (tic
   pub early : IfSome at (λ moment. now < moment → new ≡ old)
   pub never : at ≡ None → new ≡ old
 
--- A piece was handed to a core at a moment, which took a front of it, or whose connection has failed. More is wanted where it took
--- some.
+-- A piece was handed to a core at a moment, which took a front of it, or none of it as long as it lacks room. More is wanted unless
+-- the core takes no more.
 pub record IsHandedOn {H : Type 0} (takes : H → List ℕ → ℕ → Option ℕ → H → Type 0) (old : H) (piece : List ℕ) (now : ℕ) (wants : Bool) (new : H) (left : List ℕ) : Type 0 where
   pub count : Option ℕ
   pub taken : takes old piece now count new
   pub rest : left ≡ drop (option_map_or (λ n. n) count 0) piece
-  pub wants_more : wants ≡ nat_lt 0 (option_map_or (λ n. n) count 0)
+  pub wants_more : wants ≡ is_some count

@@ -1,6 +1,12 @@
 -- Who waits.
 -- Source: this project's.
-use Rattle.std.specs.Prelude.{◌≡◌, List, ◌∷◌}
+use Rattle.std.specs.Prelude.{◌≡◌, ℕ, min, List, ◌∷◌, Option, Some, None}
+
+-- the sooner of two moments, of those that there are
+abbrev pub sooner : Option ℕ → Option ℕ → Option ℕ
+sooner None second = second
+sooner (Some first) None = Some first
+sooner (Some first) (Some second) = Some (min first second)
 
 -- the key is the first of these
 abbrev pub IsFirst : {K : Type 0} → List K → K → Type 0

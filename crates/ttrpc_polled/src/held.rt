@@ -12,7 +12,7 @@ pub trait Held: Drop {
     ghost use Rattle.std.specs.Prelude.{ℕ, List, Option, Bool};
     ghost use Rattle.std.specs.declared.io.ErrorKind.{ErrorKind};
 
-    // So many bytes of a piece were taken at a moment, or it was in vain, since the connection has failed.
+    // So many bytes of a piece were taken at a moment, or it was in vain, since the connection has failed or takes no more.
     ghost takes: { Self → List ℕ → ℕ → Option ℕ → Self → Type 0 };
 
     // The input ended.
@@ -42,7 +42,8 @@ pub trait Held: Drop {
     // Whether more input is wanted.
     ghost wants: { Self → Bool };
 
-    /// Takes a front of a piece at this moment, in nanoseconds, and says of how many bytes. `None`: the connection has failed.
+    /// Takes a front of a piece at this moment, in nanoseconds, and says of how many bytes: of none while there is no room for what the
+    /// core would answer. `None`: the connection has failed, or takes no more.
     fn take(&mut self, alloc: Global, piece: &[u8], now: u64) -> Option<usize>
         ensures bound { IfSome result (λ n. n ≤ length piece.now) }
         ensures takes { takes self.old piece.now now result self.new };
@@ -59,7 +60,8 @@ pub trait Held: Drop {
     fn lendable(&self) -> usize
         ensures { result ≡ lendable self.now };
 
-    /// Lends bytes of the first frame that waits, and reports them as written: they are the caller's from now on.
+    /// Lends bytes of the first frame that waits, and reports them as written: they are the caller's from now on. Wakes those who
+    /// wait for room.
     fn lend(&mut self, buffer: &mut [u8]) -> usize
         ensures bound { result ≤ length buffer.new }
         ensures lends { lends self.old buffer.old result buffer.new self.new };

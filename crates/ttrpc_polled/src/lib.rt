@@ -11,6 +11,7 @@ mod listener;
 mod outlet;
 mod piece;
 mod reader;
+mod room;
 mod share;
 mod socket;
 pub mod streams;
@@ -24,6 +25,7 @@ pub use listener::Listener;
 pub use outlet::{OUTLET_AT_REST, OUTLET_LIMIT, Outlet};
 pub use piece::Piece;
 pub use reader::SocketReader;
+pub use room::{RoomWakers, sooner};
 pub use share::{POLL_JOBS, POLL_TIME, Share};
 pub use socket::{Connecting, Socket, SocketConnect};
 pub use streams::{

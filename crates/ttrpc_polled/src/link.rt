@@ -274,7 +274,7 @@ impl<R: Clock + AllocGlobal + Drop, S: AsyncRead, W: AsyncWrite, C: Connected> L
     /// Reads a piece, and hands it to the core. While the core wants no more input, nothing is read and the task is polled again.
     /// Where a piece was handed on before in this poll, the next one is kept for the next poll, and this one is over.
     fn poll_in(&mut self, share: &mut Share, cx: &mut Context<'_>) -> Step
-        ensures waits { result ≡ Step.Waits → self.new.is_reading ≡ true → Covers cx.new (S.AsyncRead.needs self.new.inlet.reader) }
+        ensures waits { result ≡ Step.Waits → self.new.is_reading ≡ true → self.new.inlet.piece ≡ [] → Covers cx.new (S.AsyncRead.needs self.new.inlet.reader) }
         ensures goes_on { result ≢ Step.Over }
         ensures outlet { (self.new.outlet ≡ self.old.outlet) × (self.new.shared ≡ self.old.shared) × (self.new.alarm ≡ self.old.alarm) }
         ensures kept { Keeps cx.old cx.new }
@@ -294,8 +294,7 @@ impl<R: Clock + AllocGlobal + Drop, S: AsyncRead, W: AsyncWrite, C: Connected> L
             share.end();
             return Step::Moved;
         }
-        self.hand_in(given, share, cx);
-        Step::Moved
+        self.hand_in(given, share, cx)
     }
 
     /// Returns whether the core wants input again.
@@ -309,19 +308,27 @@ impl<R: Clock + AllocGlobal + Drop, S: AsyncRead, W: AsyncWrite, C: Connected> L
         !self.is_full
     }
 
-    /// Hands on what the reader gave, at the moment of this poll.
-    fn hand_in(&mut self, given: io::Result<bool>, share: &mut Share, cx: &mut Context<'_>)
+    /// Hands on what the reader gave, at the moment of this poll. If the core lacks room for what it would answer, it takes nothing of
+    /// a piece, and the connection waits until more of what is queued has left, which is when the rest is handed on again.
+    fn hand_in(&mut self, given: io::Result<bool>, share: &mut Share, cx: &mut Context<'_>) -> Step
+        ensures waits { result ≡ Step.Waits → self.new.inlet.piece ≢ [] }
+        ensures goes_on { result ≢ Step.Over }
         ensures outlet { (self.new.outlet ≡ self.old.outlet) × (self.new.shared ≡ self.old.shared) × (self.new.alarm ≡ self.old.alarm) }
         ensures kept { Keeps cx.old cx.new }
     {
         let Some(mut held) = lock(self.shared.held()) else {
             let _: Poll<()> = cx.yield_now();
-            return;
+            return Step::Moved;
         };
         let piece = &mut self.inlet.piece;
+        let before = piece.bytes().len();
         self.is_reading = hand_on(self.rt.alloc(), &mut *held, piece, given, share.now());
         self.is_full = !held.wants_input();
+        if self.is_reading && !piece.is_empty() && piece.bytes().len() == before {
+            return Step::Waits;
+        }
         share.handed_on();
+        Step::Moved
     }
 
     /// Looks at the alarm, where it is set.
@@ -378,8 +385,8 @@ fn wait_at<R: Clock, H: Held>(
     let _: Poll<()> = cx.register(asked, held.driver());
 }
 
-/// Hands on what the reader gave at this moment, of which the core is told first: a piece, its end, or its error. True: the reader is to be asked for more, since
-/// the core took some of the piece.
+/// Hands on what the reader gave at this moment, of which the core is told first: a piece, its end, or its error. True: the reader is
+/// to be asked for more, since the core takes more, now or once there is room.
 fn hand_on<H: Held>(
     alloc: Global,
     held: &mut H,
@@ -397,7 +404,7 @@ fn hand_on<H: Held>(
             match held.take(alloc, piece.bytes(), now) {
                 Some(count) => {
                     piece.took(count);
-                    count > 0
+                    true
                 }
                 None => false,
             }

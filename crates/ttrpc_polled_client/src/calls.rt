@@ -344,6 +344,9 @@ where
     type Output = Result<K>;
 
     ghost use Rattle.ttrpc_polled_client.specs.Calling.{ServiceStreamGives};
+    ghost use Rattle.ttrpc_polled_client.specs.Needs.{service_opening_needs};
+
+    ghost needs = { λ opening. service_opening_needs opening.at };
 
     ghost gives = { λ opening r. ServiceStreamGives opening.at r };
 

@@ -1,23 +1,25 @@
 //! What stands under the lock of a client's connection.
-ghost use Rattle.std.specs.Prelude.{◌≡◌, []};
-ghost use Rattle.futures.specs.Poll.{OnPending};
+ghost use Rattle.std.specs.Prelude.{◌≡◌, ◌⊎◌, [], Err};
+ghost use Rattle.futures.specs.Poll.{IfReady, OnPending};
 ghost use Rattle.futures.specs.Task.{Covers, Keeps};
 ghost use Rattle.ttrpc_proto.specs.declared.error.Error.{Error as AnError};
+ghost use Rattle.ttrpc_connection.specs.Failure.{IsTold};
 ghost use Rattle.ttrpc_connection.specs.OneEnd.{failing};
 ghost use Rattle.ttrpc_connection.specs.declared.failure.Failure.{Failure as AFailure};
-ghost use Rattle.ttrpc_client.specs.Protocol.{Forgets};
+ghost use Rattle.ttrpc_client.specs.Protocol.{Forgets, expired_error};
 ghost use Rattle.ttrpc_client.specs.Streaming.{DropsReceiver, DropsSender, ReceivesOne};
 ghost use Rattle.ttrpc_polled.specs.Streams.Polling.{Polls, answer_of};
-ghost use Rattle.ttrpc_polled.specs.Streams.Steps.{is_new as is_unsent};
-ghost use Rattle.ttrpc_polled_client.specs.Steps.{IsSending, IsStep, Opens, is_new};
+ghost use Rattle.ttrpc_polled.specs.Streams.Steps.{WaitsForRoom as StallsSending, is_new as is_unsent};
+ghost use Rattle.ttrpc_polled_client.specs.Steps.{IsOverdue, IsSending, IsStep, Opens, WaitsForRoom, is_new};
 
 use crate::asked::Asked;
 use crate::opening::Opening;
 use futures::task::{Context, Poll, Source, Waker};
 use std::alloc::Global;
 use std::io::ErrorKind;
+use ttrpc_client::errors::deadline_error;
 use ttrpc_client::{CallId, ClientCore, StreamId};
-use ttrpc_polled::{Held, Sending, StreamWakers, Wakers};
+use ttrpc_polled::{Held, RoomWakers, Sending, StreamWakers, Wakers, sooner};
 use ttrpc_proto::error::causes::socket_of;
 use ttrpc_proto::{Error, Response, Result};
 use ttrpc_secure::{InboundTransform, OutboundTransform};
@@ -30,6 +32,8 @@ pub struct ClientHeld<O, I> {
     alloc: Global,
     callers: Wakers,
     streams: StreamWakers,
+    room: RoomWakers,
+    moment: u64,
     pub driver: Option<Waker>,
 }
 
@@ -43,24 +47,30 @@ impl<O: OutboundTransform + Drop, I: InboundTransform + Drop> ClientHeld<O, I> {
             alloc,
             callers: Wakers::new(alloc),
             streams: StreamWakers::new(alloc),
+            room: RoomWakers::new(alloc),
+            moment: 0,
             driver: None,
         }
     }
 
-    /// Steps a call, which then waits at this source where it has no outcome yet.
+    /// Steps a call, which then waits at this source if there is no room for its request, or no outcome yet.
     pub fn poll_call(
         &mut self,
         asked: &mut Asked,
         came: &Source,
         cx: &mut Context<'_>,
     ) -> Poll<Result<Response>>
-        ensures polls { Polls is_new (IsStep O.OutboundTransform) self.old.core asked.old result asked.new self.new.core }
+        ensures polls { Polls is_new WaitsForRoom (IsStep O.OutboundTransform) self.old.core asked.old result asked.new self.new.core
+            ⊎ IsOverdue O.OutboundTransform self.old.core asked.old result asked.new self.new.core }
         ensures registered { OnPending result (Covers cx.new (λ s. s ≡ came.now.id)) }
         ensures kept { Keeps cx.old cx.new }
     {
         if asked.is_new() {
             if let Some(refusal) = asked.step(self.alloc, &mut self.core) {
                 return Poll::Ready(refusal);
+            }
+            if asked.is_new() {
+                return self.wait_for_room(asked, came, cx);
             }
         }
         if let Some(outcome) = asked.step(self.alloc, &mut self.core) {
@@ -72,11 +82,51 @@ impl<O: OutboundTransform + Drop, I: InboundTransform + Drop> ClientHeld<O, I> {
         }
     }
 
-    /// Opens a stream.
-    pub fn open(&mut self, opening: &Opening) -> Result<StreamId>
-        ensures { Opens O.OutboundTransform self.old.core opening.now.request opening.now.streaming_client opening.now.streaming_server result self.new.core }
+    /// A call that found no room waits for some, unless its deadline has passed.
+    fn wait_for_room(
+        &mut self,
+        asked: &mut Asked,
+        came: &Source,
+        cx: &mut Context<'_>,
+    ) -> Poll<Result<Response>>
+        ensures waits { OnPending result (WaitsForRoom asked.old asked.new) }
+        ensures expired { IfReady result (λ given. (asked.new ≡ Asked.Done) × ((e : AnError) × (given ≡ Err e) × IsTold expired_error e)) }
+        ensures same { self.new.core ≡ self.old.core }
+        ensures registered { OnPending result (Covers cx.new (λ s. s ≡ came.now.id)) }
+        ensures kept { Keeps cx.old cx.new }
     {
-        opening.step(self.alloc, &mut self.core)
+        let expiry = asked.expiry();
+        if expiry.is_some_and(|at| at <= self.moment) {
+            *asked = Asked::Done;
+            return Poll::Ready(Err(deadline_error(self.alloc)));
+        }
+        let place = self.room.place(asked.place());
+        asked.stall(place);
+        self.room.awaits(expiry);
+        self.room.wait(place, came, cx)
+    }
+
+    /// Opens a stream. If there is no room for its request, the caller waits at this place, which is then given, and at this source.
+    pub fn poll_open(
+        &mut self,
+        opening: &Opening,
+        place: &mut Option<u64>,
+        came: &Source,
+        cx: &mut Context<'_>,
+    ) -> Poll<Result<StreamId>>
+        ensures opened { IfReady result (λ opened. Opens O.OutboundTransform self.old.core opening.now.request opening.now.streaming_client opening.now.streaming_server opened self.new.core) }
+        ensures waits { OnPending result (Opens O.OutboundTransform self.old.core opening.now.request opening.now.streaming_client opening.now.streaming_server (Err AnError.NoRoom) self.new.core) }
+        ensures registered { OnPending result (Covers cx.new (λ s. s ≡ came.now.id)) }
+        ensures kept { Keeps cx.old cx.new }
+    {
+        match opening.step(self.alloc, &mut self.core) {
+            Err(Error::NoRoom) => {
+                let number = self.room.place(*place);
+                *place = Some(number);
+                self.room.wait(number, came, cx)
+            }
+            opened => Poll::Ready(opened),
+        }
     }
 
     /// Steps a call that sends on a stream.
@@ -87,13 +137,13 @@ impl<O: OutboundTransform + Drop, I: InboundTransform + Drop> ClientHeld<O, I> {
         came: &Source,
         cx: &mut Context<'_>,
     ) -> Poll<Result<()>>
-        ensures polls { Polls is_unsent (IsSending O.OutboundTransform id) self.old.core sending.old result sending.new self.new.core }
+        ensures polls { Polls is_unsent StallsSending (IsSending O.OutboundTransform id) self.old.core sending.old result sending.new self.new.core }
         ensures registered { OnPending result (Covers cx.new (λ s. s ≡ came.now.id)) }
         ensures kept { Keeps cx.old cx.new }
     {
-        let (alloc, core) = (self.alloc, &mut self.core);
+        let (alloc, core, room) = (self.alloc, &mut self.core, &mut self.room);
         self.streams
-            .poll_sending_on(alloc, core, id, sending, came, cx)
+            .poll_sending_on(alloc, core, id, room, sending, came, cx)
     }
 
     /// Receives from a stream.
@@ -157,6 +207,17 @@ impl<O: OutboundTransform + Drop, I: InboundTransform + Drop> ClientHeld<O, I> {
     {
         self.callers.wake_all();
         self.streams.wake_all();
+        self.room.wake_all();
+    }
+
+    /// A moment has come: the callers whose deadlines have passed while they wait for room are woken, and with them all who wait so.
+    fn wake_overdue(&mut self, now: u64)
+        ensures { self.new.core ≡ self.old.core }
+    {
+        self.moment = now;
+        if self.room.next_deadline().is_some_and(|at| at <= now) {
+            self.room.wake_all();
+        }
     }
 
     /// Wakes the callers of all calls that have ended.
@@ -179,8 +240,9 @@ impl<O: OutboundTransform + Drop, I: InboundTransform + Drop> ClientHeld<O, I> {
 }
 
 impl<O: OutboundTransform + Drop, I: InboundTransform + Drop> Held for ClientHeld<O, I> {
-    ghost use Rattle.std.specs.Prelude.{◌≡◌, length, is_some, true};
+    ghost use Rattle.std.specs.Prelude.{◌≡◌, ℕ, Option, length, is_some, true};
     ghost use Rattle.ttrpc_connection.specs.OneEnd.{lendable};
+    ghost use Rattle.ttrpc_polled.specs.Waiting.{sooner};
     ghost use Rattle.ttrpc_polled_client.specs.Held.{Breaks, EndsInput, ExpiresAt, LendsAndReports, TakesPiece, TicksAndTells};
 
     ghost takes = { λ old piece _ count new. TakesPiece O.OutboundTransform I.InboundTransform old.core piece count new.core };
@@ -195,7 +257,7 @@ impl<O: OutboundTransform + Drop, I: InboundTransform + Drop> Held for ClientHel
 
     ghost ticks = { λ old now new. TicksAndTells O.SEALS old.core now new.core };
 
-    ghost expires = { λ held at. ExpiresAt held.core at };
+    ghost expires = { λ held at. (soonest : Option ℕ) × ExpiresAt held.core soonest × (at ≡ sooner soonest held.room.soonest) };
 
     ghost failed = { λ held. is_some held.core.connection.failure };
 
@@ -231,17 +293,21 @@ impl<O: OutboundTransform + Drop, I: InboundTransform + Drop> Held for ClientHel
         let count = self.core.lend(buffer);
         self.core.wrote(count);
         self.streams.wake_sent(self.alloc, &self.core);
+        if count > 0 {
+            self.room.wake_all();
+        }
         count
     }
 
     fn tick(&mut self, now: u64) {
         self.core.tick(now);
+        self.wake_overdue(now);
         self.wake_ended();
         self.wake_if_failed();
     }
 
     fn next_deadline(&self) -> Option<u64> {
-        self.core.next_deadline()
+        sooner(self.core.next_deadline(), self.room.next_deadline())
     }
 
     fn has_failed(&self) -> bool {

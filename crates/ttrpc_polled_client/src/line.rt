@@ -44,20 +44,26 @@ impl<O: OutboundTransform + Drop, I: InboundTransform + Drop> ClientLine<O, I> {
         polled
     }
 
-    /// Opens a stream. Pending only where the task is polled again at once.
-    pub fn open(&self, opening: &Opening, cx: &mut Context<'_>) -> Poll<Result<StreamId>>
-        ensures registered { OnPending result (Covers cx.new (λ s. ⊥)) }
+    /// Opens a stream. Pending: there is no room for its request, and the caller, whose place is then given, is woken once bytes have
+    /// left.
+    pub fn poll_open(
+        &self,
+        opening: &Opening,
+        place: &mut Option<u64>,
+        cx: &mut Context<'_>,
+    ) -> Poll<Result<StreamId>>
+        ensures registered { OnPending result (Covers cx.new (λ s. s ≡ (arc_value self.now.shared).came.id)) }
         ensures kept { Keeps cx.old cx.new }
     {
         let Some(mut guard) = lock(&self.shared.held) else {
             return cx.yield_now();
         };
         let held = &mut *guard;
-        let opened = held.open(opening);
+        let polled = held.poll_open(opening, place, &self.shared.came, cx);
         let woken = held.driver.take();
         drop(guard);
         drop(woken);
-        Poll::Ready(opened)
+        polled
     }
 
     /// Forgets a call whose future is dropped.

@@ -52,6 +52,7 @@ pub(crate) struct Prepared<O: OutboundTransform + Drop, I: InboundTransform + Dr
 pub struct ClientNewStream<O: OutboundTransform + Drop, I: InboundTransform + Drop> {
     alloc: Global,
     prepared: Option<Prepared<O, I>>,
+    place: Option<u64>,
 }
 
 impl<O: OutboundTransform + Drop, I: InboundTransform + Drop> ClientNewStream<O, I> {
@@ -62,6 +63,7 @@ impl<O: OutboundTransform + Drop, I: InboundTransform + Drop> ClientNewStream<O,
         ClientNewStream {
             alloc,
             prepared: Some(prepared),
+            place: None,
         }
     }
 
@@ -102,6 +104,9 @@ impl<O: OutboundTransform + Drop, I: InboundTransform + Drop> Future for ClientN
     type Output = Result<StreamInner<ClientLine<O, I>>>;
 
     ghost use Rattle.ttrpc_polled_client.specs.Calling.{StreamGives};
+    ghost use Rattle.ttrpc_polled_client.specs.Needs.{opening_needs};
+
+    ghost needs = { λ f. opening_needs f.prepared };
 
     ghost gives = { λ f r. StreamGives f.prepared r };
 
@@ -109,7 +114,10 @@ impl<O: OutboundTransform + Drop, I: InboundTransform + Drop> Future for ClientN
         let Some(prepared) = self.prepared.take() else {
             return Poll::Ready(Err(Error::LocalClosed));
         };
-        match prepared.sends.open(&prepared.opening, cx) {
+        match prepared
+            .sends
+            .poll_open(&prepared.opening, &mut self.place, cx)
+        {
             Poll::Pending => {
                 self.prepared = Some(prepared);
                 Poll::Pending

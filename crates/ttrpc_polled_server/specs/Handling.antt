@@ -1,6 +1,6 @@
 -- What runs for a job.
 -- Source: this project's.
-use Rattle.std.specs.Prelude.{◌≡◌, ◌⊎◌, ℕ, Bool, true, Option, Result}
+use Rattle.std.specs.Prelude.{◌≡◌, ◌⊎◌, ℕ, Bool, true, Option, Some, None, Result}
 use Rattle.ttrpc_proto.specs.declared.error.Error.{Error}
 use Rattle.ttrpc_proto.specs.declared.messages.Response.{Response}
 use Rattle.ttrpc_polled_server.specs.declared.ended.Ended.{Ended}
@@ -26,6 +26,15 @@ HandledGives method stream (Method call) Dropped = ⊥
 HandledGives method stream (Stream call) (Answers answer) = ⊥
 HandledGives method stream (Stream call) (Ends end) = stream call end
 HandledGives method stream (Stream call) Dropped = ⊥
+
+-- until its end is there, a job waits for what its handler waits for, or to be dropped; then it waits for room
+abbrev pub FinishingNeeds : Option Ended → (ℕ → Type 0) → (came : ℕ) → ℕ → Type 0
+FinishingNeeds None running came s = running s
+FinishingNeeds (Some ended) running came s = s ≡ came
+
+-- it waits for what the handler waits for, and to be dropped, if it may be
+abbrev pub RunningNeeds : {F G : Type 0} → (F → ℕ → Type 0) → (G → ℕ → Type 0) → Handled F G → (may_be_dropped : Bool) → (came : ℕ) → ℕ → Type 0
+RunningNeeds method stream handled may_be_dropped came s = HandledNeeds method stream handled s ⊎ ((may_be_dropped ≡ true) × (s ≡ came))
 
 -- its own job's number is given, with what its own handler gave, or with that it was dropped, if it may be
 pub record RunningGives {F G : Type 0} (method : F → Result Response Error → Type 0) (stream : G → Result (Option Response) Error → Type 0) (id : ℕ) (may_be_dropped : Bool) (handled : Handled F G) (given : ℕ × Ended) : Type 0 where

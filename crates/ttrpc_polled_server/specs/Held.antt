@@ -1,12 +1,13 @@
 -- What the future of a server's connection does to its core, under the lock.
 -- Source: this project's.
-use Rattle.std.specs.Prelude.{◌≡◌, ◌≢◌, ◌<◌, ◌≤◌, ◌⊎◌, ◌^◌, ℕ, List, [], Option, Some, None, Result, Ok, Err, IfSome, IfNone, IsSomeAnd, is_ok, min, if◌then◌else◌}
+use Rattle.std.specs.Prelude.{◌≡◌, ◌≢◌, ◌<◌, ◌≤◌, ◌⊎◌, ◌^◌, ℕ, Bool, List, [], Option, Some, None, Result, Ok, Err, IfSome, IfNone, IsSomeAnd, is_ok, min, if◌then◌else◌}
 use Rattle.std.specs.BTreeMap.{is_at}
 use Rattle.std.specs.Ordering.{nat_cmp}
 use Rattle.std.specs.Set.{remove_key}
 use Rattle.std.specs.Result.{result_ok}
 use Rattle.std.specs.declared.io.ErrorKind.{ErrorKind}
 use Rattle.ttrpc_proto.specs.Framing.Frames.{nothing}
+use Rattle.ttrpc_proto.specs.Framing.Queue.{free}
 use Rattle.ttrpc_proto.specs.declared.error.Error.{Error}
 use Rattle.ttrpc_proto.specs.declared.error.Error.TheVariants.{Nix}
 use Rattle.ttrpc_secure.specs.declared.transform.InboundTransform.{Ghosts as InboundTransform}
@@ -18,20 +19,20 @@ use Rattle.futures.specs.declared.task.Poll.TheVariants.{Ready}
 use Rattle.ttrpc_connection.specs.OneEnd.{Lends, TakesOrDrains, failing, lending, reporting}
 use Rattle.ttrpc_server.specs.declared.rules.Rules.TheVariants.{Async}
 use Rattle.ttrpc_server.specs.declared.server.ServerCore.{ServerCore}
-use Rattle.ttrpc_server.specs.Protocol.{IsDeadline, Passes, due_jobs, serving}
+use Rattle.ttrpc_server.specs.Protocol.{IsDeadline, Passes, due_jobs, serving, timeout_room}
 use Rattle.ttrpc_server.specs.Streaming.{ReceivesOne, unheard}
 
 -- the core once it has told of all streams for which something came
 abbrev pub all_told : {O I : Type 0} → ServerCore O I → ServerCore O I
 all_told core = record core { state = record core.state { heard = [] } }
 
--- A piece was fed to the core at a moment, and taken, or where no count is given in vain: the connection has failed. Where it was
--- taken, the core has told of all that came of it.
-pub record TakesPiece {O I : Type 0} (seals : OutboundTransform O) (opens : InboundTransform I) (old : ServerCore O I) (piece : List ℕ) (now : ℕ) (count : Option ℕ) (new : ServerCore O I) : Type 0 where
+-- A piece was fed to the core at a moment, and so many bytes of it were taken, or where no count is given none: the connection has
+-- failed, or takes no more. Where it hasn't failed, the core has told of all that came of the piece.
+pub record TakesPiece {O I : Type 0} (seals : OutboundTransform O) (opens : InboundTransform I) (old : ServerCore O I) (piece : List ℕ) (now : ℕ) (drains : Bool) (count : Option ℕ) (new : ServerCore O I) : Type 0 where
   pub fed : ServerCore O I
   pub answer : Result ℕ Error
   pub takes : TakesOrDrains (serving seals opens) old.state old.connection piece now answer fed.state fed.connection
-  pub counted : count ≡ result_ok answer
+  pub counted : count ≡ (if drains then None else result_ok answer)
   pub told : new ≡ (if is_ok answer then all_told fed else fed)
 
 -- the core once a reader or a writer has failed by an error of this kind
@@ -58,12 +59,6 @@ pub record TicksOrBreaks (pause : Option ℕ) (now : ℕ) (Ticked Broke : Type 0
   pub late : IsLate pause now → Broke
   pub early : ¬ (IsLate pause now) → Ticked
 
--- the sooner of two moments, of those that there are
-abbrev pub sooner : Option ℕ → Option ℕ → Option ℕ
-sooner None second = second
-sooner (Some first) None = Some first
-sooner (Some first) (Some second) = Some (min first second)
-
 -- who waited under this number waits no more, and at most the others do
 abbrev pub IsLeft : ℕ → List ℕ → List ℕ → Type 0
 IsLeft id old new = (new ≡ remove_key (is_at (nat_cmp id)) old) ⊎ (new ≡ [])
@@ -85,7 +80,11 @@ pub record ReceivesLast {O I : Type 0} (old : ServerCore O I) (id : ℕ) (polled
   pub receives : ReceivesOne old id came asked
   pub gives : GivesLast asked id came polled new
 
--- The least moment at which a tick would make a job expire, or that there is none.
-pub record ExpiresAt {O I : Type 0} (core : ServerCore O I) (at : Option ℕ) : Type 0 where
-  pub some : IfSome at (λ moment. (core.connection.failure ≡ None) × (core.state.rules ≡ Async) × IsDeadline core.state.jobs.list moment)
-  pub none : IfNone at (core.connection.failure ≡ None → core.state.rules ≡ Async → (now : ℕ) → now < 2 ^ 64 → due_jobs now core.state.jobs.list ≡ [])
+-- there is room to tell the client that a job has expired
+abbrev pub HasTimeoutRoom : {O I : Type 0} → OutboundTransform O → ServerCore O I → Type 0
+HasTimeoutRoom out core = timeout_room out core.connection.outbox.half ≤ free core.connection.outbox.queue
+
+-- The least moment at which a tick would make a job expire, or that there is none, as long as there is no room for that.
+pub record ExpiresAt {O I : Type 0} (out : OutboundTransform O) (core : ServerCore O I) (at : Option ℕ) : Type 0 where
+  pub some : IfSome at (λ moment. (core.connection.failure ≡ None) × (core.state.rules ≡ Async) × HasTimeoutRoom out core × IsDeadline core.state.jobs.list moment)
+  pub none : IfNone at (core.connection.failure ≡ None → core.state.rules ≡ Async → HasTimeoutRoom out core → (now : ℕ) → now < 2 ^ 64 → due_jobs now core.state.jobs.list ≡ [])

@@ -1,6 +1,6 @@
 -- For what the futures of a server wait.
 -- Source: this project's.
-use Rattle.std.specs.Prelude.{◌≡◌, ◌⊎◌, ◌<◌, ℕ, IfSome, IsSome, true, false}
+use Rattle.std.specs.Prelude.{◌≡◌, ◌⊎◌, ◌<◌, ℕ, None, IfSome, IsSome, true, false}
 use Rattle.std.specs.Arc.{arc_value}
 use Rattle.futures.specs.Task.{Covers}
 use Rattle.futures.specs.declared.task.context.Context.{Context}
@@ -10,7 +10,7 @@ use Rattle.tokio.specs.Timers.{sleep_source}
 use Rattle.ttrpc_polled.specs.Needs.{LinkNeeds}
 use Rattle.ttrpc_polled_server.specs.Handling.{HandledCanPoll}
 use Rattle.ttrpc_polled_server.specs.declared.connection.ServerConnection.{ServerConnection}
-use Rattle.ttrpc_polled_server.specs.declared.running.Running.{Running}
+use Rattle.ttrpc_polled_server.specs.declared.running.Finishing.{Finishing}
 use Rattle.ttrpc_polled_server.specs.declared.serving.Serving.{Serving}
 use Rattle.ttrpc_polled_server.specs.declared.shared.ServerShared.{ServerShared}
 
@@ -21,11 +21,11 @@ asked_source shared = shared.asked.id
 module _ {R M T S W O I F G : Type 0} where
   -- each handler that runs may be polled
   abbrev pub CanPoll : (F → Type 0) → (G → Type 0) → ServerConnection R M T S W O I F G → Type 0
-  CanPoll method stream c = AllPollable (λ (r : Running F G O I). HandledCanPoll method stream r.handled) (set_places c.jobs)
+  CanPoll method stream c = AllPollable (λ (f : Finishing F G O I). f.ended ≡ None → HandledCanPoll method stream f.running.handled) (set_places c.jobs)
 
   -- nothing else changed of it but of its handlers and its pace
   abbrev pub IsSameBeside : ServerConnection R M T S W O I F G → ServerConnection R M T S W O I F G → Type 0
-  IsSameBeside old new = new ≡ record old { jobs = new.jobs; pace = new.pace }
+  IsSameBeside old new = new ≡ record old { jobs = new.jobs; pace = new.pace; untold = new.untold }
 
   -- Before a poll of it does anything else, it has asked to be told that it is to end, unless it ends.
   abbrev pub HasAsked : ServerConnection R M T S W O I F G → Context → Type 0

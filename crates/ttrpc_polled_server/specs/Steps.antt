@@ -1,8 +1,8 @@
 -- What is done to a server's core as a handler ends.
 -- Source: this project's.
-use Rattle.std.specs.Prelude.{◌≡◌, ◌⊎◌, ℕ, Bool, true, codes, Option, Result, Ok, Err, IfErr, OnErr, OnOk}
+use Rattle.std.specs.Prelude.{◌≡◌, ◌≢◌, ◌⊎◌, ℕ, Bool, true, codes, Option, Result, Ok, Err, IfErr, OnErr, OnOk}
 use Rattle.ttrpc_proto.specs.declared.error.Error.{Error}
-use Rattle.ttrpc_proto.specs.declared.error.Error.TheVariants.{Others, Socket}
+use Rattle.ttrpc_proto.specs.declared.error.Error.TheVariants.{NoRoom, Others, Socket}
 use Rattle.ttrpc_proto.specs.declared.messages.Response.{Response}
 use Rattle.ttrpc_secure.specs.declared.transform.OutboundTransform.{Ghosts as OutboundTransform}
 use Rattle.ttrpc_connection.specs.Failure.{IsTold, TellsSent}
@@ -50,19 +50,25 @@ failed_by (Answers given) e = Answers (Err e)
 failed_by (Ends given) e = Ends (Err e)
 failed_by Dropped e = Dropped
 
--- The end of a handler was refused for this. Then its job is over, and nothing changed; or the client is told why by a status; or
--- that is refused, too, and for this the connection fails.
+-- There is no room for the end of a handler, or for the status that says why that is refused. Nothing changed.
+abbrev pub LacksRoomFor : {O I : Type 0} → OutboundTransform O → ServerCore O I → ℕ → Ended → Type 0
+LacksRoomFor out old id ended =
+    IsEnded out old id ended (Err NoRoom) old
+    ⊎ ((refusal : Error) × IsEnded out old id ended (Err refusal) old × IsEnded out old id (failed_by ended refusal) (Err NoRoom) old)
+
+-- The end of a handler was refused for this, which isn't want of room. Then its job is over, and nothing changed; or the client is told
+-- why by a status; or that is refused, too, and for this the connection fails.
 abbrev pub FailsFor : {O I : Type 0} → OutboundTransform O → ServerCore O I → ℕ → Ended → Error → ServerCore O I → Type 0
 FailsFor out old id ended refusal new =
     (IsUnknown old.state.jobs.list id × (new ≡ old))
     ⊎ IsEnded out old id (failed_by ended refusal) (Ok tt) new
-    ⊎ ((last : Error) × IsEnded out old id (failed_by ended refusal) (Err last) old × (new ≡ record old { connection = failing old.connection (Told last) }))
+    ⊎ ((last : Error) × (last ≢ NoRoom) × IsEnded out old id (failed_by ended refusal) (Err last) old × (new ≡ record old { connection = failing old.connection (Told last) }))
 
 -- It was told to the core how the handler of a job ended, or what refused that.
 abbrev pub EndsJob : {O I : Type 0} → OutboundTransform O → ServerCore O I → ℕ → Ended → ServerCore O I → Type 0
 EndsJob out old id ended new =
     IsEnded out old id ended (Ok tt) new
-    ⊎ ((refusal : Error) × IsEnded out old id ended (Err refusal) old × FailsFor out old id ended refusal new)
+    ⊎ ((refusal : Error) × (refusal ≢ NoRoom) × IsEnded out old id ended (Err refusal) old × FailsFor out old id ended refusal new)
 
 -- the one core call was made that a call on the stream of this job names
 abbrev pub IsSending : {O I : Type 0} → OutboundTransform O → ℕ → ServerCore O I → Sending → Option (Result (Unit {0}) Error) → Sending → ServerCore O I → Type 0

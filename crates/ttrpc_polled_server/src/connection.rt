@@ -12,7 +12,7 @@ use crate::ended::Ended;
 use crate::handler::{MethodHandler, StreamHandler, TtrpcContext};
 use crate::input_end::InputEnd;
 use crate::pace::Pace;
-use crate::running::{Handled, Running};
+use crate::running::{Finishing, Handled, Running};
 use crate::services::Services;
 use crate::shared::ServerShared;
 use crate::stop::Seat;
@@ -55,7 +55,9 @@ pub struct ServerConnection<
     services: Arc<Services<M, T>, Global>,
     connection_data: Arc<ConnectionData, Global>,
     seat: Seat,
-    jobs: FuturesUnordered<Running<M::Call, T::Call, O, I>>,
+    jobs: FuturesUnordered<Finishing<M::Call, T::Call, O, I>>,
+    // How a job ended that couldn't begin, while there is no room to tell.
+    untold: Option<(JobId, Ended)>,
     pace: Pace,
     is_over: bool,
     is_ending: bool,
@@ -112,6 +114,7 @@ where
         } = parts;
         Ok(ServerConnection {
             jobs: FuturesUnordered::new(rt.alloc())?,
+            untold: None,
             rt,
             link,
             shared,
@@ -197,6 +200,9 @@ where
         if self.handles(cx) {
             return true;
         }
+        if !self.tells_untold() {
+            return false;
+        }
         let Some(job) = self.next_job() else {
             return false;
         };
@@ -218,10 +224,25 @@ where
         let Poll::Ready(given) = self.jobs.poll_next(cx) else {
             return false;
         };
-        if let Some((id, ended)) = given {
-            self.end(id, &ended);
+        if given.is_some() {
+            self.pace.one_more();
         }
         true
+    }
+
+    /// Tells the core how a job ended that couldn't begin, if there is such a job. Returns whether none is left.
+    fn tells_untold(&mut self) -> bool
+        ensures rest { self.new ≡ record self.old { untold = self.new.untold } }
+    {
+        let Some(untold) = self.untold.take() else {
+            return true;
+        };
+        let (id, ended) = untold;
+        let is_told = self.tells(id, &ended);
+        if !is_told {
+            self.untold = Some((id, ended));
+        }
+        is_told
     }
 
     /// Ends a poll: lets the ready answers leave.
@@ -280,12 +301,12 @@ where
         if job.stream {
             let begun = self.stream_call(job);
             if let Err(refused) = self.run(begun) {
-                self.end(id, &Ended::Ends(Err(refused)));
+                self.end(id, Ended::Ends(Err(refused)));
             }
         } else {
             let begun = self.method_call(job);
             if let Err(refused) = self.run_at_once(begun, cx) {
-                self.end(id, &Ended::Answers(Err(refused)));
+                self.end(id, Ended::Answers(Err(refused)));
             }
         }
     }
@@ -297,7 +318,17 @@ where
         ensures can { CanPoll M.Call.Future.can_poll T.Call.Future.can_poll self.new }
         ensures rest { IsSameBeside self.old self.new }
     {
-        match self.jobs.push(begun?) {
+        self.keep(Finishing::new(begun?))
+    }
+
+    /// This handler is among those that run.
+    fn keep(&mut self, finishing: Finishing<M::Call, T::Call, O, I>) -> Result<()>
+        requires run { CanPoll M.Call.Future.can_poll T.Call.Future.can_poll self.old }
+        requires kept { finishing.ended ≡ None → HandledCanPoll M.Call.Future.can_poll T.Call.Future.can_poll finishing.running.handled }
+        ensures can { CanPoll M.Call.Future.can_poll T.Call.Future.can_poll self.new }
+        ensures rest { IsSameBeside self.old self.new }
+    {
+        match self.jobs.push(finishing) {
             Ok(()) => Ok(()),
             Err(_) => Err(Error::NoMemory),
         }
@@ -315,11 +346,11 @@ where
         ensures rest { IsSameBeside self.old self.new }
         ensures kept { Keeps cx.old cx.new }
     {
-        let mut running = begun?;
-        match running.poll(cx) {
-            Poll::Pending => self.run(Ok(running)),
-            Poll::Ready((id, ended)) => {
-                self.end(id, &ended);
+        let mut finishing = Finishing::new(begun?);
+        match finishing.poll(cx) {
+            Poll::Pending => self.keep(finishing),
+            Poll::Ready(()) => {
+                self.pace.one_more();
                 Ok(())
             }
         }
@@ -395,15 +426,23 @@ where
         )
     }
 
-    /// Tells the core how a handler ended.
-    fn end(&mut self, id: JobId, ended: &Ended)
+    /// Tells the core how a job ended that couldn't begin, or keeps that until there is room.
+    fn end(&mut self, id: JobId, ended: Ended)
         ensures jobs { self.new.jobs ≡ self.old.jobs }
         ensures rest { IsSameBeside self.old self.new }
     {
-        if let Some(mut guard) = lock(&self.shared.held) {
-            (&mut *guard).end(id, ended);
+        if !self.tells(id, &ended) {
+            self.untold = Some((id, ended));
         }
         self.pace.one_more();
+    }
+
+    /// Tells the core how a job ended. Returns whether there was room for that.
+    fn tells(&self, id: JobId, ended: &Ended) -> bool {
+        match lock(&self.shared.held) {
+            Some(mut guard) => (&mut *guard).end(id, ended),
+            None => false,
+        }
     }
 
     /// Looks whether the connection may end. The poll has asked before whether it is to end.
@@ -434,7 +473,7 @@ where
     {
         self.is_ending = true;
         if let Some(mut guard) = lock(&self.shared.held) {
-            (&mut *guard).core.drain();
+            (&mut *guard).drain();
         }
         self.grace.unset();
         self.set_grace(self.limit);
@@ -498,7 +537,8 @@ where
             return false;
         };
         let held = &mut *guard;
-        if !self.jobs.is_empty() || !held.is_answered() || held.core.has_failed() {
+        let is_working = !self.jobs.is_empty() || self.untold.is_some();
+        if is_working || !held.is_answered() || held.core.has_failed() {
             return false;
         }
         held.finish_input();
@@ -513,7 +553,8 @@ where
         ensures rest { (self.new.jobs ≡ self.old.jobs) × (self.new.link ≡ self.old.link) × (self.new.is_over ≡ self.old.is_over) }
         ensures kept { Keeps cx.old cx.new }
     {
-        if self.jobs.is_empty() && (self.is_over || self.link.keeps_nothing()) {
+        let is_working = !self.jobs.is_empty() || self.untold.is_some();
+        if !is_working && (self.is_over || self.link.keeps_nothing()) {
             return Step::Over;
         }
         match self.grace.poll_ring(&self.rt, cx) {
@@ -580,6 +621,7 @@ where
             connection_data: _,
             seat,
             jobs,
+            untold: _,
             pace: _,
             is_over: _,
             is_ending: _,

@@ -1,6 +1,6 @@
 //! What stands under the lock of a server's connection.
 ghost use Rattle.std.specs.Prelude.{◌≡◌, ◌≢◌, ◌⊎◌, [], length, None, IfNone, IfSome, IsSome, true, false};
-ghost use Rattle.ttrpc_server.specs.Protocol.{Hands};
+ghost use Rattle.ttrpc_server.specs.Protocol.{Hands, drained};
 ghost use Rattle.futures.specs.Poll.{IfReady, OnPending};
 ghost use Rattle.futures.specs.Task.{Covers, Keeps};
 ghost use Rattle.ttrpc_proto.specs.declared.error.Error.{Error as AnError};
@@ -11,11 +11,11 @@ ghost use Rattle.ttrpc_server.specs.State.{IsTaken, IsUnknown, NoneWaits};
 ghost use Rattle.ttrpc_server.specs.declared.job.ActiveJob.{ActiveJob as AJob};
 ghost use Rattle.ttrpc_server.specs.Streaming.{ReceivesOne, unheard};
 ghost use Rattle.ttrpc_polled.specs.Streams.Polling.{Polls, answer_of};
-ghost use Rattle.ttrpc_polled.specs.Streams.Steps.{is_new as is_unsent};
+ghost use Rattle.ttrpc_polled.specs.Streams.Steps.{WaitsForRoom, is_new as is_unsent};
 ghost use Rattle.ttrpc_polled.specs.Streams.Waiting.{nobody};
 ghost use Rattle.ttrpc_polled_server.specs.Built.{pause_end};
-ghost use Rattle.ttrpc_polled_server.specs.Held.{IsLate, IsLeft, ReceivesLast, TellsEnd, TicksAndTells, sooner};
-ghost use Rattle.ttrpc_polled_server.specs.Steps.{EndsJob, IsSending, PassesOn};
+ghost use Rattle.ttrpc_polled_server.specs.Held.{IsLate, IsLeft, ReceivesLast, TellsEnd, TicksAndTells};
+ghost use Rattle.ttrpc_polled_server.specs.Steps.{EndsJob, IsSending, LacksRoomFor, PassesOn};
 
 use crate::ended::Ended;
 use crate::input_end::InputEnd;
@@ -25,7 +25,7 @@ use std::alloc::Global;
 use std::io::ErrorKind;
 use std::sync::Arc;
 use ttrpc_connection::{Failure, StreamCore};
-use ttrpc_polled::{Held, Sending, StreamWakers, Wakers};
+use ttrpc_polled::{Held, RoomWakers, Sending, StreamWakers, Wakers, sooner};
 use ttrpc_proto::{Error, Result};
 use ttrpc_secure::{InboundTransform, OutboundTransform};
 use ttrpc_server::{Job, JobId, ServerCore};
@@ -38,10 +38,12 @@ pub struct ServerHeld<O, I> {
     alloc: Global,
     running: Wakers,
     streams: StreamWakers,
+    room: RoomWakers,
     settings: Settings,
     input_end: Arc<InputEnd, Global>,
     pub input_ended: bool,
     pub is_gone: bool,
+    drains: bool,
     unbegun: u64,
     pause: Option<u64>,
     pub driver: Option<Waker>,
@@ -55,17 +57,19 @@ impl<O: OutboundTransform + Drop, I: InboundTransform + Drop> ServerHeld<O, I> {
         settings: Settings,
         input_end: Arc<InputEnd, Global>,
     ) -> Self
-        ensures { (result.core ≡ core) × (result.settings ≡ settings) × (result.input_ended ≡ false) × (result.is_gone ≡ false) × (result.pause ≡ None) }
+        ensures { (result.core ≡ core) × (result.settings ≡ settings) × (result.input_ended ≡ false) × (result.is_gone ≡ false) × (result.drains ≡ false) × (result.pause ≡ None) }
     {
         ServerHeld {
             core,
             alloc,
             running: Wakers::new(alloc),
             streams: StreamWakers::new(alloc),
+            room: RoomWakers::new(alloc),
             settings,
             input_end,
             input_ended: false,
             is_gone: false,
+            drains: false,
             unbegun: 0,
             pause: None,
             driver: None,
@@ -88,40 +92,81 @@ impl<O: OutboundTransform + Drop, I: InboundTransform + Drop> ServerHeld<O, I> {
         Some(job)
     }
 
-    /// Tells the core how the handler of a job ended. If its answer can't be sent, the client gets a status that says why; if that
-    /// can't be sent either, the connection fails, so that the client doesn't wait for ever. A stream's handler that ends by the error
-    /// that it was given at the end of the input isn't answered. Wakes the tasks that wait for the job or receive from its stream.
-    pub fn end(&mut self, id: JobId, ended: &Ended)
-        ensures ends { EndsJob O.OutboundTransform self.old.core id ended.now self.new.core ⊎ PassesOn self.old.input_ended self.old.core ended.now self.new.core }
-        ensures told { ¬ (PassesOn self.old.input_ended self.old.core ended.now self.old.core) → EndsJob O.OutboundTransform self.old.core id ended.now self.new.core }
-        ensures running { IsLeft id self.old.running self.new.running }
-        ensures receivers { IsLeft id self.old.streams.receivers self.new.streams.receivers }
+    /// Tells the core how the handler of a job ended, or waits for room for that, at a place that is then given. If its answer can't
+    /// be sent, the client gets a status that says why; if that can't be sent either, the connection fails, so that the client doesn't
+    /// wait for ever. A stream's handler that ends by the error that it was given at the end of the input isn't answered. Wakes the
+    /// tasks that wait for the job or receive from its stream.
+    pub fn poll_end(
+        &mut self,
+        id: JobId,
+        ended: &Ended,
+        place: &mut Option<u64>,
+        came: &Source,
+        cx: &mut Context<'_>,
+    ) -> Poll<()>
+        ensures told { IfReady result (λ _. EndsJob O.OutboundTransform self.old.core id ended.now self.new.core ⊎ PassesOn self.old.input_ended self.old.core ended.now self.new.core) }
+        ensures waits { OnPending result ((self.new.core ≡ self.old.core) × LacksRoomFor O.OutboundTransform self.old.core id ended.now) }
+        ensures registered { OnPending result (Covers cx.new (λ s. s ≡ came.now.id)) }
+        ensures kept { Keeps cx.old cx.new }
     {
-        if !(self.input_ended && ended.is_disconnect()) {
-            self.tell_end(id, ended);
+        if self.end(id, ended) {
+            return Poll::Ready(());
+        }
+        let number = self.room.place(*place);
+        *place = Some(number);
+        self.room.wait(number, came, cx)
+    }
+
+    /// Tells the core how the handler of a job ended. Returns whether there was room for that.
+    pub fn end(&mut self, id: JobId, ended: &Ended) -> bool
+        ensures ends { result ≡ true → EndsJob O.OutboundTransform self.old.core id ended.now self.new.core ⊎ PassesOn self.old.input_ended self.old.core ended.now self.new.core }
+        ensures told { result ≡ true → ¬ (PassesOn self.old.input_ended self.old.core ended.now self.old.core) → EndsJob O.OutboundTransform self.old.core id ended.now self.new.core }
+        ensures running { result ≡ true → IsLeft id self.old.running self.new.running }
+        ensures receivers { result ≡ true → IsLeft id self.old.streams.receivers self.new.streams.receivers }
+        ensures waits { result ≡ false → (self.new ≡ self.old) × LacksRoomFor O.OutboundTransform self.old.core id ended.now }
+    {
+        if !self.passes_on(ended) && !self.tell_end(id, ended) {
+            return false;
         }
         self.running.wake(id);
         self.streams.wake_receiver(id);
+        true
     }
 
-    /// Tells the core how the handler of a job ended, and wakes everybody if the connection fails by that.
-    fn tell_end(&mut self, id: JobId, ended: &Ended)
-        ensures ends { EndsJob O.OutboundTransform self.old.core id ended.now self.new.core }
+    /// Returns whether a handler ended by the end of the input, and nothing is told of that.
+    fn passes_on(&self, ended: &Ended) -> bool
+        ensures yes { result ≡ true → PassesOn self.now.input_ended self.now.core ended.now self.now.core }
+        ensures no { result ≡ false → ¬ (PassesOn self.now.input_ended self.now.core ended.now self.now.core) }
+    {
+        self.input_ended && ended.is_disconnect()
+    }
+
+    /// Tells the core how the handler of a job ended, and wakes everybody if the connection fails by that. Returns whether there was
+    /// room for that.
+    fn tell_end(&mut self, id: JobId, ended: &Ended) -> bool
+        ensures ends { result ≡ true → EndsJob O.OutboundTransform self.old.core id ended.now self.new.core }
         ensures running { (self.new.running ≡ self.old.running) ⊎ (self.new.running ≡ []) }
         ensures streams { (self.new.streams ≡ self.old.streams) ⊎ (self.new.streams ≡ nobody) }
+        ensures waits { result ≡ false → (self.new ≡ self.old) × LacksRoomFor O.OutboundTransform self.old.core id ended.now }
     {
-        let Err(refusal) = ended.step(self.alloc, &mut self.core, id) else {
-            return;
+        let refusal = match ended.step(self.alloc, &mut self.core, id) {
+            Ok(()) => return true,
+            Err(Error::NoRoom) => return false,
+            Err(refusal) => refusal,
         };
         // A job that has expired is no more to be answered.
         if self.core.stream_of(id).is_none() {
-            return;
+            return true;
         }
-        let told = ended.failed(refusal);
-        if let Err(refusal) = told.step(self.alloc, &mut self.core, id) {
-            self.core.fail(refusal);
-            self.wake_all();
+        match ended.failed(refusal).step(self.alloc, &mut self.core, id) {
+            Ok(()) => {}
+            Err(Error::NoRoom) => return false,
+            Err(refusal) => {
+                self.core.fail(refusal);
+                self.wake_all();
+            }
         }
+        true
     }
 
     /// Waits until the handler of this job is to be dropped: the job has expired, the connection has failed, or the input ended too
@@ -156,13 +201,13 @@ impl<O: OutboundTransform + Drop, I: InboundTransform + Drop> ServerHeld<O, I> {
         came: &Source,
         cx: &mut Context<'_>,
     ) -> Poll<Result<()>>
-        ensures polls { Polls is_unsent (IsSending O.OutboundTransform id) self.old.core sending.old result sending.new self.new.core }
+        ensures polls { Polls is_unsent WaitsForRoom (IsSending O.OutboundTransform id) self.old.core sending.old result sending.new self.new.core }
         ensures registered { OnPending result (Covers cx.new (λ s. s ≡ came.now.id)) }
         ensures kept { Keeps cx.old cx.new }
     {
-        let (alloc, core) = (self.alloc, &mut self.core);
+        let (alloc, core, room) = (self.alloc, &mut self.core, &mut self.room);
         self.streams
-            .poll_sending_on(alloc, core, id, sending, came, cx)
+            .poll_sending_on(alloc, core, id, room, sending, came, cx)
     }
 
     /// Receives from a stream. After the input has ended nobody waits: a receiver gets the items that came, and then once the error
@@ -249,6 +294,14 @@ impl<O: OutboundTransform + Drop, I: InboundTransform + Drop> ServerHeld<O, I> {
         self.wake_all();
     }
 
+    /// Takes no more of what comes in.
+    pub fn drain(&mut self)
+        ensures { self.new ≡ record self.old { core = drained self.old.core; drains = true } }
+    {
+        self.core.drain();
+        self.drains = true;
+    }
+
     /// Nobody is left who would read and write: the connection fails, if it hasn't.
     pub fn abandon(&mut self)
         ensures { self.new.core ≡ record self.old.core { connection = failing self.old.core.connection (AFailure.Told AnError.LocalClosed) } }
@@ -268,10 +321,11 @@ impl<O: OutboundTransform + Drop, I: InboundTransform + Drop> ServerHeld<O, I> {
 
     /// Wakes everybody: the connection has failed.
     fn wake_all(&mut self)
-        ensures { self.new ≡ record self.old { running = []; streams = nobody } }
+        ensures { self.new ≡ record self.old { running = []; streams = nobody; room = record self.old.room { waiting = []; soonest = None } } }
     {
         self.running.wake_all();
         self.streams.wake_all();
+        self.room.wake_all();
         self.input_end.come();
     }
 
@@ -339,9 +393,10 @@ impl<O: OutboundTransform + Drop, I: InboundTransform + Drop> Held for ServerHel
     ghost use Rattle.ttrpc_polled.specs.Streams.Waiting.{nobody};
     ghost use Rattle.ttrpc_polled_server.specs.Built.{has_room};
     ghost use Rattle.ttrpc_connection.specs.OneEnd.{lendable};
-    ghost use Rattle.ttrpc_polled_server.specs.Held.{ExpiresAt, LendsAndReports, TakesPiece, TicksAndTells, TicksOrBreaks, broken, sooner};
+    ghost use Rattle.ttrpc_polled.specs.Waiting.{sooner};
+    ghost use Rattle.ttrpc_polled_server.specs.Held.{ExpiresAt, LendsAndReports, TakesPiece, TicksAndTells, TicksOrBreaks, broken};
 
-    ghost takes = { λ old piece now count new. TakesPiece O.OutboundTransform I.InboundTransform old.core piece now count new.core };
+    ghost takes = { λ old piece now count new. TakesPiece O.OutboundTransform I.InboundTransform old.core piece now old.drains count new.core };
 
     // The core isn't told yet, so the requests that came are still answered. Nobody waits to receive any more.
     ghost ends = { λ old new. new ≡ record old { input_ended = true; streams = nobody; pause = None } };
@@ -355,7 +410,7 @@ impl<O: OutboundTransform + Drop, I: InboundTransform + Drop> Held for ServerHel
     // The connection fails after a pause inside a frame that is above its limit.
     ghost ticks = { λ old now new. TicksOrBreaks old.pause now (TicksAndTells O.OutboundTransform old.core now new.core) (new.core ≡ broken old.core TimedOut) };
 
-    ghost expires = { λ held at. (soonest : Option ℕ) × ExpiresAt held.core soonest × (at ≡ sooner soonest held.pause) };
+    ghost expires = { λ held at. (soonest : Option ℕ) × ExpiresAt O.OutboundTransform held.core soonest × (at ≡ sooner soonest held.pause) };
 
     ghost failed = { λ held. is_some held.core.connection.failure };
 
@@ -364,13 +419,14 @@ impl<O: OutboundTransform + Drop, I: InboundTransform + Drop> Held for ServerHel
     ghost wants = { λ held. has_room held.settings (length (filter waits held.core.state.jobs.list)) held.unbegun };
 
     fn take(&mut self, alloc: Global, piece: &[u8], now: u64) -> Option<usize> {
+        let drains = self.drains;
         let Ok(count) = self.core.feed(alloc, piece, now) else {
             self.wake_all();
             return None;
         };
         self.wake_heard();
         self.note_taken(count, now);
-        Some(count)
+        if drains { None } else { Some(count) }
     }
 
     fn ended(&mut self) {
@@ -393,6 +449,9 @@ impl<O: OutboundTransform + Drop, I: InboundTransform + Drop> Held for ServerHel
         let count = self.core.lend(buffer);
         self.core.wrote(count);
         self.streams.wake_sent(self.alloc, &self.core);
+        if count > 0 {
+            self.room.wake_all();
+        }
         count
     }
 
@@ -437,16 +496,5 @@ fn pause_at(settings: &Settings, now: u64) -> Option<u64>
             Some(now.saturating_add(limit))
         }
         None => None,
-    }
-}
-
-/// Returns the earlier of two moments, or the one that there is.
-fn sooner(first: Option<u64>, second: Option<u64>) -> Option<u64>
-    ensures { result ≡ sooner first second }
-{
-    match (first, second) {
-        (Some(first), Some(second)) => Some(first.min(second)),
-        (Some(first), None) => Some(first),
-        (None, second) => second,
     }
 }

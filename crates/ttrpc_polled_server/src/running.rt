@@ -1,5 +1,5 @@
 //! A job whose handler runs.
-ghost use Rattle.std.specs.Prelude.{◌≡◌};
+ghost use Rattle.std.specs.Prelude.{◌≡◌, None};
 
 use crate::ended::Ended;
 use crate::shared::ServerShared;
@@ -68,13 +68,12 @@ where
 {
     type Output = (JobId, Ended);
 
-    ghost use Rattle.std.specs.Prelude.{◌≡◌, ◌⊎◌, true};
     ghost use Rattle.std.specs.Arc.{arc_value};
-    ghost use Rattle.ttrpc_polled_server.specs.Handling.{HandledCanPoll, HandledNeeds, RunningGives};
+    ghost use Rattle.ttrpc_polled_server.specs.Handling.{HandledCanPoll, RunningGives, RunningNeeds};
 
     ghost can_poll = { λ r. HandledCanPoll F.can_poll G.can_poll r.handled };
 
-    ghost needs = { λ r s. HandledNeeds F.needs G.needs r.handled s ⊎ ((r.may_be_dropped ≡ true) × (s ≡ (arc_value r.shared).came.id)) };
+    ghost needs = { λ r. RunningNeeds F.needs G.needs r.handled r.may_be_dropped (arc_value r.shared).came.id };
 
     ghost gives = { λ r given. RunningGives F.gives G.gives r.id r.may_be_dropped r.handled given };
 
@@ -87,5 +86,63 @@ where
         }
         ready!(self.shared.poll_dropped(self.id, cx));
         Poll::Ready((self.id, Ended::Dropped))
+    }
+}
+
+/// A job whose handler runs, and how the handler ended, as long as there is no room for that. It is ready once the core was told.
+#[derive(Drop)]
+pub struct Finishing<F, G, O, I> {
+    pub running: Running<F, G, O, I>,
+    pub ended: Option<Ended>,
+    pub place: Option<u64>,
+}
+
+impl<F, G, O, I> Finishing<F, G, O, I> {
+    /// The job whose handler runs here.
+    pub fn new(running: Running<F, G, O, I>) -> Finishing<F, G, O, I>
+        ensures { result ≡ record { running = running; ended = None; place = None } }
+    {
+        Finishing {
+            running,
+            ended: None,
+            place: None,
+        }
+    }
+}
+
+impl<F, G, O, I> Future for Finishing<F, G, O, I>
+where
+    F: Future<Output = Result<Response>>,
+    G: Future<Output = Result<Option<Response>>>,
+    O: OutboundTransform + Drop,
+    I: InboundTransform + Drop,
+{
+    type Output = ();
+
+    ghost use Rattle.std.specs.Prelude.{◌≡◌, None};
+    ghost use Rattle.std.specs.Arc.{arc_value};
+    ghost use Rattle.ttrpc_polled_server.specs.Handling.{FinishingNeeds, HandledCanPoll, RunningNeeds};
+
+    ghost can_poll = { λ f. f.ended ≡ None → HandledCanPoll F.can_poll G.can_poll f.running.handled };
+
+    ghost needs = { λ f. FinishingNeeds f.ended
+        (RunningNeeds F.needs G.needs f.running.handled f.running.may_be_dropped (arc_value f.running.shared).came.id) (arc_value f.running.shared).came.id };
+
+    fn poll(&mut self, cx: &mut Context<'_>) -> Poll<()> {
+        let ended = match self.ended.take() {
+            Some(ended) => ended,
+            None => {
+                let (_, ended) = ready!(self.running.poll(cx));
+                ended
+            }
+        };
+        let (shared, id) = (&self.running.shared, self.running.id);
+        match shared.poll_end(id, &ended, &mut self.place, cx) {
+            Poll::Pending => {
+                self.ended = Some(ended);
+                Poll::Pending
+            }
+            Poll::Ready(()) => Poll::Ready(()),
+        }
     }
 }

@@ -3,6 +3,7 @@ ghost use Rattle.std.specs.Prelude.{◌≡◌};
 ghost use Rattle.futures.specs.Poll.{OnPending};
 ghost use Rattle.futures.specs.Task.{Covers, Keeps};
 
+use crate::ended::Ended;
 use crate::held::ServerHeld;
 use crate::input_end::InputEnd;
 use crate::settings::Settings;
@@ -50,6 +51,28 @@ impl<O: OutboundTransform + Drop, I: InboundTransform + Drop> ServerShared<O, I>
             return cx.yield_now();
         };
         let polled = (&mut *guard).poll_dropped(id, &self.came, cx);
+        drop(guard);
+        polled
+    }
+}
+
+impl<O: OutboundTransform + Drop, I: InboundTransform + Drop> ServerShared<O, I> {
+    /// Tells the core how the handler of the job of this number ended. Pending: there is no room for that, and the caller, whose place
+    /// is then given, is woken once bytes have left.
+    pub fn poll_end(
+        &self,
+        id: JobId,
+        ended: &Ended,
+        place: &mut Option<u64>,
+        cx: &mut Context<'_>,
+    ) -> Poll<()>
+        ensures registered { OnPending result (Covers cx.new (λ s. s ≡ self.now.came.id)) }
+        ensures kept { Keeps cx.old cx.new }
+    {
+        let Some(mut guard) = lock(&self.held) else {
+            return cx.yield_now();
+        };
+        let polled = (&mut *guard).poll_end(id, ended, place, &self.came, cx);
         drop(guard);
         polled
     }

@@ -7,13 +7,14 @@ use Rattle.ttrpc_message.specs.Calls.{IsUnwritten, TellsCause, TellsItem, TellsI
 use Rattle.ttrpc_polled.specs.declared.streams.inner.StreamInner.{StreamInner}
 use Rattle.ttrpc_polled.specs.declared.streams.items.SSSender.{SSSender}
 use Rattle.ttrpc_polled.specs.declared.streams.sending.Sending.{Sending}
-use Rattle.ttrpc_polled.specs.declared.streams.sending.Sending.TheVariants.{Sends, Closes, Waits, Refused, Done}
+use Rattle.ttrpc_polled.specs.declared.streams.sending.Sending.TheVariants.{Sends, Closes, Stalls, Waits, Refused, Done}
 
 -- the call sends the written form of this message, from which it is read again, or was refused since there is none to be had
 abbrev pub IsItemSent : {M E : Type 0} → (M → List ℕ) → (List ℕ → Option M) → (E → Type 0) → (E → Option (List ℕ)) → M → Sending → Type 0
 IsItemSent written meaning is_no_memory output m (Sends bytes) = (bytes ≡ written m) × (meaning bytes ≡ Some m)
 IsItemSent written meaning is_no_memory output m (Refused e) = IsUnwritten (codes "Encode message failed. ") is_no_memory output (written m) e
 IsItemSent written meaning is_no_memory output m Closes = ⊥
+IsItemSent written meaning is_no_memory output m (Stalls place item) = ⊥
 IsItemSent written meaning is_no_memory output m (Waits ticket) = ⊥
 IsItemSent written meaning is_no_memory output m Done = ⊥
 

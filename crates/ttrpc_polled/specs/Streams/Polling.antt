@@ -9,10 +9,11 @@ abbrev pub answer_of : {A : Type 0} → Poll A → Option A
 answer_of (Ready answer) = Some answer
 answer_of Pending = None
 
--- A call of a core was polled. One that was begun before makes a step. One that is new makes its first step, and where that had no
--- answer the next one, too.
-abbrev pub Polls : {C S A : Type 0} → (S → Bool) → (C → S → Option A → S → C → Type 0) → C → S → Poll A → S → C → Type 0
-Polls {C} {S} is_new steps old call polled after new =
+-- A call of a core was polled. One that was begun before makes a step. One that is new makes its first step. If that found no room,
+-- the call waits for some, and is still new. If the step had no answer, the call makes the next one, too.
+abbrev pub Polls : {C S A : Type 0} → (S → Bool) → (S → S → Type 0) → (C → S → Option A → S → C → Type 0) → C → S → Poll A → S → C → Type 0
+Polls {C} {S} is_new waits steps old call polled after new =
     ((is_new call ≡ false) × steps old call (answer_of polled) after new)
     ⊎ ((is_new call ≡ true) × IsSome (answer_of polled) × steps old call (answer_of polled) after new)
-    ⊎ ((is_new call ≡ true) × ((mid : S) × (between : C) × steps old call None mid between × steps between mid (answer_of polled) after new))
+    ⊎ ((is_new call ≡ true) × (polled ≡ Pending) × ((mid : S) × (is_new mid ≡ true) × steps old call None mid new × waits mid after))
+    ⊎ ((is_new call ≡ true) × ((mid : S) × (between : C) × (is_new mid ≡ false) × steps old call None mid between × steps between mid (answer_of polled) after new))

@@ -6,11 +6,11 @@ ghost use Rattle.std.specs.Set.{remove_key};
 ghost use Rattle.futures.specs.Poll.{OnPending};
 ghost use Rattle.futures.specs.Task.{Covers, Keeps};
 ghost use Rattle.ttrpc_polled.specs.Streams.Polling.{Polls, answer_of};
-ghost use Rattle.ttrpc_polled.specs.Streams.Steps.{IsStep, is_new};
+ghost use Rattle.ttrpc_polled.specs.Streams.Steps.{IsStep, WaitsForRoom, is_new};
 ghost use Rattle.ttrpc_polled.specs.Streams.Waiting.{IfUnsent, nobody};
 
-use crate::Wakers;
 use crate::streams::sending::Sending;
+use crate::{RoomWakers, Wakers};
 use futures::task::{Context, Poll, Source};
 use std::alloc::Global;
 use std::marker::Model;
@@ -139,23 +139,29 @@ impl StreamWakers {
     }
 
     /// Steps a call that sends on a stream, on a core that is lent: it asks for its frame, where it hasn't, and then whether
-    /// that was sent. Where there is no answer yet it waits at this source.
+    /// that was sent. Where there is no room for the frame, or no answer yet, it waits at this source.
     pub fn poll_sending_on<C: StreamCore>(
         &mut self,
         alloc: Global,
         core: &mut C,
         id: C::Id,
+        room: &mut RoomWakers,
         sending: &mut Sending,
         came: &Source,
         cx: &mut Context<'_>,
     ) -> Poll<Result<()>>
-        ensures polls { Polls is_new (IsStep C.sends C.refuses C.closes C.refuses_close C.tells_sent id) core.old sending.old result sending.new core.new }
+        ensures polls { Polls is_new WaitsForRoom (IsStep C.sends C.refuses C.closes C.refuses_close C.tells_sent id) core.old sending.old result sending.new core.new }
         ensures registered { OnPending result (Covers cx.new (λ s. s ≡ came.now.id)) }
         ensures kept { Keeps cx.old cx.new }
     {
         if sending.is_new() {
             if let Some(refusal) = sending.step(alloc, core, id) {
                 return Poll::Ready(refusal);
+            }
+            if sending.is_new() {
+                let place = room.place(sending.place());
+                sending.stall(place);
+                return room.wait(place, came, cx);
             }
         }
         if let Some(answer) = sending.step(alloc, core, id) {

@@ -1,6 +1,6 @@
 //! Where a call is that sends on a stream.
 ghost use Rattle.std.specs.Prelude.{◌≡◌};
-ghost use Rattle.ttrpc_polled.specs.Streams.Steps.{IsStep, is_new, ticket_of};
+ghost use Rattle.ttrpc_polled.specs.Streams.Steps.{Asked, IsStep, is_new, place_of, stalled, ticket_of};
 
 use std::alloc::Global;
 use std::mem::replace;
@@ -15,6 +15,8 @@ pub enum Sending {
     Sends(Blob),
     /// That there are no more is to be said: `close_send`.
     Closes,
+    /// There was no room. The call waits at this place, to send this item or to say that there are no more.
+    Stalls(u64, Option<Blob>),
     /// It waits until the frame of this ticket has left the core: `sent`.
     Waits(Ticket),
     /// It was refused before any core was asked.
@@ -34,20 +36,22 @@ impl Sending {
         ensures { IsStep C.sends C.refuses C.closes C.refuses_close C.tells_sent id core.old self.old result self.new core.new }
     {
         match replace(self, Sending::Done) {
-            Sending::Sends(item) => match core.send_item(alloc, id, item.as_slice()) {
-                Ok(ticket) => {
-                    *self = Sending::Waits(ticket);
-                    None
-                }
-                Err(refusal) => Some(Err(refusal)),
-            },
-            Sending::Closes => match core.close_items(alloc, id) {
-                Ok(ticket) => {
-                    *self = Sending::Waits(ticket);
-                    None
-                }
-                Err(refusal) => Some(Err(refusal)),
-            },
+            Sending::Sends(item) => {
+                let asked = core.send_item(alloc, id, item.as_slice());
+                self.asked(asked, Sending::Sends(item))
+            }
+            Sending::Closes => {
+                let asked = core.close_items(alloc, id);
+                self.asked(asked, Sending::Closes)
+            }
+            Sending::Stalls(place, Some(item)) => {
+                let asked = core.send_item(alloc, id, item.as_slice());
+                self.asked(asked, Sending::Stalls(place, Some(item)))
+            }
+            Sending::Stalls(place, None) => {
+                let asked = core.close_items(alloc, id);
+                self.asked(asked, Sending::Stalls(place, None))
+            }
             Sending::Waits(ticket) => {
                 let told = core.item_sent(alloc, ticket);
                 if told.is_none() {
@@ -60,13 +64,53 @@ impl Sending {
         }
     }
 
+    /// The call after its frame was asked for: it waits for the frame's ticket, stays as it was if there was no room, or is over.
+    fn asked(&mut self, asked: Result<Ticket>, call: Sending) -> Option<Result<()>>
+        requires { self.old ≡ Sending.Done }
+        ensures { Asked asked call result self.new }
+    {
+        match asked {
+            Ok(ticket) => {
+                *self = Sending::Waits(ticket);
+                None
+            }
+            Err(Error::NoRoom) => {
+                *self = call;
+                None
+            }
+            Err(refusal) => Some(Err(refusal)),
+        }
+    }
+
+    /// The call waits at this place for room, if its frame is still to be asked for.
+    pub(crate) fn stall(&mut self, place: u64)
+        ensures { self.new ≡ stalled place self.old }
+    {
+        match replace(self, Sending::Done) {
+            Sending::Sends(item) => *self = Sending::Stalls(place, Some(item)),
+            Sending::Closes => *self = Sending::Stalls(place, None),
+            Sending::Stalls(_, item) => *self = Sending::Stalls(place, item),
+            other => *self = other,
+        }
+    }
+
+    /// Returns the place at which it waits for room.
+    pub(crate) fn place(&self) -> Option<u64>
+        ensures { result ≡ place_of self.now }
+    {
+        match self {
+            Sending::Stalls(place, _) => Some(*place),
+            _ => None,
+        }
+    }
+
     /// The ticket for which it waits.
     pub fn ticket(&self) -> Option<Ticket>
         ensures { result ≡ ticket_of self.now }
     {
         match self {
             Sending::Waits(ticket) => Some(*ticket),
-            Sending::Sends(_) | Sending::Closes | Sending::Refused(_) | Sending::Done => None,
+            _ => None,
         }
     }
 
@@ -75,7 +119,7 @@ impl Sending {
         ensures { result ≡ is_new self.now }
     {
         match self {
-            Sending::Sends(_) | Sending::Closes => true,
+            Sending::Sends(_) | Sending::Closes | Sending::Stalls(_, _) => true,
             Sending::Waits(_) | Sending::Refused(_) | Sending::Done => false,
         }
     }

@@ -6,7 +6,7 @@ returns-clause-takes g c =
     record {
       fed = c.feed.new.self;
       answer = c.feed.result;
-      takes = c.feed.ensures;
+      takes = c.feed.ensures.takes;
       counted = rw c.in-Ok.is refl;
       told = rw c.in-Ok.is (search rules);
     }
