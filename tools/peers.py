@@ -185,10 +185,20 @@ def milliseconds(since):
     return (time.monotonic() - since) * 1000
 
 
+def told_of(program):
+    """What the system tells of a program, by name."""
+    with open(f"/proc/{program.pid}/status", encoding="ascii") as status:
+        return dict(line.split(":", 1) for line in status)
+
+
+def data_of(program):
+    """How many KiB a program may write to, whether it has done so or not."""
+    return int(told_of(program)["VmData"].split()[0])
+
+
 def state(program):
     """How many threads and descriptors a program has, and its resident memory in MiB."""
-    with open(f"/proc/{program.pid}/status", encoding="ascii") as status:
-        told = dict(line.split(":", 1) for line in status)
+    told = told_of(program)
     resident = int(told.get("VmRSS", "0").split()[0])
     return int(told["Threads"]), len(os.listdir(f"/proc/{program.pid}/fd")), resident / 1024
 

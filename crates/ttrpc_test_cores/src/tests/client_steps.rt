@@ -17,6 +17,8 @@ pub fn client_step<C: Streaming>(alloc: Global, core: &mut C, step: &Step) -> Me
     match *step {
         Step::Calls(timeout, now, id) => calls(alloc, core, timeout, now, id),
         Step::CallsSevens(length, id) => calls_sevens(alloc, core, length, id),
+        Step::CallsBare(id) => Ok(core.request(alloc, &Request::new(alloc), 0)? == id),
+        Step::RefusesBare(why) => refuses(alloc, core, &Request::new(alloc), why),
         Step::RefusesCall(why) => refuses_call(alloc, core, why),
         Step::RefusesSevens(length, why) => refuses_sevens(alloc, core, length, why),
         Step::RefusesFirstCall(why) => refuses_first_call(alloc, core, why),

@@ -14,6 +14,7 @@ mod many_client_tests;
 mod many_server_tests;
 mod plain_client_tests;
 mod plain_server_tests;
+mod room_tests;
 mod script;
 mod server_numbers;
 mod server_steps;

@@ -17,6 +17,8 @@ pub enum Told {
     RemoteClosed,
     /// `Error::Eof`.
     Eof,
+    /// `Error::NoRoom`.
+    NoRoom,
 }
 
 /// What is done to a core, and what is looked for. A step that a core doesn't know isn't met.
@@ -47,6 +49,8 @@ pub enum Step {
     Reports,
     /// The bytes from the first number up to the second leave.
     Leaves(&'static [u8], usize, usize),
+    /// So many bytes leave, whichever they are.
+    Departs(usize),
     /// The first bytes come so many times, each time whole, and behind each all that is left to be written is the second
     /// bytes, which leave.
     Repeats(&'static [u8], &'static [u8], u32),
@@ -97,6 +101,10 @@ pub enum Step {
     BreaksBy(u64, i32, &'static str),
     /// A response with this payload is queued under this stream's id.
     Responds(u32, &'static [u8]),
+    /// The same with so many bytes 7.
+    RespondsSevens(u32, usize),
+    /// A response without a status and a payload is queued under this stream's id.
+    RespondsBare(u32),
     /// A response under this stream's id is refused so, and so again.
     RefusesResponse(u32, Told),
     /// The job of this id is ended.
@@ -147,6 +155,10 @@ pub enum Step {
     Calls(i64, u64, u32),
     /// A call with so many bytes 7 gets this id.
     CallsSevens(usize, u32),
+    /// A call whose request has no field gets this id.
+    CallsBare(u32),
+    /// Such a call is refused so, and so again.
+    RefusesBare(Told),
     /// A call is refused so, and so again.
     RefusesCall(Told),
     /// The same of one with so many bytes 7.
@@ -236,6 +248,8 @@ pub enum Start {
 /// How the pieces of a script are cut.
 #[derive(Clone, Copy)]
 pub enum Cuts {
+    /// Once whole.
+    Whole,
     /// Once whole, and once one byte at a time.
     WholeAndBytes,
     /// At each place inside a frame of so many bytes, in turn.

@@ -36,6 +36,11 @@ pub fn server_step<S: Server>(alloc: Global, core: &mut S, step: &Step, cut: usi
         Step::WritesStatus(code, begins) => writes_status(alloc, core, code, begins),
         Step::ServesLastFirst(count) => serves_last_first(alloc, core, count),
         Step::Responds(stream, payload) => responds(alloc, core, stream, payload),
+        Step::RespondsSevens(stream, length) => responds_sevens(alloc, core, stream, length),
+        Step::RespondsBare(stream) => {
+            core.respond(alloc, stream, &Response::new(alloc))?;
+            Ok(true)
+        }
         Step::RefusesResponse(stream, why) => refuses_response(alloc, core, stream, why),
         Step::Finishes(id) => finishes(alloc, core, id),
         Step::RefusesFinish(id, why) => refuses_finish(alloc, core, id, why),
@@ -260,6 +265,12 @@ fn refused_and_given<S: Server>(
 
 fn responds<S: Server>(alloc: Global, core: &mut S, stream: u32, payload: &[u8]) -> Met {
     let response = ok_response(alloc, Blob::from_slice(alloc, payload)?);
+    core.respond(alloc, stream, &response)?;
+    Ok(true)
+}
+
+fn responds_sevens<S: Server>(alloc: Global, core: &mut S, stream: u32, length: usize) -> Met {
+    let response = ok_response(alloc, Blob::from_vec(vec![in alloc; 7; length]?));
     core.respond(alloc, stream, &response)?;
     Ok(true)
 }

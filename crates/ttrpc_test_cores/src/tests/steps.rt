@@ -20,6 +20,7 @@ pub fn act<C: Core>(alloc: Global, core: &mut C, step: &Step, cut: usize) -> Met
         Step::Lends(room, bytes, from, to) => Ok(lends(core, room, behind(front(bytes, to), from))),
         Step::Lent(count) => Ok(core.lent() == count),
         Step::Leaves(bytes, from, to) => Ok(leaves(core, behind(front(bytes, to), from))),
+        Step::Departs(count) => departs(alloc, core, count),
         Step::Repeats(bytes, expected, count) => repeats(alloc, core, bytes, expected, count),
         Step::FailsBy(text) => fails_by(alloc, core, text),
         Step::IsAlive => Ok(core.failure(alloc).is_none()),
@@ -160,6 +161,28 @@ pub fn leaves<C: End>(core: &mut C, expected: &[u8]) -> bool {
     lent
 }
 
+/// So many bytes leave.
+fn departs<C: End>(alloc: Global, core: &mut C, count: usize) -> Met {
+    let mut buffer = vec![in alloc; 0; 65536]?;
+    let mut left = count;
+    for _ in 0..=count {
+        let lent = lends_some(core, buffer.as_mut_slice(), left);
+        if lent == 0 {
+            break;
+        }
+        left = left.saturating_sub(lent);
+    }
+    Ok(left == 0)
+}
+
+/// Lends and reports at most so many bytes, and returns how many.
+fn lends_some<C: End>(core: &mut C, buffer: &mut [u8], most: usize) -> usize {
+    let room = most.min(buffer.len());
+    let lent = core.lend(&mut buffer[..room]);
+    core.report();
+    lent
+}
+
 fn fails_by<C: End>(alloc: Global, core: &mut C, text: &str) -> Met {
     core.fail(Error::Socket(Text::from_str(alloc, text)?));
     Ok(true)
@@ -203,6 +226,7 @@ fn is(error: &Error, why: Told) -> bool {
         Told::LocalClosed => matches!(error, Error::LocalClosed),
         Told::RemoteClosed => matches!(error, Error::RemoteClosed),
         Told::Eof => matches!(error, Error::Eof),
+        Told::NoRoom => matches!(error, Error::NoRoom),
     }
 }
 

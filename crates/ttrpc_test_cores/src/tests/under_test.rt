@@ -179,6 +179,7 @@ fn hold_as<C: Core>(
 /// The row holds in all its cuts.
 fn holds<C: Core>(rt: &impl Abort, alloc: Global, kind: C::Kind, row: &Row, form: Form) -> Tested {
     match row.cuts {
+        Cuts::Whole => holds_at::<C>(rt, alloc, kind, row, usize::MAX, form),
         Cuts::WholeAndBytes => {
             holds_at::<C>(rt, alloc, kind, row, usize::MAX, form)?;
             holds_at::<C>(rt, alloc, kind, row, 1, form)

@@ -185,8 +185,8 @@ fn lends(queue: &mut Outgoing, size: usize, expected: &[u8]) -> bool {
 /// Makes one call, and returns whether it answered as it must.
 fn does(alloc: Global, queue: &mut Outgoing, act: Act) -> Result<bool, Fail> {
     match act {
-        Act::Place(row) => queue.place(queued_of(alloc, &row, None)?)?,
-        Act::PlaceOf(row, owner) => queue.place(queued_of(alloc, &row, Some(owner))?)?,
+        Act::Place(row) => queue.place(queued_of(alloc, &row, None)?, 0)?,
+        Act::PlaceOf(row, owner) => queue.place(queued_of(alloc, &row, Some(owner))?, 0)?,
         Act::Fill(payload) => queue.fill(Blob::from_slice(alloc, payload)?),
         Act::Withdraw => queue.withdraw(),
         Act::ThrowAway(owner) => queue.throw_away(&owner),
@@ -239,9 +239,9 @@ fn a_refused_frame_is_not_queued(rt: HostRuntime) -> Tested {
     let alloc = rt.alloc();
     let mut queue = Outgoing::new(alloc);
     let mut is_unchanged = true;
-    if queue.place(queued_of(alloc, &ANSWERING, None)?) == Err(Error::NoMemory) {
+    if queue.place(queued_of(alloc, &ANSWERING, None)?, 0) == Err(Error::NoMemory) {
         is_unchanged = queue.is_empty();
-        queue.place(queued_of(alloc, &ANSWERING, None)?)?;
+        queue.place(queued_of(alloc, &ANSWERING, None)?, 0)?;
     }
     let bytes = drained(alloc, &mut queue, 16)?;
     check(is_unchanged && bytes.as_slice() == ANSWERED)

@@ -1,6 +1,7 @@
 //! Connections that end, or stall, and what that is to others.
 use crate::tests::Tested;
 use std::alloc::Global;
+use std::sync::Arc;
 use std::sync::atomic::{AtomicBool, Ordering};
 use std::test::Fail;
 use std::time::{Duration, Instant};
@@ -38,20 +39,16 @@ fn much(alloc: Global) -> Answered<Vec<u8>> {
     Ok(request)
 }
 
-/// Writes sixteen such requests.
-fn asks_much(alloc: Global, connection: &PipeConnection) -> Answered<()> {
-    let request = much(alloc)?;
+/// Writes sixteen such requests, unless the connection is closed before.
+fn asks_much(alloc: Global, connection: &PipeConnection) {
+    let Ok(request) = much(alloc) else {
+        return;
+    };
     for _ in 0..16 {
-        write_all(connection, request.as_slice())?;
+        if write_all(connection, request.as_slice()).is_err() {
+            return;
+        }
     }
-    Ok(())
-}
-
-/// A peer that asks much, and reads nothing.
-fn stalls<R: Machine>(rt: &R, address: &str) -> Answered<PipeConnection> {
-    let stalled = connection(rt, address)?;
-    asks_much(rt.alloc(), &stalled)?;
-    Ok(stalled)
 }
 
 /// A new client of a server that has another connection, which is answered a hundred times.
@@ -66,9 +63,13 @@ fn served_beside<R: Machine + 'static>(rt: &R, site: &Site<R, NoHook>) -> Answer
 #[test]
 fn a_stalled_peer_is_alone_with_that(rt: HostRuntime) -> Tested {
     let site = serving(&rt)?;
-    let stalled = stalls(&rt, site.address.as_str())?;
+    let alloc = rt.alloc();
+    let stalled = Arc::new(alloc, connection(&rt, site.address.as_str())?)?;
+    let asking = Arc::try_clone(&stalled)?;
+    let thread = thread::Builder::new().spawn(&rt, move || asks_much(alloc, &asking))?;
     let _client = served_beside(&rt, &site)?;
-    drop(stalled);
+    stalled.close()?;
+    thread.join(&rt);
     has_connections(&rt, &site, 1)?;
     site.server.shutdown();
     Ok(())

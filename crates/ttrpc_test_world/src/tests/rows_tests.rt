@@ -536,6 +536,42 @@ fn a_server_drains(rt: HostRuntime) -> Tested {
     are_told(&rt, rt.alloc(), &[(&ALL, DRAINS)])
 }
 
+/// A server whose queue has no free byte refuses an answer, and takes no request until as many bytes as the longest frame has
+/// are free.
+const FULL_QUEUE: Rows = &[
+    (Call(b"\x2a", 0), Named(1)),
+    (Call(b"\x2b", 0), Named(3)),
+    (Call(b"\x2c", 0), Named(5)),
+    (CarryUp(30), Count(30)),
+    (CarryUp(30), Count(30)),
+    (CarryUp(30), Count(30)),
+    (DeliverUp(90), Count(90)),
+    (Take, Job(1, 1, b"\x2a")),
+    (Take, Job(2, 3, b"\x2b")),
+    (Take, Job(3, 5, b"\x2c")),
+    (AnswerSevens(1, 4194297), Done),
+    (AnswerSevens(2, 4194297), Done),
+    (Answer(3, b"\x2c"), NoRoom),
+    (Call(b"\x2d", 0), Named(7)),
+    (CarryUp(30), Count(30)),
+    (DeliverUp(30), Count(0)),
+    (CarryDown(4194313), Count(4194313)),
+    (DeliverUp(30), Count(0)),
+    (CarryDown(1), Count(1)),
+    (DeliverUp(30), Count(30)),
+    (Take, Job(4, 7, b"\x2d")),
+    (Answer(3, b"\x2c"), Done),
+    (CarryDown(4194314), Count(4194314)),
+    (CarryDown(64), Count(15)),
+];
+
+const FULL_QUEUES: &[Script] = &[(Over::Plain, &[FULL_QUEUE])];
+
+#[test]
+fn a_full_queue_refuses_until_a_frame_has_left(rt: HostRuntime) -> Tested {
+    are_told(&rt, rt.alloc(), &[(&SYNC, FULL_QUEUES)])
+}
+
 /// A call whose bytes are carried and delivered one by one, once more than there are.
 const BYTE_BY_BYTE: Rows = &[
     (Call(b"\x2a", 0), Named(1)),

@@ -77,6 +77,8 @@ pub enum Said {
     Ticket(u64),
     /// An outcome that is `Ok`, or an item, with this payload.
     Payload(&'static [u8]),
+    /// An outcome that is `Ok`, with so many bytes 7.
+    Sevens(usize),
     /// An outcome, an item or a refusal that is an error of this text.
     Others(&'static str),
     Socket(&'static str),
@@ -86,6 +88,7 @@ pub enum Said {
     Eof,
     RemoteClosed,
     LocalClosed,
+    NoRoom,
     /// No outcome yet, or no item.
     Waits,
     /// This job of one response, of this stream, with this payload.
@@ -345,6 +348,7 @@ fn is_error(error: &Error, said: Said) -> bool {
         Said::Eof => matches!(error, Error::Eof),
         Said::RemoteClosed => matches!(error, Error::RemoteClosed),
         Said::LocalClosed => matches!(error, Error::LocalClosed),
+        Said::NoRoom => matches!(error, Error::NoRoom),
         _ => false,
     }
 }
@@ -354,6 +358,16 @@ fn has_payload(reply: &Reply, payload: &[u8]) -> bool {
     match reply {
         Reply::Outcome(Some(Ok(response))) => response.payload.as_slice() == payload,
         Reply::Item(Some(Ok(item))) => item.as_slice() == payload,
+        _ => false,
+    }
+}
+
+/// Returns whether the outcome is `Ok` with so many bytes 7.
+fn has_sevens(reply: &Reply, count: usize) -> bool {
+    match reply {
+        Reply::Outcome(Some(Ok(response))) => {
+            response.payload.len() == count && response.payload.as_slice().iter().all(|byte| *byte == 7)
+        }
         _ => false,
     }
 }
@@ -385,6 +399,7 @@ pub fn is_said(reply: &Reply, said: Said) -> bool {
         Said::Named(id) => matches!(reply, Reply::Named(told) if *told == id),
         Said::Ticket(ticket) => matches!(reply, Reply::Ticket(told) if *told == ticket),
         Said::Payload(payload) => has_payload(reply, payload),
+        Said::Sevens(count) => has_sevens(reply, count),
         Said::Waits => matches!(reply, Reply::Outcome(None) | Reply::Item(None)),
         Said::Job(id, stream_id, payload) => has_job(reply, id, stream_id, false, payload),
         Said::StreamJob(id, stream_id) => has_job(reply, id, stream_id, true, b""),

@@ -498,6 +498,39 @@ fn a_response_too_long_comes_to_rest(rt: HostRuntime) -> Tested {
     is_replaced(&rt, rt.alloc(), Over::Stamps, SYNC[0], STAMPED_TOO_LONG)
 }
 
+/// A delivery takes the first of two requests, whose own answer leaves too little room for the second. That one is delivered
+/// after the long response has left.
+const TAKEN_IN_PART: Rows = &[
+    (Call(b"\x2a", 0), Named(1)),
+    (CarryUp(30), Count(30)),
+    (DeliverUp(30), Count(30)),
+    (Take, Job(1, 1, b"\x2a")),
+    (AnswerSevens(1, 4194297), Done),
+    (CallOf("Nope", b"\x2a"), Named(3)),
+    (Call(b"\x2b", 0), Named(5)),
+    (CarryUp(30), Count(30)),
+    (CarryUp(30), Count(30)),
+    (DeliverUp(60), Count(30)),
+    (DeliverUp(60), Count(0)),
+    (CarryDown(4194314), Count(4194314)),
+    (DeliverUp(60), Count(30)),
+    (Take, Job(2, 5, b"\x2b")),
+    (Take, NoJob),
+    (Answer(2, b"\x2b"), Done),
+    (CarryDown(ALL), Moved),
+    (CarryDown(ALL), Moved),
+    (DeliverDown(5000000), Moved),
+    (Outcome(1), Sevens(4194297)),
+    (Outcome(3), Status(3, "/demo.Echo/Nope does not exist")),
+    (Outcome(5), Payload(b"\x2b")),
+];
+
+#[test]
+fn a_delivery_that_takes_a_front_comes_to_rest(rt: HostRuntime) -> Tested {
+    let script = [TAKEN_IN_PART, AT_REST];
+    rests_over(&rt, rt.alloc(), Over::Plain, SYNC[0], &script, Rest::Whole(2, 0))
+}
+
 // ---- traces from which something is kept back
 
 /// At a place of a trace, the act whose reply is another one, and what is told of that.

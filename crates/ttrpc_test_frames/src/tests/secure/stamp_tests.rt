@@ -96,6 +96,7 @@ fn sent(outcome: Result<(), SendError>) -> Tested {
     match outcome {
         Ok(()) => Ok(()),
         Err(SendError::TooLong) => Err("the payload is too long".into()),
+        Err(SendError::NoRoom) => Err("there is no room".into()),
         Err(SendError::Failed(error)) => Err(error.into()),
     }
 }
