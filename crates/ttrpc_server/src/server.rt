@@ -83,10 +83,10 @@ impl<O: OutboundTransform + Drop, I: InboundTransform + Drop> ServerCore<O, I> {
         self.connection.outbox.lemma_is_queue();
     }
 
-    /// Takes a piece whole, and says how many bytes that are. Each frame that is whole with it acts, in order. The
-    /// connection fails where memory for a frame is refused or job ids are used up; then and from then on the answer is
-    /// that failure. Under sync rules the moment `now`, in nanoseconds, plays no part. After `drain` the answer is 0, and
-    /// nothing changes.
+    /// Takes a piece, and returns how many bytes were taken: all, or those up to the end of a frame after which fewer than
+    /// 4194314 bytes are free in the queue. None are taken, and nothing changes, while fewer are free or after `drain`. Each frame
+    /// that is whole with the piece acts, in order. The connection fails if memory for a frame is refused or job ids are used up;
+    /// then and from then on the answer is that failure. Under sync rules the moment `now`, in nanoseconds, plays no part.
     pub fn feed(&mut self, alloc: Global, piece: &[u8], now: u64) -> Result<usize, Error>
         ensures { TakesOrDrains (serving O.OutboundTransform I.InboundTransform) self.old.state self.old.connection piece.now now result self.new.state self.new.connection }
     {
