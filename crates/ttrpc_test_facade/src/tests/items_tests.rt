@@ -110,7 +110,7 @@ const FRAME: &[u8] = b"\0\0\0\x01\0\0\0\x03\x02\0\x2a";
 /// Whether a frame that is queued is lent whole.
 fn is_lent(alloc: Global) -> std::result::Result<bool, Fail> {
     let mut queue = Outgoing::new(alloc);
-    queue.place(Queued {
+    let frame = Queued {
         message: GenMessage {
             header: MessageHeader::new_response(3, 1),
             payload: Blob::from_slice(alloc, b"\x2a")?,
@@ -118,7 +118,8 @@ fn is_lent(alloc: Global) -> std::result::Result<bool, Fail> {
         ticket: None,
         is_unary_request: false,
         owner: 3,
-    })?;
+    };
+    queue.place(frame, 0)?;
     let mut buffer = [0u8; 16];
     let count = queue.lend(&mut buffer);
     Ok(count == FRAME.len() && buffer.starts_with(FRAME))

@@ -366,7 +366,8 @@ fn has_payload(reply: &Reply, payload: &[u8]) -> bool {
 fn has_sevens(reply: &Reply, count: usize) -> bool {
     match reply {
         Reply::Outcome(Some(Ok(response))) => {
-            response.payload.len() == count && response.payload.as_slice().iter().all(|byte| *byte == 7)
+            response.payload.len() == count
+                && response.payload.as_slice().iter().all(|byte| *byte == 7)
         }
         _ => false,
     }

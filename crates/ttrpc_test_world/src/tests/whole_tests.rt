@@ -528,7 +528,14 @@ const TAKEN_IN_PART: Rows = &[
 #[test]
 fn a_delivery_that_takes_a_front_comes_to_rest(rt: HostRuntime) -> Tested {
     let script = [TAKEN_IN_PART, AT_REST];
-    rests_over(&rt, rt.alloc(), Over::Plain, SYNC[0], &script, Rest::Whole(2, 0))
+    rests_over(
+        &rt,
+        rt.alloc(),
+        Over::Plain,
+        SYNC[0],
+        &script,
+        Rest::Whole(2, 0),
+    )
 }
 
 // ---- traces from which something is kept back
