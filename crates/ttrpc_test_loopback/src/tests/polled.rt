@@ -33,7 +33,7 @@ pub fn start_polled<R: System + Threads + Send + 'static>(
 fn serve<R: System>(rt: &R, listener: TcpListener, count: usize) -> Result<()> {
     let mut runtime = nix(LocalRuntime::new(rt))?;
     // Connections that don't end are dropped then.
-    runtime.set_shutdown_timeout(Some(Duration::from_secs(5)));
+    runtime.set_shutdown_timeout(Some(Duration::from_secs(60)));
     let mut server = server_of(rt, runtime.handle(), listener)?;
     let serving = server.start()?;
     nix(runtime.run_all(rt, serving.take(count)))

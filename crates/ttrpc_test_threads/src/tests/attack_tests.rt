@@ -17,7 +17,7 @@ use ttrpc_sync_server::NoHook;
 use ttrpc_transport::{PipeConnection, PipeListener, Stream};
 
 /// The next connection of a listener.
-fn accepted(listener: &PipeListener) -> Answered<PipeConnection> {
+pub fn accepted(listener: &PipeListener) -> Answered<PipeConnection> {
     match listener.accept() {
         Ok(Some(connection)) => Ok(connection),
         Ok(None) => Err(Error::LocalClosed),
@@ -96,7 +96,7 @@ fn a_caller_returns_with_its_answer(rt: HostRuntime) -> Tested {
 const LONE_CALLS: usize = 20;
 
 /// Reads a call, and answers it with a byte.
-fn answer_next(alloc: Global, connection: &PipeConnection) -> Answered<()> {
+pub fn answer_next(alloc: Global, connection: &PipeConnection) -> Answered<()> {
     let asked = next_id(alloc, connection)?;
     let mut stream = connection;
     answer(alloc, &mut stream, asked, 1)

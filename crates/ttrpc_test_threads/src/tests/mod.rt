@@ -1,6 +1,7 @@
 mod attack_tests;
 mod call_tests;
 mod crew_tests;
+mod room_tests;
 
 use std::test::Fail;
 
