@@ -14,6 +14,7 @@ use Rattle.ttrpc_wire.specs.Field.{Field, Varint, Fits, tag_bytes, field_bytes, 
 use Rattle.ttrpc_wire.specs.Number.{number_of, int64_of, int32_of}
 use Rattle.ttrpc_wire.specs.Reading.{◌>>=◌}
 use Rattle.ttrpc_wire.specs.Fold.{folded, read_from}
+use Rattle.ttrpc_wire.specs.Codec.InPlace.{payload_head}
 use Rattle.ttrpc_wire.specs.Codec.Members.{delimited_field, delimited_fields, number_fields, part_fields, optional_fields}
 use Rattle.ttrpc_wire.proofs.Folds.{folded-append, reads_back}
 
@@ -24,6 +25,12 @@ fields_bytes-append fs gs = flat_map-append _ fs gs
 
 pub length-fields_bytes-append : (fs gs : List Field) → length (fields_bytes (fs ++ gs)) ≡ length (fields_bytes fs) + length (fields_bytes gs)
 length-fields_bytes-append fs gs = ap length (fields_bytes-append fs gs) ∙ length-append (fields_bytes fs) (fields_bytes gs)
+
+-- the field of a payload is what is written before the payload, and the payload
+pub payload_then : (k : ℕ) (p : List ℕ) → fields_bytes (delimited_fields k p) ≡ payload_head k p ++ p
+payload_then k [] = refl
+payload_then k (b ∷ bytes) =
+    append-nil (field_bytes (delimited_field k (b ∷ bytes))) ∙ sym (append_assoc (tag_bytes k wire.LengthDelimited) (varint (length (b ∷ bytes))) (b ∷ bytes))
 
 -- the two laws under names that an attribute can cite
 pub fields_then : (fs gs : List Field) → fields_bytes (fs ++ gs) ≡ fields_bytes fs ++ fields_bytes gs

@@ -4,7 +4,7 @@ use Rattle.std.specs.Prelude.{ℕ, ℤ, pos, negsuc, ◌==◌, if◌then◌else�
 use Rattle.ttrpc_wire.specs.declared.values.code.Code.{Code}
 use Rattle.ttrpc_wire.specs.declared.values.code.Code.TheVariants.{OK, CANCELLED, UNKNOWN, INVALID_ARGUMENT, DEADLINE_EXCEEDED, NOT_FOUND, ALREADY_EXISTS, PERMISSION_DENIED, RESOURCE_EXHAUSTED, FAILED_PRECONDITION, ABORTED, OUT_OF_RANGE, UNIMPLEMENTED, INTERNAL, UNAVAILABLE, DATA_LOSS, UNAUTHENTICATED}
 
--- the number that stands for a code
+-- Returns the number of a code in a status.
 abbrev pub number_of_code : Code → ℤ
 number_of_code OK = pos 0
 number_of_code CANCELLED = pos 1
@@ -24,7 +24,7 @@ number_of_code UNAVAILABLE = pos 14
 number_of_code DATA_LOSS = pos 15
 number_of_code UNAUTHENTICATED = pos 16
 
--- the code that a number from 0 on stands for, and UNKNOWN where it stands for none
+-- Returns the code of a number from 0 on, or UNKNOWN if no code has this number.
 abbrev pub code_at : ℕ → Code
 code_at n =
     if n == 0 then OK else (
@@ -45,7 +45,7 @@ code_at n =
     if n == 15 then DATA_LOSS else (
     if n == 16 then UNAUTHENTICATED else UNKNOWN))))))))))))))))
 
--- the code that a number stands for: no negative one stands for any
+-- Returns the code of a number, or UNKNOWN if no code has this number. No code has a negative number.
 abbrev pub code_of_number : ℤ → Code
 code_of_number (pos n) = code_at n
 code_of_number (negsuc _) = UNKNOWN

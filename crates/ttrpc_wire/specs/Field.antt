@@ -7,77 +7,77 @@ use Rattle.ttrpc_wire.specs.declared.field.WireType.{WireType}
 use Rattle.ttrpc_wire.specs.declared.field.WireType.TheVariants as wire
 use Rattle.ttrpc_wire.specs.Varint.{IsVarint, varint}
 
--- the number that stands for a wire type in a tag; 3, 4, 6 and 7 stand for none
+-- Returns the number of a wire type in a tag. No wire type has the number 3, 4, 6 or 7.
 abbrev pub code_of : WireType → ℕ
 code_of wire.Varint = 0
 code_of wire.Fixed64 = 1
 code_of wire.LengthDelimited = 2
 code_of wire.Fixed32 = 5
 
--- a value, without where it lies in memory
+-- A value, without its place in memory.
 pub data Value : Type 0 where
   Varint : (n : ℕ) → Value
   Fixed64 : (n : ℕ) → Value
   LengthDelimited : (bytes : List ℕ) → Value
   Fixed32 : (n : ℕ) → Value
 
--- the wire type of a value
+-- Returns the wire type of a value.
 abbrev pub wire_type_of : Value → WireType
 wire_type_of (Varint n) = wire.Varint
 wire_type_of (Fixed64 n) = wire.Fixed64
 wire_type_of (LengthDelimited bytes) = wire.LengthDelimited
 wire_type_of (Fixed32 n) = wire.Fixed32
 
--- a field: its number and its value
+-- A field: its number and its value.
 pub record Field : Type 0 where
   pub number : ℕ
   pub value : Value
 
 -- ---- the grammar
 
--- A tag: a varint below 2 ^ 32, of the field's number, which isn't 0, and a wire type.
+-- Holds if the bytes are a tag of this field number and wire type. A tag is a varint, and the field number is from 1 to 2 ^ 29 - 1.
 pub record IsTag (bytes : List ℕ) (number : ℕ) (type : WireType) : Type 0 where
   pub spells : IsVarint bytes (number * 8 + code_of type)
   pub low : 1 ≤ number
   pub high : number < 2 ^ 29
 
--- the number of eight bytes, the lowest first
+-- Returns the number in eight bytes, the lowest byte first.
 unfoldable pub fixed64_of : List ℕ → ℕ
 fixed64_of bytes = from_le_bytes w64 bytes
 
--- the number of four bytes, the lowest first
+-- Returns the number in four bytes, the lowest byte first.
 unfoldable pub fixed32_of : List ℕ → ℕ
 fixed32_of bytes = from_le_bytes w32 bytes
 
--- The bytes are eight, the lowest first, and stand for n.
+-- Holds if the bytes are eight, the lowest first, and their number is n.
 pub record IsFixed64 (bytes : List ℕ) (n : ℕ) : Type 0 where
   pub size : length bytes ≡ 8
   pub value : n ≡ fixed64_of bytes
 
--- The bytes are four, the lowest first, and stand for n.
+-- Holds if the bytes are four, the lowest first, and their number is n.
 pub record IsFixed32 (bytes : List ℕ) (n : ℕ) : Type 0 where
   pub size : length bytes ≡ 4
   pub value : n ≡ fixed32_of bytes
 
--- a varint, and as many bytes as it says
+-- Holds if the bytes are a varint for a length, and after it the delimited bytes, which have this length.
 pub record IsLengthDelimited (bytes delimited : List ℕ) : Type 0 where
   pub len : List ℕ
   pub whole : bytes ≡ len ++ delimited
   pub counts : IsVarint len (length delimited)
 
--- The bytes are this value.
+-- Holds if the bytes are this value.
 abbrev pub IsValue : List ℕ → Value → Type 0
 IsValue bytes (Varint n) = IsVarint bytes n
 IsValue bytes (Fixed64 n) = IsFixed64 bytes n
 IsValue bytes (LengthDelimited delimited) = IsLengthDelimited bytes delimited
 IsValue bytes (Fixed32 n) = IsFixed32 bytes n
 
--- a value of this wire type
+-- Holds if the bytes are this value, and it has this wire type.
 pub record IsValueOf (type : WireType) (bytes : List ℕ) (value : Value) : Type 0 where
   pub is : IsValue bytes value
   pub typed : wire_type_of value ≡ type
 
--- The bytes are this field: its tag, and behind it its value.
+-- Holds if the bytes are this field: its tag, and after it its value.
 pub record IsField (bytes : List ℕ) (f : Field) : Type 0 where
   pub tag : List ℕ
   pub rest : List ℕ
@@ -85,48 +85,48 @@ pub record IsField (bytes : List ℕ) (f : Field) : Type 0 where
   pub tagged : IsTag tag f.number (wire_type_of f.value)
   pub value : IsValue rest f.value
 
--- The bytes are these fields, in order.
+-- Holds if the bytes are these fields, in order.
 abbrev pub IsFields : List ℕ → List Field → Type 0
 IsFields bytes [] = bytes ≡ []
 IsFields bytes (f ∷ fs) = (front : List ℕ) × (rest : List ℕ) × (bytes ≡ front ++ rest) × IsField front f × IsFields rest fs
 
 -- ---- the written form
 
--- the eight bytes of a number, the lowest first
+-- Returns the eight bytes of a number, the lowest first.
 unfoldable pub fixed64 : ℕ → List ℕ
 fixed64 n = to_le_bytes w64 n
 
--- the four bytes of a number, the lowest first
+-- Returns the four bytes of a number, the lowest first.
 unfoldable pub fixed32 : ℕ → List ℕ
 fixed32 n = to_le_bytes w32 n
 
--- the tag that is written for a field's number and a wire type
+-- Returns the tag that is written for a field number and a wire type.
 abbrev pub tag_bytes : ℕ → WireType → List ℕ
 tag_bytes number type = varint (number * 8 + code_of type)
 
--- the bytes that are written for a value
+-- Returns the bytes that are written for a value.
 abbrev pub value_bytes : Value → List ℕ
 value_bytes (Varint n) = varint n
 value_bytes (Fixed64 n) = fixed64 n
 value_bytes (LengthDelimited bytes) = varint (length bytes) ++ bytes
 value_bytes (Fixed32 n) = fixed32 n
 
--- the bytes that are written for a field: its tag, and behind it its value
+-- Returns the bytes that are written for a field: its tag, and after it its value.
 abbrev pub field_bytes : Field → List ℕ
 field_bytes f = tag_bytes f.number (wire_type_of f.value) ++ value_bytes f.value
 
--- the bytes that are written for fields, one behind the other
+-- Returns the bytes that are written for fields, one after the other.
 abbrev pub fields_bytes : List Field → List ℕ
 fields_bytes fs = flat_map field_bytes fs
 
--- what has a written form
+-- Holds if the value has a written form.
 abbrev pub ValueFits : Value → Type 0
 ValueFits (Varint n) = n < 2 ^ 64
 ValueFits (Fixed64 n) = n < 2 ^ 64
 ValueFits (LengthDelimited bytes) = length bytes < 2 ^ 64
 ValueFits (Fixed32 n) = n < 2 ^ 32
 
--- a field that has a written form: its number is from 1 to 2 ^ 29 - 1, and its value has one
+-- Holds if the field has a written form: its number is from 1 to 2 ^ 29 - 1, and its value has one.
 pub record Fits (f : Field) : Type 0 where
   pub low : 1 ≤ f.number
   pub high : f.number < 2 ^ 29

@@ -1,4 +1,4 @@
-//! A field's parts: its number, its wire type and its value.
+//! The parts of a field: its number, its wire type and its value.
 ghost use Rattle.std.specs.Prelude.{◌≡◌, ◌≤◌, ◌<◌, ◌^◌, ◌↔◌, IsSome, IfSome};
 
 /// A field's number, from 1 to 536870911.
@@ -10,7 +10,7 @@ pub struct FieldNumber {
 }
 
 impl FieldNumber {
-    /// The number, if a field can have it.
+    /// Returns the field number with this value, if a field can have it.
     pub fn new(value: u32) -> Option<FieldNumber>
         ensures valid { IsSome result ↔ ((1 ≤ value) × (value < 2 ^ 29)) }
         ensures value { IfSome result (λ number. number.value ≡ value) }
@@ -30,13 +30,13 @@ pub enum WireType {
     Varint,
     /// 1: eight bytes.
     Fixed64,
-    /// 2: a varint, and as many bytes as it says.
+    /// 2: a varint for the length, and this many bytes.
     LengthDelimited,
     /// 5: four bytes.
     Fixed32,
 }
 
-/// What stands before a value.
+/// A tag: the field number and the wire type before a value.
 #[derive(Clone, Copy, Debug, PartialEq, Eq)]
 pub struct Tag {
     pub number: FieldNumber,
@@ -47,10 +47,10 @@ pub struct Tag {
 #[derive(Clone, Copy, Debug, PartialEq, Eq)]
 pub enum Value<'a> {
     Varint(u64),
-    /// The number of eight bytes, the lowest first.
+    /// The number in eight bytes, the lowest byte first.
     Fixed64(u64),
     LengthDelimited(&'a [u8]),
-    /// The number of four bytes, the lowest first.
+    /// The number in four bytes, the lowest byte first.
     Fixed32(u32),
 }
 
@@ -65,7 +65,7 @@ impl Value<'_> {
     ghost use Rattle.ttrpc_wire.specs.Field.{wire_type_of};
     ghost use Rattle.ttrpc_wire.specs.Seen.{seen_value};
 
-    /// The wire type that stands in the tag of such a value.
+    /// Returns the wire type of the value.
     pub fn wire_type(&self) -> WireType
         ensures { result ≡ wire_type_of (seen_value self.now) }
     {
@@ -82,7 +82,7 @@ impl Field<'_> {
     ghost use Rattle.ttrpc_wire.specs.Field.{wire_type_of};
     ghost use Rattle.ttrpc_wire.specs.Seen.{seen_value};
 
-    /// What stands before the field's value.
+    /// Returns the field's tag.
     pub fn tag(&self) -> Tag
         ensures number { result.number ≡ self.now.number }
         ensures wire_type { result.wire_type ≡ wire_type_of (seen_value self.now.value) }

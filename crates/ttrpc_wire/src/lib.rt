@@ -1,5 +1,5 @@
-//! The Protocol Buffers wire format: the fields of a message, read from a slice and written onto a vector. `codec` has the
-//! messages that are made of fields, and `values` the small types that the values of all layers are made of.
+//! The Protocol Buffers wire format: the fields of a message, read from a slice and appended to a vector. `codec` has
+//! the messages that are made of fields, and `values` the small types that the values of all layers are made of.
 #![tactic(auto)]
 
 pub mod codec;

@@ -1,4 +1,4 @@
-//! Reading from the front of a slice.
+//! Reading from the front of a slice. No call takes memory.
 ghost use Rattle.std.specs.Prelude.{◌≡◌, List, [], ℕ, length, Some, None, IfOk, OnOk, IfErr, ◌<◌, IsTrue, ◌↔◌};
 ghost use Rattle.ttrpc_wire.specs.Varint.{IsVarint};
 ghost use Rattle.ttrpc_wire.specs.Field.{IsFixed64, IsFixed32, IsLengthDelimited, IsValueOf, IsField, fixed64_of, fixed32_of};
@@ -118,9 +118,9 @@ fn field_of(bytes: &[u8]) -> Result<(Field<'_>, &[u8]), CodecError>
     Ok((Field { number, value }, rest))
 }
 
-/// Reads a message's fields from the front of its bytes.
+/// A reader of a message's fields, from the front of its bytes.
 ///
-/// Each call takes just the bytes of what it gives. After an error the reader is unchanged.
+/// Each call takes exactly the bytes of the value that it returns or skips. An error leaves the reader unchanged.
 #[derive(Debug, Drop)]
 pub struct Reader<'a> {
     rest: &'a [u8],
@@ -133,28 +133,28 @@ impl<'a> Model for Reader<'a> {
 }
 
 impl<'a> Reader<'a> {
-    /// A reader of all the bytes.
+    /// Returns a reader of all these bytes.
     pub fn new(bytes: &'a [u8]) -> Reader<'a>
         ensures { result ≡ bytes.now }
     {
         Reader { rest: bytes }
     }
 
-    /// The bytes that are left.
+    /// Returns the bytes that are left.
     pub fn rest(&self) -> &'a [u8]
         ensures { result.now ≡ self.now }
     {
         self.rest
     }
 
-    /// Whether all bytes have been taken.
+    /// Returns true if no bytes are left.
     pub fn is_empty(&self) -> bool
         ensures { IsTrue result ↔ (self.now ≡ []) }
     {
         self.rest.is_empty()
     }
 
-    /// A varint, in any of its spellings.
+    /// Reads a varint, in any of its encodings, and returns its number.
     pub fn varint(&mut self) -> Result<u64, CodecError>
         ensures ok { IfOk result (λ n. Begins IsVarint self.old n self.new) }
         ensures shorter { OnOk result (length self.new < length self.old) }
@@ -165,7 +165,7 @@ impl<'a> Reader<'a> {
         Ok(n)
     }
 
-    /// A tag.
+    /// Reads a tag.
     pub fn tag(&mut self) -> Result<Tag, CodecError>
         ensures ok { IfOk result (λ tag. Begins SpellsTag self.old tag self.new) }
         ensures shorter { OnOk result (length self.new < length self.old) }
@@ -176,7 +176,7 @@ impl<'a> Reader<'a> {
         Ok(tag)
     }
 
-    /// Eight bytes, as the number that they are with the lowest byte first.
+    /// Reads eight bytes, and returns the number that they are with the lowest byte first.
     pub fn fixed64(&mut self) -> Result<u64, CodecError>
         ensures ok { IfOk result (λ n. Begins IsFixed64 self.old n self.new) }
         ensures shorter { OnOk result (length self.new < length self.old) }
@@ -187,7 +187,7 @@ impl<'a> Reader<'a> {
         Ok(n)
     }
 
-    /// Four bytes, as the number that they are with the lowest byte first.
+    /// Reads four bytes, and returns the number that they are with the lowest byte first.
     pub fn fixed32(&mut self) -> Result<u32, CodecError>
         ensures ok { IfOk result (λ n. Begins IsFixed32 self.old n self.new) }
         ensures shorter { OnOk result (length self.new < length self.old) }
@@ -198,7 +198,7 @@ impl<'a> Reader<'a> {
         Ok(n)
     }
 
-    /// A varint, and as many bytes as it says, which are given.
+    /// Reads a varint and this many bytes after it, and returns the bytes.
     pub fn length_delimited(&mut self) -> Result<&'a [u8], CodecError>
         ensures ok { IfOk result (λ bytes. Begins IsLengthDelimited self.old bytes.now self.new) }
         ensures shorter { OnOk result (length self.new < length self.old) }
@@ -209,9 +209,10 @@ impl<'a> Reader<'a> {
         Ok(bytes)
     }
 
-    /// A value of this wire type.
+    /// Reads a value of this wire type.
     pub fn value(&mut self, wire_type: WireType) -> Result<Value<'a>, CodecError>
-        ensures ok { IfOk result (λ value. Begins (IsValueOf wire_type) self.old (seen_value value) self.new) }
+        ensures ok { IfOk result
+            (λ value. Begins (IsValueOf wire_type) self.old (seen_value value) self.new) }
         ensures shorter { OnOk result (length self.new < length self.old) }
         ensures err { IfErr result (Refuses (IsValueOf wire_type) self.old self.new) }
     {
@@ -220,7 +221,7 @@ impl<'a> Reader<'a> {
         Ok(value)
     }
 
-    /// Passes over a value of this wire type.
+    /// Skips a value of this wire type.
     pub fn skip(&mut self, wire_type: WireType) -> Result<(), CodecError>
         ensures ok { OnOk result (BeginsSome (IsValueOf wire_type) self.old self.new) }
         ensures shorter { OnOk result (length self.new < length self.old) }
@@ -230,7 +231,7 @@ impl<'a> Reader<'a> {
         Ok(())
     }
 
-    /// A tag and its value.
+    /// Reads a field: a tag, and a value of the tag's wire type.
     pub fn field(&mut self) -> Result<Field<'a>, CodecError>
         ensures ok { IfOk result (λ field. Begins IsField self.old (seen field) self.new) }
         ensures shorter { OnOk result (length self.new < length self.old) }

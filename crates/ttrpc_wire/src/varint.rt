@@ -1,10 +1,10 @@
-//! Reading a varint.
+//! Reading a varint. No call takes memory.
 ghost use Rattle.std.specs.Prelude.{◌≡◌, ◌+◌, ◌*◌, ◌<◌, ◌∷◌, [], IfSome, IfNone};
 ghost use Rattle.ttrpc_wire.specs.Reading.{Reads, varint_at, varint_upto};
 
 use crate::values::CodecError;
 
-/// The varint at the front, and the bytes after it.
+/// Reads the varint at the front, and returns its number and the bytes after it.
 #[inline]
 #[tactic(auto, unfolding(crate::specs::Reading::varint_at, crate::specs::Reading::varint_upto))]
 pub(crate) fn varint_of(bytes: &[u8]) -> Result<(u64, &[u8]), CodecError>
@@ -16,7 +16,7 @@ pub(crate) fn varint_of(bytes: &[u8]) -> Result<(u64, &[u8]), CodecError>
     }
 }
 
-/// The first byte, and those after it.
+/// Returns the first byte and the bytes after it, or `None` if there are no bytes.
 #[inline]
 fn first(bytes: &[u8]) -> Option<(u8, &[u8])>
     ensures some { IfSome result (λ x. bytes.now ≡ x.0 ∷ x.1.now) }
@@ -28,7 +28,7 @@ fn first(bytes: &[u8]) -> Option<(u8, &[u8])>
     }
 }
 
-/// The same by a loop. After nine bytes there are 63 bits, so the tenth has one more.
+/// Does the same as `varint_of`, by a loop. Nine bytes have 63 bits, so the tenth has one more.
 fn long_varint(bytes: &[u8]) -> Result<(u64, &[u8]), CodecError>
     ensures { Reads (λ x. (x.0, x.1.now)) result (varint_at bytes.now) }
 {

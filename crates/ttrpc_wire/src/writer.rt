@@ -1,6 +1,6 @@
-//! Writing at the end of a vector, and how long it will be.
+//! Writing at the end of a vector, and measuring the written form.
 //!
-//! Each call appends all of its bytes or none, and finds no memory only where the vector lacked the room.
+//! Each call appends all of its bytes or none. A call is refused memory only if the vector had no room for the bytes.
 ghost use Rattle.std.specs.Prelude.{◌≡◌, ◌+◌, ◌*◌, ◌<◌, ◌≤◌, ◌^◌, ◌++◌, length, take, vec_len, vec_capacity, is_ok, if◌then◌else◌, OnOk, OnErr};
 ghost use Rattle.ttrpc_wire.specs.Varint.{varint};
 ghost use Rattle.ttrpc_wire.specs.Field.{code_of, tag_bytes, field_bytes, value_bytes};
@@ -9,7 +9,7 @@ ghost use Rattle.ttrpc_wire.specs.Seen.{seen, seen_value};
 use crate::field::{Field, Tag, Value, WireType};
 use std::alloc::AllocError;
 
-/// How many bytes the varint of a number takes.
+/// Returns the number of bytes in a number's varint.
 pub fn varint_len(n: u64) -> usize
     ensures value { result ≡ length (varint n) }
     ensures at_most { result ≤ 10 }
@@ -24,7 +24,7 @@ pub fn varint_len(n: u64) -> usize
     10
 }
 
-/// Writes the varint of a number, its shortest spelling.
+/// Writes a number's varint, in its shortest encoding.
 #[inline]
 #[tactic(auto, using(crate::proofs::Digits::varint_small))]
 pub fn put_varint(out: &mut Vec<u8>, n: u64) -> Result<(), AllocError>
@@ -41,7 +41,7 @@ pub fn put_varint(out: &mut Vec<u8>, n: u64) -> Result<(), AllocError>
     out.extend_from_slice(&bytes[..len])
 }
 
-/// The varint of a number, in front, and its length.
+/// Returns a number's varint at the front of an array, and the length of the varint.
 fn spelling_of(n: u64) -> ([u8; 10], usize)
     ensures len { result.1 ≤ 10 }
     ensures front { take result.1 result.0 ≡ varint n }
@@ -60,7 +60,7 @@ fn spelling_of(n: u64) -> ([u8; 10], usize)
     (bytes, 10)
 }
 
-/// How many bytes a tag takes.
+/// Returns the number of bytes in a tag.
 pub fn tag_len(tag: Tag) -> usize
     ensures value { result ≡ length (tag_bytes tag.number.value tag.wire_type) }
     ensures at_most { result ≤ 10 }
@@ -80,7 +80,7 @@ pub fn put_tag(out: &mut Vec<u8>, tag: Tag) -> Result<(), AllocError>
     put_varint(out, tag_number(tag))
 }
 
-/// The number that stands for a tag.
+/// Returns the number that a tag's varint encodes.
 #[inline]
 fn tag_number(tag: Tag) -> u64
     ensures { result ≡ tag.number.value * 8 + code_of tag.wire_type }
@@ -101,7 +101,7 @@ fn wire_code(wire_type: WireType) -> u64
     }
 }
 
-/// How many bytes a field takes, with its tag.
+/// Returns the number of bytes in a field, its tag included.
 pub fn field_len(field: Field<'_>) -> usize
     ensures { result ≡ length (field_bytes (seen field.entry)) }
 {
@@ -131,7 +131,8 @@ fn delimited_len(bytes: &[u8]) -> usize
 /// Writes a field: its tag and its value.
 pub fn put_field(out: &mut Vec<u8>, field: Field<'_>) -> Result<(), AllocError>
     ensures items { out.new.items
-        ≡ (if is_ok result then out.old.items ++ field_bytes (seen field.entry) else out.old.items) }
+        ≡ (if is_ok result
+        then out.old.items ++ field_bytes (seen field.entry) else out.old.items) }
     ensures full { OnErr result
         (vec_capacity out.old < vec_len out.old + length (field_bytes (seen field.entry))) }
     ensures capacity { vec_capacity out.old ≤ vec_capacity out.new }
@@ -143,7 +144,8 @@ pub fn put_field(out: &mut Vec<u8>, field: Field<'_>) -> Result<(), AllocError>
 
 #[tactic(auto, unfolding(crate::specs::Field::fixed64, crate::specs::Field::fixed32))]
 fn put_value(out: &mut Vec<u8>, value: Value<'_>) -> Result<(), AllocError>
-    ensures ok { OnOk result (out.new.items ≡ out.old.items ++ value_bytes (seen_value value.entry)) }
+    ensures ok { OnOk result
+        (out.new.items ≡ out.old.items ++ value_bytes (seen_value value.entry)) }
     ensures full { OnErr result
         (vec_capacity out.old < vec_len out.old + length (value_bytes (seen_value value.entry))) }
     ensures capacity { vec_capacity out.old ≤ vec_capacity out.new }

@@ -1,10 +1,11 @@
-//! The members of messages: how long the fields of one are, and writing them.
+//! The members of messages: the lengths of a member's fields, and how they are written.
 ghost use Rattle.std.specs.Prelude.{◌≡◌, ◌≢◌, ℕ, ◌+◌, ◌-◌, ◌*◌, ◌<◌, ◌≤◌, ◌^◌, ◌++◌, length, OnOk, IfErr, min};
 ghost use Rattle.std.specs.List.{AllByRecursion};
 ghost use Rattle.ttrpc_wire.specs.Varint.{varint};
 ghost use Rattle.ttrpc_wire.specs.Field.{Varint, tag_bytes, field_bytes, fields_bytes};
 ghost use Rattle.ttrpc_wire.specs.Seen.{seen};
 ghost use Rattle.ttrpc_wire.specs.Fold.{Gives};
+ghost use Rattle.ttrpc_wire.specs.Codec.InPlace.{payload_head};
 ghost use Rattle.ttrpc_wire.specs.Codec.Members.{text_of, delimited_field, delimited_fields, number_fields, part_fields};
 
 use crate::codec::message::WireMessage;
@@ -14,14 +15,14 @@ use crate::{
 };
 use std::alloc::{AllocError, Global};
 
-/// The text that the bytes are, copied; an error where they aren't UTF-8.
+/// Returns a copy of the bytes as a text. The error is `BadUtf8` if they aren't UTF-8.
 pub fn text_from(alloc: Global, bytes: &[u8]) -> Result<Text, CodecError>
     ensures { Gives (λ text. text) result (text_of bytes.now) }
 {
     Text::from_utf8(alloc, bytes)
 }
 
-/// The field of a text or bytes.
+/// Returns the field of a text or of bytes.
 fn delimited(number: FieldNumber, bytes: &[u8]) -> Field<'_>
     ensures { seen result ≡ delimited_field number.value bytes.now }
 {
@@ -29,7 +30,7 @@ fn delimited(number: FieldNumber, bytes: &[u8]) -> Field<'_>
     Field { number, value }
 }
 
-/// The field of a number.
+/// Returns the field of a number.
 fn numeric<'a>(number: FieldNumber, n: u64) -> Field<'a>
     ensures { seen result ≡ record { number = number.value; value = Varint n } }
 {
@@ -37,7 +38,7 @@ fn numeric<'a>(number: FieldNumber, n: u64) -> Field<'a>
     Field { number, value }
 }
 
-/// How long the field of a text or bytes is; 0 where they are empty, since a default is left out.
+/// Returns the length of the field of a text or of bytes, or 0 if they are empty. An empty value isn't written.
 pub fn delimited_len(number: FieldNumber, bytes: &[u8]) -> u64
     ensures { result ≡ length (fields_bytes (delimited_fields number.value bytes.now)) }
 {
@@ -47,7 +48,7 @@ pub fn delimited_len(number: FieldNumber, bytes: &[u8]) -> u64
     field_len(delimited(number, bytes)) as u64
 }
 
-/// Writes the field of a text or bytes, or nothing where they are empty.
+/// Writes the field of a text or of bytes, or nothing if they are empty.
 pub fn put_delimited(out: &mut Vec<u8>, number: FieldNumber, bytes: &[u8]) -> Result<(), AllocError>
     ensures { OnOk result
         (out.new.items ≡ out.old.items ++ fields_bytes (delimited_fields number.value bytes.now)) }
@@ -59,7 +60,21 @@ pub fn put_delimited(out: &mut Vec<u8>, number: FieldNumber, bytes: &[u8]) -> Re
     out.extend_from_slice(bytes)
 }
 
-/// Writes a tag, and the number behind it.
+/// Writes the tag and the length before a payload in its field, or nothing if the payload is empty.
+pub fn put_payload_head(
+    out: &mut Vec<u8>,
+    number: FieldNumber,
+    payload: &[u8],
+) -> Result<(), AllocError>
+    ensures { OnOk result (out.new.items ≡ out.old.items ++ payload_head number.value payload.now) }
+{
+    if payload.is_empty() {
+        return Ok(());
+    }
+    put_head(out, number, WireType::LengthDelimited, payload.len() as u64)
+}
+
+/// Writes a tag, and a varint after it.
 fn put_head(
     out: &mut Vec<u8>,
     number: FieldNumber,
@@ -73,7 +88,7 @@ fn put_head(
     put_varint(out, n)
 }
 
-/// How long the field of a number is; 0 where it is 0.
+/// Returns the length of the field of a number, or 0 if the number is 0. The number 0 isn't written.
 pub fn number_len(number: FieldNumber, n: u64) -> u64
     ensures { result ≡ length (fields_bytes (number_fields number.value n)) }
 {
@@ -83,7 +98,7 @@ pub fn number_len(number: FieldNumber, n: u64) -> u64
     field_len(numeric(number, n)) as u64
 }
 
-/// Writes the field of a number, or nothing where it is 0.
+/// Writes the field of a number, or nothing if the number is 0.
 pub fn put_number(out: &mut Vec<u8>, number: FieldNumber, n: u64) -> Result<(), AllocError>
     ensures { OnOk result
         (out.new.items ≡ out.old.items ++ fields_bytes (number_fields number.value n)) }
@@ -94,7 +109,7 @@ pub fn put_number(out: &mut Vec<u8>, number: FieldNumber, n: u64) -> Result<(), 
     put_head(out, number, WireType::Varint, n)
 }
 
-/// How long a field is whose value is a message of this length; at most the greatest `u64`.
+/// Returns the length of the field of a message that has this length, or the greatest `u64` if the field is longer.
 pub fn part_len(number: FieldNumber, len: u64) -> u64
     ensures { result ≡ min (length (tag_bytes number.value WireType.LengthDelimited)
         + length (varint len) + len) (2 ^ 64 - 1) }
@@ -104,8 +119,8 @@ pub fn part_len(number: FieldNumber, len: u64) -> u64
     (head as u64).saturating_add(len)
 }
 
-/// Writes a field whose value is the message, also where that is empty. `TooLong` where the message is 2^32
-/// bytes or longer.
+/// Writes the field of a message, even if the message is empty. The error is `TooLong` if the message has 2^32 bytes or
+/// more.
 pub fn put_part<M: WireMessage>(
     out: &mut Vec<u8>,
     number: FieldNumber,
@@ -124,7 +139,7 @@ pub fn put_part<M: WireMessage>(
     part.write(out)
 }
 
-/// How long the fields are whose values are the messages; at most the greatest `u64`.
+/// Returns the length of the fields of these messages, or the greatest `u64` if they are longer.
 pub fn parts_len<M: WireMessage>(number: FieldNumber, parts: &[M]) -> u64
     ensures { result
         ≡ min (length (fields_bytes (part_fields number.value M.fields parts.now))) (2 ^ 64 - 1) }
@@ -136,7 +151,8 @@ pub fn parts_len<M: WireMessage>(number: FieldNumber, parts: &[M]) -> u64
     len
 }
 
-/// Writes a field for each of the messages, in order.
+/// Writes a field for each of the messages, in order. The error is `TooLong` if one of the messages has 2^32 bytes or
+/// more.
 pub fn put_parts<M: WireMessage>(
     out: &mut Vec<u8>,
     number: FieldNumber,
@@ -144,8 +160,8 @@ pub fn put_parts<M: WireMessage>(
 ) -> Result<(), CodecError>
     ensures ok { OnOk result (out.new.items ≡ out.old.items
         ++ fields_bytes (part_fields number.value M.fields parts.now)) }
-    ensures too_long { IfErr result (λ e. e ≢ CodecError.NoMemory
-        → (e ≡ CodecError.TooLong) × (2 ^ 32 ≤ length (fields_bytes (part_fields number.value M.fields parts.now)))) }
+    ensures too_long { IfErr result (λ e. e ≢ CodecError.NoMemory → (e ≡ CodecError.TooLong)
+        × (2 ^ 32 ≤ length (fields_bytes (part_fields number.value M.fields parts.now)))) }
 {
     for part in parts {
         put_part(out, number, part)?;
@@ -153,7 +169,7 @@ pub fn put_parts<M: WireMessage>(
     Ok(())
 }
 
-/// A lemma, which does nothing when it runs: each message is a value of its type.
+/// States that each message is a value of its type. This lemma does nothing when it runs.
 pub fn lemma_are_values<M: WireMessage>(parts: &[M])
     ensures { AllByRecursion M.is_value parts.now }
 {

@@ -1,5 +1,5 @@
-//! Any message of fields, read, measured, written and merged: each of these is proved once, over the trait
-//! `WireMessage`.
+//! Values with a written form, and messages of fields. Reading, measuring, writing and merging a message are proved
+//! once, over the trait `WireMessage`.
 
 pub mod in_place;
 pub mod members;
@@ -12,10 +12,10 @@ use crate::values::codec_error::CodecFailure;
 use crate::{Blob, CodecError};
 use std::alloc::Global;
 
-/// A value with a written form, and what bytes mean as such a value.
+/// A value with a written form, and a meaning of bytes as such a value.
 ///
-/// A type that implements `WireMessage` implements it by the calls of that module, and `Blob` is its own written form; any
-/// other format may implement it, too.
+/// A type that implements `WireMessage` implements it by the calls of the module `message`. A `Blob` is its own written
+/// form. A type of any other format may implement it too.
 pub trait Codec: Sized + Drop {
     type E: CodecFailure;
 
@@ -25,12 +25,12 @@ pub trait Codec: Sized + Drop {
     /// The value that bytes mean, if they mean one.
     ghost meaning: { List ℕ → Option Self };
 
-    /// The length of the written form, or 4294967295 where it is longer. Takes no memory.
+    /// Returns the length of the written form, or 4294967295 if the written form is longer. Takes no memory.
     fn size(&self) -> u32
         ensures { result ≡ min (length (written self.now)) (2 ^ 32 - 1) };
 
-    /// The written form, which means the value. An error other than that of refused memory tells that it is too long, and
-    /// comes only where it is 2^32 bytes or longer.
+    /// Returns the written form, which means the value. An error reports refused memory, or a written form that is too
+    /// long. The second error comes only if the written form has 2^32 bytes or more.
     fn encode(&self, alloc: Global) -> Result<Vec<u8>, Self::E>
         ensures ok { IfOk result (λ v. v.items ≡ written self.now) }
         ensures again { IfOk result (λ v. meaning v.items ≡ Some self.now) }
@@ -38,18 +38,21 @@ pub trait Codec: Sized + Drop {
         ensures too_long { IfErr result (λ e. ¬ (Self.E.is_no_memory e)
             → Self.E.is_too_long e × (2 ^ 32 ≤ length (written self.now))) };
 
-    /// The value that the bytes mean. An error other than that of refused memory comes only where they mean
-    /// none.
+    /// Returns the value that the bytes mean. An error that doesn't report refused memory comes only if the bytes mean
+    /// no value.
     fn decode(alloc: Global, bytes: &[u8]) -> Result<Self, Self::E>
         ensures ok { IfOk result (λ v. meaning bytes.now ≡ Some v) }
-        ensures refused { IfErr result (λ e. ¬ (Self.E.is_no_memory e) → meaning bytes.now ≡ None) };
+        ensures refused { IfErr result
+            (λ e. ¬ (Self.E.is_no_memory e) → meaning bytes.now ≡ None) };
 
-    /// What the written form with the bytes behind it means. An error changes nothing. One other than that of refused
-    /// memory comes only where these mean nothing, or tells that the written form is 2^64 - 1 bytes or longer.
+    /// Replaces the value with the meaning of its written form and these bytes after it. An error changes nothing. An
+    /// error that doesn't report refused memory comes only if all these bytes together mean no value, or it reports
+    /// that the written form has 2^64 - 1 bytes or more.
     fn merge(&mut self, alloc: Global, bytes: &[u8]) -> Result<(), Self::E>
         ensures ok { OnOk result (meaning (written self.old ++ bytes.now) ≡ Some self.new) }
         ensures refused { IfErr result (λ e. ¬ (Self.E.is_no_memory e)
-            → (Self.E.is_too_long e × (2 ^ 64 - 1 ≤ length (written self.old))) ⊎ (meaning (written self.old ++ bytes.now) ≡ None)) }
+            → (Self.E.is_too_long e × (2 ^ 64 - 1 ≤ length (written self.old)))
+            ⊎ (meaning (written self.old ++ bytes.now) ≡ None)) }
         ensures err { OnErr result (self.new ≡ self.old) };
 }
 
@@ -80,8 +83,8 @@ impl<M: WireMessage> Codec for M {
     }
 }
 
-/// Bytes as they are: a call that takes or gives them needs no message. Any bytes mean themselves, so only memory or, to
-/// `encode`, a length of 2^32 bytes or more is a reason to refuse.
+/// Bytes as their own written form, so that a call which takes or returns bytes needs no message. Any bytes mean
+/// themselves. A call fails only if memory is refused or, for `encode`, if there are 2^32 bytes or more.
 impl Codec for Blob {
     type E = CodecError;
 

@@ -8,14 +8,14 @@ use std::marker::Model;
 use std::ops::DerefSlice;
 use std::slice::Iter;
 
-/// Bytes, which contracts see as their list. They are a part of a vector, so that they can stay where they lie in a
-/// larger one.
+/// Bytes, which contracts see as their list. The bytes are a part of a vector, so that they can stay at their place in
+/// a longer one.
 #[derive(Debug, Drop)]
 pub struct Blob {
     bytes: Vec<u8>,
-    /// Where the part begins.
+    /// The index of the part's first byte.
     start: usize,
-    /// How many bytes it has.
+    /// The number of bytes in the part.
     count: usize,
 }
 
@@ -30,21 +30,21 @@ impl Model for Blob {
 }
 
 impl Blob {
-    /// No bytes. Takes no memory.
+    /// Returns a blob of no bytes. Takes no memory.
     pub fn new(alloc: Global) -> Blob
         ensures { result ≡ [] }
     {
         Blob::from_vec(Vec::new(alloc))
     }
 
-    /// A copy of the bytes.
+    /// Returns a copy of the bytes.
     pub fn from_slice(alloc: Global, bytes: &[u8]) -> Result<Blob, AllocError>
         ensures { IfOk result (λ blob. blob ≡ bytes.now) }
     {
         Ok(Blob::from_vec(Vec::from_slice(alloc, bytes)?))
     }
 
-    /// Takes the vector over, with no memory taken.
+    /// Converts a vector into a blob. Takes no memory.
     pub fn from_vec(bytes: Vec<u8>) -> Blob
         ensures { result ≡ bytes.items }
     {
@@ -56,7 +56,8 @@ impl Blob {
         }
     }
 
-    /// This many bytes of the vector from a place on, or as many as there are. Takes the vector over, and copies nothing.
+    /// Returns a blob of the vector's bytes from `start` on: `count` of them, or all if there are fewer. The blob takes
+    /// the vector over, and nothing is copied.
     pub fn from_part(bytes: Vec<u8>, start: usize, count: usize) -> Blob
         ensures { result ≡ take count (drop start bytes.items) }
     {
@@ -69,7 +70,8 @@ impl Blob {
         }
     }
 
-    /// Gives the vector back, with no memory taken. Bytes that lie behind others are moved to the front.
+    /// Converts the blob into a vector of its bytes. Takes no memory. Bytes that aren't at the front of their vector
+    /// are moved there.
     pub fn into_vec(self) -> Vec<u8>
         ensures { result.items ≡ self }
     {
@@ -85,21 +87,21 @@ impl Blob {
         bytes
     }
 
-    /// How many bytes there are.
+    /// Returns the number of bytes.
     pub fn len(&self) -> usize
         ensures { result ≡ length self.now }
     {
         self.count
     }
 
-    /// Whether there are none.
+    /// Returns true if there are no bytes.
     pub fn is_empty(&self) -> bool
         ensures { IsTrue result ↔ (self.now ≡ []) }
     {
         self.as_slice().is_empty()
     }
 
-    /// The bytes in order, each lent.
+    /// Returns an iterator that lends each byte, in order.
     pub fn iter(&self) -> Iter<'_, u8>
         ensures rest { iter_rest result ≡ self.now }
         ensures bound { length (iter_rest result) < 2 ^ 64 }
@@ -108,14 +110,14 @@ impl Blob {
         self.as_slice().iter()
     }
 
-    /// Whether these are its bytes. std's `==` compares values of one type alone.
+    /// Returns true if these are the blob's bytes. std's `==` compares values of one type alone.
     pub fn is_equal(&self, bytes: &[u8]) -> bool
         ensures { IsTrue result ↔ (self.now ≡ bytes.now) }
     {
         self.as_slice() == bytes
     }
 
-    /// The bytes.
+    /// Returns the bytes.
     pub fn as_slice(&self) -> &[u8]
         ensures { result.now ≡ self.now }
     {
@@ -123,7 +125,7 @@ impl Blob {
     }
 }
 
-/// Bytes read as a slice does.
+/// A blob reads as a slice of its bytes.
 impl DerefSlice for Blob {
     type Elem = u8;
 

@@ -3,8 +3,10 @@ ghost use Rattle.std.specs.Prelude.{◌≡◌, IfOk};
 
 use std::alloc::AllocError;
 
-/// A copy that may find no memory. Unlike std's `Clone`, it says that the copy is equal to its source.
+/// A value that can be copied, unless memory is refused. Unlike std's `Clone`, this trait states that the copy is equal
+/// to its source.
 pub trait TryClone: Sized + Drop {
+    /// Returns a copy.
     fn try_clone(&self) -> Result<Self, AllocError>
         ensures { IfOk result (λ copy. copy ≡ self.now) };
 }

@@ -26,7 +26,7 @@ pub enum Code {
 impl Code {
     ghost use Rattle.ttrpc_wire.specs.Code.{number_of_code};
 
-    /// The number that stands for the code in a status.
+    /// Returns the code's number in a status.
     pub fn number(self) -> i32
         ensures { result ≡ number_of_code self }
     {

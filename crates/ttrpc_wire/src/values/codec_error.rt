@@ -4,26 +4,26 @@ ghost use Rattle.ttrpc_wire.specs.declared.values.codec_error.CodecError.TheVari
 use std::alloc::{AllocError, AllocFailed};
 use thiserror::Error;
 
-/// Why a value wasn't read, or has no written form.
+/// The reason why a value wasn't read or has no written form.
 pub trait CodecFailure {
-    // Holds of the error by which refused memory is told.
+    // Holds if the error reports that memory was refused.
     ghost is_no_memory: { Self → Type 0 };
 
-    // Holds of the error by which a written form is told to be too long.
+    // Holds if the error reports that a written form is too long.
     ghost is_too_long: { Self → Type 0 };
 
-    /// Whether memory was refused.
+    /// Returns true if memory was refused.
     fn is_no_memory(&self) -> bool
         ensures { (result ≡ true) ↔ is_no_memory self.now };
 }
 
-/// Why bytes don't read as a message, why a message has no written form, or that memory was refused.
+/// The reason why bytes don't read as a message, or why a message has no written form. Or memory was refused.
 #[derive(Clone, Copy, Debug, PartialEq, Eq, Error)]
 pub enum CodecError {
     /// The bytes end inside a varint or before the end of a value.
     #[error("the bytes end inside a field")]
     Truncated,
-    /// A varint goes past 64 bits.
+    /// A varint has more than 64 bits.
     #[error("a varint is longer than 64 bits")]
     BadVarint,
     /// A tag's number is 0, or the tag is 2^32 or more.
@@ -35,13 +35,13 @@ pub enum CodecError {
     /// A text isn't UTF-8.
     #[error("a text is not UTF-8")]
     BadUtf8,
-    /// The written form is 2^32 bytes or longer.
+    /// The written form has 2^32 bytes or more.
     #[error("a message is longer than 4294967295 bytes")]
     TooLong,
     /// A message that may contain itself is nested too deep.
     #[error("a message is nested deeper than 100 levels")]
     TooDeep,
-    /// The allocator refused.
+    /// The allocator refused memory.
     #[error("out of memory")]
     NoMemory,
 }

@@ -1,5 +1,5 @@
-//! The small types that values of all layers are made of: texts, bytes, lists, the codes of a status, and why bytes
-//! mean no value.
+//! The small types that values of all layers are made of: texts, bytes, lists, the codes of a status, and the reasons
+//! why bytes mean no value.
 
 mod blob;
 mod clones;

@@ -22,7 +22,7 @@ impl<T> Model for Sequence<T> {
 }
 
 impl<T> Sequence<T> {
-    /// No items. Takes no memory.
+    /// Returns a sequence of no items. Takes no memory.
     pub fn new(alloc: Global) -> Sequence<T>
         ensures { result ≡ [] }
     {
@@ -31,14 +31,14 @@ impl<T> Sequence<T> {
         }
     }
 
-    /// Takes the vector over, with no memory taken.
+    /// Converts a vector into a sequence. Takes no memory.
     pub fn from_vec(items: Vec<T>) -> Sequence<T>
         ensures { result ≡ items.items }
     {
         Sequence { items }
     }
 
-    /// Gives the vector back, with no memory taken.
+    /// Converts the sequence into a vector of its items. Takes no memory.
     pub fn into_vec(self) -> Vec<T>
         ensures { result.items ≡ self }
     {
@@ -46,21 +46,21 @@ impl<T> Sequence<T> {
         items
     }
 
-    /// How many items there are.
+    /// Returns the number of items.
     pub fn len(&self) -> usize
         ensures { result ≡ length self.now }
     {
         self.items.len()
     }
 
-    /// Whether there are none.
+    /// Returns true if there are no items.
     pub fn is_empty(&self) -> bool
         ensures { IsTrue result ↔ (self.now ≡ []) }
     {
         self.items.is_empty()
     }
 
-    /// The items in order, each lent.
+    /// Returns an iterator that lends each item, in order.
     pub fn iter(&self) -> Iter<'_, T>
         ensures rest { iter_rest result ≡ self.now }
         ensures bound { length (iter_rest result) < 2 ^ 64 }
@@ -69,7 +69,7 @@ impl<T> Sequence<T> {
         self.items.as_slice().iter()
     }
 
-    /// The items.
+    /// Returns the items.
     pub fn as_slice(&self) -> &[T]
         ensures { result.now ≡ self.now }
     {
@@ -77,7 +77,7 @@ impl<T> Sequence<T> {
     }
 }
 
-/// Items read as a slice does.
+/// A sequence reads as a slice of its items.
 impl<T> DerefSlice for Sequence<T> {
     type Elem = T;
 
@@ -89,7 +89,7 @@ impl<T> DerefSlice for Sequence<T> {
 }
 
 impl<T: Drop> Sequence<T> {
-    /// One more item at the end. After an error nothing has changed, and the item is gone.
+    /// Appends an item. After an error nothing has changed, and the item is gone.
     pub fn push(&mut self, item: T) -> Result<(), AllocError>
         ensures ok { OnOk result (self.new ≡ self.old ++ item ∷ []) }
         ensures err { OnErr result (self.new ≡ self.old) }
@@ -100,7 +100,8 @@ impl<T: Drop> Sequence<T> {
 }
 
 impl<T: PartialEq> Sequence<T> {
-    /// Whether these are its items, each compared by its own `==`. std's `==` compares values of one type alone.
+    /// Returns true if these are the sequence's items, each compared by its own `==`. std's `==` compares values of one
+    /// type alone.
     pub fn is_equal(&self, items: &[T]) -> bool
         ensures { result ≡ pointwise T.eq self.now items.now }
     {

@@ -26,7 +26,7 @@ impl Model for Text {
 }
 
 impl Text {
-    /// The empty text. Takes no memory.
+    /// Returns the empty text. Takes no memory.
     pub fn new(alloc: Global) -> Text
         ensures { result ≡ [] }
     {
@@ -35,7 +35,7 @@ impl Text {
         }
     }
 
-    /// A copy of the text.
+    /// Returns a copy of the text.
     pub fn from_str(alloc: Global, text: &str) -> Result<Text, AllocError>
         ensures { IfOk result (λ copy. copy ≡ text.now) }
     {
@@ -44,7 +44,7 @@ impl Text {
         })
     }
 
-    /// The text that the bytes are, copied. `BadUtf8` exactly where they aren't UTF-8.
+    /// Returns a copy of the bytes as a text. The error is `BadUtf8` exactly if they aren't UTF-8.
     pub fn from_utf8(alloc: Global, bytes: &[u8]) -> Result<Text, CodecError>
         ensures ok { IfOk result (λ text. (text ≡ bytes.now) × IsUtf8 bytes.now) }
         ensures not_text { IsErrOf result CodecError.BadUtf8 ↔ ¬ (IsUtf8 bytes.now) }
@@ -56,14 +56,14 @@ impl Text {
         }
     }
 
-    /// Takes the string over, with no memory taken.
+    /// Converts a string into a text. Takes no memory.
     pub fn from_string(text: String) -> Text
         ensures { result ≡ string_bytes text }
     {
         Text { text }
     }
 
-    /// Gives the string back, with no memory taken.
+    /// Converts the text into a string. Takes no memory.
     pub fn into_string(self) -> String
         ensures { string_bytes result ≡ self }
     {
@@ -71,28 +71,28 @@ impl Text {
         text
     }
 
-    /// How many bytes it has in UTF-8.
+    /// Returns the number of the text's bytes in UTF-8.
     pub fn len(&self) -> usize
         ensures { result ≡ length self.now }
     {
         self.as_bytes().len()
     }
 
-    /// Whether it has none.
+    /// Returns true if the text is empty.
     pub fn is_empty(&self) -> bool
         ensures { IsTrue result ↔ (self.now ≡ []) }
     {
         self.as_bytes().is_empty()
     }
 
-    /// Whether it is this text. std's `==` compares values of one type alone.
+    /// Returns true if the texts are equal. std's `==` compares values of one type alone.
     pub fn is_equal(&self, text: &str) -> bool
         ensures { IsTrue result ↔ (self.now ≡ text.now) }
     {
         self.as_str() == text
     }
 
-    /// Its characters in order, as `chars` of std's text gives them.
+    /// Returns an iterator over the text's characters, in order, as `chars` of std's text does.
     pub fn iter(&self) -> Chars<'_>
         ensures rest { chars_rest result ≡ self.now }
         ensures bound { length (chars_rest result) < 2 ^ 64 }
@@ -101,14 +101,14 @@ impl Text {
         self.as_str().chars()
     }
 
-    /// The text.
+    /// Returns the text.
     pub fn as_str(&self) -> &str
         ensures { result.now ≡ self.now }
     {
         self.text.as_str()
     }
 
-    /// The text's bytes, which are UTF-8.
+    /// Returns the text's bytes, which are UTF-8.
     pub fn as_bytes(&self) -> &[u8]
         ensures value { result.now ≡ self.now }
         ensures utf8 { IsUtf8 self.now }

@@ -1,5 +1,4 @@
-use Rattle.std.proofs.Common.{◌≡◌, ◌<◌, ◌^◌, ◌-◌, List, ℕ, Some, length, ap, ◌∙◌, arith}
-use Rattle.std.proofs.lemmas.Result.{IfOk-weaker}
+use Rattle.std.proofs.Common.{◌≡◌, ◌<◌, ◌^◌, ◌-◌, ◌++◌, [], length, ap, ◌∙◌, arith, rules}
 use Rattle.ttrpc_wire.specs.Field.{fields_bytes}
 use Rattle.ttrpc_wire.specs.Fold.{read_from}
 use Rattle.ttrpc_wire.proofs.Folds.{reads_back}
@@ -12,5 +11,5 @@ returns-clause-again g c =
     let step = g.M.WireMessage.step in
     let short : length (fields_bytes fs) < 2 ^ 64 - 1 = omega (arith, c.length-length.ensures, c.if-length.false) in
     let back = reads_back step g.M.WireMessage.empty m fs (g.met.M.WireMessage.fits m c.lemma_is_value.ensures short) (g.met.M.WireMessage.again m c.lemma_is_value.ensures short) in
-    IfOk-weaker c.encode_with_room.result (λ v. v.items ≡ fields_bytes fs) (λ v. read_from step g.M.WireMessage.empty v.items ≡ Some m)
-    (λ v is. ap (read_from step g.M.WireMessage.empty) is ∙ back) c.encode_with_room.ensures.ok
+    let none : c.in_ok-out.out.items ≡ [] = search rules in
+    ap (read_from step g.M.WireMessage.empty) (c.in_ok-write.ensures.ok ∙ ap (λ l. l ++ fields_bytes fs) none) ∙ back
