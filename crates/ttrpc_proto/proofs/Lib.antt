@@ -16,3 +16,5 @@ pub mod Streamed
 pub mod Sent
 pub mod Fronts
 pub mod Tickets
+pub mod Slices
+pub mod Laying

@@ -350,7 +350,7 @@ placed_may_change false fs r l s g f h = lt-ltb 0 (length (fs ++ f ∷ [])) (ome
 placed_may_change true [] r l s g f h = absurd (let e = h.none refl in cc)
 placed_may_change true (k ∷ fs) r l s g f h = lt-ltb 1 (length (k ∷ fs ++ f ∷ [])) (omega (arith, length-append fs (f ∷ [])))
 
-last_of_more : (fs : List Queued) (f : Queued) (payload : List ℕ) → last_filled (fs ++ f ∷ []) payload ≡ fs ++ with_payload f payload ∷ []
+pub last_of_more : (fs : List Queued) (f : Queued) (payload : List ℕ) → last_filled (fs ++ f ∷ []) payload ≡ fs ++ with_payload f payload ∷ []
 last_of_more [] f payload = refl
 last_of_more (g ∷ []) f payload = refl
 last_of_more (g ∷ h ∷ fs) f payload = ap (λ l. g ∷ l) (last_of_more (h ∷ fs) f payload)

@@ -5,3 +5,4 @@ pub mod Decoder
 pub mod Queue
 pub mod Streaming
 pub mod Inside
+pub mod Laid

@@ -1,9 +1,10 @@
--- The two laws of each message: the fields that are written have a written form, and mean the message. The proof of
--- a law of an impl stands in specs/, as the language has it.
+-- The two laws of each message: the fields that are written have a written form, and mean the message. The language wants the proof of
+-- an impl's law in specs/.
 -- Source: this project's.
 use Rattle.std.specs.Prelude.{◌≡◌, ℕ, ◌<◌, ◌^◌, ◌-◌, List, [], ◌∷◌, ◌++◌, length, Option, Some, None, refl, ℤ}
 use Rattle.std.specs.List.{AllByRecursion}
-use Rattle.std.proofs.Common.{sym, ap, arith}
+use Rattle.std.proofs.Common.{sym, ap, arith, ◌∙◌, append_assoc}
+use Rattle.std.proofs.lemmas.List.{append-nil}
 use Rattle.std.proofs.lemmas.Str.{is_utf8-from_IsUtf8}
 use Rattle.ttrpc_wire.specs.Field.{Field, Fits, fields_bytes}
 use Rattle.ttrpc_wire.specs.Number.{number_of, int64_of, int32_of}
@@ -15,12 +16,12 @@ use Rattle.ttrpc_proto.specs.declared.messages.Request.{Request}
 use Rattle.ttrpc_proto.specs.declared.messages.Response.{Response}
 use Rattle.ttrpc_proto.specs.declared.messages.Status.{Status}
 use Rattle.ttrpc_wire.specs.Codec.Members.{delimited_field, delimited_fields, delimited_in, last_number, last_text, number_fields, number_in, one_more, part_fields, optional_fields}
-use Rattle.ttrpc_proto.specs.Messages.{IsKeyValue, empty_key_value, key_value_step, key_value_fields, IsAny, empty_any, any_step, any_fields, IsStatus, empty_status, status_step, status_fields, IsRequest, empty_request, request_step, request_head, request_tail, request_fields, IsOptional, IsResponse, empty_response, response_step, response_fields}
+use Rattle.ttrpc_proto.specs.Messages.{IsKeyValue, empty_key_value, key_value_step, key_value_fields, IsAny, empty_any, any_step, any_fields, IsStatus, empty_status, status_step, status_fields, IsRequest, empty_request, request_step, request_head, request_tail, request_before, request_after, request_fields, IsOptional, IsResponse, empty_response, response_step, response_before, response_fields}
 use Rattle.std.specs.Option.{option_map}
 use Rattle.ttrpc_wire.specs.Reading.{◌>>=◌}
-use Rattle.ttrpc_wire.specs.Codec.InPlace.{HasPayload, payload_in}
+use Rattle.ttrpc_wire.specs.Codec.InPlace.{HasPayload, payload_head}
 use Rattle.ttrpc_wire.proofs.Around.{other_field}
-use Rattle.ttrpc_wire.proofs.Written.{length-fields_bytes-append, fit_then, fold_then, delimited_fit, fold_delimited, number_fit, fold_number, int32_back, int32_zero, int32_small, int64_back, int64_zero, int64_small, length-part_fields, parts_fit, parts_back, fold_parts, optional_fit}
+use Rattle.ttrpc_wire.proofs.Written.{fields_then, payload_then, length-fields_bytes-append, fit_then, fold_then, delimited_fit, fold_delimited, number_fit, fold_number, int32_back, int32_zero, int32_small, int64_back, int64_zero, int64_small, length-part_fields, parts_fit, parts_back, fold_parts, optional_fit}
 
 -- ---- KeyValue
 
@@ -162,7 +163,7 @@ request_around m p (Some a) (Some b) None e = refl
 request_around m p (Some a) (Some b) (Some d) None = refl
 request_around m p (Some a) (Some b) (Some d) (Some e) = refl
 
--- The payload of a request is its field 3: such a field replaces it, and no other looks at it or changes it.
+-- The payload of a request is its field 3: such a field replaces the payload, and no other field reads or changes it.
 pub request_carries : HasPayload request_step empty_request 3 (λ m p. record m { payload = p })
 request_carries = record {
   first = refl;
@@ -179,7 +180,7 @@ response_around : (m : Response) (p : List ℕ) (a : Option (Option Status))
 response_around m p None = refl
 response_around m p (Some a) = refl
 
--- The payload of a response is its field 2: such a field replaces it, and no other looks at it or changes it.
+-- The payload of a response is its field 2: such a field replaces the payload, and no other field reads or changes it.
 pub response_carries : HasPayload response_step empty_response 2 (λ m p. record m { payload = p })
 response_carries = record {
   first = refl;
@@ -187,3 +188,24 @@ response_carries = record {
   takes = λ m p. refl;
   keeps = λ m p f other. rw (other_field 2 p f other, other_field 2 m.payload f other) (response_around m p _);
 }
+
+-- ---- the written form of a request and of a response, in three parts
+
+-- The written form of a request is the bytes before its payload, the payload, and the bytes after it.
+pub request_parts : (m : Request) → fields_bytes (request_fields m) ≡ request_before m ++ (m.payload ++ request_after m)
+request_parts m =
+    let one = delimited_fields 1 m.service in
+    let two = delimited_fields 2 m.method in
+    let three = delimited_fields 3 m.payload in
+    fields_then (request_head m) (request_tail m)
+    ∙ ap (λ l. l ++ request_after m) (ap fields_bytes (sym (append_assoc one two three)) ∙ fields_then (one ++ two) three ∙ ap (λ l. fields_bytes (one ++ two) ++ l) (payload_then 3 m.payload) ∙ sym (append_assoc (fields_bytes (one ++ two)) (payload_head 3 m.payload) m.payload))
+    ∙ append_assoc (request_before m) m.payload (request_after m)
+
+-- The written form of a response is the bytes before its payload, and the payload.
+pub response_parts : (m : Response) → fields_bytes (response_fields m) ≡ response_before m ++ (m.payload ++ [])
+response_parts m =
+    let status = optional_fields 1 status_fields m.status in
+    fields_then status (delimited_fields 2 m.payload)
+    ∙ ap (λ l. fields_bytes status ++ l) (payload_then 2 m.payload)
+    ∙ sym (append_assoc (fields_bytes status) (payload_head 2 m.payload) m.payload)
+    ∙ ap (λ l. response_before m ++ l) (sym (append-nil m.payload))

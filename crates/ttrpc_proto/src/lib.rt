@@ -1,6 +1,6 @@
-//! Envelopes and frames. The five messages of an envelope: what their bytes mean, and how they are made. `error` has the
-//! reasons why a call failed, with the statuses, responses and texts that are made of them, and `framing` reads frames out
-//! of a stream of bytes and queues those that are still to be written.
+//! Envelopes and frames. The five messages of an envelope: the meaning of their bytes, and how they are made. `error`
+//! has the reasons why a call failed, with the statuses, responses and texts that are made of them. `framing` reads
+//! frames from a stream of bytes and queues the frames that are still to be written.
 #![tactic(auto)]
 
 pub mod error;
@@ -23,4 +23,5 @@ pub use request_init::RequestInit;
 pub use response_init::ResponseInit;
 pub use ttrpc_wire::{Blob, Text};
 
-// Of these are the members of messages; a crate that has no other use for `ttrpc_wire` takes them from here.
+// Members of messages have the types `Blob` and `Text`. A crate with no other use for `ttrpc_wire` imports them from
+// here.

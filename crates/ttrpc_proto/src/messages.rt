@@ -1,13 +1,13 @@
-//! The messages of an envelope: what a client asks, what it is answered, and what these are made of.
+//! The messages of an envelope: the request and the response, and the messages that they have as members.
 ghost use Rattle.std.specs.Prelude.{◌≡◌, ◌≢◌, ◌≤◌, ◌^◌, ◌++◌, length, OnOk, IfErr};
 ghost use Rattle.ttrpc_wire.specs.Field.{fields_bytes};
-ghost use Rattle.ttrpc_proto.specs.Messages.{request_head, request_tail};
+ghost use Rattle.ttrpc_proto.specs.Messages.{request_before, request_head, request_tail, request_texts};
 
 use std::alloc::{AllocError, Global};
 use ttrpc_wire::codec::in_place::CarriesPayload;
 use ttrpc_wire::codec::members::{
     delimited_len, lemma_are_values, number_len, part_len, parts_len, put_delimited, put_number,
-    put_part, put_parts, text_from,
+    put_part, put_parts, put_payload_head, text_from,
 };
 use ttrpc_wire::codec::message::{WireMessage, decode, read_into};
 use ttrpc_wire::{
@@ -85,7 +85,7 @@ impl WireMessage for Any {
     ghost fits = { λ m _. any_fits m };
 }
 
-/// A key and its value, of a request's metadata.
+/// A key and its value, in a request's metadata.
 #[derive(Debug, Drop, PartialEq, Eq)]
 pub struct KeyValue {
     pub key: Text,
@@ -175,7 +175,7 @@ const STATUS_DETAILS: FieldNumber = FieldNumber { value: 3 };
 impl Status {
     ghost use Rattle.ttrpc_wire.specs.Code.{code_of_number};
 
-    /// The code that the status's number stands for, and `UNKNOWN` where it stands for none.
+    /// Returns the code of the status's number, or `UNKNOWN` if no code has this number.
     pub fn code(&self) -> Code
         ensures { result ≡ code_of_number self.now.code }
     {
@@ -270,13 +270,13 @@ impl WireMessage for Status {
     ghost fits = { status_fits };
 }
 
-/// What a client asks of a service's method.
+/// A request to a service's method.
 #[derive(Debug, Drop, PartialEq, Eq)]
 pub struct Request {
     pub service: Text,
     pub method: Text,
     pub payload: Blob,
-    /// How long the call may take, in nanoseconds; 0 for no limit.
+    /// The time that the call may take, in nanoseconds, or 0 for no limit.
     pub timeout_nano: i64,
     pub metadata: Sequence<KeyValue>,
 }
@@ -303,20 +303,39 @@ impl TryClone for Request {
     }
 }
 
-/// The texts and the payload.
+/// Writes the service and the method.
 #[tactic(auto, using(ttrpc_wire::proofs::Written::fields_then))]
-fn put_head(out: &mut Vec<u8>, request: &Request) -> Result<(), AllocError>
-    ensures { OnOk result (out.new.items ≡ out.old.items ++ fields_bytes (request_head request.now)) }
+fn put_texts(out: &mut Vec<u8>, request: &Request) -> Result<(), AllocError>
+    ensures { OnOk result
+        (out.new.items ≡ out.old.items ++ fields_bytes (request_texts request.now)) }
 {
     put_delimited(out, REQUEST_SERVICE, request.service.as_bytes())?;
-    put_delimited(out, REQUEST_METHOD, request.method.as_bytes())?;
+    put_delimited(out, REQUEST_METHOD, request.method.as_bytes())
+}
+
+/// Writes the service, the method and the payload.
+#[tactic(auto, using(ttrpc_wire::proofs::Written::fields_then))]
+fn put_head(out: &mut Vec<u8>, request: &Request) -> Result<(), AllocError>
+    ensures { OnOk result
+        (out.new.items ≡ out.old.items ++ fields_bytes (request_head request.now)) }
+{
+    put_texts(out, request)?;
     put_delimited(out, REQUEST_PAYLOAD, request.payload.as_slice())
 }
 
-/// The timeout and the metadata.
+/// Writes the service and the method, and the bytes before the payload in its field.
+fn put_before(out: &mut Vec<u8>, request: &Request) -> Result<(), AllocError>
+    ensures { OnOk result (out.new.items ≡ out.old.items ++ request_before request.now) }
+{
+    put_texts(out, request)?;
+    put_payload_head(out, REQUEST_PAYLOAD, request.payload.as_slice())
+}
+
+/// Writes the timeout and the metadata.
 #[tactic(auto, using(ttrpc_wire::proofs::Written::fields_then, ttrpc_wire::proofs::Written::fields_len))]
 fn put_tail(out: &mut Vec<u8>, request: &Request) -> Result<(), CodecError>
-    ensures ok { OnOk result (out.new.items ≡ out.old.items ++ fields_bytes (request_tail request.now)) }
+    ensures ok { OnOk result
+        (out.new.items ≡ out.old.items ++ fields_bytes (request_tail request.now)) }
     ensures too_long { IfErr result (λ e. e ≢ CodecError.NoMemory
         → (e ≡ CodecError.TooLong) × (2 ^ 32 ≤ length (fields_bytes (request_tail request.now)))) }
 {
@@ -393,7 +412,8 @@ impl WireMessage for Request {
 }
 
 impl CarriesPayload for Request {
-    ghost use Rattle.ttrpc_proto.specs.Laws.{request_carries};
+    ghost use Rattle.ttrpc_proto.specs.Laws.{request_carries, request_parts};
+    ghost use Rattle.ttrpc_proto.specs.Messages.{request_after, request_before};
 
     ghost payload_field = { 3 };
 
@@ -407,10 +427,31 @@ impl CarriesPayload for Request {
         self.payload = payload;
     }
 
+    ghost before = { request_before };
+
+    ghost payload_of = { λ request. request.payload };
+
+    ghost after = { request_after };
+
+    fn payload(&self) -> &[u8] {
+        self.payload.as_slice()
+    }
+
+    fn write_before(&self, out: &mut Vec<u8>) -> Result<(), CodecError> {
+        put_before(out, self)?;
+        Ok(())
+    }
+
+    fn write_after(&self, out: &mut Vec<u8>) -> Result<(), CodecError> {
+        put_tail(out, self)
+    }
+
+    ghost parts = { request_parts };
+
     ghost carries = { request_carries };
 }
 
-/// What a call gave.
+/// The response to a call.
 #[derive(Debug, Drop, PartialEq, Eq)]
 pub struct Response {
     pub status: Option<Status>,
@@ -497,7 +538,9 @@ impl WireMessage for Response {
 }
 
 impl CarriesPayload for Response {
-    ghost use Rattle.ttrpc_proto.specs.Laws.{response_carries};
+    ghost use Rattle.std.specs.Prelude.{[]};
+    ghost use Rattle.ttrpc_proto.specs.Laws.{response_carries, response_parts};
+    ghost use Rattle.ttrpc_proto.specs.Messages.{response_before};
 
     ghost payload_field = { 2 };
 
@@ -510,6 +553,32 @@ impl CarriesPayload for Response {
     fn replace_payload(&mut self, payload: Blob) {
         self.payload = payload;
     }
+
+    ghost before = { response_before };
+
+    ghost payload_of = { λ response. response.payload };
+
+    ghost after = { λ _. [] };
+
+    fn payload(&self) -> &[u8] {
+        self.payload.as_slice()
+    }
+
+    #[tactic(auto, using(ttrpc_wire::proofs::Written::fields_len))]
+    fn write_before(&self, out: &mut Vec<u8>) -> Result<(), CodecError> {
+        match &self.status {
+            Some(status) => put_part(out, RESPONSE_STATUS, status)?,
+            None => {}
+        }
+        put_payload_head(out, RESPONSE_PAYLOAD, self.payload.as_slice())?;
+        Ok(())
+    }
+
+    fn write_after(&self, _out: &mut Vec<u8>) -> Result<(), CodecError> {
+        Ok(())
+    }
+
+    ghost parts = { response_parts };
 
     ghost carries = { response_carries };
 }

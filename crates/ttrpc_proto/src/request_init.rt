@@ -1,4 +1,4 @@
-//! How the macros make a request.
+//! The construction of a request by the macros.
 ghost use Rattle.std.specs.Prelude.{◌≡◌, ℕ, ℤ, List, string_bytes};
 ghost use Rattle.ttrpc_proto.specs.declared.messages.KeyValue.{KeyValue as APair};
 
@@ -6,15 +6,16 @@ use crate::messages::{KeyValue, Request};
 use std::alloc::Global;
 use ttrpc_wire::{Blob, Sequence, Text};
 
-/// What a request is made from.
+/// A type of requests that are made from their parts.
 pub trait RequestInit: Sized {
-    // What is made of a service, a method, a timeout and metadata.
+    // The request with this service, method, timeout and metadata.
     ghost made: { List ℕ → List ℕ → ℤ → List APair → Self };
 
-    // The same with another payload.
+    // The request with another payload.
     ghost with_payload: { Self → List ℕ → Self };
 
-    /// A request with no payload. The timeout is in nanoseconds, 0 for no limit. Takes no memory.
+    /// Returns a request with these parts and no payload. The timeout is in nanoseconds, or 0 for no limit. Takes no
+    /// memory.
     fn init_request(
         alloc: Global,
         service: String,
@@ -22,9 +23,10 @@ pub trait RequestInit: Sized {
         timeout_nano: i64,
         metadata: Vec<KeyValue>,
     ) -> Self
-        ensures { result ≡ made (string_bytes service) (string_bytes method) timeout_nano metadata.items };
+        ensures { result
+            ≡ made (string_bytes service) (string_bytes method) timeout_nano metadata.items };
 
-    /// Puts the payload in, in place of the one before. Takes no memory.
+    /// Replaces the payload. Takes no memory.
     fn set_payload(&mut self, payload: Vec<u8>)
         ensures { self.new ≡ with_payload self.old payload.items };
 }

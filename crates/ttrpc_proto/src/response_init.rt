@@ -1,4 +1,4 @@
-//! How the macros make a response.
+//! The construction of a response by the macros.
 ghost use Rattle.std.specs.Prelude.{◌≡◌, ℕ, List, Option, IfOk, Some};
 ghost use Rattle.ttrpc_proto.specs.declared.messages.Status.{Status as AStatus};
 
@@ -6,33 +6,33 @@ use crate::messages::{Response, Status};
 use std::alloc::{AllocError, Global};
 use ttrpc_wire::{Blob, TryClone};
 
-/// What a response is made from.
+/// A type of responses that are made from a status.
 pub trait ResponseInit: Sized {
-    // What is made of a status.
+    // The response with this status.
     ghost made: { AStatus → Self };
 
-    // The same with another payload.
+    // The response with another payload.
     ghost with_payload: { Self → List ℕ → Self };
 
-    // The same with another status.
+    // The response with another status.
     ghost with_status: { Self → AStatus → Self };
 
-    // The status, where it is there and its code isn't 0.
+    // The status, if there is one and its code isn't 0.
     ghost refusal: { Self → Option AStatus };
 
-    /// A response with this status and no payload. Takes no memory.
+    /// Returns a response with this status and no payload. Takes no memory.
     fn init_status(alloc: Global, status: Status) -> Self
         ensures { result ≡ made status };
 
-    /// Puts the payload in, in place of the one before. Takes no memory.
+    /// Replaces the payload. Takes no memory.
     fn set_payload(&mut self, payload: Vec<u8>)
         ensures { self.new ≡ with_payload self.old payload.items };
 
-    /// Puts the status in, in place of the one before. Takes no memory.
+    /// Replaces the status. Takes no memory.
     fn set_status(&mut self, status: Status)
         ensures { self.new ≡ with_status self.old status };
 
-    /// A copy of the status, where its code isn't 0.
+    /// Returns a copy of the status, if there is one and its code isn't 0.
     fn non_ok(&self) -> Result<Option<Status>, AllocError>
         ensures { IfOk result (λ status. status ≡ refusal self.now) };
 }

@@ -1,4 +1,4 @@
-//! What each kind of the system's errors prints. std prints the same, but no clause of it says so.
+//! The printed text of each kind of the system's errors. std prints the same, but no clause of std says so.
 ghost use Rattle.std.specs.Prelude.{◌≡◌};
 ghost use Rattle.ttrpc_proto.specs.KindText.{kind_text};
 
@@ -50,8 +50,8 @@ const TEXTS: [&str; 42] = [
     "uncategorized error",
 ];
 
-/// The text of a kind of the system's errors, as std prints it.
-pub(crate) fn kind_text(kind: ErrorKind) -> &'static str
+/// Returns the text of a kind of the system's errors, as std prints it.
+pub fn kind_text(kind: ErrorKind) -> &'static str
     ensures { result.now ≡ kind_text kind }
 {
     TEXTS[kind as usize]

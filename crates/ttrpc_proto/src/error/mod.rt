@@ -1,8 +1,8 @@
-//! Why a call failed, and the errors, the statuses, the responses and the texts that are made of a code, a message or
-//! another error.
+//! The reasons why a call failed. Errors, statuses, responses and texts are made here of a code, a message or another
+//! error.
 
 pub mod causes;
-mod kinds;
+pub mod kinds;
 
 ghost use Rattle.std.specs.Prelude.{◌≡◌, ◌≢◌, [], codes, string_bytes, IfOk, IsSomeAnd, Some};
 ghost use Rattle.ttrpc_proto.specs.ErrorText.{error_text, status_of, IsTextOf, StandsFor, Tells};
@@ -14,14 +14,14 @@ use std::fmt;
 use std::io::ErrorKind;
 use ttrpc_wire::{Blob, Code, Sequence, Text, TryClone};
 
-/// Why a call failed.
+/// The reason why a call failed.
 #[derive(Debug, Drop, PartialEq)]
 pub enum Error {
     /// The socket failed, or was closed.
     Socket(Text),
     /// The other side answered with this status.
     RpcStatus(Status),
-    /// The system refused.
+    /// The system returned an error of this kind.
     Nix(ErrorKind),
     /// This side closed the stream.
     LocalClosed,
@@ -29,15 +29,15 @@ pub enum Error {
     RemoteClosed,
     /// Nothing more comes.
     Eof,
-    /// Anything else.
+    /// Any other reason.
     Others(Text),
-    /// The allocator refused.
+    /// The allocator refused memory.
     NoMemory,
-    /// What is to be sent is more than the ring has room for.
+    /// The ring has less room than the frame needs.
     NoRoom,
 }
 
-/// A result whose error is `Error`.
+/// A result with the error type `Error`.
 pub type Result<T> = std::result::Result<T, Error>;
 
 impl From<AllocError> for Error {
@@ -99,15 +99,15 @@ impl TryClone for Error {
 }
 
 impl Error {
-    /// What the error prints.
+    /// Returns the text that the error prints.
     pub fn text(&self, alloc: Global) -> std::result::Result<String, AllocError>
         ensures { IfOk result (λ text. IsTextOf self.now (string_bytes text)) }
     {
         self.to_string(alloc)
     }
 
-    /// The response that tells the other side of the error. Its message is empty where memory for the error's text
-    /// was refused.
+    /// Returns the response that reports the error to the other side. Its message is empty if memory for the error's
+    /// text was refused.
     pub fn into_response(self, alloc: Global) -> Response
         ensures status { IsSomeAnd result.status (StandsFor self) }
         ensures payload { result.payload ≡ [] }
@@ -122,8 +122,8 @@ impl Error {
         response_of(alloc, status)
     }
 
-    /// The same response, and an `Err` where memory for the error's text was refused, for a side that never leaves the
-    /// text out.
+    /// Returns the response that reports the error with its text, or an `Err` if memory for the text was refused. This
+    /// call is for a side that never leaves the text out.
     pub fn try_into_response(self, alloc: Global) -> std::result::Result<Response, AllocError>
         ensures status { IfOk result (λ response. IsSomeAnd response.status (Tells self)) }
         ensures payload { IfOk result (λ response. response.payload ≡ []) }
@@ -136,7 +136,7 @@ impl Error {
     }
 }
 
-// A response with this status, and no payload.
+// Returns a response with this status and no payload.
 fn response_of(alloc: Global, status: Status) -> Response
     ensures { result ≡ record { status = Some status; payload = [] } }
 {
@@ -146,7 +146,7 @@ fn response_of(alloc: Global, status: Status) -> Response
     }
 }
 
-/// The status of this code with this message and no details. Takes no memory.
+/// Returns the status of this code with this message and no details. Takes no memory.
 pub fn get_status(c: Code, msg: String) -> Status
     ensures { result ≡ status_of c (string_bytes msg) }
 {
@@ -158,15 +158,15 @@ pub fn get_status(c: Code, msg: String) -> Status
     }
 }
 
-/// That status as an error. Takes no memory.
+/// Returns the error with the status of this code and this message. Takes no memory.
 pub fn get_rpc_status(c: Code, msg: String) -> Error
     ensures { result ≡ Error.RpcStatus (status_of c (string_bytes msg)) }
 {
     Error::RpcStatus(get_status(c, msg))
 }
 
-/// The error for a read or a write of this many bytes that failed: with none, the other side is gone.
-/// `NoMemory` only where memory for that text was refused.
+/// Returns the error for a read or a write that failed after this many bytes. If there were none, the other side is
+/// gone, and the error is `Socket`. The error is `NoMemory` only if memory for its text was refused.
 pub fn sock_error_msg(size: usize, msg: String) -> Error
     ensures gone { size ≡ 0 → result ≢ Error.NoMemory
         → result ≡ Error.Socket (codes "socket disconnected") }

@@ -1,4 +1,4 @@
-//! Why a stream moved no whole frame.
+//! The reason why a stream moved no whole frame.
 ghost use Rattle.std.specs.Prelude.{◌≡◌};
 ghost use Rattle.ttrpc_proto.specs.Framing.Streaming.{TellsFailure};
 ghost use Rattle.ttrpc_proto.specs.declared.framing.failure.StreamFailure.TheVariants.{Io, NoMemory as ANoMemory};
@@ -8,12 +8,12 @@ use crate::error::causes::socket_of;
 use std::alloc::{AllocError, Global};
 use std::io;
 
-/// Why a stream moved no whole frame.
+/// The reason why a stream moved no whole frame.
 #[derive(Debug, Drop)]
 pub enum StreamFailure {
     /// The reader or the writer failed.
     Io(io::Error),
-    /// The allocator refused.
+    /// The allocator refused memory.
     NoMemory,
 }
 
@@ -34,7 +34,8 @@ impl From<AllocError> for StreamFailure {
 }
 
 impl StreamFailure {
-    /// The error that tells it: `Socket` of what the stream's own error prints, or `NoMemory`.
+    /// Returns the error that reports the failure: `Socket` with the printed text of the stream's own error, or
+    /// `NoMemory`.
     pub fn into_error(self, alloc: Global) -> Error
         ensures { TellsFailure self result }
     {

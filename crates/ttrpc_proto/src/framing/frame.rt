@@ -1,4 +1,4 @@
-//! Frames out of a stream of bytes, in whatever pieces it comes.
+//! Frames from a stream of bytes, which may come in any pieces.
 ghost use Rattle.std.specs.Prelude.{ℕ, List, flat_map, ◌≡◌, ◌≤◌, ◌<◌, ◌+◌, ◌-◌, ◌*◌, ◌++◌, ◌↔◌, true, take, length, min, max, vec_capacity, Some, IfOk, OnOk, IfErr, OnErr};
 ghost use Rattle.ttrpc_proto.specs.declared.framing.frame.Incoming.{Incoming as AnIncoming};
 ghost use Rattle.ttrpc_proto.specs.Framing.Header.{header_of};
@@ -16,25 +16,25 @@ use std::marker::Model;
 use std::mem;
 use ttrpc_wire::Blob;
 
-/// What came whole.
+/// A frame that has come whole.
 #[derive(Debug, Drop, PartialEq, Eq)]
 pub enum Incoming {
     /// A frame, with its payload.
     Frame(GenMessage),
-    /// The header of a frame whose payload is longer than a message may be. The payload is gone.
+    /// The header of a frame with a payload that is longer than a message may be. The payload is gone.
     Oversize(MessageHeader),
 }
 
-/// Holds what has come of a frame that isn't whole.
+/// A decoder, which holds the part of a frame that has come, until the frame is whole. Only `feed` takes memory.
 #[derive(Debug, Drop)]
 pub struct FrameDecoder {
     /// The first bytes of the header.
     head: [u8; 10],
-    /// How many of them have come.
+    /// The number of the header's bytes that have come.
     filled: usize,
-    /// What has come of the payload.
+    /// The bytes of the payload that have come.
     body: Vec<u8>,
-    /// How many bytes have come of a payload that is too long to be kept.
+    /// The number of bytes that have come of a payload that is too long to be kept.
     counted: usize,
 }
 
@@ -45,13 +45,14 @@ impl Model for FrameDecoder {
 
     ghost Value = { Held };
 
-    ghost view = { λ d. record { bytes = take d.filled d.head ++ d.body.items; counted = d.counted } };
+    ghost view = { λ d.
+        record { bytes = take d.filled d.head ++ d.body.items; counted = d.counted } };
 
     ghost invariant = { λ d. IsDecoder d.head d.filled d.body.items d.counted };
 }
 
 impl FrameDecoder {
-    /// Nothing has come. Takes no memory.
+    /// Returns a decoder that holds nothing.
     pub fn new(alloc: Global) -> FrameDecoder
         ensures { result ≡ nothing }
     {
@@ -63,18 +64,19 @@ impl FrameDecoder {
         }
     }
 
-    /// Whether nothing of a frame has come. Takes no memory.
+    /// Returns true if nothing of a frame has come.
     pub fn at_boundary(&self) -> bool
         ensures nothing { (result ≡ true) ↔ (self.now ≡ nothing) }
 
-        // What is held is always of bytes that are no whole frame.
+        // The bytes that are held are never a whole frame.
         ensures held { (rest : List ℕ) × Holds self.now rest }
     {
         self.filled == 0
     }
 
     #[tactic(auto, using(crate::proofs::Cuts::wanted_early, crate::proofs::Cuts::wanted_late, crate::proofs::Cuts::some_wanted))]
-    /// How many bytes are wanted next, at least one: those left of the header, and then of the payload. Takes no memory.
+    /// Returns the number of bytes that are wanted next, at least one: the rest of the header, and then the rest of the
+    /// payload.
     pub fn wanted(&self) -> usize
         ensures wanted { result ≡ wanted self.now }
         ensures some { 0 < result }
@@ -87,7 +89,7 @@ impl FrameDecoder {
     }
 
     #[tactic(auto, using(crate::proofs::Cuts::cut_early, crate::proofs::Cuts::cut_long, crate::proofs::Cuts::cut_late))]
-    /// What there is of a frame of which no more comes. Takes no memory.
+    /// Returns the part of a frame that has come, for an input that has ended.
     pub fn cut(&self) -> Found
         ensures { (rest : List ℕ) → Holds self.now rest → IsFound result rest }
     {
@@ -101,17 +103,21 @@ impl FrameDecoder {
         Found::OversizeCut(header)
     }
 
-    /// Takes a front of the piece, at least one byte of one that isn't empty, and gives what its last byte made whole. An
-    /// error is `NoMemory`, changes nothing, and comes only where bytes of a payload that is kept are to be held.
+    /// Takes bytes from the front of the piece, and returns their number and the frame that the last of them made
+    /// whole, if there is one. Takes at least one byte unless the piece is empty. An error is `NoMemory`, changes
+    /// nothing, and comes only if bytes of a kept payload are to be held.
     pub fn feed(&mut self, alloc: Global, piece: &[u8]) -> Result<(usize, Option<Incoming>)>
-        // A front of the piece was taken, and at most one frame is whole with it.
-        ensures takes { IfOk result (λ r. (r.0 ≤ length piece.now) × (0 < length piece.now → 0 < r.0)) }
-        ensures all { IfOk result (λ r. length piece.now ≤ wanted self.old → r.0 ≡ length piece.now) }
+        // Bytes were taken from the front of the piece, and at most one frame is whole with them.
+        ensures takes { IfOk result
+            (λ r. (r.0 ≤ length piece.now) × (0 < length piece.now → 0 < r.0)) }
+        ensures all { IfOk result
+            (λ r. length piece.now ≤ wanted self.old → r.0 ≡ length piece.now) }
         ensures frames { IfOk result (λ r. Fed self.old (take r.0 piece.now) (given r.1) self.new) }
-        ensures at_its_end { IfOk result (λ r. (i : AnIncoming) → r.1 ≡ Some i → self.new ≡ nothing) }
-        // It never holds more than a header and a greatest message.
+        ensures at_its_end { IfOk result
+            (λ r. (i : AnIncoming) → r.1 ≡ Some i → self.new ≡ nothing) }
+        // The decoder never holds more than a header and a message of the greatest length.
         ensures bound { length self.new.bytes ≤ MESSAGE_HEADER_LENGTH + MESSAGE_LENGTH_MAX }
-        // An error is want of memory for a payload that is kept, and changes nothing.
+        // An error reports refused memory for a payload that is kept, and changes nothing.
         ensures no_memory { IfErr result (λ e. e ≡ Error.NoMemory) }
         ensures grows { OnErr result (Grows self.old piece.now) }
         ensures err { OnErr result (self.new ≡ self.old) }
@@ -127,11 +133,11 @@ impl FrameDecoder {
         }
     }
 
-    /// Bytes of the header.
+    /// Takes bytes of the header.
     fn take_head(&mut self, alloc: Global, piece: &[u8]) -> (usize, Option<Incoming>)
         // The header isn't whole yet.
         requires { length self.old.bytes < MESSAGE_HEADER_LENGTH }
-        // As `feed`.
+        // The result is as `feed` returns it.
         ensures takes { (result.0 ≤ length piece.now) × (0 < length piece.now → 0 < result.0) }
         ensures all { length piece.now ≤ wanted self.old → result.0 ≡ length piece.now }
         ensures frames { Fed self.old (take result.0 piece.now) (given result.1) self.new }
@@ -152,13 +158,13 @@ impl FrameDecoder {
         (count, Some(Incoming::Frame(GenMessage { header, payload })))
     }
 
-    /// Bytes of a payload that is too long.
+    /// Counts bytes of a payload that is too long.
     fn count_body(&mut self, header: MessageHeader, piece: &[u8]) -> (usize, Option<Incoming>)
         // The header is whole, and states more than a message may have.
         requires whole { MESSAGE_HEADER_LENGTH ≤ length self.old.bytes }
         requires header { header ≡ header_of self.old.bytes }
         requires long { MESSAGE_LENGTH_MAX < header.length }
-        // As `feed`.
+        // The result is as `feed` returns it.
         ensures takes { (result.0 ≤ length piece.now) × (0 < length piece.now → 0 < result.0) }
         ensures all { length piece.now ≤ wanted self.old → result.0 ≡ length piece.now }
         ensures frames { Fed self.old (take result.0 piece.now) (given result.1) self.new }
@@ -175,7 +181,7 @@ impl FrameDecoder {
         (missing, Some(Incoming::Oversize(header)))
     }
 
-    /// Bytes of a payload that is kept.
+    /// Takes bytes of a payload that is kept.
     fn take_body(
         &mut self,
         alloc: Global,
@@ -186,13 +192,16 @@ impl FrameDecoder {
         requires whole { MESSAGE_HEADER_LENGTH ≤ length self.old.bytes }
         requires header { header ≡ header_of self.old.bytes }
         requires short { header.length ≤ MESSAGE_LENGTH_MAX }
-        // As `feed`.
-        ensures takes { IfOk result (λ r. (r.0 ≤ length piece.now) × (0 < length piece.now → 0 < r.0)) }
-        ensures all { IfOk result (λ r. length piece.now ≤ wanted self.old → r.0 ≡ length piece.now) }
+        // The result is as `feed` returns it.
+        ensures takes { IfOk result
+            (λ r. (r.0 ≤ length piece.now) × (0 < length piece.now → 0 < r.0)) }
+        ensures all { IfOk result
+            (λ r. length piece.now ≤ wanted self.old → r.0 ≡ length piece.now) }
         ensures frames { IfOk result (λ r. Fed self.old (take r.0 piece.now) (given r.1) self.new) }
-        ensures at_its_end { IfOk result (λ r. (i : AnIncoming) → r.1 ≡ Some i → self.new ≡ nothing) }
+        ensures at_its_end { IfOk result
+            (λ r. (i : AnIncoming) → r.1 ≡ Some i → self.new ≡ nothing) }
         ensures bound { length self.new.bytes ≤ MESSAGE_HEADER_LENGTH + MESSAGE_LENGTH_MAX }
-        // An error is want of memory, comes only where bytes came, and changes nothing.
+        // An error reports refused memory, comes only if bytes came, and changes nothing.
         ensures no_memory { IfErr result (λ e. e ≡ Error.NoMemory) }
         ensures grows { OnErr result (0 < length piece.now) }
         ensures err { OnErr result (self.new ≡ self.old) }
@@ -210,11 +219,12 @@ impl FrameDecoder {
     }
 }
 
-/// Copies a front of the piece behind what the header has already, and says how many bytes.
+/// Copies the first bytes of the piece into the header, after the bytes that it has, and returns their number.
 fn fill(head: &mut [u8; 10], filled: usize, piece: &[u8]) -> usize
     requires { filled ≤ MESSAGE_HEADER_LENGTH }
     ensures count { result ≡ min (length piece.now) (MESSAGE_HEADER_LENGTH - filled) }
-    ensures front { take (filled + result) head.new ≡ take filled head.old ++ take result piece.now }
+    ensures front { take (filled + result) head.new
+        ≡ take filled head.old ++ take result piece.now }
     ensures size { length head.new ≡ MESSAGE_HEADER_LENGTH }
 {
     let count = piece.len().min(MESSAGE_HEADER_LENGTH - filled);
@@ -222,7 +232,7 @@ fn fill(head: &mut [u8; 10], filled: usize, piece: &[u8]) -> usize
     count
 }
 
-/// Appends bytes of a payload that has as many in the end as its header states. An error changes nothing.
+/// Appends bytes of a payload that will have the stated length. An error changes nothing.
 fn append(body: &mut Vec<u8>, bytes: &[u8], stated: usize) -> std::result::Result<(), AllocError>
     requires { length body.old.items + length bytes.now ≤ stated }
     ensures ok { OnOk result (body.new.items ≡ body.old.items ++ bytes.now) }
@@ -235,8 +245,8 @@ fn append(body: &mut Vec<u8>, bytes: &[u8], stated: usize) -> std::result::Resul
     body.extend_from_slice(bytes)
 }
 
-/// Room for as many bytes as are needed now. A vector that has to grow doubles, so that each byte is moved a bounded
-/// number of times, but it has at least a page and at most what the header states: what a header states alone takes none.
+/// Reserves room for the needed bytes. A vector that has to grow gets twice the needed room, at least a page, and at
+/// most the stated length. So each byte is moved a bounded number of times, and a stated length alone takes no memory.
 fn make_room(
     body: &mut Vec<u8>,
     needed: usize,
@@ -245,7 +255,8 @@ fn make_room(
     requires { (length body.old.items ≤ needed) × (needed ≤ stated) }
     ensures items { body.new.items ≡ body.old.items }
     ensures ok { OnOk result (needed ≤ vec_capacity body.new) }
-    ensures capacity { vec_capacity body.new ≤ max (vec_capacity body.old) (min stated (max DEFAULT_PAGE_SIZE (2 * needed))) }
+    ensures capacity { vec_capacity body.new
+        ≤ max (vec_capacity body.old) (min stated (max DEFAULT_PAGE_SIZE (2 * needed))) }
 {
     if needed <= body.capacity() {
         return Ok(());
@@ -254,18 +265,21 @@ fn make_room(
     body.reserve_exact(room - body.len())
 }
 
-/// Bytes are one list of frames and one rest, and each list of bytes is.
+/// States that bytes are exactly one list of frames and a rest after them.
 pub fn bytes_are_frames()
-    ensures some { (bytes : List ℕ) → (frames : List AnIncoming) × (rest : List ℕ) × Frames bytes frames rest × IsRest rest }
+    ensures some { (bytes : List ℕ)
+        → (frames : List AnIncoming) × (rest : List ℕ) × Frames bytes frames rest × IsRest rest }
     ensures one { (bytes : List ℕ) (is js : List AnIncoming) (r s : List ℕ)
         → Frames bytes is r → IsRest r → Frames bytes js s → IsRest s → (is ≡ js) × (r ≡ s) }
 {}
 
-/// What a decoder gave for pieces, and what it holds, are the frames and the rest of all their bytes. So it
-/// doesn't matter how these were cut.
+/// States that a decoder's frames for pieces, and the bytes that it holds, are the frames and the rest of the joined
+/// pieces. So the cuts between the pieces don't matter.
 pub fn pieces_are_joined()
-    ensures frames { (pieces : List (List ℕ)) (frames : List AnIncoming) (new : Held) → FedAll nothing pieces frames new
+    ensures frames { (pieces : List (List ℕ)) (frames : List AnIncoming) (new : Held)
+        → FedAll nothing pieces frames new
         → (rest : List ℕ) × Frames (flat_map (λ p. p) pieces) frames rest × Holds new rest }
-    ensures cuts { (ps qs : List (List ℕ)) (fs gs : List AnIncoming) (a b : Held) → FedAll nothing ps fs a → FedAll nothing qs gs b
+    ensures cuts { (ps qs : List (List ℕ)) (fs gs : List AnIncoming) (a b : Held)
+        → FedAll nothing ps fs a → FedAll nothing qs gs b
         → flat_map (λ p. p) ps ≡ flat_map (λ p. p) qs → (fs ≡ gs) × (a ≡ b) }
 {}

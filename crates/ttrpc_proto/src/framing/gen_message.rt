@@ -1,4 +1,4 @@
-//! A message as it lies in a frame, before it is read.
+//! A message as it is in a frame, before it is decoded.
 ghost use Rattle.std.specs.Prelude.{◌≡◌, ◌≢◌, ◌≤◌, ◌↔◌, [], true, IsOk, IfErr};
 ghost use Rattle.ttrpc_proto.specs.Framing.Header.Oversize.{oversize_error};
 
@@ -15,12 +15,12 @@ pub struct GenMessage {
     pub payload: Blob,
 }
 
-/// Why no message could be taken from a connection.
+/// The reason why no message could be taken from a connection.
 #[derive(Debug, Drop, PartialEq)]
 pub enum GenMessageError {
     /// The connection can't go on.
     InternalError(Error),
-    /// The message can't be taken, and its sender is to be told so. The header is the message's.
+    /// The message can't be taken, and its sender is to get this error. The header is the message's.
     ReturnError(MessageHeader, Error),
 }
 
@@ -44,7 +44,7 @@ impl TryClone for GenMessage {
 }
 
 impl GenMessage {
-    /// A header of zeros, and no payload. Takes no memory.
+    /// Returns a message with a header of zeros and no payload. Takes no memory.
     pub fn new(alloc: Global) -> GenMessage
         ensures { result ≡ record {
           header = record { length = 0; stream_id = 0; type_ = 0; flags = 0 };
@@ -57,7 +57,7 @@ impl GenMessage {
         }
     }
 
-    /// Refuses the message if its header says that it is longer than a message may be.
+    /// Returns an error if the header states more bytes than a message may have.
     pub fn check(&self, alloc: Global) -> Result<()>
         ensures ok { IsOk result ↔ (self.now.header.length ≤ MESSAGE_LENGTH_MAX) }
         ensures err { IfErr result (λ e. e ≢ Error.NoMemory

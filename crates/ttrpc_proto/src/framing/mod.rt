@@ -1,6 +1,7 @@
-//! Frames out of a stream of bytes, and the queue of those that are still to be written; frames from a reader and to a
-//! writer. In `header` the ten bytes in front of each, in `streams` what is read and written at all.
+//! Frames from a stream of bytes or a reader, frames to a writer, and the queue of the frames that are still to be
+//! written. `header` has the ten bytes before each frame, and `streams` reads and writes bytes.
 
+mod bytes;
 pub mod failure;
 pub mod frame;
 mod gen_message;
@@ -8,7 +9,9 @@ pub mod header;
 pub mod outgoing;
 pub mod owners;
 pub mod reading;
+mod record;
 pub mod streams;
+mod told;
 pub mod writing;
 
 pub use self::frame::{FrameDecoder, Incoming};

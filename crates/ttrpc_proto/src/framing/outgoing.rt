@@ -1,284 +1,286 @@
-//! The frames still to be written, in order.
-ghost use Rattle.std.specs.Prelude.{◌≡◌, ◌&&◌, ◌⊎◌, ℕ, nat_lt, nat_le, ◌+◌, ◌-◌, ◌≤◌, ◌<◌, ◌↔◌, ◌++◌, [], List, IsTrue, IsPermutation, length, take, drop, min, if◌then◌else◌, option_to_list, Err, IfSome, OnOk, OnErr, IfErr};
+//! The frames still to be written, in order, in one ring.
+ghost use Rattle.std.specs.Prelude.{◌≡◌, ◌&&◌, ◌⊎◌, ℕ, nat_lt, nat_le, ◌+◌, ◌*◌, ◌-◌, ◌≤◌, ◌<◌, ◌↔◌, ◌++◌, [], List, IsTrue, IsPermutation, length, take, drop, min, if◌then◌else◌, option_to_list, Err, IfSome, OnOk, OnErr, IfOk, IfErr};
 ghost use Rattle.std.specs.VecDeque.{deque_len, deque_capacity};
 ghost use Rattle.std.specs.List.{AllByRecursion};
 ghost use Rattle.ttrpc_proto.specs.declared.framing.outgoing.Queued.{Queued as AFrame};
 ghost use Rattle.ttrpc_proto.specs.Framing.Queue.{AreNumbered, finished, has_ticket, last_ticket, Happening, Allowed, IsMerge, after_all, all_bytes_left, departing, placed, thrown, unsent, written_all};
-ghost use Rattle.ttrpc_proto.specs.Framing.Inside.{all_held, frames_of, gone_before, kept_of, numbers_of};
+ghost use Rattle.ttrpc_proto.specs.Framing.Laid.{entries_of, frames_of, gone_records, kept_records, numbers_of, spans};
+ghost use Rattle.ttrpc_proto.specs.Framing.Header.{header_bytes};
 ghost use Rattle.ttrpc_proto.specs.Framing.Queue.{Queue, IsQueue, written, first_open, open_part, empty_queue, free, held, with_frame, with_lent, after_report, first_gone, first_ticket, last_may_change, filled, withdrawn, is_request_of, has_begun, without};
 
+use crate::framing::bytes::Bytes;
 use crate::framing::gen_message::GenMessage;
-use crate::framing::header::MESSAGE_HEADER_LENGTH;
+use crate::framing::header::{MESSAGE_HEADER_LENGTH, MessageHeader};
 use crate::framing::owners::Owners;
+use crate::framing::record::Record;
+use crate::framing::told::Told;
 use crate::{Error, Result};
 use std::alloc::Global;
 use std::collections::VecDeque;
 use std::marker::Model;
-use ttrpc_wire::Blob;
 
 /// The greatest number of bytes that wait to be written: two frames of the greatest length.
 pub const OUTGOING_LENGTH_MAX: usize = 8_388_628;
 
-/// How many lengths the four bytes of a header can say.
+/// The number of lengths that the four bytes of a header can state.
 const LENGTHS: usize = 1 << 32;
 
 /// A frame to be written.
 #[derive(Debug, Drop, PartialEq, Eq)]
 pub struct Queued {
-    /// What is to be sent.
+    /// The message to be sent.
     pub message: GenMessage,
-    /// Under which number its sender asks whether it was sent.
+    /// The number under which the sender asks if the frame was sent.
     pub ticket: Option<u64>,
-    /// Whether it is a unary request, which may be thrown away before it begins.
+    /// True for a unary request, which may be thrown away before it begins.
     pub is_unary_request: bool,
-    /// The call or job that it is of.
+    /// The call or job that the frame belongs to.
     pub owner: u64,
 }
 
-impl Queued {
-    fn is_request_of<W: Owners>(&self, owners: &W) -> bool
-        ensures { result ≡ is_request_of (W.has owners.now) self.now }
-    {
-        self.is_unary_request && owners.has(self.owner)
-    }
-}
-
-/// A frame to be written, and how many bytes of frames that were thrown away are held directly after it.
-#[derive(Debug, Drop)]
-struct Entry {
-    frame: Queued,
-    gone: usize,
-}
-
-impl Entry {
-    /// Returns how many bytes the frame has.
-    fn len(&self) -> usize
-        ensures { result ≡ length (written self.now.frame.message) }
-    {
-        frame_len(&self.frame)
-    }
-}
-
-/// Returns how many bytes a frame has.
-fn frame_len(frame: &Queued) -> usize
-    ensures written { result ≡ length (written frame.now.message) }
-    ensures parts { result ≡ MESSAGE_HEADER_LENGTH + length frame.now.message.payload }
-{
-    MESSAGE_HEADER_LENGTH + frame.message.payload.as_slice().len()
-}
-
-/// The frames still to be written, in order. Their bytes are lent piece by piece, and leave as they are reported. At most
-/// [`OUTGOING_LENGTH_MAX`] bytes are held at a time.
+/// The frames still to be written, in order. Their bytes are in one ring of [`OUTGOING_LENGTH_MAX`] bytes. The bytes
+/// are lent piece by piece, and leave when they are reported. Only `new` and `place` take memory.
 #[derive(Debug, Drop)]
 pub struct Outgoing {
-    entries: VecDeque<Entry>,
+    ring: Bytes,
+    records: VecDeque<Record>,
+    // The bytes of the first frame that were reported, which have left the ring.
+    told: Told,
     reported: usize,
     lent: usize,
     begun: bool,
     sent: u64,
-    // How many bytes are held.
-    in_use: usize,
 }
 
 impl Model for Outgoing {
-    ghost use Rattle.std.specs.Prelude.{◌≡◌, ◌≤◌};
+    ghost use Rattle.std.specs.Prelude.{◌≡◌, ◌≤◌, ◌++◌, length};
     ghost use Rattle.ttrpc_proto.specs.declared.framing.outgoing.TheConstants.{OUTGOING_LENGTH_MAX};
-    ghost use Rattle.ttrpc_proto.specs.Framing.Inside.{of_entries};
-    ghost use Rattle.ttrpc_proto.specs.Framing.Queue.{Queue, IsQueue, held};
+    ghost use Rattle.ttrpc_proto.specs.Framing.Laid.{AreLaid, entries_of, of_entries};
+    ghost use Rattle.ttrpc_proto.specs.Framing.Queue.{Queue, IsQueue};
 
     ghost Value = { Queue };
 
-    ghost view = { λ a. of_entries a.entries.items a.reported a.lent a.begun a.sent };
+    ghost view = { λ a. of_entries (entries_of a.records.items (a.told.bytes ++ a.ring.items))
+        a.reported a.lent a.begun a.sent };
 
-    ghost invariant = { λ a.
-        IsQueue (of_entries a.entries.items a.reported a.lent a.begun a.sent)
-        × (held (of_entries a.entries.items a.reported a.lent a.begun a.sent) ≡ a.in_use)
-        × (a.in_use ≤ OUTGOING_LENGTH_MAX) };
+    ghost invariant = { λ a. IsQueue (of_entries (entries_of a.records.items
+        (a.told.bytes ++ a.ring.items)) a.reported a.lent a.begun a.sent)
+        × AreLaid a.records.items (a.told.bytes ++ a.ring.items)
+        × (length a.told.bytes ≡ a.reported)
+        × (length a.ring.items ≤ OUTGOING_LENGTH_MAX)
+        × (a.ring.capacity ≡ OUTGOING_LENGTH_MAX) };
 }
 
 impl Outgoing {
-    /// No frames. Takes no memory.
-    pub fn new(alloc: Global) -> Outgoing
-        ensures { result ≡ empty_queue }
+    /// Returns a queue of no frames, with the memory of its ring. The error is `NoMemory` if this memory was refused.
+    pub fn new(alloc: Global) -> Result<Outgoing>
+        ensures ok { IfOk result (λ queue. queue ≡ empty_queue) }
+        ensures only_memory { IfErr result (λ e. e ≡ Error.NoMemory) }
     {
-        Outgoing {
-            entries: VecDeque::new(alloc),
+        Ok(Outgoing {
+            ring: Bytes::with_capacity(alloc, OUTGOING_LENGTH_MAX)?,
+            records: VecDeque::new(alloc),
+            told: Told::new(),
             reported: 0,
             lent: 0,
             begun: false,
             sent: 0,
-            in_use: 0,
-        }
+        })
     }
 
-    /// Whether there are no frames.
+    /// Returns true if there are no frames.
     pub fn is_empty(&self) -> bool
         ensures none { IsTrue result ↔ (self.now.frames ≡ []) }
         ensures valid { IsQueue self.now }
     {
-        self.entries.is_empty()
+        self.records.is_empty()
     }
 
-    /// Returns how many bytes are free. Takes no memory.
+    /// Returns the number of free bytes.
     pub fn free(&self) -> usize
         ensures free { result ≡ free self.now }
         ensures held { held self.now ≤ OUTGOING_LENGTH_MAX }
     {
-        OUTGOING_LENGTH_MAX - self.in_use
+        self.ring.free()
     }
 
-    /// Queues a frame after the others, if its bytes and so many more are free. An `Err` changes nothing: `NoRoom` if they
-    /// aren't free, and otherwise `NoMemory`.
+    /// Queues a frame after the others, if there is room for its bytes and for this many more. An error changes
+    /// nothing. The error is `NoRoom` if there is no room, and `NoMemory` otherwise.
     pub fn place(&mut self, frame: Queued, room: usize) -> Result<()>
         ensures ok { OnOk result (self.new ≡ with_frame self.old frame) }
-        ensures no_room { (result ≡ Err Error.NoRoom) ↔ (free self.old < MESSAGE_HEADER_LENGTH + length frame.message.payload + room) }
+        ensures no_room { (result ≡ Err Error.NoRoom)
+            ↔ (free self.old < MESSAGE_HEADER_LENGTH + length frame.message.payload + room) }
         ensures err { OnErr result (self.new ≡ self.old) }
         ensures only { IfErr result (λ e. (e ≡ Error.NoMemory) ⊎ (e ≡ Error.NoRoom)) }
 
-        // What `placed_filled` and `placed_withdrawn` ask of a caller that fills or withdraws the frame.
+        // The conditions of `placed_filled` and `placed_withdrawn`, for a caller that fills or withdraws the frame.
         ensures was { IsQueue self.old }
         ensures valid { IsQueue self.new }
     {
-        let length = frame_len(&frame);
+        let payload = frame.message.payload.as_slice();
+        let length = MESSAGE_HEADER_LENGTH + payload.len();
         let free = self.free();
         if free < length || free - length < room {
             return Err(Error::NoRoom);
         }
-        self.entries.push_back(Entry { frame, gone: 0 })?;
-        self.in_use += length;
+        self.records.push_back(Record {
+            header: frame.message.header,
+            ticket: frame.ticket,
+            is_unary_request: frame.is_unary_request,
+            owner: frame.owner,
+            payload: payload.len(),
+            gone: 0,
+        })?;
+        self.ring.put(&frame.message.header.to_bytes());
+        self.ring.put(payload);
         Ok(())
     }
 
-    /// Gives the last frame this payload, and its header this length modulo 2^32, unless the frame has begun, the payload's
-    /// bytes aren't free, or there is no frame. Takes no memory.
-    pub fn fill(&mut self, payload: Blob)
-        ensures filled { self.new ≡ filled self.old payload }
+    /// Replaces the last frame's payload by these three parts, and the length in its header by their length modulo
+    /// 2^32. Does nothing if the frame has begun, the payload's bytes aren't free, or there is no frame.
+    pub fn fill(&mut self, before: &[u8], payload: &[u8], after: &[u8])
+        ensures filled { self.new ≡ filled self.old (before.now ++ (payload.now ++ after.now)) }
         ensures was { IsQueue self.old }
         ensures valid { IsQueue self.new }
     {
-        let length = payload.as_slice().len();
+        let length = before
+            .len()
+            .saturating_add(payload.len())
+            .saturating_add(after.len());
         if self.last_may_change()
             && length <= self.free()
-            && let Some(entry) = self.entries.back_mut()
+            && let Some(mut record) = self.records.pop_back()
         {
-            self.in_use = self.in_use - entry.frame.message.payload.as_slice().len() + length;
-            entry.frame.message.header.length = (length % LENGTHS) as u32;
-            entry.frame.message.payload = payload;
+            self.ring.cut(self.ring.len() - record.span());
+            record.header.length = (length % LENGTHS) as u32;
+            record.payload = length;
+            self.ring.put(&record.header.to_bytes());
+            self.ring.put(before);
+            self.ring.put(payload);
+            self.ring.put(after);
+            self.ring.put_unread(record.gone);
+            self.records.push_back_reserved(record);
         }
     }
 
-    /// Takes the last frame back, unless it has begun or there is none. Takes no memory.
+    /// Removes the last frame, unless it has begun or there is none.
     pub fn withdraw(&mut self)
         ensures withdrawn { self.new ≡ withdrawn self.old }
         ensures was { IsQueue self.old }
         ensures valid { IsQueue self.new }
     {
         if self.last_may_change()
-            && let Some(entry) = self.entries.pop_back()
+            && let Some(record) = self.records.pop_back()
         {
-            self.in_use = self.in_use - entry.len() - entry.gone;
+            self.ring.cut(self.ring.len() - record.span());
         }
     }
 
-    // Whether there is a last frame that hasn't begun.
+    // Returns true if there is a last frame that hasn't begun.
     fn last_may_change(&self) -> bool
         ensures { result ≡ last_may_change self.now }
     {
-        usize::from(self.begun) < self.entries.len()
+        usize::from(self.begun) < self.records.len()
     }
 
-    /// Copies a front of what is left of the first frame, as much as fits, and says how many bytes. Takes no memory.
+    /// Copies the first of the bytes that are left of the first frame, as many as fit, and returns their number.
     pub fn lend(&mut self, buffer: &mut [u8]) -> usize
-        // As much is lent as fits.
+        // As many bytes are lent as fit.
         ensures count { result ≡ min (length buffer.old) (length (open_part self.old)) }
-        // It stands at the front of the buffer, whose rest stays.
+        // They are at the front of the buffer, and the rest of the buffer is unchanged.
         ensures copied { take result buffer.new ≡ take result (open_part self.old) }
         ensures rest { drop result buffer.new ≡ drop result buffer.old }
-        // The queue knows how much, and is a queue.
+        // The queue knows how many bytes are lent, and is a queue.
         ensures lent { self.new ≡ with_lent self.old result }
         ensures valid { IsQueue self.new }
     {
-        let count = match self.entries.front() {
-            None => 0,
-            Some(entry) => copy_written(&entry.frame.message, self.reported, buffer),
-        };
+        let count = self.open_len().min(buffer.len());
+        self.ring.copy_to(&mut buffer[..count]);
         self.lent = count;
         self.begun = self.begun || count > 0;
         count
     }
 
-    /// How many bytes are left of the first frame: as many as a `lend` gives where all fit.
+    /// Returns the number of bytes that are left of the first frame. A `lend` gives this many if all fit.
     pub fn open_len(&self) -> usize
         ensures { result ≡ length (open_part self.now) }
     {
-        first_length(&self.entries) - self.reported
+        match self.records.front() {
+            None => 0,
+            Some(record) => MESSAGE_HEADER_LENGTH + record.payload - self.reported,
+        }
     }
 
-    /// How many bytes the last `lend` since the last report gave.
+    /// Returns the number of bytes that the last `lend` since the last report gave, or 0 if there was none.
     pub fn lent(&self) -> usize
         ensures { result ≡ self.now.lent }
     {
         self.lent
     }
 
-    /// Reports this many of the lent bytes as written. Takes no memory.
+    /// Reports this many of the lent bytes as written.
     pub fn wrote(&mut self, n: usize)
         requires { n ≤ self.old.lent }
         ensures written { self.new ≡ after_report self.old n }
         ensures valid { IsQueue self.new }
     {
-        let length = first_length(&self.entries);
+        let left = self.open_len() - n;
+        let (front, back) = self.ring.as_slices();
+        let in_front = n.min(front.len());
+        self.told.add(&front[..in_front]);
+        self.told.add(&back[..n - in_front]);
+        self.ring.pass(n);
         self.lent = 0;
         self.reported += n;
-        self.in_use -= n;
-        if self.reported >= length {
-            let (sent, gone) = take_first(&mut self.entries, self.sent);
+        if left == 0 {
+            let (sent, gone) = take_first(&mut self.records, self.sent);
             self.sent = sent;
-            self.in_use -= gone;
+            self.ring.pass(gone);
+            self.told = Told::new();
             self.reported = 0;
             self.begun = false;
         }
     }
 
-    /// The ticket of the last frame with one that was reported whole, or 0 before the first. Takes no memory.
+    /// Returns the ticket of the last frame with one that was reported whole, or 0 before the first such frame.
     pub fn sent(&self) -> u64
         ensures { result ≡ self.now.sent }
     {
         self.sent
     }
 
-    /// Whether the first frame is a unary request of one of these owners and has begun.
+    /// Returns true if the first frame is a unary request of one of these owners and has begun.
     pub fn has_begun<W: Owners>(&self, owners: &W) -> bool
         ensures { result ≡ has_begun self.now (W.has owners.now) }
     {
         self.begun
             && self
-                .entries
+                .records
                 .front()
-                .is_some_and(|entry| entry.frame.is_request_of(owners))
+                .is_some_and(|record| record.is_request_of(owners))
     }
 
-    /// Throws away the unary requests of these owners that haven't begun. Their bytes are held until the frame before them
-    /// leaves, if there is one. Takes no memory.
+    /// Throws away the unary requests of these owners that haven't begun. Their bytes are held until the frame before
+    /// them leaves, if there is one.
     pub fn throw_away<W: Owners>(&mut self, owners: &W)
         ensures without { self.new ≡ without self.old (W.has owners.now) }
         ensures valid { IsQueue self.new }
     {
-        let first = take_begun(&mut self.entries, self.begun);
-        let gone = throw_from(&mut self.entries, owners);
-        if let Some(mut entry) = first {
-            entry.gone += gone;
-            self.entries.push_front_reserved(entry);
+        let first = take_begun(&mut self.records, self.begun);
+        let gone = throw_from(&mut self.records, owners);
+        if let Some(mut record) = first {
+            record.gone += gone;
+            self.records.push_front_reserved(record);
         } else {
-            self.in_use -= gone;
+            self.ring.pass(gone);
         }
     }
 }
 
-/// Over any history in which no more is lent than there is and no more is reported than was lent, the bytes that left
-/// and those still to be written are the written forms of the frames that depart, in order: no byte is left out, comes
-/// twice, or stands between those of another frame. The frames that were queued are, in order, those that depart and
-/// those that were thrown away, and only unary requests were.
+/// States that the frames that depart are written in order, over any history that lends no more than there is and
+/// reports no more than was lent. The bytes that left, and the bytes still to be written, are the written forms of
+/// these frames. No byte is left out, comes twice, or is between the bytes of another frame. The queued frames are, in
+/// order, the frames that depart and the frames that were thrown away. Only unary requests were thrown away.
 pub fn departing_frames_are_written()
     ensures written { (q : Queue) (hs : List Happening) → IsQueue q → Allowed q hs
         → all_bytes_left q hs ++ unsent (after_all q hs)
@@ -290,97 +292,69 @@ pub fn departing_frames_are_written()
         → AllByRecursion (λ f. IsTrue f.is_unary_request) (thrown q hs) }
 {}
 
-/// Where the tickets of queued frames are, in order, those behind the last that was sent up to the last that was given, a
-/// ticket that was given is sent exactly once its frame isn't queued any more. The last that was sent is that of the last
-/// frame with one that was reported whole.
+/// States that a ticket that was given is sent exactly if no queued frame has it any more. The condition is that the
+/// tickets of the queued frames are, in order, the numbers after the last sent ticket up to the last given ticket. The
+/// last sent ticket is the ticket of the last frame with one that was reported whole.
 pub fn tickets_are_sent_in_order()
     ensures queued { (q : Queue) (given t : ℕ) → AreNumbered q.sent q.frames given
         → has_ticket t q.frames ≡ (nat_lt q.sent t && nat_le t given) }
-    ensures finished { (q : Queue) (hs : List Happening) → (after_all q hs).sent ≡ last_ticket (finished q hs) q.sent }
+    ensures finished { (q : Queue) (hs : List Happening)
+        → (after_all q hs).sent ≡ last_ticket (finished q hs) q.sent }
 {}
 
-// Copies what stands in a frame's bytes from a place on, as much as fits, and says how many bytes.
-fn copy_written(message: &GenMessage, start: usize, buffer: &mut [u8]) -> usize
-    requires { start ≤ length (written message.now) }
-    ensures count { result ≡ min (length buffer.old) (length (written message.now) - start) }
-    ensures copied { take result buffer.new ≡ take result (drop start (written message.now)) }
-    ensures rest { drop result buffer.new ≡ drop result buffer.old }
-{
-    let header = message.header.to_bytes();
-    let payload = message.payload.as_slice();
-    let in_header = start.min(MESSAGE_HEADER_LENGTH);
-    let from_header = copy_front(&header[in_header..], buffer);
-    let from_payload = copy_front(&payload[start - in_header..], &mut buffer[from_header..]);
-    from_header + from_payload
-}
-
-// Copies a front, as much as fits, and says how many bytes.
-fn copy_front(from: &[u8], to: &mut [u8]) -> usize
-    ensures count { result ≡ min (length to.old) (length from.now) }
-    ensures copied { to.new ≡ take result from.now ++ drop result to.old }
-{
-    let count = from.len().min(to.len());
-    to[..count].copy_from_slice(&from[..count]);
-    count
-}
-
-// Throws away the unary requests of these owners. Returns how many bytes are gone with those before the first frame that
-// stays; the bytes of the others are held after the frame before them.
-fn throw_from<W: Owners>(entries: &mut VecDeque<Entry>, owners: &W) -> usize
-    requires { all_held entries.old.items ≤ OUTGOING_LENGTH_MAX }
-    ensures kept { entries.new.items ≡ kept_of (W.has owners.now) entries.old.items }
-    ensures gone { result ≡ gone_before (W.has owners.now) entries.old.items }
-    ensures len { deque_len entries.new ≤ deque_len entries.old }
-    ensures capacity { deque_capacity entries.new ≡ deque_capacity entries.old }
+// Throws away the unary requests of these owners. Returns the number of bytes that are gone with the requests before
+// the first frame that stays. The bytes of the other requests are held after the frame before them.
+fn throw_from<W: Owners>(records: &mut VecDeque<Record>, owners: &W) -> usize
+    // The records have at most twice the bytes of the ring.
+    requires { spans records.old.items ≤ 2 * OUTGOING_LENGTH_MAX }
+    // The requests are gone. Each record that stays counts the bytes gone after it, and the result counts those before the first.
+    ensures kept { records.new.items ≡ kept_records (W.has owners.now) records.old.items }
+    ensures gone { result ≡ gone_records (W.has owners.now) records.old.items }
+    // There are no more records than before, in the same memory.
+    ensures len { deque_len records.new ≤ deque_len records.old }
+    ensures capacity { deque_capacity records.new ≡ deque_capacity records.old }
 {
     let mut gone = 0;
-    let mut left = entries.len();
+    let mut left = records.len();
     while left > 0 {
         left -= 1;
-        let Some(mut entry) = entries.pop_back() else {
+        let Some(mut record) = records.pop_back() else {
             unreachable!();
         };
-        if entry.frame.is_request_of(owners) {
-            gone += entry.len() + entry.gone;
+        if record.is_request_of(owners) {
+            gone += record.span();
         } else {
-            entry.gone += gone;
+            record.gone += gone;
             gone = 0;
-            entries.push_front_reserved(entry);
+            records.push_front_reserved(record);
         }
     }
     gone
 }
 
-// Takes the first frame out, if it has begun.
-fn take_begun(entries: &mut VecDeque<Entry>, begun: bool) -> Option<Entry>
-    ensures first { option_to_list result ≡ take (if begun then 1 else 0) entries.old.items }
-    ensures rest { entries.new.items ≡ drop (if begun then 1 else 0) entries.old.items }
-    ensures place { IfSome result (λ _. deque_len entries.new < deque_capacity entries.new) }
+// Takes the first record out, if its frame has begun.
+fn take_begun(records: &mut VecDeque<Record>, begun: bool) -> Option<Record>
+    ensures first { option_to_list result ≡ take (if begun then 1 else 0) records.old.items }
+    ensures rest { records.new.items ≡ drop (if begun then 1 else 0) records.old.items }
+    ensures place { IfSome result (λ _. deque_len records.new < deque_capacity records.new) }
 {
     if !begun {
         return None;
     }
-    entries.pop_front()
+    records.pop_front()
 }
 
-// Takes the first frame out, if there is one. Returns the last ticket, with its, and how many bytes were held after it.
-fn take_first(entries: &mut VecDeque<Entry>, last: u64) -> (u64, usize)
-    ensures ticket { result.0 ≡ first_ticket (frames_of entries.old.items) last }
-    ensures gone { result.1 ≡ first_gone (numbers_of entries.old.items) }
-    ensures rest { entries.new.items ≡ drop 1 entries.old.items }
+// Takes the first record out, if there is one. Returns the record's ticket, or the last ticket if it has none, and the
+// number of bytes that were held after its frame.
+fn take_first(records: &mut VecDeque<Record>, last: u64) -> (u64, usize)
+    ensures ticket { (bytes : List ℕ)
+        → result.0 ≡ first_ticket (frames_of (entries_of records.old.items bytes)) last }
+    ensures gone { (bytes : List ℕ)
+        → result.1 ≡ first_gone (numbers_of (entries_of records.old.items bytes)) }
+    ensures rest { records.new.items ≡ drop 1 records.old.items }
 {
-    match entries.pop_front() {
-        Some(entry) => (entry.frame.ticket.unwrap_or(last), entry.gone),
+    match records.pop_front() {
+        Some(record) => (record.ticket.unwrap_or(last), record.gone),
         None => (last, 0),
-    }
-}
-
-// How many bytes the first frame has, or 0 where there is none.
-fn first_length(entries: &VecDeque<Entry>) -> usize
-    ensures { result ≡ length (first_open (frames_of entries.now.items) 0) }
-{
-    match entries.front() {
-        None => 0,
-        Some(entry) => entry.len(),
     }
 }

@@ -1,17 +1,17 @@
-//! Of whom requests are.
+//! The owners of requests.
 ghost use Rattle.std.specs.Prelude.{◌≡◌, ℕ, Bool};
 
-/// Some of the owners of requests.
+/// A set of owners of requests.
 pub trait Owners {
-    // Which of them.
+    // True for the owners in the set.
     ghost has: { Self → ℕ → Bool };
 
-    /// Whether this one is among them. Takes no memory.
+    /// Returns true if this owner is in the set. Takes no memory.
     fn has(&self, owner: u64) -> bool
         ensures { result ≡ has self.now owner };
 }
 
-/// One owner alone.
+/// The set of one owner.
 impl Owners for u64 {
     ghost use Rattle.std.specs.Prelude.{nat_eq};
 

@@ -1,4 +1,4 @@
-//! One frame from a reader, or what there is of one.
+//! Reading one frame from a reader, or the part of one that is there.
 ghost use Rattle.std.specs.Prelude.{◌≡◌, ◌<◌, ◌≤◌, ◌*◌, ◌+◌, ◌++◌, ℕ, List, [], length, take, min, max, vec_capacity, IfErr, IfOk, OnErr, OnOk};
 ghost use Rattle.std.specs.Io.KnownBytes.{Consumes};
 ghost use Rattle.std.specs.IoError.{error_kind};
@@ -22,21 +22,21 @@ use std::alloc::{AllocError, Global};
 use std::io::{self, ErrorKind};
 use ttrpc_wire::{Blob, Code};
 
-/// What stood at the front of a reader's bytes.
+/// The frame that was at the front of a reader's bytes, or the part of one.
 #[derive(Debug, Drop, PartialEq, Eq)]
 pub enum Found {
-    /// A whole frame, or the header of one that is too long, whose body is gone.
+    /// A whole frame, or the header of a frame that is too long. The body of the latter is gone.
     Whole(Incoming),
-    /// The input ended after this many bytes of a header, or none.
+    /// The input ended after this many bytes of a header, which may be none.
     HeaderCut(usize),
     /// The input ended after the header and this many bytes of the body.
     BodyCut(MessageHeader, usize),
-    /// The header of a frame that is too long, some of its body, and then the end.
+    /// The input ended after the header of a frame that is too long, and before the end of its body.
     OversizeCut(MessageHeader),
 }
 
-/// Reads a frame, and nothing that follows it. Room for a body grows as its bytes come, and the body of a frame that is
-/// too long is thrown away.
+/// Reads a frame, and nothing after it. Room for a body grows as its bytes come, and the body of a frame that is too
+/// long is thrown away.
 pub fn take_frame<R: Source>(alloc: Global, reader: &mut R) -> Result<Found, StreamFailure>
     ensures { Took (R.remaining reader.old) (R.remaining reader.new) (R.last reader.new) result }
 {
@@ -57,14 +57,15 @@ pub fn take_frame<R: Source>(alloc: Global, reader: &mut R) -> Result<Found, Str
     }
 }
 
-// A frame whose header came, and whose body is kept.
+// Reads the body of a frame. The header has come, and the body is kept.
 fn take_body<R: Source>(
     alloc: Global,
     reader: &mut R,
     header: MessageHeader,
 ) -> Result<Found, StreamFailure>
     requires { header.length ≤ MESSAGE_LENGTH_MAX }
-    ensures { TookBody header (R.remaining reader.old) (R.remaining reader.new) (R.last reader.new) result }
+    ensures { TookBody header (R.remaining reader.old) (R.remaining reader.new)
+        (R.last reader.new) result }
 {
     let mut body = Vec::new(alloc);
     read_body(reader, &mut body, header.length as usize)?;
@@ -75,19 +76,21 @@ fn take_body<R: Source>(
     Ok(Found::Whole(Incoming::Frame(GenMessage { header, payload })))
 }
 
-// Reads as many bytes as a header states, or fewer where the reader ends.
+// Reads as many bytes as a header states, or fewer if the reader ends.
 fn read_body<R: Source>(
     reader: &mut R,
     body: &mut Vec<u8>,
     stated: usize,
 ) -> Result<(), StreamFailure>
-    // What was read is the body, and it is no longer than stated.
+    // The body is what was read, and is no longer than stated.
     requires { body.old.items ≡ [] }
     ensures read { Consumes (R.remaining reader.old) (R.remaining reader.new) body.new.items }
     ensures fits { length body.new.items ≤ stated }
-    // Where it is shorter, the reader is at its end, or failed.
-    ensures end { OnOk result (length body.new.items < stated → IsOver (R.remaining reader.new) (R.last reader.new)) }
-    ensures err { IfErr result (λ e. (length body.new.items < stated) × IsBodyCause e (R.last reader.new)) }
+    // If the body is shorter, the reader is at its end, or failed.
+    ensures end { OnOk result
+        (length body.new.items < stated → IsOver (R.remaining reader.new) (R.last reader.new)) }
+    ensures err { IfErr result
+        (λ e. (length body.new.items < stated) × IsBodyCause e (R.last reader.new)) }
 {
     while body.len() < stated {
         let room = make_room(body, stated)?;
@@ -98,17 +101,20 @@ fn read_body<R: Source>(
     Ok(())
 }
 
-// Room for more of a body, and how many bytes it may have then: it doubles, so that each byte is moved a bounded number
-// of times, but it has at least a page and at most what the header states. So a header alone takes a page at most.
+// Reserves room for more of a body, and returns the length that the body may have then. The room doubles, so that each
+// byte is moved a bounded number of times. The room is at least a page, and at most what the header states. So a header
+// alone takes a page at most.
 fn make_room(body: &mut Vec<u8>, stated: usize) -> Result<usize, AllocError>
-    // The bytes stay.
+    // The bytes are unchanged.
     requires { length body.old.items < stated }
     ensures items { body.new.items ≡ body.old.items }
-    // There is room for more, and never for more than is stated or twice what there was.
+    // There is room for more, and never for more than is stated, nor for more than a page or twice the bytes there
+    // were.
     ensures more { IfOk result (λ room. (length body.old.items < room)
         × (room ≤ min stated (max DEFAULT_PAGE_SIZE (2 * length body.old.items)))) }
     ensures there { IfOk result (λ room. room ≤ vec_capacity body.new) }
-    ensures capacity { vec_capacity body.new ≤ max (vec_capacity body.old) (min stated (max DEFAULT_PAGE_SIZE (2 * length body.old.items))) }
+    ensures capacity { vec_capacity body.new ≤ max (vec_capacity body.old)
+        (min stated (max DEFAULT_PAGE_SIZE (2 * length body.old.items))) }
 {
     let held = body.len();
     let room = held.saturating_mul(2).max(DEFAULT_PAGE_SIZE).min(stated);
@@ -116,17 +122,19 @@ fn make_room(body: &mut Vec<u8>, stated: usize) -> Result<usize, AllocError>
     Ok(room)
 }
 
-// Reads until there are so many bytes. False: the reader ended before.
+// Reads until there are `size` bytes. Returns false if the reader ended before.
 fn grow<R: Source>(reader: &mut R, bytes: &mut Vec<u8>, size: usize) -> Result<bool, StreamFailure>
-    // There is room for so many.
+    // There is room for this many bytes.
     requires more { length bytes.old.items < size }
     requires room { size ≤ vec_capacity bytes.old }
-    // What was read stands behind the others.
+    // The bytes that were read follow the others.
     ensures read { (more : List ℕ) × Consumes (R.remaining reader.old) (R.remaining reader.new) more
         × (bytes.new.items ≡ bytes.old.items ++ more) }
-    // Where there are fewer than asked for, the reader is at its end, or failed.
-    ensures ok { IfOk result (λ all. IsAllOr all (length bytes.new.items) size (IsOver (R.remaining reader.new) (R.last reader.new))) }
-    ensures err { IfErr result (λ e. (length bytes.new.items < size) × IsBodyCause e (R.last reader.new)) }
+    // If there are fewer bytes than asked for, the reader is at its end, or failed.
+    ensures ok { IfOk result (λ all. IsAllOr all (length bytes.new.items) size
+        (IsOver (R.remaining reader.new) (R.last reader.new))) }
+    ensures err { IfErr result
+        (λ e. (length bytes.new.items < size) × IsBodyCause e (R.last reader.new)) }
 {
     let held = bytes.len();
     bytes.resize(size, 0)?;
@@ -134,26 +142,30 @@ fn grow<R: Source>(reader: &mut R, bytes: &mut Vec<u8>, size: usize) -> Result<b
     Ok(bytes.len() == size)
 }
 
-// Replaces what stands behind the first bytes by what the reader gives, as far as that goes.
+// Replaces the bytes after the first `held` by bytes of the reader, as many as it gives.
 fn read_behind<R: Source>(reader: &mut R, bytes: &mut Vec<u8>, held: usize) -> io::Result<()>
-    // What was read stands behind the first bytes.
+    // The bytes that were read follow the first bytes.
     requires { held ≤ length bytes.old.items }
     ensures read { (more : List ℕ) × Consumes (R.remaining reader.old) (R.remaining reader.new) more
         × (bytes.new.items ≡ take held bytes.old.items ++ more) }
     ensures fits { length bytes.new.items ≤ length bytes.old.items }
-    // Where there are fewer than before, the reader is at its end, or failed.
-    ensures end { OnOk result (length bytes.new.items < length bytes.old.items → IsOver (R.remaining reader.new) (R.last reader.new)) }
-    ensures err { IfErr result (λ e. (length bytes.new.items < length bytes.old.items) × IsFailure (R.last reader.new) (error_kind e)) }
+    // If there are fewer bytes than before, the reader is at its end, or failed.
+    ensures end { OnOk result (length bytes.new.items < length bytes.old.items
+        → IsOver (R.remaining reader.new) (R.last reader.new)) }
+    ensures err { IfErr result (λ e. (length bytes.new.items < length bytes.old.items)
+        × IsFailure (R.last reader.new) (error_kind e)) }
 {
     let (came, filled) = fill(reader, &mut bytes[held..]);
     bytes.truncate(held + came);
     filled
 }
 
-// Reads so many bytes and throws them away, a page at a time. False: the reader ended before.
+// Reads this many bytes and throws them away, a page at a time. Returns false if the reader ended before.
 fn pass<R: Source>(reader: &mut R, count: usize) -> io::Result<bool>
-    ensures ok { IfOk result (Passed (R.remaining reader.old) (R.remaining reader.new) (R.last reader.new) count) }
-    ensures cut { OnErr result (ConsumesBelow (R.remaining reader.old) (R.remaining reader.new) count) }
+    ensures ok { IfOk result
+        (Passed (R.remaining reader.old) (R.remaining reader.new) (R.last reader.new) count) }
+    ensures cut { OnErr result
+        (ConsumesBelow (R.remaining reader.old) (R.remaining reader.new) count) }
     ensures err { IfErr result (λ e. IsFailure (R.last reader.new) (error_kind e)) }
 {
     let mut page = [0u8; DEFAULT_PAGE_SIZE];
@@ -173,19 +185,20 @@ fn pass<R: Source>(reader: &mut R, count: usize) -> io::Result<bool>
 }
 
 impl GenMessage {
-    /// Reads a message: that of the next frame, and nothing that follows it. Of a frame that is too long its sender is to
-    /// be told; after anything else but a whole frame the connection can't go on.
+    /// Reads the message in the next frame, and nothing after it. For a frame that is too long the error is
+    /// `ReturnError`, which its sender is to get. After anything else but a whole frame the connection can't go on.
     pub fn read_from<R: Source>(
         alloc: Global,
         reader: &mut R,
     ) -> std::result::Result<GenMessage, GenMessageError>
-        ensures { Reads (R.remaining reader.old) (R.remaining reader.new) (R.last reader.new) (IsMessageOf result) }
+        ensures { Reads (R.remaining reader.old) (R.remaining reader.new) (R.last reader.new)
+            (IsMessageOf result) }
     {
         message_of(alloc, take_frame(alloc, reader))
     }
 }
 
-/// What is told of what was found, as a message.
+/// Returns the message of a whole frame that was read, or the error for any other result of reading.
 pub fn message_of(
     alloc: Global,
     took: std::result::Result<Found, StreamFailure>,
@@ -203,7 +216,8 @@ pub fn message_of(
     }
 }
 
-/// The error that tells that a message is longer than a message may be, or that memory for its text was refused.
+/// Returns the error for a message that is longer than a message may be, or `NoMemory` if memory for its text was
+/// refused.
 pub fn oversize_error(alloc: Global, header: MessageHeader) -> Error
     ensures { TellsOversize header result }
 {
@@ -213,16 +227,18 @@ pub fn oversize_error(alloc: Global, header: MessageHeader) -> Error
     }
 }
 
-/// The error that tells that a stream ended where more was to come, or that memory for its text was refused.
+/// Returns the error for a stream that ended before a whole frame, or `NoMemory` if memory for its text was refused.
 pub fn cut_error(alloc: Global) -> Error
     ensures { IsSocket None result }
 {
     socket_of(alloc, &io::Error::from(ErrorKind::UnexpectedEof))
 }
 
-/// At the front of each list of bytes stands one thing: what a reader finds is a function of its bytes.
+/// States that exactly one `Found` is at the front of each list of bytes. So a reader's find is a function of its
+/// bytes.
 pub fn bytes_have_one_front()
-    ensures some { (bytes : List ℕ) → (found : AFound) × (front : List ℕ) × (rest : List ℕ) × StandsAt bytes found front rest }
+    ensures some { (bytes : List ℕ)
+        → (found : AFound) × (front : List ℕ) × (rest : List ℕ) × StandsAt bytes found front rest }
     ensures one { (bytes : List ℕ) (f g : AFound) (a b c d : List ℕ)
         → StandsAt bytes f a b → StandsAt bytes g c d → (f ≡ g) × (a ≡ c) }
 {}

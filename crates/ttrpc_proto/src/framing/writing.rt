@@ -1,4 +1,4 @@
-//! Frames to a writer.
+//! Writing frames to a writer.
 ghost use Rattle.std.specs.Prelude.{◌≡◌, ◌≤◌, ◌++◌, length, OnErr, OnOk};
 ghost use Rattle.std.specs.Io.KnownBytes.{Appends};
 ghost use Rattle.ttrpc_proto.specs.Framing.Header.{header_bytes};
@@ -14,19 +14,21 @@ use std::alloc::{AllocError, Global};
 use std::result;
 use ttrpc_wire::values::slices::{behind, front};
 
-/// How many bytes of a payload are offered together with the header: a page has both.
+/// The number of a payload's bytes that are offered together with the header. A page has room for both.
 pub const PREFIX_PAYLOAD: usize = 4086;
 
-/// Offers the header with the first bytes of the payload, and then the rest of that. `prefix` is room for the first of
-/// these offers, and holds it in the end. The header is written as it stands.
+/// Writes a frame: the header with the first bytes of the payload, and then the other bytes of the payload. `prefix` is
+/// room for the bytes that are offered first, and holds them at the end. The header is written unchanged.
 pub fn write_frame<W: Sink>(
     writer: &mut W,
     header: &MessageHeader,
     payload: &[u8],
     prefix: &mut Vec<u8>,
 ) -> result::Result<(), StreamFailure>
-    ensures ok { OnOk result (Appends (W.contents writer.old) (W.contents writer.new) (header_bytes header.now ++ payload.now)) }
-    ensures err { OnErr result (AppendsFront (W.contents writer.old) (W.contents writer.new) (header_bytes header.now ++ payload.now)) }
+    ensures ok { OnOk result (Appends (W.contents writer.old) (W.contents writer.new)
+        (header_bytes header.now ++ payload.now)) }
+    ensures err { OnErr result (AppendsFront (W.contents writer.old) (W.contents writer.new)
+        (header_bytes header.now ++ payload.now)) }
     ensures calls { Makes (W.calls writer.old) (W.calls writer.new)
         (λ calls. Went (WritesFrame header.now payload.now) calls result) }
 {
@@ -46,8 +48,10 @@ pub fn write_flushed<W: Sink>(
     payload: &[u8],
     prefix: &mut Vec<u8>,
 ) -> result::Result<(), StreamFailure>
-    ensures ok { OnOk result (Appends (W.contents writer.old) (W.contents writer.new) (header_bytes header.now ++ payload.now)) }
-    ensures err { OnErr result (AppendsFront (W.contents writer.old) (W.contents writer.new) (header_bytes header.now ++ payload.now)) }
+    ensures ok { OnOk result (Appends (W.contents writer.old) (W.contents writer.new)
+        (header_bytes header.now ++ payload.now)) }
+    ensures err { OnErr result (AppendsFront (W.contents writer.old) (W.contents writer.new)
+        (header_bytes header.now ++ payload.now)) }
     ensures calls { Makes (W.calls writer.old) (W.calls writer.new)
         (λ calls. Went (Then (WritesFrame header.now payload.now) Flushes) calls result) }
 {
@@ -60,7 +64,7 @@ pub fn write_flushed<W: Sink>(
     }
 }
 
-// The header and the first bytes of a payload, in place of what the vector held.
+// Replaces the vector's bytes by the header and the first bytes of a payload.
 fn begin(
     prefix: &mut Vec<u8>,
     header: &MessageHeader,

@@ -1,4 +1,4 @@
-//! The ten bytes in front of each message, and the numbers that stand in them.
+//! The ten bytes before each message, and the numbers in them.
 
 pub mod laws;
 pub mod oversize;
@@ -14,43 +14,43 @@ use byteorder::{BigEndian, ByteOrder};
 use std::alloc::Global;
 use std::io::{self, ErrorKind};
 
-/// How many bytes a header has.
+/// The number of bytes in a header.
 pub const MESSAGE_HEADER_LENGTH: usize = 10;
 
-/// How many bytes a message has at most, without its header.
+/// The greatest number of bytes in a message, without its header.
 pub const MESSAGE_LENGTH_MAX: usize = 4194304;
 
-/// How many bytes a page has by default.
+/// The default number of bytes in a page.
 pub const DEFAULT_PAGE_SIZE: usize = 4096;
 
-/// The type of a message that is a request.
+/// The type of a request.
 pub const MESSAGE_TYPE_REQUEST: u8 = 1;
 
-/// The type of a message that is a response.
+/// The type of a response.
 pub const MESSAGE_TYPE_RESPONSE: u8 = 2;
 
-/// The type of a message that is data of a stream.
+/// The type of a data message, which carries data of a stream.
 pub const MESSAGE_TYPE_DATA: u8 = 3;
 
-/// The flag that the sender writes no more on the stream.
+/// The flag of a sender that writes no more on the stream.
 pub const FLAG_REMOTE_CLOSED: u8 = 1;
 
-/// The flag that the sender goes on writing on the stream.
+/// The flag of a sender that goes on writing on the stream.
 pub const FLAG_REMOTE_OPEN: u8 = 2;
 
-/// The flag that a message of data has none.
+/// The flag of a data message that has no data.
 pub const FLAG_NO_DATA: u8 = 4;
 
-/// What stands in front of a message: how long it is, which stream it is of, and what it is.
+/// The header before a message: its length, its stream, its type and its flags.
 #[derive(Default, Debug, Clone, Copy, PartialEq, Eq)]
 pub struct MessageHeader {
-    /// How many bytes the message has, without its header.
+    /// The number of bytes in the message, without its header.
     pub length: u32,
-    /// The stream's number, odd where the client opened it.
+    /// The stream id, odd if the client opened the stream.
     pub stream_id: u32,
-    /// A request, a response or data.
+    /// The type: a request, a response or data.
     pub type_: u8,
-    /// What else is said of the message or its stream.
+    /// The flags of the message or its stream.
     pub flags: u8,
 }
 
@@ -72,7 +72,7 @@ impl From<&[u8; 10]> for MessageHeader {
 impl MessageHeader {
     ghost use Rattle.ttrpc_proto.specs.Framing.Header.{ConsumesHeader, header_bytes, header_of};
 
-    /// The header that the first ten bytes are, if there are as many.
+    /// Returns the header in the first ten bytes, or `None` if there are fewer.
     pub fn try_from_slice(bytes: &[u8]) -> Option<MessageHeader>
         ensures short { IsNone result ↔ (length bytes.now < MESSAGE_HEADER_LENGTH) }
         ensures header { IfSome result (λ header. header ≡ header_of bytes.now) }
@@ -81,7 +81,7 @@ impl MessageHeader {
         Some(MessageHeader::from(ten))
     }
 
-    /// The header's ten bytes.
+    /// Returns the header's ten bytes.
     pub fn to_bytes(&self) -> [u8; 10]
         ensures { result ≡ header_bytes self.now }
     {
@@ -93,7 +93,7 @@ impl MessageHeader {
         bytes
     }
 
-    /// The header's ten bytes, in a vector.
+    /// Returns the header's ten bytes in a vector.
     pub fn to_vec(&self, alloc: Global) -> Result<Vec<u8>>
         ensures ok { IfOk result (λ bytes. bytes.items ≡ header_bytes self.now) }
         ensures only_memory { IfErr result (λ e. e ≡ Error.NoMemory) }
@@ -101,11 +101,15 @@ impl MessageHeader {
         Ok(Vec::from_slice(alloc, &self.to_bytes())?)
     }
 
-    /// Reads a header: ten bytes, and none behind them. Where the reader ends before them, the error is `UnexpectedEof`.
+    /// Reads a header's ten bytes, and no bytes after them. The error is `UnexpectedEof` if the reader ends before the
+    /// tenth.
     pub fn read_from<R: Source>(reader: &mut R) -> io::Result<MessageHeader>
-        ensures ok { IfOk result (ConsumesHeader (R.remaining reader.old) (R.remaining reader.new)) }
-        ensures cut { OnErr result (ConsumesBelow (R.remaining reader.old) (R.remaining reader.new) MESSAGE_HEADER_LENGTH) }
-        ensures err { IfErr result (λ e. FillFails (R.remaining reader.new) (R.last reader.new) (error_kind e)) }
+        ensures ok { IfOk result
+            (ConsumesHeader (R.remaining reader.old) (R.remaining reader.new)) }
+        ensures cut { OnErr result (ConsumesBelow (R.remaining reader.old) (R.remaining reader.new)
+            MESSAGE_HEADER_LENGTH) }
+        ensures err { IfErr result
+            (λ e. FillFails (R.remaining reader.new) (R.last reader.new) (error_kind e)) }
     {
         let mut bytes = [0u8; 10];
         let (count, filled) = fill(reader, &mut bytes);
@@ -116,10 +120,12 @@ impl MessageHeader {
         Ok(MessageHeader::from(&bytes))
     }
 
-    /// Offers the ten bytes alone, and then flushes.
+    /// Writes the ten bytes alone, and then flushes the writer.
     pub fn write_to<W: Sink>(&self, writer: &mut W) -> io::Result<()>
-        ensures ok { OnOk result (Appends (W.contents writer.old) (W.contents writer.new) (header_bytes self.now)) }
-        ensures err { OnErr result (AppendsFront (W.contents writer.old) (W.contents writer.new) (header_bytes self.now)) }
+        ensures ok { OnOk result
+            (Appends (W.contents writer.old) (W.contents writer.new) (header_bytes self.now)) }
+        ensures err { OnErr result
+            (AppendsFront (W.contents writer.old) (W.contents writer.new) (header_bytes self.now)) }
         ensures calls { Makes (W.calls writer.old) (W.calls writer.new)
             (λ calls. Then (Writes (header_bytes self.now)) Flushes calls (failure result)) }
     {
@@ -127,7 +133,7 @@ impl MessageHeader {
         writer.flush()
     }
 
-    /// The header of a request with this length.
+    /// Returns the header of a request with this length.
     pub fn new_request(stream_id: u32, len: u32) -> MessageHeader
         ensures { result ≡ record {
           length = len;
@@ -144,7 +150,7 @@ impl MessageHeader {
         }
     }
 
-    /// The header of a response with this length.
+    /// Returns the header of a response with this length.
     pub fn new_response(stream_id: u32, len: u32) -> MessageHeader
         ensures { result ≡ record {
           length = len;
@@ -161,7 +167,7 @@ impl MessageHeader {
         }
     }
 
-    /// The header of a message of data with this length.
+    /// Returns the header of a data message with this length.
     pub fn new_data(stream_id: u32, len: u32) -> MessageHeader
         ensures { result ≡ record {
           length = len;
@@ -178,7 +184,7 @@ impl MessageHeader {
         }
     }
 
-    /// Puts the message on another stream.
+    /// Replaces the stream id.
     pub fn set_stream_id(&mut self, stream_id: u32)
         ensures { self.new ≡ record self.old { stream_id = stream_id } }
     {
@@ -192,7 +198,7 @@ impl MessageHeader {
         self.flags = flags;
     }
 
-    /// Sets these flags too.
+    /// Adds these flags to the others.
     pub fn add_flags(&mut self, flags: u8)
         ensures { self.new ≡ record self.old { flags = bit_or self.old.flags flags } }
     {

@@ -1,4 +1,4 @@
-//! The error text for a message that is longer than a message may be.
+//! The error for a message that is longer than a message may be.
 ghost use Rattle.std.specs.Prelude.{◌≡◌, ◌≢◌, ◌≤◌, ◌↔◌, string_bytes, IsOk, IfOk, IfErr};
 ghost use Rattle.ttrpc_proto.specs.Framing.Header.Oversize.{oversize_error, oversize_text};
 
@@ -7,8 +7,8 @@ use crate::{Error, Result, get_rpc_status};
 use std::alloc::{AllocError, Global};
 use ttrpc_wire::{Code, Text};
 
-/// Refuses a message that is longer than a message may be, with a status where the other side is to be told.
-/// `NoMemory` only where memory for the error's text was refused.
+/// Returns an error if a message of this length is longer than a message may be. The error is a status if
+/// `return_rpc_error` is true, or `NoMemory` if memory for the error's text was refused.
 pub fn check_oversize(alloc: Global, length: usize, return_rpc_error: bool) -> Result<()>
     ensures ok { IsOk result ↔ (length ≤ MESSAGE_LENGTH_MAX) }
     ensures err { IfErr result (λ e. e ≢ Error.NoMemory
@@ -20,8 +20,8 @@ pub fn check_oversize(alloc: Global, length: usize, return_rpc_error: bool) -> R
     Err(oversize_error(alloc, length, return_rpc_error)?)
 }
 
-/// The error for a message of this length, which is longer than a message may be: a status where the other side is to be
-/// told.
+/// Returns the error for a message of this length, which is longer than a message may be. The error is a status if
+/// `return_rpc_error` is true.
 pub fn oversize_error(
     alloc: Global,
     length: usize,
@@ -37,7 +37,7 @@ pub fn oversize_error(
     }
 }
 
-/// The error text for a message of this length, which is longer than a message may be.
+/// Returns the error text for a message of this length, which is longer than a message may be.
 pub fn oversize_message(alloc: Global, length: usize) -> std::result::Result<String, AllocError>
     ensures { IfOk result (λ text. string_bytes text ≡ oversize_text length) }
 {

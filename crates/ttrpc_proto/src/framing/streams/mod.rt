@@ -1,6 +1,5 @@
-//! Readers and writers: those of std, and those that also tell what their last call
-//! answered, or which calls were made of them. In `again` how a call is tried again, in `moving` how a buffer is filled and
-//! a part is written whole.
+//! Readers and writers of std, and others that also report the answer of their last call, or all calls that were made
+//! of them. `again` tries a call again, and `moving` fills a buffer and writes a whole part.
 
 mod again;
 mod moving;
@@ -14,18 +13,18 @@ pub use self::again::{Passing, read_again, write_again};
 pub use self::moving::{fill, write_both, write_part};
 use std::io::{self, Read, Write};
 
-/// Where bytes are read from.
+/// A source of bytes.
 pub trait Source {
-    // The bytes that reads will give from here on, where they are known.
+    // The bytes that later reads will give, if they are known.
     ghost remaining: { Self → Option (List ℕ) } = { λ _. None };
 
-    // What the last call answered, where it tells.
+    // The answer of the last call, if the source reports it.
     ghost last: { Self → Option Answered } = { λ _. None };
 
-    // How many reads were made, where it counts them.
+    // The number of reads that were made, if the source counts them.
     ghost reads: { Self → Option ℕ } = { λ _. None };
 
-    /// As `read` of std's `Read`.
+    /// Reads bytes into the buffer, as `read` of std's `Read` does.
     fn read(&mut self, buffer: &mut [u8]) -> io::Result<usize>
         ensures bound { ReadsAtMost result buffer.new }
         ensures bytes { ReadConsumes (remaining self.old) (remaining self.new) result buffer.new }
@@ -33,29 +32,31 @@ pub trait Source {
         ensures reads { Counts (reads self.old) (reads self.new) 1 };
 }
 
-/// Where bytes are written to.
+/// A sink for bytes.
 pub trait Sink {
-    // The bytes that it holds, where they are known.
+    // The bytes that the sink holds, if they are known.
     ghost contents: { Self → Option (List ℕ) } = { λ _. None };
 
-    // What the last call answered, where it tells.
+    // The answer of the last call, if the sink reports it.
     ghost last: { Self → Option Answered } = { λ _. None };
 
-    // All calls that were made of it, where it tells.
+    // All calls that were made of the sink, if it reports them.
     ghost calls: { Self → Option (List Called) } = { λ _. None };
 
-    /// As `write` of std's `Write`.
+    /// Writes bytes, as `write` of std's `Write` does.
     fn write(&mut self, bytes: &[u8]) -> io::Result<usize>
         ensures bound { WritesAtMost result bytes.now }
         ensures bytes { WriteAppends (contents self.old) (contents self.new) result bytes.now }
         ensures last { IfSome (last self.new) (λ a. a ≡ answered result) }
-        ensures calls { Makes (calls self.old) (calls self.new) (λ cs. cs ≡ Offered bytes.now (answered result) ∷ []) };
+        ensures calls { Makes (calls self.old) (calls self.new)
+            (λ cs. cs ≡ Offered bytes.now (answered result) ∷ []) };
 
-    /// As `flush` of std's `Write`.
+    /// Flushes the sink, as `flush` of std's `Write` does.
     fn flush(&mut self) -> io::Result<()>
         ensures bytes { Keeps (contents self.old) (contents self.new) }
         ensures last { IfSome (last self.new) (λ a. a ≡ flush_answer (failure result)) }
-        ensures calls { Makes (calls self.old) (calls self.new) (λ cs. Flushes cs (failure result)) };
+        ensures calls { Makes (calls self.old) (calls self.new)
+            (λ cs. Flushes cs (failure result)) };
 }
 
 impl<R: Read> Source for R {

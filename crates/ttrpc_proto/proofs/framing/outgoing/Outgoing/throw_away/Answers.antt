@@ -1,86 +1,94 @@
-use Rattle.std.proofs.Common.{◌≡◌, ◌+◌, ◌∷◌, arith, ap, sym, subst, ◌∙◌}
-use Rattle.ttrpc_proto.specs.Framing.Inside.{kept_of, of_entries}
-use Rattle.ttrpc_proto.specs.Framing.Queue.{IsQueue, held, without}
-use Rattle.ttrpc_proto.proofs.Queues.{without_is_queue}
-use Rattle.ttrpc_proto.proofs.Entries.{first_fits, first_holds, none_holds, rest_fits, view_with_first, view_without_first}
+use Rattle.std.proofs.Common.{◌≡◌, ◌+◌, ◌∷◌, ◌∙◌, ℕ, arith, ap}
+use Rattle.circular_buffer.specs.Buffer.{Buffer}
+use Rattle.ttrpc_proto.specs.Framing.Laid.{kept_records}
+use Rattle.ttrpc_proto.specs.Framing.Queue.{without}
+use Rattle.ttrpc_proto.proofs.Laying.{first_holds, first_small_gone, first_view, holding, none_begun, none_holds, queue_in, rebuilt, rest_small}
 use Rattle.ttrpc_proto.proofs.framing.outgoing.Outgoing.throw_away.Goals as goal
 
 pub throw_from-gone-requires : goal.throw_from-gone-requires
 throw_from-gone-requires g c =
-    let fits = rest_fits c.self.inside.begun c.self.inside.entries.items c.take_begun-first.new.entries.items c.self.inside.reported c.self.inside.lent c.self.inside.sent c.self.invariant.0 c.take_begun-first.ensures.rest in
-    omega (arith, fits, c.self.invariant.1, c.self.invariant.2)
+    let a = c.self.inside in
+    let h = holding a c.self.invariant in
+    let rest = c.take_begun-first.new.records.items in
+    rest_small h rest c.take_begun-first.ensures.rest
 
-pub overflow_add-entry : goal.overflow_add-entry
-overflow_add-entry g c =
+pub overflow_add-record : goal.overflow_add-record
+overflow_add-record g c =
+    let a = c.self.inside in
+    let h = holding a c.self.invariant in
+    let rest = c.take_begun-first.new.records.items in
     let owners = g.W.Owners.has c.args.owners.now in
-    let es = c.self.inside.entries.items in
-    let q = of_entries es c.self.inside.reported c.self.inside.lent c.self.inside.begun c.self.inside.sent in
-    let fits = first_fits owners c.self.inside.begun es c.take_begun-first.new.entries.items c.in-Some.entry c.throw_from-gone.result c.self.inside.reported c.self.inside.lent c.self.inside.sent c.self.invariant.0 c.in-Some.ensures.first c.take_begun-first.ensures.rest c.throw_from-gone.ensures.gone in
-    omega (arith, fits, c.self.invariant.1, c.self.invariant.2)
+    let gone = c.throw_from-gone in
+    let small = first_small_gone h rest c.take_begun-first.ensures.rest owners gone.new.records.items gone.result gone.ensures.gone c.in-Some.record c.in-Some.ensures.first in
+    omega (arith, small)
 
 pub invariant_of-self : goal.invariant_of-self
 invariant_of-self g c =
+    let a = c.self.inside in
+    let h = holding a c.self.invariant in
+    let rest = c.take_begun-first.new.records.items in
     let owners = g.W.Owners.has c.args.owners.now in
-    let es = c.self.inside.entries.items in
-    let q = of_entries es c.self.inside.reported c.self.inside.lent c.self.inside.begun c.self.inside.sent in
-    let new : c.push_front_reserved.new.self.items ≡ record c.in-Some.entry { gone = c.in-Some.entry.gone + c.throw_from-gone.result } ∷ kept_of owners c.take_begun-first.new.entries.items = c.push_front_reserved.ensures.items ∙ ap (λ l. record c.in-Some.entry { gone = c.in-Some.entry.gone + c.throw_from-gone.result } ∷ l) c.throw_from-gone.ensures.kept in
-    let view = view_with_first owners c.self.inside.begun es c.take_begun-first.new.entries.items c.push_front_reserved.new.self.items c.in-Some.entry c.throw_from-gone.result c.self.inside.reported c.self.inside.lent c.self.inside.sent c.in-Some.ensures.first c.take_begun-first.ensures.rest c.throw_from-gone.ensures.gone new in (
-      subst IsQueue (sym view) (without_is_queue q owners c.self.invariant.0),
-      ap held view ∙ first_holds owners c.self.inside.begun es c.in-Some.entry c.self.inside.reported c.self.inside.lent c.self.inside.sent c.self.invariant.0 c.in-Some.ensures.first ∙ c.self.invariant.1,
-      c.self.invariant.2,
-    )
+    let gone = c.throw_from-gone in
+    let x = c.in-Some.record in
+    let kept : c.push_front_reserved.new.self.items ≡ record x { gone = x.gone + gone.result } ∷ kept_records owners rest = c.push_front_reserved.ensures.items ∙ ap (λ l. record x { gone = x.gone + gone.result } ∷ l) gone.ensures.kept in
+    let holds = first_holds h rest c.take_begun-first.ensures.rest owners c.push_front_reserved.new.self.items gone.result gone.ensures.gone x c.in-Some.ensures.first kept in
+    (holds.valid, holds.laid, holds.size, holds.few, c.self.invariant.4)
 
-pub overflow_sub-self : goal.overflow_sub-self
-overflow_sub-self g c =
+pub pass-requires : goal.pass-requires
+pass-requires g c =
+    let a = c.self.inside in
+    let h = holding a c.self.invariant in
+    let rest = c.take_begun-first.new.records.items in
     let owners = g.W.Owners.has c.args.owners.now in
-    let es = c.self.inside.entries.items in
-    let q = of_entries es c.self.inside.reported c.self.inside.lent c.self.inside.begun c.self.inside.sent in
-    let holds = none_holds owners c.self.inside.begun es c.take_begun-first.new.entries.items c.throw_from-gone.result c.self.inside.reported c.self.inside.lent c.self.inside.sent c.self.invariant.0 c.in_default.ensures.first c.take_begun-first.ensures.rest c.throw_from-gone.ensures.gone in
-    omega (arith, holds, c.self.invariant.1)
+    let gone = c.throw_from-gone in
+    (none_begun h rest c.take_begun-first.ensures.rest owners gone.new.records.items gone.result gone.ensures.gone c.in_default.ensures.first gone.ensures.kept).0
 
 pub invariant_of-self-in_default : goal.invariant_of-self-in_default
 invariant_of-self-in_default g c =
+    let a = c.self.inside in
+    let h = holding a c.self.invariant in
+    let rest = c.take_begun-first.new.records.items in
     let owners = g.W.Owners.has c.args.owners.now in
-    let es = c.self.inside.entries.items in
-    let q = of_entries es c.self.inside.reported c.self.inside.lent c.self.inside.begun c.self.inside.sent in
-    let view = view_without_first owners c.self.inside.begun es c.take_begun-first.new.entries.items c.throw_from-gone.new.entries.items c.self.inside.reported c.self.inside.lent c.self.inside.sent c.self.invariant.0 c.in_default.ensures.first c.take_begun-first.ensures.rest c.throw_from-gone.ensures.kept in
-    let holds = none_holds owners c.self.inside.begun es c.take_begun-first.new.entries.items c.throw_from-gone.result c.self.inside.reported c.self.inside.lent c.self.inside.sent c.self.invariant.0 c.in_default.ensures.first c.take_begun-first.ensures.rest c.throw_from-gone.ensures.gone in
-    let here = ap held view in (
-      subst IsQueue (sym view) (without_is_queue q owners c.self.invariant.0),
-      omega (arith, here, holds, c.self.invariant.1),
-      omega (arith, c.self.invariant.2),
-    )
+    let gone = c.throw_from-gone in
+    rebuilt (none_holds h rest c.take_begun-first.ensures.rest owners gone.new.records.items gone.result gone.ensures.gone c.in_default.ensures.first gone.ensures.kept) c.pass.ensures c.self.invariant.4
 
 pub returns-in-Some-clause-without : goal.returns-in-Some-clause-without
 returns-in-Some-clause-without g c =
+    let a = c.self.inside in
+    let h = holding a c.self.invariant in
+    let rest = c.take_begun-first.new.records.items in
     let owners = g.W.Owners.has c.args.owners.now in
-    let es = c.self.inside.entries.items in
-    let q = of_entries es c.self.inside.reported c.self.inside.lent c.self.inside.begun c.self.inside.sent in
-    let new : c.push_front_reserved.new.self.items ≡ record c.in-Some.entry { gone = c.in-Some.entry.gone + c.throw_from-gone.result } ∷ kept_of owners c.take_begun-first.new.entries.items = c.push_front_reserved.ensures.items ∙ ap (λ l. record c.in-Some.entry { gone = c.in-Some.entry.gone + c.throw_from-gone.result } ∷ l) c.throw_from-gone.ensures.kept in
-    let view = view_with_first owners c.self.inside.begun es c.take_begun-first.new.entries.items c.push_front_reserved.new.self.items c.in-Some.entry c.throw_from-gone.result c.self.inside.reported c.self.inside.lent c.self.inside.sent c.in-Some.ensures.first c.take_begun-first.ensures.rest c.throw_from-gone.ensures.gone new in
-    view ∙ ap (λ q. without q owners) c.self.view_is
+    let gone = c.throw_from-gone in
+    let x = c.in-Some.record in
+    let kept : c.push_front_reserved.new.self.items ≡ record x { gone = x.gone + gone.result } ∷ kept_records owners rest = c.push_front_reserved.ensures.items ∙ ap (λ l. record x { gone = x.gone + gone.result } ∷ l) gone.ensures.kept in
+    first_view h rest c.take_begun-first.ensures.rest owners c.push_front_reserved.new.self.items gone.result gone.ensures.gone x c.in-Some.ensures.first kept ∙ ap (λ q. without q owners) c.self.view_is
 
 pub returns-in-Some-clause-valid : goal.returns-in-Some-clause-valid
 returns-in-Some-clause-valid g c =
+    let a = c.self.inside in
+    let h = holding a c.self.invariant in
+    let rest = c.take_begun-first.new.records.items in
     let owners = g.W.Owners.has c.args.owners.now in
-    let es = c.self.inside.entries.items in
-    let q = of_entries es c.self.inside.reported c.self.inside.lent c.self.inside.begun c.self.inside.sent in
-    let new : c.push_front_reserved.new.self.items ≡ record c.in-Some.entry { gone = c.in-Some.entry.gone + c.throw_from-gone.result } ∷ kept_of owners c.take_begun-first.new.entries.items = c.push_front_reserved.ensures.items ∙ ap (λ l. record c.in-Some.entry { gone = c.in-Some.entry.gone + c.throw_from-gone.result } ∷ l) c.throw_from-gone.ensures.kept in
-    let view = view_with_first owners c.self.inside.begun es c.take_begun-first.new.entries.items c.push_front_reserved.new.self.items c.in-Some.entry c.throw_from-gone.result c.self.inside.reported c.self.inside.lent c.self.inside.sent c.in-Some.ensures.first c.take_begun-first.ensures.rest c.throw_from-gone.ensures.gone new in
-    subst IsQueue (sym view) (without_is_queue q owners c.self.invariant.0)
+    let gone = c.throw_from-gone in
+    let x = c.in-Some.record in
+    let kept : c.push_front_reserved.new.self.items ≡ record x { gone = x.gone + gone.result } ∷ kept_records owners rest = c.push_front_reserved.ensures.items ∙ ap (λ l. record x { gone = x.gone + gone.result } ∷ l) gone.ensures.kept in
+    (first_holds h rest c.take_begun-first.ensures.rest owners c.push_front_reserved.new.self.items gone.result gone.ensures.gone x c.in-Some.ensures.first kept).valid
 
 pub returns-in_default-clause-without : goal.returns-in_default-clause-without
 returns-in_default-clause-without g c =
+    let a = c.self.inside in
+    let h = holding a c.self.invariant in
+    let rest = c.take_begun-first.new.records.items in
     let owners = g.W.Owners.has c.args.owners.now in
-    let es = c.self.inside.entries.items in
-    let q = of_entries es c.self.inside.reported c.self.inside.lent c.self.inside.begun c.self.inside.sent in
-    let view = view_without_first owners c.self.inside.begun es c.take_begun-first.new.entries.items c.throw_from-gone.new.entries.items c.self.inside.reported c.self.inside.lent c.self.inside.sent c.self.invariant.0 c.in_default.ensures.first c.take_begun-first.ensures.rest c.throw_from-gone.ensures.kept in
-    view ∙ ap (λ q. without q owners) c.self.view_is
+    let gone = c.throw_from-gone in
+    ap (λ (b : Buffer ℕ). queue_in gone.new.records.items a.told.bytes b.items a.reported a.lent a.begun a.sent) c.pass.ensures
+    ∙ (none_begun h rest c.take_begun-first.ensures.rest owners gone.new.records.items gone.result gone.ensures.gone c.in_default.ensures.first gone.ensures.kept).2 ∙ ap (λ q. without q owners) c.self.view_is
 
 pub returns-in_default-clause-valid : goal.returns-in_default-clause-valid
 returns-in_default-clause-valid g c =
+    let a = c.self.inside in
+    let h = holding a c.self.invariant in
+    let rest = c.take_begun-first.new.records.items in
     let owners = g.W.Owners.has c.args.owners.now in
-    let es = c.self.inside.entries.items in
-    let q = of_entries es c.self.inside.reported c.self.inside.lent c.self.inside.begun c.self.inside.sent in
-    let view = view_without_first owners c.self.inside.begun es c.take_begun-first.new.entries.items c.throw_from-gone.new.entries.items c.self.inside.reported c.self.inside.lent c.self.inside.sent c.self.invariant.0 c.in_default.ensures.first c.take_begun-first.ensures.rest c.throw_from-gone.ensures.kept in
-    subst IsQueue (sym view) (without_is_queue q owners c.self.invariant.0)
+    let gone = c.throw_from-gone in
+    (rebuilt (none_holds h rest c.take_begun-first.ensures.rest owners gone.new.records.items gone.result gone.ensures.gone c.in_default.ensures.first gone.ensures.kept) c.pass.ensures c.self.invariant.4).0
