@@ -1,10 +1,10 @@
-//! The halves that leave data as it is.
+//! The halves that leave data as they are.
 ghost use Rattle.ttrpc_secure.specs.Halves.{IsPaired};
 
 use crate::transform::{InboundTransform, OutboundTransform, TransformError};
 use std::alloc::Global;
 
-/// Both halves of the transform that leaves data as it is.
+/// Both halves of the transform that leaves data as they are.
 #[derive(Clone, Copy, Debug, Default, PartialEq, Eq)]
 pub struct Plain {}
 
@@ -47,6 +47,10 @@ impl OutboundTransform for Plain {
         0
     }
 
+    fn leaves_as_is(&self) -> bool {
+        true
+    }
+
     ghost lawful = { record {
       longer = λ s t plain aad sealed h. Prim.rw h.0 (Prim.omega arith);
       fixed = λ s t plain aad sealed h. refl;
@@ -83,7 +87,7 @@ impl InboundTransform for Plain {
     }
 }
 
-/// Any two plain halves are paired.
+/// States that any two plain halves are paired.
 pub fn plain_is_paired()
     ensures { (s t : Plain) → IsPaired ⟦<Plain as OutboundTransform>⟧.seals
         ⟦<Plain as InboundTransform>⟧.opens ⟦<Plain as InboundTransform>⟧.refuses s t }

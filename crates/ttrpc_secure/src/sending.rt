@@ -1,23 +1,23 @@
-//! Sealing and queuing in one call.
-ghost use Rattle.std.specs.Prelude.{◌≡◌, ◌≢◌, ◌⊎◌, ◌<◌, ◌≤◌, ◌+◌, ◌↔◌, [], length, Ok, Err, IfOk, IfErr, OnOk, OnErr, MatchResult};
+//! Sealing data and queuing the frame in one call.
+ghost use Rattle.std.specs.Prelude.{◌≡◌, ◌≢◌, ◌⊎◌, ◌<◌, ◌≤◌, ◌+◌, ◌-◌, ◌^◌, ◌↔◌, ◌++◌, [], length, min, Ok, Err, IfOk, IfErr, OnOk, OnErr, MatchResult};
 ghost use Rattle.ttrpc_proto.specs.Framing.Queue.{IsQueue, free, with_frame, filled, withdrawn};
 ghost use Rattle.ttrpc_proto.specs.declared.framing.header.TheConstants.{MESSAGE_HEADER_LENGTH};
 ghost use Rattle.ttrpc_secure.specs.declared.transform.TransformError.{TransformError as AnError};
 ghost use Rattle.ttrpc_secure.specs.Halves.{MayFail};
-ghost use Rattle.ttrpc_secure.specs.Sends.{Sends, SendsUnder, associated, emptied, needed, safe_limit};
+ghost use Rattle.ttrpc_secure.specs.Sends.{Sends, SendsUnder, associated, emptied, joined, needed, safe_limit};
 
 use crate::transform::{OutboundTransform, TransformError};
-use std::alloc::Global;
+use std::alloc::{AllocError, Global};
 use ttrpc_proto::{Blob, Error, MESSAGE_LENGTH_MAX, MessageHeader, Outgoing, Queued};
 
-/// Why nothing was sent.
+/// The reason why nothing was sent.
 #[derive(Debug, Drop, PartialEq, Eq)]
 pub enum SendError {
     /// The data may become longer than a message may be.
     TooLong,
-    /// The queue hasn't as many free bytes as the frame may need.
+    /// The queue has fewer free bytes than the frame may need.
     NoRoom,
-    /// The half refused the data, or the allocator refused.
+    /// The half refused the data, or the allocator refused memory.
     Failed(TransformError),
 }
 
@@ -31,7 +31,8 @@ impl From<TransformError> for SendError {
     }
 }
 
-/// The bytes of a header that a payload is bound to: the stream's id, the type and the flags. Takes no memory.
+/// Returns the associated bytes of a header, which its payload is bound to: the stream id, the type and the flags.
+/// Takes no memory.
 pub fn associated_bytes(header: &MessageHeader) -> [u8; 6]
     ensures { result ≡ associated header.now }
 {
@@ -39,17 +40,18 @@ pub fn associated_bytes(header: &MessageHeader) -> [u8; 6]
     [a, b, c, d, type_, flags]
 }
 
-/// The longest data that is sure to fit into a message with what sealing adds. Takes no memory.
+/// Returns the length of the longest data that are sure to fit into a message after sealing. Takes no memory.
 pub fn limit_of<O: OutboundTransform>(half: &O) -> usize
     ensures { result ≡ safe_limit O.OutboundTransform half.now }
 {
     MESSAGE_LENGTH_MAX - half.max_overhead()
 }
 
-/// Refuses data of this length where it may become longer than a message may be.
+/// Returns an error if data of this length may become longer than a message may be.
 fn check_limit<O: OutboundTransform>(half: &O, length: usize) -> Result<(), SendError>
     ensures ok { OnOk result (length + O.overhead half.now ≤ MESSAGE_LENGTH_MAX) }
-    ensures err { IfErr result (λ e. (e ≡ SendError.TooLong) × (MESSAGE_LENGTH_MAX < length + O.overhead half.now)) }
+    ensures err { IfErr result
+        (λ e. (e ≡ SendError.TooLong) × (MESSAGE_LENGTH_MAX < length + O.overhead half.now)) }
 {
     if length > limit_of(half) {
         return Err(SendError::TooLong);
@@ -57,43 +59,113 @@ fn check_limit<O: OutboundTransform>(half: &O, length: usize) -> Result<(), Send
     Ok(())
 }
 
-/// Seals the data and queues the frame with it, whose payload it takes the place of; a half that adds nothing moves it
-/// there. Room for the frame is found before the half is asked, so that nothing is sealed which isn't queued, and the
-/// order of sealing is that of the queue. An error changes nothing: `TooLong` comes first, then `NoRoom`.
+/// Data in three parts, one after the other.
+#[derive(Debug, Clone, Copy)]
+pub struct Parts<'a> {
+    pub before: &'a [u8],
+    pub payload: &'a [u8],
+    pub after: &'a [u8],
+}
+
+impl<'a> Parts<'a> {
+    /// Returns data in one part.
+    pub fn whole(payload: &'a [u8]) -> Parts<'a>
+        ensures { joined result ≡ payload.now }
+    {
+        Parts {
+            before: &[],
+            payload,
+            after: &[],
+        }
+    }
+
+    /// Returns the number of bytes, or the greatest `usize` if there are more.
+    fn len(&self) -> usize
+        ensures { result ≡ min (length (joined self.now)) (2 ^ 64 - 1) }
+    {
+        self.before
+            .len()
+            .saturating_add(self.payload.len())
+            .saturating_add(self.after.len())
+    }
+
+    /// Copies the data into one vector.
+    fn to_vec(&self, alloc: Global) -> Result<Vec<u8>, AllocError>
+        ensures { IfOk result (λ v. v.items ≡ joined self.now) }
+    {
+        let mut data = Vec::with_capacity(alloc, self.len())?;
+        data.extend_from_slice(self.before)?;
+        data.extend_from_slice(self.payload)?;
+        data.extend_from_slice(self.after)?;
+        Ok(data)
+    }
+}
+
+/// Seals the data, and queues the frame with the sealed data as its payload. A half that leaves data as they are isn't
+/// called, and the data are copied into the queue at once. Any other half gets the data in one vector. Room for the
+/// frame is found before the half is called. So all sealed data are queued, and in the order of sealing. An error
+/// changes nothing: `TooLong` comes first, and then `NoRoom`.
 pub fn send<O: OutboundTransform>(
     alloc: Global,
     half: &mut O,
     outgoing: &mut Outgoing,
     frame: Queued,
-    data: Vec<u8>,
+    parts: Parts<'_>,
 ) -> Result<(), SendError>
-    ensures ok { OnOk result (Sends O.OutboundTransform half.old outgoing.old frame «data».items half.new outgoing.new) }
-    ensures too_long { (result ≡ Err SendError.TooLong) ↔ (MESSAGE_LENGTH_MAX < length «data».items + O.overhead half.old) }
-    ensures no_room { (result ≡ Err SendError.NoRoom) ↔ ((length «data».items + O.overhead half.old ≤ MESSAGE_LENGTH_MAX)
-        × (free outgoing.old < needed O.OutboundTransform half.old «data».items)) }
+    // At an `Ok` the half sealed the data, and the frame with them is queued.
+    ensures ok { OnOk result (Sends O.OutboundTransform half.old outgoing.old frame
+        (joined parts.entry) half.new outgoing.new) }
+    // `TooLong` comes exactly if sealing may make the data too long, and `NoRoom` exactly if it may not, but room is missing.
+    ensures too_long { (result ≡ Err SendError.TooLong)
+        ↔ (MESSAGE_LENGTH_MAX < length (joined parts.entry) + O.overhead half.old) }
+    ensures no_room { (result ≡ Err SendError.NoRoom)
+        ↔ ((length (joined parts.entry) + O.overhead half.old ≤ MESSAGE_LENGTH_MAX)
+        × (free outgoing.old < needed O.OutboundTransform half.old (joined parts.entry))) }
+    // A failure is one that the half may return, and any error changes nothing.
     ensures refused { (t : AnError) → result ≡ Err (SendError.Failed t)
-        → MayFail O.refuses half.old «data».items (associated frame.message.header) t }
+        → MayFail O.refuses half.old (joined parts.entry) (associated frame.message.header) t }
     ensures err { OnErr result ((half.new ≡ half.old) × (outgoing.new ≡ outgoing.old)) }
 {
-    check_limit(half, data.len())?;
+    check_limit(half, parts.len())?;
     let associated = associated_bytes(&frame.message.header);
-    make_room(alloc, outgoing, frame, data.len() + half.max_overhead())?;
-    let sealed = half.transform_outbound_vec(alloc, data, &associated);
+    make_room(alloc, outgoing, frame, parts.len() + half.max_overhead())?;
+    if half.leaves_as_is() {
+        outgoing.fill(parts.before, parts.payload, parts.after);
+        return Ok(());
+    }
+    let sealed = seal_parts(alloc, half, &parts, &associated);
     settle(outgoing, sealed)
 }
 
-/// Seals data that stay the caller's under these associated bytes. An error changes nothing.
+/// Seals the data in a vector of their own.
+fn seal_parts<O: OutboundTransform>(
+    alloc: Global,
+    half: &mut O,
+    parts: &Parts<'_>,
+    aad: &[u8],
+) -> Result<Vec<u8>, TransformError>
+    ensures ok { IfOk result
+        (λ sealed. O.seals half.old (joined parts.now) aad.now sealed.items half.new) }
+    ensures refused { IfErr result (MayFail O.refuses half.old (joined parts.now) aad.now) }
+    ensures err { OnErr result (half.new ≡ half.old) }
+{
+    let data = parts.to_vec(alloc)?;
+    half.transform_outbound_vec(alloc, data, aad)
+}
+
+/// Seals borrowed data under these associated bytes, and returns the sealed data. An error changes nothing.
 pub fn seal<O: OutboundTransform>(
     alloc: Global,
     half: &mut O,
     data: &[u8],
     aad: &[u8],
 ) -> Result<Vec<u8>, SendError>
-    // What was sealed is no longer than a message may be.
+    // The sealed data are no longer than a message may be.
     ensures ok { IfOk result (λ sealed. O.seals half.old «data».now aad.now sealed.items half.new) }
     ensures fits { IfOk result (λ sealed. length sealed.items ≤ MESSAGE_LENGTH_MAX) }
-    // Or it may become longer, or the half fails, and nothing changed.
-    ensures too_long { (result ≡ Err SendError.TooLong) ↔ (MESSAGE_LENGTH_MAX < length «data».now + O.overhead half.old) }
+    // Or they may become longer, or the half fails, and nothing changed.
+    ensures too_long { (result ≡ Err SendError.TooLong)
+        ↔ (MESSAGE_LENGTH_MAX < length «data».now + O.overhead half.old) }
     ensures queues_nothing { result ≢ Err SendError.NoRoom }
     ensures refused { (t : AnError) → result ≡ Err (SendError.Failed t)
         → MayFail O.refuses half.old «data».now aad.now t }
@@ -104,7 +176,8 @@ pub fn seal<O: OutboundTransform>(
     Ok(sealed)
 }
 
-/// Seals such data and queues the frame with them, as `send` does, but under these associated bytes.
+/// Seals borrowed data under these associated bytes, and queues the frame with the sealed data as its payload. Room is
+/// found before the half is called, as by `send`. An error changes nothing: `TooLong` comes first, and then `NoRoom`.
 pub fn send_copy<O: OutboundTransform>(
     alloc: Global,
     half: &mut O,
@@ -113,10 +186,16 @@ pub fn send_copy<O: OutboundTransform>(
     data: &[u8],
     aad: &[u8],
 ) -> Result<(), SendError>
-    ensures ok { OnOk result (SendsUnder O.OutboundTransform half.old outgoing.old frame «data».now aad.now half.new outgoing.new) }
-    ensures too_long { (result ≡ Err SendError.TooLong) ↔ (MESSAGE_LENGTH_MAX < length «data».now + O.overhead half.old) }
-    ensures no_room { (result ≡ Err SendError.NoRoom) ↔ ((length «data».now + O.overhead half.old ≤ MESSAGE_LENGTH_MAX)
+    // At an `Ok` the half sealed the data, and the frame with them is queued.
+    ensures ok { OnOk result (SendsUnder O.OutboundTransform half.old outgoing.old frame «data».now
+        aad.now half.new outgoing.new) }
+    // `TooLong` comes exactly if sealing may make the data too long, and `NoRoom` exactly if it may not, but room is missing.
+    ensures too_long { (result ≡ Err SendError.TooLong)
+        ↔ (MESSAGE_LENGTH_MAX < length «data».now + O.overhead half.old) }
+    ensures no_room { (result ≡ Err SendError.NoRoom)
+        ↔ ((length «data».now + O.overhead half.old ≤ MESSAGE_LENGTH_MAX)
         × (free outgoing.old < needed O.OutboundTransform half.old «data».now)) }
+    // A failure is one that the half may return, and any error changes nothing.
     ensures refused { (t : AnError) → result ≡ Err (SendError.Failed t)
         → MayFail O.refuses half.old «data».now aad.now t }
     ensures err { OnErr result ((half.new ≡ half.old) × (outgoing.new ≡ outgoing.old)) }
@@ -127,8 +206,8 @@ pub fn send_copy<O: OutboundTransform>(
     settle(outgoing, sealed)
 }
 
-/// Queues the frame without its payload, which is still to come, if there is room for so many bytes of it. An error changes
-/// nothing.
+/// Queues the frame without its payload, if there is room for the header and this many bytes. The payload is added
+/// later. An error changes nothing.
 fn make_room(
     alloc: Global,
     outgoing: &mut Outgoing,
@@ -137,11 +216,13 @@ fn make_room(
 ) -> Result<(), SendError>
     ensures ok { OnOk result (outgoing.new ≡ with_frame outgoing.old (emptied frame)) }
     ensures room { OnOk result (MESSAGE_HEADER_LENGTH + room ≤ free outgoing.old) }
-    ensures no_room { (result ≡ Err SendError.NoRoom) ↔ (free outgoing.old < MESSAGE_HEADER_LENGTH + room) }
+    ensures no_room { (result ≡ Err SendError.NoRoom)
+        ↔ (free outgoing.old < MESSAGE_HEADER_LENGTH + room) }
     ensures err { OnErr result (outgoing.new ≡ outgoing.old) }
-    ensures only { IfErr result (λ e. (e ≡ SendError.Failed AnError.NoMemory) ⊎ (e ≡ SendError.NoRoom)) }
+    ensures only { IfErr result
+        (λ e. (e ≡ SendError.Failed AnError.NoMemory) ⊎ (e ≡ SendError.NoRoom)) }
 
-    // What `placed_filled` and `placed_withdrawn` ask of a caller that settles the frame.
+    // The conditions of `placed_filled` and `placed_withdrawn`, for a caller that settles the frame.
     ensures was { IsQueue outgoing.old }
     ensures valid { IsQueue outgoing.new }
 {
@@ -153,15 +234,16 @@ fn make_room(
     }
 }
 
-/// Gives the last frame its payload, or takes it back where there is none.
+/// Adds the payload to the last frame, or removes the frame if there is no payload, and returns the error.
 fn settle(outgoing: &mut Outgoing, sealed: Result<Vec<u8>, TransformError>) -> Result<(), SendError>
     ensures { MatchResult sealed
         (λ payload. (result ≡ Ok tt) × (outgoing.new ≡ filled outgoing.old payload.items))
-        (λ error. (result ≡ Err (SendError.Failed error)) × (outgoing.new ≡ withdrawn outgoing.old)) }
+        (λ error. (result ≡ Err (SendError.Failed error))
+        × (outgoing.new ≡ withdrawn outgoing.old)) }
 {
     match sealed {
         Ok(payload) => {
-            outgoing.fill(Blob::from_vec(payload));
+            outgoing.fill(&[], payload.as_slice(), &[]);
             Ok(())
         }
         Err(error) => {

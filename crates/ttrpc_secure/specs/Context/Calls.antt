@@ -1,4 +1,4 @@
--- Why the context of a connection doesn't open or seal, and what it queues.
+-- The errors of a connection's context that doesn't open or seal, and the frames that it queues.
 -- Source: upstream's documentation of `ConnectionContext`, but for the order of refusals, which is this project's.
 use Rattle.std.specs.Prelude.{◌≡◌, ◌⊎◌, ◌≤◌, ◌<◌, ℕ, Bool, List, [], length, if◌then◌else◌, nat_eq, None, false}
 use Rattle.ttrpc_proto.specs.declared.framing.header.MessageHeader.{MessageHeader}
@@ -20,30 +20,31 @@ use Rattle.ttrpc_secure.specs.Sends.{needed, safe_limit}
 use Rattle.ttrpc_secure.specs.Context.Texts.{unsafe_payload_text, unsealed_text, unopened_text}
 use Rattle.ttrpc_secure.specs.Context.Told.{IsTold}
 
--- the half refuses the bytes for a reason, which is told in this text
+-- Holds if the half may refuse the bytes for some reason, and the error has this text with the reason, or is NoMemory.
 abbrev pub TellsRefusal : {S : Type 0} → Refusals S → S → List ℕ → List ℕ → (List ℕ → List ℕ) → Error → Type 0
 TellsRefusal refuses s bytes aad text e = (why : List ℕ) × refuses s bytes aad why × IsTold (Others (text why)) e
 
--- Why bytes isn't opened: there is no memory, the half refuses them, or it opened them to more than a message may have,
--- which alone leaves the half where it went.
+-- Holds if opening the bytes may fail with this error, and leave the half in the state t. Either memory is refused or the half refuses
+-- the bytes, and the half is unchanged. Or the half opened the bytes to more than a message may have, and has changed.
 abbrev pub FailsToOpen : {I : Type 0} → InboundTransform I → Bool → I → List ℕ → List ℕ → I → Error → Type 0
 FailsToOpen half rpc_error s bytes aad t e =
     ((t ≡ s) × ((e ≡ NoMemory) ⊎ TellsRefusal half.refuses s bytes aad unopened_text e))
     ⊎ ((opened : List ℕ) × half.opens s bytes aad opened t × (MESSAGE_LENGTH_MAX < length opened) × IsTold (oversize_error rpc_error (length opened)) e)
 
--- the error for bytes above the safe limit; where nothing is added to bytes, that for a message which is too long
+-- Returns the error for n bytes above the safe limit. If sealing adds nothing, it is the error for a message that is too long.
 abbrev pub limit_error : Bool → ℕ → ℕ → ℕ → List ℕ → Error
 limit_error rpc_error overhead limit n advice = if nat_eq overhead 0 then oversize_error rpc_error n else Others (unsafe_payload_text n limit advice)
 
--- Why bytes isn't sealed: there is no memory, it is above the safe limit, or it isn't and the half refuses it.
+-- Holds if sealing the bytes may fail with this error: memory is refused, the bytes are above the safe limit, or they aren't and the
+-- half refuses them.
 abbrev pub FailsToSeal : {O : Type 0} → OutboundTransform O → Bool → List ℕ → O → List ℕ → List ℕ → Error → Type 0
 FailsToSeal half rpc_error advice s bytes aad e =
     (e ≡ NoMemory)
     ⊎ ((safe_limit half s < length bytes) × IsTold (limit_error rpc_error (half.overhead s) (safe_limit half s) (length bytes) advice) e)
     ⊎ ((length bytes ≤ safe_limit half s) × TellsRefusal half.refuses s bytes aad unsealed_text e)
 
--- Why bytes aren't sealed and queued: there is no memory, they are above the safe limit, or they aren't and the queue lacks room
--- for them, or it has room and the half refuses them.
+-- Holds if sealing and queuing the bytes may fail with this error. Memory is refused, or the bytes are above the safe limit. Otherwise
+-- the queue lacks room for them, or it has room and the half refuses them.
 abbrev pub FailsToSend : {O : Type 0} → OutboundTransform O → Bool → List ℕ → O → Queue → List ℕ → List ℕ → Error → Type 0
 FailsToSend half rpc_error advice s q bytes aad e =
     (e ≡ NoMemory)
@@ -51,25 +52,25 @@ FailsToSend half rpc_error advice s q bytes aad e =
     ⊎ ((length bytes ≤ safe_limit half s) × (free q < needed half s bytes) × (e ≡ NoRoom))
     ⊎ ((length bytes ≤ safe_limit half s) × (needed half s bytes ≤ free q) × TellsRefusal half.refuses s bytes aad unsealed_text e)
 
--- Data that may be sealed were sealed.
+-- Holds if the half sealed bytes that are within the safe limit, and the sealed bytes are no longer than a message may be.
 abbrev pub Seals : {O : Type 0} → OutboundTransform O → O → List ℕ → List ℕ → List ℕ → O → Type 0
 Seals half s bytes aad sealed t = (length bytes ≤ safe_limit half s) × half.seals s bytes aad sealed t × (length sealed ≤ MESSAGE_LENGTH_MAX)
 
--- the message with another payload, and with its length in the header
+-- Returns the message with another payload, and with the payload's length in the header.
 abbrev pub carrying : GenMessage → List ℕ → GenMessage
 carrying m payload = record { header = record m.header { length = length payload }; payload = payload }
 
--- a frame under a header that nobody asks about, without its payload
+-- Returns a frame with this header and no payload. The frame has no ticket, and isn't a unary request's.
 abbrev pub unowned : MessageHeader → Queued
 unowned h = record { message = record { header = h; payload = [] }; ticket = None; is_unary_request = false; owner = 0 }
 
--- a message of which nothing is left
+-- The empty message: its header has only zeros, and its payload has no bytes.
 abbrev pub no_message : GenMessage
 no_message = record { header = record { length = 0; stream_id = 0; type_ = 0; flags = 0 }; payload = [] }
 
--- ---- what its users need not read
+-- ---- not needed by users
 
--- the error for what a call that seals answered about bytes of this length
+-- Holds if this is the error for n bytes that weren't sent, for this reason.
 abbrev pub TellsUnsent : {O : Type 0} → OutboundTransform O → Bool → List ℕ → O → ℕ → SendError → Error → Type 0
 TellsUnsent half rpc_error advice s n TooLong e = IsTold (limit_error rpc_error (half.overhead s) (safe_limit half s) n advice) e
 TellsUnsent half rpc_error advice s n Full e = e ≡ NoRoom

@@ -1,11 +1,11 @@
--- What is known of a connection, as values that a proof can tell apart.
+-- The data that are known of a connection, as values that a proof can distinguish.
 -- Source: this project's.
 use Rattle.std.specs.Prelude.{ℕ, ℤ, Bool, List, map, String, string_bytes}
 use Rattle.std.specs.Global.{Global}
 use Rattle.ttrpc_secure.specs.declared.hooks.datum.Datum.{Datum}
 use Rattle.ttrpc_secure.specs.declared.hooks.datum.Datum.TheVariants as datum
 
--- a value: a text, a truth value, a whole number of so many bits or of a machine's word, or bytes
+-- A value: a text, a truth value, a whole number of this many bits or of a machine's word, or bytes.
 pub data Fact : Type 0 where
   Text : (text : List ℕ) → Fact
   Truth : (value : Bool) → Fact
@@ -15,7 +15,7 @@ pub data Fact : Type 0 where
   Word : (value : ℕ) → Fact
   Bytes : (bytes : List ℕ) → Fact
 
--- what a datum is
+-- Returns the value of a datum.
 abbrev pub fact_of : Datum → Fact
 fact_of (datum.Text text) = Text (string_bytes text)
 fact_of (datum.Bool value) = Truth value
@@ -33,10 +33,10 @@ fact_of (datum.U128 value) = Unsigned 128 value
 fact_of (datum.Usize value) = Word value
 fact_of (datum.Bytes bytes) = Bytes bytes.items
 
--- facts under names, by rising names
+-- Names and their values, by rising names.
 abbrev pub Facts : Type 0
 Facts = List (List ℕ × Fact)
 
--- what the entries of a map are
+-- Returns the names and values in the entries of a map.
 abbrev pub facts_of : List (String Global × Datum) → Facts
 facts_of entries = map (λ e. (string_bytes e.0, fact_of e.1)) entries

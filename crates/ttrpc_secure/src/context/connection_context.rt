@@ -17,10 +17,10 @@ use std::fmt;
 use ttrpc_proto::framing::header::oversize::{check_oversize, oversize_error};
 use ttrpc_proto::{Blob, Error, GenMessage, MessageHeader, Outgoing, Queued, Result};
 
-/// What is known of a connection, and the two halves that its payloads go through.
+/// The data that are known of a connection, and the two halves that its payloads go through.
 #[derive(Drop)]
 pub struct ConnectionContext<O, I> {
-    /// What is known of the connection.
+    /// The data that are known of the connection.
     pub connection_data: ConnectionData,
     /// The half that seals.
     pub outbound: O,
@@ -28,7 +28,7 @@ pub struct ConnectionContext<O, I> {
     pub inbound: I,
 }
 
-/// Prints what is known of the connection, and neither half: a half may hold a key.
+/// Prints the data that are known of the connection, and neither half: a half may hold a key.
 impl<O, I> fmt::Debug for ConnectionContext<O, I> {
     fn fmt<W: fmt::Write>(&self, f: &mut fmt::Formatter<W>) -> fmt::Result {
         f.debug_struct("ConnectionContext")
@@ -37,8 +37,8 @@ impl<O, I> fmt::Debug for ConnectionContext<O, I> {
     }
 }
 
-/// The context of a connection that has no hook: nothing is known of it, and its payloads stay as they are. Takes no
-/// memory.
+/// Returns the context of a connection that has no hook: nothing is known of it, and its payloads stay as they are.
+/// Takes no memory.
 pub fn plain_context(alloc: Global) -> ConnectionContext<Plain, Plain>
     ensures { result.connection_data.entries ≡ [] }
 {
@@ -46,9 +46,10 @@ pub fn plain_context(alloc: Global) -> ConnectionContext<Plain, Plain>
 }
 
 impl<O: OutboundTransform, I: InboundTransform> ConnectionContext<O, I> {
-    /// The context that a hook gave. Takes no memory.
+    /// Returns the context with a hook's output. Takes no memory.
     pub fn new(output: HookOutput<O, I>) -> Self
-        ensures { result ≡ record { connection_data = output.connection_data; outbound = output.outbound; inbound = output.inbound } }
+        ensures { result
+            ≡ record { connection_data = output.connection_data; outbound = output.outbound; inbound = output.inbound } }
     {
         ConnectionContext {
             connection_data: output.connection_data,
@@ -57,7 +58,7 @@ impl<O: OutboundTransform, I: InboundTransform> ConnectionContext<O, I> {
         }
     }
 
-    /// The context of these halves, for a connection of which nothing is known. Takes no memory.
+    /// Returns the context of these halves, for a connection about which nothing is known. Takes no memory.
     pub fn of_halves(alloc: Global, outbound: O, inbound: I) -> Self
         ensures halves { result ≡ record result { outbound = outbound; inbound = inbound } }
         ensures nothing_known { result.connection_data.entries ≡ [] }
@@ -69,21 +70,22 @@ impl<O: OutboundTransform, I: InboundTransform> ConnectionContext<O, I> {
         }
     }
 
-    /// The longest payload that is sure to fit into a message with what sealing adds. Takes no memory.
+    /// Returns the length of the longest payload that is sure to fit into a message after sealing. Takes no memory.
     pub fn max_raw_payload_len(&self) -> usize
         ensures { result ≡ safe_limit O.OutboundTransform self.now.outbound }
     {
         limit_of(&self.outbound)
     }
 
-    /// What the half that opens makes of the data under these associated bytes.
+    /// Opens the data under these associated bytes with the inbound half. An error changes nothing.
     pub fn transform_inbound(
         &mut self,
         alloc: Global,
         data: &[u8],
         aad: &[u8],
     ) -> std::result::Result<Vec<u8>, TransformError>
-        ensures ok { IfOk result (λ opened. I.opens self.old.inbound «data».now aad.now opened.items self.new.inbound) }
+        ensures ok { IfOk result
+            (λ opened. I.opens self.old.inbound «data».now aad.now opened.items self.new.inbound) }
         ensures refused { IfErr result (MayFail I.refuses self.old.inbound «data».now aad.now) }
         ensures rest { self.new ≡ record self.old { inbound = self.new.inbound } }
         ensures err { OnErr result (self.new ≡ self.old) }
@@ -91,14 +93,15 @@ impl<O: OutboundTransform, I: InboundTransform> ConnectionContext<O, I> {
         self.inbound.transform_inbound(alloc, data, aad)
     }
 
-    /// What the half that seals makes of the data under these associated bytes.
+    /// Seals the data under these associated bytes with the outbound half. An error changes nothing.
     pub fn transform_outbound(
         &mut self,
         alloc: Global,
         data: &[u8],
         aad: &[u8],
     ) -> std::result::Result<Vec<u8>, TransformError>
-        ensures ok { IfOk result (λ sealed. O.seals self.old.outbound «data».now aad.now sealed.items self.new.outbound) }
+        ensures ok { IfOk result (λ sealed. O.seals self.old.outbound «data».now aad.now
+            sealed.items self.new.outbound) }
         ensures refused { IfErr result (MayFail O.refuses self.old.outbound «data».now aad.now) }
         ensures rest { self.new ≡ record self.old { outbound = self.new.outbound } }
         ensures err { OnErr result (self.new ≡ self.old) }
@@ -106,8 +109,9 @@ impl<O: OutboundTransform, I: InboundTransform> ConnectionContext<O, I> {
         self.outbound.transform_outbound(alloc, data, aad)
     }
 
-    /// Opens data that came under these associated bytes. What opens to more than a message may have is refused, with a
-    /// status where the other side is to be told, and has moved the half; any other error changes nothing.
+    /// Opens data that came under these associated bytes, and refuses a result that is longer than a message may be.
+    /// This refusal is a status if `rpc_error` is true, and the half has changed. If the half doesn't open the data,
+    /// the error changes nothing.
     pub fn inbound_buf(
         &mut self,
         alloc: Global,
@@ -115,9 +119,11 @@ impl<O: OutboundTransform, I: InboundTransform> ConnectionContext<O, I> {
         aad: &[u8],
         rpc_error: bool,
     ) -> Result<Vec<u8>>
-        ensures ok { IfOk result (λ opened. I.opens self.old.inbound «data».now aad.now opened.items self.new.inbound) }
+        ensures ok { IfOk result
+            (λ opened. I.opens self.old.inbound «data».now aad.now opened.items self.new.inbound) }
         ensures fits { IfOk result (λ opened. length opened.items ≤ MESSAGE_LENGTH_MAX) }
-        ensures refused { IfErr result (FailsToOpen I.InboundTransform rpc_error self.old.inbound «data».now aad.now self.new.inbound) }
+        ensures refused { IfErr result (FailsToOpen I.InboundTransform rpc_error self.old.inbound
+            «data».now aad.now self.new.inbound) }
         ensures rest { self.new ≡ record self.old { inbound = self.new.inbound } }
     {
         match self.inbound.transform_inbound(alloc, data, aad) {
@@ -131,11 +137,13 @@ impl<O: OutboundTransform, I: InboundTransform> ConnectionContext<O, I> {
     }
 
     /// Opens a message's payload under the associated bytes of its header, as `inbound_buf` does. An error leaves the
-    /// message.
+    /// message unchanged.
     pub fn inbound(&mut self, alloc: Global, msg: &mut GenMessage, rpc_error: bool) -> Result<()>
-        ensures ok { OnOk result ((opened : List ℕ) × I.opens self.old.inbound msg.old.payload (associated msg.old.header) opened self.new.inbound
+        ensures ok { OnOk result ((opened : List ℕ) × I.opens self.old.inbound msg.old.payload
+            (associated msg.old.header) opened self.new.inbound
             × (length opened ≤ MESSAGE_LENGTH_MAX) × (msg.new ≡ carrying msg.old opened)) }
-        ensures refused { IfErr result (FailsToOpen I.InboundTransform rpc_error self.old.inbound msg.old.payload (associated msg.old.header) self.new.inbound) }
+        ensures refused { IfErr result (FailsToOpen I.InboundTransform rpc_error self.old.inbound
+            msg.old.payload (associated msg.old.header) self.new.inbound) }
         ensures rest { self.new ≡ record self.old { inbound = self.new.inbound } }
         ensures err { OnErr result (msg.new ≡ msg.old) }
     {
@@ -145,8 +153,9 @@ impl<O: OutboundTransform, I: InboundTransform> ConnectionContext<O, I> {
         Ok(())
     }
 
-    /// Seals data under these associated bytes. Data above the safe limit are refused: where sealing adds nothing, as a
-    /// message that is too long is, with a status where the other side is to be told. An error changes nothing.
+    /// Seals data under these associated bytes, and refuses data above the safe limit. If sealing adds nothing, this
+    /// refusal is the error for a message that is too long, which is a status if `rpc_error` is true. An error changes
+    /// nothing.
     pub fn outbound_buf(
         &mut self,
         alloc: Global,
@@ -154,8 +163,10 @@ impl<O: OutboundTransform, I: InboundTransform> ConnectionContext<O, I> {
         aad: &[u8],
         rpc_error: bool,
     ) -> Result<Vec<u8>>
-        ensures ok { IfOk result (λ sealed. Seals O.OutboundTransform self.old.outbound «data».now aad.now sealed.items self.new.outbound) }
-        ensures refused { IfErr result (FailsToSeal O.OutboundTransform rpc_error [] self.old.outbound «data».now aad.now) }
+        ensures ok { IfOk result (λ sealed. Seals O.OutboundTransform self.old.outbound «data».now
+            aad.now sealed.items self.new.outbound) }
+        ensures refused { IfErr result
+            (FailsToSeal O.OutboundTransform rpc_error [] self.old.outbound «data».now aad.now) }
         ensures rest { self.new ≡ record self.old { outbound = self.new.outbound } }
         ensures err { OnErr result (self.new ≡ self.old) }
     {
@@ -172,12 +183,14 @@ impl<O: OutboundTransform, I: InboundTransform> ConnectionContext<O, I> {
         }
     }
 
-    /// Seals a message's payload under the associated bytes of its header, as `outbound_buf` does, but that the text about
+    /// Seals a message's payload under the associated bytes of its header, as `outbound_buf` does. But the text about
     /// the safe limit ends with advice. An error changes nothing.
     pub fn outbound(&mut self, alloc: Global, msg: &mut GenMessage, rpc_error: bool) -> Result<()>
-        ensures ok { OnOk result ((sealed : List ℕ) × Seals O.OutboundTransform self.old.outbound msg.old.payload (associated msg.old.header) sealed self.new.outbound
+        ensures ok { OnOk result ((sealed : List ℕ) × Seals O.OutboundTransform self.old.outbound
+            msg.old.payload (associated msg.old.header) sealed self.new.outbound
             × (msg.new ≡ carrying msg.old sealed)) }
-        ensures refused { IfErr result (FailsToSeal O.OutboundTransform rpc_error advice_text self.old.outbound msg.old.payload (associated msg.old.header)) }
+        ensures refused { IfErr result (FailsToSeal O.OutboundTransform rpc_error advice_text
+            self.old.outbound msg.old.payload (associated msg.old.header)) }
         ensures rest { self.new ≡ record self.old { outbound = self.new.outbound } }
         ensures err { OnErr result ((self.new ≡ self.old) × (msg.new ≡ msg.old)) }
     {
@@ -195,8 +208,8 @@ impl<O: OutboundTransform, I: InboundTransform> ConnectionContext<O, I> {
         }
     }
 
-    /// Seals a message's payload as `outbound` does and queues it, and leaves the default of a message. Room in the queue is
-    /// found before the half is asked, and the answer is `NoRoom` if there is none. An error changes nothing.
+    /// Seals a message's payload as `outbound` does, queues it, and leaves an empty message in its place. Room in the
+    /// queue is found before the half is called, and the error is `NoRoom` if there is none. An error changes nothing.
     pub fn transform_send(
         &mut self,
         alloc: Global,
@@ -204,12 +217,16 @@ impl<O: OutboundTransform, I: InboundTransform> ConnectionContext<O, I> {
         outgoing: &mut Outgoing,
     ) -> Result<()>
         // The payload was sealed and queued, and the message is empty.
-        ensures ok { OnOk result (SendsUnder O.OutboundTransform self.old.outbound outgoing.old (unowned msg.old.header) msg.old.payload (associated msg.old.header) self.new.outbound outgoing.new) }
+        ensures ok { OnOk result
+            (SendsUnder O.OutboundTransform self.old.outbound outgoing.old (unowned msg.old.header)
+            msg.old.payload (associated msg.old.header) self.new.outbound outgoing.new) }
         ensures gone { OnOk result (msg.new ≡ no_message) }
-        // Or it was refused, and nothing changed.
-        ensures refused { IfErr result (FailsToSend O.OutboundTransform false advice_text self.old.outbound outgoing.old msg.old.payload (associated msg.old.header)) }
+        // Or an error was returned, and nothing changed.
+        ensures refused { IfErr result (FailsToSend O.OutboundTransform false advice_text
+            self.old.outbound outgoing.old msg.old.payload (associated msg.old.header)) }
         ensures rest { self.new ≡ record self.old { outbound = self.new.outbound } }
-        ensures err { OnErr result ((self.new ≡ self.old) × (msg.new ≡ msg.old) × (outgoing.new ≡ outgoing.old)) }
+        ensures err { OnErr result
+            ((self.new ≡ self.old) × (msg.new ≡ msg.old) × (outgoing.new ≡ outgoing.old)) }
     {
         let aad = associated_bytes(&msg.header);
         let frame = unowned(alloc, msg.header);
@@ -226,9 +243,9 @@ impl<O: OutboundTransform, I: InboundTransform> ConnectionContext<O, I> {
         }
     }
 
-    /// Seals data under these associated bytes as `outbound_buf` does, refused with a status, and queues it under the
-    /// header with its length. Room in the queue is found before the half is asked, and the answer is `NoRoom` if there is
-    /// none. An error changes nothing.
+    /// Seals data under these associated bytes, and queues them under the header with their length. Data above the safe
+    /// limit are refused as by `outbound_buf` with `rpc_error`. Room in the queue is found before the half is called,
+    /// and the error is `NoRoom` if there is none. An error changes nothing.
     pub fn send_response_sync(
         &mut self,
         alloc: Global,
@@ -237,8 +254,10 @@ impl<O: OutboundTransform, I: InboundTransform> ConnectionContext<O, I> {
         outgoing: &mut Outgoing,
         header: MessageHeader,
     ) -> Result<()>
-        ensures ok { OnOk result (SendsUnder O.OutboundTransform self.old.outbound outgoing.old (unowned header) «data».now aad.now self.new.outbound outgoing.new) }
-        ensures refused { IfErr result (FailsToSend O.OutboundTransform true [] self.old.outbound outgoing.old «data».now aad.now) }
+        ensures ok { OnOk result (SendsUnder O.OutboundTransform self.old.outbound outgoing.old
+            (unowned header) «data».now aad.now self.new.outbound outgoing.new) }
+        ensures refused { IfErr result (FailsToSend O.OutboundTransform true [] self.old.outbound
+            outgoing.old «data».now aad.now) }
         ensures rest { self.new ≡ record self.old { outbound = self.new.outbound } }
         ensures err { OnErr result ((self.new ≡ self.old) × (outgoing.new ≡ outgoing.old)) }
     {
@@ -250,10 +269,11 @@ impl<O: OutboundTransform, I: InboundTransform> ConnectionContext<O, I> {
     }
 }
 
-/// What is said where less can be sent.
+/// The advice to a caller that can send less.
 const ADVICE: &str = "; reduce payload size";
 
-/// Gives a message another payload, which is no longer than a message may be. Takes no memory.
+/// Replaces a message's payload, and sets the length in its header. The payload is no longer than a message may be.
+/// Takes no memory.
 fn carry(msg: &mut GenMessage, payload: Vec<u8>)
     requires { length payload.items ≤ MESSAGE_LENGTH_MAX }
     ensures { msg.new ≡ carrying msg.old payload.items }
@@ -262,7 +282,8 @@ fn carry(msg: &mut GenMessage, payload: Vec<u8>)
     msg.payload = Blob::from_vec(payload);
 }
 
-/// A frame under a header that nobody asks about, without its payload. Takes no memory.
+/// Returns a frame with this header and no payload. The frame has no ticket, and isn't a unary request's. Takes no
+/// memory.
 fn unowned(alloc: Global, header: MessageHeader) -> Queued
     ensures { result ≡ unowned header }
 {
@@ -277,7 +298,7 @@ fn unowned(alloc: Global, header: MessageHeader) -> Queued
     }
 }
 
-/// The error of data of this length that weren't sealed, for this reason.
+/// Returns the error for data of this length that weren't sent, for this reason.
 fn unsent_error<O: OutboundTransform>(
     alloc: Global,
     half: &O,

@@ -1,4 +1,4 @@
-//! The context of a connection: what is known of it, and the halves that its payloads go through.
+//! The context of a connection: the data that are known of it, and the halves that its payloads go through.
 
 mod connection_context;
 pub mod errors;

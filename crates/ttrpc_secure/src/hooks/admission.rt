@@ -1,4 +1,4 @@
-//! Whether a hook accepts a connection, and its time limit.
+//! How a server asks a hook about a connection, and the time limit.
 ghost use Rattle.std.specs.Prelude.{◌≡◌, ◌-◌, ◌^◌, min};
 ghost use Rattle.std.specs.Duration.{as_nanos};
 ghost use Rattle.ttrpc_secure.specs.Hooks.Admission.{IsAdmission, admitted};
@@ -9,7 +9,7 @@ use std::alloc::Global;
 use std::io;
 use std::time::Duration;
 
-/// The hook of a server that has none: it lets every connection pass as it is.
+/// The hook of a server that has none: it accepts every connection, and leaves its payloads as they are.
 #[derive(Clone, Copy, Debug)]
 pub struct NoHook {}
 
@@ -28,8 +28,8 @@ impl<S> AcceptHook<S> for NoHook {
     }
 }
 
-/// Asks the hook about a connection, and returns what the hook gives, or `Timeout` if its time was up. `read` reads the clock
-/// before and after it; the first reading that fails is `Io`.
+/// Asks the hook about a connection, and returns the hook's result, or `Timeout` if its time was up. `read` reads the
+/// clock before and after the hook. If a reading fails, the first such failure is returned as `Io`.
 pub fn admit<F: Fn() -> io::Result<Duration>, S, A: AcceptHook<S>>(
     read: F,
     alloc: Global,
@@ -37,15 +37,16 @@ pub fn admit<F: Fn() -> io::Result<Duration>, S, A: AcceptHook<S>>(
     stream: &S,
 ) -> Result<HookOutput<A::Outbound, A::Inbound>, HookError>
     requires { F.IsAlwaysCallable read }
-    ensures { IsAdmission (λ reading. F.post read reading) (λ hooked. A.gives hook.now stream.now hooked) result }
+    ensures { IsAdmission (λ reading. F.post read reading)
+        (λ hooked. A.gives hook.now stream.now hooked) result }
 {
     let started = read();
     let hooked = hook.on_accept(alloc, stream);
     admission(started, read(), hooked)
 }
 
-/// Returns what a hook gave between these two readings of a clock, or `Timeout` if its time was up. The first reading that failed
-/// is `Io`.
+/// Returns a hook's result between these two readings of a clock, or `Timeout` if its time was up. If a reading failed,
+/// the first such failure is returned as `Io`.
 fn admission<O: Drop, I: Drop>(
     started: io::Result<Duration>,
     ended: io::Result<Duration>,
@@ -63,7 +64,7 @@ fn admission<O: Drop, I: Drop>(
     }
 }
 
-/// Returns how many nanoseconds a time has, at most 2^64 - 1.
+/// Returns the number of nanoseconds in a time, at most 2^64 - 1.
 fn nanoseconds(time: Duration) -> u64
     ensures { result ≡ min (as_nanos time) (2 ^ 64 - 1) }
 {

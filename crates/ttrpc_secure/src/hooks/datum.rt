@@ -1,4 +1,4 @@
-//! What is known of a connection, under names.
+//! The data that are known of a connection, under names.
 ghost use Rattle.std.specs.Prelude.{◌≡◌, ℕ, List, Option};
 ghost use Rattle.std.specs.Option.{option_and_then, option_copied};
 
@@ -25,17 +25,17 @@ pub enum Datum {
     Bytes(Vec<u8>),
 }
 
-/// What is known of a connection, under names.
+/// The data that are known of a connection, under names.
 pub type ConnectionData = BTreeMap<String, Datum>;
 
-/// What is known of a connection, by name and kind.
+/// Reading of the data that are known of a connection, by name and kind.
 pub trait ConnectionDataExt {
     ghost use Rattle.ttrpc_secure.specs.declared.hooks.datum.Datum.{Datum};
 
-    // What is known under a name.
+    // The value that is known under a name, if there is one.
     ghost known: { Self → List ℕ → Option Datum };
 
-    /// The value under a name, where it is of this kind; `None` of a name that isn't there, or of a value of another kind.
+    /// Returns the value under a name, or `None` if there is no value of this kind under the name.
     fn get_typed<T: Kind>(&self, key: &str) -> Option<&T>
         ensures { option_copied result ≡ option_and_then T.of (known self.now key.now) };
 }

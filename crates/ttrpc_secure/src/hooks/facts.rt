@@ -1,11 +1,11 @@
-//! What is known of a connection, kept as it is.
+//! The data that are known of a connection, kept as they are.
 ghost use Rattle.std.specs.Prelude.{◌≡◌};
 ghost use Rattle.ttrpc_secure.specs.Hooks.Facts.{facts_of};
 
 use crate::hooks::datum::ConnectionData;
 use std::marker::Model;
 
-/// What is known of a connection, kept as it is.
+/// The data that are known of a connection, kept as they are.
 #[derive(Drop)]
 pub struct ConnectionFacts {
     data: ConnectionData,
@@ -20,14 +20,14 @@ impl Model for ConnectionFacts {
 }
 
 impl ConnectionFacts {
-    /// Keeps this. Takes no memory.
+    /// Returns facts that keep these data. Takes no memory.
     pub fn new(given: ConnectionData) -> ConnectionFacts
         ensures { result ≡ facts_of given.entries }
     {
         ConnectionFacts { data: given }
     }
 
-    /// What is kept. Takes no memory.
+    /// Returns the kept data. Takes no memory.
     pub fn data(&self) -> &ConnectionData
         ensures { facts_of result.now.entries ≡ self.now }
     {

@@ -4,14 +4,14 @@ ghost use Rattle.std.specs.Option.{option_copied};
 
 use crate::hooks::datum::Datum;
 
-/// A type of which a datum may hold a value.
+/// A type of values that a datum may hold.
 pub trait Kind: Sized {
     ghost use Rattle.ttrpc_secure.specs.declared.hooks.datum.Datum.{Datum};
 
-    // The value of a datum that is of this kind.
+    // The value of a datum, if the datum is of this kind.
     ghost of: { Datum → Option Self };
 
-    /// The value of a datum that is of this kind, and `None` of another.
+    /// Returns the value of a datum, or `None` if the datum is of another kind.
     fn of_datum(datum: &Datum) -> Option<&Self>
         ensures { option_copied result ≡ of datum.now };
 }

@@ -1,4 +1,4 @@
-//! Hooks: they inspect a connection before it is used, and say what is known of it.
+//! Hooks, which inspect a connection before it is used, and return the data that are known of it.
 
 mod admission;
 mod datum;
@@ -17,7 +17,7 @@ use crate::{InboundTransform, OutboundTransform};
 use std::alloc::Global;
 use std::collections::BTreeMap;
 
-/// What a hook returns for a connection that it accepts: what is known of it, and its two halves.
+/// A hook's result for a connection that it accepts: the data that are known of the connection, and its two halves.
 #[derive(Drop)]
 pub struct HookOutput<O, I> {
     pub connection_data: ConnectionData,
@@ -26,7 +26,7 @@ pub struct HookOutput<O, I> {
 }
 
 impl<O, I> HookOutput<O, I> {
-    /// Two halves, and nothing known of the connection. Takes no memory.
+    /// Returns an output with these two halves and no data about the connection. Takes no memory.
     pub fn of_halves(alloc: Global, outbound: O, inbound: I) -> HookOutput<O, I>
         ensures unknown { result.connection_data.entries ≡ [] }
         ensures outbound { result.outbound ≡ outbound }
@@ -40,22 +40,24 @@ impl<O, I> HookOutput<O, I> {
     }
 }
 
-/// Inspects a connection that a server has accepted, before anything else is read from it. It is lent the stream, so
-/// that it may speak with the other side first.
+/// Inspects a connection that a server has accepted, before anything else is read from it. The hook borrows the stream,
+/// so that it can exchange bytes with the other side first.
 pub trait AcceptHook<S> {
     ghost use Rattle.std.specs.Prelude.{⊤, Result};
     ghost use Rattle.ttrpc_secure.specs.declared.hooks.hook_error.HookError.{HookError};
     ghost use Rattle.ttrpc_secure.specs.declared.hooks.HookOutput.{HookOutput};
 
-    /// The half that seals what the connection sends.
+    /// The half that seals the payloads which the connection sends.
     type Outbound: OutboundTransform + Drop;
-    /// The half that opens what the connection receives.
+    /// The half that opens the payloads which the connection receives.
     type Inbound: InboundTransform + Drop;
 
-    // That it may give this for a stream, where it tells.
-    ghost gives: { Self → S → Result (HookOutput Self.Outbound Self.Inbound) HookError → Type 0 } = { λ _ _ _. ⊤ };
+    // Holds if the hook may return this result for a stream. The default holds always.
+    ghost gives: { Self → S → Result (HookOutput Self.Outbound Self.Inbound) HookError
+        → Type 0 } = { λ _ _ _. ⊤ };
 
-    /// What is known of the connection and what it goes through, or why it is closed.
+    /// Inspects the connection, and returns the data that are known of it and its two halves, or the reason to close
+    /// it.
     fn on_accept(
         &self,
         alloc: Global,
@@ -64,22 +66,24 @@ pub trait AcceptHook<S> {
         ensures { gives self.now stream.now result };
 }
 
-/// Inspects a connection that a client has opened, before anything else is written to it. It is lent the stream, so
-/// that it may speak with the other side first.
+/// Inspects a connection that a client has opened, before anything else is written to it. The hook borrows the stream,
+/// so that it can exchange bytes with the other side first.
 pub trait ConnectHook<S> {
     ghost use Rattle.std.specs.Prelude.{⊤, Result};
     ghost use Rattle.ttrpc_secure.specs.declared.hooks.hook_error.HookError.{HookError};
     ghost use Rattle.ttrpc_secure.specs.declared.hooks.HookOutput.{HookOutput};
 
-    /// The half that seals what the connection sends.
+    /// The half that seals the payloads which the connection sends.
     type Outbound: OutboundTransform + Drop;
-    /// The half that opens what the connection receives.
+    /// The half that opens the payloads which the connection receives.
     type Inbound: InboundTransform + Drop;
 
-    // That it may give this for a stream, where it tells.
-    ghost gives: { Self → S → Result (HookOutput Self.Outbound Self.Inbound) HookError → Type 0 } = { λ _ _ _. ⊤ };
+    // Holds if the hook may return this result for a stream. The default holds always.
+    ghost gives: { Self → S → Result (HookOutput Self.Outbound Self.Inbound) HookError
+        → Type 0 } = { λ _ _ _. ⊤ };
 
-    /// What is known of the connection and what it goes through, or why it isn't used.
+    /// Inspects the connection, and returns the data that are known of it and its two halves, or the reason not to use
+    /// it.
     fn on_connect(
         &self,
         alloc: Global,
@@ -88,11 +92,11 @@ pub trait ConnectHook<S> {
         ensures { gives self.now stream.now result };
 }
 
-/// How long a hook may look at a connection that a server has accepted, in nanoseconds: 30 seconds.
+/// The time that a hook has for a connection which a server has accepted, in nanoseconds: 30 seconds.
 pub const ACCEPT_HOOK_TIMEOUT: u64 = 30_000_000_000;
 
-/// What becomes of a hook's result, where the hook was started and ended at these moments, in nanoseconds: the result, or
-/// `Timeout` where the time for it was up.
+/// Returns a hook's result, or `Timeout` if the hook took 30 seconds or more. The hook started at the first moment and
+/// ended at the second, both in nanoseconds.
 pub fn hook_result<O: Drop, I: Drop>(
     started: u64,
     now: u64,
