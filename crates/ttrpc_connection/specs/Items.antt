@@ -1,4 +1,4 @@
--- Data of a stream, which are an item or the close behind all items: what is sent, and for what it is refused.
+-- Data of a stream, which are an item or the close after all items: how they are sent, and why they are refused.
 -- Source: PROTOCOL.md of ttrpc, "Data" and "Streaming"; errors and texts: the Rust crate; their order: this project's.
 use Rattle.std.specs.Prelude.{◌≡◌, ◌⊎◌, ◌<◌, ◌≤◌, ◌+◌, ◌-◌, ◌^◌, ℕ, List, length, codes, Some, false}
 use Rattle.ttrpc_proto.specs.declared.framing.header.TheConstants.{FLAG_NO_DATA, FLAG_REMOTE_CLOSED, MESSAGE_TYPE_DATA}
@@ -11,11 +11,11 @@ use Rattle.ttrpc_connection.specs.Types.{Error, MESSAGE_LENGTH_MAX, Outbox, Outb
 use Rattle.ttrpc_connection.specs.Failure.{IsTold}
 use Rattle.ttrpc_connection.specs.Frames.{SendsOne, safe_limit}
 
--- the flags of a frame that says that no more items come
+-- Returns the flags of a frame that states that no more items come.
 abbrev pub close_flags : ℕ
 close_flags = FLAG_REMOTE_CLOSED + FLAG_NO_DATA
 
--- a data frame of a stream
+-- Holds if this is a data frame of a stream.
 pub record IsDataFrame (id flags ticket : ℕ) (f : Queued) : Type 0 where
   pub stream_id : f.message.header.stream_id ≡ id
   pub type_ : f.message.header.type_ ≡ MESSAGE_TYPE_DATA
@@ -24,11 +24,11 @@ pub record IsDataFrame (id flags ticket : ℕ) (f : Queued) : Type 0 where
   pub is_unary_request : f.is_unary_request ≡ false
   pub owner : f.owner ≡ id
 
--- the greatest ticket
+-- Returns the greatest ticket.
 abbrev pub last_ticket : ℕ
 last_ticket = 2 ^ 64 - 1
 
--- Data were sent in a frame of these flags, and got this ticket.
+-- Holds if data were sent in a frame of these flags, with this ticket.
 pub record SendsData {O : Type 0} (out : OutboundTransform O) (old : Outbox O) (id flags : ℕ) (plain : List ℕ) (ticket : ℕ) (new : Outbox O) : Type 0 where
   pub ticket_is : ticket ≡ old.tickets + 1
   pub in_range : ticket ≤ last_ticket
@@ -37,34 +37,34 @@ pub record SendsData {O : Type 0} (out : OutboundTransform O) (old : Outbox O) (
   pub is_frame : IsDataFrame id flags ticket frame
   pub sends : SendsOne out old frame plain new
 
--- ---- for what they are refused, from top to bottom
+-- ---- why data are refused: the first of these that applies
 
--- they are longer than a message may be
+-- Holds if the data are longer than a message may be.
 pub record AreTooLong (plain : List ℕ) (told : Error) : Type 0 where
   pub above : MESSAGE_LENGTH_MAX < length plain
   pub is_told : IsTold (Others (oversize_text (length plain))) told
 
--- or they aren't, and no ticket is left
+-- Holds if the data aren't too long, but no ticket is left.
 pub record HaveNoTicket {O : Type 0} (old : Outbox O) (plain : List ℕ) (told : Error) : Type 0 where
   pub short : length plain ≤ MESSAGE_LENGTH_MAX
   pub used_up : old.tickets ≡ last_ticket
   pub is_told : IsTold (Others (codes "tickets are used up")) told
 
--- or one is left, and they are above the safe limit
+-- Holds if a ticket is left, but the data are above the safe limit.
 pub record AreAboveLimit {O : Type 0} (out : OutboundTransform O) (advice : List ℕ) (old : Outbox O) (plain : List ℕ) (told : Error) : Type 0 where
   pub short : length plain ≤ MESSAGE_LENGTH_MAX
   pub has_ticket : old.tickets < last_ticket
   pub above : safe_limit out old.half < length plain
   pub is_told : IsTold (Others (unsafe_payload_text (length plain) (safe_limit out old.half) advice)) told
 
--- or they aren't, and the queue lacks room for them
+-- Holds if the data are within the limit, but the queue lacks room for them.
 pub record HaveNoRoom {O : Type 0} (out : OutboundTransform O) (old : Outbox O) (plain : List ℕ) (told : Error) : Type 0 where
   pub has_ticket : old.tickets < last_ticket
   pub fits : length plain ≤ safe_limit out old.half
   pub lacks : free old.queue < needed out old.half plain
   pub is_told : told ≡ NoRoom
 
--- or it has room, and the half refuses them, for this reason
+-- Holds if the queue has room, but the half refuses the data for this reason.
 pub record AreUnsealed {O : Type 0} (out : OutboundTransform O) (old : Outbox O) (id flags : ℕ) (plain : List ℕ) (told : Error) : Type 0 where
   pub has_ticket : old.tickets < last_ticket
   pub fits : length plain ≤ safe_limit out old.half
@@ -75,7 +75,7 @@ pub record AreUnsealed {O : Type 0} (out : OutboundTransform O) (old : Outbox O)
   pub refuses : out.refuses old.half plain (associated frame.message.header) why
   pub is_told : IsTold (Others (unsealed_text why)) told
 
--- or memory is wanted
+-- Holds if the data are refused with this error, for one of these reasons or because memory was refused.
 abbrev pub RefusesData : {O : Type 0} → OutboundTransform O → List ℕ → Outbox O → ℕ → ℕ → List ℕ → Error → Type 0
 RefusesData out advice old id flags plain told =
     AreTooLong plain told ⊎ HaveNoTicket old plain told ⊎ AreAboveLimit out advice old plain told ⊎ HaveNoRoom out old plain told ⊎ AreUnsealed out old id flags plain told

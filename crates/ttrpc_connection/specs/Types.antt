@@ -1,4 +1,4 @@
--- The types of the code that these definitions speak of, in one list.
+-- The types of the code that these definitions use, in one list.
 -- Source: this project's.
 pub use Rattle.ttrpc_proto.specs.declared.framing.header.MessageHeader.{MessageHeader}
 pub use Rattle.ttrpc_proto.specs.declared.framing.header.TheConstants.{MESSAGE_LENGTH_MAX, MESSAGE_TYPE_REQUEST}
@@ -12,7 +12,7 @@ pub use Rattle.ttrpc_connection.specs.declared.arrived.Opening.{Opening}
 pub use Rattle.ttrpc_connection.specs.declared.arrived.Opening.TheVariants.{Opened, Refused, TooLong}
 pub use Rattle.ttrpc_connection.specs.declared.connection.Connection.{Connection}
 pub use Rattle.ttrpc_connection.specs.declared.failure.Failure.{Failure}
-pub use Rattle.ttrpc_connection.specs.declared.failure.Failure.TheVariants.{CancelledDuringWrite, DeadlineDuringWrite, Disconnected, DisconnectedInside, HandlerError, JobIdsUsedUp, NoMemory, NoMemory as MemoryRefused, Told}
+pub use Rattle.ttrpc_connection.specs.declared.failure.Failure.TheVariants.{Broke, CancelledDuringWrite, DeadlineDuringWrite, Disconnected, DisconnectedInside, HandlerError, JobIdsUsedUp, NoMemory, NoMemory as MemoryRefused, Told}
 pub use Rattle.ttrpc_connection.specs.Outbox.{Outbox}
 pub use Rattle.ttrpc_connection.specs.declared.thing.Thing.{Thing}
 pub use Rattle.ttrpc_connection.specs.declared.thing.Thing.TheVariants.{Item, Last, End, Closing, Breaking}

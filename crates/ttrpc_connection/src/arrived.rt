@@ -1,4 +1,4 @@
-//! A whole frame, after the inbound half.
+//! A whole frame, after it passed the inbound half.
 ghost use Rattle.std.specs.Prelude.{◌≡◌, IfOk, OnErr};
 ghost use Rattle.ttrpc_connection.specs.Frames.{Opens, header_of_frame};
 
@@ -8,14 +8,14 @@ use ttrpc_secure::sending::associated_bytes;
 use ttrpc_secure::{InboundTransform, TransformError};
 use ttrpc_wire::{Blob, Text};
 
-/// What the inbound half made of a frame's payload.
+/// The result of passing a frame's payload through the inbound half.
 #[derive(Debug, Drop, PartialEq, Eq)]
 pub enum Opening {
-    /// It is longer than a message may be: it was not kept, and the half not asked.
+    /// The payload is longer than a message may be. Such a payload isn't kept, and doesn't pass the half.
     TooLong,
-    /// The half opened it.
+    /// The half opened the payload to these bytes.
     Opened(Blob),
-    /// The half refused it, for this reason.
+    /// The half refused the payload, for this reason.
     Refused(Text),
 }
 
@@ -24,18 +24,19 @@ pub enum Opening {
 pub struct Arrived {
     pub header: MessageHeader,
     pub opening: Opening,
-    /// The moment of the call that brought its last byte, in nanoseconds.
+    /// The moment of the call that brought the frame's last byte, in nanoseconds.
     pub now: u64,
 }
 
-/// A frame passes the inbound half, unless it is too long. An `Err` changes nothing.
+/// Passes a frame through the inbound half, unless the frame is too long. An `Err` means that memory was refused, and changes nothing.
 pub fn open<I: InboundTransform>(
     alloc: Global,
     half: &mut I,
     incoming: Incoming,
     now: u64,
 ) -> Result<Arrived, AllocError>
-    ensures ok { IfOk result (λ arrived. Opens I.InboundTransform half.old incoming arrived.opening half.new) }
+    ensures ok { IfOk result
+        (λ arrived. Opens I.InboundTransform half.old incoming arrived.opening half.new) }
     ensures header { IfOk result (λ arrived. arrived.header ≡ header_of_frame incoming) }
     ensures at { IfOk result (λ arrived. arrived.now ≡ now) }
     ensures err { OnErr result (half.new ≡ half.old) }

@@ -1,5 +1,6 @@
-//! One end of a connection.
+//! One end of a connection. A call without an `alloc` argument takes no memory.
 ghost use Rattle.std.specs.Prelude.{ℕ, List, ◌≡◌, ◌≢◌, ◌<◌, ◌≤◌, ◌↔◌, [], true, length, take, is_some, IfOk, IfErr, OnOk, IfSome, IfNone, None};
+ghost use Rattle.ttrpc_proto.specs.declared.error.Error.{Error as TheError};
 ghost use Rattle.ttrpc_proto.specs.Framing.Frames.{Holds, nothing};
 ghost use Rattle.ttrpc_proto.specs.Framing.Queue.{unsent};
 ghost use Rattle.ttrpc_secure.specs.Hooks.Facts.{facts_of};
@@ -24,39 +25,42 @@ use ttrpc_wire::values::slices::behind;
 #[derive(Drop)]
 pub struct Connection<O, I> {
     decoder: FrameDecoder,
-    /// What goes out.
+    /// The frames that go out.
     pub outbox: Outbox<O>,
     inbound: I,
     failure: Option<Failure>,
-    /// What is known of it.
+    /// The facts known about the connection.
     known: ConnectionFacts,
 }
 
 impl<O: OutboundTransform + Drop, I: InboundTransform + Drop> Connection<O, I> {
-    /// A connection with the halves of this context. Takes no memory.
-    pub fn new(alloc: Global, context: ConnectionContext<O, I>) -> Self
-        ensures { result ≡ new_connection (facts_of context.connection_data.entries) context.outbound context.inbound }
+    /// Returns a connection with the halves of this context, and with the memory for the frames that are to wait. Returns `NoMemory` if
+    /// that memory was refused.
+    pub fn new(alloc: Global, context: ConnectionContext<O, I>) -> Result<Self, Error>
+        ensures ok { IfOk result (λ connection. connection ≡ new_connection
+            (facts_of context.connection_data.entries) context.outbound context.inbound) }
+        ensures only_memory { IfErr result (λ e. e ≡ TheError.NoMemory) }
     {
-        Connection {
+        Ok(Connection {
             decoder: FrameDecoder::new(alloc),
-            outbox: Outbox::new(alloc, context.outbound),
+            outbox: Outbox::new(alloc, context.outbound)?,
             inbound: context.inbound,
             failure: None,
             known: ConnectionFacts::new(context.connection_data),
-        }
+        })
     }
 
-    /// What is known of the connection, which stays as its context had it.
+    /// Returns the facts known about the connection, as its context had them.
     pub fn connection_data(&self) -> &ConnectionData
         ensures { facts_of result.now.entries ≡ self.now.known }
     {
         self.known.data()
     }
 
-    /// Takes a piece, and says how many bytes were taken: all, or those up to the end of a frame after which fewer bytes are
-    /// free than the core asks for. Each frame that is whole with it acts, in order, at this moment. The connection fails
-    /// where memory is refused or the core says so; then and from then on the answer is that failure. Of a core that takes
-    /// no more, or has too few free bytes, the answer is 0, and nothing changes.
+    /// Takes a piece of input, and returns the number of bytes taken. The connection takes all bytes, or those up to the end of a frame
+    /// after which fewer bytes are free than the core asks for. Each frame that is whole with the piece acts, in order, at this moment. The
+    /// connection fails if memory is refused or the core returns a failure. Then and from then on the call returns that failure. If the
+    /// core takes no more, or too few bytes are free, the call returns 0 and changes nothing.
     pub fn feed<R: Reacts<O>>(
         &mut self,
         alloc: Global,
@@ -64,7 +68,8 @@ impl<O: OutboundTransform + Drop, I: InboundTransform + Drop> Connection<O, I> {
         piece: &[u8],
         now: u64,
     ) -> Result<usize, Error>
-        ensures { TakesOrDrains (ways O.OutboundTransform I.InboundTransform R.Reacts) core.old self.old piece.now now result core.new self.new }
+        ensures { TakesOrDrains (ways O.OutboundTransform I.InboundTransform R.Reacts) core.old
+            self.old piece.now now result core.new self.new }
     {
         self.check_alive(alloc)?;
         let mut rest = piece;
@@ -75,8 +80,8 @@ impl<O: OutboundTransform + Drop, I: InboundTransform + Drop> Connection<O, I> {
         Ok(piece.len() - rest.len())
     }
 
-    /// Takes a front of the piece, and says how many bytes: at least one of a piece that isn't empty, and none behind the
-    /// first frame that is whole with it. That frame acts. Otherwise as `feed`.
+    /// Takes the first bytes of the piece, and returns how many. The number is at least 1 if the piece isn't empty, and no byte after the
+    /// end of the first whole frame is taken. The frame acts. Otherwise the call does the same as `feed`.
     pub fn feed_front<R: Reacts<O>>(
         &mut self,
         alloc: Global,
@@ -84,7 +89,8 @@ impl<O: OutboundTransform + Drop, I: InboundTransform + Drop> Connection<O, I> {
         piece: &[u8],
         now: u64,
     ) -> Result<usize, Error>
-        ensures { TakesFrontOrDrains (ways O.OutboundTransform I.InboundTransform R.Reacts) core.old self.old piece.now now result core.new self.new }
+        ensures { TakesFrontOrDrains (ways O.OutboundTransform I.InboundTransform R.Reacts) core.old
+            self.old piece.now now result core.new self.new }
     {
         self.check_alive(alloc)?;
         if !self.is_open_to(core) {
@@ -100,14 +106,15 @@ impl<O: OutboundTransform + Drop, I: InboundTransform + Drop> Connection<O, I> {
         }
     }
 
-    /// Returns whether the core takes what comes in, and as many bytes are free as it asks for.
+    /// Returns whether the core takes input, and at least as many bytes are free as the core asks for.
     fn is_open_to<R: Reacts<O>>(&self, core: &R) -> bool
-        ensures { result ≡ is_open (ways O.OutboundTransform I.InboundTransform R.Reacts) core.now self.now.outbox }
+        ensures { result ≡ is_open (ways O.OutboundTransform I.InboundTransform R.Reacts)
+            core.now self.now.outbox }
     {
         core.takes() && R::ROOM <= self.outbox.free()
     }
 
-    /// Whether nothing of a frame has come that isn't whole. Takes no memory.
+    /// Returns whether the input so far ends with a whole frame, or is empty.
     pub fn at_boundary(&self) -> bool
         ensures nothing { (result ≡ true) ↔ (self.now.decoder ≡ nothing) }
         ensures held { (rest : List ℕ) × Holds self.now.decoder rest }
@@ -115,7 +122,7 @@ impl<O: OutboundTransform + Drop, I: InboundTransform + Drop> Connection<O, I> {
         self.decoder.at_boundary()
     }
 
-    /// The input ended: the connection fails, if it hasn't. Takes no memory.
+    /// Reports that the input ended. The connection fails, if it hasn't failed.
     pub fn end_of_input(&mut self)
         ensures { Ends self.old self.new }
     {
@@ -127,7 +134,7 @@ impl<O: OutboundTransform + Drop, I: InboundTransform + Drop> Connection<O, I> {
         self.fail(failure);
     }
 
-    /// Fails the connection, if it hasn't failed. Takes no memory.
+    /// Fails the connection, if it hasn't failed.
     pub fn fail(&mut self, failure: Failure)
         ensures { self.new ≡ failing self.old failure }
     {
@@ -136,14 +143,14 @@ impl<O: OutboundTransform + Drop, I: InboundTransform + Drop> Connection<O, I> {
         }
     }
 
-    /// Whether the connection has failed. Takes no memory.
+    /// Returns whether the connection has failed.
     pub fn has_failed(&self) -> bool
         ensures { result ≡ is_some self.now.failure }
     {
         self.failure.is_some()
     }
 
-    /// The failure, or `NoMemory` where memory for its text was refused.
+    /// Returns the error of the failure, if the connection has failed, or `NoMemory` if memory for its text was refused.
     pub fn failure(&self, alloc: Global) -> Option<Error>
         ensures none { IfNone result (self.now.failure ≡ None) }
         ensures told { IfSome result (IsFailed self.now.failure) }
@@ -154,14 +161,14 @@ impl<O: OutboundTransform + Drop, I: InboundTransform + Drop> Connection<O, I> {
         }
     }
 
-    /// Why the connection failed, if it has. Takes no memory.
+    /// Returns the failure of the connection, if it has failed.
     pub fn why(&self) -> &Option<Failure>
         ensures { result.now ≡ self.now.failure }
     {
         &self.failure
     }
 
-    /// The failure is an `Err`, where the connection has failed.
+    /// Returns the failure as an `Err`, if the connection has failed.
     pub fn check_alive(&self, alloc: Global) -> Result<(), Error>
         ensures ok { OnOk result (self.now.failure ≡ None) }
         ensures err { IfErr result (IsFailed self.now.failure) }
@@ -172,7 +179,7 @@ impl<O: OutboundTransform + Drop, I: InboundTransform + Drop> Connection<O, I> {
         }
     }
 
-    /// `Ok` once the frame of this ticket was reported whole; until then the failure, where the connection has failed.
+    /// Returns `Ok` after the frame of this ticket was reported whole, and until then the failure, if the connection has failed.
     pub fn sent(&self, alloc: Global, ticket: u64) -> Option<Result<(), Error>>
         ensures { TellsSent (is_sent self.now.outbox.queue ticket) self.now.failure result }
     {
@@ -185,8 +192,8 @@ impl<O: OutboundTransform + Drop, I: InboundTransform + Drop> Connection<O, I> {
         }
     }
 
-    /// Copies a front of what is left of the first unfinished frame, as much as fits, and says how many bytes: none only
-    /// where none fit, nothing is left to be written, or the connection has failed. Takes no memory.
+    /// Copies the first bytes of the rest of the first unfinished frame, as many as fit, and returns how many. Returns 0 only if none fit,
+    /// nothing is left to be written, or the connection has failed.
     pub fn lend(&mut self, buffer: &mut [u8]) -> usize
         ensures lends { Lends self.old buffer.old result buffer.new }
         ensures lent { self.new ≡ lending self.old result }
@@ -197,7 +204,7 @@ impl<O: OutboundTransform + Drop, I: InboundTransform + Drop> Connection<O, I> {
         self.outbox.lend(buffer)
     }
 
-    /// Reports this many of the lent bytes as written. Takes no memory.
+    /// Reports this many of the lent bytes as written.
     pub fn wrote(&mut self, n: usize)
         requires { n ≤ self.old.outbox.queue.lent }
         ensures { self.new ≡ reporting self.old n }
@@ -205,7 +212,7 @@ impl<O: OutboundTransform + Drop, I: InboundTransform + Drop> Connection<O, I> {
         self.outbox.wrote(n)
     }
 
-    /// How many bytes a `lend` gives where all fit. Takes no memory.
+    /// Returns how many bytes a `lend` copies if all fit.
     pub fn lendable(&self) -> usize
         ensures { result ≡ lendable self.now }
     {
@@ -215,22 +222,22 @@ impl<O: OutboundTransform + Drop, I: InboundTransform + Drop> Connection<O, I> {
         self.outbox.open_len()
     }
 
-    /// Whether anything is left to be written, which it won't be after a failure. Takes no memory.
+    /// Returns whether anything is left to be written. After a failure the rest is never lent.
     pub fn has_unsent(&self) -> bool
         ensures { (result ≡ true) ↔ (unsent self.now.outbox.queue ≢ []) }
     {
         self.outbox.has_unsent()
     }
 
-    /// How many bytes the last `lend` since the last report gave.
+    /// Returns how many bytes the last `lend` since the last report gave.
     pub fn lent(&self) -> usize
         ensures { result ≡ self.now.outbox.queue.lent }
     {
         self.outbox.lent()
     }
 
-    /// Takes a front of the piece. What is whole with it acts. At an `Err`, the reason for which the connection is
-    /// to fail, nothing but the decoder and the inbound half has changed.
+    /// Takes the first bytes of the piece. A frame that is whole with them acts. An `Err` is the reason why the connection is to fail, and
+    /// nothing but the decoder and the inbound half has changed.
     fn take_front<R: Reacts<O>>(
         &mut self,
         alloc: Global,
@@ -238,15 +245,18 @@ impl<O: OutboundTransform + Drop, I: InboundTransform + Drop> Connection<O, I> {
         piece: &[u8],
         now: u64,
     ) -> Result<usize, Failure>
-        requires { is_open (ways O.OutboundTransform I.InboundTransform R.Reacts) core.old self.old.outbox ≡ true }
-        // A front was taken, and the frame that is whole with it acted.
+        requires { is_open (ways O.OutboundTransform I.InboundTransform R.Reacts)
+            core.old self.old.outbox ≡ true }
+        // The first bytes were taken, and the frame that is whole with them acted.
         ensures count { IfOk result (λ n. (n ≤ length piece.now) × (0 < length piece.now → 0 < n)) }
         ensures ok { IfOk result (λ n.
-            FrontActs (ways O.OutboundTransform I.InboundTransform R.Reacts) core.old self.old (take n piece.now) now core.new self.new) }
-        // Or the connection is to fail, and why.
+            FrontActs (ways O.OutboundTransform I.InboundTransform R.Reacts) core.old self.old
+            (take n piece.now) now core.new self.new) }
+        // Or the connection is to fail, for this reason.
         ensures err { IfErr result (λ failure.
-            StopsAt (ways O.OutboundTransform I.InboundTransform R.Reacts) core.old self.old piece.now now failure core.new self.new) }
-        // It has failed no more than before, and stays the same connection.
+            StopsAt (ways O.OutboundTransform I.InboundTransform R.Reacts) core.old self.old
+            piece.now now failure core.new self.new) }
+        // The failure and the known facts are as before.
         ensures failure { self.new.failure ≡ self.old.failure }
         ensures known { self.new.known ≡ self.old.known }
     {

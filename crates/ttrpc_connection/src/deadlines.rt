@@ -1,4 +1,4 @@
-//! The deadlines of what waits, soonest first.
+//! Deadlines, soonest first.
 ghost use Rattle.std.specs.Prelude.{◌≡◌, ◌≤◌, ℕ, [], true, false, length, vec_capacity, IfSome, IfNone, OnOk, OnErr};
 ghost use Rattle.std.specs.List.Sorted.{IsStrictlySortedBy};
 ghost use Rattle.ttrpc_connection.specs.Deadlines.{ChangesTo, deadline_of, due_ids, has_deadline, sooner};
@@ -8,7 +8,7 @@ use std::collections::BTreeSet;
 use std::marker::Model;
 use ttrpc_wire::int64_to_varint;
 
-/// Moments, in nanoseconds, each with the id of what waits until then.
+/// Moments, in nanoseconds, each with the id of what waits until that moment.
 #[derive(Drop)]
 pub struct Deadlines {
     pairs: BTreeSet<(u128, u64)>,
@@ -23,7 +23,7 @@ impl Model for Deadlines {
 }
 
 impl Deadlines {
-    /// No deadlines. Takes no memory.
+    /// Returns a `Deadlines` without any. Takes no memory.
     pub fn new(alloc: Global) -> Self
         ensures { result ≡ [] }
     {
@@ -43,7 +43,7 @@ impl Deadlines {
         Ok(())
     }
 
-    /// Takes the deadline of this id away, if it has one. Takes no memory.
+    /// Removes the deadline of this id, if it has one. Takes no memory.
     pub fn take_away(&mut self, id: u64, deadline: Option<u128>)
         ensures { ChangesTo false self.old id deadline self.new }
     {
@@ -52,25 +52,27 @@ impl Deadlines {
         }
     }
 
-    /// The soonest, with the least id of those that have it. Takes no memory.
+    /// Returns the soonest deadline, with the least id that has it. Takes no memory.
     pub fn first(&self) -> Option<(u128, u64)>
         ensures some { IfSome result (λ p. has_deadline self.now p.0 p.1 ≡ true) }
-        ensures least { IfSome result (λ p. (at id : ℕ) → has_deadline self.now at id ≡ true → p.0 ≤ at) }
-        ensures least_id { IfSome result (λ p. (id : ℕ) → has_deadline self.now p.0 id ≡ true → p.1 ≤ id) }
+        ensures least { IfSome result
+            (λ p. (at id : ℕ) → has_deadline self.now at id ≡ true → p.0 ≤ at) }
+        ensures least_id { IfSome result
+            (λ p. (id : ℕ) → has_deadline self.now p.0 id ≡ true → p.1 ≤ id) }
         ensures none { IfNone result ((at id : ℕ) → has_deadline self.now at id ≡ false) }
     {
         self.pairs.first().copied()
     }
 
-    /// A lemma, which does nothing when it runs: each is there once, by rising moment and then by rising id.
+    /// States that each deadline is there once, by rising moment and then by rising id. A lemma, which does nothing when it runs.
     pub fn lemma_ordered(&self)
         ensures { IsStrictlySortedBy sooner self.now }
     {
         let _ = self.pairs.len();
     }
 
-    /// Puts the ids of those that are at this moment or before it into `due`, in place of what it had, soonest first.
-    /// Takes no memory, as `due` has room for them.
+    /// Puts the ids with a deadline at or before this moment into `due`, soonest first, in place of its old items. Takes no memory, as
+    /// `due` has room for them.
     pub fn due(&self, now: u64, due: &mut Vec<u64>)
         requires { length (due_ids now self.now) ≤ vec_capacity due.old }
         ensures are { due.new.items ≡ due_ids now self.now }
@@ -89,7 +91,7 @@ impl Deadlines {
     }
 }
 
-/// The moment by which something that begins now must have ended: none where its timeout, in nanoseconds, is 0. A
+/// Returns the moment by which something that begins now must have ended, or none if its timeout is 0. The timeout is in nanoseconds, and a
 /// negative one is read as the `u64` of the same bits.
 pub fn deadline_of(now: u64, timeout_nano: i64) -> Option<u128>
     ensures { result ≡ deadline_of now timeout_nano }

@@ -15,18 +15,19 @@ use ttrpc_proto::{
 use ttrpc_secure::context::errors::{
     or_no_memory, others_error, unsafe_payload_error, unsealed_error,
 };
-use ttrpc_secure::sending::SendError;
+use ttrpc_secure::sending::{Parts, SendError};
 use ttrpc_secure::{OutboundTransform, TransformError};
 use ttrpc_wire::Blob;
 
-/// The number of a frame that was sent on a stream, by which it is asked about: 1, and rising with each.
+/// The number of a frame that was sent on a stream. The first ticket is 1, and each ticket is one above the last. `sent` reports on a frame
+/// by its ticket.
 pub type Ticket = u64;
 
 /// The flags of a frame that closes a stream without an item.
 pub const CLOSE_FLAGS: u8 = FLAG_REMOTE_CLOSED | FLAG_NO_DATA;
 
-/// Seals and queues data of a stream in a frame of these flags, which gets this ticket. The advice stands in the text that
-/// refuses data above the safe limit. A refusal changes nothing; it is `NoRoom` if the queue lacks room for the data.
+/// Seals data of a stream and queues them in a frame of these flags, and returns the frame's ticket. The text that refuses data above the
+/// safe limit has the advice in it. A refusal changes nothing, and it is `NoRoom` if the queue lacks room for the data.
 pub fn send_data<O: OutboundTransform + Drop>(
     alloc: Global,
     outbox: &mut Outbox<O>,
@@ -35,8 +36,10 @@ pub fn send_data<O: OutboundTransform + Drop>(
     flags: u8,
     plain: &[u8],
 ) -> Result<Ticket, Error>
-    ensures ok { IfOk result (λ ticket. SendsData O.OutboundTransform outbox.old stream_id flags plain.now ticket outbox.new) }
-    ensures refused { IfErr result (RefusesData O.OutboundTransform advice.now outbox.old stream_id flags plain.now) }
+    ensures ok { IfOk result (λ ticket. SendsData O.OutboundTransform outbox.old stream_id flags
+        plain.now ticket outbox.new) }
+    ensures refused { IfErr result
+        (RefusesData O.OutboundTransform advice.now outbox.old stream_id flags plain.now) }
     ensures err { OnErr result (outbox.new ≡ outbox.old) }
 {
     if plain.len() > MESSAGE_LENGTH_MAX {
@@ -52,23 +55,22 @@ pub fn send_data<O: OutboundTransform + Drop>(
     if !outbox.has_room(plain.len()) {
         return Err(Error::NoRoom);
     }
-    let bytes = plain.to_vec(alloc)?;
     let frame = data_frame(alloc, stream_id, flags, ticket);
-    match outbox.send(alloc, frame, bytes) {
+    match outbox.send(alloc, frame, Parts::whole(plain)) {
         Ok(()) => Ok(ticket),
         Err(SendError::Failed(refused)) => Err(unsent_error(alloc, &refused)),
         Err(SendError::TooLong | SendError::NoRoom) => unreachable!(),
     }
 }
 
-/// A data frame of a stream, without its payload.
+/// Returns a data frame of a stream, without its payload.
 fn data_frame(alloc: Global, stream_id: u32, flags: u8, ticket: Ticket) -> Queued
     ensures { IsDataFrame stream_id flags ticket result }
 {
     stream_frame(alloc, stream_id, MESSAGE_TYPE_DATA, flags, Some(ticket))
 }
 
-/// A frame of a stream, without its payload.
+/// Returns a frame of a stream, without its payload.
 pub fn stream_frame(
     alloc: Global,
     stream_id: u32,
@@ -77,7 +79,8 @@ pub fn stream_frame(
     ticket: Option<Ticket>,
 ) -> Queued
     ensures { result ≡ record {
-      message = record { header = record { length = 0; stream_id = stream_id; type_ = type_; flags = flags }; payload = [] };
+      message =
+          record { header = record { length = 0; stream_id = stream_id; type_ = type_; flags = flags }; payload = [] };
       ticket = ticket;
       is_unary_request = false;
       owner = stream_id;
@@ -99,14 +102,14 @@ pub fn stream_frame(
     }
 }
 
-/// The refusal of sending where no ticket is left, or `NoMemory` where memory for its text was refused.
+/// Returns the error for a frame that can get no ticket, or `NoMemory` if memory for its text was refused.
 fn tickets_error(alloc: Global) -> Error
     ensures { IsTold (AnError.Others (codes "tickets are used up")) result }
 {
     others_error(String::from_str(alloc, "tickets are used up"))
 }
 
-/// The refusal of what the outbound half didn't seal, or `NoMemory` where memory was refused.
+/// Returns the error for data that the outbound half didn't seal, or `NoMemory` if memory was refused.
 pub fn unsent_error(alloc: Global, refused: &TransformError) -> Error
     ensures { IsUnsentBy refused.now result }
 {

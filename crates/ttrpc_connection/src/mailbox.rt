@@ -1,4 +1,4 @@
-//! The things that came in for one receiver.
+//! The things that came in for one receiver. A call without an `alloc` argument takes no memory, except `put`.
 ghost use Rattle.std.specs.Prelude.{◌≡◌, [], IfOk, OnOk, OnErr};
 ghost use Rattle.ttrpc_connection.specs.Failure.{IsTold};
 ghost use Rattle.ttrpc_connection.specs.Mail.{Receives, empty_mail, opened_with, past_error, with_thing, without_receiver};
@@ -11,20 +11,20 @@ use std::marker::Model;
 use ttrpc_proto::Error;
 use ttrpc_wire::{Blob, Text};
 
-/// What a receiver goes on to be told.
+/// The state of a receiver, which decides its next results.
 #[derive(Clone, Copy, Debug, PartialEq, Eq)]
 pub enum Receiver {
-    /// What comes in.
+    /// The receiver gets the things that came in.
     Open,
-    /// That the other side has closed.
+    /// The receiver gets the error that the other side has closed.
     Closed,
-    /// That nothing is received any more.
+    /// The receiver gets the error that nothing is received any more.
     Broken,
-    /// The same: nobody asks any more.
+    /// The receiver was dropped. A later call gets the same error as at `Broken`.
     Dropped,
 }
 
-/// What came in for one receiver and wasn't received yet. Nothing is kept for one that isn't open.
+/// The things that came in for one receiver and weren't received yet. Nothing is kept for a receiver that isn't open.
 #[derive(Debug, Drop)]
 pub struct Mailbox {
     things: VecDeque<Thing>,
@@ -37,11 +37,12 @@ impl Model for Mailbox {
 
     ghost Value = { Mail };
 
-    ghost view = { λ a. record { things = a.things.items; receiver = a.receiver; ended = a.ended } };
+    ghost view = { λ a.
+        record { things = a.things.items; receiver = a.receiver; ended = a.ended } };
 }
 
 impl Mailbox {
-    /// Nothing came in yet. Takes no memory.
+    /// Returns an open mailbox with nothing in it. Takes no memory.
     pub fn new(alloc: Global) -> Self
         ensures { result ≡ empty_mail }
     {
@@ -52,7 +53,7 @@ impl Mailbox {
         }
     }
 
-    /// The mailbox of a stream whose request brings this thing, or none; `ends` says that it is the last.
+    /// Returns the mailbox of a stream that begins with this thing, if there is one. If `ends` is true the thing is the last.
     pub fn opened(alloc: Global, thing: Option<Thing>, ends: bool) -> Result<Self, AllocError>
         ensures { IfOk result (λ mailbox. mailbox ≡ opened_with thing ends) }
     {
@@ -63,21 +64,21 @@ impl Mailbox {
         Ok(mailbox)
     }
 
-    /// Whether nothing more is put in. Takes no memory.
+    /// Returns whether the last thing was put in.
     pub fn is_ended(&self) -> bool
         ensures { result ≡ self.now.ended }
     {
         self.ended
     }
 
-    /// What the receiver goes on to be told. Takes no memory.
+    /// Returns the state of the receiver.
     pub fn receiver(&self) -> Receiver
         ensures { result ≡ self.now.receiver }
     {
         self.receiver
     }
 
-    /// Puts a thing in behind the others; `ends` says that it is the last. An `Err` changes nothing.
+    /// Puts a thing in after the others. If `ends` is true it is the last. An `Err` changes nothing.
     pub fn put(&mut self, thing: Thing, ends: bool) -> Result<(), AllocError>
         ensures ok { OnOk result (self.new ≡ with_thing self.old thing ends) }
         ensures err { OnErr result (self.new ≡ self.old) }
@@ -89,9 +90,9 @@ impl Mailbox {
         Ok(())
     }
 
-    /// Gives the next item, or why there is none: nothing where nothing came yet. Where the connection has failed, and
-    /// the mailbox hasn't ended, that stands behind all else. Where memory for a text was refused the answer is
-    /// `NoMemory`, and nothing changed.
+    /// Takes the next item, or returns the error why there is none, or `None` if nothing came yet. If the connection has failed and the
+    /// mailbox hasn't ended, the failure comes after all things. If memory for a text was refused the call returns `NoMemory`, and changes
+    /// nothing.
     pub fn recv(&mut self, alloc: Global, failure: &Option<Failure>) -> Option<Result<Blob, Error>>
         ensures { Receives failure.now self.old result self.new }
     {
@@ -122,7 +123,7 @@ impl Mailbox {
         }
     }
 
-    /// Gives the failure that stands behind all else, if there is one and the mailbox hasn't ended.
+    /// Takes the failure, which comes after all things, if there is one and the mailbox hasn't ended.
     fn recv_failure(
         &mut self,
         alloc: Global,
@@ -148,14 +149,14 @@ impl Mailbox {
         }
     }
 
-    /// Nobody receives any more. Takes no memory.
+    /// Drops the receiver, so that nothing is kept any more.
     pub fn drop_receiver(&mut self)
         ensures { self.new ≡ without_receiver self.old }
     {
         self.stop(Receiver::Dropped);
     }
 
-    /// Nothing is kept any more, and this is told from now on.
+    /// Clears the mailbox, and sets the state of its receiver.
     fn stop(&mut self, receiver: Receiver)
         ensures { self.new ≡ record { things = []; receiver = receiver; ended = self.old.ended } }
     {
@@ -164,7 +165,7 @@ impl Mailbox {
     }
 }
 
-/// The error that is told where nothing is received any more.
+/// Returns the error for a receiver that is broken or dropped, or `NoMemory` if memory for its text was refused.
 pub fn past(alloc: Global) -> Error
     ensures { IsTold past_error result }
 {

@@ -1,4 +1,4 @@
-//! What either core does for the streams of its connection.
+//! The calls of both cores for the streams of their connection.
 ghost use Rattle.std.specs.Prelude.{◌≡◌, IfErr, IfOk, OnErr};
 
 use crate::Ticket;
@@ -6,64 +6,64 @@ use std::alloc::Global;
 use ttrpc_proto::{Error, Result};
 use ttrpc_wire::Blob;
 
-/// The calls on streams that both cores have, so that what stands on them is written once. Each is the call of its name, and
-/// its members are that call's relations.
+/// The calls on streams that both cores have, so that code and proofs over them are written once. Each method is the core's call named in
+/// its comment, and the ghost members are the relations of these calls.
 pub trait StreamCore {
     ghost use Rattle.std.specs.Prelude.{ℕ, List, Option, Result};
     ghost use Rattle.ttrpc_proto.specs.declared.error.Error.{Error};
 
-    /// By what a stream is named.
+    /// The id of a stream.
     type Id: Ord + Copy + Drop;
 
     // An item was sent on a stream, and has this ticket.
     ghost sends: { Self → Self.Id → List ℕ → ℕ → Self → Type 0 };
 
-    // An item may be refused for this.
+    // An item may be refused with this error.
     ghost refuses: { Self → Self.Id → List ℕ → Error → Type 0 };
 
-    // It was said that no more items are sent on a stream, and that has this ticket.
+    // The stream's sending side was closed by a frame with this ticket.
     ghost closes: { Self → Self.Id → ℕ → Self → Type 0 };
 
-    // That may be refused for this.
+    // Such a close may be refused with this error.
     ghost refuses_close: { Self → Self.Id → Error → Type 0 };
 
-    // Nobody sends on a stream any more.
+    // The sender of a stream was dropped.
     ghost unsends: { Self → Self.Id → Self → Type 0 };
 
-    // This was received from a stream, or nothing yet.
+    // This item or error was received from a stream, or nothing came yet.
     ghost receives: { Self → Self.Id → Option (Result (List ℕ) Error) → Self → Type 0 };
 
-    // This is told of a ticket, or nothing yet.
+    // The ticket has this result, or none yet.
     ghost tells_sent: { Self → ℕ → Option (Result (Unit {0}) Error) → Type 0 };
 
-    // Nobody receives from a stream any more.
+    // The receiver of a stream was dropped.
     ghost unhears: { Self → Self.Id → Self → Type 0 };
 
-    /// Sends an item: `send`. A refusal changes nothing.
+    /// Sends an item, as `send` does. A refusal changes nothing.
     fn send_item(&mut self, alloc: Global, id: Self::Id, item: &[u8]) -> Result<Ticket>
         ensures ok { IfOk result (λ ticket. sends self.old id item.now ticket self.new) }
         ensures refused { IfErr result (refuses self.old id item.now) }
         ensures err { OnErr result (self.new ≡ self.old) };
 
-    /// Says that no more items are sent: `close_send`, which only a client has. A refusal changes nothing.
+    /// Closes the sending side, as `close_send` does, which only a client has. A refusal changes nothing.
     fn close_items(&mut self, alloc: Global, id: Self::Id) -> Result<Ticket>
         ensures ok { IfOk result (λ ticket. closes self.old id ticket self.new) }
         ensures refused { IfErr result (refuses_close self.old id) }
         ensures err { OnErr result (self.new ≡ self.old) };
 
-    /// Nobody sends any more: `drop_sender`, which only a client has. Takes no memory.
+    /// Drops the sender, as `drop_sender` does, which only a client has. Takes no memory.
     fn unsend(&mut self, id: Self::Id)
         ensures { unsends self.old id self.new };
 
-    /// Gives the next item, or why there is none: `recv`.
+    /// Takes the next item, or returns why there is none, as `recv` does.
     fn recv_item(&mut self, alloc: Global, id: Self::Id) -> Option<Result<Blob>>
         ensures { receives self.old id result self.new };
 
-    /// Whether a frame was sent: `sent`.
+    /// Returns whether the frame of a ticket was sent, as `sent` does.
     fn item_sent(&self, alloc: Global, ticket: Ticket) -> Option<Result<()>>
         ensures { tells_sent self.now ticket result };
 
-    /// Nobody receives any more: `drop_receiver`. Takes no memory.
+    /// Drops the receiver, as `drop_receiver` does. Takes no memory.
     fn unhear(&mut self, id: Self::Id)
         ensures { unhears self.old id self.new };
 }

@@ -1,4 +1,4 @@
-//! What comes in for a receiver, and what a frame or a request brings.
+//! The things that come in for a receiver, and those that a frame or a request brings.
 ghost use Rattle.std.specs.Prelude.{◌≡◌, IfOk};
 ghost use Rattle.ttrpc_connection.specs.Things.{data_thing, has_flag, is_bare, opening_thing, request_thing};
 
@@ -6,29 +6,29 @@ use std::alloc::{AllocError, Global};
 use ttrpc_proto::{Error, FLAG_NO_DATA, FLAG_REMOTE_CLOSED, FLAG_REMOTE_OPEN};
 use ttrpc_wire::{Blob, Text};
 
-/// What comes in for a receiver.
+/// A thing that comes in for a receiver.
 #[derive(Debug, Drop, PartialEq)]
 pub enum Thing {
-    /// An item, behind which others may come.
+    /// An item, and more may follow.
     Item(Blob),
-    /// An item, behind which none comes.
+    /// The last item.
     Last(Blob),
-    /// No more items come.
+    /// The end: no more items come.
     End,
-    /// The other side ended the stream in a way that is told so, once.
+    /// The other side ended the stream in a way that is an error, which the receiver gets once.
     Closing(Error),
-    /// The stream broke in a way that is told so, once.
+    /// The stream broke with this error, which the receiver gets once.
     Breaking(Error),
 }
 
-/// Whether no data come behind a frame of these flags.
+/// Returns whether no data follow a frame of these flags.
 pub fn closes(flags: u8) -> bool
     ensures { result ≡ has_flag FLAG_REMOTE_CLOSED flags }
 {
     flags & FLAG_REMOTE_CLOSED != 0
 }
 
-/// What a data frame brings, of a stream that takes items. Memory is taken for the text of an error alone.
+/// Returns the thing that a data frame brings for a stream that takes items. Only the text of an error takes memory.
 pub fn of_data(alloc: Global, stream_id: u32, flags: u8, payload: Blob) -> Result<Thing, AllocError>
     ensures { IfOk result (λ thing. thing ≡ data_thing stream_id flags payload) }
 {
@@ -45,7 +45,8 @@ pub fn of_data(alloc: Global, stream_id: u32, flags: u8, payload: Blob) -> Resul
     Ok(Thing::Closing(Error::Others(Text::from_string(text))))
 }
 
-/// What the request of a stream brings by itself: its payload, unless its flags say that it has none. Takes no memory.
+/// Returns the thing that a stream's request brings by itself, if any: its payload, unless its flags state that it has none. Takes no
+/// memory.
 pub fn of_request(flags: u8, payload: Blob) -> Option<Thing>
     ensures { result ≡ request_thing flags payload }
 {
@@ -58,8 +59,8 @@ pub fn of_request(flags: u8, payload: Blob) -> Option<Thing>
     }
 }
 
-/// What it brings, where a request that says nothing of a payload that it hasn't may bring nothing (`bare`). Takes no
-/// memory.
+/// Returns the thing that a stream's request brings, if any. If `bare` is true, a request brings nothing if it states that items follow,
+/// has an empty payload, and has neither the flag for no data nor the one that closes. Takes no memory.
 pub fn of_opening(bare: bool, flags: u8, payload: Blob) -> Option<Thing>
     ensures { result ≡ opening_thing bare flags payload }
 {
@@ -69,7 +70,7 @@ pub fn of_opening(bare: bool, flags: u8, payload: Blob) -> Option<Thing>
     of_request(flags, payload)
 }
 
-/// Whether a request says that items come, has none itself, and says nothing of that.
+/// Returns whether a request states that items follow, has an empty payload, and has neither the flag for no data nor the one that closes.
 fn is_bare(flags: u8, payload: &Blob) -> bool
     ensures { result ≡ is_bare flags payload.now }
 {
